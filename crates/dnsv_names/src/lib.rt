@@ -1,0 +1,7 @@
+//! Domain names (RFC 1035, RFC 4343): what the octets of a name are, and when two names are equal.
+#![tactic(auto)]
+
+pub use name::{LABEL_LIMIT, Name, WIRE_LIMIT};
+
+mod name;
+mod wire;
