@@ -2,6 +2,8 @@
 #![tactic(auto)]
 
 pub use name::{LABEL_LIMIT, Name, WIRE_LIMIT};
+pub use number::RecordType;
 
 mod name;
+mod number;
 mod wire;
