@@ -1,1 +1,5 @@
 pub mod Message
+pub mod Errors
+pub mod NameAt
+pub mod Grammar
+pub mod Steps

@@ -1,10 +1,14 @@
 //! DNS messages (RFC 1035): the octets of one message, and the messages of a stream.
 #![tactic(auto)]
 
+pub use errors::{DecodeError, NameFault};
 pub use message::Message;
 pub use number::{Class, Flags, Ttl};
 pub use record::{Question, Rdata, Record, Section};
 
+mod errors;
+mod fields;
 mod message;
+mod name_at;
 mod number;
 mod record;

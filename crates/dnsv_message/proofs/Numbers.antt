@@ -1,0 +1,39 @@
+-- Numbers and labels where they stand in a message.
+use Rattle.std.proofs.Common.{◌≡◌, ℕ, zero, suc, ◌+◌, ◌*◌, ◌^◌, ◌<◌, ◌≤◌, List, [], ◌∷◌, ◌++◌, length, get_or, take, drop, refl, sym, ap, ◌∙◌, arith, add-zero, add-suc, length-drop}
+use Rattle.std.proofs.lemmas.List.{get_or-drop, drop_more, drop-drop, length-take-le}
+use Rattle.std.proofs.lemmas.List.Elements.{All-from_get_or, All-take, All-drop, recursion_from_All}
+use Rattle.std.specs.List.{AllByRecursion}
+use Rattle.byteorder.specs.Endian.{big_from, big_number}
+use Rattle.dnsv_names.specs.Name.{IsLabel}
+use Rattle.dnsv_message.specs.NameAt.{NumberAt, PartAt, LabelAt, PointerAt}
+
+-- reading from a place on is reading at the place
+big_from-drop : (octets : List ℕ) (place i n : ℕ) → big_from i n (drop place octets) ≡ big_from (place + i) n octets
+big_from-drop octets place i zero = refl
+big_from-drop octets place i (suc n) =
+    rw (get_or-drop place octets i 0, big_from-drop octets place (suc i) n, add-suc place i) refl
+
+pub number_behind : (octets : List ℕ) (place n : ℕ) → big_number n (drop place octets) ≡ big_from place n octets
+number_behind octets place n = big_from-drop octets place 0 n ∙ ap (λ i. big_from i n octets) (add-zero place)
+
+-- the octets of a part are octets
+pub octets_of_part : (octets : List ℕ) (place n : ℕ) → ((i : ℕ) → get_or octets i 0 < 256) → AllByRecursion (λ octet. octet < 256) (take n (drop place octets))
+octets_of_part octets place n fit = recursion_from_All (λ octet. octet < 256) (take n (drop place octets))
+    (All-take (λ octet. octet < 256) n (drop place octets)
+    (All-drop (λ octet. octet < 256) place octets
+    (All-from_get_or (λ octet. octet < 256) octets 0 (λ i within. fit i))))
+
+-- behind a length stands its label, where the octets are long enough
+pub label_here : (octets : List ℕ) (place n : ℕ) → ((i : ℕ) → get_or octets i 0 < 256) → NumberAt octets place 1 n → 0 < n → n ≤ 63 → place + (1 + n) ≤ length octets → (label : List ℕ) × LabelAt octets place label × (n ≡ length label)
+label_here octets place n fit octet not_empty small within =
+    let first_is : get_or octets place 0 ≡ n = omega (arith, octet.1) in
+    let size : length (take n (drop (place + 1) octets)) ≡ n = length-take-le n (drop (place + 1) octets) (omega (arith, length-drop (place + 1) octets)) in (
+      take n (drop (place + 1) octets),
+      (
+        record { not_empty = omega (arith, size); at_most_63 = omega (arith, size); octets = octets_of_part octets (place + 1) n fit },
+        ap (take (suc (length (take n (drop (place + 1) octets))))) (drop_more octets place 0 (omega arith))
+            ∙ ap (λ k. k ∷ take (length (take n (drop (place + 1) octets))) (drop (place + 1) octets)) (first_is ∙ sym size)
+            ∙ ap (λ k. length (take n (drop (place + 1) octets)) ∷ take k (drop (place + 1) octets)) size,
+      ),
+      sym size,
+    )
