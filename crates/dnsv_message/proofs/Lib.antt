@@ -1,2 +1,4 @@
 pub mod Numbers
 pub mod NameWalk
+pub mod Sequences
+pub mod Faults

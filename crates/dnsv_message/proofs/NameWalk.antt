@@ -84,7 +84,7 @@ pub Walked-by_label : {octets : List ℕ} {start : ℕ} {written : List ℕ} {en
 Walked-by_label {octets} {start} {written} {end} walk size n now walked at sized extended =
     let many : walk.place + (1 + n) - walk.place ≡ suc (length at.0) = omega (arith, at.2) in
     let taken : take (walk.place + (1 + n) - walk.place) (drop walk.place octets) ≡ length at.0 ∷ at.0 =
-        ap (λ k. take k (drop walk.place octets)) many ∙ at.1.1 in
+    ap (λ k. take k (drop walk.place octets)) many ∙ at.1.1 in
     rw (at.2, extended, taken) (Walked-label walked at.0 at.1 (omega (arith, at.2, at.3, sized)))
 
 pub Walked-by_pointer : {octets : List ℕ} {start : ℕ} {written : List ℕ} {end : Option ℕ} (walk : Walk) (size target : ℕ) (after : Option ℕ)
@@ -99,13 +99,20 @@ pub name_found : {octets : List ℕ} {start : ℕ} {written : List ℕ} {end : O
     → (now : List ℕ) → now ≡ written ++ 0 ∷ [] → (found : Option (Labels × ℕ))
     → ((labels : Labels) (rest : List ℕ) → IsName labels → now ≡ wire labels ++ rest → found ≡ Some (labels, length (wire labels)))
     → (name : Labels) × (found ≡ Some (name, length (wire name))) × NameFrom octets start name (unwrap_or end (walk.place + 1))
-name_found walk size walked at now closed found every =
-    (walked.front,
-     every walked.front [] (Walked-IsName walked) (closed ∙ Walked-written walked ∙ sym (append-nil (wire walked.front))),
-     (Walked-root walked at, (Walked-IsName walked).at_most_255))
+name_found walk size walked at now closed found every = (
+  walked.front,
+  every walked.front [] (Walked-IsName walked) (closed ∙ Walked-written walked ∙ sym (append-nil (wire walked.front))),
+  (Walked-root walked at, (Walked-IsName walked).at_most_255),
+)
 
 pub name_returned : {octets : List ℕ} {start : ℕ} {name : Labels} {end : ℕ} (found : Option (Labels × ℕ)) (n : ℕ) (pair : Labels × ℕ) (after : ℕ)
     → found ≡ Some (name, n) → found ≡ Some pair → after ≡ end → NameFrom octets start name end → NameFrom octets start pair.0 after
 name_returned {name = name} found n pair after is gave ends at =
     let same : pair.0 ≡ name = ap (λ (o : Option (Labels × ℕ)). (unwrap_or {T = Labels × ℕ} o (name, n)).0) (sym gave ∙ is) in
     rw (same, ends) at
+
+-- what follows a name begins within the octets, or at their end
+pub end_within : (octets : List ℕ) (place run pointers : ℕ) (labels : Labels) (end : ℕ) → NameAt octets place run pointers labels end → end ≤ length octets
+end_within octets place run pointers labels end (root at) = at.0
+end_within octets place run pointers labels end (label at goes_on) = end_within _ _ _ _ _ _ goes_on
+end_within octets place run pointers labels end (pointer at back goes_on) = at.1.0

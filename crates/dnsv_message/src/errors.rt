@@ -3,7 +3,7 @@ ghost use Rattle.std.specs.Prelude.{◌≡◌};
 ghost use Rattle.dnsv_message.specs.declared.errors.DecodeError.TheVariants.{OutOfMemory};
 ghost use Rattle.dnsv_message.specs.Errors.{decode_error_of, code_of};
 
-use std::alloc::AllocFailed;
+use std::alloc::{AllocError, AllocFailed};
 use thiserror::Error;
 
 /// Why octets spell no name at a place, the first that applies (RFC 1035 4.1.4).
@@ -83,6 +83,14 @@ impl From<NameFault> for DecodeError {
             NameFault::TooManyPointers => DecodeError::TooManyPointers,
             NameFault::LongName => DecodeError::LongName,
         }
+    }
+}
+
+impl From<AllocError> for DecodeError {
+    ghost from_gives = { λ _ error. error ≡ OutOfMemory };
+
+    fn from(_refused: AllocError) -> DecodeError {
+        DecodeError::OutOfMemory
     }
 }
 

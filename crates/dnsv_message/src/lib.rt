@@ -12,3 +12,4 @@ mod message;
 mod name_at;
 mod number;
 mod record;
+mod section;

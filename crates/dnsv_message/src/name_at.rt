@@ -41,6 +41,7 @@ pub struct Walk {
 /// A name costs at most 127 labels and 32 pointers, however long the message is.
 pub fn name_at(octets: &[u8], place: usize) -> Result<(Name, usize), NameFault>
     ensures found { IfOk result (λ found. NameFrom octets.now place found.0 found.1) }
+    ensures within { IfOk result (λ found. found.1 ≤ length octets.now) }
     ensures fault { IfErr result (NameFaultFrom octets.now place) }
 {
     let mut wire: ArrayVec<u8, WIRE_LIMIT> = ArrayVec::new();

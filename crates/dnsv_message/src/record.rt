@@ -1,8 +1,9 @@
 //! What the sections of a message hold.
-ghost use Rattle.std.specs.Prelude.{◌≡◌, ℕ, List};
+ghost use Rattle.std.specs.Prelude.{◌≡◌, ℕ, List, IfOk};
 
 use crate::number::{Class, Ttl};
 use dnsv_names::{Name, RecordType};
+use std::alloc::{AllocError, Global};
 use std::marker::Model;
 
 /// The sections of records, in the order of a message (RFC 1035 4.1).
@@ -45,12 +46,16 @@ impl Model for Rdata {
 }
 
 impl Rdata {
-    pub fn new(octets: Vec<u8>) -> Rdata
-        ensures { result ≡ octets.items }
+    /// The RDATA with these octets.
+    pub fn copied(alloc: Global, octets: &[u8]) -> Result<Rdata, AllocError>
+        ensures { IfOk result (λ rdata. rdata ≡ octets.now) }
     {
-        Rdata { octets }
+        Ok(Rdata {
+            octets: Vec::from_slice(alloc, octets)?,
+        })
     }
 
+    /// The octets.
     pub fn octets(&self) -> &[u8]
         ensures { result.now ≡ self.now }
     {
