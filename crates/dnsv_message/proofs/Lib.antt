@@ -2,3 +2,5 @@ pub mod Numbers
 pub mod NameWalk
 pub mod Sequences
 pub mod Faults
+pub mod NameLaws
+pub mod MessageLaws

@@ -116,3 +116,7 @@ pub end_within : (octets : List ℕ) (place run pointers : ℕ) (labels : Labels
 end_within octets place run pointers labels end (root at) = at.0
 end_within octets place run pointers labels end (label at goes_on) = end_within _ _ _ _ _ _ goes_on
 end_within octets place run pointers labels end (pointer at back goes_on) = at.1.0
+
+pub wire_not_empty : (labels : Labels) → 0 < length (wire labels)
+wire_not_empty [] = omega arith
+wire_not_empty (first ∷ labels) = omega arith

@@ -1,5 +1,5 @@
 //! A message as a whole.
-ghost use Rattle.std.specs.Prelude.{◌≡◌, ◌⊎◌, IfOk, IfErr};
+ghost use Rattle.std.specs.Prelude.{◌≡◌, ◌⊎◌, IfOk, IfErr, MatchResult};
 
 use crate::errors::DecodeError;
 use crate::fields::u16_at;
@@ -41,7 +41,7 @@ impl Model for Message {
 const HEADER_LENGTH: usize = 12;
 
 impl Message {
-    ghost use Rattle.dnsv_message.specs.Message.{section_of};
+    ghost use Rattle.dnsv_message.specs.Message.{Contents, section_of};
     ghost use Rattle.dnsv_message.specs.Grammar.{MessageOf, FaultOf};
 
     /// Reads a message, which is all of the octets.
@@ -53,7 +53,17 @@ impl Message {
     pub fn decode(alloc: Global, octets: &[u8]) -> Result<Message, DecodeError>
         // What is found stands in the octets.
         ensures found { IfOk result (MessageOf octets.now) }
+        // Whatever message the octets are is found, unless memory was refused.
+        ensures every { (message : Contents) → MessageOf octets.now message
+            → MatchResult result (λ found. found ≡ message) (λ error. error ≡ DecodeError.OutOfMemory) }
         // The fault is the first.
+        ensures fault { IfErr result (λ error. (error ≡ DecodeError.OutOfMemory) ⊎ FaultOf octets.now error) }
+    {
+        Message::read(alloc, octets)
+    }
+
+    fn read(alloc: Global, octets: &[u8]) -> Result<Message, DecodeError>
+        ensures found { IfOk result (MessageOf octets.now) }
         ensures fault { IfErr result (λ error. (error ≡ DecodeError.OutOfMemory) ⊎ FaultOf octets.now error) }
     {
         if octets.len() < HEADER_LENGTH {
