@@ -122,3 +122,6 @@ impl Message {
         }
     }
 }
+
+#[cfg(test)]
+mod tests;
