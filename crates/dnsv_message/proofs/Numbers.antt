@@ -10,7 +10,7 @@ use Rattle.std.specs.List.{AllByRecursion}
 use Rattle.byteorder.specs.Endian.{big_from, big_number}
 use Rattle.dnsv_names.specs.Name.{Labels, IsLabel, IsName, wire}
 use Rattle.dnsv_message.specs.Grammar.{part_of, IsLaidOut}
-use Rattle.dnsv_message.specs.NameAt.{NumberAt, PartAt, LabelAt, PointerAt}
+use Rattle.dnsv_message.specs.NameAt.{AreOctets, NumberAt, PartAt, LabelAt, PointerAt}
 
 -- reading from a place on is reading at the place
 big_from-drop : (octets : List ℕ) (place i n : ℕ) → big_from i n (drop place octets) ≡ big_from (place + i) n octets
@@ -76,3 +76,9 @@ signature_decides rtype class octets answer internet signed within decides = (
 pub true_from_not_false : (b : Bool) → false ≡ not b → b ≡ true
 true_from_not_false true h = refl
 true_from_not_false false h = absurd (false≢true h)
+
+-- an octet is below 256, and so is the 0 past the end
+pub octet_fits : (octets : List ℕ) → AreOctets octets → (i : ℕ) → get_or octets i 0 < 256
+octet_fits [] are i = omega arith
+octet_fits (octet ∷ octets) are zero = are.0
+octet_fits (octet ∷ octets) are (suc i) = octet_fits octets are.1 i
