@@ -1,1 +1,4 @@
+pub mod Counted
+pub mod Frames
 pub mod Message
+pub mod ReadError
