@@ -1,6 +1,7 @@
 -- A stream of messages, as TCP carries them: each behind its length in two octets, the high octet first
 -- (RFC 1035 4.2.2).
-use Rattle.std.specs.Prelude.{◌≡◌, ◌≢◌, ℕ, ◌/◌, ◌%◌, ◌<◌, ◌≤◌, List, [], ◌∷◌, ◌++◌, length, take, map, flat_map, All, Vec}
+use Rattle.std.specs.Prelude.{◌≡◌, ◌≢◌, ℕ, ◌/◌, ◌%◌, ◌<◌, ◌≤◌, List, [], ◌∷◌, ◌++◌, length, take, map, flat_map, Vec}
+use Rattle.std.specs.List.{AllByRecursion}
 use Rattle.std.specs.declared.alloc.Global.{Global}
 use Rattle.dnsv_message.specs.declared.TheConstants.{FILE_LIMIT}
 
@@ -24,7 +25,7 @@ BeginsNoFrame octets = (message more : List ℕ) → IsFramed message → octets
 -- the stream is the frames of these messages and then the rest, which begins with no whole frame
 pub record Frames (stream : List ℕ) (messages : List (List ℕ)) (rest : List ℕ) : Type 0 where
   pub whole : stream ≡ flat_map frame messages ++ rest
-  pub each : All IsFramed messages
+  pub each : AllByRecursion IsFramed messages
   pub no_more : BeginsNoFrame rest
 
 -- the rest begins with the length 0

@@ -1,4 +1,5 @@
 pub mod Counted
 pub mod Frames
 pub mod Message
+pub mod OpenFrame
 pub mod ReadError

@@ -9,6 +9,7 @@ pub use record::{Question, Rdata, Record, Section};
 
 mod counted;
 mod errors;
+mod framing;
 mod message;
 mod number;
 mod record;
