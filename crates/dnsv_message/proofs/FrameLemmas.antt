@@ -1,6 +1,7 @@
 -- Frames of a stream: a stream has one reading, and what comes after a rest is read with it.
-use Rattle.std.proofs.Common.{◌≡◌, ℕ, zero, suc, ◌+◌, ◌-◌, ◌*◌, ◌/◌, ◌%◌, ◌<◌, ◌≤◌, List, [], ◌∷◌, ◌++◌, length, take, drop, refl, sym, ap, ◌∙◌, arith, append_assoc, length-append, Option, Some, None}
-use Rattle.std.proofs.lemmas.List.{append-nil}
+use Rattle.std.proofs.Common.{◌≡◌, ℕ, zero, suc, ◌+◌, ◌-◌, ◌*◌, ◌/◌, ◌%◌, ◌<◌, ◌≤◌, List, [], ◌∷◌, ◌++◌, length, get_or, take, drop, refl, zero-add, sym, ap, ◌∙◌, arith, append_assoc, length-append, Option, Some, None}
+use Rattle.std.proofs.Math.Nat.{suc-add}
+use Rattle.std.proofs.lemmas.List.{append-nil, take_rest, take-append-drop}
 use Rattle.std.proofs.lemmas.Grind.{flat_map-append}
 use Rattle.std.specs.List.{AllByRecursion, flat_map}
 use Rattle.dnsv_message.specs.Frames.{frame, IsFramed, BeginsNoFrame, Frames, IsZero}
@@ -107,3 +108,78 @@ Gains-append old mid new stream more rest end x y = record {
   gained = y.gained ∙ ap (λ xs. xs ++ y.messages) x.gained ∙ append_assoc old x.messages y.messages;
   frames = Frames-append stream more x.messages y.messages rest end x.frames y.frames;
 }
+
+-- both octets of the length have come where two octets have
+pub announced_from_two : (high : Option ℕ) (announced : ℕ) (message octets : List ℕ) → octets_of high announced message ≡ octets → 2 ≤ length octets → 0 < announced
+announced_from_two None zero message octets same two = omega (arith, ap length same)
+announced_from_two (Some first) zero message octets same two = omega (arith, ap length same)
+announced_from_two high (suc n) message octets same two = omega arith
+
+-- octets behind the length are the message's
+pub octets_grow : (high : Option ℕ) (announced : ℕ) (message piece : List ℕ) → 0 < announced → octets_of high announced message ++ piece ≡ octets_of high announced (message ++ piece)
+octets_grow high zero message piece positive = absurd (omega arith)
+octets_grow None (suc n) message piece positive = refl
+octets_grow (Some first) (suc n) message piece positive = refl
+
+-- a message takes a piece and lacks more
+pub message_open : (out : List (List ℕ)) (high : Option ℕ) (announced : ℕ) (message piece octets grown : List ℕ)
+    → octets_of high announced message ≡ octets → 2 ≤ length octets → grown ≡ message ++ piece → length grown < announced
+    → Gains out out (octets ++ piece) (octets_of high announced grown)
+message_open out high announced message piece octets grown same two grows short =
+    Gains-none out (octets ++ piece) (octets_of high announced grown)
+    (ap (λ xs. xs ++ piece) (sym same) ∙ octets_grow high announced message piece (announced_from_two high announced message octets same two)
+        ∙ ap (octets_of high announced) (sym grows))
+    (open_frame high announced grown (λ _. short))
+
+-- a message takes a piece and is whole
+pub message_whole : (old new : List (List ℕ)) (high : Option ℕ) (announced : ℕ) (message piece octets grown : List ℕ)
+    → octets_of high announced message ≡ octets → 2 ≤ length octets → grown ≡ message ++ piece → length grown ≡ announced → announced ≤ 65535
+    → new ≡ old ++ grown ∷ [] → Gains old new (octets ++ piece) []
+message_whole old new high announced message piece octets grown same two grows size fits gained =
+    let positive : 0 < announced = announced_from_two high announced message octets same two in
+    let whole : octets ++ piece ≡ frame grown =
+        ap (λ xs. xs ++ piece) (sym same) ∙ octets_grow high announced message piece positive ∙ ap (octets_of high announced) (sym grows)
+        ∙ octets_of-announced high announced grown positive ∙ ap (λ n. n / 256 ∷ (n % 256 ∷ grown)) (sym size) in
+    let one : Frames (frame grown) (grown ∷ []) [] = Frames-one grown (record { not_empty = omega (arith, size, positive); at_most_65535 = omega (arith, size, fits) }) in
+    record { messages = grown ∷ []; gained = gained; frames = record { whole = whole ∙ one.whole; each = one.each; no_more = one.no_more } }
+
+zero_begins_no_frame : (more : List ℕ) → BeginsNoFrame (0 ∷ (0 ∷ more))
+zero_begins_no_frame more = λ message rest framed same.
+    let high : 0 ≡ length message / 256 = cc in
+    let low : 0 ≡ length message % 256 = cc in
+    omega (arith, framed.not_empty)
+
+-- the length 0 has come
+pub zero_length : (out : List (List ℕ)) (octets piece : List ℕ) → 0 < length piece → octets ++ get_or piece 0 0 ∷ [] ≡ 0 ∷ (0 ∷ [])
+    → (rest : List ℕ) × IsZero rest × Gains out out (octets ++ piece) rest
+zero_length out octets [] some zero_octets = absurd (omega arith)
+zero_length out octets (octet ∷ more) some zero_octets =
+    let same : octets ++ (octet ∷ more) ≡ 0 ∷ (0 ∷ more) = sym (append_assoc octets (octet ∷ []) more) ∙ ap (λ xs. xs ++ more) zero_octets in
+    (0 ∷ (0 ∷ more), (more, refl), Gains-none out (octets ++ (octet ∷ more)) (0 ∷ (0 ∷ more)) same (zero_begins_no_frame more))
+
+take_nil : (n : ℕ) → take {A = ℕ} n [] ≡ []
+take_nil zero = refl
+take_nil (suc n) = refl
+
+-- a piece is read on behind its place
+pub piece_goes_on : (place n : ℕ) (piece : List ℕ) → take place piece ++ take n (drop place piece) ≡ take (place + n) piece
+piece_goes_on zero n piece = rw zero-add refl
+piece_goes_on (suc place) n [] = rw (take_nil n, suc-add) refl
+piece_goes_on (suc place) n (octet ∷ piece) = rw suc-add (ap (λ xs. octet ∷ xs) (piece_goes_on place n piece))
+
+-- a piece is read to its next place, and to its end
+pub Gains-next : (old mid new : List (List ℕ)) (before piece held end : List ℕ) (place n : ℕ)
+    → Gains old mid (before ++ take place piece) held → Gains mid new (held ++ take n (take (length piece - place) (drop place piece))) end
+    → Gains old new (before ++ take (place + n) piece) end
+Gains-next old mid new before piece held end place n x y =
+    let z = Gains-append old mid new (before ++ take place piece) (take n (drop place piece)) held end x (rw take_rest at y) in
+    rw (← piece_goes_on place n piece, ← append_assoc before (take place piece) (take n (drop place piece))) z
+
+pub Gains-last : (old mid new : List (List ℕ)) (before piece held end : List ℕ) (place : ℕ)
+    → Gains old mid (before ++ take place piece) held → Gains mid new (held ++ take (length piece - place) (drop place piece)) end
+    → Gains old new (before ++ piece) end
+Gains-last old mid new before piece held end place x y =
+    let z = Gains-append old mid new (before ++ take place piece) (drop place piece) held end x (rw take_rest at y) in
+    let whole : (before ++ take place piece) ++ drop place piece ≡ before ++ piece =
+        append_assoc before (take place piece) (drop place piece) ∙ ap (λ xs. before ++ xs) (take-append-drop place piece) in
+    rw (← whole) z

@@ -1,10 +1,12 @@
-use Rattle.dnsv_message.proofs.FrameLemmas.{Frames-one, one_reading, Frames-append}
-use Rattle.std.proofs.Common.{rules, ◌≡◌, ◌≢◌, ◌<◌, ◌≤◌, ◌∷◌, ◌++◌, [], List, ℕ, length, take, IfErr, IfOk, IsErrOf, MatchResult, OnOk, ◌+◌, ◌-◌, ◌*◌, ◌/◌, ◌%◌, Bool, true, false, nat_eq, nat_lt, slice_index_or, slice_set, bit_and, bit_or, Fits, w8, w32, w64, Bor, MutBor}
-use Rattle.dnsv_message.specs.Frames.{Frames, IsZero, octets_of_each}
-use Rattle.dnsv_message.specs.OpenFrame.{Gains, IsPieceError, octets_of}
+use Rattle.std.proofs.Common.{arith}
+use Rattle.std.proofs.lemmas.Result.{err_from_is_err_and}
+use Rattle.dnsv_message.specs.Frames.{octets_of_each}
+use Rattle.dnsv_message.proofs.FrameLemmas.{zero_length}
 use Rattle.dnsv_message.proofs.framing.OpenFrame.take.Goals as goal
 
--- src/framing.rt:91:13
 pub returns-in_err-take_length-clause-zero_length :
     goal.returns-in_err-take_length-clause-zero_length
-returns-in_err-take_length-clause-zero_length c = ?
+returns-in_err-take_length-clause-zero_length c = λ is_zero.
+    let p = err_from_is_err_and c.from_residual.result c.from_residual.ensures.1 in
+    zero_length (octets_of_each c.args.out.now.items) c.args.self.now c.args.octets.now c.requires
+    (c.in_err-take_length.ensures.zero_length (let is = p.1 in let same = p.2 in cc))
