@@ -32,16 +32,16 @@ same_frame a b x y same =
     same_front a b x y (same_number (length a) (length b) high low) rest
 
 -- a stream has one reading
-pub one_reading : (stream : List ℕ) (a b : List (List ℕ)) (r s : List ℕ) → Frames stream a r → Frames stream b s → (a ≡ b) × (r ≡ s)
-one_reading stream [] [] r s x y = (refl, sym x.whole ∙ y.whole)
-one_reading stream [] (m ∷ b) r s x y =
+pub one_framing : (stream : List ℕ) (a b : List (List ℕ)) (r s : List ℕ) → Frames stream a r → Frames stream b s → (a ≡ b) × (r ≡ s)
+one_framing stream [] [] r s x y = (refl, sym x.whole ∙ y.whole)
+one_framing stream [] (m ∷ b) r s x y =
     absurd (x.no_more m (flat_map frame b ++ s) y.each.0 (sym x.whole ∙ y.whole ∙ append_assoc (frame m) (flat_map frame b) s))
-one_reading stream (m ∷ a) [] r s x y =
+one_framing stream (m ∷ a) [] r s x y =
     absurd (y.no_more m (flat_map frame a ++ r) x.each.0 (sym y.whole ∙ x.whole ∙ append_assoc (frame m) (flat_map frame a) r))
-one_reading stream (m ∷ a) (n ∷ b) r s x y =
+one_framing stream (m ∷ a) (n ∷ b) r s x y =
     let first = same_frame m n (flat_map frame a ++ r) (flat_map frame b ++ s)
     (sym (append_assoc (frame m) (flat_map frame a) r) ∙ sym x.whole ∙ y.whole ∙ append_assoc (frame n) (flat_map frame b) s) in
-    let rest = one_reading (flat_map frame b ++ s) a b r s
+    let rest = one_framing (flat_map frame b ++ s) a b r s
     (record { whole = sym first.1; each = x.each.1; no_more = x.no_more })
     (record { whole = refl; each = y.each.1; no_more = y.no_more }) in
     (ap (λ message. message ∷ a) first.0 ∙ ap (λ messages. n ∷ messages) rest.0, rest.1)
@@ -143,7 +143,7 @@ message_whole old new high announced message piece octets grown same two grows s
     let one : Frames (frame grown) (grown ∷ []) [] = Frames-one grown (record { not_empty = omega (arith, size, positive); at_most_65535 = omega (arith, size, fits) }) in
     record { messages = grown ∷ []; gained = gained; frames = record { whole = whole ∙ one.whole; each = one.each; no_more = one.no_more } }
 
-zero_begins_no_frame : (more : List ℕ) → BeginsNoFrame (0 ∷ (0 ∷ more))
+pub zero_begins_no_frame : (more : List ℕ) → BeginsNoFrame (0 ∷ (0 ∷ more))
 zero_begins_no_frame more = λ message rest framed same.
     let high : 0 ≡ length message / 256 = cc in
     let low : 0 ≡ length message % 256 = cc in
