@@ -1,7 +1,6 @@
 -- What has been read of a stream so far, and what it says of the stream as a whole.
-use Rattle.std.proofs.Common.{◌≡◌, ◌≢◌, ℕ, zero, suc, ◌+◌, ◌-◌, ◌<◌, ◌≤◌, List, [], ◌∷◌, ◌++◌, length, take, drop, refl, sym, ap, ◌∙◌, zero-add, min, ◌⊎◌, ⊎_elim, inl, inr, arith, append_assoc, length-append, Option, Some, None, IfSome}
+use Rattle.std.proofs.Common.{◌≡◌, ◌≢◌, ℕ, zero, suc, ◌+◌, ◌-◌, ◌<◌, ◌≤◌, List, [], ◌∷◌, ◌++◌, length, take, drop, refl, sym, ap, ◌∙◌, zero-add, min, arith, append_assoc, length-append, Option, Some, None, IfSome}
 use Rattle.std.proofs.Math.Nat.{sub-zero}
-use Rattle.std.proofs.lemmas.Bool.{cases_lt}
 use Rattle.std.proofs.lemmas.List.{append-nil, take_at, take-take, length-take-le, take-append-drop}
 use Rattle.std.proofs.KnownBytes.{Consumes-nil, Consumes-trans, Consumes-whole}
 use Rattle.std.specs.Io.KnownBytes.{Consumes, IsAtEnd}
@@ -130,7 +129,6 @@ HasRead-too_long old now next messages new rest end buf left count n x consumes 
         let found = too_long_came FILE_LIMIT xs x.octets (take count buf) ys n new end same (omega arith) (omega (arith, x.size)) y not_zero in
         (found.0, λ has_zero. found.1 has_zero.0 has_zero.1 has_zero.2 has_zero.3))
 
--- a count that grew by one failure grew, or stood at its greatest value
-pub failed_once : (old now new : ℕ) → now ≡ old → new ≡ min (now + 1) 18446744073709551615 → old ≤ 18446744073709551615 → (old < new) ⊎ (old ≡ 18446744073709551615)
-failed_once old now new same grew fits =
-    ⊎_elim (λ (small : old < 18446744073709551615). inl (omega arith)) (λ (full : 18446744073709551615 ≤ old). inr (omega arith)) (cases_lt old 18446744073709551615)
+-- a failure is counted
+pub failed_once : (old now new : ℕ) → now ≡ old → new ≡ min (now + 1) 18446744073709551615 → old < 18446744073709551615 → old < new
+failed_once old now new same grew not_full = omega arith

@@ -1,5 +1,5 @@
 //! Captured messages, as a stream of frames gives them.
-ghost use Rattle.std.specs.Prelude.{◌≡◌, ◌<◌, ⊤, ◌⊎◌, [], List, ℕ, IfOk, IfSome, IsErrOf, OnOk};
+ghost use Rattle.std.specs.Prelude.{◌≡◌, ◌<◌, List, ℕ, IfOk, IfSome, IsErrOf, OnOk};
 ghost use Rattle.std.specs.Io.KnownBytes.{IsAtEnd};
 ghost use Rattle.dnsv_message.specs.Counted.{inner_of, failures_of};
 ghost use Rattle.dnsv_message.specs.Frames.{EndsTorn, Frames, HasZeroLength, IsCapture, IsTooLong, octets_of_each};
@@ -32,7 +32,7 @@ pub fn read_capture<R: Read>(alloc: Global, reader: &mut Counted<R>) -> Result<V
 
     // The reader failed, at any reader: by the count, unless that began at its greatest value.
     ensures read { IsErrOf result ReadError.Read →
-        (failures_of reader.old < failures_of reader.new) ⊎ (failures_of reader.old ≡ u64.MAX) }
+        failures_of reader.old < u64.MAX → failures_of reader.old < failures_of reader.new }
     ensures failed { failures_of reader.old < failures_of reader.new → IsErrOf result ReadError.Read }
 {
     let mut buffer = vec![in alloc; 0; PIECE_LIMIT]?;

@@ -12,7 +12,7 @@ loop-frame-init g c = record {
 }
 
 pub returns-in_err-count-clause-read : goal.returns-in_err-count-clause-read
-returns-in_err-count-clause-read g c = λ is_read. let a = failed_once _ _ _ c.loop-frame.invariant.none_failed c.in_err-count.ensures.failures in ?
+returns-in_err-count-clause-read g c = λ is_read not_full. failed_once _ _ _ c.loop-frame.invariant.none_failed c.in_err-count.ensures.failures not_full
 
 pub returns-in_err-feed-clause-zero_length : goal.returns-in_err-feed-clause-zero_length
 returns-in_err-feed-clause-zero_length g c = λ is_zero.
