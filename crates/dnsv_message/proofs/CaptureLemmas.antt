@@ -63,9 +63,10 @@ HasRead-end old now next messages rest buf left count P x consumes none ended kn
 zero_goes_on : (stream more : List ℕ) (messages : List (List ℕ)) (rest : List ℕ) → Frames stream messages rest → IsZero rest
     → Frames (stream ++ more) messages (rest ++ more) × IsZero (rest ++ more)
 zero_goes_on stream more messages rest x zero_rest =
-    let still : rest ++ more ≡ 0 ∷ (0 ∷ (zero_rest.0 ++ more)) = ap (λ xs. xs ++ more) zero_rest.1 in
-    (record { whole = ap (λ xs. xs ++ more) x.whole ∙ append_assoc _ rest more; each = x.each; no_more = rw still (zero_begins_no_frame (zero_rest.0 ++ more)) },
-      (zero_rest.0 ++ more, still))
+    let still : rest ++ more ≡ 0 ∷ (0 ∷ (zero_rest.0 ++ more)) = ap (λ xs. xs ++ more) zero_rest.1 in (
+      record { whole = ap (λ xs. xs ++ more) x.whole ∙ append_assoc _ rest more; each = x.each; no_more = rw still (zero_begins_no_frame (zero_rest.0 ++ more)) },
+      (zero_rest.0 ++ more, still),
+    )
 
 -- the stream is what was read, what is taken of a piece, and more
 split_at : (xs octets piece ys : List ℕ) (n : ℕ) → xs ≡ octets ++ piece ++ ys → xs ≡ (octets ++ take n piece) ++ (drop n piece ++ ys)
@@ -93,9 +94,10 @@ too_long_came limit xs octets piece ys n messages rest same short within x not_z
     let front = octets ++ take n piece in
     let fits : n ≤ length piece = omega arith in
     let size : length front ≡ length octets + n = rw (length-append, length-take-le) refl in
-    let taken : take limit xs ≡ front = ap (take limit) (split_at xs octets piece ys n same) ∙ take_at front (drop n piece ++ ys) limit (size ∙ within) in
-    (omega (arith, ap length same, length-append (octets ++ piece) ys, length-append octets piece),
-      λ others other y. λ zero_rest. not_zero (let e = (one_framing front others messages other rest (rw taken at y) x).1 in rw e at zero_rest))
+    let taken : take limit xs ≡ front = ap (take limit) (split_at xs octets piece ys n same) ∙ take_at front (drop n piece ++ ys) limit (size ∙ within) in (
+      omega (arith, ap length same, length-append (octets ++ piece) ys, length-append octets piece),
+      λ others other y. λ zero_rest. not_zero (let e = (one_framing front others messages other rest (rw taken at y) x).1 in rw e at zero_rest),
+    )
 
 -- what holds of every stream that begins with what was read holds of the whole, where that is known
 HasRead-known : (old now next : Option (List ℕ)) (messages : List (List ℕ)) (rest : List ℕ) (left : ℕ) (piece : List ℕ) (P : List ℕ → Type 0)
@@ -111,10 +113,10 @@ pub HasRead-zero : (old now next : Option (List ℕ)) (messages new : List (List
 HasRead-zero old now next messages new rest end buf left count n x consumes most short within gains zero_rest =
     HasRead-known old now next messages rest left (take count buf) HasZeroLength x consumes
     (λ xs ys same.
-        let size : length (take count buf) ≡ count = length-take-le count buf short in
-        let y : Frames (x.octets ++ take n (take count buf)) new end =
-            rw (take-take n count buf most) (Frames-gained x.octets (take n buf) messages new rest end x.frames gains) in
-        zero_came FILE_LIMIT xs x.octets (take count buf) ys n new end same (omega arith) (omega (arith, x.size)) y zero_rest)
+    let size : length (take count buf) ≡ count = length-take-le count buf short in
+    let y : Frames (x.octets ++ take n (take count buf)) new end =
+    rw (take-take n count buf most) (Frames-gained x.octets (take n buf) messages new rest end x.frames gains) in
+    zero_came FILE_LIMIT xs x.octets (take count buf) ys n new end same (omega arith) (omega (arith, x.size)) y zero_rest)
 
 pub HasRead-too_long : (old now next : Option (List ℕ)) (messages new : List (List ℕ)) (rest end buf : List ℕ) (left count n : ℕ)
     → HasRead old now messages rest left → Consumes now next (take count buf) → n < count → count ≤ length buf → n ≡ left
@@ -122,12 +124,12 @@ pub HasRead-too_long : (old now next : Option (List ℕ)) (messages new : List (
 HasRead-too_long old now next messages new rest end buf left count n x consumes most short within gains not_zero =
     HasRead-known old now next messages rest left (take count buf) IsTooLong x consumes
     (λ xs ys same.
-        let size : length (take count buf) ≡ count = length-take-le count buf short in
-        let fewer : n ≤ count = omega arith in
-        let y : Frames (x.octets ++ take n (take count buf)) new end =
-            rw (take-take n count buf fewer) (Frames-gained x.octets (take n buf) messages new rest end x.frames gains) in
-        let found = too_long_came FILE_LIMIT xs x.octets (take count buf) ys n new end same (omega arith) (omega (arith, x.size)) y not_zero in
-        (found.0, λ has_zero. found.1 has_zero.0 has_zero.1 has_zero.2 has_zero.3))
+    let size : length (take count buf) ≡ count = length-take-le count buf short in
+    let fewer : n ≤ count = omega arith in
+    let y : Frames (x.octets ++ take n (take count buf)) new end =
+    rw (take-take n count buf fewer) (Frames-gained x.octets (take n buf) messages new rest end x.frames gains) in
+    let found = too_long_came FILE_LIMIT xs x.octets (take count buf) ys n new end same (omega arith) (omega (arith, x.size)) y not_zero in
+    (found.0, λ has_zero. found.1 has_zero.0 has_zero.1 has_zero.2 has_zero.3))
 
 -- a failure is counted
 pub failed_once : (old now new : ℕ) → now ≡ old → new ≡ min (now + 1) 18446744073709551615 → old < 18446744073709551615 → old < new

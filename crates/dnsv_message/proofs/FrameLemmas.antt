@@ -128,7 +128,7 @@ pub message_open : (out : List (List ℕ)) (high : Option ℕ) (announced : ℕ)
 message_open out high announced message piece octets grown same two grows short =
     Gains-none out (octets ++ piece) (octets_of high announced grown)
     (ap (λ xs. xs ++ piece) (sym same) ∙ octets_grow high announced message piece (announced_from_two high announced message octets same two)
-        ∙ ap (octets_of high announced) (sym grows))
+    ∙ ap (octets_of high announced) (sym grows))
     (open_frame high announced grown (λ _. short))
 
 -- a message takes a piece and is whole
@@ -138,8 +138,8 @@ pub message_whole : (old new : List (List ℕ)) (high : Option ℕ) (announced :
 message_whole old new high announced message piece octets grown same two grows size fits gained =
     let positive : 0 < announced = announced_from_two high announced message octets same two in
     let whole : octets ++ piece ≡ frame grown =
-        ap (λ xs. xs ++ piece) (sym same) ∙ octets_grow high announced message piece positive ∙ ap (octets_of high announced) (sym grows)
-        ∙ octets_of-announced high announced grown positive ∙ ap (λ n. n / 256 ∷ (n % 256 ∷ grown)) (sym size) in
+    ap (λ xs. xs ++ piece) (sym same) ∙ octets_grow high announced message piece positive ∙ ap (octets_of high announced) (sym grows)
+    ∙ octets_of-announced high announced grown positive ∙ ap (λ n. n / 256 ∷ (n % 256 ∷ grown)) (sym size) in
     let one : Frames (frame grown) (grown ∷ []) [] = Frames-one grown (record { not_empty = omega (arith, size, positive); at_most_65535 = omega (arith, size, fits) }) in
     record { messages = grown ∷ []; gained = gained; frames = record { whole = whole ∙ one.whole; each = one.each; no_more = one.no_more } }
 
@@ -181,5 +181,5 @@ pub Gains-last : (old mid new : List (List ℕ)) (before piece held end : List �
 Gains-last old mid new before piece held end place x y =
     let z = Gains-append old mid new (before ++ take place piece) (drop place piece) held end x (rw take_rest at y) in
     let whole : (before ++ take place piece) ++ drop place piece ≡ before ++ piece =
-        append_assoc before (take place piece) (drop place piece) ∙ ap (λ xs. before ++ xs) (take-append-drop place piece) in
+    append_assoc before (take place piece) (drop place piece) ∙ ap (λ xs. before ++ xs) (take-append-drop place piece) in
     rw (← whole) z

@@ -21,7 +21,10 @@ const PIECE_LIMIT: usize = 65_536;
 /// answered, and nothing is read after it: a reader that fails is [`ReadError::Read`], an octet past
 /// [`FILE_LIMIT`] [`ReadError::TooLong`], a length 0 [`ReadError::ZeroLength`], and an end within a
 /// frame [`ReadError::TornFrame`].
-pub fn read_capture<R: Read>(alloc: Global, reader: &mut Counted<R>) -> Result<Vec<Vec<u8>>, ReadError>
+pub fn read_capture<R: Read>(
+    alloc: Global,
+    reader: &mut Counted<R>,
+) -> Result<Vec<Vec<u8>>, ReadError>
     // What the octets decide, where they are known.
     ensures messages { IfOk result (λ messages. IfSome (R.remaining (inner_of reader.old))
         (λ octets. IsCapture octets (octets_of_each messages.items))) }
@@ -59,5 +62,7 @@ pub fn read_capture<R: Read>(alloc: Global, reader: &mut Counted<R>) -> Result<V
 /// A stream is read as frames and a rest in one way at most.
 pub fn one_reading()
     ensures { (stream : List ℕ) (a b : List (List ℕ)) (r s : List ℕ) → Frames stream a r → Frames stream b s → (a ≡ b) × (r ≡ s) }
-{
-}
+{}
+
+#[cfg(test)]
+mod tests;

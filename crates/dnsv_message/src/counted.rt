@@ -120,3 +120,6 @@ impl<W: Write> Write for Counted<W> {
         result
     }
 }
+
+#[cfg(test)]
+mod tests;

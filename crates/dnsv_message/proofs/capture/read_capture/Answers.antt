@@ -35,7 +35,7 @@ loop-frame-preserved g c = record {
 }
 
 pub returns-in_err-finish-clause-torn_frame : goal.returns-in_err-finish-clause-torn_frame
-returns-in_err-finish-clause-torn_frame g c = λ is_torn. 
+returns-in_err-finish-clause-torn_frame g c = λ is_torn.
     HasRead-end _ _ _ _ _ c.read.new.buf c.loop-frame.left c.in_ok-count.count _ c.loop-frame.invariant.read c.in_ok-count.ensures.bytes.0 c.if-count-eq0.true
     (c.in_ok-count.ensures.bytes.1 c.if-count-eq0.true (omega (arith, c.loop-frame.invariant.room, c.read.auto.buf)))
     (λ octets within frames. (within, (octets_of_each c.loop-frame.messages.items, c.loop-frame.frame, frames, c.in_err-finish.ensures.1, c.in_err-finish.ensures.2)))
