@@ -1,7 +1,7 @@
 -- What has been read of a stream so far, and what it says of the stream as a whole.
 use Rattle.std.proofs.Common.{◌≡◌, ◌≢◌, ℕ, zero, suc, ◌+◌, ◌-◌, ◌<◌, ◌≤◌, List, [], ◌∷◌, ◌++◌, length, take, drop, refl, sym, ap, ◌∙◌, zero-add, min, arith, append_assoc, length-append, Option, Some, None, IfSome}
 use Rattle.std.proofs.Math.Nat.{sub-zero}
-use Rattle.std.proofs.lemmas.List.{append-nil, take_at, take-take, length-take-le, take-append-drop}
+use Rattle.std.proofs.lemmas.List.{append-nil, take_all, take_at, take-take, length-take-le, take-append-drop}
 use Rattle.std.proofs.KnownBytes.{Consumes-nil, Consumes-trans, Consumes-whole}
 use Rattle.std.specs.Io.KnownBytes.{Consumes, IsAtEnd}
 use Rattle.dnsv_message.specs.declared.TheConstants.{FILE_LIMIT}
@@ -134,3 +134,26 @@ HasRead-too_long old now next messages new rest end buf left count n x consumes 
 -- a failure is counted
 pub failed_once : (old now new : ℕ) → now ≡ old → new ≡ min (now + 1) 18446744073709551615 → old < 18446744073709551615 → old < new
 failed_once old now new same grew not_full = omega arith
+
+-- a file within the limit is read as a whole
+within_limit : (limit : ℕ) (file : List ℕ) (messages : List (List ℕ)) (rest : List ℕ) → length file ≤ limit → Frames (take limit file) messages rest → Frames file messages rest
+within_limit limit file messages rest within x = rw take_all at x
+
+-- a file has one answer
+pub zero_and_other : (file : List ℕ) (messages : List (List ℕ)) (rest : List ℕ) → length file ≤ FILE_LIMIT → Frames file messages rest → ¬ IsZero rest → ¬ HasZeroLength file
+zero_and_other file messages rest within x not_zero = λ came.
+    let same = one_framing file came.0 messages came.1 rest (within_limit FILE_LIMIT file came.0 came.1 within came.2) x in
+    not_zero (rw same.1 at came.3)
+
+nothing_not_zero : ¬ IsZero []
+nothing_not_zero = λ came. absurd (cc came.1)
+
+pub messages_alone : (file : List ℕ) (messages : List (List ℕ)) → IsCapture file messages → (¬ HasZeroLength file) × (¬ EndsTorn file) × (¬ IsTooLong file)
+messages_alone file messages x =
+    (zero_and_other file messages [] x.within x.frames nothing_not_zero,
+      λ torn. torn.1.3 (one_framing file torn.1.0 messages torn.1.1 [] torn.1.2 x.frames).1,
+      λ too_long. omega (arith, x.within, too_long.0))
+
+pub zero_length_alone : (file : List ℕ) → HasZeroLength file → (¬ EndsTorn file) × (¬ IsTooLong file)
+zero_length_alone file came =
+    (λ torn. zero_and_other file torn.1.0 torn.1.1 torn.0 torn.1.2 torn.1.4 came, λ too_long. too_long.1 came)

@@ -64,5 +64,15 @@ pub fn one_reading()
     ensures { (stream : List ℕ) (a b : List (List ℕ)) (r s : List ℕ) → Frames stream a r → Frames stream b s → (a ≡ b) × (r ≡ s) }
 {}
 
+/// A file has one answer at most: messages, a length 0, an end within a frame, or an octet too many.
+pub fn one_answer()
+    ensures messages { (file : List ℕ) (a b : List (List ℕ)) → IsCapture file a → IsCapture file b → a ≡ b }
+    ensures messages_alone { (file : List ℕ) (messages : List (List ℕ)) → IsCapture file messages →
+        (¬ HasZeroLength file) × (¬ EndsTorn file) × (¬ IsTooLong file) }
+    ensures zero_length_alone { (file : List ℕ) → HasZeroLength file → (¬ EndsTorn file) × (¬ IsTooLong file) }
+    ensures torn_frame_alone { (file : List ℕ) → EndsTorn file → ¬ IsTooLong file }
+{
+}
+
 #[cfg(test)]
 mod tests;

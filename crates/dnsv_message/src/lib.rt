@@ -1,7 +1,7 @@
 //! DNS messages (RFC 1035): the octets of one message, and the messages of a stream.
 #![tactic(auto)]
 
-pub use capture::{one_reading, read_capture};
+pub use capture::{one_answer, one_reading, read_capture};
 pub use counted::Counted;
 pub use errors::ReadError;
 pub use message::Message;
