@@ -1,7 +1,8 @@
 //! Captured messages, as a stream of frames gives them.
-ghost use Rattle.std.specs.Prelude.{◌≡◌, ◌<◌, List, ℕ, IfOk, IfSome, IsErrOf, OnOk};
-ghost use Rattle.std.specs.Io.KnownBytes.{IsAtEnd};
-ghost use Rattle.dnsv_message.specs.Counted.{inner_of, failures_of};
+ghost use Rattle.std.specs.Prelude.{◌≡◌, ◌<◌, List, ℕ, is_err, IfErr, IfOk, IfSome, IsErrOf, OnOk};
+ghost use Rattle.std.specs.Io.{ReadsAtMost};
+ghost use Rattle.std.specs.Io.KnownBytes.{IsAtEnd, ReadConsumes};
+ghost use Rattle.dnsv_message.specs.Counted.{count_after, failures_of, inner_of};
 ghost use Rattle.dnsv_message.specs.Frames.{EndsTorn, Frames, HasZeroLength, IsCapture, IsTooLong, octets_of_each};
 
 use crate::FILE_LIMIT;
@@ -44,7 +45,7 @@ pub fn read_capture<R: Read>(
     let mut frame = OpenFrame::new(alloc);
     let mut left = FILE_LIMIT;
     loop {
-        let count = reader.read(piece)?;
+        let count = read_piece(reader, piece)?;
         if count == 0 {
             break;
         }
@@ -57,6 +58,16 @@ pub fn read_capture<R: Read>(
     }
     frame.finish()?;
     Ok(messages)
+}
+
+// Reads once. A read that fails is not tried again.
+fn read_piece<R: Read>(reader: &mut Counted<R>, piece: &mut [u8]) -> Result<usize, ReadError>
+    ensures bound { ReadsAtMost result piece.new }
+    ensures bytes { ReadConsumes (R.remaining (inner_of reader.old)) (R.remaining (inner_of reader.new)) result piece.new }
+    ensures failures { failures_of reader.new ≡ count_after (failures_of reader.old) (is_err result) }
+    ensures only { IfErr result (λ error. error ≡ ReadError.Read) }
+{
+    Ok(reader.read(piece)?)
 }
 
 /// A stream is read as frames and a rest in one way at most.
