@@ -4,3 +4,5 @@ pub mod Sequences
 pub mod Faults
 pub mod NameLaws
 pub mod MessageLaws
+pub mod CaptureLemmas
+pub mod FrameLemmas

@@ -14,12 +14,12 @@ decode_error_of name.TooManyPointers = TooManyPointers
 decode_error_of name.LongName = LongName
 
 -- the number that a person is told
-abbrev pub code_of : DecodeError → ℕ
-code_of OutOfMemory = 90
-code_of Short = 201
-code_of BadLabel = 202
-code_of BadPointer = 203
-code_of TooManyPointers = 204
-code_of LongName = 205
-code_of (BadRdata number) = 206
-code_of TrailingBytes = 207
+abbrev pub decode_error_code : DecodeError → ℕ
+decode_error_code OutOfMemory = 90
+decode_error_code Short = 201
+decode_error_code BadLabel = 202
+decode_error_code BadPointer = 203
+decode_error_code TooManyPointers = 204
+decode_error_code LongName = 205
+decode_error_code (BadRdata number) = 206
+decode_error_code TrailingBytes = 207
