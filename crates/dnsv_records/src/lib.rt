@@ -1,0 +1,20 @@
+//! The RDATA of DNSSEC's records (RFC 4034, RFC 5155): each value has one spelling in octets.
+#![tactic(auto)]
+
+pub use base32hex::{base32hex_read, base32hex_write};
+pub use dnskey::{Dnskey, DnskeyFlags};
+pub use ds::Ds;
+pub use error::{Field, RecordError};
+pub use number::{Algorithm, DigestType, KeyTag};
+pub use octets::Octets;
+pub use tag::key_tag;
+pub use time::time_valid;
+
+mod base32hex;
+mod dnskey;
+mod ds;
+mod error;
+mod number;
+mod octets;
+mod tag;
+mod time;
