@@ -7,14 +7,17 @@ use Rattle.std.specs.Int.Digits.{number_from_digits}
 abbrev pub alphabet : List ℕ
 alphabet = codes "0123456789abcdefghijklmnopqrstuv"
 
--- the characters stand for digits of 5 bits, which fill the octets without padding, and both are the same number,
--- its highest bits first (RFC 4648 6)
-pub record Base32Hex (text octets : List ℕ) : Type 0 where
+-- the characters stand for the digits of 5 bits of the number, its highest bits first (RFC 4648 6)
+pub record Base32Number (text : List ℕ) (number : ℕ) : Type 0 where
   pub digits : List ℕ
   pub characters : text ≡ map (λ digit. slice_index alphabet digit) digits
   pub five_bits : AllByRecursion (λ digit. digit < 32) digits
+  pub value : number_from_digits 32 digits ≡ number
+
+-- the text and the octets are the same bits: the same number, and as many bits, without padding
+pub record Base32Hex (text octets : List ℕ) : Type 0 where
+  pub bits : Base32Number text (number_from_digits 256 octets)
   pub filled : 5 * length text ≡ 8 * length octets
-  pub number : number_from_digits 32 digits ≡ number_from_digits 256 octets
 
 -- a hash is 20 octets
 pub record IsHash (octets : List ℕ) : Type 0 where
