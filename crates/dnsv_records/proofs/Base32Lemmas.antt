@@ -9,6 +9,7 @@ use Rattle.std.proofs.Math.Nat.{pow-le-pow_right, pow-suc, pow-zero, mul-one}
 use Rattle.std.proofs.lemmas.List.Elements.{All-from_get_or, All-get_or, All-from_recursion, recursion_from_All}
 use Rattle.std.specs.List.{AllByRecursion, range_with_len}
 use Rattle.std.specs.Int.Digits.{number_from_digits, number_from_digits_after, AllBelowBase}
+use Rattle.dnsv_records.proofs.OctetLemmas.{recursion-append, recursion-take, recursion-drop, map_part}
 use Rattle.dnsv_records.specs.Base32Hex.{alphabet, Base32Number, Base32Hex, IsHash}
 
 -- the first ten characters are digits, the others letters
@@ -73,10 +74,6 @@ same_digits_after b m n (x ∷ xs) (y ∷ ys) low_x low_y long same =
 pub same_digits : (b : ℕ) (xs ys : List ℕ) → AllBelowBase b xs → AllBelowBase b ys → length xs ≡ length ys → number_from_digits b xs ≡ number_from_digits b ys → xs ≡ ys
 same_digits b xs ys low_x low_y long same = (same_digits_after b 0 0 xs ys low_x low_y long same).1
 
-pub recursion-append : {X : Type 0} (P : X → Type 0) (xs ys : List X) → AllByRecursion P xs → AllByRecursion P ys → AllByRecursion P (xs ++ ys)
-recursion-append P [] ys p q = q
-recursion-append P (x ∷ xs) ys p q = (p.0, recursion-append P xs ys p.1 q)
-
 -- the characters of digits are those digits'
 pub same_from_characters : (xs ys : List ℕ) → AllBelowBase 32 xs → AllBelowBase 32 ys → map (λ digit. get_or alphabet digit 0) xs ≡ map (λ digit. get_or alphabet digit 0) ys → xs ≡ ys
 same_from_characters [] [] low_x low_y same = refl
@@ -129,20 +126,6 @@ number_below b k ds some below few =
     let bound : b ^ length ds ≤ b ^ k = pow-le-pow_right some few in
     omega (arith, number_lt b ds below, bound)
 
--- octets of a slice
-pub octets_fit : (xs : List ℕ) → ((i : ℕ) → get_or xs i 0 < 256) → AllBelowBase 256 xs
-octets_fit xs fits = recursion_from_All (λ octet. octet < 256) xs (All-from_get_or (λ octet. octet < 256) xs 0 (λ i within. fits i))
-
-pub recursion-take : {X : Type 0} (P : X → Type 0) (n : ℕ) (xs : List X) → AllByRecursion P xs → AllByRecursion P (take n xs)
-recursion-take P zero xs p = tt
-recursion-take P (suc n) [] p = tt
-recursion-take P (suc n) (x ∷ xs) p = (p.0, recursion-take P n xs p.1)
-
-pub recursion-drop : {X : Type 0} (P : X → Type 0) (n : ℕ) (xs : List X) → AllByRecursion P xs → AllByRecursion P (drop n xs)
-recursion-drop P zero xs p = p
-recursion-drop P (suc n) [] p = tt
-recursion-drop P (suc n) (x ∷ xs) p = recursion-drop P n xs p.1
-
 pub length_digits : {text : List ℕ} {number : ℕ} (spelled : Base32Number text number) → length spelled.digits ≡ length text
 length_digits spelled = sym (length-map spelled.digits (λ digit. get_or alphabet digit 0)) ∙ sym (ap length spelled.characters)
 
@@ -173,19 +156,6 @@ pub take_map_more : (f : ℕ → ℕ) (xs : List ℕ) (i : ℕ) → i < length x
 take_map_more f xs i within =
     let inside : i < length (map f xs) = omega (arith, length-map xs f) in
     take_more (map f xs) i 0 inside ∙ ap (λ x. take i (map f xs) ++ x ∷ []) (get_or-map f xs i 0 0 within)
-
--- a part further on
-pub take_part : {X : Type 0} (m n k : ℕ) (xs : List X) → k ≡ m + n → take k xs ≡ take m xs ++ take n (drop m xs)
-take_part m n k xs sum =
-    ap (λ k. take k xs) sum ∙ sym (take-append-drop m (take (m + n) xs))
-    ∙ ap (λ ys. ys ++ drop m (take (m + n) xs)) (take-take m (m + n) xs (omega arith))
-    ∙ ap (λ ys. take m xs ++ ys) (drop-take m n xs)
-
-pub map_part : (f : ℕ → ℕ) (m n : ℕ) (xs : List ℕ) → take n (drop m (map f xs)) ≡ map f (take n (drop m xs))
-map_part f m n xs = ap (take n) (drop-map f m xs) ∙ take-map f n (drop m xs)
-
-pub length_part : {X : Type 0} (m n : ℕ) (xs : List X) → m + n ≤ length xs → length (take n (drop m xs)) ≡ n
-length_part m n xs within = length-take-le n (drop m xs) (omega (arith, length-drop m xs))
 
 -- any part of the characters is a number's
 pub Base32Number-part : (text : List ℕ) (number m n : ℕ) → Base32Number text number → (part : ℕ) × Base32Number (take n (drop m text)) part

@@ -1,1 +1,4 @@
 pub mod Base32Lemmas
+pub mod BitmapLemmas
+pub mod BlockLemmas
+pub mod OctetLemmas

@@ -1,4 +1,6 @@
 pub mod Base32Hex
+pub mod Bitmap
+pub mod Blocks
 pub mod Dnskey
 pub mod Ds
 pub mod KeyTag

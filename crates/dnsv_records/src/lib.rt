@@ -2,6 +2,7 @@
 #![tactic(auto)]
 
 pub use base32hex::{base32hex_read, base32hex_write};
+pub use bitmap::TypeBitmap;
 pub use dnskey::{Dnskey, DnskeyFlags};
 pub use ds::Ds;
 pub use error::{Field, RecordError};
@@ -11,6 +12,8 @@ pub use tag::key_tag;
 pub use time::time_valid;
 
 mod base32hex;
+mod bitmap;
+mod blocks;
 mod dnskey;
 mod ds;
 mod error;

@@ -4,7 +4,8 @@ use Rattle.std.specs.Char.{to_ascii_lowercase}
 use Rattle.std.specs.Int.Digits.{number_from_digits}
 use Rattle.dnsv_records.specs.Base32Hex.{Base32Hex, Base32Number}
 use Rattle.arrayvec.specs.ArrayVec.{array_vec_len}
-use Rattle.dnsv_records.proofs.Base32Lemmas.{Base32Hex-append, Base32Number-part, take_part, map_part, length_part, recursion-append, same_octets}
+use Rattle.dnsv_records.proofs.Base32Lemmas.{Base32Hex-append, Base32Number-part, same_octets}
+use Rattle.dnsv_records.proofs.OctetLemmas.{take_part, map_part, length_part, recursion-append}
 use Rattle.dnsv_records.proofs.base32hex.base32hex_read.Goals as goal
 
 pub loop-group-preserved : goal.loop-group-preserved
@@ -17,10 +18,11 @@ loop-group-preserved c =
     let spelled : Base32Number (take 8 (drop place text)) c.in_ok-number.number =
     subst (λ t. Base32Number t c.in_ok-number.number) (ap (λ n. map to_ascii_lowercase (take n (drop place c.args.text.now))) eight ∙ sym (map_part to_ascii_lowercase place 8 c.args.text.now)) c.in_ok-number.ensures.found in
     let more : take (8 * (c.loop-group.group + 1)) text ≡ take place text ++ take 8 (drop place text) = take_part place 8 _ text (omega arith) in
-    let size : length (take 8 (drop place text)) ≡ 8 = length_part place 8 text (omega (arith, length-map c.args.text.now to_ascii_lowercase)) in
-    (rw (after, more) (Base32Hex-append _ _ _ _ c.in_ok-number.number c.loop-group.invariant.0 spelled size c.octets_of.ensures.number c.octets_of.ensures.length),
-    rw after (recursion-append (λ octet. octet < 256) _ _ c.loop-group.invariant.1 c.octets_of.ensures.octets),
-    omega (arith, size_after, c.octets_of.ensures.length, c.loop-group.invariant.2))
+    let size : length (take 8 (drop place text)) ≡ 8 = length_part place 8 text (omega (arith, length-map c.args.text.now to_ascii_lowercase)) in (
+      rw (after, more) (Base32Hex-append _ _ _ _ c.in_ok-number.number c.loop-group.invariant.0 spelled size c.octets_of.ensures.number c.octets_of.ensures.length),
+      rw after (recursion-append (λ octet. octet < 256) _ _ c.loop-group.invariant.1 c.octets_of.ensures.octets),
+      omega (arith, size_after, c.octets_of.ensures.length, c.loop-group.invariant.2),
+    )
 
 pub returns-in_err-number-clause-every : goal.returns-in_err-number-clause-every
 returns-in_err-number-clause-every c = λ hash is spelled.
