@@ -168,3 +168,11 @@ Base32Number-part text number m n spelled = (
     value = refl;
   },
 )
+
+-- and the text from the octets
+pub same_text : (octets a b : List ℕ) → Base32Hex a octets → Base32Hex b octets → a ≡ b
+same_text octets a b p q =
+    p.bits.characters
+    ∙ ap (map (λ digit. get_or alphabet digit 0)) (same_digits 32 p.bits.digits q.bits.digits p.bits.five_bits q.bits.five_bits
+    (omega (arith, length_digits p.bits, length_digits q.bits, p.filled, q.filled)) (p.bits.value ∙ sym q.bits.value))
+    ∙ sym q.bits.characters

@@ -5,5 +5,8 @@ pub mod Dnskey
 pub mod Ds
 pub mod KeyTag
 pub mod Layout
+pub mod Nsec
+pub mod Nsec3
 pub mod Reading
+pub mod Rrsig
 pub mod Time

@@ -1,6 +1,6 @@
 //! The numbers in the heads of records, and how they are read.
-ghost use Rattle.std.specs.Prelude.{◌≡◌, ◌+◌, ◌≤◌, length};
-ghost use Rattle.dnsv_records.specs.Layout.{number_at};
+ghost use Rattle.std.specs.Prelude.{◌≡◌, ◌+◌, ◌≤◌, length, IfSome, IfNone};
+ghost use Rattle.dnsv_records.specs.Layout.{number_at, IsCounted, BeginsWithCounted};
 
 /// The number of a DNSSEC algorithm (RFC 4034 appendix A.1).
 #[derive(Clone, Copy, Debug, PartialEq, Eq, PartialOrd, Ord, Hash)]
@@ -33,4 +33,18 @@ pub fn u32_at(octets: &[u8], place: usize) -> u32
         octets[place + 2],
         octets[place + 3],
     ])
+}
+
+/// The octets that stand at the front behind their count in 8 bits, and the octets behind them;
+/// `None` where not all of them are there.
+pub fn split_counted(octets: &[u8]) -> Option<(&[u8], &[u8])>
+    ensures found { IfSome result (λ parts. IsCounted octets.now parts.0.now parts.1.now) }
+    ensures none { IfNone result (¬ BeginsWithCounted octets.now) }
+{
+    let (count, rest) = octets.split_first()?;
+    let count = usize::from(*count);
+    if rest.len() < count {
+        return None;
+    }
+    Some(rest.split_at(count))
 }

@@ -23,12 +23,13 @@ loop-place-preserved c =
     let here = block_here octets place c.loop-place.invariant.0 c.loop-place.invariant.1 c.loop-place-test.true in
     let size : place + 2 + c.from.result ≡ place + here.size = omega (arith, here.at.count, c.from.ensures, here.front.whole) in
     let rest : drop (place + 2 + c.from.result) octets ≡ here.front.rest =
-    ap (λ n. drop n octets) size ∙ drop-front octets here.front.rest place here.size here.front.block here.front.written here.front.whole in
-    (here.front.block.window + 1,
-    rw rest (AreBlocks-on c.loop-place.invariant.0 (drop place octets) here.front.rest here.front.block here.front.written c.loop-place.invariant.1),
-    ap (λ xs. bits_of (blocks_of xs) c.args.window) rest
-    ∙ sym (bits_of-other (drop place octets) here.front.rest here.front.block c.args.window here.front.written (λ same. c.if-from-window.false (c.from-in-loop-place.ensures ∙ here.at.number ∙ same)))
-    ∙ c.loop-place.invariant.2)
+    ap (λ n. drop n octets) size ∙ drop-front octets here.front.rest place here.size here.front.block here.front.written here.front.whole in (
+      here.front.block.window + 1,
+      rw rest (AreBlocks-on c.loop-place.invariant.0 (drop place octets) here.front.rest here.front.block here.front.written c.loop-place.invariant.1),
+      ap (λ xs. bits_of (blocks_of xs) c.args.window) rest
+          ∙ sym (bits_of-other (drop place octets) here.front.rest here.front.block c.args.window here.front.written (λ same. c.if-from-window.false (c.from-in-loop-place.ensures ∙ here.at.number ∙ same)))
+          ∙ c.loop-place.invariant.2,
+    )
 
 pub returns-then-from-window : goal.returns-then-from-window
 returns-then-from-window c =
