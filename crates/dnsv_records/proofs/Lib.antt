@@ -2,3 +2,4 @@ pub mod Base32Lemmas
 pub mod BitmapLemmas
 pub mod BlockLemmas
 pub mod OctetLemmas
+pub mod RecordLemmas

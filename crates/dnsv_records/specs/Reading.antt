@@ -8,8 +8,12 @@ use Rattle.dnsv_records.specs.declared.error.RecordError.TheVariants.{OutOfMemor
 abbrev pub Gives : {T : Type 0} → Result T RecordError → T → Type 0
 Gives result value = (result ≡ Ok value) ⊎ (result ≡ Err OutOfMemory)
 
--- where a field is named, that field is at fault
+-- an error that names a field names one at fault
+abbrev pub NamesFault : RecordError → (Field → Type 0) → Type 0
+NamesFault OutOfMemory IsFault = ⊤
+NamesFault (BadRdata field) IsFault = IsFault field
+
+-- where the answer names a field, that field is at fault
 abbrev pub IsFirstFault : {T : Type 0} → Result T RecordError → (Field → Type 0) → Type 0
 IsFirstFault (Ok value) IsFault = ⊤
-IsFirstFault (Err OutOfMemory) IsFault = ⊤
-IsFirstFault (Err (BadRdata field)) IsFault = IsFault field
+IsFirstFault (Err error) IsFault = NamesFault error IsFault
