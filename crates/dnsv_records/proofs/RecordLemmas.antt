@@ -43,9 +43,10 @@ pub same_counted : (octets a b rest behind : List ℕ) → IsCounted octets a re
 same_counted octets a b rest behind p q =
     let both : length a ∷ (a ++ rest) ≡ length b ∷ (b ++ behind) = sym p ∙ q in
     let size : length a ≡ length b = ap (λ xs. get_or xs 0 0) both in
-    let parts : a ++ rest ≡ b ++ behind = ap (drop 1) both in
-    (sym (take_at a rest (length a) refl) ∙ ap (take (length a)) parts ∙ take_at b behind (length a) (sym size),
-    sym (drop_at a rest (length a) refl) ∙ ap (drop (length a)) parts ∙ drop_at b behind (length a) (sym size))
+    let parts : a ++ rest ≡ b ++ behind = ap (drop 1) both in (
+      sym (take_at a rest (length a) refl) ∙ ap (take (length a)) parts ∙ take_at b behind (length a) (sym size),
+      sym (drop_at a rest (length a) refl) ∙ ap (drop (length a)) parts ∙ drop_at b behind (length a) (sym size),
+    )
 
 -- a name read at a place, and what stands behind it
 pub name_and_rest : (octets : List ℕ) (place n : ℕ) (name : Labels) → take n (drop place octets) ≡ wire name → drop place octets ≡ wire name ++ drop (place + n) octets

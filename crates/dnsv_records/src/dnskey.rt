@@ -20,7 +20,7 @@ impl DnskeyFlags {
 }
 
 /// A public key (RFC 4034 2.1).
-#[derive(Debug, Drop)]
+#[derive(Debug, PartialEq, Eq, Drop)]
 pub struct Dnskey {
     pub flags: DnskeyFlags,
     /// 3, in a key that DNSSEC uses (RFC 4034 2.1.2).

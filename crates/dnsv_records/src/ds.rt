@@ -5,7 +5,7 @@ use crate::octets::Octets;
 use std::alloc::Global;
 
 /// A delegation's link to a key of the zone below (RFC 4034 5.1).
-#[derive(Debug, Drop)]
+#[derive(Debug, PartialEq, Eq, Drop)]
 pub struct Ds {
     /// The tag of the key.
     pub key_tag: KeyTag,

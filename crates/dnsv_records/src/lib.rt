@@ -28,4 +28,6 @@ mod number;
 mod octets;
 mod rrsig;
 mod tag;
+#[cfg(test)]
+mod tests;
 mod time;

@@ -20,8 +20,13 @@ returns-in_err-types-clause-fault c =
     let rdata = c.args.rdata.now in
     let n = c.in-Some.length in
     rw (p.1, p.2) (bitmap_fault c.in_err-types.field-0.0 _ _
-    (λ bad. (c.in-Some.next, take (length rdata - n) (drop n rdata), c.in-Some.ensures.name,
-    sym (take-append-drop n rdata) ∙ ap (λ xs. xs ++ drop n rdata) c.in-Some.ensures.spelling ∙ ap (λ xs. wire c.in-Some.next ++ xs) (sym (take_rest rdata n)), bad))
+    (λ bad. (
+      c.in-Some.next,
+      take (length rdata - n) (drop n rdata),
+      c.in-Some.ensures.name,
+      sym (take-append-drop n rdata) ∙ ap (λ xs. xs ++ drop n rdata) c.in-Some.ensures.spelling ∙ ap (λ xs. wire c.in-Some.next ++ xs) (sym (take_rest rdata n)),
+      bad,
+    ))
     c.in_err-types.ensures.fault)
 
 pub returns-clause-every : goal.returns-clause-every

@@ -27,8 +27,15 @@ pub returns-in_err-types-clause-fault : goal.returns-in_err-types-clause-fault
 returns-in_err-types-clause-fault c =
     let p = err_from_is_err_and c.from_residual.result c.from_residual.ensures.1 in
     rw (p.1, p.2) (bitmap_fault c.in_err-types.field-0.0 _ _
-    (λ bad. (c.in-Some.salt.now, c.in-Some.behind_salt.now, c.in-Some-split_counted.next_hash.now, c.in-Some-split_counted.bits.now,
-    sym (take_rest c.args.rdata.now 4) ∙ c.in-Some.ensures.found, c.in-Some-split_counted.ensures.found, bad))
+    (λ bad. (
+      c.in-Some.salt.now,
+      c.in-Some.behind_salt.now,
+      c.in-Some-split_counted.next_hash.now,
+      c.in-Some-split_counted.bits.now,
+      sym (take_rest c.args.rdata.now 4) ∙ c.in-Some.ensures.found,
+      c.in-Some-split_counted.ensures.found,
+      bad,
+    ))
     c.in_err-types.ensures.fault)
 
 pub returns-clause-every : goal.returns-clause-every
