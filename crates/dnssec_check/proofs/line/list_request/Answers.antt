@@ -21,31 +21,31 @@ Reads bs r = ParsesUnsigned 64 10 bs r × ExplainsUnsignedError 10 bs r × HasUn
 pub unwrap-requires-2 : goal.unwrap-requires-2
 unwrap-requires-2 c =
     let text = c.requires.1 in
-    let got = moment_reads _ Reads text.0 c.get_one.result (c.get_one.ensures.value text.0 (one_text-rows _ _ ∙ text.2)) (λ u x g. g.0) text.3 in
+    let got = moment_reads _ Reads text.0 c.get_one.result (c.get_one.ensures.value text.0 (one_text-rows (found_of c.args.list.now) (codes "moment") ∙ text.2)) (λ u x g. g.0) text.3 in
     ap is_some got.1
 
 -- what `Moment::new` makes of a number within the bounds
 pub made : (o : Option ℕ) (n : ℕ) → SomeIff o (IsMoment n) n → IsMoment n → o ≡ Some n
-made None n no fits = absurd (no fits)
-made (Some m) n yes fits = ap (λ k. Some k) yes.1
+made None n refused fits = absurd (refused fits)
+made (Some m) n gives fits = ap (λ k. Some k) gives.1
 
 pub unwrap-moment-requires : goal.unwrap-moment-requires
 unwrap-moment-requires c =
     let text = c.requires.1 in
-    let got = moment_reads _ Reads text.0 c.get_one.result (c.get_one.ensures.value text.0 (one_text-rows _ _ ∙ text.2)) (λ u x g. g.0) text.3 in
+    let got = moment_reads _ Reads text.0 c.get_one.result (c.get_one.ensures.value text.0 (one_text-rows (found_of c.args.list.now) (codes "moment") ∙ text.2)) (λ u x g. g.0) text.3 in
     let same : got.0 ≡ c.unwrap-2.result = cc in
     ap is_some (made c.new.result c.unwrap-2.result c.new.ensures (rw (← same) got.2))
 
 pub returns : goal.returns
 returns c =
     let text = c.requires.1 in
-    let got = moment_reads _ Reads text.0 c.get_one.result (c.get_one.ensures.value text.0 (one_text-rows _ _ ∙ text.2)) (λ u x g. g.0) text.3 in
+    let got = moment_reads _ Reads text.0 c.get_one.result (c.get_one.ensures.value text.0 (one_text-rows (found_of c.args.list.now) (codes "moment") ∙ text.2)) (λ u x g. g.0) text.3 in
     let same : got.0 ≡ c.unwrap-2.result = cc in
     let is_made = made c.new.result c.unwrap-2.result c.new.ensures (rw (← same) got.2) in
     let is_moment : got.0 ≡ c.unwrap-moment.result = cc in
     let word : first_value (found_of c.args.list.now) (codes "capture") ≡ Some c.unwrap.result.now = sym c.get_str.ensures ∙ ap (option_map (λ s. s.now)) c.unwrap.ensures in
     (
       refl,
-      sym (first_value-rows _ _) ∙ word ∙ ap (λ t. Some t) (sym c.in_ok-capture.ensures),
+      sym (first_value-rows (found_of c.args.list.now) (codes "capture")) ∙ word ∙ ap (λ t. Some t) (sym c.in_ok-capture.ensures.ok),
       ap (option_and_then moment_said) text.1 ∙ got.3 ∙ ap (λ n. Some n) is_moment,
     )
