@@ -1,7 +1,7 @@
 -- What the matches of `list` read as, and that it has them.
 use Rattle.std.proofs.Common.{◌≡◌, ◌≤◌, ◌^◌, ◌∙◌, ℕ, Bool, true, false, not, List, Option, Some, None, ap, refl, sym, subst, inl, inr, arith, slice_index}
 use Rattle.std.proofs.lemmas.Slice.Eq.{bytes_eq-Decides}
-use Rattle.std.specs.Prelude.{Ok, Err, Result, option_and_then}
+use Rattle.std.specs.Prelude.{IfErr, IsErrAnd, Ok, Err, Result, option_and_then}
 use Rattle.std.specs.Str.Parse.{ParsesUnsigned, digits_value, without_leading_plus}
 use Rattle.clap.specs.Words.{ReadsOne, Text}
 use Rattle.clap.specs.ValueTests.{is_unsigned_in}
@@ -11,15 +11,17 @@ use Rattle.std.specs.Str.{bytes_eq}
 use Rattle.std.specs.Option.{option_map_or}
 use Rattle.clap.specs.Facts.{explicit_source}
 use Rattle.clap.specs.Kinds.{HasKind, IsAmong, check_kinds}
-use Rattle.clap.specs.Faults.{built_fault, check_fault, entered_fault, fault_of, level_fault}
-use Rattle.clap.specs.Simple.{App, Shape, argument_words, built, built_leaf, entered, filled, inherited, label_of, marked_built, names_of, rows_at, subcommand_of}
+use Rattle.clap.specs.Faults.{built_fault, check_fault, entered_fault, fault_of, is_simple_and_free, level_fault}
+use Rattle.clap.specs.Simple.{App, HasMatchesOf, Shape, argument_words, built, built_leaf, entered, filled, inherited, is_simple, label_of, marked_built, names_of, rows_at, subcommand_of, subcommand_rows_of}
 use Rattle.clap.specs.Takes.{is_given, value_passes}
 use Rattle.clap.specs.Values.{kind_of, read_as}
 use Rattle.clap.specs.Walk.{Row, Rule, answers_to, first_of, nothing_held, one_of, reading_by, rows_after, stop_after}
+use Rattle.clap.specs.declared.ArgMatches.{ArgMatches}
 use Rattle.clap.specs.declared.Error.{Error}
 use Rattle.clap.specs.declared.error.ErrorKind.{ErrorKind}
 use Rattle.clap.specs.declared.error.ErrorKind.TheVariants as kind
 use Rattle.clap.specs.declared.builder.ValueParser.TheVariants as parser
+use Rattle.dnssec_check.specs.declared.line.LineError.{LineError}
 use Rattle.dnssec_check.proofs.RowLemmas.{AreRowsIn, IsRowIn, IsRowOf, StartsPassing}
 use Rattle.dnssec_check.proofs.WalkLemmas.{AllLeaveValues, level_in}
 use Rattle.clap.proofs.ValueTestLemmas.{accepts-Accepts}
@@ -202,3 +204,29 @@ refused_as words e has = go (kind_of e) refl
     go kind.OutOfMemory is = tt
     go kind.DisplayHelp is = (is, subst (λ k. IsAmong k (fault_of program_app words)) is (among kind.DisplayHelp is (λ bad. cc) has))
     go k is = ((λ help. let bad : k ≡ kind.DisplayHelp = sym is ∙ help in cc), among k is (λ bad. cc) has)
+
+-- `?` passes an error of `clap` up as the program tells it
+pub passed_up : {T : Type 0} (r : Result T LineError) (a : App) (words : List Text) (e : Error) → a ≡ program_app
+    → IsErrAnd r (λ error. error ≡ line_error e)
+    → (is_simple_and_free a ≡ true → HasKind (fault_of a words) e) → IfErr r (IsRefused words)
+passed_up (Ok x) a words e is passed kinds = absurd passed
+passed_up (Err error) a words e is passed kinds =
+    let has = subst (λ (b : App). HasKind (fault_of b words) e) is (kinds (ap is_simple_and_free is)) in
+    subst (IsRefused words) (sym passed) (refused_as words e has)
+
+-- the matches of a parse by the program are those of `list`, with its values
+pub parsed_list : (a : App) (words : List Text) (m : ArgMatches) → a ≡ program_app → HasMatchesOf a words m
+    → (is_simple_and_free a ≡ true → fault_of a words ≡ [])
+    → (fault_of program_app words ≡ []) × ((rows : List Row) × (subcommand_of program_app words ≡ Some (codes "list", rows))
+    × HasListValues rows × (subcommand_rows_of m ≡ Some (codes "list", rows)))
+parsed_list a words m is has kinds =
+    let none = subst (λ (b : App). fault_of b words ≡ []) is (kinds (ap is_simple_and_free is)) in
+    let list = taken words none in
+    (none, (list.0, list.1, list.2, (has (ap is_simple is)).1 ∙ ap (λ (b : App). subcommand_of b words) is ∙ list.1))
+
+-- the rows of the subcommand that a caller looks at
+pub rows_met : {X : Type 0} (f : X → List Row) (o : Option X) (x : X) (met : Option (Text × List Row)) (name : Text) (rows : List Row)
+    → o ≡ Some x → option_map f o ≡ option_map (λ p. p.1) met → met ≡ Some (name, rows) → rows ≡ f x
+rows_met f o x met name rows is same found =
+    let e : Some (f x) ≡ Some rows = ap (option_map f) (sym is) ∙ same ∙ ap (option_map (λ p. p.1)) found in
+    ap (λ (r : Option (List Row)). unwrap_or r (f x)) (sym e)
