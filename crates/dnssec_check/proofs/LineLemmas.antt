@@ -107,8 +107,7 @@ first_passes a (v ∷ vs) starts = (v, refl, starts)
 
 row_value : (a : Rule) (id : Text) (rows : List Row) (r : Row) → find (λ r. bytes_eq r.id id) rows ≡ Some r → IsRowOf a r → HasValueOf a id rows
 row_value a id rows r found is =
-    let got = first_passes a r.values is.2 in
-    (
+    let got = first_passes a r.values is.2 in (
       got.0,
       rw found got.1,
       rw (found, got.1, is.1) refl,
@@ -200,6 +199,7 @@ refused_as words e has = go (kind_of e) refl
     among : (k : ErrorKind) → kind_of e ≡ k → (k ≡ kind.OutOfMemory → ⊥) → HasKind (fault_of program_app words) e → IsAmong (kind_of e) (fault_of program_app words)
     among k is other (inl memory) = absurd (other (sym is ∙ memory))
     among k is other (inr at) = at
+
     go : (k : ErrorKind) → kind_of e ≡ k → IsRefused words (error_of_kind k e)
     go kind.OutOfMemory is = tt
     go kind.DisplayHelp is = (is, subst (λ k. IsAmong k (fault_of program_app words)) is (among kind.DisplayHelp is (λ bad. cc) has))

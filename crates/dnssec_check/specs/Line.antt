@@ -10,6 +10,8 @@ use Rattle.clap.specs.declared.builder.value_parser.ValueParser.TheVariants as p
 use Rattle.clap.specs.declared.error.Error.{Error}
 use Rattle.clap.specs.declared.error.kind.ErrorKind.{ErrorKind}
 use Rattle.clap.specs.declared.error.kind.ErrorKind.TheVariants as kind
+use Rattle.std.specs.declared.io.ErrorKind.{ErrorKind as IoErrorKind}
+use Rattle.std.specs.declared.io.ErrorKind.TheVariants as io
 use Rattle.dnssec_check.specs.Moment.{last_moment}
 use Rattle.dnssec_check.specs.declared.line.Request.{Request}
 use Rattle.dnssec_check.specs.declared.line.Request.TheVariants as request
@@ -84,6 +86,7 @@ IsAccepted words asked = (fault_of program_app words ≡ [])
 -- help was asked for, or the words have a mistake, of a kind that the program gives at them
 abbrev pub IsRefused : List Text → LineError → Type 0
 IsRefused words line.OutOfMemory = ⊤
+IsRefused words line.NotText = ⊥
 IsRefused words (line.Help refusal) =
     (kind_of refusal ≡ kind.DisplayHelp) × IsAmong kind.DisplayHelp (fault_of program_app words)
 IsRefused words (line.Misused refusal) =
@@ -97,9 +100,15 @@ error_of_kind _ refusal = line.Misused refusal
 abbrev pub line_error : Error → LineError
 line_error refusal = error_of_kind (kind_of refusal) refusal
 
+-- what goes wrong where the words are handed out
+abbrev pub words_error : IoErrorKind → LineError
+words_error io.OutOfMemory = line.OutOfMemory
+words_error _ = line.NotText
+
 -- the exit status: 1 without memory, 0 after help, else 2
 abbrev pub line_code : LineError → ℕ
 line_code line.OutOfMemory = 1
+line_code line.NotText = 2
 line_code (line.Help refusal) = 0
 line_code (line.Misused refusal) = 2
 

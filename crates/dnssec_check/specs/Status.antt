@@ -1,5 +1,6 @@
 -- The numbers of the faults, the exit statuses of the program, and the line that tells a fault.
-use Rattle.std.specs.Prelude.{◌==◌, ℕ, List, [], ◌∷◌, ◌++◌, Option, Some, None, if◌then◌else◌, codes}
+use Rattle.std.specs.Prelude.{◌==◌, ℕ, List, [], ◌∷◌, ◌++◌, Option, Some, None, Result, Ok, Err}
+use Rattle.std.specs.Prelude.{if◌then◌else◌, codes}
 use Rattle.std.specs.List.{list_any}
 use Rattle.std.specs.Fmt.{decimal}
 use Rattle.dnssec_check.specs.declared.status.Status.{Status}
@@ -46,6 +47,11 @@ failures = 90 ∷ 210 ∷ 211 ∷ 811 ∷ 812 ∷ []
 -- the exit status of a fault, by its number
 abbrev pub fault_code : ℕ → ℕ
 fault_code number = if list_any (λ failure. failure == number) failures then 1 else 7
+
+-- the exit status of a run
+abbrev pub outcome_code : Result Status Fault → ℕ
+outcome_code (Ok status) = status_code status
+outcome_code (Err failed) = fault_code (fault_number failed)
 
 -- ---- the line that tells a fault
 

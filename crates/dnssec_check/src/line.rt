@@ -1,8 +1,9 @@
 //! The command line.
 ghost use Rattle.std.specs.Prelude.{◌≡◌, ⊤, false, IfErr, IfOk, codes, map, string_bytes};
+ghost use Rattle.std.specs.IoError.{error_kind as io_error_kind};
 ghost use Rattle.clap.specs.Words.{app_of, found_of, rows_of, rule_of};
 ghost use Rattle.clap.specs.declared.Command.TheViews.{out-Command as fields_of};
-ghost use Rattle.dnssec_check.specs.Line.{Asks, HasListValues, IsAccepted, IsRefused, all_rule, capture_rule, line_code, line_error, list_app, moment_rule, program_app};
+ghost use Rattle.dnssec_check.specs.Line.{Asks, HasListValues, IsAccepted, IsRefused, all_rule, capture_rule, line_code, line_error, list_app, moment_rule, program_app, words_error};
 ghost use Rattle.dnssec_check.specs.declared.line.LineError.TheVariants.{OutOfMemory};
 
 use crate::moment::Moment;
@@ -10,6 +11,7 @@ use clap::error::ErrorKind;
 use clap::{Arg, ArgAction, ArgMatches, Command, value_parser};
 use std::alloc::{AllocError, Global};
 use std::convert::AsStr;
+use std::io;
 use thiserror::Error;
 
 /// What the program is asked to do.
@@ -23,12 +25,15 @@ pub enum Request {
     },
 }
 
-/// Why the command line gives no request. The text is for the user.
+/// Why the command line gives no request. The text, for the user, ends with a newline.
 #[derive(Debug, Drop, Error)]
 pub enum LineError {
     /// Memory ran out.
-    #[error("fault 90")]
+    #[error("fault 90\n")]
     OutOfMemory,
+    /// A word is no text in UTF-8.
+    #[error("error: a word of the command line is not UTF-8\n")]
+    NotText,
     /// Help was asked for.
     #[error(transparent)]
     Help(clap::Error),
@@ -45,7 +50,7 @@ impl LineError {
         match self {
             LineError::OutOfMemory => 1,
             LineError::Help(_) => 0,
-            LineError::Misused(_) => 2,
+            LineError::NotText | LineError::Misused(_) => 2,
         }
     }
 }
@@ -55,6 +60,18 @@ impl From<AllocError> for LineError {
 
     fn from(_error: AllocError) -> LineError {
         LineError::OutOfMemory
+    }
+}
+
+/// What handing out the words of the command line ran into.
+impl From<io::Error> for LineError {
+    ghost from_gives = { λ failure error. error ≡ words_error (io_error_kind failure) };
+
+    fn from(failure: io::Error) -> LineError {
+        match failure.kind() {
+            io::ErrorKind::OutOfMemory => LineError::OutOfMemory,
+            _ => LineError::NotText,
+        }
     }
 }
 

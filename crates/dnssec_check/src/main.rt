@@ -3,6 +3,12 @@
 
 mod line;
 mod moment;
+mod program;
+mod run;
 mod status;
 
-fn main() {}
+use std::process::ExitCode;
+
+fn main(rt: HostRuntime) -> ExitCode {
+    ExitCode::from(program::exit_status(&rt))
+}

@@ -43,8 +43,7 @@ returns c =
     let same : got.0 ≡ c.unwrap-2.result = cc in
     let is_made = made c.new.result c.unwrap-2.result c.new.ensures (rw (← same) got.2) in
     let is_moment : got.0 ≡ c.unwrap-moment.result = cc in
-    let word : first_value (found_of c.args.list.now) (codes "capture") ≡ Some c.unwrap.result.now = sym c.get_str.ensures ∙ ap (option_map (λ s. s.now)) c.unwrap.ensures in
-    (
+    let word : first_value (found_of c.args.list.now) (codes "capture") ≡ Some c.unwrap.result.now = sym c.get_str.ensures ∙ ap (option_map (λ s. s.now)) c.unwrap.ensures in (
       refl,
       sym (first_value-rows (found_of c.args.list.now) (codes "capture")) ∙ word ∙ ap (λ t. Some t) (sym c.in_ok-capture.ensures.ok),
       ap (option_and_then moment_said) text.1 ∙ got.3 ∙ ap (λ n. Some n) is_moment,
