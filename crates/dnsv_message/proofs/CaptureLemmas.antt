@@ -1,5 +1,5 @@
 -- What has been read of a stream so far, and what it says of the stream as a whole.
-use Rattle.std.proofs.Common.{◌≡◌, ◌≢◌, ℕ, zero, suc, ◌+◌, ◌-◌, ◌<◌, ◌≤◌, List, [], ◌∷◌, ◌++◌, length, take, drop, refl, sym, ap, ◌∙◌, zero-add, min, arith, append_assoc, length-append, Option, Some, None, IfSome}
+use Rattle.std.proofs.Common.{◌≡◌, ℕ, zero, suc, ◌+◌, ◌-◌, ◌<◌, ◌≤◌, List, [], ◌∷◌, ◌++◌, length, take, drop, refl, sym, ap, ◌∙◌, zero-add, min, arith, append_assoc, length-append, Option, Some, None, IfSome}
 use Rattle.std.proofs.Math.Nat.{sub-zero}
 use Rattle.std.proofs.lemmas.List.{append-nil, take_all, take_at, take-take, length-take-le, take-append-drop}
 use Rattle.std.proofs.KnownBytes.{Consumes-nil, Consumes-trans, Consumes-whole}
@@ -149,10 +149,11 @@ nothing_not_zero : ¬ IsZero []
 nothing_not_zero = λ came. absurd (cc came.1)
 
 pub messages_alone : (file : List ℕ) (messages : List (List ℕ)) → IsCapture file messages → (¬ HasZeroLength file) × (¬ EndsTorn file) × (¬ IsTooLong file)
-messages_alone file messages x =
-    (zero_and_other file messages [] x.within x.frames nothing_not_zero,
-      λ torn. torn.1.3 (one_framing file torn.1.0 messages torn.1.1 [] torn.1.2 x.frames).1,
-      λ too_long. omega (arith, x.within, too_long.0))
+messages_alone file messages x = (
+  zero_and_other file messages [] x.within x.frames nothing_not_zero,
+  λ torn. torn.1.3 (one_framing file torn.1.0 messages torn.1.1 [] torn.1.2 x.frames).1,
+  λ too_long. omega (arith, x.within, too_long.0),
+)
 
 pub zero_length_alone : (file : List ℕ) → HasZeroLength file → (¬ EndsTorn file) × (¬ IsTooLong file)
 zero_length_alone file came =
