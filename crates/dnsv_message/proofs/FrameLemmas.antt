@@ -1,7 +1,8 @@
 -- Frames of a stream: a stream has one reading, and what comes after a rest is read with it.
-use Rattle.std.proofs.Common.{◌≡◌, ℕ, zero, suc, ◌+◌, ◌-◌, ◌*◌, ◌/◌, ◌%◌, ◌<◌, ◌≤◌, List, [], ◌∷◌, ◌++◌, length, get_or, take, drop, refl, zero-add, sym, ap, ◌∙◌, arith, append_assoc, length-append, Option, Some, None}
+use Rattle.std.proofs.Common.{◌≡◌, ℕ, zero, suc, ◌+◌, ◌-◌, ◌*◌, ◌/◌, ◌%◌, ◌<◌, ◌≤◌, List, [], ◌∷◌, ◌++◌, length, get_or, take, drop, refl, zero-add, ⊎_elim, sym, ap, ◌∙◌, arith, append_assoc, length-append, Option, Some, None}
 use Rattle.std.proofs.Math.Nat.{suc-add}
-use Rattle.std.proofs.lemmas.List.{append-nil, take_rest, take-append-drop}
+use Rattle.std.proofs.lemmas.List.{append-nil, length-drop, length-take-le, take_rest, take-append-drop}
+use Rattle.std.proofs.lemmas.Bool.{cases_lt}
 use Rattle.std.proofs.lemmas.Grind.{flat_map-append}
 use Rattle.std.specs.List.{AllByRecursion, flat_map}
 use Rattle.dnsv_message.specs.Frames.{frame, IsFramed, BeginsNoFrame, Frames, IsZero}
@@ -183,3 +184,66 @@ Gains-last old mid new before piece held end place x y =
     let whole : (before ++ take place piece) ++ drop place piece ≡ before ++ piece =
     append_assoc before (take place piece) (drop place piece) ∙ ap (λ xs. before ++ xs) (take-append-drop place piece) in
     rw (← whole) z
+
+-- a reading of the stream
+pub record Reading (stream : List ℕ) : Type 0 where
+  pub messages : List (List ℕ)
+  pub rest : List ℕ
+  pub frames : Frames stream messages rest
+
+nothing_to_read : (stream : List ℕ) → BeginsNoFrame stream → Reading stream
+nothing_to_read stream no_more = record { messages = []; rest = stream; frames = record { whole = refl; each = tt; no_more = no_more } }
+
+-- two octets of a length, and fewer octets than it says
+short_of_octets : (high low : ℕ) (body : List ℕ) → low < 256 → length body < high * 256 + low → BeginsNoFrame (high ∷ (low ∷ body))
+short_of_octets high low body small short = λ message more framed same.
+    let first : high ≡ length message / 256 = cc in
+    let second : low ≡ length message % 256 = cc in
+    let rest : body ≡ message ++ more = cc in
+    omega (arith, ap length rest, length-append message more)
+
+zero_to_read : (high low : ℕ) (body : List ℕ) → high * 256 + low ≡ 0 → BeginsNoFrame (high ∷ (low ∷ body))
+zero_to_read high low body none = λ message more framed same.
+    let first : high ≡ length message / 256 = cc in
+    let second : low ≡ length message % 256 = cc in
+    omega (arith, framed.not_empty)
+
+-- a whole frame, and what is read behind it
+frame_to_read : (high low : ℕ) (body : List ℕ) → high < 256 → low < 256 → 0 < high * 256 + low → high * 256 + low ≤ length body
+    → Reading (drop (high * 256 + low) body) → Reading (high ∷ (low ∷ body))
+frame_to_read high low body high_fits low_fits some whole x =
+    let message = take (high * 256 + low) body in
+    let size : length message ≡ high * 256 + low = length-take-le (high * 256 + low) body whole in
+    let first : length message / 256 ≡ high = omega arith in
+    let second : length message % 256 ≡ low = omega arith in
+    let one = Frames-one message (record { not_empty = omega arith; at_most_65535 = omega arith }) in
+    let all = Frames-append (frame message) (drop (high * 256 + low) body) (message ∷ []) x.messages [] x.rest one x.frames in
+    let same : frame message ++ drop (high * 256 + low) body ≡ high ∷ (low ∷ body) =
+    ap (λ n. n ∷ (length message % 256 ∷ (message ++ drop (high * 256 + low) body))) first
+    ∙ ap (λ n. high ∷ (n ∷ (message ++ drop (high * 256 + low) body))) second
+    ∙ ap (λ xs. high ∷ (low ∷ xs)) (take-append-drop (high * 256 + low) body) in
+    record { messages = message ∷ x.messages; rest = x.rest; frames = rw same at all }
+
+octets_drop : (n : ℕ) (octets : List ℕ) → AllByRecursion (λ octet. octet < 256) octets → AllByRecursion (λ octet. octet < 256) (drop n octets)
+octets_drop zero octets each = each
+octets_drop (suc n) [] each = tt
+octets_drop (suc n) (octet ∷ octets) each = octets_drop n octets each.1
+
+reading_within : (n : ℕ) (stream : List ℕ) → length stream ≤ n → AllByRecursion (λ octet. octet < 256) stream → Reading stream
+reading_within n [] within each = nothing_to_read [] (λ message more framed same. absurd (cc same))
+reading_within n (high ∷ []) within each = nothing_to_read (high ∷ []) (λ message more framed same. absurd (cc same))
+reading_within zero (high ∷ (low ∷ body)) within each = absurd (omega arith)
+reading_within (suc n) (high ∷ (low ∷ body)) within each =
+    ⊎_elim
+    (λ (short : length body < high * 256 + low). nothing_to_read (high ∷ (low ∷ body)) (short_of_octets high low body each.1.0 short))
+    (λ (whole : high * 256 + low ≤ length body).
+    ⊎_elim
+    (λ (some : 0 < high * 256 + low). frame_to_read high low body each.0 each.1.0 some whole
+    (reading_within n (drop (high * 256 + low) body) (rw length-drop (omega arith)) (octets_drop (high * 256 + low) body each.1.1)))
+    (λ (none : high * 256 + low ≤ 0). nothing_to_read (high ∷ (low ∷ body)) (zero_to_read high low body (omega arith)))
+    (cases_lt 0 (high * 256 + low)))
+    (cases_lt (length body) (high * 256 + low))
+
+-- every stream of octets has a reading
+pub some_reading : (stream : List ℕ) → AllByRecursion (λ octet. octet < 256) stream → (messages : List (List ℕ)) × (rest : List ℕ) × Frames stream messages rest
+some_reading stream each = let x = reading_within (length stream) stream (omega arith) each in (x.messages, x.rest, x.frames)

@@ -1,5 +1,5 @@
 -- What is seen of a reader or writer whose failed calls are counted.
-use Rattle.std.specs.Prelude.{ℕ, ◌+◌, ◌-◌, ◌^◌, min, Bool, true, false, ◌&&◌, not, ◌==◌, List, length, Result, Ok, Err, if◌then◌else◌}
+use Rattle.std.specs.Prelude.{ℕ, ◌+◌, ◌-◌, ◌^◌, min, Bool, true, ◌&&◌, not, ◌==◌, List, length, Result, Ok, Err, if◌then◌else◌}
 use Rattle.dnsv_message.specs.declared.counted.Counted.{Counted}
 
 -- the reader or writer itself

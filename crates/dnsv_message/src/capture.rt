@@ -1,5 +1,6 @@
 //! Captured messages, as a stream of frames gives them.
 ghost use Rattle.std.specs.Prelude.{◌≡◌, ◌<◌, List, ℕ, is_err, IfErr, IfOk, IfSome, IsErrOf, OnOk};
+ghost use Rattle.std.specs.List.{AllByRecursion};
 ghost use Rattle.std.specs.Io.{ReadsAtMost};
 ghost use Rattle.std.specs.Io.KnownBytes.{IsAtEnd, ReadConsumes};
 ghost use Rattle.dnsv_message.specs.Counted.{count_after, failures_of, inner_of};
@@ -70,9 +71,11 @@ fn read_piece<R: Read>(reader: &mut Counted<R>, piece: &mut [u8]) -> Result<usiz
     Ok(reader.read(piece)?)
 }
 
-/// A stream is read as frames and a rest in one way at most.
+/// Every stream of octets is read as frames and a rest, in one way.
 pub fn one_reading()
-    ensures { (stream : List ℕ) (a b : List (List ℕ)) (r s : List ℕ) → Frames stream a r → Frames stream b s → (a ≡ b) × (r ≡ s) }
+    ensures some { (stream : List ℕ) → AllByRecursion (λ octet. octet < 256) stream →
+        (messages : List (List ℕ)) × (rest : List ℕ) × Frames stream messages rest }
+    ensures one { (stream : List ℕ) (a b : List (List ℕ)) (r s : List ℕ) → Frames stream a r → Frames stream b s → (a ≡ b) × (r ≡ s) }
 {}
 
 /// A file has one answer at most: messages, a length 0, an end within a frame, or an octet too many.

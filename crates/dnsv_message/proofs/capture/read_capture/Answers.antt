@@ -1,7 +1,7 @@
-use Rattle.std.proofs.Common.{◌≡◌, ℕ, ap, ◌∙◌, length, take, refl, arith}
+use Rattle.std.proofs.Common.{ap, ◌∙◌, refl, arith}
 use Rattle.std.proofs.lemmas.Result.{err_from_is_err_and}
 use Rattle.dnsv_message.specs.Frames.{octets_of_each}
-use Rattle.dnsv_message.proofs.CaptureLemmas.{HasRead, HasRead-start, HasRead-more, HasRead-end, HasRead-zero, HasRead-too_long, failed_once}
+use Rattle.dnsv_message.proofs.CaptureLemmas.{HasRead-start, HasRead-more, HasRead-end, HasRead-zero, HasRead-too_long, failed_once}
 use Rattle.dnsv_message.proofs.capture.read_capture.Goals as goal
 
 pub loop-frame-init : goal.loop-frame-init

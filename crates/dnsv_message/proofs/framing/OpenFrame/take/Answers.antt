@@ -1,4 +1,3 @@
-use Rattle.std.proofs.Common.{arith}
 use Rattle.std.proofs.lemmas.Result.{err_from_is_err_and}
 use Rattle.dnsv_message.specs.Frames.{octets_of_each}
 use Rattle.dnsv_message.proofs.FrameLemmas.{zero_length}

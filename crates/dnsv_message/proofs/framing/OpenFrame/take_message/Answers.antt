@@ -1,7 +1,7 @@
-use Rattle.std.proofs.Common.{◌≡◌, ℕ, ◌++◌, length, take, ap, arith, length-append}
+use Rattle.std.proofs.Common.{ℕ, length, take, ap, arith, length-append}
 use Rattle.std.proofs.lemmas.List.{length-take}
 use Rattle.dnsv_message.specs.Frames.{octets_of_each}
-use Rattle.dnsv_message.proofs.FrameLemmas.{message_open, message_whole}
+use Rattle.dnsv_message.proofs.FrameLemmas.{message_open}
 use Rattle.dnsv_message.proofs.framing.OpenFrame.take_message.Goals as goal
 
 pub returns-else-count-missing-clause-ok : goal.returns-else-count-missing-clause-ok
