@@ -1,8 +1,8 @@
 -- What the matches of `list` read as, and that it has them.
-use Rattle.std.proofs.Common.{◌≡◌, ◌≤◌, ◌^◌, ◌∙◌, ℕ, Bool, true, false, not, List, Option, Some, None, ap, refl, sym, subst, inl, inr, arith, slice_index}
+use Rattle.std.proofs.Common.{◌≡◌, ◌≤◌, ◌∙◌, ℕ, Bool, true, false, not, List, Option, Some, None, ap, refl, sym, subst, inl, inr, arith, slice_index}
 use Rattle.std.proofs.lemmas.Slice.Eq.{bytes_eq-Decides}
-use Rattle.std.specs.Prelude.{IfErr, IsErrAnd, Ok, Err, Result, option_and_then}
-use Rattle.std.specs.Str.Parse.{ParsesUnsigned, digits_value, without_leading_plus}
+use Rattle.std.specs.Prelude.{IfErr, IsErrAnd, Ok, Err, Result}
+use Rattle.std.specs.Str.Parse.{ParsesUnsigned}
 use Rattle.clap.specs.Words.{ReadsOne, Text}
 use Rattle.clap.specs.ValueTests.{is_unsigned_in}
 use Rattle.std.specs.Prelude.{◌&&◌, ◌||◌, [], ◌∷◌, is_some, option_map, cond, codes, find, slice_get, unwrap_or}

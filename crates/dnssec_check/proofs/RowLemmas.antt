@@ -1,10 +1,9 @@
 -- What a use of an argument leaves, where it has no fault: a value that the argument takes.
-use Rattle.std.proofs.Common.{◌≡◌, ◌⊎◌, ◌++◌, Bool, true, false, cond, List, [], ◌∷◌, Option, Some, None, refl, sym, ap, subst, inl, inr}
+use Rattle.std.proofs.Common.{◌≡◌, ◌⊎◌, ◌++◌, Bool, true, false, cond, List, [], ◌∷◌, Option, Some, None, refl, sym, subst, inl, inr}
 use Rattle.std.specs.Prelude.{◌&&◌, ◌||◌, ⊤, nat_lt, find, length}
-use Rattle.std.specs.List.{list_all}
 use Rattle.std.specs.Str.{bytes_eq}
 use Rattle.clap.specs.Facts.{parser_of_value, unwrap_or_range}
-use Rattle.clap.specs.Kinds.{Kinds, or_else, range_kinds, value_kinds}
+use Rattle.clap.specs.Kinds.{Kinds, or_else, range_kinds}
 use Rattle.clap.specs.Faults.{action_fault, set_fault, repeat_fault, use_fault, values_fault}
 use Rattle.clap.specs.Takes.{value_passes}
 use Rattle.clap.specs.Values.{is_request, refused_kind}

@@ -1,18 +1,18 @@
 -- A parse without a fault leaves each argument that was given a value that it takes.
 use Rattle.std.proofs.Common.{◌≡◌, ◌∙◌, ℕ, Bool, zero, suc, true, false, cond, List, [], ◌∷◌, Option, Some, None, is_some, drop, fold, refl, sym, ap, inl, inr, arith}
 use Rattle.std.proofs.lemmas.Bool.{ne_eqb}
-use Rattle.std.specs.Prelude.{◌&&◌, ◌||◌, ⊤, nat_lt, find, length, encode_utf8, slice_get}
+use Rattle.std.specs.Prelude.{◌&&◌, ◌||◌, ⊤, length, encode_utf8, slice_get}
 use Rattle.std.specs.List.{list_all}
 use Rattle.std.specs.Option.{option_map_or}
 use Rattle.std.specs.Str.{bytes_eq, chars}
 use Rattle.clap.specs.Lexer.{long_of, short_of}
 use Rattle.clap.specs.Kinds.{Kinds, or_else, request_kinds}
-use Rattle.clap.specs.Faults.{bundle_fault, bundle_step_fault, check_fault, default_fault, defaults_fault, entered_fault, built_fault, flag_word_fault, flags_fault, given_default_fault, level_fault, long_fault, option_fault, other_fault, positional_fault, react_fault, settle_fault, short_fault, step_fault, stray_fault, turn_fault, use_fault, values_fault, walk_fault, word_fault}
-use Rattle.clap.specs.Simple.{App, Shape, entered, names_of}
-use Rattle.clap.specs.Walk.{Held, Names, Outcome, Row, Rule, Step, Text, Waiting, Walk, action_of, after_flag, after_step, arg_by_id, arg_by_index, arg_by_long, arg_by_short, attached_value, bundle, bundle_met, bundle_step, default_rows, done, finished, flag_met, has_row, idle, is_empty, is_pending, long_met, long_or_other, long_word, next, nothing_held, option, option_met, option_word, plain, plain_word, positional, positional_held, pushed, reacted, reading_by, refused, rows_after, settled, settled_rows, short_met, short_or_plain, short_word, stop_after, subcommand, subcommand_met, subcommand_or_other, takes_several, takes_values, to_positional, trailing, used_by_id, value, waits, walk, walk_from, walked, walked_from, with_default, word_met}
+use Rattle.clap.specs.Faults.{bundle_fault, bundle_step_fault, check_fault, default_fault, defaults_fault, flag_word_fault, flags_fault, given_default_fault, level_fault, long_fault, option_fault, other_fault, positional_fault, react_fault, settle_fault, short_fault, step_fault, stray_fault, turn_fault, use_fault, values_fault, walk_fault, word_fault}
+use Rattle.clap.specs.Simple.{Shape}
+use Rattle.clap.specs.Walk.{Held, Names, Outcome, Row, Rule, Step, Text, Waiting, Walk, action_of, after_flag, after_step, arg_by_id, arg_by_index, arg_by_long, arg_by_short, attached_value, bundle, bundle_met, bundle_step, default_rows, done, flag_met, has_row, idle, is_empty, is_pending, long_met, long_or_other, next, nothing_held, option, option_met, option_word, plain, plain_word, positional, pushed, reacted, reading_by, refused, rows_after, settled, settled_rows, short_met, short_or_plain, subcommand, subcommand_met, subcommand_or_other, takes_several, takes_values, to_positional, trailing, used_by_id, value, waits, walk, walk_from, walked, walked_from, with_default, word_met}
 use Rattle.clap.specs.declared.error.ErrorKind.TheVariants as kind
 use Rattle.clap.specs.declared.parser.matches.ValueSource.TheVariants.{DefaultValue}
-use Rattle.dnssec_check.proofs.RowLemmas.{AreRowsIn, IsFoundIn, IsIn, both_pass, both_true, found_in, given_in, has_value, leaves_value, starts_passing, used_in}
+use Rattle.dnssec_check.proofs.RowLemmas.{AreRowsIn, IsFoundIn, IsIn, both_pass, both_true, found_in, given_in, leaves_value, starts_passing, used_in}
 
 -- each use of an argument leaves a value
 abbrev pub AllLeaveValues : Shape → Type 0

@@ -1,5 +1,5 @@
 -- The command line: the commands of the program as `clap` sees them, and what their words ask for.
-use Rattle.std.specs.Prelude.{◌≡◌, ◌≢◌, ⊤, ℕ, Bool, true, List, [], ◌∷◌, Option, Some, None}
+use Rattle.std.specs.Prelude.{◌≡◌, ◌≢◌, ⊤, ℕ, true, List, [], Option, Some, None}
 use Rattle.std.specs.Prelude.{if◌then◌else◌, codes, is_some, option_and_then, string_bytes}
 use Rattle.std.specs.Str.Parse.{digits_value, without_leading_plus}
 use Rattle.clap.specs.Words.{App, Row, Rule, Text, first_of, kind_of, new_app, new_rule, one_of}

@@ -2,37 +2,21 @@ use crate::line::{LineError, Request, read_line};
 use std::alloc::Global;
 use std::test::Fail;
 
-/// The exit status at words that are no request.
-fn refused(alloc: Global, words: &[&str]) -> Option<u8> {
-    match read_line(alloc, words) {
-        Ok(_) => None,
-        Err(error) => Some(error.code()),
-    }
+/// What the program makes of a command line, whose words are cut at each space.
+fn read(alloc: Global, line: &str) -> Result<Request, LineError> {
+    let words: Vec<&str> = line.split(' ').collect(alloc)?;
+    read_line(alloc, words.as_slice())
 }
 
 #[test]
 fn reads_a_request(rt: HostRuntime) -> Result<(), Fail> {
-    let words = [
-        "dnssec_check",
-        "list",
-        "--capture",
-        "a.bin",
-        "--moment",
-        "1500",
-        "--all",
-    ];
-    let Request::List { capture, moment } = read_line(rt.alloc(), words.as_slice())?;
+    let line = "dnssec_check list --capture a.bin --moment 1500 --all";
+    let Request::List { capture, moment } = read(rt.alloc(), line)?;
     assert_eq!(rt; capture.as_str(), "a.bin");
     assert_eq!(rt; moment.seconds(), 1500);
 
-    let words = [
-        "./check",
-        "list",
-        "--all",
-        "--moment=+281474976710655",
-        "--capture=--all",
-    ];
-    let Request::List { capture, moment } = read_line(rt.alloc(), words.as_slice())?;
+    let line = "./check list --all --moment=+281474976710655 --capture=--all";
+    let Request::List { capture, moment } = read(rt.alloc(), line)?;
     assert_eq!(rt; capture.as_str(), "--all");
     assert_eq!(rt; moment.seconds(), 281_474_976_710_655);
     Ok(())
@@ -40,90 +24,55 @@ fn reads_a_request(rt: HostRuntime) -> Result<(), Fail> {
 
 #[test]
 fn refuses_other_words(rt: HostRuntime) {
-    let alloc = rt.alloc();
-    let lines: [&[&str]; 14] = [
-        &[],
-        &["dnssec_check"],
-        &["dnssec_check", "list"],
-        &["dnssec_check", "show", "--capture", "a"],
-        &["dnssec_check", "help"],
-        &["dnssec_check", "list", "--capture", "a", "--moment", "1"],
-        &["dnssec_check", "list", "--capture", "a", "--all"],
-        &["dnssec_check", "list", "--moment", "1", "--all"],
-        &[
-            "dnssec_check",
-            "list",
-            "--capture",
-            "--moment",
-            "1",
-            "--all",
-        ],
-        &[
-            "dnssec_check",
-            "list",
-            "--capture",
-            "a",
-            "--moment",
-            "281474976710656",
-            "--all",
-        ],
-        &[
-            "dnssec_check",
-            "list",
-            "--capture",
-            "a",
-            "--moment",
-            "-1",
-            "--all",
-        ],
-        &[
-            "dnssec_check",
-            "list",
-            "--capture",
-            "a",
-            "--moment",
-            "1",
-            "--all",
-            "--statements",
-            "b",
-        ],
-        &[
-            "dnssec_check",
-            "list",
-            "--capture",
-            "a",
-            "--capture",
-            "a",
-            "--moment",
-            "1",
-            "--all",
-        ],
-        &[
-            "dnssec_check",
-            "list",
-            "--capture",
-            "a",
-            "--moment",
-            "1",
-            "--all",
-            "b",
-        ],
+    let lines = [
+        "",
+        "dnssec_check",
+        "dnssec_check list",
+        "dnssec_check show --capture a",
+        "dnssec_check help",
+        "dnssec_check list --capture a --moment 1",
+        "dnssec_check list --capture a --all",
+        "dnssec_check list --moment 1 --all",
+        "dnssec_check list --capture --moment 1 --all",
+        "dnssec_check list --capture a --moment 281474976710656 --all",
+        "dnssec_check list --capture a --moment -1 --all",
+        "dnssec_check list --capture a --moment= --all",
+        "dnssec_check list --capture a --moment 1 --all --statements b",
+        "dnssec_check list --capture a --capture a --moment 1 --all",
+        "dnssec_check list --capture a --moment 1 --all b",
     ];
-    for (i, words) in lines.iter().enumerate() {
-        assert_eq!(rt; refused(alloc, words), Some(2), "at line {i}");
+    for line in lines {
+        let refused = matches!(read(rt.alloc(), line), Err(LineError::Misused(_)));
+        assert!(rt; refused, "{line}");
     }
 }
 
 #[test]
 fn shows_help(rt: HostRuntime) -> Result<(), Fail> {
-    let alloc = rt.alloc();
-    assert_eq!(rt; refused(alloc, &["dnssec_check", "--help"]), Some(0));
-    let Err(LineError::Help(help)) = read_line(alloc, &["dnssec_check", "list", "--help"]) else {
-        return Err(Fail::from("no help"));
-    };
-    let text = help.to_string(alloc)?;
-    assert!(rt; text.as_str().contains("--capture <FILE>"));
-    assert!(rt; text.as_str().contains("--moment <N>"));
-    assert!(rt; text.as_str().contains("--all"));
+    for (line, shown) in [
+        ("dnssec_check --help", "list"),
+        ("dnssec_check list --help", "--capture <FILE>"),
+        ("dnssec_check list --help", "--moment <N>"),
+        ("dnssec_check list --help", "--all"),
+    ] {
+        let Err(LineError::Help(help)) = read(rt.alloc(), line) else {
+            return Err(Fail::from(line));
+        };
+        assert!(rt;
+            help.to_string(rt.alloc())?.as_str().contains(shown),
+            "{line}"
+        );
+    }
+    Ok(())
+}
+
+#[test]
+fn exits_by_the_reason(rt: HostRuntime) -> Result<(), Fail> {
+    for (line, code) in [("dnssec_check --help", 0), ("dnssec_check", 2)] {
+        let error = read(rt.alloc(), line).err().ok_or(line)?;
+        assert_eq!(rt; error.code(), code, "{line}");
+    }
+    assert_eq!(rt; LineError::NotText.code(), 2);
+    assert_eq!(rt; LineError::OutOfMemory.code(), 1);
     Ok(())
 }

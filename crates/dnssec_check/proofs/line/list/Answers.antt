@@ -4,7 +4,7 @@ use Rattle.std.proofs.lemmas.Result.{IfOk-weaker}
 use Rattle.clap.specs.Words.{app_of, new_app, with_rule}
 use Rattle.clap.specs.declared.Command.TheViews.{out-Command as fields_of}
 use Rattle.clap.specs.Simple.{app_of_fields}
-use Rattle.dnssec_check.specs.Line.{all_rule, capture_rule, list_app, moment_rule}
+use Rattle.dnssec_check.specs.Line.{capture_rule, moment_rule}
 use Rattle.dnssec_check.proofs.line.list.Goals as goal
 
 pub returns : goal.returns

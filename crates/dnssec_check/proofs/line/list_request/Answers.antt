@@ -1,9 +1,9 @@
-use Rattle.std.proofs.Common.{rules, ap, refl, sym, codes, ◌≡◌, ◌≤◌, ◌∙◌, ℕ, Option, Some}
+use Rattle.std.proofs.Common.{ap, refl, sym, codes, ◌≡◌, ◌∙◌, ℕ, Option, Some}
 use Rattle.std.specs.Prelude.{List, None, Result, is_some, option_and_then, option_map}
 use Rattle.std.specs.Option.{SomeIff}
 use Rattle.std.specs.Str.Parse.{ParsesUnsigned, ExplainsUnsignedError, HasUnsignedDigitsIfOk}
 use Rattle.std.specs.declared.num.ParseIntError.{ParseIntError}
-use Rattle.clap.specs.Words.{Text, first_value, found_of}
+use Rattle.clap.specs.Words.{first_value, found_of}
 use Rattle.clap.proofs.CallerLemmas.{some_of_text}
 use Rattle.clap.proofs.WalkLemmas.{first_value-rows, one_text-rows}
 use Rattle.dnssec_check.specs.Line.{moment_said}

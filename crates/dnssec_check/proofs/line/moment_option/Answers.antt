@@ -4,7 +4,6 @@ use Rattle.clap.specs.Words.{NarrowsTo, Rule, new_rule, rule_of}
 use Rattle.clap.specs.declared.Arg.{Arg}
 use Rattle.clap.specs.declared.builder.ValueParser.{ValueParser}
 use Rattle.clap.specs.declared.builder.ValueParser.TheVariants as parser
-use Rattle.dnssec_check.specs.Line.{moment_rule}
 use Rattle.dnssec_check.specs.Moment.{last_moment}
 use Rattle.dnssec_check.proofs.line.moment_option.Goals as goal
 

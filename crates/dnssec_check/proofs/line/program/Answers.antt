@@ -1,8 +1,8 @@
-use Rattle.std.proofs.Common.{rules, ap, ap₂, refl, codes, true, ◌≡◌, ◌∙◌}
+use Rattle.std.proofs.Common.{ap, ap₂, codes, true, ◌≡◌, ◌∙◌}
 use Rattle.std.proofs.lemmas.Result.{IfOk-weaker}
 use Rattle.clap.specs.Words.{App, app_of, new_app, with_subcommand}
-use Rattle.clap.specs.Simple.{Shape, app_of_fields}
-use Rattle.dnssec_check.specs.Line.{bare_app, list_app, program_app}
+use Rattle.clap.specs.Simple.{app_of_fields}
+use Rattle.dnssec_check.specs.Line.{bare_app}
 use Rattle.dnssec_check.proofs.line.program.Goals as goal
 
 -- a command that stays without its subcommand `help`, and one that has to have a subcommand
