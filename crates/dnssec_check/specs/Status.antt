@@ -1,8 +1,10 @@
 -- The numbers of the faults, the exit statuses of the program, and the line that tells a fault.
-use Rattle.std.specs.Prelude.{◌==◌, ℕ, List, [], ◌∷◌, ◌++◌, Option, Some, None, Result, Ok, Err}
+use Rattle.std.specs.Prelude.{◌≡◌, ◌==◌, ℕ, List, [], ◌∷◌, ◌++◌, Option, Some, None, Result, Ok, Err}
 use Rattle.std.specs.Prelude.{if◌then◌else◌, codes}
 use Rattle.std.specs.List.{list_any}
 use Rattle.std.specs.Fmt.{decimal}
+use Rattle.dnsv_message.specs.declared.errors.DecodeError.{DecodeError}
+use Rattle.dnsv_message.specs.declared.errors.DecodeError.TheVariants as decode
 use Rattle.dnssec_check.specs.declared.status.Status.{Status}
 use Rattle.dnssec_check.specs.declared.status.Status.TheVariants.{Done}
 use Rattle.dnssec_check.specs.declared.status.InputFile.{InputFile}
@@ -52,6 +54,17 @@ fault_code number = if list_any (λ failure. failure == number) failures then 1 
 abbrev pub outcome_code : Result Status Fault → ℕ
 outcome_code (Ok status) = status_code status
 outcome_code (Err failed) = fault_code (fault_number failed)
+
+-- a message's fault is told as this refusal, with the number of the record at fault
+abbrev pub IsToldAs : DecodeError → Refusal → Option ℕ → Type 0
+IsToldAs decode.OutOfMemory why number = ⊥
+IsToldAs decode.Short why number = (why ≡ refusal.Short) × (number ≡ None)
+IsToldAs decode.BadLabel why number = (why ≡ refusal.BadLabel) × (number ≡ None)
+IsToldAs decode.BadPointer why number = (why ≡ refusal.BadPointer) × (number ≡ None)
+IsToldAs decode.TooManyPointers why number = (why ≡ refusal.TooManyPointers) × (number ≡ None)
+IsToldAs decode.LongName why number = (why ≡ refusal.LongName) × (number ≡ None)
+IsToldAs (decode.BadRdata k) why number = (why ≡ refusal.BadRdata) × (number ≡ Some k)
+IsToldAs decode.TrailingBytes why number = (why ≡ refusal.TrailingBytes) × (number ≡ None)
 
 -- ---- the line that tells a fault
 

@@ -2,6 +2,7 @@
 #![tactic(auto)]
 
 mod line;
+mod listing;
 mod moment;
 mod program;
 mod run;

@@ -6,6 +6,7 @@ ghost use Rattle.dnssec_check.specs.Status.{outcome_code};
 use crate::line::{LineError, Request, read_line};
 use crate::run::{Inputs, run};
 use crate::status::{Fault, InputFile, Status};
+use dnsv_message::Counted;
 use std::fs::File;
 use std::rt::{Env, Files};
 use std::{env, io};
@@ -36,8 +37,15 @@ where
     let Ok(capture) = File::open(rt, capture.as_str()) else {
         return Err(Fault::OpenFailed(InputFile::Capture));
     };
-    let mut inputs = Inputs { capture };
-    run(rt.alloc(), request, &mut inputs, &mut io::writer(rt))
+    let mut inputs = Inputs {
+        capture: Counted::new(capture),
+    };
+    run(
+        rt.alloc(),
+        request,
+        &mut inputs,
+        &mut Counted::new(io::writer(rt)),
+    )
 }
 
 /// Tells why the command line gives no request: help on the standard output, and any other text on

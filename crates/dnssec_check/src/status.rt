@@ -2,6 +2,7 @@
 ghost use Rattle.std.specs.Prelude.{◌≡◌, Some};
 ghost use Rattle.dnssec_check.specs.Status.{status_code, fault_code, fault_number, fault_text, file_word, place_text, refusal_number};
 
+use std::alloc::{AllocError, AllocFailed};
 use std::error::Error;
 use std::fmt;
 
@@ -188,6 +189,26 @@ impl fmt::Display for Fault {
 }
 
 impl Error for Fault {}
+
+impl From<AllocError> for Fault {
+    ghost use Rattle.dnssec_check.specs.declared.status.Fault.TheVariants.{OutOfMemory};
+
+    ghost from_gives = { λ _ fault. fault ≡ OutOfMemory };
+
+    fn from(_refused: AllocError) -> Fault {
+        Fault::OutOfMemory
+    }
+}
+
+impl<T: Drop> From<AllocFailed<T>> for Fault {
+    ghost use Rattle.dnssec_check.specs.declared.status.Fault.TheVariants.{OutOfMemory};
+
+    ghost from_gives = { λ _ fault. fault ≡ OutOfMemory };
+
+    fn from(_refused: AllocFailed<T>) -> Fault {
+        Fault::OutOfMemory
+    }
+}
 
 #[cfg(test)]
 mod tests;
