@@ -27,7 +27,7 @@ pub fn listing<R: Read>(alloc: Global, capture: &mut Counted<R>) -> Result<Strin
         → IfSome (R.remaining (inner_of capture.old)) (λ file. IsRefusal file why place) }
     ensures too_long { result ≡ Err (Fault.TooLong Capture) → IfSome (R.remaining (inner_of capture.old)) IsTooLong }
     ensures read { result ≡ Err (Fault.ReadFailed Capture) → failures_of capture.old < u64.MAX → failures_of capture.old < failures_of capture.new }
-    ensures only { IfErr result (λ fault. fault ≡ Fault.WriteFailed → ⊥) }
+    ensures only { IfErr result (λ fault. (fault ≡ Fault.WriteFailed → ⊥) × (fault ≡ Fault.OpenFailed Capture → ⊥)) }
 {
     let frames = read_capture(alloc, capture).map_err(read_fault)?;
     let messages = evidence(alloc, &frames)?;

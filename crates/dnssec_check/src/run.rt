@@ -46,6 +46,9 @@ pub fn run<R: Read, W: Write>(
         → failures_of inputs.old.capture < failures_of inputs.new.capture }
     ensures write { result ≡ Err Fault.WriteFailed → failures_of output.old < u64.MAX → failures_of output.old < failures_of output.new }
 
+    // A file that is opened already can't fail to open.
+    ensures opened { IfErr result (λ fault. fault ≡ Fault.OpenFailed Capture → ⊥) }
+
     // Nothing is written unless the whole text is made.
     ensures untouched { IfErr result (λ fault. (fault ≡ Fault.WriteFailed → ⊥) → output.new ≡ output.old) }
 {
@@ -56,3 +59,6 @@ pub fn run<R: Read, W: Write>(
         Err(_) => Err(Fault::WriteFailed),
     }
 }
+
+#[cfg(test)]
+mod tests;
