@@ -1,6 +1,6 @@
 -- What readers of RDATA share.
-use Rattle.std.proofs.Common.{◌≡◌, ℕ, ◌+◌, ◌-◌, ◌<◌, ◌≤◌, List, [], ◌∷◌, ◌++◌, length, get_or, take, drop, refl, sym, ap, ◌∙◌, inl, inr, ⊎_elim, arith, Result, Ok, Err, Option, Some}
-use Rattle.std.proofs.lemmas.List.{take_rest, take_at, drop_at, drop-drop, drop_more, take-append-drop}
+use Rattle.std.proofs.Common.{◌≡◌, ℕ, ◌+◌, ◌<◌, ◌≤◌, List, ◌∷◌, ◌++◌, length, get_or, take, drop, refl, sym, ap, ◌∙◌, inr, ⊎_elim, arith, Ok, Err, Option, Some}
+use Rattle.std.proofs.lemmas.List.{take_at, drop_at, drop-drop, drop_more, take-append-drop}
 use Rattle.std.specs.Int.Digits.{AllBelowBase}
 use Rattle.dnsv_names.specs.Name.{Labels, wire}
 use Rattle.dnsv_records.proofs.Base32Lemmas.{same_digits}

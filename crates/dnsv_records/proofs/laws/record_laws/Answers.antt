@@ -1,4 +1,4 @@
-use Rattle.std.proofs.Common.{◌≡◌, ◌++◌, ◌∷◌, length, take, drop, refl, sym, ap, ◌∙◌, arith}
+use Rattle.std.proofs.Common.{◌++◌, ◌∷◌, length, refl, sym, ap, ◌∙◌, arith}
 use Rattle.dnsv_names.specs.Name.{wire}
 use Rattle.dnsv_records.proofs.BitmapLemmas.{same_spelling}
 use Rattle.dnsv_records.proofs.RecordLemmas.{same_field, same_front, same_whole}
