@@ -5,7 +5,7 @@ use std::marker::Model;
 
 /// A hash of 20 octets, as those that name the owners of NSEC3 records (RFC 5155 5). It is ordered
 /// as unsigned octets, the first one first.
-#[derive(Clone, Copy, Debug, PartialEq, Eq)]
+#[derive(Clone, Copy, Debug, PartialEq, Eq, PartialOrd, Ord, Hash)]
 pub struct Hash20 {
     octets: [u8; 20],
 }

@@ -1,7 +1,10 @@
 -- What readers of RDATA share.
-use Rattle.std.proofs.Common.{◌≡◌, ℕ, ◌+◌, ◌-◌, ◌<◌, List, [], ◌∷◌, ◌++◌, length, get_or, take, drop, refl, sym, ap, ◌∙◌, inl, inr, ⊎_elim, arith, Result, Ok, Err, Option, Some}
-use Rattle.std.proofs.lemmas.List.{take_rest, take_at, drop_at, drop-drop, drop_more, take-append-drop}
+use Rattle.std.proofs.Common.{◌≡◌, ℕ, ◌+◌, ◌<◌, ◌≤◌, List, ◌∷◌, ◌++◌, length, get_or, take, drop, refl, sym, ap, ◌∙◌, inr, ⊎_elim, arith, Ok, Err, Option, Some}
+use Rattle.std.proofs.lemmas.List.{take_at, drop_at, drop-drop, drop_more, take-append-drop}
+use Rattle.std.specs.Int.Digits.{AllBelowBase}
 use Rattle.dnsv_names.specs.Name.{Labels, wire}
+use Rattle.dnsv_records.proofs.Base32Lemmas.{same_digits}
+use Rattle.dnsv_records.proofs.OctetLemmas.{recursion-take, recursion-drop, take_part, length_part}
 use Rattle.dnsv_records.specs.declared.error.Field.{Field}
 use Rattle.dnsv_records.specs.declared.error.Field.TheVariants.{Head, Name, Salt, Hash, Bitmap as BitmapField}
 use Rattle.dnsv_records.specs.declared.error.RecordError.{RecordError}
@@ -52,3 +55,19 @@ same_counted octets a b rest behind p q =
 pub name_and_rest : (octets : List ℕ) (place n : ℕ) (name : Labels) → take n (drop place octets) ≡ wire name → drop place octets ≡ wire name ++ drop (place + n) octets
 name_and_rest octets place n name spelled =
     sym (take-append-drop n (drop place octets)) ∙ ap (λ xs. xs ++ drop n (drop place octets)) spelled ∙ ap (λ xs. wire name ++ xs) (drop-drop n place octets)
+
+-- fields that are the same number are the same octets
+pub same_field : (place width : ℕ) (a b : List ℕ) → AllBelowBase 256 a → AllBelowBase 256 b → place + width ≤ length a → place + width ≤ length b → number_at a place width ≡ number_at b place width → take width (drop place a) ≡ take width (drop place b)
+same_field place width a b low_a low_b in_a in_b same =
+    same_digits 256 (take width (drop place a)) (take width (drop place b))
+    (recursion-take (λ octet. octet < 256) width (drop place a) (recursion-drop (λ octet. octet < 256) place a low_a))
+    (recursion-take (λ octet. octet < 256) width (drop place b) (recursion-drop (λ octet. octet < 256) place b low_b))
+    (length_part place width a in_a ∙ sym (length_part place width b in_b)) same
+
+pub same_front : (place width next : ℕ) (a b : List ℕ) → next ≡ place + width → take place a ≡ take place b → take width (drop place a) ≡ take width (drop place b) → take next a ≡ take next b
+same_front place width next a b sum front field =
+    take_part place width next a sum ∙ ap (λ xs. xs ++ take width (drop place a)) front ∙ ap (λ xs. take place b ++ xs) field ∙ sym (take_part place width next b sum)
+
+pub same_whole : (place : ℕ) (a b : List ℕ) → take place a ≡ take place b → drop place a ≡ drop place b → a ≡ b
+same_whole place a b front rest =
+    sym (take-append-drop place a) ∙ ap (λ xs. xs ++ drop place a) front ∙ ap (λ xs. take place b ++ xs) rest ∙ take-append-drop place b

@@ -1,6 +1,7 @@
 -- base32hex (RFC 4648 7).
 use Rattle.std.specs.Prelude.{◌≡◌, ℕ, ◌*◌, ◌<◌, List, length, map, slice_index, codes}
 use Rattle.std.specs.List.{AllByRecursion}
+use Rattle.std.specs.Char.{to_ascii_lowercase}
 use Rattle.std.specs.Int.Digits.{number_from_digits}
 
 -- the characters by their values, in lower case (RFC 4648 7, table 4)
@@ -23,3 +24,7 @@ pub record Base32Hex (text octets : List ℕ) : Type 0 where
 pub record IsHash (octets : List ℕ) : Type 0 where
   pub length_20 : length octets ≡ 20
   pub eight_bits : AllByRecursion (λ octet. octet < 256) octets
+
+-- the text, in either case, is that of the octets
+abbrev pub Spells : List ℕ → List ℕ → Type 0
+Spells text octets = Base32Hex (map to_ascii_lowercase text) octets

@@ -17,5 +17,6 @@ pub record IsNsec (rdata : List ℕ) (nsec : Nsec) : Type 0 where
 -- the first field that is wrong: the name, else the bitmap behind it
 abbrev pub NsecFault : List ℕ → Field → Type 0
 NsecFault rdata Name = ¬ BeginsWithName rdata
-NsecFault rdata BitmapField = (next : Labels) × (bits : List ℕ) × IsName next × (rdata ≡ wire next ++ bits) × ¬ IsBitmap bits
+NsecFault rdata BitmapField =
+    (next : Labels) × (bits : List ℕ) × IsName next × (rdata ≡ wire next ++ bits) × ¬ IsBitmap bits
 NsecFault rdata _ = ⊥

@@ -23,7 +23,8 @@ pub record IsNsec3 (rdata : List ℕ) (nsec3 : Nsec3) : Type 0 where
 abbrev pub Nsec3Fault : List ℕ → Field → Type 0
 Nsec3Fault rdata Head = length rdata < 4
 Nsec3Fault rdata Salt = (4 ≤ length rdata) × ¬ BeginsWithCounted (drop 4 rdata)
-Nsec3Fault rdata Hash = (salt : List ℕ) × (rest : List ℕ) × IsCounted (drop 4 rdata) salt rest × ¬ BeginsWithCounted rest
+Nsec3Fault rdata Hash =
+    (salt : List ℕ) × (rest : List ℕ) × IsCounted (drop 4 rdata) salt rest × ¬ BeginsWithCounted rest
 Nsec3Fault rdata BitmapField =
     (salt : List ℕ) × (rest : List ℕ) × (hash : List ℕ) × (bits : List ℕ)
     × IsCounted (drop 4 rdata) salt rest × IsCounted rest hash bits × ¬ IsBitmap bits

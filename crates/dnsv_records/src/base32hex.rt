@@ -3,7 +3,7 @@ ghost use Rattle.std.specs.Prelude.{◌≡◌, ◌<◌, ◌%◌, ◌^◌, List, 
 ghost use Rattle.std.specs.Char.{to_ascii_lowercase};
 ghost use Rattle.std.specs.List.{AllByRecursion};
 ghost use Rattle.std.specs.Int.Digits.{number_from_digits};
-ghost use Rattle.dnsv_records.specs.Base32Hex.{alphabet, Base32Hex, Base32Number, IsHash};
+ghost use Rattle.dnsv_records.specs.Base32Hex.{alphabet, Base32Hex, Base32Number, IsHash, Spells};
 
 use arrayvec::ArrayVec;
 use dnsv_names::Hash20;
@@ -14,8 +14,8 @@ const ALPHABET: &[u8; 32] = b"0123456789abcdefghijklmnopqrstuv";
 /// The hash that the text spells, in either case. `None` where the text isn't 32 characters of the
 /// alphabet.
 pub fn base32hex_read(text: &[u8]) -> Option<Hash20>
-    ensures found { IfSome result (λ hash. IsHash hash × Base32Hex (map to_ascii_lowercase text.now) hash) }
-    ensures every { (hash : List ℕ) → IsHash hash → Base32Hex (map to_ascii_lowercase text.now) hash → result ≡ Some hash }
+    ensures found { IfSome result (λ hash. IsHash hash × Spells text.now hash) }
+    ensures every { (hash : List ℕ) → IsHash hash → Spells text.now hash → result ≡ Some hash }
 {
     if text.len() != 32 {
         return None;
@@ -95,7 +95,8 @@ fn number_spelled(characters: &[u8]) -> Option<u64>
     requires { length characters.now ≡ 8 }
     ensures found { IfSome result (Base32Number (map to_ascii_lowercase characters.now)) }
     ensures small { IfSome result (λ number. number < 2 ^ 40) }
-    ensures every { (number : ℕ) → Base32Number (map to_ascii_lowercase characters.now) number → result ≡ Some number }
+    ensures every { (number : ℕ) → Base32Number (map to_ascii_lowercase characters.now) number
+        → result ≡ Some number }
 {
     let mut number = 0;
     for character in characters {
@@ -106,8 +107,10 @@ fn number_spelled(characters: &[u8]) -> Option<u64>
 
 /// The digit of 5 bits that the character stands for, in either case.
 fn digit_of(character: u8) -> Option<u8>
-    ensures found { IfSome result (λ digit. digit < 32 × (slice_index alphabet digit ≡ to_ascii_lowercase character)) }
-    ensures every { (digit : ℕ) → digit < 32 → slice_index alphabet digit ≡ to_ascii_lowercase character → result ≡ Some digit }
+    ensures found { IfSome result (λ digit.
+        digit < 32 × (slice_index alphabet digit ≡ to_ascii_lowercase character)) }
+    ensures every { (digit : ℕ) → digit < 32 → slice_index alphabet digit ≡ to_ascii_lowercase character
+        → result ≡ Some digit }
 {
     let character = character.to_ascii_lowercase();
     match character {

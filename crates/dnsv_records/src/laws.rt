@@ -1,8 +1,19 @@
 //! What the definitions say of each other.
 ghost use Rattle.std.specs.Prelude.{◌≡◌, List, ℕ};
-ghost use Rattle.std.specs.List.{AllByRecursion};
 ghost use Rattle.dnsv_records.specs.Bitmap.{Types, Bitmap};
 ghost use Rattle.dnsv_records.specs.Base32Hex.{Base32Hex, IsHash};
+ghost use Rattle.dnsv_records.specs.Layout.{AreOctets};
+ghost use Rattle.dnsv_records.specs.Dnskey.{IsDnskey};
+ghost use Rattle.dnsv_records.specs.Ds.{IsDs};
+ghost use Rattle.dnsv_records.specs.Rrsig.{IsRrsig};
+ghost use Rattle.dnsv_records.specs.Nsec.{IsNsec};
+ghost use Rattle.dnsv_records.specs.Nsec3.{IsNsec3};
+
+use crate::dnskey::Dnskey;
+use crate::ds::Ds;
+use crate::nsec::Nsec;
+use crate::nsec3::Nsec3;
+use crate::rrsig::Rrsig;
 
 /// Octets spell at most one set of types, and a set has at most one spelling (RFC 4034 4.1.2).
 pub fn bitmap_laws()
@@ -12,6 +23,19 @@ pub fn bitmap_laws()
 
 /// A text spells at most one hash, and a hash has at most one text in lower case (RFC 4648 7).
 pub fn base32hex_laws()
-    ensures one_hash { (text a b : List ℕ) → IsHash a → IsHash b → Base32Hex text a → Base32Hex text b → a ≡ b }
+    ensures one_hash { (text a b : List ℕ) → IsHash a → IsHash b → Base32Hex text a → Base32Hex text b
+        → a ≡ b }
     ensures one_text { (hash a b : List ℕ) → IsHash hash → Base32Hex a hash → Base32Hex b hash → a ≡ b }
+{}
+
+/// A DNSKEY, DS, RRSIG, NSEC or NSEC3 has at most one spelling as RDATA.
+pub fn record_laws()
+    ensures dnskey { (a b : List ℕ) (dnskey : Dnskey) → AreOctets a → AreOctets b
+        → IsDnskey a dnskey → IsDnskey b dnskey → a ≡ b }
+    ensures ds { (a b : List ℕ) (ds : Ds) → AreOctets a → AreOctets b → IsDs a ds → IsDs b ds → a ≡ b }
+    ensures rrsig { (a b : List ℕ) (rrsig : Rrsig) → AreOctets a → AreOctets b
+        → IsRrsig a rrsig → IsRrsig b rrsig → a ≡ b }
+    ensures nsec { (a b : List ℕ) (nsec : Nsec) → IsNsec a nsec → IsNsec b nsec → a ≡ b }
+    ensures nsec3 { (a b : List ℕ) (nsec3 : Nsec3) → AreOctets a → AreOctets b
+        → IsNsec3 a nsec3 → IsNsec3 b nsec3 → a ≡ b }
 {}

@@ -6,7 +6,7 @@ pub use bitmap::TypeBitmap;
 pub use dnskey::{Dnskey, DnskeyFlags};
 pub use ds::Ds;
 pub use error::{Field, RecordError};
-pub use laws::{base32hex_laws, bitmap_laws};
+pub use laws::{base32hex_laws, bitmap_laws, record_laws};
 pub use nsec::Nsec;
 pub use nsec3::{HashAlgorithm, ITERATIONS_LIMIT, Nsec3, Nsec3Flags};
 pub use number::{Algorithm, DigestType, KeyTag};

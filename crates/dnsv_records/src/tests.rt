@@ -22,8 +22,19 @@ const EXAMPLE_HASH: [u8; 20] = [
 ];
 
 /// host.example.com. with A, MX, RRSIG, NSEC and TYPE1234 (RFC 4034 4.3).
-const EXAMPLE_NSEC: &[u8] =
-    b"\x04host\x07example\x03com\x00\x00\x06\x40\x01\x00\x00\x00\x03\x04\x1b\x00\x00\x00\x00\x00\x00\x00\x00\x00\x00\x00\x00\x00\x00\x00\x00\x00\x00\x00\x00\x00\x00\x00\x00\x00\x00\x20";
+const EXAMPLE_NSEC: [u8; 55] = [
+    0x04, 0x68, 0x6f, 0x73, 0x74, 0x07, 0x65, 0x78, 0x61, 0x6d, 0x70, 0x6c, 0x65, 0x03, 0x63, 0x6f,
+    0x6d, 0x00, 0x00, 0x06, 0x40, 0x01, 0x00, 0x00, 0x00, 0x03, 0x04, 0x1b, 0x00, 0x00, 0x00, 0x00,
+    0x00, 0x00, 0x00, 0x00, 0x00, 0x00, 0x00, 0x00, 0x00, 0x00, 0x00, 0x00, 0x00, 0x00, 0x00, 0x00,
+    0x00, 0x00, 0x00, 0x00, 0x00, 0x00, 0x20,
+];
+
+/// An NSEC3 with that hash, 500 iterations, the salt aabbccdd and the type A.
+const HASHED_DENIAL: [u8; 33] = [
+    0x01, 0x01, 0x01, 0xf4, 0x04, 0xaa, 0xbb, 0xcc, 0xdd, 0x14, 0x06, 0x53, 0x68, 0xab, 0xee, 0xd7,
+    0xec, 0x6e, 0x9f, 0xeb, 0xa9, 0x6b, 0x8c, 0x8b, 0xc3, 0xe8, 0xb7, 0x91, 0xf7, 0x16, 0x00, 0x01,
+    0x40,
+];
 
 #[test]
 fn tags_keys(rt: HostRuntime) {
@@ -152,7 +163,7 @@ fn reads_sets_of_types(rt: HostRuntime) -> Result<(), Fail> {
 
 #[test]
 fn reads_denials(rt: HostRuntime) -> Result<(), Fail> {
-    let nsec = Nsec::read(rt.alloc(), EXAMPLE_NSEC)?;
+    let nsec = Nsec::read(rt.alloc(), &EXAMPLE_NSEC)?;
     assert_eq!(rt;
         nsec.next.wire(),
         b"\x04host\x07example\x03com\x00".as_slice()
@@ -160,17 +171,18 @@ fn reads_denials(rt: HostRuntime) -> Result<(), Fail> {
     assert!(rt; nsec.types.contains(RecordType(47)));
     assert_eq!(rt;
         field_of(Nsec::read(rt.alloc(), b"\xc0\x0c")),
-        Some(Field::Name)
+        Some(Field::Name),
+        "a pointer"
     );
     assert_eq!(rt;
         field_of(Nsec::read(rt.alloc(), b"\x00\x00\x00")),
-        Some(Field::Bitmap)
+        Some(Field::Bitmap),
+        "an empty block"
     );
+    let mut long = [1u8; 36];
+    long[..3].copy_from_slice(b"\x00\x00\x21");
     assert_eq!(rt;
-        field_of(Nsec::read(
-            rt.alloc(),
-            b"\x00\x00\x21\x01\x01\x01\x01\x01\x01\x01\x01\x01\x01\x01\x01\x01\x01\x01\x01\x01\x01\x01\x01\x01\x01\x01\x01\x01\x01\x01\x01\x01\x01\x01\x01\x01"
-        )),
+        field_of(Nsec::read(rt.alloc(), &long)),
         Some(Field::Bitmap),
         "33 octets of bits"
     );
@@ -179,9 +191,7 @@ fn reads_denials(rt: HostRuntime) -> Result<(), Fail> {
 
 #[test]
 fn reads_hashed_denials(rt: HostRuntime) -> Result<(), Fail> {
-    let rdata =
-        b"\x01\x01\x01\xf4\x04\xaa\xbb\xcc\xdd\x14\x06\x53\x68\xab\xee\xd7\xec\x6e\x9f\xeb\xa9\x6b\x8c\x8b\xc3\xe8\xb7\x91\xf7\x16\x00\x01\x40";
-    let nsec3 = Nsec3::read(rt.alloc(), rdata)?;
+    let nsec3 = Nsec3::read(rt.alloc(), &HASHED_DENIAL)?;
     assert_eq!(rt; nsec3.algorithm, HashAlgorithm::SHA1);
     assert!(rt; nsec3.flags.is_opt_out());
     assert_eq!(rt; nsec3.iterations, 500);

@@ -1,4 +1,4 @@
-use Rattle.std.proofs.Common.{◌≡◌, ◌/◌, ◌%◌, ◌^◌, [], ◌∷◌, arith, rules}
+use Rattle.std.proofs.Common.{◌/◌, ◌%◌, ◌^◌, [], ◌∷◌, arith}
 use Rattle.dnsv_records.proofs.Base32Lemmas.{eight_digits}
 use Rattle.dnsv_records.proofs.base32hex.characters_of.Goals as goal
 

@@ -1,4 +1,4 @@
-use Rattle.std.proofs.Common.{◌≡◌, ◌+◌, ◌-◌, Some, ap, sym, ◌∙◌, arith}
+use Rattle.std.proofs.Common.{◌+◌, ◌-◌, Some, ap, sym, ◌∙◌, arith}
 use Rattle.dnsv_records.proofs.Base32Lemmas.{as_digit, as_letter, stands, digit_character, same_digit}
 use Rattle.dnsv_records.proofs.base32hex.digit_of.Goals as goal
 

@@ -1,5 +1,4 @@
 use Rattle.std.proofs.Common.{◌≤◌, ◌<◌, length, take, arith, length-take}
-use Rattle.std.specs.Int.Digits.{AllBelowBase}
 use Rattle.dnsv_records.proofs.Base32Lemmas.{number_below}
 use Rattle.dnsv_records.proofs.OctetLemmas.{octets_fit, recursion-take}
 use Rattle.dnsv_records.proofs.base32hex.number_of.Goals as goal

@@ -1,7 +1,7 @@
-use Rattle.std.proofs.Common.{◌≡◌, ◌+◌, ◌-◌, ◌<◌, length, drop, take, get_or, ap, sym, ◌∙◌, subst, arith, length-drop}
-use Rattle.std.proofs.lemmas.List.{take_rest, drop_all}
-use Rattle.dnsv_records.specs.Blocks.{AreBlocks, BlockAtFront}
-use Rattle.dnsv_records.proofs.BlockLemmas.{Walks-start, Walks-next, BlockAtFront-first, BlockAt-front, AreBlocks-nil}
+use Rattle.std.proofs.Common.{◌+◌, drop, ap, ◌∙◌, subst, arith, length-drop}
+use Rattle.std.proofs.lemmas.List.{take_rest}
+use Rattle.dnsv_records.specs.Blocks.{BlockAtFront}
+use Rattle.dnsv_records.proofs.BlockLemmas.{Walks-start, Walks-next, BlockAtFront-first, BlockAt-front}
 use Rattle.dnsv_records.proofs.blocks.are_blocks.Goals as goal
 
 pub loop-place-init : goal.loop-place-init

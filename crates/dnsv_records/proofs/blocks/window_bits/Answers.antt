@@ -1,5 +1,5 @@
-use Rattle.std.proofs.Common.{◌≡◌, ◌+◌, ◌-◌, ◌<◌, length, drop, take, refl, ap, sym, ◌∙◌, subst, arith}
-use Rattle.dnsv_records.specs.Blocks.{AreBlocks, blocks_of, bits_of}
+use Rattle.std.proofs.Common.{◌≡◌, ◌+◌, ◌-◌, length, drop, take, refl, ap, sym, ◌∙◌, arith}
+use Rattle.dnsv_records.specs.Blocks.{blocks_of, bits_of}
 use Rattle.dnsv_records.proofs.BlockLemmas.{block_here, drop-front, AreBlocks-on, bits_of-same, bits_of-other}
 use Rattle.dnsv_records.proofs.blocks.window_bits.Goals as goal
 

@@ -1,4 +1,4 @@
-use Rattle.std.proofs.Common.{◌≡◌, ◌-◌, ◌++◌, Ok, length, take, drop, sym, ap, subst, inl, ◌∙◌}
+use Rattle.std.proofs.Common.{◌-◌, ◌++◌, Ok, length, take, drop, sym, ap, subst, inl, ◌∙◌}
 use Rattle.std.proofs.lemmas.List.{take_rest, take-append-drop}
 use Rattle.std.proofs.lemmas.Result.{err_from_is_err_and}
 use Rattle.dnsv_names.specs.Name.{wire}

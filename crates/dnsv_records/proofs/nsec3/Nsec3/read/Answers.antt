@@ -1,8 +1,7 @@
-use Rattle.std.proofs.Common.{◌≡◌, ◌++◌, Ok, length, take, drop, sym, ap, subst, inl, ◌∙◌, arith}
+use Rattle.std.proofs.Common.{Ok, drop, sym, subst, inl, ◌∙◌, arith}
 use Rattle.std.proofs.lemmas.List.{take_rest}
 use Rattle.std.proofs.lemmas.Result.{err_from_is_err_and}
 use Rattle.dnsv_records.specs.Bitmap.{Bitmap}
-use Rattle.dnsv_records.specs.Layout.{IsCounted, BeginsWithCounted}
 use Rattle.dnsv_records.proofs.RecordLemmas.{number_at-one, bitmap_fault, Gives-err, Gives-ok, same_counted}
 use Rattle.dnsv_records.proofs.nsec3.Nsec3.read.Goals as goal
 

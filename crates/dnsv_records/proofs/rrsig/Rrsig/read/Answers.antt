@@ -1,4 +1,4 @@
-use Rattle.std.proofs.Common.{◌≡◌, ◌+◌, ◌++◌, Ok, length, take, drop, sym, ap, inl, ◌∙◌, arith}
+use Rattle.std.proofs.Common.{◌≡◌, ◌+◌, ◌++◌, Ok, take, drop, sym, ap, inl, ◌∙◌, arith}
 use Rattle.std.proofs.lemmas.List.{take_rest, drop-drop}
 use Rattle.dnsv_names.specs.Name.{wire}
 use Rattle.dnsv_records.proofs.RecordLemmas.{number_at-one, behind_name, name_and_rest}
