@@ -1,2 +1,4 @@
 pub mod Name
+pub mod Order
+pub mod OrderLaws
 pub mod Spelling

@@ -2,6 +2,10 @@
 #![tactic(auto)]
 
 pub use name::{LABEL_LIMIT, Name, WIRE_LIMIT};
+pub use order::{
+    canonical_order_is_total, names_at_or_below_are_an_interval, names_come_before_those_below,
+};
 
 mod name;
+mod order;
 mod wire;
