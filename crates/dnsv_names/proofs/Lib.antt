@@ -1,3 +1,4 @@
 pub mod NameLemmas
 pub mod OrderLemmas
 pub mod ReadLemmas
+pub mod TreeLemmas

@@ -71,7 +71,7 @@ lower_octets : (label : List ℕ) → AllByRecursion (λ octet. octet < 256) lab
 lower_octets [] each = tt
 lower_octets (octet ∷ label) each = (lower_octet octet each.0, lower_octets label each.1)
 
-lower_labels : (labels : Labels) → AllByRecursion IsLabel labels → AllByRecursion IsLabel (lower_case labels)
+pub lower_labels : (labels : Labels) → AllByRecursion IsLabel labels → AllByRecursion IsLabel (lower_case labels)
 lower_labels [] each = tt
 lower_labels (label ∷ labels) each =
     (record { not_empty = rw length-map each.0.not_empty; at_most_63 = rw length-map each.0.at_most_63; octets = lower_octets label each.0.octets }, lower_labels labels each.1)

@@ -1,11 +1,14 @@
 //! Domain names (RFC 1035, RFC 4343): what the octets of a name are, and when two names are equal.
 #![tactic(auto)]
 
+pub use error::NameError;
 pub use name::{LABEL_LIMIT, Name, WIRE_LIMIT};
 pub use order::{
     canonical_order_is_total, names_at_or_below_are_an_interval, names_come_before_those_below,
 };
 
+mod error;
 mod name;
 mod order;
+mod tree;
 mod wire;
