@@ -1,4 +1,5 @@
 pub mod NameLemmas
 pub mod OrderLemmas
 pub mod ReadLemmas
+pub mod TextLemmas
 pub mod TreeLemmas

@@ -10,5 +10,6 @@ pub use order::{
 mod error;
 mod name;
 mod order;
+mod text;
 mod tree;
 mod wire;
