@@ -5,3 +5,4 @@ pub mod ParseLemmas
 pub mod ReadLemmas
 pub mod TextLemmas
 pub mod TreeLemmas
+pub mod WireLemmas

@@ -6,7 +6,7 @@ use Rattle.std.proofs.lemmas.List.{append-nil}
 use Rattle.std.specs.List.{AllByRecursion}
 use Rattle.dnsv_names.specs.Name.{Labels, IsLabel, IsName, wire}
 use Rattle.dnsv_names.specs.Reading.{octet_of, escaped_of, decimal_of, decimal_value}
-use Rattle.dnsv_names.specs.Text.{SpellsOctet, SpellsLabel, SpellsLabels, IsTextOf, IsFaultAt, SpellsSoFar, FirstFault, BeginsDot, BeginsOctet}
+use Rattle.dnsv_names.specs.Text.{SpellsOctet, SpellsLabel, IsFaultAt, BeginsDot, BeginsOctet}
 use Rattle.dnsv_names.specs.declared.error.NameError.{NameError}
 use Rattle.dnsv_names.specs.declared.error.NameError.TheVariants.{BadEscape, EmptyLabel, LongLabel, LongName, NotAbsolute}
 
@@ -84,3 +84,51 @@ octet_found (c ∷ text) octet rest e = ⊎_elim
           spells = seen_plain c octet other.0 h.0 (ap (λ (p : ℕ × List ℕ). p.0) h.1);
         })
     (chosen (c == 92) (escaped_of text) (cond (is_ascii_graphic c && not (c == 46)) (Some (c, text)) None) (Some (octet, rest)) e)
+
+-- the text so far spells the octets of a label, and the rest stands behind them
+pub record SpelledSoFar (text label rest : List ℕ) : Type 0 where
+  pub front : List ℕ
+  pub form : text ≡ front ++ rest
+  pub spells : SpellsLabel front label
+
+-- one octet more at the end of a label
+SpellsLabel-push : (label front piece : List ℕ) (octet : ℕ) → SpellsLabel front label → SpellsOctet piece octet → SpellsLabel (front ++ piece) (label ++ octet ∷ [])
+SpellsLabel-push [] front piece octet spells more =
+    (piece, [], ap (λ text. text ++ piece) spells ∙ sym (append-nil piece), more, refl)
+SpellsLabel-push (first ∷ label) front piece octet spells more = (
+  spells.0,
+  spells.1 ++ piece,
+  ap (λ text. text ++ piece) spells.2 ∙ append_assoc spells.0 spells.1 piece,
+  spells.3,
+  SpellsLabel-push label spells.1 piece octet spells.4 more,
+)
+
+pub SpelledSoFar-start : (text : List ℕ) → SpelledSoFar text [] text
+SpelledSoFar-start text = record { front = []; form = refl; spells = refl }
+
+pub SpelledSoFar-next : (text label rest : List ℕ) (octet : ℕ) (behind : List ℕ) → SpelledSoFar text label rest → octet_of rest ≡ Some (octet, behind) → SpelledSoFar text (label ++ octet ∷ []) behind
+SpelledSoFar-next text label rest octet behind so_far found =
+    let next : OctetThen rest octet behind = octet_found rest octet behind found in
+    record {
+      front = so_far.front ++ next.piece;
+      form = so_far.form ∙ ap (λ text. so_far.front ++ text) next.form ∙ sym (append_assoc so_far.front next.piece behind);
+      spells = SpellsLabel-push label so_far.front next.piece octet so_far.spells next.spells;
+    }
+
+-- each octet that is spelled is one
+octet_small : (piece : List ℕ) (octet : ℕ) → SpellsOctet piece octet → octet < 256
+octet_small [] octet spells = absurd spells
+octet_small (c ∷ []) octet spells = omega (arith, spells.0.1, spells.3)
+octet_small (b ∷ c ∷ []) octet spells = omega (arith, spells.1.1, spells.3)
+octet_small (b ∷ x ∷ y ∷ []) octet spells = absurd spells
+octet_small (b ∷ x ∷ y ∷ z ∷ []) octet spells = spells.5
+octet_small (b ∷ x ∷ y ∷ z ∷ d ∷ more) octet spells = absurd spells
+
+label_small : (label front : List ℕ) → SpellsLabel front label → AllByRecursion (λ octet. octet < 256) label
+label_small [] front spells = tt
+label_small (octet ∷ label) front spells = (octet_small spells.0 octet spells.3, label_small label spells.1 spells.4)
+
+-- at a dot behind octets, a label has been read
+pub IsLabel-so_far : {text label rest : List ℕ} → SpelledSoFar text label rest → 0 < length label → length label ≤ 63 → IsLabel label
+IsLabel-so_far {text} {label} so_far some room =
+    record { not_empty = some; at_most_63 = room; octets = label_small label so_far.front so_far.spells }

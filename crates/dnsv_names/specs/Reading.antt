@@ -1,6 +1,9 @@
 -- How the octets of a text are read from the left. No public clause cites this module.
-use Rattle.std.specs.Prelude.{ℕ, ◌+◌, ◌-◌, ◌*◌, ◌==◌, ◌&&◌, not, nat_lt, if◌then◌else◌, List, [], ◌∷◌, Option, Some, None}
+use Rattle.std.specs.Prelude.{◌≡◌, ◌≤◌, ◌++◌, length, ℕ, ◌+◌, ◌-◌, ◌*◌, ◌==◌, ◌&&◌, not, nat_lt, if◌then◌else◌, List, [], ◌∷◌, Option, Some, None}
 use Rattle.std.specs.Char.{is_ascii_graphic, is_ascii_digit}
+use Rattle.dnsv_names.specs.Name.{Labels}
+use Rattle.dnsv_names.specs.Text.{SpellsLabel, IsFaultAt}
+use Rattle.dnsv_names.specs.declared.error.NameError.{NameError}
 
 abbrev pub decimal_value : ℕ → ℕ → ℕ → ℕ
 decimal_value x y z = 100 * (x - 48) + 10 * (y - 48) + (z - 48)
@@ -22,3 +25,13 @@ abbrev pub octet_of : List ℕ → Option (ℕ × List ℕ)
 octet_of [] = None
 octet_of (c ∷ text) =
     if c == 92 then escaped_of text else (if is_ascii_graphic c && not (c == 46) then Some (c, text) else None)
+
+-- the front of the text spells the label and a dot, and the rest stands behind them
+abbrev pub BeginsLabel : List ℕ → List ℕ → List ℕ → Type 0
+BeginsLabel text label rest = (front : List ℕ) × (text ≡ front ++ 46 ∷ rest) × SpellsLabel front label
+
+-- the first fault of a text that begins with a label, whatever labels stand before it
+abbrev pub LabelFault : List ℕ → NameError → Type 0
+LabelFault text fault =
+    (front : List ℕ) × (rest : List ℕ) × (begun : List ℕ) × (text ≡ front ++ rest) × (length begun ≤ 63) × SpellsLabel front begun
+    × ((whole : Labels) → IsFaultAt fault whole begun rest)

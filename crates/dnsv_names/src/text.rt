@@ -1,11 +1,8 @@
-//! Names as text (RFC 1035 5.1): what is written and what is read.
-ghost use Rattle.std.specs.Prelude.{◌≡◌, List, ℕ, Some, length, IfOk, IfErr, map};
-ghost use Rattle.std.specs.Option.{option_map};
-ghost use Rattle.dnsv_names.specs.Reading.{decimal_of, escaped_of, octet_of};
+//! The text that is written for a name (RFC 1035 5.1).
+ghost use Rattle.std.specs.Prelude.{Some};
 ghost use Rattle.dnsv_names.specs.Text.{octet_text, label_text, text_of};
 
-use crate::error::NameError;
-use crate::name::{LABEL_LIMIT, Name, WIRE_LIMIT};
+use crate::name::Name;
 use std::fmt;
 
 /// Each label and a dot, the root as `.`. A dot and a backslash within a label have a backslash before
@@ -59,41 +56,4 @@ impl fmt::Display for OctetText {
             }
         }
     }
-}
-
-/// The octet that the front of the text spells, and the text behind it.
-fn octet_of(text: &[u8]) -> Option<(u8, &[u8])>
-    ensures { option_map (λ found. (found.0, found.1.now)) result ≡ octet_of text.now }
-{
-    let (&first, rest) = text.split_first()?;
-    if first == b'\\' {
-        return escaped_of(rest);
-    }
-    (first.is_ascii_graphic() && first != b'.').then_some((first, rest))
-}
-
-/// The octet that the text behind a backslash spells, and the text behind that.
-fn escaped_of(text: &[u8]) -> Option<(u8, &[u8])>
-    ensures { option_map (λ found. (found.0, found.1.now)) result ≡ escaped_of text.now }
-{
-    let (&first, rest) = text.split_first()?;
-    if first.is_ascii_digit() {
-        return decimal_of(text);
-    }
-    first.is_ascii_graphic().then_some((first, rest))
-}
-
-/// The octet that three decimal digits in front of the text spell, and the text behind them.
-fn decimal_of(text: &[u8]) -> Option<(u8, &[u8])>
-    ensures { option_map (λ found. (found.0, found.1.now)) result ≡ decimal_of text.now }
-{
-    let [x, y, z, rest @ ..] = text else {
-        return None;
-    };
-    if !(x.is_ascii_digit() && y.is_ascii_digit() && z.is_ascii_digit()) {
-        return None;
-    }
-    let value = 100 * u16::from(x - b'0') + 10 * u16::from(y - b'0') + u16::from(z - b'0');
-    let octet = u8::try_from(value).ok()?;
-    Some((octet, rest))
 }
