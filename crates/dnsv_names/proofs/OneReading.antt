@@ -125,11 +125,9 @@ steps_labels (label ∷ labels) whole n front rest spells each fits =
 -- where nothing is wrong so far, what is read from there on is what is read
 steps_so_far : (front rest : List ℕ) (whole : Labels) (begun : List ℕ) (n : ℕ) → SpellsSoFar front whole begun → read_on (steps_of whole + (length begun + n)) [] [] (front ++ rest) ≡ read_on n whole begun rest
 steps_so_far front rest whole begun n so_far =
-    let dotted = so_far.spelled.0 in
-    let ending = so_far.spelled.1 in
-    ap (read_on (steps_of whole + (length begun + n)) [] []) (ap (λ text. text ++ rest) so_far.spelled.2 ∙ append_assoc dotted ending rest)
-    ∙ steps_labels whole [] (length begun + n) dotted (ending ++ rest) so_far.spelled.3 so_far.name.each so_far.name.at_most_255
-    ∙ steps_label begun [] whole n ending rest so_far.spelled.4 (omega (arith, so_far.at_most_63))
+    ap (read_on (steps_of whole + (length begun + n)) [] []) (ap (λ text. text ++ rest) so_far.form ∙ append_assoc so_far.dotted so_far.ending rest)
+    ∙ steps_labels whole [] (length begun + n) so_far.dotted (so_far.ending ++ rest) so_far.labels so_far.name.each so_far.name.at_most_255
+    ∙ steps_label begun [] whole n so_far.ending rest so_far.octets (omega (arith, so_far.at_most_63))
 
 no_octet : (text : List ℕ) (found : Option (ℕ × List ℕ)) → octet_of text ≡ found → ¬ BeginsOctet text → octet_in_front found ≡ Bad
 no_octet text None is none = refl
@@ -184,17 +182,13 @@ reads_once text a b left right =
     sym (left.ends right.steps) ∙ ap (λ n. read_on n [] [] text) as_long ∙ right.ends left.steps
 
 reads_first_fault : (text : List ℕ) (fault : NameError) → FirstFault text fault → Reads text (Err fault)
-reads_first_fault text fault first =
-    let front = first.place.0 in
-    let rest = first.place.1 in
-    let whole = first.place.2 in
-    let begun = first.place.3 in record {
-      steps = steps_of whole + length begun;
-      ends = λ n.
-          let regrouped : steps_of whole + length begun + suc n ≡ steps_of whole + (length begun + suc n) = omega arith in
-          ap (λ m. read_on m [] [] text) regrouped ∙ ap (read_on (steps_of whole + (length begun + suc n)) [] []) first.place.4
-          ∙ steps_so_far front rest whole begun (suc n) first.place.5 ∙ reads_fault fault whole begun rest n first.place.6;
-    }
+reads_first_fault text fault first = record {
+  steps = steps_of first.whole + length first.begun;
+  ends = λ n.
+      let regrouped : steps_of first.whole + length first.begun + suc n ≡ steps_of first.whole + (length first.begun + suc n) = omega arith in
+      ap (λ m. read_on m [] [] text) regrouped ∙ ap (read_on (steps_of first.whole + (length first.begun + suc n)) [] []) first.form
+      ∙ steps_so_far first.front first.rest first.whole first.begun (suc n) first.so_far ∙ reads_fault fault first.whole first.begun first.rest n first.there;
+}
 
 reads_labels : (text : List ℕ) (label : List ℕ) (labels : Labels) → IsName (label ∷ labels) → SpellsLabels text (label ∷ labels) → Reads text (Ok (label ∷ labels))
 reads_labels text label labels name spells = record {

@@ -135,7 +135,7 @@ pub steps_over : (octets : List ℕ) (labels : Labels) (place k : ℕ) (label : 
 steps_over octets labels place k label stands more is =
     let after : Stands octets (place + (1 + get_or octets place 0)) labels (k + 1) = Stands-next stands more in
     let size : length label ≡ get_or octets place 0 = ap length is
-        ∙ length-take-le (get_or octets place 0) (drop (place + 1) octets) (omega (arith, place_within after, length-drop (place + 1) octets)) in
+    ∙ length-take-le (get_or octets place 0) (drop (place + 1) octets) (omega (arith, place_within after, length-drop (place + 1) octets)) in
     let next : Stands octets (place + (1 + length label)) labels (k + 1) = rw size after in
     record {
       next = λ j is_next. rw is_next next;

@@ -58,12 +58,12 @@ escaped_found [] octet rest e = absurd (cc)
 escaped_found (c ∷ text) octet rest e = ⊎_elim
     (λ (digit : (is_ascii_digit c ≡ true) × (decimal_of (c ∷ text) ≡ Some (octet, rest))). decimal_found (c ∷ text) octet rest digit.1)
     (λ (other : (is_ascii_digit c ≡ false) × (cond (is_ascii_graphic c) (Some (c, text)) None ≡ Some (octet, rest))).
-        let h = found_by (is_ascii_graphic c) (c, text) (octet, rest) other.1 in
-        record {
-          piece = 92 ∷ c ∷ [];
-          form = ap (λ (p : ℕ × List ℕ). 92 ∷ c ∷ p.1) h.1;
-          spells = seen_escaped c octet other.0 h.0 (ap (λ (p : ℕ × List ℕ). p.0) h.1);
-        })
+    let h = found_by (is_ascii_graphic c) (c, text) (octet, rest) other.1 in
+    record {
+      piece = 92 ∷ c ∷ [];
+      form = ap (λ (p : ℕ × List ℕ). 92 ∷ c ∷ p.1) h.1;
+      spells = seen_escaped c octet other.0 h.0 (ap (λ (p : ℕ × List ℕ). p.0) h.1);
+    })
     (chosen (is_ascii_digit c) (decimal_of (c ∷ text)) (cond (is_ascii_graphic c) (Some (c, text)) None) (Some (octet, rest)) e)
 
 seen_plain : (c octet : ℕ) → (c == 92) ≡ false → (is_ascii_graphic c && not (c == 46)) ≡ true → c ≡ octet → SpellsOctet (c ∷ []) octet
@@ -74,15 +74,15 @@ pub octet_found : (text : List ℕ) (octet : ℕ) (rest : List ℕ) → octet_of
 octet_found [] octet rest e = absurd (cc)
 octet_found (c ∷ text) octet rest e = ⊎_elim
     (λ (backslash : ((c == 92) ≡ true) × (escaped_of text ≡ Some (octet, rest))).
-        let same : 92 ≡ c = grind (arith, nat_tests) in
-        rw (← same) (escaped_found text octet rest backslash.1))
+    let same : 92 ≡ c = grind (arith, nat_tests) in
+    rw (← same) (escaped_found text octet rest backslash.1))
     (λ (other : ((c == 92) ≡ false) × (cond (is_ascii_graphic c && not (c == 46)) (Some (c, text)) None ≡ Some (octet, rest))).
-        let h = found_by (is_ascii_graphic c && not (c == 46)) (c, text) (octet, rest) other.1 in
-        record {
-          piece = c ∷ [];
-          form = ap (λ (p : ℕ × List ℕ). c ∷ p.1) h.1;
-          spells = seen_plain c octet other.0 h.0 (ap (λ (p : ℕ × List ℕ). p.0) h.1);
-        })
+    let h = found_by (is_ascii_graphic c && not (c == 46)) (c, text) (octet, rest) other.1 in
+    record {
+      piece = c ∷ [];
+      form = ap (λ (p : ℕ × List ℕ). c ∷ p.1) h.1;
+      spells = seen_plain c octet other.0 h.0 (ap (λ (p : ℕ × List ℕ). p.0) h.1);
+    })
     (chosen (c == 92) (escaped_of text) (cond (is_ascii_graphic c && not (c == 46)) (Some (c, text)) None) (Some (octet, rest)) e)
 
 -- the text so far spells the octets of a label, and the rest stands behind them

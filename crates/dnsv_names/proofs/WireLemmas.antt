@@ -77,38 +77,29 @@ LabelsSoFar-next text octets rest label behind so_far is_label begins fits =
 
 -- one label too many
 pub long_name : (text octets rest label behind : List ℕ) → LabelsSoFar text octets rest → text ≢ 46 ∷ [] → IsLabel label → BeginsLabel rest label behind → 255 < length octets + 1 + length label + 1 → FirstFault text LongName
-long_name text octets rest label behind so_far not_root is_label begins long =
-    let front = so_far.front in
-    let piece = begins.0 in
-    record {
-      not_root = not_root;
-      place = (
-        front ++ piece,
-        46 ∷ behind,
-        so_far.whole,
-        label,
-        so_far.form ∙ ap (λ text. front ++ text) begins.1 ∙ sym (append_assoc front piece (46 ∷ behind)),
-        record { name = so_far.name; at_most_63 = is_label.at_most_63; spelled = (front, piece, refl, so_far.spells, begins.2) },
-        ((behind, refl), (λ none. omega (arith, is_label.not_empty, ap length none)), omega (arith, length_push so_far.whole label, ap length so_far.octets_of)),
-      );
-    }
+long_name text octets rest label behind so_far not_root is_label begins long = record {
+  not_root = not_root;
+  front = so_far.front ++ begins.0;
+  rest = 46 ∷ behind;
+  whole = so_far.whole;
+  begun = label;
+  form = so_far.form ∙ ap (λ text. so_far.front ++ text) begins.1 ∙ sym (append_assoc so_far.front begins.0 (46 ∷ behind));
+  so_far = record { name = so_far.name; at_most_63 = is_label.at_most_63; dotted = so_far.front; ending = begins.0; form = refl; labels = so_far.spells; octets = begins.2 };
+  there = ((behind, refl), (λ none. omega (arith, is_label.not_empty, ap length none)), omega (arith, length_push so_far.whole label, ap length so_far.octets_of));
+}
 
 -- a fault within a label
 pub fault_in_label : (text octets rest : List ℕ) (fault : NameError) → LabelsSoFar text octets rest → text ≢ 46 ∷ [] → LabelFault rest fault → FirstFault text fault
-fault_in_label text octets rest fault so_far not_root at =
-    let front = so_far.front in
-    record {
-      not_root = not_root;
-      place = (
-        front ++ at.0,
-        at.1,
-        so_far.whole,
-        at.2,
-        so_far.form ∙ ap (λ text. front ++ text) at.3 ∙ sym (append_assoc front at.0 at.1),
-        record { name = so_far.name; at_most_63 = at.4; spelled = (front, at.0, refl, so_far.spells, at.5) },
-        at.6 so_far.whole,
-      );
-    }
+fault_in_label text octets rest fault so_far not_root at = record {
+  not_root = not_root;
+  front = so_far.front ++ at.front;
+  rest = at.rest;
+  whole = so_far.whole;
+  begun = at.begun;
+  form = so_far.form ∙ ap (λ text. so_far.front ++ text) at.form ∙ sym (append_assoc so_far.front at.front at.rest);
+  so_far = record { name = so_far.name; at_most_63 = at.at_most_63; dotted = so_far.front; ending = at.front; form = refl; labels = so_far.spells; octets = at.octets };
+  there = at.there so_far.whole;
+}
 
 no_labels : (labels : Labels) → unrooted labels ≡ [] → labels ≡ []
 no_labels [] none = refl
@@ -116,19 +107,24 @@ no_labels (label ∷ labels) none = absurd (cc)
 
 -- the end without a label
 pub not_absolute : (text octets rest : List ℕ) → LabelsSoFar text octets rest → text ≢ 46 ∷ [] → rest ≡ [] → octets ≡ [] → FirstFault text NotAbsolute
-not_absolute text octets rest so_far not_root ends none =
-    record {
-      not_root = not_root;
-      place = (
-        so_far.front,
-        rest,
-        so_far.whole,
-        [],
-        so_far.form,
-        record { name = so_far.name; at_most_63 = omega arith; spelled = (so_far.front, [], sym (append-nil so_far.front), so_far.spells, refl) },
-        (ends, inr (no_labels so_far.whole (sym so_far.octets_of ∙ none))),
-      );
-    }
+not_absolute text octets rest so_far not_root ends none = record {
+  not_root = not_root;
+  front = so_far.front;
+  rest = rest;
+  whole = so_far.whole;
+  begun = [];
+  form = so_far.form;
+  so_far = record {
+    name = so_far.name;
+    at_most_63 = omega arith;
+    dotted = so_far.front;
+    ending = [];
+    form = sym (append-nil so_far.front);
+    labels = so_far.spells;
+    octets = refl;
+  };
+  there = (ends, inr (no_labels so_far.whole (sym so_far.octets_of ∙ none)));
+}
 
 text_of_labels : (labels : Labels) (text : List ℕ) → unrooted labels ≢ [] → SpellsLabels text labels → IsTextOf text labels
 text_of_labels [] text some spells = absurd (some refl)

@@ -31,7 +31,11 @@ abbrev pub BeginsLabel : List ℕ → List ℕ → List ℕ → Type 0
 BeginsLabel text label rest = (front : List ℕ) × (text ≡ front ++ 46 ∷ rest) × SpellsLabel front label
 
 -- the first fault of a text that begins with a label, whatever labels stand before it
-abbrev pub LabelFault : List ℕ → NameError → Type 0
-LabelFault text fault =
-    (front : List ℕ) × (rest : List ℕ) × (begun : List ℕ) × (text ≡ front ++ rest) × (length begun ≤ 63) × SpellsLabel front begun
-    × ((whole : Labels) → IsFaultAt fault whole begun rest)
+pub record LabelFault (text : List ℕ) (fault : NameError) : Type 0 where
+  pub front : List ℕ
+  pub rest : List ℕ
+  pub begun : List ℕ
+  pub form : text ≡ front ++ rest
+  pub at_most_63 : length begun ≤ 63
+  pub octets : SpellsLabel front begun
+  pub there : (whole : Labels) → IsFaultAt fault whole begun rest

@@ -1,24 +1,18 @@
 -- Names as text (RFC 1035 5.1, RFC 4343 2.1). A text is octets: 46 is the dot, 92 the backslash, 48 to 57
--- the digits, and 33 to 126 what is seen.
+-- are the digits, and 33 to 126 what is graphic, that is 0x21 to 0x7e.
 use Rattle.std.specs.Prelude.{◌≡◌, ◌≢◌, ℕ, ◌+◌, ◌-◌, ◌*◌, ◌/◌, ◌%◌, ◌<◌, ◌≤◌, ◌⊎◌, ◌==◌, ◌||◌, if◌then◌else◌, List, [], ◌∷◌, ◌++◌, length}
 use Rattle.std.specs.List.{flat_map}
-use Rattle.std.specs.Char.{is_ascii_graphic}
+use Rattle.std.specs.Char.{is_ascii_graphic, IsAsciiGraphic, IsAsciiDigit}
 use Rattle.dnsv_names.specs.Name.{Labels, IsName, wire}
 use Rattle.dnsv_names.specs.declared.error.NameError.{NameError}
 use Rattle.dnsv_names.specs.declared.error.NameError.TheVariants.{BadEscape, EmptyLabel, LongLabel, LongName, NotAbsolute}
 
-abbrev pub IsSeen : ℕ → Type 0
-IsSeen c = (33 ≤ c) × (c ≤ 126)
-
-abbrev pub IsDigit : ℕ → Type 0
-IsDigit c = (48 ≤ c) × (c ≤ 57)
-
 -- An octet is spelled by itself, by a backslash and itself, or by a backslash and its three decimal digits.
 abbrev pub SpellsOctet : List ℕ → ℕ → Type 0
-SpellsOctet (c ∷ []) octet = IsSeen c × (c ≢ 46) × (c ≢ 92) × (octet ≡ c)
-SpellsOctet (b ∷ c ∷ []) octet = (b ≡ 92) × IsSeen c × ¬ IsDigit c × (octet ≡ c)
+SpellsOctet (c ∷ []) octet = IsAsciiGraphic c × (c ≢ 46) × (c ≢ 92) × (octet ≡ c)
+SpellsOctet (b ∷ c ∷ []) octet = (b ≡ 92) × IsAsciiGraphic c × ¬ IsAsciiDigit c × (octet ≡ c)
 SpellsOctet (b ∷ x ∷ y ∷ z ∷ []) octet =
-    (b ≡ 92) × IsDigit x × IsDigit y × IsDigit z × (octet ≡ 100 * (x - 48) + 10 * (y - 48) + (z - 48)) × (octet < 256)
+    (b ≡ 92) × IsAsciiDigit x × IsAsciiDigit y × IsAsciiDigit z × (octet ≡ 100 * (x - 48) + 10 * (y - 48) + (z - 48)) × (octet < 256)
 SpellsOctet _ octet = ⊥
 
 -- a label is spelled by its octets, one after another
@@ -39,7 +33,7 @@ IsTextOf text [] = text ≡ 46 ∷ []
 IsTextOf text (label ∷ labels) = SpellsLabels text (label ∷ labels)
 
 -- Of the texts of an octet, the one that is written: the dot and the backslash behind a backslash, what else
--- is seen as it is, all others by three digits.
+-- is graphic as it is, all others by three digits.
 abbrev pub octet_text : ℕ → List ℕ
 octet_text octet =
     if octet == 46 || octet == 92 then 92 ∷ octet ∷ []
@@ -73,14 +67,24 @@ IsFaultAt LongName whole begun rest = BeginsDot rest × (begun ≢ []) × (255 <
 -- the end, and no dot right before it
 IsFaultAt NotAbsolute whole begun rest = (rest ≡ []) × ((begun ≢ []) ⊎ (whole ≡ []))
 
--- nothing is wrong in the front of a text: it spells whole labels, and octets of a label that has begun
+-- Nothing is wrong in the front of a text: it spells whole labels with their dots, and then octets of a
+-- label that has begun.
 pub record SpellsSoFar (front : List ℕ) (whole : Labels) (begun : List ℕ) : Type 0 where
   pub name : IsName whole
   pub at_most_63 : length begun ≤ 63
-  pub spelled : (dotted : List ℕ) × (ending : List ℕ) × (front ≡ dotted ++ ending) × SpellsLabels dotted whole × SpellsLabel ending begun
+  pub dotted : List ℕ
+  pub ending : List ℕ
+  pub form : front ≡ dotted ++ ending
+  pub labels : SpellsLabels dotted whole
+  pub octets : SpellsLabel ending begun
 
--- the first fault of a text, from the left; a dot alone is the root
+-- The first fault of a text, from the left: up to its place nothing is wrong. A dot alone is the root.
 pub record FirstFault (text : List ℕ) (fault : NameError) : Type 0 where
   pub not_root : text ≢ 46 ∷ []
-  pub place : (front : List ℕ) × (rest : List ℕ) × (whole : Labels) × (begun : List ℕ)
-      × (text ≡ front ++ rest) × SpellsSoFar front whole begun × IsFaultAt fault whole begun rest
+  pub front : List ℕ
+  pub rest : List ℕ
+  pub whole : Labels
+  pub begun : List ℕ
+  pub form : text ≡ front ++ rest
+  pub so_far : SpellsSoFar front whole begun
+  pub there : IsFaultAt fault whole begun rest

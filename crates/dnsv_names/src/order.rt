@@ -106,22 +106,19 @@ fn label_order(a: &[u8], b: &[u8]) -> Ordering
 pub fn canonical_order_is_total()
     ensures total { IsTotalOrder canonical_cmp }
     ensures equality { (a b : Labels) → (canonical_cmp a b ≡ Ordering.Equal) ↔ SameName a b }
-{
-}
+{}
 
 /// A law of the canonical order: a name comes before every name below it.
 pub fn names_come_before_those_below()
     ensures { (name above : Labels) → IsBelow name above → IsBefore above name }
-{
-}
+{}
 
 /// A law of the canonical order: the names at or below a name follow each other, with no other name
 /// between them.
 pub fn names_at_or_below_are_an_interval()
     ensures { (above x y z : Labels) → IsAtOrBelow x above → IsAtOrBelow z above
         → IsBefore x y → IsBefore y z → IsAtOrBelow y above }
-{
-}
+{}
 
 #[cfg(test)]
 mod tests;

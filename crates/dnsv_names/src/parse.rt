@@ -100,8 +100,7 @@ fn label_of(text: &[u8]) -> Result<(ArrayVec<u8, LABEL_LIMIT>, &[u8]), NameError
 /// A law of the text of names: each name is spelled by the text that is written for it.
 pub fn names_are_spelled_by_their_text()
     ensures { (labels : Labels) → IsName labels → IsTextOf (text_of labels) labels }
-{
-}
+{}
 
 /// A law of the text of names: a text spells at most one name, or has one first fault, and not both.
 pub fn a_text_has_one_reading()
@@ -109,8 +108,7 @@ pub fn a_text_has_one_reading()
     ensures fault { (text : List ℕ) (a b : NameError) → FirstFault text a → FirstFault text b → a ≡ b }
     ensures apart { (text : List ℕ) (labels : Labels) (fault : NameError) → IsName labels
         → IsTextOf text labels → FirstFault text fault → ⊥ }
-{
-}
+{}
 
 /// The octet that the front of the text spells, and the text behind it.
 fn octet_of(text: &[u8]) -> Option<(u8, &[u8])>
@@ -148,3 +146,6 @@ fn decimal_of(text: &[u8]) -> Option<(u8, &[u8])>
     let octet = u8::try_from(value).ok()?;
     Some((octet, rest))
 }
+
+#[cfg(test)]
+mod tests;

@@ -57,3 +57,6 @@ impl fmt::Display for OctetText {
         }
     }
 }
+
+#[cfg(test)]
+mod tests;

@@ -54,3 +54,6 @@ impl Name {
         Ok(Name { octets })
     }
 }
+
+#[cfg(test)]
+mod tests;

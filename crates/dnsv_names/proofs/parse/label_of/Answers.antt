@@ -16,15 +16,16 @@ returns-then-is_full-clause-fault c =
     let found : octet_of c.loop-rest.rest.now ≡ Some (c.in_ok-octet.octet, c.in_ok-octet.behind.now) =
     sym c.octet_of.ensures ∙ ap (option_map (λ found. (found.0, found.1.now))) c.in_ok-octet.ensures.ok_part in
     let next = octet_found c.loop-rest.rest.now c.in_ok-octet.octet c.in_ok-octet.behind.now found in
-    let full : length c.loop-rest.label.items ≡ 63 = grind (arith, nat_tests) in (
-      so_far.front,
-      c.loop-rest.rest.now,
-      c.loop-rest.label.items,
-      so_far.form,
-      c.loop-rest.invariant.1,
-      so_far.spells,
-      λ whole. ((next.piece, c.in_ok-octet.behind.now, c.in_ok-octet.octet, next.form, next.spells), full),
-    )
+    let full : length c.loop-rest.label.items ≡ 63 = grind (arith, nat_tests) in
+    record {
+      front = so_far.front;
+      rest = c.loop-rest.rest.now;
+      begun = c.loop-rest.label.items;
+      form = so_far.form;
+      at_most_63 = c.loop-rest.invariant.1;
+      octets = so_far.spells;
+      there = λ whole. ((next.piece, c.in_ok-octet.behind.now, c.in_ok-octet.octet, next.form, next.spells), full);
+    }
 
 pub loop-rest-preserved : goal.loop-rest-preserved
 loop-rest-preserved c =
