@@ -1,8 +1,8 @@
 -- What stands where in the canonical order: lists that begin alike, and names below a name.
-use Rattle.std.proofs.Common.{◌≡◌, ℕ, ◌+◌, ◌-◌, ◌<◌, ◌≤◌, List, [], ◌∷◌, ◌++◌, length, get_or, take, drop, map, min, refl, sym, ap, ◌∙◌, arith, length-append, length-drop, append_assoc, reverse}
-use Rattle.std.proofs.lemmas.List.{reverse-append, reverse-reverse, length-reverse, map-append, take-map, take_at, append-nil, take_more, take-append-drop, length-map, length-take-le, drop_all, take_all, length-take, get_or-map}
+use Rattle.std.proofs.Common.{◌≡◌, ℕ, ◌+◌, ◌-◌, ◌<◌, List, [], ◌∷◌, ◌++◌, length, get_or, take, drop, map, min, refl, sym, ap, ◌∙◌, arith, length-drop, reverse}
+use Rattle.std.proofs.lemmas.List.{reverse-append, reverse-reverse, length-reverse, map-append, take-map, take_at, take_more, take-append-drop, length-map, length-take-le, take_all, length-take, get_or-map}
 use Rattle.std.proofs.lemmas.Bool.Decides.{nat_tests}
-use Rattle.std.proofs.lemmas.Cmp.{tied_itself, lists_total, nat_list_cmp_total}
+use Rattle.std.proofs.lemmas.Cmp.{tied_itself, nat_list_cmp_total}
 use Rattle.std.specs.Char.{to_ascii_lowercase}
 use Rattle.std.specs.declared.cmp.Ordering.{Ordering}
 use Rattle.std.specs.declared.cmp.Ordering.TheVariants.{Less, Equal, Greater}
@@ -40,7 +40,7 @@ label_cmp_exact : (a b : List ℕ) → label_cmp a b ≡ Equal → a ≡ b
 label_cmp_exact a b tied = (bytes_decides a b).0 (texts_ties a b ∙ (Equal-is (label_cmp a b)).1 tied)
 
 -- the labels of a name below another, from the right
-from_the_right_below : (name front above : Labels) → SameName name (front ++ above) → from_the_right name ≡ from_the_right above ++ from_the_right front
+pub from_the_right_below : (name front above : Labels) → SameName name (front ++ above) → from_the_right name ≡ from_the_right above ++ from_the_right front
 from_the_right_below name front above same =
     ap reverse (same ∙ map-append (λ label. map _ label) front above) ∙ reverse-append (lower_case front) (lower_case above)
 
@@ -52,7 +52,7 @@ before_below name above ((((label ∷ front), same), other)) =
     ∙ beginning_first nat_list_cmp_total (from_the_right above) (from_the_right (label ∷ front)) some
 
 -- a name whose labels from the right begin with those of another is at or below it
-at_or_below_begins : (name above rest : Labels) → from_the_right name ≡ from_the_right above ++ rest → IsAtOrBelow name above
+pub at_or_below_begins : (name above rest : Labels) → from_the_right name ≡ from_the_right above ++ rest → IsAtOrBelow name above
 at_or_below_begins name above rest begins =
     let split : lower_case name ≡ reverse rest ++ lower_case above =
     sym (reverse-reverse (lower_case name)) ∙ ap reverse begins ∙ reverse-append (from_the_right above) rest

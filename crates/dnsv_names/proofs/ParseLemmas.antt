@@ -1,14 +1,12 @@
 -- The octet that the front of a text spells.
-use Rattle.std.proofs.Common.{◌≡◌, ◌≢◌, ◌⊎◌, ℕ, suc, zero, ◌+◌, ◌-◌, ◌*◌, ◌/◌, ◌%◌, ◌<◌, ◌≤◌, List, [], ◌∷◌, ◌++◌, length, refl, sym, ap, ◌∙◌, arith, append_assoc, length-append, Bool, true, false, cond, Option, Some, None, Result, Ok, Err, inl, inr, ⊎_elim, ◌==◌, ◌&&◌, not, nat_lt}
+use Rattle.std.proofs.Common.{◌≡◌, ◌⊎◌, ℕ, ◌<◌, ◌≤◌, List, [], ◌∷◌, ◌++◌, length, refl, sym, ap, ◌∙◌, arith, append_assoc, Bool, true, false, cond, Some, None, inl, inr, ⊎_elim, ◌==◌, ◌&&◌, not, nat_lt}
 use Rattle.std.specs.Char.{is_ascii_graphic, is_ascii_digit}
 use Rattle.std.proofs.lemmas.Bool.Decides.{nat_tests}
 use Rattle.std.proofs.lemmas.List.{append-nil}
 use Rattle.std.specs.List.{AllByRecursion}
-use Rattle.dnsv_names.specs.Name.{Labels, IsLabel, IsName, wire}
+use Rattle.dnsv_names.specs.Name.{IsLabel}
 use Rattle.dnsv_names.specs.Reading.{octet_of, escaped_of, decimal_of, decimal_value}
-use Rattle.dnsv_names.specs.Text.{SpellsOctet, SpellsLabel, IsFaultAt, BeginsDot, BeginsOctet}
-use Rattle.dnsv_names.specs.declared.error.NameError.{NameError}
-use Rattle.dnsv_names.specs.declared.error.NameError.TheVariants.{BadEscape, EmptyLabel, LongLabel, LongName, NotAbsolute}
+use Rattle.dnsv_names.specs.Text.{SpellsOctet, SpellsLabel}
 
 -- the text of an octet is read as that octet
 pub octet_of_spelled : (piece rest : List ℕ) (octet : ℕ) → SpellsOctet piece octet → octet_of (piece ++ rest) ≡ Some (octet, rest)

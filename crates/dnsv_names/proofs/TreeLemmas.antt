@@ -1,8 +1,7 @@
 -- When the labels of one name end those of another, and what a wildcard is.
-use Rattle.std.proofs.Common.{◌≡◌, ℕ, ◌+◌, ◌-◌, ◌<◌, ◌≤◌, List, [], ◌∷◌, ◌++◌, length, take, drop, map, sym, ap, ◌∙◌, arith, length-append, Bool}
+use Rattle.std.proofs.Common.{◌≡◌, ℕ, ◌-◌, ◌≤◌, List, [], ◌∷◌, ◌++◌, length, take, drop, map, sym, ap, ◌∙◌, arith, length-append, Bool}
 use Rattle.std.proofs.lemmas.List.{take-append-drop, drop_at, drop-map, length-map, map-append}
 use Rattle.std.specs.Bool.{Decides}
-use Rattle.std.specs.List.{AllByRecursion}
 use Rattle.std.specs.Char.{to_ascii_lowercase}
 use Rattle.dnsv_names.specs.Name.{Labels, IsLabel, IsName, wire, lower_case, SameName, IsAtOrBelow}
 use Rattle.dnsv_names.specs.Spelling.{labels_of, SpellsName}

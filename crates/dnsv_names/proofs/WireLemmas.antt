@@ -1,12 +1,12 @@
 -- The wire form that grows while the labels of a text are read.
-use Rattle.std.proofs.Common.{◌≡◌, ◌≢◌, ℕ, ◌+◌, ◌-◌, ◌<◌, ◌≤◌, List, [], ◌∷◌, ◌++◌, length, refl, sym, ap, ◌∙◌, arith, append_assoc, length-append, inr, subst, Bool, true, false, ◌==◌}
+use Rattle.std.proofs.Common.{◌≡◌, ◌≢◌, ℕ, ◌+◌, ◌<◌, ◌≤◌, List, [], ◌∷◌, ◌++◌, length, refl, sym, ap, ◌∙◌, arith, append_assoc, length-append, inr, subst, true, false, ◌==◌}
 use Rattle.std.proofs.lemmas.Bool.Decides.{nat_tests}
 use Rattle.std.proofs.lemmas.List.{append-nil}
 use Rattle.std.specs.List.{AllByRecursion}
 use Rattle.dnsv_names.specs.Name.{Labels, IsLabel, IsName, wire}
 use Rattle.dnsv_names.specs.Reading.{BeginsLabel, LabelFault}
 use Rattle.dnsv_names.specs.Spelling.{labels_of, SpellsName}
-use Rattle.dnsv_names.specs.Text.{SpellsLabel, SpellsLabels, IsTextOf, IsFaultAt, SpellsSoFar, FirstFault}
+use Rattle.dnsv_names.specs.Text.{SpellsLabel, SpellsLabels, IsTextOf, FirstFault}
 use Rattle.dnsv_names.specs.declared.error.NameError.{NameError}
 use Rattle.dnsv_names.specs.declared.error.NameError.TheVariants.{LongName, NotAbsolute}
 use Rattle.dnsv_names.proofs.NameLemmas.{SpellsName-wire, labels_of-wire}

@@ -1,5 +1,5 @@
 -- What the comparisons of names keep. The impls of the comparing traits cite it, and no public clause does.
-use Rattle.std.specs.Prelude.{◌≡◌, ℕ, Bool, true, List, nat_eq, reverse}
+use Rattle.std.specs.Prelude.{◌≡◌, true, List, nat_eq, reverse}
 use Rattle.std.proofs.Common.{sym, ap, ◌∙◌}
 use Rattle.std.proofs.lemmas.List.{reverse-reverse}
 use Rattle.std.proofs.lemmas.Bool.Decides.{Decides-eqb}
@@ -45,8 +45,8 @@ pub SameName_Equal : (a b : Labels) → SameName a b → canonical_cmp a b ≡ E
 SameName_Equal a b same = (Equal-is (canonical_cmp a b)).0 ((canonical_ties_Decides a b).1 same)
 
 -- what a name feeds a hasher: its wire form in lower case
-abbrev pub hash_input : Labels → HashWrites
-hash_input name = slice u8 (wire (lower_case name))
+abbrev pub hash_input_of : Labels → HashWrites
+hash_input_of name = slice u8 (wire (lower_case name))
 
-pub hash_respects_eq : (a b : Labels) → same_name a b ≡ true → hash_input a ≡ hash_input b
+pub hash_respects_eq : (a b : Labels) → same_name a b ≡ true → hash_input_of a ≡ hash_input_of b
 hash_respects_eq a b same = ap (λ name. slice u8 (wire name)) ((same_name_Decides a b).0 same)

@@ -1,12 +1,11 @@
 //! The canonical order of names (RFC 4034 6.1), and their hash.
-ghost use Rattle.std.specs.Prelude.{◌≡◌, ◌↔◌, ◌<◌, ◌+◌, ◌≤◌, refl, length, take, drop, slice_index};
+ghost use Rattle.std.specs.Prelude.{◌≡◌, ◌↔◌, ◌<◌, ◌+◌, ◌++◌, refl, length, take, drop, map, slice_index};
 ghost use Rattle.std.specs.Char.{to_ascii_lowercase};
-ghost use Rattle.std.specs.Prelude.{map};
 ghost use Rattle.std.specs.Cmp.{IsTotalOrder, partial_order_from_agreeing_total};
 ghost use Rattle.std.specs.Ordering.{as_partial_cmp};
-ghost use Rattle.dnsv_names.specs.Name.{Labels, wire, lower_case, SameName, IsAtOrBelow};
-ghost use Rattle.dnsv_names.specs.Order.{label_cmp, canonical_cmp, IsBefore, IsBelow};
-ghost use Rattle.dnsv_names.specs.OrderLaws.{canonical_cmp_total, same_name_ties, hash_input, hash_respects_eq};
+ghost use Rattle.dnsv_names.specs.Name.{Labels, SameName, IsAtOrBelow};
+ghost use Rattle.dnsv_names.specs.Order.{label_cmp, from_the_right, canonical_cmp, IsBefore, IsBelow};
+ghost use Rattle.dnsv_names.specs.OrderLaws.{canonical_cmp_total, same_name_ties, hash_input_of, hash_respects_eq};
 ghost use Rattle.dnsv_names.specs.Spelling.{labels_of, SpellsName};
 
 use crate::name::Name;
@@ -52,7 +51,7 @@ impl PartialOrd for Name {
 
 /// Names that are equal have one hash, whatever their case.
 impl Hash for Name {
-    ghost hash_input = { hash_input };
+    ghost hash_input = { hash_input_of };
 
     ghost respects_eq = { hash_respects_eq };
 
@@ -106,6 +105,13 @@ fn label_order(a: &[u8], b: &[u8]) -> Ordering
 pub fn canonical_order_is_total()
     ensures total { IsTotalOrder canonical_cmp }
     ensures equality { (a b : Labels) → (canonical_cmp a b ≡ Ordering.Equal) ↔ SameName a b }
+{}
+
+/// A law of the tree of names: a name is at or below another where its labels, from the right and in
+/// lower case, begin with those of the other.
+pub fn names_at_or_below_begin_alike()
+    ensures { (name above : Labels) → IsAtOrBelow name above
+        ↔ ((rest : Labels) × (from_the_right name ≡ from_the_right above ++ rest)) }
 {}
 
 /// A law of the canonical order: a name comes before every name below it.

@@ -24,9 +24,11 @@ impl Name {
         // What is found is a name, and the text spells it.
         ensures name { IfOk result (λ name. IsName name × IsTextOf text.now name) }
         // Whatever name the text spells is found.
-        ensures every { (labels : Labels) → IsName labels → IsTextOf text.now labels → result ≡ Ok labels }
+        ensures every { (labels : Labels) → IsName labels → IsTextOf text.now labels
+            → result ≡ Ok labels }
         // The text that is written for a name is read as that name.
-        ensures written { (labels : Labels) → IsName labels → text.now ≡ text_of labels → result ≡ Ok labels }
+        ensures written { (labels : Labels) → IsName labels → text.now ≡ text_of labels
+            → result ≡ Ok labels }
         // A refusal is the first fault, and the first fault is refused.
         ensures fault { IfErr result (λ fault. FirstFault text.now fault) }
         ensures every_fault { (fault : NameError) → FirstFault text.now fault → result ≡ Err fault }
@@ -38,7 +40,8 @@ impl Name {
 
 /// The wire form of the name that the text spells.
 fn wire_of(text: &[u8]) -> Result<ArrayVec<u8, WIRE_LIMIT>, NameError>
-    ensures name { IfOk result (λ octets. SpellsName octets.items × IsTextOf text.now (labels_of octets.items)) }
+    ensures name { IfOk result (λ octets. SpellsName octets.items
+        × IsTextOf text.now (labels_of octets.items)) }
     ensures fault { IfErr result (λ fault. FirstFault text.now fault) }
 {
     match text {
@@ -50,7 +53,8 @@ fn wire_of(text: &[u8]) -> Result<ArrayVec<u8, WIRE_LIMIT>, NameError>
 /// The same for a text that isn't a dot alone, so that it has to spell a label.
 fn wire_of_labels(text: &[u8]) -> Result<ArrayVec<u8, WIRE_LIMIT>, NameError>
     requires { text.now ≢ 46 ∷ [] }
-    ensures name { IfOk result (λ octets. SpellsName octets.items × IsTextOf text.now (labels_of octets.items)) }
+    ensures name { IfOk result (λ octets. SpellsName octets.items
+        × IsTextOf text.now (labels_of octets.items)) }
     ensures fault { IfErr result (λ fault. FirstFault text.now fault) }
 {
     let mut octets = ArrayVec::new();
@@ -104,8 +108,10 @@ pub fn names_are_spelled_by_their_text()
 
 /// A law of the text of names: a text spells at most one name, or has one first fault, and not both.
 pub fn a_text_has_one_reading()
-    ensures name { (text : List ℕ) (a b : Labels) → IsName a → IsName b → IsTextOf text a → IsTextOf text b → a ≡ b }
-    ensures fault { (text : List ℕ) (a b : NameError) → FirstFault text a → FirstFault text b → a ≡ b }
+    ensures name { (text : List ℕ) (a b : Labels) → IsName a → IsName b
+        → IsTextOf text a → IsTextOf text b → a ≡ b }
+    ensures fault { (text : List ℕ) (a b : NameError) → FirstFault text a → FirstFault text b
+        → a ≡ b }
     ensures apart { (text : List ℕ) (labels : Labels) (fault : NameError) → IsName labels
         → IsTextOf text labels → FirstFault text fault → ⊥ }
 {}

@@ -1,10 +1,10 @@
-use Rattle.std.proofs.Common.{◌≡◌, ◌<◌, ◌+◌, ◌-◌, length, drop, get_or, map, sym, ap, ◌∙◌, arith, refl, length-drop, add-zero, add_assoc}
+use Rattle.std.proofs.Common.{◌≡◌, ◌<◌, ◌+◌, ◌-◌, length, drop, map, sym, ap, ◌∙◌, arith, refl, length-drop, add-zero}
 use Rattle.std.proofs.lemmas.List.{get_or-drop, length-map}
 use Rattle.std.specs.Char.{to_ascii_lowercase}
 use Rattle.std.specs.Ordering.{ordering_then}
-use Rattle.dnsv_names.specs.Name.{wire, lower_case}
+use Rattle.dnsv_names.specs.Name.{lower_case}
 use Rattle.dnsv_names.specs.Order.{label_cmp}
-use Rattle.dnsv_names.specs.Spelling.{labels_of, SpellsName}
+use Rattle.dnsv_names.specs.Spelling.{labels_of}
 use Rattle.dnsv_names.proofs.NameLemmas.{place_within, Stands-next, length_spelled}
 use Rattle.dnsv_names.proofs.OrderLemmas.{StepsOver, steps_over, decided, decided_more, decided_all}
 use Rattle.dnsv_names.proofs.order.compared.Goals as goal

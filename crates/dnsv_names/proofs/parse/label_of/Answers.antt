@@ -1,8 +1,8 @@
-use Rattle.std.proofs.Common.{◌≡◌, ◌<◌, ◌≤◌, length, Option, Some, refl, sym, ap, ◌∙◌, arith, length-append}
+use Rattle.std.proofs.Common.{◌≡◌, ◌<◌, ◌≤◌, length, Some, sym, ap, ◌∙◌, arith}
 use Rattle.std.proofs.lemmas.Bool.Decides.{nat_tests}
 use Rattle.std.specs.Option.{option_map}
 use Rattle.dnsv_names.specs.Reading.{octet_of}
-use Rattle.dnsv_names.proofs.ParseLemmas.{IsLabel-so_far, OctetThen, octet_found, SpelledSoFar, SpelledSoFar-next}
+use Rattle.dnsv_names.proofs.ParseLemmas.{IsLabel-so_far, octet_found, SpelledSoFar-next}
 use Rattle.dnsv_names.proofs.parse.label_of.Goals as goal
 
 pub returns-in-46-2-clause-label : goal.returns-in-46-2-clause-label

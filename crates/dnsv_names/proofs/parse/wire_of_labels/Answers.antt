@@ -1,9 +1,6 @@
-use Rattle.std.proofs.Common.{◌≡◌, ◌≢◌, ◌<◌, ◌≤◌, ◌+◌, [], ◌∷◌, ◌++◌, length, refl, sym, ap, ◌∙◌, arith, rules}
-use Rattle.std.proofs.lemmas.Bool.Decides.{nat_tests}
+use Rattle.std.proofs.Common.{◌≡◌, [], ◌∷◌, ◌++◌, length, ap, ◌∙◌, arith}
 use Rattle.std.proofs.lemmas.Result.{err_from_is_err_and}
-use Rattle.dnsv_names.specs.Name.{wire}
-use Rattle.dnsv_names.specs.Text.{FirstFault}
-use Rattle.dnsv_names.proofs.WireLemmas.{LabelsSoFar-next, long_name, fault_in_label, not_absolute, NameFrom, name_from, room_for_root, none_left, some_left}
+use Rattle.dnsv_names.proofs.WireLemmas.{LabelsSoFar-next, long_name, fault_in_label, not_absolute, name_from, room_for_root, none_left, some_left}
 use Rattle.dnsv_names.proofs.parse.wire_of_labels.Goals as goal
 
 pub returns-in_err-label-clause-fault : goal.returns-in_err-label-clause-fault

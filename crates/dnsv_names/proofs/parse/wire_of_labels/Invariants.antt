@@ -1,4 +1,4 @@
-use Rattle.std.proofs.Common.{◌≤◌, length}
+use Rattle.std.proofs.Common.{length}
 use Rattle.dnsv_names.proofs.WireLemmas.{LabelsSoFar}
 use Rattle.dnsv_names.proofs.parse.wire_of_labels.Given as goal
 

@@ -1,7 +1,5 @@
-use Rattle.std.proofs.Common.{ap, ◌∙◌, sym, Ok, Err}
+use Rattle.std.proofs.Common.{ap, ◌∙◌, Ok, Err}
 use Rattle.std.proofs.lemmas.Result.{err_from_is_err_and}
-use Rattle.dnsv_names.specs.Name.{Labels, IsName}
-use Rattle.dnsv_names.specs.Text.{IsTextOf, text_of}
 use Rattle.dnsv_names.proofs.OneReading.{one_name, one_fault, name_or_fault}
 use Rattle.dnsv_names.proofs.TextLemmas.{text_of_spells}
 use Rattle.dnsv_names.proofs.name.Name.parse.Goals as goal

@@ -1,4 +1,4 @@
-use Rattle.std.proofs.Common.{◌≡◌, ◌≤◌, [], ◌∷◌, ◌++◌, length, ap, ◌∙◌, arith}
+use Rattle.std.proofs.Common.{◌≡◌, [], ◌∷◌, ◌++◌, length, ap, ◌∙◌, arith}
 use Rattle.dnsv_names.specs.Name.{wire}
 use Rattle.dnsv_names.proofs.TreeLemmas.{IsWildcard, is_wildcard}
 use Rattle.dnsv_names.proofs.name.Name.wildcard_of.Goals as goal
