@@ -1,0 +1,5 @@
+pub mod LineLemmas
+pub mod RowLemmas
+pub mod WalkLemmas
+pub mod ListingLemmas
+pub mod ReadableLemmas

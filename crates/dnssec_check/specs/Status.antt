@@ -1,0 +1,98 @@
+-- The numbers of the faults, the exit statuses of the program, and the line that tells a fault.
+use Rattle.std.specs.Prelude.{◌≡◌, ◌==◌, ℕ, List, [], ◌∷◌, ◌++◌, Option, Some, None, Result, Ok, Err}
+use Rattle.std.specs.Prelude.{if◌then◌else◌, codes}
+use Rattle.std.specs.List.{list_any}
+use Rattle.std.specs.Fmt.{decimal}
+use Rattle.dnsv_message.specs.declared.errors.DecodeError.{DecodeError}
+use Rattle.dnsv_message.specs.declared.errors.DecodeError.TheVariants as decode
+use Rattle.dnssec_check.specs.declared.status.Status.{Status}
+use Rattle.dnssec_check.specs.declared.status.Status.TheVariants.{Done}
+use Rattle.dnssec_check.specs.declared.status.InputFile.{InputFile}
+use Rattle.dnssec_check.specs.declared.status.InputFile.TheVariants.{Capture}
+use Rattle.dnssec_check.specs.declared.status.Refusal.{Refusal}
+use Rattle.dnssec_check.specs.declared.status.Refusal.TheVariants as refusal
+use Rattle.dnssec_check.specs.declared.status.Place.{Place}
+use Rattle.dnssec_check.specs.declared.status.Fault.{Fault}
+use Rattle.dnssec_check.specs.declared.status.Fault.TheVariants as fault
+
+-- the exit status of a run that wrote its text
+abbrev pub status_code : Status → ℕ
+status_code Done = 0
+
+-- ---- faults and their numbers
+
+abbrev pub refusal_number : Refusal → ℕ
+refusal_number refusal.Short = 201
+refusal_number refusal.BadLabel = 202
+refusal_number refusal.BadPointer = 203
+refusal_number refusal.TooManyPointers = 204
+refusal_number refusal.LongName = 205
+refusal_number refusal.BadRdata = 206
+refusal_number refusal.TrailingBytes = 207
+refusal_number refusal.ZeroLength = 208
+refusal_number refusal.TornFrame = 209
+refusal_number refusal.NotAResponse = 401
+refusal_number refusal.Truncated = 402
+
+abbrev pub fault_number : Fault → ℕ
+fault_number fault.OutOfMemory = 90
+fault_number (fault.ReadFailed file) = 210
+fault_number (fault.TooLong file) = 211
+fault_number (fault.OpenFailed file) = 811
+fault_number fault.WriteFailed = 812
+fault_number (fault.Refused why place) = refusal_number why
+
+-- the numbers of what fails in the machine and not in the messages
+abbrev pub failures : List ℕ
+failures = 90 ∷ 210 ∷ 211 ∷ 811 ∷ 812 ∷ []
+
+-- the exit status of a fault, by its number
+abbrev pub fault_code : ℕ → ℕ
+fault_code number = if list_any (λ failure. failure == number) failures then 1 else 7
+
+-- the exit status of a run
+abbrev pub outcome_code : Result Status Fault → ℕ
+outcome_code (Ok status) = status_code status
+outcome_code (Err failed) = fault_code (fault_number failed)
+
+-- a message's fault is told as this refusal, with the number of the record at fault
+abbrev pub IsToldAs : DecodeError → Refusal → Option ℕ → Type 0
+IsToldAs decode.OutOfMemory why number = ⊥
+IsToldAs decode.Short why number = (why ≡ refusal.Short) × (number ≡ None)
+IsToldAs decode.BadLabel why number = (why ≡ refusal.BadLabel) × (number ≡ None)
+IsToldAs decode.BadPointer why number = (why ≡ refusal.BadPointer) × (number ≡ None)
+IsToldAs decode.TooManyPointers why number = (why ≡ refusal.TooManyPointers) × (number ≡ None)
+IsToldAs decode.LongName why number = (why ≡ refusal.LongName) × (number ≡ None)
+IsToldAs (decode.BadRdata k) why number = (why ≡ refusal.BadRdata) × (number ≡ Some k)
+IsToldAs decode.TrailingBytes why number = (why ≡ refusal.TrailingBytes) × (number ≡ None)
+
+-- ---- the line that tells a fault
+
+-- the word of the option that names the file
+abbrev pub file_word : InputFile → List ℕ
+file_word Capture = codes "capture"
+
+-- a word and the number behind it, or nothing where there is none
+abbrev pub numbered : List ℕ → Option ℕ → List ℕ
+numbered word None = []
+numbered word (Some number) = codes " " ++ word ++ codes " " ++ decimal number
+
+abbrev pub place_text : Place → List ℕ
+place_text place = numbered (codes "message") place.message
+    ++ numbered (codes "record") place.record
+    ++ numbered (codes "line") place.line
+
+-- a failure with its number
+abbrev pub failure_text : Fault → List ℕ
+failure_text failed = codes "fault " ++ decimal (fault_number failed)
+
+abbrev pub fault_text : Fault → List ℕ
+fault_text fault.OutOfMemory = failure_text fault.OutOfMemory
+fault_text fault.WriteFailed = failure_text fault.WriteFailed
+fault_text (fault.ReadFailed file) =
+    failure_text (fault.ReadFailed file) ++ codes " " ++ file_word file
+fault_text (fault.TooLong file) = failure_text (fault.TooLong file) ++ codes " " ++ file_word file
+fault_text (fault.OpenFailed file) =
+    failure_text (fault.OpenFailed file) ++ codes " " ++ file_word file
+fault_text (fault.Refused why place) =
+    codes "refused " ++ decimal (refusal_number why) ++ place_text place

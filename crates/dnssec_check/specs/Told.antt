@@ -1,0 +1,45 @@
+-- How the faults of the layers below are told. No public clause cites this module.
+use Rattle.std.specs.Prelude.{◌≡◌, ⊤, ℕ, List, Some, None}
+use Rattle.dnsv_message.specs.declared.errors.DecodeError.{DecodeError}
+use Rattle.dnsv_message.specs.declared.errors.DecodeError.TheVariants as decode
+use Rattle.dnsv_message.specs.declared.errors.ReadError.{ReadError}
+use Rattle.dnsv_message.specs.declared.errors.ReadError.TheVariants as read
+use Rattle.dnssec_check.specs.declared.status.Fault.{Fault}
+use Rattle.dnssec_check.specs.declared.status.Fault.TheVariants as fault
+use Rattle.dnssec_check.specs.declared.status.InputFile.TheVariants.{Capture}
+use Rattle.dnssec_check.specs.declared.status.Place.{Place}
+use Rattle.dnssec_check.specs.declared.status.Refusal.{Refusal}
+use Rattle.dnssec_check.specs.declared.status.Refusal.TheVariants as refusal
+use Rattle.dnssec_check.specs.Listing.{MessageRefused}
+use Rattle.dnssec_check.specs.Status.{IsToldAs}
+
+abbrev nowhere : Place
+nowhere = record { message = None; «record» = None; line = None }
+
+abbrev pub IsReadFault : ReadError → Fault → Type 0
+IsReadFault read.OutOfMemory told = told ≡ fault.OutOfMemory
+IsReadFault read.Read told = told ≡ fault.ReadFailed Capture
+IsReadFault read.TooLong told = told ≡ fault.TooLong Capture
+IsReadFault read.ZeroLength told = told ≡ fault.Refused refusal.ZeroLength nowhere
+IsReadFault read.TornFrame told = told ≡ fault.Refused refusal.TornFrame nowhere
+
+-- the fault is a refusal of which this holds, or the want of memory
+abbrev pub IsFaultOf : (Refusal → Place → Type 0) → Fault → Type 0
+IsFaultOf Holds (fault.Refused why place) = Holds why place
+IsFaultOf Holds fault.OutOfMemory = ⊤
+IsFaultOf Holds (fault.ReadFailed file) = ⊥
+IsFaultOf Holds (fault.TooLong file) = ⊥
+IsFaultOf Holds (fault.OpenFailed file) = ⊥
+IsFaultOf Holds fault.WriteFailed = ⊥
+
+-- the message with this number is refused, at this place
+abbrev pub IsRefusedAt : List ℕ → ℕ → Refusal → Place → Type 0
+IsRefusedAt octets number why place =
+    MessageRefused octets why place.«record» × (place.message ≡ Some number) × (place.line ≡ None)
+
+-- the fault tells the error of the message with this number
+abbrev pub IsDecodeFault : DecodeError → ℕ → Fault → Type 0
+IsDecodeFault decode.OutOfMemory number told = told ≡ fault.OutOfMemory
+IsDecodeFault error number (fault.Refused why place) =
+    IsToldAs error why place.«record» × (place.message ≡ Some number) × (place.line ≡ None)
+IsDecodeFault error number _ = ⊥

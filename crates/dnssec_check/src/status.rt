@@ -1,0 +1,214 @@
+//! How a run ends: with its text written, or with a fault.
+ghost use Rattle.std.specs.Prelude.{◌≡◌, Some};
+ghost use Rattle.dnssec_check.specs.Status.{status_code, fault_code, fault_number, fault_text, file_word, place_text, refusal_number};
+
+use std::alloc::{AllocError, AllocFailed};
+use std::error::Error;
+use std::fmt;
+
+/// How a run ended that wrote its whole text.
+#[derive(Clone, Copy, Debug, PartialEq, Eq)]
+pub enum Status {
+    /// The text was listed.
+    Done,
+}
+
+impl Status {
+    /// The exit status of the program.
+    pub fn code(&self) -> u8
+        ensures { result ≡ status_code self.now }
+    {
+        match self {
+            Status::Done => 0,
+        }
+    }
+}
+
+/// A file that the command line names.
+#[derive(Clone, Copy, Debug, PartialEq, Eq)]
+pub enum InputFile {
+    /// The file of captured messages.
+    Capture,
+}
+
+impl InputFile {
+    /// The word of the option that names the file, without its hyphens.
+    pub fn option(&self) -> &'static str
+        ensures { result.now ≡ file_word self.now }
+    {
+        match self {
+            InputFile::Capture => "capture",
+        }
+    }
+}
+
+/// Why the input was refused.
+#[derive(Clone, Copy, Debug, PartialEq, Eq)]
+pub enum Refusal {
+    /// Octets are missing at the end of a message.
+    Short,
+    /// The top bits of a label's length octet are 01 or 10 (RFC 1035 4.1.4).
+    BadLabel,
+    /// A compression pointer doesn't lead to an earlier place (RFC 1035 4.1.4).
+    BadPointer,
+    /// A name goes through more than 32 compression pointers.
+    TooManyPointers,
+    /// The wire form of a name passes 255 octets (RFC 1035 2.3.4).
+    LongName,
+    /// The RDATA of a record isn't laid out as its type says.
+    BadRdata,
+    /// Octets follow the last record of a message.
+    TrailingBytes,
+    /// A message of the stream has the length 0.
+    ZeroLength,
+    /// The stream ends inside a message or its length.
+    TornFrame,
+    /// A message is a query: QR is clear (RFC 1035 4.1.1).
+    NotAResponse,
+    /// A message was cut to fit: TC is set (RFC 1035 4.1.1).
+    Truncated,
+}
+
+impl Refusal {
+    /// The number by which the refusal is told.
+    pub fn number(&self) -> u16
+        ensures { result ≡ refusal_number self.now }
+    {
+        match self {
+            Refusal::Short => 201,
+            Refusal::BadLabel => 202,
+            Refusal::BadPointer => 203,
+            Refusal::TooManyPointers => 204,
+            Refusal::LongName => 205,
+            Refusal::BadRdata => 206,
+            Refusal::TrailingBytes => 207,
+            Refusal::ZeroLength => 208,
+            Refusal::TornFrame => 209,
+            Refusal::NotAResponse => 401,
+            Refusal::Truncated => 402,
+        }
+    }
+}
+
+/// Where in the input a refusal arose, as far as that is known. All numbers count from 1.
+#[derive(Clone, Copy, Debug, PartialEq, Eq)]
+pub struct Place {
+    /// The message of the capture.
+    pub message: Option<usize>,
+    /// The record of the message, through its three sections.
+    pub record: Option<usize>,
+    /// The line of a text file.
+    pub line: Option<usize>,
+}
+
+impl Place {
+    /// No place in particular.
+    pub const NOWHERE: Place = Place {
+        message: None,
+        record: None,
+        line: None,
+    };
+}
+
+/// Each part that is known, as ` message M`, ` record K` and ` line L`.
+impl fmt::Display for Place {
+    ghost output = { λ place. Some (place_text place) };
+
+    fn fmt<W: fmt::Write>(&self, f: &mut fmt::Formatter<W>) -> fmt::Result {
+        if let Some(message) = self.message {
+            write!(f, " message {message}")?;
+        }
+        if let Some(record) = self.record {
+            write!(f, " record {record}")?;
+        }
+        if let Some(line) = self.line {
+            write!(f, " line {line}")?;
+        }
+        Ok(())
+    }
+}
+
+/// Why a run wrote no text, or not all of it.
+#[derive(Clone, Copy, Debug, PartialEq, Eq)]
+pub enum Fault {
+    /// Memory ran out.
+    OutOfMemory,
+    /// A read of the file failed.
+    ReadFailed(InputFile),
+    /// The file passes the limit of octets.
+    TooLong(InputFile),
+    /// The file could not be opened.
+    OpenFailed(InputFile),
+    /// A write of the text failed.
+    WriteFailed,
+    /// The input was refused.
+    Refused(Refusal, Place),
+}
+
+impl Fault {
+    /// The number by which the fault is told.
+    pub fn number(&self) -> u16
+        ensures { result ≡ fault_number self.now }
+    {
+        match self {
+            Fault::OutOfMemory => 90,
+            Fault::ReadFailed(_) => 210,
+            Fault::TooLong(_) => 211,
+            Fault::OpenFailed(_) => 811,
+            Fault::WriteFailed => 812,
+            Fault::Refused(refusal, _) => refusal.number(),
+        }
+    }
+
+    /// The exit status of the program: 7 where the input was refused, else 1.
+    pub fn code(&self) -> u8
+        ensures { result ≡ fault_code (fault_number self.now) }
+    {
+        match self {
+            Fault::Refused(_, _) => 7,
+            _ => 1,
+        }
+    }
+}
+
+/// The line that tells the fault, without its newline: `fault N FILE` or `refused N` and the place.
+impl fmt::Display for Fault {
+    ghost output = { λ fault. Some (fault_text fault) };
+
+    fn fmt<W: fmt::Write>(&self, f: &mut fmt::Formatter<W>) -> fmt::Result {
+        let number = self.number();
+        match self {
+            Fault::Refused(_, place) => write!(f, "refused {number}{place}"),
+            Fault::ReadFailed(file) | Fault::TooLong(file) | Fault::OpenFailed(file) => {
+                let word = file.option();
+                write!(f, "fault {number} {word}")
+            }
+            Fault::OutOfMemory | Fault::WriteFailed => write!(f, "fault {number}"),
+        }
+    }
+}
+
+impl Error for Fault {}
+
+impl From<AllocError> for Fault {
+    ghost use Rattle.dnssec_check.specs.declared.status.Fault.TheVariants.{OutOfMemory};
+
+    ghost from_gives = { λ _ fault. fault ≡ OutOfMemory };
+
+    fn from(_refused: AllocError) -> Fault {
+        Fault::OutOfMemory
+    }
+}
+
+impl<T: Drop> From<AllocFailed<T>> for Fault {
+    ghost use Rattle.dnssec_check.specs.declared.status.Fault.TheVariants.{OutOfMemory};
+
+    ghost from_gives = { λ _ fault. fault ≡ OutOfMemory };
+
+    fn from(_refused: AllocFailed<T>) -> Fault {
+        Fault::OutOfMemory
+    }
+}
+
+#[cfg(test)]
+mod tests;

@@ -1,0 +1,4 @@
+pub mod Canonical
+pub mod SignedData
+pub mod Response
+pub mod Rrsets

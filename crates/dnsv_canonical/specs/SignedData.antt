@@ -1,0 +1,42 @@
+-- What a signature signs (RFC 4034 3.1.8.1, 6.2, 6.3; RFC 4035 5.3.2). Numbers are big-endian.
+use Rattle.std.specs.Prelude.{ℕ, suc, nat_lt, if◌then◌else◌, List, [], ◌∷◌, ◌++◌, length, Option, Some, None}
+use Rattle.std.specs.Int.{w16, w32, to_be_bytes}
+use Rattle.std.specs.List.{flat_map}
+use Rattle.std.specs.Str.{bytes_eq}
+use Rattle.dnsv_names.specs.Name.{Labels, wire, lower_case, rightmost}
+use Rattle.dnsv_canonical.specs.Canonical.{canonical_of}
+use Rattle.dnsv_records.specs.declared.rrsig.Rrsig.{Rrsig}
+
+-- the RRSIG's RDATA without the signature, its signer in lower case (RFC 4034 3.1, 3.1.8.1, 6.2)
+abbrev pub signed_front : Rrsig → List ℕ
+signed_front rrsig =
+    to_be_bytes w16 rrsig.type_covered.0 ++ rrsig.algorithm.0 ∷ rrsig.labels ∷ [] ++ to_be_bytes w32 rrsig.original_ttl
+    ++ to_be_bytes w32 rrsig.expiration ++ to_be_bytes w32 rrsig.inception ++ to_be_bytes w16 rrsig.key_tag.0
+    ++ wire (lower_case rrsig.signer)
+
+-- the label `*`
+abbrev pub asterisk : List ℕ
+asterisk = 42 ∷ []
+
+-- how many labels a signature over the name counts: neither the root's nor a leftmost `*` (RFC 4034 3.1.3)
+abbrev pub signed_label_count : Labels → ℕ
+signed_label_count [] = 0
+signed_label_count (label ∷ labels) = if bytes_eq label asterisk then length labels else suc (length labels)
+
+-- the owner as it is signed: in lower case, and where Labels is below the owner's count, `*` and the owner's
+-- rightmost Labels labels in its place (RFC 4035 5.3.2)
+abbrev pub signed_owner : Labels → ℕ → Labels
+signed_owner owner labels =
+    lower_case (if nat_lt labels (signed_label_count owner) then asterisk ∷ rightmost owner labels else owner)
+
+-- a record as it is signed: owner, type, class IN, original TTL, length of the RDATA, RDATA (RFC 4034 3.1.8.1)
+abbrev pub signed_record : Labels → ℕ → ℕ → List ℕ → List ℕ
+signed_record owner rtype ttl rdata =
+    wire owner ++ to_be_bytes w16 rtype ++ to_be_bytes w16 1 ++ to_be_bytes w32 ttl ++ to_be_bytes w16 (length rdata) ++ rdata
+
+-- What the signature signs over the RDATA received at the owner; nothing where Labels is above the owner's count.
+-- The RDATA is in its canonical form: of a type without names that is the RDATA itself.
+abbrev pub signed_data_of : Labels → ℕ → List (List ℕ) → Rrsig → Option (List ℕ)
+signed_data_of owner rtype received rrsig =
+    if nat_lt (signed_label_count owner) rrsig.labels then None
+    else Some (signed_front rrsig ++ flat_map (signed_record (signed_owner owner rrsig.labels) rtype rrsig.original_ttl) (canonical_of received))

@@ -1,0 +1,13 @@
+//! RRsets, their signatures, and the octets that a signature signs (RFC 4034, RFC 4035).
+#![tactic(auto)]
+
+pub use canonical::canonical_rdata;
+pub use response::{ResponseError, checked};
+pub use rrset::{Rrset, rrsets};
+pub use signed::signed_data;
+
+mod canonical;
+mod response;
+mod rrset;
+mod section;
+mod signed;

@@ -1,0 +1,176 @@
+//! RRsets: the records of one message, section, owner and type.
+ghost use Rattle.std.specs.Prelude.{◌≡◌, ◌++◌, ◌+◌, IfOk, OnOk, map, List, ℕ};
+ghost use Rattle.std.specs.Option.{option_map};
+ghost use Rattle.dnsv_message.specs.declared.record.Section.{Section};
+ghost use Rattle.dnsv_canonical.specs.SignedData.{signed_data_of};
+
+use crate::section::{appeared, is_grouped, rdata_of, signatures_of};
+use crate::signed::signed_data;
+use dnsv_message::{Message, Record, Section};
+use dnsv_names::{Name, RecordType};
+use dnsv_records::Rrsig;
+use std::alloc::{AllocError, Global};
+use std::marker::Model;
+
+/// An RRset: the IN records of one message, section, owner and type, and the signatures that cover it there.
+///
+/// Owners are equal without regard to case. Records of the types 0, OPT, RRSIG and 128 to 255 form no RRset, nor
+/// do those of types that are no longer in use.
+#[derive(Drop)]
+pub struct Rrset<'a> {
+    message: usize,
+    section: Section,
+    owner: &'a Name,
+    rtype: RecordType,
+    rdata: Vec<&'a [u8]>,
+    signatures: Vec<&'a [u8]>,
+}
+
+impl<'a> Model for Rrset<'a> {
+    ghost use Rattle.std.specs.Prelude.{map};
+    ghost use Rattle.dnsv_canonical.specs.Rrsets.{Group};
+
+    ghost Value = { Group };
+
+    ghost view = { λ rrset. record {
+      message = rrset.message;
+      section = rrset.section;
+      owner = rrset.owner.now;
+      rtype = rrset.rtype.0;
+      rdata = map (λ r. r.now) rrset.rdata.items;
+      signatures = map (λ r. r.now) rrset.signatures.items;
+    } };
+}
+
+impl<'a> Rrset<'a> {
+    ghost use Rattle.dnsv_canonical.specs.Rrsets.{rrset_of};
+
+    /// The RRset in the section of which the record is the first.
+    fn of(
+        alloc: Global,
+        message: usize,
+        section: Section,
+        records: &'a [Record],
+        first: &'a Record,
+    ) -> Result<Rrset<'a>, AllocError>
+        ensures { IfOk result (λ rrset. rrset ≡ rrset_of message section records.now first.now) }
+    {
+        Ok(Rrset {
+            message,
+            section,
+            owner: &first.name,
+            rtype: first.rtype,
+            rdata: rdata_of(alloc, records, first)?,
+            signatures: signatures_of(alloc, records, first)?,
+        })
+    }
+
+    /// The number of its message, from 1 on.
+    pub fn message(&self) -> usize
+        ensures { result ≡ self.now.message }
+    {
+        self.message
+    }
+
+    /// The section that its records stand in.
+    pub fn section(&self) -> Section
+        ensures { result ≡ self.now.section }
+    {
+        self.section
+    }
+
+    /// The owner as its first record spells it.
+    pub fn owner(&self) -> &Name
+        ensures { result.now ≡ self.now.owner }
+    {
+        self.owner
+    }
+
+    /// The type of its records.
+    pub fn rtype(&self) -> RecordType
+        ensures { result.0 ≡ self.now.rtype }
+    {
+        self.rtype
+    }
+
+    /// The RDATA of its records as received, in order.
+    pub fn rdata(&self) -> &[&'a [u8]]
+        ensures { map (λ r. r.now) result.now ≡ self.now.rdata }
+    {
+        &self.rdata
+    }
+
+    /// The RDATA of the IN RRSIG records of its message, section and owner that cover its type, in order, of equal
+    /// ones the first. They are numbered from 1.
+    pub fn signatures(&self) -> &[&'a [u8]]
+        ensures { map (λ r. r.now) result.now ≡ self.now.signatures }
+    {
+        &self.signatures
+    }
+
+    /// What the signature signs over the RRset; `None` where Labels is above the owner's count of labels.
+    ///
+    /// The RRset's type has no names in its RDATA.
+    pub fn signed_data(&self, alloc: Global, rrsig: &Rrsig) -> Result<Option<Vec<u8>>, AllocError>
+        ensures { IfOk result (λ answer. option_map (λ octets. octets.items) answer
+            ≡ signed_data_of self.now.owner self.now.rtype self.now.rdata rrsig.now) }
+    {
+        signed_data(alloc, self.owner, self.rtype, self.rdata.as_slice(), rrsig)
+    }
+}
+
+ghost use Rattle.dnsv_canonical.specs.Rrsets.{rrsets_in, rrsets_of};
+
+/// The RRsets of the messages by first appearance; they are numbered from 1.
+pub fn rrsets<'a>(alloc: Global, messages: &'a [Message]) -> Result<Vec<Rrset<'a>>, AllocError>
+    ensures { IfOk result (λ rrsets. rrsets.items ≡ rrsets_of messages.now) }
+{
+    let mut rrsets = Vec::new(alloc);
+    for (index, message) in messages.iter().enumerate() {
+        let number = index + 1;
+        add_section(
+            alloc,
+            &mut rrsets,
+            number,
+            Section::Answer,
+            message.records(Section::Answer),
+        )?;
+        add_section(
+            alloc,
+            &mut rrsets,
+            number,
+            Section::Authority,
+            message.records(Section::Authority),
+        )?;
+        add_section(
+            alloc,
+            &mut rrsets,
+            number,
+            Section::Additional,
+            message.records(Section::Additional),
+        )?;
+    }
+    Ok(rrsets)
+}
+
+/// Adds the RRsets of a section. Records are compared with the earlier ones of their section alone, by type
+/// before name, so a plain scan serves.
+fn add_section<'a>(
+    alloc: Global,
+    rrsets: &mut Vec<Rrset<'a>>,
+    message: usize,
+    section: Section,
+    records: &'a [Record],
+) -> Result<(), AllocError>
+    ensures { OnOk result (rrsets.new.items ≡ rrsets.old.items ++ rrsets_in message section records.now) }
+{
+    for (place, record) in records.iter().enumerate() {
+        if is_grouped(record) && !appeared(&records[..place], record) {
+            rrsets.push(Rrset::of(alloc, message, section, records, record)?)?;
+        }
+    }
+    Ok(())
+}
+
+#[cfg(test)]
+mod tests;

@@ -1,0 +1,124 @@
+//! The octets that a signature signs.
+ghost use Rattle.std.specs.Prelude.{◌≡◌, ◌++◌, ◌≤◌, IfOk, OnOk, map, length};
+ghost use Rattle.std.specs.Option.{option_map};
+ghost use Rattle.std.specs.Int.{w16, w32, to_be_bytes};
+ghost use Rattle.dnsv_names.specs.Name.{wire};
+ghost use Rattle.dnsv_canonical.specs.SignedData.{signed_label_count, signed_front, signed_owner, signed_data_of};
+
+use crate::canonical::canonical_rdata;
+use dnsv_message::Class;
+use dnsv_names::{Name, RecordType};
+use dnsv_records::Rrsig;
+use std::alloc::{AllocError, Global};
+
+/// The label that stands for what a wildcard expands to, in wire form (RFC 1034 4.3.3).
+const WILDCARD: [u8; 2] = *b"\x01*";
+
+/// The octets that the signature signs over an RRset (RFC 4034 3.1.8.1, 6.2, 6.3; RFC 4035 5.3.2): the RRSIG's
+/// RDATA without the signature, and each record once in canonical order, with the original TTL and the owner
+/// that Labels tells. `None` where Labels is above the owner's count of labels.
+///
+/// `received` has the RDATA of the RRset's records in canonical form.
+pub fn signed_data(
+    alloc: Global,
+    owner: &Name,
+    rtype: RecordType,
+    received: &[&[u8]],
+    rrsig: &Rrsig,
+) -> Result<Option<Vec<u8>>, AllocError>
+    ensures { IfOk result (λ answer. option_map (λ octets. octets.items) answer
+        ≡ signed_data_of owner.now rtype.0 (map (λ r. r.now) received.now) rrsig.now) }
+{
+    if rrsig.labels as usize > label_count(owner) {
+        return Ok(None);
+    }
+    let mut octets = front_octets(alloc, rrsig)?;
+    let front = record_front(alloc, owner, rtype, rrsig)?;
+    let sorted = canonical_rdata(alloc, received)?;
+    for rdata in &sorted {
+        push_record(&mut octets, front.as_slice(), rdata)?;
+    }
+    Ok(Some(octets))
+}
+
+/// What is signed before the records: the RDATA without the signature, its signer in lower case.
+fn front_octets(alloc: Global, rrsig: &Rrsig) -> Result<Vec<u8>, AllocError>
+    ensures { IfOk result (λ octets. octets.items ≡ signed_front rrsig.now) }
+{
+    let mut octets = Vec::new(alloc);
+    octets.extend_from_slice(&rrsig.type_covered.0.to_be_bytes())?;
+    octets.push(rrsig.algorithm.0)?;
+    octets.push(rrsig.labels)?;
+    octets.extend_from_slice(&rrsig.original_ttl.to_be_bytes())?;
+    octets.extend_from_slice(&rrsig.expiration.to_be_bytes())?;
+    octets.extend_from_slice(&rrsig.inception.to_be_bytes())?;
+    octets.extend_from_slice(&rrsig.key_tag.0.to_be_bytes())?;
+    octets.extend_from_slice(rrsig.signer.to_lower().wire())?;
+    Ok(octets)
+}
+
+/// Adds a signed record: what begins each of them, the length of its RDATA in 16 bits, and its RDATA.
+fn push_record(octets: &mut Vec<u8>, front: &[u8], rdata: &[u8]) -> Result<(), AllocError>
+    ensures { OnOk result (octets.new.items
+        ≡ octets.old.items ++ front.now ++ to_be_bytes w16 (length rdata.now) ++ rdata.now) }
+{
+    octets.extend_from_slice(front)?;
+    octets.extend_from_slice(&length_octets(rdata))?;
+    octets.extend_from_slice(rdata)?;
+    Ok(())
+}
+
+/// What begins each signed record: owner, type, class IN and the original TTL.
+fn record_front(
+    alloc: Global,
+    owner: &Name,
+    rtype: RecordType,
+    rrsig: &Rrsig,
+) -> Result<Vec<u8>, AllocError>
+    requires { rrsig.now.labels ≤ signed_label_count owner.now }
+    ensures { IfOk result (λ octets. octets.items ≡ wire (signed_owner owner.now rrsig.now.labels)
+        ++ to_be_bytes w16 rtype.0 ++ to_be_bytes w16 1 ++ to_be_bytes w32 rrsig.now.original_ttl) }
+{
+    let mut octets = owner_octets(alloc, owner, rrsig.labels as usize)?;
+    octets.extend_from_slice(&rtype.0.to_be_bytes())?;
+    octets.extend_from_slice(&Class::IN.0.to_be_bytes())?;
+    octets.extend_from_slice(&rrsig.original_ttl.to_be_bytes())?;
+    Ok(octets)
+}
+
+/// The owner as it is signed: in lower case, with `*` for the labels that a wildcard was expanded to.
+fn owner_octets(alloc: Global, owner: &Name, labels: usize) -> Result<Vec<u8>, AllocError>
+    requires { labels ≤ signed_label_count owner.now }
+    ensures { IfOk result (λ octets. octets.items ≡ wire (signed_owner owner.now labels)) }
+{
+    let mut octets = Vec::new(alloc);
+    if labels < label_count(owner) {
+        octets.extend_from_slice(&WILDCARD)?;
+        octets.extend_from_slice(owner.suffix(labels).to_lower().wire())?;
+    } else {
+        octets.extend_from_slice(owner.to_lower().wire())?;
+    }
+    Ok(octets)
+}
+
+/// How many labels of the owner a signature counts: neither the root's nor a leftmost `*` (RFC 4034 3.1.3).
+fn label_count(owner: &Name) -> usize
+    ensures { result ≡ signed_label_count owner.now }
+{
+    let labels = owner.labels();
+    if labels > 0 && owner.label(0) == b"*".as_slice() {
+        labels - 1
+    } else {
+        labels
+    }
+}
+
+/// The length of an RDATA in 16 bits; no RDATA of a message is longer.
+fn length_octets(rdata: &[u8]) -> [u8; 2]
+    ensures { result ≡ to_be_bytes w16 (length rdata.now) }
+{
+    ((rdata.len() % 0x1_0000) as u16).to_be_bytes()
+}
+
+#[cfg(test)]
+mod tests;

@@ -1,0 +1,283 @@
+-- Octets are at most one message, or have one fault, and never both.
+use Rattle.std.proofs.Common.{◌≡◌, ◌⊎◌, ℕ, ◌+◌, ◌<◌, ◌≤◌, List, ◌++◌, length, get_or, refl, sym, ap, subst, ◌∙◌, arith, inl, inr, ⊎_elim, length-append, Result, Ok, Err}
+use Rattle.std.specs.Result.{IfOk, IfErr, MatchResult}
+use Rattle.byteorder.specs.Endian.{big_from}
+use Rattle.dnsv_names.specs.Name.{Labels, wire}
+use Rattle.dnsv_message.specs.declared.errors.NameFault.{NameFault}
+use Rattle.dnsv_message.specs.declared.errors.DecodeError.{DecodeError}
+use Rattle.dnsv_message.specs.declared.errors.DecodeError.TheVariants.{OutOfMemory, Short, BadRdata, TrailingBytes}
+use Rattle.dnsv_message.specs.declared.record.Question.{Question}
+use Rattle.dnsv_message.specs.declared.record.Record.{Record}
+use Rattle.dnsv_message.specs.Errors.{decode_error_of}
+use Rattle.dnsv_message.specs.Message.{Contents}
+use Rattle.dnsv_message.specs.NameAt.{NumberAt, NameFrom, NameFaultFrom, pointer_limit}
+use Rattle.dnsv_message.specs.Grammar.{InOrder, FirstFault, QuestionAt, QuestionFaultAt, RecordHeadAt, RecordAt, RecordFaultAt, CutShort, IsLaidOut, part_of, HeaderOf, MessageOf, FaultOf}
+use Rattle.dnsv_message.proofs.NameLaws.{NameAt_same, NameAt_sound, NameFaultAt_same}
+use Rattle.dnsv_message.proofs.Sequences.{InOrder-append, InOrder-same, InOrder-sound, FirstFault-same}
+
+module _ (octets : List ℕ) where
+  number_same : (place other width n m : ℕ) → place ≡ other → NumberAt octets place width n → NumberAt octets other width m → n ≡ m
+  number_same place other width n m same at also = at.1 ∙ ap (λ p. big_from p width octets) same ∙ sym also.1
+
+module _ (octets : List ℕ) (fit : (i : ℕ) → get_or octets i 0 < 256) where
+  name_same : (place : ℕ) (name other : Labels) (end after : ℕ) → NameFrom octets place name end → NameFrom octets place other after → (name ≡ other) × (end ≡ after)
+  name_same place name other end after at also = NameAt_same octets fit place place pointer_limit name other end after at.0 also.0
+
+  name_sound : (place : ℕ) (name : Labels) (end : ℕ) (fault : NameFault) → NameFrom octets place name end → NameFaultFrom octets place fault → ⊥
+  name_sound place name end fault at wrong = NameAt_sound octets fit place place pointer_limit 0 name end fault (omega (arith, at.1)) at.0 wrong
+
+  question_same : (place : ℕ) (question other : Question) (end after : ℕ) → QuestionAt octets place question end → QuestionAt octets place other after → (question ≡ other) × (end ≡ after)
+  question_same place question other end after at also =
+      let names = name_same place question.name other.name at.after_name also.after_name at.name also.name in
+      let types : question.rtype.0 ≡ other.rtype.0 = number_same octets at.after_name also.after_name 2 _ _ names.1 at.rtype also.rtype in
+      let classes : question.class.0 ≡ other.class.0 = number_same octets (at.after_name + 2) (also.after_name + 2) 2 _ _ (ap (λ n. n + 2) names.1) at.class also.class in
+      ((λ i. record { name = names.0 i; rtype = record { 0 = types i }; class = record { 0 = classes i } }), omega (arith, names.1, at.ends, also.ends))
+
+  -- a name is read and enough stands behind it, or not
+  cut_short_sound : (place : ℕ) (name : Labels) (after more : ℕ) (error : DecodeError) → NameFrom octets place name after → after + more ≤ length octets → CutShort octets place more error → ⊥
+  cut_short_sound place name after more error at enough wrong = ⊎_elim
+      (λ (faulty : (fault : NameFault) × NameFaultFrom octets place fault × (error ≡ decode_error_of fault)). name_sound place name after faulty.0 at faulty.1)
+      (λ (short : (other : Labels) × (end : ℕ) × NameFrom octets place other end × (length octets < end + more) × (error ≡ Short)).
+      omega (arith, (name_same place name short.0 after short.1 at short.2).1, short.3))
+      wrong
+
+  cut_short_same : (place more : ℕ) (error other : DecodeError) → CutShort octets place more error → CutShort octets place more other → error ≡ other
+  cut_short_same place more error other wrong also = ⊎_elim
+      (λ (faulty : (fault : NameFault) × NameFaultFrom octets place fault × (error ≡ decode_error_of fault)). ⊎_elim
+      (λ (faulty' : (fault : NameFault) × NameFaultFrom octets place fault × (other ≡ decode_error_of fault)).
+      faulty.2 ∙ ap decode_error_of (NameFaultAt_same octets fit place place pointer_limit 0 faulty.0 faulty'.0 faulty.1 faulty'.1) ∙ sym faulty'.2)
+      (λ (short' : (name : Labels) × (end : ℕ) × NameFrom octets place name end × (length octets < end + more) × (other ≡ Short)).
+      absurd (name_sound place short'.0 short'.1 faulty.0 short'.2 faulty.1))
+      also)
+      (λ (short : (name : Labels) × (end : ℕ) × NameFrom octets place name end × (length octets < end + more) × (error ≡ Short)). ⊎_elim
+      (λ (faulty' : (fault : NameFault) × NameFaultFrom octets place fault × (other ≡ decode_error_of fault)).
+      absurd (name_sound place short.0 short.1 faulty'.0 short.2 faulty'.1))
+      (λ (short' : (name : Labels) × (end : ℕ) × NameFrom octets place name end × (length octets < end + more) × (other ≡ Short)). short.4 ∙ sym short'.4)
+      also)
+      wrong
+
+  question_sound : (number place : ℕ) (question : Question) (end : ℕ) (error : DecodeError) → QuestionAt octets place question end → QuestionFaultAt octets number place error → ⊥
+  question_sound number place question end error at wrong =
+      cut_short_sound place question.name at.after_name 4 error at.name (omega (arith, at.class.0)) wrong
+
+  -- what the heads of two records have in common
+  record HeadSame (name other : Labels) (rtype rtype' class class' ttl ttl' start start' size size' : ℕ) : Type 0 where
+    names : name ≡ other
+    types : rtype ≡ rtype'
+    classes : class ≡ class'
+    ttls : ttl ≡ ttl'
+    starts : start ≡ start'
+    sizes : size ≡ size'
+
+  head_same : (place : ℕ) (name other : Labels) (rtype rtype' class class' ttl ttl' start start' size size' : ℕ) → RecordHeadAt octets place name rtype class ttl start size → RecordHeadAt octets place other rtype' class' ttl' start' size' → HeadSame name other rtype rtype' class class' ttl ttl' start start' size size'
+  head_same place name other rtype rtype' class class' ttl ttl' start start' size size' at also =
+      let both = name_same place name other at.after_name also.after_name at.named also.named in
+      record {
+        names = both.0;
+        types = number_same octets at.after_name also.after_name 2 _ _ both.1 at.typed also.typed;
+        classes = number_same octets (at.after_name + 2) (also.after_name + 2) 2 _ _ (ap (λ n. n + 2) both.1) at.classed also.classed;
+        ttls = number_same octets (at.after_name + 4) (also.after_name + 4) 4 _ _ (ap (λ n. n + 4) both.1) at.timed also.timed;
+        starts = omega (arith, both.1, at.starts, also.starts);
+        sizes = number_same octets (at.after_name + 8) (also.after_name + 8) 2 _ _ (ap (λ n. n + 8) both.1) at.sized also.sized;
+      }
+
+  record_same : (place : ℕ) (resource other : Record) (end after : ℕ) → RecordAt octets place resource end → RecordAt octets place other after → (resource ≡ other) × (end ≡ after)
+  record_same place resource other end after at also =
+      let heads = head_same place _ _ _ _ _ _ _ _ _ _ _ _ at.head also.head in
+      let rdatas : resource.rdata ≡ other.rdata = at.rdata ∙ ap (λ start. part_of octets start at.size) heads.starts ∙ ap (λ size. part_of octets also.start size) heads.sizes ∙ sym also.rdata in (
+        (λ i. record { name = heads.names i; rtype = record { 0 = heads.types i }; class = record { 0 = heads.classes i }; ttl = record { 0 = heads.ttls i }; rdata = rdatas i }),
+        omega (arith, heads.starts, heads.sizes, at.ends, also.ends),
+      )
+
+  -- a record's head is there, and its RDATA is not
+  RdataFault : (number rtype class start size : ℕ) → DecodeError → Type 0
+  RdataFault number rtype class start size error =
+      ((length octets < start + size) × (error ≡ Short))
+      ⊎ ((start + size ≤ length octets) × (IsLaidOut rtype class (part_of octets start size) → ⊥) × (error ≡ BadRdata number))
+
+  Headed : (number place : ℕ) → DecodeError → Type 0
+  Headed number place error =
+      (name : Labels) × (rtype class ttl start size : ℕ) × RecordHeadAt octets place name rtype class ttl start size × RdataFault number rtype class start size error
+
+  rdata_fault_same : (number rtype class start size : ℕ) (error other : DecodeError) → RdataFault number rtype class start size error → RdataFault number rtype class start size other → error ≡ other
+  unfolding RdataFault
+  rdata_fault_same number rtype class start size error other wrong also = ⊎_elim
+      (λ (short : (length octets < start + size) × (error ≡ Short)). ⊎_elim
+      (λ (short' : (length octets < start + size) × (other ≡ Short)). short.1 ∙ sym short'.1)
+      (λ (bad' : (start + size ≤ length octets) × (IsLaidOut rtype class (part_of octets start size) → ⊥) × (other ≡ BadRdata number)). absurd (omega (arith, short.0, bad'.0)))
+      also)
+      (λ (bad : (start + size ≤ length octets) × (IsLaidOut rtype class (part_of octets start size) → ⊥) × (error ≡ BadRdata number)). ⊎_elim
+      (λ (short' : (length octets < start + size) × (other ≡ Short)). absurd (omega (arith, short'.0, bad.0)))
+      (λ (bad' : (start + size ≤ length octets) × (IsLaidOut rtype class (part_of octets start size) → ⊥) × (other ≡ BadRdata number)). bad.2 ∙ sym bad'.2)
+      also)
+      wrong
+
+  record_sound : (number place : ℕ) (resource : Record) (end : ℕ) (error : DecodeError) → RecordAt octets place resource end → RecordFaultAt octets number place error → ⊥
+  unfolding RdataFault Headed
+  record_sound number place resource end error at wrong = ⊎_elim
+      (λ (cut : CutShort octets place 10 error). cut_short_sound place resource.name at.head.after_name 10 error at.head.named (omega (arith, at.head.sized.0)) cut)
+      (λ (headed : Headed number place error).
+      let heads = head_same place _ _ _ _ _ _ _ _ _ _ _ _ at.head headed.6 in
+      ⊎_elim (λ (short : (length octets < headed.4 + headed.5) × (error ≡ Short)). omega (arith, short.0, at.whole, heads.starts, heads.sizes))
+      (λ (bad : (headed.4 + headed.5 ≤ length octets) × (IsLaidOut headed.1 headed.2 (part_of octets headed.4 headed.5) → ⊥) × (error ≡ BadRdata number)).
+      bad.1 (rw (← heads.types, ← heads.classes, ← heads.starts, ← heads.sizes) at.laid_out))
+      headed.7)
+      wrong
+
+  record_fault_same : (number place : ℕ) (error other : DecodeError) → RecordFaultAt octets number place error → RecordFaultAt octets number place other → error ≡ other
+  unfolding RdataFault Headed
+  record_fault_same number place error other wrong also = ⊎_elim
+      (λ (cut : CutShort octets place 10 error). ⊎_elim
+      (λ (cut' : CutShort octets place 10 other). cut_short_same place 10 error other cut cut')
+      (λ (headed' : Headed number place other). absurd (cut_short_sound place headed'.0 headed'.6.after_name 10 error headed'.6.named (omega (arith, headed'.6.sized.0)) cut))
+      also)
+      (λ (headed : Headed number place error). ⊎_elim
+      (λ (cut' : CutShort octets place 10 other). absurd (cut_short_sound place headed.0 headed.6.after_name 10 other headed.6.named (omega (arith, headed.6.sized.0)) cut'))
+      (λ (headed' : Headed number place other).
+      let heads = head_same place _ _ _ _ _ _ _ _ _ _ _ _ headed.6 headed'.6 in
+      rdata_fault_same number headed'.1 headed'.2 headed'.4 headed'.5 error other
+      (rw (← heads.types, ← heads.classes, ← heads.starts, ← heads.sizes) headed.7) headed'.7)
+      also)
+      wrong
+
+  questions_same : (xs ys : List Question) (place end other : ℕ) → length xs ≡ length ys → InOrder (QuestionAt octets) place xs end → InOrder (QuestionAt octets) place ys other → (xs ≡ ys) × (end ≡ other)
+  questions_same = InOrder-same (QuestionAt octets) (QuestionFaultAt octets) question_same question_sound (λ number place. cut_short_same place 4)
+
+  records_same : (xs ys : List Record) (place end other : ℕ) → length xs ≡ length ys → InOrder (RecordAt octets) place xs end → InOrder (RecordAt octets) place ys other → (xs ≡ ys) × (end ≡ other)
+  records_same = InOrder-same (RecordAt octets) (RecordFaultAt octets) record_same record_sound record_fault_same
+
+  -- octets are at most one message
+  pub MessageOf_same : (message other : Contents) → MessageOf octets message → MessageOf octets other → message ≡ other
+  MessageOf_same message other at also =
+      let same : (place n m : ℕ) → NumberAt octets place 2 n → NumberAt octets place 2 m → n ≡ m = λ place n m. number_same octets place place 2 n m refl in
+      let ids = same 0 _ _ at.header.identified also.header.identified in
+      let flags = same 2 _ _ at.header.flagged also.header.flagged in
+      let asked = questions_same _ _ 12 _ _ (same 4 _ _ at.header.asked also.header.asked) at.questions also.questions in
+      let answered = records_same _ _ _ _ _ (same 6 _ _ at.header.answered also.header.answered) at.answer (subst (λ p. InOrder (RecordAt octets) p other.answer also.after_answer) (sym asked.1) also.answer) in
+      let vouched = records_same _ _ _ _ _ (same 8 _ _ at.header.vouched also.header.vouched) at.authority (subst (λ p. InOrder (RecordAt octets) p other.authority also.after_authority) (sym answered.1) also.authority) in
+      let added = records_same _ _ _ _ _ (same 10 _ _ at.header.added also.header.added) at.additional (subst (λ p. InOrder (RecordAt octets) p other.additional (length octets)) (sym vouched.1) also.additional) in
+      λ i. record { id = ids i; flags = flags i; questions = asked.0 i; answer = answered.0 i; authority = vouched.0 i; additional = added.0 i }
+
+  -- what a header says is one
+  record HeaderSame (asked answered vouched added asked' answered' vouched' added' : ℕ) : Type 0 where
+    askeds : asked ≡ asked'
+    answereds : answered ≡ answered'
+    voucheds : vouched ≡ vouched'
+    addeds : added ≡ added'
+
+  header_same : (id flags asked answered vouched added id' flags' asked' answered' vouched' added' : ℕ) → HeaderOf octets id flags asked answered vouched added → HeaderOf octets id' flags' asked' answered' vouched' added' → HeaderSame asked answered vouched added asked' answered' vouched' added'
+  header_same id flags asked answered vouched added id' flags' asked' answered' vouched' added' at also =
+      let same : (place n m : ℕ) → NumberAt octets place 2 n → NumberAt octets place 2 m → n ≡ m = λ place n m. number_same octets place place 2 n m refl in
+      record {
+        askeds = same 4 _ _ at.asked also.asked;
+        answereds = same 6 _ _ at.answered also.answered;
+        voucheds = same 8 _ _ at.vouched also.vouched;
+        addeds = same 10 _ _ at.added also.added;
+      }
+
+  -- the parts of a fault, from the end of the header on
+  abbrev LeftOver : (total place : ℕ) → DecodeError → Type 0
+  LeftOver total place error =
+      (records : List Record) × (end : ℕ) × InOrder (RecordAt octets) place records end × (length records ≡ total) × (end < length octets) × (error ≡ TrailingBytes)
+
+  abbrev RecordsFault : (total place : ℕ) → DecodeError → Type 0
+  RecordsFault total place error = FirstFault (RecordAt octets) (RecordFaultAt octets) total 1 place error ⊎ LeftOver total place error
+
+  abbrev BehindQuestions : (asked total : ℕ) → DecodeError → Type 0
+  BehindQuestions asked total error =
+      (questions : List Question) × (place : ℕ) × InOrder (QuestionAt octets) 12 questions place × (length questions ≡ asked) × RecordsFault total place error
+
+  abbrev BodyFault : (asked total : ℕ) → DecodeError → Type 0
+  BodyFault asked total error = FirstFault (QuestionAt octets) (QuestionFaultAt octets) asked 1 12 error ⊎ BehindQuestions asked total error
+
+  abbrev BehindHeader : DecodeError → Type 0
+  BehindHeader error =
+      (id flags asked answered vouched added : ℕ) × HeaderOf octets id flags asked answered vouched added × BodyFault asked (answered + vouched + added) error
+
+  questions_sound : (xs : List Question) (count place end : ℕ) (error : DecodeError) → length xs ≡ count → InOrder (QuestionAt octets) place xs end → FirstFault (QuestionAt octets) (QuestionFaultAt octets) count 1 place error → ⊥
+  questions_sound xs count place end error = InOrder-sound (QuestionAt octets) (QuestionFaultAt octets) question_same question_sound (λ number place. cut_short_same place 4) xs count 1 place end error
+
+  records_sound : (xs : List Record) (count place end : ℕ) (error : DecodeError) → length xs ≡ count → InOrder (RecordAt octets) place xs end → FirstFault (RecordAt octets) (RecordFaultAt octets) count 1 place error → ⊥
+  records_sound xs count place end error = InOrder-sound (RecordAt octets) (RecordFaultAt octets) record_same record_sound record_fault_same xs count 1 place end error
+
+  -- records that fill the octets leave no fault
+  records_fault_sound : (xs : List Record) (total place end : ℕ) (error : DecodeError) → length xs ≡ total → InOrder (RecordAt octets) place xs end → end ≡ length octets → RecordsFault total place error → ⊥
+  records_fault_sound xs total place end error size order all wrong = ⊎_elim
+      (λ (fault : FirstFault (RecordAt octets) (RecordFaultAt octets) total 1 place error). records_sound xs total place end error size order fault)
+      (λ (left : LeftOver total place error). omega (arith, (records_same xs left.0 place end left.1 (size ∙ sym left.3) order left.2).1, left.4, all))
+      wrong
+
+  -- a message has no fault
+  pub MessageOf_sound : (message : Contents) (error : DecodeError) → MessageOf octets message → FaultOf octets error → ⊥
+  MessageOf_sound message error at wrong = ⊎_elim
+      (λ (short : (length octets < 12) × (error ≡ Short)). omega (arith, short.0, at.header.added.0))
+      (λ (behind : BehindHeader error).
+      let counts = header_same _ _ _ _ _ _ _ _ _ _ _ _ at.header behind.6 in
+      ⊎_elim
+      (λ (asked : FirstFault (QuestionAt octets) (QuestionFaultAt octets) behind.2 1 12 error).
+      questions_sound message.questions behind.2 12 at.after_questions error counts.askeds at.questions asked)
+      (λ (later : BehindQuestions behind.2 (behind.3 + behind.4 + behind.5) error).
+      let questions = questions_same message.questions later.0 12 at.after_questions later.1 (counts.askeds ∙ sym later.3) at.questions later.2 in
+      let order = InOrder-append (RecordAt octets) (message.answer ++ message.authority) message.additional at.after_questions at.after_authority (length octets)
+      (InOrder-append (RecordAt octets) message.answer message.authority at.after_questions at.after_answer at.after_authority at.answer at.authority) at.additional in
+      records_fault_sound ((message.answer ++ message.authority) ++ message.additional) (behind.3 + behind.4 + behind.5) later.1 (length octets) error
+      (omega (arith, length-append message.answer message.authority, length-append (message.answer ++ message.authority) message.additional, counts.answereds, counts.voucheds, counts.addeds))
+      (subst (λ p. InOrder (RecordAt octets) p ((message.answer ++ message.authority) ++ message.additional) (length octets)) questions.1 order)
+      refl later.4)
+      behind.7)
+      wrong
+
+  records_fault_same : (total place : ℕ) (error other : DecodeError) → RecordsFault total place error → RecordsFault total place other → error ≡ other
+  records_fault_same total place error other wrong also = ⊎_elim
+      (λ (fault : FirstFault (RecordAt octets) (RecordFaultAt octets) total 1 place error). ⊎_elim
+      (λ (fault' : FirstFault (RecordAt octets) (RecordFaultAt octets) total 1 place other).
+      FirstFault-same (RecordAt octets) (RecordFaultAt octets) record_same record_sound record_fault_same total 1 place error other fault fault')
+      (λ (left' : LeftOver total place other). absurd (records_sound left'.0 total place left'.1 error left'.3 left'.2 fault))
+      also)
+      (λ (left : LeftOver total place error). ⊎_elim
+      (λ (fault' : FirstFault (RecordAt octets) (RecordFaultAt octets) total 1 place other). absurd (records_sound left.0 total place left.1 other left.3 left.2 fault'))
+      (λ (left' : LeftOver total place other). left.5 ∙ sym left'.5)
+      also)
+      wrong
+
+  body_fault_same : (asked total : ℕ) (error other : DecodeError) → BodyFault asked total error → BodyFault asked total other → error ≡ other
+  body_fault_same asked total error other wrong also = ⊎_elim
+      (λ (fault : FirstFault (QuestionAt octets) (QuestionFaultAt octets) asked 1 12 error). ⊎_elim
+      (λ (fault' : FirstFault (QuestionAt octets) (QuestionFaultAt octets) asked 1 12 other).
+      FirstFault-same (QuestionAt octets) (QuestionFaultAt octets) question_same question_sound (λ number place. cut_short_same place 4) asked 1 12 error other fault fault')
+      (λ (later' : BehindQuestions asked total other). absurd (questions_sound later'.0 asked 12 later'.1 error later'.3 later'.2 fault))
+      also)
+      (λ (later : BehindQuestions asked total error). ⊎_elim
+      (λ (fault' : FirstFault (QuestionAt octets) (QuestionFaultAt octets) asked 1 12 other). absurd (questions_sound later.0 asked 12 later.1 other later.3 later.2 fault'))
+      (λ (later' : BehindQuestions asked total other).
+      let questions = questions_same later.0 later'.0 12 later.1 later'.1 (later.3 ∙ sym later'.3) later.2 later'.2 in
+      records_fault_same total later.1 error other later.4 (subst (λ p. RecordsFault total p other) (sym questions.1) later'.4))
+      also)
+      wrong
+
+  -- octets have at most one fault
+  pub FaultOf_same : (error other : DecodeError) → FaultOf octets error → FaultOf octets other → error ≡ other
+  FaultOf_same error other wrong also = ⊎_elim
+      (λ (short : (length octets < 12) × (error ≡ Short)). ⊎_elim
+      (λ (short' : (length octets < 12) × (other ≡ Short)). short.1 ∙ sym short'.1)
+      (λ (behind' : BehindHeader other). absurd (omega (arith, short.0, behind'.6.added.0)))
+      also)
+      (λ (behind : BehindHeader error). ⊎_elim
+      (λ (short' : (length octets < 12) × (other ≡ Short)). absurd (omega (arith, short'.0, behind.6.added.0)))
+      (λ (behind' : BehindHeader other).
+      let counts = header_same _ _ _ _ _ _ _ _ _ _ _ _ behind.6 behind'.6 in
+      let totals : behind'.3 + behind'.4 + behind'.5 ≡ behind.3 + behind.4 + behind.5 = omega (arith, counts.answereds, counts.voucheds, counts.addeds) in
+      body_fault_same behind.2 (behind.3 + behind.4 + behind.5) error other behind.7
+      (subst (λ n. BodyFault n (behind.3 + behind.4 + behind.5) other) (sym counts.askeds)
+      (subst (λ n. BodyFault behind'.2 n other) totals behind'.7)))
+      also)
+      wrong
+
+  -- so what stands in the octets is found, where the answer is sound both ways
+  pub message_found : (answer : Result Contents DecodeError) → IfOk answer (MessageOf octets) → IfErr answer (λ error. (error ≡ OutOfMemory) ⊎ FaultOf octets error)
+      → (message : Contents) → MessageOf octets message → MatchResult answer (λ found. found ≡ message) (λ error. error ≡ OutOfMemory)
+  message_found (Ok found) ok err message at = MessageOf_same found message ok at
+  message_found (Err error) ok err message at = ⊎_elim
+      (λ (memory : error ≡ OutOfMemory). memory)
+      (λ (fault : FaultOf octets error). absurd (MessageOf_sound message error at fault))
+      err

@@ -1,0 +1,84 @@
+-- Numbers and labels where they stand in a message.
+use Rattle.std.proofs.Common.{◌≡◌, ℕ, zero, suc, ◌+◌, ◌-◌, ◌*◌, ◌^◌, ◌<◌, ◌≤◌, List, [], ◌∷◌, ◌++◌, length, get_or, take, drop, refl, sym, ap, ◌∙◌, arith, add-zero, add-suc, length-drop, Option, Some, None, inl, inr, ⊎_elim, Bool, true, false, not}
+use Rattle.std.proofs.lemmas.List.{get_or-drop, drop_more, drop-drop, length-take-le, take-append-drop}
+use Rattle.std.proofs.lemmas.List.Elements.{All-from_get_or, All-take, All-drop, recursion_from_All}
+use Rattle.std.proofs.lemmas.Bool.{false≢true}
+use Rattle.std.proofs.lemmas.Option.{none-some}
+use Rattle.std.specs.Bool.{Decides}
+use Rattle.std.specs.Option.{IfSome, is_some}
+use Rattle.std.specs.List.{AllByRecursion}
+use Rattle.byteorder.specs.Endian.{big_from, big_number}
+use Rattle.dnsv_names.specs.Name.{Labels, IsLabel, IsName, wire}
+use Rattle.dnsv_message.specs.Grammar.{part_of, IsLaidOut}
+use Rattle.dnsv_message.specs.NameAt.{AreOctets, NumberAt, PartAt, LabelAt, PointerAt}
+
+-- reading from a place on is reading at the place
+big_from-drop : (octets : List ℕ) (place i n : ℕ) → big_from i n (drop place octets) ≡ big_from (place + i) n octets
+big_from-drop octets place i zero = refl
+big_from-drop octets place i (suc n) =
+    rw (get_or-drop place octets i 0, big_from-drop octets place (suc i) n, add-suc place i) refl
+
+pub number_behind : (octets : List ℕ) (place n : ℕ) → big_number n (drop place octets) ≡ big_from place n octets
+number_behind octets place n = big_from-drop octets place 0 n ∙ ap (λ i. big_from i n octets) (add-zero place)
+
+-- the octets of a part are octets
+pub octets_of_part : (octets : List ℕ) (place n : ℕ) → ((i : ℕ) → get_or octets i 0 < 256) → AllByRecursion (λ octet. octet < 256) (take n (drop place octets))
+octets_of_part octets place n fit = recursion_from_All (λ octet. octet < 256) (take n (drop place octets))
+    (All-take (λ octet. octet < 256) n (drop place octets)
+    (All-drop (λ octet. octet < 256) place octets
+    (All-from_get_or (λ octet. octet < 256) octets 0 (λ i within. fit i))))
+
+-- behind a length stands its label, where the octets are long enough
+pub label_here : (octets : List ℕ) (place n : ℕ) → ((i : ℕ) → get_or octets i 0 < 256) → NumberAt octets place 1 n → 0 < n → n ≤ 63 → place + (1 + n) ≤ length octets → (label : List ℕ) × LabelAt octets place label × (n ≡ length label)
+label_here octets place n fit octet not_empty small within =
+    let first_is : get_or octets place 0 ≡ n = omega (arith, octet.1) in
+    let size : length (take n (drop (place + 1) octets)) ≡ n = length-take-le n (drop (place + 1) octets) (omega (arith, length-drop (place + 1) octets)) in (
+      take n (drop (place + 1) octets),
+      (
+        record { not_empty = omega (arith, size); at_most_63 = omega (arith, size); octets = octets_of_part octets (place + 1) n fit },
+        ap (take (suc (length (take n (drop (place + 1) octets))))) (drop_more octets place 0 (omega arith))
+            ∙ ap (λ k. k ∷ take (length (take n (drop (place + 1) octets))) (drop (place + 1) octets)) (first_is ∙ sym size)
+            ∙ ap (λ k. length (take n (drop (place + 1) octets)) ∷ take k (drop (place + 1) octets)) size,
+      ),
+      sym size,
+    )
+
+-- the part from a place up to its end
+pub part_same : (octets : List ℕ) (start size : ℕ) → take (start + size - start) (drop start octets) ≡ part_of octets start size
+part_same octets start size =
+    let many : start + size - start ≡ size = omega arith in
+    ap (λ n. take n (drop start octets)) many
+
+-- a name is read at the front of octets exactly where one's wire form begins them
+pub read_decides : (octets : List ℕ) (found : Option (Labels × ℕ))
+    → IfSome found (λ name. IsName name.0) → IfSome found (λ name. name.1 ≡ length (wire name.0)) → IfSome found (λ name. take name.1 octets ≡ wire name.0)
+    → ((labels : Labels) (rest : List ℕ) → IsName labels → octets ≡ wire labels ++ rest → found ≡ Some (labels, length (wire labels)))
+    → Decides (is_some found) ((signer : Labels) × (signature : List ℕ) × IsName signer × (octets ≡ wire signer ++ signature))
+read_decides octets (Some name) named sized spelled every =
+    ((λ yes. (name.0, drop name.1 octets, named, sym (take-append-drop name.1 octets) ∙ ap (λ front. front ++ drop name.1 octets) spelled)), (λ read. refl))
+read_decides octets None named sized spelled every =
+    ((λ yes. absurd (false≢true yes)), (λ read. absurd (none-some _ (every read.0 read.1 read.2 read.3))))
+
+-- of class IN, a signature's layout is asked of a signature and of nothing else
+pub signature_decides : (rtype class : ℕ) (octets : List ℕ) (answer : Bool) → class ≡ 1 → rtype ≡ 46 → 18 ≤ length octets
+    → Decides answer ((signer : Labels) × (signature : List ℕ) × IsName signer × (drop 18 octets ≡ wire signer ++ signature))
+    → Decides answer (IsLaidOut rtype class octets)
+signature_decides rtype class octets answer internet signed within decides = (
+  (λ yes. let found = decides.0 yes in inr (inr (signed, within, found.0, found.1, found.2, found.3))),
+  (λ laid_out. ⊎_elim
+      (λ (other : class ≡ 1 → ⊥). absurd (other internet))
+      (⊎_elim (λ (address : (rtype ≡ 1) × (length octets ≡ 4)). absurd (omega (arith, address.0)))
+      (λ (found : (rtype ≡ 46) × (18 ≤ length octets) × (signer : Labels) × (signature : List ℕ) × IsName signer × (drop 18 octets ≡ wire signer ++ signature)).
+      decides.1 (found.2, found.3, found.4, found.5)))
+      laid_out),
+)
+
+pub true_from_not_false : (b : Bool) → false ≡ not b → b ≡ true
+true_from_not_false true h = refl
+true_from_not_false false h = absurd (false≢true h)
+
+-- an octet is below 256, and so is the 0 past the end
+pub octet_fits : (octets : List ℕ) → AreOctets octets → (i : ℕ) → get_or octets i 0 < 256
+octet_fits [] are i = omega arith
+octet_fits (octet ∷ octets) are zero = are.0
+octet_fits (octet ∷ octets) are (suc i) = octet_fits octets are.1 i

@@ -1,0 +1,16 @@
+use Rattle.std.proofs.Common.{[], arith}
+use Rattle.dnsv_message.proofs.CaptureLemmas.{messages_alone, zero_length_alone}
+use Rattle.dnsv_message.proofs.FrameLemmas.{one_framing}
+use Rattle.dnsv_message.proofs.capture.one_answer.Goals as goal
+
+pub returns-clause-messages : goal.returns-clause-messages
+returns-clause-messages c = λ file a b x y. (one_framing file a b [] [] x.frames y.frames).0
+
+pub returns-clause-messages_alone : goal.returns-clause-messages_alone
+returns-clause-messages_alone c = messages_alone
+
+pub returns-clause-zero_length_alone : goal.returns-clause-zero_length_alone
+returns-clause-zero_length_alone c = zero_length_alone
+
+pub returns-clause-torn_frame_alone : goal.returns-clause-torn_frame_alone
+returns-clause-torn_frame_alone c = λ file torn too_long. omega (arith, torn.0, too_long.0)

@@ -1,0 +1,15 @@
+use Rattle.std.proofs.Common.{refl, inl, inr, ⊎_elim, arith}
+use Rattle.std.proofs.lemmas.Result.{err_from_is_err_and}
+use Rattle.dnsv_message.proofs.Sequences.{Reading-start, Reading-next, Reading-fault, Reading-order}
+use Rattle.dnsv_message.proofs.section.records_at.Goals as goal
+
+pub loop-read-preserved : goal.loop-read-preserved
+loop-read-preserved c = (rw c.in_ok-push.ensures.items (Reading-next c.loop-read.invariant.0 _ _ c.loop-read-test.true c.in_ok-record.ensures.found), (λ within. omega (arith, c.in_ok-record.ensures.found.whole, c.in_ok-record.ensures.found.ends)))
+
+pub returns-in_err-record-clause-fault : goal.returns-in_err-record-clause-fault
+returns-in_err-record-clause-fault c =
+    let p = err_from_is_err_and c.from_residual.result c.from_residual.ensures.1 in
+    rw (p.1, p.2) (⊎_elim (λ memory. inl memory) (λ fault. inr (Reading-fault c.loop-read.invariant.0 _ c.loop-read-test.true fault)) c.in_err-record.ensures.fault)
+
+pub returns-clause-found : goal.returns-clause-found
+returns-clause-found c = Reading-order c.loop-read.invariant.0

@@ -1,0 +1,115 @@
+-- The message grammar (RFC 1035 4.1): which message the octets are, and the first fault where they are none.
+use Rattle.std.specs.Prelude.{◌≡◌, ◌≢◌, ◌⊎◌, ℕ, zero, suc, ◌+◌, ◌<◌, ◌≤◌, List, [], ◌∷◌, ◌++◌, length, take, drop}
+use Rattle.dnsv_names.specs.Name.{Labels, IsName, wire}
+use Rattle.dnsv_message.specs.declared.errors.NameFault.{NameFault}
+use Rattle.dnsv_message.specs.declared.errors.DecodeError.{DecodeError}
+use Rattle.dnsv_message.specs.declared.errors.DecodeError.TheVariants.{Short, BadRdata, TrailingBytes}
+use Rattle.dnsv_message.specs.declared.record.Question.{Question}
+use Rattle.dnsv_message.specs.declared.record.Record.{Record}
+use Rattle.dnsv_message.specs.Errors.{decode_error_of}
+use Rattle.dnsv_message.specs.Message.{Contents}
+use Rattle.dnsv_message.specs.NameAt.{NumberAt, NameFrom, NameFaultFrom}
+
+-- Things stand one after another from the place on, and end where the last of them does. `At place x end`
+-- says that x stands at the place and ends before `end`.
+abbrev pub InOrder : {X : Type 0} → (ℕ → X → ℕ → Type 0) → ℕ → List X → ℕ → Type 0
+InOrder At place [] end = end ≡ place
+InOrder At place (x ∷ xs) end = (next : ℕ) × At place x next × InOrder At next xs end
+
+-- Of `count` things, numbered from `number` on, the first that doesn't stand at its place has this error.
+abbrev pub FirstFault : {X E : Type 0} → (ℕ → X → ℕ → Type 0) → (ℕ → ℕ → E → Type 0) → ℕ → ℕ → ℕ → E → Type 0
+FirstFault At Faulty zero number place error = ⊥
+FirstFault {X} At Faulty (suc count) number place error =
+    Faulty number place error ⊎ ((x : X) × (next : ℕ) × At place x next × FirstFault At Faulty count (suc number) next error)
+
+-- a question: a name, a type and a class (RFC 1035 4.1.2)
+pub record QuestionAt (octets : List ℕ) (place : ℕ) (question : Question) (end : ℕ) : Type 0 where
+  pub after_name : ℕ
+  pub name : NameFrom octets place question.name after_name
+  pub rtype : NumberAt octets after_name 2 question.rtype.0
+  pub class : NumberAt octets (after_name + 2) 2 question.class.0
+  pub ends : end ≡ after_name + 4
+
+-- The octets of an RDATA are laid out as its type asks (RFC 1035 3.4.1, RFC 4034 3.1): an address has four
+-- octets; a signature has 18, an uncompressed name and more. Of class IN no other type is read yet. The
+-- RDATA of other classes is octets as they are.
+abbrev pub IsLaidOut : ℕ → ℕ → List ℕ → Type 0
+IsLaidOut rtype class octets =
+    (class ≢ 1)
+    ⊎ ((rtype ≡ 1) × (length octets ≡ 4))
+    ⊎ ((rtype ≡ 46) × (18 ≤ length octets) × (signer : Labels) × (signature : List ℕ) × IsName signer × (drop 18 octets ≡ wire signer ++ signature))
+
+-- the octets from a place on, this many of them
+abbrev pub part_of : List ℕ → ℕ → ℕ → List ℕ
+part_of octets place size = take size (drop place octets)
+
+-- the parts of a record before its RDATA, which begins at `start` and has `size` octets (RFC 1035 4.1.3)
+pub record RecordHeadAt (octets : List ℕ) (place : ℕ) (name : Labels) (rtype class ttl start size : ℕ) : Type 0 where
+  pub after_name : ℕ
+  pub named : NameFrom octets place name after_name
+  pub typed : NumberAt octets after_name 2 rtype
+  pub classed : NumberAt octets (after_name + 2) 2 class
+  pub timed : NumberAt octets (after_name + 4) 4 ttl
+  pub sized : NumberAt octets (after_name + 8) 2 size
+  pub starts : start ≡ after_name + 10
+
+-- a record, whose RDATA is all there and laid out as its type asks
+pub record RecordAt (octets : List ℕ) (place : ℕ) (resource : Record) (end : ℕ) : Type 0 where
+  pub start : ℕ
+  pub size : ℕ
+  pub head : RecordHeadAt octets place resource.name resource.rtype.0 resource.class.0 resource.ttl.0 start size
+  pub whole : start + size ≤ length octets
+  pub laid_out : IsLaidOut resource.rtype.0 resource.class.0 (part_of octets start size)
+  pub rdata : resource.rdata ≡ part_of octets start size
+  pub ends : end ≡ start + size
+
+-- the header's numbers: identifier, flags, and how many questions and records of each section there are (RFC 1035 4.1.1)
+pub record HeaderOf (octets : List ℕ) (id flags questions answer authority additional : ℕ) : Type 0 where
+  pub identified : NumberAt octets 0 2 id
+  pub flagged : NumberAt octets 2 2 flags
+  pub asked : NumberAt octets 4 2 questions
+  pub answered : NumberAt octets 6 2 answer
+  pub vouched : NumberAt octets 8 2 authority
+  pub added : NumberAt octets 10 2 additional
+
+-- The octets are the message: its header, and as many questions and records as the header says, one after
+-- another, with nothing left over.
+pub record MessageOf (octets : List ℕ) (message : Contents) : Type 0 where
+  pub header : HeaderOf octets message.id message.flags (length message.questions) (length message.answer) (length message.authority) (length message.additional)
+  pub after_questions : ℕ
+  pub after_answer : ℕ
+  pub after_authority : ℕ
+  pub questions : InOrder (QuestionAt octets) 12 message.questions after_questions
+  pub answer : InOrder (RecordAt octets) after_questions message.answer after_answer
+  pub authority : InOrder (RecordAt octets) after_answer message.authority after_authority
+  pub additional : InOrder (RecordAt octets) after_authority message.additional (length octets)
+
+-- a name has a fault, or octets are missing behind it
+abbrev pub CutShort : List ℕ → ℕ → ℕ → DecodeError → Type 0
+CutShort octets place more error =
+    ((fault : NameFault) × NameFaultFrom octets place fault × (error ≡ decode_error_of fault))
+    ⊎ ((name : Labels) × (after_name : ℕ) × NameFrom octets place name after_name × (length octets < after_name + more) × (error ≡ Short))
+
+-- no question stands at the place
+abbrev pub QuestionFaultAt : List ℕ → ℕ → ℕ → DecodeError → Type 0
+QuestionFaultAt octets number place error = CutShort octets place 4 error
+
+-- no record stands at the place: its head is cut short, its RDATA is, or that isn't laid out as its type asks
+abbrev pub RecordFaultAt : List ℕ → ℕ → ℕ → DecodeError → Type 0
+RecordFaultAt octets number place error =
+    CutShort octets place 10 error
+    ⊎ ((name : Labels) × (rtype class ttl start size : ℕ) × RecordHeadAt octets place name rtype class ttl start size
+    × (((length octets < start + size) × (error ≡ Short))
+    ⊎ ((start + size ≤ length octets) × (IsLaidOut rtype class (part_of octets start size) → ⊥) × (error ≡ BadRdata number))))
+
+-- The fault of octets that are no message: that of the first field, from left to right, that can't be read.
+-- A section's records are numbered on from those before it.
+abbrev pub FaultOf : List ℕ → DecodeError → Type 0
+FaultOf octets error =
+    ((length octets < 12) × (error ≡ Short))
+    ⊎ ((id flags asked answered vouched added : ℕ) × HeaderOf octets id flags asked answered vouched added
+    × (FirstFault (QuestionAt octets) (QuestionFaultAt octets) asked 1 12 error
+    ⊎ ((questions : List Question) × (p : ℕ) × InOrder (QuestionAt octets) 12 questions p × (length questions ≡ asked)
+    × (FirstFault (RecordAt octets) (RecordFaultAt octets) (answered + vouched + added) 1 p error
+    ⊎ ((records : List Record) × (end : ℕ) × InOrder (RecordAt octets) p records end × (length records ≡ answered + vouched + added)
+    × (end < length octets) × (error ≡ TrailingBytes))))))

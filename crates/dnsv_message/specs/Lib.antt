@@ -1,0 +1,9 @@
+pub mod Message
+pub mod Errors
+pub mod NameAt
+pub mod Grammar
+pub mod Steps
+pub mod Counted
+pub mod Frames
+pub mod OpenFrame
+pub mod ReadError

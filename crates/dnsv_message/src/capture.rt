@@ -1,0 +1,91 @@
+//! Captured messages, as a stream of frames gives them.
+ghost use Rattle.std.specs.Prelude.{◌≡◌, ◌<◌, List, ℕ, is_err, IfErr, IfOk, IfSome, IsErrOf, OnOk};
+ghost use Rattle.std.specs.List.{AllByRecursion};
+ghost use Rattle.std.specs.Io.{ReadsAtMost};
+ghost use Rattle.std.specs.Io.KnownBytes.{IsAtEnd, ReadConsumes};
+ghost use Rattle.dnsv_message.specs.Counted.{count_after, failures_of, inner_of};
+ghost use Rattle.dnsv_message.specs.Frames.{EndsTorn, Frames, HasZeroLength, IsCapture, IsTooLong, octets_of_each};
+
+use crate::FILE_LIMIT;
+use crate::counted::Counted;
+use crate::errors::ReadError;
+use crate::framing::OpenFrame;
+use std::alloc::Global;
+use std::io::Read;
+
+/// How many octets are read at a time at most.
+const PIECE_LIMIT: usize = 65_536;
+
+/// All messages of a stream, each behind its length in two octets, the high octet first
+/// (RFC 1035 4.2.2).
+///
+/// The octets alone decide the answer, in whatever pieces they come. The first fault that is met is
+/// answered, and nothing is read after it: a reader that fails is [`ReadError::Read`], an octet past
+/// [`FILE_LIMIT`] [`ReadError::TooLong`], a length 0 [`ReadError::ZeroLength`], and an end within a
+/// frame [`ReadError::TornFrame`].
+pub fn read_capture<R: Read>(
+    alloc: Global,
+    reader: &mut Counted<R>,
+) -> Result<Vec<Vec<u8>>, ReadError>
+    // What the octets decide, where they are known.
+    ensures messages { IfOk result (λ messages. IfSome (R.remaining (inner_of reader.old))
+        (λ octets. IsCapture octets (octets_of_each messages.items))) }
+    ensures too_long { IsErrOf result ReadError.TooLong → IfSome (R.remaining (inner_of reader.old)) IsTooLong }
+    ensures zero_length { IsErrOf result ReadError.ZeroLength → IfSome (R.remaining (inner_of reader.old)) HasZeroLength }
+    ensures torn_frame { IsErrOf result ReadError.TornFrame → IfSome (R.remaining (inner_of reader.old)) EndsTorn }
+    ensures end { OnOk result (IsAtEnd (R.remaining (inner_of reader.new))) }
+
+    // The reader failed, at any reader: by the count, unless that began at its greatest value.
+    ensures read { IsErrOf result ReadError.Read →
+        failures_of reader.old < u64.MAX → failures_of reader.old < failures_of reader.new }
+    ensures failed { failures_of reader.old < failures_of reader.new → IsErrOf result ReadError.Read }
+{
+    let mut buffer = vec![in alloc; 0; PIECE_LIMIT]?;
+    let piece = buffer.as_mut_slice();
+    let mut messages = Vec::new(alloc);
+    let mut frame = OpenFrame::new(alloc);
+    let mut left = FILE_LIMIT;
+    loop {
+        let count = read_piece(reader, piece)?;
+        if count == 0 {
+            break;
+        }
+        let within = count.min(left);
+        frame.feed(&piece[..within], &mut messages)?;
+        if within < count {
+            return Err(ReadError::TooLong);
+        }
+        left -= within;
+    }
+    frame.finish()?;
+    Ok(messages)
+}
+
+// Reads once. A read that fails is not tried again.
+fn read_piece<R: Read>(reader: &mut Counted<R>, piece: &mut [u8]) -> Result<usize, ReadError>
+    ensures bound { ReadsAtMost result piece.new }
+    ensures bytes { ReadConsumes (R.remaining (inner_of reader.old)) (R.remaining (inner_of reader.new)) result piece.new }
+    ensures failures { failures_of reader.new ≡ count_after (failures_of reader.old) (is_err result) }
+    ensures only { IfErr result (λ error. error ≡ ReadError.Read) }
+{
+    Ok(reader.read(piece)?)
+}
+
+/// Every stream of octets is read as frames and a rest, in one way.
+pub fn one_reading()
+    ensures some { (stream : List ℕ) → AllByRecursion (λ octet. octet < 256) stream →
+        (messages : List (List ℕ)) × (rest : List ℕ) × Frames stream messages rest }
+    ensures one { (stream : List ℕ) (a b : List (List ℕ)) (r s : List ℕ) → Frames stream a r → Frames stream b s → (a ≡ b) × (r ≡ s) }
+{}
+
+/// A file has one answer at most: messages, a length 0, an end within a frame, or an octet too many.
+pub fn one_answer()
+    ensures messages { (file : List ℕ) (a b : List (List ℕ)) → IsCapture file a → IsCapture file b → a ≡ b }
+    ensures messages_alone { (file : List ℕ) (messages : List (List ℕ)) → IsCapture file messages →
+        (¬ HasZeroLength file) × (¬ EndsTorn file) × (¬ IsTooLong file) }
+    ensures zero_length_alone { (file : List ℕ) → HasZeroLength file → (¬ EndsTorn file) × (¬ IsTooLong file) }
+    ensures torn_frame_alone { (file : List ℕ) → EndsTorn file → ¬ IsTooLong file }
+{}
+
+#[cfg(test)]
+mod tests;

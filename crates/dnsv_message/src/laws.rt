@@ -1,0 +1,21 @@
+//! Laws of the message grammar, which other crates may cite.
+ghost use Rattle.std.specs.Prelude.{◌≡◌, List, ℕ};
+ghost use Rattle.dnsv_message.specs.declared.errors.DecodeError.{DecodeError};
+ghost use Rattle.dnsv_message.specs.Message.{Contents};
+ghost use Rattle.dnsv_message.specs.NameAt.{AreOctets};
+ghost use Rattle.dnsv_message.specs.Grammar.{MessageOf, FaultOf};
+
+/// Octets are at most one message.
+pub fn one_message()
+    ensures { (octets : List ℕ) → AreOctets octets → (message other : Contents) → MessageOf octets message → MessageOf octets other → message ≡ other }
+{}
+
+/// Octets that are a message have no fault.
+pub fn no_fault_of_a_message()
+    ensures { (octets : List ℕ) → AreOctets octets → (message : Contents) (error : DecodeError) → MessageOf octets message → FaultOf octets error → ⊥ }
+{}
+
+/// Octets have at most one fault.
+pub fn one_fault()
+    ensures { (octets : List ℕ) → AreOctets octets → (error other : DecodeError) → FaultOf octets error → FaultOf octets other → error ≡ other }
+{}

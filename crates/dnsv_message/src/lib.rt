@@ -1,0 +1,25 @@
+//! DNS messages (RFC 1035): the octets of one message, and the messages of a stream.
+#![tactic(auto)]
+
+pub use capture::{one_answer, one_reading, read_capture};
+pub use counted::Counted;
+pub use errors::{DecodeError, NameFault, ReadError};
+pub use laws::{no_fault_of_a_message, one_fault, one_message};
+pub use message::Message;
+pub use number::{Class, Flags, Ttl};
+pub use record::{Question, Rdata, Record, Section};
+
+mod capture;
+mod counted;
+mod errors;
+mod fields;
+mod framing;
+mod laws;
+mod message;
+mod name_at;
+mod number;
+mod record;
+mod section;
+
+/// How many octets a file may have.
+pub const FILE_LIMIT: usize = 1_073_741_824;

@@ -1,0 +1,127 @@
+//! A message as a whole.
+ghost use Rattle.std.specs.Prelude.{◌≡◌, ◌⊎◌, IfOk, IfErr, MatchResult};
+
+use crate::errors::DecodeError;
+use crate::fields::u16_at;
+use crate::number::Flags;
+use crate::record::{Question, Record, Section};
+use crate::section::{questions_at, records_at};
+use std::alloc::Global;
+use std::marker::Model;
+
+/// A message (RFC 1035 4.1).
+///
+/// Its records are numbered from 1 through the three sections.
+#[derive(Debug, Drop)]
+pub struct Message {
+    id: u16,
+    flags: Flags,
+    questions: Vec<Question>,
+    answer: Vec<Record>,
+    authority: Vec<Record>,
+    additional: Vec<Record>,
+}
+
+impl Model for Message {
+    ghost use Rattle.dnsv_message.specs.Message.{Contents};
+
+    ghost Value = { Contents };
+
+    ghost view = { λ message. record {
+      id = message.id;
+      flags = message.flags.0;
+      questions = message.questions.items;
+      answer = message.answer.items;
+      authority = message.authority.items;
+      additional = message.additional.items;
+    } };
+}
+
+/// How many octets the header has.
+const HEADER_LENGTH: usize = 12;
+
+impl Message {
+    ghost use Rattle.dnsv_message.specs.Message.{Contents, section_of};
+    ghost use Rattle.dnsv_message.specs.Grammar.{MessageOf, FaultOf};
+
+    /// Reads a message, which is all of the octets.
+    ///
+    /// The error is the first fault from left to right: octets that are missing ([`DecodeError::Short`]),
+    /// a name that can't be read, RDATA that is not laid out as its type asks, octets left over. Of class
+    /// IN, RDATA of the types A and RRSIG is read yet, and that of any other type is BadRdata. Only
+    /// where memory was refused is the error [`DecodeError::OutOfMemory`].
+    pub fn decode(alloc: Global, octets: &[u8]) -> Result<Message, DecodeError>
+        // What is found stands in the octets.
+        ensures found { IfOk result (MessageOf octets.now) }
+        // Whatever message the octets are is found, unless memory was refused.
+        ensures every { (message : Contents) → MessageOf octets.now message
+            → MatchResult result (λ found. found ≡ message) (λ error. error ≡ DecodeError.OutOfMemory) }
+        // The fault is the first.
+        ensures fault { IfErr result (λ error. (error ≡ DecodeError.OutOfMemory) ⊎ FaultOf octets.now error) }
+    {
+        Message::read(alloc, octets)
+    }
+
+    fn read(alloc: Global, octets: &[u8]) -> Result<Message, DecodeError>
+        ensures found { IfOk result (MessageOf octets.now) }
+        ensures fault { IfErr result (λ error. (error ≡ DecodeError.OutOfMemory) ⊎ FaultOf octets.now error) }
+    {
+        if octets.len() < HEADER_LENGTH {
+            return Err(DecodeError::Short);
+        }
+        let asked = u16_at(octets, 4) as usize;
+        let answered = u16_at(octets, 6) as usize;
+        let vouched = u16_at(octets, 8) as usize;
+        let added = u16_at(octets, 10) as usize;
+        let (questions, place) = questions_at(alloc, octets, HEADER_LENGTH, asked)?;
+        let (answer, place) = records_at(alloc, octets, place, answered, 1)?;
+        let (authority, place) = records_at(alloc, octets, place, vouched, 1 + answered)?;
+        let (additional, place) = records_at(alloc, octets, place, added, 1 + answered + vouched)?;
+        if place < octets.len() {
+            return Err(DecodeError::TrailingBytes);
+        }
+        Ok(Message {
+            id: u16_at(octets, 0),
+            flags: Flags(u16_at(octets, 2)),
+            questions,
+            answer,
+            authority,
+            additional,
+        })
+    }
+
+    /// The identifier, by which an answer is matched to its query (RFC 1035 4.1.1).
+    pub fn id(&self) -> u16
+        ensures { result ≡ self.now.id }
+    {
+        self.id
+    }
+
+    /// The flags of the header, operation and response codes among them (RFC 1035 4.1.1).
+    pub fn flags(&self) -> Flags
+        ensures { result.0 ≡ self.now.flags }
+    {
+        self.flags
+    }
+
+    /// The questions, in order.
+    pub fn questions(&self) -> &[Question]
+        ensures { result.now ≡ self.now.questions }
+    {
+        &self.questions
+    }
+
+    /// The records of one section, in order.
+    pub fn records(&self, section: Section) -> &[Record]
+        ensures { result.now ≡ section_of self.now section }
+    {
+        match section {
+            Section::Answer => &self.answer,
+            Section::Authority => &self.authority,
+            Section::Additional => &self.additional,
+        }
+    }
+}
+
+#[cfg(test)]
+mod tests;

@@ -1,0 +1,64 @@
+//! What the sections of a message hold.
+ghost use Rattle.std.specs.Prelude.{◌≡◌, ℕ, List, IfOk};
+
+use crate::number::{Class, Ttl};
+use dnsv_names::{Name, RecordType};
+use std::alloc::{AllocError, Global};
+use std::marker::Model;
+
+/// The sections of records, in the order of a message (RFC 1035 4.1).
+#[derive(Clone, Copy, Debug, PartialEq, Eq, PartialOrd, Ord, Hash)]
+pub enum Section {
+    Answer,
+    Authority,
+    Additional,
+}
+
+/// What a message asks (RFC 1035 4.1.2).
+#[derive(Debug, Drop)]
+pub struct Question {
+    pub name: Name,
+    pub rtype: RecordType,
+    pub class: Class,
+}
+
+/// A resource record (RFC 1035 4.1.3).
+#[derive(Debug, Drop)]
+pub struct Record {
+    pub name: Name,
+    pub rtype: RecordType,
+    pub class: Class,
+    pub ttl: Ttl,
+    /// The octets of the RDATA, with every name written out uncompressed as it is spelled.
+    pub rdata: Rdata,
+}
+
+/// The octets of a record's RDATA.
+#[derive(Debug, Drop)]
+pub struct Rdata {
+    octets: Vec<u8>,
+}
+
+impl Model for Rdata {
+    ghost Value = { List ℕ };
+
+    ghost view = { λ rdata. rdata.octets.items };
+}
+
+impl Rdata {
+    /// The RDATA with these octets.
+    pub fn copied(alloc: Global, octets: &[u8]) -> Result<Rdata, AllocError>
+        ensures { IfOk result (λ rdata. rdata ≡ octets.now) }
+    {
+        Ok(Rdata {
+            octets: Vec::from_slice(alloc, octets)?,
+        })
+    }
+
+    /// The octets.
+    pub fn octets(&self) -> &[u8]
+        ensures { result.now ≡ self.now }
+    {
+        &self.octets
+    }
+}

@@ -1,0 +1,135 @@
+//! Questions and records where they stand in a message (RFC 1035 4.1.2, 4.1.3).
+ghost use Rattle.std.specs.Prelude.{◌≡◌, ◌≤◌, ◌+◌, ◌<◌, ◌^◌, ◌⊎◌, ◌↔◌, length, IsTrue, IfOk, IfErr};
+ghost use Rattle.dnsv_message.specs.Grammar.{QuestionAt, QuestionFaultAt, RecordAt, RecordFaultAt, IsLaidOut, InOrder, FirstFault};
+
+use crate::errors::DecodeError;
+use crate::fields::{u16_at, u32_at};
+use crate::name_at::name_at;
+use crate::number::{Class, Ttl};
+use crate::record::{Question, Rdata, Record};
+use dnsv_names::{Name, RecordType};
+use std::alloc::Global;
+
+/// How many octets of a question stand behind its name.
+const QUESTION_TAIL: usize = 4;
+
+/// How many octets of a record stand between its name and its RDATA.
+const RECORD_TAIL: usize = 10;
+
+/// How many octets of a signature stand before its signer's name (RFC 4034 3.1).
+const SIGNATURE_HEAD: usize = 18;
+
+/// Reads this many questions from a place on, and says where what follows them stands.
+pub fn questions_at(
+    alloc: Global,
+    octets: &[u8],
+    place: usize,
+    count: usize,
+) -> Result<(Vec<Question>, usize), DecodeError>
+    ensures found { IfOk result (λ found. InOrder (QuestionAt octets.now) place found.0.items found.1) }
+    ensures count { IfOk result (λ found. length found.0.items ≡ count) }
+    ensures within { place ≤ length octets.now → IfOk result (λ found. found.1 ≤ length octets.now) }
+    ensures fault { IfErr result (λ error. (error ≡ DecodeError.OutOfMemory)
+        ⊎ FirstFault (QuestionAt octets.now) (QuestionFaultAt octets.now) count 1 place error) }
+{
+    let mut questions = Vec::new(alloc);
+    let mut next = place;
+    for read in 0..count {
+        let (question, end) = question_at(octets, next)?;
+        questions.push(question)?;
+        next = end;
+    }
+    Ok((questions, next))
+}
+
+/// Reads this many records from a place on, the first of which has this number, and says where what
+/// follows them stands.
+pub fn records_at(
+    alloc: Global,
+    octets: &[u8],
+    place: usize,
+    count: usize,
+    first: usize,
+) -> Result<(Vec<Record>, usize), DecodeError>
+    requires { first + count < 2 ^ 64 }
+    ensures found { IfOk result (λ found. InOrder (RecordAt octets.now) place found.0.items found.1) }
+    ensures count { IfOk result (λ found. length found.0.items ≡ count) }
+    ensures within { place ≤ length octets.now → IfOk result (λ found. found.1 ≤ length octets.now) }
+    ensures fault { IfErr result (λ error. (error ≡ DecodeError.OutOfMemory)
+        ⊎ FirstFault (RecordAt octets.now) (RecordFaultAt octets.now) count first place error) }
+{
+    let mut records = Vec::new(alloc);
+    let mut next = place;
+    for read in 0..count {
+        let (record, end) = record_at(alloc, octets, next, first + read)?;
+        records.push(record)?;
+        next = end;
+    }
+    Ok((records, next))
+}
+
+fn question_at(octets: &[u8], place: usize) -> Result<(Question, usize), DecodeError>
+    ensures found { IfOk result (λ found. QuestionAt octets.now place found.0 found.1) }
+    ensures fault { IfErr result (QuestionFaultAt octets.now 1 place) }
+{
+    let (name, after_name) = name_at(octets, place)?;
+    if octets.len() - after_name < QUESTION_TAIL {
+        return Err(DecodeError::Short);
+    }
+    let question = Question {
+        name,
+        rtype: RecordType(u16_at(octets, after_name)),
+        class: Class(u16_at(octets, after_name + 2)),
+    };
+    Ok((question, after_name + QUESTION_TAIL))
+}
+
+fn record_at(
+    alloc: Global,
+    octets: &[u8],
+    place: usize,
+    number: usize,
+) -> Result<(Record, usize), DecodeError>
+    ensures found { IfOk result (λ found. RecordAt octets.now place found.0 found.1) }
+    ensures fault { IfErr result (λ error. (error ≡ DecodeError.OutOfMemory) ⊎ RecordFaultAt octets.now number place error) }
+{
+    let (name, after_name) = name_at(octets, place)?;
+    if octets.len() - after_name < RECORD_TAIL {
+        return Err(DecodeError::Short);
+    }
+    let rtype = RecordType(u16_at(octets, after_name));
+    let class = Class(u16_at(octets, after_name + 2));
+    let ttl = Ttl(u32_at(octets, after_name + 4));
+    let size = u16_at(octets, after_name + 8) as usize;
+    let start = after_name + RECORD_TAIL;
+    if octets.len() - start < size {
+        return Err(DecodeError::Short);
+    }
+    let part = &octets[start..start + size];
+    if !is_laid_out(rtype, class, part) {
+        return Err(DecodeError::BadRdata(number));
+    }
+    let record = Record {
+        name,
+        rtype,
+        class,
+        ttl,
+        rdata: Rdata::copied(alloc, part)?,
+    };
+    Ok((record, start + size))
+}
+
+/// Whether the octets are laid out as RDATA of the type is.
+fn is_laid_out(rtype: RecordType, class: Class, octets: &[u8]) -> bool
+    ensures { IsTrue result ↔ IsLaidOut rtype.0 class.0 octets.now }
+{
+    if class != Class::IN {
+        true
+    } else if rtype == RecordType::A {
+        octets.len() == 4
+    } else if rtype == RecordType::RRSIG && SIGNATURE_HEAD <= octets.len() {
+        Name::read(&octets[SIGNATURE_HEAD..]).is_some()
+    } else {
+        false
+    }
+}

@@ -1,0 +1,5 @@
+pub mod Base32Lemmas
+pub mod BitmapLemmas
+pub mod BlockLemmas
+pub mod OctetLemmas
+pub mod RecordLemmas

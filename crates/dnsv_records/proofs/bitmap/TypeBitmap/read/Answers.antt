@@ -1,0 +1,21 @@
+use Rattle.std.proofs.Common.{◌≡◌, Ok, sym, ap, subst, inl, ◌∙◌}
+use Rattle.dnsv_records.specs.Bitmap.{Bitmap}
+use Rattle.dnsv_records.specs.Blocks.{types_of}
+use Rattle.dnsv_records.proofs.BitmapLemmas.{AreBlocks-Bitmap, Bitmap-types_of, types_of-Bitmap}
+use Rattle.dnsv_records.proofs.bitmap.TypeBitmap.read.Goals as goal
+
+pub returns-then-not-are_blocks-clause-every : goal.returns-then-not-are_blocks-clause-every
+returns-then-not-are_blocks-clause-every c = λ types spelled.
+    absurd (c.if-not-are_blocks.ensures (AreBlocks-Bitmap c.args.octets.now types spelled))
+
+pub returns-then-not-are_blocks-clause-fault : goal.returns-then-not-are_blocks-clause-fault
+returns-then-not-are_blocks-clause-fault c = λ some.
+    c.if-not-are_blocks.ensures (AreBlocks-Bitmap c.args.octets.now some.0 some.1)
+
+pub returns-clause-found : goal.returns-clause-found
+returns-clause-found c =
+    rw c.in_ok-from_slice.ensures.items (Bitmap-types_of c.args.octets.now c.if-not-are_blocks.ensures)
+
+pub returns-clause-every : goal.returns-clause-every
+returns-clause-every c = λ types spelled.
+    inl (ap Ok (ap types_of c.in_ok-from_slice.ensures.items ∙ types_of-Bitmap c.args.octets.now types spelled))

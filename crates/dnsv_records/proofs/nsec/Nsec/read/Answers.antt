@@ -1,0 +1,38 @@
+use Rattle.std.proofs.Common.{◌≡◌, ◌-◌, ◌++◌, Ok, length, take, drop, sym, ap, subst, inl, ◌∙◌}
+use Rattle.std.proofs.lemmas.List.{take_rest, take-append-drop}
+use Rattle.std.proofs.lemmas.Result.{err_from_is_err_and}
+use Rattle.dnsv_names.specs.Name.{wire}
+use Rattle.dnsv_records.specs.Bitmap.{Bitmap}
+use Rattle.dnsv_records.proofs.RecordLemmas.{bitmap_fault, Gives-err, Gives-ok, behind_name}
+use Rattle.dnsv_records.proofs.nsec.Nsec.read.Goals as goal
+
+pub returns-in_err-types-clause-every : goal.returns-in_err-types-clause-every
+returns-in_err-types-clause-every c = λ nsec is.
+    let p = err_from_is_err_and c.from_residual.result c.from_residual.ensures.1 in
+    let rdata = c.args.rdata.now in
+    let parts = behind_name rdata is.bits c.in-Some.next nsec.next c.in-Some.length (c.in-Some.ensures.every nsec.next is.bits is.name is.whole) is.whole in
+    let spelled = subst (λ xs. Bitmap xs nsec.types) (sym (take_rest rdata c.in-Some.length ∙ parts.1)) is.bitmap in
+    rw (p.1, p.2) (Gives-err c.in_err-types.field-0.0 nsec.types nsec (c.in_err-types.ensures.every nsec.types spelled))
+
+pub returns-in_err-types-clause-fault : goal.returns-in_err-types-clause-fault
+returns-in_err-types-clause-fault c =
+    let p = err_from_is_err_and c.from_residual.result c.from_residual.ensures.1 in
+    let rdata = c.args.rdata.now in
+    let n = c.in-Some.length in
+    rw (p.1, p.2) (bitmap_fault c.in_err-types.field-0.0 _ _
+    (λ bad. (
+      c.in-Some.next,
+      take (length rdata - n) (drop n rdata),
+      c.in-Some.ensures.name,
+      sym (take-append-drop n rdata) ∙ ap (λ xs. xs ++ drop n rdata) c.in-Some.ensures.spelling ∙ ap (λ xs. wire c.in-Some.next ++ xs) (sym (take_rest rdata n)),
+      bad,
+    ))
+    c.in_err-types.ensures.fault)
+
+pub returns-clause-every : goal.returns-clause-every
+returns-clause-every c = λ nsec is.
+    let rdata = c.args.rdata.now in
+    let parts = behind_name rdata is.bits c.in-Some.next nsec.next c.in-Some.length (c.in-Some.ensures.every nsec.next is.bits is.name is.whole) is.whole in
+    let spelled = subst (λ xs. Bitmap xs nsec.types) (sym (take_rest rdata c.in-Some.length ∙ parts.1)) is.bitmap in
+    let types = Gives-ok c.in_ok-types.types nsec.types (c.in_ok-types.ensures.every nsec.types spelled) in
+    inl (λ i. Ok record { next = parts.0 i; types = types i })

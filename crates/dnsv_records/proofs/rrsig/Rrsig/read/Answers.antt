@@ -1,0 +1,52 @@
+use Rattle.std.proofs.Common.{◌≡◌, ◌+◌, ◌++◌, Ok, length, take, drop, sym, ap, inl, ◌∙◌, arith}
+use Rattle.std.proofs.lemmas.List.{take_rest, drop-drop}
+use Rattle.dnsv_names.specs.Name.{wire}
+use Rattle.dnsv_records.proofs.RecordLemmas.{number_at-one, behind_name, name_and_rest}
+use Rattle.dnsv_records.proofs.rrsig.Rrsig.read.Goals as goal
+
+pub returns-clause-found : goal.returns-clause-found
+returns-clause-found c =
+    let rdata = c.args.rdata.now in
+    let n = c.in-Some.length in
+    let spelled : take n (drop 18 rdata) ≡ wire c.in-Some.signer = ap (take n) (sym (take_rest rdata 18)) ∙ c.in-Some.ensures.spelling in
+    let signature : c.in_ok-signature.signature ≡ drop (18 + n) rdata = c.in_ok-signature.ensures ∙ take_rest rdata (18 + n) in
+    record {
+      head = c.if-rdata-lt-HEAD.false;
+      type_covered = c.u16_at.ensures;
+      algorithm = number_at-one rdata 2 (omega arith);
+      labels = number_at-one rdata 3 (omega arith);
+      original_ttl = c.u32_at.ensures;
+      expiration = c.u32_at-2.ensures;
+      inception = c.u32_at-3.ensures;
+      key_tag = c.u16_at-2.ensures;
+      name = c.in-Some.ensures.name;
+      rest = name_and_rest rdata 18 n c.in-Some.signer spelled ∙ ap (λ xs. wire c.in-Some.signer ++ xs) (sym signature);
+    }
+
+pub returns-clause-every : goal.returns-clause-every
+returns-clause-every c = λ rrsig is.
+    let rdata = c.args.rdata.now in
+    let n = c.in-Some.length in
+    let found = c.in-Some.ensures.every rrsig.signer rrsig.signature is.name (take_rest rdata 18 ∙ is.rest) in
+    let parts = behind_name (drop 18 rdata) rrsig.signature c.in-Some.signer rrsig.signer n found is.rest in
+    let signature : c.in_ok-signature.signature ≡ rrsig.signature =
+    c.in_ok-signature.ensures ∙ take_rest rdata (18 + n) ∙ sym (drop-drop n 18 rdata) ∙ parts.1 in
+    let signer : c.in-Some.signer ≡ rrsig.signer = parts.0 in
+    let type_covered : c.u16_at.result ≡ rrsig.type_covered.0 = c.u16_at.ensures ∙ sym is.type_covered in
+    let algorithm = number_at-one rdata 2 (omega arith) ∙ sym is.algorithm in
+    let labels = number_at-one rdata 3 (omega arith) ∙ sym is.labels in
+    let original_ttl : c.u32_at.result ≡ rrsig.original_ttl = c.u32_at.ensures ∙ sym is.original_ttl in
+    let expiration : c.u32_at-2.result ≡ rrsig.expiration = c.u32_at-2.ensures ∙ sym is.expiration in
+    let inception : c.u32_at-3.result ≡ rrsig.inception = c.u32_at-3.ensures ∙ sym is.inception in
+    let key_tag : c.u16_at-2.result ≡ rrsig.key_tag.0 = c.u16_at-2.ensures ∙ sym is.key_tag in
+    inl (λ i. Ok record {
+      type_covered = record { 0 = type_covered i };
+      algorithm = record { 0 = algorithm i };
+      labels = labels i;
+      original_ttl = original_ttl i;
+      expiration = expiration i;
+      inception = inception i;
+      key_tag = record { 0 = key_tag i };
+      signer = signer i;
+      signature = signature i;
+    })

@@ -1,0 +1,12 @@
+pub mod Base32Hex
+pub mod Bitmap
+pub mod Blocks
+pub mod Dnskey
+pub mod Ds
+pub mod KeyTag
+pub mod Layout
+pub mod Nsec
+pub mod Nsec3
+pub mod Reading
+pub mod Rrsig
+pub mod Time

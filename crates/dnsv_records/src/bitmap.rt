@@ -1,0 +1,63 @@
+//! The type bitmap of NSEC and NSEC3 (RFC 4034 4.1.2).
+ghost use Rattle.std.specs.Prelude.{◌≡◌, IfOk};
+ghost use Rattle.std.specs.Coded.{coded_ℕ};
+ghost use Rattle.std.specs.FinSet as set;
+ghost use Rattle.dnsv_records.specs.Bitmap.{Types, Bitmap, BitmapFault};
+ghost use Rattle.dnsv_records.specs.Blocks.{types_of, AreBlocks};
+ghost use Rattle.dnsv_records.specs.Reading.{IsFirstFault, Gives};
+
+use crate::blocks::{are_blocks, has_bit, window_bits};
+use crate::error::{Field, RecordError};
+use dnsv_names::RecordType;
+use std::alloc::Global;
+use std::marker::Model;
+
+/// A set of record types, kept as the octets that spell it.
+#[derive(Debug, Drop)]
+pub struct TypeBitmap {
+    octets: Vec<u8>,
+}
+
+impl Model for TypeBitmap {
+    ghost Value = { Types };
+
+    ghost coded = { set.code coded_ℕ };
+
+    ghost view = { λ bitmap. types_of bitmap.octets.items };
+
+    ghost invariant = { λ bitmap. AreBlocks 0 bitmap.octets.items };
+}
+
+impl TypeBitmap {
+    /// Reads the set that all the octets spell.
+    ///
+    /// `BadRdata` names the bitmap where they are not the one spelling of a set: a block is torn, has
+    /// no octets or more than 32, ends with an octet 0, or its window is not above the one before.
+    pub fn read(alloc: Global, octets: &[u8]) -> Result<TypeBitmap, RecordError>
+        ensures found { IfOk result (Bitmap octets.now) }
+        ensures every { (types : Types) → Bitmap octets.now types → Gives result types }
+        ensures fault { IsFirstFault result (BitmapFault octets.now) }
+    {
+        if !are_blocks(octets) {
+            return Err(RecordError::BadRdata(Field::Bitmap));
+        }
+        Ok(TypeBitmap {
+            octets: Vec::from_slice(alloc, octets)?,
+        })
+    }
+
+    /// The octets that spell the set.
+    pub fn write(&self) -> &[u8]
+        ensures { Bitmap result.now self.now }
+    {
+        &self.octets
+    }
+
+    /// Whether the type is in the set.
+    pub fn contains(&self, rtype: RecordType) -> bool
+        ensures { result ≡ set.contains self.now rtype.0 }
+    {
+        let bits = window_bits(self.octets.as_slice(), rtype.0 / 256);
+        has_bit(bits, usize::from(rtype.0 % 256))
+    }
+}

@@ -1,0 +1,99 @@
+//! The RDATA of NSEC3 (RFC 5155 3).
+use crate::bitmap::TypeBitmap;
+use crate::error::{Field, RecordError};
+use crate::number::{split_counted, u16_at};
+use crate::octets::Octets;
+use std::alloc::Global;
+
+/// How many octets stand before the salt's length.
+const HEAD: usize = 4;
+
+/// How many octets a hash by SHA-1 has (RFC 5155 11).
+const HASH_LENGTH: usize = 20;
+
+/// How many more times than once a name is hashed at most, in a record that is used.
+pub const ITERATIONS_LIMIT: u16 = 500;
+
+/// The number of an algorithm that hashes names (RFC 5155 11).
+#[derive(Clone, Copy, Debug, PartialEq, Eq, PartialOrd, Ord, Hash)]
+pub struct HashAlgorithm(pub u8);
+
+impl HashAlgorithm {
+    /// SHA-1 (RFC 5155 11).
+    pub const SHA1: HashAlgorithm = HashAlgorithm(1);
+}
+
+/// The flags of an NSEC3 record (RFC 5155 3.1.2).
+#[derive(Clone, Copy, Debug, PartialEq, Eq, PartialOrd, Ord, Hash)]
+pub struct Nsec3Flags(pub u8);
+
+impl Nsec3Flags {
+    ghost use Rattle.std.specs.Prelude.{IsTrue, ◌↔◌, IsBitSet};
+
+    /// Whether unsigned delegations may be left out between the owner and the next hash: the Opt-Out
+    /// flag, of value 1 (RFC 5155 3.1.2.1).
+    pub fn is_opt_out(self) -> bool
+        ensures { IsTrue result ↔ IsBitSet self.0 0 }
+    {
+        self.0 & 1 != 0
+    }
+}
+
+/// Which types the name with the owner's hash has, and which hash is the next of the zone (RFC 5155 3.1).
+#[derive(Debug, Drop)]
+pub struct Nsec3 {
+    pub algorithm: HashAlgorithm,
+    pub flags: Nsec3Flags,
+    /// How many more times than once a name is hashed.
+    pub iterations: u16,
+    /// What each hash is made with besides.
+    pub salt: Octets,
+    /// The next owner's hash; behind the last one the first.
+    pub next_hash: Octets,
+    /// The types that the name has.
+    pub types: TypeBitmap,
+}
+
+impl Nsec3 {
+    ghost use Rattle.std.specs.Prelude.{IfOk, IsTrue, ◌↔◌};
+    ghost use Rattle.dnsv_records.specs.Nsec3.{IsNsec3, Nsec3Fault, IsUsable};
+    ghost use Rattle.dnsv_records.specs.Reading.{IsFirstFault, Gives};
+
+    /// Reads an NSEC3's RDATA. `BadRdata` names the first of head, salt, hash and bitmap that is not
+    /// there or is wrong. A hash of no octets is read too.
+    pub fn read(alloc: Global, rdata: &[u8]) -> Result<Nsec3, RecordError>
+        ensures found { IfOk result (IsNsec3 rdata.now) }
+        ensures every { (nsec3 : Nsec3) → IsNsec3 rdata.now nsec3 → Gives result nsec3 }
+        ensures fault { IsFirstFault result (Nsec3Fault rdata.now) }
+    {
+        if rdata.len() < HEAD {
+            return Err(RecordError::BadRdata(Field::Head));
+        }
+        let Some((salt, behind_salt)) = split_counted(&rdata[HEAD..]) else {
+            return Err(RecordError::BadRdata(Field::Salt));
+        };
+        let Some((next_hash, bits)) = split_counted(behind_salt) else {
+            return Err(RecordError::BadRdata(Field::Hash));
+        };
+        let types = TypeBitmap::read(alloc, bits)?;
+        Ok(Nsec3 {
+            algorithm: HashAlgorithm(rdata[0]),
+            flags: Nsec3Flags(rdata[1]),
+            iterations: u16_at(rdata, 2),
+            salt: Octets::copy_of(alloc, salt)?,
+            next_hash: Octets::copy_of(alloc, next_hash)?,
+            types,
+        })
+    }
+
+    /// Whether the record may carry a denial: it hashes by SHA-1 with at most 500 iterations, has no
+    /// flags but Opt-Out (RFC 5155 8.2), and its next hash has 20 octets.
+    pub fn is_usable(&self) -> bool
+        ensures { IsTrue result ↔ IsUsable self.now }
+    {
+        self.algorithm == HashAlgorithm::SHA1
+            && self.flags.0 <= 1
+            && self.next_hash.as_slice().len() == HASH_LENGTH
+            && self.iterations <= ITERATIONS_LIMIT
+    }
+}

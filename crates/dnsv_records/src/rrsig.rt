@@ -1,0 +1,63 @@
+//! The RDATA of RRSIG (RFC 4034 3).
+use crate::error::{Field, RecordError};
+use crate::number::{Algorithm, KeyTag, u16_at, u32_at};
+use crate::octets::Octets;
+use dnsv_names::{Name, RecordType};
+use std::alloc::Global;
+
+/// How many octets stand before the signer's name.
+const HEAD: usize = 18;
+
+/// A signature over an RRset (RFC 4034 3.1).
+#[derive(Debug, Drop)]
+pub struct Rrsig {
+    /// The type of the records that are signed.
+    pub type_covered: RecordType,
+    pub algorithm: Algorithm,
+    /// How many labels the owner's name had when it was signed, the root and a leftmost `*` not counted.
+    pub labels: u8,
+    /// The time to live of the records when they were signed, in seconds.
+    pub original_ttl: u32,
+    /// The last moment at which the signature is valid, in seconds since 1970, modulo 2^32.
+    pub expiration: u32,
+    /// The first moment at which the signature is valid, in seconds since 1970, modulo 2^32.
+    pub inception: u32,
+    /// The tag of the key that signed.
+    pub key_tag: KeyTag,
+    /// The zone whose key signed, as it is spelled.
+    pub signer: Name,
+    pub signature: Octets,
+}
+
+impl Rrsig {
+    ghost use Rattle.std.specs.Prelude.{IfOk};
+    ghost use Rattle.dnsv_records.specs.Rrsig.{IsRrsig, RrsigFault};
+    ghost use Rattle.dnsv_records.specs.Reading.{IsFirstFault, Gives};
+
+    /// Reads an RRSIG's RDATA. `BadRdata` names the head where fewer than 18 octets are there, and
+    /// the name where no uncompressed name follows.
+    pub fn read(alloc: Global, rdata: &[u8]) -> Result<Rrsig, RecordError>
+        ensures found { IfOk result (IsRrsig rdata.now) }
+        ensures every { (rrsig : Rrsig) → IsRrsig rdata.now rrsig → Gives result rrsig }
+        ensures fault { IsFirstFault result (RrsigFault rdata.now) }
+    {
+        if rdata.len() < HEAD {
+            return Err(RecordError::BadRdata(Field::Head));
+        }
+        let Some((signer, length)) = Name::read(&rdata[HEAD..]) else {
+            return Err(RecordError::BadRdata(Field::Name));
+        };
+        let signature = Octets::copy_of(alloc, &rdata[HEAD + length..])?;
+        Ok(Rrsig {
+            type_covered: RecordType(u16_at(rdata, 0)),
+            algorithm: Algorithm(rdata[2]),
+            labels: rdata[3],
+            original_ttl: u32_at(rdata, 4),
+            expiration: u32_at(rdata, 8),
+            inception: u32_at(rdata, 12),
+            key_tag: KeyTag(u16_at(rdata, 16)),
+            signer,
+            signature,
+        })
+    }
+}
