@@ -1,15 +1,14 @@
 -- Wire forms: what they spell, how they begin and end, and what lower case leaves of them.
-use Rattle.std.proofs.Common.{◌≡◌, ℕ, zero, suc, ◌+◌, ◌-◌, ◌*◌, ◌<◌, ◌≤◌, List, [], ◌∷◌, ◌++◌, length, get_or, take, drop, map, refl, sym, ap, ◌∙◌, arith, rules, append_assoc, length-append, length-drop, add-one, add-zero, add_assoc, ⊎_elim, Some, Bool}
+use Rattle.std.proofs.Common.{◌≡◌, ℕ, zero, suc, ◌+◌, ◌*◌, ◌<◌, ◌≤◌, List, [], ◌∷◌, ◌++◌, length, get_or, take, drop, map, refl, sym, ap, ◌∙◌, arith, append_assoc, length-append, length-drop, add-zero, add_assoc, ⊎_elim, Some, Bool}
 use Rattle.std.proofs.lemmas.Bool.Decides.{nat_tests}
 use Rattle.std.proofs.lemmas.Bool.{cases_lt}
 use Rattle.std.proofs.lemmas.List.{take_at, drop_at, drop-drop, map-append, length-map, drop_more, drop_all, get_or-drop, append-nil, take_all}
-use Rattle.std.proofs.lemmas.Bool.Decides.{Decides-eqb}
 use Rattle.std.specs.Bool.{Decides, one_answer}
 use Rattle.std.specs.Char.{to_ascii_lowercase}
-use lib.Pointwise.{pointwise_decides}
 use Rattle.std.proofs.lemmas.Option.{slice_get-get_or}
 use Rattle.std.specs.List.{AllByRecursion, refill, slice_get}
 use Rattle.dnsv_names.specs.Name.{Labels, IsLabel, IsName, wire, lower_case, SameName, same_name}
+use Rattle.dnsv_names.specs.OrderLaws.{same_name_Decides}
 use Rattle.dnsv_names.specs.Spelling.{labels_after, labels_of, SpellsName}
 
 -- a slice that is written as a whole is what was written
@@ -71,7 +70,7 @@ lower_octets : (label : List ℕ) → AllByRecursion (λ octet. octet < 256) lab
 lower_octets [] each = tt
 lower_octets (octet ∷ label) each = (lower_octet octet each.0, lower_octets label each.1)
 
-lower_labels : (labels : Labels) → AllByRecursion IsLabel labels → AllByRecursion IsLabel (lower_case labels)
+pub lower_labels : (labels : Labels) → AllByRecursion IsLabel labels → AllByRecursion IsLabel (lower_case labels)
 lower_labels [] each = tt
 lower_labels (label ∷ labels) each =
     (record { not_empty = rw length-map each.0.not_empty; at_most_63 = rw length-map each.0.at_most_63; octets = lower_octets label each.0.octets }, lower_labels labels each.1)
@@ -151,9 +150,6 @@ module _ {octets : List ℕ} {place : ℕ} {labels : Labels} {k : ℕ} (stands :
       ap (take n) (label_stands more) ∙ take_at (get_or labels k []) (wire (drop (k + 1) labels)) n (sym (size ∙ label_length more))
 
 -- the test of equal names is the same fact on their wire forms
-pub same_name_Decides : (a b : Labels) → Decides (same_name a b) (SameName a b)
-same_name_Decides a b = pointwise_decides (pointwise_decides Decides-eqb) (lower_case a) (lower_case b)
-
 pub same_name_from_wire : (xs ys : List ℕ) (answer : Bool) → SpellsName xs → SpellsName ys → Decides answer (map to_ascii_lowercase xs ≡ map to_ascii_lowercase ys) → answer ≡ same_name (labels_of xs) (labels_of ys)
 same_name_from_wire xs ys answer x y decides =
     let lower_x : map to_ascii_lowercase xs ≡ wire (lower_case (labels_of xs)) = ap (map to_ascii_lowercase) x.whole ∙ lower_case-wire _ x.name.each in

@@ -1,11 +1,10 @@
 -- Reading a wire form from the left: what is behind the place decides what the octets are as a whole.
-use Rattle.std.proofs.Common.{◌≡◌, ℕ, zero, suc, ◌+◌, ◌-◌, ◌*◌, ◌<◌, ◌≤◌, List, [], ◌∷◌, ◌++◌, length, get_or, take, drop, refl, sym, ap, ◌∙◌, arith, append_assoc, length-append, length-drop, add-zero, add_assoc, Option, Some, None}
-use Rattle.std.proofs.lemmas.List.{drop_at, take_at, drop-drop, drop_more, get_or-drop, take-append-drop, append-nil, length-take-le, append_cancel_left}
+use Rattle.std.proofs.Common.{◌≡◌, ℕ, ◌+◌, ◌<◌, ◌≤◌, List, [], ◌∷◌, ◌++◌, length, get_or, take, drop, refl, sym, ap, ◌∙◌, arith, append_assoc, length-append, length-drop, add-zero, add_assoc}
+use Rattle.std.proofs.lemmas.List.{drop_at, drop-drop, drop_more, get_or-drop, take-append-drop, length-take-le}
 use Rattle.std.proofs.lemmas.List.Elements.{All-from_get_or, All-take, All-drop, recursion_from_All}
 use Rattle.std.specs.List.{AllByRecursion}
-use Rattle.dnsv_names.specs.Name.{Labels, IsLabel, IsName, wire}
-use Rattle.dnsv_names.specs.Spelling.{labels_of, SpellsName}
-use Rattle.dnsv_names.proofs.NameLemmas.{SpellsName-wire, wire_not_empty}
+use Rattle.dnsv_names.specs.Name.{Labels, IsLabel, wire}
+use Rattle.dnsv_names.proofs.NameLemmas.{wire_not_empty}
 
 -- at the place begins the wire form of the labels, and then the rest
 pub record Spells (octets : List ℕ) (place : ℕ) (labels : Labels) (rest : List ℕ) : Type 0 where

@@ -1,11 +1,23 @@
-//! Domain names (RFC 1035, RFC 4343): what the octets of a name are, and when two names are equal.
+//! Domain names (RFC 1035, RFC 4343): what they are, as octets and as text, when two are equal, and in
+//! which order they stand.
 #![tactic(auto)]
 
+pub use error::NameError;
 pub use hash20::Hash20;
 pub use name::{LABEL_LIMIT, Name, WIRE_LIMIT};
 pub use number::RecordType;
+pub use order::{
+    canonical_order_is_total, names_at_or_below_are_an_interval, names_at_or_below_begin_alike,
+    names_come_before_those_below,
+};
+pub use parse::{a_text_has_one_reading, names_are_spelled_by_their_text};
 
+mod error;
 mod hash20;
 mod name;
 mod number;
+mod order;
+mod parse;
+mod text;
+mod tree;
 mod wire;

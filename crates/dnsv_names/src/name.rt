@@ -21,7 +21,7 @@ pub const WIRE_LIMIT: usize = 255;
 /// most 255 octets. It lies in the value itself and takes no memory.
 #[derive(Debug, Drop)]
 pub struct Name {
-    octets: ArrayVec<u8, WIRE_LIMIT>,
+    pub(crate) octets: ArrayVec<u8, WIRE_LIMIT>,
 }
 
 impl Model for Name {

@@ -1,4 +1,3 @@
-use Rattle.std.proofs.Common.{◌≡◌, drop}
 use Rattle.dnsv_names.specs.Spelling.{labels_of}
 use Rattle.dnsv_names.proofs.NameLemmas.{Stands}
 use Rattle.dnsv_names.proofs.wire.label_place.Given as goal

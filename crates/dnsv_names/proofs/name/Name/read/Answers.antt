@@ -1,6 +1,6 @@
-use Rattle.std.proofs.Common.{◌≡◌, ℕ, length, take, sym, ap, ◌∙◌, Some, unwrap_or}
+use Rattle.std.proofs.Common.{◌≡◌, length, take, sym, ap, ◌∙◌, Some, unwrap_or}
 use Rattle.std.proofs.lemmas.List.{take_at}
-use Rattle.dnsv_names.specs.Name.{Labels, IsName, wire}
+use Rattle.dnsv_names.specs.Name.{wire}
 use Rattle.dnsv_names.specs.Spelling.{labels_of}
 use Rattle.dnsv_names.proofs.NameLemmas.{labels_of-wire}
 use Rattle.dnsv_names.proofs.name.Name.read.Goals as goal

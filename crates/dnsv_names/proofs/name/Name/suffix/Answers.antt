@@ -1,4 +1,4 @@
-use Rattle.std.proofs.Common.{◌≡◌, ◌-◌, ◌++◌, length, take, drop, sym, ap, ◌∙◌, arith}
+use Rattle.std.proofs.Common.{◌≡◌, ◌-◌, ◌++◌, length, take, drop, sym, ap, ◌∙◌}
 use Rattle.std.proofs.lemmas.List.{take-append-drop, take_rest}
 use Rattle.dnsv_names.specs.Name.{wire, lower_case, rightmost}
 use Rattle.dnsv_names.specs.Spelling.{labels_of}

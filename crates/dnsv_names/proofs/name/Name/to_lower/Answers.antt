@@ -1,4 +1,4 @@
-use Rattle.std.proofs.Common.{◌≡◌, sym, ap, ◌∙◌, map}
+use Rattle.std.proofs.Common.{◌≡◌, ap, ◌∙◌, map}
 use Rattle.std.specs.Char.{to_ascii_lowercase}
 use Rattle.dnsv_names.specs.Name.{wire, lower_case}
 use Rattle.dnsv_names.specs.Spelling.{labels_of}

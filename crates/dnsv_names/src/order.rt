@@ -1,0 +1,130 @@
+//! The canonical order of names (RFC 4034 6.1), and their hash.
+ghost use Rattle.std.specs.Prelude.{◌≡◌, ◌↔◌, ◌<◌, ◌+◌, ◌++◌, refl, length, take, drop, map, slice_index};
+ghost use Rattle.std.specs.Char.{to_ascii_lowercase};
+ghost use Rattle.std.specs.Cmp.{IsTotalOrder, partial_order_from_agreeing_total};
+ghost use Rattle.std.specs.Ordering.{as_partial_cmp};
+ghost use Rattle.dnsv_names.specs.Name.{Labels, SameName, IsAtOrBelow};
+ghost use Rattle.dnsv_names.specs.Order.{label_cmp, from_the_right, canonical_cmp, IsBefore, IsBelow};
+ghost use Rattle.dnsv_names.specs.OrderLaws.{canonical_cmp_total, same_name_ties, hash_input_of, hash_respects_eq};
+ghost use Rattle.dnsv_names.specs.Spelling.{labels_of, SpellsName};
+
+use crate::name::Name;
+use crate::wire::{label_count, label_place};
+use std::cmp::Ordering;
+use std::hash::{Hash, Hasher};
+
+impl Name {
+    /// Compares two names in canonical order: labels from the rightmost on, each as unsigned octets
+    /// with A to Z in lower case. A missing octet comes before any octet, and a missing label before
+    /// any label.
+    pub fn canonical_cmp(&self, other: &Name) -> Ordering
+        ensures { result ≡ canonical_cmp self.now other.now }
+    {
+        compared(self.wire(), other.wire())
+    }
+}
+
+/// The canonical order.
+impl Ord for Name {
+    ghost cmp = { canonical_cmp };
+
+    ghost total = { canonical_cmp_total };
+
+    ghost matches_partial_cmp = { λ a b. refl };
+
+    ghost matches_eq = { same_name_ties };
+
+    fn cmp(&self, other: &Name) -> Ordering {
+        self.canonical_cmp(other)
+    }
+}
+
+impl PartialOrd for Name {
+    ghost partial_cmp = { as_partial_cmp canonical_cmp };
+
+    ghost laws = { partial_order_from_agreeing_total canonical_cmp canonical_cmp_total (λ a b. refl) same_name_ties };
+
+    fn partial_cmp(&self, other: &Name) -> Option<Ordering> {
+        Some(self.cmp(other))
+    }
+}
+
+/// Names that are equal have one hash, whatever their case.
+impl Hash for Name {
+    ghost hash_input = { hash_input_of };
+
+    ghost respects_eq = { hash_respects_eq };
+
+    fn hash<H: Hasher>(&self, state: &mut H) {
+        self.to_lower().wire().hash(state);
+    }
+}
+
+/// The canonical order of the names whose wire forms these are.
+fn compared(a: &[u8], b: &[u8]) -> Ordering
+    requires first { SpellsName a.now }
+    requires second { SpellsName b.now }
+    ensures { result ≡ canonical_cmp (labels_of a.now) (labels_of b.now) }
+{
+    let in_a = label_count(a);
+    let in_b = label_count(b);
+    let shared = in_a.min(in_b);
+    let mut a_place = label_place(a, in_a - shared);
+    let mut b_place = label_place(b, in_b - shared);
+    let mut order = Ordering::Equal;
+    // From left to right, so that a label decides before those to its left.
+    for _i in 0..shared {
+        let a_label = label_at(a, a_place);
+        let b_label = label_at(b, b_place);
+        order = label_order(a_label, b_label).then(order);
+        a_place += 1 + a_label.len();
+        b_place += 1 + b_label.len();
+    }
+    order.then(in_a.cmp(&in_b))
+}
+
+/// The octets of the label whose length stands at the place.
+fn label_at(octets: &[u8], place: usize) -> &[u8]
+    requires { place + slice_index octets.now place < length octets.now }
+    ensures { result.now ≡ take (slice_index octets.now place) (drop (place + 1) octets.now) }
+{
+    let start = place + 1;
+    &octets[start..start + octets[place] as usize]
+}
+
+/// The order of two labels, without regard to case.
+fn label_order(a: &[u8], b: &[u8]) -> Ordering
+    ensures { result ≡ label_cmp (map to_ascii_lowercase a.now) (map to_ascii_lowercase b.now) }
+{
+    let a = a.iter().map(|octet| octet.to_ascii_lowercase());
+    let b = b.iter().map(|octet| octet.to_ascii_lowercase());
+    a.cmp(b)
+}
+
+/// A law of the canonical order: it is total, and its equality is that of names.
+pub fn canonical_order_is_total()
+    ensures total { IsTotalOrder canonical_cmp }
+    ensures equality { (a b : Labels) → (canonical_cmp a b ≡ Ordering.Equal) ↔ SameName a b }
+{}
+
+/// A law of the tree of names: a name is at or below another where its labels, from the right and in
+/// lower case, begin with those of the other.
+pub fn names_at_or_below_begin_alike()
+    ensures { (name above : Labels) → IsAtOrBelow name above
+        ↔ ((rest : Labels) × (from_the_right name ≡ from_the_right above ++ rest)) }
+{}
+
+/// A law of the canonical order: a name comes before every name below it.
+pub fn names_come_before_those_below()
+    ensures { (name above : Labels) → IsBelow name above → IsBefore above name }
+{}
+
+/// A law of the canonical order: the names at or below a name follow each other, with no other name
+/// between them.
+pub fn names_at_or_below_are_an_interval()
+    ensures { (above x y z : Labels) → IsAtOrBelow x above → IsAtOrBelow z above
+        → IsBefore x y → IsBefore y z → IsAtOrBelow y above }
+{}
+
+#[cfg(test)]
+mod tests;

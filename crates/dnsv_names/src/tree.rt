@@ -1,0 +1,59 @@
+//! Names above and below a name (RFC 1034 3.1).
+ghost use Rattle.std.specs.Prelude.{◌≡◌, ◌↔◌, ◌<◌, ◌≤◌, List, ℕ, [], ◌∷◌, length, MatchOption, MatchResult, IsTrue, IfOk};
+ghost use Rattle.dnsv_names.specs.Name.{Labels, IsName, IsAtOrBelow, wire};
+ghost use Rattle.dnsv_names.specs.Tree.{wildcard_of};
+
+use crate::error::NameError;
+use crate::name::{Name, WIRE_LIMIT};
+use crate::wire::label_place;
+use arrayvec::ArrayVec;
+
+// The label `*` in wire form.
+const STAR: &[u8] = b"\x01*";
+
+impl Name {
+    /// The name without its leftmost label; `None` for the root.
+    pub fn parent(&self) -> Option<Name>
+        ensures { MatchOption result (self.now ≡ [])
+            (λ parent. (label : List ℕ) × (self.now ≡ label ∷ parent)) }
+    {
+        let above = self.labels().checked_sub(1)?;
+        Some(self.suffix(above))
+    }
+
+    /// Whether the name is `above` or stands below it: the labels of `above` end those of the name,
+    /// without regard to case.
+    pub fn is_at_or_below(&self, above: &Name) -> bool
+        ensures { IsTrue result ↔ IsAtOrBelow self.now above.now }
+    {
+        let count = self.labels();
+        let kept = above.labels();
+        if kept > count {
+            return false;
+        }
+        let octets = self.wire();
+        let place = label_place(octets, count - kept);
+        octets[place..].eq_ignore_ascii_case(above.wire())
+    }
+
+    /// The wildcard right below the name: `*` and then the name's labels (RFC 4592 2.1.1).
+    ///
+    /// `LongName` where its wire form has more than 255 octets.
+    pub fn wildcard_of(&self) -> Result<Name, NameError>
+        ensures variant { MatchResult result (λ name. name ≡ wildcard_of self.now)
+            (λ error. (error ≡ NameError.LongName) × (WIRE_LIMIT < length (wire (wildcard_of self.now)))) }
+        ensures name { IfOk result (λ name. IsName name) }
+    {
+        let below = self.wire();
+        if STAR.len() + below.len() > WIRE_LIMIT {
+            return Err(NameError::LongName);
+        }
+        let mut octets = ArrayVec::new();
+        octets.try_extend_from_slice(STAR).unwrap();
+        octets.try_extend_from_slice(below).unwrap();
+        Ok(Name { octets })
+    }
+}
+
+#[cfg(test)]
+mod tests;
