@@ -86,7 +86,7 @@ fn decode_fault(error: DecodeError, number: usize) -> Fault
         DecodeError::BadPointer => refused(Refusal::BadPointer, number, None),
         DecodeError::TooManyPointers => refused(Refusal::TooManyPointers, number, None),
         DecodeError::LongName => refused(Refusal::LongName, number, None),
-        DecodeError::BadRdata(record) => refused(Refusal::BadRdata, number, Some(record)),
+        DecodeError::BadRdata(faulty) => refused(Refusal::BadRdata, number, Some(faulty)),
         DecodeError::TrailingBytes => refused(Refusal::TrailingBytes, number, None),
     }
 }
