@@ -186,6 +186,31 @@ fn numbers_the_messages_and_their_rrsets(rt: HostRuntime) -> Result<(), Fail> {
 }
 
 #[test]
+fn lists_no_signature_of_another_section_or_message(rt: HostRuntime) -> Result<(), Fail> {
+    // The signature is the first record of the authority section.
+    let mut apart = *HOST;
+    apart[9] = 2;
+    apart[11] = 1;
+    let (answer, text) = listed(rt.alloc(), &apart)?;
+    assert_eq!(rt; answer, Ok(Status::Done));
+    assert_eq!(rt; text.len(), 0);
+    // The addresses in a message of 62 octets, and their signature in one of 71.
+    let mut octets = HOST[..64].to_vec(rt.alloc())?;
+    assert_eq!(rt; octets.len(), 64);
+    octets[1] = 62;
+    octets[9] = 2;
+    octets.extend_from_slice(&HOST[..32])?;
+    octets.extend_from_slice(&HOST[64..])?;
+    assert_eq!(rt; octets.len(), 137);
+    octets[65] = 71;
+    octets[73] = 1;
+    let (answer, text) = listed(rt.alloc(), &octets)?;
+    assert_eq!(rt; answer, Ok(Status::Done));
+    assert_eq!(rt; text.len(), 0);
+    Ok(())
+}
+
+#[test]
 fn lists_nothing_of_no_messages(rt: HostRuntime) -> Result<(), Fail> {
     let (answer, text) = listed(rt.alloc(), b"")?;
     assert_eq!(rt; answer, Ok(Status::Done));
