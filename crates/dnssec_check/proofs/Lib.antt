@@ -3,3 +3,4 @@ pub mod RowLemmas
 pub mod WalkLemmas
 pub mod ListingLemmas
 pub mod ReadableLemmas
+pub mod OneListing

@@ -1,6 +1,7 @@
 //! `dnssec_check`: what captured DNS messages prove.
 #![tactic(auto)]
 
+mod laws;
 mod line;
 mod listing;
 mod moment;

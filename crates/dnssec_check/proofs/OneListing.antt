@@ -1,0 +1,201 @@
+-- A file of octets has at most one listing, or one refusal, and never both.
+use Rattle.std.proofs.Common.{◌≡◌, ℕ, suc, ◌+◌, ◌<◌, List, [], ◌∷◌, ◌++◌, length, refl, sym, ap, subst, ◌∙◌, inl, inr, arith, append_assoc, Option}
+use Rattle.std.proofs.lemmas.List.{append-nil}
+use Rattle.std.specs.List.{AllByRecursion, AllZip, flat_map}
+use Rattle.dnsv_names.specs.Name.{Labels, IsLabel, wire}
+use Rattle.dnsv_message.specs.declared.errors.DecodeError.{DecodeError}
+use Rattle.dnsv_message.specs.declared.errors.DecodeError.TheVariants as decode
+use Rattle.dnsv_message.specs.Frames.{IsCapture, frame}
+use Rattle.dnsv_message.specs.Grammar.{MessageOf, FaultOf}
+use Rattle.dnsv_message.specs.Message.{Contents}
+use Rattle.dnsv_message.specs.NameAt.{AreOctets}
+use Rattle.dnsv_message.proofs.CaptureLemmas.{messages_alone, zero_length_alone}
+use Rattle.dnsv_message.proofs.FrameLemmas.{one_framing, same_front}
+use Rattle.dnsv_message.proofs.MessageLaws.{FaultOf_same, MessageOf_same, MessageOf_sound}
+use Rattle.dnsv_message.proofs.Numbers.{octet_fits}
+use Rattle.dnsv_records.specs.declared.rrsig.Rrsig.{Rrsig}
+use Rattle.dnsv_records.specs.Rrsig.{IsRrsig}
+use Rattle.dnsv_canonical.specs.Response.{IsResponse, IsTruncated}
+use Rattle.dnsv_canonical.specs.Rrsets.{Group, rrsets_of}
+use Rattle.dnsv_canonical.specs.SignedData.{signed_data_of}
+use Rattle.dnssec_check.specs.declared.status.Place.{Place}
+use Rattle.dnssec_check.specs.declared.status.Refusal.{Refusal}
+use Rattle.dnssec_check.specs.Listing.{data_line, SignatureLines, RrsetLines, IsEvidence, IsListing, MessageRefused, FirstRefused, IsNowhere, IsRefusal}
+use Rattle.dnssec_check.specs.Status.{IsToldAs}
+
+-- ---- the captured messages are octets
+
+parts_octets : (xs ys : List ℕ) → AreOctets (xs ++ ys) → AreOctets xs × AreOctets ys
+parts_octets [] ys are = (tt, are)
+parts_octets (x ∷ xs) ys are = let rest = parts_octets xs ys are.1 in ((are.0, rest.0), rest.1)
+
+frames_octets : (frames : List (List ℕ)) → AreOctets (flat_map frame frames) → AllByRecursion AreOctets frames
+frames_octets [] are = tt
+frames_octets (octets ∷ frames) are =
+    let parts = parts_octets (frame octets) (flat_map frame frames) are in
+    (parts.0.1.1, frames_octets frames parts.1)
+
+captured_octets : (file : List ℕ) (frames : List (List ℕ)) → AreOctets file → IsCapture file frames → AllByRecursion AreOctets frames
+captured_octets file frames are captured =
+    frames_octets frames (subst AreOctets (captured.frames.whole ∙ append-nil (flat_map frame frames)) are)
+
+one_capture : (file : List ℕ) (a b : List (List ℕ)) → IsCapture file a → IsCapture file b → a ≡ b
+one_capture file a b x y = (one_framing file a b [] [] x.frames y.frames).0
+
+-- ---- the text
+
+-- spellings of two names that begin the same octets are of one name
+one_wire : (a b : Labels) (x y : List ℕ) → AllByRecursion IsLabel a → AllByRecursion IsLabel b → wire a ++ x ≡ wire b ++ y → (a ≡ b) × (x ≡ y)
+one_wire [] [] x y each other same = let behind : x ≡ y = cc in (refl, behind)
+one_wire [] (m ∷ b) x y each other same = let none : 0 ≡ length m = cc in absurd (omega (arith, none, other.0.not_empty))
+one_wire (l ∷ a) [] x y each other same = let none : length l ≡ 0 = cc in absurd (omega (arith, none, each.0.not_empty))
+one_wire (l ∷ a) (m ∷ b) x y each other same =
+    let size : length l ≡ length m = cc in
+    let behind : (l ++ wire a) ++ x ≡ (m ++ wire b) ++ y = cc in
+    let front = same_front l m (wire a ++ x) (wire b ++ y) size (sym (append_assoc l (wire a) x) ∙ behind ∙ append_assoc m (wire b) y) in
+    let rest = one_wire a b x y each.1 other.1 front.1 in
+    (ap (λ label. label ∷ a) front.0 ∙ ap (λ labels. m ∷ labels) rest.0, rest.1)
+
+-- the RDATA of a signature is read in one way
+one_rrsig : (rdata : List ℕ) (a b : Rrsig) → IsRrsig rdata a → IsRrsig rdata b → a ≡ b
+one_rrsig rdata a b p q =
+    let behind = one_wire a.signer b.signer a.signature b.signature p.name.each q.name.each (sym p.rest ∙ q.rest) in
+    let covered : a.type_covered.0 ≡ b.type_covered.0 = p.type_covered ∙ sym q.type_covered in
+    let algorithms : a.algorithm.0 ≡ b.algorithm.0 = p.algorithm ∙ sym q.algorithm in
+    let counts : a.labels ≡ b.labels = p.labels ∙ sym q.labels in
+    let ttls : a.original_ttl ≡ b.original_ttl = p.original_ttl ∙ sym q.original_ttl in
+    let ends : a.expiration ≡ b.expiration = p.expiration ∙ sym q.expiration in
+    let begins : a.inception ≡ b.inception = p.inception ∙ sym q.inception in
+    let tags : a.key_tag.0 ≡ b.key_tag.0 = p.key_tag ∙ sym q.key_tag in
+    λ i. record {
+      type_covered = record { 0 = covered i };
+      algorithm = record { 0 = algorithms i };
+      labels = counts i;
+      original_ttl = ttls i;
+      expiration = ends i;
+      inception = begins i;
+      key_tag = record { 0 = tags i };
+      signer = behind.0 i;
+      signature = behind.1 i;
+    }
+
+one_front : (number : ℕ) (rrset : Group) (signature : ℕ) (signatures : List (List ℕ)) (a b : List ℕ)
+    → SignatureLines number rrset signature signatures a → SignatureLines number rrset signature signatures b → a ≡ b
+one_front number rrset signature [] a b x y = x ∙ sym y
+one_front number rrset signature (rdata ∷ others) a b x y =
+    x.4 ∙ ap (λ rrsig. data_line number signature (signed_data_of rrset.owner rrset.rtype rrset.rdata rrsig) ++ x.1) (one_rrsig rdata x.0 y.0 x.2 y.2)
+    ∙ ap (λ rest. data_line number signature (signed_data_of rrset.owner rrset.rtype rrset.rdata y.0) ++ rest) (one_front number rrset (suc signature) others x.1 y.1 x.3 y.3)
+    ∙ sym y.4
+
+one_lines : (number : ℕ) (rrsets : List Group) (a b : List ℕ) → RrsetLines number rrsets a → RrsetLines number rrsets b → a ≡ b
+one_lines number [] a b x y = x ∙ sym y
+one_lines number (rrset ∷ rrsets) a b x y =
+    x.4 ∙ ap (λ front. front ++ x.1) (one_front number rrset 1 rrset.signatures x.0 y.0 x.2 y.2)
+    ∙ ap (λ rest. y.0 ++ rest) (one_lines (suc number) rrsets x.1 y.1 x.3 y.3)
+    ∙ sym y.4
+
+one_evidence : (frames : List (List ℕ)) (a b : List Contents) → AllByRecursion AreOctets frames → AllZip IsEvidence frames a → AllZip IsEvidence frames b → a ≡ b
+one_evidence [] [] [] are x y = refl
+one_evidence [] [] (n ∷ b) are x y = absurd y
+one_evidence [] (m ∷ a) b are x y = absurd x
+one_evidence (octets ∷ frames) [] b are x y = absurd x
+one_evidence (octets ∷ frames) (m ∷ a) [] are x y = absurd y
+one_evidence (octets ∷ frames) (m ∷ a) (n ∷ b) are x y =
+    ap (λ message. message ∷ a) (MessageOf_same octets (octet_fits octets are.0) m n x.0.is_message y.0.is_message)
+    ∙ ap (λ messages. n ∷ messages) (one_evidence frames a b are.1 x.1 y.1)
+
+-- a file has one listing
+pub one_listing : (file : List ℕ) → AreOctets file → (a b : List ℕ) → IsListing file a → IsListing file b → a ≡ b
+one_listing file are a b x y =
+    let frames = one_capture file y.frames x.frames y.captured x.captured in
+    let messages = one_evidence x.frames y.messages x.messages (captured_octets file x.frames are x.captured)
+    (subst (λ frames. AllZip IsEvidence frames y.messages) frames y.evidence) x.evidence in
+    one_lines 1 (rrsets_of x.messages) a b x.lines (subst (λ messages. RrsetLines 1 (rrsets_of messages) b) messages y.lines)
+
+-- ---- the refusal
+
+told_once : (error : DecodeError) (a b : Refusal) (m n : Option ℕ) → IsToldAs error a m → IsToldAs error b n → (a ≡ b) × (m ≡ n)
+told_once decode.OutOfMemory a b m n x y = absurd x
+told_once decode.Short a b m n x y = (x.0 ∙ sym y.0, x.1 ∙ sym y.1)
+told_once decode.BadLabel a b m n x y = (x.0 ∙ sym y.0, x.1 ∙ sym y.1)
+told_once decode.BadPointer a b m n x y = (x.0 ∙ sym y.0, x.1 ∙ sym y.1)
+told_once decode.TooManyPointers a b m n x y = (x.0 ∙ sym y.0, x.1 ∙ sym y.1)
+told_once decode.LongName a b m n x y = (x.0 ∙ sym y.0, x.1 ∙ sym y.1)
+told_once (decode.BadRdata k) a b m n x y = (x.0 ∙ sym y.0, x.1 ∙ sym y.1)
+told_once decode.TrailingBytes a b m n x y = (x.0 ∙ sym y.0, x.1 ∙ sym y.1)
+
+same_place : (p q : Place) → p.message ≡ q.message → p.record ≡ q.record → p.line ≡ q.line → p ≡ q
+same_place p q messages records lines = λ i. record { message = messages i; «record» = records i; line = lines i }
+
+same_nowhere : (p q : Place) → IsNowhere p → IsNowhere q → p ≡ q
+same_nowhere p q x y = same_place p q (x.0 ∙ sym y.0) (x.1 ∙ sym y.1) (x.2 ∙ sym y.2)
+
+module _ (octets : List ℕ) (are : AreOctets octets) where
+  same_message : (m n : Contents) → MessageOf octets m → MessageOf octets n → m ≡ n
+  same_message = MessageOf_same octets (octet_fits octets are)
+
+  no_fault : (m : Contents) (error : DecodeError) → MessageOf octets m → FaultOf octets error → ⊥
+  no_fault = MessageOf_sound octets (octet_fits octets are)
+
+  -- evidence isn't refused
+  evidence_stands : (message : Contents) (why : Refusal) (n : Option ℕ) → IsEvidence octets message → MessageRefused octets why n → ⊥
+  evidence_stands message why n evidence (inl fault) = no_fault message fault.0 evidence.is_message fault.1
+  evidence_stands message why n evidence (inr (inl query)) =
+      query.2 (subst (λ (m : Contents). IsResponse m.flags) (same_message message query.0 evidence.is_message query.1) evidence.is_response)
+  evidence_stands message why n evidence (inr (inr cut)) =
+      evidence.is_whole (subst (λ (m : Contents). IsTruncated m.flags) (same_message cut.0 message cut.1 evidence.is_message) cut.3)
+
+  refused_once : (a b : Refusal) (m n : Option ℕ) → MessageRefused octets a m → MessageRefused octets b n → (a ≡ b) × (m ≡ n)
+  refused_once a b m n (inl x) (inl y) =
+      told_once x.0 a b m n x.2 (subst (λ error. IsToldAs error b n) (FaultOf_same octets (octet_fits octets are) y.0 x.0 y.1 x.1) y.2)
+  refused_once a b m n (inl x) (inr (inl y)) = absurd (no_fault y.0 x.0 y.1 x.1)
+  refused_once a b m n (inl x) (inr (inr y)) = absurd (no_fault y.0 x.0 y.1 x.1)
+  refused_once a b m n (inr (inl x)) (inl y) = absurd (no_fault x.0 y.0 x.1 y.1)
+  refused_once a b m n (inr (inl x)) (inr (inl y)) = (x.3 ∙ sym y.3, x.4 ∙ sym y.4)
+  refused_once a b m n (inr (inl x)) (inr (inr y)) =
+      absurd (x.2 (subst (λ (m : Contents). IsResponse m.flags) (same_message y.0 x.0 y.1 x.1) y.2))
+  refused_once a b m n (inr (inr x)) (inl y) = absurd (no_fault x.0 y.0 x.1 y.1)
+  refused_once a b m n (inr (inr x)) (inr (inl y)) =
+      absurd (y.2 (subst (λ (m : Contents). IsResponse m.flags) (same_message x.0 y.0 x.1 y.1) x.2))
+  refused_once a b m n (inr (inr x)) (inr (inr y)) = (x.4 ∙ sym y.4, x.5 ∙ sym y.5)
+
+all_stand : (number : ℕ) (frames : List (List ℕ)) (messages : List Contents) (why : Refusal) (place : Place) → AllByRecursion AreOctets frames
+    → AllZip IsEvidence frames messages → FirstRefused number frames why place → ⊥
+all_stand number [] messages why place are evidence refused = refused
+all_stand number (octets ∷ frames) [] why place are evidence refused = evidence
+all_stand number (octets ∷ frames) (message ∷ messages) why place are evidence (inl here) =
+    evidence_stands octets are.0 message why place.record evidence.0 here.0
+all_stand number (octets ∷ frames) (message ∷ messages) why place are evidence (inr later) =
+    all_stand (suc number) frames messages why place are.1 evidence.1 later.1
+
+first_once : (number : ℕ) (frames : List (List ℕ)) (a b : Refusal) (p q : Place) → AllByRecursion AreOctets frames
+    → FirstRefused number frames a p → FirstRefused number frames b q → (a ≡ b) × (p ≡ q)
+first_once number [] a b p q are x y = absurd x
+first_once number (octets ∷ frames) a b p q are (inl x) (inl y) =
+    let same = refused_once octets are.0 a b p.record q.record x.0 y.0 in
+    (same.0, same_place p q (x.1 ∙ sym y.1) same.1 (x.2 ∙ sym y.2))
+first_once number (octets ∷ frames) a b p q are (inl x) (inr y) = absurd (evidence_stands octets are.0 y.0.0 a p.record y.0.1 x.0)
+first_once number (octets ∷ frames) a b p q are (inr x) (inl y) = absurd (evidence_stands octets are.0 x.0.0 b q.record x.0.1 y.0)
+first_once number (octets ∷ frames) a b p q are (inr x) (inr y) = first_once (suc number) frames a b p q are.1 x.1 y.1
+
+-- a file with a listing isn't refused
+pub listing_stands : (file : List ℕ) → AreOctets file → (text : List ℕ) (why : Refusal) (place : Place) → IsListing file text → IsRefusal file why place → ⊥
+listing_stands file are text why place x (inl zero) = (messages_alone file x.frames x.captured).0 zero.0
+listing_stands file are text why place x (inr (inl torn)) = (messages_alone file x.frames x.captured).1 torn.0
+listing_stands file are text why place x (inr (inr y)) =
+    all_stand 1 x.frames x.messages why place (captured_octets file x.frames are x.captured) x.evidence
+    (subst (λ frames. FirstRefused 1 frames why place) (one_capture file y.0 x.frames y.1 x.captured) y.2)
+
+-- a file has one refusal
+pub one_refusal : (file : List ℕ) → AreOctets file → (a b : Refusal) (p q : Place) → IsRefusal file a p → IsRefusal file b q → (a ≡ b) × (p ≡ q)
+one_refusal file are a b p q (inl x) (inl y) = (x.1 ∙ sym y.1, same_nowhere p q x.2 y.2)
+one_refusal file are a b p q (inl x) (inr (inl y)) = absurd ((zero_length_alone file x.0).0 y.0)
+one_refusal file are a b p q (inl x) (inr (inr y)) = absurd ((messages_alone file y.0 y.1).0 x.0)
+one_refusal file are a b p q (inr (inl x)) (inl y) = absurd ((zero_length_alone file y.0).0 x.0)
+one_refusal file are a b p q (inr (inl x)) (inr (inl y)) = (x.1 ∙ sym y.1, same_nowhere p q x.2 y.2)
+one_refusal file are a b p q (inr (inl x)) (inr (inr y)) = absurd ((messages_alone file y.0 y.1).1 x.0)
+one_refusal file are a b p q (inr (inr x)) (inl y) = absurd ((messages_alone file x.0 x.1).0 y.0)
+one_refusal file are a b p q (inr (inr x)) (inr (inl y)) = absurd ((messages_alone file x.0 x.1).1 y.0)
+one_refusal file are a b p q (inr (inr x)) (inr (inr y)) =
+    first_once 1 x.0 a b p q (captured_octets file x.0 are x.1) x.2
+    (subst (λ frames. FirstRefused 1 frames b q) (one_capture file y.0 x.0 y.1 x.1) y.2)
