@@ -9,7 +9,8 @@ abbrev pub blocks_after : ℕ → List ℕ → List Block
 blocks_after skipped [] = []
 blocks_after (suc skipped) (octet ∷ octets) = blocks_after skipped octets
 blocks_after zero (window ∷ []) = []
-blocks_after zero (window ∷ count ∷ octets) = record { window = window; bits = take count octets } ∷ blocks_after count octets
+blocks_after zero (window ∷ count ∷ octets) =
+    record { window = window; bits = take count octets } ∷ blocks_after count octets
 
 abbrev pub blocks_of : List ℕ → List Block
 blocks_of octets = blocks_after 0 octets
