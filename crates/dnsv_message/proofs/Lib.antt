@@ -6,3 +6,4 @@ pub mod NameLaws
 pub mod MessageLaws
 pub mod CaptureLemmas
 pub mod FrameLemmas
+pub mod FramerLemmas
