@@ -57,18 +57,18 @@ one_feeding rest piece old a b r s x y =
 -- nothing comes behind a length 0
 nothing_behind_zero : (piece : List ℕ) (old new : List (List ℕ)) (left : List ℕ) → Gains old new (0 ∷ (0 ∷ piece)) left → (new ≡ old) × IsZero left
 nothing_behind_zero piece old new left x =
-    let none = Gains-none old (0 ∷ (0 ∷ piece)) (0 ∷ (0 ∷ piece)) refl (zero_begins_no_frame piece) in
-    let same = one_framing (0 ∷ (0 ∷ piece)) x.messages [] left (0 ∷ (0 ∷ piece)) x.frames none.frames in
+    let same = one_framing (0 ∷ (0 ∷ piece)) x.messages [] left (0 ∷ (0 ∷ piece)) x.frames
+    (record { whole = refl; each = tt; no_more = zero_begins_no_frame piece }) in
     (x.gained ∙ ap (λ messages. old ++ messages) same.0 ∙ append-nil old, (piece, same.1))
 
 feed_on : (rest a b : List ℕ) (old mid new : List (List ℕ)) (left between end kept : List ℕ) → Gains old mid (rest ++ a) left → Keeps left between
     → Gains mid new (between ++ b) end → Keeps end kept → Feeds rest (a ++ b) old new kept
-feed_on rest a b old mid new left between end kept x (inl open) y keeps =
-    let joined = Gains-append old mid new (rest ++ a) b left end x (rw open.1 at y) in
+feed_on rest a b old mid new left between end kept x (inl goes_on) y keeps =
+    let joined = Gains-append old mid new (rest ++ a) b left end x (rw goes_on.1 at y) in
     record { left = end; gains = rw append_assoc at joined; keeps = keeps }
-feed_on rest a b old mid new left between end kept x (inr closed) y keeps =
-    let behind = nothing_behind_zero b mid new end (rw closed.1 at y) in
-    let still = zero_goes_on (rest ++ a) b x.messages left x.frames closed.0 in
+feed_on rest a b old mid new left between end kept x (inr ended) y keeps =
+    let behind = nothing_behind_zero b mid new end (rw ended.1 at y) in
+    let still = zero_goes_on (rest ++ a) b x.messages left x.frames ended.0 in
     let same : (rest ++ a) ++ b ≡ rest ++ (a ++ b) = append_assoc rest a b in
     record {
       left = left ++ b;
@@ -124,3 +124,15 @@ rest_of-bound (Some OutOfMemory) rest within = within
 rest_of-bound (Some Read) rest within = within
 rest_of-bound (Some TooLong) rest within = within
 rest_of-bound (Some TornFrame) rest within = within
+
+-- a framer that met a length 0 adds nothing
+pub Feeds-failed : (rest piece : List ℕ) (failed : Option ReadError) (frame : List ℕ) (old : List (List ℕ)) → rest_of failed frame ≡ rest → failed ≡ Some ZeroLength
+    → Feeds rest piece old old rest
+Feeds-failed rest piece failed frame old same is_zero =
+    let zero_rest : rest ≡ 0 ∷ (0 ∷ []) = sym same ∙ ap (λ why. rest_of why frame) is_zero in
+    let front : rest ++ piece ≡ 0 ∷ (0 ∷ piece) = ap (λ xs. xs ++ piece) zero_rest in
+    record {
+      left = 0 ∷ (0 ∷ piece);
+      gains = Gains-none old (rest ++ piece) (0 ∷ (0 ∷ piece)) front (zero_begins_no_frame piece);
+      keeps = inr ((piece, refl), zero_rest);
+    }

@@ -21,14 +21,15 @@ pub struct Framer {
 }
 
 impl Model for Framer {
-    ghost use Rattle.dnsv_message.specs.Framer.{Framing};
+    ghost use Rattle.std.specs.Prelude.{◌≤◌, length, IfSome};
+    ghost use Rattle.dnsv_message.specs.Framer.{Framing, IsPieceError};
     ghost use Rattle.dnsv_message.specs.OpenFrame.{rest_of};
 
     ghost Value = { Framing };
 
     ghost view = { λ framer. record { rest = rest_of framer.failed framer.frame; fault = framer.failed } };
 
-    ghost invariant = { λ framer. length framer.frame ≤ 65536 };
+    ghost invariant = { λ framer. (length framer.frame ≤ 65536) × IfSome framer.failed IsPieceError };
 }
 
 impl Framer {
