@@ -1,11 +1,11 @@
 -- What a framer keeps between pieces, and that the cutting of a stream doesn't matter.
-use Rattle.std.proofs.Common.{◌≡◌, ◌⊎◌, ℕ, ◌≤◌, List, [], ◌∷◌, ◌++◌, length, refl, sym, ap, ◌∙◌, inl, inr, arith, append_assoc, Option, Some, None}
+use Rattle.std.proofs.Common.{◌≡◌, ◌≢◌, ◌⊎◌, ℕ, ◌≤◌, List, [], ◌∷◌, ◌++◌, length, refl, sym, ap, ◌∙◌, inl, inr, arith, append_assoc, Option, Some, None}
 use Rattle.std.proofs.lemmas.List.{append-nil}
 use Rattle.std.specs.List.{AllByRecursion, flat_map}
 use Rattle.dnsv_message.specs.declared.errors.ReadError.{ReadError}
 use Rattle.dnsv_message.specs.declared.errors.ReadError.TheVariants.{OutOfMemory, Read, TooLong, ZeroLength, TornFrame}
 use Rattle.dnsv_message.specs.Frames.{frame, IsFramed, BeginsNoFrame, BeginsWith, Frames, IsZero}
-use Rattle.dnsv_message.specs.Framer.{Gains, Keeps, Feeds, FeedsAll}
+use Rattle.dnsv_message.specs.Framer.{Framing, Gains, IsEndError, Keeps, Feeds, FeedsAll}
 use Rattle.dnsv_message.specs.OpenFrame.{rest_of}
 use Rattle.dnsv_message.proofs.FrameLemmas.{Gains-append, Gains-none, one_framing, same_frame, zero_begins_no_frame}
 use Rattle.dnsv_message.proofs.CaptureLemmas.{zero_goes_on}
@@ -136,3 +136,8 @@ Feeds-failed rest piece failed frame old same is_zero =
       gains = Gains-none old (rest ++ piece) (0 ∷ (0 ∷ piece)) front (zero_begins_no_frame piece);
       keeps = inr ((piece, refl), zero_rest);
     }
+
+-- where a framer that hasn't failed may not end, a beginning of a frame is left
+pub torn_end : (framing : Framing) (error : ReadError) → framing.fault ≡ None → IsEndError framing error → (error ≡ TornFrame) × (framing.rest ≢ []) × ¬ IsZero framing.rest
+torn_end framing error sound (inl failed) = absurd (let same = sym sound ∙ failed in cc)
+torn_end framing error sound (inr torn) = (torn.1, torn.2, torn.3)

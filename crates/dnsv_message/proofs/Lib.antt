@@ -7,3 +7,4 @@ pub mod MessageLaws
 pub mod CaptureLemmas
 pub mod FrameLemmas
 pub mod FramerLemmas
+pub mod FileLemmas
