@@ -28,11 +28,10 @@ fn every_cut_gives_the_same(rt: HostRuntime) -> Result<(), Fail> {
 #[test]
 fn single_octets_give_the_same(rt: HostRuntime) -> Result<(), Fail> {
     let stream = capture(rt.alloc())?;
-    let octets = stream.as_slice();
     let mut framer = Framer::new(rt.alloc());
     let mut messages = Vec::new(rt.alloc());
-    for place in 0..191 {
-        framer.feed(&octets[place..place + 1], &mut messages)?;
+    for octet in stream.as_slice() {
+        framer.feed(&[*octet], &mut messages)?;
     }
     expect_both(&rt, &framer, messages);
     Ok(())
@@ -60,7 +59,10 @@ fn a_framer_that_failed_stays_failed(rt: HostRuntime) -> Result<(), Fail> {
     let mut messages = Vec::new(rt.alloc());
     let pieces: [&[u8]; 3] = [b"\x00\x01a\x00\x00\x00\x01b", b"\x00\x01c", b""];
     for piece in pieces {
-        assert_eq!(rt; framer.feed(piece, &mut messages), Err(ReadError::ZeroLength));
+        assert_eq!(rt;
+            framer.feed(piece, &mut messages),
+            Err(ReadError::ZeroLength)
+        );
         assert_eq!(rt; framer.finish(), Err(ReadError::ZeroLength));
         assert_eq!(rt; messages.len(), 1);
         assert_eq!(rt; messages[0].as_slice(), b"a".as_slice());
