@@ -6,7 +6,7 @@ use Rattle.std.proofs.KnownBytes.{Consumes-nil, Consumes-trans, Consumes-whole}
 use Rattle.std.specs.Io.KnownBytes.{Consumes, IsAtEnd}
 use Rattle.dnsv_message.specs.declared.TheConstants.{FILE_LIMIT}
 use Rattle.dnsv_message.specs.Frames.{Frames, IsZero, HasZeroLength, IsTooLong, EndsTorn, IsCapture}
-use Rattle.dnsv_message.specs.OpenFrame.{Gains}
+use Rattle.dnsv_message.specs.Framer.{Gains}
 use Rattle.dnsv_message.proofs.FrameLemmas.{Frames-append, one_framing, zero_begins_no_frame}
 
 -- the reader gave octets that are these messages and the rest, and so many may still come
@@ -60,7 +60,7 @@ HasRead-end old now next messages rest buf left count P x consumes none ended kn
     Consumes-whole old next x.octets P all ended (known x.octets (omega (arith, x.size)) x.frames)
 
 -- a length 0 stays one, whatever follows
-zero_goes_on : (stream more : List ℕ) (messages : List (List ℕ)) (rest : List ℕ) → Frames stream messages rest → IsZero rest
+pub zero_goes_on : (stream more : List ℕ) (messages : List (List ℕ)) (rest : List ℕ) → Frames stream messages rest → IsZero rest
     → Frames (stream ++ more) messages (rest ++ more) × IsZero (rest ++ more)
 zero_goes_on stream more messages rest x zero_rest =
     let still : rest ++ more ≡ 0 ∷ (0 ∷ (zero_rest.0 ++ more)) = ap (λ xs. xs ++ more) zero_rest.1 in (

@@ -6,7 +6,8 @@ use Rattle.std.proofs.lemmas.Bool.{cases_lt}
 use Rattle.std.proofs.lemmas.Grind.{flat_map-append}
 use Rattle.std.specs.List.{AllByRecursion, flat_map}
 use Rattle.dnsv_message.specs.Frames.{frame, IsFramed, BeginsNoFrame, Frames, IsZero}
-use Rattle.dnsv_message.specs.OpenFrame.{octets_of, Gains}
+use Rattle.dnsv_message.specs.Framer.{Gains, GainsFirst}
+use Rattle.dnsv_message.specs.OpenFrame.{octets_of}
 
 -- a number is known by its two octets
 pub same_number : (m n : ℕ) → m / 256 ≡ n / 256 → m % 256 ≡ n % 256 → m ≡ n
@@ -184,6 +185,30 @@ Gains-last old mid new before piece held end place x y =
     let whole : (before ++ take place piece) ++ drop place piece ≡ before ++ piece =
     append_assoc before (take place piece) (drop place piece) ∙ ap (λ xs. before ++ xs) (take-append-drop place piece) in
     rw (← whole) z
+
+-- a piece is given up on its way: what was added is the first of the stream's messages
+pub Gains-given_up : (old mid new : List (List ℕ)) (before piece held : List ℕ) (place : ℕ)
+    → Gains old mid (before ++ take place piece) held → new ≡ mid → GainsFirst old new (before ++ piece)
+Gains-given_up old mid new before piece held place x same =
+    let whole : (before ++ take place piece) ++ drop place piece ≡ before ++ piece =
+    append_assoc before (take place piece) (drop place piece) ∙ ap (λ xs. before ++ xs) (take-append-drop place piece) in
+    record {
+      messages = x.messages;
+      gained = same ∙ x.gained;
+      begins = record {
+        more = held ++ drop place piece;
+        whole = sym whole ∙ ap (λ xs. xs ++ drop place piece) x.frames.whole ∙ append_assoc (flat_map frame x.messages) held (drop place piece);
+        each = x.frames.each;
+      };
+    }
+
+-- how many octets an open frame has at most
+pub octets_of-bound : (high : Option ℕ) (announced : ℕ) (message : List ℕ) → announced ≤ 65535 → (0 < announced → length message < announced)
+    → length (octets_of high announced message) ≤ 65536
+octets_of-bound None zero message fits short = omega arith
+octets_of-bound (Some first) zero message fits short = omega arith
+octets_of-bound None (suc n) message fits short = omega (arith, short (omega arith))
+octets_of-bound (Some first) (suc n) message fits short = omega (arith, short (omega arith))
 
 -- a reading of the stream
 pub record Reading (stream : List ℕ) : Type 0 where

@@ -6,3 +6,5 @@ pub mod NameLaws
 pub mod MessageLaws
 pub mod CaptureLemmas
 pub mod FrameLemmas
+pub mod FramerLemmas
+pub mod FileLemmas

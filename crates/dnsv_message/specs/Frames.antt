@@ -28,6 +28,12 @@ pub record Frames (stream : List ℕ) (messages : List (List ℕ)) (rest : List 
   pub each : AllByRecursion IsFramed messages
   pub no_more : BeginsNoFrame rest
 
+-- the stream begins with the frames of these messages
+pub record BeginsWith (stream : List ℕ) (messages : List (List ℕ)) : Type 0 where
+  pub more : List ℕ
+  pub whole : stream ≡ flat_map frame messages ++ more
+  pub each : AllByRecursion IsFramed messages
+
 -- the rest begins with the length 0
 abbrev pub IsZero : List ℕ → Type 0
 IsZero rest = (more : List ℕ) × (rest ≡ 0 ∷ (0 ∷ more))

@@ -6,4 +6,5 @@ pub mod Steps
 pub mod Counted
 pub mod Frames
 pub mod OpenFrame
+pub mod Framer
 pub mod ReadError

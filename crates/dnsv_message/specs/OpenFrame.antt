@@ -1,8 +1,7 @@
--- How an `OpenFrame` keeps what has come of a frame. No public clause cites this module.
-use Rattle.std.specs.Prelude.{◌≡◌, ℕ, zero, suc, ◌/◌, ◌%◌, List, [], ◌∷◌, ◌++◌, Option, Some, None}
-use Rattle.dnsv_message.specs.Frames.{Frames}
+-- How an `OpenFrame` keeps what has come of a frame, and what a `Framer` shows of it. No public clause cites this module.
+use Rattle.std.specs.Prelude.{ℕ, zero, suc, ◌/◌, ◌%◌, List, [], ◌∷◌, Option, Some, None}
 use Rattle.dnsv_message.specs.declared.errors.ReadError.{ReadError}
-use Rattle.dnsv_message.specs.declared.errors.ReadError.TheVariants.{OutOfMemory, ZeroLength}
+use Rattle.dnsv_message.specs.declared.errors.ReadError.TheVariants.{ZeroLength}
 
 -- the octets that have come: the first of the length, or both and then those of the message
 abbrev pub octets_of : Option ℕ → ℕ → List ℕ → List ℕ
@@ -10,14 +9,8 @@ octets_of None zero message = []
 octets_of (Some high) zero message = high ∷ []
 octets_of high (suc more) message = suc more / 256 ∷ (suc more % 256 ∷ message)
 
--- messages came to the end of the old ones: those of the stream, of which this rest is left
-pub record Gains (old new : List (List ℕ)) (stream rest : List ℕ) : Type 0 where
-  pub messages : List (List ℕ)
-  pub gained : new ≡ old ++ messages
-  pub frames : Frames stream messages rest
-
--- what goes wrong with a piece of a stream
-abbrev pub IsPieceError : ReadError → Type 0
-IsPieceError OutOfMemory = Unit {0}
-IsPieceError ZeroLength = Unit {0}
-IsPieceError _ = ⊥
+-- the rest that a framer shows: where a length 0 failed it, that alone
+abbrev pub rest_of : Option ReadError → List ℕ → List ℕ
+rest_of None rest = rest
+rest_of (Some ZeroLength) rest = 0 ∷ (0 ∷ [])
+rest_of (Some _) rest = rest

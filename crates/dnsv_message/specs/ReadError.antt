@@ -10,3 +10,10 @@ read_error_code Read = 210
 read_error_code TooLong = 211
 read_error_code ZeroLength = 208
 read_error_code TornFrame = 209
+
+-- what goes wrong with a file of any octets
+abbrev pub IsFileError : ReadError → Type 0
+IsFileError OutOfMemory = Unit {0}
+IsFileError Read = Unit {0}
+IsFileError TooLong = Unit {0}
+IsFileError _ = ⊥

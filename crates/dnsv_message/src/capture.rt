@@ -1,20 +1,17 @@
 //! Captured messages, as a stream of frames gives them.
-ghost use Rattle.std.specs.Prelude.{◌≡◌, ◌<◌, List, ℕ, is_err, IfErr, IfOk, IfSome, IsErrOf, OnOk};
+ghost use Rattle.std.specs.Prelude.{◌≡◌, ◌<◌, List, ℕ, IfOk, IfSome, IsErrOf, OnOk};
 ghost use Rattle.std.specs.List.{AllByRecursion};
-ghost use Rattle.std.specs.Io.{ReadsAtMost};
-ghost use Rattle.std.specs.Io.KnownBytes.{IsAtEnd, ReadConsumes};
-ghost use Rattle.dnsv_message.specs.Counted.{count_after, failures_of, inner_of};
+ghost use Rattle.std.specs.Io.KnownBytes.{IsAtEnd};
+ghost use Rattle.dnsv_message.specs.Counted.{failures_of, inner_of};
 ghost use Rattle.dnsv_message.specs.Frames.{EndsTorn, Frames, HasZeroLength, IsCapture, IsTooLong, octets_of_each};
 
 use crate::FILE_LIMIT;
 use crate::counted::Counted;
 use crate::errors::ReadError;
-use crate::framing::OpenFrame;
+use crate::file::{PIECE_LIMIT, read_piece};
+use crate::framer::Framer;
 use std::alloc::Global;
 use std::io::Read;
-
-/// How many octets are read at a time at most.
-const PIECE_LIMIT: usize = 65_536;
 
 /// All messages of a stream, each behind its length in two octets, the high octet first
 /// (RFC 1035 4.2.2).
@@ -43,7 +40,7 @@ pub fn read_capture<R: Read>(
     let mut buffer = vec![in alloc; 0; PIECE_LIMIT]?;
     let piece = buffer.as_mut_slice();
     let mut messages = Vec::new(alloc);
-    let mut frame = OpenFrame::new(alloc);
+    let mut framer = Framer::new(alloc);
     let mut left = FILE_LIMIT;
     loop {
         let count = read_piece(reader, piece)?;
@@ -51,24 +48,14 @@ pub fn read_capture<R: Read>(
             break;
         }
         let within = count.min(left);
-        frame.feed(&piece[..within], &mut messages)?;
+        framer.feed(&piece[..within], &mut messages)?;
         if within < count {
             return Err(ReadError::TooLong);
         }
         left -= within;
     }
-    frame.finish()?;
+    framer.finish()?;
     Ok(messages)
-}
-
-// Reads once. A read that fails is not tried again.
-fn read_piece<R: Read>(reader: &mut Counted<R>, piece: &mut [u8]) -> Result<usize, ReadError>
-    ensures bound { ReadsAtMost result piece.new }
-    ensures bytes { ReadConsumes (R.remaining (inner_of reader.old)) (R.remaining (inner_of reader.new)) result piece.new }
-    ensures failures { failures_of reader.new ≡ count_after (failures_of reader.old) (is_err result) }
-    ensures only { IfErr result (λ error. error ≡ ReadError.Read) }
-{
-    Ok(reader.read(piece)?)
 }
 
 /// Every stream of octets is read as frames and a rest, in one way.

@@ -1,7 +1,8 @@
 //! Frames that come in pieces.
-ghost use Rattle.std.specs.Prelude.{◌≡◌, ◌≢◌, ◌<◌, ◌≤◌, ◌∷◌, ◌++◌, [], List, ℕ, length, take, IfErr, IfOk, IsErrOf, MatchResult, OnOk};
+ghost use Rattle.std.specs.Prelude.{◌≡◌, ◌≢◌, ◌<◌, ◌≤◌, ◌∷◌, ◌++◌, [], List, ℕ, length, take, IfErr, IfOk, IsErrOf, MatchResult, OnErr, OnOk};
 ghost use Rattle.dnsv_message.specs.Frames.{Frames, IsZero, octets_of_each};
-ghost use Rattle.dnsv_message.specs.OpenFrame.{Gains, IsPieceError, octets_of};
+ghost use Rattle.dnsv_message.specs.Framer.{Gains, GainsFirst, IsPieceError};
+ghost use Rattle.dnsv_message.specs.OpenFrame.{octets_of};
 
 use crate::errors::ReadError;
 use std::alloc::Global;
@@ -51,7 +52,10 @@ impl OpenFrame {
         ensures zero_length { IsErrOf result ReadError.ZeroLength →
             ((rest : List ℕ) × IsZero rest × Gains (octets_of_each out.old.items) (octets_of_each out.new.items)
             (self.old ++ piece.now) rest) }
+        ensures out_of_memory { IsErrOf result ReadError.OutOfMemory →
+            GainsFirst (octets_of_each out.old.items) (octets_of_each out.new.items) (self.old ++ piece.now) }
         ensures only { IfErr result IsPieceError }
+        ensures bound { OnOk result (length self.new ≤ 65536) }
     {
         // No effect at run time. The proof reads here what an open frame keeps.
         let _ = &self.announced;
@@ -85,7 +89,10 @@ impl OpenFrame {
         ensures zero_length { IsErrOf result ReadError.ZeroLength →
             ((rest : List ℕ) × IsZero rest × Gains (octets_of_each out.old.items) (octets_of_each out.new.items)
             (self.old ++ octets.now) rest) }
+        ensures out_of_memory { IsErrOf result ReadError.OutOfMemory →
+            octets_of_each out.new.items ≡ octets_of_each out.old.items }
         ensures only { IfErr result IsPieceError }
+        ensures bound { OnOk result (length self.new ≤ 65536) }
     {
         if self.announced == 0 {
             self.take_length(octets[0])?;
@@ -102,6 +109,7 @@ impl OpenFrame {
         ensures not_zero { OnOk result (¬ IsZero self.new) }
         ensures zero_length { IsErrOf result ReadError.ZeroLength → self.old ++ octet ∷ [] ≡ 0 ∷ (0 ∷ []) }
         ensures only { IfErr result IsPieceError }
+        ensures bound { OnOk result (length self.new ≤ 65536) }
     {
         match self.high {
             None => self.high = Some(octet),
@@ -126,7 +134,9 @@ impl OpenFrame {
         ensures ok { IfOk result (λ n. Gains (octets_of_each out.old.items) (octets_of_each out.new.items)
             (self.old ++ take n octets.now) self.new) }
         ensures not_zero { OnOk result (¬ IsZero self.new) }
+        ensures out_of_memory { OnErr result (octets_of_each out.new.items ≡ octets_of_each out.old.items) }
         ensures only { IfErr result (λ error. error ≡ ReadError.OutOfMemory) }
+        ensures bound { OnOk result (length self.new ≤ 65536) }
     {
         let missing = usize::from(self.announced) - self.message.len();
         let count = missing.min(octets.len());

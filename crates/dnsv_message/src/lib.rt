@@ -4,6 +4,8 @@
 pub use capture::{one_answer, one_reading, read_capture};
 pub use counted::Counted;
 pub use errors::{DecodeError, NameFault, ReadError};
+pub use file::read_all;
+pub use framer::{Framer, any_cutting};
 pub use laws::{no_fault_of_a_message, one_fault, one_message};
 pub use message::Message;
 pub use number::{Class, Flags, Ttl};
@@ -13,12 +15,16 @@ mod capture;
 mod counted;
 mod errors;
 mod fields;
+mod file;
+mod framer;
 mod framing;
 mod laws;
 mod message;
 mod name_at;
 mod number;
 mod record;
+#[cfg(test)]
+mod samples;
 mod section;
 
 /// How many octets a file may have.

@@ -2,46 +2,71 @@ use Rattle.std.proofs.Common.{ap, ◌∙◌, refl, arith}
 use Rattle.std.proofs.lemmas.Result.{err_from_is_err_and}
 use Rattle.dnsv_message.specs.Frames.{octets_of_each}
 use Rattle.dnsv_message.proofs.CaptureLemmas.{HasRead-start, HasRead-more, HasRead-end, HasRead-zero, HasRead-too_long, failed_once}
+use Rattle.dnsv_message.proofs.FramerLemmas.{Gains-open, Gains-zero, torn_end}
 use Rattle.dnsv_message.proofs.capture.read_capture.Goals as goal
 
-pub loop-frame-init : goal.loop-frame-init
-loop-frame-init g c = record {
+pub loop-framer-init : goal.loop-framer-init
+loop-framer-init g c = record {
   room = omega (arith, c.as_mut_slice-piece.ensures.len, c.in_ok-buffer.ensures.len);
   none_failed = refl;
-  read = HasRead-start _ _ _ _ (ap octets_of_each c.new-messages.ensures.items) c.new-frame.ensures refl;
+  read = HasRead-start _ _ _ _ (ap octets_of_each c.new-messages.ensures.items) c.new-framer.ensures.rest refl;
+  no_fault = c.new-framer.ensures.fault;
 }
 
 pub returns-in_err-count-clause-read : goal.returns-in_err-count-clause-read
-returns-in_err-count-clause-read g c = λ is_read not_full. failed_once _ _ _ c.loop-frame.invariant.none_failed c.in_err-count.ensures.failures not_full
+returns-in_err-count-clause-read g c = λ is_read not_full. failed_once _ _ _ c.loop-framer.invariant.none_failed c.in_err-count.ensures.failures not_full
 
 pub returns-in_err-feed-clause-zero_length : goal.returns-in_err-feed-clause-zero_length
 returns-in_err-feed-clause-zero_length g c = λ is_zero.
     let p = err_from_is_err_and c.from_residual-in_err-feed.result c.from_residual-in_err-feed.ensures.1 in
-    let found = c.in_err-feed.ensures.zero_length (let is = p.1 in let same = p.2 in cc) in
-    HasRead-zero _ _ _ _ _ _ _ c.read_piece.new.piece c.loop-frame.left c.in_ok-count.count c.min-within.result c.loop-frame.invariant.read c.in_ok-count.ensures.bytes.0
+    let found = Gains-zero _ _ _ _ _ (c.in_err-feed.ensures.zero_length (let is = p.1 in let same = p.2 in cc)) (c.in_err-feed.ensures.zero (let is = p.1 in let same = p.2 in cc)) in
+    HasRead-zero _ _ _ _ _ _ _ c.read_piece.new.piece c.loop-framer.left c.in_ok-count.count c.min-within.result c.loop-framer.invariant.read c.in_ok-count.ensures.bytes.0
     (omega (arith, c.min-within.ensures)) (omega (arith, c.in_ok-count.ensures.bound.0)) (omega (arith, c.min-within.ensures)) found.2 found.1
 
 pub returns-then-within-count-clause-too_long : goal.returns-then-within-count-clause-too_long
 returns-then-within-count-clause-too_long g c = λ _.
-    HasRead-too_long _ _ _ _ _ _ _ c.read_piece.new.piece c.loop-frame.left c.in_ok-count.count c.min-within.result c.loop-frame.invariant.read c.in_ok-count.ensures.bytes.0
-    (omega (arith, c.if-within-count.true)) (omega (arith, c.in_ok-count.ensures.bound.0)) (omega (arith, c.min-within.ensures, c.if-within-count.true)) c.in_ok-feed.ensures.ok c.in_ok-feed.ensures.not_zero
+    HasRead-too_long _ _ _ _ _ _ _ c.read_piece.new.piece c.loop-framer.left c.in_ok-count.count c.min-within.result c.loop-framer.invariant.read c.in_ok-count.ensures.bytes.0
+    (omega (arith, c.if-within-count.true)) (omega (arith, c.in_ok-count.ensures.bound.0)) (omega (arith, c.min-within.ensures, c.if-within-count.true)) (Gains-open _ _ _ _ _ c.in_ok-feed.ensures.ok c.in_ok-feed.ensures.not_zero) c.in_ok-feed.ensures.not_zero
 
-pub loop-frame-preserved : goal.loop-frame-preserved
-loop-frame-preserved g c = record {
-  room = omega (arith, c.loop-frame.invariant.room, c.read_piece.auto.piece);
-  none_failed = c.in_ok-count.ensures.failures ∙ c.loop-frame.invariant.none_failed;
-  read = HasRead-more _ _ _ _ _ _ _ c.read_piece.new.piece c.loop-frame.left c.in_ok-count.count c.min-within.result c.loop-frame.invariant.read c.in_ok-count.ensures.bytes.0
-      (omega (arith, c.if-within-count.false)) (omega (arith, c.min-within.ensures)) (omega (arith, c.in_ok-count.ensures.bound.0)) (omega (arith, c.min-within.ensures)) c.in_ok-feed.ensures.ok;
+pub loop-framer-preserved : goal.loop-framer-preserved
+loop-framer-preserved g c = record {
+  room = omega (arith, c.loop-framer.invariant.room, c.read_piece.auto.piece);
+  none_failed = c.in_ok-count.ensures.failures ∙ c.loop-framer.invariant.none_failed;
+  read = HasRead-more _ _ _ _ _ _ _ c.read_piece.new.piece c.loop-framer.left c.in_ok-count.count c.min-within.result c.loop-framer.invariant.read c.in_ok-count.ensures.bytes.0
+      (omega (arith, c.if-within-count.false)) (omega (arith, c.min-within.ensures)) (omega (arith, c.in_ok-count.ensures.bound.0)) (omega (arith, c.min-within.ensures)) (Gains-open _ _ _ _ _ c.in_ok-feed.ensures.ok c.in_ok-feed.ensures.not_zero);
+  no_fault = c.in_ok-feed.ensures.fault;
 }
 
 pub returns-in_err-finish-clause-torn_frame : goal.returns-in_err-finish-clause-torn_frame
 returns-in_err-finish-clause-torn_frame g c = λ is_torn.
-    HasRead-end _ _ _ _ _ c.read_piece.new.piece c.loop-frame.left c.in_ok-count.count _ c.loop-frame.invariant.read c.in_ok-count.ensures.bytes.0 c.if-count-eq0.true
-    (c.in_ok-count.ensures.bytes.1 c.if-count-eq0.true (omega (arith, c.loop-frame.invariant.room, c.read_piece.auto.piece)))
-    (λ octets within frames. (within, (octets_of_each c.loop-frame.messages.items, c.loop-frame.frame, frames, c.in_err-finish.ensures.1, c.in_err-finish.ensures.2)))
+    let torn = torn_end _ _ c.loop-framer.invariant.no_fault c.in_err-finish.ensures in
+    HasRead-end _ _ _ _ _ c.read_piece.new.piece c.loop-framer.left c.in_ok-count.count _ c.loop-framer.invariant.read c.in_ok-count.ensures.bytes.0 c.if-count-eq0.true
+    (c.in_ok-count.ensures.bytes.1 c.if-count-eq0.true (omega (arith, c.loop-framer.invariant.room, c.read_piece.auto.piece)))
+    (λ octets within frames. (within, (octets_of_each c.loop-framer.messages.items, c.loop-framer.framer.rest, frames, torn.1, torn.2)))
 
 pub returns-clause-messages : goal.returns-clause-messages
 returns-clause-messages g c =
-    HasRead-end _ _ _ _ _ c.read_piece.new.piece c.loop-frame.left c.in_ok-count.count _ c.loop-frame.invariant.read c.in_ok-count.ensures.bytes.0 c.if-count-eq0.true
-    (c.in_ok-count.ensures.bytes.1 c.if-count-eq0.true (omega (arith, c.loop-frame.invariant.room, c.read_piece.auto.piece)))
-    (λ octets within frames. record { within = within; frames = rw c.in_ok-finish.ensures at frames })
+    HasRead-end _ _ _ _ _ c.read_piece.new.piece c.loop-framer.left c.in_ok-count.count _ c.loop-framer.invariant.read c.in_ok-count.ensures.bytes.0 c.if-count-eq0.true
+    (c.in_ok-count.ensures.bytes.1 c.if-count-eq0.true (omega (arith, c.loop-framer.invariant.room, c.read_piece.auto.piece)))
+    (λ octets within frames. record { within = within; frames = rw c.in_ok-finish.ensures.1 at frames })
+
+pub returns-in_err-finish-clause-too_long : goal.returns-in_err-finish-clause-too_long
+returns-in_err-finish-clause-too_long g c = λ is_it.
+    let p = err_from_is_err_and c.from_residual-in_err-finish.result c.from_residual-in_err-finish.ensures.1 in
+    let torn = (torn_end _ _ c.loop-framer.invariant.no_fault c.in_err-finish.ensures).0 in
+    absurd (let is = p.1 in let same = p.2 in cc)
+
+pub returns-in_err-finish-clause-zero_length : goal.returns-in_err-finish-clause-zero_length
+returns-in_err-finish-clause-zero_length g c = λ is_it.
+    let p = err_from_is_err_and c.from_residual-in_err-finish.result c.from_residual-in_err-finish.ensures.1 in
+    let torn = (torn_end _ _ c.loop-framer.invariant.no_fault c.in_err-finish.ensures).0 in
+    absurd (let is = p.1 in let same = p.2 in cc)
+
+pub returns-in_err-finish-clause-read : goal.returns-in_err-finish-clause-read
+returns-in_err-finish-clause-read g c = λ is_it not_full.
+    let p = err_from_is_err_and c.from_residual-in_err-finish.result c.from_residual-in_err-finish.ensures.1 in
+    let torn = (torn_end _ _ c.loop-framer.invariant.no_fault c.in_err-finish.ensures).0 in
+    absurd (let is = p.1 in let same = p.2 in cc)
+
+pub returns-clause-end : goal.returns-clause-end
+returns-clause-end g c = c.in_ok-count.ensures.bytes.1 c.if-count-eq0.true (omega (arith, c.loop-framer.invariant.room, c.read_piece.auto.piece))

@@ -1,15 +1,16 @@
-use Rattle.std.proofs.Common.{◌≡◌, ◌<◌, length}
+use Rattle.std.proofs.Common.{◌≡◌, ◌<◌, length, None}
 use Rattle.dnsv_message.specs.Frames.{octets_of_each}
 use Rattle.dnsv_message.proofs.CaptureLemmas.{HasRead}
 use Rattle.dnsv_message.proofs.capture.read_capture.Given as goal
 
--- no read failed, and what was read is the messages and what has come of a frame
-abbrev pub invariant-loop-frame : goal.invariant-loop-frame
-invariant-loop-frame g l = record {
+-- nothing failed, and what was read is the messages and what has come of a frame
+abbrev pub invariant-loop-framer : goal.invariant-loop-framer
+invariant-loop-framer g l = record {
   room : 0 < length l.piece;
   none_failed : l.reader.failures ≡ l.fn.reader.failures;
-  read : HasRead (g.R.Read.remaining l.fn.reader.inner) (g.R.Read.remaining l.reader.inner) (octets_of_each l.messages.items) l.frame l.left;
+  read : HasRead (g.R.Read.remaining l.fn.reader.inner) (g.R.Read.remaining l.reader.inner) (octets_of_each l.messages.items) l.framer.rest l.left;
+  no_fault : l.framer.fault ≡ None;
 }
 
-abbrev pub decreases-loop-frame : goal.decreases-loop-frame
-decreases-loop-frame g l = l.left
+abbrev pub decreases-loop-framer : goal.decreases-loop-framer
+decreases-loop-framer g l = l.left

@@ -1,0 +1,51 @@
+-- What the octets that were read say of a file.
+use Rattle.std.proofs.Common.{◌≡◌, ℕ, ◌+◌, ◌-◌, ◌<◌, ◌≤◌, List, [], ◌++◌, length, take, sym, ap, ◌∙◌, arith, length-append, Option, Some, None, IfSome}
+use Rattle.std.proofs.lemmas.List.{append-nil, length-take-le}
+use Rattle.std.proofs.KnownBytes.{Consumes-nil, Consumes-trans}
+use Rattle.std.specs.Io.KnownBytes.{Consumes, IsAtEnd}
+
+pub nothing_read : (old : Option (List ℕ)) (octets : List ℕ) → octets ≡ [] → Consumes old old octets
+nothing_read old octets none = rw none (Consumes-nil old)
+
+pub nothing_within : (octets : List ℕ) (limit : ℕ) → octets ≡ [] → length octets ≤ limit
+nothing_within octets limit none = rw none (omega arith)
+
+-- a piece came
+pub piece_read : (old now next : Option (List ℕ)) (octets piece grown : List ℕ) → Consumes old now octets → Consumes now next piece → grown ≡ octets ++ piece → Consumes old next grown
+piece_read old now next octets piece grown x y grows = rw grows (Consumes-trans old now next octets piece x y)
+
+pub piece_within : (octets piece grown : List ℕ) (count limit : ℕ) → count ≤ length piece → length octets ≤ limit → count ≤ limit - length octets
+    → grown ≡ octets ++ take count piece → length grown ≤ limit
+piece_within octets piece grown count limit short within most grows =
+    let size : length (take count piece) ≡ count = length-take-le count piece short in
+    omega (arith, size, ap length grows, length-append octets (take count piece))
+
+-- the file has more octets than were read and came
+more_than : (limit count : ℕ) (octets piece file more : List ℕ) → count ≤ length piece → length octets ≤ limit → limit - length octets < count
+    → file ≡ (octets ++ take count piece) ++ more → limit < length file
+more_than limit count octets piece file more short within most same =
+    let size : length (take count piece) ≡ count = length-take-le count piece short in
+    omega (arith, size, ap length same, length-append (octets ++ take count piece) more, length-append octets (take count piece))
+
+from_known : (old next : Option (List ℕ)) (octets : List ℕ) (P : List ℕ → Type 0) → Consumes old next octets → ((file more : List ℕ) → file ≡ octets ++ more → P file) → IfSome old P
+from_known None next octets P x known = tt
+from_known (Some file) None octets P x known = absurd x
+from_known (Some file) (Some more) octets P x known = known file more x
+
+pub file_too_long : (old now next : Option (List ℕ)) (octets piece : List ℕ) (count limit : ℕ) → Consumes old now octets → Consumes now next (take count piece)
+    → count ≤ length piece → length octets ≤ limit → limit - length octets < count → IfSome old (λ file. limit < length file)
+file_too_long old now next octets piece count limit x y short within most =
+    from_known old next (octets ++ take count piece) (λ file. limit < length file) (Consumes-trans old now next octets (take count piece) x y)
+    (λ file more same. more_than limit count octets piece file more short within most same)
+
+end_known : (old next : Option (List ℕ)) (octets : List ℕ) → Consumes old next octets → IsAtEnd next → IfSome old (λ file. octets ≡ file)
+end_known None next octets x ended = tt
+end_known (Some file) None octets x ended = absurd x
+end_known (Some file) (Some more) octets x ended = let same : octets ++ more ≡ octets = ap (λ xs. octets ++ xs) ended ∙ append-nil octets in sym (x ∙ same)
+
+-- the file ended, so that it is what was read
+pub file_read : (old now next : Option (List ℕ)) (octets piece : List ℕ) (count : ℕ) → Consumes old now octets → Consumes now next (take count piece) → count ≡ 0 → IsAtEnd next
+    → IfSome old (λ file. octets ≡ file)
+file_read old now next octets piece count x y none ended =
+    let all : Consumes old next octets = rw append-nil at (Consumes-trans old now next octets [] x (rw none at y)) in
+    end_known old next octets all ended

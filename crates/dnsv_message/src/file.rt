@@ -1,0 +1,65 @@
+//! Files, as readers give them.
+ghost use Rattle.std.specs.Prelude.{◌≡◌, ◌<◌, ◌≤◌, length, is_err, vec_len, IfErr, IfOk, IfSome, IsErrOf, OnOk};
+ghost use Rattle.std.specs.Io.{ReadsAtMost};
+ghost use Rattle.std.specs.Io.KnownBytes.{IsAtEnd, ReadConsumes};
+ghost use Rattle.dnsv_message.specs.Counted.{count_after, failures_of, inner_of};
+ghost use Rattle.dnsv_message.specs.ReadError.{IsFileError};
+
+use crate::FILE_LIMIT;
+use crate::counted::Counted;
+use crate::errors::ReadError;
+use std::alloc::Global;
+use std::io::Read;
+
+/// How many octets are read at a time at most.
+pub(crate) const PIECE_LIMIT: usize = 65_536;
+
+/// All octets of a file.
+///
+/// The first fault that is met is answered, and nothing is read after it: a reader that fails is
+/// [`ReadError::Read`], and an octet past [`FILE_LIMIT`] [`ReadError::TooLong`].
+pub fn read_all<R: Read>(alloc: Global, reader: &mut Counted<R>) -> Result<Vec<u8>, ReadError>
+    // What the octets decide, where they are known.
+    ensures octets { IfOk result (λ octets. IfSome (R.remaining (inner_of reader.old)) (λ file. octets.items ≡ file)) }
+    ensures within { IfOk result (λ octets. vec_len octets ≤ FILE_LIMIT) }
+    ensures too_long { IsErrOf result ReadError.TooLong →
+        IfSome (R.remaining (inner_of reader.old)) (λ file. FILE_LIMIT < length file) }
+    ensures end { OnOk result (IsAtEnd (R.remaining (inner_of reader.new))) }
+
+    // The reader failed, at any reader: by the count, unless that began at its greatest value.
+    ensures read { IsErrOf result ReadError.Read →
+        failures_of reader.old < u64.MAX → failures_of reader.old < failures_of reader.new }
+    ensures failed { failures_of reader.old < failures_of reader.new → IsErrOf result ReadError.Read }
+    ensures only { IfErr result IsFileError }
+{
+    let mut buffer = vec![in alloc; 0; PIECE_LIMIT]?;
+    let piece = buffer.as_mut_slice();
+    let mut octets = Vec::new(alloc);
+    loop {
+        let count = read_piece(reader, piece)?;
+        if count == 0 {
+            break;
+        }
+        if count > FILE_LIMIT - octets.len() {
+            return Err(ReadError::TooLong);
+        }
+        octets.extend_from_slice(&piece[..count])?;
+    }
+    Ok(octets)
+}
+
+// Reads once. A read that fails is not tried again.
+pub(crate) fn read_piece<R: Read>(
+    reader: &mut Counted<R>,
+    piece: &mut [u8],
+) -> Result<usize, ReadError>
+    ensures bound { ReadsAtMost result piece.new }
+    ensures bytes { ReadConsumes (R.remaining (inner_of reader.old)) (R.remaining (inner_of reader.new)) result piece.new }
+    ensures failures { failures_of reader.new ≡ count_after (failures_of reader.old) (is_err result) }
+    ensures only { IfErr result (λ error. error ≡ ReadError.Read) }
+{
+    Ok(reader.read(piece)?)
+}
+
+#[cfg(test)]
+mod tests;
