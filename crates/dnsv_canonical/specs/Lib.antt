@@ -1,4 +1,5 @@
 pub mod Canonical
+pub mod CanonicalRdata
 pub mod SignedData
 pub mod Response
 pub mod Rrsets

@@ -7,6 +7,7 @@ pub use rrset::{Rrset, rrsets};
 pub use signed::signed_data;
 
 mod canonical;
+mod form;
 mod response;
 mod rrset;
 mod section;

@@ -109,8 +109,6 @@ impl<'a> Rrset<'a> {
     }
 
     /// What the signature signs over the RRset; `None` where Labels is above the owner's count of labels.
-    ///
-    /// The RRset's type has no names in its RDATA.
     pub fn signed_data(&self, alloc: Global, rrsig: &Rrsig) -> Result<Option<Vec<u8>>, AllocError>
         ensures { IfOk result (λ answer. option_map (λ octets. octets.items) answer
             ≡ signed_data_of self.now.owner self.now.rtype self.now.rdata rrsig.now) }

@@ -6,6 +6,7 @@ ghost use Rattle.dnsv_names.specs.Name.{wire};
 ghost use Rattle.dnsv_canonical.specs.SignedData.{signed_label_count, signed_front, signed_owner, signed_data_of};
 
 use crate::canonical::canonical_rdata;
+use crate::form::{canonical_forms, slices};
 use dnsv_message::Class;
 use dnsv_names::{Name, RecordType};
 use dnsv_records::Rrsig;
@@ -15,10 +16,10 @@ use std::alloc::{AllocError, Global};
 const WILDCARD: [u8; 2] = *b"\x01*";
 
 /// The octets that the signature signs over an RRset (RFC 4034 3.1.8.1, 6.2, 6.3; RFC 4035 5.3.2): the RRSIG's
-/// RDATA without the signature, and each record once in canonical order, with the original TTL and the owner
-/// that Labels tells. `None` where Labels is above the owner's count of labels.
+/// RDATA without the signature, and each record once in canonical form and order, with the original TTL and the
+/// owner that Labels tells. `None` where Labels is above the owner's count of labels.
 ///
-/// `received` has the RDATA of the RRset's records in canonical form.
+/// `received` has the RDATA of the RRset's records without compression, their names as they are spelled.
 pub fn signed_data(
     alloc: Global,
     owner: &Name,
@@ -34,7 +35,9 @@ pub fn signed_data(
     }
     let mut octets = front_octets(alloc, rrsig)?;
     let front = record_front(alloc, owner, rtype, rrsig)?;
-    let sorted = canonical_rdata(alloc, received)?;
+    let forms = canonical_forms(alloc, rtype, received)?;
+    let slices = slices(alloc, forms.as_slice())?;
+    let sorted = canonical_rdata(alloc, slices.as_slice())?;
     for rdata in &sorted {
         push_record(&mut octets, front.as_slice(), rdata)?;
     }

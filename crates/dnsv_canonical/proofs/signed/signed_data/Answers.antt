@@ -3,6 +3,7 @@ use Rattle.std.proofs.lemmas.List.{take_all}
 use Rattle.std.proofs.lemmas.Bool.{le-ltb}
 use Rattle.std.specs.List.{flat_map}
 use Rattle.dnsv_canonical.specs.Canonical.{canonical_of}
+use Rattle.dnsv_canonical.specs.CanonicalRdata.{canonical_form}
 use Rattle.dnsv_canonical.specs.SignedData.{signed_front, signed_label_count, signed_owner, signed_record}
 use Rattle.dnsv_canonical.proofs.SignedLemmas.{signed_more}
 use Rattle.dnsv_canonical.proofs.signed.signed_data.Goals as goal
@@ -10,17 +11,20 @@ use Rattle.dnsv_canonical.proofs.signed.signed_data.Goals as goal
 pub loop-rdata-preserved : goal.loop-rdata-preserved
 loop-rdata-preserved c =
     signed_more (λ r. r.now) (signed_owner c.args.owner.now c.args.rrsig.now.labels) c.args.rtype.0 c.args.rrsig.now.original_ttl
-    (signed_front c.args.rrsig.now) c.loop-rdata.octets.items c.push_record.new.octets.items c.as_slice.result.now
+    (signed_front c.args.rrsig.now) c.loop-rdata.octets.items c.push_record.new.octets.items c.as_slice-in-loop-rdata.result.now
     c.deref-rdata-items.result.now c.loop-rdata.rdata-index _
-    (omega arith) (c.as_slice.ensures.value ∙ c.in_ok-front.ensures) c.loop-rdata.invariant c.in_ok-push_record.ensures
+    (omega arith) (c.as_slice-in-loop-rdata.ensures.value ∙ c.in_ok-front.ensures) c.loop-rdata.invariant c.in_ok-push_record.ensures
 
 pub returns : goal.returns
 returns c =
     let record_of : List ℕ → List ℕ = signed_record (signed_owner c.args.owner.now c.args.rrsig.now.labels) c.args.rtype.0 c.args.rrsig.now.original_ttl in
     let octets_of : List (List ℕ) → List ℕ = λ rdata. signed_front c.args.rrsig.now ++ flat_map record_of rdata in
-    let whole : c.loop-rdata.octets.items ≡ octets_of (canonical_of (map (λ r. r.now) c.args.received.now)) =
+    let forms : List (List ℕ) = map (canonical_form c.args.rtype.0) (map (λ r. r.now) c.args.received.now) in
+    let slices_are : map (λ r. r.now) c.as_slice-2.result.now ≡ forms =
+    ap (map (λ r. r.now)) c.as_slice-2.ensures.value ∙ c.in_ok-slices.ensures ∙ ap (map (λ form. form.items)) c.as_slice.ensures.value ∙ c.in_ok-forms.ensures in
+    let whole : c.loop-rdata.octets.items ≡ octets_of (canonical_of forms) =
     c.loop-rdata.invariant
     ∙ ap (λ rs. octets_of (map (λ r. r.now) rs)) (take_all c.loop-rdata.rdata-index c.deref-rdata-items.result.now (omega arith) ∙ c.deref-rdata-items.ensures.value)
-    ∙ ap octets_of c.in_ok-sorted.ensures.value in
+    ∙ ap octets_of (c.in_ok-sorted.ensures.value ∙ ap canonical_of slices_are) in
     let counted : ltb (signed_label_count c.args.owner.now) c.args.rrsig.now.labels ≡ false = le-ltb _ _ (omega arith) in
-    ap Some whole ∙ sym (ap (λ above. cond above None (Some (octets_of (canonical_of (map (λ r. r.now) c.args.received.now))))) counted)
+    ap Some whole ∙ sym (ap (λ above. cond above None (Some (octets_of (canonical_of forms)))) counted)
