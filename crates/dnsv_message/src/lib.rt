@@ -18,6 +18,7 @@ mod laws;
 mod message;
 mod name_at;
 mod number;
+mod rdata;
 mod record;
 mod section;
 
