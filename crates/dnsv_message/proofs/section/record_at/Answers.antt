@@ -1,4 +1,5 @@
 use Rattle.std.proofs.Common.{◌+◌, refl, inl, inr, arith}
+use Rattle.std.proofs.lemmas.Option.{MatchOption-at_none, MatchOption-at_some}
 use Rattle.dnsv_message.proofs.section.record_at.Goals as goal
 
 pub returns-then-octets-start-clause-fault : goal.returns-then-octets-start-clause-fault
@@ -25,7 +26,7 @@ returns-in_default-clause-fault c =
       c.in_ok-name.after_name + 10,
       c.u16_at-size.result,
       record { after_name = c.in_ok-name.after_name; named = c.in_ok-name.ensures.found; typed = c.u16_at.ensures; classed = c.u16_at-2.ensures; timed = c.u32_at.ensures; sized = c.u16_at-size.ensures; starts = refl },
-      inr (omega arith, rw c.of-layout.ensures at c.in_default.ensures, refl),
+      inr (omega arith, rw c.of-layout.ensures at (MatchOption-at_none _ _ c.in_default.is c.in_ok-rdata.ensures), refl),
     ))
 
 pub returns-clause-found : goal.returns-clause-found
@@ -35,6 +36,6 @@ returns-clause-found c =
       size = c.u16_at-size.result;
       head = record { after_name = c.in_ok-name.after_name; named = c.in_ok-name.ensures.found; typed = c.u16_at.ensures; classed = c.u16_at-2.ensures; timed = c.u32_at.ensures; sized = c.u16_at-size.ensures; starts = refl };
       whole = omega arith;
-      rdata = rw c.of-layout.ensures at c.in-Some.ensures;
+      rdata = rw c.of-layout.ensures at (MatchOption-at_some _ _ _ c.in-Some.is c.in_ok-rdata.ensures);
       ends = refl;
     }
