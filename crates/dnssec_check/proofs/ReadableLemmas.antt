@@ -1,6 +1,7 @@
 -- The signatures of messages can be read, since their RDATA is laid out as a signature's is.
-use Rattle.std.proofs.Common.{◌≡◌, ◌⊎◌, ℕ, suc, ◌+◌, ◌≤◌, List, [], ◌∷◌, ◌++◌, length, drop, map, refl, sym, ap, subst, ◌∙◌, ⊎_elim, arith, Bool, true, false, cond}
-use Rattle.std.specs.Prelude.{filter, not, ◌&&◌}
+use Rattle.std.proofs.Common.{◌≡◌, ℕ, suc, ◌+◌, ◌≤◌, List, [], ◌∷◌, ◌++◌, length, drop, map, refl, sym, ap, subst, ◌∙◌, arith, append_assoc, length-append, length-drop, Bool, true, false, cond}
+use Rattle.std.specs.Prelude.{filter, flat_map, not, ◌&&◌}
+use Rattle.std.proofs.lemmas.List.{append-nil, drop_at, length-take-le}
 use Rattle.std.specs.Str.{bytes_eq}
 use Rattle.std.proofs.lemmas.Bool.{eqb-true, false≢true}
 use Rattle.std.specs.List.{AllByRecursion, AllZip}
@@ -8,32 +9,31 @@ use Rattle.dnsv_names.specs.Name.{Labels, IsName, wire}
 use Rattle.dnsv_message.specs.declared.record.Record.{Record}
 use Rattle.dnsv_message.specs.declared.record.Section.{Section}
 use Rattle.dnsv_message.specs.declared.record.Section.TheVariants.{Answer, Authority, Additional}
-use Rattle.dnsv_message.specs.Grammar.{InOrder, RecordAt, IsLaidOut, MessageOf}
+use Rattle.dnsv_message.specs.Layout.{layout_of}
+use Rattle.dnsv_message.specs.Grammar.{InOrder, RdataNameAt, RdataAt, RecordAt, MessageOf, part_of}
 use Rattle.dnsv_message.specs.Message.{Contents}
 use Rattle.dnsv_records.specs.Layout.{number_at}
 use Rattle.dnsv_canonical.specs.Rrsets.{Group, is_signature, each_once, signatures_of, rrset_of, rrsets_in, rrsets_from, rrsets_of, is_grouped, same_rrset}
 use Rattle.dnssec_check.specs.Listing.{IsEvidence}
 use Rattle.dnssec_check.specs.Readable.{IsReadable, HasReadable}
 
--- the RDATA of the record is laid out as its type asks
+-- the RDATA of the record was read from a message, as its type's layout asks
 abbrev LaidOut : Record → Type 0
-LaidOut r = IsLaidOut r.rtype.0 r.class.0 r.rdata
+LaidOut r = (octets : List ℕ) × (start size : ℕ) × (start + size ≤ length octets) × RdataAt octets (layout_of r.rtype.0 r.class.0) start size r.rdata
 
 laid_out : (octets : List ℕ) (rs : List Record) (place end : ℕ) → InOrder (RecordAt octets) place rs end → AllByRecursion LaidOut rs
 laid_out octets [] place end order = tt
 laid_out octets (r ∷ rs) place end order =
-    (subst (λ rdata. IsLaidOut r.rtype.0 r.class.0 rdata) (sym order.1.rdata) order.1.laid_out, laid_out octets rs order.0 end order.2)
+    ((octets, order.1.start, order.1.size, order.1.whole, order.1.rdata), laid_out octets rs order.0 end order.2)
 
 both_true : (a b : Bool) → (a && b) ≡ true → (a ≡ true) × (b ≡ true)
 both_true true b h = (refl, h)
 both_true false b h = absurd (false≢true h)
 
--- a signature's RDATA can be read
-signature_read : (rdata : List ℕ) → IsLaidOut 46 1 rdata → IsReadable rdata
-signature_read rdata laid = ⊎_elim
-    (λ (other : 1 ≡ 1 → ⊥). absurd (other refl))
-    (⊎_elim (λ (address : (46 ≡ 1) × (length rdata ≡ 4)). absurd (omega (arith, address.0)))
-    (λ (found : (46 ≡ 46) × (18 ≤ length rdata) × (signer : Labels) × (signature : List ℕ) × IsName signer × (drop 18 rdata ≡ wire signer ++ signature)). (
+-- a front of 18 octets, a name and more are a signature's RDATA
+signature_of : (front : List ℕ) (signer : Labels) (signature : List ℕ) → length front ≡ 18 → IsName signer → IsReadable (front ++ (wire signer ++ signature))
+signature_of front signer signature size named =
+    let rdata = front ++ (wire signer ++ signature) in (
       record {
         type_covered = record { 0 = number_at rdata 0 2 };
         algorithm = record { 0 = number_at rdata 2 1 };
@@ -42,12 +42,37 @@ signature_read rdata laid = ⊎_elim
         expiration = number_at rdata 8 4;
         inception = number_at rdata 12 4;
         key_tag = record { 0 = number_at rdata 16 2 };
-        signer = found.2;
-        signature = found.3;
+        signer = signer;
+        signature = signature;
       },
-      record { head = found.1; type_covered = refl; algorithm = refl; labels = refl; original_ttl = refl; expiration = refl; inception = refl; key_tag = refl; name = found.4; rest = found.5 },
-    )))
-    laid
+      record {
+        head = omega (arith, size, length-append front (wire signer ++ signature));
+        type_covered = refl;
+        algorithm = refl;
+        labels = refl;
+        original_ttl = refl;
+        expiration = refl;
+        inception = refl;
+        key_tag = refl;
+        name = named;
+        rest = drop_at front (wire signer ++ signature) 18 size;
+      },
+    )
+
+-- a signature's RDATA can be read
+signature_read : (octets : List ℕ) (start size : ℕ) (rdata : List ℕ) → start + size ≤ length octets → RdataAt octets (layout_of 46 1) start size rdata → IsReadable rdata
+signature_read octets start size rdata within at = one_name at.names at.counted at.named at.written where
+  one_name : (names : List Labels) → length names ≡ 1 → InOrder (RdataNameAt octets (start + size) false) (start + 18) names at.after_names
+      → rdata ≡ part_of octets start 18 ++ flat_map wire names ++ part_of octets at.after_names at.rest → IsReadable rdata
+  one_name [] count named written = absurd (omega (arith, count))
+  one_name (signer ∷ (other ∷ names)) count named written = absurd (omega (arith, count))
+  one_name (signer ∷ []) count named written =
+      let signature = part_of octets at.after_names at.rest in
+      let front = part_of octets start 18 in
+      let front_size : length front ≡ 18 = length-take-le 18 (drop start octets) (omega (arith, length-drop start octets, named.1.2, named.1.3)) in
+      let whole : rdata ≡ front ++ (wire signer ++ signature) =
+      written ∙ ap (λ xs. front ++ xs ++ signature) (append-nil (wire signer)) ∙ append_assoc front (wire signer) signature in
+      subst IsReadable (sym whole) (signature_of front signer signature front_size named.1.0)
 
 readable : (owner : Labels) (rtype : ℕ) (r : Record) → LaidOut r → is_signature owner rtype r ≡ true → IsReadable r.rdata
 readable owner rtype r laid signs =
@@ -56,7 +81,8 @@ readable owner rtype r laid signs =
     let kinds = both_true _ _ begins.0 in
     let typed : r.rtype.0 ≡ 46 = eqb-true _ _ kinds.0 in
     let classed : r.class.0 ≡ 1 = eqb-true _ _ kinds.1 in
-    signature_read r.rdata (subst (λ n. IsLaidOut n 1 r.rdata) typed (subst (λ n. IsLaidOut r.rtype.0 n r.rdata) classed laid))
+    signature_read laid.0 laid.1 laid.2 r.rdata laid.3
+    (subst (λ n. RdataAt laid.0 (layout_of n 1) laid.1 laid.2 r.rdata) typed (subst (λ n. RdataAt laid.0 (layout_of r.rtype.0 n) laid.1 laid.2 r.rdata) classed laid.4))
 
 chosen : (owner : Labels) (rtype : ℕ) (rs : List Record) → AllByRecursion LaidOut rs → AllByRecursion IsReadable (map (λ (r : Record). r.rdata) (filter (is_signature owner rtype) rs))
 chosen owner rtype [] laid = tt

@@ -3,6 +3,7 @@ pub mod NameWalk
 pub mod Sequences
 pub mod Faults
 pub mod NameLaws
+pub mod RdataLemmas
 pub mod MessageLaws
 pub mod CaptureLemmas
 pub mod FrameLemmas

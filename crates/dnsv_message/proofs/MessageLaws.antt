@@ -10,9 +10,11 @@ use Rattle.dnsv_message.specs.declared.record.Question.{Question}
 use Rattle.dnsv_message.specs.declared.record.Record.{Record}
 use Rattle.dnsv_message.specs.Errors.{decode_error_of}
 use Rattle.dnsv_message.specs.Message.{Contents}
+use Rattle.dnsv_message.specs.Layout.{layout_of}
 use Rattle.dnsv_message.specs.NameAt.{NumberAt, NameFrom, NameFaultFrom, pointer_limit}
-use Rattle.dnsv_message.specs.Grammar.{InOrder, FirstFault, QuestionAt, QuestionFaultAt, RecordHeadAt, RecordAt, RecordFaultAt, CutShort, IsLaidOut, part_of, HeaderOf, MessageOf, FaultOf}
+use Rattle.dnsv_message.specs.Grammar.{InOrder, FirstFault, QuestionAt, QuestionFaultAt, RecordHeadAt, RecordAt, RecordFaultAt, CutShort, RdataAt, HeaderOf, MessageOf, FaultOf}
 use Rattle.dnsv_message.proofs.NameLaws.{NameAt_same, NameAt_sound, NameFaultAt_same}
+use Rattle.dnsv_message.proofs.RdataLemmas.{RdataAt_same}
 use Rattle.dnsv_message.proofs.Sequences.{InOrder-append, InOrder-same, InOrder-sound, FirstFault-same}
 
 module _ (octets : List ℕ) where
@@ -81,10 +83,19 @@ module _ (octets : List ℕ) (fit : (i : ℕ) → get_or octets i 0 < 256) where
         sizes = number_same octets (at.after_name + 8) (also.after_name + 8) 2 _ _ (ap (λ n. n + 8) both.1) at.sized also.sized;
       }
 
+  -- an RDATA is the same by what its record's head says
+  rdata_moved : (rtype rtype' class class' start start' size size' : ℕ) (rdata : List ℕ) → rtype ≡ rtype' → class ≡ class' → start ≡ start' → size ≡ size' → RdataAt octets (layout_of rtype class) start size rdata → RdataAt octets (layout_of rtype' class') start' size' rdata
+  rdata_moved rtype rtype' class class' start start' size size' rdata types classes starts sizes at =
+      subst (λ n. RdataAt octets (layout_of rtype' class') start' n rdata) sizes
+      (subst (λ n. RdataAt octets (layout_of rtype' class') n size rdata) starts
+      (subst (λ n. RdataAt octets (layout_of rtype' n) start size rdata) classes
+      (subst (λ n. RdataAt octets (layout_of n class) start size rdata) types at)))
+
   record_same : (place : ℕ) (resource other : Record) (end after : ℕ) → RecordAt octets place resource end → RecordAt octets place other after → (resource ≡ other) × (end ≡ after)
   record_same place resource other end after at also =
       let heads = head_same place _ _ _ _ _ _ _ _ _ _ _ _ at.head also.head in
-      let rdatas : resource.rdata ≡ other.rdata = at.rdata ∙ ap (λ start. part_of octets start at.size) heads.starts ∙ ap (λ size. part_of octets also.start size) heads.sizes ∙ sym also.rdata in (
+      let rdatas : resource.rdata ≡ other.rdata = RdataAt_same octets fit (layout_of other.rtype.0 other.class.0) also.start also.size resource.rdata other.rdata
+      (rdata_moved _ _ _ _ _ _ _ _ _ heads.types heads.classes heads.starts heads.sizes at.rdata) also.rdata in (
         (λ i. record { name = heads.names i; rtype = record { 0 = heads.types i }; class = record { 0 = heads.classes i }; ttl = record { 0 = heads.ttls i }; rdata = rdatas i }),
         omega (arith, heads.starts, heads.sizes, at.ends, also.ends),
       )
@@ -93,7 +104,7 @@ module _ (octets : List ℕ) (fit : (i : ℕ) → get_or octets i 0 < 256) where
   RdataFault : (number rtype class start size : ℕ) → DecodeError → Type 0
   RdataFault number rtype class start size error =
       ((length octets < start + size) × (error ≡ Short))
-      ⊎ ((start + size ≤ length octets) × (IsLaidOut rtype class (part_of octets start size) → ⊥) × (error ≡ BadRdata number))
+      ⊎ ((start + size ≤ length octets) × ((rdata : List ℕ) → RdataAt octets (layout_of rtype class) start size rdata → ⊥) × (error ≡ BadRdata number))
 
   Headed : (number place : ℕ) → DecodeError → Type 0
   Headed number place error =
@@ -104,11 +115,11 @@ module _ (octets : List ℕ) (fit : (i : ℕ) → get_or octets i 0 < 256) where
   rdata_fault_same number rtype class start size error other wrong also = ⊎_elim
       (λ (short : (length octets < start + size) × (error ≡ Short)). ⊎_elim
       (λ (short' : (length octets < start + size) × (other ≡ Short)). short.1 ∙ sym short'.1)
-      (λ (bad' : (start + size ≤ length octets) × (IsLaidOut rtype class (part_of octets start size) → ⊥) × (other ≡ BadRdata number)). absurd (omega (arith, short.0, bad'.0)))
+      (λ (bad' : (start + size ≤ length octets) × ((rdata : List ℕ) → RdataAt octets (layout_of rtype class) start size rdata → ⊥) × (other ≡ BadRdata number)). absurd (omega (arith, short.0, bad'.0)))
       also)
-      (λ (bad : (start + size ≤ length octets) × (IsLaidOut rtype class (part_of octets start size) → ⊥) × (error ≡ BadRdata number)). ⊎_elim
+      (λ (bad : (start + size ≤ length octets) × ((rdata : List ℕ) → RdataAt octets (layout_of rtype class) start size rdata → ⊥) × (error ≡ BadRdata number)). ⊎_elim
       (λ (short' : (length octets < start + size) × (other ≡ Short)). absurd (omega (arith, short'.0, bad.0)))
-      (λ (bad' : (start + size ≤ length octets) × (IsLaidOut rtype class (part_of octets start size) → ⊥) × (other ≡ BadRdata number)). bad.2 ∙ sym bad'.2)
+      (λ (bad' : (start + size ≤ length octets) × ((rdata : List ℕ) → RdataAt octets (layout_of rtype class) start size rdata → ⊥) × (other ≡ BadRdata number)). bad.2 ∙ sym bad'.2)
       also)
       wrong
 
@@ -119,8 +130,8 @@ module _ (octets : List ℕ) (fit : (i : ℕ) → get_or octets i 0 < 256) where
       (λ (headed : Headed number place error).
       let heads = head_same place _ _ _ _ _ _ _ _ _ _ _ _ at.head headed.6 in
       ⊎_elim (λ (short : (length octets < headed.4 + headed.5) × (error ≡ Short)). omega (arith, short.0, at.whole, heads.starts, heads.sizes))
-      (λ (bad : (headed.4 + headed.5 ≤ length octets) × (IsLaidOut headed.1 headed.2 (part_of octets headed.4 headed.5) → ⊥) × (error ≡ BadRdata number)).
-      bad.1 (rw (← heads.types, ← heads.classes, ← heads.starts, ← heads.sizes) at.laid_out))
+      (λ (bad : (headed.4 + headed.5 ≤ length octets) × ((rdata : List ℕ) → RdataAt octets (layout_of headed.1 headed.2) headed.4 headed.5 rdata → ⊥) × (error ≡ BadRdata number)).
+      bad.1 resource.rdata (rdata_moved _ _ _ _ _ _ _ _ _ heads.types heads.classes heads.starts heads.sizes at.rdata))
       headed.7)
       wrong
 

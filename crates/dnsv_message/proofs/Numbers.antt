@@ -9,7 +9,7 @@ use Rattle.std.specs.Option.{IfSome, is_some}
 use Rattle.std.specs.List.{AllByRecursion}
 use Rattle.byteorder.specs.Endian.{big_from, big_number}
 use Rattle.dnsv_names.specs.Name.{Labels, IsLabel, IsName, wire}
-use Rattle.dnsv_message.specs.Grammar.{part_of, IsLaidOut}
+use Rattle.dnsv_message.specs.Grammar.{part_of}
 use Rattle.dnsv_message.specs.NameAt.{AreOctets, NumberAt, PartAt, LabelAt, PointerAt}
 
 -- reading from a place on is reading at the place
@@ -48,30 +48,6 @@ pub part_same : (octets : List ℕ) (start size : ℕ) → take (start + size - 
 part_same octets start size =
     let many : start + size - start ≡ size = omega arith in
     ap (λ n. take n (drop start octets)) many
-
--- a name is read at the front of octets exactly where one's wire form begins them
-pub read_decides : (octets : List ℕ) (found : Option (Labels × ℕ))
-    → IfSome found (λ name. IsName name.0) → IfSome found (λ name. name.1 ≡ length (wire name.0)) → IfSome found (λ name. take name.1 octets ≡ wire name.0)
-    → ((labels : Labels) (rest : List ℕ) → IsName labels → octets ≡ wire labels ++ rest → found ≡ Some (labels, length (wire labels)))
-    → Decides (is_some found) ((signer : Labels) × (signature : List ℕ) × IsName signer × (octets ≡ wire signer ++ signature))
-read_decides octets (Some name) named sized spelled every =
-    ((λ yes. (name.0, drop name.1 octets, named, sym (take-append-drop name.1 octets) ∙ ap (λ front. front ++ drop name.1 octets) spelled)), (λ read. refl))
-read_decides octets None named sized spelled every =
-    ((λ yes. absurd (false≢true yes)), (λ read. absurd (none-some _ (every read.0 read.1 read.2 read.3))))
-
--- of class IN, a signature's layout is asked of a signature and of nothing else
-pub signature_decides : (rtype class : ℕ) (octets : List ℕ) (answer : Bool) → class ≡ 1 → rtype ≡ 46 → 18 ≤ length octets
-    → Decides answer ((signer : Labels) × (signature : List ℕ) × IsName signer × (drop 18 octets ≡ wire signer ++ signature))
-    → Decides answer (IsLaidOut rtype class octets)
-signature_decides rtype class octets answer internet signed within decides = (
-  (λ yes. let found = decides.0 yes in inr (inr (signed, within, found.0, found.1, found.2, found.3))),
-  (λ laid_out. ⊎_elim
-      (λ (other : class ≡ 1 → ⊥). absurd (other internet))
-      (⊎_elim (λ (address : (rtype ≡ 1) × (length octets ≡ 4)). absurd (omega (arith, address.0)))
-      (λ (found : (rtype ≡ 46) × (18 ≤ length octets) × (signer : Labels) × (signature : List ℕ) × IsName signer × (drop 18 octets ≡ wire signer ++ signature)).
-      decides.1 (found.2, found.3, found.4, found.5)))
-      laid_out),
-)
 
 pub true_from_not_false : (b : Bool) → false ≡ not b → b ≡ true
 true_from_not_false true h = refl

@@ -1,14 +1,16 @@
 -- The message grammar (RFC 1035 4.1): which message the octets are, and the first fault where they are none.
-use Rattle.std.specs.Prelude.{◌≡◌, ◌≢◌, ◌⊎◌, ℕ, zero, suc, ◌+◌, ◌<◌, ◌≤◌, List, [], ◌∷◌, ◌++◌, length, take, drop}
+use Rattle.std.specs.Prelude.{◌≡◌, ◌⊎◌, ℕ, zero, suc, ◌+◌, ◌<◌, ◌≤◌, Bool, true, false, Option, Some, None, List, [], ◌∷◌, ◌++◌, length, take, drop, flat_map}
 use Rattle.dnsv_names.specs.Name.{Labels, IsName, wire}
 use Rattle.dnsv_message.specs.declared.errors.NameFault.{NameFault}
 use Rattle.dnsv_message.specs.declared.errors.DecodeError.{DecodeError}
 use Rattle.dnsv_message.specs.declared.errors.DecodeError.TheVariants.{Short, BadRdata, TrailingBytes}
+use Rattle.dnsv_message.specs.declared.rdata.Layout.{Layout}
 use Rattle.dnsv_message.specs.declared.record.Question.{Question}
 use Rattle.dnsv_message.specs.declared.record.Record.{Record}
 use Rattle.dnsv_message.specs.Errors.{decode_error_of}
+use Rattle.dnsv_message.specs.Layout.{layout_of}
 use Rattle.dnsv_message.specs.Message.{Contents}
-use Rattle.dnsv_message.specs.NameAt.{NumberAt, NameFrom, NameFaultFrom}
+use Rattle.dnsv_message.specs.NameAt.{NumberAt, PartAt, NameFrom, NameFaultFrom}
 
 -- Things stand one after another from the place on, and end where the last of them does. `At place x end`
 -- says that x stands at the place and ends before `end`.
@@ -30,18 +32,33 @@ pub record QuestionAt (octets : List ℕ) (place : ℕ) (question : Question) (e
   pub class : NumberAt octets (after_name + 2) 2 question.class.0
   pub ends : end ≡ after_name + 4
 
--- The octets of an RDATA are laid out as its type asks (RFC 1035 3.4.1, RFC 4034 3.1): an address has four
--- octets; a signature has 18, an uncompressed name and more. Of class IN no other type is read yet. The
--- RDATA of other classes is octets as they are.
-abbrev pub IsLaidOut : ℕ → ℕ → List ℕ → Type 0
-IsLaidOut rtype class octets =
-    (class ≢ 1)
-    ⊎ ((rtype ≡ 1) × (length octets ≡ 4))
-    ⊎ ((rtype ≡ 46) × (18 ≤ length octets) × (signer : Labels) × (signature : List ℕ) × IsName signer × (drop 18 octets ≡ wire signer ++ signature))
-
 -- the octets from a place on, this many of them
 abbrev pub part_of : List ℕ → ℕ → ℕ → List ℕ
 part_of octets place size = take size (drop place octets)
+
+-- A name stands in an RDATA that ends at `limit`. Where it may be compressed, it or its first pointer ends
+-- there at the latest, wherever that leads; where it may not, its wire form itself stands at the place.
+abbrev pub RdataNameAt : List ℕ → ℕ → Bool → ℕ → Labels → ℕ → Type 0
+RdataNameAt octets limit true place name end = NameFrom octets place name end × (end ≤ limit)
+RdataNameAt octets limit false place name end =
+    IsName name × PartAt octets place (wire name) × (end ≡ place + length (wire name)) × (end ≤ limit)
+
+-- this many octets are what stands behind the names
+abbrev pub IsTail : Option ℕ → ℕ → Type 0
+IsTail (Some tail) size = size ≡ tail
+IsTail None size = Unit {0}
+
+-- The RDATA that takes the `size` octets from `start` on is laid out so, and is these octets with its names
+-- written out.
+pub record RdataAt (octets : List ℕ) (layout : Layout) (start size : ℕ) (rdata : List ℕ) : Type 0 where
+  pub names : List Labels
+  pub after_names : ℕ
+  pub rest : ℕ
+  pub counted : length names ≡ layout.names
+  pub named : InOrder (RdataNameAt octets (start + size) layout.pointers) (start + layout.head) names after_names
+  pub filled : after_names + rest ≡ start + size
+  pub ends : IsTail layout.tail rest
+  pub written : rdata ≡ part_of octets start layout.head ++ flat_map wire names ++ part_of octets after_names rest
 
 -- the parts of a record before its RDATA, which begins at `start` and has `size` octets (RFC 1035 4.1.3)
 pub record RecordHeadAt (octets : List ℕ) (place : ℕ) (name : Labels) (rtype class ttl start size : ℕ) : Type 0 where
@@ -59,8 +76,7 @@ pub record RecordAt (octets : List ℕ) (place : ℕ) (resource : Record) (end :
   pub size : ℕ
   pub head : RecordHeadAt octets place resource.name resource.rtype.0 resource.class.0 resource.ttl.0 start size
   pub whole : start + size ≤ length octets
-  pub laid_out : IsLaidOut resource.rtype.0 resource.class.0 (part_of octets start size)
-  pub rdata : resource.rdata ≡ part_of octets start size
+  pub rdata : RdataAt octets (layout_of resource.rtype.0 resource.class.0) start size resource.rdata
   pub ends : end ≡ start + size
 
 -- the header's numbers: identifier, flags, and how many questions and records of each section there are (RFC 1035 4.1.1)
@@ -100,7 +116,7 @@ RecordFaultAt octets number place error =
     CutShort octets place 10 error
     ⊎ ((name : Labels) × (rtype class ttl start size : ℕ) × RecordHeadAt octets place name rtype class ttl start size
     × (((length octets < start + size) × (error ≡ Short))
-    ⊎ ((start + size ≤ length octets) × (IsLaidOut rtype class (part_of octets start size) → ⊥) × (error ≡ BadRdata number))))
+    ⊎ ((start + size ≤ length octets) × ((rdata : List ℕ) → RdataAt octets (layout_of rtype class) start size rdata → ⊥) × (error ≡ BadRdata number))))
 
 -- The fault of octets that are no message: that of the first field, from left to right, that can't be read.
 -- A section's records are numbered on from those before it.

@@ -1,6 +1,7 @@
 pub mod Message
 pub mod Errors
 pub mod NameAt
+pub mod Layout
 pub mod Grammar
 pub mod Steps
 pub mod Counted

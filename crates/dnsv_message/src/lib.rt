@@ -22,6 +22,7 @@ mod laws;
 mod message;
 mod name_at;
 mod number;
+mod rdata;
 mod record;
 #[cfg(test)]
 mod samples;

@@ -1,9 +1,8 @@
 //! What the sections of a message hold.
-ghost use Rattle.std.specs.Prelude.{◌≡◌, ℕ, List, IfOk};
+ghost use Rattle.std.specs.Prelude.{◌≡◌, ℕ, List};
 
 use crate::number::{Class, Ttl};
 use dnsv_names::{Name, RecordType};
-use std::alloc::{AllocError, Global};
 use std::marker::Model;
 
 /// The sections of records, in the order of a message (RFC 1035 4.1).
@@ -47,12 +46,10 @@ impl Model for Rdata {
 
 impl Rdata {
     /// The RDATA with these octets.
-    pub fn copied(alloc: Global, octets: &[u8]) -> Result<Rdata, AllocError>
-        ensures { IfOk result (λ rdata. rdata ≡ octets.now) }
+    pub fn new(octets: Vec<u8>) -> Rdata
+        ensures { result ≡ octets.items }
     {
-        Ok(Rdata {
-            octets: Vec::from_slice(alloc, octets)?,
-        })
+        Rdata { octets }
     }
 
     /// The octets.

@@ -1,13 +1,14 @@
 //! Questions and records where they stand in a message (RFC 1035 4.1.2, 4.1.3).
-ghost use Rattle.std.specs.Prelude.{◌≡◌, ◌≤◌, ◌+◌, ◌<◌, ◌^◌, ◌⊎◌, ◌↔◌, length, IsTrue, IfOk, IfErr};
-ghost use Rattle.dnsv_message.specs.Grammar.{QuestionAt, QuestionFaultAt, RecordAt, RecordFaultAt, IsLaidOut, InOrder, FirstFault};
+ghost use Rattle.std.specs.Prelude.{◌≡◌, ◌≤◌, ◌+◌, ◌<◌, ◌^◌, ◌⊎◌, length, IfOk, IfErr};
+ghost use Rattle.dnsv_message.specs.Grammar.{QuestionAt, QuestionFaultAt, RecordAt, RecordFaultAt, InOrder, FirstFault};
 
 use crate::errors::DecodeError;
 use crate::fields::{u16_at, u32_at};
 use crate::name_at::name_at;
 use crate::number::{Class, Ttl};
-use crate::record::{Question, Rdata, Record};
-use dnsv_names::{Name, RecordType};
+use crate::rdata::{Layout, rdata_at};
+use crate::record::{Question, Record};
+use dnsv_names::RecordType;
 use std::alloc::Global;
 
 /// How many octets of a question stand behind its name.
@@ -15,9 +16,6 @@ const QUESTION_TAIL: usize = 4;
 
 /// How many octets of a record stand between its name and its RDATA.
 const RECORD_TAIL: usize = 10;
-
-/// How many octets of a signature stand before its signer's name (RFC 4034 3.1).
-const SIGNATURE_HEAD: usize = 18;
 
 /// Reads this many questions from a place on, and says where what follows them stands.
 pub fn questions_at(
@@ -105,31 +103,16 @@ fn record_at(
     if octets.len() - start < size {
         return Err(DecodeError::Short);
     }
-    let part = &octets[start..start + size];
-    if !is_laid_out(rtype, class, part) {
+    let layout = Layout::of(rtype, class);
+    let Some(rdata) = rdata_at(alloc, octets, start, size, layout)? else {
         return Err(DecodeError::BadRdata(number));
-    }
+    };
     let record = Record {
         name,
         rtype,
         class,
         ttl,
-        rdata: Rdata::copied(alloc, part)?,
+        rdata,
     };
     Ok((record, start + size))
-}
-
-/// Whether the octets are laid out as RDATA of the type is.
-fn is_laid_out(rtype: RecordType, class: Class, octets: &[u8]) -> bool
-    ensures { IsTrue result ↔ IsLaidOut rtype.0 class.0 octets.now }
-{
-    if class != Class::IN {
-        true
-    } else if rtype == RecordType::A {
-        octets.len() == 4
-    } else if rtype == RecordType::RRSIG && SIGNATURE_HEAD <= octets.len() {
-        Name::read(&octets[SIGNATURE_HEAD..]).is_some()
-    } else {
-        false
-    }
 }

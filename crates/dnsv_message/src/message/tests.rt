@@ -127,10 +127,84 @@ fn refuses_rdata_by_its_record(rt: HostRuntime) -> Result<(), Fail> {
     octets[57] = 5;
     let answer = Message::decode(rt.alloc(), &octets);
     assert_eq!(rt; answer.err(), Some(DecodeError::BadRdata(2)));
-    // The first address is of a type that isn't read yet.
+    // The first address is a name server now, and its name has a label that is too long.
     let mut octets = *SIGNED_ADDRESS;
     octets[33] = 2;
     let answer = Message::decode(rt.alloc(), &octets);
     assert_eq!(rt; answer.err(), Some(DecodeError::BadRdata(1)));
+    Ok(())
+}
+
+// A question for `Example.`, and one answer to it of this type and class with this RDATA.
+fn answering(
+    alloc: Global,
+    rtype: u8,
+    class: u8,
+    rdata: &[u8],
+) -> Result<Vec<u8>, AllocError> {
+    let mut octets = Vec::from_slice(alloc, b"\0\0\x84\0\0\x01\0\x01\0\0\0\0")?;
+    octets.extend_from_slice(b"\x07Example\0\0\x01\0\x01")?;
+    octets.extend_from_slice(&[0xc0, 0x0c, 0, rtype, 0, class, 0, 0, 0, 5, 0])?;
+    octets.push(rdata.len() as u8)?;
+    octets.extend_from_slice(rdata)?;
+    Ok(octets)
+}
+
+#[test]
+fn writes_names_out(rt: HostRuntime) -> Result<(), Fail> {
+    for (rtype, rdata, written) in [
+        (2u8, b"\x02ns\xc0\x0c".as_slice(), b"\x02ns\x07Example\0".as_slice()),
+        (5, b"\xc0\x0c", b"\x07Example\0"),
+        (12, b"\x02NS\0", b"\x02NS\0"),
+        (15, b"\0\x0a\x02mx\xc0\x0c", b"\0\x0a\x02mx\x07Example\0"),
+        (33, b"\0\x01\0\x02\0\x35\x01a\xc0\x0c", b"\0\x01\0\x02\0\x35\x01a\x07Example\0"),
+        (6, b"\xc0\x0c\x01h\xc0\x0c....................", b"\x07Example\0\x01h\x07Example\0...................."),
+        (39, b"\x01d\0", b"\x01d\0"),
+        (47, b"\x01n\0\0\x01\x40", b"\x01n\0\0\x01\x40"),
+        (16, b"\x01\xc0", b"\x01\xc0"),
+    ] {
+        let message = Message::decode(rt.alloc(), &answering(rt.alloc(), rtype, 1, rdata)?)?;
+        let records = message.records(Section::Answer);
+        assert_eq!(rt; records.len(), 1);
+        assert_eq!(rt; records[0].rdata.octets(), written);
+    }
+    Ok(())
+}
+
+#[test]
+fn refuses_rdata_that_is_laid_out_otherwise(rt: HostRuntime) -> Result<(), Fail> {
+    for (rtype, rdata) in [
+        // Pointers where none may be.
+        (39u8, b"\xc0\x0c".as_slice()),
+        (47, b"\xc0\x0c\0\x01\x40"),
+        (46, b"..................\xc0\x0c"),
+        // Names that leave the RDATA, or fill less than it.
+        (2, b""),
+        (2, b"\x02n"),
+        (2, b"\x01n\xc0"),
+        (2, b"\xc0\x0c\0"),
+        (6, b"\xc0\x0c\xc0\x0c..................."),
+        (15, b"\0"),
+        (33, b"\0\x01\0\x02\0"),
+        // An address that is too short.
+        (28, b"..............."),
+    ] {
+        let mut octets = answering(rt.alloc(), rtype, 1, rdata)?;
+        let answer = Message::decode(rt.alloc(), &octets);
+        assert_eq!(rt; answer.err(), Some(DecodeError::BadRdata(1)));
+        // What stands behind the RDATA is no part of it.
+        octets.extend_from_slice(b"\x0c\0....")?;
+        let answer = Message::decode(rt.alloc(), &octets);
+        assert_eq!(rt; answer.err(), Some(DecodeError::BadRdata(1)));
+    }
+    Ok(())
+}
+
+#[test]
+fn asks_no_layout_of_other_classes(rt: HostRuntime) -> Result<(), Fail> {
+    let message = Message::decode(rt.alloc(), &answering(rt.alloc(), 1, 3, b"five.")?)?;
+    let records = message.records(Section::Answer);
+    assert_eq!(rt; records.len(), 1);
+    assert_eq!(rt; records[0].rdata.octets(), b"five.".as_slice());
     Ok(())
 }
