@@ -1,5 +1,5 @@
 -- The fault of octets that are no message, from the fault of one of its sections.
-use Rattle.std.proofs.Common.{◌≡◌, ◌⊎◌, ℕ, ◌+◌, ◌<◌, ◌≤◌, List, ◌++◌, length, refl, sym, ap, subst, ◌∙◌, inl, inr, arith, add_assoc, length-append}
+use Rattle.std.proofs.Common.{◌≡◌, ℕ, ◌+◌, ◌<◌, ◌≤◌, List, ◌++◌, length, refl, subst, inl, inr, arith, add_assoc, length-append}
 use Rattle.byteorder.specs.Endian.{big_from}
 use Rattle.dnsv_message.specs.declared.errors.DecodeError.{DecodeError}
 use Rattle.dnsv_message.specs.declared.errors.DecodeError.TheVariants.{TrailingBytes}

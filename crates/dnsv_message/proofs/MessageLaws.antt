@@ -1,8 +1,8 @@
 -- Octets are at most one message, or have one fault, and never both.
-use Rattle.std.proofs.Common.{◌≡◌, ◌⊎◌, ℕ, ◌+◌, ◌<◌, ◌≤◌, List, ◌++◌, length, get_or, refl, sym, ap, subst, ◌∙◌, arith, inl, inr, ⊎_elim, length-append, Result, Ok, Err}
+use Rattle.std.proofs.Common.{◌≡◌, ◌⊎◌, ℕ, ◌+◌, ◌<◌, ◌≤◌, List, ◌++◌, length, get_or, refl, sym, ap, subst, ◌∙◌, arith, ⊎_elim, length-append, Result, Ok, Err}
 use Rattle.std.specs.Result.{IfOk, IfErr, MatchResult}
 use Rattle.byteorder.specs.Endian.{big_from}
-use Rattle.dnsv_names.specs.Name.{Labels, wire}
+use Rattle.dnsv_names.specs.Name.{Labels}
 use Rattle.dnsv_message.specs.declared.errors.NameFault.{NameFault}
 use Rattle.dnsv_message.specs.declared.errors.DecodeError.{DecodeError}
 use Rattle.dnsv_message.specs.declared.errors.DecodeError.TheVariants.{OutOfMemory, Short, BadRdata, TrailingBytes}

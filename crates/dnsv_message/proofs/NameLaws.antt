@@ -1,10 +1,10 @@
 -- Octets spell at most one name at a place, or have one fault there, and never both.
-use Rattle.std.proofs.Common.{◌≡◌, ◌⊎◌, ℕ, zero, suc, ◌+◌, ◌*◌, ◌^◌, ◌<◌, ◌≤◌, List, [], ◌∷◌, ◌++◌, length, get_or, take, drop, refl, sym, ap, subst, ◌∙◌, arith, inl, inr, ⊎_elim, add-zero, length-append}
+use Rattle.std.proofs.Common.{◌≡◌, ℕ, suc, ◌+◌, ◌<◌, ◌≤◌, List, [], ◌∷◌, length, get_or, take, drop, refl, sym, ap, subst, ◌∙◌, arith, ⊎_elim, add-zero, length-append}
 use Rattle.std.proofs.lemmas.List.{get_or-take, get_or-drop}
-use Rattle.dnsv_names.specs.Name.{Labels, IsLabel, wire}
+use Rattle.dnsv_names.specs.Name.{Labels, wire}
 use Rattle.dnsv_message.specs.declared.errors.NameFault.{NameFault}
 use Rattle.dnsv_message.specs.declared.errors.NameFault.TheVariants.{Short, BadLabel, BadPointer, TooManyPointers, LongName}
-use Rattle.dnsv_message.specs.NameAt.{NumberAt, PartAt, LabelAt, PointerAt, NameAt, root, label, pointer, IsTorn, FaultHere, NameFaultAt, here, after_label, after_pointer}
+use Rattle.dnsv_message.specs.NameAt.{NumberAt, LabelAt, PointerAt, NameAt, root, label, pointer, IsTorn, FaultHere, NameFaultAt, here, after_label, after_pointer}
 use Rattle.dnsv_message.proofs.NameWalk.{part_within, wire_not_empty}
 
 module _ (octets : List ℕ) where

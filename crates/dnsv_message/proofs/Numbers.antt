@@ -1,16 +1,12 @@
 -- Numbers and labels where they stand in a message.
-use Rattle.std.proofs.Common.{◌≡◌, ℕ, zero, suc, ◌+◌, ◌-◌, ◌*◌, ◌^◌, ◌<◌, ◌≤◌, List, [], ◌∷◌, ◌++◌, length, get_or, take, drop, refl, sym, ap, ◌∙◌, arith, add-zero, add-suc, length-drop, Option, Some, None, inl, inr, ⊎_elim, Bool, true, false, not}
-use Rattle.std.proofs.lemmas.List.{get_or-drop, drop_more, drop-drop, length-take-le, take-append-drop}
+use Rattle.std.proofs.Common.{◌≡◌, ℕ, zero, suc, ◌+◌, ◌-◌, ◌<◌, ◌≤◌, List, [], ◌∷◌, length, get_or, take, drop, refl, sym, ap, ◌∙◌, arith, add-zero, add-suc, length-drop, Bool, true, false, not}
+use Rattle.std.proofs.lemmas.List.{get_or-drop, drop_more, length-take-le}
 use Rattle.std.proofs.lemmas.List.Elements.{All-from_get_or, All-take, All-drop, recursion_from_All}
 use Rattle.std.proofs.lemmas.Bool.{false≢true}
-use Rattle.std.proofs.lemmas.Option.{none-some}
-use Rattle.std.specs.Bool.{Decides}
-use Rattle.std.specs.Option.{IfSome, is_some}
 use Rattle.std.specs.List.{AllByRecursion}
 use Rattle.byteorder.specs.Endian.{big_from, big_number}
-use Rattle.dnsv_names.specs.Name.{Labels, IsLabel, IsName, wire}
 use Rattle.dnsv_message.specs.Grammar.{part_of}
-use Rattle.dnsv_message.specs.NameAt.{AreOctets, NumberAt, PartAt, LabelAt, PointerAt}
+use Rattle.dnsv_message.specs.NameAt.{AreOctets, NumberAt, LabelAt}
 
 -- reading from a place on is reading at the place
 big_from-drop : (octets : List ℕ) (place i n : ℕ) → big_from i n (drop place octets) ≡ big_from (place + i) n octets

@@ -1,5 +1,5 @@
 -- The names of an RDATA, and that octets hold at most one RDATA at a place.
-use Rattle.std.proofs.Common.{◌≡◌, ℕ, zero, suc, ◌+◌, ◌-◌, ◌<◌, ◌≤◌, List, [], ◌∷◌, ◌++◌, length, get_or, take, drop, refl, sym, ap, subst, ◌∙◌, arith, add-zero, length-append, length-drop, Option, Some, None, Bool, true, false, Result, Ok, Err, unwrap_or}
+use Rattle.std.proofs.Common.{◌≡◌, ℕ, suc, ◌+◌, ◌-◌, ◌<◌, ◌≤◌, List, [], ◌∷◌, ◌++◌, length, get_or, take, drop, refl, sym, ap, subst, ◌∙◌, arith, add-zero, length-append, Option, Some, None, Bool, true, false, Result, Ok, Err, unwrap_or}
 use Rattle.std.specs.Prelude.{flat_map}
 use Rattle.std.specs.Result.{IfOk, IfErr, result_ok}
 use Rattle.std.proofs.lemmas.List.{append-nil, get_or-take, get_or-drop, drop-drop, take-take, take-append-drop, flat_map_more}
@@ -8,9 +8,9 @@ use Rattle.std.specs.List.{AllByRecursion}
 use Rattle.dnsv_names.specs.Name.{Labels, IsLabel, IsName, wire}
 use Rattle.dnsv_message.specs.declared.errors.NameFault.{NameFault}
 use Rattle.dnsv_message.specs.declared.rdata.Layout.{Layout}
-use Rattle.dnsv_message.specs.NameAt.{NumberAt, PartAt, LabelAt, NameAt, root, label, pointer, NameFrom, NameFaultFrom, pointer_limit}
+use Rattle.dnsv_message.specs.NameAt.{PartAt, NameAt, root, label, pointer, NameFrom, NameFaultFrom, pointer_limit}
 use Rattle.dnsv_message.specs.Grammar.{InOrder, FirstFault, RdataNameAt, RdataAt, IsTail, part_of}
-use Rattle.dnsv_message.proofs.NameWalk.{part_within, wire_not_empty}
+use Rattle.dnsv_message.proofs.NameWalk.{part_within}
 use Rattle.dnsv_message.proofs.NameLaws.{NameAt_same, NameAt_sound}
 use Rattle.dnsv_message.proofs.Sequences.{Reading, Reading-start, Reading-next, Reading-fault, Reading-order, InOrder-same, InOrder-sound}
 use Rattle.dnsv_message.proofs.Numbers.{part_same}
@@ -172,6 +172,6 @@ module _ (octets : List ℕ) (layout : Layout) (start size place : ℕ) (written
         let both = names_same octets fit (start + size) layout.pointers at.names read.names (start + layout.head) at.after_names place (at.counted ∙ sym all ∙ sym read.reading.size) at.named (Reading-order read.reading) in
         let rests : at.rest ≡ start + size - place = omega (arith, both.1, at.filled) in
         other (tail_is layout.tail at.rest (start + size - place) rests at.ends) where
-      tail_is : (tail : Option ℕ) (rest size : ℕ) → rest ≡ size → IsTail tail rest → unwrap_or tail size ≡ size
-      tail_is None rest size same ends = refl
-      tail_is (Some tail) rest size same ends = sym ends ∙ same
+          tail_is : (tail : Option ℕ) (rest size : ℕ) → rest ≡ size → IsTail tail rest → unwrap_or tail size ≡ size
+          tail_is None rest size same ends = refl
+          tail_is (Some tail) rest size same ends = sym ends ∙ same

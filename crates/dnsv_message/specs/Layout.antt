@@ -1,16 +1,17 @@
 -- How the RDATA of each type is laid out: some octets, then some names, then some octets more.
-use Rattle.std.specs.Prelude.{ℕ, ◌==◌, Bool, true, false, Option, Some, None, if◌then◌else◌}
+use Rattle.std.specs.Prelude.{ℕ, ◌==◌, true, false, Option, Some, None, if◌then◌else◌}
 use Rattle.dnsv_message.specs.declared.rdata.Layout.{Layout}
 
 -- this many octets, then any number more or none
 abbrev pub octets_alone : ℕ → Option ℕ → Layout
 octets_alone head tail = record { head = head; names = 0; pointers = false; tail = tail }
 
--- this many octets, then names that may be compressed, then this many octets
+-- this many octets, then names that may be compressed (RFC 3597 4), then this many octets
 abbrev pub compressed_names : ℕ → ℕ → ℕ → Layout
 compressed_names head names tail = record { head = head; names = names; pointers = true; tail = Some tail }
 
--- this many octets, then a name that is not compressed (RFC 3597 4), then this many octets, or any number
+-- this many octets, then a name that is not compressed (RFC 6672 2.5, RFC 4034 3.1.7 and 4.1.1), then this many
+-- octets, or any number
 abbrev pub plain_name : ℕ → Option ℕ → Layout
 plain_name head tail = record { head = head; names = 1; pointers = false; tail = tail }
 

@@ -47,9 +47,12 @@ impl Message {
     /// Reads a message, which is all of the octets.
     ///
     /// The error is the first fault from left to right: octets that are missing ([`DecodeError::Short`]),
-    /// a name that can't be read, RDATA that is not laid out as its type asks, octets left over. Of class
-    /// IN, RDATA of the types A and RRSIG is read yet, and that of any other type is BadRdata. Only
+    /// a name that can't be read, RDATA that is not laid out as its type asks, octets left over. Only
     /// where memory was refused is the error [`DecodeError::OutOfMemory`].
+    ///
+    /// Of class IN, RDATA of A, NS, CNAME, SOA, PTR, MX, AAAA, SRV, DNAME, RRSIG and NSEC is laid out;
+    /// all other RDATA is octets as they are. Names in it may be compressed but for those of DNAME,
+    /// RRSIG and NSEC (RFC 3597 4, RFC 6672 2.5, RFC 4034 3.1.7 and 4.1.1).
     pub fn decode(alloc: Global, octets: &[u8]) -> Result<Message, DecodeError>
         // What is found stands in the octets.
         ensures found { IfOk result (MessageOf octets.now) }

@@ -136,16 +136,11 @@ fn refuses_rdata_by_its_record(rt: HostRuntime) -> Result<(), Fail> {
 }
 
 // A question for `Example.`, and one answer to it of this type and class with this RDATA.
-fn answering(
-    alloc: Global,
-    rtype: u8,
-    class: u8,
-    rdata: &[u8],
-) -> Result<Vec<u8>, AllocError> {
+fn answering(alloc: Global, rtype: u8, class: u8, rdata: &[u8]) -> Result<Vec<u8>, AllocError> {
     let mut octets = Vec::from_slice(alloc, b"\0\0\x84\0\0\x01\0\x01\0\0\0\0")?;
     octets.extend_from_slice(b"\x07Example\0\0\x01\0\x01")?;
     octets.extend_from_slice(&[0xc0, 0x0c, 0, rtype, 0, class, 0, 0, 0, 5, 0])?;
-    octets.push(rdata.len() as u8)?;
+    octets.push((rdata.len() % 256) as u8)?;
     octets.extend_from_slice(rdata)?;
     Ok(octets)
 }
@@ -153,12 +148,24 @@ fn answering(
 #[test]
 fn writes_names_out(rt: HostRuntime) -> Result<(), Fail> {
     for (rtype, rdata, written) in [
-        (2u8, b"\x02ns\xc0\x0c".as_slice(), b"\x02ns\x07Example\0".as_slice()),
+        (
+            2u8,
+            b"\x02ns\xc0\x0c".as_slice(),
+            b"\x02ns\x07Example\0".as_slice(),
+        ),
         (5, b"\xc0\x0c", b"\x07Example\0"),
         (12, b"\x02NS\0", b"\x02NS\0"),
         (15, b"\0\x0a\x02mx\xc0\x0c", b"\0\x0a\x02mx\x07Example\0"),
-        (33, b"\0\x01\0\x02\0\x35\x01a\xc0\x0c", b"\0\x01\0\x02\0\x35\x01a\x07Example\0"),
-        (6, b"\xc0\x0c\x01h\xc0\x0c....................", b"\x07Example\0\x01h\x07Example\0...................."),
+        (
+            33,
+            b"\0\x01\0\x02\0\x35\x01a\xc0\x0c",
+            b"\0\x01\0\x02\0\x35\x01a\x07Example\0",
+        ),
+        (
+            6,
+            b"\xc0\x0c\x01h\xc0\x0c....................",
+            b"\x07Example\0\x01h\x07Example\0....................",
+        ),
         (39, b"\x01d\0", b"\x01d\0"),
         (47, b"\x01n\0\0\x01\x40", b"\x01n\0\0\x01\x40"),
         (16, b"\x01\xc0", b"\x01\xc0"),

@@ -1,4 +1,4 @@
-use Rattle.std.proofs.Common.{◌≡◌, ◌++◌, sym, ap, ◌∙◌, arith}
+use Rattle.std.proofs.Common.{◌++◌, sym, ap, ◌∙◌, arith}
 use Rattle.dnsv_message.proofs.RdataLemmas.{head_fits, NamesRead-next, NamesRead-found, NamesRead-missing, NamesRead-tail}
 use Rattle.dnsv_message.proofs.rdata.rdata_at.Goals as goal
 

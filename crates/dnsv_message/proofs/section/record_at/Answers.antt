@@ -15,7 +15,6 @@ returns-then-octets-start-clause-fault c =
       inl (omega arith, refl),
     ))
 
-
 pub returns-in_default-clause-fault : goal.returns-in_default-clause-fault
 returns-in_default-clause-fault c =
     inr (inr (

@@ -1,6 +1,6 @@
-use Rattle.std.proofs.Common.{refl, inl, inr, ⊎_elim, arith}
+use Rattle.std.proofs.Common.{inl, inr, ⊎_elim, arith}
 use Rattle.std.proofs.lemmas.Result.{err_from_is_err_and}
-use Rattle.dnsv_message.proofs.Sequences.{Reading-start, Reading-next, Reading-fault, Reading-order}
+use Rattle.dnsv_message.proofs.Sequences.{Reading-next, Reading-fault, Reading-order}
 use Rattle.dnsv_message.proofs.section.records_at.Goals as goal
 
 pub loop-read-preserved : goal.loop-read-preserved

@@ -1,4 +1,4 @@
-use Rattle.std.proofs.Common.{inl, inr, ⊎_elim, arith}
+use Rattle.std.proofs.Common.{inl, inr, ⊎_elim}
 use Rattle.std.proofs.lemmas.Result.{err_from_is_err_and}
 use Rattle.dnsv_message.proofs.Faults.{Begun, fault_of_answer, fault_of_authority, fault_of_additional, fault_of_rest}
 use Rattle.dnsv_message.proofs.message.Message.read.Goals as goal
