@@ -80,3 +80,6 @@ fn names_lowered(
     form.extend_from_slice(end)?;
     Ok(form)
 }
+
+#[cfg(test)]
+mod tests;

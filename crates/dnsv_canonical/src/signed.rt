@@ -85,8 +85,8 @@ fn record_front(
     let mut octets = owner_octets(alloc, owner, rrsig.labels as usize)?;
     octets.extend_from_slice(&rtype.0.to_be_bytes())?;
     octets.extend_from_slice(&Class::IN.0.to_be_bytes())?;
-    let ttl = rrsig.original_ttl.to_be_bytes();
-    octets.extend_from_slice(&ttl)?;
+    let ttl = rrsig.original_ttl;
+    octets.extend_from_slice(&ttl.to_be_bytes())?;
     Ok(octets)
 }
 

@@ -21,7 +21,7 @@ fn record(
         rtype: RecordType(rtype),
         class: Class(class),
         ttl: Ttl(5),
-        rdata: Rdata::new(rdata.to_vec(alloc)?),
+        rdata: Rdata::copied(alloc, rdata)?,
     })
 }
 
