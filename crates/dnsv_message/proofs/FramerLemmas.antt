@@ -1,10 +1,10 @@
 -- What a framer keeps between pieces, and that the cutting of a stream doesn't matter.
-use Rattle.std.proofs.Common.{◌≡◌, ◌≢◌, ◌⊎◌, ℕ, ◌≤◌, List, [], ◌∷◌, ◌++◌, length, refl, sym, ap, ◌∙◌, inl, inr, arith, append_assoc, Option, Some, None}
+use Rattle.std.proofs.Common.{◌≡◌, ◌≢◌, ℕ, ◌≤◌, List, [], ◌∷◌, ◌++◌, length, refl, sym, ap, ◌∙◌, inl, inr, arith, append_assoc, Option, Some, None}
 use Rattle.std.proofs.lemmas.List.{append-nil}
-use Rattle.std.specs.List.{AllByRecursion, flat_map}
+use Rattle.std.specs.List.{flat_map}
 use Rattle.dnsv_message.specs.declared.errors.ReadError.{ReadError}
 use Rattle.dnsv_message.specs.declared.errors.ReadError.TheVariants.{OutOfMemory, Read, TooLong, ZeroLength, TornFrame}
-use Rattle.dnsv_message.specs.Frames.{frame, IsFramed, BeginsNoFrame, BeginsWith, Frames, IsZero}
+use Rattle.dnsv_message.specs.Frames.{frame, BeginsNoFrame, BeginsWith, Frames, IsZero}
 use Rattle.dnsv_message.specs.Framer.{Framing, Gains, IsEndError, Keeps, Feeds, FeedsAll}
 use Rattle.dnsv_message.specs.OpenFrame.{rest_of}
 use Rattle.dnsv_message.proofs.FrameLemmas.{Gains-append, Gains-none, one_framing, same_frame, zero_begins_no_frame}

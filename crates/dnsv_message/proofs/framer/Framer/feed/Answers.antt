@@ -1,4 +1,4 @@
-use Rattle.std.proofs.Common.{ap, ◌∙◌}
+use Rattle.std.proofs.Common.{ap}
 use Rattle.std.proofs.lemmas.Result.{on_ok_weaker}
 use Rattle.dnsv_message.specs.Frames.{octets_of_each}
 use Rattle.dnsv_message.proofs.FramerLemmas.{Feeds-failed}
