@@ -33,11 +33,7 @@ pub fn slices<'a>(alloc: Global, forms: &'a [Vec<u8>]) -> Result<Vec<&'a [u8]>, 
 }
 
 /// The RDATA with its names in lower case, where canonical form has them so.
-fn canonical_form(
-    alloc: Global,
-    rtype: RecordType,
-    rdata: &[u8],
-) -> Result<Vec<u8>, AllocError>
+fn canonical_form(alloc: Global, rtype: RecordType, rdata: &[u8]) -> Result<Vec<u8>, AllocError>
     ensures { IfOk result (λ form. form.items ≡ canonical_form rtype.0 rdata.now) }
 {
     match names_of(rtype) {

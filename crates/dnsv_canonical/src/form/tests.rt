@@ -8,8 +8,14 @@ fn lowers_the_exchange_of_mail(rt: HostRuntime) -> Result<(), Fail> {
     let letters: &[u8] = b"AB\x04Mail\x07Example\x00";
     let forms = canonical_forms(rt.alloc(), RecordType(15), &[mail, letters])?;
     assert_eq!(rt; forms.len(), 2);
-    assert_eq!(rt; forms[0].as_slice(), b"\x00\x0a\x04mail\x07example\x00".as_slice());
-    assert_eq!(rt; forms[1].as_slice(), b"AB\x04mail\x07example\x00".as_slice());
+    assert_eq!(rt;
+        forms[0].as_slice(),
+        b"\x00\x0a\x04mail\x07example\x00".as_slice()
+    );
+    assert_eq!(rt;
+        forms[1].as_slice(),
+        b"AB\x04mail\x07example\x00".as_slice()
+    );
     Ok(())
 }
 

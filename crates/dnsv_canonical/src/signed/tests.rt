@@ -78,8 +78,8 @@ fn signs_names_that_differ_in_case_once(rt: HostRuntime) -> Result<(), Fail> {
     let rrsig = Rrsig::read(alloc, RRSIG)?;
     let upper: &[u8] = b"\x02NS\x00";
     let lower: &[u8] = b"\x02ns\x00";
-    let octets = signed_data(alloc, &owner, RecordType(2), &[upper, lower], &rrsig)?
-        .ok_or("signed data")?;
+    let answer = signed_data(alloc, &owner, RecordType(2), &[upper, lower], &rrsig)?;
+    let octets = answer.ok_or("signed data")?;
     assert_eq!(rt;
         octets.as_slice(),
         b"\x00\x01\x0d\x02\x00\x00\x0e\x10\x00\x00\x07\xd0\x00\x00\x03\xe8\x08\x0f\x07example\x00\x04host\x07example\x00\x00\x02\x00\x01\x00\x00\x0e\x10\x00\x04\x02ns\x00".as_slice()

@@ -1,4 +1,4 @@
-use Rattle.std.proofs.Common.{◌≡◌, ℕ, List, ◌++◌, [], ◌∷◌, length, take, drop, map, get_or, sym, ap, ◌∙◌, append_assoc, arith}
+use Rattle.std.proofs.Common.{◌≡◌, ℕ, List, ◌++◌, [], ◌∷◌, take, drop, map, sym, ap, ◌∙◌, append_assoc, arith}
 use Rattle.std.proofs.lemmas.List.{take_min, drop_min, take_all, map_more, append-nil}
 use Rattle.std.specs.Char.{to_ascii_lowercase}
 use Rattle.dnsv_canonical.specs.CanonicalRdata.{lowered_but_last}
@@ -17,7 +17,7 @@ loop-octet-preserved c =
     ∙ append_assoc (take c.args.before c.args.rdata.now) (lowered (take c.loop-octet.octet-index c.split_at-2.result.0.now)) (c.to_ascii_lowercase.result ∷ [])
     ∙ ap (λ octets. take c.args.before c.args.rdata.now ++ octets)
     (ap (λ octet. lowered (take c.loop-octet.octet-index c.split_at-2.result.0.now) ++ octet ∷ []) c.to_ascii_lowercase.ensures.value
-     ∙ sym (map_more to_ascii_lowercase c.split_at-2.result.0.now c.loop-octet.octet-index 0 c.loop-octet-test.true))
+    ∙ sym (map_more to_ascii_lowercase c.split_at-2.result.0.now c.loop-octet.octet-index 0 c.loop-octet-test.true))
 
 pub returns : goal.returns
 returns c =
@@ -30,5 +30,5 @@ returns c =
     ∙ append_assoc (take c.args.before c.args.rdata.now) (map to_ascii_lowercase c.split_at-2.result.0.now) c.split_at-2.result.1.now
     ∙ ap (λ octets. take c.args.before c.args.rdata.now ++ octets)
     ((λ j. map to_ascii_lowercase (c.split_at-2.ensures.front j) ++ c.split_at-2.ensures.back j)
-     ∙ ap (λ n. map to_ascii_lowercase (take n c.split_at.result.1.now) ++ drop n c.split_at.result.1.now) c.saturating_sub.ensures
-     ∙ ap (lowered_but_last c.args.behind) rest)
+    ∙ ap (λ n. map to_ascii_lowercase (take n c.split_at.result.1.now) ++ drop n c.split_at.result.1.now) c.saturating_sub.ensures
+    ∙ ap (lowered_but_last c.args.behind) rest)

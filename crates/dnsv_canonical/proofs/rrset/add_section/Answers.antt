@@ -1,4 +1,4 @@
-use Rattle.std.proofs.Common.{◌≡◌, ◌∷◌, ◌++◌, [], List, ℕ, Bool, ◌&&◌, take, sym, ap, ◌∙◌, arith}
+use Rattle.std.proofs.Common.{◌∷◌, ◌++◌, [], ℕ, Bool, ◌&&◌, take, sym, ap, ◌∙◌, arith}
 use Rattle.std.specs.List.{list_any}
 use Rattle.dnsv_canonical.specs.Rrsets.{is_grouped, same_rrset}
 use Rattle.dnsv_canonical.proofs.GroupLemmas.{rrset_appears, rrset_appeared, no_rrset}

@@ -1,6 +1,4 @@
 use Rattle.std.proofs.Common.{◌≡◌, take, map}
-use Rattle.std.specs.List.{filter}
-use Rattle.std.specs.Str.{bytes_eq}
 use Rattle.dnsv_canonical.specs.Rrsets.{signatures_of}
 use Rattle.dnsv_canonical.proofs.section.signatures_of.Given as goal
 
