@@ -21,7 +21,7 @@ fn record(
         rtype: RecordType(rtype),
         class: Class(class),
         ttl: Ttl(5),
-        rdata: Rdata::copied(alloc, rdata)?,
+        rdata: Rdata::new(Vec::from_slice(alloc, rdata)?),
     })
 }
 
