@@ -195,12 +195,13 @@ fn lists_no_signature_of_another_section_or_message(rt: HostRuntime) -> Result<(
     assert_eq!(rt; answer, Ok(Status::Done));
     assert_eq!(rt; text.len(), 0);
     // The addresses in a message of 62 octets, and their signature in one of 71.
-    let mut octets = HOST[..64].to_vec(rt.alloc())?;
+    let host = HOST.as_slice();
+    let mut octets = Vec::from_slice(rt.alloc(), &host[..64])?;
     assert_eq!(rt; octets.len(), 64);
     octets[1] = 62;
     octets[9] = 2;
-    octets.extend_from_slice(&HOST[..32])?;
-    octets.extend_from_slice(&HOST[64..])?;
+    octets.extend_from_slice(&host[..32])?;
+    octets.extend_from_slice(&host[64..])?;
     assert_eq!(rt; octets.len(), 137);
     octets[65] = 71;
     octets[73] = 1;
