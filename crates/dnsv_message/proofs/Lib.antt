@@ -5,6 +5,8 @@ pub mod Faults
 pub mod NameLaws
 pub mod RdataLemmas
 pub mod MessageLaws
+pub mod RdataWritten
+pub mod EncodingLemmas
 pub mod CaptureLemmas
 pub mod FrameLemmas
 pub mod FramerLemmas

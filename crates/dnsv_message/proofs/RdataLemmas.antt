@@ -16,7 +16,7 @@ use Rattle.dnsv_message.proofs.Sequences.{Reading, Reading-start, Reading-next, 
 use Rattle.dnsv_message.proofs.Numbers.{part_same}
 
 -- octets that begin with two parts begin with the first, and then with the second
-part_split : (a b octets : List ℕ) → take (length (a ++ b)) octets ≡ a ++ b → (take (length a) octets ≡ a) × (take (length b) (drop (length a) octets) ≡ b)
+pub part_split : (a b octets : List ℕ) → take (length (a ++ b)) octets ≡ a ++ b → (take (length a) octets ≡ a) × (take (length b) (drop (length a) octets) ≡ b)
 part_split [] b octets at = (refl, at)
 part_split (x ∷ a) b [] at = absurd (cc at)
 part_split (x ∷ a) b (y ∷ octets) at =
@@ -25,7 +25,7 @@ part_split (x ∷ a) b (y ∷ octets) at =
 
 module _ (octets : List ℕ) where
   -- a wire form that stands at a place is read there without a pointer
-  plain_at : (labels : Labels) (place run pointers : ℕ) → AllByRecursion IsLabel labels → PartAt octets place (wire labels) → NameAt octets place run pointers labels (place + length (wire labels))
+  pub plain_at : (labels : Labels) (place run pointers : ℕ) → AllByRecursion IsLabel labels → PartAt octets place (wire labels) → NameAt octets place run pointers labels (place + length (wire labels))
   plain_at [] place run pointers each at =
       let octet : get_or octets place 0 ≡ 0 =
       ap (λ n. get_or octets n 0) (sym (add-zero place)) ∙ sym (get_or-drop place octets 0 0)

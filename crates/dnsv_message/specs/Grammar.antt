@@ -10,7 +10,7 @@ use Rattle.dnsv_message.specs.declared.record.Record.{Record}
 use Rattle.dnsv_message.specs.Errors.{decode_error_of}
 use Rattle.dnsv_message.specs.Layout.{layout_of}
 use Rattle.dnsv_message.specs.Message.{Contents}
-use Rattle.dnsv_message.specs.NameAt.{NumberAt, PartAt, NameFrom, NameFaultFrom}
+use Rattle.dnsv_message.specs.NameAt.{AreOctets, NumberAt, PartAt, NameFrom, NameFaultFrom}
 
 -- Things stand one after another from the place on, and end where the last of them does. `At place x end`
 -- says that x stands at the place and ends before `end`.
@@ -99,6 +99,10 @@ pub record MessageOf (octets : List ℕ) (message : Contents) : Type 0 where
   pub answer : InOrder (RecordAt octets) after_questions message.answer after_answer
   pub authority : InOrder (RecordAt octets) after_answer message.authority after_authority
   pub additional : InOrder (RecordAt octets) after_authority message.additional (length octets)
+
+-- some octets are the message
+abbrev pub IsMessage : Contents → Type 0
+IsMessage message = (octets : List ℕ) × AreOctets octets × MessageOf octets message
 
 -- a name has a fault, or octets are missing behind it
 abbrev pub CutShort : List ℕ → ℕ → ℕ → DecodeError → Type 0

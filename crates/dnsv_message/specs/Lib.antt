@@ -3,6 +3,7 @@ pub mod Errors
 pub mod NameAt
 pub mod Layout
 pub mod Grammar
+pub mod Encoding
 pub mod Steps
 pub mod Counted
 pub mod Frames

@@ -4,6 +4,7 @@ ghost use Rattle.dnsv_message.specs.declared.errors.DecodeError.{DecodeError};
 ghost use Rattle.dnsv_message.specs.Message.{Contents};
 ghost use Rattle.dnsv_message.specs.NameAt.{AreOctets};
 ghost use Rattle.dnsv_message.specs.Grammar.{MessageOf, FaultOf};
+ghost use Rattle.dnsv_message.specs.Encoding.{message_octets};
 
 /// Octets are at most one message.
 pub fn one_message()
@@ -18,4 +19,9 @@ pub fn no_fault_of_a_message()
 /// Octets have at most one fault.
 pub fn one_fault()
     ensures { (octets : List ℕ) → AreOctets octets → (error other : DecodeError) → FaultOf octets error → FaultOf octets other → error ≡ other }
+{}
+
+/// The octets that are written for a message are that message, so decoding them gives it again.
+pub fn decoding_gives_what_was_encoded()
+    ensures { (octets : List ℕ) → AreOctets octets → (message : Contents) → MessageOf octets message → MessageOf (message_octets message) message }
 {}

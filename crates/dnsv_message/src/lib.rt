@@ -6,13 +6,14 @@ pub use counted::Counted;
 pub use errors::{DecodeError, NameFault, ReadError};
 pub use file::read_all;
 pub use framer::{Framer, any_cutting};
-pub use laws::{no_fault_of_a_message, one_fault, one_message};
+pub use laws::{decoding_gives_what_was_encoded, no_fault_of_a_message, one_fault, one_message};
 pub use message::Message;
 pub use number::{Class, Flags, Ttl};
 pub use record::{Question, Rdata, Record, Section};
 
 mod capture;
 mod counted;
+mod encode;
 mod errors;
 mod fields;
 mod file;

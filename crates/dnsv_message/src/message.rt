@@ -1,12 +1,13 @@
 //! A message as a whole.
 ghost use Rattle.std.specs.Prelude.{◌≡◌, ◌⊎◌, IfOk, IfErr, MatchResult};
 
+use crate::encode::{push_questions, push_records};
 use crate::errors::DecodeError;
 use crate::fields::u16_at;
 use crate::number::Flags;
 use crate::record::{Question, Record, Section};
 use crate::section::{questions_at, records_at};
-use std::alloc::Global;
+use std::alloc::{AllocError, Global};
 use std::marker::Model;
 
 /// A message (RFC 1035 4.1).
@@ -24,6 +25,7 @@ pub struct Message {
 
 impl Model for Message {
     ghost use Rattle.dnsv_message.specs.Message.{Contents};
+    ghost use Rattle.dnsv_message.specs.Grammar.{IsMessage};
 
     ghost Value = { Contents };
 
@@ -35,6 +37,16 @@ impl Model for Message {
       authority = message.authority.items;
       additional = message.additional.items;
     } };
+
+    // A message is what some octets are.
+    ghost invariant = { λ message. IsMessage (record {
+      id = message.id;
+      flags = message.flags.0;
+      questions = message.questions.items;
+      answer = message.answer.items;
+      authority = message.authority.items;
+      additional = message.additional.items;
+    }) };
 }
 
 /// How many octets the header has.
@@ -43,6 +55,7 @@ const HEADER_LENGTH: usize = 12;
 impl Message {
     ghost use Rattle.dnsv_message.specs.Message.{Contents, section_of};
     ghost use Rattle.dnsv_message.specs.Grammar.{MessageOf, FaultOf};
+    ghost use Rattle.dnsv_message.specs.Encoding.{header_octets, message_octets};
 
     /// Reads a message, which is all of the octets.
     ///
@@ -123,6 +136,36 @@ impl Message {
             Section::Authority => &self.authority,
             Section::Additional => &self.additional,
         }
+    }
+
+    /// The octets of the message, every name as it is spelled and none compressed (RFC 1035 4.1).
+    /// Reading them gives the message again.
+    pub fn encode(&self, alloc: Global) -> Result<Vec<u8>, AllocError>
+        // The octets are these.
+        ensures value { IfOk result (λ octets. octets.items ≡ message_octets self.now) }
+        // They are the message.
+        ensures read { IfOk result (λ octets. MessageOf octets.items self.now) }
+    {
+        let mut octets = self.header(alloc)?;
+        push_questions(&mut octets, &self.questions)?;
+        push_records(&mut octets, &self.answer)?;
+        push_records(&mut octets, &self.authority)?;
+        push_records(&mut octets, &self.additional)?;
+        Ok(octets)
+    }
+
+    /// The octets of the header.
+    fn header(&self, alloc: Global) -> Result<Vec<u8>, AllocError>
+        ensures { IfOk result (λ octets. octets.items ≡ header_octets self.now) }
+    {
+        let mut octets = Vec::new(alloc);
+        octets.extend_from_slice(&self.id.to_be_bytes())?;
+        octets.extend_from_slice(&self.flags.0.to_be_bytes())?;
+        octets.extend_from_slice(&(self.questions.len() as u16).to_be_bytes())?;
+        octets.extend_from_slice(&(self.answer.len() as u16).to_be_bytes())?;
+        octets.extend_from_slice(&(self.authority.len() as u16).to_be_bytes())?;
+        octets.extend_from_slice(&(self.additional.len() as u16).to_be_bytes())?;
+        Ok(octets)
     }
 }
 

@@ -1,0 +1,263 @@
+-- The octets that are written for a message are the message.
+use Rattle.std.proofs.Common.{◌≡◌, ℕ, ◌+◌, ◌^◌, ◌<◌, ◌≤◌, List, [], ◌∷◌, ◌++◌, length, get_or, drop, All, refl, sym, ap, subst, ◌∙◌, arith, append_assoc, length-append, length-take, length-drop}
+use Rattle.std.specs.Prelude.{flat_map}
+use Rattle.std.specs.Int.{w16, w32, to_be_bytes, bytes_high_first}
+use Rattle.std.proofs.lemmas.List.{take-append-drop, take_all}
+use Rattle.std.proofs.lemmas.List.Elements.{All-from_recursion}
+use Rattle.std.proofs.lemmas.Grind.{flat_map-append}
+use Rattle.std.specs.List.{AllByRecursion}
+use Rattle.byteorder.specs.Endian.{big_from}
+use Rattle.byteorder.specs.Numbers.{big_number-reads_back, big_from-lt, length-bytes_high_first}
+use Rattle.dnsv_names.specs.Name.{IsName, wire}
+use Rattle.dnsv_message.specs.declared.record.Question.{Question}
+use Rattle.dnsv_message.specs.declared.record.Record.{Record}
+use Rattle.dnsv_message.specs.Message.{Contents, records_of}
+use Rattle.dnsv_message.specs.Layout.{layout_of}
+use Rattle.dnsv_message.specs.NameAt.{NumberAt}
+use Rattle.dnsv_message.specs.Grammar.{InOrder, QuestionAt, RecordAt, MessageOf, IsMessage}
+use Rattle.dnsv_message.specs.Encoding.{question_octets, record_octets, header_octets, message_octets}
+use Rattle.dnsv_message.proofs.Numbers.{number_behind, octet_fits}
+use Rattle.dnsv_message.proofs.NameWalk.{part_within}
+use Rattle.dnsv_message.proofs.RdataWritten.{Stands, Stands-end, InOrder-stands, InOrder-each, name_is, name_stands, layout_short, LaidOut, rdata_short, laid_out, rdata_stands}
+
+-- a number in its octets is read as it is
+number_stands : (octets : List ℕ) (place n number : ℕ) → 0 < n → number < 256 ^ n → Stands octets place (bytes_high_first n number) → NumberAt octets place n number
+number_stands octets place n number some small stands =
+    let size : length (bytes_high_first n number) ≡ n = length-bytes_high_first n number in
+    let parts : drop place octets ≡ bytes_high_first n number ++ drop (length (bytes_high_first n number)) (drop place octets) =
+    sym (take-append-drop (length (bytes_high_first n number)) (drop place octets)) ∙ ap (λ xs. xs ++ drop (length (bytes_high_first n number)) (drop place octets)) stands.form in (
+      omega (arith, size, part_within octets place (bytes_high_first n number) (omega (arith, size)) stands.form),
+      sym (big_number-reads_back n number (drop (length (bytes_high_first n number)) (drop place octets)) small) ∙ ap (big_from 0 n) (sym parts) ∙ number_behind octets place n,
+    )
+
+number_fits : (octets : List ℕ) (place n number : ℕ) → ((i : ℕ) → get_or octets i 0 < 256) → NumberAt octets place n number → number < 256 ^ n
+number_fits octets place n number fit at = rw at.1 (big_from-lt place n octets fit)
+
+-- what is true of each question of a message, wherever it stands
+pub record FitsQuestion (question : Question) : Type 0 where
+  pub named : IsName question.name
+  pub typed : question.rtype.0 < 256 ^ 2
+  pub classed : question.class.0 < 256 ^ 2
+
+-- and of each record
+pub record FitsRecord (resource : Record) : Type 0 where
+  pub named : IsName resource.name
+  pub typed : resource.rtype.0 < 256 ^ 2
+  pub classed : resource.class.0 < 256 ^ 2
+  pub timed : resource.ttl.0 < 256 ^ 4
+  pub sized : length resource.rdata < 256 ^ 2
+  pub laid : LaidOut (layout_of resource.rtype.0 resource.class.0) resource.rdata
+
+-- and of a message
+pub record FitsMessage (message : Contents) : Type 0 where
+  pub identified : message.id < 256 ^ 2
+  pub flagged : message.flags < 256 ^ 2
+  pub asked : length message.questions < 256 ^ 2
+  pub answered : length message.answer < 256 ^ 2
+  pub vouched : length message.authority < 256 ^ 2
+  pub added : length message.additional < 256 ^ 2
+  pub each_question : AllByRecursion FitsQuestion message.questions
+  pub each_answer : AllByRecursion FitsRecord message.answer
+  pub each_authority : AllByRecursion FitsRecord message.authority
+  pub each_additional : AllByRecursion FitsRecord message.additional
+
+module _ (octets : List ℕ) (fit : (i : ℕ) → get_or octets i 0 < 256) where
+  question_fits : (place : ℕ) (question : Question) (end : ℕ) → QuestionAt octets place question end → FitsQuestion question
+  question_fits place question end at = record {
+    named = name_is octets place question.name at.after_name at.name;
+    typed = number_fits octets at.after_name 2 question.rtype.0 fit at.rtype;
+    classed = number_fits octets (at.after_name + 2) 2 question.class.0 fit at.class;
+  }
+
+  record_fits : (place : ℕ) (resource : Record) (end : ℕ) → RecordAt octets place resource end → FitsRecord resource
+  record_fits place resource end at =
+      let layout = layout_of resource.rtype.0 resource.class.0 in
+      let size : at.size < 256 ^ 2 = number_fits octets (at.head.after_name + 8) 2 at.size fit at.head.sized in
+      let short : length resource.rdata ≤ 65535 = rdata_short octets layout at.start at.size resource.rdata at.rdata (omega (arith, size)) (layout_short resource.rtype.0 resource.class.0) in
+      record {
+        named = name_is octets place resource.name at.head.after_name at.head.named;
+        typed = number_fits octets at.head.after_name 2 resource.rtype.0 fit at.head.typed;
+        classed = number_fits octets (at.head.after_name + 2) 2 resource.class.0 fit at.head.classed;
+        timed = number_fits octets (at.head.after_name + 4) 4 resource.ttl.0 fit at.head.timed;
+        sized = omega (arith, short);
+        laid = laid_out octets layout at.start at.size resource.rdata at.rdata at.whole;
+      }
+
+  records_fit : (xs : List Record) (place end : ℕ) → InOrder (RecordAt octets) place xs end → AllByRecursion FitsRecord xs
+  records_fit = InOrder-each (RecordAt octets) FitsRecord record_fits
+
+  message_fits : (message : Contents) → MessageOf octets message → FitsMessage message
+  message_fits message at = record {
+    identified = number_fits octets 0 2 message.id fit at.header.identified;
+    flagged = number_fits octets 2 2 message.flags fit at.header.flagged;
+    asked = number_fits octets 4 2 (length message.questions) fit at.header.asked;
+    answered = number_fits octets 6 2 (length message.answer) fit at.header.answered;
+    vouched = number_fits octets 8 2 (length message.authority) fit at.header.vouched;
+    added = number_fits octets 10 2 (length message.additional) fit at.header.added;
+    each_question = InOrder-each (QuestionAt octets) FitsQuestion question_fits message.questions 12 at.after_questions at.questions;
+    each_answer = records_fit message.answer at.after_questions at.after_answer at.answer;
+    each_authority = records_fit message.authority at.after_answer at.after_authority at.authority;
+    each_additional = records_fit message.additional at.after_authority (length octets) at.additional;
+  }
+
+pub IsMessage-fits : (message : Contents) → IsMessage message → FitsMessage message
+IsMessage-fits message is = message_fits is.0 (octet_fits is.0 is.1) message is.2
+
+module _ (octets : List ℕ) where
+  u16_stands : (place number : ℕ) → number < 256 ^ 2 → Stands octets place (to_be_bytes w16 number) → NumberAt octets place 2 number
+  u16_stands place number small stands = number_stands octets place 2 number (omega arith) small stands
+
+  u32_stands : (place number : ℕ) → number < 256 ^ 4 → Stands octets place (to_be_bytes w32 number) → NumberAt octets place 4 number
+  u32_stands place number small stands = number_stands octets place 4 number (omega arith) small stands
+
+  -- a part ends within the octets, where it begins there
+  end_of_part : (place : ℕ) (part : List ℕ) → Stands octets place part → place ≤ length octets → place + length part ≤ length octets
+  end_of_part place part stands within =
+      omega (arith, ap length stands.form, length-take (length part) (drop place octets), length-drop place octets)
+
+  question_stands : (place : ℕ) (question : Question) → FitsQuestion question → Stands octets place (question_octets question) → QuestionAt octets place question (place + length (question_octets question))
+  question_stands place question fits stands =
+      let after_name = place + length (wire question.name) in
+      let one = wire question.name in
+      let two = one ++ to_be_bytes w16 question.rtype.0 in
+      let second = Stands-end two (to_be_bytes w16 question.class.0) (after_name + 2) (omega (arith, length-append one (to_be_bytes w16 question.rtype.0))) stands in
+      let first = Stands-end one (to_be_bytes w16 question.rtype.0) after_name refl second.0 in
+      record {
+        after_name = after_name;
+        name = name_stands octets place question.name fits.named first.0;
+        rtype = u16_stands after_name question.rtype.0 fits.typed first.1;
+        class = u16_stands (after_name + 2) question.class.0 fits.classed second.1;
+        ends = omega (arith, length-append one (to_be_bytes w16 question.rtype.0), length-append two (to_be_bytes w16 question.class.0));
+      }
+
+  record_stands : (place : ℕ) (resource : Record) → FitsRecord resource → Stands octets place (record_octets resource) → RecordAt octets place resource (place + length (record_octets resource))
+  record_stands place resource fits stands =
+      let after_name = place + length (wire resource.name) in
+      let rtype = to_be_bytes w16 resource.rtype.0 in
+      let class = to_be_bytes w16 resource.class.0 in
+      let ttl = to_be_bytes w32 resource.ttl.0 in
+      let size = to_be_bytes w16 (length resource.rdata) in
+      let one = wire resource.name in
+      let two = one ++ rtype in
+      let three = two ++ class in
+      let four = three ++ ttl in
+      let five = four ++ size in
+      let twos : length two ≡ length one + 2 = omega (arith, length-append one rtype) in
+      let threes : length three ≡ length one + 4 = omega (arith, length-append two class, twos) in
+      let fours : length four ≡ length one + 8 = omega (arith, length-append three ttl, threes) in
+      let fives : length five ≡ length one + 10 = omega (arith, length-append four size, fours) in
+      let fifth = Stands-end five resource.rdata (after_name + 10) (omega (arith, fives)) stands in
+      let fourth = Stands-end four size (after_name + 8) (omega (arith, fours)) fifth.0 in
+      let third = Stands-end three ttl (after_name + 4) (omega (arith, threes)) fourth.0 in
+      let second = Stands-end two class (after_name + 2) (omega (arith, twos)) third.0 in
+      let first = Stands-end one rtype after_name refl second.0 in
+      record {
+        start = after_name + 10;
+        size = length resource.rdata;
+        head = record {
+          after_name = after_name;
+          named = name_stands octets place resource.name fits.named first.0;
+          typed = u16_stands after_name resource.rtype.0 fits.typed first.1;
+          classed = u16_stands (after_name + 2) resource.class.0 fits.classed second.1;
+          timed = u32_stands (after_name + 4) resource.ttl.0 fits.timed third.1;
+          sized = u16_stands (after_name + 8) (length resource.rdata) fits.sized fourth.1;
+          starts = refl;
+        };
+        whole = end_of_part (after_name + 10) resource.rdata fifth.1 (omega (arith, (u16_stands (after_name + 8) (length resource.rdata) fits.sized fourth.1).0));
+        rdata = rdata_stands octets (layout_of resource.rtype.0 resource.class.0) (after_name + 10) resource.rdata fits.laid fifth.1;
+        ends = omega (arith, length-append five resource.rdata, fives);
+      }
+
+  questions_stand : (questions : List Question) (place : ℕ) → AllByRecursion FitsQuestion questions → Stands octets place (flat_map question_octets questions) → InOrder (QuestionAt octets) place questions (place + length (flat_map question_octets questions))
+  questions_stand questions place fits stands =
+      InOrder-stands (QuestionAt octets) octets (place + length (flat_map question_octets questions)) question_octets FitsQuestion
+      (λ at question fit there within. question_stands at question fit there) questions place fits stands (omega arith)
+
+  records_stand : (records : List Record) (place : ℕ) → AllByRecursion FitsRecord records → Stands octets place (flat_map record_octets records) → InOrder (RecordAt octets) place records (place + length (flat_map record_octets records))
+  records_stand records place fits stands =
+      InOrder-stands (RecordAt octets) octets (place + length (flat_map record_octets records)) record_octets FitsRecord
+      (λ at resource fit there within. record_stands at resource fit there) records place fits stands (omega arith)
+
+  -- octets that are written for a message are the message
+  message_stands : (message : Contents) → FitsMessage message → Stands octets 0 (message_octets message) → length octets ≡ length (message_octets message) → MessageOf octets message
+  message_stands message fits stands size =
+      let id = to_be_bytes w16 message.id in
+      let flags = to_be_bytes w16 message.flags in
+      let asked = to_be_bytes w16 (length message.questions) in
+      let answered = to_be_bytes w16 (length message.answer) in
+      let vouched = to_be_bytes w16 (length message.authority) in
+      let added = to_be_bytes w16 (length message.additional) in
+      let header = header_octets message in
+      let questions = flat_map question_octets message.questions in
+      let records = flat_map record_octets (records_of message) in
+      let answer = flat_map record_octets message.answer in
+      let authority = flat_map record_octets message.authority in
+      let additional = flat_map record_octets message.additional in
+      let sections : records ≡ answer ++ authority ++ additional =
+      flat_map-append record_octets (message.answer ++ message.authority) message.additional ∙ ap (λ xs. xs ++ additional) (flat_map-append record_octets message.answer message.authority) in
+      let after_questions = 12 + length questions in
+      let after_answer = after_questions + length answer in
+      let after_authority = after_answer + length authority in
+      let body = Stands-end (header ++ questions) records after_questions (omega (arith, length-append header questions)) stands in
+      let front = Stands-end header questions 12 refl body.0 in
+      let third = Stands-end (answer ++ authority) additional after_authority (omega (arith, length-append answer authority)) (subst (Stands octets after_questions) sections body.1) in
+      let second = Stands-end answer authority after_answer refl third.0 in
+      let end : after_authority + length additional ≡ length octets =
+      omega (arith, size, length-append (header ++ questions) records, length-append header questions, ap length sections, length-append (answer ++ authority) additional, length-append answer authority) in
+      let six = Stands-end (id ++ flags ++ asked ++ answered ++ vouched) added 10 refl front.0 in
+      let five = Stands-end (id ++ flags ++ asked ++ answered) vouched 8 refl six.0 in
+      let four = Stands-end (id ++ flags ++ asked) answered 6 refl five.0 in
+      let three = Stands-end (id ++ flags) asked 4 refl four.0 in
+      let two = Stands-end id flags 2 refl three.0 in
+      record {
+        header = record {
+          identified = u16_stands 0 message.id fits.identified two.0;
+          flagged = u16_stands 2 message.flags fits.flagged two.1;
+          asked = u16_stands 4 (length message.questions) fits.asked three.1;
+          answered = u16_stands 6 (length message.answer) fits.answered four.1;
+          vouched = u16_stands 8 (length message.authority) fits.vouched five.1;
+          added = u16_stands 10 (length message.additional) fits.added six.1;
+        };
+        after_questions = after_questions;
+        after_answer = after_answer;
+        after_authority = after_authority;
+        questions = questions_stand message.questions 12 fits.each_question front.1;
+        answer = records_stand message.answer after_questions fits.each_answer second.0;
+        authority = records_stand message.authority after_answer fits.each_authority second.1;
+        additional = subst (InOrder (RecordAt octets) after_authority message.additional) end (records_stand message.additional after_authority fits.each_additional third.1);
+      }
+
+-- where some octets are a message, those that are written for it are, too
+pub encoded_message : (message : Contents) → IsMessage message → (octets : List ℕ) → octets ≡ message_octets message → MessageOf octets message
+encoded_message message is octets written =
+    message_stands octets message (IsMessage-fits message is)
+    (record { form = take_all (length (message_octets message)) octets (omega (arith, ap length written)) ∙ written })
+    (ap length written)
+
+-- the RDATA of a message's records have lengths of 16 bits
+pub records_sized : (records others : List Record) → AllByRecursion FitsRecord records → others ≡ records → All (λ resource. length resource.rdata < 2 ^ 16) others
+records_sized records others fits same =
+    let sized : All (λ resource. length resource.rdata < 2 ^ 16) records = All-from_recursion (λ resource. length resource.rdata < 2 ^ 16) records (each_sized records fits) in
+    subst (All (λ resource. length resource.rdata < 2 ^ 16)) (sym same) sized where
+      each_sized : (records : List Record) → AllByRecursion FitsRecord records → AllByRecursion (λ resource. length resource.rdata < 2 ^ 16) records
+      each_sized [] fits = tt
+      each_sized (resource ∷ records) fits = (omega (arith, fits.0.sized), each_sized records fits.1)
+
+-- the octets of things that are the same
+pub written_same : {X : Type 0} (octets_of : X → List ℕ) (before after : List ℕ) (xs ys : List X) → xs ≡ ys → after ≡ before ++ flat_map octets_of xs → after ≡ before ++ flat_map octets_of ys
+written_same octets_of before after xs ys same written = written ∙ ap (λ zs. before ++ flat_map octets_of zs) same
+
+-- a message is written part by part
+pub message_written : (message : Contents) (header questions answer authority additional : List ℕ) → header ≡ header_octets message → questions ≡ header ++ flat_map question_octets message.questions
+    → answer ≡ questions ++ flat_map record_octets message.answer → authority ≡ answer ++ flat_map record_octets message.authority → additional ≡ authority ++ flat_map record_octets message.additional
+    → additional ≡ message_octets message
+message_written message header questions answer authority additional header_is questions_are answer_is authority_is additional_is =
+    let record_parts : List Record → List ℕ = flat_map record_octets in
+    let front : questions ≡ header_octets message ++ flat_map question_octets message.questions = questions_are ∙ ap (λ xs. xs ++ flat_map question_octets message.questions) header_is in
+    additional_is
+    ∙ ap (λ xs. xs ++ record_parts message.additional)
+    (authority_is ∙ ap (λ xs. xs ++ record_parts message.authority) answer_is ∙ append_assoc questions (record_parts message.answer) (record_parts message.authority)
+    ∙ ap (λ xs. questions ++ xs) (sym (flat_map-append record_octets message.answer message.authority)))
+    ∙ append_assoc questions (record_parts (message.answer ++ message.authority)) (record_parts message.additional)
+    ∙ ap (λ xs. questions ++ xs) (sym (flat_map-append record_octets (message.answer ++ message.authority) message.additional))
+    ∙ ap (λ xs. xs ++ record_parts (records_of message)) front
