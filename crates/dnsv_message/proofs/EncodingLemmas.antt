@@ -9,16 +9,18 @@ use Rattle.std.specs.List.{AllByRecursion}
 use Rattle.byteorder.specs.Endian.{big_from}
 use Rattle.byteorder.specs.Numbers.{big_number-reads_back, big_from-lt, length-bytes_high_first}
 use Rattle.dnsv_names.specs.Name.{IsName, wire}
+use Rattle.dnsv_message.specs.declared.rdata.Layout.{Layout}
 use Rattle.dnsv_message.specs.declared.record.Question.{Question}
 use Rattle.dnsv_message.specs.declared.record.Record.{Record}
 use Rattle.dnsv_message.specs.Message.{Contents, records_of}
 use Rattle.dnsv_message.specs.Layout.{layout_of}
 use Rattle.dnsv_message.specs.NameAt.{NumberAt}
 use Rattle.dnsv_message.specs.Grammar.{InOrder, QuestionAt, RecordAt, MessageOf, IsMessage}
-use Rattle.dnsv_message.specs.Encoding.{question_octets, record_octets, header_octets, message_octets}
+use Rattle.dnsv_message.specs.Encoding.{question_octets, record_octets, header_octets, message_octets, uncompressed, PlainQuestionAt, PlainRecordAt, PlainMessageOf}
 use Rattle.dnsv_message.proofs.Numbers.{number_behind, octet_fits}
 use Rattle.dnsv_message.proofs.NameWalk.{part_within}
-use Rattle.dnsv_message.proofs.RdataWritten.{Stands, Stands-end, InOrder-stands, InOrder-each, name_is, name_stands, layout_short, LaidOut, rdata_short, laid_out, rdata_stands}
+use Rattle.dnsv_message.proofs.Sequences.{InOrder-append}
+use Rattle.dnsv_message.proofs.RdataWritten.{Stands, Stands-end, InOrder-stands, InOrder-each, InOrder-map, name_is, name_stands, layout_short, LaidOut, rdata_short, laid_out, rdata_stands}
 
 -- a number in its octets is read as it is
 number_stands : (octets : List ℕ) (place n number : ℕ) → 0 < n → number < 256 ^ n → Stands octets place (bytes_high_first n number) → NumberAt octets place n number
@@ -103,6 +105,19 @@ module _ (octets : List ℕ) (fit : (i : ℕ) → get_or octets i 0 < 256) where
 pub IsMessage-fits : (message : Contents) → IsMessage message → FitsMessage message
 IsMessage-fits message is = message_fits is.0 (octet_fits is.0 is.1) message is.2
 
+-- written RDATA has no pointer
+laid_plain : (layout : Layout) (rdata : List ℕ) → LaidOut layout rdata → LaidOut (uncompressed layout) rdata
+laid_plain layout rdata laid = record {
+  before = laid.before;
+  written = laid.written;
+  behind = laid.behind;
+  whole = laid.whole;
+  headed = laid.headed;
+  counted = laid.counted;
+  each = laid.each;
+  ends = laid.ends;
+}
+
 module _ (octets : List ℕ) where
   u16_stands : (place number : ℕ) → number < 256 ^ 2 → Stands octets place (to_be_bytes w16 number) → NumberAt octets place 2 number
   u16_stands place number small stands = number_stands octets place 2 number (omega arith) small stands
@@ -115,22 +130,24 @@ module _ (octets : List ℕ) where
   end_of_part place part stands within =
       omega (arith, ap length stands.form, length-take (length part) (drop place octets), length-drop place octets)
 
-  question_stands : (place : ℕ) (question : Question) → FitsQuestion question → Stands octets place (question_octets question) → QuestionAt octets place question (place + length (question_octets question))
+  question_stands : (place : ℕ) (question : Question) → FitsQuestion question → Stands octets place (question_octets question) → PlainQuestionAt octets place question (place + length (question_octets question))
   question_stands place question fits stands =
       let after_name = place + length (wire question.name) in
       let one = wire question.name in
       let two = one ++ to_be_bytes w16 question.rtype.0 in
       let second = Stands-end two (to_be_bytes w16 question.class.0) (after_name + 2) (omega (arith, length-append one (to_be_bytes w16 question.rtype.0))) stands in
-      let first = Stands-end one (to_be_bytes w16 question.rtype.0) after_name refl second.0 in
-      record {
-        after_name = after_name;
-        name = name_stands octets place question.name fits.named first.0;
-        rtype = u16_stands after_name question.rtype.0 fits.typed first.1;
-        class = u16_stands (after_name + 2) question.class.0 fits.classed second.1;
-        ends = omega (arith, length-append one (to_be_bytes w16 question.rtype.0), length-append two (to_be_bytes w16 question.class.0));
-      }
+      let first = Stands-end one (to_be_bytes w16 question.rtype.0) after_name refl second.0 in (
+        record {
+          after_name = after_name;
+          name = name_stands octets place question.name fits.named first.0;
+          rtype = u16_stands after_name question.rtype.0 fits.typed first.1;
+          class = u16_stands (after_name + 2) question.class.0 fits.classed second.1;
+          ends = omega (arith, length-append one (to_be_bytes w16 question.rtype.0), length-append two (to_be_bytes w16 question.class.0));
+        },
+        first.0.form,
+      )
 
-  record_stands : (place : ℕ) (resource : Record) → FitsRecord resource → Stands octets place (record_octets resource) → RecordAt octets place resource (place + length (record_octets resource))
+  record_stands : (place : ℕ) (resource : Record) → FitsRecord resource → Stands octets place (record_octets resource) → PlainRecordAt octets place resource (place + length (record_octets resource))
   record_stands place resource fits stands =
       let after_name = place + length (wire resource.name) in
       let rtype = to_be_bytes w16 resource.rtype.0 in
@@ -151,35 +168,43 @@ module _ (octets : List ℕ) where
       let third = Stands-end three ttl (after_name + 4) (omega (arith, threes)) fourth.0 in
       let second = Stands-end two class (after_name + 2) (omega (arith, twos)) third.0 in
       let first = Stands-end one rtype after_name refl second.0 in
+      let layout = layout_of resource.rtype.0 resource.class.0 in
       record {
-        start = after_name + 10;
-        size = length resource.rdata;
-        head = record {
-          after_name = after_name;
-          named = name_stands octets place resource.name fits.named first.0;
-          typed = u16_stands after_name resource.rtype.0 fits.typed first.1;
-          classed = u16_stands (after_name + 2) resource.class.0 fits.classed second.1;
-          timed = u32_stands (after_name + 4) resource.ttl.0 fits.timed third.1;
-          sized = u16_stands (after_name + 8) (length resource.rdata) fits.sized fourth.1;
-          starts = refl;
+        stands = record {
+          start = after_name + 10;
+          size = length resource.rdata;
+          head = record {
+            after_name = after_name;
+            named = name_stands octets place resource.name fits.named first.0;
+            typed = u16_stands after_name resource.rtype.0 fits.typed first.1;
+            classed = u16_stands (after_name + 2) resource.class.0 fits.classed second.1;
+            timed = u32_stands (after_name + 4) resource.ttl.0 fits.timed third.1;
+            sized = u16_stands (after_name + 8) (length resource.rdata) fits.sized fourth.1;
+            starts = refl;
+          };
+          whole = end_of_part (after_name + 10) resource.rdata fifth.1 (omega (arith, (u16_stands (after_name + 8) (length resource.rdata) fits.sized fourth.1).0));
+          rdata = rdata_stands octets layout (after_name + 10) resource.rdata fits.laid fifth.1;
+          ends = omega (arith, length-append five resource.rdata, fives);
         };
-        whole = end_of_part (after_name + 10) resource.rdata fifth.1 (omega (arith, (u16_stands (after_name + 8) (length resource.rdata) fits.sized fourth.1).0));
-        rdata = rdata_stands octets (layout_of resource.rtype.0 resource.class.0) (after_name + 10) resource.rdata fits.laid fifth.1;
-        ends = omega (arith, length-append five resource.rdata, fives);
+        name = first.0.form;
+        rdata = rdata_stands octets (uncompressed layout) (after_name + 10) resource.rdata (laid_plain layout resource.rdata fits.laid) fifth.1;
       }
 
-  questions_stand : (questions : List Question) (place : ℕ) → AllByRecursion FitsQuestion questions → Stands octets place (flat_map question_octets questions) → InOrder (QuestionAt octets) place questions (place + length (flat_map question_octets questions))
+  questions_stand : (questions : List Question) (place : ℕ) → AllByRecursion FitsQuestion questions → Stands octets place (flat_map question_octets questions) → InOrder (PlainQuestionAt octets) place questions (place + length (flat_map question_octets questions))
   questions_stand questions place fits stands =
-      InOrder-stands (QuestionAt octets) octets (place + length (flat_map question_octets questions)) question_octets FitsQuestion
+      InOrder-stands (PlainQuestionAt octets) octets (place + length (flat_map question_octets questions)) question_octets FitsQuestion
       (λ at question fit there within. question_stands at question fit there) questions place fits stands (omega arith)
 
-  records_stand : (records : List Record) (place : ℕ) → AllByRecursion FitsRecord records → Stands octets place (flat_map record_octets records) → InOrder (RecordAt octets) place records (place + length (flat_map record_octets records))
+  records_stand : (records : List Record) (place : ℕ) → AllByRecursion FitsRecord records → Stands octets place (flat_map record_octets records) → InOrder (PlainRecordAt octets) place records (place + length (flat_map record_octets records))
   records_stand records place fits stands =
-      InOrder-stands (RecordAt octets) octets (place + length (flat_map record_octets records)) record_octets FitsRecord
+      InOrder-stands (PlainRecordAt octets) octets (place + length (flat_map record_octets records)) record_octets FitsRecord
       (λ at resource fit there within. record_stands at resource fit there) records place fits stands (omega arith)
 
-  -- octets that are written for a message are the message
-  message_stands : (message : Contents) → FitsMessage message → Stands octets 0 (message_octets message) → length octets ≡ length (message_octets message) → MessageOf octets message
+  records_are : (records : List Record) (place end : ℕ) → InOrder (PlainRecordAt octets) place records end → InOrder (RecordAt octets) place records end
+  records_are = InOrder-map (PlainRecordAt octets) (RecordAt octets) (λ place resource end at. at.stands)
+
+  -- octets that are written for a message are the message, and have no pointer
+  message_stands : (message : Contents) → FitsMessage message → Stands octets 0 (message_octets message) → length octets ≡ length (message_octets message) → PlainMessageOf octets message
   message_stands message fits stands size =
       let id = to_be_bytes w16 message.id in
       let flags = to_be_bytes w16 message.flags in
@@ -209,26 +234,36 @@ module _ (octets : List ℕ) where
       let four = Stands-end (id ++ flags ++ asked) answered 6 refl five.0 in
       let three = Stands-end (id ++ flags) asked 4 refl four.0 in
       let two = Stands-end id flags 2 refl three.0 in
+      let plain_questions = questions_stand message.questions 12 fits.each_question front.1 in
+      let plain_answer = records_stand message.answer after_questions fits.each_answer second.0 in
+      let plain_authority = records_stand message.authority after_answer fits.each_authority second.1 in
+      let plain_additional = subst (InOrder (PlainRecordAt octets) after_authority message.additional) end (records_stand message.additional after_authority fits.each_additional third.1) in
       record {
-        header = record {
-          identified = u16_stands 0 message.id fits.identified two.0;
-          flagged = u16_stands 2 message.flags fits.flagged two.1;
-          asked = u16_stands 4 (length message.questions) fits.asked three.1;
-          answered = u16_stands 6 (length message.answer) fits.answered four.1;
-          vouched = u16_stands 8 (length message.authority) fits.vouched five.1;
-          added = u16_stands 10 (length message.additional) fits.added six.1;
+        whole = record {
+          header = record {
+            identified = u16_stands 0 message.id fits.identified two.0;
+            flagged = u16_stands 2 message.flags fits.flagged two.1;
+            asked = u16_stands 4 (length message.questions) fits.asked three.1;
+            answered = u16_stands 6 (length message.answer) fits.answered four.1;
+            vouched = u16_stands 8 (length message.authority) fits.vouched five.1;
+            added = u16_stands 10 (length message.additional) fits.added six.1;
+          };
+          after_questions = after_questions;
+          after_answer = after_answer;
+          after_authority = after_authority;
+          questions = InOrder-map (PlainQuestionAt octets) (QuestionAt octets) (λ place question end at. at.0) message.questions 12 after_questions plain_questions;
+          answer = records_are message.answer after_questions after_answer plain_answer;
+          authority = records_are message.authority after_answer after_authority plain_authority;
+          additional = records_are message.additional after_authority (length octets) plain_additional;
         };
         after_questions = after_questions;
-        after_answer = after_answer;
-        after_authority = after_authority;
-        questions = questions_stand message.questions 12 fits.each_question front.1;
-        answer = records_stand message.answer after_questions fits.each_answer second.0;
-        authority = records_stand message.authority after_answer fits.each_authority second.1;
-        additional = subst (InOrder (RecordAt octets) after_authority message.additional) end (records_stand message.additional after_authority fits.each_additional third.1);
+        questions = plain_questions;
+        records = InOrder-append (PlainRecordAt octets) (message.answer ++ message.authority) message.additional after_questions after_authority (length octets)
+            (InOrder-append (PlainRecordAt octets) message.answer message.authority after_questions after_answer after_authority plain_answer plain_authority) plain_additional;
       }
 
--- where some octets are a message, those that are written for it are, too
-pub encoded_message : (message : Contents) → IsMessage message → (octets : List ℕ) → octets ≡ message_octets message → MessageOf octets message
+-- where some octets are a message, those that are written for it are, too, and have no pointer
+pub encoded_message : (message : Contents) → IsMessage message → (octets : List ℕ) → octets ≡ message_octets message → PlainMessageOf octets message
 encoded_message message is octets written =
     message_stands octets message (IsMessage-fits message is)
     (record { form = take_all (length (message_octets message)) octets (omega (arith, ap length written)) ∙ written })

@@ -7,6 +7,7 @@ pub mod RdataLemmas
 pub mod MessageLaws
 pub mod RdataWritten
 pub mod EncodingLemmas
+pub mod OneEncoding
 pub mod CaptureLemmas
 pub mod FrameLemmas
 pub mod FramerLemmas

@@ -44,6 +44,10 @@ pub InOrder-each : {X : Type 0} (At : ℕ → X → ℕ → Type 0) (Fit : X →
 InOrder-each At Fit fits [] place end order = tt
 InOrder-each At Fit fits (x ∷ xs) place end order = (fits place x order.0 order.1, InOrder-each At Fit fits xs order.0 end order.2)
 
+pub InOrder-map : {X : Type 0} (At To : ℕ → X → ℕ → Type 0) → ((place : ℕ) (x : X) (end : ℕ) → At place x end → To place x end) → (xs : List X) (place end : ℕ) → InOrder At place xs end → InOrder To place xs end
+InOrder-map At To leads [] place end order = order
+InOrder-map At To leads (x ∷ xs) place end order = (order.0, leads place x order.0 order.1, InOrder-map At To leads xs order.0 end order.2)
+
 module _ (octets : List ℕ) where
   labels_are : (place run pointers : ℕ) (labels : Labels) (end : ℕ) → NameAt octets place run pointers labels end → AllByRecursion IsLabel labels
   labels_are place run pointers labels end (root at) = tt

@@ -4,7 +4,7 @@ ghost use Rattle.dnsv_message.specs.declared.errors.DecodeError.{DecodeError};
 ghost use Rattle.dnsv_message.specs.Message.{Contents};
 ghost use Rattle.dnsv_message.specs.NameAt.{AreOctets};
 ghost use Rattle.dnsv_message.specs.Grammar.{MessageOf, FaultOf};
-ghost use Rattle.dnsv_message.specs.Encoding.{message_octets};
+ghost use Rattle.dnsv_message.specs.Encoding.{message_octets, PlainMessageOf};
 
 /// Octets are at most one message.
 pub fn one_message()
@@ -23,5 +23,10 @@ pub fn one_fault()
 
 /// The octets that are written for a message are that message, so decoding them gives it again.
 pub fn decoding_gives_what_was_encoded()
-    ensures { (octets : List ℕ) → AreOctets octets → (message : Contents) → MessageOf octets message → MessageOf (message_octets message) message }
+    ensures { (octets : List ℕ) → AreOctets octets → (message : Contents) → MessageOf octets message → PlainMessageOf (message_octets message) message }
+{}
+
+/// No other octets are the message and have no pointer.
+pub fn one_encoding()
+    ensures { (octets : List ℕ) → AreOctets octets → (message : Contents) → PlainMessageOf octets message → octets ≡ message_octets message }
 {}

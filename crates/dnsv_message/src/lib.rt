@@ -6,7 +6,9 @@ pub use counted::Counted;
 pub use errors::{DecodeError, NameFault, ReadError};
 pub use file::read_all;
 pub use framer::{Framer, any_cutting};
-pub use laws::{decoding_gives_what_was_encoded, no_fault_of_a_message, one_fault, one_message};
+pub use laws::{
+    decoding_gives_what_was_encoded, no_fault_of_a_message, one_encoding, one_fault, one_message,
+};
 pub use message::Message;
 pub use number::{Class, Flags, Ttl};
 pub use record::{Question, Rdata, Record, Section};

@@ -1,5 +1,5 @@
 //! A message as a whole.
-ghost use Rattle.std.specs.Prelude.{◌≡◌, ◌⊎◌, IfOk, IfErr, MatchResult};
+ghost use Rattle.std.specs.Prelude.{◌≡◌, ◌⊎◌, ℕ, List, IfOk, IfErr, MatchResult};
 
 use crate::encode::{push_questions, push_records};
 use crate::errors::DecodeError;
@@ -55,7 +55,8 @@ const HEADER_LENGTH: usize = 12;
 impl Message {
     ghost use Rattle.dnsv_message.specs.Message.{Contents, section_of};
     ghost use Rattle.dnsv_message.specs.Grammar.{MessageOf, FaultOf};
-    ghost use Rattle.dnsv_message.specs.Encoding.{header_octets, message_octets};
+    ghost use Rattle.dnsv_message.specs.Encoding.{header_octets, message_octets, PlainMessageOf};
+    ghost use Rattle.dnsv_message.specs.NameAt.{AreOctets};
 
     /// Reads a message, which is all of the octets.
     ///
@@ -143,8 +144,11 @@ impl Message {
     pub fn encode(&self, alloc: Global) -> Result<Vec<u8>, AllocError>
         // The octets are these.
         ensures value { IfOk result (λ octets. octets.items ≡ message_octets self.now) }
-        // They are the message.
-        ensures read { IfOk result (λ octets. MessageOf octets.items self.now) }
+        // They are the message, and no name in them has a pointer.
+        ensures read { IfOk result (λ octets. PlainMessageOf octets.items self.now) }
+        // No other octets are.
+        ensures only { (octets : List ℕ) → AreOctets octets → PlainMessageOf octets self.now
+            → IfOk result (λ written. written.items ≡ octets) }
     {
         let mut octets = self.header(alloc)?;
         push_questions(&mut octets, &self.questions)?;

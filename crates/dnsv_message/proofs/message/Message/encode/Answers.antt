@@ -1,6 +1,8 @@
-use Rattle.std.proofs.Common.{ap, subst, ◌∙◌}
+use Rattle.std.proofs.Common.{sym, ap, subst, ◌∙◌}
 use Rattle.dnsv_message.specs.Grammar.{IsMessage}
 use Rattle.dnsv_message.specs.Encoding.{question_octets, record_octets}
+use Rattle.dnsv_message.proofs.Numbers.{octet_fits}
+use Rattle.dnsv_message.proofs.OneEncoding.{PlainMessageOf-written}
 use Rattle.dnsv_message.proofs.EncodingLemmas.{IsMessage-fits, encoded_message, records_sized, written_same, message_written}
 use Rattle.dnsv_message.proofs.message.Message.encode.Goals as goal
 
@@ -25,3 +27,7 @@ returns-clause-value c =
 pub returns-clause-read : goal.returns-clause-read
 returns-clause-read c =
     encoded_message c.args.self.now (subst IsMessage c.self.view_is c.self.invariant) c.push_records-3.new.octets.items (returns-clause-value c)
+
+pub returns-clause-only : goal.returns-clause-only
+returns-clause-only c = λ octets are plain.
+    returns-clause-value c ∙ sym (PlainMessageOf-written octets (octet_fits octets are) c.args.self.now plain)
