@@ -140,7 +140,9 @@ impl Message {
     }
 
     /// The octets of the message, every name as it is spelled and none compressed (RFC 1035 4.1).
-    /// Reading them gives the message again.
+    ///
+    /// Reading them gives the message again. They may be more than 65,535, the most that TCP carries
+    /// (RFC 1035 4.2.2), where the octets that were read had compressed names.
     pub fn encode(&self, alloc: Global) -> Result<Vec<u8>, AllocError>
         // The octets are these.
         ensures value { IfOk result (λ octets. octets.items ≡ message_octets self.now) }
