@@ -1,6 +1,8 @@
 pub mod LineLemmas
 pub mod RowLemmas
 pub mod WalkLemmas
+pub mod CapturedLemmas
 pub mod ListingLemmas
 pub mod ReadableLemmas
-pub mod OneListing
+pub mod ShowingLemmas
+pub mod OneText

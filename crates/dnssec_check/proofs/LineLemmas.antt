@@ -1,5 +1,5 @@
--- What the matches of `list` read as, and that it has them.
-use Rattle.std.proofs.Common.{◌≡◌, ◌≤◌, ◌∙◌, ℕ, Bool, true, false, not, List, Option, Some, None, ap, refl, sym, subst, inl, inr, arith, slice_index}
+-- What the matches of `show` and `list` read as, and that they have them.
+use Rattle.std.proofs.Common.{◌≡◌, ◌⊎◌, ◌≤◌, ◌∙◌, ℕ, Bool, true, false, not, List, Option, Some, None, ap, refl, sym, subst, inl, inr, arith, slice_index}
 use Rattle.std.proofs.lemmas.Slice.Eq.{bytes_eq-Decides}
 use Rattle.std.specs.Prelude.{IfErr, IsErrAnd, Ok, Err, Result}
 use Rattle.std.specs.Str.Parse.{ParsesUnsigned}
@@ -17,6 +17,8 @@ use Rattle.clap.specs.Takes.{is_given, value_passes}
 use Rattle.clap.specs.Values.{kind_of, read_as}
 use Rattle.clap.specs.Walk.{Row, Rule, answers_to, first_of, nothing_held, one_of, reading_by, rows_after, stop_after}
 use Rattle.clap.specs.declared.ArgMatches.{ArgMatches}
+use Rattle.clap.specs.declared.ArgMatches.TheViews.{out-ArgMatches}
+use Rattle.clap.specs.Words.{subcommand_name_of}
 use Rattle.clap.specs.declared.Error.{Error}
 use Rattle.clap.specs.declared.error.ErrorKind.{ErrorKind}
 use Rattle.clap.specs.declared.error.ErrorKind.TheVariants as kind
@@ -25,7 +27,7 @@ use Rattle.dnssec_check.specs.declared.line.LineError.{LineError}
 use Rattle.dnssec_check.proofs.RowLemmas.{AreRowsIn, IsRowIn, IsRowOf, StartsPassing}
 use Rattle.dnssec_check.proofs.WalkLemmas.{AllLeaveValues, level_in}
 use Rattle.clap.proofs.ValueTestLemmas.{accepts-Accepts}
-use Rattle.dnssec_check.specs.Line.{HasListValues, IsRefused, capture_rule, error_of_kind, line_error, list_app, moment_rule, moment_said, program_app}
+use Rattle.dnssec_check.specs.Line.{HasCapture, HasListValues, IsRefused, capture_rule, error_of_kind, line_error, list_app, moment_rule, moment_said, program_app, show_app}
 use Rattle.dnssec_check.specs.Moment.{last_moment}
 
 -- a text that passed the bounds of a moment reads as the moment that it says
@@ -48,26 +50,32 @@ no_subcommand true true argument is e = cc
 no_subcommand true false argument is e = cc
 no_subcommand false help argument is e = cc
 
--- the program with one subcommand
-abbrev with_one : Shape → Shape → App
-with_one top sub = record { top = top; subs = sub ∷ [] }
+-- the program with two subcommands
+abbrev with_two : Shape → Shape → Shape → App
+with_two top one other = record { top = top; subs = one ∷ other ∷ [] }
+
+-- the subcommand was entered, with rows that have no fault
+abbrev Enters : Option (Text × List Row) → Shape → Type 0
+Enters met sub = (rows : List Row) × (met ≡ Some (sub.name, rows)) × AreRowsIn sub.rules rows × (check_fault sub rows false ≡ [])
 
 -- the subcommand at which a walk stopped has no fault
-at_stop : (top sub : Shape) (stop : Option (Text × List Text)) → AllLeaveValues sub
-    → entered_fault (with_one top sub) stop ≡ [] → is_some (entered (with_one top sub) stop) ≡ true
-    → (rows : List Row) × (entered (with_one top sub) stop ≡ Some (sub.name, rows))
-    × AreRowsIn sub.rules rows × (check_fault sub rows false ≡ [])
-at_stop top sub None leaves fault some = cc
-at_stop top sub (Some p) leaves fault some = found (answers_to p.0 (label_of sub)) fault some
+at_stop : (top one other : Shape) (stop : Option (Text × List Text)) → AllLeaveValues one → AllLeaveValues other
+    → entered_fault (with_two top one other) stop ≡ [] → is_some (entered (with_two top one other) stop) ≡ true
+    → Enters (entered (with_two top one other) stop) one ⊎ Enters (entered (with_two top one other) stop) other
+at_stop top one other None first second fault some = cc
+at_stop top one other (Some p) first second fault some = found (answers_to p.0 (label_of one)) (answers_to p.0 (label_of other)) fault some
   where
-    found : (t : Bool) → option_map_or (λ s. level_fault s [] nothing_held p.1 false []) (cond t (Some sub) None) [] ≡ []
-        → is_some (option_map (λ s. rows_at s p.1) (cond t (Some sub) None)) ≡ true
-        → (rows : List Row) × (option_map (λ s. rows_at s p.1) (cond t (Some sub) None) ≡ Some (sub.name, rows))
-        × AreRowsIn sub.rules rows × (check_fault sub rows false ≡ [])
-    found true none has =
-        let below = level_in sub [] p.1 false [] leaves none in
-        (rows_after sub.rules [] p.1, refl, below.1, below.2)
-    found false none has = cc
+    found : (t u : Bool) → option_map_or (λ s. level_fault s [] nothing_held p.1 false []) (cond t (Some one) (cond u (Some other) None)) [] ≡ []
+        → is_some (option_map (λ s. rows_at s p.1) (cond t (Some one) (cond u (Some other) None))) ≡ true
+        → Enters (option_map (λ s. rows_at s p.1) (cond t (Some one) (cond u (Some other) None))) one
+        ⊎ Enters (option_map (λ s. rows_at s p.1) (cond t (Some one) (cond u (Some other) None))) other
+    found true u none has =
+        let below = level_in one [] p.1 false [] first none in
+        inl (rows_after one.rules [] p.1, refl, below.1, below.2)
+    found false true none has =
+        let below = level_in other [] p.1 false [] second none in
+        inr (rows_after other.rules [] p.1, refl, below.1, below.2)
+    found false false none has = cc
 
 was_entered : (top : Shape) (rows : List Row) (t : Bool) → top.subcommand_required ≡ true → check_fault top rows t ≡ [] → t ≡ true
 was_entered top rows true wanted fault = refl
@@ -76,22 +84,25 @@ was_entered top rows false wanted fault = absurd (no_subcommand top.subcommand_r
     (not (top.subcommand_negates_reqs && false) && list_any (λ a. a.required && not (is_given a.id rows)) top.rules)
     wanted fault)
 
--- where a program that wants its one subcommand has no fault, that subcommand was entered, and has no fault
-pub one_entered : (top sub : Shape) (words : List Text) → AllLeaveValues top → AllLeaveValues sub → top.subcommand_required ≡ true
-    → built_fault (with_one top sub) nothing_held words ≡ []
-    → (rows : List Row) × (entered (with_one top sub) (stop_after top.rules (names_of (with_one top sub)) words) ≡ Some (sub.name, rows))
-    × AreRowsIn sub.rules rows × (check_fault sub rows false ≡ [])
-one_entered top sub words top_leaves sub_leaves wanted e =
-    let names = names_of (with_one top sub) in
+-- where a program that wants one of its subcommands has no fault, one was entered, and has no fault
+pub one_entered : (top one other : Shape) (words : List Text) → AllLeaveValues top → AllLeaveValues one → AllLeaveValues other → top.subcommand_required ≡ true
+    → built_fault (with_two top one other) nothing_held words ≡ []
+    → Enters (entered (with_two top one other) (stop_after top.rules (names_of (with_two top one other)) words)) one
+    ⊎ Enters (entered (with_two top one other) (stop_after top.rules (names_of (with_two top one other)) words)) other
+one_entered top one other words top_leaves first second wanted e =
+    let names = names_of (with_two top one other) in
     let stop = stop_after top.rules names words in
-    let down = level_in top names words (is_some (entered (with_one top sub) stop)) (entered_fault (with_one top sub) stop) top_leaves e in
-    at_stop top sub stop sub_leaves down.0 (was_entered top (rows_after top.rules names words) (is_some (entered (with_one top sub) stop)) wanted down.2)
+    let down = level_in top names words (is_some (entered (with_two top one other) stop)) (entered_fault (with_two top one other) stop) top_leaves e in
+    at_stop top one other stop first second down.0 (was_entered top (rows_after top.rules names words) (is_some (entered (with_two top one other) stop)) wanted down.2)
 
--- ---- the values of `list`
+-- ---- the values of `show` and `list`
 
--- what building makes of the program and of `list`
+-- what building makes of the program, of `show` and of `list`
 abbrev program_shape : Shape
 program_shape = (built program_app).top
+
+abbrev show_shape : Shape
+show_shape = built_leaf (inherited (marked_built program_app.top) show_app.top)
 
 abbrev list_shape : Shape
 list_shape = built_leaf (inherited (marked_built program_app.top) list_app.top)
@@ -138,10 +149,13 @@ given_row c id rows all given = go (find (λ r. bytes_eq r.id id) rows) refl giv
 program_leaves : AllLeaveValues program_shape
 program_leaves = refl
 
+show_leaves : AllLeaveValues show_shape
+show_leaves = refl
+
 list_leaves : AllLeaveValues list_shape
 list_leaves = refl
 
-program_is : built program_app ≡ with_one program_shape list_shape
+program_is : built program_app ≡ with_two program_shape show_shape list_shape
 program_is = refl
 
 -- two ids with other first letters
@@ -154,6 +168,11 @@ built_capture = filled capture_rule
 
 abbrev built_moment : Rule
 built_moment = filled moment_rule
+
+is_shown : (r : Row) → r.id ≡ codes "capture" → IsRowIn show_shape.rules r → IsRowOf built_capture r
+is_shown r same (inl h) = h
+is_shown r same (inr (inl h)) = absurd (other_id r (codes "help") (codes "capture") h.0 same (λ e. omega arith))
+is_shown r same (inr (inr h)) = absurd h
 
 is_capture : (r : Row) → r.id ≡ codes "capture" → IsRowIn list_shape.rules r → IsRowOf built_capture r
 is_capture r same (inl h) = h
@@ -175,6 +194,19 @@ both_given true true z e = (refl, refl)
 both_given true false z e = cc
 both_given false y z e = cc
 
+-- where the one required argument isn't missing, it is given
+one_given : (x : Bool) → check_kinds false false (not x || false) ≡ [] → x ≡ true
+one_given true e = refl
+one_given false e = cc
+
+-- `show` without a fault has its value
+show_values : (rows : List Row) → AreRowsIn show_shape.rules rows → check_fault show_shape rows false ≡ [] → HasCapture rows
+show_values rows all fault =
+    let given = one_given (is_given (codes "capture") rows) fault in
+    let capture = given_row show_shape.rules (codes "capture") rows all given in
+    let file = row_value built_capture (codes "capture") rows capture.0 capture.1 (is_shown capture.0 capture.2 capture.3) in
+    ap is_some file.1
+
 -- `list` without a fault has its values
 list_values : (rows : List Row) → AreRowsIn list_shape.rules rows → check_fault list_shape rows false ≡ [] → HasListValues rows
 list_values rows all fault =
@@ -185,12 +217,18 @@ list_values rows all fault =
     let number = row_value built_moment (codes "moment") rows moment.0 moment.1 (is_moment moment.0 moment.2 moment.3) in
     (ap is_some file.1, (number.0, number.1, number.2, number.3))
 
--- whatever the program takes is `list` with its values
-pub taken : (words : List Text) → fault_of program_app words ≡ []
-    → (rows : List Row) × (subcommand_of program_app words ≡ Some (codes "list", rows)) × HasListValues rows
-taken words none =
-    let one = one_entered program_shape list_shape (argument_words program_app words) program_leaves list_leaves refl none in
-    (one.0, one.1, list_values one.0 one.2 one.3)
+-- the words name this subcommand, whose rows are so
+abbrev pub Names : List Text → Text → (List Row → Type 0) → Type 0
+Names words name Are = (rows : List Row) × (subcommand_of program_app words ≡ Some (name, rows)) × Are rows
+
+-- whatever the program takes is `show` or `list` with its values
+pub taken : (words : List Text) → fault_of program_app words ≡ [] → Names words (codes "show") HasCapture ⊎ Names words (codes "list") HasListValues
+taken words none = of (one_entered program_shape show_shape list_shape (argument_words program_app words) program_leaves show_leaves list_leaves refl none)
+  where
+    of : Enters (subcommand_of program_app words) show_shape ⊎ Enters (subcommand_of program_app words) list_shape
+        → Names words (codes "show") HasCapture ⊎ Names words (codes "list") HasListValues
+    of (inl show) = inl (show.0, show.1, show_values show.0 show.2 show.3)
+    of (inr list) = inr (list.0, list.1, list_values list.0 list.2 list.3)
 
 -- an error of `clap` at the words, as the program tells it
 pub refused_as : (words : List Text) (e : Error) → HasKind (fault_of program_app words) e → IsRefused words (line_error e)
@@ -214,19 +252,62 @@ passed_up (Err error) a words e is passed kinds =
     let has = subst (λ (b : App). HasKind (fault_of b words) e) is (kinds (ap is_simple_and_free is)) in
     subst (IsRefused words) (sym passed) (refused_as words e has)
 
--- the matches of a parse by the program are those of `list`, with its values
-pub parsed_list : (a : App) (words : List Text) (m : ArgMatches) → a ≡ program_app → HasMatchesOf a words m
-    → (is_simple_and_free a ≡ true → fault_of a words ≡ [])
-    → (fault_of program_app words ≡ []) × ((rows : List Row) × (subcommand_of program_app words ≡ Some (codes "list", rows))
-    × HasListValues rows × (subcommand_rows_of m ≡ Some (codes "list", rows)))
-parsed_list a words m is has kinds =
-    let none = subst (λ (b : App). fault_of b words ≡ []) is (kinds (ap is_simple_and_free is)) in
-    let list = taken words none in
-    (none, (list.0, list.1, list.2, (has (ap is_simple is)).1 ∙ ap (λ (b : App). subcommand_of b words) is ∙ list.1))
+-- a subcommand of that name with these rows stands in the words, and has its values
+pub record Sees (words : List Text) (name : Text) (rows : List Row) : Type 0 where
+  pub none : fault_of program_app words ≡ []
+  pub met : subcommand_of program_app words ≡ Some (name, rows)
+  pub has : ((name ≡ codes "show") × HasCapture rows) ⊎ ((name ≡ codes "list") × HasListValues rows)
 
--- the rows of the subcommand that a caller looks at
-pub rows_met : {X : Type 0} (f : X → List Row) (o : Option X) (x : X) (met : Option (Text × List Row)) (name : Text) (rows : List Row)
-    → o ≡ Some x → option_map f o ≡ option_map (λ p. p.1) met → met ≡ Some (name, rows) → rows ≡ f x
-rows_met f o x met name rows is same found =
-    let e : Some (f x) ≡ Some rows = ap (option_map f) (sym is) ∙ same ∙ ap (option_map (λ p. p.1)) found in
-    ap (λ (r : Option (List Row)). unwrap_or r (f x)) (sym e)
+-- what a caller sees of the subcommand
+seen : {X : Type 0} (name : X → Text) (rows : X → List Row) (o : Option X) (x : X) (met : Option (Text × List Row)) (n : Text) (rs : List Row)
+    → o ≡ Some x → option_map name o ≡ option_map (λ p. p.0) met → option_map rows o ≡ option_map (λ p. p.1) met → met ≡ Some (n, rs)
+    → (n ≡ name x) × (rs ≡ rows x)
+seen name rows o x met n rs is names same found =
+    let name_is : Some (name x) ≡ Some n = ap (option_map name) (sym is) ∙ names ∙ ap (option_map (λ p. p.0)) found in
+    let rows_are : Some (rows x) ≡ Some rs = ap (option_map rows) (sym is) ∙ same ∙ ap (option_map (λ p. p.1)) found in (
+      ap (λ (r : Option Text). unwrap_or r (name x)) (sym name_is),
+      ap (λ (r : Option (List Row)). unwrap_or r (rows x)) (sym rows_are),
+    )
+
+mapped_twice : {A B C : Type 0} (f : B → C) (g : A → B) (o : Option A) → option_map f (option_map g o) ≡ option_map (λ a. f (g a)) o
+mapped_twice f g None = refl
+mapped_twice f g (Some a) = refl
+
+-- the matches of a parse by the program are those of `show` or `list`, with its values
+pub sees : {X : Type 0} (name : X → Text) (rows : X → List Row) (o : Option X) (x : X) (a : App) (words : List Text) (m : ArgMatches)
+    → a ≡ program_app → HasMatchesOf a words m → (is_simple_and_free a ≡ true → fault_of a words ≡ []) → o ≡ Some x
+    → option_map name o ≡ subcommand_name_of m → option_map rows o ≡ option_map (λ p. p.1) (subcommand_rows_of m)
+    → Sees words (name x) (rows x)
+sees name rows o x a words m is matched kinds found names same = of (taken words none)
+  where
+    none : fault_of program_app words ≡ []
+    none = subst (λ (b : App). fault_of b words ≡ []) is (kinds (ap is_simple_and_free is))
+
+    met : subcommand_rows_of m ≡ subcommand_of program_app words
+    met = (matched (ap is_simple is)).1 ∙ ap (λ (b : App). subcommand_of b words) is
+
+    names_are : option_map name o ≡ option_map (λ p. p.0) (subcommand_rows_of m)
+    names_are = names ∙ sym (mapped_twice _ _ (out-ArgMatches m).subcommand)
+
+    of : Names words (codes "show") HasCapture ⊎ Names words (codes "list") HasListValues → Sees words (name x) (rows x)
+    of (inl show) =
+        let at = seen name rows o x (subcommand_rows_of m) (codes "show") show.0 found names_are same (met ∙ show.1) in
+        record { none = none; met = show.1 ∙ (λ i. Some (at.0 i, at.1 i)); has = inl (sym at.0, subst HasCapture at.1 show.2) }
+    of (inr list) =
+        let at = seen name rows o x (subcommand_rows_of m) (codes "list") list.0 found names_are same (met ∙ list.1) in
+        record { none = none; met = list.1 ∙ (λ i. Some (at.0 i, at.1 i)); has = inr (sym at.0, subst HasListValues at.1 list.2) }
+
+other_name : codes "list" ≡ codes "show" → ⊥
+other_name same = let first : 108 ≡ 115 = ap (λ t. slice_index t 0) same in omega (arith, first)
+
+pub is_show : {words : List Text} {name : Text} {rows : List Row} → Sees words name rows → name ≡ codes "show" → HasCapture rows
+is_show {words} {name} {rows} at same = go at.has where
+  go : ((name ≡ codes "show") × HasCapture rows) ⊎ ((name ≡ codes "list") × HasListValues rows) → HasCapture rows
+  go (inl show) = show.1
+  go (inr list) = absurd (other_name (sym list.0 ∙ same))
+
+pub is_list : {words : List Text} {name : Text} {rows : List Row} → Sees words name rows → (name ≡ codes "show" → ⊥) → (name ≡ codes "list") × HasListValues rows
+is_list {words} {name} {rows} at other = go at.has where
+  go : ((name ≡ codes "show") × HasCapture rows) ⊎ ((name ≡ codes "list") × HasListValues rows) → (name ≡ codes "list") × HasListValues rows
+  go (inl show) = absurd (other show.0)
+  go (inr list) = list

@@ -1,74 +1,15 @@
--- The text of a listing, message by message, RRset by RRset and signature by signature.
-use Rattle.std.proofs.Common.{◌≡◌, ◌⊎◌, ℕ, zero, suc, ◌+◌, ◌<◌, ◌≤◌, List, [], ◌∷◌, ◌++◌, length, get_or, take, drop, map, refl, sym, ap, subst, ◌∙◌, inl, inr, arith, append_assoc, Option}
-use Rattle.std.proofs.lemmas.List.{drop_more, drop_all, take_all, take_more, map_more, append-nil, length-map, get_or-map}
+-- The text of a listing, RRset by RRset and signature by signature.
+use Rattle.std.proofs.Common.{◌≡◌, ℕ, ◌+◌, ◌<◌, ◌≤◌, List, [], ◌∷◌, ◌++◌, length, get_or, drop, map, refl, sym, ap, subst, ◌∙◌, arith, append_assoc}
+use Rattle.std.proofs.lemmas.List.{drop_more, drop_all, append-nil, length-map, get_or-map}
 use Rattle.std.proofs.lemmas.List.Elements.{All-from_recursion, All-get_or}
-use Rattle.std.specs.List.{AllZip, AllByRecursion}
-use Rattle.std.specs.Prelude.{Vec}
+use Rattle.std.specs.List.{AllByRecursion}
 use Rattle.std.specs.Borrow.{Bor}
 use Rattle.dnssec_check.specs.Readable.{IsReadable, HasReadable}
-use Rattle.std.specs.declared.alloc.Global.{Global}
-use Rattle.dnsv_message.specs.Frames.{octets_of_each}
-use Rattle.dnsv_message.specs.Message.{Contents}
 use Rattle.dnsv_records.specs.declared.rrsig.Rrsig.{Rrsig}
 use Rattle.dnsv_records.specs.Rrsig.{IsRrsig}
 use Rattle.dnsv_canonical.specs.Rrsets.{Group}
 use Rattle.dnsv_canonical.specs.SignedData.{signed_data_of}
-use Rattle.dnssec_check.specs.declared.status.Fault.{Fault}
-use Rattle.dnssec_check.specs.declared.status.Fault.TheVariants as fault
-use Rattle.dnssec_check.specs.declared.status.Place.{Place}
-use Rattle.dnssec_check.specs.declared.status.Refusal.{Refusal}
-use Rattle.dnssec_check.specs.Listing.{IsEvidence, FirstRefused, SignatureLines, RrsetLines, data_line}
-use Rattle.dnssec_check.specs.Told.{IsFaultOf, IsRefusedAt}
-
-AllZip-push-both : (xs : List (List ℕ)) (ys : List Contents) (x : List ℕ) (y : Contents) → AllZip IsEvidence xs ys → IsEvidence x y → AllZip IsEvidence (xs ++ x ∷ []) (ys ++ y ∷ [])
-AllZip-push-both [] [] x y all evidence = (evidence, tt)
-AllZip-push-both [] (y' ∷ ys) x y all evidence = absurd all
-AllZip-push-both (x' ∷ xs) [] x y all evidence = absurd all
-AllZip-push-both (x' ∷ xs) (y' ∷ ys) x y all evidence = (all.0, AllZip-push-both xs ys x y all.1 evidence)
-
--- a refusal that means another
-pub IsFaultOf-weaker : (P Q : Refusal → Place → Type 0) (told : Fault) → ((why : Refusal) (place : Place) → P why place → Q why place) → IsFaultOf P told → IsFaultOf Q told
-IsFaultOf-weaker P Q (fault.Refused why place) weaker holds = weaker why place holds
-IsFaultOf-weaker P Q fault.OutOfMemory weaker holds = tt
-IsFaultOf-weaker P Q (fault.ReadFailed file) weaker holds = holds
-IsFaultOf-weaker P Q (fault.TooLong file) weaker holds = holds
-IsFaultOf-weaker P Q (fault.OpenFailed file) weaker holds = holds
-IsFaultOf-weaker P Q fault.WriteFailed weaker holds = holds
-
--- the messages before the place are evidence, and what is refused from there on is the first that is
-pub record Judged (frames : List (List ℕ)) (done : ℕ) (messages : List Contents) : Type 0 where
-  pub evidence : AllZip IsEvidence (take done frames) messages
-  pub refused : (why : Refusal) (place : Place) → FirstRefused (done + 1) (drop done frames) why place → FirstRefused 1 frames why place
-
-pub Judged-start : (frames : List (List ℕ)) → Judged frames 0 []
-Judged-start frames = record { evidence = tt; refused = λ why place refused. refused }
-
-module _ {frames : List (List ℕ)} {done : ℕ} {messages : List Contents} (judged : Judged frames done messages) (octets : List ℕ) (within : done < length frames) (here : get_or frames done [] ≡ octets) where
-  next : drop done frames ≡ octets ∷ drop (done + 1) frames
-  next = drop_more frames done [] within ∙ ap (λ xs. xs ∷ drop (done + 1) frames) here
-
-  pub Judged-next : (message : Contents) → IsEvidence octets message → Judged frames (done + 1) (messages ++ message ∷ [])
-  Judged-next message evidence = record {
-    evidence = subst (λ xs. AllZip IsEvidence xs (messages ++ message ∷ []))
-        (sym (take_more frames done [] within ∙ ap (λ xs. take done frames ++ xs ∷ []) here))
-        (AllZip-push-both (take done frames) messages octets message judged.evidence evidence);
-    refused = λ why place refused. judged.refused why place
-        (subst (λ xs. FirstRefused (done + 1) xs why place) (sym next)
-        (inr ((message, evidence), subst (λ n. FirstRefused n (drop (done + 1) frames) why place) (omega arith) refused)));
-  }
-
-  pub Judged-refused : (why : Refusal) (place : Place) → IsRefusedAt octets (done + 1) why place → FirstRefused 1 frames why place
-  Judged-refused why place refused = judged.refused why place (subst (λ xs. FirstRefused (done + 1) xs why place) (sym next) (inl refused))
-
-pub Judged-all : (frames : List (List ℕ)) (done : ℕ) (messages : List Contents) → length frames ≤ done → Judged frames done messages → AllZip IsEvidence frames messages
-Judged-all frames done messages all judged = subst (λ xs. AllZip IsEvidence xs messages) (take_all done frames all) judged.evidence
-
--- the octets of the frame at a place
-pub frame_here : (frames : List (Vec ℕ Global)) (i : ℕ) (frame : Vec ℕ Global) (octets : List ℕ) → i < length frames → frame ≡ get_or frames i frame → octets ≡ frame.items → (i < length (octets_of_each frames)) × (get_or (octets_of_each frames) i [] ≡ octets)
-frame_here frames i frame octets within is same = (
-  omega (arith, within, length-map frames (λ (v : Vec ℕ Global). v.items)),
-  get_or-map (λ (v : Vec ℕ Global). v.items) frames i frame [] within ∙ ap (λ (v : Vec ℕ Global). v.items) (sym is) ∙ sym same,
-)
+use Rattle.dnssec_check.specs.Listing.{SignatureLines, RrsetLines, data_line}
 
 -- the signatures before the place have their lines in the text, and the rest of the lines may follow
 pub record Listed (number : ℕ) (rrset : Group) (signatures : List (List ℕ)) (done : ℕ) (before now : List ℕ) : Type 0 where

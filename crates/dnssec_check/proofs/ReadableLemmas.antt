@@ -10,11 +10,12 @@ use Rattle.dnsv_message.specs.declared.record.Record.{Record}
 use Rattle.dnsv_message.specs.declared.record.Section.{Section}
 use Rattle.dnsv_message.specs.declared.record.Section.TheVariants.{Answer, Authority, Additional}
 use Rattle.dnsv_message.specs.Layout.{layout_of}
-use Rattle.dnsv_message.specs.Grammar.{InOrder, RdataNameAt, RdataAt, RecordAt, MessageOf, part_of}
+use Rattle.dnsv_message.specs.Grammar.{InOrder, RdataNameAt, RdataAt, RecordAt, part_of}
 use Rattle.dnsv_message.specs.Message.{Contents}
 use Rattle.dnsv_records.specs.Layout.{number_at}
-use Rattle.dnsv_canonical.specs.Rrsets.{Group, is_signature, each_once, signatures_of, rrset_of, rrsets_in, rrsets_from, rrsets_of, is_grouped, same_rrset}
-use Rattle.dnssec_check.specs.Listing.{IsEvidence}
+use Rattle.dnsv_canonical.specs.Rrsets.{is_signature, each_once, rrset_of, rrsets_in, rrsets_from, is_grouped, same_rrset}
+use Rattle.dnssec_check.specs.declared.captured.Demand.{Demand}
+use Rattle.dnssec_check.specs.Captured.{IsTaken}
 use Rattle.dnssec_check.specs.Readable.{IsReadable, HasReadable}
 
 -- the RDATA of the record was read from a message, as its type's layout asks
@@ -117,17 +118,17 @@ section_readable : (number : ℕ) (section : Section) (octets : List ℕ) (recor
 section_readable number section octets records place end order =
     all_readable number section records (each_once same_rrset (filter is_grouped records)) (laid_out octets records place end order)
 
--- the signatures of evidence can be read
-pub evidence_readable : (number : ℕ) (frames : List (List ℕ)) (messages : List Contents) → AllZip IsEvidence frames messages → AllByRecursion HasReadable (rrsets_from number messages)
-evidence_readable number [] [] evidence = tt
-evidence_readable number [] (message ∷ messages) evidence = absurd evidence
-evidence_readable number (octets ∷ frames) [] evidence = absurd evidence
-evidence_readable number (octets ∷ frames) (message ∷ messages) evidence =
-    let at = evidence.0.is_message in
+-- the signatures of messages that were read can be read
+pub taken_readable : (demand : Demand) (number : ℕ) (frames : List (List ℕ)) (messages : List Contents) → AllZip (IsTaken demand) frames messages → AllByRecursion HasReadable (rrsets_from number messages)
+taken_readable demand number [] [] taken = tt
+taken_readable demand number [] (message ∷ messages) taken = absurd taken
+taken_readable demand number (octets ∷ frames) [] taken = absurd taken
+taken_readable demand number (octets ∷ frames) (message ∷ messages) taken =
+    let at = taken.0.is_message in
     joined HasReadable (rrsets_in number Answer message.answer ++ rrsets_in number Authority message.authority ++ rrsets_in number Additional message.additional) (rrsets_from (suc number) messages)
     (joined HasReadable (rrsets_in number Answer message.answer ++ rrsets_in number Authority message.authority) (rrsets_in number Additional message.additional)
     (joined HasReadable (rrsets_in number Answer message.answer) (rrsets_in number Authority message.authority)
     (section_readable number Answer octets message.answer at.after_questions at.after_answer at.answer)
     (section_readable number Authority octets message.authority at.after_answer at.after_authority at.authority))
     (section_readable number Additional octets message.additional at.after_authority (length octets) at.additional))
-    (evidence_readable (suc number) frames messages evidence.1)
+    (taken_readable demand (suc number) frames messages taken.1)

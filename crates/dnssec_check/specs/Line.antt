@@ -45,6 +45,10 @@ all_rule = record (new_rule (codes "all")) {
   required = true;
 }
 
+-- `show --capture FILE`
+abbrev pub show_app : App
+show_app = with_rule (new_app (codes "show")) capture_rule
+
 -- `list --capture FILE --moment N --all`
 abbrev pub list_app : App
 list_app = with_rule (with_rule (with_rule (new_app (codes "list")) capture_rule) moment_rule) all_rule
@@ -59,7 +63,7 @@ bare_app = record (new_app (codes "dnssec_check")) {
 }
 
 abbrev pub program_app : App
-program_app = with_subcommand bare_app list_app.top
+program_app = with_subcommand (with_subcommand bare_app show_app.top) list_app.top
 
 -- ---- what the words ask for
 
@@ -71,6 +75,8 @@ moment_said text =
 
 -- a subcommand and the values of its options ask for the request
 abbrev pub Asks : Text → List Row → Request → Type 0
+Asks name rows (request.Show capture) = (name ≡ codes "show")
+    × (first_of (codes "capture") rows ≡ Some (string_bytes capture))
 Asks name rows (request.List capture moment) = (name ≡ codes "list")
     × (first_of (codes "capture") rows ≡ Some (string_bytes capture))
     × (option_and_then moment_said (first_of (codes "moment") rows) ≡ Some moment)
@@ -80,6 +86,11 @@ abbrev pub IsAccepted : List Text → Request → Type 0
 IsAccepted words asked = (fault_of program_app words ≡ [])
     × ((name : Text) × (rows : List Row)
     × (subcommand_of program_app words ≡ Some (name, rows)) × Asks name rows asked)
+
+-- the path of the file of captured messages
+abbrev pub capture_of : Request → List ℕ
+capture_of (request.Show capture) = string_bytes capture
+capture_of (request.List capture moment) = string_bytes capture
 
 -- ---- why they ask for nothing
 
@@ -112,9 +123,12 @@ line_code line.NotText = 2
 line_code (line.Help refusal) = 0
 line_code (line.Misused refusal) = 2
 
--- ---- what `list` needs of its matches
+-- ---- what `show` and `list` need of their matches
+
+abbrev pub HasCapture : List Row → Type 0
+HasCapture rows = is_some (first_of (codes "capture") rows) ≡ true
 
 abbrev pub HasListValues : List Row → Type 0
-HasListValues rows = (is_some (first_of (codes "capture") rows) ≡ true)
+HasListValues rows = HasCapture rows
     × ((text : Text) × (first_of (codes "moment") rows ≡ Some text)
     × (one_of (codes "moment") rows ≡ Some text) × (is_unsigned_in 0 last_moment text ≡ true))

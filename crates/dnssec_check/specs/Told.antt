@@ -10,7 +10,8 @@ use Rattle.dnssec_check.specs.declared.status.InputFile.TheVariants.{Capture}
 use Rattle.dnssec_check.specs.declared.status.Place.{Place}
 use Rattle.dnssec_check.specs.declared.status.Refusal.{Refusal}
 use Rattle.dnssec_check.specs.declared.status.Refusal.TheVariants as refusal
-use Rattle.dnssec_check.specs.Listing.{MessageRefused}
+use Rattle.dnssec_check.specs.declared.captured.Demand.{Demand}
+use Rattle.dnssec_check.specs.Captured.{MessageRefused}
 use Rattle.dnssec_check.specs.Status.{IsToldAs}
 
 abbrev nowhere : Place
@@ -33,9 +34,9 @@ IsFaultOf Holds (fault.OpenFailed file) = ⊥
 IsFaultOf Holds fault.WriteFailed = ⊥
 
 -- the message with this number is refused, at this place
-abbrev pub IsRefusedAt : List ℕ → ℕ → Refusal → Place → Type 0
-IsRefusedAt octets number why place =
-    MessageRefused octets why place.«record» × (place.message ≡ Some number) × (place.line ≡ None)
+abbrev pub IsRefusedAt : Demand → List ℕ → ℕ → Refusal → Place → Type 0
+IsRefusedAt demand octets number why place =
+    MessageRefused demand octets why place.«record» × (place.message ≡ Some number) × (place.line ≡ None)
 
 -- the fault tells the error of the message with this number
 abbrev pub IsDecodeFault : DecodeError → ℕ → Fault → Type 0

@@ -3,7 +3,7 @@ ghost use Rattle.std.specs.Prelude.{◌≡◌, ⊤, false, IfErr, IfOk, codes, m
 ghost use Rattle.std.specs.IoError.{error_kind as io_error_kind};
 ghost use Rattle.clap.specs.Words.{app_of, found_of, rows_of, rule_of};
 ghost use Rattle.clap.specs.declared.Command.TheViews.{out-Command as fields_of};
-ghost use Rattle.dnssec_check.specs.Line.{Asks, HasListValues, IsAccepted, IsRefused, all_rule, capture_rule, line_code, line_error, list_app, moment_rule, program_app, words_error};
+ghost use Rattle.dnssec_check.specs.Line.{Asks, HasCapture, HasListValues, IsAccepted, IsRefused, all_rule, capture_of, capture_rule, line_code, line_error, list_app, moment_rule, program_app, show_app, words_error};
 ghost use Rattle.dnssec_check.specs.declared.line.LineError.TheVariants.{OutOfMemory};
 
 use crate::moment::Moment;
@@ -17,12 +17,28 @@ use thiserror::Error;
 /// What the program is asked to do.
 #[derive(Debug, Drop)]
 pub enum Request {
+    /// Show every message with its questions and records.
+    Show {
+        /// The path of the file of captured messages.
+        capture: String,
+    },
     /// List the signed octets of each signature of each RRset.
     List {
         /// The path of the file of captured messages.
         capture: String,
         moment: Moment,
     },
+}
+
+impl Request {
+    /// The path of the file of captured messages.
+    pub fn capture(&self) -> &str
+        ensures { result.now ≡ capture_of self.now }
+    {
+        match self {
+            Request::Show { capture } | Request::List { capture, .. } => capture.as_str(),
+        }
+    }
 }
 
 /// Why the command line gives no request. The text, for the user, ends with a newline.
@@ -89,15 +105,19 @@ impl From<clap::Error> for LineError {
 
 /// Reads the words of the command line, of which the first is the program's name.
 ///
-/// Whatever `clap` takes for the command `list --capture FILE --moment N --all` is a request, and
-/// each error is one that `clap` gives there, or the want of memory.
+/// Whatever `clap` takes for the commands `show --capture FILE` and `list --capture FILE --moment N --all`
+/// is a request, and each error is one that `clap` gives there, or the want of memory.
 pub fn read_line<S: AsStr>(alloc: Global, words: &[S]) -> Result<Request, LineError>
     ensures accepted { IfOk result (λ request. IsAccepted (map S.text words.now) request) }
     ensures refused { IfErr result (λ error. IsRefused (map S.text words.now) error) }
 {
     let matches = program(alloc)?.try_get_matches_from(words)?;
-    let (_, list) = matches.subcommand().unwrap();
-    Ok(list_request(alloc, list)?)
+    let (name, values) = matches.subcommand().unwrap();
+    if name == "show" {
+        Ok(show_request(alloc, values)?)
+    } else {
+        Ok(list_request(alloc, values)?)
+    }
 }
 
 /// The program with its subcommands.
@@ -108,7 +128,18 @@ fn program<'a>(alloc: Global) -> Result<Command<'a>, AllocError>
         .about("Says what captured DNS messages prove")
         .disable_help_subcommand(true)
         .subcommand_required(true)
+        .subcommand(show(alloc)?)?
         .subcommand(list(alloc)?)
+}
+
+/// The subcommand `show`.
+fn show<'a>(alloc: Global) -> Result<Command<'a>, AllocError>
+    ensures { IfOk result (λ command. (app_of command ≡ show_app)
+        × ((fields_of command).has_globals ≡ false)) }
+{
+    Command::new(alloc, "show")
+        .about("Shows the captured messages with their questions and records")
+        .arg(capture_option(alloc))
 }
 
 /// The subcommand `list`.
@@ -158,6 +189,15 @@ fn all_flag<'a>(alloc: Global) -> Arg<'a>
         .help("Lists the signed octets of every signature")
         .action(ArgAction::SetTrue)
         .required(true)
+}
+
+/// The request of the matches of `show`.
+fn show_request(alloc: Global, show: &ArgMatches<'_>) -> Result<Request, AllocError>
+    requires { HasCapture (rows_of (found_of show.now)) }
+    ensures { IfOk result (Asks (codes "show") (rows_of (found_of show.now))) }
+{
+    let capture = String::from_str(alloc, show.get_str("capture").unwrap())?;
+    Ok(Request::Show { capture })
 }
 
 /// The request of the matches of `list`.

@@ -1,12 +1,16 @@
 //! `dnssec_check`: what captured DNS messages prove.
 #![tactic(auto)]
 
+mod captured;
 mod laws;
 mod line;
 mod listing;
 mod moment;
 mod program;
 mod run;
+#[cfg(test)]
+mod samples;
+mod showing;
 mod status;
 
 use std::process::ExitCode;

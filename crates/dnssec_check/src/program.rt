@@ -33,8 +33,7 @@ fn answer<R: Files + AllocGlobal + Print>(rt: &R, request: &Request) -> Result<S
 where
     R::File: Drop,
 {
-    let Request::List { capture, .. } = request;
-    let Ok(capture) = File::open(rt, capture.as_str()) else {
+    let Ok(capture) = File::open(rt, request.capture()) else {
         return Err(Fault::OpenFailed(InputFile::Capture));
     };
     let mut inputs = Inputs {

@@ -1,15 +1,17 @@
 //! The run of a request over its files.
-ghost use Rattle.std.specs.Prelude.{◌≡◌, ◌<◌, List, ℕ, IfErr, IfSome, OnOk};
+ghost use Rattle.std.specs.Prelude.{◌≡◌, ◌<◌, List, ℕ, IfErr, IfOk, IfSome, OnOk, string_bytes};
 ghost use Rattle.std.specs.Io.KnownBytes.{Appends};
 ghost use Rattle.dnsv_message.specs.Counted.{inner_of, failures_of};
 ghost use Rattle.dnsv_message.specs.Frames.{IsTooLong};
-ghost use Rattle.dnssec_check.specs.Listing.{IsListing, IsRefusal};
+ghost use Rattle.dnssec_check.specs.Run.{IsTextOf, IsRefusalOf, demand_of};
 ghost use Rattle.dnssec_check.specs.declared.status.InputFile.TheVariants.{Capture};
 ghost use Rattle.dnssec_check.specs.declared.status.Place.{Place};
 ghost use Rattle.dnssec_check.specs.declared.status.Refusal.{Refusal};
 
+use crate::captured::{Demand, captured};
 use crate::line::Request;
 use crate::listing::listing;
+use crate::showing::showing;
 use crate::status::{Fault, Status};
 use dnsv_message::Counted;
 use std::alloc::Global;
@@ -34,11 +36,11 @@ pub fn run<R: Read, W: Write>(
 ) -> Result<Status, Fault>
     // The output got exactly the defined text.
     ensures done { OnOk result (IfSome (R.remaining (inner_of inputs.old.capture)) (λ file.
-        (text : List ℕ) × IsListing file text × Appends (W.contents (inner_of output.old)) (W.contents (inner_of output.new)) text)) }
+        (text : List ℕ) × IsTextOf request.now file text × Appends (W.contents (inner_of output.old)) (W.contents (inner_of output.new)) text)) }
 
     // What the file is refused for is the first that it is to be refused for.
     ensures refused { (why : Refusal) (place : Place) → result ≡ Err (Fault.Refused why place)
-        → IfSome (R.remaining (inner_of inputs.old.capture)) (λ file. IsRefusal file why place) }
+        → IfSome (R.remaining (inner_of inputs.old.capture)) (λ file. IsRefusalOf request.now file why place) }
     ensures too_long { result ≡ Err (Fault.TooLong Capture) → IfSome (R.remaining (inner_of inputs.old.capture)) IsTooLong }
 
     // Only where the stream failed in this call, by the count, unless that began at its greatest value.
@@ -52,11 +54,40 @@ pub fn run<R: Read, W: Write>(
     // Nothing is written unless the whole text is made.
     ensures untouched { IfErr result (λ fault. (fault ≡ Fault.WriteFailed → ⊥) → output.new ≡ output.old) }
 {
-    let Request::List { .. } = request;
-    let text = listing(alloc, &mut inputs.capture)?;
+    let text = text_of(alloc, request, &mut inputs.capture)?;
     match output.write_all(text.as_bytes()) {
         Ok(()) => Ok(Status::Done),
         Err(_) => Err(Fault::WriteFailed),
+    }
+}
+
+/// The text that the request asks for.
+fn text_of<R: Read>(
+    alloc: Global,
+    request: &Request,
+    capture: &mut Counted<R>,
+) -> Result<String, Fault>
+    ensures text { IfOk result (λ text. IfSome (R.remaining (inner_of capture.old)) (λ file. IsTextOf request.now file (string_bytes text))) }
+    ensures refused { (why : Refusal) (place : Place) → result ≡ Err (Fault.Refused why place)
+        → IfSome (R.remaining (inner_of capture.old)) (λ file. IsRefusalOf request.now file why place) }
+    ensures too_long { result ≡ Err (Fault.TooLong Capture) → IfSome (R.remaining (inner_of capture.old)) IsTooLong }
+    ensures read { result ≡ Err (Fault.ReadFailed Capture) → failures_of capture.old < u64.MAX → failures_of capture.old < failures_of capture.new }
+    ensures only { IfErr result (λ fault. (fault ≡ Fault.WriteFailed → ⊥) × (fault ≡ Fault.OpenFailed Capture → ⊥)) }
+{
+    let messages = captured(alloc, capture, demand(request))?;
+    match request {
+        Request::Show { .. } => Ok(showing(alloc, &messages)?),
+        Request::List { .. } => Ok(listing(alloc, &messages)?),
+    }
+}
+
+/// What the request asks of each message.
+fn demand(request: &Request) -> Demand
+    ensures { result ≡ demand_of request.now }
+{
+    match request {
+        Request::Show { .. } => Demand::AnyMessage,
+        Request::List { .. } => Demand::WholeResponse,
     }
 }
 

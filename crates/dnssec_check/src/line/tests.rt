@@ -9,16 +9,39 @@ fn read(alloc: Global, line: &str) -> Result<Request, LineError> {
 }
 
 #[test]
-fn reads_a_request(rt: HostRuntime) -> Result<(), Fail> {
-    let line = "dnssec_check list --capture a.bin --moment 1500 --all";
-    let Request::List { capture, moment } = read(rt.alloc(), line)?;
-    assert_eq!(rt; capture.as_str(), "a.bin");
-    assert_eq!(rt; moment.seconds(), 1500);
+fn reads_a_request_to_show(rt: HostRuntime) -> Result<(), Fail> {
+    for (line, path) in [
+        ("dnssec_check show --capture a.bin", "a.bin"),
+        ("./check show --capture=--moment", "--moment"),
+    ] {
+        let request = read(rt.alloc(), line)?;
+        assert!(rt; matches!(&request, Request::Show { .. }), "{line}");
+        assert_eq!(rt; request.capture(), path, "{line}");
+    }
+    Ok(())
+}
 
-    let line = "./check list --all --moment=+281474976710655 --capture=--all";
-    let Request::List { capture, moment } = read(rt.alloc(), line)?;
-    assert_eq!(rt; capture.as_str(), "--all");
-    assert_eq!(rt; moment.seconds(), 281_474_976_710_655);
+#[test]
+fn reads_a_request_to_list(rt: HostRuntime) -> Result<(), Fail> {
+    for (line, path, seconds) in [
+        (
+            "dnssec_check list --capture a.bin --moment 1500 --all",
+            "a.bin",
+            1500,
+        ),
+        (
+            "./check list --all --moment=+281474976710655 --capture=--all",
+            "--all",
+            281_474_976_710_655,
+        ),
+    ] {
+        let request = read(rt.alloc(), line)?;
+        assert_eq!(rt; request.capture(), path, "{line}");
+        let Request::List { moment, .. } = request else {
+            return Err(Fail::from(line));
+        };
+        assert_eq!(rt; moment.seconds(), seconds, "{line}");
+    }
     Ok(())
 }
 
@@ -28,7 +51,13 @@ fn refuses_other_words(rt: HostRuntime) {
         "",
         "dnssec_check",
         "dnssec_check list",
-        "dnssec_check show --capture a",
+        "dnssec_check show",
+        "dnssec_check show --capture",
+        "dnssec_check show --moment 1",
+        "dnssec_check show --capture a --moment 1",
+        "dnssec_check show --capture a --all",
+        "dnssec_check show --capture a --capture a",
+        "dnssec_check show --capture a b",
         "dnssec_check help",
         "dnssec_check list --capture a --moment 1",
         "dnssec_check list --capture a --all",
@@ -51,6 +80,8 @@ fn refuses_other_words(rt: HostRuntime) {
 fn shows_help(rt: HostRuntime) -> Result<(), Fail> {
     for (line, shown) in [
         ("dnssec_check --help", "list"),
+        ("dnssec_check --help", "show"),
+        ("dnssec_check show --help", "--capture <FILE>"),
         ("dnssec_check list --help", "--capture <FILE>"),
         ("dnssec_check list --help", "--moment <N>"),
         ("dnssec_check list --help", "--all"),

@@ -1,7 +1,8 @@
-use Rattle.std.proofs.Common.{map, subst}
-use Rattle.clap.specs.Words.{app_of, found_of, rows_of, subcommand_rows_of}
-use Rattle.dnssec_check.specs.Line.{HasListValues}
-use Rattle.dnssec_check.proofs.LineLemmas.{parsed_list, passed_up, rows_met}
+use Rattle.std.proofs.Common.{◌≡◌, ap, map, sym, ◌∙◌, codes, true, false, rules, Some}
+use Rattle.std.proofs.lemmas.Slice.Eq.{bytes_eq-Decides}
+use Rattle.std.specs.Str.{bytes_eq}
+use Rattle.clap.specs.Words.{app_of, found_of, rows_of}
+use Rattle.dnssec_check.proofs.LineLemmas.{Sees, is_list, is_show, passed_up, sees}
 use Rattle.dnssec_check.proofs.line.read_line.Goals as goal
 
 pub returns-in_err-matches-clause-refused : goal.returns-in_err-matches-clause-refused
@@ -9,17 +10,38 @@ returns-in_err-matches-clause-refused g c =
     passed_up c.from_residual-in_err-matches.result (app_of c.in_ok-program.field-0) (map g.S.AsStr.text c.args.words.now) c.in_err-matches.field-0.0
     c.in_ok-program.ensures c.from_residual-in_err-matches.ensures.1 c.in_err-matches.ensures.kinds
 
+pub show_request-requires : goal.show_request-requires
+show_request-requires g c =
+    let at : Sees (map g.S.AsStr.text c.args.words.now) c.unwrap.result.0.now (rows_of (found_of c.unwrap.result.1.now)) =
+    sees (λ p. p.0.now) (λ p. rows_of (found_of p.1.now)) c.subcommand.result c.unwrap.result (app_of c.in_ok-program.field-0) (map g.S.AsStr.text c.args.words.now) c.in_ok-matches.matches
+    c.in_ok-program.ensures c.in_ok-matches.ensures.matches c.in_ok-matches.ensures.kinds c.unwrap.ensures c.subcommand.ensures.name c.subcommand.ensures.rows in
+    let test : bytes_eq c.unwrap.result.0.now (codes "show") ≡ true = search rules in
+    let same = (bytes_eq-Decides c.unwrap.result.0.now (codes "show")).0 test in
+    is_show at same
+
+pub returns-then-eq-clause-accepted : goal.returns-then-eq-clause-accepted
+returns-then-eq-clause-accepted g c =
+    let at : Sees (map g.S.AsStr.text c.args.words.now) c.unwrap.result.0.now (rows_of (found_of c.unwrap.result.1.now)) =
+    sees (λ p. p.0.now) (λ p. rows_of (found_of p.1.now)) c.subcommand.result c.unwrap.result (app_of c.in_ok-program.field-0) (map g.S.AsStr.text c.args.words.now) c.in_ok-matches.matches
+    c.in_ok-program.ensures c.in_ok-matches.ensures.matches c.in_ok-matches.ensures.kinds c.unwrap.ensures c.subcommand.ensures.name c.subcommand.ensures.rows in
+    let test : bytes_eq c.unwrap.result.0.now (codes "show") ≡ true = search rules in
+    let same = (bytes_eq-Decides c.unwrap.result.0.now (codes "show")).0 test in
+    (at.none, (codes "show", _, at.met ∙ ap (λ n. Some (n, rows_of (found_of c.unwrap.result.1.now))) same, c.in_ok-show_request.ensures))
+
 pub list_request-requires : goal.list_request-requires
 list_request-requires g c =
-    let matches = c.in_ok-matches.matches in
-    let list = parsed_list (app_of c.in_ok-program.field-0) (map g.S.AsStr.text c.args.words.now) matches
-    c.in_ok-program.ensures c.in_ok-matches.ensures.matches c.in_ok-matches.ensures.kinds in
-    subst HasListValues (rows_met (λ p. rows_of (found_of p.1.now)) c.subcommand.result c.unwrap.result (subcommand_rows_of matches) _ list.1.0 c.unwrap.ensures c.subcommand.ensures.rows list.1.3) list.1.2
+    let at : Sees (map g.S.AsStr.text c.args.words.now) c.unwrap.result.0.now (rows_of (found_of c.unwrap.result.1.now)) =
+    sees (λ p. p.0.now) (λ p. rows_of (found_of p.1.now)) c.subcommand.result c.unwrap.result (app_of c.in_ok-program.field-0) (map g.S.AsStr.text c.args.words.now) c.in_ok-matches.matches
+    c.in_ok-program.ensures c.in_ok-matches.ensures.matches c.in_ok-matches.ensures.kinds c.unwrap.ensures c.subcommand.ensures.name c.subcommand.ensures.rows in
+    let test : bytes_eq c.unwrap.result.0.now (codes "show") ≡ false = search rules in
+    let list = is_list at (λ same. let yes = (bytes_eq-Decides c.unwrap.result.0.now (codes "show")).1 same in let bad : true ≡ false = sym yes ∙ test in cc) in
+    list.1
 
 pub returns-clause-accepted : goal.returns-clause-accepted
 returns-clause-accepted g c =
-    let matches = c.in_ok-matches.matches in
-    let list = parsed_list (app_of c.in_ok-program.field-0) (map g.S.AsStr.text c.args.words.now) matches
-    c.in_ok-program.ensures c.in_ok-matches.ensures.matches c.in_ok-matches.ensures.kinds in
-    let same = rows_met (λ p. rows_of (found_of p.1.now)) c.subcommand.result c.unwrap.result (subcommand_rows_of matches) _ list.1.0 c.unwrap.ensures c.subcommand.ensures.rows list.1.3 in
-    (list.0, (_, list.1.0, list.1.1, rw same c.in_ok-list_request.ensures))
+    let at : Sees (map g.S.AsStr.text c.args.words.now) c.unwrap.result.0.now (rows_of (found_of c.unwrap.result.1.now)) =
+    sees (λ p. p.0.now) (λ p. rows_of (found_of p.1.now)) c.subcommand.result c.unwrap.result (app_of c.in_ok-program.field-0) (map g.S.AsStr.text c.args.words.now) c.in_ok-matches.matches
+    c.in_ok-program.ensures c.in_ok-matches.ensures.matches c.in_ok-matches.ensures.kinds c.unwrap.ensures c.subcommand.ensures.name c.subcommand.ensures.rows in
+    let test : bytes_eq c.unwrap.result.0.now (codes "show") ≡ false = search rules in
+    let list = is_list at (λ same. let yes = (bytes_eq-Decides c.unwrap.result.0.now (codes "show")).1 same in let bad : true ≡ false = sym yes ∙ test in cc) in
+    (at.none, (codes "list", _, at.met ∙ ap (λ n. Some (n, rows_of (found_of c.unwrap.result.1.now))) list.0, c.in_ok-list_request.ensures))

@@ -1,11 +1,11 @@
-use Rattle.dnssec_check.proofs.ListingLemmas.{IsFaultOf-weaker, Judged-next, Judged-refused, frame_here}
+use Rattle.dnssec_check.proofs.CapturedLemmas.{IsFaultOf-weaker, Judged-next, Judged-refused, frame_here}
 use Rattle.std.proofs.lemmas.Result.{err_from_is_err_and}
-use Rattle.dnssec_check.proofs.listing.evidence.Goals as goal
+use Rattle.dnssec_check.proofs.captured.decoded.Goals as goal
 
 pub loop-index-preserved : goal.loop-index-preserved
 loop-index-preserved c =
     let here = frame_here c.args.frames.now c.loop-index.index c.index-frames-index.result _ c.loop-index-test.true c.index-frames-index.is c.deref.ensures.value in
-    rw c.in_ok-push.ensures.items (Judged-next c.loop-index.invariant _ here.0 here.1 _ c.in_ok-message_of.ensures.evidence)
+    rw c.in_ok-push.ensures.items (Judged-next c.loop-index.invariant _ here.0 here.1 _ c.in_ok-message_of.ensures.taken)
 
 pub returns-in_err-message_of-clause-refused : goal.returns-in_err-message_of-clause-refused
 returns-in_err-message_of-clause-refused c =

@@ -1,0 +1,231 @@
+-- For a file of octets a request has at most one text, or one refusal, and never both.
+use Rattle.std.proofs.Common.{◌≡◌, ℕ, suc, List, [], ◌∷◌, ◌++◌, length, refl, sym, ap, subst, ◌∙◌, inl, inr, arith, append_assoc, Option}
+use Rattle.std.proofs.lemmas.List.{append-nil}
+use Rattle.std.specs.List.{AllByRecursion, AllZip, flat_map}
+use Rattle.dnsv_names.specs.Name.{Labels, IsLabel, wire}
+use Rattle.dnsv_message.specs.declared.errors.DecodeError.{DecodeError}
+use Rattle.dnsv_message.specs.declared.errors.DecodeError.TheVariants as decode
+use Rattle.dnsv_message.specs.Frames.{IsCapture, frame}
+use Rattle.dnsv_message.specs.Grammar.{MessageOf, FaultOf}
+use Rattle.dnsv_message.specs.Message.{Contents}
+use Rattle.dnsv_message.specs.NameAt.{AreOctets}
+use Rattle.dnsv_message.proofs.CaptureLemmas.{messages_alone, zero_length_alone}
+use Rattle.dnsv_message.proofs.FrameLemmas.{one_framing, same_front}
+use Rattle.dnsv_message.proofs.MessageLaws.{FaultOf_same, MessageOf_same, MessageOf_sound}
+use Rattle.dnsv_message.proofs.Numbers.{octet_fits}
+use Rattle.dnsv_records.specs.declared.rrsig.Rrsig.{Rrsig}
+use Rattle.dnsv_records.specs.Rrsig.{IsRrsig}
+use Rattle.dnsv_canonical.specs.Rrsets.{Group, rrsets_of}
+use Rattle.dnsv_canonical.specs.SignedData.{signed_data_of}
+use Rattle.dnssec_check.specs.declared.status.Place.{Place}
+use Rattle.dnssec_check.specs.declared.status.Refusal.{Refusal}
+use Rattle.dnssec_check.specs.declared.captured.Demand.{Demand}
+use Rattle.dnssec_check.specs.declared.captured.Demand.TheVariants.{AnyMessage, WholeResponse}
+use Rattle.dnssec_check.specs.declared.line.Request.{Request}
+use Rattle.dnssec_check.specs.declared.line.Request.TheVariants as request
+use Rattle.dnssec_check.specs.Captured.{Meets, Fails, IsTaken, Holds, MessageRefused, FirstRefused, IsNowhere, IsRefusal}
+use Rattle.dnssec_check.specs.Listing.{data_line, SignatureLines, RrsetLines}
+use Rattle.dnssec_check.specs.Run.{IsTextOf, IsRefusalOf, demand_of}
+use Rattle.dnssec_check.specs.Showing.{message_text, texts_from}
+use Rattle.dnssec_check.specs.Status.{IsToldAs}
+
+-- ---- the captured messages are octets
+
+parts_octets : (xs ys : List ℕ) → AreOctets (xs ++ ys) → AreOctets xs × AreOctets ys
+parts_octets [] ys are = (tt, are)
+parts_octets (x ∷ xs) ys are = let rest = parts_octets xs ys are.1 in ((are.0, rest.0), rest.1)
+
+frames_octets : (frames : List (List ℕ)) → AreOctets (flat_map frame frames) → AllByRecursion AreOctets frames
+frames_octets [] are = tt
+frames_octets (octets ∷ frames) are =
+    let parts = parts_octets (frame octets) (flat_map frame frames) are in
+    (parts.0.1.1, frames_octets frames parts.1)
+
+captured_octets : (file : List ℕ) (frames : List (List ℕ)) → AreOctets file → IsCapture file frames → AllByRecursion AreOctets frames
+captured_octets file frames are captured =
+    frames_octets frames (subst AreOctets (captured.frames.whole ∙ append-nil (flat_map frame frames)) are)
+
+one_capture : (file : List ℕ) (a b : List (List ℕ)) → IsCapture file a → IsCapture file b → a ≡ b
+one_capture file a b x y = (one_framing file a b [] [] x.frames y.frames).0
+
+-- ---- the text
+
+-- spellings of two names that begin the same octets are of one name
+one_wire : (a b : Labels) (x y : List ℕ) → AllByRecursion IsLabel a → AllByRecursion IsLabel b → wire a ++ x ≡ wire b ++ y → (a ≡ b) × (x ≡ y)
+one_wire [] [] x y each other same = let behind : x ≡ y = cc in (refl, behind)
+one_wire [] (m ∷ b) x y each other same = let none : 0 ≡ length m = cc in absurd (omega (arith, none, other.0.not_empty))
+one_wire (l ∷ a) [] x y each other same = let none : length l ≡ 0 = cc in absurd (omega (arith, none, each.0.not_empty))
+one_wire (l ∷ a) (m ∷ b) x y each other same =
+    let size : length l ≡ length m = cc in
+    let behind : (l ++ wire a) ++ x ≡ (m ++ wire b) ++ y = cc in
+    let front = same_front l m (wire a ++ x) (wire b ++ y) size (sym (append_assoc l (wire a) x) ∙ behind ∙ append_assoc m (wire b) y) in
+    let rest = one_wire a b x y each.1 other.1 front.1 in
+    (ap (λ label. label ∷ a) front.0 ∙ ap (λ labels. m ∷ labels) rest.0, rest.1)
+
+-- the RDATA of a signature is read in one way
+one_rrsig : (rdata : List ℕ) (a b : Rrsig) → IsRrsig rdata a → IsRrsig rdata b → a ≡ b
+one_rrsig rdata a b p q =
+    let behind = one_wire a.signer b.signer a.signature b.signature p.name.each q.name.each (sym p.rest ∙ q.rest) in
+    let covered : a.type_covered.0 ≡ b.type_covered.0 = p.type_covered ∙ sym q.type_covered in
+    let algorithms : a.algorithm.0 ≡ b.algorithm.0 = p.algorithm ∙ sym q.algorithm in
+    let counts : a.labels ≡ b.labels = p.labels ∙ sym q.labels in
+    let ttls : a.original_ttl ≡ b.original_ttl = p.original_ttl ∙ sym q.original_ttl in
+    let ends : a.expiration ≡ b.expiration = p.expiration ∙ sym q.expiration in
+    let begins : a.inception ≡ b.inception = p.inception ∙ sym q.inception in
+    let tags : a.key_tag.0 ≡ b.key_tag.0 = p.key_tag ∙ sym q.key_tag in
+    λ i. record {
+      type_covered = record { 0 = covered i };
+      algorithm = record { 0 = algorithms i };
+      labels = counts i;
+      original_ttl = ttls i;
+      expiration = ends i;
+      inception = begins i;
+      key_tag = record { 0 = tags i };
+      signer = behind.0 i;
+      signature = behind.1 i;
+    }
+
+one_front : (number : ℕ) (rrset : Group) (signature : ℕ) (signatures : List (List ℕ)) (a b : List ℕ)
+    → SignatureLines number rrset signature signatures a → SignatureLines number rrset signature signatures b → a ≡ b
+one_front number rrset signature [] a b x y = x ∙ sym y
+one_front number rrset signature (rdata ∷ others) a b x y =
+    x.4 ∙ ap (λ rrsig. data_line number signature (signed_data_of rrset.owner rrset.rtype rrset.rdata rrsig) ++ x.1) (one_rrsig rdata x.0 y.0 x.2 y.2)
+    ∙ ap (λ rest. data_line number signature (signed_data_of rrset.owner rrset.rtype rrset.rdata y.0) ++ rest) (one_front number rrset (suc signature) others x.1 y.1 x.3 y.3)
+    ∙ sym y.4
+
+one_lines : (number : ℕ) (rrsets : List Group) (a b : List ℕ) → RrsetLines number rrsets a → RrsetLines number rrsets b → a ≡ b
+one_lines number [] a b x y = x ∙ sym y
+one_lines number (rrset ∷ rrsets) a b x y =
+    x.4 ∙ ap (λ front. front ++ x.1) (one_front number rrset 1 rrset.signatures x.0 y.0 x.2 y.2)
+    ∙ ap (λ rest. y.0 ++ rest) (one_lines (suc number) rrsets x.1 y.1 x.3 y.3)
+    ∙ sym y.4
+
+one_taken : (demand : Demand) (frames : List (List ℕ)) (a b : List Contents) → AllByRecursion AreOctets frames → AllZip (IsTaken demand) frames a → AllZip (IsTaken demand) frames b → a ≡ b
+one_taken demand [] [] [] are x y = refl
+one_taken demand [] [] (n ∷ b) are x y = absurd y
+one_taken demand [] (m ∷ a) b are x y = absurd x
+one_taken demand (octets ∷ frames) [] b are x y = absurd x
+one_taken demand (octets ∷ frames) (m ∷ a) [] are x y = absurd y
+one_taken demand (octets ∷ frames) (m ∷ a) (n ∷ b) are x y =
+    ap (λ message. message ∷ a) (MessageOf_same octets (octet_fits octets are.0) m n x.0.is_message y.0.is_message)
+    ∙ ap (λ messages. n ∷ messages) (one_taken demand frames a b are.1 x.1 y.1)
+
+-- a file holds its messages alone
+one_holding : (demand : Demand) (file : List ℕ) → AreOctets file → (a b : List Contents) → Holds demand file a → Holds demand file b → a ≡ b
+one_holding demand file are a b x y =
+    let frames = one_capture file y.frames x.frames y.captured x.captured in
+    one_taken demand x.frames a b (captured_octets file x.frames are x.captured) x.taken
+    (subst (λ frames. AllZip (IsTaken demand) frames b) frames y.taken)
+
+-- a request has one text for a file
+pub one_text : (asked : Request) (file : List ℕ) → AreOctets file → (a b : List ℕ) → IsTextOf asked file a → IsTextOf asked file b → a ≡ b
+one_text (request.Show capture) file are a b x y =
+    x.2 ∙ ap (texts_from message_text 1) (one_holding AnyMessage file are x.0 y.0 x.1 y.1) ∙ sym y.2
+one_text (request.List capture moment) file are a b x y =
+    one_lines 1 (rrsets_of x.0) a b x.2
+    (subst (λ messages. RrsetLines 1 (rrsets_of messages) b) (one_holding WholeResponse file are y.0 x.0 y.1 x.1) y.2)
+
+-- ---- the refusal
+
+told_once : (error : DecodeError) (a b : Refusal) (m n : Option ℕ) → IsToldAs error a m → IsToldAs error b n → (a ≡ b) × (m ≡ n)
+told_once decode.OutOfMemory a b m n x y = absurd x
+told_once decode.Short a b m n x y = (x.0 ∙ sym y.0, x.1 ∙ sym y.1)
+told_once decode.BadLabel a b m n x y = (x.0 ∙ sym y.0, x.1 ∙ sym y.1)
+told_once decode.BadPointer a b m n x y = (x.0 ∙ sym y.0, x.1 ∙ sym y.1)
+told_once decode.TooManyPointers a b m n x y = (x.0 ∙ sym y.0, x.1 ∙ sym y.1)
+told_once decode.LongName a b m n x y = (x.0 ∙ sym y.0, x.1 ∙ sym y.1)
+told_once (decode.BadRdata k) a b m n x y = (x.0 ∙ sym y.0, x.1 ∙ sym y.1)
+told_once decode.TrailingBytes a b m n x y = (x.0 ∙ sym y.0, x.1 ∙ sym y.1)
+
+same_place : (p q : Place) → p.message ≡ q.message → p.record ≡ q.record → p.line ≡ q.line → p ≡ q
+same_place p q messages records lines = λ i. record { message = messages i; «record» = records i; line = lines i }
+
+same_nowhere : (p q : Place) → IsNowhere p → IsNowhere q → p ≡ q
+same_nowhere p q x y = same_place p q (x.0 ∙ sym y.0) (x.1 ∙ sym y.1) (x.2 ∙ sym y.2)
+
+-- ---- the messages that are asked for
+
+meets_or_fails : (demand : Demand) (message : Contents) (why : Refusal) → Meets demand message → Fails demand message why → ⊥
+meets_or_fails AnyMessage message why meets fails = fails
+meets_or_fails WholeResponse message why meets (inl query) = query.0 meets.0
+meets_or_fails WholeResponse message why meets (inr cut) = meets.1 cut.1
+
+fails_once : (demand : Demand) (message : Contents) (a b : Refusal) → Fails demand message a → Fails demand message b → a ≡ b
+fails_once AnyMessage message a b x y = absurd x
+fails_once WholeResponse message a b (inl x) (inl y) = x.1 ∙ sym y.1
+fails_once WholeResponse message a b (inl x) (inr y) = absurd (x.0 y.0)
+fails_once WholeResponse message a b (inr x) (inl y) = absurd (y.0 x.0)
+fails_once WholeResponse message a b (inr x) (inr y) = x.2 ∙ sym y.2
+
+module _ (octets : List ℕ) (are : AreOctets octets) where
+  same_message : (m n : Contents) → MessageOf octets m → MessageOf octets n → m ≡ n
+  same_message = MessageOf_same octets (octet_fits octets are)
+
+  no_fault : (m : Contents) (error : DecodeError) → MessageOf octets m → FaultOf octets error → ⊥
+  no_fault = MessageOf_sound octets (octet_fits octets are)
+
+  -- a message that is taken isn't refused
+  taken_stands : (demand : Demand) (message : Contents) (why : Refusal) (n : Option ℕ) → IsTaken demand octets message → MessageRefused demand octets why n → ⊥
+  taken_stands demand message why n taken (inl fault) = no_fault message fault.0 taken.is_message fault.1
+  taken_stands demand message why n taken (inr failed) =
+      meets_or_fails demand message why taken.meets
+      (subst (λ (m : Contents). Fails demand m why) (same_message failed.0 message failed.1 taken.is_message) failed.2)
+
+  refused_once : (demand : Demand) (a b : Refusal) (m n : Option ℕ) → MessageRefused demand octets a m → MessageRefused demand octets b n → (a ≡ b) × (m ≡ n)
+  refused_once demand a b m n (inl x) (inl y) =
+      told_once x.0 a b m n x.2 (subst (λ error. IsToldAs error b n) (FaultOf_same octets (octet_fits octets are) y.0 x.0 y.1 x.1) y.2)
+  refused_once demand a b m n (inl x) (inr y) = absurd (no_fault y.0 x.0 y.1 x.1)
+  refused_once demand a b m n (inr x) (inl y) = absurd (no_fault x.0 y.0 x.1 y.1)
+  refused_once demand a b m n (inr x) (inr y) = (
+    fails_once demand x.0 a b x.2 (subst (λ (m : Contents). Fails demand m b) (same_message y.0 x.0 y.1 x.1) y.2),
+    x.3 ∙ sym y.3,
+  )
+
+all_stand : (demand : Demand) (number : ℕ) (frames : List (List ℕ)) (messages : List Contents) (why : Refusal) (place : Place) → AllByRecursion AreOctets frames
+    → AllZip (IsTaken demand) frames messages → FirstRefused demand number frames why place → ⊥
+all_stand demand number [] messages why place are taken refused = refused
+all_stand demand number (octets ∷ frames) [] why place are taken refused = taken
+all_stand demand number (octets ∷ frames) (message ∷ messages) why place are taken (inl here) =
+    taken_stands octets are.0 demand message why place.record taken.0 here.0
+all_stand demand number (octets ∷ frames) (message ∷ messages) why place are taken (inr later) =
+    all_stand demand (suc number) frames messages why place are.1 taken.1 later.1
+
+first_once : (demand : Demand) (number : ℕ) (frames : List (List ℕ)) (a b : Refusal) (p q : Place) → AllByRecursion AreOctets frames
+    → FirstRefused demand number frames a p → FirstRefused demand number frames b q → (a ≡ b) × (p ≡ q)
+first_once demand number [] a b p q are x y = absurd x
+first_once demand number (octets ∷ frames) a b p q are (inl x) (inl y) =
+    let same = refused_once octets are.0 demand a b p.record q.record x.0 y.0 in
+    (same.0, same_place p q (x.1 ∙ sym y.1) same.1 (x.2 ∙ sym y.2))
+first_once demand number (octets ∷ frames) a b p q are (inl x) (inr y) = absurd (taken_stands octets are.0 demand y.0.0 a p.record y.0.1 x.0)
+first_once demand number (octets ∷ frames) a b p q are (inr x) (inl y) = absurd (taken_stands octets are.0 demand x.0.0 b q.record x.0.1 y.0)
+first_once demand number (octets ∷ frames) a b p q are (inr x) (inr y) = first_once demand (suc number) frames a b p q are.1 x.1 y.1
+
+-- a file whose messages are taken isn't refused
+holding_stands : (demand : Demand) (file : List ℕ) → AreOctets file → (messages : List Contents) (why : Refusal) (place : Place) → Holds demand file messages → IsRefusal demand file why place → ⊥
+holding_stands demand file are messages why place x (inl zero) = (messages_alone file x.frames x.captured).0 zero.0
+holding_stands demand file are messages why place x (inr (inl torn)) = (messages_alone file x.frames x.captured).1 torn.0
+holding_stands demand file are messages why place x (inr (inr y)) =
+    all_stand demand 1 x.frames messages why place (captured_octets file x.frames are x.captured) x.taken
+    (subst (λ frames. FirstRefused demand 1 frames why place) (one_capture file y.0 x.frames y.1 x.captured) y.2)
+
+-- a file that has a text isn't refused
+pub text_stands : (asked : Request) (file : List ℕ) → AreOctets file → (text : List ℕ) (why : Refusal) (place : Place) → IsTextOf asked file text → IsRefusalOf asked file why place → ⊥
+text_stands (request.Show capture) file are text why place x refused = holding_stands AnyMessage file are x.0 why place x.1 refused
+text_stands (request.List capture moment) file are text why place x refused = holding_stands WholeResponse file are x.0 why place x.1 refused
+
+-- a file has one refusal
+one_refusal : (demand : Demand) (file : List ℕ) → AreOctets file → (a b : Refusal) (p q : Place) → IsRefusal demand file a p → IsRefusal demand file b q → (a ≡ b) × (p ≡ q)
+one_refusal demand file are a b p q (inl x) (inl y) = (x.1 ∙ sym y.1, same_nowhere p q x.2 y.2)
+one_refusal demand file are a b p q (inl x) (inr (inl y)) = absurd ((zero_length_alone file x.0).0 y.0)
+one_refusal demand file are a b p q (inl x) (inr (inr y)) = absurd ((messages_alone file y.0 y.1).0 x.0)
+one_refusal demand file are a b p q (inr (inl x)) (inl y) = absurd ((zero_length_alone file y.0).0 x.0)
+one_refusal demand file are a b p q (inr (inl x)) (inr (inl y)) = (x.1 ∙ sym y.1, same_nowhere p q x.2 y.2)
+one_refusal demand file are a b p q (inr (inl x)) (inr (inr y)) = absurd ((messages_alone file y.0 y.1).1 x.0)
+one_refusal demand file are a b p q (inr (inr x)) (inl y) = absurd ((messages_alone file x.0 x.1).0 y.0)
+one_refusal demand file are a b p q (inr (inr x)) (inr (inl y)) = absurd ((messages_alone file x.0 x.1).1 y.0)
+one_refusal demand file are a b p q (inr (inr x)) (inr (inr y)) =
+    first_once demand 1 x.0 a b p q (captured_octets file x.0 are x.1) x.2
+    (subst (λ frames. FirstRefused demand 1 frames b q) (one_capture file y.0 x.0 y.1 x.1) y.2)
+
+pub one_refusal_of : (asked : Request) (file : List ℕ) → AreOctets file → (a b : Refusal) (p q : Place) → IsRefusalOf asked file a p → IsRefusalOf asked file b q → (a ≡ b) × (p ≡ q)
+one_refusal_of asked = one_refusal (demand_of asked)

@@ -1,6 +1,0 @@
-use Rattle.dnsv_message.specs.Frames.{octets_of_each}
-use Rattle.dnssec_check.proofs.ListingLemmas.{Judged}
-use Rattle.dnssec_check.proofs.listing.evidence.Given as goal
-
-abbrev pub invariant-loop-index : goal.invariant-loop-index
-invariant-loop-index l = Judged (octets_of_each l.frames) l.index l.messages.items
