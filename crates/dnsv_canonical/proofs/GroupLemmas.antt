@@ -1,25 +1,18 @@
 -- Filters, and elements that are kept once, as a loop goes over a list.
-use Rattle.std.proofs.Common.{◌≡◌, ℕ, ◌+◌, ◌<◌, Bool, true, false, cond, not, ◌&&◌, ◌||◌, List, [], ◌∷◌, ◌++◌, length, get_or, take, map, refl, sym, ap, ◌∙◌, append_assoc}
-use Rattle.std.specs.Cmp.{IsEquivalence}
+use Rattle.std.proofs.Common.{◌≡◌, ℕ, ◌+◌, ◌<◌, ◌==◌, Bool, true, false, cond, not, ◌&&◌, ◌||◌, List, [], ◌∷◌, ◌++◌, length, get_or, take, map, if◌then◌else◌, refl, sym, ap, ◌∙◌, append_assoc}
 use Rattle.std.specs.List.{filter, list_any}
+use Rattle.std.proofs.lemmas.List.Folds.{list_any_more, list_any_at}
 use Rattle.std.proofs.lemmas.List.Elements.{filter_more, filter-append}
-use Rattle.std.proofs.lemmas.List.{append-nil, map-append}
-use Rattle.std.proofs.lemmas.Cmp.{lists_equiv, nat_eq_equiv}
-use Rattle.std.specs.Str.{bytes_eq}
-use Rattle.dnsv_names.specs.Name.{Labels}
+use Rattle.std.proofs.lemmas.List.{append-nil, map-append, length-map}
+use Rattle.std.proofs.Math.Dec.{eqb-suc-zero}
+use Rattle.std.proofs.lemmas.Cmp.{nat_eq_equiv, on_equiv, lists_equiv}
+use Rattle.std.specs.Cmp.{IsEquivalence}
+use Rattle.dnsv_names.specs.Name.{Labels, lower_case, same_name}
 use Rattle.dnsv_message.specs.declared.record.Record.{Record}
 use Rattle.dnsv_message.specs.declared.record.Section.{Section}
-use Rattle.dnsv_canonical.specs.Rrsets.{Group, each_once, is_grouped, same_rrset, is_signature, signatures_of, rrset_of}
+use Rattle.dnsv_canonical.specs.Rrsets.{Group, each_once, is_grouped, same_rrset, is_signature, rrset_of}
 
 module _ {X : Type 0} (p q : X → Bool) where
-  -- what passes both tests, with one more element
-  pub filter_both_more : (xs : List X) (i : ℕ) (d : X) → i < length xs → filter q (filter p (take (i + 1) xs)) ≡ filter q (filter p (take i xs)) ++ cond (p (get_or xs i d) && q (get_or xs i d)) (get_or xs i d ∷ []) []
-  filter_both_more xs i d within =
-      let x : X = get_or xs i d in
-      ap (filter q) (filter_more p xs i d within) ∙ filter-append q (filter p (take i xs)) (cond (p x) (x ∷ []) [])
-      ∙ ap (λ ys. filter q (filter p (take i xs)) ++ ys)
-      (elim (p x) as (λ b. filter q (cond b (x ∷ []) []) ≡ cond (b && q x) (x ∷ []) []) [ true ↦ refl | false ↦ refl ])
-
   -- whether one of those that pass the first test passes the second
   pub any_of_filter : (xs : List X) → list_any q (filter p xs) ≡ list_any (λ x. p x && q x) xs
   any_of_filter [] = refl
@@ -42,24 +35,6 @@ module _ {X : Type 0} (same : X → X → Bool) where
         | false ↦ elim (same y x) as (λ b. cond (not b) (x ∷ []) [] ≡ cond (b || false) [] (x ∷ [])) [ true ↦ refl | false ↦ refl ]
       ])
 
-  module _ (equivalence : IsEquivalence same) where
-    any_apart : (x y : X) → same y x ≡ false → (zs : List X) → list_any (λ z. same z x) (filter (λ z. not (same y z)) zs) ≡ list_any (λ z. same z x) zs
-    any_apart x y apart [] = refl
-    any_apart x y apart (z ∷ zs) =
-        elim (same y z) as (λ b. same y z ≡ b → list_any (λ w. same w x) (cond (not b) (z ∷ filter (λ w. not (same y w)) zs) (filter (λ w. not (same y w)) zs)) ≡ (same z x || list_any (λ w. same w x) zs)) [
-          | true ↦ λ is. any_apart x y apart zs ∙ ap (λ b. b || list_any (λ w. same w x) zs) (sym (sym (equivalence.congr y z x is) ∙ apart))
-          | false ↦ λ is. ap (λ b. same z x || b) (any_apart x y apart zs)
-        ] refl
-
-    -- an element has its like among those that are kept where it has one among all
-    pub any_of_each_once : (x : X) (xs : List X) → list_any (λ y. same y x) (each_once same xs) ≡ list_any (λ y. same y x) xs
-    any_of_each_once x [] = refl
-    any_of_each_once x (y ∷ ys) =
-        elim (same y x) as (λ b. same y x ≡ b → (b || list_any (λ z. same z x) (filter (λ z. not (same y z)) (each_once same ys))) ≡ (b || list_any (λ z. same z x) ys)) [
-          | true ↦ λ is. refl
-          | false ↦ λ is. any_apart x y is (each_once same ys) ∙ any_of_each_once x ys
-        ] refl
-
 -- an element that may come is kept where it comes and is the same as no earlier one
 each_once_more : {X : Type 0} (same : X → X → Bool) (xs : List X) (x : X) (comes : Bool) → each_once same (xs ++ cond comes (x ∷ []) []) ≡ each_once same xs ++ cond (comes && not (list_any (λ y. same y x) xs)) (x ∷ []) []
 each_once_more same xs x comes =
@@ -67,10 +42,6 @@ each_once_more same xs x comes =
       | true ↦ each_once-push same xs x ∙ ap (λ ys. each_once same xs ++ ys) (elim (list_any (λ y. same y x) xs) as (λ any. cond any [] (x ∷ []) ≡ cond (not any) (x ∷ []) []) [ true ↦ refl | false ↦ refl ])
       | false ↦ ap (each_once same) (append-nil xs) ∙ sym (append-nil (each_once same xs))
     ]
-
-list_any-map : {X Y : Type 0} (f : X → Y) (p : Y → Bool) (xs : List X) → list_any p (map f xs) ≡ list_any (λ x. p (f x)) xs
-list_any-map f p [] = refl
-list_any-map f p (x ∷ xs) = ap (λ b. p (f x) || b) (list_any-map f p xs)
 
 map_cond : {X Y : Type 0} (f : X → Y) (x : X) (b : Bool) → map f (cond b (x ∷ []) []) ≡ cond b (f x ∷ []) []
 map_cond f x b = elim b as (λ t. map f (cond t (x ∷ []) []) ≡ cond t (f x ∷ []) []) [ true ↦ refl | false ↦ refl ]
@@ -86,36 +57,70 @@ rrsets_more message section records earlier i d within =
     ∙ ap (λ rs. map g (each_once same_rrset (filter is_grouped (take i earlier))) ++ rs)
     (map_cond g x _ ∙ ap (λ b. cond (is_grouped x && not b) (g x ∷ []) []) (any_of_filter is_grouped (λ r. same_rrset r x) (take i earlier)))
 
--- the signatures among the first i records, and the next record's RDATA where it is one that is not among them
-pub signatures_more : (records : List Record) (owner : Labels) (rtype i : ℕ) (d : Record) → i < length records → signatures_of (take (i + 1) records) owner rtype ≡ signatures_of (take i records) owner rtype ++ cond (is_signature owner rtype (get_or records i d) && not (list_any (λ y. bytes_eq y (get_or records i d).rdata) (signatures_of (take i records) owner rtype))) ((get_or records i d).rdata ∷ []) []
-signatures_more records owner rtype i d within =
-    let x : Record = get_or records i d in
-    let signs : Record → Bool = is_signature owner rtype in
-    let before : List (List ℕ) = map (λ r. r.rdata) (filter signs (take i records)) in
-    ap (λ rs. each_once bytes_eq (map (λ (r : Record). r.rdata) rs)) (filter_more signs records i d within)
-    ∙ ap (each_once bytes_eq) (map-append (λ (r : Record). r.rdata) (filter signs (take i records)) (cond (signs x) (x ∷ []) []) ∙ ap (λ rs. before ++ rs) (map_cond (λ (r : Record). r.rdata) x (signs x)))
-    ∙ each_once_more bytes_eq before x.rdata (signs x)
-    ∙ ap (λ b. each_once bytes_eq before ++ cond (signs x && not b) (x.rdata ∷ []) []) (sym (any_of_each_once bytes_eq (lists_equiv nat_eq_equiv) x.rdata before))
+pub same_name_equiv : IsEquivalence same_name
+same_name_equiv = on_equiv lower_case (lists_equiv (lists_equiv nat_eq_equiv))
 
-module _ {B : Type 0} (f : B → List ℕ) (found : List B) (item : B) (records : List Record) (owner : Labels) (rtype i : ℕ) (x : Record) (within : i < length records) (at : x ≡ get_or records i x) (so_far : map f found ≡ signatures_of (take i records) owner rtype) (octets : f item ≡ x.rdata) where
-  -- the next record's RDATA by the two tests on it
-  next_signature : (signs had : Bool) → is_signature owner rtype x ≡ signs → list_any (λ y. bytes_eq (f y) (f item)) found ≡ had → signatures_of (take (i + 1) records) owner rtype ≡ map f found ++ cond (signs && not had) (f item ∷ []) []
-  next_signature signs had signs_is had_is =
-      let among : list_any (λ y. bytes_eq y x.rdata) (signatures_of (take i records) owner rtype) ≡ had =
-      ap (list_any (λ y. bytes_eq y x.rdata)) (sym so_far) ∙ list_any-map f (λ y. bytes_eq y x.rdata) found
-      ∙ ap (λ z. list_any (λ y. bytes_eq (f y) z) found) (sym octets) ∙ had_is in
-      signatures_more records owner rtype i x within
-      ∙ ap (λ (r : Record). signatures_of (take i records) owner rtype ++ cond (is_signature owner rtype r && not (list_any (λ y. bytes_eq y r.rdata) (signatures_of (take i records) owner rtype))) (r.rdata ∷ []) []) (sym at)
-      ∙ (λ j. sym so_far j ++ cond (signs_is j && not (among j)) (sym octets j ∷ []) [])
+-- whether there is none among those that pass the test
+no_element : (test : Record → Bool) (records : List Record) → (length (map (λ (r : Record). r.rdata) (filter test records)) == 0) ≡ not (list_any test records)
+no_element test [] = refl
+no_element test (x ∷ xs) =
+    elim (test x) as (λ b. (length (map (λ (r : Record). r.rdata) (cond b (x ∷ filter test xs) (filter test xs))) == 0) ≡ not (b || list_any test xs)) [
+      | true ↦ eqb-suc-zero _
+      | false ↦ no_element test xs
+    ]
 
-  pub signature_kept : is_signature owner rtype x ≡ true → list_any (λ y. bytes_eq (f y) (f item)) found ≡ false → map f (found ++ item ∷ []) ≡ signatures_of (take (i + 1) records) owner rtype
-  signature_kept signs had = map-append f found (item ∷ []) ∙ sym (next_signature true false signs had)
+same_rrset_itself : (x : Record) → same_rrset x x ≡ true
+same_rrset_itself x = λ i. nat_eq_equiv.refl x.rtype.0 i && same_name_equiv.refl x.name i
 
-  pub signature_had : is_signature owner rtype x ≡ true → list_any (λ y. bytes_eq (f y) (f item)) found ≡ true → map f found ≡ signatures_of (take (i + 1) records) owner rtype
-  signature_had signs had = sym (next_signature true true signs had ∙ append-nil (map f found))
+-- the RDATA of the RRset that the record belongs to
+abbrev pub rdata_of : List Record → Record → List (List ℕ)
+rdata_of records first = map (λ r. r.rdata) (filter (same_rrset first) (filter is_grouped records))
 
-  pub no_signature : is_signature owner rtype x ≡ false → map f found ≡ signatures_of (take (i + 1) records) owner rtype
-  no_signature signs = sym (next_signature false _ signs refl ∙ append-nil (map f found))
+-- whether the RRset that the record belongs to appeared among the first n
+abbrev pub had_at : List Record → ℕ → Record → Bool
+had_at records n first = list_any (λ r. is_grouped r && same_rrset r first) (take n records)
+
+module _ (records : List Record) (i : ℕ) (x : Record) (within : i < length records) (at : x ≡ get_or records i x) where
+  -- the signatures over an RRset up to the next record, by the test on it
+  pub signatures_next : (owner : Labels) (rtype : ℕ) (before after : List (List ℕ)) (signs : Bool) → before ≡ map (λ r. r.rdata) (filter (is_signature owner rtype) (take i records)) → is_signature owner rtype x ≡ signs → after ≡ before ++ (if signs then x.rdata ∷ [] else []) → after ≡ map (λ r. r.rdata) (filter (is_signature owner rtype) (take (i + 1) records))
+  signatures_next owner rtype before after signs was is more =
+      let rdata : Record → List ℕ = λ r. r.rdata in
+      let test : Record → Bool = is_signature owner rtype in
+      more ∙ (λ j. was j ++ cond (sym is j) (x.rdata ∷ []) []) ∙ ap (λ rs. map rdata (filter test (take i records)) ++ rs) (sym (map_cond rdata x (test x)))
+      ∙ sym (map-append rdata (filter test (take i records)) (cond (test x) (x ∷ []) []))
+      ∙ ap (λ (r : Record). map rdata (filter test (take i records) ++ cond (test r) (r ∷ []) [])) at
+      ∙ ap (map rdata) (sym (filter_more test records i x within))
+
+  module _ (grouped : is_grouped x ≡ true) where
+    -- the RRset of a record has RDATA
+    some_rdata : (length (rdata_of records x) == 0) ≡ false
+    some_rdata =
+        let own : Record → Bool = same_rrset x in
+        let itself : is_grouped x && own x ≡ true = λ j. grouped j && same_rrset_itself x j in
+        no_element own (filter is_grouped records)
+        ∙ ap not (any_of_filter is_grouped own records ∙ list_any_at (λ r. is_grouped r && own r) records i x within (ap (λ r. is_grouped r && own r) (sym at) ∙ itself))
+
+    -- what was taken for a record is empty where one of its RRset came before
+    pub had_is : {B : Type 0} (f : B → List ℕ) (taken : List B) → map f taken ≡ (if had_at records i x then [] else rdata_of records x) → had_at records i x ≡ (length taken == 0)
+    had_is f taken is =
+        sym (elim (had_at records i x) as (λ b. (length (if b then [] else rdata_of records x) == 0) ≡ b) [ true ↦ refl | false ↦ some_rdata ])
+        ∙ ap (λ rs. length rs == 0) (sym is) ∙ ap (λ n. n == 0) (length-map taken f)
+
+    -- what is left for each RRset once the record took its own
+    pub left_after : (first : Record) (before after : List (List ℕ)) → before ≡ (if had_at records i first then [] else rdata_of records first) → after ≡ (if same_rrset x first then [] else before) → after ≡ (if had_at records (i + 1) first then [] else rdata_of records first)
+    left_after first before after was is =
+        let test : Record → Bool = λ r. is_grouped r && same_rrset r first in
+        is ∙ ap (λ rs. if same_rrset x first then [] else rs) was
+        ∙ both (same_rrset x first) (had_at records i first)
+        ∙ (λ j. if (had_at records i first || (sym grouped j && same_rrset x first)) then [] else rdata_of records first)
+        ∙ ap (λ (r : Record). if (had_at records i first || test r) then [] else rdata_of records first) at
+        ∙ ap (λ b. if b then [] else rdata_of records first) (sym (list_any_more test records i x within))
+      where
+        both : (s had : Bool) → (if s then [] else (if had then [] else rdata_of records first)) ≡ (if (had || s) then [] else rdata_of records first)
+        both true true = refl
+        both true false = refl
+        both false true = refl
+        both false false = refl
 
 module _ (message : ℕ) (section : Section) (records : List Record) (i : ℕ) (x : Record) (within : i < length records) (at : x ≡ get_or records i x) where
   abbrev appeared_at : ℕ → List Group

@@ -1,3 +1,4 @@
 pub mod CanonicalLemmas
 pub mod SignedLemmas
 pub mod GroupLemmas
+pub mod ByRrsetLemmas

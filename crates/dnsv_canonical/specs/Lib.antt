@@ -3,3 +3,4 @@ pub mod CanonicalRdata
 pub mod SignedData
 pub mod Response
 pub mod Rrsets
+pub mod ByRrset

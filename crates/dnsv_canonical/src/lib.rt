@@ -6,6 +6,7 @@ pub use response::{ResponseError, checked};
 pub use rrset::{Rrset, rrsets};
 pub use signed::signed_data;
 
+mod by_rrset;
 mod canonical;
 mod form;
 mod response;

@@ -4,7 +4,8 @@ ghost use Rattle.std.specs.Option.{option_map};
 ghost use Rattle.dnsv_message.specs.declared.record.Section.{Section};
 ghost use Rattle.dnsv_canonical.specs.SignedData.{signed_data_of};
 
-use crate::section::{appeared, is_grouped, rdata_of, signatures_of};
+use crate::by_rrset::{distinct, taken};
+use crate::section::{is_grouped, rdata_by_rrset, signatures_by_rrset};
 use crate::signed::signed_data;
 use dnsv_message::{Message, Record, Section};
 use dnsv_names::{Name, RecordType};
@@ -43,28 +44,6 @@ impl<'a> Model for Rrset<'a> {
 }
 
 impl<'a> Rrset<'a> {
-    ghost use Rattle.dnsv_canonical.specs.Rrsets.{rrset_of};
-
-    /// The RRset in the section of which the record is the first.
-    fn of(
-        alloc: Global,
-        message: usize,
-        section: Section,
-        records: &'a [Record],
-        first: &'a Record,
-    ) -> Result<Rrset<'a>, AllocError>
-        ensures { IfOk result (λ rrset. rrset ≡ rrset_of message section records.now first.now) }
-    {
-        Ok(Rrset {
-            message,
-            section,
-            owner: &first.name,
-            rtype: first.rtype,
-            rdata: rdata_of(alloc, records, first)?,
-            signatures: signatures_of(alloc, records, first)?,
-        })
-    }
-
     /// The number of its message, from 1 on.
     pub fn message(&self) -> usize
         ensures { result ≡ self.now.message }
@@ -151,8 +130,7 @@ pub fn rrsets<'a>(alloc: Global, messages: &'a [Message]) -> Result<Vec<Rrset<'a
     Ok(rrsets)
 }
 
-/// Adds the RRsets of a section. Records are compared with the earlier ones of their section alone, by type
-/// before name, so a plain scan serves.
+/// Adds the RRsets of a section.
 fn add_section<'a>(
     alloc: Global,
     rrsets: &mut Vec<Rrset<'a>>,
@@ -162,9 +140,25 @@ fn add_section<'a>(
 ) -> Result<(), AllocError>
     ensures { OnOk result (rrsets.new.items ≡ rrsets.old.items ++ rrsets_in message section records.now) }
 {
-    for (place, record) in records.iter().enumerate() {
-        if is_grouped(record) && !appeared(&records[..place], record) {
-            rrsets.push(Rrset::of(alloc, message, section, records, record)?)?;
+    let mut data = rdata_by_rrset(alloc, records)?;
+    let signatures = signatures_by_rrset(alloc, records)?;
+    for record in records {
+        if !is_grouped(record) {
+            continue;
+        }
+        let rtype = record.rtype;
+        let owner = &record.name;
+        // The first record of an RRset takes the RDATA of all, and leaves none to the others.
+        let rdata = taken(alloc, &mut data, rtype, owner);
+        if !rdata.is_empty() {
+            rrsets.push(Rrset {
+                message,
+                section,
+                owner,
+                rtype,
+                rdata,
+                signatures: distinct(alloc, &signatures, rtype, owner)?,
+            })?;
         }
     }
     Ok(())

@@ -1,12 +1,16 @@
 //! What the records of one section say of each other.
-ghost use Rattle.std.specs.Prelude.{◌≡◌, ◌&&◌, ◌==◌, IfOk, map, filter, nat_eq};
-ghost use Rattle.std.specs.Int.{w16, to_be_bytes};
-ghost use Rattle.std.specs.List.{list_any, starts_with};
-ghost use Rattle.dnsv_canonical.specs.Rrsets.{forms_rrsets, is_grouped, same_rrset, is_signature, signatures_of};
+ghost use Rattle.std.specs.Prelude.{◌≡◌, ◌&&◌, ◌==◌, ◌<◌, ◌^◌, ℕ, IfOk, map, filter, false};
+ghost use Rattle.std.specs.Option.{option_map_or};
+ghost use Rattle.dnsv_names.specs.Name.{Labels, same_name};
+ghost use Rattle.dnsv_message.specs.declared.record.Record.{Record};
+ghost use Rattle.dnsv_canonical.specs.ByRrset.{rdata_at};
+ghost use Rattle.dnsv_canonical.specs.Rrsets.{forms_rrsets, is_grouped, same_rrset, is_signature};
 
+use crate::by_rrset::{RdataByRrset, add};
 use dnsv_message::{Class, Record};
 use dnsv_names::RecordType;
 use std::alloc::{AllocError, Global};
+use std::collections::BTreeMap;
 
 /// The types below 128 that form no RRset: 0, MD, MF, MB, MG, MR, MINFO, RP, AFSDB, RT, SIG, PX, NXT, NAPTR,
 /// KX, A6, OPT and RRSIG.
@@ -28,68 +32,52 @@ pub fn is_grouped(candidate: &Record) -> bool
     candidate.class == Class::IN && forms_rrsets(candidate.rtype)
 }
 
-/// Whether two records that belong to RRsets of one section belong to the same.
-fn same_rrset(a: &Record, b: &Record) -> bool
-    ensures { result ≡ same_rrset a.now b.now }
+/// The type that the candidate covers if it is an IN RRSIG: the first two octets of its RDATA.
+fn covered_type(candidate: &Record) -> Option<RecordType>
+    ensures { (owner : Labels) (rtype : ℕ) → rtype < 2 ^ 16 → is_signature owner rtype candidate.now
+        ≡ (option_map_or (λ covered. rtype == covered.0) result false && same_name candidate.now.name owner) }
 {
-    a.rtype == b.rtype && a.name == b.name
+    if candidate.rtype != RecordType::RRSIG || candidate.class != Class::IN {
+        return None;
+    }
+    let [high, low, ..] = candidate.rdata.octets() else {
+        return None;
+    };
+    Some(RecordType(u16::from_be_bytes([*high, *low])))
 }
 
-/// Whether one of the earlier records belongs to the candidate's RRset.
-pub fn appeared(earlier: &[Record], candidate: &Record) -> bool
-    ensures { result ≡ list_any (λ r. is_grouped r && same_rrset r candidate.now) earlier.now }
-{
-    earlier
-        .iter()
-        .any(|other| is_grouped(other) && same_rrset(other, candidate))
-}
-
-/// The RDATA of the records in the first one's RRset, as received.
-pub fn rdata_of<'a>(
+/// The RDATA of the records by the RRset that they belong to, as received.
+pub fn rdata_by_rrset<'a>(
     alloc: Global,
     records: &'a [Record],
-    first: &Record,
-) -> Result<Vec<&'a [u8]>, AllocError>
-    ensures { IfOk result (λ found. map (λ r. r.now) found.items
-        ≡ map (λ r. r.rdata) (filter (same_rrset first.now) (filter is_grouped records.now))) }
+) -> Result<RdataByRrset<'a>, AllocError>
+    ensures { IfOk result (λ by_rrset. (first : Record) → rdata_at by_rrset first.rtype.0 first.name
+        ≡ map (λ r. r.rdata) (filter (same_rrset first) (filter is_grouped records.now))) }
 {
-    let mut found = Vec::new(alloc);
+    let mut by_rrset = BTreeMap::new(alloc);
     for record in records {
-        if is_grouped(record) && same_rrset(first, record) {
-            found.push(record.rdata.octets())?;
+        if is_grouped(record) {
+            let rdata = record.rdata.octets();
+            add(alloc, &mut by_rrset, record.rtype, &record.name, rdata)?;
         }
     }
-    Ok(found)
+    Ok(by_rrset)
 }
 
-/// Whether the candidate is an IN RRSIG at the first one's owner that covers its type.
-fn is_signature(candidate: &Record, first: &Record) -> bool
-    ensures { result ≡ is_signature first.now.name first.now.rtype.0 candidate.now }
-{
-    candidate.rtype == RecordType::RRSIG
-        && candidate.class == Class::IN
-        && candidate
-            .rdata
-            .octets()
-            .starts_with(&first.rtype.0.to_be_bytes())
-        && candidate.name == first.name
-}
-
-/// The RDATA of the signatures over the first one's RRset, in order, of equal ones the first.
-pub fn signatures_of<'a>(
+/// The RDATA of the IN RRSIG records by the RRset that they cover, in order.
+pub fn signatures_by_rrset<'a>(
     alloc: Global,
     records: &'a [Record],
-    first: &Record,
-) -> Result<Vec<&'a [u8]>, AllocError>
-    ensures { IfOk result (λ found. map (λ r. r.now) found.items
-        ≡ signatures_of records.now first.now.name first.now.rtype.0) }
+) -> Result<RdataByRrset<'a>, AllocError>
+    ensures { IfOk result (λ by_rrset. (owner : Labels) (rtype : ℕ) → rtype < 2 ^ 16
+        → rdata_at by_rrset rtype owner ≡ map (λ r. r.rdata) (filter (is_signature owner rtype) records.now)) }
 {
-    let mut found: Vec<&[u8]> = Vec::new(alloc);
+    let mut by_rrset = BTreeMap::new(alloc);
     for record in records {
-        let rdata = record.rdata.octets();
-        if is_signature(record, first) && !found.contains(&rdata) {
-            found.push(rdata)?;
+        if let Some(covered) = covered_type(record) {
+            let rdata = record.rdata.octets();
+            add(alloc, &mut by_rrset, covered, &record.name, rdata)?;
         }
     }
-    Ok(found)
+    Ok(by_rrset)
 }

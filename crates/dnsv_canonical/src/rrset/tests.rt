@@ -84,6 +84,41 @@ fn lists_the_signatures_of_each(rt: HostRuntime) -> Result<(), Fail> {
     Ok(())
 }
 
+/// Two records of each of 400 owners: all in lower case, and then all in upper case.
+fn records_of_many_owners(alloc: Global) -> Result<Vec<Record>, Fail> {
+    let mut records = Vec::new(alloc);
+    for high in b'a'..b'u' {
+        for low in b'a'..b'u' {
+            records.push(record(alloc, &[2, high, low, 0], 16, 1, &[1, low])?)?;
+        }
+    }
+    for high in b'A'..b'U' {
+        for low in b'A'..b'U' {
+            records.push(record(alloc, &[2, high, low, 0], 16, 1, &[1, low])?)?;
+        }
+    }
+    Ok(records)
+}
+
+#[test]
+fn groups_the_records_of_many_owners(rt: HostRuntime) -> Result<(), Fail> {
+    let alloc = rt.alloc();
+    let records = records_of_many_owners(alloc)?;
+    let mut rrsets = Vec::new(alloc);
+    add_section(alloc, &mut rrsets, 1, Section::Answer, records.as_slice())?;
+    assert_eq!(rt; rrsets.len(), 400);
+    let (lower, upper) = records.as_slice().split_at_checked(400).ok_or("400")?;
+    for (rrset, (first, second)) in rrsets.iter().zip(lower.iter().zip(upper)) {
+        assert_eq!(rt; rrset.owner().wire(), first.name.wire());
+        let rdata = rrset.rdata();
+        assert_eq!(rt; rdata.len(), 2);
+        assert_eq!(rt; rdata[0], first.rdata.octets());
+        assert_eq!(rt; rdata[1], second.rdata.octets());
+        assert_eq!(rt; rrset.signatures().len(), 0);
+    }
+    Ok(())
+}
+
 #[test]
 fn has_no_rrsets_without_messages(rt: HostRuntime) -> Result<(), Fail> {
     assert!(rt; rrsets(rt.alloc(), &[])?.is_empty());

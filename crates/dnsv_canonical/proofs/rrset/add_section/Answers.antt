@@ -1,27 +1,34 @@
-use Rattle.std.proofs.Common.{◌∷◌, ◌++◌, [], ℕ, Bool, ◌&&◌, take, sym, ap, ◌∙◌, arith}
-use Rattle.std.specs.List.{list_any}
-use Rattle.dnsv_canonical.specs.Rrsets.{is_grouped, same_rrset}
-use Rattle.dnsv_canonical.proofs.GroupLemmas.{rrset_appears, rrset_appeared, no_rrset}
+use Rattle.std.proofs.Common.{◌≡◌, ◌==◌, ◌++◌, ◌∷◌, [], ℕ, List, map, if◌then◌else◌, sym, ap, ◌∙◌}
+use Rattle.std.specs.Str.{bytes_eq}
+use Rattle.dnsv_message.specs.declared.record.Record.{Record}
+use Rattle.dnsv_canonical.specs.Rrsets.{each_once}
+use Rattle.dnsv_canonical.proofs.GroupLemmas.{rrset_appears, rrset_appeared, rdata_of, had_at, had_is, left_after}
 use Rattle.dnsv_canonical.proofs.rrset.add_section.Goals as goal
-use Rattle.dnsv_canonical.proofs.rrset.add_section.Goals.{then-is_grouped+then-not-appeared+in_ok-of+in_ok-push, else-is_grouped, else-is_grouped-via-then-is_grouped+else-not-appeared, else-is_grouped-via-else-is_grouped}
+use Rattle.dnsv_canonical.proofs.rrset.add_section.Goals.{then-not-is_empty+in_ok-distinct+in_ok-push, else-not-is_empty}
 
-pub loop-place-preserved : goal.loop-place-preserved
-loop-place-preserved c =
-    let appeared : ℕ → Bool = λ n. list_any (λ r. is_grouped r && same_rrset r c.index-records-place.result) (take n c.args.records.now) in
-    elim c.if-is_grouped.branch [
-      | then-is_grouped+then-not-appeared+in_ok-of+in_ok-push w ↦
-          ap (λ v. v.items) w.rrsets-is ∙ w.in_ok-push.ensures.items ∙ ap (λ rrset. c.loop-place.rrsets.items ++ rrset ∷ []) w.in_ok-of.ensures
-          ∙ rrset_appears c.args.message c.args.section c.args.records.now c.loop-place.place c.index-records-place.result c.loop-place-test.true c.index-records-place.is
-          c.args.rrsets.now.items c.loop-place.rrsets.items c.loop-place.invariant
-          (sym c.is_grouped.ensures ∙ w.if-is_grouped.true) (sym (w.appeared.ensures ∙ ap appeared (omega arith)) ∙ w.if-not-appeared.true)
-      | else-is_grouped w ↦ ap (λ v. v.items) w.rrsets-is ∙ elim w.else-is_grouped.branch [
-        | else-is_grouped-via-then-is_grouped+else-not-appeared v ↦
-            rrset_appeared c.args.message c.args.section c.args.records.now c.loop-place.place c.index-records-place.result c.loop-place-test.true c.index-records-place.is
-            c.args.rrsets.now.items c.loop-place.rrsets.items c.loop-place.invariant
-            (sym c.is_grouped.ensures ∙ v.if-is_grouped.true) (sym (v.appeared.ensures ∙ ap appeared (omega arith)) ∙ v.if-not-appeared.false)
-        | else-is_grouped-via-else-is_grouped v ↦
-            no_rrset c.args.message c.args.section c.args.records.now c.loop-place.place c.index-records-place.result c.loop-place-test.true c.index-records-place.is
-            c.args.rrsets.now.items c.loop-place.rrsets.items c.loop-place.invariant
-            (sym c.is_grouped.ensures ∙ v.if-is_grouped.false)
-      ]
-    ]
+pub loop-record-preserved : goal.loop-record-preserved
+loop-record-preserved c =
+    let records : List Record = c.args.records.now in
+    let i : ℕ = c.loop-record.record-index in
+    let x : Record = c.record-item.result in
+    let grouped = sym c.is_grouped.ensures ∙ c.if-not-is_grouped.false in
+    let taken : map (λ r. r.now) c.taken-rdata.result.items ≡ (if had_at records i x then [] else rdata_of records x) =
+    c.taken-rdata.ensures.taken ∙ c.loop-record.invariant.1 x in
+    let had : had_at records i x ≡ c.is_empty.result =
+    had_is records i x c.loop-record-test.true c.record-item.is grouped (λ r. r.now) c.taken-rdata.result.items taken
+    ∙ ap (λ n. n == 0) (sym c.taken-rdata.result.ok.0) ∙ sym c.is_empty.ensures in (
+      elim c.if-not-is_empty.branch [
+        | then-not-is_empty+in_ok-distinct+in_ok-push w ↦
+            let rdata : map (λ r. r.now) c.taken-rdata.result.items ≡ rdata_of records x = taken ∙ ap (λ b. if b then [] else rdata_of records x) (had ∙ w.if-not-is_empty.true) in
+            let signatures = w.in_ok-distinct.ensures.once ∙ ap (each_once bytes_eq) (c.in_ok-signatures.ensures x.name x.rtype.0 w.distinct.ensures.fits) in
+            ap (λ v. v.items) w.rrsets-is ∙ w.in_ok-push.ensures.items
+            ∙ (λ j. c.loop-record.rrsets.items ++ record { message = c.args.message; section = c.args.section; owner = x.name; rtype = x.rtype.0; rdata = rdata j; signatures = signatures j } ∷ [])
+            ∙ rrset_appears c.args.message c.args.section records i x c.loop-record-test.true c.record-item.is
+            c.args.rrsets.now.items c.loop-record.rrsets.items c.loop-record.invariant.0 grouped (had ∙ w.if-not-is_empty.true)
+        | else-not-is_empty w ↦
+            ap (λ v. v.items) w.rrsets-is
+            ∙ rrset_appeared c.args.message c.args.section records i x c.loop-record-test.true c.record-item.is
+            c.args.rrsets.now.items c.loop-record.rrsets.items c.loop-record.invariant.0 grouped (had ∙ w.if-not-is_empty.false)
+      ],
+      λ first. left_after records i x c.loop-record-test.true c.record-item.is grouped first _ _ (c.loop-record.invariant.1 first) (c.taken-rdata.ensures.left first.rtype.0 first.name),
+    )

@@ -1,0 +1,73 @@
+//! RDATA by the RRset that it belongs to, while a section is read.
+ghost use Rattle.std.specs.Prelude.{◌≡◌, ◌++◌, ◌∷◌, [], ◌&&◌, ◌==◌, ◌<◌, ◌^◌, ℕ, IfOk, OnOk, map, if◌then◌else◌};
+ghost use Rattle.std.specs.Str.{bytes_eq};
+ghost use Rattle.dnsv_names.specs.Name.{Labels, same_name};
+ghost use Rattle.dnsv_canonical.specs.ByRrset.{rdata_at};
+ghost use Rattle.dnsv_canonical.specs.Rrsets.{each_once};
+
+use dnsv_names::{Name, RecordType};
+use std::alloc::{AllocError, Global};
+use std::collections::{BTreeMap, BTreeSet};
+
+/// RDATA by the type and owner of the RRset that it belongs to. A tree finds them in few steps, whatever a
+/// section has in it.
+pub type RdataByRrset<'a> = BTreeMap<(RecordType, &'a Name), Vec<&'a [u8]>>;
+
+/// Adds RDATA behind what is there for the type and owner.
+pub fn add<'a>(
+    alloc: Global,
+    by_rrset: &mut RdataByRrset<'a>,
+    rtype: RecordType,
+    owner: &'a Name,
+    rdata: &'a [u8],
+) -> Result<(), AllocError>
+    ensures { OnOk result ((t : ℕ) (name : Labels) → rdata_at by_rrset.new t name ≡ rdata_at by_rrset.old t name
+        ++ (if t == rtype.0 && same_name name owner.now then rdata.now ∷ [] else [])) }
+{
+    let mut received = taken(alloc, by_rrset, rtype, owner);
+    received.push(rdata)?;
+    by_rrset.insert((rtype, owner), received)?;
+    Ok(())
+}
+
+/// Takes out the RDATA that is there for the type and owner: none where nothing is.
+pub fn taken<'a>(
+    alloc: Global,
+    by_rrset: &mut RdataByRrset<'a>,
+    rtype: RecordType,
+    owner: &'a Name,
+) -> Vec<&'a [u8]>
+    ensures taken { map (λ r. r.now) result.items ≡ rdata_at by_rrset.old rtype.0 owner.now }
+    ensures left { (t : ℕ) (name : Labels) → rdata_at by_rrset.new t name
+        ≡ (if rtype.0 == t && same_name owner.now name then [] else rdata_at by_rrset.old t name) }
+{
+    match by_rrset.remove(&(rtype, owner)) {
+        Some(rdata) => rdata,
+        None => Vec::new(alloc),
+    }
+}
+
+/// The RDATA that is there for the type and owner, in order, of equal ones the first.
+pub fn distinct<'a>(
+    alloc: Global,
+    by_rrset: &RdataByRrset<'a>,
+    rtype: RecordType,
+    owner: &'a Name,
+) -> Result<Vec<&'a [u8]>, AllocError>
+    ensures once { IfOk result (λ distinct. map (λ r. r.now) distinct.items
+        ≡ each_once bytes_eq (rdata_at by_rrset.now rtype.0 owner.now)) }
+    // The type has 16 bits, which a caller needs to know of signatures.
+    ensures fits { rtype.0 < 2 ^ 16 }
+{
+    let mut distinct = Vec::new(alloc);
+    let Some(received) = by_rrset.get(&(rtype, owner)) else {
+        return Ok(distinct);
+    };
+    let mut seen = BTreeSet::new(alloc);
+    for rdata in received {
+        if seen.insert(*rdata)? {
+            distinct.push(*rdata)?;
+        }
+    }
+    Ok(distinct)
+}
