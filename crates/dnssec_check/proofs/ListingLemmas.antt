@@ -8,7 +8,7 @@ use Rattle.dnssec_check.specs.Readable.{IsReadable, HasReadable}
 use Rattle.dnsv_records.specs.declared.rrsig.Rrsig.{Rrsig}
 use Rattle.dnsv_records.specs.Rrsig.{IsRrsig}
 use Rattle.dnsv_canonical.specs.Rrsets.{Group}
-use Rattle.dnsv_canonical.specs.SignedData.{signed_data_of}
+use Rattle.dnsv_canonical.specs.SignedData.{IsSignedData}
 use Rattle.dnssec_check.specs.Listing.{SignatureLines, RrsetLines, data_line}
 
 -- the signatures before the place have their lines in the text, and the rest of the lines may follow
@@ -21,20 +21,20 @@ pub Listed-start : (number : ℕ) (rrset : Group) (signatures : List (List ℕ))
 Listed-start number rrset signatures before = record { text = []; written = sym (append-nil before); lines = λ rest lines. lines }
 
 pub Listed-next : {number : ℕ} {rrset : Group} {signatures : List (List ℕ)} {done : ℕ} {before now : List ℕ} → Listed number rrset signatures done before now
-    → (rdata : List ℕ) (rrsig : Rrsig) (after : List ℕ) → done < length signatures → get_or signatures done [] ≡ rdata → IsRrsig rdata rrsig
-    → after ≡ now ++ data_line number (done + 1) (signed_data_of rrset.owner rrset.rtype rrset.rdata rrsig)
+    → (rdata : List ℕ) (rrsig : Rrsig) (octets : Option (List ℕ)) (after : List ℕ) → done < length signatures → get_or signatures done [] ≡ rdata → IsRrsig rdata rrsig
+    → IsSignedData rrset.owner rrset.rtype rrset.rdata rrsig octets → after ≡ now ++ data_line number (done + 1) octets
     → Listed number rrset signatures (done + 1) before after
-Listed-next {number} {rrset} {signatures} {done} {before} {now} listed rdata rrsig after within here is line = record {
-  text = listed.text ++ data_line number (done + 1) (signed_data_of rrset.owner rrset.rtype rrset.rdata rrsig);
-  written = line ∙ ap (λ xs. xs ++ data_line number (done + 1) (signed_data_of rrset.owner rrset.rtype rrset.rdata rrsig)) listed.written
-      ∙ append_assoc before listed.text (data_line number (done + 1) (signed_data_of rrset.owner rrset.rtype rrset.rdata rrsig));
+Listed-next {number} {rrset} {signatures} {done} {before} {now} listed rdata rrsig octets after within here is signs line = record {
+  text = listed.text ++ data_line number (done + 1) octets;
+  written = line ∙ ap (λ xs. xs ++ data_line number (done + 1) octets) listed.written
+      ∙ append_assoc before listed.text (data_line number (done + 1) octets);
   lines = λ rest lines.
       subst (λ xs. SignatureLines number rrset 1 signatures xs)
-      (sym (append_assoc listed.text (data_line number (done + 1) (signed_data_of rrset.owner rrset.rtype rrset.rdata rrsig)) rest))
-      (listed.lines (data_line number (done + 1) (signed_data_of rrset.owner rrset.rtype rrset.rdata rrsig) ++ rest)
-      (subst (λ xs. SignatureLines number rrset (done + 1) xs (data_line number (done + 1) (signed_data_of rrset.owner rrset.rtype rrset.rdata rrsig) ++ rest))
+      (sym (append_assoc listed.text (data_line number (done + 1) octets) rest))
+      (listed.lines (data_line number (done + 1) octets ++ rest)
+      (subst (λ xs. SignatureLines number rrset (done + 1) xs (data_line number (done + 1) octets ++ rest))
       (sym (drop_more signatures done [] within ∙ ap (λ xs. xs ∷ drop (done + 1) signatures) here))
-      (rrsig, rest, is, subst (λ n. SignatureLines number rrset n (drop (done + 1) signatures) rest) (omega arith) lines, refl)));
+      (rrsig, octets, rest, is, signs, subst (λ n. SignatureLines number rrset n (drop (done + 1) signatures) rest) (omega arith) lines, refl)));
 }
 
 pub Listed-all : {number : ℕ} {rrset : Group} {signatures : List (List ℕ)} {done : ℕ} {before now : List ℕ} → Listed number rrset signatures done before now

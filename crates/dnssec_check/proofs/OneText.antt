@@ -16,7 +16,8 @@ use Rattle.dnsv_message.proofs.Numbers.{octet_fits}
 use Rattle.dnsv_records.specs.declared.rrsig.Rrsig.{Rrsig}
 use Rattle.dnsv_records.specs.Rrsig.{IsRrsig}
 use Rattle.dnsv_canonical.specs.Rrsets.{Group, rrsets_of}
-use Rattle.dnsv_canonical.specs.SignedData.{signed_data_of}
+use Rattle.dnsv_canonical.specs.SignedData.{IsSignedData}
+use Rattle.dnsv_canonical.proofs.SignedLemmas.{signed_data_unique}
 use Rattle.dnssec_check.specs.declared.status.Place.{Place}
 use Rattle.dnssec_check.specs.declared.status.Refusal.{Refusal}
 use Rattle.dnssec_check.specs.declared.captured.Demand.{Demand}
@@ -89,9 +90,11 @@ one_front : (number : ℕ) (rrset : Group) (signature : ℕ) (signatures : List 
     → SignatureLines number rrset signature signatures a → SignatureLines number rrset signature signatures b → a ≡ b
 one_front number rrset signature [] a b x y = x ∙ sym y
 one_front number rrset signature (rdata ∷ others) a b x y =
-    x.4 ∙ ap (λ rrsig. data_line number signature (signed_data_of rrset.owner rrset.rtype rrset.rdata rrsig) ++ x.1) (one_rrsig rdata x.0 y.0 x.2 y.2)
-    ∙ ap (λ rest. data_line number signature (signed_data_of rrset.owner rrset.rtype rrset.rdata y.0) ++ rest) (one_front number rrset (suc signature) others x.1 y.1 x.3 y.3)
-    ∙ sym y.4
+    let signs : Rrsig → Type 0 = λ rrsig. IsSignedData rrset.owner rrset.rtype rrset.rdata rrsig x.1 in
+    let octets : x.1 ≡ y.1 = signed_data_unique rrset.owner rrset.rtype rrset.rdata y.0 x.1 y.1 (subst signs (one_rrsig rdata x.0 y.0 x.3 y.3) x.4) y.4 in
+    x.6 ∙ ap (λ octets. data_line number signature octets ++ x.2) octets
+    ∙ ap (λ rest. data_line number signature y.1 ++ rest) (one_front number rrset (suc signature) others x.2 y.2 x.5 y.5)
+    ∙ sym y.6
 
 one_lines : (number : ℕ) (rrsets : List Group) (a b : List ℕ) → RrsetLines number rrsets a → RrsetLines number rrsets b → a ≡ b
 one_lines number [] a b x y = x ∙ sym y

@@ -6,7 +6,7 @@ use Rattle.dnsv_message.specs.Message.{Contents}
 use Rattle.dnsv_records.specs.declared.rrsig.Rrsig.{Rrsig}
 use Rattle.dnsv_records.specs.Rrsig.{IsRrsig}
 use Rattle.dnsv_canonical.specs.Rrsets.{Group, rrsets_of}
-use Rattle.dnsv_canonical.specs.SignedData.{signed_data_of}
+use Rattle.dnsv_canonical.specs.SignedData.{IsSignedData}
 use Rattle.dnssec_check.specs.declared.captured.Demand.TheVariants.{WholeResponse}
 use Rattle.dnssec_check.specs.Captured.{Holds}
 
@@ -24,8 +24,9 @@ data_line rrset signature octets =
 abbrev pub SignatureLines : ℕ → Group → ℕ → List (List ℕ) → List ℕ → Type 0
 SignatureLines number rrset signature [] text = text ≡ []
 SignatureLines number rrset signature (rdata ∷ others) text =
-    (rrsig : Rrsig) × (rest : List ℕ) × IsRrsig rdata rrsig × SignatureLines number rrset (suc signature) others rest
-    × (text ≡ data_line number signature (signed_data_of rrset.owner rrset.rtype rrset.rdata rrsig) ++ rest)
+    (rrsig : Rrsig) × (octets : Option (List ℕ)) × (rest : List ℕ) × IsRrsig rdata rrsig
+    × IsSignedData rrset.owner rrset.rtype rrset.rdata rrsig octets × SignatureLines number rrset (suc signature) others rest
+    × (text ≡ data_line number signature octets ++ rest)
 
 -- the text has the lines of these RRsets, the first of which has the number
 abbrev pub RrsetLines : ℕ → List Group → List ℕ → Type 0

@@ -14,7 +14,7 @@ use Rattle.std.proofs.lemmas.Map.Lookups.{exact_bytes}
 use Rattle.std.proofs.lemmas.List.Sorted.{IsPermutation-map, IsPermutation-sym, Contains-permutation}
 use Rattle.std.proofs.lemmas.List.Kept.{IsStrictlySortedBy-dedup, Contains-dedup, Contains-from_dedup}
 use Rattle.std.proofs.lemmas.Slice.Eq.{bytes_eq-Decides}
-use Rattle.dnsv_canonical.specs.Canonical.{rdata_cmp, IsCanonical, canonical_of}
+use Rattle.dnsv_canonical.specs.Canonical.{rdata_cmp, IsCanonical}
 
 -- membership by cases
 abbrev pub IsMember : {K : Type 0} → K → List K → Type 0
@@ -116,6 +116,11 @@ module _ {K : Type 0} (R : K → K → Ordering) (total : IsTotalOrder R) (exact
 
 -- ---- RDATA
 
+-- a canonical list: each RDATA is put at its place, unless it stands there
+abbrev canonical_of : List (List ℕ) → List (List ℕ)
+canonical_of [] = []
+canonical_of (rdata ∷ received) = insert_key rdata_cmp (canonical_of received) rdata
+
 rises_canonical : (received : List (List ℕ)) → IsStrictlySortedBy rdata_cmp (canonical_of received)
 unfolding IsStrictlySortedBy
 rises_canonical [] = tt
@@ -138,7 +143,7 @@ canonical_unique received xs ys first second =
     (λ x m. IsMember-from_contains ys x ((second.members x).1 ((first.members x).0 (Contains-from_member xs x m))))
     (λ x m. IsMember-from_contains xs x ((first.members x).1 ((second.members x).0 (Contains-from_member ys x m))))
 
-pub canonical_of_is : (received : List (List ℕ)) → IsCanonical received (canonical_of received)
+canonical_of_is : (received : List (List ℕ)) → IsCanonical received (canonical_of received)
 canonical_of_is received = record {
   rising = rises_canonical received;
   members = λ x. (
@@ -146,6 +151,10 @@ canonical_of_is received = record {
     λ found. Contains-from_member (canonical_of received) x (canonical_of_member received x (IsMember-from_contains received x found)),
   );
 }
+
+-- there is one
+pub canonical_some : (received : List (List ℕ)) → (canonical : List (List ℕ)) × IsCanonical received canonical
+canonical_some received = (canonical_of received, canonical_of_is received)
 
 -- ---- sorting and dropping repeats, seen by what the elements are
 

@@ -1,10 +1,13 @@
 -- Records one after another in the signed data.
-use Rattle.std.proofs.Common.{◌≡◌, ℕ, ◌+◌, ◌<◌, List, ◌++◌, length, get_or, take, map, sym, ap, ◌∙◌, append_assoc}
+use Rattle.std.proofs.Common.{◌≡◌, ℕ, ◌+◌, ◌<◌, List, ◌++◌, length, get_or, take, map, Option, Some, None, refl, sym, ap, ◌∙◌, append_assoc, arith}
 use Rattle.std.proofs.lemmas.List.{flat_map_more, map_more}
 use Rattle.std.specs.List.{flat_map}
 use Rattle.std.specs.Int.{w16, w32, to_be_bytes}
 use Rattle.dnsv_names.specs.Name.{Labels, wire}
-use Rattle.dnsv_canonical.specs.SignedData.{signed_record}
+use Rattle.dnsv_records.specs.declared.rrsig.Rrsig.{Rrsig}
+use Rattle.dnsv_canonical.specs.CanonicalRdata.{canonical_form}
+use Rattle.dnsv_canonical.specs.SignedData.{signed_front, signed_owner, signed_record, IsSignedData}
+use Rattle.dnsv_canonical.proofs.CanonicalLemmas.{canonical_unique}
 
 -- one more record at the end, written in three parts
 records_more : {X : Type 0} (f : X → List ℕ) (record_of : List ℕ → List ℕ) (start before after front size : List ℕ) (xs : List X) (i : ℕ) (d : X) → i < length xs → record_of (f (get_or xs i d)) ≡ front ++ size ++ f (get_or xs i d) → before ≡ start ++ flat_map record_of (map f (take i xs)) → after ≡ before ++ front ++ size ++ f (get_or xs i d) → after ≡ start ++ flat_map record_of (map f (take (i + 1) xs))
@@ -21,3 +24,13 @@ pub signed_more : {X : Type 0} (f : X → List ℕ) (owner : Labels) (rtype ttl 
 signed_more f owner rtype ttl start before after front xs i d within front_is so_far written =
     records_more f (signed_record owner rtype ttl) start before after front (to_be_bytes w16 (length (f (get_or xs i d)))) xs i d within
     (ap (λ ys. ys ++ to_be_bytes w16 (length (f (get_or xs i d))) ++ f (get_or xs i d)) (sym front_is)) so_far written
+
+-- a signature signs at most one thing
+pub signed_data_unique : (owner : Labels) (rtype : ℕ) (received : List (List ℕ)) (rrsig : Rrsig) (a b : Option (List ℕ)) → IsSignedData owner rtype received rrsig a → IsSignedData owner rtype received rrsig b → a ≡ b
+signed_data_unique owner rtype received rrsig None None above other = refl
+signed_data_unique owner rtype received rrsig None (Some b) above other = absurd (omega (arith, above, other.0))
+signed_data_unique owner rtype received rrsig (Some a) None signed above = absurd (omega (arith, above, signed.0))
+signed_data_unique owner rtype received rrsig (Some a) (Some b) signed other =
+    let octets_of : List (List ℕ) → List ℕ = λ canonical. signed_front rrsig ++ flat_map (signed_record (signed_owner owner rrsig.labels) rtype rrsig.original_ttl) canonical in
+    let lists : signed.1 ≡ other.1 = canonical_unique (map (canonical_form rtype) received) signed.1 other.1 signed.2 other.2 in
+    ap Some (signed.3 ∙ ap octets_of lists ∙ sym other.3)

@@ -1,10 +1,9 @@
 -- The RDATA of an RRset in canonical order (RFC 4034 6.3).
-use Rattle.std.specs.Prelude.{◌↔◌, ℕ, List, [], ◌∷◌, Contains}
+use Rattle.std.specs.Prelude.{◌↔◌, ℕ, List, Contains}
 use Rattle.std.specs.declared.cmp.Ordering.{Ordering}
 use Rattle.std.specs.Ordering.{nat_cmp}
 use Rattle.std.specs.Cmp.Lexicographic.{slice_cmp}
 use Rattle.std.specs.List.Sorted.{IsStrictlySortedBy}
-use Rattle.std.specs.BTreeSet.{insert_key}
 
 -- RDATA is ordered as unsigned octets from the left, a missing octet before any other
 abbrev pub rdata_cmp : List ℕ → List ℕ → Ordering
@@ -14,8 +13,3 @@ rdata_cmp = slice_cmp nat_cmp
 pub record IsCanonical (received canonical : List (List ℕ)) : Type 0 where
   pub rising : IsStrictlySortedBy rdata_cmp canonical
   pub members : (rdata : List ℕ) → Contains canonical rdata ↔ Contains received rdata
-
--- the one list that is canonical for `received`: each of its RDATA is put at its place, unless it stands there
-abbrev pub canonical_of : List (List ℕ) → List (List ℕ)
-canonical_of [] = []
-canonical_of (rdata ∷ received) = insert_key rdata_cmp (canonical_of received) rdata

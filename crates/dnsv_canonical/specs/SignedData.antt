@@ -1,10 +1,10 @@
 -- What a signature signs (RFC 4034 3.1.8.1, 6.2, 6.3; RFC 4035 5.3.2). Numbers are big-endian.
-use Rattle.std.specs.Prelude.{ℕ, suc, nat_lt, if◌then◌else◌, List, [], ◌∷◌, ◌++◌, length, map, Option, Some, None}
+use Rattle.std.specs.Prelude.{◌≡◌, ℕ, suc, ◌<◌, ◌≤◌, nat_lt, if◌then◌else◌, List, [], ◌∷◌, ◌++◌, length, map, Option, Some, None}
 use Rattle.std.specs.Int.{w16, w32, to_be_bytes}
 use Rattle.std.specs.List.{flat_map}
 use Rattle.std.specs.Str.{bytes_eq}
 use Rattle.dnsv_names.specs.Name.{Labels, wire, lower_case, rightmost}
-use Rattle.dnsv_canonical.specs.Canonical.{canonical_of}
+use Rattle.dnsv_canonical.specs.Canonical.{IsCanonical}
 use Rattle.dnsv_canonical.specs.CanonicalRdata.{canonical_form}
 use Rattle.dnsv_records.specs.declared.rrsig.Rrsig.{Rrsig}
 
@@ -35,10 +35,13 @@ abbrev pub signed_record : Labels → ℕ → ℕ → List ℕ → List ℕ
 signed_record owner rtype ttl rdata =
     wire owner ++ to_be_bytes w16 rtype ++ to_be_bytes w16 1 ++ to_be_bytes w32 ttl ++ to_be_bytes w16 (length rdata) ++ rdata
 
--- What the signature signs over the RDATA received at the owner; nothing where Labels is above the owner's count.
--- Each RDATA is brought to its canonical form before they are put in order, so that two that differ in the case of
--- such a name alone are one (RFC 4034 6.2, 6.3).
-abbrev pub signed_data_of : Labels → ℕ → List (List ℕ) → Rrsig → Option (List ℕ)
-signed_data_of owner rtype received rrsig =
-    if nat_lt (signed_label_count owner) rrsig.labels then None
-    else Some (signed_front rrsig ++ flat_map (signed_record (signed_owner owner rrsig.labels) rtype rrsig.original_ttl) (canonical_of (map (canonical_form rtype) received)))
+-- The answer is what the signature signs over the RDATA received at the owner: nothing where Labels is above the
+-- owner's count, and else the RDATA of the signature and each record of the canonical list. Each RDATA is brought to
+-- its canonical form before they are put in order, so that two that differ in the case of such a name alone are one
+-- (RFC 4034 6.2, 6.3).
+abbrev pub IsSignedData : Labels → ℕ → List (List ℕ) → Rrsig → Option (List ℕ) → Type 0
+IsSignedData owner rtype received rrsig None = signed_label_count owner < rrsig.labels
+IsSignedData owner rtype received rrsig (Some octets) =
+    (rrsig.labels ≤ signed_label_count owner)
+    × (canonical : List (List ℕ)) × IsCanonical (map (canonical_form rtype) received) canonical
+    × (octets ≡ signed_front rrsig ++ flat_map (signed_record (signed_owner owner rrsig.labels) rtype rrsig.original_ttl) canonical)

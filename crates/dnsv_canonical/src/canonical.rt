@@ -1,6 +1,6 @@
 //! The canonical order of an RRset's RDATA.
 ghost use Rattle.std.specs.Prelude.{◌≡◌, List, ℕ, IfOk, map};
-ghost use Rattle.dnsv_canonical.specs.Canonical.{IsCanonical, canonical_of};
+ghost use Rattle.dnsv_canonical.specs.Canonical.{IsCanonical};
 
 use std::alloc::{AllocError, Global};
 
@@ -14,7 +14,6 @@ pub fn canonical_rdata<'a>(
     // No other list is canonical.
     ensures only { IfOk result (λ sorted. (other : List (List ℕ)) → IsCanonical (map (λ r. r.now) received.now) other
         → other ≡ map (λ r. r.now) sorted.items) }
-    ensures value { IfOk result (λ sorted. map (λ r. r.now) sorted.items ≡ canonical_of (map (λ r. r.now) received.now)) }
 {
     let mut sorted = Vec::from_slice(alloc, received)?;
     sorted.sort_unstable();
@@ -24,6 +23,6 @@ pub fn canonical_rdata<'a>(
 
 /// A law of canonical order: whatever RDATA is received, one list of it is canonical.
 pub fn one_canonical_list()
-    ensures some { (received : List (List ℕ)) → IsCanonical received (canonical_of received) }
+    ensures some { (received : List (List ℕ)) → (canonical : List (List ℕ)) × IsCanonical received canonical }
     ensures one { (received a b : List (List ℕ)) → IsCanonical received a → IsCanonical received b → a ≡ b }
 {}

@@ -47,11 +47,11 @@ fn canonical_form(alloc: Global, rtype: RecordType, rdata: &[u8]) -> Result<Vec<
 fn names_of(rtype: RecordType) -> Option<(usize, usize)>
     ensures { result ≡ names_of rtype.0 }
 {
-    match rtype.0 {
-        2 | 5 | 12 | 39 => Some((0, 0)),
-        6 => Some((0, 20)),
-        15 => Some((2, 0)),
-        33 => Some((6, 0)),
+    match rtype {
+        RecordType::NS | RecordType::CNAME | RecordType::PTR | RecordType::DNAME => Some((0, 0)),
+        RecordType::SOA => Some((0, 20)),
+        RecordType::MX => Some((2, 0)),
+        RecordType::SRV => Some((6, 0)),
         _ => None,
     }
 }

@@ -4,7 +4,7 @@
 pub use canonical::{canonical_rdata, one_canonical_list};
 pub use response::{ResponseError, checked};
 pub use rrset::{Rrset, rrsets};
-pub use signed::signed_data;
+pub use signed::{one_signed_data, signed_data};
 
 mod by_rrset;
 mod canonical;

@@ -2,7 +2,7 @@
 ghost use Rattle.std.specs.Prelude.{◌≡◌, ◌++◌, ◌+◌, IfOk, OnOk, map, List, ℕ};
 ghost use Rattle.std.specs.Option.{option_map};
 ghost use Rattle.dnsv_message.specs.declared.record.Section.{Section};
-ghost use Rattle.dnsv_canonical.specs.SignedData.{signed_data_of};
+ghost use Rattle.dnsv_canonical.specs.SignedData.{IsSignedData};
 
 use crate::by_rrset::{distinct, taken};
 use crate::section::{is_grouped, rdata_by_rrset, signatures_by_rrset};
@@ -89,8 +89,8 @@ impl<'a> Rrset<'a> {
 
     /// What the signature signs over the RRset; `None` where Labels is above the owner's count of labels.
     pub fn signed_data(&self, alloc: Global, rrsig: &Rrsig) -> Result<Option<Vec<u8>>, AllocError>
-        ensures { IfOk result (λ answer. option_map (λ octets. octets.items) answer
-            ≡ signed_data_of self.now.owner self.now.rtype self.now.rdata rrsig.now) }
+        ensures { IfOk result (λ answer. IsSignedData self.now.owner self.now.rtype self.now.rdata rrsig.now
+            (option_map (λ octets. octets.items) answer)) }
     {
         signed_data(alloc, self.owner, self.rtype, self.rdata.as_slice(), rrsig)
     }

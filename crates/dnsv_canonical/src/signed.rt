@@ -1,9 +1,9 @@
 //! The octets that a signature signs.
-ghost use Rattle.std.specs.Prelude.{◌≡◌, ◌++◌, ◌≤◌, IfOk, OnOk, map, length};
+ghost use Rattle.std.specs.Prelude.{◌≡◌, ◌++◌, ◌≤◌, ℕ, List, Option, IfOk, OnOk, map, length};
 ghost use Rattle.std.specs.Option.{option_map};
 ghost use Rattle.std.specs.Int.{w16, w32, to_be_bytes};
-ghost use Rattle.dnsv_names.specs.Name.{wire};
-ghost use Rattle.dnsv_canonical.specs.SignedData.{signed_label_count, signed_front, signed_owner, signed_data_of};
+ghost use Rattle.dnsv_names.specs.Name.{Labels, wire};
+ghost use Rattle.dnsv_canonical.specs.SignedData.{signed_label_count, signed_front, signed_owner, IsSignedData};
 
 use crate::canonical::canonical_rdata;
 use crate::form::{canonical_forms, slices};
@@ -27,8 +27,8 @@ pub fn signed_data(
     received: &[&[u8]],
     rrsig: &Rrsig,
 ) -> Result<Option<Vec<u8>>, AllocError>
-    ensures { IfOk result (λ answer. option_map (λ octets. octets.items) answer
-        ≡ signed_data_of owner.now rtype.0 (map (λ r. r.now) received.now) rrsig.now) }
+    ensures { IfOk result (λ answer. IsSignedData owner.now rtype.0 (map (λ r. r.now) received.now) rrsig.now
+        (option_map (λ octets. octets.items) answer)) }
 {
     if rrsig.labels as usize > label_count(owner) {
         return Ok(None);
@@ -43,6 +43,12 @@ pub fn signed_data(
     }
     Ok(Some(octets))
 }
+
+/// A law of signed data: a signature signs at most one thing over the RDATA of an RRset.
+pub fn one_signed_data()
+    ensures { (owner : Labels) (rtype : ℕ) (received : List (List ℕ)) (rrsig : Rrsig) (a b : Option (List ℕ))
+        → IsSignedData owner rtype received rrsig a → IsSignedData owner rtype received rrsig b → a ≡ b }
+{}
 
 /// What is signed before the records: the RDATA without the signature, its signer in lower case.
 fn front_octets(alloc: Global, rrsig: &Rrsig) -> Result<Vec<u8>, AllocError>

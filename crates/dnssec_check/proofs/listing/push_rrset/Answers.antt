@@ -1,7 +1,7 @@
-use Rattle.std.proofs.Common.{◌≡◌, ℕ, ◌+◌, List, [], ◌++◌, Option, subst, ap, ◌∙◌, arith}
+use Rattle.std.proofs.Common.{◌≡◌, ℕ, List, [], ◌++◌, subst, arith}
 use Rattle.std.specs.Prelude.{string_bytes}
 use Rattle.std.specs.Borrow.{Bor}
-use Rattle.dnssec_check.specs.Listing.{SignatureLines, data_line}
+use Rattle.dnssec_check.specs.Listing.{SignatureLines}
 use Rattle.std.proofs.lemmas.List.{length-map}
 use Rattle.dnssec_check.proofs.ListingLemmas.{Listed-next, Listed-all, readable_here, rdata_here}
 use Rattle.dnssec_check.proofs.listing.push_rrset.Goals as goal
@@ -12,8 +12,7 @@ readable-requires c = readable_here c.signatures-signatures.result.now _ c.loop-
 pub loop-index-preserved : goal.loop-index-preserved
 loop-index-preserved c =
     let here = rdata_here c.signatures-signatures.result.now c.loop-index.index (record { ref_ptr = (0, 0); now = [] }) c.loop-index-test.true in
-    Listed-next c.loop-index.invariant _ c.in_ok-rrsig.rrsig _ here.0 here.1 c.in_ok-rrsig.ensures
-    (c.in_ok-push_line.ensures ∙ ap (λ (octets : Option (List ℕ)). string_bytes c.loop-index.text ++ data_line c.args.number (c.loop-index.index + 1) octets) c.in_ok-octets.ensures)
+    Listed-next c.loop-index.invariant _ c.in_ok-rrsig.rrsig _ _ here.0 here.1 c.in_ok-rrsig.ensures c.in_ok-octets.ensures c.in_ok-push_line.ensures
 
 pub returns : goal.returns
 returns c =

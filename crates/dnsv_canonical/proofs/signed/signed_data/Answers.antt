@@ -1,10 +1,8 @@
-use Rattle.std.proofs.Common.{◌≡◌, List, ℕ, ◌++◌, false, cond, ltb, map, Some, None, sym, ap, ◌∙◌, arith}
+use Rattle.std.proofs.Common.{◌≡◌, List, ℕ, ◌++◌, map, ap, ◌∙◌, arith}
 use Rattle.std.proofs.lemmas.List.{take_all}
-use Rattle.std.proofs.lemmas.Bool.{le-ltb}
 use Rattle.std.specs.List.{flat_map}
-use Rattle.dnsv_canonical.specs.Canonical.{canonical_of}
 use Rattle.dnsv_canonical.specs.CanonicalRdata.{canonical_form}
-use Rattle.dnsv_canonical.specs.SignedData.{signed_front, signed_label_count, signed_owner, signed_record}
+use Rattle.dnsv_canonical.specs.SignedData.{signed_front, signed_owner, signed_record}
 use Rattle.dnsv_canonical.proofs.SignedLemmas.{signed_more}
 use Rattle.dnsv_canonical.proofs.signed.signed_data.Goals as goal
 
@@ -18,13 +16,12 @@ loop-rdata-preserved c =
 pub returns : goal.returns
 returns c =
     let record_of : List ℕ → List ℕ = signed_record (signed_owner c.args.owner.now c.args.rrsig.now.labels) c.args.rtype.0 c.args.rrsig.now.original_ttl in
-    let octets_of : List (List ℕ) → List ℕ = λ rdata. signed_front c.args.rrsig.now ++ flat_map record_of rdata in
-    let forms : List (List ℕ) = map (canonical_form c.args.rtype.0) (map (λ r. r.now) c.args.received.now) in
-    let slices_are : map (λ r. r.now) c.as_slice-2.result.now ≡ forms =
-    ap (map (λ r. r.now)) c.as_slice-2.ensures.value ∙ c.in_ok-slices.ensures ∙ ap (map (λ form. form.items)) c.as_slice.ensures.value ∙ c.in_ok-forms.ensures in
-    let whole : c.loop-rdata.octets.items ≡ octets_of (canonical_of forms) =
-    c.loop-rdata.invariant
-    ∙ ap (λ rs. octets_of (map (λ r. r.now) rs)) (take_all c.loop-rdata.rdata-index c.deref-rdata-items.result.now (omega arith) ∙ c.deref-rdata-items.ensures.value)
-    ∙ ap octets_of (c.in_ok-sorted.ensures.value ∙ ap canonical_of slices_are) in
-    let counted : ltb (signed_label_count c.args.owner.now) c.args.rrsig.now.labels ≡ false = le-ltb _ _ (omega arith) in
-    ap Some whole ∙ sym (ap (λ above. cond above None (Some (octets_of (canonical_of forms)))) counted)
+    let front_and : List (List ℕ) → List ℕ = λ rdata. signed_front c.args.rrsig.now ++ flat_map record_of rdata in
+    let slices_are : map (λ r. r.now) c.as_slice-2.result.now ≡ map (canonical_form c.args.rtype.0) (map (λ r. r.now) c.args.received.now) =
+    ap (map (λ r. r.now)) c.as_slice-2.ensures.value ∙ c.in_ok-slices.ensures ∙ ap (map (λ form. form.items)) c.as_slice.ensures.value ∙ c.in_ok-forms.ensures in (
+      omega arith,
+      _,
+      rw slices_are at c.in_ok-sorted.ensures.order,
+      c.loop-rdata.invariant
+          ∙ ap (λ rs. front_and (map (λ r. r.now) rs)) (take_all c.loop-rdata.rdata-index c.deref-rdata-items.result.now (omega arith) ∙ c.deref-rdata-items.ensures.value),
+    )
