@@ -1,7 +1,7 @@
 use Rattle.std.proofs.Common.{◌≡◌, ◌++◌, take, map}
 use Rattle.std.specs.List.{filter}
 use Rattle.dnsv_canonical.specs.Rrsets.{rrset_of, each_once, same_rrset, is_grouped}
-use Rattle.dnsv_canonical.proofs.rrset.add_section.Given as goal
+use Rattle.dnsv_canonical.proofs.draft.add_section.Given as goal
 
 -- the RRsets that appeared so far
 abbrev pub invariant-loop-place : goal.invariant-loop-place

@@ -2,8 +2,8 @@ use Rattle.std.proofs.Common.{◌∷◌, ◌++◌, [], ℕ, Bool, ◌&&◌, take
 use Rattle.std.specs.List.{list_any}
 use Rattle.dnsv_canonical.specs.Rrsets.{is_grouped, same_rrset}
 use Rattle.dnsv_canonical.proofs.GroupLemmas.{rrset_appears, rrset_appeared, no_rrset}
-use Rattle.dnsv_canonical.proofs.rrset.add_section.Goals as goal
-use Rattle.dnsv_canonical.proofs.rrset.add_section.Goals.{then-is_grouped+then-not-appeared+in_ok-of+in_ok-push, else-is_grouped, else-is_grouped-via-then-is_grouped+else-not-appeared, else-is_grouped-via-else-is_grouped}
+use Rattle.dnsv_canonical.proofs.draft.add_section.Goals as goal
+use Rattle.dnsv_canonical.proofs.draft.add_section.Goals.{then-is_grouped+then-not-appeared+in_ok-of+in_ok-push, else-is_grouped, else-is_grouped-via-then-is_grouped+else-not-appeared, else-is_grouped-via-else-is_grouped}
 
 pub loop-place-preserved : goal.loop-place-preserved
 loop-place-preserved c =
