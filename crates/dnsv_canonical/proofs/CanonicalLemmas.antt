@@ -34,13 +34,13 @@ Contains-from_member [] x member = absurd member
 Contains-from_member (y ∷ ys) x member =
     ⊎_elim (λ same. (0, omega arith, sym same)) (λ later. let found = Contains-from_member ys x later in (suc found.0, omega (arith, found.1), found.2)) member
 
-member_passes : {K : Type 0} (P : K → Type 0) (xs : List K) (x : K) → AllByRecursion P xs → IsMember x xs → P x
+pub member_passes : {K : Type 0} (P : K → Type 0) (xs : List K) (x : K) → AllByRecursion P xs → IsMember x xs → P x
 member_passes P [] x each member = absurd member
 member_passes P (y ∷ ys) x each member =
     ⊎_elim (λ same. subst P (sym same) each.0) (λ later. member_passes P ys x each.1 later) member
 
 module _ {K : Type 0} (R : K → K → Ordering) (total : IsTotalOrder R) (exact : (x y : K) → R x y ≡ Equal → x ≡ y) where
-  never_below_itself : (P : Type 0) (x y : K) → x ≡ y → R x y ≡ Less → P
+  pub never_below_itself : (P : Type 0) (x y : K) → x ≡ y → R x y ≡ Less → P
   never_below_itself P x y same less =
       let itself : R x x ≡ Less = ap (R x) same ∙ less in
       let turned : Less ≡ Greater = sym itself ∙ total.antisymm x x ∙ ap ordering_reverse itself in cc

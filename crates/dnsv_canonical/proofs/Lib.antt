@@ -1,4 +1,9 @@
 pub mod CanonicalLemmas
-pub mod SignedLemmas
+pub mod EvidenceLemmas
 pub mod GroupLemmas
 pub mod ByRrsetLemmas
+pub mod LimitLemmas
+pub mod ListLemmas
+pub mod PairLemmas
+pub mod ReadableLemmas
+pub mod SignedLemmas

@@ -1,5 +1,7 @@
 pub mod Canonical
 pub mod CanonicalRdata
+pub mod Evidence
+pub mod Kept
 pub mod SignedData
 pub mod Response
 pub mod Rrsets

@@ -66,12 +66,16 @@ abbrev pub rrsets_in : ℕ → Section → List Record → List Group
 rrsets_in message section records =
     map (rrset_of message section records) (each_once same_rrset (filter is_grouped records))
 
--- the RRsets of messages of which the first has the number, by message and section
+-- the RRsets of the message, which has the number, by section
+abbrev pub message_rrsets : ℕ → Contents → List Group
+message_rrsets number message =
+    rrsets_in number Answer message.answer ++ rrsets_in number Authority message.authority
+    ++ rrsets_in number Additional message.additional
+
+-- the RRsets of messages of which the first has the number
 abbrev pub rrsets_from : ℕ → List Contents → List Group
 rrsets_from number [] = []
-rrsets_from number (message ∷ messages) =
-    rrsets_in number Answer message.answer ++ rrsets_in number Authority message.authority
-    ++ rrsets_in number Additional message.additional ++ rrsets_from (suc number) messages
+rrsets_from number (message ∷ messages) = message_rrsets number message ++ rrsets_from (suc number) messages
 
 -- the RRsets of all messages: the k-th of them, from 1 on, is RRset k
 abbrev pub rrsets_of : List Contents → List Group

@@ -2,13 +2,19 @@
 #![tactic(auto)]
 
 pub use canonical::{canonical_rdata, one_canonical_list};
+pub use capture::{Capture, CaptureError, captures_hold_the_rrsets};
+pub use draft::{Draft, rrsets};
 pub use response::{ResponseError, checked};
-pub use rrset::{Rrset, rrsets};
-pub use signed::{one_signed_data, signed_data};
+pub use rrset::{Rrset, canonical_rrset, signed_data};
+pub use signed::one_signed_data;
 
 mod by_rrset;
 mod canonical;
+mod capture;
+mod draft;
 mod form;
+mod limits;
+mod readable;
 mod response;
 mod rrset;
 mod section;

@@ -20,7 +20,7 @@ const WILDCARD: [u8; 2] = *b"\x01*";
 /// owner that Labels tells. `None` where Labels is above the owner's count of labels.
 ///
 /// `received` has the RDATA of the RRset's records without compression, their names as they are spelled.
-pub fn signed_data(
+pub fn signed_octets(
     alloc: Global,
     owner: &Name,
     rtype: RecordType,

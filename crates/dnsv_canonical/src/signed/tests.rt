@@ -22,7 +22,7 @@ fn signed(
         rdata[3] = labels;
     }
     let rrsig = Rrsig::read(alloc, rdata.as_slice())?;
-    Ok(signed_data(alloc, &owner, RecordType::A, received, &rrsig)?)
+    Ok(signed_octets(alloc, &owner, RecordType::A, received, &rrsig)?)
 }
 
 #[test]
@@ -78,7 +78,7 @@ fn signs_names_that_differ_in_case_once(rt: HostRuntime) -> Result<(), Fail> {
     let rrsig = Rrsig::read(alloc, RRSIG)?;
     let upper: &[u8] = b"\x02NS\x00";
     let lower: &[u8] = b"\x02ns\x00";
-    let answer = signed_data(alloc, &owner, RecordType(2), &[upper, lower], &rrsig)?;
+    let answer = signed_octets(alloc, &owner, RecordType(2), &[upper, lower], &rrsig)?;
     let octets = answer.ok_or("signed data")?;
     assert_eq!(rt;
         octets.as_slice(),

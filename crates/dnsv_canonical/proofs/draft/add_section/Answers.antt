@@ -3,8 +3,8 @@ use Rattle.std.specs.Str.{bytes_eq}
 use Rattle.dnsv_message.specs.declared.record.Record.{Record}
 use Rattle.dnsv_canonical.specs.Rrsets.{each_once}
 use Rattle.dnsv_canonical.proofs.GroupLemmas.{rrset_appears, rrset_appeared, rdata_of, had_at, had_is, left_after}
-use Rattle.dnsv_canonical.proofs.rrset.add_section.Goals as goal
-use Rattle.dnsv_canonical.proofs.rrset.add_section.Goals.{then-not-is_empty+in_ok-distinct+in_ok-push, else-not-is_empty}
+use Rattle.dnsv_canonical.proofs.draft.add_section.Goals as goal
+use Rattle.dnsv_canonical.proofs.draft.add_section.Goals.{then-not-is_empty+in_ok-distinct+in_ok-push, else-not-is_empty}
 
 pub loop-record-preserved : goal.loop-record-preserved
 loop-record-preserved c =

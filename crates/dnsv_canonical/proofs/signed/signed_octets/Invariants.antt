@@ -1,7 +1,7 @@
 use Rattle.std.proofs.Common.{◌≡◌, ◌++◌, take, map}
 use Rattle.std.specs.List.{flat_map}
 use Rattle.dnsv_canonical.specs.SignedData.{signed_front, signed_owner, signed_record}
-use Rattle.dnsv_canonical.proofs.signed.signed_data.Given as goal
+use Rattle.dnsv_canonical.proofs.signed.signed_octets.Given as goal
 
 -- the front, and the records of the RDATA so far
 abbrev pub invariant-loop-rdata : goal.invariant-loop-rdata

@@ -4,7 +4,7 @@ use Rattle.std.specs.List.{flat_map}
 use Rattle.dnsv_canonical.specs.CanonicalRdata.{canonical_form}
 use Rattle.dnsv_canonical.specs.SignedData.{signed_front, signed_owner, signed_record}
 use Rattle.dnsv_canonical.proofs.SignedLemmas.{signed_more}
-use Rattle.dnsv_canonical.proofs.signed.signed_data.Goals as goal
+use Rattle.dnsv_canonical.proofs.signed.signed_octets.Goals as goal
 
 pub loop-rdata-preserved : goal.loop-rdata-preserved
 loop-rdata-preserved c =

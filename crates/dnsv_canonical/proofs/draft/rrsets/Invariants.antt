@@ -1,6 +1,6 @@
 use Rattle.std.proofs.Common.{◌≡◌, ◌++◌, ◌+◌, drop}
 use Rattle.dnsv_canonical.specs.Rrsets.{rrsets_from, rrsets_of}
-use Rattle.dnsv_canonical.proofs.rrset.rrsets.Given as goal
+use Rattle.dnsv_canonical.proofs.draft.rrsets.Given as goal
 
 -- the RRsets so far and those of the messages that are left are those of all
 abbrev pub invariant-loop-index : goal.invariant-loop-index

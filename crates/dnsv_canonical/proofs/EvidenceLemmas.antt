@@ -1,0 +1,155 @@
+-- What a message adds to the evidence.
+use Rattle.std.proofs.Common.{◌≡◌, ◌⊎◌, inl, inr, ⊎_elim, ℕ, zero, suc, ◌+◌, ◌-◌, ◌<◌, ◌≤◌, Bool, true, false, cond, not, ◌&&◌, List, [], ◌∷◌, ◌++◌, length, get_or, take, map, refl, sym, ap, ◌∙◌, subst, arith, append_assoc, ◌↔◌, IsTrue, Result, Ok, Err, IfOk}
+use Rattle.std.proofs.lemmas.List.{append-nil}
+use Rattle.std.proofs.lemmas.Bool.{eqb-true, false≢true}
+use Rattle.std.proofs.lemmas.Grind.{flat_map-append}
+use Rattle.std.specs.Prelude.{Contains, filter, if◌then◌else◌, ◌==◌}
+use Rattle.std.specs.Str.{bytes_eq}
+use Rattle.std.specs.List.{AllByRecursion, AllZip, fold}
+use Rattle.dnsv_names.specs.Name.{Labels}
+use Rattle.dnsv_message.specs.declared.record.Record.{Record}
+use Rattle.dnsv_message.specs.declared.record.Section.{Section}
+use Rattle.dnsv_message.specs.declared.record.Section.TheVariants.{Answer, Authority, Additional}
+use Rattle.dnsv_message.specs.Message.{Contents, records_of}
+use Rattle.dnsv_records.proofs.OctetLemmas.{recursion-append}
+use Rattle.dnsv_records.specs.declared.rrsig.Rrsig.{Rrsig}
+use Rattle.dnsv_records.specs.Rrsig.{IsRrsig}
+use Rattle.dnsv_canonical.specs.Evidence.{Evidence, AtMost, IsReadable, IsWithinLimits, IsSmall, IsPairAmong, nsec3_rdata, with_message, evidence_of, signatures_at}
+use Rattle.dnsv_canonical.specs.Kept.{HasRrsig, ArePairs}
+use Rattle.dnsv_canonical.specs.Rrsets.{Group, is_signature, each_once, rrset_of, rrsets_in, message_rrsets, rrsets_from, rrsets_of, is_grouped, same_rrset}
+use Rattle.dnsv_canonical.proofs.ListLemmas.{each_front, each_behind, each_kept}
+use Rattle.dnsv_canonical.proofs.PairLemmas.{Pair, few_pairs}
+
+both_true : (a b : Bool) → (a && b) ≡ true → (a ≡ true) × (b ≡ true)
+both_true true b h = (refl, h)
+both_true false b h = absurd (false≢true h)
+
+-- ---- signatures of records that can be read
+
+readable : (owner : Labels) (rtype : ℕ) (r : Record) → IsReadable r → is_signature owner rtype r ≡ true → HasRrsig r.rdata
+readable owner rtype r can signs =
+    let covers = both_true _ _ signs in
+    let begins = both_true _ _ covers.0 in
+    let kinds = both_true _ _ begins.0 in
+    (can (eqb-true _ _ kinds.1)).rrsig (eqb-true _ _ kinds.0)
+
+chosen : (owner : Labels) (rtype : ℕ) (rs : List Record) → AllByRecursion IsReadable rs → AllByRecursion HasRrsig (map (λ (r : Record). r.rdata) (filter (is_signature owner rtype) rs))
+chosen owner rtype [] can = tt
+chosen owner rtype (r ∷ rs) can = chosen_at owner rtype r rs (is_signature owner rtype r) refl can.0 (chosen owner rtype rs can.1) where
+  chosen_at : (owner : Labels) (rtype : ℕ) (r : Record) (rs : List Record) (signs : Bool) → is_signature owner rtype r ≡ signs → IsReadable r
+      → AllByRecursion HasRrsig (map (λ (r : Record). r.rdata) (filter (is_signature owner rtype) rs))
+      → AllByRecursion HasRrsig (map (λ (r : Record). r.rdata) (cond signs (r ∷ filter (is_signature owner rtype) rs) (filter (is_signature owner rtype) rs)))
+  chosen_at owner rtype r rs true is can rest = (readable owner rtype r can is, rest)
+  chosen_at owner rtype r rs false is can rest = rest
+
+each_once_kept : (P : List ℕ → Type 0) (xs : List (List ℕ)) → AllByRecursion P xs → AllByRecursion P (each_once bytes_eq xs)
+each_once_kept P [] all = tt
+each_once_kept P (x ∷ xs) all = (all.0, each_kept P (λ y. not (bytes_eq x y)) (each_once bytes_eq xs) (each_once_kept P xs all.1))
+
+abbrev HaveRrsigs : Group → Type 0
+HaveRrsigs rrset = AllByRecursion HasRrsig rrset.signatures
+
+all_readable : (message : ℕ) (section : Section) (records firsts : List Record) → AllByRecursion IsReadable records → AllByRecursion HaveRrsigs (map (rrset_of message section records) firsts)
+all_readable message section records [] can = tt
+all_readable message section records (first ∷ firsts) can =
+    (each_once_kept HasRrsig _ (chosen first.name first.rtype.0 records can), all_readable message section records firsts can)
+
+section_readable : (number : ℕ) (section : Section) (records : List Record) → AllByRecursion IsReadable records → AllByRecursion HaveRrsigs (rrsets_in number section records)
+section_readable number section records can = all_readable number section records (each_once same_rrset (filter is_grouped records)) can
+
+-- the signatures of a message whose records can be read
+pub message_readable : (number : ℕ) (message : Contents) → AllByRecursion IsReadable (records_of message) → AllByRecursion (λ rrset. AllByRecursion HasRrsig rrset.signatures) (message_rrsets number message)
+message_readable number message can =
+    let front = each_front IsReadable (message.answer ++ message.authority) message.additional can in
+    recursion-append HaveRrsigs (rrsets_in number Answer message.answer ++ rrsets_in number Authority message.authority) (rrsets_in number Additional message.additional)
+    (recursion-append HaveRrsigs (rrsets_in number Answer message.answer) (rrsets_in number Authority message.authority)
+    (section_readable number Answer message.answer (each_front IsReadable message.answer message.authority front))
+    (section_readable number Authority message.authority (each_behind IsReadable message.answer message.authority front)))
+    (section_readable number Additional message.additional (each_behind IsReadable (message.answer ++ message.authority) message.additional can))
+
+-- ---- limits
+
+-- the pairs of the RRsets so far and of more
+pub ArePairs-joined : (old new : List Group) (pairs : List Pair) → ArePairs (nsec3_rdata old ++ nsec3_rdata new) pairs → ArePairs (nsec3_rdata (old ++ new)) pairs
+ArePairs-joined old new pairs are =
+    subst (λ received. ArePairs received pairs) (sym (flat_map-append (λ (rrset : Group). if rrset.rtype == 50 then rrset.rdata else []) old new)) are
+
+pub pairs_so_far : (old drafts : List Group) (kept lent fresh : List Pair) → ArePairs (nsec3_rdata old) kept → lent ≡ kept
+    → ((earlier : List (List ℕ)) → ArePairs earlier lent → ArePairs (earlier ++ nsec3_rdata drafts) (lent ++ fresh)) → ArePairs (nsec3_rdata old ++ nsec3_rdata drafts) (kept ++ fresh)
+pairs_so_far old drafts kept lent fresh are same more =
+    subst (λ pairs. ArePairs (nsec3_rdata old ++ nsec3_rdata drafts) (pairs ++ fresh)) same (more (nsec3_rdata old) (subst (ArePairs (nsec3_rdata old)) (sym same) are))
+
+pub not_small : (drafts : List Group) (answer : Bool) → (IsTrue answer ↔ AllByRecursion IsSmall drafts) → answer ≡ false → ¬ AllByRecursion IsSmall drafts
+not_small drafts answer decides none small = let turned : true ≡ false = sym (decides.1 small) ∙ none in cc
+
+-- what is kept with a message more
+pub grown : (messages records total : ℕ) (old : List Group) (message : Contents) (kept fresh : List Pair) (drafts : List Group)
+    → IsWithinLimits (record { messages = messages; records = records; rrsets = old }) → messages < 64 → total ≤ 4096 → AllByRecursion IsSmall drafts
+    → ArePairs (nsec3_rdata old ++ nsec3_rdata drafts) (kept ++ fresh) → length (kept ++ fresh) ≤ 8
+    → IsWithinLimits (record { messages = messages + 1; records = total; rrsets = old ++ drafts }) × ArePairs (nsec3_rdata (old ++ drafts)) (kept ++ fresh)
+grown messages records total old message kept fresh drafts within few_messages few_records small are few = (
+  record {
+    messages = omega (arith, few_messages);
+    records = few_records;
+    rrsets = recursion-append IsSmall old drafts within.rrsets small;
+    pairs = (few_pairs 8 _ (kept ++ fresh) (ArePairs-joined old drafts (kept ++ fresh) are)).0 few;
+  },
+  ArePairs-joined old drafts (kept ++ fresh) are,
+)
+
+numbered : (held : Evidence) (message : Contents) (drafts : List Group) → drafts ≡ message_rrsets (held.messages + 1) message → drafts ≡ message_rrsets (suc held.messages) message
+numbered held message drafts is = is ∙ ap (λ n. message_rrsets n message) (omega arith)
+
+-- a message's RRsets beyond their limits
+pub large_refused : (held : Evidence) (message : Contents) (drafts : List Group) → drafts ≡ message_rrsets (held.messages + 1) message → ¬ AllByRecursion IsSmall drafts → ¬ IsWithinLimits (with_message held message)
+large_refused held message drafts is large within =
+    large (subst (AllByRecursion IsSmall) (sym (numbered held message drafts is)) (each_behind IsSmall held.rrsets (message_rrsets (suc held.messages) message) within.rrsets))
+
+-- too many pairs
+pub many_refused : (held : Evidence) (message : Contents) (drafts : List Group) (pairs : List Pair) → drafts ≡ message_rrsets (held.messages + 1) message
+    → ArePairs (nsec3_rdata held.rrsets ++ nsec3_rdata drafts) pairs → ¬ (length pairs ≤ 8) → ¬ IsWithinLimits (with_message held message)
+many_refused held message drafts pairs is are many within =
+    many ((few_pairs 8 _ pairs (ArePairs-joined held.rrsets drafts pairs are)).1
+    (subst (λ rrsets. AtMost 8 (IsPairAmong (nsec3_rdata (held.rrsets ++ rrsets)))) (sym (numbered held message drafts is)) within.pairs))
+
+-- the new value, as it is kept and as it is defined
+pub grown_is : (messages records total : ℕ) (old : List Group) (message : Contents) (drafts : List Group) → total ≡ records + length (records_of message) → drafts ≡ message_rrsets (messages + 1) message
+    → record { messages = messages + 1; records = total; rrsets = old ++ drafts } ≡ with_message (record { messages = messages; records = records; rrsets = old }) message
+grown_is messages records total old message drafts counted is =
+    let next : messages + 1 ≡ suc messages = omega arith in
+    let more : drafts ≡ message_rrsets (suc messages) message = is ∙ ap (λ n. message_rrsets n message) next in
+    λ i. record { messages = next i; records = counted i; rrsets = old ++ more i }
+
+-- ---- messages one by one
+
+held_rrsets : (held : Evidence) (messages : List Contents) → (fold with_message held messages).rrsets ≡ held.rrsets ++ rrsets_from (suc held.messages) messages
+held_rrsets held [] = sym (append-nil held.rrsets)
+held_rrsets held (message ∷ messages) =
+    held_rrsets (with_message held message) messages
+    ∙ append_assoc held.rrsets (message_rrsets (suc held.messages) message) (rrsets_from (suc (suc held.messages)) messages)
+
+pub evidence_rrsets : (messages : List Contents) → (evidence_of messages).rrsets ≡ rrsets_of messages
+evidence_rrsets messages = held_rrsets _ messages
+
+-- ---- the signatures of the RRset with a number
+
+pub signatures_here : (rrsets : List Group) (i : ℕ) (d : Group) → i < length rrsets → signatures_at rrsets (suc i) ≡ (get_or rrsets i d).signatures
+signatures_here [] i d within = absurd (omega (arith, within))
+signatures_here (rrset ∷ rrsets) zero d within = refl
+signatures_here (rrset ∷ rrsets) (suc i) d within = signatures_here rrsets i d (omega (arith, within))
+
+pub signatures_nowhere : (rrsets : List Group) (i : ℕ) → length rrsets ≤ i → signatures_at rrsets (suc i) ≡ []
+signatures_nowhere [] i above = refl
+signatures_nowhere (rrset ∷ rrsets) zero above = absurd (omega (arith, above))
+signatures_nowhere (rrset ∷ rrsets) (suc i) above = signatures_nowhere rrsets i (omega (arith, above))
+
+pub no_signatures : (rrsets : List Group) (number : ℕ) → (number ≡ 0) ⊎ (length rrsets < number) → AllZip IsRrsig (signatures_at rrsets number) []
+no_signatures rrsets zero outside = tt
+no_signatures rrsets (suc i) (inl none) = absurd (omega (arith, none))
+no_signatures rrsets (suc i) (inr above) = subst (λ rdata. AllZip IsRrsig rdata []) (sym (signatures_nowhere rrsets i (omega (arith, above)))) tt
+
+pub its_signatures : (rrsets : List Group) (number : ℕ) (x : Group) (rrsigs : List Rrsig) → 0 < number → number ≤ length rrsets → x ≡ get_or rrsets (number - 1) x → AllZip IsRrsig x.signatures rrsigs → AllZip IsRrsig (signatures_at rrsets number) rrsigs
+its_signatures rrsets zero x rrsigs some within at are = absurd (omega (arith, some))
+its_signatures rrsets (suc i) x rrsigs some within at are =
+    let here : get_or rrsets i x ≡ x = ap (λ j. get_or rrsets j x) (omega arith) ∙ sym at in
+    subst (λ rdata. AllZip IsRrsig rdata rrsigs) (sym (signatures_here rrsets i x (omega (arith, within)) ∙ ap (λ (g : Group). g.signatures) here)) are

@@ -1,0 +1,81 @@
+-- Facts about each element of a list, and members of two lists, one behind the other.
+use Rattle.std.proofs.Common.{◌≡◌, ◌⊎◌, inl, inr, ⊎_elim, ℕ, zero, suc, ◌+◌, ◌<◌, Bool, true, false, cond, List, [], ◌∷◌, ◌++◌, length, get_or, take, map, refl, sym, ap, ◌∙◌, subst, arith}
+use Rattle.std.proofs.lemmas.List.{map_more, get_or-map, length-map}
+use Rattle.std.proofs.lemmas.List.Elements.{All-from_recursion, All-get_or}
+use Rattle.std.specs.Prelude.{Contains, filter}
+use Rattle.std.specs.Borrow.{Bor}
+use Rattle.std.specs.List.{AllByRecursion, AllZip}
+use Rattle.dnsv_records.specs.declared.rrsig.Rrsig.{Rrsig}
+use Rattle.dnsv_records.specs.Rrsig.{IsRrsig}
+use Rattle.dnsv_canonical.proofs.CanonicalLemmas.{IsMember, IsMember-from_contains, Contains-from_member}
+
+-- ---- each element
+
+pub each_at : {X : Type 0} (P : X → Type 0) (xs : List X) (i : ℕ) (d : X) → AllByRecursion P xs → i < length xs → P (get_or xs i d)
+each_at P xs i d each within = All-get_or P xs i d within (All-from_recursion P xs each)
+
+-- the octets of a slice of slices at a place
+pub each_borrowed : (P : List ℕ → Type 0) (slices : List (Bor (List ℕ))) (i : ℕ) (d : Bor (List ℕ)) → AllByRecursion P (map (λ r. r.now) slices) → i < length slices → P (get_or slices i d).now
+each_borrowed P slices i d each within =
+    subst P (get_or-map (λ (r : Bor (List ℕ)). r.now) slices i d d.now within)
+    (each_at P (map (λ r. r.now) slices) i d.now each (omega (arith, within, length-map slices (λ (r : Bor (List ℕ)). r.now))))
+
+pub each_front : {X : Type 0} (P : X → Type 0) (xs ys : List X) → AllByRecursion P (xs ++ ys) → AllByRecursion P xs
+each_front P [] ys each = tt
+each_front P (x ∷ xs) ys each = (each.0, each_front P xs ys each.1)
+
+pub each_behind : {X : Type 0} (P : X → Type 0) (xs ys : List X) → AllByRecursion P (xs ++ ys) → AllByRecursion P ys
+each_behind P [] ys each = each
+each_behind P (x ∷ xs) ys each = each_behind P xs ys each.1
+
+pub each_kept : {X : Type 0} (P : X → Type 0) (keep : X → Bool) (xs : List X) → AllByRecursion P xs → AllByRecursion P (filter keep xs)
+each_kept P keep [] all = tt
+each_kept P keep (x ∷ xs) all = kept_at P keep x xs (keep x) all.0 (each_kept P keep xs all.1) where
+  kept_at : {X : Type 0} (P : X → Type 0) (keep : X → Bool) (x : X) (xs : List X) (stays : Bool) → P x → AllByRecursion P (filter keep xs) → AllByRecursion P (cond stays (x ∷ filter keep xs) (filter keep xs))
+  kept_at P keep x xs true here rest = (here, rest)
+  kept_at P keep x xs false here rest = rest
+
+pub pairs_more : {A B : Type 0} (R : A → B → Type 0) (xs : List A) (ys : List B) (x : A) (y : B) → AllZip R xs ys → R x y → AllZip R (xs ++ x ∷ []) (ys ++ y ∷ [])
+pairs_more R [] [] x y all here = (here, tt)
+pairs_more R [] (z ∷ ys) x y all here = absurd all
+pairs_more R (z ∷ xs) [] x y all here = absurd all
+pairs_more R (w ∷ xs) (z ∷ ys) x y all here = (all.0, pairs_more R xs ys x y all.1 here)
+
+pub rrsigs_more : (slices : List (Bor (List ℕ))) (i : ℕ) (d : Bor (List ℕ)) (before after : List Rrsig) (rrsig : Rrsig) → i < length slices → AllZip IsRrsig (map (λ r. r.now) (take i slices)) before → IsRrsig (get_or slices i d).now rrsig
+    → after ≡ before ++ rrsig ∷ [] → AllZip IsRrsig (map (λ r. r.now) (take (i + 1) slices)) after
+rrsigs_more slices i d before after rrsig within so_far is pushed =
+    subst (λ rdata. AllZip IsRrsig rdata after) (sym (map_more (λ (r : Bor (List ℕ)). r.now) slices i d within))
+    (subst (λ rrsigs. AllZip IsRrsig (map (λ (r : Bor (List ℕ)). r.now) (take i slices) ++ (get_or slices i d).now ∷ []) rrsigs) (sym pushed)
+    (pairs_more IsRrsig (map (λ (r : Bor (List ℕ)). r.now) (take i slices)) before (get_or slices i d).now rrsig so_far is))
+
+-- ---- members
+
+member_front : {X : Type 0} (xs ys : List X) (x : X) → IsMember x xs → IsMember x (xs ++ ys)
+member_front [] ys x member = absurd member
+member_front (z ∷ xs) ys x (inl same) = inl same
+member_front (z ∷ xs) ys x (inr later) = inr (member_front xs ys x later)
+
+member_behind : {X : Type 0} (xs ys : List X) (x : X) → IsMember x ys → IsMember x (xs ++ ys)
+member_behind [] ys x member = member
+member_behind (z ∷ xs) ys x member = inr (member_behind xs ys x member)
+
+member_parts : {X : Type 0} (xs ys : List X) (x : X) → IsMember x (xs ++ ys) → IsMember x xs ⊎ IsMember x ys
+member_parts [] ys x member = inr member
+member_parts (z ∷ xs) ys x (inl same) = inl (inl same)
+member_parts (z ∷ xs) ys x (inr later) = ⊎_elim (λ front. inl (inr front)) (λ behind. inr behind) (member_parts xs ys x later)
+
+pub contains_front : {X : Type 0} (xs ys : List X) (x : X) → Contains xs x → Contains (xs ++ ys) x
+contains_front xs ys x found = Contains-from_member (xs ++ ys) x (member_front xs ys x (IsMember-from_contains xs x found))
+
+pub contains_behind : {X : Type 0} (xs ys : List X) (x : X) → Contains ys x → Contains (xs ++ ys) x
+contains_behind xs ys x found = Contains-from_member (xs ++ ys) x (member_behind xs ys x (IsMember-from_contains ys x found))
+
+pub contains_parts : {X : Type 0} (xs ys : List X) (x : X) → Contains (xs ++ ys) x → Contains xs x ⊎ Contains ys x
+contains_parts xs ys x found =
+    ⊎_elim (λ front. inl (Contains-from_member xs x front)) (λ behind. inr (Contains-from_member ys x behind)) (member_parts xs ys x (IsMember-from_contains (xs ++ ys) x found))
+
+pub contains_one : {X : Type 0} (x y : X) → Contains (x ∷ []) y → y ≡ x
+contains_one x y found = ⊎_elim (λ same. same) (λ none. absurd none) (IsMember-from_contains (x ∷ []) y found)
+
+pub contains_itself : {X : Type 0} (x : X) → Contains (x ∷ []) x
+contains_itself x = Contains-from_member (x ∷ []) x (inl refl)

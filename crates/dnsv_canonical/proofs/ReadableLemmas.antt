@@ -1,0 +1,120 @@
+-- Records that can be read, and the first that can't.
+use Rattle.std.proofs.Common.{◌≡◌, ◌⊎◌, inl, inr, ⊎_elim, ℕ, suc, ◌+◌, ◌<◌, Bool, true, false, List, [], ◌∷◌, ◌++◌, length, get_or, take, drop, refl, sym, ap, ◌∙◌, subst, arith, append_assoc, Result, Ok, Err, IfOk, IfErr, ◌↔◌, IsTrue}
+use Rattle.std.proofs.lemmas.List.{drop_more, take-append-drop, length-take-le, length-append}
+use Rattle.std.specs.List.{AllByRecursion}
+use Rattle.std.specs.declared.alloc.AllocError.{AllocError}
+use Rattle.dnsv_message.specs.declared.record.Record.{Record}
+use Rattle.dnsv_message.specs.Message.{Contents, records_of}
+use Rattle.dnsv_records.specs.declared.error.RecordError.{RecordError}
+use Rattle.dnsv_records.specs.declared.error.RecordError.TheVariants as records
+use Rattle.dnsv_records.specs.declared.nsec.Nsec.{Nsec}
+use Rattle.dnsv_records.specs.declared.nsec3.Nsec3.{Nsec3}
+use Rattle.dnsv_records.specs.Nsec.{IsNsec}
+use Rattle.dnsv_records.specs.Nsec3.{IsNsec3}
+use Rattle.dnsv_records.specs.Reading.{Gives}
+use Rattle.dnsv_records.proofs.OctetLemmas.{recursion-append}
+use Rattle.dnsv_canonical.specs.Evidence.{Evidence, IsWhole, IsLaidOut, IsReadable, IsFirstBad, IsRefusal}
+use Rattle.dnsv_canonical.specs.Kept.{told, IsBadAfter}
+use Rattle.dnsv_canonical.specs.declared.capture.CaptureError.{CaptureError}
+use Rattle.dnsv_canonical.specs.declared.capture.CaptureError.TheVariants.{OutOfMemory, NotAResponse, Truncated, BadRdata, Limit}
+
+-- ---- whether RDATA was read
+
+pub given_none : {V : Type 0} (P : Type 0) (value : V) (field : _) → Gives (Err (records.BadRdata field)) value → P
+given_none P value field (inl given) = cc
+given_none P value field (inr given) = cc
+
+pub given_same : {V : Type 0} (value other : V) → Gives (Ok value) other → value ≡ other
+given_same value other (inl given) = cc
+given_same value other (inr given) = cc
+
+pub told_decides : {V : Type 0} (P : V → Type 0) (result : Result V RecordError) → IfOk result P → ((value : V) → P value → Gives result value) → IfOk (told result) (λ answer. IsTrue answer ↔ ((value : V) × P value))
+told_decides P (Ok value) found every = (λ _. (value, found), λ _. refl)
+told_decides P (Err (records.BadRdata field)) found every = (λ t. let none : false ≡ true = t in cc, λ read. given_none _ read.0 field (every read.0 read.1))
+told_decides P (Err records.OutOfMemory) found every = tt
+
+-- ---- the first that can't be read
+
+pub IsFirstBad-here : (records : List Record) (i : ℕ) (x : Record) → i < length records → x ≡ get_or records i x → AllByRecursion IsReadable (take i records) → ¬ IsReadable x → IsFirstBad records (i + 1)
+IsFirstBad-here records i x within at earlier bad = (
+  take i records,
+  x,
+  drop (i + 1) records,
+  sym (take-append-drop i records) ∙ ap (λ rest. take i records ++ rest) (drop_more records i x within ∙ ap (λ y. y ∷ drop (i + 1) records) (sym at)),
+  earlier,
+  bad,
+  omega (arith, length-take-le i records (omega arith)),
+)
+
+pub IsFirstBad-front : (xs ys : List Record) (k : ℕ) → IsFirstBad xs k → IsFirstBad (xs ++ ys) k
+IsFirstBad-front xs ys k first = (
+  first.0,
+  first.1,
+  first.2 ++ ys,
+  ap (λ zs. zs ++ ys) first.3 ∙ append_assoc first.0 (first.1 ∷ first.2) ys,
+  first.4,
+  first.5,
+  first.6,
+)
+
+pub IsFirstBad-behind : (xs ys : List Record) (k : ℕ) → AllByRecursion IsReadable xs → IsFirstBad ys k → IsFirstBad (xs ++ ys) (length xs + k)
+IsFirstBad-behind xs ys k each first = (
+  xs ++ first.0,
+  first.1,
+  first.2,
+  ap (λ zs. xs ++ zs) first.3 ∙ sym (append_assoc xs first.0 (first.1 ∷ first.2)),
+  recursion-append IsReadable xs first.0 each first.4,
+  first.5,
+  omega (arith, length-append xs first.0, first.6),
+)
+
+-- what is told of the second of three sections, and of the others, is told of the message
+module _ (held : Evidence) (message : Contents) (whole : IsWhole message) where
+  pub refused_in_answer : (error : CaptureError) → IsBadAfter 0 message.answer error → IsRefusal held message error
+  refused_in_answer OutOfMemory bad = tt
+  refused_in_answer (BadRdata k) bad =
+      (whole, subst (IsFirstBad (records_of message)) (omega (arith, bad.2)) (IsFirstBad-front (message.answer ++ message.authority) message.additional bad.0 (IsFirstBad-front message.answer message.authority bad.0 bad.1)))
+  refused_in_answer NotAResponse bad = absurd bad
+  refused_in_answer Truncated bad = absurd bad
+  refused_in_answer Limit bad = absurd bad
+
+  pub refused_in_authority : (error : CaptureError) → AllByRecursion IsReadable message.answer → IsBadAfter (length message.answer) message.authority error → IsRefusal held message error
+  refused_in_authority OutOfMemory each bad = tt
+  refused_in_authority (BadRdata k) each bad =
+      (whole, subst (IsFirstBad (records_of message)) (sym bad.2) (IsFirstBad-front (message.answer ++ message.authority) message.additional _ (IsFirstBad-behind message.answer message.authority bad.0 each bad.1)))
+  refused_in_authority NotAResponse each bad = absurd bad
+  refused_in_authority Truncated each bad = absurd bad
+  refused_in_authority Limit each bad = absurd bad
+
+  pub refused_in_additional : (error : CaptureError) (earlier : ℕ) → earlier ≡ length message.answer + length message.authority → AllByRecursion IsReadable message.answer → AllByRecursion IsReadable message.authority → IsBadAfter earlier message.additional error → IsRefusal held message error
+  refused_in_additional OutOfMemory earlier is answer authority bad = tt
+  refused_in_additional (BadRdata k) earlier is answer authority bad = (
+    whole,
+    subst (IsFirstBad (records_of message)) (omega (arith, bad.2, is, length-append message.answer message.authority))
+        (IsFirstBad-behind (message.answer ++ message.authority) message.additional bad.0 (recursion-append IsReadable message.answer message.authority answer authority) bad.1),
+  )
+  refused_in_additional NotAResponse earlier is answer authority bad = absurd bad
+  refused_in_additional Truncated earlier is answer authority bad = absurd bad
+  refused_in_additional Limit earlier is answer authority bad = absurd bad
+
+pub IfErr-weaker : {X : Type 0} (P Q : CaptureError → Type 0) (result : Result X CaptureError) → ((error : CaptureError) → P error → Q error) → IfErr result P → IfErr result Q
+IfErr-weaker P Q (Ok value) weaker holds = tt
+IfErr-weaker P Q (Err error) weaker holds = weaker error holds
+
+-- ---- types whose RDATA is laid out
+
+pub IfOk-same : {A B E : Type 0} (answer : Result Bool E) → IfOk answer (λ yes. IsTrue yes ↔ A) → (A → B) → (B → A) → IfOk answer (λ yes. IsTrue yes ↔ B)
+IfOk-same (Ok answer) decides to from = (λ t. to (decides.0 t), λ b. decides.1 (from b))
+IfOk-same (Err error) decides to from = tt
+
+pub laid_out_nsec : (rtype : ℕ) (rdata : List ℕ) → rtype ≡ 47 → (answer : Result Bool AllocError) → IfOk answer (λ yes. IsTrue yes ↔ ((nsec : Nsec) × IsNsec rdata nsec)) → IfOk answer (λ yes. IsTrue yes ↔ IsLaidOut rtype rdata)
+laid_out_nsec rtype rdata is answer decides =
+    IfOk-same answer decides
+    (λ read. record { ds = λ other. absurd (omega (arith, is, other)); rrsig = λ other. absurd (omega (arith, is, other)); nsec = λ _. read; dnskey = λ other. absurd (omega (arith, is, other)); nsec3 = λ other. absurd (omega (arith, is, other)) })
+    (λ laid. laid.nsec is)
+
+pub laid_out_nsec3 : (rtype : ℕ) (rdata : List ℕ) → rtype ≡ 50 → (answer : Result Bool AllocError) → IfOk answer (λ yes. IsTrue yes ↔ ((nsec3 : Nsec3) × IsNsec3 rdata nsec3)) → IfOk answer (λ yes. IsTrue yes ↔ IsLaidOut rtype rdata)
+laid_out_nsec3 rtype rdata is answer decides =
+    IfOk-same answer decides
+    (λ read. record { ds = λ other. absurd (omega (arith, is, other)); rrsig = λ other. absurd (omega (arith, is, other)); nsec = λ other. absurd (omega (arith, is, other)); dnskey = λ other. absurd (omega (arith, is, other)); nsec3 = λ _. read })
+    (λ laid. laid.nsec3 is)

@@ -1,0 +1,71 @@
+use Rattle.std.proofs.Common.{◌≡◌, ℕ, ◌+◌, List, ◌++◌, length, true, false, sym, ap, subst, ◌∙◌, arith}
+use Rattle.std.proofs.lemmas.Result.{err_from_is_err_and}
+use Rattle.std.specs.List.{AllByRecursion}
+use Rattle.dnsv_canonical.specs.Evidence.{Evidence, IsSmall, IsWithinLimits, nsec3_rdata, with_message}
+use Rattle.dnsv_canonical.specs.Kept.{HasRrsig, ArePairs}
+use Rattle.dnsv_canonical.specs.Rrsets.{Group, message_rrsets}
+use Rattle.dnsv_canonical.proofs.EvidenceLemmas.{message_readable, large_refused, many_refused, grown, grown_is, pairs_so_far, not_small}
+use Rattle.dnsv_canonical.proofs.capture.Capture.add.Goals as goal
+
+pub returns-in_err-check_whole-clause-refused : goal.returns-in_err-check_whole-clause-refused
+returns-in_err-check_whole-clause-refused c =
+    let p = err_from_is_err_and c.from_residual.result c.from_residual.ensures.1 in
+    rw (p.1, p.2) (c.in_err-check_whole.ensures.refused c.args.self.now)
+
+pub returns-in_err-check_rdata-clause-refused : goal.returns-in_err-check_rdata-clause-refused
+returns-in_err-check_rdata-clause-refused c =
+    let p = err_from_is_err_and c.from_residual-in_err-check_rdata.result c.from_residual-in_err-check_rdata.ensures.1 in
+    rw (p.1, p.2) (c.in_err-check_rdata.ensures.refused c.args.self.now c.in_ok-check_whole.ensures.ok)
+
+pub returns-then-not-branch-clause-refused : goal.returns-then-not-branch-clause-refused
+returns-then-not-branch-clause-refused c = (
+  c.in_ok-check_whole.ensures.ok,
+  c.in_ok-check_rdata.ensures.ok,
+  subst (λ held. IsWithinLimits (with_message held c.args.message.now) → ⊥) c.self.view_is
+      (large_refused (record { messages = c.self.inside.messages; records = c.self.inside.records; rrsets = c.self.inside.rrsets.items }) c.args.message.now
+      c.as_slice.result.now (c.as_slice.ensures.value ∙ c.in_ok-drafts.ensures) (not_small c.as_slice.result.now c.in_ok-are_small.field-0 c.in_ok-are_small.ensures c.if-not-branch.true)),
+)
+
+pub returns-then-not-has_room-clause-refused : goal.returns-then-not-has_room-clause-refused
+returns-then-not-has_room-clause-refused c = (
+  c.in_ok-check_whole.ensures.ok,
+  c.in_ok-check_rdata.ensures.ok,
+  subst (λ held. IsWithinLimits (with_message held c.args.message.now) → ⊥) c.self.view_is
+      (many_refused (record { messages = c.self.inside.messages; records = c.self.inside.records; rrsets = c.self.inside.rrsets.items }) c.args.message.now
+      c.as_slice-3.result.now (c.self.inside.pairs.items ++ c.in_ok-pairs.pairs.items) (c.as_slice-3.ensures.value ∙ c.in_ok-drafts.ensures)
+      (pairs_so_far c.self.inside.rrsets.items c.as_slice-3.result.now c.self.inside.pairs.items c.as_slice-2.result.now c.in_ok-pairs.pairs.items c.self.invariant.1 c.as_slice-2.ensures.value c.in_ok-pairs.ensures)
+      (λ few. let turned : true ≡ false = sym (c.has_room.ensures.1 (rw (c.as_slice-4.ensures.value, c.as_slice-5.ensures.value) few)) ∙ c.if-not-has_room.true in cc)),
+)
+
+pub owned-requires : goal.owned-requires
+owned-requires c =
+    subst (AllByRecursion (λ (draft : Group). AllByRecursion HasRrsig draft.signatures)) (sym (c.as_slice-6.ensures.value ∙ c.in_ok-drafts.ensures))
+    (message_readable (c.self.inside.messages + 1) c.args.message.now c.in_ok-check_rdata.ensures.ok)
+
+pub invariant_of-self-in_err-append : goal.invariant_of-self-in_err-append
+invariant_of-self-in_err-append c = rw (c.in_err-append.ensures.items, c.in_ok-reserve.ensures.items) c.self.invariant
+
+-- what is kept with the message
+after : (c : goal.After-drop-drafts-2) → IsWithinLimits (record { messages = c.self.inside.messages + 1; records = c.in-Some.records; rrsets = c.self.inside.rrsets.items ++ c.in_ok-drafts.drafts.items })
+    × ArePairs (nsec3_rdata (c.self.inside.rrsets.items ++ c.in_ok-drafts.drafts.items)) (c.self.inside.pairs.items ++ c.in_ok-pairs.pairs.items)
+after c =
+    grown c.self.inside.messages c.self.inside.records c.in-Some.records c.self.inside.rrsets.items c.args.message.now c.self.inside.pairs.items c.in_ok-pairs.pairs.items c.in_ok-drafts.drafts.items
+    c.self.invariant.0 (omega arith) c.in-Some.ensures.1
+    (subst (AllByRecursion IsSmall) c.as_slice.ensures.value (c.in_ok-are_small.ensures.0 c.if-not-branch.false))
+    (subst (λ (drafts : List Group). ArePairs (nsec3_rdata c.self.inside.rrsets.items ++ nsec3_rdata drafts) (c.self.inside.pairs.items ++ c.in_ok-pairs.pairs.items)) c.as_slice-3.ensures.value
+    (pairs_so_far c.self.inside.rrsets.items c.as_slice-3.result.now c.self.inside.pairs.items c.as_slice-2.result.now c.in_ok-pairs.pairs.items c.self.invariant.1 c.as_slice-2.ensures.value c.in_ok-pairs.ensures))
+    (rw (← c.as_slice-4.ensures.value, ← c.as_slice-5.ensures.value) (c.has_room.ensures.0 c.if-not-has_room.false))
+
+pub invariant_of-self-2 : goal.invariant_of-self-2
+invariant_of-self-2 c =
+    rw (
+      c.in_ok-append.ensures.items ∙ ap (λ rrsets. c.self.inside.rrsets.items ++ rrsets) (c.in_ok-rrsets.ensures ∙ c.as_slice-6.ensures.value),
+      c.in-Ok.ensures.items ∙ ap (λ pairs. pairs ++ c.in_ok-pairs.pairs.items) c.in_ok-reserve.ensures.items,
+    ) (after c)
+
+pub returns-clause-limits : goal.returns-clause-limits
+returns-clause-limits c =
+    subst (λ held. IsWithinLimits (with_message held c.args.message.now)) c.self.view_is
+    (subst IsWithinLimits
+    (grown_is c.self.inside.messages c.self.inside.records c.in-Some.records c.self.inside.rrsets.items c.args.message.now c.in_ok-drafts.drafts.items c.in-Some.ensures.0 c.in_ok-drafts.ensures)
+    (after c).0)

@@ -1,0 +1,10 @@
+use Rattle.std.proofs.Common.{ℕ, List, ◌++◌, take}
+use Rattle.dnsv_canonical.specs.Evidence.{nsec3_rdata}
+use Rattle.dnsv_canonical.specs.Kept.{ArePairs}
+use Rattle.dnsv_canonical.proofs.limits.fresh_pairs.Given as goal
+
+-- the pairs of the RRsets so far
+abbrev pub invariant-loop-draft : goal.invariant-loop-draft
+invariant-loop-draft l =
+    (earlier : List (List ℕ)) → ArePairs earlier l.kept
+    → ArePairs (earlier ++ nsec3_rdata (take l.draft-index l.drafts)) (l.kept ++ l.fresh.items)

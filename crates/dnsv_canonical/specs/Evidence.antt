@@ -1,0 +1,116 @@
+-- Evidence: which messages a capture takes, and what it holds of them.
+use Rattle.std.specs.Prelude.{◌≡◌, ℕ, zero, suc, ◌+◌, ◌≤◌, ⊤, ◌==◌, if◌then◌else◌, List, [], ◌∷◌, ◌++◌, length, Contains, Option, Some, None, flat_map}
+use Rattle.std.specs.List.{AllByRecursion, fold}
+use Rattle.dnsv_message.specs.Message.{Contents, records_of}
+use Rattle.dnsv_message.specs.declared.record.Record.{Record}
+use Rattle.dnsv_records.specs.declared.dnskey.Dnskey.{Dnskey}
+use Rattle.dnsv_records.specs.declared.ds.Ds.{Ds}
+use Rattle.dnsv_records.specs.declared.nsec.Nsec.{Nsec}
+use Rattle.dnsv_records.specs.declared.nsec3.Nsec3.{Nsec3}
+use Rattle.dnsv_records.specs.declared.rrsig.Rrsig.{Rrsig}
+use Rattle.dnsv_records.specs.Dnskey.{IsDnskey}
+use Rattle.dnsv_records.specs.Ds.{IsDs}
+use Rattle.dnsv_records.specs.Nsec.{IsNsec}
+use Rattle.dnsv_records.specs.Nsec3.{IsNsec3, IsUsable}
+use Rattle.dnsv_records.specs.Rrsig.{IsRrsig}
+use Rattle.dnsv_canonical.specs.Response.{IsResponse, IsTruncated}
+use Rattle.dnsv_canonical.specs.Rrsets.{Group, message_rrsets}
+use Rattle.dnsv_canonical.specs.declared.capture.CaptureError.{CaptureError}
+use Rattle.dnsv_canonical.specs.declared.capture.CaptureError.TheVariants.{OutOfMemory, NotAResponse, Truncated, BadRdata, Limit}
+
+-- ---- the message
+
+-- the message is a response that wasn't cut to fit
+abbrev pub IsWhole : Contents → Type 0
+IsWhole message = IsResponse message.flags × ¬ IsTruncated message.flags
+
+-- the RDATA is some DS, RRSIG, NSEC, DNSKEY or NSEC3, where that is its type
+pub record IsLaidOut (rtype : ℕ) (rdata : List ℕ) : Type 0 where
+  pub ds : rtype ≡ 43 → (ds : Ds) × IsDs rdata ds
+  pub rrsig : rtype ≡ 46 → (rrsig : Rrsig) × IsRrsig rdata rrsig
+  pub nsec : rtype ≡ 47 → (nsec : Nsec) × IsNsec rdata nsec
+  pub dnskey : rtype ≡ 48 → (dnskey : Dnskey) × IsDnskey rdata dnskey
+  pub nsec3 : rtype ≡ 50 → (nsec3 : Nsec3) × IsNsec3 rdata nsec3
+
+-- the record's RDATA can be read; that of another class than IN means nothing here
+abbrev pub IsReadable : Record → Type 0
+IsReadable r = r.class.0 ≡ 1 → IsLaidOut r.rtype.0 r.rdata
+
+-- the k-th of the records, from 1 on, is the first that can't be read
+abbrev pub IsFirstBad : List Record → ℕ → Type 0
+IsFirstBad records k =
+    (before : List Record) × (bad : Record) × (behind : List Record) × (records ≡ before ++ bad ∷ behind)
+    × AllByRecursion IsReadable before × ¬ IsReadable bad × (k ≡ suc (length before))
+
+-- ---- what is held
+
+-- how many messages and records were taken, and the RRsets of those messages: the k-th of them, from 1 on, is RRset k
+pub record Evidence : Type 0 where
+  pub messages : ℕ
+  pub records : ℕ
+  pub rrsets : List Group
+
+abbrev pub no_evidence : Evidence
+no_evidence = record { messages = 0; records = 0; rrsets = [] }
+
+-- one message more
+abbrev pub with_message : Evidence → Contents → Evidence
+with_message held message = record {
+  messages = suc held.messages;
+  records = held.records + length (records_of message);
+  rrsets = held.rrsets ++ message_rrsets (suc held.messages) message;
+}
+
+-- the evidence of messages that are added one by one
+abbrev pub evidence_of : List Contents → Evidence
+evidence_of messages = fold with_message no_evidence messages
+
+-- ---- limits
+
+-- there are at most so many: some list of so many has each
+abbrev pub AtMost : {X : Type 0} → ℕ → (X → Type 0) → Type 0
+AtMost {X} limit P = (all : List X) × (length all ≤ limit) × ((x : X) → P x → Contains all x)
+
+-- an RRset has at most 16 distinct keys, by their whole RDATA, and at most 16 signatures, of which none is listed twice
+pub record IsSmall (rrset : Group) : Type 0 where
+  pub keys : rrset.rtype ≡ 48 → AtMost 16 (Contains rrset.rdata)
+  pub signatures : length rrset.signatures ≤ 16
+
+-- the RDATA of the NSEC3 records
+abbrev pub nsec3_rdata : List Group → List (List ℕ)
+nsec3_rdata rrsets = flat_map (λ rrset. if rrset.rtype == 50 then rrset.rdata else []) rrsets
+
+-- the iterations and the salt of a usable NSEC3 record (RFC 5155 3.1.3, 3.1.5)
+abbrev pub IsPairOf : List ℕ → ℕ × List ℕ → Type 0
+IsPairOf rdata pair = (nsec3 : Nsec3) × IsNsec3 rdata nsec3 × IsUsable nsec3 × (pair ≡ (nsec3.iterations, nsec3.salt))
+
+-- a pair of one of these NSEC3 records
+abbrev pub IsPairAmong : List (List ℕ) → ℕ × List ℕ → Type 0
+IsPairAmong received pair = (rdata : List ℕ) × Contains received rdata × IsPairOf rdata pair
+
+-- at most 64 messages, 4,096 records of all classes and types, and 8 distinct pairs of iterations and salt
+pub record IsWithinLimits (held : Evidence) : Type 0 where
+  pub messages : held.messages ≤ 64
+  pub records : held.records ≤ 4096
+  pub rrsets : AllByRecursion IsSmall held.rrsets
+  pub pairs : AtMost 8 (IsPairAmong (nsec3_rdata held.rrsets))
+
+-- ---- what is refused
+
+-- why the message isn't taken besides what is held; each reason leaves out those before it
+abbrev pub IsRefusal : Evidence → Contents → CaptureError → Type 0
+IsRefusal held message OutOfMemory = ⊤
+IsRefusal held message NotAResponse = ¬ IsResponse message.flags
+IsRefusal held message Truncated = IsResponse message.flags × IsTruncated message.flags
+IsRefusal held message (BadRdata k) = IsWhole message × IsFirstBad (records_of message) k
+IsRefusal held message Limit =
+    IsWhole message × AllByRecursion IsReadable (records_of message) × ¬ IsWithinLimits (with_message held message)
+
+-- ---- signatures
+
+-- the RDATA of the signatures of the RRset with the number, from 1 on; none where no RRset has it
+abbrev pub signatures_at : List Group → ℕ → List (List ℕ)
+signatures_at rrsets zero = []
+signatures_at [] (suc k) = []
+signatures_at (rrset ∷ rrsets) (suc zero) = rrset.signatures
+signatures_at (rrset ∷ rrsets) (suc (suc k)) = signatures_at rrsets (suc k)

@@ -1,0 +1,172 @@
+//! Captures: evidence in memory of its own.
+ghost use Rattle.std.specs.Prelude.{◌≡◌, IfErr, List, OnErr, OnOk};
+ghost use Rattle.std.specs.List.{AllByRecursion, AllZip};
+ghost use Rattle.dnsv_message.specs.Message.{Contents, records_of};
+ghost use Rattle.dnsv_records.specs.Rrsig.{IsRrsig};
+ghost use Rattle.dnsv_canonical.specs.Evidence.{Evidence, IsReadable, IsRefusal, IsWhole, IsWithinLimits, evidence_of, no_evidence, signatures_at, with_message};
+ghost use Rattle.dnsv_canonical.specs.Rrsets.{rrsets_of};
+ghost use Rattle.dnsv_canonical.specs.declared.capture.CaptureError.TheVariants.{OutOfMemory};
+
+use crate::draft::message_rrsets;
+use crate::limits::{MESSAGE_LIMIT, are_small, fresh_pairs, has_room, records_with};
+use crate::readable::check_rdata;
+use crate::rrset::{Rrset, owned};
+use dnsv_message::Message;
+use dnsv_records::{Octets, Rrsig};
+use std::alloc::{AllocError, Global};
+use std::marker::Model;
+use thiserror::Error;
+
+/// Why a message isn't added to a capture.
+#[derive(Clone, Copy, Debug, PartialEq, Eq, Error)]
+pub enum CaptureError {
+    #[error("out of memory")]
+    OutOfMemory,
+    /// QR is clear: the message is a query (RFC 1035 4.1.1).
+    #[error("the message is no response")]
+    NotAResponse,
+    /// TC is set: the message lacks records that didn't fit (RFC 1035 4.1.1).
+    #[error("the message is truncated")]
+    Truncated,
+    /// The record with this number, from 1 on through the three sections, is the first IN record of DNSKEY, DS,
+    /// RRSIG, NSEC or NSEC3 whose RDATA isn't laid out as its type says.
+    #[error("record {0} has bad RDATA")]
+    BadRdata(usize),
+    /// With the message the capture would have more than 64 messages, 4,096 records, 16 distinct keys in a DNSKEY
+    /// RRset, 16 distinct signatures of an RRset, or 8 distinct pairs of iterations and salt over its usable NSEC3
+    /// records.
+    #[error("the capture would pass a limit")]
+    Limit,
+}
+
+impl From<AllocError> for CaptureError {
+    ghost from_gives = { λ _ error. error ≡ OutOfMemory };
+
+    fn from(_error: AllocError) -> CaptureError {
+        CaptureError::OutOfMemory
+    }
+}
+
+/// Captured messages as evidence: their RRsets with their signatures, in memory of their own.
+#[derive(Drop)]
+pub struct Capture {
+    alloc: Global,
+    messages: usize,
+    records: usize,
+    rrsets: Vec<Rrset>,
+    /// The pairs of iterations and salt of the NSEC3 records that can be used, each once.
+    pairs: Vec<(u16, Octets)>,
+}
+
+impl Model for Capture {
+    ghost use Rattle.dnsv_canonical.specs.Evidence.{Evidence, IsWithinLimits, nsec3_rdata};
+    ghost use Rattle.dnsv_canonical.specs.Kept.{ArePairs};
+
+    ghost Value = { Evidence };
+
+    ghost view = { λ capture. record {
+      messages = capture.messages;
+      records = capture.records;
+      rrsets = capture.rrsets.items;
+    } };
+
+    ghost invariant = { λ capture.
+        IsWithinLimits (record { messages = capture.messages; records = capture.records; rrsets = capture.rrsets.items })
+        × ArePairs (nsec3_rdata capture.rrsets.items) capture.pairs.items };
+}
+
+impl Capture {
+    /// A capture without messages. It takes no memory, and keeps the allocator.
+    pub fn new(alloc: Global) -> Capture
+        ensures { result ≡ no_evidence }
+    {
+        Capture {
+            alloc,
+            messages: 0,
+            records: 0,
+            rrsets: Vec::new(alloc),
+            pairs: Vec::new(alloc),
+        }
+    }
+
+    /// Adds a message. It is refused for the first of these that holds, and the capture then stays as it was:
+    /// it is a query, it was cut to fit, a record can't be read, the capture would pass a limit.
+    pub fn add(&mut self, message: &Message) -> Result<(), CaptureError>
+        ensures added { OnOk result (self.new ≡ with_message self.old message.now) }
+        ensures whole { OnOk result (IsWhole message.now) }
+        ensures readable { OnOk result (AllByRecursion IsReadable (records_of message.now)) }
+        ensures limits { OnOk result (IsWithinLimits (with_message self.old message.now)) }
+
+        // Each reason leaves out those before it.
+        ensures refused { IfErr result (IsRefusal self.old message.now) }
+        ensures unchanged { OnErr result (self.new ≡ self.old) }
+    {
+        check_whole(message)?;
+        check_rdata(self.alloc, message)?;
+        let Some(records) = records_with(self.records, message) else {
+            return Err(CaptureError::Limit);
+        };
+        if self.messages >= MESSAGE_LIMIT {
+            return Err(CaptureError::Limit);
+        }
+        let drafts = message_rrsets(self.alloc, self.messages + 1, message)?;
+        if !are_small(self.alloc, drafts.as_slice())? {
+            return Err(CaptureError::Limit);
+        }
+        let mut pairs = fresh_pairs(self.alloc, self.pairs.as_slice(), drafts.as_slice())?;
+        if !has_room(self.pairs.as_slice(), pairs.as_slice()) {
+            return Err(CaptureError::Limit);
+        }
+        let mut rrsets = owned(self.alloc, drafts.as_slice())?;
+        self.pairs.reserve(pairs.len())?;
+        self.rrsets.append(&mut rrsets)?;
+        // There is room for the pairs, so nothing fails from here on.
+        let Ok(()) = self.pairs.append(&mut pairs) else {
+            unreachable!();
+        };
+        self.messages += 1;
+        self.records = records;
+        Ok(())
+    }
+
+    /// The RRsets of the messages by first appearance; they are numbered from 1.
+    pub fn rrsets(&self) -> &[Rrset]
+        ensures { result.now ≡ self.now.rrsets }
+    {
+        &self.rrsets
+    }
+
+    /// The signatures of the RRset with the number, from 1 on; none where no RRset has it. They are numbered
+    /// from 1 too.
+    pub fn signatures(&self, rrset: usize) -> &[Rrsig]
+        ensures { AllZip IsRrsig (signatures_at self.now.rrsets rrset) result.now }
+    {
+        let rrsets = self.rrsets();
+        if rrset == 0 || rrset > rrsets.len() {
+            return &[];
+        }
+        rrsets[rrset - 1].signatures()
+    }
+}
+
+/// A law of captures: messages that are added one by one give the RRsets of them all.
+pub fn captures_hold_the_rrsets()
+    ensures { (messages : List Contents) → (evidence_of messages).rrsets ≡ rrsets_of messages }
+{}
+
+/// Whether the message is a response that wasn't cut to fit.
+fn check_whole(message: &Message) -> Result<(), CaptureError>
+    ensures ok { OnOk result (IsWhole message.now) }
+    ensures refused { (held : Evidence) → IfErr result (IsRefusal held message.now) }
+{
+    if !message.flags().is_response() {
+        return Err(CaptureError::NotAResponse);
+    }
+    if message.flags().is_truncated() {
+        return Err(CaptureError::Truncated);
+    }
+    Ok(())
+}
+
+#[cfg(test)]
+mod tests;

@@ -1,0 +1,178 @@
+//! RRsets as they stand in messages that lie elsewhere.
+ghost use Rattle.std.specs.Prelude.{◌≡◌, ◌++◌, ◌+◌, IfOk, OnOk, map, List, ℕ};
+ghost use Rattle.std.specs.Option.{option_map};
+ghost use Rattle.dnsv_message.specs.declared.record.Section.{Section};
+ghost use Rattle.dnsv_canonical.specs.SignedData.{IsSignedData};
+
+use crate::by_rrset::{distinct, taken};
+use crate::section::{is_grouped, rdata_by_rrset, signatures_by_rrset};
+use crate::signed::signed_octets;
+use dnsv_message::{Message, Record, Section};
+use dnsv_names::{Name, RecordType};
+use dnsv_records::Rrsig;
+use std::alloc::{AllocError, Global};
+use std::marker::Model;
+
+/// An RRset of a message that lies elsewhere: the IN records of one message, section, owner and type, and the
+/// signatures that cover it there.
+///
+/// Owners are equal without regard to case. Records of the types 0, OPT, RRSIG and 128 to 255 form no RRset, nor
+/// do those of types that are no longer in use.
+#[derive(Drop)]
+pub struct Draft<'a> {
+    message: usize,
+    section: Section,
+    owner: &'a Name,
+    rtype: RecordType,
+    rdata: Vec<&'a [u8]>,
+    signatures: Vec<&'a [u8]>,
+}
+
+impl<'a> Model for Draft<'a> {
+    ghost use Rattle.std.specs.Prelude.{map};
+    ghost use Rattle.dnsv_canonical.specs.Rrsets.{Group};
+
+    ghost Value = { Group };
+
+    ghost view = { λ rrset. record {
+      message = rrset.message;
+      section = rrset.section;
+      owner = rrset.owner.now;
+      rtype = rrset.rtype.0;
+      rdata = map (λ r. r.now) rrset.rdata.items;
+      signatures = map (λ r. r.now) rrset.signatures.items;
+    } };
+}
+
+impl<'a> Draft<'a> {
+    /// The number of its message, from 1 on.
+    pub fn message(&self) -> usize
+        ensures { result ≡ self.now.message }
+    {
+        self.message
+    }
+
+    /// The section that its records stand in.
+    pub fn section(&self) -> Section
+        ensures { result ≡ self.now.section }
+    {
+        self.section
+    }
+
+    /// The owner as its first record spells it.
+    pub fn owner(&self) -> &Name
+        ensures { result.now ≡ self.now.owner }
+    {
+        self.owner
+    }
+
+    /// The type of its records.
+    pub fn rtype(&self) -> RecordType
+        ensures { result.0 ≡ self.now.rtype }
+    {
+        self.rtype
+    }
+
+    /// The RDATA of its records as received, in order.
+    pub fn rdata(&self) -> &[&'a [u8]]
+        ensures { map (λ r. r.now) result.now ≡ self.now.rdata }
+    {
+        &self.rdata
+    }
+
+    /// The RDATA of the IN RRSIG records of its message, section and owner that cover its type, in order, of equal
+    /// ones the first. They are numbered from 1.
+    pub fn signatures(&self) -> &[&'a [u8]]
+        ensures { map (λ r. r.now) result.now ≡ self.now.signatures }
+    {
+        &self.signatures
+    }
+
+    /// What the signature signs over the RRset; `None` where Labels is above the owner's count of labels.
+    pub fn signed_data(&self, alloc: Global, rrsig: &Rrsig) -> Result<Option<Vec<u8>>, AllocError>
+        ensures { IfOk result (λ answer. IsSignedData self.now.owner self.now.rtype self.now.rdata rrsig.now
+            (option_map (λ octets. octets.items) answer)) }
+    {
+        signed_octets(alloc, self.owner, self.rtype, self.rdata.as_slice(), rrsig)
+    }
+}
+
+ghost use Rattle.dnsv_canonical.specs.Rrsets.{message_rrsets, rrsets_in, rrsets_of};
+
+/// The RRsets of the messages by first appearance; they are numbered from 1.
+pub fn rrsets<'a>(alloc: Global, messages: &'a [Message]) -> Result<Vec<Draft<'a>>, AllocError>
+    ensures { IfOk result (λ rrsets. rrsets.items ≡ rrsets_of messages.now) }
+{
+    let mut rrsets = Vec::new(alloc);
+    for (index, message) in messages.iter().enumerate() {
+        add_message(alloc, &mut rrsets, index + 1, message)?;
+    }
+    Ok(rrsets)
+}
+
+/// The RRsets of the message, which has this number.
+pub fn message_rrsets<'a>(
+    alloc: Global,
+    number: usize,
+    message: &'a Message,
+) -> Result<Vec<Draft<'a>>, AllocError>
+    ensures { IfOk result (λ rrsets. rrsets.items ≡ message_rrsets number message.now) }
+{
+    let mut rrsets = Vec::new(alloc);
+    add_message(alloc, &mut rrsets, number, message)?;
+    Ok(rrsets)
+}
+
+/// Adds the RRsets of the message, which has this number.
+fn add_message<'a>(
+    alloc: Global,
+    rrsets: &mut Vec<Draft<'a>>,
+    number: usize,
+    message: &'a Message,
+) -> Result<(), AllocError>
+    ensures { OnOk result (rrsets.new.items ≡ rrsets.old.items ++ message_rrsets number message.now) }
+{
+    let answer = message.records(Section::Answer);
+    let authority = message.records(Section::Authority);
+    let additional = message.records(Section::Additional);
+    add_section(alloc, rrsets, number, Section::Answer, answer)?;
+    add_section(alloc, rrsets, number, Section::Authority, authority)?;
+    add_section(alloc, rrsets, number, Section::Additional, additional)
+}
+
+/// Adds the RRsets of a section.
+fn add_section<'a>(
+    alloc: Global,
+    rrsets: &mut Vec<Draft<'a>>,
+    message: usize,
+    section: Section,
+    records: &'a [Record],
+) -> Result<(), AllocError>
+    ensures { OnOk result (rrsets.new.items ≡ rrsets.old.items ++ rrsets_in message section records.now) }
+{
+    let mut data = rdata_by_rrset(alloc, records)?;
+    let signatures = signatures_by_rrset(alloc, records)?;
+    for record in records {
+        if !is_grouped(record) {
+            continue;
+        }
+        let rtype = record.rtype;
+        let owner = &record.name;
+        // The first record of an RRset takes the RDATA of all, and leaves none to the others.
+        let rdata = taken(alloc, &mut data, rtype, owner);
+        if !rdata.is_empty() {
+            rrsets.push(Draft {
+                message,
+                section,
+                owner,
+                rtype,
+                rdata,
+                signatures: distinct(alloc, &signatures, rtype, owner)?,
+            })?;
+        }
+    }
+    Ok(())
+}
+
+#[cfg(test)]
+mod tests;

@@ -1,0 +1,176 @@
+//! How much an RRset and a capture may have.
+ghost use Rattle.std.specs.Prelude.{◌≡◌, ◌↔◌, ◌+◌, ◌<◌, ◌≤◌, ℕ, List, [], ◌∷◌, ◌++◌, length, map, Contains, Option, Some, IfOk, IsTrue, OnOk, MatchOption};
+ghost use Rattle.std.specs.List.{AllByRecursion};
+ghost use Rattle.dnsv_message.specs.Message.{records_of};
+ghost use Rattle.dnsv_canonical.specs.Evidence.{IsSmall, AtMost, IsPairOf, nsec3_rdata};
+ghost use Rattle.dnsv_canonical.specs.Kept.{ArePairs};
+
+use crate::canonical::canonical_rdata;
+use crate::draft::Draft;
+use crate::readable::{DNSKEY, NSEC3};
+use dnsv_message::{Message, Section};
+use dnsv_records::{Nsec3, Octets, RecordError};
+use std::alloc::{AllocError, Global};
+
+/// How many messages a capture has at most.
+pub const MESSAGE_LIMIT: usize = 64;
+
+/// How many records the messages of a capture have at most, of all sections, classes and types.
+pub const RECORD_LIMIT: usize = 4096;
+
+/// How many keys a DNSKEY RRset has at most, equal ones counted once.
+pub const KEY_LIMIT: usize = 16;
+
+/// How many signatures an RRset has at most, equal ones counted once.
+pub const SIGNATURE_LIMIT: usize = 16;
+
+/// How many pairs of iterations and salt the usable NSEC3 records of a capture have at most.
+pub const PAIR_LIMIT: usize = 8;
+
+/// So many records and those of the message, or `None` above the limit.
+pub fn records_with(records: usize, message: &Message) -> Option<usize>
+    ensures { MatchOption result (4096 < records + length (records_of message.now))
+        (λ total. (total ≡ records + length (records_of message.now)) × (total ≤ 4096)) }
+{
+    let total = records
+        .saturating_add(message.records(Section::Answer).len())
+        .saturating_add(message.records(Section::Authority).len())
+        .saturating_add(message.records(Section::Additional).len());
+    if total > RECORD_LIMIT {
+        None
+    } else {
+        Some(total)
+    }
+}
+
+/// Whether each RRset is within its limits.
+pub fn are_small(alloc: Global, drafts: &[Draft<'_>]) -> Result<bool, AllocError>
+    ensures { IfOk result (λ answer. IsTrue answer ↔ AllByRecursion IsSmall drafts.now) }
+{
+    for draft in drafts {
+        if !is_small(alloc, draft)? {
+            return Ok(false);
+        }
+    }
+    Ok(true)
+}
+
+/// Whether the RRset is within its limits.
+fn is_small(alloc: Global, draft: &Draft<'_>) -> Result<bool, AllocError>
+    ensures { IfOk result (λ answer. IsTrue answer ↔ IsSmall draft.now) }
+{
+    if draft.signatures().len() > SIGNATURE_LIMIT {
+        return Ok(false);
+    }
+    if draft.rtype() != DNSKEY {
+        return Ok(true);
+    }
+    has_few_keys(alloc, draft.rdata())
+}
+
+/// Whether the RDATA is at most 16, equal ones counted once.
+fn has_few_keys(alloc: Global, received: &[&[u8]]) -> Result<bool, AllocError>
+    ensures { IfOk result (λ answer. IsTrue answer ↔ AtMost 16 (Contains (map (λ r. r.now) received.now))) }
+{
+    let keys = canonical_rdata(alloc, received)?;
+    Ok(keys.as_slice().len() <= KEY_LIMIT)
+}
+
+/// The pairs of iterations and salt of the RRsets' NSEC3 records that can be used, each once, but for those that
+/// are kept.
+pub fn fresh_pairs(
+    alloc: Global,
+    kept: &[(u16, Octets)],
+    drafts: &[Draft<'_>],
+) -> Result<Vec<(u16, Octets)>, AllocError>
+    ensures { IfOk result (λ fresh. (earlier : List (List ℕ)) → ArePairs earlier kept.now
+        → ArePairs (earlier ++ nsec3_rdata drafts.now) (kept.now ++ fresh.items)) }
+{
+    let mut fresh = Vec::new(alloc);
+    for draft in drafts {
+        add_rrset(alloc, kept, &mut fresh, draft)?;
+    }
+    Ok(fresh)
+}
+
+/// Adds the pairs of the RRset, where it has NSEC3 records, that are not among the others.
+fn add_rrset(
+    alloc: Global,
+    kept: &[(u16, Octets)],
+    fresh: &mut Vec<(u16, Octets)>,
+    draft: &Draft<'_>,
+) -> Result<(), AllocError>
+    ensures { OnOk result ((earlier : List (List ℕ)) → ArePairs earlier (kept.now ++ fresh.old.items)
+        → ArePairs (earlier ++ nsec3_rdata (draft.now ∷ [])) (kept.now ++ fresh.new.items)) }
+{
+    if draft.rtype() != NSEC3 {
+        return Ok(());
+    }
+    add_records(alloc, kept, fresh, draft.rdata())
+}
+
+/// Adds the pairs of NSEC3 records that are not among the others.
+fn add_records(
+    alloc: Global,
+    kept: &[(u16, Octets)],
+    fresh: &mut Vec<(u16, Octets)>,
+    received: &[&[u8]],
+) -> Result<(), AllocError>
+    ensures { OnOk result ((earlier : List (List ℕ)) → ArePairs earlier (kept.now ++ fresh.old.items)
+        → ArePairs (earlier ++ map (λ r. r.now) received.now) (kept.now ++ fresh.new.items)) }
+{
+    for rdata in received {
+        let found = usable_pair(alloc, rdata)?;
+        add_pair(kept, fresh, found)?;
+    }
+    Ok(())
+}
+
+/// Adds the pair of an NSEC3 record, if it has one that is not among the others.
+fn add_pair(
+    kept: &[(u16, Octets)],
+    fresh: &mut Vec<(u16, Octets)>,
+    found: Option<(u16, Octets)>,
+) -> Result<(), AllocError>
+    ensures { OnOk result ((earlier : List (List ℕ)) (rdata : List ℕ) → ArePairs earlier (kept.now ++ fresh.old.items)
+        → ((pair : ℕ × List ℕ) → (found ≡ Some pair) ↔ IsPairOf rdata pair)
+        → ArePairs (earlier ++ rdata ∷ []) (kept.now ++ fresh.new.items)) }
+{
+    let Some(pair) = found else {
+        return Ok(());
+    };
+    if is_among(kept, fresh.as_slice(), &pair) {
+        return Ok(());
+    }
+    fresh.push(pair)?;
+    Ok(())
+}
+
+/// Whether the pair is among those of the two lists.
+fn is_among(kept: &[(u16, Octets)], fresh: &[(u16, Octets)], pair: &(u16, Octets)) -> bool
+    ensures { IsTrue result ↔ Contains (kept.now ++ fresh.now) pair.now }
+{
+    kept.contains(pair) || fresh.contains(pair)
+}
+
+/// The iterations and the salt of an NSEC3 record, if it can be used.
+fn usable_pair(alloc: Global, rdata: &[u8]) -> Result<Option<(u16, Octets)>, AllocError>
+    ensures { IfOk result (λ found. (pair : ℕ × List ℕ) → (found ≡ Some pair) ↔ IsPairOf rdata.now pair) }
+{
+    let nsec3 = match Nsec3::read(alloc, rdata) {
+        Ok(nsec3) => nsec3,
+        Err(RecordError::BadRdata(_)) => return Ok(None),
+        Err(RecordError::OutOfMemory) => return Err(AllocError),
+    };
+    if !nsec3.is_usable() {
+        return Ok(None);
+    }
+    Ok(Some((nsec3.iterations, nsec3.salt)))
+}
+
+/// Whether a capture may have the pairs of both lists.
+pub fn has_room(kept: &[(u16, Octets)], fresh: &[(u16, Octets)]) -> bool
+    ensures { IsTrue result ↔ (length (kept.now ++ fresh.now) ≤ 8) }
+{
+    kept.len().saturating_add(fresh.len()) <= PAIR_LIMIT
+}

@@ -1,0 +1,101 @@
+//! Which records can be read.
+ghost use Rattle.std.specs.Prelude.{◌≡◌, ◌↔◌, ◌+◌, IfOk, IsTrue, OnOk, IfErr, MatchOption};
+ghost use Rattle.std.specs.List.{AllByRecursion};
+ghost use Rattle.dnsv_message.specs.Message.{records_of};
+ghost use Rattle.dnsv_canonical.specs.Evidence.{Evidence, IsWhole, IsLaidOut, IsReadable, IsFirstBad, IsRefusal};
+ghost use Rattle.dnsv_canonical.specs.Kept.{told, IsBadAfter};
+
+use crate::capture::CaptureError;
+use dnsv_message::{Class, Message, Record, Section};
+use dnsv_names::RecordType;
+use dnsv_records::{Dnskey, Ds, Nsec, Nsec3, RecordError, Rrsig};
+use std::alloc::{AllocError, Global};
+
+/// A digest of a key of the zone below (RFC 4034 5).
+const DS: RecordType = RecordType(43);
+
+/// A key of a zone (RFC 4034 2).
+pub const DNSKEY: RecordType = RecordType(48);
+
+/// A gap between two hashes of names and the types of the first (RFC 5155 3).
+pub const NSEC3: RecordType = RecordType(50);
+
+/// Whether all of the message's DNSSEC records of class IN can be read: else `BadRdata` tells the first that can't,
+/// by its number through the three sections, from 1 on.
+pub fn check_rdata(alloc: Global, message: &Message) -> Result<(), CaptureError>
+    ensures ok { OnOk result (AllByRecursion IsReadable (records_of message.now)) }
+    ensures refused { (held : Evidence) → IsWhole message.now → IfErr result (IsRefusal held message.now) }
+{
+    let answer = message.records(Section::Answer);
+    let authority = message.records(Section::Authority);
+    let additional = message.records(Section::Additional);
+    check_section(alloc, 0, answer)?;
+    check_section(alloc, answer.len(), authority)?;
+    // No message has so many records that their count doesn't fit: memory would end before.
+    let Some(earlier) = answer.len().checked_add(authority.len()) else {
+        return Err(CaptureError::OutOfMemory);
+    };
+    check_section(alloc, earlier, additional)
+}
+
+/// Whether the records of a section can be read, before which so many stand.
+fn check_section(alloc: Global, earlier: usize, records: &[Record]) -> Result<(), CaptureError>
+    ensures ok { OnOk result (AllByRecursion IsReadable records.now) }
+    ensures refused { IfErr result (IsBadAfter earlier records.now) }
+{
+    let Some(place) = first_bad(alloc, records)? else {
+        return Ok(());
+    };
+    // The number fits, as the count before it does.
+    match earlier.checked_add(place) {
+        Some(number) => Err(CaptureError::BadRdata(number)),
+        None => Err(CaptureError::OutOfMemory),
+    }
+}
+
+/// Which of the records is the first that can't be read, from 1 on.
+fn first_bad(alloc: Global, records: &[Record]) -> Result<Option<usize>, AllocError>
+    ensures { IfOk result (λ found. MatchOption found (AllByRecursion IsReadable records.now) (IsFirstBad records.now)) }
+{
+    for (index, candidate) in records.iter().enumerate() {
+        if !is_readable(alloc, candidate)? {
+            return Ok(Some(index + 1));
+        }
+    }
+    Ok(None)
+}
+
+/// Whether the candidate's RDATA can be read.
+fn is_readable(alloc: Global, candidate: &Record) -> Result<bool, AllocError>
+    ensures { IfOk result (λ answer. IsTrue answer ↔ IsReadable candidate.now) }
+{
+    if candidate.class != Class::IN {
+        return Ok(true);
+    }
+    is_laid_out(alloc, candidate.rtype, candidate.rdata.octets())
+}
+
+/// Whether the RDATA is laid out as the type says.
+fn is_laid_out(alloc: Global, rtype: RecordType, rdata: &[u8]) -> Result<bool, AllocError>
+    ensures { IfOk result (λ answer. IsTrue answer ↔ IsLaidOut rtype.0 rdata.now) }
+{
+    match rtype {
+        DS => was_read(Ds::read(alloc, rdata)),
+        RecordType::RRSIG => was_read(Rrsig::read(alloc, rdata)),
+        RecordType::NSEC => was_read(Nsec::read(alloc, rdata)),
+        DNSKEY => was_read(Dnskey::read(alloc, rdata)),
+        NSEC3 => was_read(Nsec3::read(alloc, rdata)),
+        _ => Ok(true),
+    }
+}
+
+/// Whether the RDATA was read.
+fn was_read<T: Drop>(read: Result<T, RecordError>) -> Result<bool, AllocError>
+    ensures { result ≡ told read }
+{
+    match read {
+        Ok(_) => Ok(true),
+        Err(RecordError::BadRdata(_)) => Ok(false),
+        Err(RecordError::OutOfMemory) => Err(AllocError),
+    }
+}
