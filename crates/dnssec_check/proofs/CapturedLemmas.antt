@@ -1,24 +1,33 @@
 -- The messages of frames, one after another.
-use Rattle.std.proofs.Common.{◌≡◌, ℕ, ◌+◌, ◌<◌, ◌≤◌, List, [], ◌∷◌, ◌++◌, length, get_or, take, drop, sym, ap, subst, ◌∙◌, inl, inr, arith}
+use Rattle.std.proofs.Common.{◌≡◌, ℕ, ◌+◌, ◌<◌, ◌≤◌, List, [], ◌∷◌, ◌++◌, length, get_or, take, drop, refl, sym, ap, subst, ◌∙◌, inl, inr, arith}
 use Rattle.std.proofs.lemmas.List.{drop_more, take_all, take_more, length-map, get_or-map}
-use Rattle.std.specs.List.{AllZip}
-use Rattle.std.specs.Prelude.{Vec}
+use Rattle.std.specs.List.{fold}
+use Rattle.std.specs.Prelude.{Vec, Result, Err}
 use Rattle.std.specs.declared.alloc.Global.{Global}
 use Rattle.dnsv_message.specs.Frames.{octets_of_each}
+use Rattle.dnsv_message.specs.Grammar.{MessageOf}
 use Rattle.dnsv_message.specs.Message.{Contents}
-use Rattle.dnssec_check.specs.declared.captured.Demand.{Demand}
+use Rattle.dnsv_canonical.specs.declared.capture.CaptureError.{CaptureError}
+use Rattle.dnsv_canonical.specs.declared.capture.CaptureError.TheVariants as capture
+use Rattle.dnsv_canonical.specs.Evidence.{Evidence, IsRefusal, evidence_of, no_evidence, with_message}
 use Rattle.dnssec_check.specs.declared.status.Fault.{Fault}
 use Rattle.dnssec_check.specs.declared.status.Fault.TheVariants as fault
 use Rattle.dnssec_check.specs.declared.status.Place.{Place}
 use Rattle.dnssec_check.specs.declared.status.Refusal.{Refusal}
-use Rattle.dnssec_check.specs.Captured.{IsTaken, FirstRefused}
-use Rattle.dnssec_check.specs.Told.{IsFaultOf, IsRefusedAt}
+use Rattle.dnssec_check.specs.Captured.{Demand, NewEvidence, Meets, AllTaken, FirstRefused}
+use Rattle.dnssec_check.specs.Told.{IsFaultOf, IsRefusedAt, IsCaptureFault}
 
-AllZip-push-both : (demand : Demand) (xs : List (List ℕ)) (ys : List Contents) (x : List ℕ) (y : Contents) → AllZip (IsTaken demand) xs ys → IsTaken demand x y → AllZip (IsTaken demand) (xs ++ x ∷ []) (ys ++ y ∷ [])
-AllZip-push-both demand [] [] x y all taken = (taken, tt)
-AllZip-push-both demand [] (y' ∷ ys) x y all taken = absurd all
-AllZip-push-both demand (x' ∷ xs) [] x y all taken = absurd all
-AllZip-push-both demand (x' ∷ xs) (y' ∷ ys) x y all taken = (all.0, AllZip-push-both demand xs ys x y all.1 taken)
+-- one message more at the end
+fold-push : (held : Evidence) (messages : List Contents) (message : Contents) → fold with_message held (messages ++ message ∷ []) ≡ with_message (fold with_message held messages) message
+fold-push held [] message = refl
+fold-push held (m ∷ messages) message = fold-push (with_message held m) messages message
+
+AllTaken-push : (demand : Demand) (held : Evidence) (xs : List (List ℕ)) (ys : List Contents) (x : List ℕ) (y : Contents) → AllTaken demand held xs ys
+    → MessageOf x y × Meets demand (fold with_message held ys) y → AllTaken demand held (xs ++ x ∷ []) (ys ++ y ∷ [])
+AllTaken-push demand held [] [] x y all taken = (taken, tt)
+AllTaken-push demand held [] (y' ∷ ys) x y all taken = absurd all
+AllTaken-push demand held (x' ∷ xs) [] x y all taken = absurd all
+AllTaken-push demand held (x' ∷ xs) (y' ∷ ys) x y all taken = (all.0, AllTaken-push demand (with_message held y') xs ys x y all.1 taken)
 
 -- a refusal that means another
 pub IsFaultOf-weaker : (P Q : Refusal → Place → Type 0) (told : Fault) → ((why : Refusal) (place : Place) → P why place → Q why place) → IsFaultOf P told → IsFaultOf Q told
@@ -29,10 +38,47 @@ IsFaultOf-weaker P Q (fault.TooLong file) weaker holds = holds
 IsFaultOf-weaker P Q (fault.OpenFailed file) weaker holds = holds
 IsFaultOf-weaker P Q fault.WriteFailed weaker holds = holds
 
+-- a refusal is told alike whatever else the result may be
+pub told_alike : {T U : Type 0} (told : Fault) (P : Refusal → Place → Type 0)
+    → ((why : Refusal) (place : Place) → Path (Result T Fault) (Err told) (Err (fault.Refused why place)) → P why place)
+    → (why : Refusal) (place : Place) → Path (Result U Fault) (Err told) (Err (fault.Refused why place)) → P why place
+told_alike told P refused why place is =
+    let same : told ≡ fault.Refused why place = cc in
+    refused why place (ap (λ (e : Fault). Err e) same)
+
+-- what a capture doesn't take is refused
+module _ (held : Evidence) (octets : List ℕ) (number : ℕ) (message : Contents) (is : MessageOf octets message) where
+  pub capture_refused : (error : CaptureError) (told : Fault) → IsRefusal held message error → IsCaptureFault error number told → IsFaultOf (IsRefusedAt NewEvidence held octets number) told
+  capture_refused capture.OutOfMemory told refused tells = subst (IsFaultOf (IsRefusedAt NewEvidence held octets number)) (sym tells) tt
+  capture_refused capture.NotAResponse (fault.Refused why place) refused tells = (inr (message, is, (capture.NotAResponse, refused, tells.0)), tells.1, tells.2)
+  capture_refused capture.Truncated (fault.Refused why place) refused tells = (inr (message, is, (capture.Truncated, refused, tells.0)), tells.1, tells.2)
+  capture_refused (capture.BadRdata k) (fault.Refused why place) refused tells = (inr (message, is, (capture.BadRdata k, refused, tells.0)), tells.1, tells.2)
+  capture_refused capture.Limit (fault.Refused why place) refused tells = (inr (message, is, (capture.Limit, refused, tells.0)), tells.1, tells.2)
+  capture_refused capture.NotAResponse fault.OutOfMemory refused tells = absurd tells
+  capture_refused capture.NotAResponse (fault.ReadFailed file) refused tells = absurd tells
+  capture_refused capture.NotAResponse (fault.TooLong file) refused tells = absurd tells
+  capture_refused capture.NotAResponse (fault.OpenFailed file) refused tells = absurd tells
+  capture_refused capture.NotAResponse fault.WriteFailed refused tells = absurd tells
+  capture_refused capture.Truncated fault.OutOfMemory refused tells = absurd tells
+  capture_refused capture.Truncated (fault.ReadFailed file) refused tells = absurd tells
+  capture_refused capture.Truncated (fault.TooLong file) refused tells = absurd tells
+  capture_refused capture.Truncated (fault.OpenFailed file) refused tells = absurd tells
+  capture_refused capture.Truncated fault.WriteFailed refused tells = absurd tells
+  capture_refused (capture.BadRdata k) fault.OutOfMemory refused tells = absurd tells
+  capture_refused (capture.BadRdata k) (fault.ReadFailed file) refused tells = absurd tells
+  capture_refused (capture.BadRdata k) (fault.TooLong file) refused tells = absurd tells
+  capture_refused (capture.BadRdata k) (fault.OpenFailed file) refused tells = absurd tells
+  capture_refused (capture.BadRdata k) fault.WriteFailed refused tells = absurd tells
+  capture_refused capture.Limit fault.OutOfMemory refused tells = absurd tells
+  capture_refused capture.Limit (fault.ReadFailed file) refused tells = absurd tells
+  capture_refused capture.Limit (fault.TooLong file) refused tells = absurd tells
+  capture_refused capture.Limit (fault.OpenFailed file) refused tells = absurd tells
+  capture_refused capture.Limit fault.WriteFailed refused tells = absurd tells
+
 -- the messages before the place are taken, and what is refused from there on is the first that is
 pub record Judged (demand : Demand) (frames : List (List ℕ)) (done : ℕ) (messages : List Contents) : Type 0 where
-  pub taken : AllZip (IsTaken demand) (take done frames) messages
-  pub refused : (why : Refusal) (place : Place) → FirstRefused demand (done + 1) (drop done frames) why place → FirstRefused demand 1 frames why place
+  pub taken : AllTaken demand no_evidence (take done frames) messages
+  pub refused : (why : Refusal) (place : Place) → FirstRefused demand (evidence_of messages) (done + 1) (drop done frames) why place → FirstRefused demand no_evidence 1 frames why place
 
 pub Judged-start : (demand : Demand) (frames : List (List ℕ)) → Judged demand frames 0 []
 Judged-start demand frames = record { taken = tt; refused = λ why place refused. refused }
@@ -41,21 +87,51 @@ module _ {demand : Demand} {frames : List (List ℕ)} {done : ℕ} {messages : L
   next : drop done frames ≡ octets ∷ drop (done + 1) frames
   next = drop_more frames done [] within ∙ ap (λ xs. xs ∷ drop (done + 1) frames) here
 
-  pub Judged-next : (message : Contents) → IsTaken demand octets message → Judged demand frames (done + 1) (messages ++ message ∷ [])
+  pub Judged-next : (message : Contents) → MessageOf octets message × Meets demand (evidence_of messages) message → Judged demand frames (done + 1) (messages ++ message ∷ [])
   Judged-next message taken = record {
-    taken = subst (λ xs. AllZip (IsTaken demand) xs (messages ++ message ∷ []))
+    taken = subst (λ xs. AllTaken demand no_evidence xs (messages ++ message ∷ []))
         (sym (take_more frames done [] within ∙ ap (λ xs. take done frames ++ xs ∷ []) here))
-        (AllZip-push-both demand (take done frames) messages octets message judged.taken taken);
+        (AllTaken-push demand no_evidence (take done frames) messages octets message judged.taken taken);
     refused = λ why place refused. judged.refused why place
-        (subst (λ xs. FirstRefused demand (done + 1) xs why place) (sym next)
-        (inr ((message, taken), subst (λ n. FirstRefused demand n (drop (done + 1) frames) why place) (omega arith) refused)));
+        (subst (λ xs. FirstRefused demand (evidence_of messages) (done + 1) xs why place) (sym next)
+        (inr (
+          message,
+          taken,
+          subst (λ n. FirstRefused demand (with_message (evidence_of messages) message) n (drop (done + 1) frames) why place) (omega arith)
+              (subst (λ held. FirstRefused demand held ((done + 1) + 1) (drop (done + 1) frames) why place) (fold-push no_evidence messages message) refused),
+        )));
   }
 
-  pub Judged-refused : (why : Refusal) (place : Place) → IsRefusedAt demand octets (done + 1) why place → FirstRefused demand 1 frames why place
-  Judged-refused why place refused = judged.refused why place (subst (λ xs. FirstRefused demand (done + 1) xs why place) (sym next) (inl refused))
+  pub Judged-refused : (why : Refusal) (place : Place) → IsRefusedAt demand (evidence_of messages) octets (done + 1) why place → FirstRefused demand no_evidence 1 frames why place
+  Judged-refused why place refused = judged.refused why place (subst (λ xs. FirstRefused demand (evidence_of messages) (done + 1) xs why place) (sym next) (inl refused))
 
-pub Judged-all : (demand : Demand) (frames : List (List ℕ)) (done : ℕ) (messages : List Contents) → length frames ≤ done → Judged demand frames done messages → AllZip (IsTaken demand) frames messages
-Judged-all demand frames done messages all judged = subst (λ xs. AllZip (IsTaken demand) xs messages) (take_all done frames all) judged.taken
+pub Judged-all : (demand : Demand) (frames : List (List ℕ)) (done : ℕ) (messages : List Contents) → length frames ≤ done → Judged demand frames done messages → AllTaken demand no_evidence frames messages
+Judged-all demand frames done messages all judged = subst (λ xs. AllTaken demand no_evidence xs messages) (take_all done frames all) judged.taken
+
+-- the evidence is that of the messages before the place
+pub record Gathered (frames : List (List ℕ)) (done : ℕ) (held : Evidence) : Type 0 where
+  pub messages : List Contents
+  pub judged : Judged NewEvidence frames done messages
+  pub same : held ≡ evidence_of messages
+
+pub Gathered-start : (frames : List (List ℕ)) (held : Evidence) → held ≡ no_evidence → Gathered frames 0 held
+Gathered-start frames held none = record { messages = []; judged = Judged-start NewEvidence frames; same = none }
+
+module _ {frames : List (List ℕ)} {done : ℕ} {held : Evidence} (gathered : Gathered frames done held) (octets : List ℕ) (within : done < length frames) (here : get_or frames done [] ≡ octets) where
+  pub Gathered-next : (after : Evidence) → (message : Contents) × (MessageOf octets message × Meets NewEvidence held message) × (after ≡ with_message held message) → Gathered frames (done + 1) after
+  Gathered-next after taken = record {
+    messages = gathered.messages ++ taken.0 ∷ [];
+    judged = Judged-next gathered.judged octets within here taken.0 (taken.1.0, subst (λ held. Meets NewEvidence held taken.0) gathered.same taken.1.1);
+    same = taken.2 ∙ ap (λ held. with_message held taken.0) gathered.same ∙ sym (fold-push no_evidence gathered.messages taken.0);
+  }
+
+  pub Gathered-refused : (why : Refusal) (place : Place) → IsRefusedAt NewEvidence held octets (done + 1) why place → FirstRefused NewEvidence no_evidence 1 frames why place
+  Gathered-refused why place refused =
+      Judged-refused gathered.judged octets within here why place (subst (λ held. IsRefusedAt NewEvidence held octets (done + 1) why place) gathered.same refused)
+
+pub Gathered-all : (frames : List (List ℕ)) (done : ℕ) (held : Evidence) → length frames ≤ done → Gathered frames done held
+    → (messages : List Contents) × AllTaken NewEvidence no_evidence frames messages × (held ≡ evidence_of messages)
+Gathered-all frames done held all gathered = (gathered.messages, Judged-all NewEvidence frames done gathered.messages all gathered.judged, gathered.same)
 
 -- the octets of the frame at a place
 pub frame_here : (frames : List (Vec ℕ Global)) (i : ℕ) (frame : Vec ℕ Global) (octets : List ℕ) → i < length frames → frame ≡ get_or frames i frame → octets ≡ frame.items → (i < length (octets_of_each frames)) × (get_or (octets_of_each frames) i [] ≡ octets)

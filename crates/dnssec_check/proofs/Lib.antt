@@ -3,6 +3,6 @@ pub mod RowLemmas
 pub mod WalkLemmas
 pub mod CapturedLemmas
 pub mod ListingLemmas
-pub mod ReadableLemmas
 pub mod ShowingLemmas
+pub mod OneReason
 pub mod OneText

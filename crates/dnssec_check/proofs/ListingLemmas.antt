@@ -1,10 +1,7 @@
 -- The text of a listing, RRset by RRset and signature by signature.
-use Rattle.std.proofs.Common.{◌≡◌, ℕ, ◌+◌, ◌<◌, ◌≤◌, List, [], ◌∷◌, ◌++◌, length, get_or, drop, map, refl, sym, ap, subst, ◌∙◌, arith, append_assoc}
-use Rattle.std.proofs.lemmas.List.{drop_more, drop_all, append-nil, length-map, get_or-map}
-use Rattle.std.proofs.lemmas.List.Elements.{All-from_recursion, All-get_or}
-use Rattle.std.specs.List.{AllByRecursion}
-use Rattle.std.specs.Borrow.{Bor}
-use Rattle.dnssec_check.specs.Readable.{IsReadable, HasReadable}
+use Rattle.std.proofs.Common.{◌≡◌, ℕ, zero, suc, Option, ◌+◌, ◌<◌, ◌≤◌, List, [], ◌∷◌, ◌++◌, length, get_or, drop, refl, sym, ap, subst, ◌∙◌, arith, append_assoc}
+use Rattle.std.proofs.lemmas.List.{drop_more, drop_all, append-nil}
+use Rattle.std.specs.List.{AllZip}
 use Rattle.dnsv_records.specs.declared.rrsig.Rrsig.{Rrsig}
 use Rattle.dnsv_records.specs.Rrsig.{IsRrsig}
 use Rattle.dnsv_canonical.specs.Rrsets.{Group}
@@ -67,18 +64,18 @@ pub Shown-all : {rrsets : List Group} {done : ℕ} {text : List ℕ} → Shown r
 Shown-all {rrsets} {done} {text} shown all =
     subst (λ xs. RrsetLines 1 rrsets xs) (append-nil text) (shown.lines [] (subst (λ xs. RrsetLines (done + 1) xs []) (sym (drop_all done rrsets all)) refl))
 
--- the RDATA of a signature at a place, which can be read with the others
-pub readable_here : (signatures : List (Bor (List ℕ))) (all : List (List ℕ)) (i : ℕ) (d : Bor (List ℕ)) → map (λ (r : Bor (List ℕ)). r.now) signatures ≡ all → AllByRecursion IsReadable all → i < length signatures → IsReadable (get_or signatures i d).now
-readable_here signatures all i d same readable within =
-    subst IsReadable (ap (λ xs. get_or xs i d.now) (sym same) ∙ get_or-map (λ (r : Bor (List ℕ)). r.now) signatures i d d.now within)
-    (All-get_or IsReadable all i d.now (omega (arith, ap length same, length-map signatures (λ (r : Bor (List ℕ)). r.now))) (All-from_recursion IsReadable all readable))
+-- the RDATA of a signature that stands at a place
+pub signature_here : (rdata : List (List ℕ)) (rrsigs : List Rrsig) (i : ℕ) (d : Rrsig) → AllZip IsRrsig rdata rrsigs → i < length rrsigs → (i < length rdata) × IsRrsig (get_or rdata i []) (get_or rrsigs i d)
+signature_here [] [] i d all within = absurd (omega (arith, within))
+signature_here [] (r ∷ rrsigs) i d all within = absurd all
+signature_here (x ∷ rdata) [] i d all within = absurd all
+signature_here (x ∷ rdata) (r ∷ rrsigs) zero d all within = (omega arith, all.0)
+signature_here (x ∷ rdata) (r ∷ rrsigs) (suc i) d all within =
+    let later = signature_here rdata rrsigs i d all.1 (omega (arith, within)) in
+    (omega (arith, later.0), later.1)
 
-pub rdata_here : (signatures : List (Bor (List ℕ))) (i : ℕ) (d : Bor (List ℕ)) → i < length signatures → (i < length (map (λ (r : Bor (List ℕ)). r.now) signatures)) × (get_or (map (λ (r : Bor (List ℕ)). r.now) signatures) i [] ≡ (get_or signatures i d).now)
-rdata_here signatures i d within =
-    (omega (arith, length-map signatures (λ (r : Bor (List ℕ)). r.now)), get_or-map (λ (r : Bor (List ℕ)). r.now) signatures i d [] within)
-
--- an RRset at a place, whose signatures can be read with those of the others
-pub rrset_readable : (rrsets all : List Group) (i : ℕ) (rrset : Group) → rrsets ≡ all → AllByRecursion HasReadable all → i < length rrsets → rrset ≡ get_or rrsets i rrset → HasReadable rrset
-rrset_readable rrsets all i rrset same readable within is =
-    subst HasReadable (ap (λ xs. get_or xs i rrset) (sym same) ∙ sym is)
-    (All-get_or HasReadable all i rrset (omega (arith, ap length same)) (All-from_recursion HasReadable all readable))
+pub as_many_signatures : (rdata : List (List ℕ)) (rrsigs : List Rrsig) → AllZip IsRrsig rdata rrsigs → length rdata ≡ length rrsigs
+as_many_signatures [] [] all = refl
+as_many_signatures [] (r ∷ rrsigs) all = absurd all
+as_many_signatures (x ∷ rdata) [] all = absurd all
+as_many_signatures (x ∷ rdata) (r ∷ rrsigs) all = ap suc (as_many_signatures rdata rrsigs all.1)

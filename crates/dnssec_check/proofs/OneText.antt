@@ -1,7 +1,7 @@
 -- For a file of octets a request has at most one text, or one refusal, and never both.
 use Rattle.std.proofs.Common.{◌≡◌, ℕ, suc, List, [], ◌∷◌, ◌++◌, length, refl, sym, ap, subst, ◌∙◌, inl, inr, arith, append_assoc, Option}
 use Rattle.std.proofs.lemmas.List.{append-nil}
-use Rattle.std.specs.List.{AllByRecursion, AllZip, flat_map}
+use Rattle.std.specs.List.{AllByRecursion, flat_map}
 use Rattle.dnsv_names.specs.Name.{Labels, IsLabel, wire}
 use Rattle.dnsv_message.specs.declared.errors.DecodeError.{DecodeError}
 use Rattle.dnsv_message.specs.declared.errors.DecodeError.TheVariants as decode
@@ -15,20 +15,20 @@ use Rattle.dnsv_message.proofs.MessageLaws.{FaultOf_same, MessageOf_same, Messag
 use Rattle.dnsv_message.proofs.Numbers.{octet_fits}
 use Rattle.dnsv_records.specs.declared.rrsig.Rrsig.{Rrsig}
 use Rattle.dnsv_records.specs.Rrsig.{IsRrsig}
-use Rattle.dnsv_canonical.specs.Rrsets.{Group, rrsets_of}
+use Rattle.dnsv_canonical.specs.Evidence.{Evidence, evidence_of, no_evidence, with_message}
+use Rattle.dnsv_canonical.specs.Rrsets.{Group}
 use Rattle.dnsv_canonical.specs.SignedData.{IsSignedData}
 use Rattle.dnsv_canonical.proofs.SignedLemmas.{signed_data_unique}
 use Rattle.dnssec_check.specs.declared.status.Place.{Place}
 use Rattle.dnssec_check.specs.declared.status.Refusal.{Refusal}
-use Rattle.dnssec_check.specs.declared.captured.Demand.{Demand}
-use Rattle.dnssec_check.specs.declared.captured.Demand.TheVariants.{AnyMessage, WholeResponse}
 use Rattle.dnssec_check.specs.declared.line.Request.{Request}
 use Rattle.dnssec_check.specs.declared.line.Request.TheVariants as request
-use Rattle.dnssec_check.specs.Captured.{Meets, Fails, IsTaken, Holds, MessageRefused, FirstRefused, IsNowhere, IsRefusal}
+use Rattle.dnssec_check.specs.Captured.{Demand, AnyMessage, NewEvidence, Meets, Fails, AllTaken, Holds, MessageRefused, FirstRefused, IsNowhere, IsRefusal}
 use Rattle.dnssec_check.specs.Listing.{data_line, SignatureLines, RrsetLines}
 use Rattle.dnssec_check.specs.Run.{IsTextOf, IsRefusalOf, demand_of}
 use Rattle.dnssec_check.specs.Showing.{message_text, texts_from}
 use Rattle.dnssec_check.specs.Status.{IsToldAs}
+use Rattle.dnssec_check.proofs.OneReason.{taken_or_refused, one_reason}
 
 -- ---- the captured messages are octets
 
@@ -103,30 +103,32 @@ one_lines number (rrset ∷ rrsets) a b x y =
     ∙ ap (λ rest. y.0 ++ rest) (one_lines (suc number) rrsets x.1 y.1 x.3 y.3)
     ∙ sym y.4
 
-one_taken : (demand : Demand) (frames : List (List ℕ)) (a b : List Contents) → AllByRecursion AreOctets frames → AllZip (IsTaken demand) frames a → AllZip (IsTaken demand) frames b → a ≡ b
-one_taken demand [] [] [] are x y = refl
-one_taken demand [] [] (n ∷ b) are x y = absurd y
-one_taken demand [] (m ∷ a) b are x y = absurd x
-one_taken demand (octets ∷ frames) [] b are x y = absurd x
-one_taken demand (octets ∷ frames) (m ∷ a) [] are x y = absurd y
-one_taken demand (octets ∷ frames) (m ∷ a) (n ∷ b) are x y =
-    ap (λ message. message ∷ a) (MessageOf_same octets (octet_fits octets are.0) m n x.0.is_message y.0.is_message)
-    ∙ ap (λ messages. n ∷ messages) (one_taken demand frames a b are.1 x.1 y.1)
+one_taken : (demand : Demand) (held : Evidence) (frames : List (List ℕ)) (a b : List Contents) → AllByRecursion AreOctets frames → AllTaken demand held frames a → AllTaken demand held frames b → a ≡ b
+one_taken demand held [] [] [] are x y = refl
+one_taken demand held [] [] (n ∷ b) are x y = absurd y
+one_taken demand held [] (m ∷ a) b are x y = absurd x
+one_taken demand held (octets ∷ frames) [] b are x y = absurd x
+one_taken demand held (octets ∷ frames) (m ∷ a) [] are x y = absurd y
+one_taken demand held (octets ∷ frames) (m ∷ a) (n ∷ b) are x y =
+    let first : m ≡ n = MessageOf_same octets (octet_fits octets are.0) m n x.0.0 y.0.0 in
+    ap (λ message. message ∷ a) first
+    ∙ ap (λ messages. n ∷ messages)
+    (one_taken demand (with_message held n) frames a b are.1 (subst (λ message. AllTaken demand (with_message held message) frames a) first x.1) y.1)
 
 -- a file holds its messages alone
 one_holding : (demand : Demand) (file : List ℕ) → AreOctets file → (a b : List Contents) → Holds demand file a → Holds demand file b → a ≡ b
 one_holding demand file are a b x y =
     let frames = one_capture file y.frames x.frames y.captured x.captured in
-    one_taken demand x.frames a b (captured_octets file x.frames are x.captured) x.taken
-    (subst (λ frames. AllZip (IsTaken demand) frames b) frames y.taken)
+    one_taken demand no_evidence x.frames a b (captured_octets file x.frames are x.captured) x.taken
+    (subst (λ frames. AllTaken demand no_evidence frames b) frames y.taken)
 
 -- a request has one text for a file
 pub one_text : (asked : Request) (file : List ℕ) → AreOctets file → (a b : List ℕ) → IsTextOf asked file a → IsTextOf asked file b → a ≡ b
 one_text (request.Show capture) file are a b x y =
     x.2 ∙ ap (texts_from message_text 1) (one_holding AnyMessage file are x.0 y.0 x.1 y.1) ∙ sym y.2
 one_text (request.List capture moment) file are a b x y =
-    one_lines 1 (rrsets_of x.0) a b x.2
-    (subst (λ messages. RrsetLines 1 (rrsets_of messages) b) (one_holding WholeResponse file are y.0 x.0 y.1 x.1) y.2)
+    one_lines 1 (evidence_of x.0).rrsets a b x.2
+    (subst (λ messages. RrsetLines 1 (evidence_of messages).rrsets b) (one_holding NewEvidence file are y.0 x.0 y.1 x.1) y.2)
 
 -- ---- the refusal
 
@@ -148,17 +150,13 @@ same_nowhere p q x y = same_place p q (x.0 ∙ sym y.0) (x.1 ∙ sym y.1) (x.2 �
 
 -- ---- the messages that are asked for
 
-meets_or_fails : (demand : Demand) (message : Contents) (why : Refusal) → Meets demand message → Fails demand message why → ⊥
-meets_or_fails AnyMessage message why meets fails = fails
-meets_or_fails WholeResponse message why meets (inl query) = query.0 meets.0
-meets_or_fails WholeResponse message why meets (inr cut) = meets.1 cut.1
+meets_or_fails : (demand : Demand) (held : Evidence) (message : Contents) (why : Refusal) (n : Option ℕ) → Meets demand held message → Fails demand held message why n → ⊥
+meets_or_fails AnyMessage held message why n meets fails = fails
+meets_or_fails NewEvidence held message why n meets fails = taken_or_refused held message fails.0 why n meets fails.1 fails.2
 
-fails_once : (demand : Demand) (message : Contents) (a b : Refusal) → Fails demand message a → Fails demand message b → a ≡ b
-fails_once AnyMessage message a b x y = absurd x
-fails_once WholeResponse message a b (inl x) (inl y) = x.1 ∙ sym y.1
-fails_once WholeResponse message a b (inl x) (inr y) = absurd (x.0 y.0)
-fails_once WholeResponse message a b (inr x) (inl y) = absurd (y.0 x.0)
-fails_once WholeResponse message a b (inr x) (inr y) = x.2 ∙ sym y.2
+fails_once : (demand : Demand) (held : Evidence) (message : Contents) (a b : Refusal) (m n : Option ℕ) → Fails demand held message a m → Fails demand held message b n → (a ≡ b) × (m ≡ n)
+fails_once AnyMessage held message a b m n x y = absurd x
+fails_once NewEvidence held message a b m n x y = one_reason held message x.0 y.0 a b m n x.1 y.1 x.2 y.2
 
 module _ (octets : List ℕ) (are : AreOctets octets) where
   same_message : (m n : Contents) → MessageOf octets m → MessageOf octets n → m ≡ n
@@ -167,54 +165,56 @@ module _ (octets : List ℕ) (are : AreOctets octets) where
   no_fault : (m : Contents) (error : DecodeError) → MessageOf octets m → FaultOf octets error → ⊥
   no_fault = MessageOf_sound octets (octet_fits octets are)
 
-  -- a message that is taken isn't refused
-  taken_stands : (demand : Demand) (message : Contents) (why : Refusal) (n : Option ℕ) → IsTaken demand octets message → MessageRefused demand octets why n → ⊥
-  taken_stands demand message why n taken (inl fault) = no_fault message fault.0 taken.is_message fault.1
-  taken_stands demand message why n taken (inr failed) =
-      meets_or_fails demand message why taken.meets
-      (subst (λ (m : Contents). Fails demand m why) (same_message failed.0 message failed.1 taken.is_message) failed.2)
+  module _ (demand : Demand) (held : Evidence) where
+    -- a message that is taken isn't refused
+    taken_stands : (message : Contents) (why : Refusal) (n : Option ℕ) → MessageOf octets message × Meets demand held message → MessageRefused demand held octets why n → ⊥
+    taken_stands message why n taken (inl fault) = no_fault message fault.0 taken.0 fault.1
+    taken_stands message why n taken (inr failed) =
+        meets_or_fails demand held message why n taken.1
+        (subst (λ (m : Contents). Fails demand held m why n) (same_message failed.0 message failed.1 taken.0) failed.2)
 
-  refused_once : (demand : Demand) (a b : Refusal) (m n : Option ℕ) → MessageRefused demand octets a m → MessageRefused demand octets b n → (a ≡ b) × (m ≡ n)
-  refused_once demand a b m n (inl x) (inl y) =
-      told_once x.0 a b m n x.2 (subst (λ error. IsToldAs error b n) (FaultOf_same octets (octet_fits octets are) y.0 x.0 y.1 x.1) y.2)
-  refused_once demand a b m n (inl x) (inr y) = absurd (no_fault y.0 x.0 y.1 x.1)
-  refused_once demand a b m n (inr x) (inl y) = absurd (no_fault x.0 y.0 x.1 y.1)
-  refused_once demand a b m n (inr x) (inr y) = (
-    fails_once demand x.0 a b x.2 (subst (λ (m : Contents). Fails demand m b) (same_message y.0 x.0 y.1 x.1) y.2),
-    x.3 ∙ sym y.3,
-  )
+    refused_once : (a b : Refusal) (m n : Option ℕ) → MessageRefused demand held octets a m → MessageRefused demand held octets b n → (a ≡ b) × (m ≡ n)
+    refused_once a b m n (inl x) (inl y) =
+        told_once x.0 a b m n x.2 (subst (λ error. IsToldAs error b n) (FaultOf_same octets (octet_fits octets are) y.0 x.0 y.1 x.1) y.2)
+    refused_once a b m n (inl x) (inr y) = absurd (no_fault y.0 x.0 y.1 x.1)
+    refused_once a b m n (inr x) (inl y) = absurd (no_fault x.0 y.0 x.1 y.1)
+    refused_once a b m n (inr x) (inr y) =
+        fails_once demand held x.0 a b m n x.2 (subst (λ (message : Contents). Fails demand held message b n) (same_message y.0 x.0 y.1 x.1) y.2)
 
-all_stand : (demand : Demand) (number : ℕ) (frames : List (List ℕ)) (messages : List Contents) (why : Refusal) (place : Place) → AllByRecursion AreOctets frames
-    → AllZip (IsTaken demand) frames messages → FirstRefused demand number frames why place → ⊥
-all_stand demand number [] messages why place are taken refused = refused
-all_stand demand number (octets ∷ frames) [] why place are taken refused = taken
-all_stand demand number (octets ∷ frames) (message ∷ messages) why place are taken (inl here) =
-    taken_stands octets are.0 demand message why place.record taken.0 here.0
-all_stand demand number (octets ∷ frames) (message ∷ messages) why place are taken (inr later) =
-    all_stand demand (suc number) frames messages why place are.1 taken.1 later.1
+all_stand : (demand : Demand) (held : Evidence) (number : ℕ) (frames : List (List ℕ)) (messages : List Contents) (why : Refusal) (place : Place) → AllByRecursion AreOctets frames
+    → AllTaken demand held frames messages → FirstRefused demand held number frames why place → ⊥
+all_stand demand held number [] messages why place are taken refused = refused
+all_stand demand held number (octets ∷ frames) [] why place are taken refused = taken
+all_stand demand held number (octets ∷ frames) (message ∷ messages) why place are taken (inl here) =
+    taken_stands octets are.0 demand held message why place.record taken.0 here.0
+all_stand demand held number (octets ∷ frames) (message ∷ messages) why place are taken (inr later) =
+    all_stand demand (with_message held message) (suc number) frames messages why place are.1 taken.1
+    (subst (λ (m : Contents). FirstRefused demand (with_message held m) (suc number) frames why place) (same_message octets are.0 later.0 message later.1.0 taken.0.0) later.2)
 
-first_once : (demand : Demand) (number : ℕ) (frames : List (List ℕ)) (a b : Refusal) (p q : Place) → AllByRecursion AreOctets frames
-    → FirstRefused demand number frames a p → FirstRefused demand number frames b q → (a ≡ b) × (p ≡ q)
-first_once demand number [] a b p q are x y = absurd x
-first_once demand number (octets ∷ frames) a b p q are (inl x) (inl y) =
-    let same = refused_once octets are.0 demand a b p.record q.record x.0 y.0 in
+first_once : (demand : Demand) (held : Evidence) (number : ℕ) (frames : List (List ℕ)) (a b : Refusal) (p q : Place) → AllByRecursion AreOctets frames
+    → FirstRefused demand held number frames a p → FirstRefused demand held number frames b q → (a ≡ b) × (p ≡ q)
+first_once demand held number [] a b p q are x y = absurd x
+first_once demand held number (octets ∷ frames) a b p q are (inl x) (inl y) =
+    let same = refused_once octets are.0 demand held a b p.record q.record x.0 y.0 in
     (same.0, same_place p q (x.1 ∙ sym y.1) same.1 (x.2 ∙ sym y.2))
-first_once demand number (octets ∷ frames) a b p q are (inl x) (inr y) = absurd (taken_stands octets are.0 demand y.0.0 a p.record y.0.1 x.0)
-first_once demand number (octets ∷ frames) a b p q are (inr x) (inl y) = absurd (taken_stands octets are.0 demand x.0.0 b q.record x.0.1 y.0)
-first_once demand number (octets ∷ frames) a b p q are (inr x) (inr y) = first_once demand (suc number) frames a b p q are.1 x.1 y.1
+first_once demand held number (octets ∷ frames) a b p q are (inl x) (inr y) = absurd (taken_stands octets are.0 demand held y.0 a p.record y.1 x.0)
+first_once demand held number (octets ∷ frames) a b p q are (inr x) (inl y) = absurd (taken_stands octets are.0 demand held x.0 b q.record x.1 y.0)
+first_once demand held number (octets ∷ frames) a b p q are (inr x) (inr y) =
+    first_once demand (with_message held x.0) (suc number) frames a b p q are.1 x.2
+    (subst (λ (m : Contents). FirstRefused demand (with_message held m) (suc number) frames b q) (same_message octets are.0 y.0 x.0 y.1.0 x.1.0) y.2)
 
 -- a file whose messages are taken isn't refused
 holding_stands : (demand : Demand) (file : List ℕ) → AreOctets file → (messages : List Contents) (why : Refusal) (place : Place) → Holds demand file messages → IsRefusal demand file why place → ⊥
 holding_stands demand file are messages why place x (inl zero) = (messages_alone file x.frames x.captured).0 zero.0
 holding_stands demand file are messages why place x (inr (inl torn)) = (messages_alone file x.frames x.captured).1 torn.0
 holding_stands demand file are messages why place x (inr (inr y)) =
-    all_stand demand 1 x.frames messages why place (captured_octets file x.frames are x.captured) x.taken
-    (subst (λ frames. FirstRefused demand 1 frames why place) (one_capture file y.0 x.frames y.1 x.captured) y.2)
+    all_stand demand no_evidence 1 x.frames messages why place (captured_octets file x.frames are x.captured) x.taken
+    (subst (λ frames. FirstRefused demand no_evidence 1 frames why place) (one_capture file y.0 x.frames y.1 x.captured) y.2)
 
 -- a file that has a text isn't refused
 pub text_stands : (asked : Request) (file : List ℕ) → AreOctets file → (text : List ℕ) (why : Refusal) (place : Place) → IsTextOf asked file text → IsRefusalOf asked file why place → ⊥
 text_stands (request.Show capture) file are text why place x refused = holding_stands AnyMessage file are x.0 why place x.1 refused
-text_stands (request.List capture moment) file are text why place x refused = holding_stands WholeResponse file are x.0 why place x.1 refused
+text_stands (request.List capture moment) file are text why place x refused = holding_stands NewEvidence file are x.0 why place x.1 refused
 
 -- a file has one refusal
 one_refusal : (demand : Demand) (file : List ℕ) → AreOctets file → (a b : Refusal) (p q : Place) → IsRefusal demand file a p → IsRefusal demand file b q → (a ≡ b) × (p ≡ q)
@@ -227,8 +227,8 @@ one_refusal demand file are a b p q (inr (inl x)) (inr (inr y)) = absurd ((messa
 one_refusal demand file are a b p q (inr (inr x)) (inl y) = absurd ((messages_alone file x.0 x.1).0 y.0)
 one_refusal demand file are a b p q (inr (inr x)) (inr (inl y)) = absurd ((messages_alone file x.0 x.1).1 y.0)
 one_refusal demand file are a b p q (inr (inr x)) (inr (inr y)) =
-    first_once demand 1 x.0 a b p q (captured_octets file x.0 are x.1) x.2
-    (subst (λ frames. FirstRefused demand 1 frames b q) (one_capture file y.0 x.0 y.1 x.1) y.2)
+    first_once demand no_evidence 1 x.0 a b p q (captured_octets file x.0 are x.1) x.2
+    (subst (λ frames. FirstRefused demand no_evidence 1 frames b q) (one_capture file y.0 x.0 y.1 x.1) y.2)
 
 pub one_refusal_of : (asked : Request) (file : List ℕ) → AreOctets file → (a b : Refusal) (p q : Place) → IsRefusalOf asked file a p → IsRefusalOf asked file b q → (a ≡ b) × (p ≡ q)
 one_refusal_of asked = one_refusal (demand_of asked)

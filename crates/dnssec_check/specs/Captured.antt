@@ -1,58 +1,67 @@
 -- Files of captured messages: which messages a file holds, and what it is refused for.
 use Rattle.std.specs.Prelude.{◌≡◌, ◌⊎◌, ⊤, ℕ, suc, List, [], ◌∷◌, Option, Some, None}
-use Rattle.std.specs.List.{AllZip}
+use Rattle.std.specs.List.{AllByRecursion}
 use Rattle.dnsv_message.specs.declared.errors.DecodeError.{DecodeError}
 use Rattle.dnsv_message.specs.Frames.{IsCapture, HasZeroLength, EndsTorn}
 use Rattle.dnsv_message.specs.Grammar.{MessageOf, FaultOf}
-use Rattle.dnsv_message.specs.Message.{Contents}
-use Rattle.dnsv_canonical.specs.Response.{IsResponse, IsTruncated}
-use Rattle.dnssec_check.specs.declared.captured.Demand.{Demand}
-use Rattle.dnssec_check.specs.declared.captured.Demand.TheVariants.{AnyMessage, WholeResponse}
+use Rattle.dnsv_message.specs.Message.{Contents, records_of}
+use Rattle.dnsv_canonical.specs.declared.capture.CaptureError.{CaptureError}
+use Rattle.dnsv_canonical.specs.Evidence.{Evidence, IsReadable, IsWhole, IsWithinLimits, no_evidence, with_message}
+use Rattle.dnsv_canonical.specs.Evidence as evidence
 use Rattle.dnssec_check.specs.declared.status.Refusal.{Refusal}
 use Rattle.dnssec_check.specs.declared.status.Refusal.TheVariants as refusal
 use Rattle.dnssec_check.specs.declared.status.Place.{Place}
-use Rattle.dnssec_check.specs.Status.{IsToldAs}
+use Rattle.dnssec_check.specs.Status.{IsToldAs, IsToldOf}
+
+-- what a request asks of each message: nothing, or that a capture takes it besides those before it
+pub data Demand : Type 0 where
+  AnyMessage : Demand
+  NewEvidence : Demand
 
 -- ---- what a file holds
 
--- the message is as it is asked to be
-abbrev pub Meets : Demand → Contents → Type 0
-Meets AnyMessage message = ⊤
-Meets WholeResponse message = IsResponse message.flags × (IsTruncated message.flags → ⊥)
+-- the message is as it is asked to be, besides the evidence of those before it
+abbrev pub Meets : Demand → Evidence → Contents → Type 0
+Meets AnyMessage held message = ⊤
+Meets NewEvidence held message =
+    IsWhole message × AllByRecursion IsReadable (records_of message) × IsWithinLimits (with_message held message)
 
--- the octets are the message, which is as it is asked to be
-pub record IsTaken (demand : Demand) (octets : List ℕ) (message : Contents) : Type 0 where
-  pub is_message : MessageOf octets message
-  pub meets : Meets demand message
+-- besides the evidence of those before, these octets are these messages, each as it is asked to be
+abbrev pub AllTaken : Demand → Evidence → List (List ℕ) → List Contents → Type 0
+AllTaken demand held [] [] = ⊤
+AllTaken demand held [] (message ∷ messages) = ⊥
+AllTaken demand held (octets ∷ frames) [] = ⊥
+AllTaken demand held (octets ∷ frames) (message ∷ messages) =
+    (MessageOf octets message × Meets demand held message) × AllTaken demand (with_message held message) frames messages
 
 -- the file is captured messages, which are these, and each is as it is asked to be
 pub record Holds (demand : Demand) (file : List ℕ) (messages : List Contents) : Type 0 where
   pub frames : List (List ℕ)
   pub captured : IsCapture file frames
-  pub taken : AllZip (IsTaken demand) frames messages
+  pub taken : AllTaken demand no_evidence frames messages
 
 -- ---- what is refused instead
 
--- the message isn't as it is asked to be, and is refused as this
-abbrev pub Fails : Demand → Contents → Refusal → Type 0
-Fails AnyMessage message why = ⊥
-Fails WholeResponse message why =
-    ((IsResponse message.flags → ⊥) × (why ≡ refusal.NotAResponse))
-    ⊎ (IsResponse message.flags × IsTruncated message.flags × (why ≡ refusal.Truncated))
+-- the message isn't as it is asked to be, and is refused as this, with the number of the record at fault
+abbrev pub Fails : Demand → Evidence → Contents → Refusal → Option ℕ → Type 0
+Fails AnyMessage held message why record_number = ⊥
+Fails NewEvidence held message why record_number =
+    (error : CaptureError) × evidence.IsRefusal held message error × IsToldOf error why record_number
 
 -- the octets are no message, or one that isn't as it is asked to be, and are refused as this, with the number
 -- of the record at fault
-abbrev pub MessageRefused : Demand → List ℕ → Refusal → Option ℕ → Type 0
-MessageRefused demand octets why record_number =
+abbrev pub MessageRefused : Demand → Evidence → List ℕ → Refusal → Option ℕ → Type 0
+MessageRefused demand held octets why record_number =
     ((error : DecodeError) × FaultOf octets error × IsToldAs error why record_number)
-    ⊎ ((message : Contents) × MessageOf octets message × Fails demand message why × (record_number ≡ None))
+    ⊎ ((message : Contents) × MessageOf octets message × Fails demand held message why record_number)
 
 -- of these messages, the first of which has the number, the first that isn't taken is refused so
-abbrev pub FirstRefused : Demand → ℕ → List (List ℕ) → Refusal → Place → Type 0
-FirstRefused demand number [] why place = ⊥
-FirstRefused demand number (octets ∷ frames) why place =
-    (MessageRefused demand octets why place.«record» × (place.message ≡ Some number) × (place.line ≡ None))
-    ⊎ (((message : Contents) × IsTaken demand octets message) × FirstRefused demand (suc number) frames why place)
+abbrev pub FirstRefused : Demand → Evidence → ℕ → List (List ℕ) → Refusal → Place → Type 0
+FirstRefused demand held number [] why place = ⊥
+FirstRefused demand held number (octets ∷ frames) why place =
+    (MessageRefused demand held octets why place.«record» × (place.message ≡ Some number) × (place.line ≡ None))
+    ⊎ ((message : Contents) × (MessageOf octets message × Meets demand held message)
+    × FirstRefused demand (with_message held message) (suc number) frames why place)
 
 -- no place in particular
 abbrev pub IsNowhere : Place → Type 0
@@ -63,4 +72,4 @@ abbrev pub IsRefusal : Demand → List ℕ → Refusal → Place → Type 0
 IsRefusal demand file why place =
     (HasZeroLength file × (why ≡ refusal.ZeroLength) × IsNowhere place)
     ⊎ (EndsTorn file × (why ≡ refusal.TornFrame) × IsNowhere place)
-    ⊎ ((frames : List (List ℕ)) × IsCapture file frames × FirstRefused demand 1 frames why place)
+    ⊎ ((frames : List (List ℕ)) × IsCapture file frames × FirstRefused demand no_evidence 1 frames why place)

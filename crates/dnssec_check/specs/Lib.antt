@@ -2,7 +2,6 @@ pub mod Captured
 pub mod Line
 pub mod Listing
 pub mod Moment
-pub mod Readable
 pub mod Run
 pub mod Showing
 pub mod Status

@@ -5,10 +5,10 @@ use Rattle.hex.specs.Hex.{encode_lower}
 use Rattle.dnsv_message.specs.Message.{Contents}
 use Rattle.dnsv_records.specs.declared.rrsig.Rrsig.{Rrsig}
 use Rattle.dnsv_records.specs.Rrsig.{IsRrsig}
-use Rattle.dnsv_canonical.specs.Rrsets.{Group, rrsets_of}
+use Rattle.dnsv_canonical.specs.Evidence.{evidence_of}
+use Rattle.dnsv_canonical.specs.Rrsets.{Group}
 use Rattle.dnsv_canonical.specs.SignedData.{IsSignedData}
-use Rattle.dnssec_check.specs.declared.captured.Demand.TheVariants.{WholeResponse}
-use Rattle.dnssec_check.specs.Captured.{Holds}
+use Rattle.dnssec_check.specs.Captured.{Holds, NewEvidence}
 
 -- octets in lower case hex, and `-` for none
 abbrev pub data_text : Option (List ℕ) → List ℕ
@@ -35,7 +35,7 @@ RrsetLines number (rrset ∷ rrsets) text =
     (front : List ℕ) × (rest : List ℕ) × SignatureLines number rrset 1 rrset.signatures front
     × RrsetLines (suc number) rrsets rest × (text ≡ front ++ rest)
 
--- the file holds messages, each of them a whole response, and the text has the lines of their RRsets
+-- the file holds messages, each of them evidence besides those before it, and the text has the lines of their RRsets
 abbrev pub IsListing : List ℕ → List ℕ → Type 0
 IsListing file text =
-    (messages : List Contents) × Holds WholeResponse file messages × RrsetLines 1 (rrsets_of messages) text
+    (messages : List Contents) × Holds NewEvidence file messages × RrsetLines 1 (evidence_of messages).rrsets text

@@ -5,6 +5,8 @@ use Rattle.std.specs.List.{list_any}
 use Rattle.std.specs.Fmt.{decimal}
 use Rattle.dnsv_message.specs.declared.errors.DecodeError.{DecodeError}
 use Rattle.dnsv_message.specs.declared.errors.DecodeError.TheVariants as decode
+use Rattle.dnsv_canonical.specs.declared.capture.CaptureError.{CaptureError}
+use Rattle.dnsv_canonical.specs.declared.capture.CaptureError.TheVariants as capture
 use Rattle.dnssec_check.specs.declared.status.Status.{Status}
 use Rattle.dnssec_check.specs.declared.status.Status.TheVariants.{Done}
 use Rattle.dnssec_check.specs.declared.status.InputFile.{InputFile}
@@ -33,6 +35,7 @@ refusal_number refusal.ZeroLength = 208
 refusal_number refusal.TornFrame = 209
 refusal_number refusal.NotAResponse = 401
 refusal_number refusal.Truncated = 402
+refusal_number refusal.Limit = 403
 
 abbrev pub fault_number : Fault → ℕ
 fault_number fault.OutOfMemory = 90
@@ -65,6 +68,14 @@ IsToldAs decode.TooManyPointers why number = (why ≡ refusal.TooManyPointers) �
 IsToldAs decode.LongName why number = (why ≡ refusal.LongName) × (number ≡ None)
 IsToldAs (decode.BadRdata k) why number = (why ≡ refusal.BadRdata) × (number ≡ Some k)
 IsToldAs decode.TrailingBytes why number = (why ≡ refusal.TrailingBytes) × (number ≡ None)
+
+-- why a capture doesn't take a message is told as this refusal, with the number of the record at fault
+abbrev pub IsToldOf : CaptureError → Refusal → Option ℕ → Type 0
+IsToldOf capture.OutOfMemory why number = ⊥
+IsToldOf capture.NotAResponse why number = (why ≡ refusal.NotAResponse) × (number ≡ None)
+IsToldOf capture.Truncated why number = (why ≡ refusal.Truncated) × (number ≡ None)
+IsToldOf (capture.BadRdata k) why number = (why ≡ refusal.BadRdata) × (number ≡ Some k)
+IsToldOf capture.Limit why number = (why ≡ refusal.Limit) × (number ≡ None)
 
 -- ---- the line that tells a fault
 

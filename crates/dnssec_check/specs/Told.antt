@@ -10,9 +10,11 @@ use Rattle.dnssec_check.specs.declared.status.InputFile.TheVariants.{Capture}
 use Rattle.dnssec_check.specs.declared.status.Place.{Place}
 use Rattle.dnssec_check.specs.declared.status.Refusal.{Refusal}
 use Rattle.dnssec_check.specs.declared.status.Refusal.TheVariants as refusal
-use Rattle.dnssec_check.specs.declared.captured.Demand.{Demand}
-use Rattle.dnssec_check.specs.Captured.{MessageRefused}
-use Rattle.dnssec_check.specs.Status.{IsToldAs}
+use Rattle.dnsv_canonical.specs.declared.capture.CaptureError.{CaptureError}
+use Rattle.dnsv_canonical.specs.declared.capture.CaptureError.TheVariants as capture
+use Rattle.dnsv_canonical.specs.Evidence.{Evidence}
+use Rattle.dnssec_check.specs.Captured.{Demand, MessageRefused}
+use Rattle.dnssec_check.specs.Status.{IsToldAs, IsToldOf}
 
 abbrev nowhere : Place
 nowhere = record { message = None; «record» = None; line = None }
@@ -33,10 +35,10 @@ IsFaultOf Holds (fault.TooLong file) = ⊥
 IsFaultOf Holds (fault.OpenFailed file) = ⊥
 IsFaultOf Holds fault.WriteFailed = ⊥
 
--- the message with this number is refused, at this place
-abbrev pub IsRefusedAt : Demand → List ℕ → ℕ → Refusal → Place → Type 0
-IsRefusedAt demand octets number why place =
-    MessageRefused demand octets why place.«record» × (place.message ≡ Some number) × (place.line ≡ None)
+-- besides the evidence that is held, the message with this number is refused, at this place
+abbrev pub IsRefusedAt : Demand → Evidence → List ℕ → ℕ → Refusal → Place → Type 0
+IsRefusedAt demand held octets number why place =
+    MessageRefused demand held octets why place.«record» × (place.message ≡ Some number) × (place.line ≡ None)
 
 -- the fault tells the error of the message with this number
 abbrev pub IsDecodeFault : DecodeError → ℕ → Fault → Type 0
@@ -44,3 +46,10 @@ IsDecodeFault decode.OutOfMemory number told = told ≡ fault.OutOfMemory
 IsDecodeFault error number (fault.Refused why place) =
     IsToldAs error why place.«record» × (place.message ≡ Some number) × (place.line ≡ None)
 IsDecodeFault error number _ = ⊥
+
+-- the fault tells why a capture doesn't take the message with this number
+abbrev pub IsCaptureFault : CaptureError → ℕ → Fault → Type 0
+IsCaptureFault capture.OutOfMemory number told = told ≡ fault.OutOfMemory
+IsCaptureFault error number (fault.Refused why place) =
+    IsToldOf error why place.«record» × (place.message ≡ Some number) × (place.line ≡ None)
+IsCaptureFault error number _ = ⊥

@@ -1,49 +1,52 @@
 //! The messages of a file of captured messages.
-ghost use Rattle.std.specs.Prelude.{◌≡◌, ◌<◌, List, ℕ, IfErr, IfOk, IfSome, MatchResult, Some, None};
-ghost use Rattle.std.specs.List.{AllZip};
+ghost use Rattle.std.specs.Prelude.{◌≡◌, ◌<◌, List, ℕ, IfErr, IfOk, IfSome, OnOk, Some, None};
 ghost use Rattle.dnsv_message.specs.Counted.{inner_of, failures_of};
 ghost use Rattle.dnsv_message.specs.Frames.{IsTooLong, octets_of_each};
-ghost use Rattle.dnssec_check.specs.Captured.{Meets, Fails, IsTaken, Holds, FirstRefused, IsRefusal};
-ghost use Rattle.dnssec_check.specs.Told.{IsReadFault, IsDecodeFault, IsFaultOf, IsRefusedAt};
-ghost use Rattle.dnssec_check.specs.declared.status.InputFile.TheVariants.{Capture};
+ghost use Rattle.dnsv_message.specs.Grammar.{MessageOf};
+ghost use Rattle.dnsv_message.specs.Message.{Contents};
+ghost use Rattle.dnsv_canonical.specs.Evidence.{Evidence, evidence_of, no_evidence, with_message};
+ghost use Rattle.dnssec_check.specs.Captured.{Demand, AnyMessage, NewEvidence, AllTaken, Meets, Holds, FirstRefused, IsRefusal};
+ghost use Rattle.dnssec_check.specs.Told.{IsReadFault, IsDecodeFault, IsCaptureFault, IsFaultOf, IsRefusedAt};
 ghost use Rattle.dnssec_check.specs.declared.status.Place.{Place};
 ghost use Rattle.dnssec_check.specs.declared.status.Refusal.{Refusal};
 
 use crate::status::{Fault, InputFile, Place, Refusal};
-use dnsv_canonical::{ResponseError, checked};
+use dnsv_canonical::{Capture, CaptureError};
 use dnsv_message::{Counted, DecodeError, Message, ReadError, read_capture};
 use std::alloc::Global;
 use std::io::Read;
 
-/// What a request asks of each message.
-#[derive(Clone, Copy, Debug, PartialEq, Eq)]
-pub enum Demand {
-    /// Nothing: any message will do.
-    AnyMessage,
-    /// The message is a response and no query, and wasn't cut (RFC 1035 4.1.1).
-    WholeResponse,
-}
-
-/// The messages of the file, each as it is asked to be.
+/// The messages of the file, whatever they are.
 ///
 /// The fault is the first in the order of the work: reading the file, its framing, and then each message in
-/// turn, which is read and then judged.
-pub fn captured<R: Read>(
-    alloc: Global,
-    capture: &mut Counted<R>,
-    demand: Demand,
-) -> Result<Vec<Message>, Fault>
-    ensures messages { IfOk result (λ messages. IfSome (R.remaining (inner_of capture.old)) (λ file. Holds demand file messages.items)) }
-    // They are read from octets, also where those aren't known.
-    ensures taken { IfOk result (λ messages. (frames : List (List ℕ)) × AllZip (IsTaken demand) frames messages.items) }
+/// turn.
+pub fn captured<R: Read>(alloc: Global, capture: &mut Counted<R>) -> Result<Vec<Message>, Fault>
+    ensures messages { IfOk result (λ messages. IfSome (R.remaining (inner_of capture.old)) (λ file. Holds AnyMessage file messages.items)) }
     ensures refused { (why : Refusal) (place : Place) → result ≡ Err (Fault.Refused why place)
-        → IfSome (R.remaining (inner_of capture.old)) (λ file. IsRefusal demand file why place) }
-    ensures too_long { result ≡ Err (Fault.TooLong Capture) → IfSome (R.remaining (inner_of capture.old)) IsTooLong }
-    ensures read { result ≡ Err (Fault.ReadFailed Capture) → failures_of capture.old < u64.MAX → failures_of capture.old < failures_of capture.new }
-    ensures only { IfErr result (λ fault. (fault ≡ Fault.WriteFailed → ⊥) × (fault ≡ Fault.OpenFailed Capture → ⊥)) }
+        → IfSome (R.remaining (inner_of capture.old)) (λ file. IsRefusal AnyMessage file why place) }
+    ensures too_long { result ≡ Err (Fault.TooLong InputFile.Capture) → IfSome (R.remaining (inner_of capture.old)) IsTooLong }
+    ensures read { result ≡ Err (Fault.ReadFailed InputFile.Capture) → failures_of capture.old < u64.MAX → failures_of capture.old < failures_of capture.new }
+    ensures only { IfErr result (λ fault. (fault ≡ Fault.WriteFailed → ⊥) × (fault ≡ Fault.OpenFailed InputFile.Capture → ⊥)) }
 {
     let frames = read_capture(alloc, capture).map_err(read_fault)?;
-    decoded(alloc, &frames, demand)
+    decoded(alloc, &frames)
+}
+
+/// The evidence of the file's messages.
+///
+/// The fault is the first in the order of the work: reading the file, its framing, and then each message in
+/// turn, which is read and then added to those before it.
+pub fn evidence<R: Read>(alloc: Global, capture: &mut Counted<R>) -> Result<Capture, Fault>
+    ensures evidence { IfOk result (λ held. IfSome (R.remaining (inner_of capture.old)) (λ file.
+        (messages : List Contents) × Holds NewEvidence file messages × (held ≡ evidence_of messages))) }
+    ensures refused { (why : Refusal) (place : Place) → result ≡ Err (Fault.Refused why place)
+        → IfSome (R.remaining (inner_of capture.old)) (λ file. IsRefusal NewEvidence file why place) }
+    ensures too_long { result ≡ Err (Fault.TooLong InputFile.Capture) → IfSome (R.remaining (inner_of capture.old)) IsTooLong }
+    ensures read { result ≡ Err (Fault.ReadFailed InputFile.Capture) → failures_of capture.old < u64.MAX → failures_of capture.old < failures_of capture.new }
+    ensures only { IfErr result (λ fault. (fault ≡ Fault.WriteFailed → ⊥) × (fault ≡ Fault.OpenFailed InputFile.Capture → ⊥)) }
+{
+    let frames = read_capture(alloc, capture).map_err(read_fault)?;
+    gathered(alloc, &frames)
 }
 
 /// The fault of a file of captured messages that wasn't read.
@@ -59,44 +62,52 @@ fn read_fault(error: ReadError) -> Fault
     }
 }
 
-/// The messages of the frames, each as it is asked to be; the fault is that of the first that isn't.
-fn decoded(alloc: Global, frames: &[Vec<u8>], demand: Demand) -> Result<Vec<Message>, Fault>
-    ensures taken { IfOk result (λ messages. AllZip (IsTaken demand) (octets_of_each frames.now) messages.items) }
-    ensures refused { IfErr result (IsFaultOf (FirstRefused demand 1 (octets_of_each frames.now))) }
+/// The messages of the frames; the fault is that of the first that is none.
+fn decoded(alloc: Global, frames: &[Vec<u8>]) -> Result<Vec<Message>, Fault>
+    ensures taken { IfOk result (λ messages. AllTaken AnyMessage no_evidence (octets_of_each frames.now) messages.items) }
+    ensures refused { IfErr result (IsFaultOf (FirstRefused AnyMessage no_evidence 1 (octets_of_each frames.now))) }
 {
     let mut messages = Vec::new(alloc);
     for (index, frame) in frames.iter().enumerate() {
-        messages.push(message_of(alloc, frame, index + 1, demand)?)?;
+        messages.push(message_of(alloc, frame, index + 1)?)?;
     }
     Ok(messages)
 }
 
-/// The message with this number, as it is asked to be.
-fn message_of(alloc: Global, octets: &[u8], number: usize, demand: Demand) -> Result<Message, Fault>
-    ensures taken { IfOk result (IsTaken demand octets.now) }
-    ensures refused { IfErr result (IsFaultOf (λ why place. IsRefusedAt demand octets.now number why place)) }
+/// The evidence of the frames' messages; the fault is that of the first that isn't taken.
+fn gathered(alloc: Global, frames: &[Vec<u8>]) -> Result<Capture, Fault>
+    ensures taken { IfOk result (λ held. (messages : List Contents)
+        × AllTaken NewEvidence no_evidence (octets_of_each frames.now) messages × (held ≡ evidence_of messages)) }
+    ensures refused { IfErr result (IsFaultOf (FirstRefused NewEvidence no_evidence 1 (octets_of_each frames.now))) }
 {
-    let message = match Message::decode(alloc, octets) {
-        Ok(message) => message,
-        Err(error) => return Err(decode_fault(error, number)),
-    };
-    match judged(&message, demand) {
-        Ok(()) => Ok(message),
-        Err(why) => Err(refused(why, number, None)),
+    let mut held = Capture::new(alloc);
+    for (index, frame) in frames.iter().enumerate() {
+        take(alloc, &mut held, frame, index + 1)?;
+    }
+    Ok(held)
+}
+
+/// Adds the message with this number to the evidence.
+fn take(alloc: Global, held: &mut Capture, octets: &[u8], number: usize) -> Result<(), Fault>
+    ensures taken { OnOk result ((message : Contents) × (MessageOf octets.now message × Meets NewEvidence held.old message)
+        × (held.new ≡ with_message held.old message)) }
+    ensures refused { IfErr result (IsFaultOf (IsRefusedAt NewEvidence held.old octets.now number)) }
+{
+    let message = message_of(alloc, octets, number)?;
+    match held.add(&message) {
+        Ok(()) => Ok(()),
+        Err(error) => Err(capture_fault(error, number)),
     }
 }
 
-/// Judges whether the message is as it is asked to be.
-fn judged(message: &Message, demand: Demand) -> Result<(), Refusal>
-    ensures { MatchResult result (λ _. Meets demand message.now) (λ why. Fails demand message.now why) }
+/// The message with this number.
+fn message_of(alloc: Global, octets: &[u8], number: usize) -> Result<Message, Fault>
+    ensures found { IfOk result (MessageOf octets.now) }
+    ensures refused { (demand : Demand) (held : Evidence) → IfErr result (IsFaultOf (IsRefusedAt demand held octets.now number)) }
 {
-    match demand {
-        Demand::AnyMessage => Ok(()),
-        Demand::WholeResponse => match checked(message) {
-            Ok(()) => Ok(()),
-            Err(ResponseError::NotAResponse) => Err(Refusal::NotAResponse),
-            Err(ResponseError::Truncated) => Err(Refusal::Truncated),
-        },
+    match Message::decode(alloc, octets) {
+        Ok(message) => Ok(message),
+        Err(error) => Err(decode_fault(error, number)),
     }
 }
 
@@ -113,6 +124,19 @@ fn decode_fault(error: DecodeError, number: usize) -> Fault
         DecodeError::LongName => refused(Refusal::LongName, number, None),
         DecodeError::BadRdata(faulty) => refused(Refusal::BadRdata, number, Some(faulty)),
         DecodeError::TrailingBytes => refused(Refusal::TrailingBytes, number, None),
+    }
+}
+
+/// The fault of the message with this number, which the capture doesn't take.
+fn capture_fault(error: CaptureError, number: usize) -> Fault
+    ensures { IsCaptureFault error number result }
+{
+    match error {
+        CaptureError::OutOfMemory => Fault::OutOfMemory,
+        CaptureError::NotAResponse => refused(Refusal::NotAResponse, number, None),
+        CaptureError::Truncated => refused(Refusal::Truncated, number, None),
+        CaptureError::BadRdata(faulty) => refused(Refusal::BadRdata, number, Some(faulty)),
+        CaptureError::Limit => refused(Refusal::Limit, number, None),
     }
 }
 

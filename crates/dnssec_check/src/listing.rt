@@ -1,24 +1,17 @@
 //! The text of `list --all`: what each signature of the captured messages signs.
 ghost use Rattle.std.specs.Prelude.{◌≡◌, ◌++◌, List, ℕ, IfOk, OnOk, string_bytes};
-ghost use Rattle.std.specs.List.{AllByRecursion};
 ghost use Rattle.std.specs.Option.{option_map};
-ghost use Rattle.dnsv_canonical.specs.Rrsets.{rrsets_of};
 ghost use Rattle.dnssec_check.specs.Listing.{RrsetLines, SignatureLines, data_line};
-ghost use Rattle.dnssec_check.specs.Readable.{HasReadable, IsReadable};
-ghost use Rattle.dnsv_records.specs.Rrsig.{IsRrsig};
 
-use dnsv_canonical::{Rrset, rrsets};
-use dnsv_message::Message;
-use dnsv_records::{RecordError, Rrsig};
+use dnsv_canonical::{Capture, Rrset, signed_data};
 use std::alloc::{AllocError, Global};
 
-/// A line for each signature of each RRset of the messages.
-pub fn listing(alloc: Global, messages: &[Message]) -> Result<String, AllocError>
-    requires { AllByRecursion HasReadable (rrsets_of messages.now) }
-    ensures { IfOk result (λ text. RrsetLines 1 (rrsets_of messages.now) (string_bytes text)) }
+/// A line for each signature of each RRset of the evidence.
+pub fn listing(alloc: Global, held: &Capture) -> Result<String, AllocError>
+    ensures { IfOk result (λ text. RrsetLines 1 held.now.rrsets (string_bytes text)) }
 {
     let mut text = String::new(alloc);
-    let rrsets = rrsets(alloc, messages)?;
+    let rrsets = held.rrsets();
     for (index, rrset) in rrsets.iter().enumerate() {
         push_rrset(alloc, &mut text, index + 1, rrset)?;
     }
@@ -30,31 +23,17 @@ fn push_rrset(
     alloc: Global,
     text: &mut String,
     number: usize,
-    rrset: &Rrset<'_>,
+    rrset: &Rrset,
 ) -> Result<(), AllocError>
-    requires { HasReadable rrset.now }
     ensures { OnOk result ((lines : List ℕ) × SignatureLines number rrset.now 1 rrset.now.signatures lines
         × (string_bytes text.new ≡ string_bytes text.old ++ lines)) }
 {
     let signatures = rrset.signatures();
-    for (index, rdata) in signatures.iter().enumerate() {
-        let rrsig = readable(alloc, rdata)?;
-        let octets = rrset.signed_data(alloc, &rrsig)?;
+    for (index, rrsig) in signatures.iter().enumerate() {
+        let octets = signed_data(alloc, rrset, rrsig)?;
         push_line(alloc, text, number, index + 1, octets)?;
     }
     Ok(())
-}
-
-/// Reads the RDATA of a signature.
-fn readable(alloc: Global, rdata: &[u8]) -> Result<Rrsig, AllocError>
-    requires { IsReadable rdata.now }
-    ensures { IfOk result (IsRrsig rdata.now) }
-{
-    match Rrsig::read(alloc, rdata) {
-        Ok(rrsig) => Ok(rrsig),
-        Err(RecordError::OutOfMemory) => Err(AllocError),
-        Err(RecordError::BadRdata(_)) => unreachable!(),
-    }
 }
 
 /// Adds the line of a signature.

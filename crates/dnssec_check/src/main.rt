@@ -2,6 +2,8 @@
 #![tactic(auto)]
 
 mod captured;
+#[cfg(test)]
+mod captures;
 mod laws;
 mod line;
 mod listing;

@@ -3,12 +3,12 @@ ghost use Rattle.std.specs.Prelude.{◌≡◌, ◌<◌, List, ℕ, IfErr, IfOk, 
 ghost use Rattle.std.specs.Io.KnownBytes.{Appends};
 ghost use Rattle.dnsv_message.specs.Counted.{inner_of, failures_of};
 ghost use Rattle.dnsv_message.specs.Frames.{IsTooLong};
-ghost use Rattle.dnssec_check.specs.Run.{IsTextOf, IsRefusalOf, demand_of};
+ghost use Rattle.dnssec_check.specs.Run.{IsTextOf, IsRefusalOf};
 ghost use Rattle.dnssec_check.specs.declared.status.InputFile.TheVariants.{Capture};
 ghost use Rattle.dnssec_check.specs.declared.status.Place.{Place};
 ghost use Rattle.dnssec_check.specs.declared.status.Refusal.{Refusal};
 
-use crate::captured::{Demand, captured};
+use crate::captured::{captured, evidence};
 use crate::line::Request;
 use crate::listing::listing;
 use crate::showing::showing;
@@ -74,20 +74,9 @@ fn text_of<R: Read>(
     ensures read { result ≡ Err (Fault.ReadFailed Capture) → failures_of capture.old < u64.MAX → failures_of capture.old < failures_of capture.new }
     ensures only { IfErr result (λ fault. (fault ≡ Fault.WriteFailed → ⊥) × (fault ≡ Fault.OpenFailed Capture → ⊥)) }
 {
-    let messages = captured(alloc, capture, demand(request))?;
     match request {
-        Request::Show { .. } => Ok(showing(alloc, &messages)?),
-        Request::List { .. } => Ok(listing(alloc, &messages)?),
-    }
-}
-
-/// What the request asks of each message.
-fn demand(request: &Request) -> Demand
-    ensures { result ≡ demand_of request.now }
-{
-    match request {
-        Request::Show { .. } => Demand::AnyMessage,
-        Request::List { .. } => Demand::WholeResponse,
+        Request::Show { .. } => Ok(showing(alloc, &captured(alloc, capture)?)?),
+        Request::List { .. } => Ok(listing(alloc, &evidence(alloc, capture)?)?),
     }
 }
 

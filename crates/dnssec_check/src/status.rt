@@ -67,6 +67,9 @@ pub enum Refusal {
     NotAResponse,
     /// A message was cut to fit: TC is set (RFC 1035 4.1.1).
     Truncated,
+    /// With a message the capture would have too many messages or records, keys or signatures of an RRset, or
+    /// pairs of iterations and salt.
+    Limit,
 }
 
 impl Refusal {
@@ -86,6 +89,7 @@ impl Refusal {
             Refusal::TornFrame => 209,
             Refusal::NotAResponse => 401,
             Refusal::Truncated => 402,
+            Refusal::Limit => 403,
         }
     }
 }

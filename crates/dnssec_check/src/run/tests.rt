@@ -117,9 +117,32 @@ fn answers_the_first_fault_and_writes_nothing(rt: HostRuntime) -> Result<(), Fai
     long[59] = 5;
     let (answer, _) = listed(rt.alloc(), &long)?;
     assert_eq!(rt; answer, refused(Refusal::BadRdata, Some(1), Some(2)));
+    // The second record is an NSEC3 without a salt.
+    let mut hashed = *HOST;
+    hashed[51] = 50;
+    let (answer, _) = listed(rt.alloc(), &hashed)?;
+    assert_eq!(rt; answer, refused(Refusal::BadRdata, Some(1), Some(2)));
     let (answer, text) = listed(rt.alloc(), &HOST[..104])?;
     assert_eq!(rt; answer, refused(Refusal::TornFrame, None, None));
     assert_eq!(rt; text.len(), 0);
+    Ok(())
+}
+
+#[test]
+fn refuses_a_65th_message(rt: HostRuntime) -> Result<(), Fail> {
+    let mut octets = Vec::new(rt.alloc());
+    for _ in 0..64 {
+        octets.extend_from_slice(HOST)?;
+    }
+    let (answer, _) = listed(rt.alloc(), &octets)?;
+    assert_eq!(rt; answer, Ok(Status::Done));
+    octets.extend_from_slice(HOST)?;
+    let (answer, text) = listed(rt.alloc(), &octets)?;
+    assert_eq!(rt; text.len(), 0);
+    let fault = answer.err().ok_or("no fault")?;
+    assert_eq!(rt; fault.code(), 7);
+    let told = fault.to_string(rt.alloc())?;
+    assert_eq!(rt; told.as_str(), "refused 403 message 65");
     Ok(())
 }
 

@@ -1,6 +1,6 @@
 use crate::line::Request;
 use crate::run::{Inputs, run};
-use crate::samples::{ESCAPED, ESCAPED_SHOWN, HOST, HTTPS, HTTPS_SHOWN, KEYS};
+use crate::samples::{HOST, KEYS};
 use crate::status::{Fault, Status};
 use dnsv_message::Counted;
 use std::alloc::Global;
@@ -45,17 +45,6 @@ fn shows_messages_with_their_records(rt: HostRuntime) -> Result<(), Fail> {
         record 2 Host.Example. 1 1 5 c0000201\n\
         record 3 Host.Example. 46 1 5 00010d0200000e10000007d0000003e8080f074578616d706c6500aabb\n";
     assert_eq!(rt; text.as_slice(), lines.as_bytes());
-    Ok(())
-}
-
-#[test]
-fn shows_what_another_program_shows_of_real_messages(rt: HostRuntime) -> Result<(), Fail> {
-    let (answer, text) = shown(rt.alloc(), HTTPS)?;
-    assert_eq!(rt; answer, Ok(Status::Done));
-    assert_eq!(rt; text.as_slice(), HTTPS_SHOWN.as_bytes());
-    let (answer, text) = shown(rt.alloc(), ESCAPED)?;
-    assert_eq!(rt; answer, Ok(Status::Done));
-    assert_eq!(rt; text.as_slice(), ESCAPED_SHOWN.as_bytes());
     Ok(())
 }
 

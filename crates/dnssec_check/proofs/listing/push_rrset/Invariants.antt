@@ -1,7 +1,6 @@
-use Rattle.std.proofs.Common.{map}
 use Rattle.std.specs.Prelude.{string_bytes}
 use Rattle.dnssec_check.proofs.ListingLemmas.{Listed}
 use Rattle.dnssec_check.proofs.listing.push_rrset.Given as goal
 
 abbrev pub invariant-loop-index : goal.invariant-loop-index
-invariant-loop-index l = Listed l.number l.rrset (map (λ r. r.now) l.signatures) l.index (string_bytes l.fn.text) (string_bytes l.text)
+invariant-loop-index l = Listed l.number l.rrset l.rrset.signatures l.index (string_bytes l.fn.text) (string_bytes l.text)

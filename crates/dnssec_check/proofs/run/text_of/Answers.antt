@@ -1,12 +1,13 @@
-use Rattle.std.proofs.Common.{sym, subst}
-use Rattle.std.specs.List.{AllByRecursion}
-use Rattle.dnsv_canonical.specs.Rrsets.{rrsets_of}
-use Rattle.dnssec_check.specs.Readable.{HasReadable}
-use Rattle.dnssec_check.proofs.ReadableLemmas.{taken_readable}
+use Rattle.std.proofs.lemmas.Result.{err_from_is_err_and}
+use Rattle.dnssec_check.proofs.CapturedLemmas.{told_alike}
 use Rattle.dnssec_check.proofs.run.text_of.Goals as goal
 
-pub listing-requires : goal.listing-requires
-listing-requires g c =
-    let taken = c.in_ok-messages.ensures.taken in
-    subst (λ messages. AllByRecursion HasReadable (rrsets_of messages)) (sym c.deref-in-List.ensures.value)
-    (taken_readable _ 1 taken.0 _ taken.1)
+pub returns-in_err-captured-in-Show-clause-refused : goal.returns-in_err-captured-in-Show-clause-refused
+returns-in_err-captured-in-Show-clause-refused g c =
+    let p = err_from_is_err_and c.from_residual.result c.from_residual.ensures.1 in
+    rw (p.1, p.2, c.in-Show.is) (told_alike c.in_err-captured-in-Show.field-0.0 _ c.in_err-captured-in-Show.ensures.refused)
+
+pub returns-in_err-evidence-in-List-clause-refused : goal.returns-in_err-evidence-in-List-clause-refused
+returns-in_err-evidence-in-List-clause-refused g c =
+    let p = err_from_is_err_and c.from_residual-in_err-evidence-in-List.result c.from_residual-in_err-evidence-in-List.ensures.1 in
+    rw (p.1, p.2, c.in-List.is) (told_alike c.in_err-evidence-in-List.field-0.0 _ c.in_err-evidence-in-List.ensures.refused)
