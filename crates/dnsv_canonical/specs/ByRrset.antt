@@ -1,4 +1,4 @@
--- RDATA kept by the RRset that it belongs to, while a section is read. No public clause cites this module.
+-- RDATA kept by the RRset that it belongs to or covers, while a section is read. No public clause cites this module.
 use Rattle.std.specs.Prelude.{ℕ, ◌==◌, ◌&&◌, List, [], map, Vec}
 use Rattle.std.specs.Option.{option_map_or}
 use Rattle.std.specs.BTreeMap.{BTreeMap}

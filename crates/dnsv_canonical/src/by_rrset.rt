@@ -1,4 +1,4 @@
-//! RDATA by the RRset that it belongs to, while a section is read.
+//! RDATA by the RRset that it belongs to or covers, while a section is read.
 ghost use Rattle.std.specs.Prelude.{◌≡◌, ◌++◌, ◌∷◌, [], ◌&&◌, ◌==◌, ◌<◌, ◌^◌, ℕ, IfOk, OnOk, map, if◌then◌else◌};
 ghost use Rattle.std.specs.Str.{bytes_eq};
 ghost use Rattle.dnsv_names.specs.Name.{Labels, same_name};
@@ -9,8 +9,8 @@ use dnsv_names::{Name, RecordType};
 use std::alloc::{AllocError, Global};
 use std::collections::{BTreeMap, BTreeSet};
 
-/// RDATA by the type and owner of the RRset that it belongs to. A tree finds them in few steps, whatever a
-/// section has in it.
+/// RDATA by the type and owner of the RRset that it belongs to or covers. It's a tree, so that n records take time
+/// in proportion to n log n, whatever their owners are.
 pub type RdataByRrset<'a> = BTreeMap<(RecordType, &'a Name), Vec<&'a [u8]>>;
 
 /// Adds RDATA behind what is there for the type and owner.
