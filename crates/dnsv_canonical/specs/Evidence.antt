@@ -1,5 +1,5 @@
 -- Evidence: which messages a capture takes, and what it holds of them.
-use Rattle.std.specs.Prelude.{◌≡◌, ℕ, zero, suc, ◌+◌, ◌≤◌, ⊤, ◌==◌, if◌then◌else◌, List, [], ◌∷◌, ◌++◌, length, Contains, Option, Some, None, flat_map}
+use Rattle.std.specs.Prelude.{◌≡◌, ℕ, zero, suc, ◌+◌, ◌≤◌, ⊤, ◌==◌, if◌then◌else◌, List, [], ◌∷◌, ◌++◌, length, Contains, flat_map}
 use Rattle.std.specs.List.{AllByRecursion, fold}
 use Rattle.dnsv_message.specs.Message.{Contents, records_of}
 use Rattle.dnsv_message.specs.declared.record.Record.{Record}

@@ -95,7 +95,8 @@ fn numbers_rrsets_through_messages(rt: HostRuntime) -> Result<(), Fail> {
     assert!(rt; capture.signatures(0).is_empty());
     assert_eq!(rt; capture.signatures(1).len(), 1);
     assert_eq!(rt; capture.signatures(2).len(), 1);
-    assert_eq!(rt; capture.signatures(2)[0].labels, 2);
+    let rrsig = capture.signatures(2).first().ok_or("a signature")?;
+    assert_eq!(rt; rrsig.labels, 2);
     assert!(rt; capture.signatures(3).is_empty());
     Ok(())
 }

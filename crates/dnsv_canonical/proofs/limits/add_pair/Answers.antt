@@ -1,7 +1,7 @@
 use Rattle.std.proofs.Common.{◌≡◌, ◌∷◌, ◌++◌, [], true, false, sym, ap, ◌∙◌, subst, append_assoc}
 use Rattle.std.specs.Prelude.{Contains}
 use Rattle.dnsv_canonical.specs.Kept.{ArePairs}
-use Rattle.dnsv_canonical.proofs.PairLemmas.{Pair, ArePairs-known, ArePairs-had, ArePairs-new}
+use Rattle.dnsv_canonical.proofs.PairLemmas.{ArePairs-known, ArePairs-had, ArePairs-new}
 use Rattle.dnsv_canonical.proofs.limits.add_pair.Goals as goal
 
 pub returns-in_default : goal.returns-in_default

@@ -1,4 +1,4 @@
-use Rattle.std.proofs.Common.{List, ℕ, ◌∷◌, ◌++◌, [], take, map, sym, ap, ◌∙◌, subst, append_assoc, arith}
+use Rattle.std.proofs.Common.{List, ℕ, ◌++◌, take, map, sym, ap, ◌∙◌, subst, append_assoc, arith}
 use Rattle.std.proofs.lemmas.List.{append-nil, map_more, take_all}
 use Rattle.std.specs.Borrow.{Bor}
 use Rattle.dnsv_canonical.specs.Kept.{ArePairs}

@@ -1,4 +1,4 @@
-use Rattle.std.proofs.Common.{◌≡◌, List, ℕ, Bool, true, false, not, ◌∷◌, ◌++◌, [], sym, ap, ◌∙◌, subst}
+use Rattle.std.proofs.Common.{List, ℕ, ◌++◌, sym, ap, ◌∙◌, subst}
 use Rattle.std.specs.Prelude.{OnOk, ◌==◌}
 use Rattle.std.proofs.lemmas.List.{append-nil}
 use Rattle.dnsv_canonical.specs.Kept.{ArePairs}

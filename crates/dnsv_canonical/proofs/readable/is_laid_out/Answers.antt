@@ -1,4 +1,4 @@
-use Rattle.std.proofs.Common.{◌≡◌, Bool, List, ℕ, subst, sym, arith, IfOk, ◌↔◌, IsTrue, Result}
+use Rattle.std.proofs.Common.{Bool, subst, sym, arith, IfOk, ◌↔◌, IsTrue, Result}
 use Rattle.std.specs.declared.alloc.AllocError.{AllocError}
 use Rattle.dnsv_records.specs.declared.nsec.Nsec.{Nsec}
 use Rattle.dnsv_records.specs.declared.nsec3.Nsec3.{Nsec3}

@@ -1,9 +1,9 @@
-use Rattle.std.proofs.Common.{◌≡◌, ℕ, ◌+◌, List, ◌++◌, length, true, false, sym, ap, subst, ◌∙◌, arith}
+use Rattle.std.proofs.Common.{◌≡◌, ◌+◌, List, ◌++◌, true, false, sym, ap, subst, ◌∙◌, arith}
 use Rattle.std.proofs.lemmas.Result.{err_from_is_err_and}
 use Rattle.std.specs.List.{AllByRecursion}
-use Rattle.dnsv_canonical.specs.Evidence.{Evidence, IsSmall, IsWithinLimits, nsec3_rdata, with_message}
+use Rattle.dnsv_canonical.specs.Evidence.{IsSmall, IsWithinLimits, nsec3_rdata, with_message}
 use Rattle.dnsv_canonical.specs.Kept.{HasRrsig, ArePairs}
-use Rattle.dnsv_canonical.specs.Rrsets.{Group, message_rrsets}
+use Rattle.dnsv_canonical.specs.Rrsets.{Group}
 use Rattle.dnsv_canonical.proofs.EvidenceLemmas.{message_readable, large_refused, many_refused, grown, grown_is, pairs_so_far, not_small}
 use Rattle.dnsv_canonical.proofs.capture.Capture.add.Goals as goal
 

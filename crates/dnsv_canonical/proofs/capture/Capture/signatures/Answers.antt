@@ -1,4 +1,4 @@
-use Rattle.std.proofs.Common.{inl, inr, arith, subst, length, ap, sym, ◌∙◌}
+use Rattle.std.proofs.Common.{inl, inr, arith, subst, length, ap}
 use Rattle.dnsv_records.specs.Rrsig.{IsRrsig}
 use Rattle.std.specs.List.{AllZip}
 use Rattle.dnsv_canonical.specs.Evidence.{signatures_at}
