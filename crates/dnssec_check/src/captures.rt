@@ -75,7 +75,8 @@ fn written_anew(alloc: Global, octets: &[u8]) -> Result<Vec<u8>, Fail> {
     let mut anew = Vec::new(alloc);
     for frame in &read_capture(alloc, &mut Counted::new(octets))? {
         let octets = Message::decode(alloc, frame)?.encode(alloc)?;
-        anew.extend_from_slice(&(octets.len() as u16).to_be_bytes())?;
+        let size = (octets.len() % 0x1_0000) as u16;
+        anew.extend_from_slice(&size.to_be_bytes())?;
         anew.extend_from_slice(&octets)?;
     }
     Ok(anew)

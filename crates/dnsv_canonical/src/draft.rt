@@ -1,15 +1,11 @@
 //! RRsets as they stand in messages that lie elsewhere.
 ghost use Rattle.std.specs.Prelude.{◌≡◌, ◌++◌, ◌+◌, IfOk, OnOk, map, List, ℕ};
-ghost use Rattle.std.specs.Option.{option_map};
 ghost use Rattle.dnsv_message.specs.declared.record.Section.{Section};
-ghost use Rattle.dnsv_canonical.specs.SignedData.{IsSignedData};
 
 use crate::by_rrset::{distinct, taken};
 use crate::section::{is_grouped, rdata_by_rrset, signatures_by_rrset};
-use crate::signed::signed_octets;
 use dnsv_message::{Message, Record, Section};
 use dnsv_names::{Name, RecordType};
-use dnsv_records::Rrsig;
 use std::alloc::{AllocError, Global};
 use std::marker::Model;
 
@@ -87,28 +83,9 @@ impl<'a> Draft<'a> {
     {
         &self.signatures
     }
-
-    /// What the signature signs over the RRset; `None` where Labels is above the owner's count of labels.
-    pub fn signed_data(&self, alloc: Global, rrsig: &Rrsig) -> Result<Option<Vec<u8>>, AllocError>
-        ensures { IfOk result (λ answer. IsSignedData self.now.owner self.now.rtype self.now.rdata rrsig.now
-            (option_map (λ octets. octets.items) answer)) }
-    {
-        signed_octets(alloc, self.owner, self.rtype, self.rdata.as_slice(), rrsig)
-    }
 }
 
-ghost use Rattle.dnsv_canonical.specs.Rrsets.{message_rrsets, rrsets_in, rrsets_of};
-
-/// The RRsets of the messages by first appearance; they are numbered from 1.
-pub fn rrsets<'a>(alloc: Global, messages: &'a [Message]) -> Result<Vec<Draft<'a>>, AllocError>
-    ensures { IfOk result (λ rrsets. rrsets.items ≡ rrsets_of messages.now) }
-{
-    let mut rrsets = Vec::new(alloc);
-    for (index, message) in messages.iter().enumerate() {
-        add_message(alloc, &mut rrsets, index + 1, message)?;
-    }
-    Ok(rrsets)
-}
+ghost use Rattle.dnsv_canonical.specs.Rrsets.{message_rrsets, rrsets_in};
 
 /// The RRsets of the message, which has this number.
 pub fn message_rrsets<'a>(

@@ -1,10 +1,8 @@
 //! RRsets, their signatures, and the octets that a signature signs (RFC 4034, RFC 4035).
 #![tactic(auto)]
 
-pub use canonical::{canonical_rdata, one_canonical_list};
+pub use canonical::one_canonical_list;
 pub use capture::{Capture, CaptureError, captures_hold_the_rrsets};
-pub use draft::{Draft, rrsets};
-pub use response::{ResponseError, checked};
 pub use rrset::{Rrset, canonical_rrset, signed_data};
 pub use signed::one_signed_data;
 
@@ -15,7 +13,6 @@ mod draft;
 mod form;
 mod limits;
 mod readable;
-mod response;
 mod rrset;
 mod section;
 mod signed;

@@ -118,9 +118,3 @@ fn groups_the_records_of_many_owners(rt: HostRuntime) -> Result<(), Fail> {
     }
     Ok(())
 }
-
-#[test]
-fn has_no_rrsets_without_messages(rt: HostRuntime) -> Result<(), Fail> {
-    assert!(rt; rrsets(rt.alloc(), &[])?.is_empty());
-    Ok(())
-}
