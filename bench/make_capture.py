@@ -1,0 +1,63 @@
+#!/usr/bin/env python3
+"""Writes a file of captured messages for the bench, the same for the same numbers.
+
+usage: make_capture.py MESSAGES RECORDS SIGNATURES > FILE
+
+Each message is a response with RECORDS records in its answer section: RRsets of five records of the
+types A, AAAA, MX, TXT and NS at owners of their own, each with SIGNATURES signatures, as many as fit.
+With SIGNATURES 0 each record has an owner of its own, which is the most that a section can hold apart.
+"""
+import random
+import struct
+import sys
+
+TYPES = {1: 4, 28: 16, 15: None, 16: 24, 2: None}  # the type and how many octets its RDATA has
+ZONE = b"\x05bench\x07example\x00"
+
+
+def record(owner, rtype, rdata):
+    return owner + struct.pack("!HHIH", rtype, 1, 3600, len(rdata)) + rdata
+
+
+def rdata_of(draw, rtype):
+    name = bytes([8]) + bytes(draw.choices(b"ABCDEFGHijklmnop", k=8)) + ZONE
+    if rtype == 15:
+        return struct.pack("!H", draw.randrange(100)) + name
+    if rtype == 2:
+        return name
+    octets = draw.randbytes(TYPES[rtype])
+    return bytes([len(octets) - 1]) + octets[1:] if rtype == 16 else octets
+
+
+def signature(draw, rtype, labels):
+    front = struct.pack("!HBBIIIH", rtype, 13, labels, 3600, 2000, 1000, draw.randrange(65536))
+    return front + ZONE + draw.randbytes(64)
+
+
+def records_of(draw, count, signatures):
+    """The records of one message, RRset by RRset."""
+    pointer = struct.pack("!H", 0xC000 + 12)  # the question's name, which is the zone
+    records = []
+    for number in range(count):
+        if len(records) >= count:
+            break
+        label = b"h%d" % number
+        owner = bytes([len(label)]) + label + pointer
+        rtype = draw.choice(list(TYPES)) if signatures else 1
+        size = 5 if signatures else 1
+        records += [record(owner, rtype, rdata_of(draw, rtype)) for _ in range(size)]
+        records += [record(owner, 46, signature(draw, rtype, 3)) for _ in range(signatures)]
+    return records[:count]
+
+
+def main():
+    messages, count, signatures = map(int, sys.argv[1:])
+    draw = random.Random(20261122)
+    for number in range(messages):
+        records = records_of(draw, count, signatures)
+        header = struct.pack("!HHHHHH", number, 0x8400, 1, len(records), 0, 0)
+        octets = header + ZONE + struct.pack("!HH", 255, 1) + b"".join(records)
+        sys.stdout.buffer.write(struct.pack("!H", len(octets)) + octets)
+
+
+main()

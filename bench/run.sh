@@ -1,0 +1,31 @@
+#!/usr/bin/env bash
+# Measures `list --all` and `show` over captures of 256, 1,024 and 4,096 records, and prints the rows of the
+# tables in docs/PERFORMANCE.md. It needs the built program (make), python3, valgrind and GNU time.
+set -euo pipefail
+cd "$(dirname "$0")"
+program=../crates/dnssec_check/out/dnssec_check
+room=$(mktemp -d)
+trap 'rm -rf "$room"' EXIT
+
+measure() { # CAPTURE WORD..
+  local capture=$1 instructions peak read written
+  shift
+  /usr/bin/time -f %M -o "$room/peak" "$program" "$@" > "$room/text"
+  valgrind --tool=callgrind --callgrind-out-file="$room/callgrind" "$program" "$@" 2> "$room/log" > "$room/again"
+  cmp "$room/text" "$room/again"
+  instructions=$(sed -n 's/.*refs: *//p' "$room/log")
+  peak=$(cat "$room/peak")
+  read=$(stat -c %s "$capture")
+  written=$(stat -c %s "$room/text")
+  printf '| %s | %s | %s | %s | %s KiB |\n' "$1" "$read" "$written" "$instructions" "$peak"
+}
+
+report() { # MESSAGES RECORDS SIGNATURES
+  ./make_capture.py "$@" > "$room/capture"
+  echo "$1 messages of $2 records, $3 signatures an RRset"
+  measure "$room/capture" list --capture "$room/capture" --moment 1500 --all
+  measure "$room/capture" show --capture "$room/capture"
+}
+
+for messages in 4 16 64; do report $messages 64 16; done
+for records in 160 640 2560; do report 1 $records 0; done
