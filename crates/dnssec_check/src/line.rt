@@ -148,7 +148,7 @@ fn list<'a>(alloc: Global) -> Result<Command<'a>, AllocError>
         × ((fields_of command).has_globals ≡ false)) }
 {
     Command::new(alloc, "list")
-        .about("Lists what a verifier is asked")
+        .about("Lists what signatures sign")
         .arg(capture_option(alloc))?
         .arg(moment_option(alloc))?
         .arg(all_flag(alloc))

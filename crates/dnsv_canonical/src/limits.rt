@@ -7,8 +7,8 @@ ghost use Rattle.dnsv_canonical.specs.Kept.{ArePairs};
 
 use crate::canonical::canonical_rdata;
 use crate::draft::Draft;
-use crate::readable::{DNSKEY, NSEC3};
 use dnsv_message::{Message, Section};
+use dnsv_names::RecordType;
 use dnsv_records::{Nsec3, Octets, RecordError};
 use std::alloc::{AllocError, Global};
 
@@ -62,7 +62,7 @@ fn is_small(alloc: Global, draft: &Draft<'_>) -> Result<bool, AllocError>
     if draft.signatures().len() > SIGNATURE_LIMIT {
         return Ok(false);
     }
-    if draft.rtype() != DNSKEY {
+    if draft.rtype() != RecordType::DNSKEY {
         return Ok(true);
     }
     has_few_keys(alloc, draft.rdata())
@@ -103,7 +103,7 @@ fn add_rrset(
     ensures { OnOk result ((earlier : List (List ℕ)) → ArePairs earlier (kept.now ++ fresh.old.items)
         → ArePairs (earlier ++ nsec3_rdata (draft.now ∷ [])) (kept.now ++ fresh.new.items)) }
 {
-    if draft.rtype() != NSEC3 {
+    if draft.rtype() != RecordType::NSEC3 {
         return Ok(());
     }
     add_records(alloc, kept, fresh, draft.rdata())

@@ -11,15 +11,6 @@ use dnsv_names::RecordType;
 use dnsv_records::{Dnskey, Ds, Nsec, Nsec3, RecordError, Rrsig};
 use std::alloc::{AllocError, Global};
 
-/// A digest of a key of the zone below (RFC 4034 5).
-const DS: RecordType = RecordType(43);
-
-/// A key of a zone (RFC 4034 2).
-pub const DNSKEY: RecordType = RecordType(48);
-
-/// A gap between two hashes of names and the types of the first (RFC 5155 3).
-pub const NSEC3: RecordType = RecordType(50);
-
 /// Whether all of the message's DNSSEC records of class IN can be read: else `BadRdata` tells the first that can't,
 /// by its number through the three sections, from 1 on.
 pub fn check_rdata(alloc: Global, message: &Message) -> Result<(), CaptureError>
@@ -80,11 +71,11 @@ fn is_laid_out(alloc: Global, rtype: RecordType, rdata: &[u8]) -> Result<bool, A
     ensures { IfOk result (λ answer. IsTrue answer ↔ IsLaidOut rtype.0 rdata.now) }
 {
     match rtype {
-        DS => was_read(Ds::read(alloc, rdata)),
+        RecordType::DS => was_read(Ds::read(alloc, rdata)),
         RecordType::RRSIG => was_read(Rrsig::read(alloc, rdata)),
         RecordType::NSEC => was_read(Nsec::read(alloc, rdata)),
-        DNSKEY => was_read(Dnskey::read(alloc, rdata)),
-        NSEC3 => was_read(Nsec3::read(alloc, rdata)),
+        RecordType::DNSKEY => was_read(Dnskey::read(alloc, rdata)),
+        RecordType::NSEC3 => was_read(Nsec3::read(alloc, rdata)),
         _ => Ok(true),
     }
 }

@@ -32,9 +32,18 @@ impl RecordType {
     /// The name that a whole subtree's alias stands for (RFC 6672 2.1).
     pub const DNAME: RecordType = RecordType(39);
 
+    /// A digest of a key of the zone below (RFC 4034 5).
+    pub const DS: RecordType = RecordType(43);
+
     /// A signature over an RRset (RFC 4034 3).
     pub const RRSIG: RecordType = RecordType(46);
 
     /// A gap between two names and the types of the first (RFC 4034 4).
     pub const NSEC: RecordType = RecordType(47);
+
+    /// A key of a zone (RFC 4034 2).
+    pub const DNSKEY: RecordType = RecordType(48);
+
+    /// A gap between two hashes of names and the types of the first (RFC 5155 3).
+    pub const NSEC3: RecordType = RecordType(50);
 }

@@ -117,7 +117,7 @@ fn reads_signatures(rt: HostRuntime) -> Result<(), Fail> {
     let rdata =
         b"\x00\x30\x0d\x01\x00\x00\x0e\x10\x00\x00\x07\xd0\x00\x00\x03\xe8\x08\x0f\x07example\x00\xcc";
     let rrsig = Rrsig::read(rt.alloc(), rdata)?;
-    assert_eq!(rt; rrsig.type_covered, RecordType(48));
+    assert_eq!(rt; rrsig.type_covered, RecordType::DNSKEY);
     assert_eq!(rt; rrsig.algorithm, Algorithm(13));
     assert_eq!(rt; rrsig.labels, 1);
     assert_eq!(rt; rrsig.original_ttl, 3600);
