@@ -106,10 +106,10 @@ large_refused held message drafts is large within =
     large (subst (AllByRecursion IsSmall) (sym (numbered held message drafts is)) (each_behind IsSmall held.rrsets (message_rrsets (suc held.messages) message) within.rrsets))
 
 -- too many pairs
-pub many_refused : (held : Evidence) (message : Contents) (drafts : List Group) (pairs : List Pair) → drafts ≡ message_rrsets (held.messages + 1) message
-    → ArePairs (nsec3_rdata held.rrsets ++ nsec3_rdata drafts) pairs → ¬ (length pairs ≤ 8) → ¬ IsWithinLimits (with_message held message)
-many_refused held message drafts pairs is are many within =
-    many ((few_pairs 8 _ pairs (ArePairs-joined held.rrsets drafts pairs are)).1
+pub many_refused : (held : Evidence) (message : Contents) (drafts : List Group) → drafts ≡ message_rrsets (held.messages + 1) message
+    → ¬ AtMost 8 (IsPairAmong (nsec3_rdata held.rrsets ++ nsec3_rdata drafts)) → ¬ IsWithinLimits (with_message held message)
+many_refused held message drafts is many within =
+    many (subst (λ received. AtMost 8 (IsPairAmong received)) (flat_map-append (λ (rrset : Group). if rrset.rtype == 50 then rrset.rdata else []) held.rrsets drafts)
     (subst (λ rrsets. AtMost 8 (IsPairAmong (nsec3_rdata (held.rrsets ++ rrsets)))) (sym (numbered held message drafts is)) within.pairs))
 
 -- the new value, as it is kept and as it is defined

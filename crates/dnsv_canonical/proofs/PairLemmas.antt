@@ -1,12 +1,13 @@
 -- The pairs of iterations and salt, record by record.
-use Rattle.std.proofs.Common.{◌≡◌, ◌⊎◌, inl, inr, ⊎_elim, ℕ, ◌+◌, ◌<◌, ◌≤◌, Bool, true, false, not, ◌&&◌, ◌||◌, List, [], ◌∷◌, ◌++◌, length, get_or, take, refl, sym, ap, ◌∙◌, subst, ◌↔◌, Option, Some, None, Ok, Err}
-use Rattle.std.proofs.lemmas.List.{append-nil, take_more}
+use Rattle.std.proofs.Common.{◌≡◌, ◌⊎◌, inl, inr, ⊎_elim, ℕ, ◌+◌, ◌<◌, ◌≤◌, Bool, true, false, not, ◌&&◌, ◌||◌, List, [], ◌∷◌, ◌++◌, length, get_or, map, take, drop, refl, sym, ap, ◌∙◌, subst, append_assoc, arith, length-append, ◌↔◌, Option, Some, None, Ok, Err}
+use Rattle.std.proofs.lemmas.List.{append-nil, map-append, map_more, take-append-drop, take_more}
 use Rattle.std.proofs.lemmas.Bool.{eqb-true, false≢true}
 use Rattle.std.proofs.lemmas.Cmp.{lists_equiv, nat_eq_equiv}
 use Rattle.std.proofs.lemmas.Slice.Eq.{bytes_eq-Decides}
 use Rattle.std.proofs.lemmas.Grind.{flat_map-append}
 use Rattle.std.specs.Cmp.Lexicographic.{pointwise}
 use Rattle.std.specs.Prelude.{Contains, nat_eq, if◌then◌else◌, ◌==◌}
+use Rattle.std.specs.Borrow.{Bor}
 use Rattle.std.specs.List.{list_any}
 use Rattle.dnsv_records.specs.declared.error.Field.{Field}
 use Rattle.dnsv_records.specs.declared.error.RecordError.TheVariants as records
@@ -14,8 +15,10 @@ use Rattle.dnsv_records.specs.declared.nsec3.Nsec3.{Nsec3}
 use Rattle.dnsv_records.specs.Nsec3.{IsNsec3, IsUsable}
 use Rattle.dnsv_records.specs.Reading.{Gives}
 use Rattle.dnsv_canonical.specs.Evidence.{AtMost, IsPairOf, IsPairAmong, nsec3_rdata}
-use Rattle.dnsv_canonical.specs.Kept.{IsDistinct, ArePairs}
+use Rattle.dnsv_canonical.specs.Kept.{IsDistinct, ArePairs, IsPairRefusal}
 use Rattle.dnsv_canonical.specs.Rrsets.{Group}
+use Rattle.dnsv_canonical.specs.declared.capture.CaptureError.{CaptureError}
+use Rattle.dnsv_canonical.specs.declared.capture.CaptureError.TheVariants.{OutOfMemory, NotAResponse, Truncated, BadRdata, Limit}
 use Rattle.dnsv_canonical.proofs.CanonicalLemmas.{IsMember, IsMember-from_contains, Contains-from_member}
 use Rattle.dnsv_canonical.proofs.LimitLemmas.{few_where_distinct}
 use Rattle.dnsv_canonical.proofs.ListLemmas.{contains_front, contains_behind, contains_parts, contains_one, contains_itself}
@@ -88,13 +91,13 @@ distinct_push (y ∷ ys) x distinct new = (
 
 -- ---- one record more
 
+among_part : (part rest : List (List ℕ)) (pair : Pair) → IsPairAmong part pair → IsPairAmong (part ++ rest) pair
+among_part part rest pair among = (among.0, contains_front part rest among.0 among.1, among.2)
+
 module _ (earlier : List (List ℕ)) (pairs : List Pair) (are : ArePairs earlier pairs) (rdata : List ℕ) (found : Option Pair) (reads : (pair : Pair) → (found ≡ Some pair) ↔ IsPairOf rdata pair) where
   among_more : (pair : Pair) → IsPairAmong (earlier ++ rdata ∷ []) pair → IsPairAmong earlier pair ⊎ IsPairOf rdata pair
   among_more pair among =
       ⊎_elim (λ front. inl (among.0, front, among.2)) (λ behind. inr (subst (λ r. IsPairOf r pair) (contains_one rdata among.0 behind) among.2)) (contains_parts earlier (rdata ∷ []) among.0 among.1)
-
-  among_still : (pair : Pair) → IsPairAmong earlier pair → IsPairAmong (earlier ++ rdata ∷ []) pair
-  among_still pair among = (among.0, contains_front earlier (rdata ∷ []) among.0 among.1, among.2)
 
   among_new : (pair : Pair) → IsPairOf rdata pair → IsPairAmong (earlier ++ rdata ∷ []) pair
   among_new pair is = (rdata, contains_behind earlier (rdata ∷ []) rdata (contains_itself rdata), is)
@@ -104,7 +107,7 @@ module _ (earlier : List (List ℕ)) (pairs : List Pair) (are : ArePairs earlier
   ArePairs-known known = record {
     distinct = are.distinct;
     members = λ pair. (
-      λ kept. among_still pair ((are.members pair).0 kept),
+      λ kept. among_part earlier (rdata ∷ []) pair ((are.members pair).0 kept),
       λ among. ⊎_elim (λ before. (are.members pair).1 before) (λ is. known pair ((reads pair).1 is)) (among_more pair among),
     );
   }
@@ -117,7 +120,7 @@ module _ (earlier : List (List ℕ)) (pairs : List Pair) (are : ArePairs earlier
   ArePairs-new new is unknown = record {
     distinct = distinct_push pairs new are.distinct unknown;
     members = λ pair. (
-      λ kept. ⊎_elim (λ before. among_still pair ((are.members pair).0 before))
+      λ kept. ⊎_elim (λ before. among_part earlier (rdata ∷ []) pair ((are.members pair).0 before))
           (λ last. among_new pair (subst (IsPairOf rdata) (sym (contains_one new pair last)) ((reads new).0 is))) (contains_parts pairs (new ∷ []) pair kept),
       λ among. ⊎_elim (λ before. contains_front pairs (new ∷ []) pair ((are.members pair).1 before))
           (λ here. let same : Some new ≡ Some pair = sym is ∙ (reads pair).1 here in let equal : new ≡ pair = cc in contains_behind pairs (new ∷ []) pair (subst (λ p. Contains (new ∷ []) p) equal (contains_itself new))) (among_more pair among),
@@ -157,6 +160,49 @@ nsec3_rdata_more rrsets i x within at =
 -- the kept pairs and the fresh ones are within the limit where they are few
 pub few_pairs : (limit : ℕ) (received : List (List ℕ)) (pairs : List Pair) → ArePairs received pairs → (length pairs ≤ limit) ↔ AtMost limit (IsPairAmong received)
 few_pairs limit received pairs are = few_where_distinct (IsPairAmong received) limit pairs are.distinct are.members
+
+-- ---- too many pairs
+
+-- one pair more than the limit
+pub one_too_many : (limit : ℕ) (received : List (List ℕ)) (pairs : List Pair) (new : Pair) → ArePairs received (pairs ++ new ∷ []) → limit ≤ length pairs → ¬ AtMost limit (IsPairAmong received)
+one_too_many limit received pairs new are full some =
+    omega (arith, full, (few_pairs limit received (pairs ++ new ∷ []) are).1 some, length-append pairs (new ∷ []))
+
+-- what is refused for some of the records is refused for all of them
+refused_part : (part rest : List (List ℕ)) (error : CaptureError) → IsPairRefusal part error → IsPairRefusal (part ++ rest) error
+refused_part part rest OutOfMemory refused = tt
+refused_part part rest NotAResponse refused = absurd refused
+refused_part part rest Truncated refused = absurd refused
+refused_part part rest (BadRdata k) refused = absurd refused
+refused_part part rest Limit many = λ few. many (few.0, few.1, λ pair among. few.2 pair (among_part part rest pair among))
+
+refused_of : (earlier part more rest all : List (List ℕ)) (error : CaptureError) → (part ++ more) ++ rest ≡ all → IsPairRefusal ((earlier ++ part) ++ more) error → IsPairRefusal (earlier ++ all) error
+refused_of earlier part more rest all error is refused =
+    subst (λ received. IsPairRefusal received error)
+    (append_assoc (earlier ++ part) more rest ∙ append_assoc earlier part (more ++ rest) ∙ ap (λ xs. earlier ++ xs) (sym (append_assoc part more rest) ∙ is))
+    (refused_part ((earlier ++ part) ++ more) rest error refused)
+
+pub refused_record : (earlier : List (List ℕ)) (received : List (Bor (List ℕ))) (i : ℕ) (d : Bor (List ℕ)) (error : CaptureError) → i < length received
+    → IsPairRefusal ((earlier ++ map (λ r. r.now) (take i received)) ++ (get_or received i d).now ∷ []) error → IsPairRefusal (earlier ++ map (λ r. r.now) received) error
+refused_record earlier received i d error within refused =
+    let rest : List (List ℕ) = map (λ (r : Bor (List ℕ)). r.now) (drop (i + 1) received) in
+    refused_of earlier (map (λ (r : Bor (List ℕ)). r.now) (take i received)) ((get_or received i d).now ∷ []) rest (map (λ (r : Bor (List ℕ)). r.now) received) error
+    (ap (λ xs. xs ++ rest) (sym (map_more (λ (r : Bor (List ℕ)). r.now) received i d within))
+    ∙ sym (map-append (λ (r : Bor (List ℕ)). r.now) (take (i + 1) received) (drop (i + 1) received))
+    ∙ ap (map (λ (r : Bor (List ℕ)). r.now)) (take-append-drop (i + 1) received))
+    refused
+
+pub refused_rrset : (earlier : List (List ℕ)) (rrsets : List Group) (i : ℕ) (x : Group) (error : CaptureError) → i < length rrsets → x ≡ get_or rrsets i x
+    → IsPairRefusal ((earlier ++ nsec3_rdata (take i rrsets)) ++ nsec3_rdata (x ∷ [])) error → IsPairRefusal (earlier ++ nsec3_rdata rrsets) error
+refused_rrset earlier rrsets i x error within at refused =
+    let rest : List (List ℕ) = nsec3_rdata (drop (i + 1) rrsets) in
+    refused_of earlier (nsec3_rdata (take i rrsets)) (nsec3_rdata (x ∷ [])) rest (nsec3_rdata rrsets) error
+    (ap (λ xs. xs ++ rest) (sym (nsec3_rdata_more rrsets i x within at))
+    ∙ sym (flat_map-append (λ (rrset : Group). if rrset.rtype == 50 then rrset.rdata else []) (take (i + 1) rrsets) (drop (i + 1) rrsets))
+    ∙ ap nsec3_rdata (take-append-drop (i + 1) rrsets))
+    refused
+
+-- ---- RRsets with NSEC3 records
 
 -- whether an RRset has NSEC3 records
 pub nsec3_rdata_none : (rrset : Group) → (rrset.rtype == 50) ≡ false → nsec3_rdata (rrset ∷ []) ≡ []

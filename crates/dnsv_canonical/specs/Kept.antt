@@ -6,10 +6,10 @@ use Rattle.dnsv_message.specs.declared.record.Record.{Record}
 use Rattle.dnsv_records.specs.declared.error.RecordError.{RecordError}
 use Rattle.dnsv_records.specs.declared.error.RecordError.TheVariants as records
 use Rattle.dnsv_canonical.specs.declared.capture.CaptureError.{CaptureError}
-use Rattle.dnsv_canonical.specs.declared.capture.CaptureError.TheVariants.{OutOfMemory, BadRdata}
+use Rattle.dnsv_canonical.specs.declared.capture.CaptureError.TheVariants.{OutOfMemory, BadRdata, Limit}
 use Rattle.dnsv_records.specs.declared.rrsig.Rrsig.{Rrsig}
 use Rattle.dnsv_records.specs.Rrsig.{IsRrsig}
-use Rattle.dnsv_canonical.specs.Evidence.{IsFirstBad, IsPairAmong}
+use Rattle.dnsv_canonical.specs.Evidence.{AtMost, IsFirstBad, IsPairAmong}
 
 -- the RDATA is some RRSIG
 abbrev pub HasRrsig : List ℕ → Type 0
@@ -36,3 +36,9 @@ IsDistinct (x ∷ xs) = ¬ Contains xs x × IsDistinct xs
 pub record ArePairs (received : List (List ℕ)) (pairs : List (ℕ × List ℕ)) : Type 0 where
   pub distinct : IsDistinct pairs
   pub members : (pair : ℕ × List ℕ) → Contains pairs pair ↔ IsPairAmong received pair
+
+-- why the pairs of the NSEC3 records aren't gathered
+abbrev pub IsPairRefusal : List (List ℕ) → CaptureError → Type 0
+IsPairRefusal received OutOfMemory = ⊤
+IsPairRefusal received Limit = ¬ AtMost 8 (IsPairAmong received)
+IsPairRefusal received _ = ⊥

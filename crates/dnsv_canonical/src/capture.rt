@@ -8,12 +8,12 @@ ghost use Rattle.dnsv_canonical.specs.Rrsets.{rrsets_of};
 ghost use Rattle.dnsv_canonical.specs.declared.capture.CaptureError.TheVariants.{OutOfMemory};
 
 use crate::draft::message_rrsets;
-use crate::limits::{MESSAGE_LIMIT, are_small, fresh_pairs, has_room, records_with};
+use crate::limits::{MESSAGE_LIMIT, are_small, fresh_pairs, records_with};
 use crate::readable::check_rdata;
 use crate::rrset::{Rrset, owned};
 use dnsv_message::Message;
 use dnsv_records::{Octets, Rrsig};
-use std::alloc::{AllocError, Global};
+use std::alloc::{AllocError, AllocFailed, Global};
 use std::marker::Model;
 use thiserror::Error;
 
@@ -43,6 +43,14 @@ impl From<AllocError> for CaptureError {
     ghost from_gives = { λ _ error. error ≡ OutOfMemory };
 
     fn from(_error: AllocError) -> CaptureError {
+        CaptureError::OutOfMemory
+    }
+}
+
+impl<T: Drop> From<AllocFailed<T>> for CaptureError {
+    ghost from_gives = { λ _ error. error ≡ OutOfMemory };
+
+    fn from(_refused: AllocFailed<T>) -> CaptureError {
         CaptureError::OutOfMemory
     }
 }
@@ -114,9 +122,6 @@ impl Capture {
             return Err(CaptureError::Limit);
         }
         let mut pairs = fresh_pairs(self.alloc, self.pairs.as_slice(), drafts.as_slice())?;
-        if !has_room(self.pairs.as_slice(), pairs.as_slice()) {
-            return Err(CaptureError::Limit);
-        }
         let mut rrsets = owned(self.alloc, drafts.as_slice())?;
         self.pairs.reserve(pairs.len())?;
         self.rrsets.append(&mut rrsets)?;

@@ -1,11 +1,12 @@
 //! How much an RRset and a capture may have.
-ghost use Rattle.std.specs.Prelude.{◌≡◌, ◌↔◌, ◌+◌, ◌<◌, ◌≤◌, ℕ, List, [], ◌∷◌, ◌++◌, length, map, Contains, Option, Some, IfOk, IsTrue, OnOk, MatchOption};
+ghost use Rattle.std.specs.Prelude.{◌≡◌, ◌↔◌, ◌+◌, ◌<◌, ◌≤◌, ℕ, List, [], ◌∷◌, ◌++◌, length, map, Contains, Option, Some, IfErr, IfOk, IsTrue, OnOk, MatchOption};
 ghost use Rattle.std.specs.List.{AllByRecursion};
 ghost use Rattle.dnsv_message.specs.Message.{records_of};
 ghost use Rattle.dnsv_canonical.specs.Evidence.{IsSmall, AtMost, IsPairOf, nsec3_rdata};
-ghost use Rattle.dnsv_canonical.specs.Kept.{ArePairs};
+ghost use Rattle.dnsv_canonical.specs.Kept.{ArePairs, IsPairRefusal};
 
 use crate::canonical::canonical_rdata;
+use crate::capture::CaptureError;
 use crate::draft::Draft;
 use dnsv_message::{Message, Section};
 use dnsv_names::RecordType;
@@ -77,14 +78,17 @@ fn has_few_keys(alloc: Global, received: &[&[u8]]) -> Result<bool, AllocError>
 }
 
 /// The pairs of iterations and salt of the RRsets' NSEC3 records that can be used, each once, but for those that
-/// are kept.
+/// are kept. A ninth is refused where it is met, so that no more than 8 are ever held.
 pub fn fresh_pairs(
     alloc: Global,
     kept: &[(u16, Octets)],
     drafts: &[Draft<'_>],
-) -> Result<Vec<(u16, Octets)>, AllocError>
-    ensures { IfOk result (λ fresh. (earlier : List (List ℕ)) → ArePairs earlier kept.now
+) -> Result<Vec<(u16, Octets)>, CaptureError>
+    ensures gathered { IfOk result (λ fresh. (earlier : List (List ℕ)) → ArePairs earlier kept.now
         → ArePairs (earlier ++ nsec3_rdata drafts.now) (kept.now ++ fresh.items)) }
+    ensures few { IfOk result (λ fresh. length kept.now ≤ 8 → length (kept.now ++ fresh.items) ≤ 8) }
+    ensures refused { (earlier : List (List ℕ)) → ArePairs earlier kept.now
+        → IfErr result (IsPairRefusal (earlier ++ nsec3_rdata drafts.now)) }
 {
     let mut fresh = Vec::new(alloc);
     for draft in drafts {
@@ -99,9 +103,13 @@ fn add_rrset(
     kept: &[(u16, Octets)],
     fresh: &mut Vec<(u16, Octets)>,
     draft: &Draft<'_>,
-) -> Result<(), AllocError>
-    ensures { OnOk result ((earlier : List (List ℕ)) → ArePairs earlier (kept.now ++ fresh.old.items)
+) -> Result<(), CaptureError>
+    ensures gathered { OnOk result ((earlier : List (List ℕ)) → ArePairs earlier (kept.now ++ fresh.old.items)
         → ArePairs (earlier ++ nsec3_rdata (draft.now ∷ [])) (kept.now ++ fresh.new.items)) }
+    ensures few { OnOk result (length (kept.now ++ fresh.old.items) ≤ 8
+        → length (kept.now ++ fresh.new.items) ≤ 8) }
+    ensures refused { (earlier : List (List ℕ)) → ArePairs earlier (kept.now ++ fresh.old.items)
+        → IfErr result (IsPairRefusal (earlier ++ nsec3_rdata (draft.now ∷ []))) }
 {
     if draft.rtype() != RecordType::NSEC3 {
         return Ok(());
@@ -115,9 +123,13 @@ fn add_records(
     kept: &[(u16, Octets)],
     fresh: &mut Vec<(u16, Octets)>,
     received: &[&[u8]],
-) -> Result<(), AllocError>
-    ensures { OnOk result ((earlier : List (List ℕ)) → ArePairs earlier (kept.now ++ fresh.old.items)
+) -> Result<(), CaptureError>
+    ensures gathered { OnOk result ((earlier : List (List ℕ)) → ArePairs earlier (kept.now ++ fresh.old.items)
         → ArePairs (earlier ++ map (λ r. r.now) received.now) (kept.now ++ fresh.new.items)) }
+    ensures few { OnOk result (length (kept.now ++ fresh.old.items) ≤ 8
+        → length (kept.now ++ fresh.new.items) ≤ 8) }
+    ensures refused { (earlier : List (List ℕ)) → ArePairs earlier (kept.now ++ fresh.old.items)
+        → IfErr result (IsPairRefusal (earlier ++ map (λ r. r.now) received.now)) }
 {
     for rdata in received {
         let found = usable_pair(alloc, rdata)?;
@@ -126,21 +138,29 @@ fn add_records(
     Ok(())
 }
 
-/// Adds the pair of an NSEC3 record, if it has one that is not among the others.
+/// Adds the pair of an NSEC3 record, if it has one that is not among the others. A ninth is refused.
 fn add_pair(
     kept: &[(u16, Octets)],
     fresh: &mut Vec<(u16, Octets)>,
     found: Option<(u16, Octets)>,
-) -> Result<(), AllocError>
-    ensures { OnOk result ((earlier : List (List ℕ)) (rdata : List ℕ) → ArePairs earlier (kept.now ++ fresh.old.items)
+) -> Result<(), CaptureError>
+    ensures gathered { OnOk result ((earlier : List (List ℕ)) (rdata : List ℕ) → ArePairs earlier (kept.now ++ fresh.old.items)
         → ((pair : ℕ × List ℕ) → (found ≡ Some pair) ↔ IsPairOf rdata pair)
         → ArePairs (earlier ++ rdata ∷ []) (kept.now ++ fresh.new.items)) }
+    ensures few { OnOk result (length (kept.now ++ fresh.old.items) ≤ 8
+        → length (kept.now ++ fresh.new.items) ≤ 8) }
+    ensures refused { (earlier : List (List ℕ)) (rdata : List ℕ) → ArePairs earlier (kept.now ++ fresh.old.items)
+        → ((pair : ℕ × List ℕ) → (found ≡ Some pair) ↔ IsPairOf rdata pair)
+        → IfErr result (IsPairRefusal (earlier ++ rdata ∷ [])) }
 {
     let Some(pair) = found else {
         return Ok(());
     };
     if is_among(kept, fresh.as_slice(), &pair) {
         return Ok(());
+    }
+    if kept.len().saturating_add(fresh.len()) >= PAIR_LIMIT {
+        return Err(CaptureError::Limit);
     }
     fresh.push(pair)?;
     Ok(())
@@ -166,11 +186,4 @@ fn usable_pair(alloc: Global, rdata: &[u8]) -> Result<Option<(u16, Octets)>, All
         return Ok(None);
     }
     Ok(Some((nsec3.iterations, nsec3.salt)))
-}
-
-/// Whether a capture may have the pairs of both lists.
-pub fn has_room(kept: &[(u16, Octets)], fresh: &[(u16, Octets)]) -> bool
-    ensures { IsTrue result ↔ (length (kept.now ++ fresh.now) ≤ 8) }
-{
-    kept.len().saturating_add(fresh.len()) <= PAIR_LIMIT
 }

@@ -1,4 +1,4 @@
-use Rattle.std.proofs.Common.{ℕ, List, ◌++◌, take}
+use Rattle.std.proofs.Common.{ℕ, List, ◌++◌, ◌≤◌, length, take}
 use Rattle.dnsv_canonical.specs.Evidence.{nsec3_rdata}
 use Rattle.dnsv_canonical.specs.Kept.{ArePairs}
 use Rattle.dnsv_canonical.proofs.limits.fresh_pairs.Given as goal
@@ -6,5 +6,7 @@ use Rattle.dnsv_canonical.proofs.limits.fresh_pairs.Given as goal
 -- the pairs of the RRsets so far
 abbrev pub invariant-loop-draft : goal.invariant-loop-draft
 invariant-loop-draft l =
-    (earlier : List (List ℕ)) → ArePairs earlier l.kept
-    → ArePairs (earlier ++ nsec3_rdata (take l.draft-index l.drafts)) (l.kept ++ l.fresh.items)
+    record {
+      gathered : (earlier : List (List ℕ)) → ArePairs earlier l.kept → ArePairs (earlier ++ nsec3_rdata (take l.draft-index l.drafts)) (l.kept ++ l.fresh.items);
+      few : length l.kept ≤ 8 → length (l.kept ++ l.fresh.items) ≤ 8;
+    }
