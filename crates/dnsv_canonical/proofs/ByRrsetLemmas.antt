@@ -21,8 +21,8 @@ use Rattle.dnsv_names.specs.Name.{Labels, same_name}
 use Rattle.dnsv_names.specs.Order.{canonical_cmp}
 use Rattle.dnsv_names.specs.OrderLaws.{same_name_ties}
 use Rattle.dnsv_canonical.specs.ByRrset.{rdata_at}
-use Rattle.dnsv_canonical.specs.Rrsets.{each_once}
-use Rattle.dnsv_canonical.proofs.GroupLemmas.{same_name_equiv, each_once-push}
+use Rattle.dnsv_canonical.specs.Rrsets.{first_appearances}
+use Rattle.dnsv_canonical.proofs.GroupLemmas.{same_name_equiv, first_appearances-push}
 
 abbrev pub Key : Type 0
 Key = RecordType × Bor Labels
@@ -113,13 +113,13 @@ module _ (xs : List (Bor (List ℕ))) (i : ℕ) (d : Bor (List ℕ)) (within : i
       either false true = refl
       either false false = refl
 
-  module _ (found : List (Bor (List ℕ))) (once : map (λ r. r.now) found ≡ each_once bytes_eq (so_far i)) (seen : Bool) (is : list_any (λ y. bytes_eq y x.now) (so_far i) ≡ seen) where
-    next : each_once bytes_eq (so_far (i + 1)) ≡ map (λ r. r.now) found ++ cond seen [] (x.now ∷ [])
+  module _ (found : List (Bor (List ℕ))) (once : map (λ r. r.now) found ≡ first_appearances bytes_eq (so_far i)) (seen : Bool) (is : list_any (λ y. bytes_eq y x.now) (so_far i) ≡ seen) where
+    next : first_appearances bytes_eq (so_far (i + 1)) ≡ map (λ r. r.now) found ++ cond seen [] (x.now ∷ [])
     next =
-        ap (each_once bytes_eq) one_more ∙ each_once-push bytes_eq (so_far i) x.now
+        ap (first_appearances bytes_eq) one_more ∙ first_appearances-push bytes_eq (so_far i) x.now
         ∙ (λ j. sym once j ++ cond (is j) [] (x.now ∷ []))
 
-  module _ (old : BTreeSet (Bor (List ℕ))) (seen : (octets : List ℕ) → is_seen old octets ≡ list_any (λ y. bytes_eq y octets) (so_far i)) (found : List (Bor (List ℕ))) (once : map (λ r. r.now) found ≡ each_once bytes_eq (so_far i)) where
+  module _ (old : BTreeSet (Bor (List ℕ))) (seen : (octets : List ℕ) → is_seen old octets ≡ list_any (λ y. bytes_eq y octets) (so_far i)) (found : List (Bor (List ℕ))) (once : map (λ r. r.now) found ≡ first_appearances bytes_eq (so_far i)) where
     was_seen : (b : Bool) → not (contains octets_cmp old x) ≡ not b → list_any (λ y. bytes_eq y x.now) (so_far i) ≡ b
     was_seen b is = sym (seen x.now) ∙ sym (seen_contains old x) ∙ sym (twice (contains octets_cmp old x)) ∙ ap not is ∙ twice b
       where
@@ -128,8 +128,8 @@ module _ (xs : List (Bor (List ℕ))) (i : ℕ) (d : Bor (List ℕ)) (within : i
         twice false = refl
 
     -- an RDATA is listed where it comes for the first time
-    pub once_more : not (contains octets_cmp old x) ≡ true → map (λ r. r.now) (found ++ x ∷ []) ≡ each_once bytes_eq (so_far (i + 1))
+    pub once_more : not (contains octets_cmp old x) ≡ true → map (λ r. r.now) (found ++ x ∷ []) ≡ first_appearances bytes_eq (so_far (i + 1))
     once_more is = map-append (λ (r : Bor (List ℕ)). r.now) found (x ∷ []) ∙ sym (next found once false (was_seen false is))
 
-    pub no_more : not (contains octets_cmp old x) ≡ false → map (λ r. r.now) found ≡ each_once bytes_eq (so_far (i + 1))
+    pub no_more : not (contains octets_cmp old x) ≡ false → map (λ r. r.now) found ≡ first_appearances bytes_eq (so_far (i + 1))
     no_more is = sym (next found once true (was_seen true is) ∙ append-nil (map (λ r. r.now) found))

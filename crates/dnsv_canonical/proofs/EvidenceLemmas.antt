@@ -5,7 +5,7 @@ use Rattle.std.proofs.lemmas.Bool.{eqb-true, false≢true}
 use Rattle.std.proofs.lemmas.Grind.{flat_map-append}
 use Rattle.std.specs.Prelude.{filter, if◌then◌else◌, ◌==◌}
 use Rattle.std.specs.Str.{bytes_eq}
-use Rattle.std.specs.List.{AllByRecursion, AllZip, fold}
+use Rattle.std.specs.List.{AllByRecursion, AllZip, enumerate_from, fold}
 use Rattle.dnsv_names.specs.Name.{Labels}
 use Rattle.dnsv_message.specs.declared.record.Record.{Record}
 use Rattle.dnsv_message.specs.declared.record.Section.{Section}
@@ -16,8 +16,8 @@ use Rattle.dnsv_records.specs.declared.rrsig.Rrsig.{Rrsig}
 use Rattle.dnsv_records.specs.Rrsig.{IsRrsig}
 use Rattle.dnsv_canonical.specs.Evidence.{Evidence, AtMost, IsReadable, IsWithinLimits, IsSmall, IsPairAmong, nsec3_rdata, with_message, evidence_of, signatures_at}
 use Rattle.dnsv_canonical.specs.Kept.{HasRrsig, ArePairs}
-use Rattle.dnsv_canonical.specs.Rrsets.{Group, is_signature, each_once, rrset_of, rrsets_in, message_rrsets, rrsets_from, rrsets_of, is_grouped, same_rrset}
-use Rattle.dnsv_canonical.proofs.ListLemmas.{each_front, each_behind, each_kept}
+use Rattle.dnsv_canonical.specs.Rrsets.{Group, is_signature, appears_first, first_appearances, rrset_of, rrsets_in, message_rrsets, rrsets_from, rrsets_of, is_grouped, same_rrset}
+use Rattle.dnsv_canonical.proofs.ListLemmas.{each_front, each_behind}
 use Rattle.dnsv_canonical.proofs.PairLemmas.{Pair, few_pairs}
 
 both_true : (a b : Bool) → (a && b) ≡ true → (a ≡ true) × (b ≡ true)
@@ -42,9 +42,15 @@ chosen owner rtype (r ∷ rs) can = chosen_at owner rtype r rs (is_signature own
   chosen_at owner rtype r rs true is can rest = (readable owner rtype r can is, rest)
   chosen_at owner rtype r rs false is can rest = rest
 
-each_once_kept : (P : List ℕ → Type 0) (xs : List (List ℕ)) → AllByRecursion P xs → AllByRecursion P (each_once bytes_eq xs)
-each_once_kept P [] all = tt
-each_once_kept P (x ∷ xs) all = (all.0, each_kept P (λ y. not (bytes_eq x y)) (each_once bytes_eq xs) (each_once_kept P xs all.1))
+first_appearances_kept : (P : List ℕ → Type 0) (xs : List (List ℕ)) → AllByRecursion P xs → AllByRecursion P (first_appearances bytes_eq xs)
+first_appearances_kept P xs all = chosen_kept (appears_first bytes_eq xs) 0 xs all where
+  chosen_kept : (test : ℕ × List ℕ → Bool) (k : ℕ) (ys : List (List ℕ)) → AllByRecursion P ys → AllByRecursion P (map (λ (placed : ℕ × List ℕ). placed.1) (filter test (enumerate_from k ys)))
+  chosen_kept test k [] all = tt
+  chosen_kept test k (y ∷ ys) all = chosen_at (test (k, y)) all.0 (chosen_kept test (k + 1) ys all.1) where
+    chosen_at : (first : Bool) → P y → AllByRecursion P (map (λ (placed : ℕ × List ℕ). placed.1) (filter test (enumerate_from (k + 1) ys)))
+        → AllByRecursion P (map (λ (placed : ℕ × List ℕ). placed.1) (cond first ((k, y) ∷ filter test (enumerate_from (k + 1) ys)) (filter test (enumerate_from (k + 1) ys))))
+    chosen_at true p rest = (p, rest)
+    chosen_at false p rest = rest
 
 abbrev HaveRrsigs : Group → Type 0
 HaveRrsigs rrset = AllByRecursion HasRrsig rrset.signatures
@@ -52,10 +58,10 @@ HaveRrsigs rrset = AllByRecursion HasRrsig rrset.signatures
 all_readable : (message : ℕ) (section : Section) (records firsts : List Record) → AllByRecursion IsReadable records → AllByRecursion HaveRrsigs (map (rrset_of message section records) firsts)
 all_readable message section records [] can = tt
 all_readable message section records (first ∷ firsts) can =
-    (each_once_kept HasRrsig _ (chosen first.name first.rtype.0 records can), all_readable message section records firsts can)
+    (first_appearances_kept HasRrsig _ (chosen first.name first.rtype.0 records can), all_readable message section records firsts can)
 
 section_readable : (number : ℕ) (section : Section) (records : List Record) → AllByRecursion IsReadable records → AllByRecursion HaveRrsigs (rrsets_in number section records)
-section_readable number section records can = all_readable number section records (each_once same_rrset (filter is_grouped records)) can
+section_readable number section records can = all_readable number section records (first_appearances same_rrset (filter is_grouped records)) can
 
 -- the signatures of a message whose records can be read
 pub message_readable : (number : ℕ) (message : Contents) → AllByRecursion IsReadable (records_of message) → AllByRecursion (λ rrset. AllByRecursion HasRrsig rrset.signatures) (message_rrsets number message)

@@ -1,6 +1,7 @@
--- Filters, and elements that are kept once, as a loop goes over a list.
-use Rattle.std.proofs.Common.{◌≡◌, ℕ, ◌+◌, ◌<◌, ◌==◌, Bool, true, false, cond, not, ◌&&◌, ◌||◌, List, [], ◌∷◌, ◌++◌, length, get_or, take, map, if◌then◌else◌, refl, sym, ap, ◌∙◌, append_assoc}
-use Rattle.std.specs.List.{filter, list_any}
+-- Filters and first appearances, as a loop goes over a list.
+use Rattle.std.proofs.Common.{◌≡◌, ℕ, ◌+◌, ◌<◌, ◌≤◌, ◌==◌, Bool, true, false, cond, not, ◌&&◌, ◌||◌, List, [], ◌∷◌, ◌++◌, length, get_or, take, map, if◌then◌else◌, refl, sym, ap, ◌∙◌, append_assoc, arith}
+use Rattle.std.specs.List.{enumerate_from, filter, list_any}
+use lib.Seq.{take-append-le, take-append_seam}
 use Rattle.std.proofs.lemmas.List.Folds.{list_any_more, list_any_at}
 use Rattle.std.proofs.lemmas.List.Elements.{filter_more, filter-append}
 use Rattle.std.proofs.lemmas.List.{append-nil, map-append, length-map}
@@ -10,7 +11,7 @@ use Rattle.std.specs.Cmp.{IsEquivalence}
 use Rattle.dnsv_names.specs.Name.{Labels, lower_case, same_name}
 use Rattle.dnsv_message.specs.declared.record.Record.{Record}
 use Rattle.dnsv_message.specs.declared.record.Section.{Section}
-use Rattle.dnsv_canonical.specs.Rrsets.{Group, each_once, is_grouped, same_rrset, is_signature, rrset_of}
+use Rattle.dnsv_canonical.specs.Rrsets.{Group, appears_first, first_appearances, is_grouped, same_rrset, is_signature, rrset_of}
 
 module _ {X : Type 0} (p q : X → Bool) where
   -- whether one of those that pass the first test passes the second
@@ -22,39 +23,56 @@ module _ {X : Type 0} (p q : X → Bool) where
         | false ↦ any_of_filter xs
       ]
 
+-- an element at the end is behind so many places
+placed-push : {X : Type 0} (k : ℕ) (xs : List X) (x : X) → enumerate_from k (xs ++ x ∷ []) ≡ enumerate_from k xs ++ (k + length xs, x) ∷ []
+placed-push {X} k [] x = ap {B = List (ℕ × X)} (λ n. (n, x) ∷ []) (omega arith)
+placed-push {X} k (y ∷ ys) x =
+    ap (λ placed. (k, y) ∷ placed) (placed-push (k + 1) ys x ∙ ap {B = List (ℕ × X)} (λ n. enumerate_from (k + 1) ys ++ (n, x) ∷ []) (omega arith))
+
 module _ {X : Type 0} (same : X → X → Bool) where
-  -- an element at the end is kept where it is the same as no earlier one
-  pub each_once-push : (xs : List X) (x : X) → each_once same (xs ++ x ∷ []) ≡ each_once same xs ++ cond (list_any (λ y. same y x) xs) [] (x ∷ [])
-  each_once-push [] x = refl
-  each_once-push (y ∷ ys) x =
-      ap (λ zs. y ∷ filter (λ z. not (same y z)) zs) (each_once-push ys x)
-      ∙ ap (λ zs. y ∷ zs) (filter-append (λ z. not (same y z)) (each_once same ys) (cond (list_any (λ z. same z x) ys) [] (x ∷ [])))
-      ∙ ap (λ zs. y ∷ (filter (λ z. not (same y z)) (each_once same ys) ++ zs))
-      (elim (list_any (λ z. same z x) ys) as (λ any. filter (λ z. not (same y z)) (cond any [] (x ∷ [])) ≡ cond (same y x || any) [] (x ∷ [])) [
-        | true ↦ elim (same y x) as (λ b. [] ≡ cond (b || true) [] (x ∷ [])) [ true ↦ refl | false ↦ refl ]
-        | false ↦ elim (same y x) as (λ b. cond (not b) (x ∷ []) [] ≡ cond (b || false) [] (x ∷ [])) [ true ↦ refl | false ↦ refl ]
-      ])
+  -- what comes behind an element changes nothing of whether it appears first
+  appear_as_before : (whole more : List X) (k : ℕ) (xs : List X) → k + length xs ≤ length whole → filter (appears_first same (whole ++ more)) (enumerate_from k xs) ≡ filter (appears_first same whole) (enumerate_from k xs)
+  appear_as_before whole more k [] within = refl
+  appear_as_before whole more k (x ∷ xs) within =
+      ap (λ earlier. cond (not (list_any (λ y. same y x) earlier)) ((k, x) ∷ filter (appears_first same (whole ++ more)) (enumerate_from (k + 1) xs)) (filter (appears_first same (whole ++ more)) (enumerate_from (k + 1) xs)))
+      (take-append-le k whole more (omega arith))
+      ∙ ap (λ rest. cond (appears_first same whole (k, x)) ((k, x) ∷ rest) rest) (appear_as_before whole more (k + 1) xs (omega arith))
+
+  last_appears : (k : ℕ) (x : X) (appeared : Bool) → map (λ (placed : ℕ × X). placed.1) (cond (not appeared) ((k, x) ∷ []) []) ≡ cond appeared [] (x ∷ [])
+  last_appears k x true = refl
+  last_appears k x false = refl
+
+  -- an element at the end appears where it is the same as no earlier one
+  pub first_appearances-push : (xs : List X) (x : X) → first_appearances same (xs ++ x ∷ []) ≡ first_appearances same xs ++ cond (list_any (λ y. same y x) xs) [] (x ∷ [])
+  first_appearances-push xs x =
+      let test : ℕ × X → Bool = appears_first same (xs ++ x ∷ []) in
+      ap (λ placed. map (λ (p : ℕ × X). p.1) (filter test placed)) (placed-push 0 xs x ∙ ap {B = List (ℕ × X)} (λ n. enumerate_from 0 xs ++ (n, x) ∷ []) (omega arith))
+      ∙ ap (map (λ (p : ℕ × X). p.1)) (filter-append test (enumerate_from 0 xs) ((length xs, x) ∷ []))
+      ∙ map-append (λ (p : ℕ × X). p.1) (filter test (enumerate_from 0 xs)) (filter test ((length xs, x) ∷ []))
+      ∙ ap (λ placed. map (λ (p : ℕ × X). p.1) placed ++ map (λ (p : ℕ × X). p.1) (filter test ((length xs, x) ∷ []))) (appear_as_before xs (x ∷ []) 0 xs (omega arith))
+      ∙ ap (λ earlier. first_appearances same xs ++ map (λ (p : ℕ × X). p.1) (cond (not (list_any (λ y. same y x) earlier)) ((length xs, x) ∷ []) [])) (take-append_seam xs (x ∷ []))
+      ∙ ap (λ ys. first_appearances same xs ++ ys) (last_appears (length xs) x (list_any (λ y. same y x) xs))
 
 -- an element that may come is kept where it comes and is the same as no earlier one
-each_once_more : {X : Type 0} (same : X → X → Bool) (xs : List X) (x : X) (comes : Bool) → each_once same (xs ++ cond comes (x ∷ []) []) ≡ each_once same xs ++ cond (comes && not (list_any (λ y. same y x) xs)) (x ∷ []) []
-each_once_more same xs x comes =
-    elim comes as (λ b. each_once same (xs ++ cond b (x ∷ []) []) ≡ each_once same xs ++ cond (b && not (list_any (λ y. same y x) xs)) (x ∷ []) []) [
-      | true ↦ each_once-push same xs x ∙ ap (λ ys. each_once same xs ++ ys) (elim (list_any (λ y. same y x) xs) as (λ any. cond any [] (x ∷ []) ≡ cond (not any) (x ∷ []) []) [ true ↦ refl | false ↦ refl ])
-      | false ↦ ap (each_once same) (append-nil xs) ∙ sym (append-nil (each_once same xs))
+first_appearances_more : {X : Type 0} (same : X → X → Bool) (xs : List X) (x : X) (comes : Bool) → first_appearances same (xs ++ cond comes (x ∷ []) []) ≡ first_appearances same xs ++ cond (comes && not (list_any (λ y. same y x) xs)) (x ∷ []) []
+first_appearances_more same xs x comes =
+    elim comes as (λ b. first_appearances same (xs ++ cond b (x ∷ []) []) ≡ first_appearances same xs ++ cond (b && not (list_any (λ y. same y x) xs)) (x ∷ []) []) [
+      | true ↦ first_appearances-push same xs x ∙ ap (λ ys. first_appearances same xs ++ ys) (elim (list_any (λ y. same y x) xs) as (λ any. cond any [] (x ∷ []) ≡ cond (not any) (x ∷ []) []) [ true ↦ refl | false ↦ refl ])
+      | false ↦ ap (first_appearances same) (append-nil xs) ∙ sym (append-nil (first_appearances same xs))
     ]
 
 map_cond : {X Y : Type 0} (f : X → Y) (x : X) (b : Bool) → map f (cond b (x ∷ []) []) ≡ cond b (f x ∷ []) []
 map_cond f x b = elim b as (λ t. map f (cond t (x ∷ []) []) ≡ cond t (f x ∷ []) []) [ true ↦ refl | false ↦ refl ]
 
 -- the RRsets that appeared in the first i records, and the next record's where it is the first of one
-pub rrsets_more : (message : ℕ) (section : Section) (records earlier : List Record) (i : ℕ) (d : Record) → i < length earlier → map (rrset_of message section records) (each_once same_rrset (filter is_grouped (take (i + 1) earlier))) ≡ map (rrset_of message section records) (each_once same_rrset (filter is_grouped (take i earlier))) ++ cond (is_grouped (get_or earlier i d) && not (list_any (λ r. is_grouped r && same_rrset r (get_or earlier i d)) (take i earlier))) (rrset_of message section records (get_or earlier i d) ∷ []) []
+pub rrsets_more : (message : ℕ) (section : Section) (records earlier : List Record) (i : ℕ) (d : Record) → i < length earlier → map (rrset_of message section records) (first_appearances same_rrset (filter is_grouped (take (i + 1) earlier))) ≡ map (rrset_of message section records) (first_appearances same_rrset (filter is_grouped (take i earlier))) ++ cond (is_grouped (get_or earlier i d) && not (list_any (λ r. is_grouped r && same_rrset r (get_or earlier i d)) (take i earlier))) (rrset_of message section records (get_or earlier i d) ∷ []) []
 rrsets_more message section records earlier i d within =
     let x : Record = get_or earlier i d in
     let g : Record → Group = rrset_of message section records in
-    ap (λ rs. map g (each_once same_rrset rs)) (filter_more is_grouped earlier i d within)
-    ∙ ap (map g) (each_once_more same_rrset (filter is_grouped (take i earlier)) x (is_grouped x))
-    ∙ map-append g (each_once same_rrset (filter is_grouped (take i earlier))) _
-    ∙ ap (λ rs. map g (each_once same_rrset (filter is_grouped (take i earlier))) ++ rs)
+    ap (λ rs. map g (first_appearances same_rrset rs)) (filter_more is_grouped earlier i d within)
+    ∙ ap (map g) (first_appearances_more same_rrset (filter is_grouped (take i earlier)) x (is_grouped x))
+    ∙ map-append g (first_appearances same_rrset (filter is_grouped (take i earlier))) _
+    ∙ ap (λ rs. map g (first_appearances same_rrset (filter is_grouped (take i earlier))) ++ rs)
     (map_cond g x _ ∙ ap (λ b. cond (is_grouped x && not b) (g x ∷ []) []) (any_of_filter is_grouped (λ r. same_rrset r x) (take i earlier)))
 
 pub same_name_equiv : IsEquivalence same_name
@@ -124,7 +142,7 @@ module _ (records : List Record) (i : ℕ) (x : Record) (within : i < length rec
 
 module _ (message : ℕ) (section : Section) (records : List Record) (i : ℕ) (x : Record) (within : i < length records) (at : x ≡ get_or records i x) where
   abbrev appeared_at : ℕ → List Group
-  appeared_at n = map (rrset_of message section records) (each_once same_rrset (filter is_grouped (take n records)))
+  appeared_at n = map (rrset_of message section records) (first_appearances same_rrset (filter is_grouped (take n records)))
 
   -- the RRsets up to the next record by the two tests on it
   next_rrset : (grouped appeared : Bool) → is_grouped x ≡ grouped → list_any (λ r. is_grouped r && same_rrset r x) (take i records) ≡ appeared → appeared_at (i + 1) ≡ appeared_at i ++ cond (grouped && not appeared) (rrset_of message section records x ∷ []) []

@@ -1,8 +1,8 @@
 -- Facts about each element of a list, and members of two lists, one behind the other.
-use Rattle.std.proofs.Common.{◌≡◌, ◌⊎◌, inl, inr, ⊎_elim, ℕ, ◌+◌, ◌<◌, Bool, true, false, cond, List, [], ◌∷◌, ◌++◌, length, get_or, take, map, refl, sym, subst, arith}
+use Rattle.std.proofs.Common.{◌≡◌, ◌⊎◌, inl, inr, ⊎_elim, ℕ, ◌+◌, ◌<◌, List, [], ◌∷◌, ◌++◌, length, get_or, take, map, refl, sym, subst, arith}
 use Rattle.std.proofs.lemmas.List.{map_more, get_or-map, length-map}
 use Rattle.std.proofs.lemmas.List.Elements.{All-from_recursion, All-get_or}
-use Rattle.std.specs.Prelude.{Contains, filter}
+use Rattle.std.specs.Prelude.{Contains}
 use Rattle.std.specs.Borrow.{Bor}
 use Rattle.std.specs.List.{AllByRecursion, AllZip}
 use Rattle.dnsv_records.specs.declared.rrsig.Rrsig.{Rrsig}
@@ -27,13 +27,6 @@ each_front P (x ∷ xs) ys each = (each.0, each_front P xs ys each.1)
 pub each_behind : {X : Type 0} (P : X → Type 0) (xs ys : List X) → AllByRecursion P (xs ++ ys) → AllByRecursion P ys
 each_behind P [] ys each = each
 each_behind P (x ∷ xs) ys each = each_behind P xs ys each.1
-
-pub each_kept : {X : Type 0} (P : X → Type 0) (keep : X → Bool) (xs : List X) → AllByRecursion P xs → AllByRecursion P (filter keep xs)
-each_kept P keep [] all = tt
-each_kept P keep (x ∷ xs) all = kept_at P keep x xs (keep x) all.0 (each_kept P keep xs all.1) where
-  kept_at : {X : Type 0} (P : X → Type 0) (keep : X → Bool) (x : X) (xs : List X) (stays : Bool) → P x → AllByRecursion P (filter keep xs) → AllByRecursion P (cond stays (x ∷ filter keep xs) (filter keep xs))
-  kept_at P keep x xs true here rest = (here, rest)
-  kept_at P keep x xs false here rest = rest
 
 pub pairs_more : {A B : Type 0} (R : A → B → Type 0) (xs : List A) (ys : List B) (x : A) (y : B) → AllZip R xs ys → R x y → AllZip R (xs ++ x ∷ []) (ys ++ y ∷ [])
 pairs_more R [] [] x y all here = (here, tt)

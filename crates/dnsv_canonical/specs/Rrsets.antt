@@ -1,7 +1,7 @@
 -- The RRsets of messages and their signatures (RFC 2181 5, RFC 4035 5.3.1).
-use Rattle.std.specs.Prelude.{ℕ, suc, ◌==◌, nat_le, Bool, not, ◌&&◌, List, [], ◌∷◌, ◌++◌, map, filter, nat_eq}
+use Rattle.std.specs.Prelude.{ℕ, suc, ◌==◌, nat_le, Bool, not, ◌&&◌, List, [], ◌∷◌, ◌++◌, map, filter, take, nat_eq}
 use Rattle.std.specs.Int.{w16, to_be_bytes}
-use Rattle.std.specs.List.{list_any, starts_with}
+use Rattle.std.specs.List.{enumerate_from, list_any, starts_with}
 use Rattle.std.specs.Str.{bytes_eq}
 use Rattle.dnsv_names.specs.Name.{Labels, same_name}
 use Rattle.dnsv_message.specs.declared.record.Record.{Record}
@@ -36,10 +36,13 @@ is_grouped r = (r.class.0 == 1) && forms_rrsets r.rtype.0
 abbrev pub same_rrset : Record → Record → Bool
 same_rrset a b = (a.rtype.0 == b.rtype.0) && same_name a.name b.name
 
--- each element that is the same as no earlier one, in order
-abbrev pub each_once : {X : Type 0} → (X → X → Bool) → List X → List X
-each_once same [] = []
-each_once same (x ∷ xs) = x ∷ filter (λ y. not (same x y)) (each_once same xs)
+-- whether an element, behind its place from 0 on, is the same as none of those before that place
+abbrev pub appears_first : {X : Type 0} → (X → X → Bool) → List X → ℕ × X → Bool
+appears_first same xs placed = not (list_any (λ earlier. same earlier placed.1) (take placed.0 xs))
+
+-- the elements that are the same as none before them, in order
+abbrev pub first_appearances : {X : Type 0} → (X → X → Bool) → List X → List X
+first_appearances same xs = map (λ placed. placed.1) (filter (appears_first same xs) (enumerate_from 0 xs))
 
 -- whether the record is an IN RRSIG at the owner that covers the type, which its RDATA begins with
 abbrev pub is_signature : Labels → ℕ → Record → Bool
@@ -48,7 +51,7 @@ is_signature owner rtype r =
 
 -- the RDATA of the section's signatures over the RRset of the owner and type, in order, of equal ones the first
 abbrev pub signatures_of : List Record → Labels → ℕ → List (List ℕ)
-signatures_of records owner rtype = each_once bytes_eq (map (λ r. r.rdata) (filter (is_signature owner rtype) records))
+signatures_of records owner rtype = first_appearances bytes_eq (map (λ r. r.rdata) (filter (is_signature owner rtype) records))
 
 -- the RRset in the section that the record belongs to, which is its first
 abbrev pub rrset_of : ℕ → Section → List Record → Record → Group
@@ -64,7 +67,7 @@ rrset_of message section records first = record {
 -- the RRsets of a section, by first appearance
 abbrev pub rrsets_in : ℕ → Section → List Record → List Group
 rrsets_in message section records =
-    map (rrset_of message section records) (each_once same_rrset (filter is_grouped records))
+    map (rrset_of message section records) (first_appearances same_rrset (filter is_grouped records))
 
 -- the RRsets of the message, which has the number, by section
 abbrev pub message_rrsets : ℕ → Contents → List Group

@@ -3,7 +3,7 @@ ghost use Rattle.std.specs.Prelude.{◌≡◌, ◌++◌, ◌∷◌, [], ◌&&◌
 ghost use Rattle.std.specs.Str.{bytes_eq};
 ghost use Rattle.dnsv_names.specs.Name.{Labels, same_name};
 ghost use Rattle.dnsv_canonical.specs.ByRrset.{rdata_at};
-ghost use Rattle.dnsv_canonical.specs.Rrsets.{each_once};
+ghost use Rattle.dnsv_canonical.specs.Rrsets.{first_appearances};
 
 use dnsv_names::{Name, RecordType};
 use std::alloc::{AllocError, Global};
@@ -55,7 +55,7 @@ pub fn distinct<'a>(
     owner: &'a Name,
 ) -> Result<Vec<&'a [u8]>, AllocError>
     ensures once { IfOk result (λ distinct. map (λ r. r.now) distinct.items
-        ≡ each_once bytes_eq (rdata_at by_rrset.now rtype.0 owner.now)) }
+        ≡ first_appearances bytes_eq (rdata_at by_rrset.now rtype.0 owner.now)) }
     // The type has 16 bits, which a caller needs to know of signatures.
     ensures fits { rtype.0 < 2 ^ 16 }
 {

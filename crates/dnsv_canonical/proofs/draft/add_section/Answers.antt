@@ -1,7 +1,7 @@
 use Rattle.std.proofs.Common.{◌≡◌, ◌==◌, ◌++◌, ◌∷◌, [], ℕ, List, map, if◌then◌else◌, sym, ap, ◌∙◌}
 use Rattle.std.specs.Str.{bytes_eq}
 use Rattle.dnsv_message.specs.declared.record.Record.{Record}
-use Rattle.dnsv_canonical.specs.Rrsets.{each_once}
+use Rattle.dnsv_canonical.specs.Rrsets.{first_appearances}
 use Rattle.dnsv_canonical.proofs.GroupLemmas.{rrset_appears, rrset_appeared, rdata_of, had_at, had_is, left_after}
 use Rattle.dnsv_canonical.proofs.draft.add_section.Goals as goal
 use Rattle.dnsv_canonical.proofs.draft.add_section.Goals.{then-not-is_empty+in_ok-distinct+in_ok-push, else-not-is_empty}
@@ -20,7 +20,7 @@ loop-record-preserved c =
       elim c.if-not-is_empty.branch [
         | then-not-is_empty+in_ok-distinct+in_ok-push w ↦
             let rdata : map (λ r. r.now) c.taken-rdata.result.items ≡ rdata_of records x = taken ∙ ap (λ b. if b then [] else rdata_of records x) (had ∙ w.if-not-is_empty.true) in
-            let signatures = w.in_ok-distinct.ensures.once ∙ ap (each_once bytes_eq) (c.in_ok-signatures.ensures x.name x.rtype.0 w.distinct.ensures.fits) in
+            let signatures = w.in_ok-distinct.ensures.once ∙ ap (first_appearances bytes_eq) (c.in_ok-signatures.ensures x.name x.rtype.0 w.distinct.ensures.fits) in
             ap (λ v. v.items) w.rrsets-is ∙ w.in_ok-push.ensures.items
             ∙ (λ j. c.loop-record.rrsets.items ++ record { message = c.args.message; section = c.args.section; owner = x.name; rtype = x.rtype.0; rdata = rdata j; signatures = signatures j } ∷ [])
             ∙ rrset_appears c.args.message c.args.section records i x c.loop-record-test.true c.record-item.is
