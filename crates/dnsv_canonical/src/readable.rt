@@ -1,5 +1,5 @@
 //! Which records can be read.
-ghost use Rattle.std.specs.Prelude.{◌≡◌, ◌↔◌, ◌+◌, IfOk, IsTrue, OnOk, IfErr, MatchOption};
+ghost use Rattle.std.specs.Prelude.{◌≡◌, ◌↔◌, ◌+◌, ◌<◌, length, IfOk, IsTrue, OnOk, IfErr, MatchOption};
 ghost use Rattle.std.specs.List.{AllByRecursion};
 ghost use Rattle.dnsv_message.specs.Message.{records_of};
 ghost use Rattle.dnsv_canonical.specs.Evidence.{Evidence, IsWhole, IsLaidOut, IsReadable, IsFirstBad, IsRefusal};
@@ -22,25 +22,18 @@ pub fn check_rdata(alloc: Global, message: &Message) -> Result<(), CaptureError>
     let additional = message.records(Section::Additional);
     check_section(alloc, 0, answer)?;
     check_section(alloc, answer.len(), authority)?;
-    // No message has so many records that their count doesn't fit: memory would end before.
-    let Some(earlier) = answer.len().checked_add(authority.len()) else {
-        return Err(CaptureError::OutOfMemory);
-    };
-    check_section(alloc, earlier, additional)
+    check_section(alloc, answer.len() + authority.len(), additional)
 }
 
 /// Whether the records of a section can be read, before which so many stand.
 fn check_section(alloc: Global, earlier: usize, records: &[Record]) -> Result<(), CaptureError>
+    requires { earlier + length records.now < u64.MAX }
     ensures ok { OnOk result (AllByRecursion IsReadable records.now) }
     ensures refused { IfErr result (IsBadAfter earlier records.now) }
 {
-    let Some(place) = first_bad(alloc, records)? else {
-        return Ok(());
-    };
-    // The number fits, as the count before it does.
-    match earlier.checked_add(place) {
-        Some(number) => Err(CaptureError::BadRdata(number)),
-        None => Err(CaptureError::OutOfMemory),
+    match first_bad(alloc, records)? {
+        Some(place) => Err(CaptureError::BadRdata(earlier + place)),
+        None => Ok(()),
     }
 }
 

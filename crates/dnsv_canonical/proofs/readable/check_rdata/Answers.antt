@@ -1,4 +1,4 @@
-use Rattle.std.proofs.Common.{subst, arith, ap, length}
+use Rattle.std.proofs.Common.{◌+◌, subst, arith, ap, length}
 use Rattle.std.proofs.lemmas.Result.{err_from_is_err_and}
 use Rattle.std.specs.List.{AllByRecursion}
 use Rattle.dnsv_canonical.specs.Evidence.{IsReadable, IsRefusal}
@@ -22,10 +22,10 @@ returns-in_err-check_section-2-clause-refused c = λ held whole.
 
 pub returns-clause-refused : goal.returns-clause-refused
 returns-clause-refused c = λ held whole.
-    IfErr-weaker (IsBadAfter c.in-Some.earlier c.records-additional.result.now) (IsRefusal held c.args.message.now) c.check_section-3.result
-    (λ error bad. refused_in_additional held c.args.message.now whole error c.in-Some.earlier
+    IfErr-weaker (IsBadAfter (length c.records-answer.result.now + length c.records-authority.result.now) c.records-additional.result.now) (IsRefusal held c.args.message.now) c.check_section-3.result
+    (λ error bad. refused_in_additional held c.args.message.now whole error _
     (omega (arith, ap length c.records-answer.ensures, ap length c.records-authority.ensures))
     (subst (AllByRecursion IsReadable) c.records-answer.ensures c.in_ok-check_section.ensures.ok)
     (subst (AllByRecursion IsReadable) c.records-authority.ensures c.in_ok-check_section-2.ensures.ok)
-    (subst (λ records. IsBadAfter c.in-Some.earlier records error) c.records-additional.ensures bad))
+    (subst (λ records. IsBadAfter (length c.records-answer.result.now + length c.records-authority.result.now) records error) c.records-additional.ensures bad))
     c.check_section-3.ensures.refused
