@@ -1,11 +1,13 @@
 #!/usr/bin/env python3
 """Writes a file of captured messages for the bench, the same for the same numbers.
 
-usage: make_capture.py MESSAGES RECORDS SIGNATURES > FILE
+usage: make_capture.py KIND MESSAGES RECORDS > FILE
 
-Each message is a response with RECORDS records in its answer section: RRsets of five records of the
-types A, AAAA, MX, TXT and NS at owners of their own, each with SIGNATURES signatures, as many as fit.
-With SIGNATURES 0 each record has an owner of its own, which is the most that a section can hold apart.
+Each message is a response with RECORDS records in its answer section, of one of these kinds:
+  signed  RRsets of five records of the types A, AAAA, MX, TXT and NS at owners of their own, each with
+          16 signatures, the most that an RRset may have
+  owners  records each with an owner of its own, the most that a section can hold apart
+  pairs   NSEC3 records each with a salt of its own, which is refused
 """
 import random
 import struct
@@ -34,9 +36,16 @@ def signature(draw, rtype, labels):
     return front + ZONE + draw.randbytes(64)
 
 
-def records_of(draw, count, signatures):
+def nsec3(number):
+    return struct.pack("!BBHBHB", 1, 0, 1, 2, number, 20) + bytes(20)
+
+
+def records_of(draw, count, kind):
     """The records of one message, RRset by RRset."""
     pointer = struct.pack("!H", 0xC000 + 12)  # the question's name, which is the zone
+    if kind == "pairs":
+        return [record(pointer, 50, nsec3(number)) for number in range(count)]
+    signatures = 16 if kind == "signed" else 0
     records = []
     for number in range(count):
         if len(records) >= count:
@@ -51,10 +60,10 @@ def records_of(draw, count, signatures):
 
 
 def main():
-    messages, count, signatures = map(int, sys.argv[1:])
+    kind, messages, count = sys.argv[1], int(sys.argv[2]), int(sys.argv[3])
     draw = random.Random(20261122)
     for number in range(messages):
-        records = records_of(draw, count, signatures)
+        records = records_of(draw, count, kind)
         header = struct.pack("!HHHHHH", number, 0x8400, 1, len(records), 0, 0)
         octets = header + ZONE + struct.pack("!HH", 255, 1) + b"".join(records)
         sys.stdout.buffer.write(struct.pack("!H", len(octets)) + octets)

@@ -10,8 +10,10 @@ trap 'rm -rf "$room"' EXIT
 measure() { # CAPTURE WORD..
   local capture=$1 instructions peak read written
   shift
-  /usr/bin/time -f %M -o "$room/peak" "$program" "$@" > "$room/text"
-  valgrind --tool=callgrind --callgrind-out-file="$room/callgrind" "$program" "$@" 2> "$room/log" > "$room/again"
+  # A capture of many pairs is refused, with status 7.
+  /usr/bin/time -q -f %M -o "$room/peak" "$program" "$@" > "$room/text" 2> /dev/null || test $? = 7
+  valgrind --tool=callgrind --callgrind-out-file="$room/callgrind" "$program" "$@" 2> "$room/log" > "$room/again" \
+    || test $? = 7
   cmp "$room/text" "$room/again"
   instructions=$(sed -n 's/.*refs: *//p' "$room/log")
   peak=$(cat "$room/peak")
@@ -20,12 +22,13 @@ measure() { # CAPTURE WORD..
   printf '| %s | %s | %s | %s | %s KiB |\n' "$1" "$read" "$written" "$instructions" "$peak"
 }
 
-report() { # MESSAGES RECORDS SIGNATURES
+report() { # KIND MESSAGES RECORDS
   ./make_capture.py "$@" > "$room/capture"
-  echo "$1 messages of $2 records, $3 signatures an RRset"
+  echo "$1: $2 messages of $3 records"
   measure "$room/capture" list --capture "$room/capture" --moment 1500 --all
   measure "$room/capture" show --capture "$room/capture"
 }
 
-for messages in 4 16 64; do report $messages 64 16; done
-for records in 160 640 2560; do report 1 $records 0; done
+for messages in 4 16 64; do report signed "$messages" 64; done
+for records in 160 640 2560; do report owners 1 "$records"; done
+for records in 100 400 1600; do report pairs 1 "$records"; done
