@@ -1,12 +1,11 @@
 -- Files of captured messages: which messages a file holds, and what it is refused for.
 use Rattle.std.specs.Prelude.{◌≡◌, ◌⊎◌, ⊤, ℕ, suc, List, [], ◌∷◌, Option, Some, None}
-use Rattle.std.specs.List.{AllByRecursion}
 use Rattle.dnsv_message.specs.declared.errors.DecodeError.{DecodeError}
 use Rattle.dnsv_message.specs.Frames.{IsCapture, HasZeroLength, EndsTorn}
 use Rattle.dnsv_message.specs.Grammar.{MessageOf, FaultOf}
-use Rattle.dnsv_message.specs.Message.{Contents, records_of}
+use Rattle.dnsv_message.specs.Message.{Contents}
 use Rattle.dnsv_canonical.specs.declared.capture.CaptureError.{CaptureError}
-use Rattle.dnsv_canonical.specs.Evidence.{Evidence, IsReadable, IsWhole, IsWithinLimits, no_evidence, with_message}
+use Rattle.dnsv_canonical.specs.Evidence.{Evidence, IsEvidence, no_evidence, with_message}
 use Rattle.dnsv_canonical.specs.Evidence as evidence
 use Rattle.dnssec_check.specs.declared.status.Refusal.{Refusal}
 use Rattle.dnssec_check.specs.declared.status.Refusal.TheVariants as refusal
@@ -23,8 +22,7 @@ pub data Demand : Type 0 where
 -- the message is as it is asked to be, besides the evidence of those before it
 abbrev pub Meets : Demand → Evidence → Contents → Type 0
 Meets AnyMessage held message = ⊤
-Meets NewEvidence held message =
-    IsWhole message × AllByRecursion IsReadable (records_of message) × IsWithinLimits (with_message held message)
+Meets NewEvidence held message = IsEvidence held message
 
 -- besides the evidence of those before, these octets are these messages, each as it is asked to be
 abbrev pub AllTaken : Demand → Evidence → List (List ℕ) → List Contents → Type 0

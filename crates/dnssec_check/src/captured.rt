@@ -1,5 +1,5 @@
 //! The messages of a file of captured messages.
-ghost use Rattle.std.specs.Prelude.{◌≡◌, ◌<◌, List, ℕ, IfErr, IfOk, IfSome, OnOk, Some, None};
+ghost use Rattle.std.specs.Prelude.{◌≡◌, ◌<◌, List, ℕ, IfErr, IfOk, IfSome, IsErrOf, OnOk, Some, None};
 ghost use Rattle.dnsv_message.specs.Counted.{inner_of, failures_of};
 ghost use Rattle.dnsv_message.specs.Frames.{IsTooLong, octets_of_each};
 ghost use Rattle.dnsv_message.specs.Grammar.{MessageOf};
@@ -26,6 +26,7 @@ pub fn captured<R: Read>(alloc: Global, capture: &mut Counted<R>) -> Result<Vec<
         → IfSome (R.remaining (inner_of capture.old)) (λ file. IsRefusal AnyMessage file why place) }
     ensures too_long { result ≡ Err (Fault.TooLong InputFile.Capture) → IfSome (R.remaining (inner_of capture.old)) IsTooLong }
     ensures read { result ≡ Err (Fault.ReadFailed InputFile.Capture) → failures_of capture.old < u64.MAX → failures_of capture.old < failures_of capture.new }
+    ensures failed { failures_of capture.old < failures_of capture.new → IsErrOf result (Fault.ReadFailed InputFile.Capture) }
     ensures only { IfErr result (λ fault. (fault ≡ Fault.WriteFailed → ⊥) × (fault ≡ Fault.OpenFailed InputFile.Capture → ⊥)) }
 {
     let frames = read_capture(alloc, capture).map_err(read_fault)?;
@@ -43,6 +44,7 @@ pub fn evidence<R: Read>(alloc: Global, capture: &mut Counted<R>) -> Result<Capt
         → IfSome (R.remaining (inner_of capture.old)) (λ file. IsRefusal NewEvidence file why place) }
     ensures too_long { result ≡ Err (Fault.TooLong InputFile.Capture) → IfSome (R.remaining (inner_of capture.old)) IsTooLong }
     ensures read { result ≡ Err (Fault.ReadFailed InputFile.Capture) → failures_of capture.old < u64.MAX → failures_of capture.old < failures_of capture.new }
+    ensures failed { failures_of capture.old < failures_of capture.new → IsErrOf result (Fault.ReadFailed InputFile.Capture) }
     ensures only { IfErr result (λ fault. (fault ≡ Fault.WriteFailed → ⊥) × (fault ≡ Fault.OpenFailed InputFile.Capture → ⊥)) }
 {
     let frames = read_capture(alloc, capture).map_err(read_fault)?;

@@ -1,5 +1,5 @@
 //! The run of a request over its files.
-ghost use Rattle.std.specs.Prelude.{◌≡◌, ◌<◌, List, ℕ, IfErr, IfOk, IfSome, OnOk, string_bytes};
+ghost use Rattle.std.specs.Prelude.{◌≡◌, ◌<◌, List, ℕ, IfErr, IfOk, IfSome, IsErrOf, OnOk, string_bytes};
 ghost use Rattle.std.specs.Io.KnownBytes.{Appends};
 ghost use Rattle.dnsv_message.specs.Counted.{inner_of, failures_of};
 ghost use Rattle.dnsv_message.specs.Frames.{IsTooLong};
@@ -46,6 +46,7 @@ pub fn run<R: Read, W: Write>(
     // Only where the stream failed in this call, by the count, unless that began at its greatest value.
     ensures read { result ≡ Err (Fault.ReadFailed Capture) → failures_of inputs.old.capture < u64.MAX
         → failures_of inputs.old.capture < failures_of inputs.new.capture }
+    ensures failed { failures_of inputs.old.capture < failures_of inputs.new.capture → IsErrOf result (Fault.ReadFailed Capture) }
     ensures write { result ≡ Err Fault.WriteFailed → failures_of output.old < u64.MAX → failures_of output.old < failures_of output.new }
 
     // A file that is opened already can't fail to open.
@@ -72,6 +73,7 @@ fn text_of<R: Read>(
         → IfSome (R.remaining (inner_of capture.old)) (λ file. IsRefusalOf request.now file why place) }
     ensures too_long { result ≡ Err (Fault.TooLong Capture) → IfSome (R.remaining (inner_of capture.old)) IsTooLong }
     ensures read { result ≡ Err (Fault.ReadFailed Capture) → failures_of capture.old < u64.MAX → failures_of capture.old < failures_of capture.new }
+    ensures failed { failures_of capture.old < failures_of capture.new → IsErrOf result (Fault.ReadFailed Capture) }
     ensures only { IfErr result (λ fault. (fault ≡ Fault.WriteFailed → ⊥) × (fault ≡ Fault.OpenFailed Capture → ⊥)) }
 {
     match request {

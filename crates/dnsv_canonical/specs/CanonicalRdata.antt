@@ -31,6 +31,7 @@ abbrev pub names_lowered : Option (ℕ × ℕ) → List ℕ → List ℕ
 names_lowered None rdata = rdata
 names_lowered (Some around) rdata = take around.0 rdata ++ lowered_but_last around.1 (drop around.0 rdata)
 
--- the RDATA of the type in canonical form
+-- The RDATA of the type in canonical form. RRSIG and the other types with names that RFC 4034 6.2 lists form no RRset
+-- here, so that their names are not told.
 abbrev pub canonical_form : ℕ → List ℕ → List ℕ
 canonical_form rtype rdata = names_lowered (names_of rtype) rdata

@@ -95,6 +95,11 @@ pub record IsWithinLimits (held : Evidence) : Type 0 where
   pub rrsets : AllByRecursion IsSmall held.rrsets
   pub pairs : AtMost 8 (IsPairAmong (nsec3_rdata held.rrsets))
 
+-- the message is evidence besides what is held
+abbrev pub IsEvidence : Evidence → Contents → Type 0
+IsEvidence held message =
+    IsWhole message × AllByRecursion IsReadable (records_of message) × IsWithinLimits (with_message held message)
+
 -- ---- what is refused
 
 -- why the message isn't taken besides what is held; each reason leaves out those before it

@@ -13,7 +13,7 @@ use std::marker::Model;
 /// signatures that cover it there.
 ///
 /// Owners are equal without regard to case. Records of the types 0, OPT, RRSIG and 128 to 255 form no RRset, nor
-/// do those of types that are no longer in use.
+/// do those of MD, MF, MB, MG, MR, MINFO, RP, AFSDB, RT, SIG, PX, NXT, NAPTR, KX and A6.
 #[derive(Drop)]
 pub struct Draft<'a> {
     message: usize,

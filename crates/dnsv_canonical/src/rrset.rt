@@ -22,7 +22,7 @@ use std::marker::Model;
 /// An RRset: the IN records of one message, section, owner and type, and the signatures that cover it there.
 ///
 /// Owners are equal without regard to case. Records of the types 0, OPT, RRSIG and 128 to 255 form no RRset, nor
-/// do those of types that are no longer in use.
+/// do those of MD, MF, MB, MG, MR, MINFO, RP, AFSDB, RT, SIG, PX, NXT, NAPTR, KX and A6.
 #[derive(Drop)]
 pub struct Rrset {
     message: usize,
@@ -56,7 +56,7 @@ impl Model for Rrset {
 
 impl Rrset {
     /// The RRset in memory of its own.
-    pub fn of(alloc: Global, draft: &Draft<'_>) -> Result<Rrset, AllocError>
+    fn of(alloc: Global, draft: &Draft<'_>) -> Result<Rrset, AllocError>
         requires { AllByRecursion HasRrsig draft.now.signatures }
         ensures { IfOk result (λ rrset. rrset ≡ draft.now) }
     {

@@ -3,7 +3,6 @@
 use Rattle.std.specs.Prelude.{◌≡◌, ◌≢◌, ℕ, ◌/◌, ◌%◌, ◌<◌, ◌≤◌, List, [], ◌∷◌, ◌++◌, length, take, map, flat_map, Vec}
 use Rattle.std.specs.List.{AllByRecursion}
 use Rattle.std.specs.declared.alloc.Global.{Global}
-use Rattle.dnsv_message.specs.declared.TheConstants.{FILE_LIMIT}
 
 -- the octets of each message
 abbrev pub octets_of_each : List (Vec ℕ Global) → List (List ℕ)
@@ -38,19 +37,23 @@ pub record BeginsWith (stream : List ℕ) (messages : List (List ℕ)) : Type 0 
 abbrev pub IsZero : List ℕ → Type 0
 IsZero rest = (more : List ℕ) × (rest ≡ 0 ∷ (0 ∷ more))
 
+-- how many octets a file may have: 2^30
+abbrev pub file_limit : ℕ
+file_limit = 1073741824
+
 -- the file holds these messages and nothing else
 pub record IsCapture (file : List ℕ) (messages : List (List ℕ)) : Type 0 where
-  pub within : length file ≤ FILE_LIMIT
+  pub within : length file ≤ file_limit
   pub frames : Frames file messages []
 
 -- a length 0 stands in a frame's place, and both of its octets lie within the limit
 abbrev pub HasZeroLength : List ℕ → Type 0
-HasZeroLength file = (messages : List (List ℕ)) × (rest : List ℕ) × Frames (take FILE_LIMIT file) messages rest × IsZero rest
+HasZeroLength file = (messages : List (List ℕ)) × (rest : List ℕ) × Frames (take file_limit file) messages rest × IsZero rest
 
 -- the file ends within a frame
 abbrev pub EndsTorn : List ℕ → Type 0
-EndsTorn file = (length file ≤ FILE_LIMIT) × ((messages : List (List ℕ)) × (rest : List ℕ) × Frames file messages rest × (rest ≢ []) × ¬ IsZero rest)
+EndsTorn file = (length file ≤ file_limit) × ((messages : List (List ℕ)) × (rest : List ℕ) × Frames file messages rest × (rest ≢ []) × ¬ IsZero rest)
 
 -- an octet lies past the limit, and no length 0 before it
 abbrev pub IsTooLong : List ℕ → Type 0
-IsTooLong file = (FILE_LIMIT < length file) × ¬ HasZeroLength file
+IsTooLong file = (file_limit < length file) × ¬ HasZeroLength file

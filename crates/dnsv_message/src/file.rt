@@ -3,6 +3,7 @@ ghost use Rattle.std.specs.Prelude.{◌≡◌, ◌<◌, ◌≤◌, length, is_er
 ghost use Rattle.std.specs.Io.{ReadsAtMost};
 ghost use Rattle.std.specs.Io.KnownBytes.{IsAtEnd, ReadConsumes};
 ghost use Rattle.dnsv_message.specs.Counted.{count_after, failures_of, inner_of};
+ghost use Rattle.dnsv_message.specs.Frames.{file_limit};
 ghost use Rattle.dnsv_message.specs.ReadError.{IsFileError};
 
 use crate::FILE_LIMIT;
@@ -21,9 +22,9 @@ pub(crate) const PIECE_LIMIT: usize = 65_536;
 pub fn read_all<R: Read>(alloc: Global, reader: &mut Counted<R>) -> Result<Vec<u8>, ReadError>
     // What the octets decide, where they are known.
     ensures octets { IfOk result (λ octets. IfSome (R.remaining (inner_of reader.old)) (λ file. octets.items ≡ file)) }
-    ensures within { IfOk result (λ octets. vec_len octets ≤ FILE_LIMIT) }
+    ensures within { IfOk result (λ octets. vec_len octets ≤ file_limit) }
     ensures too_long { IsErrOf result ReadError.TooLong →
-        IfSome (R.remaining (inner_of reader.old)) (λ file. FILE_LIMIT < length file) }
+        IfSome (R.remaining (inner_of reader.old)) (λ file. file_limit < length file) }
     ensures end { OnOk result (IsAtEnd (R.remaining (inner_of reader.new))) }
 
     // The reader failed, at any reader: by the count, unless that began at its greatest value.
