@@ -1,9 +1,10 @@
 -- What a message adds to the evidence.
-use Rattle.std.proofs.Common.{◌≡◌, ◌⊎◌, inl, inr, ℕ, zero, suc, ◌+◌, ◌-◌, ◌<◌, ◌≤◌, Bool, true, false, cond, not, ◌&&◌, List, [], ◌∷◌, ◌++◌, length, get_or, map, refl, sym, ap, ◌∙◌, subst, arith, append_assoc, ◌↔◌, IsTrue}
+use Rattle.std.proofs.Common.{◌≡◌, ◌⊎◌, inl, inr, ⊎_elim, ℕ, zero, suc, ◌+◌, ◌-◌, ◌<◌, ◌≤◌, Bool, true, false, cond, ◌&&◌, List, [], ◌∷◌, ◌++◌, length, get_or, map, refl, sym, ap, ◌∙◌, subst, arith, append_assoc, ◌↔◌, IsTrue}
 use Rattle.std.proofs.lemmas.List.{append-nil}
 use Rattle.std.proofs.lemmas.Bool.{eqb-true, false≢true}
+use Rattle.std.proofs.lemmas.Cmp.{nat_eq_equiv}
 use Rattle.std.proofs.lemmas.Grind.{flat_map-append}
-use Rattle.std.specs.Prelude.{filter, if◌then◌else◌, ◌==◌}
+use Rattle.std.specs.Prelude.{filter, flat_map, if◌then◌else◌, ◌==◌}
 use Rattle.std.specs.Str.{bytes_eq}
 use Rattle.std.specs.List.{AllByRecursion, AllZip, enumerate_from, fold}
 use Rattle.dnsv_names.specs.Name.{Labels}
@@ -139,23 +140,37 @@ evidence_rrsets messages = held_rrsets _ messages
 
 -- ---- the signatures of the RRset with a number
 
-pub signatures_here : (rrsets : List Group) (i : ℕ) (d : Group) → i < length rrsets → signatures_at rrsets (suc i) ≡ (get_or rrsets i d).signatures
-signatures_here [] i d within = absurd (omega (arith, within))
-signatures_here (rrset ∷ rrsets) zero d within = refl
-signatures_here (rrset ∷ rrsets) (suc i) d within = signatures_here rrsets i d (omega (arith, within))
+module _ (number : ℕ) where
+  abbrev has_number : ℕ × Group → Bool
+  has_number numbered = numbered.0 == number
 
-pub signatures_nowhere : (rrsets : List Group) (i : ℕ) → length rrsets ≤ i → signatures_at rrsets (suc i) ≡ []
-signatures_nowhere [] i above = refl
-signatures_nowhere (rrset ∷ rrsets) zero above = absurd (omega (arith, above))
-signatures_nowhere (rrset ∷ rrsets) (suc i) above = signatures_nowhere rrsets i (omega (arith, above))
+  abbrev signatures_from : List (ℕ × Group) → List (List ℕ)
+  signatures_from numbered = flat_map (λ (n : ℕ × Group). n.1.signatures) numbered
+
+  none_numbered : (start : ℕ) (rrsets : List Group) → (number < start) ⊎ (start + length rrsets ≤ number) → signatures_from (filter has_number (enumerate_from start rrsets)) ≡ []
+  none_numbered start [] outside = refl
+  none_numbered start (x ∷ xs) outside = test (none_numbered (start + 1) xs) (start == number) refl where
+    test : ((number < start + 1) ⊎ (start + 1 + length xs ≤ number) → signatures_from (filter has_number (enumerate_from (start + 1) xs)) ≡ []) → (is : Bool) → (start == number) ≡ is → signatures_from (cond is ((start, x) ∷ filter has_number (enumerate_from (start + 1) xs)) (filter has_number (enumerate_from (start + 1) xs))) ≡ []
+    test later true same = absurd (⊎_elim (λ below. omega (arith, below, eqb-true start number same)) (λ above. omega (arith, above, eqb-true start number same)) outside)
+    test later false other = later (⊎_elim (λ below. inl (omega (arith, below))) (λ above. inr (omega (arith, above))) outside)
+
+  numbered_here : (start : ℕ) (rrsets : List Group) (i : ℕ) (d : Group) → i < length rrsets → start + i ≡ number → signatures_from (filter has_number (enumerate_from start rrsets)) ≡ (get_or rrsets i d).signatures
+  numbered_here start [] i d within is = absurd (omega (arith, within))
+  numbered_here start (x ∷ xs) zero d within is = test (start == number) refl where
+    test : (first : Bool) → (start == number) ≡ first → signatures_from (cond first ((start, x) ∷ filter has_number (enumerate_from (start + 1) xs)) (filter has_number (enumerate_from (start + 1) xs))) ≡ x.signatures
+    test true same = ap (λ rest. x.signatures ++ rest) (none_numbered (start + 1) xs (inl (omega (arith, is)))) ∙ append-nil x.signatures
+    test false other = let same : start ≡ number = omega (arith, is) in absurd (false≢true (sym other ∙ ap (λ n. start == n) (sym same) ∙ nat_eq_equiv.refl start))
+  numbered_here start (x ∷ xs) (suc j) d within is = test (numbered_here (start + 1) xs j d (omega (arith, within)) (omega (arith, is))) (start == number) refl where
+    test : signatures_from (filter has_number (enumerate_from (start + 1) xs)) ≡ (get_or xs j d).signatures → (first : Bool) → (start == number) ≡ first → signatures_from (cond first ((start, x) ∷ filter has_number (enumerate_from (start + 1) xs)) (filter has_number (enumerate_from (start + 1) xs))) ≡ (get_or xs j d).signatures
+    test later true same = absurd (omega (arith, is, eqb-true start number same))
+    test later false other = later
 
 pub no_signatures : (rrsets : List Group) (number : ℕ) → (number ≡ 0) ⊎ (length rrsets < number) → AllZip IsRrsig (signatures_at rrsets number) []
-no_signatures rrsets zero outside = tt
-no_signatures rrsets (suc i) (inl none) = absurd (omega (arith, none))
-no_signatures rrsets (suc i) (inr above) = subst (λ rdata. AllZip IsRrsig rdata []) (sym (signatures_nowhere rrsets i (omega (arith, above)))) tt
+no_signatures rrsets number outside =
+    subst (λ rdata. AllZip IsRrsig rdata []) (sym (none_numbered number 1 rrsets (⊎_elim (λ none. inl (omega (arith, none))) (λ above. inr (omega (arith, above))) outside))) tt
 
 pub its_signatures : (rrsets : List Group) (number : ℕ) (x : Group) (rrsigs : List Rrsig) → 0 < number → number ≤ length rrsets → x ≡ get_or rrsets (number - 1) x → AllZip IsRrsig x.signatures rrsigs → AllZip IsRrsig (signatures_at rrsets number) rrsigs
 its_signatures rrsets zero x rrsigs some within at are = absurd (omega (arith, some))
 its_signatures rrsets (suc i) x rrsigs some within at are =
     let here : get_or rrsets i x ≡ x = ap (λ j. get_or rrsets j x) (omega arith) ∙ sym at in
-    subst (λ rdata. AllZip IsRrsig rdata rrsigs) (sym (signatures_here rrsets i x (omega (arith, within)) ∙ ap (λ (g : Group). g.signatures) here)) are
+    subst (λ rdata. AllZip IsRrsig rdata rrsigs) (sym (numbered_here (suc i) 1 rrsets i x (omega (arith, within)) (omega arith) ∙ ap (λ (g : Group). g.signatures) here)) are

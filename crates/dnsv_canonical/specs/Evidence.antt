@@ -1,6 +1,6 @@
 -- Evidence: which messages a capture takes, and what it holds of them.
-use Rattle.std.specs.Prelude.{◌≡◌, ℕ, zero, suc, ◌+◌, ◌≤◌, ⊤, ◌==◌, if◌then◌else◌, List, [], ◌∷◌, ◌++◌, length, Contains, flat_map}
-use Rattle.std.specs.List.{AllByRecursion, fold}
+use Rattle.std.specs.Prelude.{◌≡◌, ℕ, suc, ◌+◌, ◌≤◌, ⊤, ◌==◌, if◌then◌else◌, List, [], ◌∷◌, ◌++◌, length, Contains, flat_map}
+use Rattle.std.specs.List.{AllByRecursion, enumerate_from, filter, fold}
 use Rattle.dnsv_message.specs.Message.{Contents, records_of}
 use Rattle.dnsv_message.specs.declared.record.Record.{Record}
 use Rattle.dnsv_records.specs.declared.dnskey.Dnskey.{Dnskey}
@@ -113,9 +113,7 @@ IsRefusal held message Limit =
 
 -- ---- signatures
 
--- the RDATA of the signatures of the RRset with the number, from 1 on; none where no RRset has it
+-- the RDATA of the signatures of the RRset with the number, where RRsets are numbered from 1 on
 abbrev pub signatures_at : List Group → ℕ → List (List ℕ)
-signatures_at rrsets zero = []
-signatures_at [] (suc k) = []
-signatures_at (rrset ∷ rrsets) (suc zero) = rrset.signatures
-signatures_at (rrset ∷ rrsets) (suc (suc k)) = signatures_at rrsets (suc k)
+signatures_at rrsets number =
+    flat_map (λ numbered. numbered.1.signatures) (filter (λ numbered. numbered.0 == number) (enumerate_from 1 rrsets))

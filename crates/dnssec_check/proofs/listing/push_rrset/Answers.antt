@@ -1,4 +1,4 @@
-use Rattle.std.proofs.Common.{◌≡◌, arith, refl, sym}
+use Rattle.std.proofs.Common.{arith, refl}
 use Rattle.dnssec_check.proofs.ListingLemmas.{Listed-next, Listed-all, signature_here, as_many_signatures}
 use Rattle.dnssec_check.proofs.listing.push_rrset.Goals as goal
 
