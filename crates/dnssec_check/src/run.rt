@@ -1,7 +1,7 @@
 //! The run of a request over its files.
 ghost use Rattle.std.specs.Prelude.{◌≡◌, ◌<◌, List, ℕ, IfErr, IfOk, IfSome, IsErrOf, OnOk, string_bytes};
 ghost use Rattle.std.specs.Io.KnownBytes.{Appends};
-ghost use Rattle.dnsv_message.specs.Counted.{inner_of, failures_of};
+ghost use Rattle.dnsv_message.specs.Counted.{inner_of, failures_of, AppendsBeginning};
 ghost use Rattle.dnsv_message.specs.Frames.{IsTooLong};
 ghost use Rattle.dnssec_check.specs.Run.{IsTextOf, IsRefusalOf};
 ghost use Rattle.dnssec_check.specs.declared.status.InputFile.TheVariants.{Capture};
@@ -27,7 +27,8 @@ pub struct Inputs<R> {
 /// Makes the whole text that the request asks for, and then writes it.
 ///
 /// The answer is a status where the output got the whole text, and else the first fault in the order of the
-/// work: reading the file of captured messages, its framing, and then each message in turn.
+/// work: reading the file of captured messages, its framing, and then each message in turn. A write that fails
+/// is not tried again; the output then has a beginning of the text.
 pub fn run<R: Read, W: Write>(
     alloc: Global,
     request: &Request,
@@ -48,6 +49,10 @@ pub fn run<R: Read, W: Write>(
         → failures_of inputs.old.capture < failures_of inputs.new.capture }
     ensures failed { failures_of inputs.old.capture < failures_of inputs.new.capture → IsErrOf result (Fault.ReadFailed Capture) }
     ensures write { result ≡ Err Fault.WriteFailed → failures_of output.old < u64.MAX → failures_of output.old < failures_of output.new }
+
+    // A failed write leaves a beginning of the defined text.
+    ensures begun { result ≡ Err Fault.WriteFailed → IfSome (R.remaining (inner_of inputs.old.capture)) (λ file.
+        (text : List ℕ) × IsTextOf request.now file text × AppendsBeginning (W.contents (inner_of output.old)) (W.contents (inner_of output.new)) text) }
 
     // A file that is opened already can't fail to open.
     ensures opened { IfErr result (λ fault. fault ≡ Fault.OpenFailed Capture → ⊥) }

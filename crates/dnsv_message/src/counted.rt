@@ -1,10 +1,11 @@
 //! Readers and writers whose failed calls are counted.
-ghost use Rattle.std.specs.Prelude.{◌≡◌, is_err, OnOk, List, ℕ};
+ghost use Rattle.std.specs.Prelude.{◌≡◌, is_err, IfErr, OnOk, List, ℕ};
 ghost use Rattle.std.specs.Io.{ReadsAtMost, WritesAtMost};
 ghost use Rattle.std.specs.Io.KnownBytes.{Appends, Consumes, Keeps, ReadConsumes, WriteAppends};
+ghost use Rattle.dnsv_message.specs.Counted.{AppendsBeginning};
 
 use std::io;
-use std::io::{Read, Write};
+use std::io::{ErrorKind, Read, Write};
 
 /// A reader or writer that counts those of its calls that failed.
 ///
@@ -111,14 +112,32 @@ impl<W: Write> Write for Counted<W> {
         result
     }
 
+    /// The first write that fails is not tried again, and so the call fails with it. It counts as one call.
     fn write_all(&mut self, buf: &[u8]) -> io::Result<()>
         ensures bytes { OnOk result (Appends (W.contents (inner_of self.old)) (W.contents (inner_of self.new)) buf.now) }
+        ensures begun { IfErr result (λ _. AppendsBeginning (W.contents (inner_of self.old)) (W.contents (inner_of self.new)) buf.now) }
         ensures failures { failures_of self.new ≡ count_after (failures_of self.old) (is_err result) }
     {
-        let result = self.inner.write_all(buf);
+        let result = write_in_turn(&mut self.inner, buf);
         self.count(result.is_err());
         result
     }
+}
+
+/// Writes the octets from the first on, until all are written or a write fails.
+fn write_in_turn<W: Write>(writer: &mut W, octets: &[u8]) -> io::Result<()>
+    ensures bytes { OnOk result (Appends (W.contents writer.old) (W.contents writer.new) octets.now) }
+    ensures begun { IfErr result (λ _. AppendsBeginning (W.contents writer.old) (W.contents writer.new) octets.now) }
+{
+    let mut rest = octets;
+    while !rest.is_empty() {
+        let taken = writer.write(rest)?;
+        if taken == 0 {
+            return Err(io::Error::from(ErrorKind::WriteZero));
+        }
+        rest = &rest[taken..];
+    }
+    Ok(())
 }
 
 #[cfg(test)]

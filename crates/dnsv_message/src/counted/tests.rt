@@ -34,6 +34,40 @@ fn counts_failed_writes(rt: HostRuntime) -> Result<(), Fail> {
     Ok(())
 }
 
+// Takes two octets at most of each write, and five in all.
+#[derive(Drop)]
+struct Slow {
+    taken: Vec<u8>,
+}
+
+impl Write for Slow {
+    fn write(&mut self, buf: &[u8]) -> io::Result<usize> {
+        let count = buf
+            .len()
+            .min(2)
+            .min(5usize.saturating_sub(self.taken.len()));
+        self.taken.extend_from_slice(&buf[..count])?;
+        Ok(count)
+    }
+
+    fn flush(&mut self) -> io::Result<()> {
+        Ok(())
+    }
+}
+
+#[test]
+fn writes_in_turn_until_a_write_fails(rt: HostRuntime) -> Result<(), Fail> {
+    let mut writer = Counted::new(Slow {
+        taken: Vec::new(rt.alloc()),
+    });
+    writer.write_all(b"abc")?;
+    assert_eq!(rt; writer.failures(), 0);
+    assert!(rt; writer.write_all(b"defg").is_err());
+    assert_eq!(rt; writer.failures(), 1, "the call failed once");
+    assert_eq!(rt; writer.get_ref().taken.as_slice(), b"abcde".as_slice());
+    Ok(())
+}
+
 #[test]
 fn passes_octets_on(rt: HostRuntime) -> Result<(), Fail> {
     let mut writer = Counted::new(Vec::new(rt.alloc()));
