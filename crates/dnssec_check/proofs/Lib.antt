@@ -4,5 +4,6 @@ pub mod WalkLemmas
 pub mod CapturedLemmas
 pub mod ListingLemmas
 pub mod ShowingLemmas
+pub mod ProgramLemmas
 pub mod OneReason
 pub mod OneText

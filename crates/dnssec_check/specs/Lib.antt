@@ -2,6 +2,7 @@ pub mod Captured
 pub mod Line
 pub mod Listing
 pub mod Moment
+pub mod Program
 pub mod Run
 pub mod Showing
 pub mod Status

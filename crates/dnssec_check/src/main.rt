@@ -7,6 +7,7 @@ mod captures;
 mod laws;
 mod line;
 mod listing;
+mod machine;
 mod moment;
 mod program;
 mod run;
@@ -18,5 +19,5 @@ mod status;
 use std::process::ExitCode;
 
 fn main(rt: HostRuntime) -> ExitCode {
-    ExitCode::from(program::exit_status(&rt))
+    ExitCode::from(program::exit_status_on(&rt, &rt.stderr()))
 }

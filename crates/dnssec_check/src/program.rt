@@ -1,75 +1,116 @@
 //! The program around the run: its words, its files, and how it tells that it failed.
-ghost use Rattle.std.specs.Prelude.{◌≡◌};
-ghost use Rattle.dnssec_check.specs.Line.{line_code};
+ghost use Rattle.std.specs.Prelude.{◌≡◌, ◌⊎◌, IfErr, IfOk, IfSome, List, ℕ, OnOk};
+ghost use Rattle.std.specs.Io.KnownBytes.{Appends};
+ghost use Rattle.dnsv_message.specs.Counted.{inner_of};
+ghost use Rattle.dnssec_check.specs.Line.{IsAccepted, IsRefused, capture_of, line_code};
+ghost use Rattle.dnssec_check.specs.Program.{RefusedFile, RefusedWords, WroteText};
+ghost use Rattle.dnssec_check.specs.Run.{IsTextOf, IsRefusalOf};
 ghost use Rattle.dnssec_check.specs.Status.{outcome_code};
+ghost use Rattle.dnssec_check.specs.declared.status.Fault.TheVariants as Fault;
+ghost use Rattle.dnssec_check.specs.declared.status.Place.{Place};
+ghost use Rattle.dnssec_check.specs.declared.status.Refusal.{Refusal};
 
 use crate::line::{LineError, Request, read_line};
+use crate::machine::{Host, Machine};
 use crate::run::{Inputs, run};
 use crate::status::{Fault, InputFile, Status};
 use dnsv_message::Counted;
-use std::fs::File;
+use std::io;
+use std::io::Write;
 use std::rt::{Env, Files};
-use std::{env, io};
 
-/// Does what the command line asks for. The answer is the exit status.
-pub fn exit_status<R: Env + Files + AllocGlobal + Print + Eprint>(rt: &R) -> u8
-where
-    R::File: Drop,
+/// Does what the command line asks for, on the system and its two outputs. The answer is the exit status.
+pub fn exit_status_on<R: Env + Files + AllocGlobal + Print, E: Print>(
+    system: &R,
+    errors: &E,
+) -> u8 {
+    exit_status(
+        &Host::new(system),
+        &mut Counted::new(io::writer(system)),
+        &mut io::writer(errors),
+    )
+}
+
+/// Does what the command line asks for. The answer is the exit status: 0 where the output got the text,
+/// or help, 7 where the file is refused, 2 where the words are no command, and 1 where the machine failed.
+pub fn exit_status<M: Machine, W: Write, E: Write>(
+    machine: &M,
+    output: &mut Counted<W>,
+    errors: &mut E,
+) -> u8
+    ensures done { result ≡ 0 → IfSome (M.given_words machine.now) (λ words.
+        WroteText words (M.octets_at machine.now) (W.contents (inner_of output.old)) (W.contents (inner_of output.new)) ⊎ RefusedWords words 0) }
+    ensures refused { result ≡ 7 → IfSome (M.given_words machine.now) (λ words. RefusedFile words (M.octets_at machine.now)) }
+    ensures misused { result ≡ 2 → IfSome (M.given_words machine.now) (λ words. RefusedWords words 2) }
+    ensures untouched { (result ≡ 2) ⊎ (result ≡ 7) → output.new ≡ output.old }
+    ensures codes { (result ≡ 0) ⊎ (result ≡ 1) ⊎ (result ≡ 2) ⊎ (result ≡ 7) }
 {
-    match request(rt) {
-        Ok(request) => finish(rt, answer(rt, &request)),
-        Err(error) => refuse(rt, error),
+    match request(machine) {
+        Ok(request) => {
+            let outcome = answer(machine, &request, output);
+            finish(errors, outcome)
+        }
+        Err(error) => refuse(output, errors, error),
     }
 }
 
 /// The request of the command line.
-fn request<R: Env + AllocGlobal>(rt: &R) -> Result<Request, LineError> {
-    let words: Vec<String> = env::args(rt)?.collect(rt.alloc())?;
-    read_line(rt.alloc(), words.as_slice())
+fn request<M: Machine>(machine: &M) -> Result<Request, LineError>
+    ensures accepted { IfOk result (λ request. IfSome (M.given_words machine.now) (λ words. IsAccepted words request)) }
+    ensures refused { IfErr result (λ error. IfSome (M.given_words machine.now) (λ words. IsRefused words error)) }
+{
+    let words = machine.words()?;
+    read_line(machine.alloc(), words.as_slice())
 }
 
-/// Opens the files of the request, and runs it over them and the standard output.
-fn answer<R: Files + AllocGlobal + Print>(rt: &R, request: &Request) -> Result<Status, Fault>
-where
-    R::File: Drop,
+/// Opens the files of the request, and runs it over them and the output.
+fn answer<M: Machine, W: Write>(
+    machine: &M,
+    request: &Request,
+    output: &mut Counted<W>,
+) -> Result<Status, Fault>
+    ensures done { OnOk result (IfSome (M.octets_at machine.now (capture_of request.now)) (λ file.
+        (text : List ℕ) × IsTextOf request.now file text × Appends (W.contents (inner_of output.old)) (W.contents (inner_of output.new)) text)) }
+    ensures refused { (why : Refusal) (place : Place) → result ≡ Err (Fault.Refused why place)
+        → IfSome (M.octets_at machine.now (capture_of request.now)) (λ file. IsRefusalOf request.now file why place) }
+    ensures untouched { IfErr result (λ fault. (fault ≡ Fault.WriteFailed → ⊥) → output.new ≡ output.old) }
 {
-    let Ok(capture) = File::open(rt, request.capture()) else {
+    let Ok(capture) = machine.open(request.capture()) else {
         return Err(Fault::OpenFailed(InputFile::Capture));
     };
     let mut inputs = Inputs {
         capture: Counted::new(capture),
     };
-    run(
-        rt.alloc(),
-        request,
-        &mut inputs,
-        &mut Counted::new(io::writer(rt)),
-    )
+    run(machine.alloc(), request, &mut inputs, output)
 }
 
-/// Tells why the command line gives no request: help on the standard output, and any other text on
-/// the standard error. The answer is the exit status.
-fn refuse<R: Print + Eprint>(rt: &R, error: LineError) -> u8
-    ensures { result ≡ line_code error }
+/// Tells why the command line gives no request: help on the output, and any other text on the errors. The
+/// answer is the exit status.
+fn refuse<W: Write, E: Write>(output: &mut Counted<W>, errors: &mut E, error: LineError) -> u8
+    ensures code { result ≡ line_code error }
+    ensures untouched { (result ≡ 0) ⊎ (output.new ≡ output.old) }
 {
     let code = error.code();
-    // Nothing is left to tell where the text itself can't be printed.
+    // Nothing is left to tell where the text itself can't be written.
     let _ = match error {
-        LineError::Help(_) => rt.print(error),
-        _ => rt.eprint(error),
+        LineError::Help(_) => output.write_fmt(error),
+        _ => errors.write_fmt(error),
     };
     code
 }
 
-/// Tells a fault on the standard error. The answer is the exit status.
-fn finish<R: Eprint>(rt: &R, outcome: Result<Status, Fault>) -> u8
+/// Tells a fault on the errors, in a line. The answer is the exit status.
+fn finish<E: Write>(errors: &mut E, outcome: Result<Status, Fault>) -> u8
     ensures { result ≡ outcome_code outcome }
 {
     match outcome {
         Ok(status) => status.code(),
         Err(fault) => {
-            let _ = rt.eprintln(fault);
+            let _ = errors.writeln(fault);
             fault.code()
         }
     }
 }
+
+#[cfg(test)]
+mod tests;

@@ -1,0 +1,71 @@
+-- How the program ends by what its parts answer.
+use Rattle.std.proofs.Common.{◌≡◌, ◌⊎◌, ◌==◌, ℕ, Bool, true, false, List, Option, Some, None, refl, subst, inl, arith}
+use Rattle.std.specs.Prelude.{Result, Ok, Err, IfErr, IfOk, IfSome, OnOk, if◌then◌else◌}
+use Rattle.std.specs.List.{list_any}
+use Rattle.std.specs.Io.KnownBytes.{Appends}
+use Rattle.dnssec_check.specs.declared.line.Request.{Request}
+use Rattle.dnssec_check.specs.declared.status.Status.{Status}
+use Rattle.dnssec_check.specs.declared.status.Status.TheVariants.{Done}
+use Rattle.dnssec_check.specs.declared.status.Fault.{Fault}
+use Rattle.dnssec_check.specs.declared.status.Fault.TheVariants as fault
+use Rattle.dnssec_check.specs.declared.status.Place.{Place}
+use Rattle.dnssec_check.specs.declared.status.Refusal.{Refusal}
+use Rattle.dnssec_check.specs.Line.{IsAccepted, capture_of}
+use Rattle.dnssec_check.specs.Program.{RefusedFile, RefusedWords, WroteText}
+use Rattle.dnssec_check.specs.Run.{IsTextOf, IsRefusalOf}
+use Rattle.dnssec_check.specs.Status.{failures, fault_number, outcome_code}
+
+-- what is said of the words that were handed out holds of those that the machine tells
+pub told_ok : {A E : Type 0} (P : List (List ℕ) → A → Type 0) (given : Option (List (List ℕ))) (words : List (List ℕ)) (result : Result A E)
+    → IfSome given (λ told. words ≡ told) → IfOk result (P words) → IfOk result (λ value. IfSome given (λ told. P told value))
+told_ok P None words (Ok value) same holds = tt
+told_ok P None words (Err error) same holds = tt
+told_ok P (Some told) words (Ok value) same holds = subst (λ w. P w value) same holds
+told_ok P (Some told) words (Err error) same holds = tt
+
+pub told_err : {A E : Type 0} (P : List (List ℕ) → E → Type 0) (given : Option (List (List ℕ))) (words : List (List ℕ)) (result : Result A E)
+    → IfSome given (λ told. words ≡ told) → IfErr result (P words) → IfErr result (λ error. IfSome given (λ told. P told error))
+told_err P None words (Ok value) same holds = tt
+told_err P None words (Err error) same holds = tt
+told_err P (Some told) words (Ok value) same holds = tt
+told_err P (Some told) words (Err error) same holds = subst (λ w. P w error) same holds
+
+one_or_seven : (is_failure : Bool) → ◌≡◌ {A = ℕ} (if is_failure then 1 else 7) 0 → ⊥
+one_or_seven true is_0 = omega (arith, is_0)
+one_or_seven false is_0 = omega (arith, is_0)
+
+-- 0 is no fault's exit status
+pub ended_well : {X : Type 0} (outcome : Result Status Fault) → outcome_code outcome ≡ 0 → OnOk outcome X → X
+ended_well (Ok status) is_0 holds = holds
+ended_well (Err failed) is_0 holds = absurd (one_or_seven (list_any (λ failure. failure == fault_number failed) failures) is_0)
+
+-- 7 is the exit status of a refusal alone
+pub ended_refused : (outcome : Result Status Fault) → outcome_code outcome ≡ 7
+    → (why : Refusal) × (place : Place) × (outcome ≡ Err (fault.Refused why place))
+ended_refused (Ok Done) is_7 = absurd (omega (arith, is_7))
+ended_refused (Err fault.OutOfMemory) is_7 = absurd (omega (arith, is_7))
+ended_refused (Err (fault.ReadFailed file)) is_7 = absurd (omega (arith, is_7))
+ended_refused (Err (fault.TooLong file)) is_7 = absurd (omega (arith, is_7))
+ended_refused (Err (fault.OpenFailed file)) is_7 = absurd (omega (arith, is_7))
+ended_refused (Err fault.WriteFailed) is_7 = absurd (omega (arith, is_7))
+ended_refused (Err (fault.Refused why place)) is_7 = (why, place, refl)
+
+pub wrote : (given : Option (List (List ℕ))) (octets_at : List ℕ → Option (List ℕ)) (old new : Option (List ℕ)) (request : Request)
+    → IfSome given (λ words. IsAccepted words request)
+    → IfSome (octets_at (capture_of request)) (λ file. (text : List ℕ) × IsTextOf request file text × Appends old new text)
+    → IfSome given (λ words. WroteText words octets_at old new ⊎ RefusedWords words 0)
+wrote None octets_at old new request accepted text = tt
+wrote (Some words) octets_at old new request accepted text = inl (record { request = request; accepted = accepted; text = text })
+
+pub refused : (given : Option (List (List ℕ))) (octets_at : List ℕ → Option (List ℕ)) (request : Request) (why : Refusal) (place : Place)
+    → IfSome given (λ words. IsAccepted words request)
+    → IfSome (octets_at (capture_of request)) (λ file. IsRefusalOf request file why place)
+    → IfSome given (λ words. RefusedFile words octets_at)
+refused None octets_at request why place accepted holds = tt
+refused (Some words) octets_at request why place accepted holds =
+    record { request = request; accepted = accepted; refused = refused_somehow (octets_at (capture_of request)) holds }
+  where
+    refused_somehow : (file : Option (List ℕ)) → IfSome file (λ octets. IsRefusalOf request octets why place)
+        → IfSome file (λ octets. (why : Refusal) × (place : Place) × IsRefusalOf request octets why place)
+    refused_somehow None holds = tt
+    refused_somehow (Some octets) holds = (why, place, holds)
