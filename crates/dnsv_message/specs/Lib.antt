@@ -1,4 +1,5 @@
 pub mod Message
+pub mod Flags
 pub mod Errors
 pub mod NameAt
 pub mod Layout

@@ -1,5 +1,6 @@
 //! The numbers of a message that mean something by themselves.
-ghost use Rattle.std.specs.Prelude.{◌≡◌, ◌↔◌, IsTrue, bit_and};
+ghost use Rattle.std.specs.Prelude.{◌↔◌, IsTrue};
+ghost use Rattle.dnsv_message.specs.Flags.{HasQR, HasTC};
 
 /// The class of a record or a question (RFC 1035 3.2.4).
 #[derive(Clone, Copy, Debug, PartialEq, Eq, PartialOrd, Ord, Hash)]
@@ -27,14 +28,14 @@ impl Flags {
 
     /// Whether QR is set: the message is a response and no query.
     pub fn is_response(self) -> bool
-        ensures { IsTrue result ↔ (bit_and self.0 Flags.RESPONSE ≡ Flags.RESPONSE) }
+        ensures { IsTrue result ↔ HasQR self.0 }
     {
         self.0 & Flags::RESPONSE == Flags::RESPONSE
     }
 
     /// Whether TC is set: the message lacks what didn't fit.
     pub fn is_truncated(self) -> bool
-        ensures { IsTrue result ↔ (bit_and self.0 Flags.TRUNCATED ≡ Flags.TRUNCATED) }
+        ensures { IsTrue result ↔ HasTC self.0 }
     {
         self.0 & Flags::TRUNCATED == Flags::TRUNCATED
     }
