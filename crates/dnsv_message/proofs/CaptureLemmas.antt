@@ -2,11 +2,12 @@
 use Rattle.std.proofs.Common.{◌≡◌, ℕ, zero, suc, ◌+◌, ◌-◌, ◌<◌, ◌≤◌, List, [], ◌∷◌, ◌++◌, length, take, drop, refl, sym, ap, ◌∙◌, zero-add, min, arith, append_assoc, length-append, Option, Some, None, IfSome}
 use Rattle.std.proofs.Math.Nat.{sub-zero}
 use Rattle.std.proofs.lemmas.List.{append-nil, take_all, take_at, take-take, length-take-le, take-append-drop}
-use Rattle.std.proofs.KnownBytes.{Consumes-nil, Consumes-trans, Consumes-whole}
-use Rattle.std.specs.Io.KnownBytes.{Consumes, IsAtEnd}
+use Rattle.std.proofs.KnownBytes.{Consumes-nil, Consumes-trans, Consumes-whole, Keeps-refl}
+use Rattle.std.specs.Io.KnownBytes.{Consumes, IsAtEnd, Keeps}
 use Rattle.dnsv_message.specs.declared.TheConstants.{FILE_LIMIT}
-use Rattle.dnsv_message.specs.Frames.{Frames, IsZero, HasZeroLength, IsTooLong, EndsTorn, IsCapture}
+use Rattle.dnsv_message.specs.Frames.{Frames, IsZero, HasZeroLength, HasNoFault, IsTooLong, EndsTorn, IsCapture, StopsAtFault}
 use Rattle.dnsv_message.specs.Framer.{Gains}
+use Rattle.dnsv_message.proofs.FileLemmas.{stops_before, stops_behind}
 use Rattle.dnsv_message.proofs.FrameLemmas.{Frames-append, one_framing, zero_begins_no_frame}
 
 -- the reader gave octets that are these messages and the rest, and so many may still come
@@ -145,7 +146,7 @@ zero_and_other file messages rest within x not_zero = λ came.
     let same = one_framing file came.0 messages came.1 rest (within_limit FILE_LIMIT file came.0 came.1 within came.2) x in
     not_zero (rw same.1 at came.3)
 
-nothing_not_zero : ¬ IsZero []
+pub nothing_not_zero : ¬ IsZero []
 nothing_not_zero = λ came. absurd (cc came.1)
 
 pub messages_alone : (file : List ℕ) (messages : List (List ℕ)) → IsCapture file messages → (¬ HasZeroLength file) × (¬ EndsTorn file) × (¬ IsTooLong file)
@@ -158,3 +159,23 @@ messages_alone file messages x = (
 pub zero_length_alone : (file : List ℕ) → HasZeroLength file → (¬ EndsTorn file) × (¬ IsTooLong file)
 zero_length_alone file came =
     (λ torn. zero_and_other file torn.1.0 torn.1.1 torn.0 torn.1.2 torn.1.4 came, λ too_long. too_long.1 came)
+
+-- what was read before the last piece has no fault
+no_fault_read : (old now : Option (List ℕ)) (messages : List (List ℕ)) (rest : List ℕ) (left : ℕ) → (x : HasRead old now messages rest left) → ¬ IsZero rest → HasNoFault x.octets
+no_fault_read old now messages rest left x not_zero =
+    let within : length x.octets ≤ FILE_LIMIT = omega (arith, x.size) in
+    (within, zero_and_other x.octets messages rest within x.frames not_zero)
+
+pub HasRead-stops_before : (old now next : Option (List ℕ)) (messages : List (List ℕ)) (rest : List ℕ) (left : ℕ)
+    → HasRead old now messages rest left → ¬ IsZero rest → Keeps now next → StopsAtFault HasNoFault old next
+HasRead-stops_before old now next messages rest left x not_zero kept =
+    stops_before HasNoFault old now next x.octets (no_fault_read old now messages rest left x not_zero) x.consumed kept
+
+pub HasRead-stops_behind : (old now next : Option (List ℕ)) (messages : List (List ℕ)) (rest buf : List ℕ) (left count : ℕ)
+    → HasRead old now messages rest left → ¬ IsZero rest → Consumes now next (take count buf) → count ≤ length buf → length buf ≤ 65536 → StopsAtFault HasNoFault old next
+HasRead-stops_behind old now next messages rest buf left count x not_zero consumes short small =
+    stops_behind HasNoFault old now next x.octets buf count (no_fault_read old now messages rest left x not_zero) x.consumed consumes short small
+
+-- nothing was read
+pub nothing-stops : (old : Option (List ℕ)) → StopsAtFault HasNoFault old old
+nothing-stops old = HasRead-stops_before old old old [] [] FILE_LIMIT (HasRead-start old [] [] FILE_LIMIT refl refl refl) nothing_not_zero (Keeps-refl old)

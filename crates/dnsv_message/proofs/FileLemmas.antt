@@ -1,8 +1,9 @@
 -- What the octets that were read say of a file.
 use Rattle.std.proofs.Common.{◌≡◌, ℕ, ◌-◌, ◌<◌, ◌≤◌, List, [], ◌++◌, length, take, sym, ap, ◌∙◌, arith, length-append, Option, Some, None, IfSome}
 use Rattle.std.proofs.lemmas.List.{append-nil, length-take-le}
-use Rattle.std.proofs.KnownBytes.{Consumes-nil, Consumes-trans}
-use Rattle.std.specs.Io.KnownBytes.{Consumes, IsAtEnd}
+use Rattle.std.proofs.KnownBytes.{Consumes-nil, Consumes-trans, Consumes-kept}
+use Rattle.std.specs.Io.KnownBytes.{Consumes, IsAtEnd, Keeps}
+use Rattle.dnsv_message.specs.Frames.{StopsAtFault}
 
 pub nothing_read : (old : Option (List ℕ)) (octets : List ℕ) → octets ≡ [] → Consumes old old octets
 nothing_read old octets none = rw none (Consumes-nil old)
@@ -49,3 +50,27 @@ pub file_read : (old now next : Option (List ℕ)) (octets piece : List ℕ) (co
 file_read old now next octets piece count x y none ended =
     let all : Consumes old next octets = rw append-nil at (Consumes-trans old now next octets [] x (rw none at y)) in
     end_known old next octets all ended
+
+-- what has no fault was read, and nothing since
+pub stops_before : (IsFine : List ℕ → Type 0) (old now next : Option (List ℕ)) (before : List ℕ) → IsFine before → Consumes old now before → Keeps now next
+    → StopsAtFault IsFine old next
+stops_before IsFine old now next before fine x kept = record {
+  before = before;
+  piece = [];
+  fine = fine;
+  at_most_65536 = omega arith;
+  read = rw append-nil (Consumes-kept old now next before x kept);
+}
+
+-- what has no fault was read, and one piece since
+pub stops_behind : (IsFine : List ℕ → Type 0) (old now next : Option (List ℕ)) (before buf : List ℕ) (count : ℕ) → IsFine before → Consumes old now before
+    → Consumes now next (take count buf) → count ≤ length buf → length buf ≤ 65536 → StopsAtFault IsFine old next
+stops_behind IsFine old now next before buf count fine x y short small =
+    let size : length (take count buf) ≡ count = length-take-le count buf short in
+    record {
+      before = before;
+      piece = take count buf;
+      fine = fine;
+      at_most_65536 = omega (arith, size);
+      read = Consumes-trans old now next before (take count buf) x y;
+    }

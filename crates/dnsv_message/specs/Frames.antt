@@ -1,7 +1,8 @@
 -- A stream of messages, as TCP carries them: each behind its length in two octets, the high octet first
 -- (RFC 1035 4.2.2).
-use Rattle.std.specs.Prelude.{◌≡◌, ◌≢◌, ℕ, ◌/◌, ◌%◌, ◌<◌, ◌≤◌, List, [], ◌∷◌, ◌++◌, length, take, map, flat_map, Vec}
+use Rattle.std.specs.Prelude.{◌≡◌, ◌≢◌, ℕ, ◌/◌, ◌%◌, ◌<◌, ◌≤◌, List, [], ◌∷◌, ◌++◌, length, take, map, flat_map, Option, Vec}
 use Rattle.std.specs.List.{AllByRecursion}
+use Rattle.std.specs.Io.KnownBytes.{Consumes}
 use Rattle.std.specs.declared.alloc.Global.{Global}
 
 -- the octets of each message
@@ -57,3 +58,16 @@ EndsTorn file = (length file ≤ file_limit) × ((messages : List (List ℕ)) ×
 -- an octet lies past the limit, and no length 0 before it
 abbrev pub IsTooLong : List ℕ → Type 0
 IsTooLong file = (file_limit < length file) × ¬ HasZeroLength file
+
+-- these octets of a file have no fault: they keep the limit, and no length 0 stands in a frame's place
+abbrev pub HasNoFault : List ℕ → Type 0
+HasNoFault octets = (length octets ≤ file_limit) × ¬ HasZeroLength octets
+
+-- Where a reader's octets are known, what was read of them is some octets without a fault and at most one piece
+-- more: nothing is read behind the piece in which a fault stands.
+pub record StopsAtFault (IsFine : List ℕ → Type 0) (old new : Option (List ℕ)) : Type 0 where
+  pub before : List ℕ
+  pub piece : List ℕ
+  pub fine : IsFine before
+  pub at_most_65536 : length piece ≤ 65536
+  pub read : Consumes old new (before ++ piece)

@@ -3,7 +3,7 @@ ghost use Rattle.std.specs.Prelude.{◌≡◌, ◌<◌, List, ℕ, IfOk, IfSome,
 ghost use Rattle.std.specs.List.{AllByRecursion};
 ghost use Rattle.std.specs.Io.KnownBytes.{IsAtEnd};
 ghost use Rattle.dnsv_message.specs.Counted.{failures_of, inner_of};
-ghost use Rattle.dnsv_message.specs.Frames.{EndsTorn, Frames, HasZeroLength, IsCapture, IsTooLong, octets_of_each};
+ghost use Rattle.dnsv_message.specs.Frames.{EndsTorn, Frames, HasNoFault, HasZeroLength, IsCapture, IsTooLong, StopsAtFault, octets_of_each};
 
 use crate::FILE_LIMIT;
 use crate::counted::Counted;
@@ -31,6 +31,8 @@ pub fn read_capture<R: Read>(
     ensures zero_length { IsErrOf result ReadError.ZeroLength → IfSome (R.remaining (inner_of reader.old)) HasZeroLength }
     ensures torn_frame { IsErrOf result ReadError.TornFrame → IfSome (R.remaining (inner_of reader.old)) EndsTorn }
     ensures end { OnOk result (IsAtEnd (R.remaining (inner_of reader.new))) }
+    // Nothing is read behind the piece in which a fault stands.
+    ensures stops { StopsAtFault HasNoFault (R.remaining (inner_of reader.old)) (R.remaining (inner_of reader.new)) }
 
     // The reader failed, at any reader: by the count, unless that began at its greatest value.
     ensures read { IsErrOf result ReadError.Read →

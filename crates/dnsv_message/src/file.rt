@@ -3,7 +3,7 @@ ghost use Rattle.std.specs.Prelude.{◌≡◌, ◌<◌, ◌≤◌, length, is_er
 ghost use Rattle.std.specs.Io.{ReadsAtMost};
 ghost use Rattle.std.specs.Io.KnownBytes.{IsAtEnd, ReadConsumes};
 ghost use Rattle.dnsv_message.specs.Counted.{count_after, failures_of, inner_of};
-ghost use Rattle.dnsv_message.specs.Frames.{file_limit};
+ghost use Rattle.dnsv_message.specs.Frames.{StopsAtFault, file_limit};
 ghost use Rattle.dnsv_message.specs.ReadError.{IsFileError};
 
 use crate::FILE_LIMIT;
@@ -26,6 +26,9 @@ pub fn read_all<R: Read>(alloc: Global, reader: &mut Counted<R>) -> Result<Vec<u
     ensures too_long { IsErrOf result ReadError.TooLong →
         IfSome (R.remaining (inner_of reader.old)) (λ file. file_limit < length file) }
     ensures end { OnOk result (IsAtEnd (R.remaining (inner_of reader.new))) }
+    // Nothing is read behind the piece in which a fault stands.
+    ensures stops { StopsAtFault (λ octets. length octets ≤ file_limit)
+        (R.remaining (inner_of reader.old)) (R.remaining (inner_of reader.new)) }
 
     // The reader failed, at any reader: by the count, unless that began at its greatest value.
     ensures read { IsErrOf result ReadError.Read →

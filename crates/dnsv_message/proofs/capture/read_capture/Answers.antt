@@ -1,16 +1,18 @@
 use Rattle.std.proofs.Common.{ap, ◌∙◌, refl, arith}
 use Rattle.std.proofs.lemmas.Result.{err_from_is_err_and}
 use Rattle.dnsv_message.specs.Frames.{octets_of_each}
-use Rattle.dnsv_message.proofs.CaptureLemmas.{HasRead-start, HasRead-more, HasRead-end, HasRead-zero, HasRead-too_long, failed_once}
+use Rattle.dnsv_message.proofs.CaptureLemmas.{HasRead-start, HasRead-more, HasRead-end, HasRead-zero, HasRead-too_long, HasRead-stops_before, HasRead-stops_behind, nothing-stops, failed_once, nothing_not_zero}
 use Rattle.dnsv_message.proofs.FramerLemmas.{Gains-open, Gains-zero, torn_end}
 use Rattle.dnsv_message.proofs.capture.read_capture.Goals as goal
 
 pub loop-framer-init : goal.loop-framer-init
 loop-framer-init g c = record {
   room = omega (arith, c.as_mut_slice-piece.ensures.len, c.in_ok-buffer.ensures.len);
+  piece = omega (arith, c.as_mut_slice-piece.ensures.len, c.in_ok-buffer.ensures.len);
   none_failed = refl;
   read = HasRead-start _ _ _ _ (ap octets_of_each c.new-messages.ensures.items) c.new-framer.ensures.rest refl;
   no_fault = c.new-framer.ensures.fault;
+  not_zero = rw c.new-framer.ensures.rest nothing_not_zero;
 }
 
 pub returns-in_err-count-clause-read : goal.returns-in_err-count-clause-read
@@ -31,10 +33,12 @@ returns-then-within-count-clause-too_long g c = λ _.
 pub loop-framer-preserved : goal.loop-framer-preserved
 loop-framer-preserved g c = record {
   room = omega (arith, c.loop-framer.invariant.room, c.read_piece.auto.piece);
+  piece = omega (arith, c.loop-framer.invariant.piece, c.read_piece.auto.piece);
   none_failed = c.in_ok-count.ensures.failures ∙ c.loop-framer.invariant.none_failed;
   read = HasRead-more _ _ _ _ _ _ _ c.read_piece.new.piece c.loop-framer.left c.in_ok-count.count c.min-within.result c.loop-framer.invariant.read c.in_ok-count.ensures.bytes.0
       (omega (arith, c.if-within-count.false)) (omega (arith, c.min-within.ensures)) (omega (arith, c.in_ok-count.ensures.bound.0)) (omega (arith, c.min-within.ensures)) (Gains-open _ _ _ _ _ c.in_ok-feed.ensures.ok c.in_ok-feed.ensures.not_zero);
   no_fault = c.in_ok-feed.ensures.fault;
+  not_zero = c.in_ok-feed.ensures.not_zero;
 }
 
 pub returns-in_err-finish-clause-torn_frame : goal.returns-in_err-finish-clause-torn_frame
@@ -70,3 +74,30 @@ returns-in_err-finish-clause-read g c = λ is_it not_full.
 
 pub returns-clause-end : goal.returns-clause-end
 returns-clause-end g c = c.in_ok-count.ensures.bytes.1 c.if-count-eq0.true (omega (arith, c.loop-framer.invariant.room, c.read_piece.auto.piece))
+
+pub returns-in_err-buffer-clause-stops : goal.returns-in_err-buffer-clause-stops
+returns-in_err-buffer-clause-stops g c = nothing-stops _
+
+pub returns-in_err-count-clause-stops : goal.returns-in_err-count-clause-stops
+returns-in_err-count-clause-stops g c =
+    HasRead-stops_before _ _ _ _ _ c.loop-framer.left c.loop-framer.invariant.read c.loop-framer.invariant.not_zero c.in_err-count.ensures.bytes
+
+pub returns-in_err-feed-clause-stops : goal.returns-in_err-feed-clause-stops
+returns-in_err-feed-clause-stops g c =
+    HasRead-stops_behind _ _ _ _ _ c.read_piece.new.piece c.loop-framer.left c.in_ok-count.count c.loop-framer.invariant.read c.loop-framer.invariant.not_zero
+    c.in_ok-count.ensures.bytes.0 (omega (arith, c.in_ok-count.ensures.bound.0)) (omega (arith, c.loop-framer.invariant.piece, c.read_piece.auto.piece))
+
+pub returns-then-within-count-clause-stops : goal.returns-then-within-count-clause-stops
+returns-then-within-count-clause-stops g c =
+    HasRead-stops_behind _ _ _ _ _ c.read_piece.new.piece c.loop-framer.left c.in_ok-count.count c.loop-framer.invariant.read c.loop-framer.invariant.not_zero
+    c.in_ok-count.ensures.bytes.0 (omega (arith, c.in_ok-count.ensures.bound.0)) (omega (arith, c.loop-framer.invariant.piece, c.read_piece.auto.piece))
+
+pub returns-in_err-finish-clause-stops : goal.returns-in_err-finish-clause-stops
+returns-in_err-finish-clause-stops g c =
+    HasRead-stops_behind _ _ _ _ _ c.read_piece.new.piece c.loop-framer.left c.in_ok-count.count c.loop-framer.invariant.read c.loop-framer.invariant.not_zero
+    c.in_ok-count.ensures.bytes.0 (omega (arith, c.in_ok-count.ensures.bound.0)) (omega (arith, c.loop-framer.invariant.piece, c.read_piece.auto.piece))
+
+pub returns-clause-stops : goal.returns-clause-stops
+returns-clause-stops g c =
+    HasRead-stops_behind _ _ _ _ _ c.read_piece.new.piece c.loop-framer.left c.in_ok-count.count c.loop-framer.invariant.read c.loop-framer.invariant.not_zero
+    c.in_ok-count.ensures.bytes.0 (omega (arith, c.in_ok-count.ensures.bound.0)) (omega (arith, c.loop-framer.invariant.piece, c.read_piece.auto.piece))
