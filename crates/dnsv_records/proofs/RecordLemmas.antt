@@ -1,8 +1,8 @@
 -- What readers of RDATA share.
-use Rattle.std.proofs.Common.{◌≡◌, ℕ, ◌+◌, ◌<◌, ◌≤◌, List, ◌∷◌, ◌++◌, length, get_or, take, drop, refl, sym, ap, ◌∙◌, inr, ⊎_elim, arith, Ok, Err, Option, Some}
+use Rattle.std.proofs.Common.{◌≡◌, ℕ, ◌+◌, ◌<◌, ◌≤◌, List, ◌∷◌, ◌++◌, length, get_or, take, drop, refl, sym, ap, ◌∙◌, inr, ⊎_elim, arith, Ok, Err, Result, Option, Some, subst}
 use Rattle.std.proofs.lemmas.List.{take_at, drop_at, drop-drop, drop_more, take-append-drop}
 use Rattle.std.specs.Int.Digits.{AllBelowBase}
-use Rattle.dnsv_names.specs.Name.{Labels, wire}
+use Rattle.dnsv_names.specs.Name.{Labels, IsName, wire}
 use Rattle.dnsv_records.proofs.Base32Lemmas.{same_digits}
 use Rattle.dnsv_records.proofs.OctetLemmas.{recursion-take, recursion-drop, take_part, length_part}
 use Rattle.dnsv_records.specs.declared.error.Field.{Field}
@@ -10,7 +10,10 @@ use Rattle.dnsv_records.specs.declared.error.Field.TheVariants.{Head, Name, Salt
 use Rattle.dnsv_records.specs.declared.error.RecordError.{RecordError}
 use Rattle.dnsv_records.specs.declared.error.RecordError.TheVariants.{OutOfMemory, BadRdata}
 use Rattle.dnsv_records.specs.Bitmap.{IsBitmap, BitmapFault}
-use Rattle.dnsv_records.specs.Layout.{number_at, IsCounted}
+use Rattle.dnsv_records.specs.Layout.{number_at, BeginsWithName, IsCounted, BeginsWithCounted}
+use Rattle.dnsv_records.specs.Rrsig.{RrsigFault}
+use Rattle.dnsv_records.specs.Nsec.{NsecFault}
+use Rattle.dnsv_records.specs.Nsec3.{Nsec3Fault}
 use Rattle.dnsv_records.specs.Reading.{Gives, NamesFault}
 
 -- a number of one octet
@@ -50,6 +53,54 @@ same_counted octets a b rest behind p q =
       sym (take_at a rest (length a) refl) ∙ ap (take (length a)) parts ∙ take_at b behind (length a) (sym size),
       sym (drop_at a rest (length a) refl) ∙ ap (drop (length a)) parts ∙ drop_at b behind (length a) (sym size),
     )
+
+-- an error is the same in answers of two types
+pub same_error : {T U : Type 0} (a b : RecordError) → ◌≡◌ {A = Result T RecordError} (Err a) (Err b) → ◌≡◌ {A = Result U RecordError} (Err a) (Err b)
+same_error a b same = let told : a ≡ b = cc in ap Err told
+
+pub no_bitmap_fault : (octets : List ℕ) → IsBitmap octets → (field : Field) → BitmapFault octets field → ⊥
+no_bitmap_fault octets is Head bad = bad
+no_bitmap_fault octets is Name bad = bad
+no_bitmap_fault octets is Salt bad = bad
+no_bitmap_fault octets is Hash bad = bad
+no_bitmap_fault octets is BitmapField bad = bad is
+
+pub no_rrsig_fault : (rdata : List ℕ) → 18 ≤ length rdata → BeginsWithName (drop 18 rdata) → (field : Field) → RrsigFault rdata field → ⊥
+no_rrsig_fault rdata head name Head bad = omega (arith, head, bad)
+no_rrsig_fault rdata head name Name bad = bad.1 name
+no_rrsig_fault rdata head name Salt bad = bad
+no_rrsig_fault rdata head name Hash bad = bad
+no_rrsig_fault rdata head name BitmapField bad = bad
+
+-- behind a name that was read, the bitmap alone can be at fault
+pub nsec_fault_behind : (rdata : List ℕ) (found : Labels) (n : ℕ) → IsName found → take n rdata ≡ wire found → ((name : Labels) (rest : List ℕ) → IsName name → rdata ≡ wire name ++ rest → ◌≡◌ {A = Option (Labels × ℕ)} (Some (found, n)) (Some (name, length (wire name)))) → (field : Field) → NsecFault rdata field → BitmapFault (drop n rdata) field
+nsec_fault_behind rdata found n is spelled every Head bad = bad
+nsec_fault_behind rdata found n is spelled every Name bad =
+    absurd (bad (found, drop n rdata, is, sym (take-append-drop n rdata) ∙ ap (λ xs. xs ++ drop n rdata) spelled))
+nsec_fault_behind rdata found n is spelled every Salt bad = bad
+nsec_fault_behind rdata found n is spelled every Hash bad = bad
+nsec_fault_behind rdata found n is spelled every BitmapField (next, bits, is_name, form, bad) =
+    subst (λ xs. IsBitmap xs → ⊥) (sym (behind_name rdata bits found next n (every next bits is_name form) form).1) bad
+
+-- where the salt is there and the hash is not, the hash is at fault
+pub nsec3_fault_at_hash : (rdata salt rest : List ℕ) → 4 ≤ length rdata → IsCounted (drop 4 rdata) salt rest → (BeginsWithCounted rest → ⊥) → (field : Field) → Nsec3Fault rdata field → Hash ≡ field
+nsec3_fault_at_hash rdata salt rest head is none Head bad = absurd (omega (arith, head, bad))
+nsec3_fault_at_hash rdata salt rest head is none Name bad = absurd bad
+nsec3_fault_at_hash rdata salt rest head is none Salt bad = absurd (bad.1 (salt, rest, is))
+nsec3_fault_at_hash rdata salt rest head is none Hash bad = refl
+nsec3_fault_at_hash rdata salt rest head is none BitmapField (other, behind, hash, bits, first, second, bad) =
+    absurd (none (hash, bits, (same_counted (drop 4 rdata) salt other rest behind is first).1 ∙ second))
+
+-- behind the hash, the bitmap alone can be at fault
+pub nsec3_fault_behind : (rdata salt rest hash bits : List ℕ) → 4 ≤ length rdata → IsCounted (drop 4 rdata) salt rest → IsCounted rest hash bits → (field : Field) → Nsec3Fault rdata field → BitmapFault bits field
+nsec3_fault_behind rdata salt rest hash bits head is_salt is_hash Head bad = absurd (omega (arith, head, bad))
+nsec3_fault_behind rdata salt rest hash bits head is_salt is_hash Name bad = bad
+nsec3_fault_behind rdata salt rest hash bits head is_salt is_hash Salt bad = absurd (bad.1 (salt, rest, is_salt))
+nsec3_fault_behind rdata salt rest hash bits head is_salt is_hash Hash (other, behind, first, bad) =
+    absurd (bad (hash, bits, sym (same_counted (drop 4 rdata) salt other rest behind is_salt first).1 ∙ is_hash))
+nsec3_fault_behind rdata salt rest hash bits head is_salt is_hash BitmapField (other, behind, last, ending, first, second, bad) =
+    let same = (same_counted (drop 4 rdata) salt other rest behind is_salt first).1 in
+    subst (λ xs. IsBitmap xs → ⊥) (sym (same_counted rest hash last bits ending is_hash (same ∙ second)).1) bad
 
 -- a name read at a place, and what stands behind it
 pub name_and_rest : (octets : List ℕ) (place n : ℕ) (name : Labels) → take n (drop place octets) ≡ wire name → drop place octets ≡ wire name ++ drop (place + n) octets

@@ -37,6 +37,9 @@ impl TypeBitmap {
         ensures found { IfOk result (Bitmap octets.now) }
         ensures every { (types : Types) → Bitmap octets.now types → Gives result types }
         ensures fault { IsFirstFault result (BitmapFault octets.now) }
+        // What is at fault is told, whether or not memory is left.
+        ensures every_fault { (field : Field) → BitmapFault octets.now field
+            → result ≡ Err (RecordError.BadRdata field) }
     {
         if !are_blocks(octets) {
             return Err(RecordError::BadRdata(Field::Bitmap));

@@ -40,6 +40,9 @@ impl Dnskey {
         ensures found { IfOk result (IsDnskey rdata.now) }
         ensures every { (key : Dnskey) → IsDnskey rdata.now key → Gives result key }
         ensures fault { IsFirstFault result (DnskeyFault rdata.now) }
+        // What is at fault is told, whether or not memory is left.
+        ensures every_fault { (field : Field) → DnskeyFault rdata.now field
+            → result ≡ Err (RecordError.BadRdata field) }
     {
         if rdata.len() < 4 {
             return Err(RecordError::BadRdata(Field::Head));

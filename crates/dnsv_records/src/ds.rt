@@ -17,7 +17,7 @@ pub struct Ds {
 }
 
 impl Ds {
-    ghost use Rattle.std.specs.Prelude.{IfOk};
+    ghost use Rattle.std.specs.Prelude.{◌≡◌, IfOk};
     ghost use Rattle.dnsv_records.specs.Ds.{IsDs, DsFault};
     ghost use Rattle.dnsv_records.specs.Reading.{IsFirstFault, Gives};
 
@@ -26,6 +26,9 @@ impl Ds {
         ensures found { IfOk result (IsDs rdata.now) }
         ensures every { (ds : Ds) → IsDs rdata.now ds → Gives result ds }
         ensures fault { IsFirstFault result (DsFault rdata.now) }
+        // What is at fault is told, whether or not memory is left.
+        ensures every_fault { (field : Field) → DsFault rdata.now field
+            → result ≡ Err (RecordError.BadRdata field) }
     {
         if rdata.len() < 4 {
             return Err(RecordError::BadRdata(Field::Head));

@@ -14,7 +14,7 @@ pub struct Nsec {
 }
 
 impl Nsec {
-    ghost use Rattle.std.specs.Prelude.{IfOk};
+    ghost use Rattle.std.specs.Prelude.{◌≡◌, IfOk};
     ghost use Rattle.dnsv_records.specs.Nsec.{IsNsec, NsecFault};
     ghost use Rattle.dnsv_records.specs.Reading.{IsFirstFault, Gives};
 
@@ -24,6 +24,9 @@ impl Nsec {
         ensures found { IfOk result (IsNsec rdata.now) }
         ensures every { (nsec : Nsec) → IsNsec rdata.now nsec → Gives result nsec }
         ensures fault { IsFirstFault result (NsecFault rdata.now) }
+        // What is at fault is told, whether or not memory is left.
+        ensures every_fault { (field : Field) → NsecFault rdata.now field
+            → result ≡ Err (RecordError.BadRdata field) }
     {
         let Some((next, length)) = Name::read(rdata) else {
             return Err(RecordError::BadRdata(Field::Name));

@@ -55,7 +55,7 @@ pub struct Nsec3 {
 }
 
 impl Nsec3 {
-    ghost use Rattle.std.specs.Prelude.{IfOk, IsTrue, ◌↔◌};
+    ghost use Rattle.std.specs.Prelude.{◌≡◌, IfOk, IsTrue, ◌↔◌};
     ghost use Rattle.dnsv_records.specs.Nsec3.{IsNsec3, Nsec3Fault, IsUsable};
     ghost use Rattle.dnsv_records.specs.Reading.{IsFirstFault, Gives};
 
@@ -65,6 +65,9 @@ impl Nsec3 {
         ensures found { IfOk result (IsNsec3 rdata.now) }
         ensures every { (nsec3 : Nsec3) → IsNsec3 rdata.now nsec3 → Gives result nsec3 }
         ensures fault { IsFirstFault result (Nsec3Fault rdata.now) }
+        // What is at fault is told, whether or not memory is left.
+        ensures every_fault { (field : Field) → Nsec3Fault rdata.now field
+            → result ≡ Err (RecordError.BadRdata field) }
     {
         if rdata.len() < HEAD {
             return Err(RecordError::BadRdata(Field::Head));

@@ -30,7 +30,7 @@ pub struct Rrsig {
 }
 
 impl Rrsig {
-    ghost use Rattle.std.specs.Prelude.{IfOk};
+    ghost use Rattle.std.specs.Prelude.{◌≡◌, IfOk};
     ghost use Rattle.dnsv_records.specs.Rrsig.{IsRrsig, RrsigFault};
     ghost use Rattle.dnsv_records.specs.Reading.{IsFirstFault, Gives};
 
@@ -40,6 +40,9 @@ impl Rrsig {
         ensures found { IfOk result (IsRrsig rdata.now) }
         ensures every { (rrsig : Rrsig) → IsRrsig rdata.now rrsig → Gives result rrsig }
         ensures fault { IsFirstFault result (RrsigFault rdata.now) }
+        // What is at fault is told, whether or not memory is left.
+        ensures every_fault { (field : Field) → RrsigFault rdata.now field
+            → result ≡ Err (RecordError.BadRdata field) }
     {
         if rdata.len() < HEAD {
             return Err(RecordError::BadRdata(Field::Head));

@@ -1,6 +1,7 @@
 use Rattle.std.proofs.Common.{Ok, ap, inl, ◌∙◌}
 use Rattle.dnsv_records.specs.Blocks.{types_of}
 use Rattle.dnsv_records.proofs.BitmapLemmas.{AreBlocks-Bitmap, Bitmap-types_of, types_of-Bitmap}
+use Rattle.dnsv_records.proofs.RecordLemmas.{no_bitmap_fault}
 use Rattle.dnsv_records.proofs.bitmap.TypeBitmap.read.Goals as goal
 
 pub returns-then-not-are_blocks-clause-every : goal.returns-then-not-are_blocks-clause-every
@@ -18,3 +19,13 @@ returns-clause-found c =
 pub returns-clause-every : goal.returns-clause-every
 returns-clause-every c = λ types spelled.
     inl (ap Ok (ap types_of c.in_ok-from_slice.ensures.items ∙ types_of-Bitmap c.args.octets.now types spelled))
+
+pub returns-in_err-from_slice-clause-every_fault : goal.returns-in_err-from_slice-clause-every_fault
+returns-in_err-from_slice-clause-every_fault c = λ field bad.
+    let octets = c.args.octets.now in
+    absurd (no_bitmap_fault octets (types_of octets, Bitmap-types_of octets c.if-not-are_blocks.ensures) field bad)
+
+pub returns-clause-every_fault : goal.returns-clause-every_fault
+returns-clause-every_fault c = λ field bad.
+    let octets = c.args.octets.now in
+    absurd (no_bitmap_fault octets (types_of octets, Bitmap-types_of octets c.if-not-are_blocks.ensures) field bad)

@@ -1,8 +1,9 @@
-use Rattle.std.proofs.Common.{Ok, drop, sym, subst, inl, ◌∙◌, arith}
+use Rattle.std.proofs.Common.{ap, Err, Ok, drop, sym, subst, inl, ◌∙◌, arith}
 use Rattle.std.proofs.lemmas.List.{take_rest}
 use Rattle.std.proofs.lemmas.Result.{err_from_is_err_and}
+use Rattle.dnsv_records.specs.declared.error.RecordError.TheVariants.{BadRdata}
 use Rattle.dnsv_records.specs.Bitmap.{Bitmap}
-use Rattle.dnsv_records.proofs.RecordLemmas.{number_at-one, bitmap_fault, Gives-err, Gives-ok, same_counted}
+use Rattle.dnsv_records.proofs.RecordLemmas.{number_at-one, bitmap_fault, Gives-err, Gives-ok, same_counted, same_error, nsec3_fault_at_hash, nsec3_fault_behind}
 use Rattle.dnsv_records.proofs.nsec3.Nsec3.read.Goals as goal
 
 pub returns-in_default-split_counted-clause-every : goal.returns-in_default-split_counted-clause-every
@@ -57,3 +58,41 @@ returns-clause-every c = λ nsec3 is.
       next_hash = hash_copied i;
       types = types i;
     })
+
+pub returns-in_default-split_counted-clause-every_fault : goal.returns-in_default-split_counted-clause-every_fault
+returns-in_default-split_counted-clause-every_fault c = λ field bad.
+    let rdata = c.args.rdata.now in
+    let salt = sym (take_rest rdata 4) ∙ c.in-Some.ensures.found in
+    ap (λ field. Err (BadRdata field)) (nsec3_fault_at_hash rdata c.in-Some.salt.now c.in-Some.behind_salt.now c.if-rdata-lt-HEAD.false salt c.in_default-split_counted.ensures.none field bad)
+
+pub returns-in_err-types-clause-every_fault : goal.returns-in_err-types-clause-every_fault
+returns-in_err-types-clause-every_fault c = λ field bad.
+    let p = err_from_is_err_and c.from_residual.result c.from_residual.ensures.1 in
+    let rdata = c.args.rdata.now in
+    let salt = sym (take_rest rdata 4) ∙ c.in-Some.ensures.found in
+    let behind = nsec3_fault_behind rdata c.in-Some.salt.now c.in-Some.behind_salt.now c.in-Some-split_counted.next_hash.now c.in-Some-split_counted.bits.now c.if-rdata-lt-HEAD.false salt c.in-Some-split_counted.ensures.found field bad in
+    rw (p.1, p.2) (same_error c.in_err-types.field-0.0 (BadRdata field) (c.in_err-types.ensures.every_fault field behind))
+
+pub returns-in_err-copy_of-clause-every_fault : goal.returns-in_err-copy_of-clause-every_fault
+returns-in_err-copy_of-clause-every_fault c = λ field bad.
+    let rdata = c.args.rdata.now in
+    let salt = sym (take_rest rdata 4) ∙ c.in-Some.ensures.found in
+    let behind = nsec3_fault_behind rdata c.in-Some.salt.now c.in-Some.behind_salt.now c.in-Some-split_counted.next_hash.now c.in-Some-split_counted.bits.now c.if-rdata-lt-HEAD.false salt c.in-Some-split_counted.ensures.found field bad in
+    let told = c.in_ok-types.ensures.every_fault field behind in
+    cc
+
+pub returns-in_err-copy_of-2-clause-every_fault : goal.returns-in_err-copy_of-2-clause-every_fault
+returns-in_err-copy_of-2-clause-every_fault c = λ field bad.
+    let rdata = c.args.rdata.now in
+    let salt = sym (take_rest rdata 4) ∙ c.in-Some.ensures.found in
+    let behind = nsec3_fault_behind rdata c.in-Some.salt.now c.in-Some.behind_salt.now c.in-Some-split_counted.next_hash.now c.in-Some-split_counted.bits.now c.if-rdata-lt-HEAD.false salt c.in-Some-split_counted.ensures.found field bad in
+    let told = c.in_ok-types.ensures.every_fault field behind in
+    cc
+
+pub returns-clause-every_fault : goal.returns-clause-every_fault
+returns-clause-every_fault c = λ field bad.
+    let rdata = c.args.rdata.now in
+    let salt = sym (take_rest rdata 4) ∙ c.in-Some.ensures.found in
+    let behind = nsec3_fault_behind rdata c.in-Some.salt.now c.in-Some.behind_salt.now c.in-Some-split_counted.next_hash.now c.in-Some-split_counted.bits.now c.if-rdata-lt-HEAD.false salt c.in-Some-split_counted.ensures.found field bad in
+    let told = c.in_ok-types.ensures.every_fault field behind in
+    cc

@@ -1,7 +1,7 @@
 use Rattle.std.proofs.Common.{◌≡◌, ◌+◌, ◌++◌, Ok, take, drop, sym, ap, inl, ◌∙◌, arith}
 use Rattle.std.proofs.lemmas.List.{take_rest, drop-drop}
 use Rattle.dnsv_names.specs.Name.{wire}
-use Rattle.dnsv_records.proofs.RecordLemmas.{number_at-one, behind_name, name_and_rest}
+use Rattle.dnsv_records.proofs.RecordLemmas.{number_at-one, behind_name, name_and_rest, no_rrsig_fault}
 use Rattle.dnsv_records.proofs.rrsig.Rrsig.read.Goals as goal
 
 pub returns-clause-found : goal.returns-clause-found
@@ -50,3 +50,17 @@ returns-clause-every c = λ rrsig is.
       signer = signer i;
       signature = signature i;
     })
+
+pub returns-in_err-signature-clause-every_fault : goal.returns-in_err-signature-clause-every_fault
+returns-in_err-signature-clause-every_fault c = λ field bad.
+    let rdata = c.args.rdata.now in
+    let n = c.in-Some.length in
+    let spelled : take n (drop 18 rdata) ≡ wire c.in-Some.signer = ap (take n) (sym (take_rest rdata 18)) ∙ c.in-Some.ensures.spelling in
+    absurd (no_rrsig_fault rdata c.if-rdata-lt-HEAD.false (c.in-Some.signer, drop (18 + n) rdata, c.in-Some.ensures.name, name_and_rest rdata 18 n c.in-Some.signer spelled) field bad)
+
+pub returns-clause-every_fault : goal.returns-clause-every_fault
+returns-clause-every_fault c = λ field bad.
+    let rdata = c.args.rdata.now in
+    let n = c.in-Some.length in
+    let spelled : take n (drop 18 rdata) ≡ wire c.in-Some.signer = ap (take n) (sym (take_rest rdata 18)) ∙ c.in-Some.ensures.spelling in
+    absurd (no_rrsig_fault rdata c.if-rdata-lt-HEAD.false (c.in-Some.signer, drop (18 + n) rdata, c.in-Some.ensures.name, name_and_rest rdata 18 n c.in-Some.signer spelled) field bad)
