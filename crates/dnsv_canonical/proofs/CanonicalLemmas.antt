@@ -170,7 +170,7 @@ map-dedup : {X Y : Type 0} (f : X → Y) (same : Y → Y → Bool) (xs : List X)
 map-dedup f same [] = refl
 map-dedup f same (x ∷ xs) = map-dedup_from f same x xs
 
-each_map : {X Y : Type 0} (f : X → Y) (P : Y → Type 0) (xs : List X) → AllByRecursion (λ x. P (f x)) xs → AllByRecursion P (map f xs)
+pub each_map : {X Y : Type 0} (f : X → Y) (P : Y → Type 0) (xs : List X) → AllByRecursion (λ x. P (f x)) xs → AllByRecursion P (map f xs)
 each_map f P [] each = tt
 each_map f P (x ∷ xs) each = (each.0, each_map f P xs each.1)
 

@@ -17,13 +17,32 @@ use Rattle.dnsv_records.specs.declared.rrsig.Rrsig.{Rrsig}
 use Rattle.dnsv_records.specs.Rrsig.{IsRrsig}
 use Rattle.dnsv_canonical.specs.Evidence.{Evidence, AtMost, IsReadable, IsWithinLimits, IsSmall, IsPairAmong, nsec3_rdata, with_message, evidence_of, signatures_at}
 use Rattle.dnsv_canonical.specs.Kept.{HasRrsig, ArePairs}
-use Rattle.dnsv_canonical.specs.Rrsets.{Group, is_signature, appears_first, first_appearances, rrset_of, rrsets_in, message_rrsets, rrsets_from, rrsets_of, is_grouped, same_rrset}
-use Rattle.dnsv_canonical.proofs.ListLemmas.{each_front, each_behind}
+use Rattle.dnsv_canonical.specs.Rrsets.{Group, is_signature, appears_first, first_appearances, rrset_of, rrsets_in, message_rrsets, rrsets_from, rrsets_of}
+use Rattle.dnsv_canonical.proofs.CanonicalLemmas.{each_map}
+use Rattle.dnsv_canonical.proofs.ListLemmas.{each_front, each_behind, each_chosen}
 use Rattle.dnsv_canonical.proofs.PairLemmas.{Pair, few_pairs}
 
-both_true : (a b : Bool) → (a && b) ≡ true → (a ≡ true) × (b ≡ true)
+pub both_true : (a b : Bool) → (a && b) ≡ true → (a ≡ true) × (b ≡ true)
 both_true true b h = (refl, h)
 both_true false b h = absurd (false≢true h)
+
+-- ---- each RRset
+
+-- what holds of each RRset of a section whose records are of a kind holds of each RRset of a message of such records
+module _ (IsKind : Record → Type 0) (P : Group → Type 0)
+    (one : (number : ℕ) (section : Section) (records : List Record) (first : Record) → AllByRecursion IsKind records → P (rrset_of number section records first)) where
+  each_in_section : (number : ℕ) (section : Section) (records firsts : List Record) → AllByRecursion IsKind records → AllByRecursion P (map (rrset_of number section records) firsts)
+  each_in_section number section records [] each = tt
+  each_in_section number section records (first ∷ firsts) each = (one number section records first each, each_in_section number section records firsts each)
+
+  pub each_rrset : (number : ℕ) (message : Contents) → AllByRecursion IsKind (records_of message) → AllByRecursion P (message_rrsets number message)
+  each_rrset number message each =
+      let front = each_front IsKind (message.answer ++ message.authority) message.additional each in
+      recursion-append P (rrsets_in number Answer message.answer ++ rrsets_in number Authority message.authority) (rrsets_in number Additional message.additional)
+      (recursion-append P (rrsets_in number Answer message.answer) (rrsets_in number Authority message.authority)
+      (each_in_section number Answer message.answer _ (each_front IsKind message.answer message.authority front))
+      (each_in_section number Authority message.authority _ (each_behind IsKind message.answer message.authority front)))
+      (each_in_section number Additional message.additional _ (each_behind IsKind (message.answer ++ message.authority) message.additional each))
 
 -- ---- signatures of records that can be read
 
@@ -35,13 +54,7 @@ readable owner rtype r can signs =
     (can (eqb-true _ _ kinds.1)).rrsig (eqb-true _ _ kinds.0)
 
 chosen : (owner : Labels) (rtype : ℕ) (rs : List Record) → AllByRecursion IsReadable rs → AllByRecursion HasRrsig (map (λ (r : Record). r.rdata) (filter (is_signature owner rtype) rs))
-chosen owner rtype [] can = tt
-chosen owner rtype (r ∷ rs) can = chosen_at owner rtype r rs (is_signature owner rtype r) refl can.0 (chosen owner rtype rs can.1) where
-  chosen_at : (owner : Labels) (rtype : ℕ) (r : Record) (rs : List Record) (signs : Bool) → is_signature owner rtype r ≡ signs → IsReadable r
-      → AllByRecursion HasRrsig (map (λ (r : Record). r.rdata) (filter (is_signature owner rtype) rs))
-      → AllByRecursion HasRrsig (map (λ (r : Record). r.rdata) (cond signs (r ∷ filter (is_signature owner rtype) rs) (filter (is_signature owner rtype) rs)))
-  chosen_at owner rtype r rs true is can rest = (readable owner rtype r can is, rest)
-  chosen_at owner rtype r rs false is can rest = rest
+chosen owner rtype rs can = each_map (λ (r : Record). r.rdata) HasRrsig _ (each_chosen (is_signature owner rtype) IsReadable (λ r. HasRrsig r.rdata) (λ r. readable owner rtype r) rs can)
 
 first_appearances_kept : (P : List ℕ → Type 0) (xs : List (List ℕ)) → AllByRecursion P xs → AllByRecursion P (first_appearances bytes_eq xs)
 first_appearances_kept P xs all = chosen_kept (appears_first bytes_eq xs) 0 xs all where
@@ -53,26 +66,11 @@ first_appearances_kept P xs all = chosen_kept (appears_first bytes_eq xs) 0 xs a
     chosen_at true p rest = (p, rest)
     chosen_at false p rest = rest
 
-abbrev HaveRrsigs : Group → Type 0
-HaveRrsigs rrset = AllByRecursion HasRrsig rrset.signatures
-
-all_readable : (message : ℕ) (section : Section) (records firsts : List Record) → AllByRecursion IsReadable records → AllByRecursion HaveRrsigs (map (rrset_of message section records) firsts)
-all_readable message section records [] can = tt
-all_readable message section records (first ∷ firsts) can =
-    (first_appearances_kept HasRrsig _ (chosen first.name first.rtype.0 records can), all_readable message section records firsts can)
-
-section_readable : (number : ℕ) (section : Section) (records : List Record) → AllByRecursion IsReadable records → AllByRecursion HaveRrsigs (rrsets_in number section records)
-section_readable number section records can = all_readable number section records (first_appearances same_rrset (filter is_grouped records)) can
-
 -- the signatures of a message whose records can be read
 pub message_readable : (number : ℕ) (message : Contents) → AllByRecursion IsReadable (records_of message) → AllByRecursion (λ rrset. AllByRecursion HasRrsig rrset.signatures) (message_rrsets number message)
-message_readable number message can =
-    let front = each_front IsReadable (message.answer ++ message.authority) message.additional can in
-    recursion-append HaveRrsigs (rrsets_in number Answer message.answer ++ rrsets_in number Authority message.authority) (rrsets_in number Additional message.additional)
-    (recursion-append HaveRrsigs (rrsets_in number Answer message.answer) (rrsets_in number Authority message.authority)
-    (section_readable number Answer message.answer (each_front IsReadable message.answer message.authority front))
-    (section_readable number Authority message.authority (each_behind IsReadable message.answer message.authority front)))
-    (section_readable number Additional message.additional (each_behind IsReadable (message.answer ++ message.authority) message.additional can))
+message_readable =
+    each_rrset IsReadable (λ rrset. AllByRecursion HasRrsig rrset.signatures)
+    (λ number section records first can. first_appearances_kept HasRrsig _ (chosen first.name first.rtype.0 records can))
 
 -- ---- limits
 

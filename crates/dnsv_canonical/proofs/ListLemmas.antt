@@ -1,8 +1,8 @@
 -- Facts about each element of a list, and members of two lists, one behind the other.
-use Rattle.std.proofs.Common.{◌≡◌, ◌⊎◌, inl, inr, ⊎_elim, ℕ, ◌+◌, ◌<◌, List, [], ◌∷◌, ◌++◌, length, get_or, take, map, refl, sym, subst, arith}
+use Rattle.std.proofs.Common.{◌≡◌, ◌⊎◌, inl, inr, ⊎_elim, ℕ, ◌+◌, ◌<◌, Bool, true, false, cond, List, [], ◌∷◌, ◌++◌, length, get_or, take, map, refl, sym, subst, arith}
 use Rattle.std.proofs.lemmas.List.{map_more, get_or-map, length-map}
 use Rattle.std.proofs.lemmas.List.Elements.{All-from_recursion, All-get_or}
-use Rattle.std.specs.Prelude.{Contains}
+use Rattle.std.specs.Prelude.{Contains, filter}
 use Rattle.std.specs.Borrow.{Bor}
 use Rattle.std.specs.List.{AllByRecursion, AllZip}
 use Rattle.dnsv_records.specs.declared.rrsig.Rrsig.{Rrsig}
@@ -27,6 +27,14 @@ each_front P (x ∷ xs) ys each = (each.0, each_front P xs ys each.1)
 pub each_behind : {X : Type 0} (P : X → Type 0) (xs ys : List X) → AllByRecursion P (xs ++ ys) → AllByRecursion P ys
 each_behind P [] ys each = each
 each_behind P (x ∷ xs) ys each = each_behind P xs ys each.1
+
+-- of elements of one kind, those that pass a test are of the other
+pub each_chosen : {X : Type 0} (test : X → Bool) (P Q : X → Type 0) → ((x : X) → P x → test x ≡ true → Q x) → (xs : List X) → AllByRecursion P xs → AllByRecursion Q (filter test xs)
+each_chosen test P Q leads [] each = tt
+each_chosen test P Q leads (x ∷ xs) each = kept (test x) refl (each_chosen test P Q leads xs each.1) where
+  kept : (passes : Bool) → test x ≡ passes → AllByRecursion Q (filter test xs) → AllByRecursion Q (cond passes (x ∷ filter test xs) (filter test xs))
+  kept true is rest = (leads x each.0 is, rest)
+  kept false is rest = rest
 
 pub pairs_more : {A B : Type 0} (R : A → B → Type 0) (xs : List A) (ys : List B) (x : A) (y : B) → AllZip R xs ys → R x y → AllZip R (xs ++ x ∷ []) (ys ++ y ∷ [])
 pairs_more R [] [] x y all here = (here, tt)
