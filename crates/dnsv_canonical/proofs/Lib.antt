@@ -1,5 +1,6 @@
 pub mod CanonicalLemmas
 pub mod EvidenceLemmas
+pub mod FormLemmas
 pub mod GroupLemmas
 pub mod ByRrsetLemmas
 pub mod LimitLemmas

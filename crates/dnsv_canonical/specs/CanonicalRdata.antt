@@ -1,24 +1,51 @@
 -- RDATA in canonical form: the names in it are in lower case (RFC 4034 6.2, RFC 6840 5.1).
 --
--- It is said of octets and not of labels, so that it holds of any RDATA: a name's length octets are at most 63, and
--- so are no letters, which begin at 65. Lowering the octets that the names take lowers their labels alone.
-use Rattle.std.specs.Prelude.{ℕ, ◌-◌, ◌==◌, if◌then◌else◌, List, [], ◌∷◌, ◌++◌, length, take, drop, map, Option, Some, None}
+-- `canonical_form` is said of octets, so that it holds of any RDATA. What it does to RDATA that is laid out as its
+-- type asks is said of names, by the law `canonical_form_lowers_the_names`.
+use Rattle.std.specs.Prelude.{◌≡◌, ℕ, ◌-◌, ◌==◌, if◌then◌else◌, List, [], ◌∷◌, ◌++◌, length, take, drop, map, flat_map, Option, Some, None, unwrap_or}
 use Rattle.std.specs.Char.{to_ascii_lowercase}
-use Rattle.std.specs.List.{list_any}
+use Rattle.std.specs.List.{AllByRecursion, list_any}
+use Rattle.dnsv_names.specs.Name.{Labels, IsName, wire}
+use Rattle.dnsv_message.specs.declared.rdata.Layout.{Layout}
+use Rattle.dnsv_message.specs.Grammar.{IsTail}
+use Rattle.dnsv_message.specs.Layout.{layout_of}
 
--- NS, CNAME, PTR and DNAME: the RDATA is a name (RFC 1035 3.3, RFC 6672 2.1)
-abbrev pub name_types : List ℕ
-name_types = 2 ∷ 5 ∷ 12 ∷ 39 ∷ []
+-- ---- names in RDATA
 
--- How many octets stand before and behind the names in the RDATA of a type, where canonical form has them in lower
--- case. SOA has two names and then five numbers of 32 bits, MX a number of 16 bits before its name, and SRV three
--- (RFC 1035 3.3, RFC 2782). NSEC's next name keeps its spelling (RFC 6840 5.1).
+-- The types that RFC 4034 6.2 lists, in its order. RFC 6840 5.1 takes two from them: HINFO, which has no names, and
+-- NSEC, whose next name keeps its spelling.
+abbrev pub listed_types : List ℕ
+listed_types =
+    2 ∷ 3 ∷ 4 ∷ 5 ∷ 6 ∷ 7 ∷ 8 ∷ 9 ∷ 12 ∷ 14 ∷ 15 ∷ 17 ∷ 18 ∷ 21 ∷ 24 ∷ 26 ∷ 30 ∷ 35 ∷ 36 ∷ 33 ∷ 39 ∷ 38 ∷ 46 ∷ []
+
+-- those of them that form RRsets: NS, CNAME, SOA, PTR, MX, SRV and DNAME
+abbrev pub lowered_types : List ℕ
+lowered_types = 2 ∷ 5 ∷ 6 ∷ 12 ∷ 15 ∷ 33 ∷ 39 ∷ []
+
+-- what stands before the names of an RDATA, its names, and what stands behind them, as the layout asks
+pub record AreParts (layout : Layout) (before : List ℕ) (names : List Labels) (behind : List ℕ) : Type 0 where
+  pub headed : length before ≡ layout.head
+  pub counted : length names ≡ layout.names
+  pub each : AllByRecursion IsName names
+  pub ends : IsTail layout.tail (length behind)
+
+-- the RDATA of these parts, no name compressed
+abbrev pub rdata_of : List ℕ → List Labels → List ℕ → List ℕ
+rdata_of before names behind = before ++ flat_map wire names ++ behind
+
+-- the RDATA has the parts that its type asks for in class IN
+abbrev pub HasParts : ℕ → List ℕ → Type 0
+HasParts rtype rdata =
+    (before : List ℕ) × (names : List Labels) × (behind : List ℕ) × AreParts (layout_of rtype 1) before names behind
+    × (rdata ≡ rdata_of before names behind)
+
+-- ---- canonical form
+
+-- how many octets stand before and behind the names, where canonical form has them in lower case
 abbrev pub names_of : ℕ → Option (ℕ × ℕ)
 names_of rtype =
-    if list_any (λ other. other == rtype) name_types then Some (0, 0)
-    else if rtype == 6 then Some (0, 20)
-    else if rtype == 15 then Some (2, 0)
-    else if rtype == 33 then Some (6, 0)
+    if list_any (λ other. other == rtype) lowered_types
+    then Some ((layout_of rtype 1).head, unwrap_or (layout_of rtype 1).tail 0)
     else None
 
 -- the octets in lower case but for the last `behind`
@@ -26,12 +53,12 @@ abbrev pub lowered_but_last : ℕ → List ℕ → List ℕ
 lowered_but_last behind octets =
     map to_ascii_lowercase (take (length octets - behind) octets) ++ drop (length octets - behind) octets
 
--- the RDATA with its names in lower case, by how many octets stand before and behind them
+-- the RDATA with the octets of its names in lower case, by how many octets stand before and behind them: a length
+-- octet is at most 63 and so is no letter
 abbrev pub names_lowered : Option (ℕ × ℕ) → List ℕ → List ℕ
 names_lowered None rdata = rdata
 names_lowered (Some around) rdata = take around.0 rdata ++ lowered_but_last around.1 (drop around.0 rdata)
 
--- The RDATA of the type in canonical form. RRSIG and the other types with names that RFC 4034 6.2 lists form no RRset
--- here, so that their names are not told.
+-- the RDATA of the type in canonical form
 abbrev pub canonical_form : ℕ → List ℕ → List ℕ
 canonical_form rtype rdata = names_lowered (names_of rtype) rdata

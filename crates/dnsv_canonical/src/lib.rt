@@ -3,6 +3,7 @@
 
 pub use canonical::one_canonical_list;
 pub use capture::{Capture, CaptureError, captures_hold_the_rrsets};
+pub use form::canonical_form_lowers_the_names;
 pub use rrset::{Rrset, canonical_rrset, signed_data};
 pub use signed::one_signed_data;
 

@@ -1,0 +1,104 @@
+-- Canonical form in terms of names, and that RDATA of messages has them.
+use Rattle.std.proofs.Common.{◌≡◌, ℕ, suc, ◌-◌, ◌==◌, Bool, true, false, List, [], ◌∷◌, ◌++◌, length, map, refl, sym, ap, ◌∙◌, subst, arith, append_assoc, length-append, if◌then◌else◌, Some, None}
+use Rattle.std.specs.Prelude.{Contains, flat_map, filter, unwrap_or}
+use Rattle.std.specs.Char.{to_ascii_lowercase}
+use Rattle.std.specs.List.{AllByRecursion, list_any}
+use Rattle.std.proofs.lemmas.Bool.{eqb-true}
+use Rattle.std.proofs.lemmas.List.{take_at, drop_at, map-append}
+use Rattle.std.proofs.lemmas.List.Elements.{All-contains, All-from_recursion}
+use Rattle.std.proofs.lemmas.Map.Views.{Contains-from_any}
+use Rattle.dnsv_names.specs.Name.{Labels, IsName, wire, lower_case}
+use Rattle.dnsv_names.proofs.NameLemmas.{lower_case-wire}
+use Rattle.dnsv_message.specs.Layout.{layout_of}
+use Rattle.dnsv_message.specs.declared.record.Record.{Record}
+use Rattle.dnsv_message.specs.declared.record.Section.{Section}
+use Rattle.dnsv_message.specs.Grammar.{IsMessage}
+use Rattle.dnsv_message.specs.Message.{Contents, records_of}
+use Rattle.dnsv_message.proofs.RdataWritten.{LaidOut}
+use Rattle.dnsv_message.proofs.EncodingLemmas.{FitsRecord, IsMessage-fits}
+use Rattle.dnsv_records.proofs.OctetLemmas.{recursion-append}
+use Rattle.dnsv_canonical.specs.Rrsets.{Group, is_grouped, same_rrset, rrset_of, message_rrsets, rrsets_from}
+use Rattle.dnsv_canonical.proofs.CanonicalLemmas.{each_map}
+use Rattle.dnsv_canonical.proofs.ListLemmas.{each_chosen}
+use Rattle.dnsv_canonical.proofs.EvidenceLemmas.{both_true, each_rrset}
+use Rattle.dnsv_canonical.specs.CanonicalRdata.{AreParts, HasParts, lowered_types, lowered_but_last, names_lowered, rdata_of, canonical_form}
+
+-- ---- the form of RDATA that is laid out
+
+lower_names : (names : List Labels) → AllByRecursion IsName names → map to_ascii_lowercase (flat_map wire names) ≡ flat_map wire (map lower_case names)
+lower_names [] each = refl
+lower_names (name ∷ names) each =
+    map-append to_ascii_lowercase (wire name) (flat_map wire names) ∙ (λ i. lower_case-wire name each.0.each i ++ lower_names names each.1 i)
+
+lowered_end : (behind : ℕ) (octets end : List ℕ) → length end ≡ behind → lowered_but_last behind (octets ++ end) ≡ map to_ascii_lowercase octets ++ end
+lowered_end behind octets end size =
+    let upto : length (octets ++ end) - behind ≡ length octets = omega (arith, size, length-append octets end) in
+    let place = length (octets ++ end) - behind in
+    (λ i. map to_ascii_lowercase (take_at octets end place (sym upto) i) ++ drop_at octets end place (sym upto) i)
+
+module _ (before : List ℕ) (names : List Labels) (behind : List ℕ) where
+  abbrev Lowers : ℕ → Type 0
+  Lowers rtype =
+      AreParts (layout_of rtype 1) before names behind → canonical_form rtype (rdata_of before names behind) ≡ rdata_of before (map lower_case names) behind
+
+  by_layout : (head count tail : ℕ) (pointers : Bool) → AreParts (record { head = head; names = count; pointers = pointers; tail = Some tail }) before names behind
+      → names_lowered (Some (head, tail)) (rdata_of before names behind) ≡ rdata_of before (map lower_case names) behind
+  by_layout head count tail pointers parts =
+      let rest : List ℕ = flat_map wire names ++ behind in
+      ap (λ rdata. names_lowered (Some (head, tail)) rdata) (append_assoc before (flat_map wire names) behind)
+      ∙ (λ i. take_at before rest head parts.headed i ++ lowered_but_last tail (drop_at before rest head parts.headed i))
+      ∙ ap (λ octets. before ++ octets) (lowered_end tail (flat_map wire names) behind parts.ends ∙ ap (λ octets. octets ++ behind) (lower_names names parts.each))
+      ∙ sym (append_assoc before (flat_map wire (map lower_case names)) behind)
+
+  -- NS, CNAME, SOA, PTR, MX, SRV and DNAME
+  each_lowers : AllByRecursion Lowers lowered_types
+  each_lowers = (
+    by_layout 0 1 0 true,
+    (by_layout 0 1 0 true, (by_layout 0 2 20 true, (by_layout 0 1 0 true, (by_layout 2 1 0 true, (by_layout 6 1 0 true, (by_layout 0 1 0 false, tt)))))),
+  )
+
+pub lowered_types_lower : (rtype : ℕ) → Contains lowered_types rtype → (before : List ℕ) (names : List Labels) (behind : List ℕ)
+    → AreParts (layout_of rtype 1) before names behind → canonical_form rtype (rdata_of before names behind) ≡ rdata_of before (map lower_case names) behind
+lowered_types_lower rtype listed before names behind =
+    All-contains (Lowers before names behind) lowered_types rtype (All-from_recursion (Lowers before names behind) lowered_types (each_lowers before names behind)) listed
+
+pub other_types_keep : (rtype : ℕ) → ¬ Contains lowered_types rtype → (rdata : List ℕ) → canonical_form rtype rdata ≡ rdata
+other_types_keep rtype none rdata = test (list_any (λ other. other == rtype) lowered_types) refl where
+  test : (is : Bool) → list_any (λ other. other == rtype) lowered_types ≡ is
+      → names_lowered (if is then Some ((layout_of rtype 1).head, unwrap_or (layout_of rtype 1).tail 0) else None) rdata ≡ rdata
+  test true is = absurd (none (Contains-from_any {eq = λ q other. other == q} (λ x y same. sym (eqb-true y x same)) rtype lowered_types is))
+  test false is = refl
+
+-- ---- the RDATA of messages
+
+has_parts : (rtype : ℕ) (rdata : List ℕ) → LaidOut (layout_of rtype 1) rdata → HasParts rtype rdata
+has_parts rtype rdata laid =
+    (laid.before, laid.written, laid.behind, record { headed = laid.headed; counted = laid.counted; each = laid.each; ends = laid.ends }, laid.whole)
+
+abbrev AllHaveParts : Group → Type 0
+AllHaveParts rrset = AllByRecursion (HasParts rrset.rtype) rrset.rdata
+
+own_parts : (first r : Record) → FitsRecord r → is_grouped r ≡ true → same_rrset first r ≡ true → HasParts first.rtype.0 r.rdata
+own_parts first r fits grouped same =
+    let class : r.class.0 ≡ 1 = eqb-true _ _ (both_true _ _ grouped).0 in
+    let rtype : r.rtype.0 ≡ first.rtype.0 = sym (eqb-true _ _ (both_true (first.rtype.0 == r.rtype.0) _ same).0) in
+    has_parts first.rtype.0 r.rdata (subst (λ n. LaidOut (layout_of n 1) r.rdata) rtype (subst (λ n. LaidOut (layout_of r.rtype.0 n) r.rdata) class fits.laid))
+
+rrset_parts : (number : ℕ) (section : Section) (records : List Record) (first : Record) → AllByRecursion FitsRecord records → AllHaveParts (rrset_of number section records first)
+rrset_parts number section records first each =
+    each_map (λ (r : Record). r.rdata) (HasParts first.rtype.0) _
+    (each_chosen (same_rrset first) (λ r. FitsRecord r × (is_grouped r ≡ true)) (λ r. HasParts first.rtype.0 r.rdata) (λ r fits. own_parts first r fits.0 fits.1) (filter is_grouped records)
+    (each_chosen is_grouped FitsRecord (λ r. FitsRecord r × (is_grouped r ≡ true)) (λ r fits grouped. (fits, grouped)) records each))
+
+records_fit : (message : Contents) → IsMessage message → AllByRecursion FitsRecord (records_of message)
+records_fit message is =
+    let fits = IsMessage-fits message is in
+    recursion-append FitsRecord (message.answer ++ message.authority) message.additional
+    (recursion-append FitsRecord message.answer message.authority fits.each_answer fits.each_authority) fits.each_additional
+
+pub messages_parts : (number : ℕ) (messages : List Contents) → AllByRecursion IsMessage messages → AllByRecursion (λ rrset. AllByRecursion (HasParts rrset.rtype) rrset.rdata) (rrsets_from number messages)
+messages_parts number [] are = tt
+messages_parts number (message ∷ messages) are =
+    recursion-append AllHaveParts (message_rrsets number message) (rrsets_from (suc number) messages)
+    (each_rrset FitsRecord AllHaveParts rrset_parts number message (records_fit message are.0))
+    (messages_parts (suc number) messages are.1)
