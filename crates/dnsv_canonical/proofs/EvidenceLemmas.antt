@@ -1,10 +1,9 @@
 -- What a message adds to the evidence.
-use Rattle.std.proofs.Common.{◌≡◌, ◌⊎◌, inl, inr, ⊎_elim, ℕ, zero, suc, ◌+◌, ◌-◌, ◌<◌, ◌≤◌, Bool, true, false, cond, ◌&&◌, List, [], ◌∷◌, ◌++◌, length, get_or, map, refl, sym, ap, ◌∙◌, subst, arith, append_assoc, ◌↔◌, IsTrue}
+use Rattle.std.proofs.Common.{◌≡◌, ◌⊎◌, inl, inr, ⊎_elim, ℕ, zero, suc, ◌+◌, ◌-◌, ◌<◌, ◌≤◌, Bool, true, false, cond, List, [], ◌∷◌, ◌++◌, length, get_or, map, refl, sym, ap, ◌∙◌, subst, arith, append_assoc, ◌↔◌, IsTrue}
 use Rattle.std.proofs.lemmas.List.{append-nil}
-use Rattle.std.proofs.lemmas.Bool.{eqb-true, false≢true}
+use Rattle.std.proofs.lemmas.Bool.{and_parts, eqb-true, false≢true}
 use Rattle.std.proofs.lemmas.Cmp.{nat_eq_equiv}
-use Rattle.std.proofs.lemmas.Grind.{flat_map-append}
-use Rattle.std.specs.Prelude.{filter, flat_map, if◌then◌else◌, ◌==◌}
+use Rattle.std.specs.Prelude.{filter, flat_map, ◌==◌}
 use Rattle.std.specs.Str.{bytes_eq}
 use Rattle.std.specs.List.{AllByRecursion, AllZip, enumerate_from, fold}
 use Rattle.dnsv_names.specs.Name.{Labels}
@@ -20,11 +19,7 @@ use Rattle.dnsv_canonical.specs.Kept.{HasRrsig, ArePairs}
 use Rattle.dnsv_canonical.specs.Rrsets.{Group, is_signature, appears_first, first_appearances, rrset_of, rrsets_in, message_rrsets, rrsets_from, rrsets_of}
 use Rattle.dnsv_canonical.proofs.CanonicalLemmas.{each_map}
 use Rattle.dnsv_canonical.proofs.ListLemmas.{each_front, each_behind, each_chosen}
-use Rattle.dnsv_canonical.proofs.PairLemmas.{Pair, few_pairs}
-
-pub both_true : (a b : Bool) → (a && b) ≡ true → (a ≡ true) × (b ≡ true)
-both_true true b h = (refl, h)
-both_true false b h = absurd (false≢true h)
+use Rattle.dnsv_canonical.proofs.PairLemmas.{Pair, nsec3_rdata-append, few_pairs}
 
 -- ---- each RRset
 
@@ -48,9 +43,9 @@ module _ (IsKind : Record → Type 0) (P : Group → Type 0)
 
 readable : (owner : Labels) (rtype : ℕ) (r : Record) → IsReadable r → is_signature owner rtype r ≡ true → HasRrsig r.rdata
 readable owner rtype r can signs =
-    let covers = both_true _ _ signs in
-    let begins = both_true _ _ covers.0 in
-    let kinds = both_true _ _ begins.0 in
+    let covers = and_parts _ _ signs in
+    let begins = and_parts _ _ covers.0 in
+    let kinds = and_parts _ _ begins.0 in
     (can (eqb-true _ _ kinds.1)).rrsig (eqb-true _ _ kinds.0)
 
 chosen : (owner : Labels) (rtype : ℕ) (rs : List Record) → AllByRecursion IsReadable rs → AllByRecursion HasRrsig (map (λ (r : Record). r.rdata) (filter (is_signature owner rtype) rs))
@@ -75,9 +70,9 @@ message_readable =
 -- ---- limits
 
 -- the pairs of the RRsets so far and of more
-pub ArePairs-joined : (old new : List Group) (pairs : List Pair) → ArePairs (nsec3_rdata old ++ nsec3_rdata new) pairs → ArePairs (nsec3_rdata (old ++ new)) pairs
+ArePairs-joined : (old new : List Group) (pairs : List Pair) → ArePairs (nsec3_rdata old ++ nsec3_rdata new) pairs → ArePairs (nsec3_rdata (old ++ new)) pairs
 ArePairs-joined old new pairs are =
-    subst (λ received. ArePairs received pairs) (sym (flat_map-append (λ (rrset : Group). if rrset.rtype == 50 then rrset.rdata else []) old new)) are
+    subst (λ received. ArePairs received pairs) (sym (nsec3_rdata-append old new)) are
 
 pub pairs_so_far : (old drafts : List Group) (kept lent fresh : List Pair) → ArePairs (nsec3_rdata old) kept → lent ≡ kept
     → ((earlier : List (List ℕ)) → ArePairs earlier lent → ArePairs (earlier ++ nsec3_rdata drafts) (lent ++ fresh)) → ArePairs (nsec3_rdata old ++ nsec3_rdata drafts) (kept ++ fresh)
@@ -114,7 +109,7 @@ large_refused held message drafts is large within =
 pub many_refused : (held : Evidence) (message : Contents) (drafts : List Group) → drafts ≡ message_rrsets (held.messages + 1) message
     → ¬ AtMost 8 (IsPairAmong (nsec3_rdata held.rrsets ++ nsec3_rdata drafts)) → ¬ IsWithinLimits (with_message held message)
 many_refused held message drafts is many within =
-    many (subst (λ received. AtMost 8 (IsPairAmong received)) (flat_map-append (λ (rrset : Group). if rrset.rtype == 50 then rrset.rdata else []) held.rrsets drafts)
+    many (subst (λ received. AtMost 8 (IsPairAmong received)) (nsec3_rdata-append held.rrsets drafts)
     (subst (λ rrsets. AtMost 8 (IsPairAmong (nsec3_rdata (held.rrsets ++ rrsets)))) (sym (numbered held message drafts is)) within.pairs))
 
 -- the new value, as it is kept and as it is defined

@@ -3,7 +3,7 @@ use Rattle.std.proofs.Common.{◌≡◌, ℕ, suc, ◌-◌, ◌==◌, Bool, true
 use Rattle.std.specs.Prelude.{Contains, flat_map, filter, unwrap_or}
 use Rattle.std.specs.Char.{to_ascii_lowercase}
 use Rattle.std.specs.List.{AllByRecursion, list_any}
-use Rattle.std.proofs.lemmas.Bool.{eqb-true}
+use Rattle.std.proofs.lemmas.Bool.{and_parts, eqb-true}
 use Rattle.std.proofs.lemmas.List.{take_at, drop_at, map-append}
 use Rattle.std.proofs.lemmas.List.Elements.{All-contains, All-from_recursion}
 use Rattle.std.proofs.lemmas.Map.Views.{Contains-from_any}
@@ -20,7 +20,7 @@ use Rattle.dnsv_records.proofs.OctetLemmas.{recursion-append}
 use Rattle.dnsv_canonical.specs.Rrsets.{Group, is_grouped, same_rrset, rrset_of, message_rrsets, rrsets_from}
 use Rattle.dnsv_canonical.proofs.CanonicalLemmas.{each_map}
 use Rattle.dnsv_canonical.proofs.ListLemmas.{each_chosen}
-use Rattle.dnsv_canonical.proofs.EvidenceLemmas.{both_true, each_rrset}
+use Rattle.dnsv_canonical.proofs.EvidenceLemmas.{each_rrset}
 use Rattle.dnsv_canonical.specs.CanonicalRdata.{AreParts, HasParts, lowered_types, lowered_but_last, names_lowered, rdata_of, canonical_form}
 
 -- ---- the form of RDATA that is laid out
@@ -80,8 +80,8 @@ AllHaveParts rrset = AllByRecursion (HasParts rrset.rtype) rrset.rdata
 
 own_parts : (first r : Record) → FitsRecord r → is_grouped r ≡ true → same_rrset first r ≡ true → HasParts first.rtype.0 r.rdata
 own_parts first r fits grouped same =
-    let class : r.class.0 ≡ 1 = eqb-true _ _ (both_true _ _ grouped).0 in
-    let rtype : r.rtype.0 ≡ first.rtype.0 = sym (eqb-true _ _ (both_true (first.rtype.0 == r.rtype.0) _ same).0) in
+    let class : r.class.0 ≡ 1 = eqb-true _ _ (and_parts _ _ grouped).0 in
+    let rtype : r.rtype.0 ≡ first.rtype.0 = sym (eqb-true _ _ (and_parts (first.rtype.0 == r.rtype.0) _ same).0) in
     has_parts first.rtype.0 r.rdata (subst (λ n. LaidOut (layout_of n 1) r.rdata) rtype (subst (λ n. LaidOut (layout_of r.rtype.0 n) r.rdata) class fits.laid))
 
 rrset_parts : (number : ℕ) (section : Section) (records : List Record) (first : Record) → AllByRecursion FitsRecord records → AllHaveParts (rrset_of number section records first)

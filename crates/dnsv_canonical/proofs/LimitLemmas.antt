@@ -35,7 +35,7 @@ without x (y ∷ ys) (inr later) =
     }
 
 -- a list without repeats is no longer than a list that has all of its elements
-pub fewest : {X : Type 0} (xs ys : List X) → IsDistinct xs → ((x : X) → IsMember x xs → IsMember x ys) → length xs ≤ length ys
+fewest : {X : Type 0} (xs ys : List X) → IsDistinct xs → ((x : X) → IsMember x xs → IsMember x ys) → length xs ≤ length ys
 fewest [] ys distinct all = omega arith
 fewest (x ∷ xs) ys distinct all =
     let less = without x ys (all x (inl refl)) in
@@ -59,7 +59,7 @@ rising_distinct (x ∷ xs) rises = (
   rising_distinct xs rises.1,
 )
 
-pub few_where_canonical : (limit : ℕ) (received canonical : List (List ℕ)) → IsCanonical received canonical → (length canonical ≤ limit) ↔ AtMost limit (Contains received)
+few_where_canonical : (limit : ℕ) (received canonical : List (List ℕ)) → IsCanonical received canonical → (length canonical ≤ limit) ↔ AtMost limit (Contains received)
 few_where_canonical limit received canonical is = few_where_distinct (Contains received) limit canonical (rising_distinct canonical is.rising) is.members
 
 -- the keys that are left of a DNSKEY RRset's RDATA

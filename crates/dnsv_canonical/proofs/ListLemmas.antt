@@ -1,15 +1,12 @@
--- Facts about each element of a list, and members of two lists, one behind the other.
-use Rattle.std.proofs.Common.{◌≡◌, ◌⊎◌, inl, inr, ⊎_elim, ℕ, ◌+◌, ◌<◌, Bool, true, false, cond, List, [], ◌∷◌, ◌++◌, length, get_or, take, map, refl, sym, subst, arith}
+-- Facts about each element of a list.
+use Rattle.std.proofs.Common.{◌≡◌, ℕ, ◌+◌, ◌<◌, Bool, true, false, cond, List, [], ◌∷◌, ◌++◌, length, get_or, take, map, refl, sym, subst, arith}
 use Rattle.std.proofs.lemmas.List.{map_more, get_or-map, length-map}
 use Rattle.std.proofs.lemmas.List.Elements.{All-from_recursion, All-get_or}
-use Rattle.std.specs.Prelude.{Contains, filter}
+use Rattle.std.specs.Prelude.{filter}
 use Rattle.std.specs.Borrow.{Bor}
 use Rattle.std.specs.List.{AllByRecursion, AllZip}
 use Rattle.dnsv_records.specs.declared.rrsig.Rrsig.{Rrsig}
 use Rattle.dnsv_records.specs.Rrsig.{IsRrsig}
-use Rattle.dnsv_canonical.proofs.CanonicalLemmas.{IsMember, IsMember-from_contains, Contains-from_member}
-
--- ---- each element
 
 pub each_at : {X : Type 0} (P : X → Type 0) (xs : List X) (i : ℕ) (d : X) → AllByRecursion P xs → i < length xs → P (get_or xs i d)
 each_at P xs i d each within = All-get_or P xs i d within (All-from_recursion P xs each)
@@ -48,35 +45,3 @@ rrsigs_more slices i d before after rrsig within so_far is pushed =
     subst (λ rdata. AllZip IsRrsig rdata after) (sym (map_more (λ (r : Bor (List ℕ)). r.now) slices i d within))
     (subst (λ rrsigs. AllZip IsRrsig (map (λ (r : Bor (List ℕ)). r.now) (take i slices) ++ (get_or slices i d).now ∷ []) rrsigs) (sym pushed)
     (pairs_more IsRrsig (map (λ (r : Bor (List ℕ)). r.now) (take i slices)) before (get_or slices i d).now rrsig so_far is))
-
--- ---- members
-
-member_front : {X : Type 0} (xs ys : List X) (x : X) → IsMember x xs → IsMember x (xs ++ ys)
-member_front [] ys x member = absurd member
-member_front (z ∷ xs) ys x (inl same) = inl same
-member_front (z ∷ xs) ys x (inr later) = inr (member_front xs ys x later)
-
-member_behind : {X : Type 0} (xs ys : List X) (x : X) → IsMember x ys → IsMember x (xs ++ ys)
-member_behind [] ys x member = member
-member_behind (z ∷ xs) ys x member = inr (member_behind xs ys x member)
-
-member_parts : {X : Type 0} (xs ys : List X) (x : X) → IsMember x (xs ++ ys) → IsMember x xs ⊎ IsMember x ys
-member_parts [] ys x member = inr member
-member_parts (z ∷ xs) ys x (inl same) = inl (inl same)
-member_parts (z ∷ xs) ys x (inr later) = ⊎_elim (λ front. inl (inr front)) (λ behind. inr behind) (member_parts xs ys x later)
-
-pub contains_front : {X : Type 0} (xs ys : List X) (x : X) → Contains xs x → Contains (xs ++ ys) x
-contains_front xs ys x found = Contains-from_member (xs ++ ys) x (member_front xs ys x (IsMember-from_contains xs x found))
-
-pub contains_behind : {X : Type 0} (xs ys : List X) (x : X) → Contains ys x → Contains (xs ++ ys) x
-contains_behind xs ys x found = Contains-from_member (xs ++ ys) x (member_behind xs ys x (IsMember-from_contains ys x found))
-
-pub contains_parts : {X : Type 0} (xs ys : List X) (x : X) → Contains (xs ++ ys) x → Contains xs x ⊎ Contains ys x
-contains_parts xs ys x found =
-    ⊎_elim (λ front. inl (Contains-from_member xs x front)) (λ behind. inr (Contains-from_member ys x behind)) (member_parts xs ys x (IsMember-from_contains (xs ++ ys) x found))
-
-pub contains_one : {X : Type 0} (x y : X) → Contains (x ∷ []) y → y ≡ x
-contains_one x y found = ⊎_elim (λ same. same) (λ none. absurd none) (IsMember-from_contains (x ∷ []) y found)
-
-pub contains_itself : {X : Type 0} (x : X) → Contains (x ∷ []) x
-contains_itself x = Contains-from_member (x ∷ []) x (inl refl)

@@ -1,7 +1,10 @@
 -- The pairs of iterations and salt, record by record.
-use Rattle.std.proofs.Common.{◌≡◌, ◌⊎◌, inl, inr, ⊎_elim, ℕ, ◌+◌, ◌<◌, ◌≤◌, Bool, true, false, not, ◌&&◌, ◌||◌, List, [], ◌∷◌, ◌++◌, length, get_or, map, take, drop, refl, sym, ap, ◌∙◌, subst, append_assoc, arith, length-append, ◌↔◌, Option, Some, None, Ok, Err}
+use Rattle.std.proofs.Common.{◌≡◌, ◌⊎◌, inl, inr, ⊎_elim, ℕ, suc, ◌+◌, ◌<◌, ◌≤◌, Bool, true, false, ◌&&◌, List, [], ◌∷◌, ◌++◌, length, get_or, map, take, drop, sym, ap, ◌∙◌, subst, append_assoc, arith, length-append, ◌↔◌, Option, Some, None, Ok, Err}
 use Rattle.std.proofs.lemmas.List.{append-nil, map-append, map_more, take-append-drop, take_more}
-use Rattle.std.proofs.lemmas.Bool.{eqb-true, false≢true}
+use Rattle.std.proofs.lemmas.Bool.{and_from, and_parts, eqb-true}
+use Rattle.std.proofs.lemmas.List.Elements.{Contains-append_left, Contains-push, Contains-push_cases}
+use Rattle.std.proofs.lemmas.List.Folds.{list_any_at}
+use Rattle.std.proofs.lemmas.Map.Views.{Contains-from_any}
 use Rattle.std.proofs.lemmas.Cmp.{lists_equiv, nat_eq_equiv}
 use Rattle.std.proofs.lemmas.Slice.Eq.{bytes_eq-Decides}
 use Rattle.std.proofs.lemmas.Grind.{flat_map-append}
@@ -19,88 +22,52 @@ use Rattle.dnsv_canonical.specs.Kept.{IsDistinct, ArePairs, IsPairRefusal}
 use Rattle.dnsv_canonical.specs.Rrsets.{Group}
 use Rattle.dnsv_canonical.specs.declared.capture.CaptureError.{CaptureError}
 use Rattle.dnsv_canonical.specs.declared.capture.CaptureError.TheVariants.{OutOfMemory, NotAResponse, Truncated, BadRdata, Limit}
-use Rattle.dnsv_canonical.proofs.CanonicalLemmas.{IsMember, IsMember-from_contains, Contains-from_member}
 use Rattle.dnsv_canonical.proofs.LimitLemmas.{few_where_distinct}
-use Rattle.dnsv_canonical.proofs.ListLemmas.{contains_front, contains_behind, contains_parts, contains_one, contains_itself}
 use Rattle.dnsv_canonical.proofs.ReadableLemmas.{given_none, given_same}
 
 abbrev pub Pair : Type 0
 Pair = ℕ × List ℕ
 
-both_true : (a b : Bool) → (a && b) ≡ true → (a ≡ true) × (b ≡ true)
-both_true true b h = (refl, h)
-both_true false b h = absurd (false≢true h)
-
-both_are : (a b : Bool) → a ≡ true → b ≡ true → (a && b) ≡ true
-both_are true b p q = q
-both_are false b p q = p
-
-or_true : (a b : Bool) → b ≡ true → (a || b) ≡ true
-or_true true b h = refl
-or_true false b h = h
-
-pub not_true : (b : Bool) → not b ≡ true → b ≡ false
-not_true true h = absurd (false≢true h)
-not_true false h = refl
-
-pub not_false : (b : Bool) → not b ≡ false → b ≡ true
-not_false true h = refl
-not_false false h = absurd (false≢true (sym h))
-
 -- ---- whether a pair is known
 
 same_pair : (x y : Pair) → (nat_eq x.0 y.0 && pointwise nat_eq x.1 y.1) ≡ true → x ≡ y
 same_pair x y same =
-    let parts = both_true _ _ same in
+    let parts = and_parts _ _ same in
     let numbers : x.0 ≡ y.0 = eqb-true _ _ parts.0 in
     let salts : x.1 ≡ y.1 = (bytes_eq-Decides x.1 y.1).0 parts.1 in
     λ i. (numbers i, salts i)
 
 pair_itself : (x : Pair) → (nat_eq x.0 x.0 && pointwise nat_eq x.1 x.1) ≡ true
-pair_itself x = both_are _ _ (nat_eq_equiv.refl x.0) ((lists_equiv nat_eq_equiv).refl x.1)
+pair_itself x = and_from _ _ (nat_eq_equiv.refl x.0) ((lists_equiv nat_eq_equiv).refl x.1)
 
 abbrev known : Pair → Pair → Bool
 known pair y = nat_eq y.0 pair.0 && pointwise nat_eq y.1 pair.1
 
-any_member : (pairs : List Pair) (pair : Pair) → list_any (known pair) pairs ≡ true → IsMember pair pairs
-any_member [] pair any = absurd (false≢true any)
-any_member (y ∷ ys) pair any =
-    elim (known pair y) as (λ b. known pair y ≡ b → (b || list_any (known pair) ys) ≡ true → IsMember pair (y ∷ ys)) [
-      | true ↦ λ is any. inl (sym (same_pair y pair is))
-      | false ↦ λ is any. inr (any_member ys pair any)
-    ] refl any
-
 pub any_contains : (pairs : List Pair) (pair : Pair) → list_any (λ y. nat_eq y.0 pair.0 && pointwise nat_eq y.1 pair.1) pairs ≡ true → Contains pairs pair
-any_contains pairs pair any = Contains-from_member pairs pair (any_member pairs pair any)
-
-member_any : (pairs : List Pair) (pair : Pair) → IsMember pair pairs → list_any (known pair) pairs ≡ true
-member_any [] pair member = absurd member
-member_any (y ∷ ys) pair (inl same) =
-    ap (λ b. b || list_any (known pair) ys) (subst (λ p. known p y ≡ true) (sym same) (pair_itself y))
-member_any (y ∷ ys) pair (inr later) = or_true (known pair y) _ (member_any ys pair later)
+any_contains pairs pair any = Contains-from_any {eq = known} (λ x y same. sym (same_pair y x same)) pair pairs any
 
 pub contains_any : (pairs : List Pair) (pair : Pair) → Contains pairs pair → list_any (λ y. nat_eq y.0 pair.0 && pointwise nat_eq y.1 pair.1) pairs ≡ true
-contains_any pairs pair found = member_any pairs pair (IsMember-from_contains pairs pair found)
+contains_any pairs pair found = list_any_at (known pair) pairs found.0 pair found.1 (ap (known pair) found.2 ∙ pair_itself pair)
 
 distinct_push : {X : Type 0} (xs : List X) (x : X) → IsDistinct xs → ¬ Contains xs x → IsDistinct (xs ++ x ∷ [])
-distinct_push [] x distinct new = ((λ found. absurd (IsMember-from_contains [] x found)), tt)
+distinct_push [] x distinct new = (λ found. absurd (omega (arith, found.1)), tt)
 distinct_push (y ∷ ys) x distinct new = (
-  λ found. ⊎_elim (λ front. distinct.0 front) (λ behind. new (Contains-from_member (y ∷ ys) x (inl (sym (contains_one x y behind))))) (contains_parts ys (x ∷ []) y found),
-  distinct_push ys x distinct.1 (λ found. new (Contains-from_member (y ∷ ys) x (inr (IsMember-from_contains ys x found)))),
+  λ found. ⊎_elim (λ front. distinct.0 front) (λ last. new (0, omega arith, sym last)) (Contains-push_cases ys x y found),
+  distinct_push ys x distinct.1 (λ found. new (suc found.0, omega (arith, found.1), found.2)),
 )
 
 -- ---- one record more
 
 among_part : (part rest : List (List ℕ)) (pair : Pair) → IsPairAmong part pair → IsPairAmong (part ++ rest) pair
-among_part part rest pair among = (among.0, contains_front part rest among.0 among.1, among.2)
+among_part part rest pair among = (among.0, Contains-append_left part rest among.0 among.1, among.2)
 
 module _ (earlier : List (List ℕ)) (pairs : List Pair) (are : ArePairs earlier pairs) (rdata : List ℕ) (found : Option Pair) (reads : (pair : Pair) → (found ≡ Some pair) ↔ IsPairOf rdata pair) where
   among_more : (pair : Pair) → IsPairAmong (earlier ++ rdata ∷ []) pair → IsPairAmong earlier pair ⊎ IsPairOf rdata pair
   among_more pair among =
-      ⊎_elim (λ front. inl (among.0, front, among.2)) (λ behind. inr (subst (λ r. IsPairOf r pair) (contains_one rdata among.0 behind) among.2)) (contains_parts earlier (rdata ∷ []) among.0 among.1)
+      ⊎_elim (λ front. inl (among.0, front, among.2)) (λ last. inr (subst (λ r. IsPairOf r pair) (sym last) among.2)) (Contains-push_cases earlier rdata among.0 among.1)
 
   among_new : (pair : Pair) → IsPairOf rdata pair → IsPairAmong (earlier ++ rdata ∷ []) pair
-  among_new pair is = (rdata, contains_behind earlier (rdata ∷ []) rdata (contains_itself rdata), is)
+  among_new pair is = (rdata, Contains-push earlier rdata, is)
 
   -- the record has no pair, or one that is known
   pub ArePairs-known : ((pair : Pair) → found ≡ Some pair → Contains pairs pair) → ArePairs (earlier ++ rdata ∷ []) pairs
@@ -121,9 +88,9 @@ module _ (earlier : List (List ℕ)) (pairs : List Pair) (are : ArePairs earlier
     distinct = distinct_push pairs new are.distinct unknown;
     members = λ pair. (
       λ kept. ⊎_elim (λ before. among_part earlier (rdata ∷ []) pair ((are.members pair).0 before))
-          (λ last. among_new pair (subst (IsPairOf rdata) (sym (contains_one new pair last)) ((reads new).0 is))) (contains_parts pairs (new ∷ []) pair kept),
-      λ among. ⊎_elim (λ before. contains_front pairs (new ∷ []) pair ((are.members pair).1 before))
-          (λ here. let same : Some new ≡ Some pair = sym is ∙ (reads pair).1 here in let equal : new ≡ pair = cc in contains_behind pairs (new ∷ []) pair (subst (λ p. Contains (new ∷ []) p) equal (contains_itself new))) (among_more pair among),
+          (λ last. among_new pair (subst (IsPairOf rdata) last ((reads new).0 is))) (Contains-push_cases pairs new pair kept),
+      λ among. ⊎_elim (λ before. Contains-append_left pairs (new ∷ []) pair ((are.members pair).1 before))
+          (λ here. let same : Some new ≡ Some pair = sym is ∙ (reads pair).1 here in let equal : new ≡ pair = cc in subst (λ p. Contains (pairs ++ new ∷ []) p) equal (Contains-push pairs new)) (among_more pair among),
     );
   }
 
@@ -152,10 +119,13 @@ no_pair_bad rdata field every pair = (
 pub pairs_kept : (earlier : List (List ℕ)) (pairs : List Pair) → ArePairs earlier pairs → ArePairs (earlier ++ []) (pairs ++ [])
 pairs_kept earlier pairs are = subst (λ e. ArePairs e (pairs ++ [])) (sym (append-nil earlier)) (subst (ArePairs earlier) (sym (append-nil pairs)) are)
 
+pub nsec3_rdata-append : (old new : List Group) → nsec3_rdata (old ++ new) ≡ nsec3_rdata old ++ nsec3_rdata new
+nsec3_rdata-append old new = flat_map-append (λ (rrset : Group). if rrset.rtype == 50 then rrset.rdata else []) old new
+
 pub nsec3_rdata_more : (rrsets : List Group) (i : ℕ) (x : Group) → i < length rrsets → x ≡ get_or rrsets i x → nsec3_rdata (take (i + 1) rrsets) ≡ nsec3_rdata (take i rrsets) ++ nsec3_rdata (x ∷ [])
 nsec3_rdata_more rrsets i x within at =
     ap nsec3_rdata (take_more rrsets i x within ∙ ap (λ (y : Group). take i rrsets ++ y ∷ []) (sym at))
-    ∙ flat_map-append (λ (rrset : Group). if rrset.rtype == 50 then rrset.rdata else []) (take i rrsets) (x ∷ [])
+    ∙ nsec3_rdata-append (take i rrsets) (x ∷ [])
 
 -- the kept pairs and the fresh ones are within the limit where they are few
 pub few_pairs : (limit : ℕ) (received : List (List ℕ)) (pairs : List Pair) → ArePairs received pairs → (length pairs ≤ limit) ↔ AtMost limit (IsPairAmong received)
@@ -198,7 +168,7 @@ refused_rrset earlier rrsets i x error within at refused =
     let rest : List (List ℕ) = nsec3_rdata (drop (i + 1) rrsets) in
     refused_of earlier (nsec3_rdata (take i rrsets)) (nsec3_rdata (x ∷ [])) rest (nsec3_rdata rrsets) error
     (ap (λ xs. xs ++ rest) (sym (nsec3_rdata_more rrsets i x within at))
-    ∙ sym (flat_map-append (λ (rrset : Group). if rrset.rtype == 50 then rrset.rdata else []) (take (i + 1) rrsets) (drop (i + 1) rrsets))
+    ∙ sym (nsec3_rdata-append (take (i + 1) rrsets) (drop (i + 1) rrsets))
     ∙ ap nsec3_rdata (take-append-drop (i + 1) rrsets))
     refused
 
