@@ -1,7 +1,7 @@
 //! The messages of a file of captured messages.
 ghost use Rattle.std.specs.Prelude.{◌≡◌, ◌<◌, List, ℕ, IfErr, IfOk, IfSome, IsErrOf, OnOk, Some, None};
 ghost use Rattle.dnsv_message.specs.Counted.{inner_of, failures_of};
-ghost use Rattle.dnsv_message.specs.Frames.{IsTooLong, octets_of_each};
+ghost use Rattle.dnsv_message.specs.Frames.{IsCapture, IsTooLong, octets_of_each};
 ghost use Rattle.dnsv_message.specs.Grammar.{MessageOf};
 ghost use Rattle.dnsv_message.specs.Message.{Contents};
 ghost use Rattle.dnsv_canonical.specs.Evidence.{Evidence, evidence_of, no_evidence, with_message};
@@ -29,7 +29,7 @@ pub fn captured<R: Read>(alloc: Global, capture: &mut Counted<R>) -> Result<Vec<
     ensures failed { failures_of capture.old < failures_of capture.new → IsErrOf result (Fault.ReadFailed InputFile.Capture) }
     ensures only { IfErr result (λ fault. (fault ≡ Fault.WriteFailed → ⊥) × (fault ≡ Fault.OpenFailed InputFile.Capture → ⊥)) }
 {
-    let frames = read_capture(alloc, capture).map_err(read_fault)?;
+    let frames = frames(alloc, capture)?;
     decoded(alloc, &frames)
 }
 
@@ -47,8 +47,24 @@ pub fn evidence<R: Read>(alloc: Global, capture: &mut Counted<R>) -> Result<Capt
     ensures failed { failures_of capture.old < failures_of capture.new → IsErrOf result (Fault.ReadFailed InputFile.Capture) }
     ensures only { IfErr result (λ fault. (fault ≡ Fault.WriteFailed → ⊥) × (fault ≡ Fault.OpenFailed InputFile.Capture → ⊥)) }
 {
-    let frames = read_capture(alloc, capture).map_err(read_fault)?;
+    let frames = frames(alloc, capture)?;
     gathered(alloc, &frames)
+}
+
+/// The octets of each message of the file.
+fn frames<R: Read>(alloc: Global, capture: &mut Counted<R>) -> Result<Vec<Vec<u8>>, Fault>
+    ensures frames { IfOk result (λ frames. IfSome (R.remaining (inner_of capture.old)) (λ file. IsCapture file (octets_of_each frames.items))) }
+    ensures refused { (demand : Demand) (why : Refusal) (place : Place) → result ≡ Err (Fault.Refused why place)
+        → IfSome (R.remaining (inner_of capture.old)) (λ file. IsRefusal demand file why place) }
+    ensures too_long { result ≡ Err (Fault.TooLong InputFile.Capture) → IfSome (R.remaining (inner_of capture.old)) IsTooLong }
+    ensures read { result ≡ Err (Fault.ReadFailed InputFile.Capture) → failures_of capture.old < u64.MAX → failures_of capture.old < failures_of capture.new }
+    ensures failed { failures_of capture.old < failures_of capture.new → IsErrOf result (Fault.ReadFailed InputFile.Capture) }
+    ensures only { IfErr result (λ fault. (fault ≡ Fault.WriteFailed → ⊥) × (fault ≡ Fault.OpenFailed InputFile.Capture → ⊥)) }
+{
+    match read_capture(alloc, capture) {
+        Ok(frames) => Ok(frames),
+        Err(error) => Err(read_fault(error)),
+    }
 }
 
 /// The fault of a file of captured messages that wasn't read.
