@@ -5,7 +5,7 @@
 pub use error::NameError;
 pub use hash20::Hash20;
 pub use name::{LABEL_LIMIT, Name, WIRE_LIMIT};
-pub use number::RecordType;
+pub use number::{RecordType, record_types_have_their_numbers};
 pub use order::{
     canonical_order_is_total, names_at_or_below_are_an_interval, names_at_or_below_begin_alike,
     names_come_before_those_below,

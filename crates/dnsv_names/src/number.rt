@@ -1,4 +1,5 @@
 //! The numbers of record types.
+ghost use Rattle.std.specs.Prelude.{◌≡◌};
 
 /// The number of a record type (RFC 1035 3.2.2).
 #[derive(Clone, Copy, Debug, PartialEq, Eq, PartialOrd, Ord, Hash)]
@@ -47,3 +48,22 @@ impl RecordType {
     /// A gap between two hashes of names and the types of the first (RFC 5155 3).
     pub const NSEC3: RecordType = RecordType(50);
 }
+
+/// A law of the numbers: each record type has the one that its standard assigns (RFC 1035 3.2.2, RFC 3596
+/// 2.1, RFC 2782, RFC 6672 2.1, RFC 4034 2 to 5, RFC 5155 3).
+pub fn record_types_have_their_numbers()
+    ensures a { RecordType.A.0 ≡ 1 }
+    ensures ns { RecordType.NS.0 ≡ 2 }
+    ensures cname { RecordType.CNAME.0 ≡ 5 }
+    ensures soa { RecordType.SOA.0 ≡ 6 }
+    ensures ptr { RecordType.PTR.0 ≡ 12 }
+    ensures mx { RecordType.MX.0 ≡ 15 }
+    ensures aaaa { RecordType.AAAA.0 ≡ 28 }
+    ensures srv { RecordType.SRV.0 ≡ 33 }
+    ensures dname { RecordType.DNAME.0 ≡ 39 }
+    ensures ds { RecordType.DS.0 ≡ 43 }
+    ensures rrsig { RecordType.RRSIG.0 ≡ 46 }
+    ensures nsec { RecordType.NSEC.0 ≡ 47 }
+    ensures dnskey { RecordType.DNSKEY.0 ≡ 48 }
+    ensures nsec3 { RecordType.NSEC3.0 ≡ 50 }
+{}
