@@ -88,7 +88,8 @@ IsPairOf rdata pair = (nsec3 : Nsec3) × IsNsec3 rdata nsec3 × IsUsable nsec3 �
 abbrev pub IsPairAmong : List (List ℕ) → ℕ × List ℕ → Type 0
 IsPairAmong received pair = (rdata : List ℕ) × Contains received rdata × IsPairOf rdata pair
 
--- at most 64 messages, 4,096 records of all classes and types, and 8 distinct pairs of iterations and salt
+-- at most 64 messages, 4,096 records of all classes and types, and 8 distinct pairs of iterations and salt, and each
+-- RRset within its own limits
 pub record IsWithinLimits (held : Evidence) : Type 0 where
   pub messages : held.messages ≤ 64
   pub records : held.records ≤ 4096
