@@ -27,9 +27,10 @@ pub trait Machine {
         ensures told { IfOk result (λ said. IfSome (given_words self.now) (λ told. map string_bytes said.items ≡ told)) }
         ensures failed { IfErr result (λ error. IfSome (given_words self.now) (λ _. error ≡ OutOfMemory)) };
 
-    /// Opens the file at the path.
+    /// Opens the file at the path. It fails only where the machine doesn't tell that file's octets.
     fn open(&self, path: &str) -> io::Result<Self::File>
-        ensures { IfOk result (λ file. IfSome (octets_at self.now path.now) (λ octets. Self.File.remaining file ≡ Some octets)) };
+        ensures failed { IfErr result (λ _. octets_at self.now path.now ≡ None) }
+        ensures opened { IfOk result (λ file. IfSome (octets_at self.now path.now) (λ octets. Self.File.remaining file ≡ Some octets)) };
 }
 
 /// The machine by what its system gives. No contract tells what that is.
