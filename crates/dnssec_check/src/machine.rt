@@ -1,5 +1,5 @@
 //! What the program has of the machine that runs it: the words of its command line, and files.
-ghost use Rattle.std.specs.Prelude.{◌≡◌, ℕ, List, Option, None, Some, IfErr, IfOk, IfSome, map, string_bytes};
+ghost use Rattle.std.specs.Prelude.{◌≡◌, Bool, ℕ, List, Option, None, Some, IfErr, IfOk, IfSome, is_ok, map, string_bytes};
 ghost use Rattle.dnssec_check.specs.declared.line.LineError.{LineError};
 ghost use Rattle.dnssec_check.specs.declared.line.LineError.TheVariants.{OutOfMemory};
 
@@ -20,6 +20,9 @@ pub trait Machine {
     // The octets of the file at a path, where the machine tells them.
     ghost octets_at: { Self → List ℕ → Option (List ℕ) } = { λ _ _. None };
 
+    // Whether a file at a path opens, where the machine tells it.
+    ghost opens: { Self → List ℕ → Option Bool } = { λ _ _. None };
+
     fn alloc(&self) -> Global;
 
     /// The words of the command line, of which the first is the program's name.
@@ -27,10 +30,10 @@ pub trait Machine {
         ensures told { IfOk result (λ said. IfSome (given_words self.now) (λ told. map string_bytes said.items ≡ told)) }
         ensures failed { IfErr result (λ error. IfSome (given_words self.now) (λ _. error ≡ OutOfMemory)) };
 
-    /// Opens the file at the path. It fails only where the machine doesn't tell that file's octets.
+    /// Opens the file at the path.
     fn open(&self, path: &str) -> io::Result<Self::File>
-        ensures failed { IfErr result (λ _. octets_at self.now path.now ≡ None) }
-        ensures opened { IfOk result (λ file. IfSome (octets_at self.now path.now) (λ octets. Self.File.remaining file ≡ Some octets)) };
+        ensures opens { IfSome (opens self.now path.now) (λ opens. is_ok result ≡ opens) }
+        ensures octets { IfOk result (λ file. IfSome (octets_at self.now path.now) (λ octets. Self.File.remaining file ≡ Some octets)) };
 }
 
 /// The machine by what its system gives. No contract tells what that is.

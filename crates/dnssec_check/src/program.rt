@@ -1,5 +1,5 @@
 //! The program around the run: its words, its files, and how it tells that it failed.
-ghost use Rattle.std.specs.Prelude.{◌≡◌, ◌⊎◌, IfErr, IfOk, IfSome, List, None, ℕ, OnOk};
+ghost use Rattle.std.specs.Prelude.{◌≡◌, ◌⊎◌, IfErr, IfOk, IfSome, List, ℕ, OnOk, false};
 ghost use Rattle.std.specs.Io.KnownBytes.{Appends};
 ghost use Rattle.dnsv_message.specs.Counted.{inner_of};
 ghost use Rattle.dnssec_check.specs.Line.{IsAccepted, IsRefused, capture_of, line_code};
@@ -74,7 +74,7 @@ fn answer<M: Machine, W: Write>(
         (text : List ℕ) × IsTextOf request.now file text × Appends (W.contents (inner_of output.old)) (W.contents (inner_of output.new)) text)) }
     ensures refused { (why : Refusal) (place : Place) → result ≡ Err (Fault.Refused why place)
         → IfSome (M.octets_at machine.now (capture_of request.now)) (λ file. IsRefusalOf request.now file why place) }
-    ensures unopened { result ≡ Err (Fault.OpenFailed InputFile.Capture) → M.octets_at machine.now (capture_of request.now) ≡ None }
+    ensures unopened { result ≡ Err (Fault.OpenFailed InputFile.Capture) → IfSome (M.opens machine.now (capture_of request.now)) (λ opens. opens ≡ false) }
     ensures untouched { IfErr result (λ fault. (fault ≡ Fault.WriteFailed → ⊥) → output.new ≡ output.old) }
 {
     let Ok(capture) = machine.open(request.capture()) else {
