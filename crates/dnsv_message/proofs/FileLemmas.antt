@@ -1,9 +1,9 @@
 -- What the octets that were read say of a file.
 use Rattle.std.proofs.Common.{◌≡◌, ℕ, ◌-◌, ◌<◌, ◌≤◌, List, [], ◌++◌, length, take, sym, ap, ◌∙◌, arith, length-append, Option, Some, None, IfSome}
 use Rattle.std.proofs.lemmas.List.{append-nil, length-take-le}
-use Rattle.std.proofs.KnownBytes.{Consumes-nil, Consumes-trans, Consumes-kept}
+use Rattle.std.proofs.KnownBytes.{Consumes-nil, Consumes-trans, Consumes-kept, Keeps-refl}
 use Rattle.std.specs.Io.KnownBytes.{Consumes, IsAtEnd, Keeps}
-use Rattle.dnsv_message.specs.Frames.{StopsAtFault}
+use Rattle.dnsv_message.specs.Frames.{StopsAtFault, stops}
 
 pub nothing_read : (old : Option (List ℕ)) (octets : List ℕ) → octets ≡ [] → Consumes old old octets
 nothing_read old octets none = rw none (Consumes-nil old)
@@ -54,23 +54,16 @@ file_read old now next octets piece count x y none ended =
 -- what has no fault was read, and nothing since
 pub stops_before : (IsFine : List ℕ → Type 0) (old now next : Option (List ℕ)) (before : List ℕ) → IsFine before → Consumes old now before → Keeps now next
     → StopsAtFault IsFine old next
-stops_before IsFine old now next before fine x kept = record {
-  before = before;
-  piece = [];
-  fine = fine;
-  at_most_65536 = omega arith;
-  read = rw append-nil (Consumes-kept old now next before x kept);
-}
+stops_before IsFine old now next before fine x kept =
+    stops before [] fine (omega arith) (rw append-nil (Consumes-kept old now next before x kept))
 
 -- what has no fault was read, and one piece since
 pub stops_behind : (IsFine : List ℕ → Type 0) (old now next : Option (List ℕ)) (before buf : List ℕ) (count : ℕ) → IsFine before → Consumes old now before
     → Consumes now next (take count buf) → count ≤ length buf → length buf ≤ 65536 → StopsAtFault IsFine old next
 stops_behind IsFine old now next before buf count fine x y short small =
     let size : length (take count buf) ≡ count = length-take-le count buf short in
-    record {
-      before = before;
-      piece = take count buf;
-      fine = fine;
-      at_most_65536 = omega (arith, size);
-      read = Consumes-trans old now next before (take count buf) x y;
-    }
+    stops before (take count buf) fine (omega (arith, size)) (Consumes-trans old now next before (take count buf) x y)
+
+-- nothing was read
+pub nothing_stops : (limit : ℕ) (old : Option (List ℕ)) → StopsAtFault (λ octets. length octets ≤ limit) old old
+nothing_stops limit old = stops_before (λ octets. length octets ≤ limit) old old old [] (omega arith) (Consumes-nil old) (Keeps-refl old)

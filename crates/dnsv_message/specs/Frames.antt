@@ -65,9 +65,9 @@ HasNoFault octets = (length octets ≤ file_limit) × ¬ HasZeroLength octets
 
 -- Where a reader's octets are known, what was read of them is some octets without a fault and at most one piece
 -- more: nothing is read behind the piece in which a fault stands.
-pub record StopsAtFault (IsFine : List ℕ → Type 0) (old new : Option (List ℕ)) : Type 0 where
-  pub before : List ℕ
-  pub piece : List ℕ
-  pub fine : IsFine before
-  pub at_most_65536 : length piece ≤ 65536
-  pub read : Consumes old new (before ++ piece)
+pub data StopsAtFault (IsFine : List ℕ → Type 0) (old new : Option (List ℕ)) : Type 0 where
+  stops : (before piece : List ℕ)
+      → IsFine before
+      → length piece ≤ 65536
+      → Consumes old new (before ++ piece)
+      → StopsAtFault IsFine old new

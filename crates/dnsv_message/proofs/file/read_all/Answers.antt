@@ -1,6 +1,6 @@
 use Rattle.std.proofs.Common.{◌∙◌, ◌≤◌, length, refl, arith}
 use Rattle.dnsv_message.specs.declared.TheConstants.{FILE_LIMIT}
-use Rattle.dnsv_message.proofs.FileLemmas.{nothing_read, nothing_within, piece_read, piece_within, file_too_long, file_read, stops_before, stops_behind}
+use Rattle.dnsv_message.proofs.FileLemmas.{nothing_read, nothing_within, piece_read, piece_within, file_too_long, file_read, nothing_stops, stops_before, stops_behind}
 use Rattle.dnsv_message.proofs.file.read_all.Goals as goal
 
 pub loop-octets-init : goal.loop-octets-init
@@ -35,6 +35,9 @@ returns-clause-octets g c =
 
 pub returns-clause-end : goal.returns-clause-end
 returns-clause-end g c = c.in_ok-count.ensures.bytes.1 c.if-count-eq0.true (omega (arith, c.loop-octets.invariant.room, c.read_piece.auto.piece))
+
+pub returns-in_err-buffer-clause-stops : goal.returns-in_err-buffer-clause-stops
+returns-in_err-buffer-clause-stops g c = nothing_stops FILE_LIMIT _
 
 pub returns-in_err-count-clause-stops : goal.returns-in_err-count-clause-stops
 returns-in_err-count-clause-stops g c =
