@@ -34,6 +34,58 @@ fn counts_failed_writes(rt: HostRuntime) -> Result<(), Fail> {
     Ok(())
 }
 
+// Counts its calls, the first of which fails.
+#[derive(Drop)]
+struct FailsOnce(usize);
+
+impl FailsOnce {
+    fn call(&mut self) -> io::Result<usize> {
+        self.0 = self.0.saturating_add(1);
+        if self.0 == 1 {
+            return Err(io::Error::other("the first call fails"));
+        }
+        Ok(1)
+    }
+}
+
+impl Read for FailsOnce {
+    fn read(&mut self, buf: &mut [u8]) -> io::Result<usize> {
+        Ok(self.call()?.min(buf.len()))
+    }
+}
+
+impl Write for FailsOnce {
+    fn write(&mut self, buf: &[u8]) -> io::Result<usize> {
+        Ok(self.call()?.min(buf.len()))
+    }
+
+    fn flush(&mut self) -> io::Result<()> {
+        self.call()?;
+        Ok(())
+    }
+}
+
+#[test]
+fn tries_no_failed_call_again(rt: HostRuntime) -> Result<(), Fail> {
+    let mut octet = [0u8; 1];
+    let mut once = Counted::new(FailsOnce(0));
+    assert!(rt; once.read(&mut octet).is_err());
+    assert_eq!(rt; (once.get_ref().0, once.failures()), (1, 1), "read");
+    let mut once = Counted::new(FailsOnce(0));
+    assert!(rt; once.read_exact(&mut octet).is_err());
+    assert_eq!(rt; (once.get_ref().0, once.failures()), (1, 1), "read_exact");
+    let mut once = Counted::new(FailsOnce(0));
+    assert!(rt; once.write(&octet).is_err());
+    assert_eq!(rt; (once.get_ref().0, once.failures()), (1, 1), "write");
+    let mut once = Counted::new(FailsOnce(0));
+    assert!(rt; once.write_all(&octet).is_err());
+    assert_eq!(rt; (once.get_ref().0, once.failures()), (1, 1), "write_all");
+    let mut once = Counted::new(FailsOnce(0));
+    assert!(rt; once.flush().is_err());
+    assert_eq!(rt; (once.get_ref().0, once.failures()), (1, 1), "flush");
+    Ok(())
+}
+
 // Takes two octets at most of each write, and five in all.
 #[derive(Drop)]
 struct Slow {
