@@ -1,5 +1,6 @@
 use super::*;
 use dnsv_names::{Hash20, RecordType};
+use std::alloc::{AllocError, Global};
 use std::test::Fail;
 
 /// The DNSKEY of dskey.example.com. (RFC 4034 5.4).
@@ -222,6 +223,57 @@ fn reads_hashed_denials(rt: HostRuntime) -> Result<(), Fail> {
         field_of(Nsec3::read(rt.alloc(), b"\x01\x00\x00\x0c\x00\x00\x00")),
         Some(Field::Bitmap)
     );
+    Ok(())
+}
+
+// No clause says that a call finds memory, however long the RDATA is.
+#[test]
+fn reads_the_longest_rdata(rt: HostRuntime) -> Result<(), Fail> {
+    let key = filled(rt.alloc(), b"\x01\x00\x03\x0d", 65531)?;
+    let key = Dnskey::read(rt.alloc(), key.as_slice())?;
+    assert_eq!(rt; key.key.as_slice().len(), 65531);
+
+    let ds = filled(rt.alloc(), b"\x08\x13\x0d\x02", 65531)?;
+    let ds = Ds::read(rt.alloc(), ds.as_slice())?;
+    assert_eq!(rt; ds.digest.as_slice().len(), 65531);
+
+    let rrsig = filled(rt.alloc(), &[0; 19], 65516)?;
+    let rrsig = Rrsig::read(rt.alloc(), rrsig.as_slice())?;
+    assert_eq!(rt; rrsig.signature.as_slice().len(), 65516);
+
+    let mut nsec = filled(rt.alloc(), b"\0", 0)?;
+    push_every_type(&mut nsec)?;
+    let nsec = Nsec::read(rt.alloc(), nsec.as_slice())?;
+    assert_eq!(rt; nsec.types.write().len(), 8704);
+    assert!(rt; nsec.types.contains(RecordType(65535)));
+
+    let mut nsec3 = filled(rt.alloc(), b"\x01\x00\x00\x00\xff", 255)?;
+    nsec3.push(255)?;
+    let mut nsec3 = filled(rt.alloc(), nsec3.as_slice(), 255)?;
+    push_every_type(&mut nsec3)?;
+    let nsec3 = Nsec3::read(rt.alloc(), nsec3.as_slice())?;
+    assert_eq!(rt; nsec3.salt.as_slice().len(), 255);
+    assert_eq!(rt; nsec3.next_hash.as_slice().len(), 255);
+    assert_eq!(rt; nsec3.types.write().len(), 8704);
+    Ok(())
+}
+
+// The octets, and so many of value 1.
+fn filled(alloc: Global, front: &[u8], count: usize) -> Result<Vec<u8>, AllocError> {
+    let mut octets = Vec::from_slice(alloc, front)?;
+    for _ in 0..count {
+        octets.push(1)?;
+    }
+    Ok(octets)
+}
+
+// The type bitmap of all 65,536 types.
+fn push_every_type(octets: &mut Vec<u8>) -> Result<(), AllocError> {
+    for window in 0..=u8::MAX {
+        octets.push(window)?;
+        octets.push(32)?;
+        octets.extend_from_slice(&[0xff; 32])?;
+    }
     Ok(())
 }
 
