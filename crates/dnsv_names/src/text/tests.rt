@@ -17,3 +17,22 @@ fn writes_names(rt: HostRuntime) -> Result<(), Fail> {
     }
     Ok(())
 }
+
+// No clause says that a name is written, however long its text is.
+#[test]
+fn writes_the_longest_text(rt: HostRuntime) -> Result<(), Fail> {
+    let mut octets = Vec::new(rt.alloc());
+    for length in [63u8, 63, 63, 61] {
+        octets.push(length)?;
+        for _ in 0..length {
+            octets.push(0)?;
+        }
+    }
+    octets.push(0)?;
+    let (name, length) = Name::read(octets.as_slice()).ok_or("a name")?;
+    assert_eq!(rt; length, 255);
+    let text = name.to_string(rt.alloc())?;
+    assert_eq!(rt; text.len(), 1004);
+    assert_eq!(rt; Name::parse(text.as_bytes())?.wire(), octets.as_slice());
+    Ok(())
+}
