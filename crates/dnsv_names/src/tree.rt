@@ -41,7 +41,7 @@ impl Name {
     /// `LongName` where its wire form has more than 255 octets.
     pub fn wildcard_of(&self) -> Result<Name, NameError>
         ensures variant { MatchResult result (λ name. name ≡ wildcard_of self.now)
-            (λ error. (error ≡ NameError.LongName) × (WIRE_LIMIT < length (wire (wildcard_of self.now)))) }
+            (λ error. (error ≡ NameError.LongName) × (255 < length (wire (wildcard_of self.now)))) }
         ensures name { IfOk result (λ name. IsName name) }
     {
         let below = self.wire();
