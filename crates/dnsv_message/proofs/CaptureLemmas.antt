@@ -166,16 +166,16 @@ no_fault_read old now messages rest left x not_zero =
     let within : length x.octets ≤ FILE_LIMIT = omega (arith, x.size) in
     (within, zero_and_other x.octets messages rest within x.frames not_zero)
 
-pub HasRead-stops_before : (old now next : Option (List ℕ)) (messages : List (List ℕ)) (rest : List ℕ) (left : ℕ)
-    → HasRead old now messages rest left → ¬ IsZero rest → Keeps now next → StopsAtFault HasNoFault old next
-HasRead-stops_before old now next messages rest left x not_zero kept =
-    stops_before HasNoFault old now next x.octets (no_fault_read old now messages rest left x not_zero) x.consumed kept
+pub HasRead-stops_before : (more : ℕ) (old now next : Option (List ℕ)) (messages : List (List ℕ)) (rest : List ℕ) (left : ℕ)
+    → HasRead old now messages rest left → ¬ IsZero rest → Keeps now next → StopsAtFault HasNoFault more old next
+HasRead-stops_before more old now next messages rest left x not_zero kept =
+    stops_before HasNoFault more old now next x.octets (no_fault_read old now messages rest left x not_zero) x.consumed kept
 
-pub HasRead-stops_behind : (old now next : Option (List ℕ)) (messages : List (List ℕ)) (rest buf : List ℕ) (left count : ℕ)
-    → HasRead old now messages rest left → ¬ IsZero rest → Consumes now next (take count buf) → count ≤ length buf → length buf ≤ 65536 → StopsAtFault HasNoFault old next
-HasRead-stops_behind old now next messages rest buf left count x not_zero consumes short small =
-    stops_behind HasNoFault old now next x.octets buf count (no_fault_read old now messages rest left x not_zero) x.consumed consumes short small
+pub HasRead-stops_behind : (more : ℕ) (old now next : Option (List ℕ)) (messages : List (List ℕ)) (rest buf : List ℕ) (left count : ℕ)
+    → HasRead old now messages rest left → ¬ IsZero rest → Consumes now next (take count buf) → count ≤ length buf → length buf ≤ more → StopsAtFault HasNoFault more old next
+HasRead-stops_behind more old now next messages rest buf left count x not_zero consumes short small =
+    stops_behind HasNoFault more old now next x.octets buf count (no_fault_read old now messages rest left x not_zero) x.consumed consumes short small
 
 -- nothing was read
-pub nothing-stops : (old : Option (List ℕ)) → StopsAtFault HasNoFault old old
-nothing-stops old = HasRead-stops_before old old old [] [] FILE_LIMIT (HasRead-start old [] [] FILE_LIMIT refl refl refl) nothing_not_zero (Keeps-refl old)
+pub nothing-stops : (more : ℕ) (old : Option (List ℕ)) → StopsAtFault HasNoFault more old old
+nothing-stops more old = HasRead-stops_before more old old old [] [] FILE_LIMIT (HasRead-start old [] [] FILE_LIMIT refl refl refl) nothing_not_zero (Keeps-refl old)

@@ -52,18 +52,18 @@ file_read old now next octets piece count x y none ended =
     end_known old next octets all ended
 
 -- what has no fault was read, and nothing since
-pub stops_before : (IsFine : List ℕ → Type 0) (old now next : Option (List ℕ)) (before : List ℕ) → IsFine before → Consumes old now before → Keeps now next
-    → StopsAtFault IsFine old next
-stops_before IsFine old now next before fine x kept =
+pub stops_before : (IsFine : List ℕ → Type 0) (more : ℕ) (old now next : Option (List ℕ)) (before : List ℕ) → IsFine before → Consumes old now before → Keeps now next
+    → StopsAtFault IsFine more old next
+stops_before IsFine more old now next before fine x kept =
     stops before [] fine (omega arith) (rw append-nil (Consumes-kept old now next before x kept))
 
 -- what has no fault was read, and one piece since
-pub stops_behind : (IsFine : List ℕ → Type 0) (old now next : Option (List ℕ)) (before buf : List ℕ) (count : ℕ) → IsFine before → Consumes old now before
-    → Consumes now next (take count buf) → count ≤ length buf → length buf ≤ 65536 → StopsAtFault IsFine old next
-stops_behind IsFine old now next before buf count fine x y short small =
+pub stops_behind : (IsFine : List ℕ → Type 0) (more : ℕ) (old now next : Option (List ℕ)) (before buf : List ℕ) (count : ℕ) → IsFine before → Consumes old now before
+    → Consumes now next (take count buf) → count ≤ length buf → length buf ≤ more → StopsAtFault IsFine more old next
+stops_behind IsFine more old now next before buf count fine x y short small =
     let size : length (take count buf) ≡ count = length-take-le count buf short in
     stops before (take count buf) fine (omega (arith, size)) (Consumes-trans old now next before (take count buf) x y)
 
 -- nothing was read
-pub nothing_stops : (limit : ℕ) (old : Option (List ℕ)) → StopsAtFault (λ octets. length octets ≤ limit) old old
-nothing_stops limit old = stops_before (λ octets. length octets ≤ limit) old old old [] (omega arith) (Consumes-nil old) (Keeps-refl old)
+pub nothing_stops : (limit more : ℕ) (old : Option (List ℕ)) → StopsAtFault (λ octets. length octets ≤ limit) more old old
+nothing_stops limit more old = stops_before (λ octets. length octets ≤ limit) more old old old [] (omega arith) (Consumes-nil old) (Keeps-refl old)

@@ -63,11 +63,11 @@ IsTooLong file = (file_limit < length file) × ¬ HasZeroLength file
 abbrev pub HasNoFault : List ℕ → Type 0
 HasNoFault octets = (length octets ≤ file_limit) × ¬ HasZeroLength octets
 
--- Where a reader's octets are known, what was read of them is some octets without a fault and at most one piece
--- more: nothing is read behind the piece in which a fault stands.
-pub data StopsAtFault (IsFine : List ℕ → Type 0) (old new : Option (List ℕ)) : Type 0 where
+-- Where a reader's octets are known, what was read of them is some octets without a fault, and then so many more
+-- at most: nothing is read behind the piece in which a fault stands.
+pub data StopsAtFault (IsFine : List ℕ → Type 0) (more : ℕ) (old new : Option (List ℕ)) : Type 0 where
   stops : (before piece : List ℕ)
       → IsFine before
-      → length piece ≤ 65536
+      → length piece ≤ more
       → Consumes old new (before ++ piece)
-      → StopsAtFault IsFine old new
+      → StopsAtFault IsFine more old new

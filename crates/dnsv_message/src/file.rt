@@ -26,8 +26,10 @@ pub fn read_all<R: Read>(alloc: Global, reader: &mut Counted<R>) -> Result<Vec<u
     ensures too_long { IsErrOf result ReadError.TooLong →
         IfSome (R.remaining (inner_of reader.old)) (λ file. file_limit < length file) }
     ensures end { OnOk result (IsAtEnd (R.remaining (inner_of reader.new))) }
-    // Nothing is read behind the piece in which a fault stands.
-    ensures stops { StopsAtFault (λ octets. length octets ≤ file_limit)
+    // Nothing is read behind the piece in which a fault stands, nor after a read that failed.
+    ensures stops { StopsAtFault (λ octets. length octets ≤ file_limit) 65536
+        (R.remaining (inner_of reader.old)) (R.remaining (inner_of reader.new)) }
+    ensures stops_failed { IsErrOf result ReadError.Read → StopsAtFault (λ octets. length octets ≤ file_limit) 0
         (R.remaining (inner_of reader.old)) (R.remaining (inner_of reader.new)) }
 
     // The reader failed, at any reader: by the count, unless that began at its greatest value.

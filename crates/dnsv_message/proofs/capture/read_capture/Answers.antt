@@ -72,32 +72,42 @@ returns-in_err-finish-clause-read g c = λ is_it not_full.
     let torn = (torn_end _ _ c.loop-framer.invariant.no_fault c.in_err-finish.ensures).0 in
     absurd (let is = p.1 in let same = p.2 in cc)
 
+pub returns-in_err-finish-clause-stops_failed : goal.returns-in_err-finish-clause-stops_failed
+returns-in_err-finish-clause-stops_failed g c = λ is_it.
+    let p = err_from_is_err_and c.from_residual-in_err-finish.result c.from_residual-in_err-finish.ensures.1 in
+    let torn = (torn_end _ _ c.loop-framer.invariant.no_fault c.in_err-finish.ensures).0 in
+    absurd (let is = p.1 in let same = p.2 in cc)
+
 pub returns-clause-end : goal.returns-clause-end
 returns-clause-end g c = c.in_ok-count.ensures.bytes.1 c.if-count-eq0.true (omega (arith, c.loop-framer.invariant.room, c.read_piece.auto.piece))
 
 pub returns-in_err-buffer-clause-stops : goal.returns-in_err-buffer-clause-stops
-returns-in_err-buffer-clause-stops g c = nothing-stops _
+returns-in_err-buffer-clause-stops g c = nothing-stops 65536 _
 
 pub returns-in_err-count-clause-stops : goal.returns-in_err-count-clause-stops
 returns-in_err-count-clause-stops g c =
-    HasRead-stops_before _ _ _ _ _ c.loop-framer.left c.loop-framer.invariant.read c.loop-framer.invariant.not_zero c.in_err-count.ensures.bytes
+    HasRead-stops_before 65536 _ _ _ _ _ c.loop-framer.left c.loop-framer.invariant.read c.loop-framer.invariant.not_zero c.in_err-count.ensures.bytes
+
+pub returns-in_err-count-clause-stops_failed : goal.returns-in_err-count-clause-stops_failed
+returns-in_err-count-clause-stops_failed g c = λ _.
+    HasRead-stops_before 0 _ _ _ _ _ c.loop-framer.left c.loop-framer.invariant.read c.loop-framer.invariant.not_zero c.in_err-count.ensures.bytes
 
 pub returns-in_err-feed-clause-stops : goal.returns-in_err-feed-clause-stops
 returns-in_err-feed-clause-stops g c =
-    HasRead-stops_behind _ _ _ _ _ c.read_piece.new.piece c.loop-framer.left c.in_ok-count.count c.loop-framer.invariant.read c.loop-framer.invariant.not_zero
+    HasRead-stops_behind 65536 _ _ _ _ _ c.read_piece.new.piece c.loop-framer.left c.in_ok-count.count c.loop-framer.invariant.read c.loop-framer.invariant.not_zero
     c.in_ok-count.ensures.bytes.0 (omega (arith, c.in_ok-count.ensures.bound.0)) (omega (arith, c.loop-framer.invariant.piece, c.read_piece.auto.piece))
 
 pub returns-then-within-count-clause-stops : goal.returns-then-within-count-clause-stops
 returns-then-within-count-clause-stops g c =
-    HasRead-stops_behind _ _ _ _ _ c.read_piece.new.piece c.loop-framer.left c.in_ok-count.count c.loop-framer.invariant.read c.loop-framer.invariant.not_zero
+    HasRead-stops_behind 65536 _ _ _ _ _ c.read_piece.new.piece c.loop-framer.left c.in_ok-count.count c.loop-framer.invariant.read c.loop-framer.invariant.not_zero
     c.in_ok-count.ensures.bytes.0 (omega (arith, c.in_ok-count.ensures.bound.0)) (omega (arith, c.loop-framer.invariant.piece, c.read_piece.auto.piece))
 
 pub returns-in_err-finish-clause-stops : goal.returns-in_err-finish-clause-stops
 returns-in_err-finish-clause-stops g c =
-    HasRead-stops_behind _ _ _ _ _ c.read_piece.new.piece c.loop-framer.left c.in_ok-count.count c.loop-framer.invariant.read c.loop-framer.invariant.not_zero
+    HasRead-stops_behind 65536 _ _ _ _ _ c.read_piece.new.piece c.loop-framer.left c.in_ok-count.count c.loop-framer.invariant.read c.loop-framer.invariant.not_zero
     c.in_ok-count.ensures.bytes.0 (omega (arith, c.in_ok-count.ensures.bound.0)) (omega (arith, c.loop-framer.invariant.piece, c.read_piece.auto.piece))
 
 pub returns-clause-stops : goal.returns-clause-stops
 returns-clause-stops g c =
-    HasRead-stops_behind _ _ _ _ _ c.read_piece.new.piece c.loop-framer.left c.in_ok-count.count c.loop-framer.invariant.read c.loop-framer.invariant.not_zero
+    HasRead-stops_behind 65536 _ _ _ _ _ c.read_piece.new.piece c.loop-framer.left c.in_ok-count.count c.loop-framer.invariant.read c.loop-framer.invariant.not_zero
     c.in_ok-count.ensures.bytes.0 (omega (arith, c.in_ok-count.ensures.bound.0)) (omega (arith, c.loop-framer.invariant.piece, c.read_piece.auto.piece))

@@ -37,23 +37,27 @@ pub returns-clause-end : goal.returns-clause-end
 returns-clause-end g c = c.in_ok-count.ensures.bytes.1 c.if-count-eq0.true (omega (arith, c.loop-octets.invariant.room, c.read_piece.auto.piece))
 
 pub returns-in_err-buffer-clause-stops : goal.returns-in_err-buffer-clause-stops
-returns-in_err-buffer-clause-stops g c = nothing_stops FILE_LIMIT _
+returns-in_err-buffer-clause-stops g c = nothing_stops FILE_LIMIT 65536 _
 
 pub returns-in_err-count-clause-stops : goal.returns-in_err-count-clause-stops
 returns-in_err-count-clause-stops g c =
-    stops_before (λ octets. length octets ≤ FILE_LIMIT) _ _ _ c.loop-octets.octets.items c.loop-octets.invariant.within c.loop-octets.invariant.read c.in_err-count.ensures.bytes
+    stops_before (λ octets. length octets ≤ FILE_LIMIT) 65536 _ _ _ c.loop-octets.octets.items c.loop-octets.invariant.within c.loop-octets.invariant.read c.in_err-count.ensures.bytes
+
+pub returns-in_err-count-clause-stops_failed : goal.returns-in_err-count-clause-stops_failed
+returns-in_err-count-clause-stops_failed g c = λ _.
+    stops_before (λ octets. length octets ≤ FILE_LIMIT) 0 _ _ _ c.loop-octets.octets.items c.loop-octets.invariant.within c.loop-octets.invariant.read c.in_err-count.ensures.bytes
 
 pub returns-then-count-len-clause-stops : goal.returns-then-count-len-clause-stops
 returns-then-count-len-clause-stops g c =
-    stops_behind (λ octets. length octets ≤ FILE_LIMIT) _ _ _ c.loop-octets.octets.items c.read_piece.new.piece c.in_ok-count.count c.loop-octets.invariant.within
+    stops_behind (λ octets. length octets ≤ FILE_LIMIT) 65536 _ _ _ c.loop-octets.octets.items c.read_piece.new.piece c.in_ok-count.count c.loop-octets.invariant.within
     c.loop-octets.invariant.read c.in_ok-count.ensures.bytes.0 (omega (arith, c.in_ok-count.ensures.bound.0)) (omega (arith, c.loop-octets.invariant.piece, c.read_piece.auto.piece))
 
 pub returns-in_err-extend_from_slice-clause-stops : goal.returns-in_err-extend_from_slice-clause-stops
 returns-in_err-extend_from_slice-clause-stops g c =
-    stops_behind (λ octets. length octets ≤ FILE_LIMIT) _ _ _ c.loop-octets.octets.items c.read_piece.new.piece c.in_ok-count.count c.loop-octets.invariant.within
+    stops_behind (λ octets. length octets ≤ FILE_LIMIT) 65536 _ _ _ c.loop-octets.octets.items c.read_piece.new.piece c.in_ok-count.count c.loop-octets.invariant.within
     c.loop-octets.invariant.read c.in_ok-count.ensures.bytes.0 (omega (arith, c.in_ok-count.ensures.bound.0)) (omega (arith, c.loop-octets.invariant.piece, c.read_piece.auto.piece))
 
 pub returns-clause-stops : goal.returns-clause-stops
 returns-clause-stops g c =
-    stops_behind (λ octets. length octets ≤ FILE_LIMIT) _ _ _ c.loop-octets.octets.items c.read_piece.new.piece c.in_ok-count.count c.loop-octets.invariant.within
+    stops_behind (λ octets. length octets ≤ FILE_LIMIT) 65536 _ _ _ c.loop-octets.octets.items c.read_piece.new.piece c.in_ok-count.count c.loop-octets.invariant.within
     c.loop-octets.invariant.read c.in_ok-count.ensures.bytes.0 (omega (arith, c.in_ok-count.ensures.bound.0)) (omega (arith, c.loop-octets.invariant.piece, c.read_piece.auto.piece))
