@@ -13,7 +13,7 @@ use Rattle.dnsv_records.specs.Ds.{IsDs}
 use Rattle.dnsv_records.specs.Nsec.{IsNsec}
 use Rattle.dnsv_records.specs.Nsec3.{IsNsec3, IsUsable}
 use Rattle.dnsv_records.specs.Rrsig.{IsRrsig}
-use Rattle.dnsv_canonical.specs.Response.{IsResponse, IsTruncated}
+use Rattle.dnsv_message.specs.Flags.{HasQR, HasTC}
 use Rattle.dnsv_canonical.specs.Rrsets.{Group, message_rrsets}
 use Rattle.dnsv_canonical.specs.declared.capture.CaptureError.{CaptureError}
 use Rattle.dnsv_canonical.specs.declared.capture.CaptureError.TheVariants.{OutOfMemory, NotAResponse, Truncated, BadRdata, Limit}
@@ -22,7 +22,7 @@ use Rattle.dnsv_canonical.specs.declared.capture.CaptureError.TheVariants.{OutOf
 
 -- the message is a response that wasn't cut to fit
 abbrev pub IsWhole : Contents → Type 0
-IsWhole message = IsResponse message.flags × ¬ IsTruncated message.flags
+IsWhole message = HasQR message.flags × ¬ HasTC message.flags
 
 -- the RDATA is some DS, RRSIG, NSEC, DNSKEY or NSEC3, where that is its type
 pub record IsLaidOut (rtype : ℕ) (rdata : List ℕ) : Type 0 where
@@ -106,8 +106,8 @@ IsEvidence held message =
 -- why the message isn't taken besides what is held; each reason leaves out those before it
 abbrev pub IsRefusal : Evidence → Contents → CaptureError → Type 0
 IsRefusal held message OutOfMemory = ⊤
-IsRefusal held message NotAResponse = ¬ IsResponse message.flags
-IsRefusal held message Truncated = IsResponse message.flags × IsTruncated message.flags
+IsRefusal held message NotAResponse = ¬ HasQR message.flags
+IsRefusal held message Truncated = HasQR message.flags × HasTC message.flags
 IsRefusal held message (BadRdata k) = IsWhole message × IsFirstBad (records_of message) k
 IsRefusal held message Limit =
     IsWhole message × AllByRecursion IsReadable (records_of message) × ¬ IsWithinLimits (with_message held message)

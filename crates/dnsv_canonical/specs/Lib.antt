@@ -3,6 +3,5 @@ pub mod CanonicalRdata
 pub mod Evidence
 pub mod Kept
 pub mod SignedData
-pub mod Response
 pub mod Rrsets
 pub mod ByRrset
