@@ -1,3 +1,4 @@
+pub mod Count
 pub mod Name
 pub mod NameError
 pub mod Order

@@ -2,6 +2,7 @@
 //! which order they stand.
 #![tactic(auto)]
 
+pub use count::{Count, counts_add_up};
 pub use error::NameError;
 pub use hash20::Hash20;
 pub use name::{LABEL_LIMIT, Name, WIRE_LIMIT};
@@ -12,6 +13,7 @@ pub use order::{
 };
 pub use parse::{a_text_has_one_reading, names_are_spelled_by_their_text};
 
+mod count;
 mod error;
 mod hash20;
 mod name;
