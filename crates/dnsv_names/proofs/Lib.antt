@@ -1,4 +1,5 @@
 pub mod NameLemmas
+pub mod OctetLemmas
 pub mod OneReading
 pub mod OrderLemmas
 pub mod ParseLemmas

@@ -3,9 +3,10 @@ use Rattle.std.proofs.Common.{◌≡◌, ℕ, ◌-◌, ◌≤◌, List, [], ◌�
 use Rattle.std.proofs.lemmas.List.{take-append-drop, drop_at, drop-map, length-map, map-append}
 use Rattle.std.specs.Bool.{Decides}
 use Rattle.std.specs.Char.{to_ascii_lowercase}
+use Rattle.std.specs.Cmp.Lexicographic.{bytes_decides}
 use Rattle.dnsv_names.specs.Name.{Labels, IsLabel, IsName, wire, lower_case, SameName, IsAtOrBelow}
 use Rattle.dnsv_names.specs.Spelling.{labels_of, SpellsName}
-use Rattle.dnsv_names.specs.Tree.{wildcard_of}
+use Rattle.dnsv_names.specs.Tree.{asterisk, wildcard_of, IsWildcard, is_wildcard}
 use Rattle.dnsv_names.proofs.NameLemmas.{lower_case-wire, lower_labels, wire-injective, IsName-drop, SpellsName-wire, labels_of-wire}
 
 lower_case-append : (a b : Labels) → lower_case (a ++ b) ≡ lower_case a ++ lower_case b
@@ -47,13 +48,13 @@ IsLabel-star : IsLabel (42 ∷ [])
 IsLabel-star = record { not_empty = omega arith; at_most_63 = omega arith; octets = (omega arith, tt) }
 
 -- octets of a wildcard's wire form that are few enough spell it
-pub record IsWildcard (name : Labels) (octets : List ℕ) : Type 0 where
+pub record SpellsWildcard (name : Labels) (octets : List ℕ) : Type 0 where
   pub spells : SpellsName octets
   pub labels : labels_of octets ≡ wildcard_of name
   pub is_name : IsName (labels_of octets)
 
-pub is_wildcard : (name : Labels) (octets : List ℕ) → IsName name → octets ≡ 1 ∷ 42 ∷ wire name → length octets ≤ 255 → IsWildcard name octets
-is_wildcard name octets is_name form within =
+pub spells_wildcard : (name : Labels) (octets : List ℕ) → IsName name → octets ≡ 1 ∷ 42 ∷ wire name → length octets ≤ 255 → SpellsWildcard name octets
+spells_wildcard name octets is_name form within =
     let wildcard : IsName (wildcard_of name) = record { each = (IsLabel-star, is_name.each); at_most_255 = omega (arith, ap length form) } in
     let spells : SpellsName octets = SpellsName-wire (wildcard_of name) octets wildcard form in
     record {
@@ -61,3 +62,10 @@ is_wildcard name octets is_name form within =
       labels = ap labels_of form ∙ labels_of-wire (wildcard_of name) wildcard.each;
       is_name = spells.name;
     }
+
+pub is_wildcard_Decides : (name : Labels) → Decides (is_wildcard name) (IsWildcard name)
+is_wildcard_Decides [] = (λ is. absurd (cc), λ wildcard. absurd (let e = wildcard.1 in cc))
+is_wildcard_Decides (label ∷ labels) = (
+  λ is. (labels, ap (λ first. first ∷ labels) ((bytes_decides label asterisk).0 is)),
+  λ wildcard. (bytes_decides label asterisk).1 (let e = wildcard.1 in cc),
+)

@@ -1,6 +1,7 @@
 pub mod Count
 pub mod Name
 pub mod NameError
+pub mod Octets
 pub mod Order
 pub mod OrderLaws
 pub mod Reading

@@ -3,6 +3,7 @@ use Rattle.std.specs.Prelude.{◌≡◌, ℕ, ◌-◌, ◌<◌, ◌≤◌, Bool,
 use Rattle.std.specs.Char.{to_ascii_lowercase}
 use Rattle.std.specs.List.{AllByRecursion}
 use Rattle.std.specs.Cmp.Lexicographic.{pointwise}
+use Rattle.dnsv_names.specs.Octets.{AreOctets}
 
 -- the labels of a name as they are spelled, the leftmost first, without the empty label of the root,
 -- which ends every name (RFC 1035 3.1)
@@ -13,7 +14,7 @@ Labels = List (List ℕ)
 pub record IsLabel (label : List ℕ) : Type 0 where
   pub not_empty : 0 < length label
   pub at_most_63 : length label ≤ 63
-  pub octets : AllByRecursion (λ octet. octet < 256) label
+  pub octets : AreOctets label
 
 -- the wire form: each label behind its length, and the length 0 of the root (RFC 1035 3.1)
 abbrev pub wire : Labels → List ℕ

@@ -2,14 +2,13 @@
 use Rattle.std.specs.Prelude.{◌≡◌, ℕ, List, reverse}
 use Rattle.std.specs.declared.cmp.Ordering.{Ordering}
 use Rattle.std.specs.declared.cmp.Ordering.TheVariants.{Less}
-use Rattle.std.specs.Ordering.{nat_cmp}
 use Rattle.std.specs.Cmp.Lexicographic.{slice_cmp}
+use Rattle.dnsv_names.specs.Octets.{octets_cmp}
 use Rattle.dnsv_names.specs.Name.{Labels, lower_case, SameName, IsAtOrBelow}
 
--- Labels as strings of unsigned octets: where the first octets differ they decide, else the rests decide,
--- and the empty string is before any other. `slice_cmp` has these cases.
+-- labels as strings of unsigned octets
 abbrev pub label_cmp : List ℕ → List ℕ → Ordering
-label_cmp a b = slice_cmp nat_cmp a b
+label_cmp a b = octets_cmp a b
 
 -- the labels in lower case, the rightmost first
 abbrev pub from_the_right : Labels → Labels

@@ -1,15 +1,15 @@
 //! Names above and below a name (RFC 1034 3.1).
 ghost use Rattle.std.specs.Prelude.{◌≡◌, ◌↔◌, ◌<◌, ◌≤◌, List, ℕ, [], ◌∷◌, length, MatchOption, MatchResult, IsTrue, IfOk};
 ghost use Rattle.dnsv_names.specs.Name.{Labels, IsName, IsAtOrBelow, wire};
-ghost use Rattle.dnsv_names.specs.Tree.{wildcard_of};
+ghost use Rattle.dnsv_names.specs.Tree.{wildcard_of, is_wildcard, IsWildcard};
 
 use crate::error::NameError;
 use crate::name::{Name, WIRE_LIMIT};
 use crate::wire::label_place;
 use arrayvec::ArrayVec;
 
-// The label `*` in wire form.
-const STAR: &[u8] = b"\x01*";
+/// The label `*` in wire form (RFC 4592 2.1.1).
+pub const ASTERISK_LABEL: [u8; 2] = *b"\x01*";
 
 impl Name {
     /// The name without its leftmost label; `None` for the root.
@@ -36,6 +36,14 @@ impl Name {
         octets[place..].eq_ignore_ascii_case(above.wire())
     }
 
+    /// Whether the name is a wildcard: its leftmost label is `*` (RFC 4592 2.1.1).
+    pub fn is_wildcard(&self) -> bool
+        ensures test { result ≡ is_wildcard self.now }
+        ensures wildcard { IsTrue result ↔ IsWildcard self.now }
+    {
+        self.labels() > 0 && self.label(0) == b"*".as_slice()
+    }
+
     /// The wildcard right below the name: `*` and then the name's labels (RFC 4592 2.1.1).
     ///
     /// `LongName` where its wire form has more than 255 octets.
@@ -45,11 +53,11 @@ impl Name {
         ensures name { IfOk result (λ name. IsName name) }
     {
         let below = self.wire();
-        if STAR.len() + below.len() > WIRE_LIMIT {
+        if ASTERISK_LABEL.len() + below.len() > WIRE_LIMIT {
             return Err(NameError::LongName);
         }
         let mut octets = ArrayVec::new();
-        octets.try_extend_from_slice(STAR).unwrap();
+        octets.try_extend_from_slice(&ASTERISK_LABEL).unwrap();
         octets.try_extend_from_slice(below).unwrap();
         Ok(Name { octets })
     }

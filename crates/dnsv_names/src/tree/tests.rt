@@ -30,6 +30,10 @@ fn compares_whole_labels(rt: HostRuntime) -> Result<(), Fail> {
 fn makes_wildcards_within_the_limit(rt: HostRuntime) -> Result<(), Fail> {
     let wildcard = Name::parse(b"example.")?.wildcard_of()?;
     assert_eq!(rt; wildcard.wire(), b"\x01*\x07example\0".as_slice());
+    assert!(rt; wildcard.is_wildcard());
+    assert!(rt; !Name::parse(b"a.*.")?.is_wildcard());
+    assert!(rt; !Name::parse(b"**.")?.is_wildcard());
+    assert!(rt; !Name::parse(b".")?.is_wildcard());
 
     let mut text = Vec::new(rt.alloc());
     for _ in 0..126 {
