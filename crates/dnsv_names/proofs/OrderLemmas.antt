@@ -1,6 +1,6 @@
 -- What stands where in the canonical order: lists that begin alike, and names below a name.
 use Rattle.std.proofs.Common.{◌≡◌, ℕ, ◌+◌, ◌-◌, ◌<◌, List, [], ◌∷◌, ◌++◌, length, get_or, take, drop, map, min, refl, sym, ap, ◌∙◌, arith, length-drop, reverse}
-use Rattle.std.proofs.lemmas.List.{reverse-append, reverse-reverse, length-reverse, map-append, take-map, take_at, take_more, take-append-drop, length-map, length-take-le, take_all, length-take, get_or-map}
+use Rattle.std.proofs.lemmas.List.{reverse-append, length-reverse, take_more, take-append-drop, length-map, length-take-le, take_all, length-take, get_or-map}
 use Rattle.std.proofs.lemmas.Bool.Decides.{nat_tests}
 use Rattle.std.proofs.lemmas.Cmp.{tied_itself, nat_list_cmp_total}
 use Rattle.std.specs.Char.{to_ascii_lowercase}
@@ -9,9 +9,10 @@ use Rattle.std.specs.declared.cmp.Ordering.TheVariants.{Less, Equal, Greater}
 use Rattle.std.specs.Ordering.{ordering_then, ordering_reverse, nat_cmp}
 use Rattle.std.specs.Cmp.{IsTotalOrder, Equal-is}
 use Rattle.std.specs.Cmp.Lexicographic.{slice_cmp, texts_ties, bytes_decides}
-use Rattle.dnsv_names.specs.Name.{Labels, lower_case, SameName, IsAtOrBelow}
+use Rattle.dnsv_names.specs.Name.{Labels, lower_case, IsAtOrBelow}
 use Rattle.dnsv_names.proofs.NameLemmas.{Stands, Stands-next, place_within, label_octets}
 use Rattle.dnsv_names.specs.Order.{label_cmp, from_the_right, IsBefore, IsBelow}
+use Rattle.dnsv_names.specs.TreeLaws.{from_the_right_below, at_or_below_begins}
 
 -- two comparisons, one from each side, that both answer `Less` found a tie
 first_tied : (o a b : Ordering) → ordering_then o a ≡ Less → ordering_then (ordering_reverse o) b ≡ Less → (o ≡ Equal) × (a ≡ Less) × (b ≡ Less)
@@ -39,29 +40,12 @@ module _ {K : Type 0} {R : K → K → Ordering} (total : IsTotalOrder R) where
 label_cmp_exact : (a b : List ℕ) → label_cmp a b ≡ Equal → a ≡ b
 label_cmp_exact a b tied = (bytes_decides a b).0 (texts_ties a b ∙ (Equal-is (label_cmp a b)).1 tied)
 
--- the labels of a name below another, from the right
-pub from_the_right_below : (name front above : Labels) → SameName name (front ++ above) → from_the_right name ≡ from_the_right above ++ from_the_right front
-from_the_right_below name front above same =
-    ap reverse (same ∙ map-append (λ label. map _ label) front above) ∙ reverse-append (lower_case front) (lower_case above)
-
 pub before_below : (name above : Labels) → IsBelow name above → IsBefore above name
 before_below name above ((([], same), other)) = absurd (other same)
 before_below name above ((((label ∷ front), same), other)) =
     let some : 0 < length (from_the_right (label ∷ front)) = simp (length-reverse, length-map) (omega arith) in
     ap (slice_cmp label_cmp (from_the_right above)) (from_the_right_below name (label ∷ front) above same)
     ∙ beginning_first nat_list_cmp_total (from_the_right above) (from_the_right (label ∷ front)) some
-
--- a name whose labels from the right begin with those of another is at or below it
-pub at_or_below_begins : (name above rest : Labels) → from_the_right name ≡ from_the_right above ++ rest → IsAtOrBelow name above
-at_or_below_begins name above rest begins =
-    let split : lower_case name ≡ reverse rest ++ lower_case above =
-    sym (reverse-reverse (lower_case name)) ∙ ap reverse begins ∙ reverse-append (from_the_right above) rest
-    ∙ ap (λ labels. reverse rest ++ labels) (reverse-reverse (lower_case above)) in
-    let front : lower_case (take (length rest) name) ≡ reverse rest =
-    sym (take-map _ (length rest) name) ∙ ap (take (length rest)) split ∙ take_at (reverse rest) (lower_case above) (length rest) (length-reverse rest) in (
-      take (length rest) name,
-      split ∙ ap (λ labels. labels ++ lower_case above) (sym front) ∙ sym (map-append (λ label. map _ label) (take (length rest) name) above),
-    )
 
 pub interval : (above x y z : Labels) → IsAtOrBelow x above → IsAtOrBelow z above → IsBefore x y → IsBefore y z → IsAtOrBelow y above
 interval above x y z x_below z_below x_y y_z =

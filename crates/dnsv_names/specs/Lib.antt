@@ -1,4 +1,8 @@
+pub mod Circle
+pub mod CircleLaws
 pub mod Count
+pub mod KeyLaws
+pub mod Keys
 pub mod Name
 pub mod NameError
 pub mod Octets
@@ -8,3 +12,4 @@ pub mod Reading
 pub mod Spelling
 pub mod Text
 pub mod Tree
+pub mod TreeLaws
