@@ -1,7 +1,9 @@
 # Needs the kit's command `rt` on the path, and nothing else.
-.PHONY: all test demo
+.PHONY: all test demo examples wrong-bodies
 
-# Proves and builds the program, crates/dnssec_check/out/dnssec_check, and shows its help.
+program = crates/dnssec_check/out/dnssec_check
+
+# Proves and builds the program, and shows its help.
 all:
 	cd crates/dnssec_check && rt run -- --help
 
@@ -10,5 +12,13 @@ test:
 	rt ci
 
 # What each signature of a message that a real name server sent signs.
-demo:
-	cd crates/dnssec_check && rt run -- list --capture data/www-a.cap --moment 1795348800 --all
+demo: all
+	$(program) list --capture examples/www-a-list-all/capture --moment 1795348800 --all
+
+# What the built program says of each folder of examples/, against what has to come.
+examples: all
+	tools/examples
+
+# Every wrong body, those that the gate leaves out too, of all crates or of those named, as CRATES="dnsv_names".
+wrong-bodies:
+	tools/wrong-bodies $(CRATES)

@@ -1,6 +1,6 @@
 use super::*;
 use crate::moment::Moment;
-use crate::samples::{HOST, HOST_DATA, WWW, WWW_LINES};
+use crate::samples::{HOST, HOST_DATA, KEYS, KEYS_DATA};
 use crate::status::{InputFile, Place, Refusal};
 use std::io;
 use std::test::Fail;
@@ -75,10 +75,13 @@ fn lists_what_a_signature_signs(rt: HostRuntime) -> Result<(), Fail> {
 }
 
 #[test]
-fn lists_what_another_program_says_of_a_real_message(rt: HostRuntime) -> Result<(), Fail> {
-    let (answer, text) = listed(rt.alloc(), WWW)?;
+fn lists_the_signatures_of_two_messages(rt: HostRuntime) -> Result<(), Fail> {
+    let mut octets = KEYS.to_vec(rt.alloc())?;
+    octets.extend_from_slice(HOST)?;
+    let (answer, text) = listed(rt.alloc(), &octets)?;
     assert_eq!(rt; answer, Ok(Status::Done));
-    assert_eq!(rt; text.as_slice(), WWW_LINES.as_bytes());
+    let lines = format!(in rt.alloc(); "data 1 1 {KEYS_DATA}\ndata 2 1 {HOST_DATA}\n")?;
+    assert_eq!(rt; text.as_slice(), lines.as_bytes());
     Ok(())
 }
 
