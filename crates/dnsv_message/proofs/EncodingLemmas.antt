@@ -52,12 +52,12 @@ pub record FitsRecord (resource : Record) : Type 0 where
 
 -- and of a message
 pub record FitsMessage (message : Contents) : Type 0 where
-  pub identified : message.id < 256 ^ 2
-  pub flagged : message.flags < 256 ^ 2
-  pub asked : length message.questions < 256 ^ 2
-  pub answered : length message.answer < 256 ^ 2
-  pub vouched : length message.authority < 256 ^ 2
-  pub added : length message.additional < 256 ^ 2
+  pub identifier : message.id < 256 ^ 2
+  pub flag_bits : message.flags < 256 ^ 2
+  pub question_count : length message.questions < 256 ^ 2
+  pub answer_count : length message.answer < 256 ^ 2
+  pub authority_count : length message.authority < 256 ^ 2
+  pub additional_count : length message.additional < 256 ^ 2
   pub each_question : AllByRecursion FitsQuestion message.questions
   pub each_answer : AllByRecursion FitsRecord message.answer
   pub each_authority : AllByRecursion FitsRecord message.authority
@@ -90,12 +90,12 @@ module _ (octets : List ℕ) (fit : (i : ℕ) → get_or octets i 0 < 256) where
 
   message_fits : (message : Contents) → MessageOf octets message → FitsMessage message
   message_fits message at = record {
-    identified = number_fits octets 0 2 message.id fit at.header.identified;
-    flagged = number_fits octets 2 2 message.flags fit at.header.flagged;
-    asked = number_fits octets 4 2 (length message.questions) fit at.header.asked;
-    answered = number_fits octets 6 2 (length message.answer) fit at.header.answered;
-    vouched = number_fits octets 8 2 (length message.authority) fit at.header.vouched;
-    added = number_fits octets 10 2 (length message.additional) fit at.header.added;
+    identifier = number_fits octets 0 2 message.id fit at.header.identifier;
+    flag_bits = number_fits octets 2 2 message.flags fit at.header.flag_bits;
+    question_count = number_fits octets 4 2 (length message.questions) fit at.header.question_count;
+    answer_count = number_fits octets 6 2 (length message.answer) fit at.header.answer_count;
+    authority_count = number_fits octets 8 2 (length message.authority) fit at.header.authority_count;
+    additional_count = number_fits octets 10 2 (length message.additional) fit at.header.additional_count;
     each_question = InOrder-each (QuestionAt octets) FitsQuestion question_fits message.questions 12 at.after_questions at.questions;
     each_answer = records_fit message.answer at.after_questions at.after_answer at.answer;
     each_authority = records_fit message.authority at.after_answer at.after_authority at.authority;
@@ -208,10 +208,10 @@ module _ (octets : List ℕ) where
   message_stands message fits stands size =
       let id = to_be_bytes w16 message.id in
       let flags = to_be_bytes w16 message.flags in
-      let asked = to_be_bytes w16 (length message.questions) in
-      let answered = to_be_bytes w16 (length message.answer) in
-      let vouched = to_be_bytes w16 (length message.authority) in
-      let added = to_be_bytes w16 (length message.additional) in
+      let question_count = to_be_bytes w16 (length message.questions) in
+      let answer_count = to_be_bytes w16 (length message.answer) in
+      let authority_count = to_be_bytes w16 (length message.authority) in
+      let additional_count = to_be_bytes w16 (length message.additional) in
       let header = header_octets message in
       let questions = flat_map question_octets message.questions in
       let records = flat_map record_octets (records_of message) in
@@ -229,10 +229,10 @@ module _ (octets : List ℕ) where
       let second = Stands-end answer authority after_answer refl third.0 in
       let end : after_authority + length additional ≡ length octets =
       omega (arith, size, length-append (header ++ questions) records, length-append header questions, ap length sections, length-append (answer ++ authority) additional, length-append answer authority) in
-      let six = Stands-end (id ++ flags ++ asked ++ answered ++ vouched) added 10 refl front.0 in
-      let five = Stands-end (id ++ flags ++ asked ++ answered) vouched 8 refl six.0 in
-      let four = Stands-end (id ++ flags ++ asked) answered 6 refl five.0 in
-      let three = Stands-end (id ++ flags) asked 4 refl four.0 in
+      let six = Stands-end (id ++ flags ++ question_count ++ answer_count ++ authority_count) additional_count 10 refl front.0 in
+      let five = Stands-end (id ++ flags ++ question_count ++ answer_count) authority_count 8 refl six.0 in
+      let four = Stands-end (id ++ flags ++ question_count) answer_count 6 refl five.0 in
+      let three = Stands-end (id ++ flags) question_count 4 refl four.0 in
       let two = Stands-end id flags 2 refl three.0 in
       let plain_questions = questions_stand message.questions 12 fits.each_question front.1 in
       let plain_answer = records_stand message.answer after_questions fits.each_answer second.0 in
@@ -241,12 +241,12 @@ module _ (octets : List ℕ) where
       record {
         whole = record {
           header = record {
-            identified = u16_stands 0 message.id fits.identified two.0;
-            flagged = u16_stands 2 message.flags fits.flagged two.1;
-            asked = u16_stands 4 (length message.questions) fits.asked three.1;
-            answered = u16_stands 6 (length message.answer) fits.answered four.1;
-            vouched = u16_stands 8 (length message.authority) fits.vouched five.1;
-            added = u16_stands 10 (length message.additional) fits.added six.1;
+            identifier = u16_stands 0 message.id fits.identifier two.0;
+            flag_bits = u16_stands 2 message.flags fits.flag_bits two.1;
+            question_count = u16_stands 4 (length message.questions) fits.question_count three.1;
+            answer_count = u16_stands 6 (length message.answer) fits.answer_count four.1;
+            authority_count = u16_stands 8 (length message.authority) fits.authority_count five.1;
+            additional_count = u16_stands 10 (length message.additional) fits.additional_count six.1;
           };
           after_questions = after_questions;
           after_answer = after_answer;

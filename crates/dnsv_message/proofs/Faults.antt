@@ -10,71 +10,71 @@ use Rattle.dnsv_message.specs.Grammar.{HeaderOf, QuestionAt, RecordAt, RecordFau
 use Rattle.dnsv_message.proofs.Sequences.{InOrder-append, FirstFault-front, FirstFault-behind}
 
 -- the counts of a header that is there, and the questions that it counts
-pub record Begun (octets : List ℕ) (asked answered vouched added : ℕ) (questions : List Question) (place : ℕ) : Type 0 where
+pub record Begun (octets : List ℕ) (question_count answer_count authority_count additional_count : ℕ) (questions : List Question) (place : ℕ) : Type 0 where
   pub header_there : 12 ≤ length octets
-  pub asked_at : NumberAt octets 4 2 asked
-  pub answered_at : NumberAt octets 6 2 answered
-  pub vouched_at : NumberAt octets 8 2 vouched
-  pub added_at : NumberAt octets 10 2 added
+  pub question_count_at : NumberAt octets 4 2 question_count
+  pub answer_count_at : NumberAt octets 6 2 answer_count
+  pub authority_count_at : NumberAt octets 8 2 authority_count
+  pub additional_count_at : NumberAt octets 10 2 additional_count
   pub questions_at : InOrder (QuestionAt octets) 12 questions place
-  pub all_asked : length questions ≡ asked
+  pub all_questions : length questions ≡ question_count
 
-module _ {octets : List ℕ} {asked answered vouched added : ℕ} {questions : List Question} {place : ℕ} (begun : Begun octets asked answered vouched added questions place) where
-  pub header_of : HeaderOf octets (big_from 0 2 octets) (big_from 2 2 octets) asked answered vouched added
+module _ {octets : List ℕ} {question_count answer_count authority_count additional_count : ℕ} {questions : List Question} {place : ℕ} (begun : Begun octets question_count answer_count authority_count additional_count questions place) where
+  pub header_of : HeaderOf octets (big_from 0 2 octets) (big_from 2 2 octets) question_count answer_count authority_count additional_count
   header_of = record {
-    identified = (omega (arith, begun.header_there), refl);
-    flagged = (omega (arith, begun.header_there), refl);
-    asked = begun.asked_at;
-    answered = begun.answered_at;
-    vouched = begun.vouched_at;
-    added = begun.added_at;
+    identifier = (omega (arith, begun.header_there), refl);
+    flag_bits = (omega (arith, begun.header_there), refl);
+    question_count = begun.question_count_at;
+    answer_count = begun.answer_count_at;
+    authority_count = begun.authority_count_at;
+    additional_count = begun.additional_count_at;
   }
 
-  fault_of_records : {error : DecodeError} → FirstFault (RecordAt octets) (RecordFaultAt octets) (answered + vouched + added) 1 place error → FaultOf octets error
+  fault_of_records : {error : DecodeError} → FirstFault (RecordAt octets) (RecordFaultAt octets) (answer_count + authority_count + additional_count) 1 place error → FaultOf octets error
   fault_of_records fault =
-      inr (big_from 0 2 octets, big_from 2 2 octets, asked, answered, vouched, added, header_of, inr (questions, place, begun.questions_at, begun.all_asked, inl fault))
+      inr (big_from 0 2 octets, big_from 2 2 octets, question_count, answer_count, authority_count, additional_count, header_of, inr (questions, place, begun.questions_at, begun.all_questions, inl fault))
 
-  pub fault_of_answer : {error : DecodeError} → FirstFault (RecordAt octets) (RecordFaultAt octets) answered 1 place error → FaultOf octets error
+  pub fault_of_answer : {error : DecodeError} → FirstFault (RecordAt octets) (RecordFaultAt octets) answer_count 1 place error → FaultOf octets error
   fault_of_answer {error} fault =
-      fault_of_records (FirstFault-front (RecordAt octets) (RecordFaultAt octets) (answered + vouched) added 1 place error
-      (FirstFault-front (RecordAt octets) (RecordFaultAt octets) answered vouched 1 place error fault))
+      fault_of_records (FirstFault-front (RecordAt octets) (RecordFaultAt octets) (answer_count + authority_count) additional_count 1 place error
+      (FirstFault-front (RecordAt octets) (RecordFaultAt octets) answer_count authority_count 1 place error fault))
 
-  module _ (answer : List Record) (after_answer : ℕ) (answer_at : InOrder (RecordAt octets) place answer after_answer) (all_answered : length answer ≡ answered) where
-    pub fault_of_authority : {error : DecodeError} → FirstFault (RecordAt octets) (RecordFaultAt octets) vouched (1 + answered) after_answer error → FaultOf octets error
+  module _ (answer : List Record) (after_answer : ℕ) (answer_at : InOrder (RecordAt octets) place answer after_answer) (all_answer : length answer ≡ answer_count) where
+    pub fault_of_authority : {error : DecodeError} → FirstFault (RecordAt octets) (RecordFaultAt octets) authority_count (1 + answer_count) after_answer error → FaultOf octets error
     fault_of_authority {error} fault =
-        fault_of_records (FirstFault-front (RecordAt octets) (RecordFaultAt octets) (answered + vouched) added 1 place error
-        (FirstFault-behind (RecordAt octets) (RecordFaultAt octets) answer answered vouched 1 place after_answer error answer_at all_answered fault))
+        fault_of_records (FirstFault-front (RecordAt octets) (RecordFaultAt octets) (answer_count + authority_count) additional_count 1 place error
+        (FirstFault-behind (RecordAt octets) (RecordFaultAt octets) answer answer_count authority_count 1 place after_answer error answer_at all_answer fault))
 
-    module _ (authority : List Record) (after_authority : ℕ) (authority_at : InOrder (RecordAt octets) after_answer authority after_authority) (all_vouched : length authority ≡ vouched) where
+    module _ (authority : List Record) (after_authority : ℕ) (authority_at : InOrder (RecordAt octets) after_answer authority after_authority) (all_authority : length authority ≡ authority_count) where
       both_at : InOrder (RecordAt octets) place (answer ++ authority) after_authority
       both_at = InOrder-append (RecordAt octets) answer authority place after_answer after_authority answer_at authority_at
 
-      pub fault_of_additional : {error : DecodeError} → FirstFault (RecordAt octets) (RecordFaultAt octets) added (1 + answered + vouched) after_authority error → FaultOf octets error
+      pub fault_of_additional : {error : DecodeError} → FirstFault (RecordAt octets) (RecordFaultAt octets) additional_count (1 + answer_count + authority_count) after_authority error → FaultOf octets error
       fault_of_additional {error} fault =
-          fault_of_records (FirstFault-behind (RecordAt octets) (RecordFaultAt octets) (answer ++ authority) (answered + vouched) added 1 place after_authority error both_at
-          (omega (arith, length-append answer authority, all_answered, all_vouched))
-          (subst (λ n. FirstFault (RecordAt octets) (RecordFaultAt octets) added n after_authority error) (add_assoc 1 answered vouched) fault))
+          fault_of_records (FirstFault-behind (RecordAt octets) (RecordFaultAt octets) (answer ++ authority) (answer_count + authority_count) additional_count 1 place after_authority error both_at
+          (omega (arith, length-append answer authority, all_answer, all_authority))
+          (subst (λ n. FirstFault (RecordAt octets) (RecordFaultAt octets) additional_count n after_authority error) (add_assoc 1 answer_count authority_count) fault))
 
-      pub fault_of_rest : (additional : List Record) (end : ℕ) → InOrder (RecordAt octets) after_authority additional end → length additional ≡ added → end < length octets → FaultOf octets TrailingBytes
-      fault_of_rest additional end additional_at all_added left =
+      pub fault_of_rest : (additional : List Record) (end : ℕ) → InOrder (RecordAt octets) after_authority additional end → length additional ≡ additional_count → end < length octets → FaultOf octets TrailingBytes
+      fault_of_rest additional end additional_at all_additional left =
           inr (
             big_from 0 2 octets,
             big_from 2 2 octets,
-            asked,
-            answered,
-            vouched,
-            added,
+            question_count,
+            answer_count,
+            authority_count,
+            additional_count,
             header_of,
             inr (
               questions,
               place,
               begun.questions_at,
-              begun.all_asked,
+              begun.all_questions,
               inr (
                 (answer ++ authority) ++ additional,
                 end,
                 InOrder-append (RecordAt octets) (answer ++ authority) additional place after_authority end both_at additional_at,
-                omega (arith, length-append answer authority, length-append (answer ++ authority) additional, all_answered, all_vouched, all_added),
+                omega (arith, length-append answer authority, length-append (answer ++ authority) additional, all_answer, all_authority, all_additional),
                 left,
                 refl,
               ),

@@ -5,6 +5,7 @@ pub mod Faults
 pub mod NameLaws
 pub mod RdataLemmas
 pub mod MessageLaws
+pub mod TailLemmas
 pub mod RdataWritten
 pub mod EncodingLemmas
 pub mod OneEncoding

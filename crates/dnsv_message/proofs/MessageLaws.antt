@@ -151,39 +151,39 @@ module _ (octets : List ℕ) (fit : (i : ℕ) → get_or octets i 0 < 256) where
       also)
       wrong
 
-  questions_same : (xs ys : List Question) (place end other : ℕ) → length xs ≡ length ys → InOrder (QuestionAt octets) place xs end → InOrder (QuestionAt octets) place ys other → (xs ≡ ys) × (end ≡ other)
+  pub questions_same : (xs ys : List Question) (place end other : ℕ) → length xs ≡ length ys → InOrder (QuestionAt octets) place xs end → InOrder (QuestionAt octets) place ys other → (xs ≡ ys) × (end ≡ other)
   questions_same = InOrder-same (QuestionAt octets) (QuestionFaultAt octets) question_same question_sound (λ number place. cut_short_same place 4)
 
-  records_same : (xs ys : List Record) (place end other : ℕ) → length xs ≡ length ys → InOrder (RecordAt octets) place xs end → InOrder (RecordAt octets) place ys other → (xs ≡ ys) × (end ≡ other)
+  pub records_same : (xs ys : List Record) (place end other : ℕ) → length xs ≡ length ys → InOrder (RecordAt octets) place xs end → InOrder (RecordAt octets) place ys other → (xs ≡ ys) × (end ≡ other)
   records_same = InOrder-same (RecordAt octets) (RecordFaultAt octets) record_same record_sound record_fault_same
 
   -- octets are at most one message
   pub MessageOf_same : (message other : Contents) → MessageOf octets message → MessageOf octets other → message ≡ other
   MessageOf_same message other at also =
       let same : (place n m : ℕ) → NumberAt octets place 2 n → NumberAt octets place 2 m → n ≡ m = λ place n m. number_same octets place place 2 n m refl in
-      let ids = same 0 _ _ at.header.identified also.header.identified in
-      let flags = same 2 _ _ at.header.flagged also.header.flagged in
-      let asked = questions_same _ _ 12 _ _ (same 4 _ _ at.header.asked also.header.asked) at.questions also.questions in
-      let answered = records_same _ _ _ _ _ (same 6 _ _ at.header.answered also.header.answered) at.answer (subst (λ p. InOrder (RecordAt octets) p other.answer also.after_answer) (sym asked.1) also.answer) in
-      let vouched = records_same _ _ _ _ _ (same 8 _ _ at.header.vouched also.header.vouched) at.authority (subst (λ p. InOrder (RecordAt octets) p other.authority also.after_authority) (sym answered.1) also.authority) in
-      let added = records_same _ _ _ _ _ (same 10 _ _ at.header.added also.header.added) at.additional (subst (λ p. InOrder (RecordAt octets) p other.additional (length octets)) (sym vouched.1) also.additional) in
-      λ i. record { id = ids i; flags = flags i; questions = asked.0 i; answer = answered.0 i; authority = vouched.0 i; additional = added.0 i }
+      let ids = same 0 _ _ at.header.identifier also.header.identifier in
+      let flags = same 2 _ _ at.header.flag_bits also.header.flag_bits in
+      let question_count = questions_same _ _ 12 _ _ (same 4 _ _ at.header.question_count also.header.question_count) at.questions also.questions in
+      let answer_count = records_same _ _ _ _ _ (same 6 _ _ at.header.answer_count also.header.answer_count) at.answer (subst (λ p. InOrder (RecordAt octets) p other.answer also.after_answer) (sym question_count.1) also.answer) in
+      let authority_count = records_same _ _ _ _ _ (same 8 _ _ at.header.authority_count also.header.authority_count) at.authority (subst (λ p. InOrder (RecordAt octets) p other.authority also.after_authority) (sym answer_count.1) also.authority) in
+      let additional_count = records_same _ _ _ _ _ (same 10 _ _ at.header.additional_count also.header.additional_count) at.additional (subst (λ p. InOrder (RecordAt octets) p other.additional (length octets)) (sym authority_count.1) also.additional) in
+      λ i. record { id = ids i; flags = flags i; questions = question_count.0 i; answer = answer_count.0 i; authority = authority_count.0 i; additional = additional_count.0 i }
 
   -- what a header says is one
-  record HeaderSame (asked answered vouched added asked' answered' vouched' added' : ℕ) : Type 0 where
-    askeds : asked ≡ asked'
-    answereds : answered ≡ answered'
-    voucheds : vouched ≡ vouched'
-    addeds : added ≡ added'
+  record HeaderSame (question_count answer_count authority_count additional_count question_count' answer_count' authority_count' additional_count' : ℕ) : Type 0 where
+    question_counts : question_count ≡ question_count'
+    answer_counts : answer_count ≡ answer_count'
+    authority_counts : authority_count ≡ authority_count'
+    additional_counts : additional_count ≡ additional_count'
 
-  header_same : (id flags asked answered vouched added id' flags' asked' answered' vouched' added' : ℕ) → HeaderOf octets id flags asked answered vouched added → HeaderOf octets id' flags' asked' answered' vouched' added' → HeaderSame asked answered vouched added asked' answered' vouched' added'
-  header_same id flags asked answered vouched added id' flags' asked' answered' vouched' added' at also =
+  header_same : (id flags question_count answer_count authority_count additional_count id' flags' question_count' answer_count' authority_count' additional_count' : ℕ) → HeaderOf octets id flags question_count answer_count authority_count additional_count → HeaderOf octets id' flags' question_count' answer_count' authority_count' additional_count' → HeaderSame question_count answer_count authority_count additional_count question_count' answer_count' authority_count' additional_count'
+  header_same id flags question_count answer_count authority_count additional_count id' flags' question_count' answer_count' authority_count' additional_count' at also =
       let same : (place n m : ℕ) → NumberAt octets place 2 n → NumberAt octets place 2 m → n ≡ m = λ place n m. number_same octets place place 2 n m refl in
       record {
-        askeds = same 4 _ _ at.asked also.asked;
-        answereds = same 6 _ _ at.answered also.answered;
-        voucheds = same 8 _ _ at.vouched also.vouched;
-        addeds = same 10 _ _ at.added also.added;
+        question_counts = same 4 _ _ at.question_count also.question_count;
+        answer_counts = same 6 _ _ at.answer_count also.answer_count;
+        authority_counts = same 8 _ _ at.authority_count also.authority_count;
+        additional_counts = same 10 _ _ at.additional_count also.additional_count;
       }
 
   -- the parts of a fault, from the end of the header on
@@ -194,16 +194,16 @@ module _ (octets : List ℕ) (fit : (i : ℕ) → get_or octets i 0 < 256) where
   abbrev RecordsFault : (total place : ℕ) → DecodeError → Type 0
   RecordsFault total place error = FirstFault (RecordAt octets) (RecordFaultAt octets) total 1 place error ⊎ LeftOver total place error
 
-  abbrev BehindQuestions : (asked total : ℕ) → DecodeError → Type 0
-  BehindQuestions asked total error =
-      (questions : List Question) × (place : ℕ) × InOrder (QuestionAt octets) 12 questions place × (length questions ≡ asked) × RecordsFault total place error
+  abbrev BehindQuestions : (question_count total : ℕ) → DecodeError → Type 0
+  BehindQuestions question_count total error =
+      (questions : List Question) × (place : ℕ) × InOrder (QuestionAt octets) 12 questions place × (length questions ≡ question_count) × RecordsFault total place error
 
-  abbrev BodyFault : (asked total : ℕ) → DecodeError → Type 0
-  BodyFault asked total error = FirstFault (QuestionAt octets) (QuestionFaultAt octets) asked 1 12 error ⊎ BehindQuestions asked total error
+  abbrev BodyFault : (question_count total : ℕ) → DecodeError → Type 0
+  BodyFault question_count total error = FirstFault (QuestionAt octets) (QuestionFaultAt octets) question_count 1 12 error ⊎ BehindQuestions question_count total error
 
   abbrev BehindHeader : DecodeError → Type 0
   BehindHeader error =
-      (id flags asked answered vouched added : ℕ) × HeaderOf octets id flags asked answered vouched added × BodyFault asked (answered + vouched + added) error
+      (id flags question_count answer_count authority_count additional_count : ℕ) × HeaderOf octets id flags question_count answer_count authority_count additional_count × BodyFault question_count (answer_count + authority_count + additional_count) error
 
   questions_sound : (xs : List Question) (count place end : ℕ) (error : DecodeError) → length xs ≡ count → InOrder (QuestionAt octets) place xs end → FirstFault (QuestionAt octets) (QuestionFaultAt octets) count 1 place error → ⊥
   questions_sound xs count place end error = InOrder-sound (QuestionAt octets) (QuestionFaultAt octets) question_same question_sound (λ number place. cut_short_same place 4) xs count 1 place end error
@@ -221,18 +221,18 @@ module _ (octets : List ℕ) (fit : (i : ℕ) → get_or octets i 0 < 256) where
   -- a message has no fault
   pub MessageOf_sound : (message : Contents) (error : DecodeError) → MessageOf octets message → FaultOf octets error → ⊥
   MessageOf_sound message error at wrong = ⊎_elim
-      (λ (short : (length octets < 12) × (error ≡ Short)). omega (arith, short.0, at.header.added.0))
+      (λ (short : (length octets < 12) × (error ≡ Short)). omega (arith, short.0, at.header.additional_count.0))
       (λ (behind : BehindHeader error).
       let counts = header_same _ _ _ _ _ _ _ _ _ _ _ _ at.header behind.6 in
       ⊎_elim
-      (λ (asked : FirstFault (QuestionAt octets) (QuestionFaultAt octets) behind.2 1 12 error).
-      questions_sound message.questions behind.2 12 at.after_questions error counts.askeds at.questions asked)
+      (λ (question_count : FirstFault (QuestionAt octets) (QuestionFaultAt octets) behind.2 1 12 error).
+      questions_sound message.questions behind.2 12 at.after_questions error counts.question_counts at.questions question_count)
       (λ (later : BehindQuestions behind.2 (behind.3 + behind.4 + behind.5) error).
-      let questions = questions_same message.questions later.0 12 at.after_questions later.1 (counts.askeds ∙ sym later.3) at.questions later.2 in
+      let questions = questions_same message.questions later.0 12 at.after_questions later.1 (counts.question_counts ∙ sym later.3) at.questions later.2 in
       let order = InOrder-append (RecordAt octets) (message.answer ++ message.authority) message.additional at.after_questions at.after_authority (length octets)
       (InOrder-append (RecordAt octets) message.answer message.authority at.after_questions at.after_answer at.after_authority at.answer at.authority) at.additional in
       records_fault_sound ((message.answer ++ message.authority) ++ message.additional) (behind.3 + behind.4 + behind.5) later.1 (length octets) error
-      (omega (arith, length-append message.answer message.authority, length-append (message.answer ++ message.authority) message.additional, counts.answereds, counts.voucheds, counts.addeds))
+      (omega (arith, length-append message.answer message.authority, length-append (message.answer ++ message.authority) message.additional, counts.answer_counts, counts.authority_counts, counts.additional_counts))
       (subst (λ p. InOrder (RecordAt octets) p ((message.answer ++ message.authority) ++ message.additional) (length octets)) questions.1 order)
       refl later.4)
       behind.7)
@@ -251,16 +251,16 @@ module _ (octets : List ℕ) (fit : (i : ℕ) → get_or octets i 0 < 256) where
       also)
       wrong
 
-  body_fault_same : (asked total : ℕ) (error other : DecodeError) → BodyFault asked total error → BodyFault asked total other → error ≡ other
-  body_fault_same asked total error other wrong also = ⊎_elim
-      (λ (fault : FirstFault (QuestionAt octets) (QuestionFaultAt octets) asked 1 12 error). ⊎_elim
-      (λ (fault' : FirstFault (QuestionAt octets) (QuestionFaultAt octets) asked 1 12 other).
-      FirstFault-same (QuestionAt octets) (QuestionFaultAt octets) question_same question_sound (λ number place. cut_short_same place 4) asked 1 12 error other fault fault')
-      (λ (later' : BehindQuestions asked total other). absurd (questions_sound later'.0 asked 12 later'.1 error later'.3 later'.2 fault))
+  body_fault_same : (question_count total : ℕ) (error other : DecodeError) → BodyFault question_count total error → BodyFault question_count total other → error ≡ other
+  body_fault_same question_count total error other wrong also = ⊎_elim
+      (λ (fault : FirstFault (QuestionAt octets) (QuestionFaultAt octets) question_count 1 12 error). ⊎_elim
+      (λ (fault' : FirstFault (QuestionAt octets) (QuestionFaultAt octets) question_count 1 12 other).
+      FirstFault-same (QuestionAt octets) (QuestionFaultAt octets) question_same question_sound (λ number place. cut_short_same place 4) question_count 1 12 error other fault fault')
+      (λ (later' : BehindQuestions question_count total other). absurd (questions_sound later'.0 question_count 12 later'.1 error later'.3 later'.2 fault))
       also)
-      (λ (later : BehindQuestions asked total error). ⊎_elim
-      (λ (fault' : FirstFault (QuestionAt octets) (QuestionFaultAt octets) asked 1 12 other). absurd (questions_sound later.0 asked 12 later.1 other later.3 later.2 fault'))
-      (λ (later' : BehindQuestions asked total other).
+      (λ (later : BehindQuestions question_count total error). ⊎_elim
+      (λ (fault' : FirstFault (QuestionAt octets) (QuestionFaultAt octets) question_count 1 12 other). absurd (questions_sound later.0 question_count 12 later.1 other later.3 later.2 fault'))
+      (λ (later' : BehindQuestions question_count total other).
       let questions = questions_same later.0 later'.0 12 later.1 later'.1 (later.3 ∙ sym later'.3) later.2 later'.2 in
       records_fault_same total later.1 error other later.4 (subst (λ p. RecordsFault total p other) (sym questions.1) later'.4))
       also)
@@ -271,24 +271,24 @@ module _ (octets : List ℕ) (fit : (i : ℕ) → get_or octets i 0 < 256) where
   FaultOf_same error other wrong also = ⊎_elim
       (λ (short : (length octets < 12) × (error ≡ Short)). ⊎_elim
       (λ (short' : (length octets < 12) × (other ≡ Short)). short.1 ∙ sym short'.1)
-      (λ (behind' : BehindHeader other). absurd (omega (arith, short.0, behind'.6.added.0)))
+      (λ (behind' : BehindHeader other). absurd (omega (arith, short.0, behind'.6.additional_count.0)))
       also)
       (λ (behind : BehindHeader error). ⊎_elim
-      (λ (short' : (length octets < 12) × (other ≡ Short)). absurd (omega (arith, short'.0, behind.6.added.0)))
+      (λ (short' : (length octets < 12) × (other ≡ Short)). absurd (omega (arith, short'.0, behind.6.additional_count.0)))
       (λ (behind' : BehindHeader other).
       let counts = header_same _ _ _ _ _ _ _ _ _ _ _ _ behind.6 behind'.6 in
-      let totals : behind'.3 + behind'.4 + behind'.5 ≡ behind.3 + behind.4 + behind.5 = omega (arith, counts.answereds, counts.voucheds, counts.addeds) in
+      let totals : behind'.3 + behind'.4 + behind'.5 ≡ behind.3 + behind.4 + behind.5 = omega (arith, counts.answer_counts, counts.authority_counts, counts.additional_counts) in
       body_fault_same behind.2 (behind.3 + behind.4 + behind.5) error other behind.7
-      (subst (λ n. BodyFault n (behind.3 + behind.4 + behind.5) other) (sym counts.askeds)
+      (subst (λ n. BodyFault n (behind.3 + behind.4 + behind.5) other) (sym counts.question_counts)
       (subst (λ n. BodyFault behind'.2 n other) totals behind'.7)))
       also)
       wrong
 
   -- so what stands in the octets is found, where the answer is sound both ways
-  pub message_found : (answer : Result Contents DecodeError) → IfOk answer (MessageOf octets) → IfErr answer (λ error. (error ≡ OutOfMemory) ⊎ FaultOf octets error)
-      → (message : Contents) → MessageOf octets message → MatchResult answer (λ found. found ≡ message) (λ error. error ≡ OutOfMemory)
-  message_found (Ok found) ok err message at = MessageOf_same found message ok at
-  message_found (Err error) ok err message at = ⊎_elim
+  pub message_found : {X : Type 0} (contents : X → Contents) (answer : Result X DecodeError) → IfOk answer (λ found. MessageOf octets (contents found)) → IfErr answer (λ error. (error ≡ OutOfMemory) ⊎ FaultOf octets error)
+      → (message : Contents) → MessageOf octets message → MatchResult answer (λ found. contents found ≡ message) (λ error. error ≡ OutOfMemory)
+  message_found contents (Ok found) ok err message at = MessageOf_same (contents found) message ok at
+  message_found contents (Err error) ok err message at = ⊎_elim
       (λ (memory : error ≡ OutOfMemory). memory)
       (λ (fault : FaultOf octets error). absurd (MessageOf_sound message error at fault))
       err

@@ -94,15 +94,15 @@ module _ (octets : List ℕ) (fit : (i : ℕ) → get_or octets i 0 < 256) where
   question_spelled : (place : ℕ) (question : Question) (end : ℕ) → PlainQuestionAt octets place question end → Spelled octets place (question_octets question) end
   unfolding Spelled
   question_spelled place question end at =
-      let asked = at.0 in
+      let question_count = at.0 in
       let one = wire question.name in
       let rtype = to_be_bytes w16 question.rtype.0 in
       let class = to_be_bytes w16 question.class.0 in
       let first : Stands octets place one = record { form = at.1 } in
-      let after : asked.after_name ≡ place + length one = name_ends place question.name asked.after_name asked.name first in
-      let second = Stands-join octets place one rtype asked.after_name (sym after) first (u16_spelled asked.after_name question.rtype.0 asked.rtype) in
-      let third = Stands-join octets place (one ++ rtype) class (asked.after_name + 2) (omega (arith, after, length-append one rtype)) second (u16_spelled (asked.after_name + 2) question.class.0 asked.class) in
-      (third, omega (arith, asked.ends, after, length-append one rtype, length-append (one ++ rtype) class))
+      let after : question_count.after_name ≡ place + length one = name_ends place question.name question_count.after_name question_count.name first in
+      let second = Stands-join octets place one rtype question_count.after_name (sym after) first (u16_spelled question_count.after_name question.rtype.0 question_count.rtype) in
+      let third = Stands-join octets place (one ++ rtype) class (question_count.after_name + 2) (omega (arith, after, length-append one rtype)) second (u16_spelled (question_count.after_name + 2) question.class.0 question_count.class) in
+      (third, omega (arith, question_count.ends, after, length-append one rtype, length-append (one ++ rtype) class))
 
   record_spelled : (place : ℕ) (resource : Record) (end : ℕ) → PlainRecordAt octets place resource end → Spelled octets place (record_octets resource) end
   unfolding Spelled
@@ -139,15 +139,15 @@ module _ (octets : List ℕ) (fit : (i : ℕ) → get_or octets i 0 < 256) where
       let numbers = at.whole.header in
       let id = to_be_bytes w16 message.id in
       let flags = to_be_bytes w16 message.flags in
-      let asked = to_be_bytes w16 (length message.questions) in
-      let answered = to_be_bytes w16 (length message.answer) in
-      let vouched = to_be_bytes w16 (length message.authority) in
-      let added = to_be_bytes w16 (length message.additional) in
-      let two = Stands-join octets 0 id flags 2 refl (u16_spelled 0 message.id numbers.identified) (u16_spelled 2 message.flags numbers.flagged) in
-      let three = Stands-join octets 0 (id ++ flags) asked 4 refl two (u16_spelled 4 (length message.questions) numbers.asked) in
-      let four = Stands-join octets 0 (id ++ flags ++ asked) answered 6 refl three (u16_spelled 6 (length message.answer) numbers.answered) in
-      let five = Stands-join octets 0 (id ++ flags ++ asked ++ answered) vouched 8 refl four (u16_spelled 8 (length message.authority) numbers.vouched) in
-      let six = Stands-join octets 0 (id ++ flags ++ asked ++ answered ++ vouched) added 10 refl five (u16_spelled 10 (length message.additional) numbers.added) in
+      let question_count = to_be_bytes w16 (length message.questions) in
+      let answer_count = to_be_bytes w16 (length message.answer) in
+      let authority_count = to_be_bytes w16 (length message.authority) in
+      let additional_count = to_be_bytes w16 (length message.additional) in
+      let two = Stands-join octets 0 id flags 2 refl (u16_spelled 0 message.id numbers.identifier) (u16_spelled 2 message.flags numbers.flag_bits) in
+      let three = Stands-join octets 0 (id ++ flags) question_count 4 refl two (u16_spelled 4 (length message.questions) numbers.question_count) in
+      let four = Stands-join octets 0 (id ++ flags ++ question_count) answer_count 6 refl three (u16_spelled 6 (length message.answer) numbers.answer_count) in
+      let five = Stands-join octets 0 (id ++ flags ++ question_count ++ answer_count) authority_count 8 refl four (u16_spelled 8 (length message.authority) numbers.authority_count) in
+      let six = Stands-join octets 0 (id ++ flags ++ question_count ++ answer_count ++ authority_count) additional_count 10 refl five (u16_spelled 10 (length message.additional) numbers.additional_count) in
       let header = header_octets message in
       let questions = flat_map question_octets message.questions in
       let records = flat_map record_octets (records_of message) in

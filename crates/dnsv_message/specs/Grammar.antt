@@ -81,12 +81,12 @@ pub record RecordAt (octets : List ℕ) (place : ℕ) (resource : Record) (end :
 
 -- the header's numbers: identifier, flags, and how many questions and records of each section there are (RFC 1035 4.1.1)
 pub record HeaderOf (octets : List ℕ) (id flags questions answer authority additional : ℕ) : Type 0 where
-  pub identified : NumberAt octets 0 2 id
-  pub flagged : NumberAt octets 2 2 flags
-  pub asked : NumberAt octets 4 2 questions
-  pub answered : NumberAt octets 6 2 answer
-  pub vouched : NumberAt octets 8 2 authority
-  pub added : NumberAt octets 10 2 additional
+  pub identifier : NumberAt octets 0 2 id
+  pub flag_bits : NumberAt octets 2 2 flags
+  pub question_count : NumberAt octets 4 2 questions
+  pub answer_count : NumberAt octets 6 2 answer
+  pub authority_count : NumberAt octets 8 2 authority
+  pub additional_count : NumberAt octets 10 2 additional
 
 -- The octets are the message: its header, and as many questions and records as the header says, one after
 -- another, with nothing left over.
@@ -127,9 +127,9 @@ RecordFaultAt octets number place error =
 abbrev pub FaultOf : List ℕ → DecodeError → Type 0
 FaultOf octets error =
     ((length octets < 12) × (error ≡ Short))
-    ⊎ ((id flags asked answered vouched added : ℕ) × HeaderOf octets id flags asked answered vouched added
-    × (FirstFault (QuestionAt octets) (QuestionFaultAt octets) asked 1 12 error
-    ⊎ ((questions : List Question) × (p : ℕ) × InOrder (QuestionAt octets) 12 questions p × (length questions ≡ asked)
-    × (FirstFault (RecordAt octets) (RecordFaultAt octets) (answered + vouched + added) 1 p error
-    ⊎ ((records : List Record) × (end : ℕ) × InOrder (RecordAt octets) p records end × (length records ≡ answered + vouched + added)
+    ⊎ ((id flags question_count answer_count authority_count additional_count : ℕ) × HeaderOf octets id flags question_count answer_count authority_count additional_count
+    × (FirstFault (QuestionAt octets) (QuestionFaultAt octets) question_count 1 12 error
+    ⊎ ((questions : List Question) × (p : ℕ) × InOrder (QuestionAt octets) 12 questions p × (length questions ≡ question_count)
+    × (FirstFault (RecordAt octets) (RecordFaultAt octets) (answer_count + authority_count + additional_count) 1 p error
+    ⊎ ((records : List Record) × (end : ℕ) × InOrder (RecordAt octets) p records end × (length records ≡ answer_count + authority_count + additional_count)
     × (end < length octets) × (error ≡ TrailingBytes))))))

@@ -4,6 +4,7 @@ pub mod Errors
 pub mod NameAt
 pub mod Layout
 pub mod Grammar
+pub mod Tail
 pub mod Encoding
 pub mod Steps
 pub mod Counted

@@ -1,9 +1,10 @@
 //! Laws of the message grammar, which other crates may cite.
-ghost use Rattle.std.specs.Prelude.{◌≡◌, List, ℕ};
+ghost use Rattle.std.specs.Prelude.{◌≡◌, ◌<◌, ◌≤◌, List, ℕ, length, Option};
 ghost use Rattle.dnsv_message.specs.declared.errors.DecodeError.{DecodeError};
 ghost use Rattle.dnsv_message.specs.Message.{Contents};
 ghost use Rattle.dnsv_message.specs.NameAt.{AreOctets};
 ghost use Rattle.dnsv_message.specs.Grammar.{MessageOf, FaultOf};
+ghost use Rattle.dnsv_message.specs.Tail.{IsTailOf, TailAt};
 ghost use Rattle.dnsv_message.specs.Encoding.{message_octets, PlainMessageOf};
 
 /// Octets are at most one message.
@@ -29,4 +30,14 @@ pub fn decoding_gives_what_was_encoded()
 /// No other octets are the message and have no pointer.
 pub fn one_encoding()
     ensures { (octets : List ℕ) → AreOctets octets → (message : Contents) → PlainMessageOf octets message → octets ≡ message_octets message }
+{}
+
+/// A message has one place where its last record begins, behind the header and within the octets, or no records.
+pub fn one_tail()
+    ensures some { (octets : List ℕ) (message : Contents) → MessageOf octets message →
+        (tail : Option ℕ) × IsTailOf octets message tail }
+    ensures one { (octets : List ℕ) → AreOctets octets → (message : Contents) (tail other : Option ℕ) →
+        IsTailOf octets message tail → IsTailOf octets message other → tail ≡ other }
+    ensures within { (octets : List ℕ) (message : Contents) (place : ℕ) → TailAt octets message place →
+        (12 ≤ place) × (place < length octets) }
 {}

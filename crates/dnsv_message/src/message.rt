@@ -55,6 +55,7 @@ const HEADER_LENGTH: usize = 12;
 impl Message {
     ghost use Rattle.dnsv_message.specs.Message.{Contents, section_of};
     ghost use Rattle.dnsv_message.specs.Grammar.{MessageOf, FaultOf};
+    ghost use Rattle.dnsv_message.specs.Tail.{IsTailOf};
     ghost use Rattle.dnsv_message.specs.Encoding.{header_octets, message_octets, PlainMessageOf};
     ghost use Rattle.dnsv_message.specs.NameAt.{AreOctets};
 
@@ -76,35 +77,56 @@ impl Message {
         // The fault is the first.
         ensures fault { IfErr result (λ error. (error ≡ DecodeError.OutOfMemory) ⊎ FaultOf octets.now error) }
     {
+        let (message, _) = Message::decode_with_tail(alloc, octets)?;
+        Ok(message)
+    }
+
+    /// Reads a message as [`Message::decode`] does, and says at which of the octets its last record begins,
+    /// counted from 0. That is `None` where the message has no records.
+    pub fn decode_with_tail(
+        alloc: Global,
+        octets: &[u8],
+    ) -> Result<(Message, Option<usize>), DecodeError>
+        ensures found { IfOk result (λ found. MessageOf octets.now found.0) }
+        ensures tail { IfOk result (λ found. IsTailOf octets.now found.0 found.1) }
+        ensures every { (message : Contents) → MessageOf octets.now message
+            → MatchResult result (λ found. found.0 ≡ message) (λ error. error ≡ DecodeError.OutOfMemory) }
+        ensures fault { IfErr result (λ error. (error ≡ DecodeError.OutOfMemory) ⊎ FaultOf octets.now error) }
+    {
         Message::read(alloc, octets)
     }
 
-    fn read(alloc: Global, octets: &[u8]) -> Result<Message, DecodeError>
-        ensures found { IfOk result (MessageOf octets.now) }
+    fn read(alloc: Global, octets: &[u8]) -> Result<(Message, Option<usize>), DecodeError>
+        ensures found { IfOk result (λ found. MessageOf octets.now found.0) }
+        ensures tail { IfOk result (λ found. IsTailOf octets.now found.0 found.1) }
         ensures fault { IfErr result (λ error. (error ≡ DecodeError.OutOfMemory) ⊎ FaultOf octets.now error) }
     {
         if octets.len() < HEADER_LENGTH {
             return Err(DecodeError::Short);
         }
-        let asked = u16_at(octets, 4) as usize;
-        let answered = u16_at(octets, 6) as usize;
-        let vouched = u16_at(octets, 8) as usize;
-        let added = u16_at(octets, 10) as usize;
-        let (questions, place) = questions_at(alloc, octets, HEADER_LENGTH, asked)?;
-        let (answer, place) = records_at(alloc, octets, place, answered, 1)?;
-        let (authority, place) = records_at(alloc, octets, place, vouched, 1 + answered)?;
-        let (additional, place) = records_at(alloc, octets, place, added, 1 + answered + vouched)?;
-        if place < octets.len() {
+        let question_count = u16_at(octets, 4) as usize;
+        let answer_count = u16_at(octets, 6) as usize;
+        let authority_count = u16_at(octets, 8) as usize;
+        let additional_count = u16_at(octets, 10) as usize;
+        let (questions, place) = questions_at(alloc, octets, HEADER_LENGTH, question_count)?;
+        let answer = records_at(alloc, octets, place, answer_count, 1)?;
+        let number = 1 + answer_count;
+        let authority = records_at(alloc, octets, answer.end, authority_count, number)?;
+        let number = number + authority_count;
+        let additional = records_at(alloc, octets, authority.end, additional_count, number)?;
+        if additional.end < octets.len() {
             return Err(DecodeError::TrailingBytes);
         }
-        Ok(Message {
+        let tail = additional.tail.or(authority.tail).or(answer.tail);
+        let message = Message {
             id: u16_at(octets, 0),
             flags: Flags(u16_at(octets, 2)),
             questions,
-            answer,
-            authority,
-            additional,
-        })
+            answer: answer.records,
+            authority: authority.records,
+            additional: additional.records,
+        };
+        Ok((message, tail))
     }
 
     /// The identifier, by which an answer is matched to its query (RFC 1035 4.1.1).

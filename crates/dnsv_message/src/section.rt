@@ -1,6 +1,7 @@
 //! Questions and records where they stand in a message (RFC 1035 4.1.2, 4.1.3).
 ghost use Rattle.std.specs.Prelude.{◌≡◌, ◌≤◌, ◌+◌, ◌<◌, ◌^◌, ◌⊎◌, length, IfOk, IfErr};
 ghost use Rattle.dnsv_message.specs.Grammar.{QuestionAt, QuestionFaultAt, RecordAt, RecordFaultAt, InOrder, FirstFault};
+ghost use Rattle.dnsv_message.specs.Tail.{LastAt};
 
 use crate::errors::DecodeError;
 use crate::fields::{u16_at, u32_at};
@@ -16,6 +17,16 @@ const QUESTION_TAIL: usize = 4;
 
 /// How many octets of a record stand between its name and its RDATA.
 const RECORD_TAIL: usize = 10;
+
+/// Records that stand one after another in a message.
+#[derive(Drop)]
+pub struct Records {
+    pub records: Vec<Record>,
+    /// The place where the last of them begins, if there is one.
+    pub tail: Option<usize>,
+    /// The place of what follows them.
+    pub end: usize,
+}
 
 /// Reads this many questions from a place on, and says where what follows them stands.
 pub fn questions_at(
@@ -40,30 +51,32 @@ pub fn questions_at(
     Ok((questions, next))
 }
 
-/// Reads this many records from a place on, the first of which has this number, and says where what
-/// follows them stands.
+/// Reads this many records from a place on, the first of which has this number.
 pub fn records_at(
     alloc: Global,
     octets: &[u8],
     place: usize,
     count: usize,
     first: usize,
-) -> Result<(Vec<Record>, usize), DecodeError>
+) -> Result<Records, DecodeError>
     requires { first + count < 2 ^ 64 }
-    ensures found { IfOk result (λ found. InOrder (RecordAt octets.now) place found.0.items found.1) }
-    ensures count { IfOk result (λ found. length found.0.items ≡ count) }
-    ensures within { place ≤ length octets.now → IfOk result (λ found. found.1 ≤ length octets.now) }
+    ensures found { IfOk result (λ found. InOrder (RecordAt octets.now) place found.records.items found.end) }
+    ensures tail { IfOk result (λ found. LastAt (RecordAt octets.now) place found.records.items found.end found.tail) }
+    ensures count { IfOk result (λ found. length found.records.items ≡ count) }
+    ensures within { place ≤ length octets.now → IfOk result (λ found. found.end ≤ length octets.now) }
     ensures fault { IfErr result (λ error. (error ≡ DecodeError.OutOfMemory)
         ⊎ FirstFault (RecordAt octets.now) (RecordFaultAt octets.now) count first place error) }
 {
     let mut records = Vec::new(alloc);
-    let mut next = place;
+    let mut tail = None;
+    let mut end = place;
     for read in 0..count {
-        let (record, end) = record_at(alloc, octets, next, first + read)?;
+        let (record, next) = record_at(alloc, octets, end, first + read)?;
         records.push(record)?;
-        next = end;
+        tail = Some(end);
+        end = next;
     }
-    Ok((records, next))
+    Ok(Records { records, tail, end })
 }
 
 fn question_at(octets: &[u8], place: usize) -> Result<(Question, usize), DecodeError>

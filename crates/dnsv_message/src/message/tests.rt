@@ -63,6 +63,23 @@ fn decodes_a_signed_address(rt: HostRuntime) -> Result<(), Fail> {
 }
 
 #[test]
+fn tells_where_the_last_record_begins(rt: HostRuntime) -> Result<(), Fail> {
+    // A message that is signed by a shared key: the record of its signature is the only one.
+    let signed = b"\x12\x34\x81\x80\0\0\0\0\0\0\0\x01\
+        \x01k\0\0\xfa\0\xff\0\0\0\0\0\x3d\x0bhmac-sha256\0\0\0\0\0\x03\xe8\x01\x2c\0\x20\
+        ................................\x12\x34\0\0\0\0";
+    let (message, tail) = Message::decode_with_tail(rt.alloc(), signed)?;
+    assert_eq!(rt; tail, Some(12));
+    assert_eq!(rt; message.records(Section::Additional).len(), 1);
+    let (message, tail) = Message::decode_with_tail(rt.alloc(), SIGNED_ADDRESS)?;
+    assert_eq!(rt; tail, Some(62));
+    assert_eq!(rt; message.records(Section::Answer).len(), 3);
+    let (_, tail) = Message::decode_with_tail(rt.alloc(), &asking(rt.alloc(), b"\0")?)?;
+    assert_eq!(rt; tail, None);
+    Ok(())
+}
+
+#[test]
 fn refuses_every_beginning_and_what_is_left_over(rt: HostRuntime) -> Result<(), Fail> {
     for length in 0..103usize {
         let answer = Message::decode(rt.alloc(), &SIGNED_ADDRESS[..length]);

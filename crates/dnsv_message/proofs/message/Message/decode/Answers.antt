@@ -1,6 +1,7 @@
-use Rattle.std.proofs.Common.{arith}
-use Rattle.dnsv_message.proofs.MessageLaws.{message_found}
+use Rattle.std.proofs.lemmas.Result.{err_from_is_err_and}
 use Rattle.dnsv_message.proofs.message.Message.decode.Goals as goal
 
-pub returns-clause-every : goal.returns-clause-every
-returns-clause-every c = message_found c.args.octets.now (λ i. omega (arith, c.type_inv.octets i)) c.read.result c.read.ensures.found c.read.ensures.fault
+pub returns-in_err-message-clause-every : goal.returns-in_err-message-clause-every
+returns-in_err-message-clause-every c = λ message at.
+    let p = err_from_is_err_and c.from_residual.result c.from_residual.ensures.1 in
+    rw (p.1, p.2) (c.in_err-message.ensures.every message at)
