@@ -2,6 +2,7 @@
 //! which order they stand.
 #![tactic(auto)]
 
+pub use circle::{Circle, covers};
 pub use count::{Count, counts_add_up};
 pub use error::NameError;
 pub use hash20::Hash20;
@@ -15,6 +16,7 @@ pub use order::{
 pub use parse::{a_text_has_one_reading, names_are_spelled_by_their_text};
 pub use tree::ASTERISK_LABEL;
 
+mod circle;
 mod count;
 mod error;
 mod hash20;

@@ -1,0 +1,59 @@
+//! Circles of values: a chain's owners in their order, the last of which the first follows.
+ghost use Rattle.std.specs.Prelude.{◌≡◌, ◌≢◌, ◌↔◌, List, ◌∷◌, IsTrue};
+ghost use Rattle.dnsv_names.specs.Circle.{Gap, IsMember, IsSuccessor};
+
+use crate::hash20::Hash20;
+use crate::name::Name;
+use std::cmp::Ordering;
+
+/// What stands in a circle by its total order: the owners of NSEC records by canonical order (RFC 4034 4.1.1), and
+/// hashes as unsigned octets (RFC 5155 3.1.7). The laws of the order are those of `Ord`.
+pub trait Circle: Ord {}
+
+impl Circle for Name {}
+
+impl Circle for Hash20 {}
+
+/// Whether `x` lies in the gap of `owner` and `next`: between them; where `next` comes first, since `owner` is the
+/// last of its circle, behind `owner` or before `next`; where the two are equal, since `owner` is alone, anywhere
+/// but at it.
+pub fn covers<T: Circle>(owner: &T, next: &T, x: &T) -> bool
+    ensures { IsTrue result ↔ Gap T.cmp owner.now next.now x.now }
+{
+    match owner.cmp(next) {
+        Ordering::Less => owner < x && x < next,
+        Ordering::Greater => owner < x || x < next,
+        Ordering::Equal => owner != x,
+    }
+}
+
+/// A law of circles: each value has a successor among the members, where there are any. Between it and its
+/// successor no member lies.
+pub fn each_value_has_a_successor<T: Circle>()
+    ensures { (owner first : T) (rest : List T)
+        → (next : T) × IsSuccessor T.cmp (first ∷ rest) owner next }
+{}
+
+/// A law of circles: what equals no member lies in the gap of one of them, whichever successor that one is given.
+pub fn all_else_lies_in_a_gap<T: Circle>()
+    ensures { (first : T) (rest : List T) (x : T) → ¬ IsMember T.cmp (first ∷ rest) x
+        → (owner : T) × IsMember T.cmp (first ∷ rest) owner
+        × ((next : T) → IsSuccessor T.cmp (first ∷ rest) owner next → Gap T.cmp owner next x) }
+{}
+
+/// A law of circles: what equals no member lies in the gap of no two of them.
+pub fn all_else_lies_in_one_gap<T: Circle>()
+    ensures { (members : List T) (x owner next other after : T) → ¬ IsMember T.cmp members x
+        → IsMember T.cmp members owner → IsSuccessor T.cmp members owner next → Gap T.cmp owner next x
+        → IsMember T.cmp members other → IsSuccessor T.cmp members other after → Gap T.cmp other after x
+        → T.cmp owner other ≡ Ordering.Equal }
+{}
+
+/// A law of circles: where `x` lies in the gap of an owner before it, and some member comes behind `x`, the owner's
+/// successor comes behind `x` too, and not behind that member.
+pub fn the_next_is_behind<T: Circle>()
+    ensures { (members : List T) (owner next x member : T) → IsSuccessor T.cmp members owner next
+        → IsMember T.cmp members member → Gap T.cmp owner next x
+        → T.cmp owner x ≡ Ordering.Less → T.cmp x member ≡ Ordering.Less
+        → (T.cmp x next ≡ Ordering.Less) × ¬ (T.cmp member next ≡ Ordering.Less) }
+{}
