@@ -81,25 +81,10 @@ IsName-lower_case labels name =
     let same = ap length (lower_case-wire labels name.each) in
     record { each = lower_labels labels name.each; at_most_255 = omega (arith, same, length-map (wire labels) to_ascii_lowercase, name.at_most_255) }
 
-each_drop : (n : ℕ) (labels : Labels) → AllByRecursion IsLabel labels → AllByRecursion IsLabel (drop n labels)
-each_drop zero labels each = each
-each_drop (suc n) [] each = tt
-each_drop (suc n) (label ∷ labels) each = each_drop n labels each.1
-
-wire_drop : (n : ℕ) (labels : Labels) → length (wire (drop n labels)) ≤ length (wire labels)
-wire_drop zero labels = omega arith
-wire_drop (suc n) [] = omega arith
-wire_drop (suc n) (label ∷ labels) = simp length-append (omega (arith, wire_drop n labels))
-
 each_at : (labels : Labels) (k : ℕ) → AllByRecursion IsLabel labels → k < length labels → IsLabel (get_or labels k [])
 each_at [] k each more = absurd (omega arith)
 each_at (label ∷ labels) zero each more = each.0
 each_at (label ∷ labels) (suc k) each more = each_at labels k each.1 (omega arith)
-
--- rightmost labels of a name are a name
-pub IsName-drop : (n : ℕ) (labels : Labels) → IsName labels → IsName (drop n labels)
-IsName-drop n labels name =
-    record { each = each_drop n labels name.each; at_most_255 = omega (arith, wire_drop n labels, name.at_most_255) }
 
 -- behind the place stand the octets of the labels from k on
 pub record Stands (octets : List ℕ) (place : ℕ) (labels : Labels) (k : ℕ) : Type 0 where

@@ -1,37 +1,13 @@
 -- When the labels of one name end those of another, and what a wildcard is.
-use Rattle.std.proofs.Common.{◌≡◌, ℕ, ◌-◌, ◌≤◌, List, [], ◌∷◌, ◌++◌, length, take, drop, map, sym, ap, ◌∙◌, arith, length-append, Bool}
-use Rattle.std.proofs.lemmas.List.{take-append-drop, drop_at, drop-map, length-map, map-append}
+use Rattle.std.proofs.Common.{◌≡◌, ℕ, ◌-◌, ◌≤◌, List, [], ◌∷◌, length, drop, map, sym, ap, ◌∙◌, arith, Bool}
 use Rattle.std.specs.Bool.{Decides}
 use Rattle.std.specs.Char.{to_ascii_lowercase}
 use Rattle.std.specs.Cmp.Lexicographic.{bytes_decides}
-use Rattle.dnsv_names.specs.Name.{Labels, IsLabel, IsName, wire, lower_case, SameName, IsAtOrBelow}
+use Rattle.dnsv_names.specs.Name.{Labels, IsName, wire, lower_case, IsAtOrBelow}
 use Rattle.dnsv_names.specs.Spelling.{labels_of, SpellsName}
+use Rattle.dnsv_names.specs.AncestorLaws.{at_or_below_ends, ends_at_or_below, IsName-drop, IsLabel-asterisk}
 use Rattle.dnsv_names.specs.Tree.{asterisk, wildcard_of, IsWildcard, is_wildcard}
-use Rattle.dnsv_names.proofs.NameLemmas.{lower_case-wire, lower_labels, wire-injective, IsName-drop, SpellsName-wire, labels_of-wire}
-
-lower_case-append : (a b : Labels) → lower_case (a ++ b) ≡ lower_case a ++ lower_case b
-lower_case-append a b = map-append (λ label. map to_ascii_lowercase label) a b
-
--- what is at or below a name has as many labels or more
-pub length_at_or_below : (name above : Labels) → IsAtOrBelow name above → length above ≤ length name
-length_at_or_below name above below =
-    let same : length name ≡ length (below.0 ++ above) = sym (length-map name _) ∙ ap length below.1 ∙ length-map (below.0 ++ above) _ in
-    omega (arith, length-append below.0 above)
-
--- it is the name above, from the label on where that would begin
-at_or_below_ends : (name above : Labels) (k : ℕ) → k ≡ length name - length above → length above ≤ length name → SameName (drop k name) above → IsAtOrBelow name above
-at_or_below_ends name above k from within same = (
-  take k name,
-  ap lower_case (sym (take-append-drop k name)) ∙ lower_case-append (take k name) (drop k name)
-      ∙ ap (λ labels. lower_case (take k name) ++ labels) same ∙ sym (lower_case-append (take k name) above),
-)
-
-ends_at_or_below : (name above : Labels) (k : ℕ) → k ≡ length name - length above → IsAtOrBelow name above → SameName (drop k name) above
-ends_at_or_below name above k from below =
-    let same : length name ≡ length (below.0 ++ above) = sym (length-map name _) ∙ ap length below.1 ∙ length-map (below.0 ++ above) _ in
-    let front : length (lower_case below.0) ≡ k = omega (arith, length-append below.0 above, length-map below.0 (λ label. map to_ascii_lowercase label)) in
-    sym (drop-map (λ label. map to_ascii_lowercase label) k name)
-    ∙ ap (drop k) (below.1 ∙ lower_case-append below.0 above) ∙ drop_at (lower_case below.0) (lower_case above) k front
+use Rattle.dnsv_names.proofs.NameLemmas.{lower_case-wire, lower_labels, wire-injective, SpellsName-wire, labels_of-wire}
 
 -- the test on the octets of the two wire forms
 pub at_or_below_Decides : (name above : Labels) (k : ℕ) (octets : List ℕ) (answer : Bool) → IsName name → IsName above → k ≡ length name - length above → length above ≤ length name → octets ≡ wire (drop k name) → Decides answer (map to_ascii_lowercase octets ≡ map to_ascii_lowercase (wire above)) → Decides answer (IsAtOrBelow name above)
@@ -39,13 +15,10 @@ at_or_below_Decides name above k octets answer is_name is_above from within form
     let end : IsName (drop k name) = IsName-drop k name is_name in
     let lower_end : map to_ascii_lowercase octets ≡ wire (lower_case (drop k name)) = ap (map to_ascii_lowercase) form ∙ lower_case-wire (drop k name) end.each in
     let lower_above : map to_ascii_lowercase (wire above) ≡ wire (lower_case above) = lower_case-wire above is_above.each in (
-      λ yes. at_or_below_ends name above k from within
+      λ yes. at_or_below_ends name above k
           (wire-injective _ _ (lower_labels (drop k name) end.each) (lower_labels above is_above.each) (sym lower_end ∙ decides.0 yes ∙ lower_above)),
       λ below. decides.1 (lower_end ∙ ap wire (ends_at_or_below name above k from below) ∙ sym lower_above),
     )
-
-IsLabel-star : IsLabel (42 ∷ [])
-IsLabel-star = record { not_empty = omega arith; at_most_63 = omega arith; octets = (omega arith, tt) }
 
 -- octets of a wildcard's wire form that are few enough spell it
 pub record SpellsWildcard (name : Labels) (octets : List ℕ) : Type 0 where
@@ -55,7 +28,7 @@ pub record SpellsWildcard (name : Labels) (octets : List ℕ) : Type 0 where
 
 pub spells_wildcard : (name : Labels) (octets : List ℕ) → IsName name → octets ≡ 1 ∷ 42 ∷ wire name → length octets ≤ 255 → SpellsWildcard name octets
 spells_wildcard name octets is_name form within =
-    let wildcard : IsName (wildcard_of name) = record { each = (IsLabel-star, is_name.each); at_most_255 = omega (arith, ap length form) } in
+    let wildcard : IsName (wildcard_of name) = record { each = (IsLabel-asterisk, is_name.each); at_most_255 = omega (arith, ap length form) } in
     let spells : SpellsName octets = SpellsName-wire (wildcard_of name) octets wildcard form in
     record {
       spells = spells;

@@ -5,7 +5,7 @@ use Rattle.std.specs.declared.cmp.Ordering.{Ordering}
 use Rattle.std.specs.declared.cmp.Ordering.TheVariants.{Less}
 use Rattle.std.specs.Cmp.Lexicographic.{slice_cmp, pointwise}
 use Rattle.dnsv_names.specs.Name.{Labels}
-use Rattle.dnsv_names.specs.Order.{label_cmp}
+use Rattle.dnsv_names.specs.Order.{label_cmp, from_the_right}
 
 -- the key begins with the labels of `above`
 abbrev pub begins : Labels → Labels → Type 0
@@ -40,3 +40,7 @@ key_cmp a b = slice_cmp label_cmp a b
 -- a comes before b
 pub record KeyBefore (a b : Labels) : Type 0 where
   pub less : key_cmp a b ≡ Less
+
+-- the test of `IsAtOrBelow`
+abbrev pub is_at_or_below : Labels → Labels → Bool
+is_at_or_below name above = begins_test (from_the_right name) (from_the_right above)

@@ -1,3 +1,4 @@
+pub mod AncestorLaws
 pub mod Circle
 pub mod CircleLaws
 pub mod Count
