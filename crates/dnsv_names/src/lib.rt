@@ -2,7 +2,10 @@
 //! which order they stand.
 #![tactic(auto)]
 
-pub use circle::{Circle, covers};
+pub use circle::{
+    Circle, all_else_lies_in_a_gap, all_else_lies_in_one_gap, covers, each_value_has_a_successor,
+    the_next_is_behind,
+};
 pub use count::{Count, counts_add_up};
 pub use error::NameError;
 pub use hash20::Hash20;
@@ -15,6 +18,12 @@ pub use order::{
 };
 pub use parse::{a_text_has_one_reading, names_are_spelled_by_their_text};
 pub use tree::ASTERISK_LABEL;
+pub use tree_laws::{
+    ancestors_stand_in_one_line, at_or_below_is_tested, equal_names_have_equal_sizes,
+    names_above_are_the_rightmost_labels, names_at_or_below_come_together,
+    names_below_have_more_labels, names_form_a_tree, rightmost_labels_are_ancestors,
+    the_next_closer_name_is_below_the_closest_encloser, wildcards_stand_right_below,
+};
 
 mod circle;
 mod count;
@@ -27,4 +36,5 @@ mod order;
 mod parse;
 mod text;
 mod tree;
+mod tree_laws;
 mod wire;
