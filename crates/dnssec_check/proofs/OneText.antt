@@ -8,7 +8,7 @@ use Rattle.dnsv_message.specs.declared.errors.DecodeError.TheVariants as decode
 use Rattle.dnsv_message.specs.Frames.{IsCapture, frame}
 use Rattle.dnsv_message.specs.Grammar.{MessageOf, FaultOf}
 use Rattle.dnsv_message.specs.Message.{Contents}
-use Rattle.dnsv_message.specs.NameAt.{AreOctets}
+use Rattle.dnsv_names.specs.Octets.{AreOctets}
 use Rattle.dnsv_message.proofs.CaptureLemmas.{messages_alone, zero_length_alone}
 use Rattle.dnsv_message.proofs.FrameLemmas.{one_framing, same_front}
 use Rattle.dnsv_message.proofs.MessageLaws.{FaultOf_same, MessageOf_same, MessageOf_sound}

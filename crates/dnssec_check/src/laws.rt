@@ -1,6 +1,6 @@
 //! What the definitions of a request's text and of a refusal say of each other, for a file of octets.
 ghost use Rattle.std.specs.Prelude.{◌≡◌, List, ℕ};
-ghost use Rattle.dnsv_message.specs.NameAt.{AreOctets};
+ghost use Rattle.dnsv_names.specs.Octets.{AreOctets};
 ghost use Rattle.dnssec_check.specs.Run.{IsTextOf, IsRefusalOf};
 ghost use Rattle.dnssec_check.specs.declared.line.Request.{Request};
 ghost use Rattle.dnssec_check.specs.declared.status.Place.{Place};

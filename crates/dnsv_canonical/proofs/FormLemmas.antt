@@ -14,8 +14,9 @@ use Rattle.dnsv_message.specs.declared.record.Record.{Record}
 use Rattle.dnsv_message.specs.declared.record.Section.{Section}
 use Rattle.dnsv_message.specs.Grammar.{IsMessage}
 use Rattle.dnsv_message.specs.Message.{Contents, records_of}
-use Rattle.dnsv_message.proofs.RdataWritten.{LaidOut}
-use Rattle.dnsv_message.proofs.EncodingLemmas.{FitsRecord, IsMessage-fits}
+use Rattle.dnsv_message.specs.Fits.{FitsRecord}
+use Rattle.dnsv_message.specs.Parts.{HasParts as HasPartsInClass}
+use Rattle.dnsv_message.proofs.FitLemmas.{IsMessage-fits}
 use Rattle.dnsv_records.proofs.OctetLemmas.{recursion-append}
 use Rattle.dnsv_canonical.specs.Rrsets.{Group, is_grouped, same_rrset, rrset_of, message_rrsets, rrsets_from}
 use Rattle.dnsv_canonical.proofs.CanonicalLemmas.{each_map}
@@ -71,9 +72,9 @@ other_types_keep rtype none rdata = test (list_any (λ other. other == rtype) lo
 
 -- ---- the RDATA of messages
 
-has_parts : (rtype : ℕ) (rdata : List ℕ) → LaidOut (layout_of rtype 1) rdata → HasParts rtype rdata
-has_parts rtype rdata laid =
-    (laid.before, laid.written, laid.behind, record { headed = laid.headed; counted = laid.counted; each = laid.each; ends = laid.ends }, laid.whole)
+has_parts : (rtype : ℕ) (rdata : List ℕ) → HasPartsInClass rtype 1 rdata → HasParts rtype rdata
+has_parts rtype rdata has =
+    (has.0, has.1, has.2, record { headed = has.3.head; counted = has.3.count; each = has.3.each; ends = has.3.tail }, has.4)
 
 abbrev AllHaveParts : Group → Type 0
 AllHaveParts rrset = AllByRecursion (HasParts rrset.rtype) rrset.rdata
@@ -82,7 +83,7 @@ own_parts : (first r : Record) → FitsRecord r → is_grouped r ≡ true → sa
 own_parts first r fits grouped same =
     let class : r.class.0 ≡ 1 = eqb-true _ _ (and_parts _ _ grouped).0 in
     let rtype : r.rtype.0 ≡ first.rtype.0 = sym (eqb-true _ _ (and_parts (first.rtype.0 == r.rtype.0) _ same).0) in
-    has_parts first.rtype.0 r.rdata (subst (λ n. LaidOut (layout_of n 1) r.rdata) rtype (subst (λ n. LaidOut (layout_of r.rtype.0 n) r.rdata) class fits.laid))
+    has_parts first.rtype.0 r.rdata (subst (λ n. HasPartsInClass n 1 r.rdata) rtype (subst (λ n. HasPartsInClass r.rtype.0 n r.rdata) class fits.parts))
 
 rrset_parts : (number : ℕ) (section : Section) (records : List Record) (first : Record) → AllByRecursion FitsRecord records → AllHaveParts (rrset_of number section records first)
 rrset_parts number section records first each =
@@ -90,15 +91,9 @@ rrset_parts number section records first each =
     (each_chosen (same_rrset first) (λ r. FitsRecord r × (is_grouped r ≡ true)) (λ r. HasParts first.rtype.0 r.rdata) (λ r fits. own_parts first r fits.0 fits.1) (filter is_grouped records)
     (each_chosen is_grouped FitsRecord (λ r. FitsRecord r × (is_grouped r ≡ true)) (λ r fits grouped. (fits, grouped)) records each))
 
-records_fit : (message : Contents) → IsMessage message → AllByRecursion FitsRecord (records_of message)
-records_fit message is =
-    let fits = IsMessage-fits message is in
-    recursion-append FitsRecord (message.answer ++ message.authority) message.additional
-    (recursion-append FitsRecord message.answer message.authority fits.each_answer fits.each_authority) fits.each_additional
-
 pub messages_parts : (number : ℕ) (messages : List Contents) → AllByRecursion IsMessage messages → AllByRecursion (λ rrset. AllByRecursion (HasParts rrset.rtype) rrset.rdata) (rrsets_from number messages)
 messages_parts number [] are = tt
 messages_parts number (message ∷ messages) are =
     recursion-append AllHaveParts (message_rrsets number message) (rrsets_from (suc number) messages)
-    (each_rrset FitsRecord AllHaveParts rrset_parts number message (records_fit message are.0))
+    (each_rrset FitsRecord AllHaveParts rrset_parts number message (IsMessage-fits message are.0).records)
     (messages_parts (suc number) messages are.1)

@@ -1,5 +1,5 @@
 -- The octets that are written for a message are the message.
-use Rattle.std.proofs.Common.{◌≡◌, ℕ, ◌+◌, ◌^◌, ◌<◌, ◌≤◌, List, [], ◌∷◌, ◌++◌, length, get_or, drop, All, refl, sym, ap, subst, ◌∙◌, arith, append_assoc, length-append, length-take, length-drop}
+use Rattle.std.proofs.Common.{◌≡◌, ℕ, ◌+◌, ◌^◌, ◌<◌, ◌≤◌, List, [], ◌∷◌, ◌++◌, length, get_or, drop, false, All, refl, sym, ap, subst, ◌∙◌, arith, append_assoc, length-append, length-take, length-drop}
 use Rattle.std.specs.Prelude.{flat_map}
 use Rattle.std.specs.Int.{w16, w32, to_be_bytes, bytes_high_first}
 use Rattle.std.proofs.lemmas.List.{take-append-drop, take_all}
@@ -16,11 +16,13 @@ use Rattle.dnsv_message.specs.Message.{Contents, records_of}
 use Rattle.dnsv_message.specs.Layout.{layout_of}
 use Rattle.dnsv_message.specs.NameAt.{NumberAt}
 use Rattle.dnsv_message.specs.Grammar.{InOrder, QuestionAt, RecordAt, MessageOf, IsMessage}
+use Rattle.dnsv_message.specs.Fits.{FitsQuestion, FitsRecord, FitsMessage}
 use Rattle.dnsv_message.specs.Encoding.{question_octets, record_octets, header_octets, message_octets, uncompressed, PlainQuestionAt, PlainRecordAt, PlainMessageOf}
 use Rattle.dnsv_message.proofs.Numbers.{number_behind, octet_fits}
 use Rattle.dnsv_message.proofs.NameWalk.{part_within}
 use Rattle.dnsv_message.proofs.Sequences.{InOrder-append}
-use Rattle.dnsv_message.proofs.RdataWritten.{Stands, Stands-end, InOrder-stands, InOrder-each, InOrder-map, name_is, name_stands, layout_short, LaidOut, rdata_short, laid_out, rdata_stands}
+use Rattle.dnsv_message.proofs.RdataWritten.{Stands, Stands-end, InOrder-stands, InOrder-each, InOrder-map, name_is, name_stands, rdata_stands}
+use Rattle.dnsv_message.proofs.FitLemmas.{IsMessage-fits, answer_fits, authority_fits, additional_fits}
 
 -- a number in its octets is read as it is
 number_stands : (octets : List ℕ) (place n number : ℕ) → 0 < n → number < 256 ^ n → Stands octets place (bytes_high_first n number) → NumberAt octets place n number
@@ -31,92 +33,6 @@ number_stands octets place n number some small stands =
       omega (arith, size, part_within octets place (bytes_high_first n number) (omega (arith, size)) stands.form),
       sym (big_number-reads_back n number (drop (length (bytes_high_first n number)) (drop place octets)) small) ∙ ap (big_from 0 n) (sym parts) ∙ number_behind octets place n,
     )
-
-number_fits : (octets : List ℕ) (place n number : ℕ) → ((i : ℕ) → get_or octets i 0 < 256) → NumberAt octets place n number → number < 256 ^ n
-number_fits octets place n number fit at = rw at.1 (big_from-lt place n octets fit)
-
--- what is true of each question of a message, wherever it stands
-pub record FitsQuestion (question : Question) : Type 0 where
-  pub named : IsName question.name
-  pub typed : question.rtype.0 < 256 ^ 2
-  pub classed : question.class.0 < 256 ^ 2
-
--- and of each record
-pub record FitsRecord (resource : Record) : Type 0 where
-  pub named : IsName resource.name
-  pub typed : resource.rtype.0 < 256 ^ 2
-  pub classed : resource.class.0 < 256 ^ 2
-  pub timed : resource.ttl.0 < 256 ^ 4
-  pub sized : length resource.rdata < 256 ^ 2
-  pub laid : LaidOut (layout_of resource.rtype.0 resource.class.0) resource.rdata
-
--- and of a message
-pub record FitsMessage (message : Contents) : Type 0 where
-  pub identifier : message.id < 256 ^ 2
-  pub flag_bits : message.flags < 256 ^ 2
-  pub question_count : length message.questions < 256 ^ 2
-  pub answer_count : length message.answer < 256 ^ 2
-  pub authority_count : length message.authority < 256 ^ 2
-  pub additional_count : length message.additional < 256 ^ 2
-  pub each_question : AllByRecursion FitsQuestion message.questions
-  pub each_answer : AllByRecursion FitsRecord message.answer
-  pub each_authority : AllByRecursion FitsRecord message.authority
-  pub each_additional : AllByRecursion FitsRecord message.additional
-
-module _ (octets : List ℕ) (fit : (i : ℕ) → get_or octets i 0 < 256) where
-  question_fits : (place : ℕ) (question : Question) (end : ℕ) → QuestionAt octets place question end → FitsQuestion question
-  question_fits place question end at = record {
-    named = name_is octets place question.name at.after_name at.name;
-    typed = number_fits octets at.after_name 2 question.rtype.0 fit at.rtype;
-    classed = number_fits octets (at.after_name + 2) 2 question.class.0 fit at.class;
-  }
-
-  record_fits : (place : ℕ) (resource : Record) (end : ℕ) → RecordAt octets place resource end → FitsRecord resource
-  record_fits place resource end at =
-      let layout = layout_of resource.rtype.0 resource.class.0 in
-      let size : at.size < 256 ^ 2 = number_fits octets (at.head.after_name + 8) 2 at.size fit at.head.sized in
-      let short : length resource.rdata ≤ 65535 = rdata_short octets layout at.start at.size resource.rdata at.rdata (omega (arith, size)) (layout_short resource.rtype.0 resource.class.0) in
-      record {
-        named = name_is octets place resource.name at.head.after_name at.head.named;
-        typed = number_fits octets at.head.after_name 2 resource.rtype.0 fit at.head.typed;
-        classed = number_fits octets (at.head.after_name + 2) 2 resource.class.0 fit at.head.classed;
-        timed = number_fits octets (at.head.after_name + 4) 4 resource.ttl.0 fit at.head.timed;
-        sized = omega (arith, short);
-        laid = laid_out octets layout at.start at.size resource.rdata at.rdata at.whole;
-      }
-
-  records_fit : (xs : List Record) (place end : ℕ) → InOrder (RecordAt octets) place xs end → AllByRecursion FitsRecord xs
-  records_fit = InOrder-each (RecordAt octets) FitsRecord record_fits
-
-  message_fits : (message : Contents) → MessageOf octets message → FitsMessage message
-  message_fits message at = record {
-    identifier = number_fits octets 0 2 message.id fit at.header.identifier;
-    flag_bits = number_fits octets 2 2 message.flags fit at.header.flag_bits;
-    question_count = number_fits octets 4 2 (length message.questions) fit at.header.question_count;
-    answer_count = number_fits octets 6 2 (length message.answer) fit at.header.answer_count;
-    authority_count = number_fits octets 8 2 (length message.authority) fit at.header.authority_count;
-    additional_count = number_fits octets 10 2 (length message.additional) fit at.header.additional_count;
-    each_question = InOrder-each (QuestionAt octets) FitsQuestion question_fits message.questions 12 at.after_questions at.questions;
-    each_answer = records_fit message.answer at.after_questions at.after_answer at.answer;
-    each_authority = records_fit message.authority at.after_answer at.after_authority at.authority;
-    each_additional = records_fit message.additional at.after_authority (length octets) at.additional;
-  }
-
-pub IsMessage-fits : (message : Contents) → IsMessage message → FitsMessage message
-IsMessage-fits message is = message_fits is.0 (octet_fits is.0 is.1) message is.2
-
--- written RDATA has no pointer
-laid_plain : (layout : Layout) (rdata : List ℕ) → LaidOut layout rdata → LaidOut (uncompressed layout) rdata
-laid_plain layout rdata laid = record {
-  before = laid.before;
-  written = laid.written;
-  behind = laid.behind;
-  whole = laid.whole;
-  headed = laid.headed;
-  counted = laid.counted;
-  each = laid.each;
-  ends = laid.ends;
-}
 
 module _ (octets : List ℕ) where
   u16_stands : (place number : ℕ) → number < 256 ^ 2 → Stands octets place (to_be_bytes w16 number) → NumberAt octets place 2 number
@@ -139,9 +55,9 @@ module _ (octets : List ℕ) where
       let first = Stands-end one (to_be_bytes w16 question.rtype.0) after_name refl second.0 in (
         record {
           after_name = after_name;
-          name = name_stands octets place question.name fits.named first.0;
-          rtype = u16_stands after_name question.rtype.0 fits.typed first.1;
-          class = u16_stands (after_name + 2) question.class.0 fits.classed second.1;
+          name = name_stands octets place question.name fits.name first.0;
+          rtype = u16_stands after_name question.rtype.0 fits.rtype first.1;
+          class = u16_stands (after_name + 2) question.class.0 fits.class second.1;
           ends = omega (arith, length-append one (to_be_bytes w16 question.rtype.0), length-append two (to_be_bytes w16 question.class.0));
         },
         first.0.form,
@@ -168,26 +84,27 @@ module _ (octets : List ℕ) where
       let third = Stands-end three ttl (after_name + 4) (omega (arith, threes)) fourth.0 in
       let second = Stands-end two class (after_name + 2) (omega (arith, twos)) third.0 in
       let first = Stands-end one rtype after_name refl second.0 in
-      let layout = layout_of resource.rtype.0 resource.class.0 in
+      let sized : length resource.rdata < 256 ^ 2 = omega (arith, fits.size) in
+      let parts = rdata_stands octets resource.rtype.0 resource.class.0 in
       record {
         stands = record {
           start = after_name + 10;
           size = length resource.rdata;
           head = record {
             after_name = after_name;
-            named = name_stands octets place resource.name fits.named first.0;
-            typed = u16_stands after_name resource.rtype.0 fits.typed first.1;
-            classed = u16_stands (after_name + 2) resource.class.0 fits.classed second.1;
-            timed = u32_stands (after_name + 4) resource.ttl.0 fits.timed third.1;
-            sized = u16_stands (after_name + 8) (length resource.rdata) fits.sized fourth.1;
+            named = name_stands octets place resource.name fits.name first.0;
+            typed = u16_stands after_name resource.rtype.0 fits.rtype first.1;
+            classed = u16_stands (after_name + 2) resource.class.0 fits.class second.1;
+            timed = u32_stands (after_name + 4) resource.ttl.0 fits.ttl third.1;
+            sized = u16_stands (after_name + 8) (length resource.rdata) sized fourth.1;
             starts = refl;
           };
-          whole = end_of_part (after_name + 10) resource.rdata fifth.1 (omega (arith, (u16_stands (after_name + 8) (length resource.rdata) fits.sized fourth.1).0));
-          rdata = rdata_stands octets layout (after_name + 10) resource.rdata fits.laid fifth.1;
+          whole = end_of_part (after_name + 10) resource.rdata fifth.1 (omega (arith, (u16_stands (after_name + 8) (length resource.rdata) sized fourth.1).0));
+          rdata = parts (layout_of resource.rtype.0 resource.class.0).pointers (after_name + 10) resource.rdata fits.parts fifth.1;
           ends = omega (arith, length-append five resource.rdata, fives);
         };
         name = first.0.form;
-        rdata = rdata_stands octets (uncompressed layout) (after_name + 10) resource.rdata (laid_plain layout resource.rdata fits.laid) fifth.1;
+        rdata = parts false (after_name + 10) resource.rdata fits.parts fifth.1;
       }
 
   questions_stand : (questions : List Question) (place : ℕ) → AllByRecursion FitsQuestion questions → Stands octets place (flat_map question_octets questions) → InOrder (PlainQuestionAt octets) place questions (place + length (flat_map question_octets questions))
@@ -234,15 +151,15 @@ module _ (octets : List ℕ) where
       let four = Stands-end (id ++ flags ++ question_count) answer_count 6 refl five.0 in
       let three = Stands-end (id ++ flags) question_count 4 refl four.0 in
       let two = Stands-end id flags 2 refl three.0 in
-      let plain_questions = questions_stand message.questions 12 fits.each_question front.1 in
-      let plain_answer = records_stand message.answer after_questions fits.each_answer second.0 in
-      let plain_authority = records_stand message.authority after_answer fits.each_authority second.1 in
-      let plain_additional = subst (InOrder (PlainRecordAt octets) after_authority message.additional) end (records_stand message.additional after_authority fits.each_additional third.1) in
+      let plain_questions = questions_stand message.questions 12 fits.questions front.1 in
+      let plain_answer = records_stand message.answer after_questions (answer_fits message fits) second.0 in
+      let plain_authority = records_stand message.authority after_answer (authority_fits message fits) second.1 in
+      let plain_additional = subst (InOrder (PlainRecordAt octets) after_authority message.additional) end (records_stand message.additional after_authority (additional_fits message fits) third.1) in
       record {
         whole = record {
           header = record {
-            identifier = u16_stands 0 message.id fits.identifier two.0;
-            flag_bits = u16_stands 2 message.flags fits.flag_bits two.1;
+            identifier = u16_stands 0 message.id fits.id two.0;
+            flag_bits = u16_stands 2 message.flags fits.flags two.1;
             question_count = u16_stands 4 (length message.questions) fits.question_count three.1;
             answer_count = u16_stands 6 (length message.answer) fits.answer_count four.1;
             authority_count = u16_stands 8 (length message.authority) fits.authority_count five.1;
@@ -276,7 +193,7 @@ records_sized records others fits same =
     subst (All (λ resource. length resource.rdata < 2 ^ 16)) (sym same) sized where
       each_sized : (records : List Record) → AllByRecursion FitsRecord records → AllByRecursion (λ resource. length resource.rdata < 2 ^ 16) records
       each_sized [] fits = tt
-      each_sized (resource ∷ records) fits = (omega (arith, fits.0.sized), each_sized records fits.1)
+      each_sized (resource ∷ records) fits = (omega (arith, fits.0.size), each_sized records fits.1)
 
 -- the octets of things that are the same
 pub written_same : {X : Type 0} (octets_of : X → List ℕ) (before after : List ℕ) (xs ys : List X) → xs ≡ ys → after ≡ before ++ flat_map octets_of xs → after ≡ before ++ flat_map octets_of ys

@@ -7,6 +7,7 @@ pub mod RdataLemmas
 pub mod MessageLaws
 pub mod TailLemmas
 pub mod RdataWritten
+pub mod FitLemmas
 pub mod EncodingLemmas
 pub mod OneEncoding
 pub mod CaptureLemmas

@@ -5,8 +5,9 @@ use Rattle.std.proofs.lemmas.List.Elements.{All-from_get_or, All-take, All-drop,
 use Rattle.std.proofs.lemmas.Bool.{false≢true}
 use Rattle.std.specs.List.{AllByRecursion}
 use Rattle.byteorder.specs.Endian.{big_from, big_number}
+use Rattle.dnsv_names.specs.Octets.{AreOctets}
 use Rattle.dnsv_message.specs.Grammar.{part_of}
-use Rattle.dnsv_message.specs.NameAt.{AreOctets, NumberAt, LabelAt}
+use Rattle.dnsv_message.specs.NameAt.{NumberAt, LabelAt}
 
 -- reading from a place on is reading at the place
 big_from-drop : (octets : List ℕ) (place i n : ℕ) → big_from i n (drop place octets) ≡ big_from (place + i) n octets

@@ -47,7 +47,7 @@ module _ (octets : List ℕ) where
       ((subst (λ n. NameAt octets place place pointer_limit name n) (sym at.2) (plain_at name place place pointer_limit at.0.each at.1), at.0.at_most_255), at.3)
 
   -- names rise
-  name_rises : (place run pointers : ℕ) (labels : Labels) (end : ℕ) → NameAt octets place run pointers labels end → place < end
+  pub name_rises : (place run pointers : ℕ) (labels : Labels) (end : ℕ) → NameAt octets place run pointers labels end → place < end
   name_rises place run pointers labels end (root at) = omega arith
   name_rises place run pointers labels end (label {first = first} at more) = omega (arith, name_rises _ _ _ _ _ more)
   name_rises place run pointers labels end (pointer at back more) = omega arith

@@ -6,6 +6,7 @@ use Rattle.std.specs.List.{AllByRecursion}
 use Rattle.dnsv_names.specs.Name.{Labels, IsLabel, IsName, wire}
 use Rattle.dnsv_message.specs.declared.rdata.Layout.{Layout}
 use Rattle.dnsv_message.specs.Layout.{layout_of, internet_layout}
+use Rattle.dnsv_message.specs.Parts.{head_size, name_count, tail_size, HasParts}
 use Rattle.dnsv_message.specs.NameAt.{PartAt, NameAt, root, label, pointer, NameFrom, pointer_limit}
 use Rattle.dnsv_message.specs.Grammar.{InOrder, RdataNameAt, RdataAt, IsTail, part_of}
 use Rattle.dnsv_message.proofs.RdataLemmas.{part_split, plain_at, rdata_name, head_fits}
@@ -102,17 +103,6 @@ internet_short rtype =
 pub layout_short : (rtype class : ℕ) → IsShort (layout_of rtype class)
 layout_short rtype class = if_either (class == 1) _ _ (internet_short rtype) (record { either = inl refl })
 
--- octets that are an RDATA of the layout, none of its names compressed
-pub record LaidOut (layout : Layout) (rdata : List ℕ) : Type 0 where
-  pub before : List ℕ
-  pub written : List Labels
-  pub behind : List ℕ
-  pub whole : rdata ≡ before ++ flat_map wire written ++ behind
-  pub headed : length before ≡ layout.head
-  pub counted : length written ≡ layout.names
-  pub each : AllByRecursion IsName written
-  pub ends : IsTail layout.tail (length behind)
-
 tail_is : (tail : Option ℕ) (rest size : ℕ) → tail ≡ Some size → IsTail tail rest → rest ≡ size
 tail_is None rest size same ends = absurd (cc same)
 tail_is (Some tail) rest size same ends = ends ∙ cc same
@@ -135,42 +125,52 @@ module _ (octets : List ℕ) (layout : Layout) (start size : ℕ) (rdata : List 
       omega (arith, parts, names_short octets (start + size) layout.pointers at.names (start + layout.head) at.after_names at.named, at.counted, tail_is layout.tail at.rest fixed.0 fixed.1 at.ends, fixed.2))
       short.either
 
-  pub laid_out : start + size ≤ length octets → LaidOut layout rdata
-  laid_out within =
-      let headed : length (part_of octets start layout.head) ≡ layout.head = length-take-le layout.head (drop start octets) (omega (arith, head_fits octets layout start size rdata at, length-drop start octets)) in
-      let tailed : length (part_of octets at.after_names at.rest) ≡ at.rest = length-take-le at.rest (drop at.after_names octets) (omega (arith, at.filled, length-drop at.after_names octets)) in
-      record {
-        before = part_of octets start layout.head;
-        written = at.names;
-        behind = part_of octets at.after_names at.rest;
-        whole = at.written;
-        headed = headed;
-        counted = at.counted;
-        each = InOrder-each (RdataNameAt octets (start + size) layout.pointers) IsName (λ place name end named. name_is octets place name end (rdata_name octets (start + size) layout.pointers place name end named).0)
-            at.names (start + layout.head) at.after_names at.named;
-        ends = subst (IsTail layout.tail) (sym tailed) at.ends;
-      }
+-- RDATA that is read has the parts of its layout
+module _ (octets : List ℕ) (rtype class start size : ℕ) (rdata : List ℕ) (at : RdataAt octets (layout_of rtype class) start size rdata) where
+  pub rdata_parts : start + size ≤ length octets → HasParts rtype class rdata
+  rdata_parts within =
+      let layout = layout_of rtype class in
+      let head : length (part_of octets start layout.head) ≡ layout.head = length-take-le layout.head (drop start octets) (omega (arith, head_fits octets layout start size rdata at, length-drop start octets)) in
+      let tail : length (part_of octets at.after_names at.rest) ≡ at.rest = length-take-le at.rest (drop at.after_names octets) (omega (arith, at.filled, length-drop at.after_names octets)) in (
+        part_of octets start layout.head,
+        at.names,
+        part_of octets at.after_names at.rest,
+        record {
+          head = head;
+          count = at.counted;
+          each = InOrder-each (RdataNameAt octets (start + size) layout.pointers) IsName (λ place name end named. name_is octets place name end (rdata_name octets (start + size) layout.pointers place name end named).0)
+              at.names (start + layout.head) at.after_names at.named;
+          tail = subst (IsTail layout.tail) (sym tail) at.ends;
+        },
+        at.written,
+      )
 
--- such octets are read as the RDATA that they are
-pub rdata_stands : (octets : List ℕ) (layout : Layout) (start : ℕ) (rdata : List ℕ) → LaidOut layout rdata → Stands octets start rdata → RdataAt octets layout start (length rdata) rdata
-rdata_stands octets layout start rdata laid stands =
-    let front = laid.before ++ flat_map wire laid.written in
-    let fronts : length front ≡ layout.head + length (flat_map wire laid.written) = omega (arith, length-append laid.before (flat_map wire laid.written), laid.headed) in
-    let size : length rdata ≡ layout.head + length (flat_map wire laid.written) + length laid.behind = omega (arith, ap length laid.whole, length-append front laid.behind, fronts) in
-    let after = start + layout.head + length (flat_map wire laid.written) in
-    let parts = Stands-end front laid.behind after (omega (arith, fronts)) (subst (Stands octets start) laid.whole stands) in
-    let more = Stands-end laid.before (flat_map wire laid.written) (start + layout.head) (omega (arith, laid.headed)) parts.0 in
+-- RDATA that has the parts of its layout is read as what it is, whether or not its names might be compressed
+pub rdata_stands : (octets : List ℕ) (rtype class : ℕ) (pointers : Bool) (start : ℕ) (rdata : List ℕ) → HasParts rtype class rdata → Stands octets start rdata
+    → RdataAt octets (record { head = head_size rtype class; names = name_count rtype class; pointers = pointers; tail = tail_size rtype class }) start (length rdata) rdata
+rdata_stands octets rtype class pointers start rdata has stands =
+    let before = has.0 in
+    let names = flat_map wire has.1 in
+    let behind = has.2 in
+    let parts = has.3 in
+    let head = head_size rtype class in
+    let front = before ++ names in
+    let fronts : length front ≡ head + length names = omega (arith, length-append before names, parts.head) in
+    let size : length rdata ≡ head + length names + length behind = omega (arith, ap length has.4, length-append front behind, fronts) in
+    let after = start + head + length names in
+    let ends = Stands-end front behind after (omega (arith, fronts)) (subst (Stands octets start) has.4 stands) in
+    let more = Stands-end before names (start + head) (omega (arith, parts.head)) ends.0 in
     record {
-      names = laid.written;
+      names = has.1;
       after_names = after;
-      rest = length laid.behind;
-      counted = laid.counted;
-      named = InOrder-stands (RdataNameAt octets (start + length rdata) layout.pointers) octets (start + length rdata) wire IsName
-          (λ place name named at within. rdata_name_stands octets (start + length rdata) layout.pointers place name named at within)
-          laid.written (start + layout.head) laid.each more.1 (omega (arith, size));
+      rest = length behind;
+      counted = parts.count;
+      named = InOrder-stands (RdataNameAt octets (start + length rdata) pointers) octets (start + length rdata) wire IsName
+          (λ place name named at within. rdata_name_stands octets (start + length rdata) pointers place name named at within)
+          has.1 (start + head) parts.each more.1 (omega (arith, size));
       filled = omega (arith, size);
-      ends = laid.ends;
-      written = laid.whole
-          ∙ ap (λ xs. xs ++ flat_map wire laid.written ++ laid.behind) (sym more.0.form ∙ ap (λ n. take n (drop start octets)) laid.headed)
-          ∙ ap (λ xs. part_of octets start layout.head ++ flat_map wire laid.written ++ xs) (sym parts.1.form);
+      ends = parts.tail;
+      written = has.4
+          ∙ ap (λ xs. xs ++ names ++ behind) (sym more.0.form ∙ ap (λ n. take n (drop start octets)) parts.head)
+          ∙ ap (λ xs. part_of octets start head ++ names ++ xs) (sym ends.1.form);
     }

@@ -2,13 +2,12 @@
 use Rattle.std.proofs.Common.{◌≡◌, ℕ, ◌+◌, ◌<◌, ◌≤◌, List, [], ◌∷◌, ◌++◌, length, get_or, refl, sym, ap, subst, ◌∙◌, arith, append_assoc, length-append, Option, Some, None}
 use Rattle.std.specs.Option.{option_or}
 use Rattle.std.proofs.lemmas.List.{append-nil}
-use Rattle.dnsv_names.specs.Name.{Labels}
 use Rattle.dnsv_message.specs.declared.record.Question.{Question}
 use Rattle.dnsv_message.specs.declared.record.Record.{Record}
 use Rattle.dnsv_message.specs.Message.{Contents, records_of}
-use Rattle.dnsv_message.specs.NameAt.{NameAt, root, label, pointer}
 use Rattle.dnsv_message.specs.Grammar.{InOrder, QuestionAt, RecordAt, MessageOf}
 use Rattle.dnsv_message.specs.Tail.{LastAt, TailAt, IsTailOf}
+use Rattle.dnsv_message.proofs.RdataLemmas.{name_rises}
 use Rattle.dnsv_message.proofs.MessageLaws.{questions_same, records_same}
 use Rattle.dnsv_message.proofs.Sequences.{InOrder-append}
 
@@ -61,21 +60,16 @@ module _ (octets : List ℕ) where
       let last = LastAt-some (RecordAt octets) (records_of message) at.after_questions (length octets) (records_in_order message at) in
       (last.0, IsTailOf-from_last message at.after_questions last.0 at.questions last.1)
 
-  name_forward : (place run pointers : ℕ) (labels : Labels) (end : ℕ) → NameAt octets place run pointers labels end → place < end
-  name_forward place run pointers labels end (root at) = omega arith
-  name_forward place run pointers labels end (label {first = first} at more) = omega (arith, name_forward _ _ _ _ _ more)
-  name_forward place run pointers labels end (pointer at back more) = omega arith
-
   InOrder-forward : {X : Type 0} (At : ℕ → X → ℕ → Type 0) → ((place : ℕ) (x : X) (end : ℕ) → At place x end → place < end) → (xs : List X) (place end : ℕ) → InOrder At place xs end → place ≤ end
   InOrder-forward At forward [] place end order = omega (arith, order)
   InOrder-forward At forward (x ∷ xs) place end order =
       omega (arith, forward place x order.0 order.1, InOrder-forward At forward xs order.0 end order.2)
 
   question_forward : (place : ℕ) (question : Question) (end : ℕ) → QuestionAt octets place question end → place < end
-  question_forward place question end at = omega (arith, at.ends, name_forward _ _ _ _ _ at.name.0)
+  question_forward place question end at = omega (arith, at.ends, name_rises octets _ _ _ _ _ at.name.0)
 
   record_forward : (place : ℕ) (resource : Record) (end : ℕ) → RecordAt octets place resource end → place < end
-  record_forward place resource end at = omega (arith, at.ends, at.head.starts, name_forward _ _ _ _ _ at.head.named.0)
+  record_forward place resource end at = omega (arith, at.ends, at.head.starts, name_rises octets _ _ _ _ _ at.head.named.0)
 
   pub TailAt-bounds : (message : Contents) (place : ℕ) → TailAt octets message place → (12 ≤ place) × (place < length octets)
   TailAt-bounds message place tail = (

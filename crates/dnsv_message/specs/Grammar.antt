@@ -1,6 +1,7 @@
 -- The message grammar (RFC 1035 4.1): which message the octets are, and the first fault where they are none.
 use Rattle.std.specs.Prelude.{◌≡◌, ◌⊎◌, ℕ, zero, suc, ◌+◌, ◌<◌, ◌≤◌, Bool, true, false, Option, Some, None, List, [], ◌∷◌, ◌++◌, length, take, drop, flat_map}
 use Rattle.dnsv_names.specs.Name.{Labels, IsName, wire}
+use Rattle.dnsv_names.specs.Octets.{AreOctets}
 use Rattle.dnsv_message.specs.declared.errors.NameFault.{NameFault}
 use Rattle.dnsv_message.specs.declared.errors.DecodeError.{DecodeError}
 use Rattle.dnsv_message.specs.declared.errors.DecodeError.TheVariants.{Short, BadRdata, TrailingBytes}
@@ -10,7 +11,7 @@ use Rattle.dnsv_message.specs.declared.record.Record.{Record}
 use Rattle.dnsv_message.specs.Errors.{decode_error_of}
 use Rattle.dnsv_message.specs.Layout.{layout_of}
 use Rattle.dnsv_message.specs.Message.{Contents}
-use Rattle.dnsv_message.specs.NameAt.{AreOctets, NumberAt, PartAt, NameFrom, NameFaultFrom}
+use Rattle.dnsv_message.specs.NameAt.{NumberAt, PartAt, NameFrom, NameFaultFrom}
 
 -- Things stand one after another from the place on, and end where the last of them does. `At place x end`
 -- says that x stands at the place and ends before `end`.

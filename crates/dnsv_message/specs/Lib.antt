@@ -4,6 +4,8 @@ pub mod Errors
 pub mod NameAt
 pub mod Layout
 pub mod Grammar
+pub mod Parts
+pub mod Fits
 pub mod Tail
 pub mod Encoding
 pub mod Steps

@@ -1,14 +1,9 @@
 -- Names in a message (RFC 1035 3.1, 4.1.4): which name the octets spell at a place, and the fault that comes first where they spell none.
 use Rattle.std.specs.Prelude.{◌≡◌, ◌⊎◌, ℕ, suc, ◌+◌, ◌*◌, ◌^◌, ◌<◌, ◌≤◌, List, [], ◌∷◌, length, take, drop}
-use Rattle.std.specs.List.{AllByRecursion}
 use Rattle.byteorder.specs.Endian.{big_from}
 use Rattle.dnsv_names.specs.Name.{Labels, IsLabel, wire}
 use Rattle.dnsv_message.specs.declared.errors.NameFault.{NameFault}
 use Rattle.dnsv_message.specs.declared.errors.NameFault.TheVariants.{Short, BadLabel, BadPointer, TooManyPointers, LongName}
-
--- each number is an octet
-abbrev pub AreOctets : List ℕ → Type 0
-AreOctets octets = AllByRecursion (λ octet. octet < 256) octets
 
 -- the octets from the place on begin with this part
 abbrev pub PartAt : List ℕ → ℕ → List ℕ → Type 0

@@ -2,8 +2,9 @@
 ghost use Rattle.std.specs.Prelude.{◌≡◌, ◌<◌, ◌≤◌, List, ℕ, length, Option};
 ghost use Rattle.dnsv_message.specs.declared.errors.DecodeError.{DecodeError};
 ghost use Rattle.dnsv_message.specs.Message.{Contents};
-ghost use Rattle.dnsv_message.specs.NameAt.{AreOctets};
-ghost use Rattle.dnsv_message.specs.Grammar.{MessageOf, FaultOf};
+ghost use Rattle.dnsv_names.specs.Octets.{AreOctets};
+ghost use Rattle.dnsv_message.specs.Grammar.{MessageOf, IsMessage, FaultOf};
+ghost use Rattle.dnsv_message.specs.Fits.{FitsMessage};
 ghost use Rattle.dnsv_message.specs.Tail.{IsTailOf, TailAt};
 ghost use Rattle.dnsv_message.specs.Encoding.{message_octets, PlainMessageOf};
 
@@ -40,4 +41,10 @@ pub fn one_tail()
         IsTailOf octets message tail → IsTailOf octets message other → tail ≡ other }
     ensures within { (octets : List ℕ) (message : Contents) (place : ℕ) → TailAt octets message place →
         (12 ≤ place) × (place < length octets) }
+{}
+
+/// What is true of every message: its names are names, its numbers fit their fields, and its RDATA is octets, at most
+/// 65,535 of them, in the parts that its type asks for.
+pub fn messages_fit()
+    ensures { (message : Contents) → IsMessage message → FitsMessage message }
 {}

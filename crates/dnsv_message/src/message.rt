@@ -57,7 +57,7 @@ impl Message {
     ghost use Rattle.dnsv_message.specs.Grammar.{MessageOf, FaultOf};
     ghost use Rattle.dnsv_message.specs.Tail.{IsTailOf};
     ghost use Rattle.dnsv_message.specs.Encoding.{header_octets, message_octets, PlainMessageOf};
-    ghost use Rattle.dnsv_message.specs.NameAt.{AreOctets};
+    ghost use Rattle.dnsv_names.specs.Octets.{AreOctets};
 
     /// Reads a message, which is all of the octets.
     ///

@@ -3,17 +3,18 @@ use Rattle.dnsv_message.specs.Grammar.{IsMessage}
 use Rattle.dnsv_message.specs.Encoding.{question_octets, record_octets}
 use Rattle.dnsv_message.proofs.Numbers.{octet_fits}
 use Rattle.dnsv_message.proofs.OneEncoding.{PlainMessageOf-written}
-use Rattle.dnsv_message.proofs.EncodingLemmas.{IsMessage-fits, encoded_message, records_sized, written_same, message_written}
+use Rattle.dnsv_message.proofs.FitLemmas.{IsMessage-fits, answer_fits, authority_fits, additional_fits}
+use Rattle.dnsv_message.proofs.EncodingLemmas.{encoded_message, records_sized, written_same, message_written}
 use Rattle.dnsv_message.proofs.message.Message.encode.Goals as goal
 
 pub push_records-requires : goal.push_records-requires
-push_records-requires c = records_sized _ _ (IsMessage-fits _ c.self.invariant).each_answer c.deref-2.ensures.value
+push_records-requires c = records_sized _ _ (answer_fits _ (IsMessage-fits _ c.self.invariant)) c.deref-2.ensures.value
 
 pub push_records-requires-2 : goal.push_records-requires-2
-push_records-requires-2 c = records_sized _ _ (IsMessage-fits _ c.self.invariant).each_authority c.deref-3.ensures.value
+push_records-requires-2 c = records_sized _ _ (authority_fits _ (IsMessage-fits _ c.self.invariant)) c.deref-3.ensures.value
 
 pub push_records-requires-3 : goal.push_records-requires-3
-push_records-requires-3 c = records_sized _ _ (IsMessage-fits _ c.self.invariant).each_additional c.deref-4.ensures.value
+push_records-requires-3 c = records_sized _ _ (additional_fits _ (IsMessage-fits _ c.self.invariant)) c.deref-4.ensures.value
 
 pub returns-clause-value : goal.returns-clause-value
 returns-clause-value c =
