@@ -18,29 +18,30 @@ use Rattle.std.specs.Str.{bytes_eq}
 use Rattle.std.specs.declared.cmp.Ordering.{Ordering}
 use Rattle.dnsv_names.specs.declared.number.RecordType.{RecordType}
 use Rattle.dnsv_names.specs.Name.{Labels, same_name}
-use Rattle.dnsv_names.specs.Order.{canonical_cmp}
-use Rattle.dnsv_names.specs.OrderLaws.{same_name_ties}
+use Rattle.dnsv_names.specs.ByWire.{search_cmp}
+use Rattle.dnsv_names.specs.ByWireLaws.{search_ties}
+use Rattle.dnsv_names.specs.declared.by_wire.ByWire.{ByWire}
 use Rattle.dnsv_canonical.specs.ByRrset.{rdata_at}
 use Rattle.dnsv_canonical.specs.Rrsets.{first_appearances}
 use Rattle.dnsv_canonical.proofs.GroupLemmas.{same_name_equiv, first_appearances-push}
 
 abbrev pub Key : Type 0
-Key = RecordType × Bor Labels
+Key = RecordType × ByWire
 
 abbrev pub key_cmp : Key → Key → Ordering
-key_cmp a b = ordering_then (nat_cmp a.0.0 b.0.0) (canonical_cmp a.1.now b.1.now)
+key_cmp a b = ordering_then (nat_cmp a.0.0 b.0.0) (search_cmp a.1.0.now b.1.0.now)
 
 abbrev same_key : Key → Key → Bool
-same_key a b = (a.0.0 == b.0.0) && same_name a.1.now b.1.now
+same_key a b = (a.0.0 == b.0.0) && same_name a.1.0.now b.1.0.now
 
 abbrev key_of : ℕ → Labels → Key
-key_of rtype owner = (record { 0 = rtype }, record { ref_ptr = (0, 0); now = owner })
+key_of rtype owner = (record { 0 = rtype }, record { 0 = record { ref_ptr = (0, 0); now = owner } })
 
 same_key_equiv : IsEquivalence same_key
-same_key_equiv = and_equiv (on_equiv (λ (k : Key). k.0.0) nat_eq_equiv) (on_equiv (λ (k : Key). k.1.now) same_name_equiv)
+same_key_equiv = and_equiv (on_equiv (λ (k : Key). k.0.0) nat_eq_equiv) (on_equiv (λ (k : Key). k.1.0.now) same_name_equiv)
 
 same_key_ties : (a b : Key) → is_eq (key_cmp a b) ≡ same_key a b
-same_key_ties a b = sym (both_tied _ _ (nat_cmp a.0.0 b.0.0) (canonical_cmp a.1.now b.1.now) (sym (unsigned_tied a.0.0 b.0.0)) (same_name_ties a.1.now b.1.now))
+same_key_ties a b = sym (both_tied _ _ (nat_cmp a.0.0 b.0.0) (search_cmp a.1.0.now b.1.0.now) (sym (unsigned_tied a.0.0 b.0.0)) (search_ties a.1.0.now b.1.0.now))
 
 abbrev pub Kept : Type 0 → Type 0
 Kept Y = Vec (Bor (List ℕ)) Y
@@ -49,12 +50,12 @@ abbrev pub octets_of : {Y : Type 0} → Option (Kept Y) → List (List ℕ)
 octets_of {Y} kept = option_map_or (λ (v : Kept Y). map (λ r. r.now) v.items) kept []
 
 -- what the map's calls find is what is kept
-pub rdata_found : {Y : Type 0} (m : BTreeMap Key (Kept Y)) (k : Key) → octets_of (get key_cmp m k) ≡ rdata_at m k.0.0 k.1.now
+pub rdata_found : {Y : Type 0} (m : BTreeMap Key (Kept Y)) (k : Key) → octets_of (get key_cmp m k) ≡ rdata_at m k.0.0 k.1.0.now
 rdata_found m k = λ i. octets_of (lookup (λ q. same_key_ties k q i) m.entries)
 
 module _ {Y : Type 0} (m n : BTreeMap Key (Kept Y)) (k : Key) (kept : Option (Kept Y)) (updates : Updates key_cmp m n k kept) where
   -- one key has what is given, and the others what they had
-  pub rdata_after : (t : ℕ) (name : Labels) → rdata_at n t name ≡ if k.0.0 == t && same_name k.1.now name then octets_of kept else rdata_at m t name
+  pub rdata_after : (t : ℕ) (name : Labels) → rdata_at n t name ≡ if k.0.0 == t && same_name k.1.0.now name then octets_of kept else rdata_at m t name
   rdata_after t name =
       let q : Key = key_of t name in
       sym (rdata_found n q) ∙ ap octets_of (updates.0 q) ∙ (λ i. octets_of (cond (same_key_ties k q i) kept (get key_cmp m q)))
@@ -64,7 +65,7 @@ module _ {Y : Type 0} (m n : BTreeMap Key (Kept Y)) (k : Key) (kept : Option (Ke
       ]
 
 -- RDATA that is put back behind what was taken from one key is added there, and the others have what they had
-pub rdata_added : {Y : Type 0} (old left new : BTreeMap Key (Kept Y)) (k : Key) (taken more : Kept Y) (rdata : Bor (List ℕ)) → map (λ r. r.now) taken.items ≡ rdata_at old k.0.0 k.1.now → ((t : ℕ) (name : Labels) → rdata_at left t name ≡ if k.0.0 == t && same_name k.1.now name then [] else rdata_at old t name) → more.items ≡ taken.items ++ rdata ∷ [] → Updates key_cmp left new k (Some more) → (t : ℕ) (name : Labels) → rdata_at new t name ≡ rdata_at old t name ++ (if t == k.0.0 && same_name name k.1.now then rdata.now ∷ [] else [])
+pub rdata_added : {Y : Type 0} (old left new : BTreeMap Key (Kept Y)) (k : Key) (taken more : Kept Y) (rdata : Bor (List ℕ)) → map (λ r. r.now) taken.items ≡ rdata_at old k.0.0 k.1.0.now → ((t : ℕ) (name : Labels) → rdata_at left t name ≡ if k.0.0 == t && same_name k.1.0.now name then [] else rdata_at old t name) → more.items ≡ taken.items ++ rdata ∷ [] → Updates key_cmp left new k (Some more) → (t : ℕ) (name : Labels) → rdata_at new t name ≡ rdata_at old t name ++ (if t == k.0.0 && same_name name k.1.0.now then rdata.now ∷ [] else [])
 rdata_added old left new k taken more rdata was others given updates t name =
     let q : Key = key_of t name in
     let octets : Bor (List ℕ) → List ℕ = λ r. r.now in

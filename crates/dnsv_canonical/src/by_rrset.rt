@@ -5,13 +5,13 @@ ghost use Rattle.dnsv_names.specs.Name.{Labels, same_name};
 ghost use Rattle.dnsv_canonical.specs.ByRrset.{rdata_at};
 ghost use Rattle.dnsv_canonical.specs.Rrsets.{first_appearances};
 
-use dnsv_names::{Name, RecordType};
+use dnsv_names::{ByWire, Name, RecordType};
 use std::alloc::{AllocError, Global};
 use std::collections::{BTreeMap, BTreeSet};
 
 /// RDATA by the type and owner of the RRset that it belongs to or covers. It's a tree, so that n records take time
 /// in proportion to n log n, whatever their owners are.
-pub type RdataByRrset<'a> = BTreeMap<(RecordType, &'a Name), Vec<&'a [u8]>>;
+pub type RdataByRrset<'a> = BTreeMap<(RecordType, ByWire<'a>), Vec<&'a [u8]>>;
 
 /// Adds RDATA behind what is there for the type and owner.
 pub fn add<'a>(
@@ -26,7 +26,7 @@ pub fn add<'a>(
 {
     let mut received = taken(alloc, by_rrset, rtype, owner);
     received.push(rdata)?;
-    by_rrset.insert((rtype, owner), received)?;
+    by_rrset.insert((rtype, ByWire(owner)), received)?;
     Ok(())
 }
 
@@ -41,7 +41,7 @@ pub fn taken<'a>(
     ensures left { (t : ℕ) (name : Labels) → rdata_at by_rrset.new t name
         ≡ (if rtype.0 == t && same_name owner.now name then [] else rdata_at by_rrset.old t name) }
 {
-    match by_rrset.remove(&(rtype, owner)) {
+    match by_rrset.remove(&(rtype, ByWire(owner))) {
         Some(rdata) => rdata,
         None => Vec::new(alloc),
     }
@@ -60,7 +60,7 @@ pub fn distinct<'a>(
     ensures fits { rtype.0 < 2 ^ 16 }
 {
     let mut distinct = Vec::new(alloc);
-    let Some(received) = by_rrset.get(&(rtype, owner)) else {
+    let Some(received) = by_rrset.get(&(rtype, ByWire(owner))) else {
         return Ok(distinct);
     };
     let mut seen = BTreeSet::new(alloc);

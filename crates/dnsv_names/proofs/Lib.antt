@@ -1,3 +1,4 @@
+pub mod ByWireLemmas
 pub mod NameLemmas
 pub mod OctetLemmas
 pub mod OneReading

@@ -1,4 +1,6 @@
 pub mod AncestorLaws
+pub mod ByWire
+pub mod ByWireLaws
 pub mod Circle
 pub mod CircleLaws
 pub mod Count

@@ -2,6 +2,7 @@
 //! which order they stand.
 #![tactic(auto)]
 
+pub use by_wire::ByWire;
 pub use circle::{
     Circle, all_else_lies_in_a_gap, all_else_lies_in_one_gap, covers, each_value_has_a_successor,
     the_next_is_behind,
@@ -25,6 +26,7 @@ pub use tree_laws::{
     the_next_closer_name_is_below_the_closest_encloser, wildcards_stand_right_below,
 };
 
+mod by_wire;
 mod circle;
 mod count;
 mod error;

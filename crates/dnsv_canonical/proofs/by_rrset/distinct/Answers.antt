@@ -10,7 +10,7 @@ use Rattle.dnsv_canonical.proofs.by_rrset.distinct.Goals.{then-branch+in_ok-push
 pub returns-in_default-clause-once : goal.returns-in_default-clause-once
 returns-in_default-clause-once c =
     ap (map (λ r. r.now)) c.new-distinct.ensures.items
-    ∙ ap (first_appearances bytes_eq) (ap (λ o. octets_of (option_copied o)) (sym c.in_default.is) ∙ ap octets_of c.get.ensures.value ∙ rdata_found c.args.by_rrset.now (c.args.rtype, c.args.owner))
+    ∙ ap (first_appearances bytes_eq) (ap (λ o. octets_of (option_copied o)) (sym c.in_default.is) ∙ ap octets_of c.get.ensures.value ∙ rdata_found c.args.by_rrset.now (c.args.rtype, record { 0 = c.args.owner }))
 
 pub loop-rdata-preserved : goal.loop-rdata-preserved
 loop-rdata-preserved c =
@@ -31,4 +31,4 @@ pub returns-clause-once : goal.returns-clause-once
 returns-clause-once c =
     c.loop-rdata.invariant.0
     ∙ ap (λ rs. first_appearances bytes_eq (map (λ r. r.now) rs)) (take_all c.loop-rdata.rdata-index c.deref-rdata-items.result.now (omega arith) ∙ c.deref-rdata-items.ensures.value)
-    ∙ ap (first_appearances bytes_eq) (ap (λ o. octets_of (option_copied o)) (sym c.in-Some.is) ∙ ap octets_of c.get.ensures.value ∙ rdata_found c.args.by_rrset.now (c.args.rtype, c.args.owner))
+    ∙ ap (first_appearances bytes_eq) (ap (λ o. octets_of (option_copied o)) (sym c.in-Some.is) ∙ ap octets_of c.get.ensures.value ∙ rdata_found c.args.by_rrset.now (c.args.rtype, record { 0 = c.args.owner }))

@@ -1,0 +1,52 @@
+-- The order to search by, octet by octet.
+use Rattle.std.proofs.Common.{◌≡◌, ◌≢◌, ℕ, ◌+◌, ◌<◌, List, ◌∷◌, length, get_or, drop, map, refl, sym, ap, ◌∙◌, arith, Bool, true, false, not, ◌==◌}
+use Rattle.std.proofs.lemmas.Bool.Decides.{nat_tests}
+use Rattle.std.proofs.lemmas.List.{drop_more, get_or-map, length-map}
+use Rattle.std.specs.Char.{to_ascii_lowercase}
+use Rattle.std.specs.Ordering.{ordering_then, ordering_index, nat_cmp}
+use Rattle.std.specs.declared.cmp.Ordering.{Ordering}
+use Rattle.std.specs.declared.cmp.Ordering.TheVariants.{Less, Equal, Greater}
+use Rattle.dnsv_names.specs.Octets.{octets_cmp}
+
+abbrev lower : List ℕ → List ℕ
+lower octets = map to_ascii_lowercase octets
+
+from_here : (octets : List ℕ) (i : ℕ) → i < length octets → drop i (lower octets) ≡ to_ascii_lowercase (get_or octets i 0) ∷ drop (i + 1) (lower octets)
+from_here octets i within =
+    drop_more (lower octets) i 0 (rw length-map within)
+    ∙ ap (λ octet. octet ∷ drop (i + 1) (lower octets)) (get_or-map to_ascii_lowercase octets i 0 0 within)
+
+module _ (a b : List ℕ) (i : ℕ) (in_a : i < length a) (in_b : i < length b) (so_far : octets_cmp (lower a) (lower b) ≡ octets_cmp (drop i (lower a)) (drop i (lower b))) (order : Ordering) (is : order ≡ nat_cmp (to_ascii_lowercase (get_or a i 0)) (to_ascii_lowercase (get_or b i 0))) where
+  decided_here : octets_cmp (lower a) (lower b) ≡ ordering_then order (octets_cmp (drop (i + 1) (lower a)) (drop (i + 1) (lower b)))
+  decided_here =
+      so_far ∙ (λ j. octets_cmp (from_here a i in_a j) (from_here b i in_b j))
+      ∙ ap (λ o. ordering_then o (octets_cmp (drop (i + 1) (lower a)) (drop (i + 1) (lower b)))) (sym is)
+
+  -- octets that are the same leave it to those behind them
+  pub tied_here : order ≡ Equal → octets_cmp (lower a) (lower b) ≡ octets_cmp (drop (i + 1) (lower a)) (drop (i + 1) (lower b))
+  tied_here tied = decided_here ∙ ap (λ o. ordering_then o (octets_cmp (drop (i + 1) (lower a)) (drop (i + 1) (lower b)))) tied
+
+  untied : (o rest : Ordering) → o ≢ Equal → ordering_then o rest ≡ o
+  untied Less rest other = refl
+  untied Equal rest other = absurd (other refl)
+  untied Greater rest other = refl
+
+  -- others decide
+  pub untied_here : order ≢ Equal → length a ≡ length b → order ≡ octets_cmp (length a ∷ lower a) (length b ∷ lower b)
+  untied_here other size =
+      sym (untied order _ other) ∙ sym decided_here
+      ∙ ap (λ o. ordering_then o (octets_cmp (lower a) (lower b))) (same_size (length a) (length b) size)
+    where
+      same_size : (m n : ℕ) → m ≡ n → Equal ≡ nat_cmp m n
+      same_size m n same = grind (arith, nat_tests)
+
+-- what the test of two orderings tells
+pub tied_by_test : (o : Ordering) (test : Bool) → test ≡ not (ordering_index o == 1) → test ≡ false → o ≡ Equal
+tied_by_test Less test is answer = absurd (cc)
+tied_by_test Equal test is answer = refl
+tied_by_test Greater test is answer = absurd (cc)
+
+pub untied_by_test : (o : Ordering) (test : Bool) → test ≡ not (ordering_index o == 1) → test ≡ true → o ≢ Equal
+untied_by_test Less test is answer = λ same. cc
+untied_by_test Equal test is answer = absurd (cc)
+untied_by_test Greater test is answer = λ same. cc
