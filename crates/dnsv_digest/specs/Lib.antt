@@ -1,0 +1,4 @@
+pub mod Digest
+pub mod DigestType
+pub mod Hmac
+pub mod Nsec3Hash
