@@ -57,3 +57,6 @@ pub fn the_next_is_behind<T: Circle>()
         → T.cmp owner x ≡ Ordering.Less → T.cmp x member ≡ Ordering.Less
         → (T.cmp x next ≡ Ordering.Less) × ¬ (T.cmp member next ≡ Ordering.Less) }
 {}
+
+#[cfg(test)]
+mod tests;

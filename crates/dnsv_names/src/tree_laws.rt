@@ -99,7 +99,7 @@ pub fn at_or_below_is_tested()
 
 impl Name {
     /// A law of names: the labels of each are a name, within the limits of RFC 1035 2.3.4.
-    pub fn is_within_limits(&self)
+    pub fn keeps_its_limits(&self)
         ensures { IsName self.now }
     {
         let _octets = self.wire();
