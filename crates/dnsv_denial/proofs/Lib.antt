@@ -1,0 +1,4 @@
+mod AnyLemmas
+mod LookupLemmas
+mod NameFacts
+mod ZoneLemmas

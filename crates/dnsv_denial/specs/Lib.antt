@@ -1,0 +1,10 @@
+pub mod Any
+pub mod Forms
+pub mod Lookup
+pub mod Nsec
+pub mod NsecChain
+pub mod Nsec3
+pub mod Nsec3Chain
+pub mod TypeNumbers
+pub mod Types
+pub mod Zone
