@@ -1,4 +1,10 @@
+mod AnswerLemmas
 mod AnyLemmas
+mod CircleFacts
 mod LookupLemmas
+mod MeaningLemmas
 mod NameFacts
+mod NsecLemmas
+mod NsecTruth
+mod Nsec3Truth
 mod ZoneLemmas

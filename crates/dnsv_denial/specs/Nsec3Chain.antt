@@ -1,12 +1,13 @@
 -- The chain of NSEC3 records that a signed zone has (RFC 5155 7.1), for one set of parameters.
 use Rattle.std.specs.Prelude.{◌≡◌, ◌⊎◌, ◌≤◌, ℕ, Bool, List, map}
+use Rattle.std.specs.List.{AllByRecursion}
 use Rattle.dnsv_names.specs.Name.{Labels, SameName, IsAtOrBelow}
 use Rattle.dnsv_names.specs.Order.{IsBelow, label_cmp}
 use Rattle.dnsv_names.specs.Tree.{wildcard_of}
 use Rattle.dnsv_names.specs.Circle.{Gap, IsSuccessor}
 use Rattle.dnsv_denial.specs.Any.{Any}
 use Rattle.dnsv_denial.specs.Types.{IsUnsignedDelegation}
-use Rattle.dnsv_denial.specs.Zone.{Zone, IsOwner, Holds, IsNode}
+use Rattle.dnsv_denial.specs.Zone.{Zone, IsOwner, Holds, IsNode, IsWellFormed}
 use Rattle.dnsv_denial.specs.NsecChain.{IsBitmapOf}
 
 -- what a hash is made with besides the name (RFC 5155 3.1.3, 3.1.5)
@@ -56,6 +57,14 @@ pub record IsInNsec3Chain (zone : Zone) (parameters : Parameters) (hash : NameHa
   pub types : IsBitmapOf zone name nsec3.types
   pub flags : nsec3.flags ≤ 1
   pub firm : nsec3.flags ≡ 0 → (node : Labels) → IsNode zone node → ¬ Gap label_cmp nsec3.hash nsec3.next (hash.of node)
+
+-- The zone has this name, and the records are of one chain of it with these parameters.
+pub record HasNsec3Records (zone : Zone) (apex : Labels) (parameters : Parameters) (hash : NameHash) (records : List Nsec3Record) : Type 0 where
+  pub well_formed : IsWellFormed zone
+  pub same_apex : SameName apex zone.apex
+  pub names : List Labels
+  pub chain_names : AreChainNames zone names
+  pub in_chain : AllByRecursion (IsInNsec3Chain zone parameters hash names) records
 
 -- Names whose hashes a proof asks for: the question's name, its ancestors, and the wildcards right below these.
 pub data IsAsked (name : Labels) : Labels → Type 0 where

@@ -1,10 +1,11 @@
 -- The chain of NSEC records that a signed zone has (RFC 4034 4, RFC 4035 2.3).
 use Rattle.std.specs.Prelude.{◌≡◌, ◌⊎◌, ℕ, Bool, IsTrue, List, map}
-use Rattle.dnsv_names.specs.Name.{Labels}
+use Rattle.std.specs.List.{AllByRecursion}
+use Rattle.dnsv_names.specs.Name.{Labels, SameName}
 use Rattle.dnsv_names.specs.Order.{canonical_cmp}
 use Rattle.dnsv_names.specs.Circle.{IsSuccessor}
 use Rattle.dnsv_denial.specs.TypeNumbers.{rrsig, nsec}
-use Rattle.dnsv_denial.specs.Zone.{Zone, IsOwner, Holds}
+use Rattle.dnsv_denial.specs.Zone.{Zone, IsOwner, Holds, IsWellFormed}
 
 -- an NSEC record: its owner, the next owner's name and a test of the types in its bitmap (RFC 4034 4.1)
 pub record NsecRecord : Type 0 where
@@ -32,3 +33,9 @@ pub record IsInNsecChain (zone : Zone) (nsec : NsecRecord) : Type 0 where
   pub owner : IsOwner zone nsec.owner
   pub next : IsSuccessor canonical_cmp (owners zone) nsec.owner nsec.next
   pub types : IsBitmapOf zone nsec.owner nsec.types
+
+-- The zone has this name, and the records are of its chain.
+pub record HasNsecRecords (zone : Zone) (apex : Labels) (records : List NsecRecord) : Type 0 where
+  pub well_formed : IsWellFormed zone
+  pub same_apex : SameName apex zone.apex
+  pub in_chain : AllByRecursion (IsInNsecChain zone) records

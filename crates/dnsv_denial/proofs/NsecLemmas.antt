@@ -1,0 +1,105 @@
+-- What an NSEC record of a zone's chain proves.
+use Rattle.std.proofs.Common.{◌≡◌, ◌≢◌, ℕ, ◌+◌, ◌<◌, ◌≤◌, ◌⊎◌, Bool, List, [], ◌∷◌, map, refl, sym, ap, ◌∙◌, inl, inr, ⊎_elim, arith}
+use Rattle.std.specs.declared.cmp.Ordering.TheVariants.{Less, Equal}
+use Rattle.dnsv_names.specs.Name.{Labels, SameName, IsAtOrBelow, rightmost}
+use Rattle.dnsv_names.specs.Order.{canonical_cmp, IsBelow}
+use Rattle.dnsv_names.specs.OrderLaws.{canonical_cmp_total, canonical_Equal, SameName_Equal}
+use Rattle.dnsv_names.specs.Circle.{Gap, has, IsMember, IsSuccessor}
+use Rattle.dnsv_names.specs.TreeLaws.{same_at_or_below, at_or_below_trans}
+use Rattle.dnsv_names.proofs.OrderLemmas.{before_below, interval}
+use Rattle.dnsv_denial.specs.TypeNumbers.{ns, soa, dname, rrsig, nsec}
+use Rattle.dnsv_denial.specs.Any.{Any}
+use Rattle.dnsv_denial.specs.Types.{IsDelegation, IsClosed}
+use Rattle.dnsv_denial.specs.Zone.{Entry, Zone, IsOwner, Holds, IsNode, IsClosedAt, IsWellFormed}
+use Rattle.dnsv_denial.specs.NsecChain.{NsecRecord, IsInBitmap, IsBitmapOf, owners, IsInNsecChain}
+use Rattle.dnsv_denial.specs.Nsec.{Covers, IsFair, IsAbsentBy, IsInnerBy, IsNodeBy}
+use Rattle.dnsv_denial.proofs.CircleFacts.{owner_between, next_between}
+use Rattle.dnsv_denial.proofs.NameFacts.{at_or_below_cases, below_trans_at}
+use Rattle.dnsv_denial.proofs.ZoneLemmas.{closed_respects, closed_owner, OwnerUnder, owner_under, node_of_owner, owner_respects}
+
+-- owners are members of the circle
+member_by : (name : Labels) (entries : List Entry) → Any (λ each. SameName each.owner name) entries → has canonical_cmp (map (λ each. each.owner) entries) name
+member_by name [] some = absurd some
+member_by name (entry ∷ entries) some =
+    ⊎_elim (λ (same : SameName entry.owner name). inl (SameName_Equal name entry.owner (sym same)))
+    (λ (rest : Any (λ each. SameName each.owner name) entries). inr (member_by name entries rest)) some
+
+pub member_of_owner : (zone : Zone) (name : Labels) → IsOwner zone name → IsMember canonical_cmp (owners zone) name
+member_of_owner zone name owner = record { there = member_by name zone.entries owner.entry }
+
+owner_by : (name : Labels) (entries : List Entry) → has canonical_cmp (map (λ each. each.owner) entries) name → Any (λ each. SameName each.owner name) entries
+owner_by name [] some = absurd some
+owner_by name (entry ∷ entries) some =
+    ⊎_elim (λ (tied : canonical_cmp name entry.owner ≡ Equal). inl (sym (canonical_Equal name entry.owner tied)))
+    (λ (rest : has canonical_cmp (map (λ each. each.owner) entries) name). inr (owner_by name entries rest)) some
+
+pub owner_of_member : (zone : Zone) (name : Labels) → IsMember canonical_cmp (owners zone) name → IsOwner zone name
+owner_of_member zone name member = record { entry = owner_by name zone.entries member.there }
+
+-- ---- bitmaps
+
+pub plain_type : (zone : Zone) (name : Labels) (types : ℕ → Bool) (t : ℕ) → t ≢ rrsig → t ≢ nsec → IsBitmapOf zone name types → IsInBitmap types t → Holds zone name t
+plain_type zone name types t other another bitmap bit =
+    ⊎_elim (λ (holds : Holds zone name t). holds)
+    (λ (of_chain : (t ≡ rrsig) ⊎ (t ≡ nsec)). absurd (⊎_elim (λ (is : t ≡ rrsig). other is) (λ (is : t ≡ nsec). another is) of_chain))
+    (bitmap.no_more t bit)
+
+pub delegation_bits : (zone : Zone) (name : Labels) (types : ℕ → Bool) → IsBitmapOf zone name types → IsDelegation (Holds zone name) → IsDelegation (IsInBitmap types)
+delegation_bits zone name types bitmap delegation = record {
+  servers = bitmap.all ns delegation.servers;
+  no_apex = λ bit. delegation.no_apex (plain_type zone name types soa (λ is. omega arith) (λ is. omega arith) bitmap bit);
+}
+
+pub closed_bits : (zone : Zone) (name : Labels) (types : ℕ → Bool) → IsBitmapOf zone name types → IsClosedAt zone name → IsClosed (IsInBitmap types)
+closed_bits zone name types bitmap closed =
+    ⊎_elim (λ (delegation : IsDelegation (Holds zone name)). inl (delegation_bits zone name types bitmap delegation))
+    (λ (alias : Holds zone name dname). inr (bitmap.all dname alias)) closed
+
+-- ---- the words
+
+module _ (zone : Zone) (r : NsecRecord) (there : IsInNsecChain zone r) (name : Labels) where
+  -- no owner is covered
+  pub covered_no_owner : Covers r name → ¬ IsOwner zone name
+  covered_no_owner covers owner = there.next.none_between name (member_of_owner zone name owner) covers
+
+  -- the owner before a name is the end of the zone above the name, where there is one
+  pub owner_is_the_end : (cut : Labels) → IsWellFormed zone → Covers r name → IsClosedAt zone cut → IsBelow name cut → SameName r.owner cut
+  owner_is_the_end cut well covers closed below =
+      ⊎_elim (λ (tied : canonical_cmp r.owner cut ≡ Equal). canonical_Equal r.owner cut tied)
+      (λ (between : (canonical_cmp cut r.owner ≡ Less) × (canonical_cmp r.owner name ≡ Less)).
+          let under : IsAtOrBelow r.owner cut = interval cut cut r.owner name (same_at_or_below cut cut refl) below.0 between.0 between.1 in
+          ⊎_elim (λ (same : SameName r.owner cut). same)
+          (λ (inside : IsBelow r.owner cut). absurd (well.ends cut r.owner closed there.owner inside))
+          (at_or_below_cases r.owner cut under))
+      (owner_between canonical_cmp_total r.owner r.next cut name
+          (there.next.none_between cut (member_of_owner zone cut (closed_owner zone cut closed))) covers (before_below name cut below))
+
+  -- nothing above a name that a fair record covers is closed
+  pub fair_open_above : (cut : Labels) → IsWellFormed zone → Covers r name → IsFair r name → IsBelow name cut → ¬ IsClosedAt zone cut
+  fair_open_above cut well covers fair below closed =
+      let same : SameName r.owner cut = owner_is_the_end cut well covers closed below in
+      fair (below_trans_at name cut r.owner below (same_at_or_below cut r.owner (sym same)))
+      (closed_bits zone r.owner r.types there.types (closed_respects zone cut r.owner (sym same) closed))
+
+  -- a name that the record proves absent is no node
+  pub absent_no_node : IsAbsentBy r name → ¬ IsNode zone name
+  absent_no_node absent node =
+      let some = owner_under zone name node in
+      ⊎_elim (λ (same : SameName some.owner name). covered_no_owner absent.covers (owner_respects zone some.owner name same some.is_owner))
+      (λ (below : IsBelow some.owner name).
+          ⊎_elim (λ (tied : canonical_cmp r.next some.owner ≡ Equal).
+              absent.nothing_below (at_or_below_trans r.next some.owner name (same_at_or_below r.next some.owner (canonical_Equal r.next some.owner tied)) some.under))
+          (λ (between : (canonical_cmp name r.next ≡ Less) × (canonical_cmp r.next some.owner ≡ Less)).
+              absent.nothing_below (interval name name r.next some.owner (same_at_or_below name name refl) some.under between.0 between.1))
+          (next_between canonical_cmp_total r.owner r.next name some.owner
+              (there.next.none_between some.owner (member_of_owner zone some.owner some.is_owner)) absent.covers (before_below some.owner name below)))
+      (at_or_below_cases some.owner name some.under)
+
+  -- an empty non-terminal is a node and no owner
+  pub inner_node : IsAtOrBelow name zone.apex → IsInnerBy r name → IsNode zone name
+  inner_node within inner = node_of_owner zone r.next name (owner_of_member zone r.next there.next.member) inner.some_below within
+
+  pub told_node : IsAtOrBelow name zone.apex → IsNodeBy r name → IsNode zone name
+  told_node within told =
+      ⊎_elim (λ (under : IsAtOrBelow r.owner name). node_of_owner zone r.owner name there.owner under within)
+      (λ (under : IsAtOrBelow r.next name). node_of_owner zone r.next name (owner_of_member zone r.next there.next.member) under within) told

@@ -1,0 +1,50 @@
+//! What a proof by NSEC means for each zone whose chain has its records.
+ghost use Rattle.std.specs.Prelude.{ℕ, List};
+ghost use Rattle.dnsv_names.specs.Name.{Labels, rightmost};
+ghost use Rattle.dnsv_names.specs.Tree.{wildcard_of};
+ghost use Rattle.dnsv_denial.specs.Types.{IsUnsignedDelegation};
+ghost use Rattle.dnsv_denial.specs.Zone.{Zone, Holds};
+ghost use Rattle.dnsv_denial.specs.Lookup.{IsLookup};
+ghost use Rattle.dnsv_denial.specs.Lookup.Answer.{NoName, NoData, Held};
+ghost use Rattle.dnsv_denial.specs.NsecChain.{NsecRecord, HasNsecRecords};
+ghost use Rattle.dnsv_denial.specs.Nsec.{nsec_words};
+ghost use Rattle.dnsv_denial.specs.Forms.{
+    NoNameForm, NoDataForm, EmptyForm, NoWildcardDataForm, EmptyWildcardForm, NoCloserForm, UnsignedCutForm};
+
+/// What a proof of no such name means: the zone has no such name, whatever type is asked.
+pub fn no_name_by_nsec_is_no_name()
+    ensures { (zone : Zone) (apex name : Labels) (t : ℕ) (records : List NsecRecord)
+        → HasNsecRecords zone apex records → NoNameForm (nsec_words apex records) apex name
+        → IsLookup zone name t NoName }
+{}
+
+/// What a proof of no data means: the zone has the name, or a wildcard for it, without the type.
+pub fn no_data_by_nsec_is_no_data()
+    ensures at_name { (zone : Zone) (apex name : Labels) (t : ℕ) (records : List NsecRecord)
+        → HasNsecRecords zone apex records → NoDataForm (nsec_words apex records) apex name t
+        → IsLookup zone name t (NoData name) }
+    ensures at_empty { (zone : Zone) (apex name : Labels) (t : ℕ) (records : List NsecRecord)
+        → HasNsecRecords zone apex records → EmptyForm (nsec_words apex records) apex name
+        → IsLookup zone name t (NoData name) }
+    ensures at_wildcard { (zone : Zone) (apex name : Labels) (t : ℕ) (records : List NsecRecord)
+        → HasNsecRecords zone apex records → (form : NoWildcardDataForm (nsec_words apex records) apex name t)
+        → IsLookup zone name t (NoData (wildcard_of (rightmost name form.labels))) }
+    ensures at_empty_wildcard { (zone : Zone) (apex name : Labels) (t : ℕ) (records : List NsecRecord)
+        → HasNsecRecords zone apex records → (form : EmptyWildcardForm (nsec_words apex records) apex name)
+        → IsLookup zone name t (NoData (wildcard_of (rightmost name form.labels))) }
+{}
+
+/// What a proof of no closer name means: if the wildcard holds a type, that is the zone's answer for it.
+pub fn no_closer_by_nsec_is_held_at_the_wildcard()
+    ensures { (zone : Zone) (apex name : Labels) (labels t : ℕ) (records : List NsecRecord)
+        → HasNsecRecords zone apex records → NoCloserForm (nsec_words apex records) apex name labels
+        → Holds zone (wildcard_of (rightmost name labels)) t
+        → IsLookup zone name t (Held (wildcard_of (rightmost name labels))) }
+{}
+
+/// What a proof of an unsigned cut means: the zone has a delegation without DS there.
+pub fn unsigned_cut_by_nsec_is_an_unsigned_delegation()
+    ensures { (zone : Zone) (apex name cut : Labels) (records : List NsecRecord)
+        → HasNsecRecords zone apex records → UnsignedCutForm (nsec_words apex records) apex name cut
+        → IsUnsignedDelegation (Holds zone cut) }
+{}
