@@ -1,25 +1,22 @@
 -- Each question has an answer: what a lookup asks for can be decided.
-use Rattle.std.proofs.Common.{◌≡◌, ◌≢◌, ℕ, zero, suc, ◌+◌, ◌<◌, ◌≤◌, ◌⊎◌, Bool, true, false, IsTrue, List, [], ◌∷◌, length, refl, sym, ap, ◌∙◌, inl, inr, ⊎_elim, arith, subst}
+use Rattle.std.proofs.Common.{◌≡◌, ◌≢◌, ℕ, zero, suc, ◌<◌, ◌≤◌, ◌⊎◌, Bool, true, false, IsTrue, List, [], ◌∷◌, length, refl, sym, inl, inr, ⊎_elim, arith, subst}
 use Rattle.std.proofs.lemmas.Bool.Decides.{Decides-eqb}
 use Rattle.std.specs.Prelude.{nat_eq}
 use Rattle.std.specs.Bool.{Decides}
-use Rattle.dnsv_names.specs.Name.{Labels, SameName, same_name, IsAtOrBelow, rightmost}
-use Rattle.dnsv_names.specs.Order.{from_the_right, IsBelow}
-use Rattle.dnsv_names.specs.OrderLaws.{same_name_Decides}
+use Rattle.dnsv_names.specs.Name.{Labels, SameName, IsAtOrBelow, rightmost}
+use Rattle.dnsv_names.specs.Order.{IsBelow}
 use Rattle.dnsv_names.specs.Tree.{wildcard_of}
-use Rattle.dnsv_names.specs.Keys.{KeyAtOrBelow, begins_test}
-use Rattle.dnsv_names.specs.KeyLaws.{key_test_Decides}
-use Rattle.dnsv_names.specs.TreeLaws.{key_of_at_or_below, at_or_below_of_key, same_at_or_below, at_or_below_antisymm, at_or_below_length}
+use Rattle.dnsv_names.specs.TreeLaws.{same_at_or_below, at_or_below_length, below_trans_at, at_or_below_or_not, same_or_not}
+use Rattle.dnsv_names.specs.AncestorLaws.{rightmost_all, rightmost_same}
 use Rattle.dnsv_denial.specs.TypeNumbers.{ns, cname, soa, dname, ds}
 use Rattle.dnsv_denial.specs.Any.{Any}
-use Rattle.dnsv_denial.specs.Types.{IsDelegation, IsClosed}
-use Rattle.dnsv_denial.specs.Zone.{Entry, Zone, IsOwner, Holds, IsNode, IsClosedAt, IsWellFormed}
-use Rattle.dnsv_denial.specs.Lookup.{Answer, IsElsewhere, IsClosestEncloser, IsSource, HasNoSource, IsLookup}
+use Rattle.dnsv_denial.specs.Types.{IsDelegation}
+use Rattle.dnsv_denial.specs.Zone.{Entry, Zone, Holds, IsNode, IsClosedAt, IsWellFormed}
+use Rattle.dnsv_denial.specs.Lookup.{Answer, IsElsewhere, IsClosestEncloser, IsSource, IsLookup}
 use Rattle.dnsv_denial.specs.Lookup.Answer.{Held, Alias, NoData, NoName, Elsewhere}
 use Rattle.dnsv_denial.specs.Lookup.IsElsewhere.{outside, below_end, at_delegation, at_apex}
 use Rattle.dnsv_denial.specs.Lookup.IsSource.{itself, wildcard}
 use Rattle.dnsv_denial.proofs.AnyLemmas.{any_map, found}
-use Rattle.dnsv_denial.proofs.NameFacts.{above_in_line, rightmost_in_line, below_trans_at}
 use Rattle.dnsv_denial.proofs.ZoneLemmas.{closed_respects, closed_owner, apex_node, node_respects}
 
 -- a fact or its opposite
@@ -40,29 +37,20 @@ any_decided P each [] = inr (λ none. none)
 any_decided P each (x ∷ xs) =
     ⊎_elim (λ (here : P x). inl (inl here))
     (λ (not_here : ¬ P x).
-        ⊎_elim (λ (later : Any P xs). inl (inr later))
-        (λ (not_later : ¬ Any P xs). inr (λ some. ⊎_elim (λ (here : P x). not_here here) (λ (later : Any P xs). not_later later) some))
-        (any_decided P each xs))
+    ⊎_elim (λ (later : Any P xs). inl (inr later))
+    (λ (not_later : ¬ Any P xs). inr (λ some. ⊎_elim (λ (here : P x). not_here here) (λ (later : Any P xs). not_later later) some))
+    (any_decided P each xs))
     (each x)
 
 number_decided : (m n : ℕ) → Decided (m ≡ n)
 number_decided m n = decided (nat_eq m n) (Decides-eqb m n)
 
-pub same_decided : (a b : Labels) → Decided (SameName a b)
-same_decided a b = decided (same_name a b) (same_name_Decides a b)
-
-pub at_or_below_decided : (name above : Labels) → Decided (IsAtOrBelow name above)
-at_or_below_decided name above =
-    ⊎_elim (λ (under : KeyAtOrBelow (from_the_right name) (from_the_right above)). inl (at_or_below_of_key name above under))
-    (λ (apart : ¬ KeyAtOrBelow (from_the_right name) (from_the_right above)). inr (λ under. apart (key_of_at_or_below name above under)))
-    (decided (begins_test (from_the_right name) (from_the_right above)) (key_test_Decides (from_the_right name) (from_the_right above)))
-
 below_decided : (name above : Labels) → Decided (IsBelow name above)
 below_decided name above =
     ⊎_elim (λ (under : IsAtOrBelow name above).
-        ⊎_elim (λ (same : SameName name above). inr (λ below. below.1 same)) (λ (other : ¬ SameName name above). inl (under, other)) (same_decided name above))
+    ⊎_elim (λ (same : SameName name above). inr (λ below. below.1 same)) (λ (other : ¬ SameName name above). inl (under, other)) (same_or_not name above))
     (λ (apart : ¬ IsAtOrBelow name above). inr (λ below. apart below.0))
-    (at_or_below_decided name above)
+    (at_or_below_or_not name above)
 
 bit_decided : (bit : Bool) → Decided (IsTrue bit)
 bit_decided bit = decided bit (λ yes. yes, λ yes. yes)
@@ -71,13 +59,13 @@ pub holds_decided : (zone : Zone) (name : Labels) (t : ℕ) → Decided (Holds z
 holds_decided zone name t =
     ⊎_elim (λ (some : Any (λ each. SameName each.owner name × IsTrue (each.types t)) zone.entries). inl (record { entry = some }))
     (λ (none : ¬ Any (λ each. SameName each.owner name × IsTrue (each.types t)) zone.entries). inr (λ holds. none holds.entry))
-    (any_decided (λ each. SameName each.owner name × IsTrue (each.types t)) (λ each. both (same_decided each.owner name) (bit_decided (each.types t))) zone.entries)
+    (any_decided (λ each. SameName each.owner name × IsTrue (each.types t)) (λ each. both (same_or_not each.owner name) (bit_decided (each.types t))) zone.entries)
 
 delegation_decided : (zone : Zone) (name : Labels) → Decided (IsDelegation (Holds zone name))
 delegation_decided zone name =
     ⊎_elim (λ (servers : Holds zone name ns).
-        ⊎_elim (λ (apex : Holds zone name soa). inr (λ delegation. delegation.no_apex apex))
-        (λ (no_apex : ¬ Holds zone name soa). inl (record { servers = servers; no_apex = no_apex })) (holds_decided zone name soa))
+    ⊎_elim (λ (apex : Holds zone name soa). inr (λ delegation. delegation.no_apex apex))
+    (λ (no_apex : ¬ Holds zone name soa). inl (record { servers = servers; no_apex = no_apex })) (holds_decided zone name soa))
     (λ (none : ¬ Holds zone name ns). inr (λ delegation. none delegation.servers))
     (holds_decided zone name ns)
 
@@ -85,20 +73,20 @@ closed_decided : (zone : Zone) (name : Labels) → Decided (IsClosedAt zone name
 closed_decided zone name =
     ⊎_elim (λ (delegation : IsDelegation (Holds zone name)). inl (inl delegation))
     (λ (no_delegation : ¬ IsDelegation (Holds zone name)).
-        ⊎_elim (λ (alias : Holds zone name dname). inl (inr alias))
-        (λ (no_alias : ¬ Holds zone name dname).
-            inr (λ closed. ⊎_elim (λ (d : IsDelegation (Holds zone name)). no_delegation d) (λ (a : Holds zone name dname). no_alias a) closed))
-        (holds_decided zone name dname))
+    ⊎_elim (λ (alias : Holds zone name dname). inl (inr alias))
+    (λ (no_alias : ¬ Holds zone name dname).
+    inr (λ closed. ⊎_elim (λ (d : IsDelegation (Holds zone name)). no_delegation d) (λ (a : Holds zone name dname). no_alias a) closed))
+    (holds_decided zone name dname))
     (delegation_decided zone name)
 
 pub node_decided : (zone : Zone) (name : Labels) → Decided (IsNode zone name)
 node_decided zone name =
     ⊎_elim (λ (within : IsAtOrBelow name zone.apex).
-        ⊎_elim (λ (some : Any (λ each. IsAtOrBelow each.owner name) zone.entries). inl (record { within = within; entry = some }))
-        (λ (none : ¬ Any (λ each. IsAtOrBelow each.owner name) zone.entries). inr (λ node. none node.entry))
-        (any_decided (λ each. IsAtOrBelow each.owner name) (λ each. at_or_below_decided each.owner name) zone.entries))
+    ⊎_elim (λ (some : Any (λ each. IsAtOrBelow each.owner name) zone.entries). inl (record { within = within; entry = some }))
+    (λ (none : ¬ Any (λ each. IsAtOrBelow each.owner name) zone.entries). inr (λ node. none node.entry))
+    (any_decided (λ each. IsAtOrBelow each.owner name) (λ each. at_or_below_or_not each.owner name) zone.entries))
     (λ (out : ¬ IsAtOrBelow name zone.apex). inr (λ node. out node.within))
-    (at_or_below_decided name zone.apex)
+    (at_or_below_or_not name zone.apex)
 
 -- the zone ends above the name
 pub record EndsAbove (zone : Zone) (name : Labels) : Type 0 where
@@ -110,15 +98,15 @@ pub end_above_decided : (zone : Zone) (name : Labels) → Decided (EndsAbove zon
 end_above_decided zone name =
     let IsEnd : Entry → Type 0 = λ each. IsBelow name each.owner × IsClosedAt zone each.owner in
     ⊎_elim (λ (some : Any (λ each. IsBelow name each.owner × IsClosedAt zone each.owner) zone.entries).
-        let there = found (λ (each : Entry). IsBelow name each.owner × IsClosedAt zone each.owner) zone.entries some in
-        inl (record { cut = there.member.owner; below = there.holds.0; closed = there.holds.1 }))
+    let there = found (λ (each : Entry). IsBelow name each.owner × IsClosedAt zone each.owner) zone.entries some in
+    inl (record { cut = there.member.owner; below = there.holds.0; closed = there.holds.1 }))
     (λ (none : ¬ Any (λ each. IsBelow name each.owner × IsClosedAt zone each.owner) zone.entries).
-        inr (λ end. none (any_map (λ each. SameName each.owner end.cut) (λ each. IsBelow name each.owner × IsClosedAt zone each.owner) zone.entries
-            (λ each same. (
-              below_trans_at name end.cut each.owner end.below (same_at_or_below end.cut each.owner (sym same)),
-              closed_respects zone end.cut each.owner (sym same) end.closed,
-            ))
-            (closed_owner zone end.cut end.closed).entry)))
+    inr (λ end. none (any_map (λ each. SameName each.owner end.cut) (λ each. IsBelow name each.owner × IsClosedAt zone each.owner) zone.entries
+    (λ each same. (
+      below_trans_at name end.cut each.owner end.below (same_at_or_below end.cut each.owner (sym same)),
+      closed_respects zone end.cut each.owner (sym same) end.closed,
+    ))
+    (closed_owner zone end.cut end.closed).entry)))
     (any_decided (λ each. IsBelow name each.owner × IsClosedAt zone each.owner) (λ each. both (below_decided name each.owner) (closed_decided zone each.owner)) zone.entries)
 
 pub record Encloser (zone : Zone) (name : Labels) : Type 0 where
@@ -130,34 +118,29 @@ search_down : (zone : Zone) (name : Labels) (k base : ℕ) → k ≤ length name
 search_down zone name zero base within below node none = absurd (omega arith)
 search_down zone name (suc j) base within below node none =
     ⊎_elim (λ (here : IsNode zone (rightmost name j)).
-        record { labels = j; is_closest = record { proper = omega arith; node = here; closest = λ more above long. none more (omega arith) long } })
+    record { labels = j; is_closest = record { proper = omega arith; node = here; closest = λ more above long. none more (omega arith) long } })
     (λ (not_here : ¬ IsNode zone (rightmost name j)).
-        let other : ¬ (base ≡ j) = λ same. not_here (rw (← same) node) in
-        search_down zone name j base (omega arith) (omega arith) node
-        (λ more above long.
-            let cases : (more ≡ j) ⊎ (suc j ≤ more) = grind arith in
-            ⊎_elim (λ (is : more ≡ j). rw is not_here) (λ (later : suc j ≤ more). none more later long) cases))
+    let other : ¬ (base ≡ j) = λ same. not_here (rw (← same) node) in
+    search_down zone name j base (omega arith) (omega arith) node
+    (λ more above long.
+    let cases : (more ≡ j) ⊎ (suc j ≤ more) = grind arith in
+    ⊎_elim (λ (is : more ≡ j). rw is not_here) (λ (later : suc j ≤ more). none more later long) cases))
     (node_decided zone (rightmost name j))
 
 -- a name in the zone that is no node has a closest encloser
 pub has_encloser : (zone : Zone) (name : Labels) → IsWellFormed zone → IsAtOrBelow name zone.apex → ¬ IsNode zone name → Encloser zone name
 has_encloser zone name well within none =
     let long : length zone.apex ≤ length name = at_or_below_length name zone.apex within in
-    let apex : SameName zone.apex (rightmost name (length zone.apex)) =
-    at_or_below_antisymm zone.apex (rightmost name (length zone.apex))
-    (above_in_line name zone.apex (length zone.apex) long within (omega arith))
-    (rightmost_in_line name zone.apex (length zone.apex) long within (omega arith)) in
-    let node : IsNode zone (rightmost name (length zone.apex)) = node_respects zone zone.apex (rightmost name (length zone.apex)) apex (apex_node zone well) in
-    let all : SameName (rightmost name (length name)) name =
-    at_or_below_antisymm (rightmost name (length name)) name
-    (rightmost_in_line name name (length name) (omega arith) (same_at_or_below name name refl) (omega arith))
-    (above_in_line name name (length name) (omega arith) (same_at_or_below name name refl) (omega arith)) in
-    let whole : ¬ IsNode zone (rightmost name (length name)) = λ is. none (node_respects zone (rightmost name (length name)) name all is) in
+    let apex : SameName (rightmost name (length zone.apex)) zone.apex = rightmost_same name zone.apex within in
+    let node : IsNode zone (rightmost name (length zone.apex)) =
+    node_respects zone zone.apex (rightmost name (length zone.apex)) (sym apex) (apex_node zone well) in
+    let all : rightmost name (length name) ≡ name = rightmost_all name (length name) (omega arith) in
+    let whole : ¬ IsNode zone (rightmost name (length name)) = λ is. none (subst (λ (n : Labels). IsNode zone n) all is) in
     let cases : (length zone.apex ≡ length name) ⊎ (length zone.apex < length name) = grind arith in
     ⊎_elim (λ (even : length zone.apex ≡ length name). absurd (whole (subst (λ (n : ℕ). IsNode zone (rightmost name n)) even node)))
     (λ (shorter : length zone.apex < length name).
-        search_down zone name (length name) (length zone.apex) (omega arith) shorter node
-        (λ more above fits. let is : more ≡ length name = omega arith in rw is whole))
+    search_down zone name (length name) (length zone.apex) (omega arith) shorter node
+    (λ more above fits. let is : more ≡ length name = omega arith in rw is whole))
     cases
 
 -- ---- the answer
@@ -170,31 +153,31 @@ answer_at : (zone : Zone) (name source : Labels) (t : ℕ) → ¬ IsElsewhere zo
 answer_at zone name source t here is_source =
     ⊎_elim (λ (holds : Holds zone source t). record { answer = Held source; is_lookup = (here, (is_source, holds)) })
     (λ (no_type : ¬ Holds zone source t).
-        ⊎_elim (λ (alias : Holds zone source cname). record { answer = Alias source; is_lookup = (here, (is_source, no_type, alias)) })
-        (λ (no_alias : ¬ Holds zone source cname). record { answer = NoData source; is_lookup = (here, (is_source, no_type, no_alias)) })
-        (holds_decided zone source cname))
+    ⊎_elim (λ (alias : Holds zone source cname). record { answer = Alias source; is_lookup = (here, (is_source, no_type, alias)) })
+    (λ (no_alias : ¬ Holds zone source cname). record { answer = NoData source; is_lookup = (here, (is_source, no_type, no_alias)) })
+    (holds_decided zone source cname))
     (holds_decided zone source t)
 
 answer_here : (zone : Zone) (name : Labels) (t : ℕ) → IsWellFormed zone → IsAtOrBelow name zone.apex → ¬ IsElsewhere zone name t → HasAnswer zone name t
 answer_here zone name t well within here =
     ⊎_elim (λ (node : IsNode zone name). answer_at zone name name t here (itself node))
     (λ (none : ¬ IsNode zone name).
-        let encloser = has_encloser zone name well within none in
-        let star = wildcard_of (rightmost name encloser.labels) in
-        ⊎_elim (λ (node : IsNode zone star). answer_at zone name star t here (wildcard encloser.labels encloser.is_closest node))
-        (λ (no_star : ¬ IsNode zone star).
-            record { answer = NoName; is_lookup = (here, record { labels = encloser.labels; encloser = encloser.is_closest; no_wildcard = no_star }) })
-        (node_decided zone star))
+    let encloser = has_encloser zone name well within none in
+    let star = wildcard_of (rightmost name encloser.labels) in
+    ⊎_elim (λ (node : IsNode zone star). answer_at zone name star t here (wildcard encloser.labels encloser.is_closest node))
+    (λ (no_star : ¬ IsNode zone star).
+    record { answer = NoName; is_lookup = (here, record { labels = encloser.labels; encloser = encloser.is_closest; no_wildcard = no_star }) })
+    (node_decided zone star))
     (node_decided zone name)
 
 elsewhere_or_here : (zone : Zone) (name : Labels) (t : ℕ) → Decided (IsElsewhere zone name t)
 elsewhere_or_here zone name t =
     ⊎_elim (λ (within : IsAtOrBelow name zone.apex).
-        ⊎_elim (λ (end : EndsAbove zone name). inl (below_end end.cut end.below end.closed))
-        (λ (no_end : ¬ EndsAbove zone name). inside within no_end (delegation_decided zone name) (same_decided name zone.apex) (number_decided t ds))
-        (end_above_decided zone name))
+    ⊎_elim (λ (end : EndsAbove zone name). inl (below_end end.cut end.below end.closed))
+    (λ (no_end : ¬ EndsAbove zone name). inside within no_end (delegation_decided zone name) (same_or_not name zone.apex) (number_decided t ds))
+    (end_above_decided zone name))
     (λ (out : ¬ IsAtOrBelow name zone.apex). inl (outside out))
-    (at_or_below_decided name zone.apex)
+    (at_or_below_or_not name zone.apex)
   where
     refuted : IsAtOrBelow name zone.apex → ¬ EndsAbove zone name → (t ≢ ds → ¬ IsDelegation (Holds zone name)) → (t ≡ ds → ¬ SameName name zone.apex) → ¬ IsElsewhere zone name t
     refuted within no_end no_cut no_apex (outside out) = out within
@@ -212,7 +195,7 @@ pub has_answer : (zone : Zone) (name : Labels) (t : ℕ) → IsWellFormed zone �
 has_answer zone name t well =
     ⊎_elim (λ (there : IsElsewhere zone name t). record { answer = Elsewhere; is_lookup = there })
     (λ (here : ¬ IsElsewhere zone name t).
-        ⊎_elim (λ (within : IsAtOrBelow name zone.apex). answer_here zone name t well within here)
-        (λ (out : ¬ IsAtOrBelow name zone.apex). absurd (here (outside out)))
-        (at_or_below_decided name zone.apex))
+    ⊎_elim (λ (within : IsAtOrBelow name zone.apex). answer_here zone name t well within here)
+    (λ (out : ¬ IsAtOrBelow name zone.apex). absurd (here (outside out)))
+    (at_or_below_or_not name zone.apex))
     (elsewhere_or_here zone name t)

@@ -1,9 +1,8 @@
 mod AnswerLemmas
 mod AnyLemmas
-mod CircleFacts
+mod GapLemmas
 mod LookupLemmas
 mod MeaningLemmas
-mod NameFacts
 mod NsecLemmas
 mod NsecTruth
 mod Nsec3Truth

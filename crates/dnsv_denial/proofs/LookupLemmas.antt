@@ -1,18 +1,18 @@
 -- What a zone answers, from where the name stands in it.
-use Rattle.std.proofs.Common.{◌≡◌, ◌≢◌, ℕ, ◌+◌, ◌<◌, ◌≤◌, ◌⊎◌, length, refl, sym, ap, ◌∙◌, inl, inr, ⊎_elim, arith, subst}
-use Rattle.dnsv_names.specs.Name.{Labels, SameName, IsAtOrBelow, rightmost}
+use Rattle.std.proofs.Common.{◌≡◌, ◌≢◌, ℕ, ◌<◌, ◌⊎◌, refl, sym, ap, ⊎_elim, arith, subst}
+use Rattle.dnsv_names.specs.Name.{Labels, rightmost}
 use Rattle.dnsv_names.specs.Order.{IsBelow}
 use Rattle.dnsv_names.specs.Tree.{wildcard_of}
-use Rattle.dnsv_names.specs.TreeLaws.{same_at_or_below, at_or_below_trans}
+use Rattle.dnsv_names.specs.TreeLaws.{at_or_below_trans}
 use Rattle.dnsv_denial.specs.TypeNumbers.{ns, cname, soa, ds}
-use Rattle.dnsv_denial.specs.Types.{IsDelegation, Denies}
-use Rattle.dnsv_denial.specs.Zone.{Zone, IsOwner, Holds, IsNode, IsClosedAt, IsWellFormed}
-use Rattle.dnsv_denial.specs.Lookup.{Answer, IsElsewhere, IsClosestEncloser, IsSource, HasNoSource, IsAnswer, IsLookup}
+use Rattle.dnsv_denial.specs.Types.{IsDelegation}
+use Rattle.dnsv_denial.specs.Zone.{Zone, Holds, IsNode, IsClosedAt, IsWellFormed}
+use Rattle.dnsv_denial.specs.Lookup.{Answer, IsElsewhere, IsClosestEncloser, IsSource, HasNoSource, IsLookup}
 use Rattle.dnsv_denial.specs.Lookup.Answer.{Held, Alias, NoData, NoName, Elsewhere}
 use Rattle.dnsv_denial.specs.Lookup.IsElsewhere.{outside, below_end, at_delegation, at_apex}
 use Rattle.dnsv_denial.specs.Lookup.IsSource.{itself, wildcard}
-use Rattle.dnsv_denial.proofs.NameFacts.{rightmost_above}
-use Rattle.dnsv_denial.proofs.ZoneLemmas.{holds_owner, holds_respects, owner_node, apex_node, node_respects, node_not_below, name_no_node, nothing_closed}
+use Rattle.dnsv_names.specs.AncestorLaws.{rightmost_above}
+use Rattle.dnsv_denial.proofs.ZoneLemmas.{holds_owner, holds_respects, owner_node, apex_node, node_respects, node_not_below, name_no_node}
 
 -- The name is no node, its closest encloser has so many labels, and the zone doesn't end above it.
 pub record IsMissing (zone : Zone) (name : Labels) (labels : ℕ) : Type 0 where
@@ -65,7 +65,7 @@ one_encloser zone name m n p q =
     let cases : (m ≡ n) ⊎ ((m < n) ⊎ (n < m)) = grind arith in
     ⊎_elim (λ (same : m ≡ n). same)
     (λ (differ : (m < n) ⊎ (n < m)). ⊎_elim (λ (less : m < n). absurd (p.closest n less (omega (arith, q.proper)) q.node))
-        (λ (more : n < m). absurd (q.closest m more (omega (arith, p.proper)) p.node)) differ)
+    (λ (more : n < m). absurd (q.closest m more (omega (arith, p.proper)) p.node)) differ)
     cases
 
 one_source : (zone : Zone) (name a b : Labels) → IsSource zone name a → IsSource zone name b → a ≡ b

@@ -1,22 +1,22 @@
 -- What a form means for a zone, where its words are true there.
-use Rattle.std.proofs.Common.{◌≡◌, ◌≢◌, ℕ, ◌+◌, ◌<◌, ◌≤◌, ◌⊎◌, Bool, length, refl, sym, ap, ◌∙◌, inl, inr, ⊎_elim, arith}
+use Rattle.std.proofs.Common.{◌≡◌, ◌≢◌, ℕ, ◌+◌, ◌<◌, Bool, length, refl, inr, arith}
 use Rattle.dnsv_names.specs.Name.{Labels, SameName, IsAtOrBelow, rightmost}
 use Rattle.dnsv_names.specs.Order.{IsBelow}
 use Rattle.dnsv_names.specs.Tree.{wildcard_of}
 use Rattle.dnsv_names.specs.TreeLaws.{same_at_or_below, at_or_below_trans}
-use Rattle.dnsv_denial.specs.TypeNumbers.{ns, cname, soa, dname, ds, rrsig, nsec}
-use Rattle.dnsv_denial.specs.Types.{IsDelegation, IsClosed, Denies, IsUnsignedDelegation}
+use Rattle.dnsv_denial.specs.TypeNumbers.{ns, cname, soa, ds}
+use Rattle.dnsv_denial.specs.Types.{IsDelegation, Denies, IsUnsignedDelegation}
 use Rattle.dnsv_denial.specs.Zone.{Zone, IsOwner, Holds, IsNode, IsClosedAt, IsWellFormed}
-use Rattle.dnsv_denial.specs.Lookup.{Answer, IsElsewhere, IsClosestEncloser, IsSource, IsLookup}
-use Rattle.dnsv_denial.specs.Lookup.Answer.{Held, Alias, NoData, NoName, Elsewhere}
-use Rattle.dnsv_denial.specs.Lookup.IsSource.{itself, wildcard}
+use Rattle.dnsv_denial.specs.Lookup.{IsClosestEncloser, IsLookup}
+use Rattle.dnsv_denial.specs.Lookup.Answer.{Held, NoData, NoName}
+use Rattle.dnsv_denial.specs.Lookup.IsSource.{itself}
 use Rattle.dnsv_denial.specs.NsecChain.{IsInBitmap, IsBitmapOf}
 use Rattle.dnsv_denial.specs.Nsec3Chain.{IsAsked}
 use Rattle.dnsv_denial.specs.Nsec3Chain.IsAsked.{itself as asked_above, wildcard as asked_wildcard}
 use Rattle.dnsv_denial.specs.Forms.{Words, IsAbove, EndsAt, NoNameForm, NoDataForm, EmptyForm, NoWildcardDataForm, EmptyWildcardForm, NoCloserForm, UnsignedCutForm}
-use Rattle.dnsv_denial.proofs.NameFacts.{at_or_below_cases, below_trans_at, longer_below, rightmost_above, rightmost_length, rightmost_in_line, wildcard_below}
+use Rattle.dnsv_names.specs.AncestorLaws.{rightmost_above, rightmost_below, wildcard_below}
 use Rattle.dnsv_denial.proofs.ZoneLemmas.{holds_owner, owner_node, node_above, closest, nothing_closed}
-use Rattle.dnsv_denial.proofs.LookupLemmas.{IsMissing, node_here, missing_here, missing_no_name, missing_no_data, missing_held}
+use Rattle.dnsv_denial.proofs.LookupLemmas.{IsMissing, node_here, missing_no_name, missing_no_data, missing_held}
 use Rattle.dnsv_denial.proofs.NsecLemmas.{plain_type, delegation_bits}
 
 -- a node of the zone with these types, of which something is said
@@ -90,9 +90,7 @@ module _ (zone : Zone) (words : Words) (apex name : Labels) (well : IsWellFormed
   encloser_asked labels = asked_above (rightmost name labels) (rightmost_above name labels)
 
   wildcard_asked : (labels : ℕ) → labels < length name → IsAsked name (wildcard_of (rightmost name labels))
-  wildcard_asked labels proper =
-      asked_wildcard (rightmost name labels)
-      (longer_below name (rightmost name labels) (rightmost_above name labels) (omega (arith, rightmost_length name labels (omega arith))))
+  wildcard_asked labels proper = asked_wildcard (rightmost name labels) (rightmost_below name labels proper)
 
   ends_missing : (labels : ℕ) → EndsAt words apex name labels → IsMissing zone name labels
   ends_missing labels ends =

@@ -1,18 +1,17 @@
 -- What NSEC records of a zone's chain say is so.
-use Rattle.std.proofs.Common.{◌≡◌, ◌≢◌, ℕ, ◌+◌, ◌<◌, ◌≤◌, ◌⊎◌, Bool, List, length, refl, sym, ap, ◌∙◌, inl, inr, ⊎_elim, arith}
+use Rattle.std.proofs.Common.{ℕ, ◌+◌, ◌⊎◌, Bool, List, sym, ◌∙◌, inl, inr, ⊎_elim}
 use Rattle.std.specs.List.{AllByRecursion}
 use Rattle.dnsv_names.specs.Name.{Labels, SameName, IsAtOrBelow, rightmost}
 use Rattle.dnsv_names.specs.Order.{IsBelow}
-use Rattle.dnsv_names.specs.TreeLaws.{same_at_or_below, at_or_below_trans}
+use Rattle.dnsv_names.specs.TreeLaws.{below_trans_at}
+use Rattle.dnsv_names.specs.AncestorLaws.{rightmost_next_below}
 use Rattle.dnsv_denial.specs.Any.{Any}
-use Rattle.dnsv_denial.specs.Zone.{Zone, IsOwner, Holds, IsNode, IsClosedAt, IsWellFormed}
+use Rattle.dnsv_denial.specs.Zone.{Zone, Holds, IsNode, IsClosedAt, IsWellFormed}
 use Rattle.dnsv_denial.specs.Lookup.{IsClosestEncloser}
 use Rattle.dnsv_denial.specs.NsecChain.{NsecRecord, IsInBitmap, IsBitmapOf, IsInNsecChain}
-use Rattle.dnsv_denial.specs.Nsec3Chain.{IsAsked}
 use Rattle.dnsv_denial.specs.Nsec.{IsAbsentBy, IsInnerBy, IsNodeBy, nsec_words}
-use Rattle.dnsv_denial.proofs.AnyLemmas.{FoundOf, found_of}
-use Rattle.dnsv_denial.proofs.NameFacts.{longer_below, rightmost_above, rightmost_length, rightmost_in_line}
-use Rattle.dnsv_denial.proofs.ZoneLemmas.{holds_respects, owner_respects, apex_node, closed_node, node_labels, node_respects, owner_node}
+use Rattle.dnsv_denial.proofs.AnyLemmas.{found_of}
+use Rattle.dnsv_denial.proofs.ZoneLemmas.{holds_respects, owner_respects, apex_node, closed_node, encloser_below, node_respects, owner_node}
 use Rattle.dnsv_denial.proofs.NsecLemmas.{covered_no_owner, fair_open_above, absent_no_node, inner_node, told_node}
 use Rattle.dnsv_denial.proofs.MeaningLemmas.{Told, IsInner, AreTrue}
 
@@ -29,23 +28,20 @@ module _ (zone : Zone) (apex name : Labels) (records : List NsecRecord) (well : 
       let by = found_of (λ (r : NsecRecord). IsAbsentBy r x) (IsInNsecChain zone) records all some in
       absent_no_node zone by.member by.kind x by.holds
 
-  -- the next closer name is below all that is above the question's name and has no more labels than its encloser
   open_above : (labels : ℕ) → IsClosestEncloser zone name labels → Any (λ r. IsAbsentBy r (rightmost name (labels + 1))) records → (cut : Labels) → IsBelow name cut → ¬ IsClosedAt zone cut
   open_above labels encloser some cut below closed =
       let by = found_of (λ (r : NsecRecord). IsAbsentBy r (rightmost name (labels + 1))) (IsInNsecChain zone) records all some in
-      let few : length cut ≤ labels = node_labels zone name cut labels encloser below.0 (closed_node zone cut well closed) in
-      let within : labels + 1 ≤ length name = omega (arith, encloser.proper) in
-      let line : IsAtOrBelow (rightmost name (labels + 1)) cut = rightmost_in_line name cut (labels + 1) within below.0 (omega arith) in
+      let line : IsAtOrBelow (rightmost name labels) cut = encloser_below zone name cut labels encloser below.0 (closed_node zone cut well closed) in
       let under : IsBelow (rightmost name (labels + 1)) cut =
-      longer_below (rightmost name (labels + 1)) cut line (omega (arith, rightmost_length name (labels + 1) within)) in
+      below_trans_at (rightmost name (labels + 1)) (rightmost name labels) cut (rightmost_next_below name labels encloser.proper) line in
       fair_open_above zone by.member by.kind (rightmost name (labels + 1)) cut well by.holds.covers by.holds.fair under closed
 
   encloser : (x : Labels) → IsAtOrBelow x zone.apex → SameName x apex ⊎ Any (λ r. IsNodeBy r x) records → IsNode zone x
   encloser x within told =
       ⊎_elim (λ (is : SameName x apex). node_respects zone zone.apex x (sym (is ∙ same)) (apex_node zone well))
       (λ (some : Any (λ r. IsNodeBy r x) records).
-          let by = found_of (λ (r : NsecRecord). IsNodeBy r x) (IsInNsecChain zone) records all some in
-          told_node zone by.member by.kind x within by.holds) told
+      let by = found_of (λ (r : NsecRecord). IsNodeBy r x) (IsInNsecChain zone) records all some in
+      told_node zone by.member by.kind x within by.holds) told
 
   inner : (x : Labels) → IsAtOrBelow x zone.apex → Any (λ r. IsInnerBy r x) records → IsInner zone x
   inner x within some =

@@ -1,16 +1,15 @@
 -- Owners, nodes and ends of a zone.
-use Rattle.std.proofs.Common.{◌≡◌, ℕ, ◌+◌, ◌-◌, ◌<◌, ◌≤◌, ◌⊎◌, IsTrue, length, refl, sym, ap, ◌∙◌, inl, inr, ⊎_elim, arith, subst, drop}
+use Rattle.std.proofs.Common.{◌≡◌, ℕ, ◌+◌, ◌<◌, ◌⊎◌, IsTrue, length, refl, sym, ap, ◌∙◌, inl, inr, ⊎_elim, arith, subst}
 use Rattle.dnsv_names.specs.Name.{Labels, lower_case, SameName, IsAtOrBelow, rightmost}
 use Rattle.dnsv_names.specs.Order.{IsBelow}
 use Rattle.dnsv_names.specs.Tree.{wildcard_of}
-use Rattle.dnsv_names.specs.TreeLaws.{same_at_or_below, at_or_below_trans, at_or_below_length, at_or_below_antisymm}
+use Rattle.dnsv_names.specs.TreeLaws.{same_at_or_below, at_or_below_trans, at_or_below_cases, at_trans_below, below_trans_at}
+use Rattle.dnsv_names.specs.AncestorLaws.{rightmost_all, rightmost_in_line, above_or_next, wildcard_below}
 use Rattle.dnsv_denial.specs.TypeNumbers.{ns, soa, dname}
-use Rattle.dnsv_denial.specs.Any.{Any}
-use Rattle.dnsv_denial.specs.Types.{IsDelegation, IsClosed}
+use Rattle.dnsv_denial.specs.Types.{IsDelegation}
 use Rattle.dnsv_denial.specs.Zone.{Entry, Zone, IsOwner, Holds, IsNode, IsClosedAt, IsWellFormed}
 use Rattle.dnsv_denial.specs.Lookup.{IsClosestEncloser}
 use Rattle.dnsv_denial.proofs.AnyLemmas.{any_map, found}
-use Rattle.dnsv_denial.proofs.NameFacts.{at_or_below_cases, below_length, longer_below, at_trans_below, below_trans_at, rightmost_above, rightmost_length, rightmost_in_line, above_in_line, wildcard_below}
 
 pub holds_owner : (zone : Zone) (name : Labels) (t : ℕ) → Holds zone name t → IsOwner zone name
 holds_owner zone name t holds = record {
@@ -100,43 +99,38 @@ closest zone name labels proper node none = record {
   proper = proper;
   node = node;
   closest = λ more above within longer.
-      let line : IsAtOrBelow (rightmost name more) (rightmost name (labels + 1)) =
-      rightmost_in_line name (rightmost name (labels + 1)) more within (rightmost_above name (labels + 1)) (omega (arith, rightmost_length name (labels + 1) (omega arith))) in
-      let inside : IsAtOrBelow (rightmost name (labels + 1)) (rightmost name labels) =
-      rightmost_in_line name (rightmost name labels) (labels + 1) (omega arith) (rightmost_above name labels) (omega (arith, rightmost_length name labels (omega arith))) in
-      none (node_above zone (rightmost name more) (rightmost name (labels + 1)) longer line (at_or_below_trans (rightmost name (labels + 1)) (rightmost name labels) zone.apex inside node.within));
+      let next = rightmost name (labels + 1) in
+      let inside : IsAtOrBelow next zone.apex =
+      at_or_below_trans next (rightmost name labels) zone.apex (rightmost_in_line name (labels + 1) labels (omega arith)) node.within in
+      none (node_above zone (rightmost name more) next longer (rightmost_in_line name more (labels + 1) (omega arith)) inside);
 }
 
--- a node above a name has no more labels than the closest encloser
-pub node_labels : (zone : Zone) (name node : Labels) (labels : ℕ) → IsClosestEncloser zone name labels → IsAtOrBelow name node → IsNode zone node → length node ≤ labels
-node_labels zone name node labels encloser under is_node =
-    let cases : (length node ≤ labels) ⊎ (labels < length node) = grind arith in
-    ⊎_elim (λ (few : length node ≤ labels). few)
-    (λ (more : labels < length node).
-        let within : length node ≤ length name = at_or_below_length name node under in
-        let line : IsAtOrBelow node (rightmost name (length node)) = above_in_line name node (length node) within under (omega arith) in
-        let back : IsAtOrBelow (rightmost name (length node)) node = rightmost_in_line name node (length node) within under (omega arith) in
-        absurd (encloser.closest (length node) more within
-            (node_respects zone node (rightmost name (length node)) (at_or_below_antisymm node (rightmost name (length node)) line back) is_node)))
-    cases
+-- the closest encloser is at or below each node above the name
+pub encloser_below : (zone : Zone) (name node : Labels) (labels : ℕ) → IsClosestEncloser zone name labels → IsAtOrBelow name node → IsNode zone node → IsAtOrBelow (rightmost name labels) node
+encloser_below zone name node labels encloser under is_node =
+    let next = rightmost name (labels + 1) in
+    ⊎_elim (λ (above : IsAtOrBelow (rightmost name labels) node). above)
+    (λ (longer : IsAtOrBelow node next).
+    let inside : IsAtOrBelow next zone.apex =
+    at_or_below_trans next (rightmost name labels) zone.apex (rightmost_in_line name (labels + 1) labels (omega arith)) encloser.node.within in
+    absurd (encloser.closest (labels + 1) (omega arith) (omega (arith, encloser.proper)) (node_above zone node next is_node longer inside)))
+    (above_or_next name node labels encloser.proper under)
 
 -- the name itself is no node
 pub name_no_node : (zone : Zone) (name : Labels) (labels : ℕ) → IsClosestEncloser zone name labels → ¬ IsNode zone name
 name_no_node zone name labels encloser node =
-    let few : length name ≤ labels = node_labels zone name name labels encloser (same_at_or_below name name refl) node in
-    absurd (omega (arith, encloser.proper))
+    let whole : name ≡ rightmost name (length name) = sym (rightmost_all name (length name) (omega arith)) in
+    encloser.closest (length name) encloser.proper (omega arith) (subst (λ (n : Labels). IsNode zone n) whole node)
 
 -- nothing above the name is closed, where the closest encloser isn't, or has a node below it
 pub nothing_closed : (zone : Zone) (name : Labels) (labels : ℕ) → IsWellFormed zone → IsClosestEncloser zone name labels → (¬ IsClosedAt zone (rightmost name labels)) ⊎ IsNode zone (wildcard_of (rightmost name labels)) → (cut : Labels) → IsBelow name cut → ¬ IsClosedAt zone cut
 nothing_closed zone name labels well encloser free cut below closed =
     let ce = rightmost name labels in
-    let within : labels ≤ length name = omega (arith, encloser.proper) in
-    let few : length cut ≤ labels = node_labels zone name cut labels encloser below.0 (closed_node zone cut well closed) in
-    let line : IsAtOrBelow ce cut = rightmost_in_line name cut labels within below.0 few in
+    let line : IsAtOrBelow ce cut = encloser_below zone name cut labels encloser below.0 (closed_node zone cut well closed) in
     ⊎_elim (λ (same : SameName ce cut).
-        ⊎_elim (λ (open_ : ¬ IsClosedAt zone ce). open_ (closed_respects zone cut ce (sym same) closed))
-        (λ (wildcard : IsNode zone (wildcard_of ce)).
-            node_not_below zone cut (wildcard_of ce) well closed wildcard (below_trans_at (wildcard_of ce) ce cut (wildcard_below ce) line))
-        free)
+    ⊎_elim (λ (free_here : ¬ IsClosedAt zone ce). free_here (closed_respects zone cut ce (sym same) closed))
+    (λ (wildcard : IsNode zone (wildcard_of ce)).
+    node_not_below zone cut (wildcard_of ce) well closed wildcard (below_trans_at (wildcard_of ce) ce cut (wildcard_below ce) line))
+    free)
     (λ (under : IsBelow ce cut). node_not_below zone cut ce well closed encloser.node under)
     (at_or_below_cases ce cut line)

@@ -1,6 +1,6 @@
 -- The forms of a proof of denial (RFC 4035 5.4, RFC 5155 8). One table serves NSEC and NSEC3, which differ in how
 -- their records say the words of it.
-use Rattle.std.specs.Prelude.{◌⊎◌, ◌+◌, ◌<◌, ℕ, Bool, length}
+use Rattle.std.specs.Prelude.{◌+◌, ◌<◌, ℕ, length}
 use Rattle.dnsv_names.specs.Name.{Labels, IsAtOrBelow, rightmost}
 use Rattle.dnsv_names.specs.Order.{IsBelow}
 use Rattle.dnsv_names.specs.Tree.{wildcard_of}

@@ -1,11 +1,11 @@
 -- What a zone answers to a question (RFC 1034 4.3.2, RFC 4592 3.3.1).
-use Rattle.std.specs.Prelude.{◌≡◌, ◌≢◌, ◌+◌, ◌<◌, ◌≤◌, ℕ, length}
+use Rattle.std.specs.Prelude.{◌≡◌, ◌≢◌, ◌<◌, ◌≤◌, ℕ, length}
 use Rattle.dnsv_names.specs.Name.{Labels, SameName, IsAtOrBelow, rightmost}
 use Rattle.dnsv_names.specs.Order.{IsBelow}
 use Rattle.dnsv_names.specs.Tree.{wildcard_of}
-use Rattle.dnsv_denial.specs.TypeNumbers.{ns, cname, soa, ds}
+use Rattle.dnsv_denial.specs.TypeNumbers.{cname, ds}
 use Rattle.dnsv_denial.specs.Types.{IsDelegation}
-use Rattle.dnsv_denial.specs.Zone.{Zone, IsOwner, Holds, IsNode, IsClosedAt}
+use Rattle.dnsv_denial.specs.Zone.{Zone, Holds, IsNode, IsClosedAt}
 
 -- The type or an alias is at a node, or the node has neither; the question's name has no node and no wildcard;
 -- or another zone is to be asked.

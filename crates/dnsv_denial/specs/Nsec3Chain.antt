@@ -24,8 +24,10 @@ pub record Nsec3Record : Type 0 where
   pub types : ℕ → Bool
   pub parameters : Parameters
 
--- A hash of names, whatever their case: with parameters, that of RFC 5155 5.
+-- A hash of names with some parameters, whatever the names' case. It stands for that of RFC 5155 5, and the laws hold
+-- of any.
 pub record NameHash : Type 0 where
+  pub parameters : Parameters
   pub of : Labels → List ℕ
   pub respects_case : (a b : Labels) → SameName a b → of a ≡ of b
 
@@ -48,30 +50,32 @@ pub record AreChainNames (zone : Zone) (names : List Labels) : Type 0 where
 
 -- The record is one of the chain of these names: it has the hash of one of them and its types, and the next hash as
 -- unsigned octets. Without the Opt-Out flag no node of the zone has its hash in the gap (RFC 5155 6, 7.1).
-pub record IsInNsec3Chain (zone : Zone) (parameters : Parameters) (hash : NameHash) (names : List Labels) (nsec3 : Nsec3Record) : Type 0 where
-  pub same_parameters : nsec3.parameters ≡ parameters
+pub record IsInNsec3Chain (zone : Zone) (hash : NameHash) (names : List Labels) (nsec3 : Nsec3Record) : Type 0 where
+  pub same_parameters : nsec3.parameters ≡ hash.parameters
   pub name : Labels
   pub is_chained : IsChained names name
   pub is_hash : nsec3.hash ≡ hash.of name
   pub next : IsSuccessor label_cmp (map hash.of names) nsec3.hash nsec3.next
   pub types : IsBitmapOf zone name nsec3.types
   pub flags : nsec3.flags ≤ 1
-  pub firm : nsec3.flags ≡ 0 → (node : Labels) → IsNode zone node → ¬ Gap label_cmp nsec3.hash nsec3.next (hash.of node)
+  pub firm : nsec3.flags ≡ 0 → (node : Labels) → IsNode zone node
+      → ¬ Gap label_cmp nsec3.hash nsec3.next (hash.of node)
 
 -- The zone has this name, and the records are of one chain of it with these parameters.
-pub record HasNsec3Records (zone : Zone) (apex : Labels) (parameters : Parameters) (hash : NameHash) (records : List Nsec3Record) : Type 0 where
+pub record HasNsec3Records (zone : Zone) (apex : Labels) (hash : NameHash) (records : List Nsec3Record)
+    : Type 0 where
   pub well_formed : IsWellFormed zone
   pub same_apex : SameName apex zone.apex
   pub names : List Labels
   pub chain_names : AreChainNames zone names
-  pub in_chain : AllByRecursion (IsInNsec3Chain zone parameters hash names) records
+  pub in_chain : AllByRecursion (IsInNsec3Chain zone hash names) records
 
 -- Names whose hashes a proof asks for: the question's name, its ancestors, and the wildcards right below these.
 pub data IsAsked (name : Labels) : Labels → Type 0 where
   itself : (above : Labels) → IsAtOrBelow name above → IsAsked name above
   wildcard : (above : Labels) → IsBelow name above → IsAsked name (wildcard_of above)
 
--- no node of the zone has the hash of another one of these names
+-- no node of the zone has the hash of one of these names and is another name
 abbrev pub HasNoCollision : Zone → NameHash → Labels → Type 0
 HasNoCollision zone hash name =
     (asked node : Labels) → IsAsked name asked → IsNode zone node → hash.of node ≡ hash.of asked → SameName node asked

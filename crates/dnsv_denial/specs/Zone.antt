@@ -3,7 +3,7 @@ use Rattle.std.specs.Prelude.{ℕ, Bool, List, IsTrue}
 use Rattle.dnsv_names.specs.Name.{Labels, SameName, IsAtOrBelow}
 use Rattle.dnsv_names.specs.Order.{IsBelow}
 use Rattle.dnsv_names.specs.Tree.{wildcard_of}
-use Rattle.dnsv_denial.specs.TypeNumbers.{ns, soa, dname}
+use Rattle.dnsv_denial.specs.TypeNumbers.{soa}
 use Rattle.dnsv_denial.specs.Any.{Any}
 use Rattle.dnsv_denial.specs.Types.{IsClosed}
 

@@ -6,23 +6,26 @@
 
 pub use lookup::a_question_has_one_answer;
 pub use nsec::{
-    a_name_absent_by_nsec_is_no_node, a_name_covered_fairly_has_nothing_closed_above, a_name_inner_by_nsec_is_an_empty_non_terminal,
-    nsec_records_show_nodes, the_owner_before_a_name_is_the_end_above_it,
+    a_name_absent_by_nsec_is_no_node, a_name_covered_fairly_has_nothing_closed_above,
+    a_name_inner_by_nsec_is_an_empty_non_terminal, nsec_records_show_nodes,
+    the_owner_before_a_name_is_the_end_above_it,
 };
 pub use nsec_meaning::{
-    no_closer_by_nsec_is_held_at_the_wildcard, no_data_by_nsec_is_no_data, no_name_by_nsec_is_no_name,
-    unsigned_cut_by_nsec_is_an_unsigned_delegation,
+    no_closer_by_nsec_is_held_at_the_wildcard, no_data_by_nsec_is_no_data,
+    no_name_by_nsec_is_no_name, unsigned_cut_by_nsec_is_an_unsigned_delegation,
 };
 pub use nsec3::{
-    a_name_covered_by_nsec3_is_none_of_the_chain, a_name_matched_by_nsec3_is_of_the_chain, an_encloser_by_nsec3_is_an_open_node,
+    a_name_covered_by_nsec3_is_none_of_the_chain, a_name_matched_by_nsec3_is_of_the_chain,
+    an_encloser_by_nsec3_is_an_open_node,
 };
 pub use nsec3_meaning::{
-    no_closer_by_nsec3_is_held_at_the_wildcard, no_data_by_nsec3_is_no_data, no_name_by_nsec3_is_no_name,
-    opted_out_nodes_are_unsigned_ends, unsigned_cut_by_nsec3_is_an_unsigned_delegation,
+    no_closer_by_nsec3_is_held_at_the_wildcard, no_data_by_nsec3_is_no_data,
+    no_name_by_nsec3_is_no_name, opted_out_nodes_are_unsigned_ends,
+    unsigned_cut_by_nsec3_is_an_unsigned_delegation,
 };
 pub use zone::{
-    a_next_closer_name_that_is_missing_ends_the_search, no_node_is_below_an_end_of_the_zone, nothing_closed_is_above_a_missing_name,
-    what_is_above_a_node_is_a_node,
+    a_next_closer_name_that_is_missing_ends_the_search, no_node_is_below_an_end_of_the_zone,
+    nothing_closed_is_above_a_missing_name, what_is_above_a_node_is_a_node,
 };
 
 mod lookup;

@@ -5,41 +5,48 @@ ghost use Rattle.dnsv_denial.specs.Types.{IsClosed};
 ghost use Rattle.dnsv_denial.specs.Zone.{Zone, IsNode, IsClosedAt};
 ghost use Rattle.dnsv_denial.specs.NsecChain.{IsInBitmap, IsBitmapOf};
 ghost use Rattle.dnsv_denial.specs.Nsec3Chain.{
-    Parameters, Nsec3Record, NameHash, IsChained, AreChainNames, IsInNsec3Chain, IsAsked, HasNoCollision};
+  Nsec3Record,
+  NameHash,
+  IsChained,
+  AreChainNames,
+  IsInNsec3Chain,
+  IsAsked,
+  HasNoCollision,
+};
 ghost use Rattle.dnsv_denial.specs.Nsec3.{Matches, Covers};
 
 /// A law of NSEC3: where no other name of the zone has its hash, a name with the hash of a record is one of
 /// the chain's names, and the bitmap has its types.
 pub fn a_name_matched_by_nsec3_is_of_the_chain()
-    ensures chained { (zone : Zone) (parameters : Parameters) (hash : NameHash) (names : List Labels)
+    ensures chained { (zone : Zone) (hash : NameHash) (names : List Labels)
         (nsec3 : Nsec3Record) (name asked : Labels) → AreChainNames zone names
-        → IsInNsec3Chain zone parameters hash names nsec3 → HasNoCollision zone hash name → IsAsked name asked
-        → Matches parameters hash nsec3 asked → IsChained names asked }
-    ensures types { (zone : Zone) (parameters : Parameters) (hash : NameHash) (names : List Labels)
+        → IsInNsec3Chain zone hash names nsec3 → HasNoCollision zone hash name → IsAsked name asked
+        → Matches hash nsec3 asked → IsChained names asked }
+    ensures types { (zone : Zone) (hash : NameHash) (names : List Labels)
         (nsec3 : Nsec3Record) (name asked : Labels) → AreChainNames zone names
-        → IsInNsec3Chain zone parameters hash names nsec3 → HasNoCollision zone hash name → IsAsked name asked
-        → Matches parameters hash nsec3 asked → IsBitmapOf zone asked nsec3.types }
+        → IsInNsec3Chain zone hash names nsec3 → HasNoCollision zone hash name → IsAsked name asked
+        → Matches hash nsec3 asked → IsBitmapOf zone asked nsec3.types }
 {}
 
 /// A law of NSEC3: a covered name is none of the chain's names, and without Opt-Out it is no node.
 pub fn a_name_covered_by_nsec3_is_none_of_the_chain()
-    ensures chained { (zone : Zone) (parameters : Parameters) (hash : NameHash) (names : List Labels)
-        (nsec3 : Nsec3Record) (name : Labels) → IsInNsec3Chain zone parameters hash names nsec3
-        → Covers parameters hash nsec3 name → ¬ IsChained names name }
-    ensures firm { (zone : Zone) (parameters : Parameters) (hash : NameHash) (names : List Labels)
-        (nsec3 : Nsec3Record) (name : Labels) → IsInNsec3Chain zone parameters hash names nsec3
-        → Covers parameters hash nsec3 name → nsec3.flags ≡ 0 → ¬ IsNode zone name }
+    ensures chained { (zone : Zone) (hash : NameHash) (names : List Labels)
+        (nsec3 : Nsec3Record) (name : Labels) → IsInNsec3Chain zone hash names nsec3
+        → Covers hash nsec3 name → ¬ IsChained names name }
+    ensures firm { (zone : Zone) (hash : NameHash) (names : List Labels)
+        (nsec3 : Nsec3Record) (name : Labels) → IsInNsec3Chain zone hash names nsec3
+        → Covers hash nsec3 name → nsec3.flags ≡ 0 → ¬ IsNode zone name }
 {}
 
 /// A law of NSEC3: a name that matches a record with neither a delegation nor a DNAME is a node, and has
 /// neither.
 pub fn an_encloser_by_nsec3_is_an_open_node()
-    ensures node { (zone : Zone) (parameters : Parameters) (hash : NameHash) (names : List Labels)
+    ensures node { (zone : Zone) (hash : NameHash) (names : List Labels)
         (nsec3 : Nsec3Record) (name asked : Labels) → AreChainNames zone names
-        → IsInNsec3Chain zone parameters hash names nsec3 → HasNoCollision zone hash name → IsAsked name asked
-        → Matches parameters hash nsec3 asked → IsNode zone asked }
-    ensures open_ { (zone : Zone) (parameters : Parameters) (hash : NameHash) (names : List Labels)
+        → IsInNsec3Chain zone hash names nsec3 → HasNoCollision zone hash name → IsAsked name asked
+        → Matches hash nsec3 asked → IsNode zone asked }
+    ensures open_ { (zone : Zone) (hash : NameHash) (names : List Labels)
         (nsec3 : Nsec3Record) (name asked : Labels) → AreChainNames zone names
-        → IsInNsec3Chain zone parameters hash names nsec3 → HasNoCollision zone hash name → IsAsked name asked
-        → Matches parameters hash nsec3 asked → ¬ IsClosed (IsInBitmap nsec3.types) → ¬ IsClosedAt zone asked }
+        → IsInNsec3Chain zone hash names nsec3 → HasNoCollision zone hash name → IsAsked name asked
+        → Matches hash nsec3 asked → ¬ IsClosed (IsInBitmap nsec3.types) → ¬ IsClosedAt zone asked }
 {}

@@ -8,46 +8,51 @@ ghost use Rattle.dnsv_denial.specs.Zone.{Zone, Holds, IsNode};
 ghost use Rattle.dnsv_denial.specs.Lookup.{IsLookup};
 ghost use Rattle.dnsv_denial.specs.Lookup.Answer.{NoName, NoData, Held};
 ghost use Rattle.dnsv_denial.specs.Nsec3Chain.{
-    Parameters, Nsec3Record, NameHash, IsUnsignedEnd, HasNsec3Records, HasNoCollision};
+  Nsec3Record,
+  NameHash,
+  IsUnsignedEnd,
+  HasNsec3Records,
+  HasNoCollision,
+};
 ghost use Rattle.dnsv_denial.specs.Nsec3.{nsec3_words, IsCovered, OptOutForm, LooseCloserForm};
 ghost use Rattle.dnsv_denial.specs.Forms.{NoNameForm, NoDataForm, NoWildcardDataForm, NoCloserForm, UnsignedCutForm};
 
 /// What a proof of no such name means: the zone has no such name, whatever type is asked.
 pub fn no_name_by_nsec3_is_no_name()
-    ensures { (zone : Zone) (apex name : Labels) (t : ℕ) (parameters : Parameters) (hash : NameHash)
-        (records : List Nsec3Record) → HasNsec3Records zone apex parameters hash records
-        → HasNoCollision zone hash name → NoNameForm (nsec3_words parameters hash records) apex name
+    ensures { (zone : Zone) (apex name : Labels) (t : ℕ) (hash : NameHash)
+        (records : List Nsec3Record) → HasNsec3Records zone apex hash records
+        → HasNoCollision zone hash name → NoNameForm (nsec3_words hash records) apex name
         → IsLookup zone name t NoName }
 {}
 
 /// What a proof of no data means: the zone has the name, or a wildcard for it, without the type.
 pub fn no_data_by_nsec3_is_no_data()
-    ensures at_name { (zone : Zone) (apex name : Labels) (t : ℕ) (parameters : Parameters) (hash : NameHash)
-        (records : List Nsec3Record) → HasNsec3Records zone apex parameters hash records
-        → HasNoCollision zone hash name → NoDataForm (nsec3_words parameters hash records) apex name t
+    ensures at_name { (zone : Zone) (apex name : Labels) (t : ℕ) (hash : NameHash)
+        (records : List Nsec3Record) → HasNsec3Records zone apex hash records
+        → HasNoCollision zone hash name → NoDataForm (nsec3_words hash records) apex name t
         → IsLookup zone name t (NoData name) }
-    ensures at_wildcard { (zone : Zone) (apex name : Labels) (t : ℕ) (parameters : Parameters) (hash : NameHash)
-        (records : List Nsec3Record) → HasNsec3Records zone apex parameters hash records
+    ensures at_wildcard { (zone : Zone) (apex name : Labels) (t : ℕ) (hash : NameHash)
+        (records : List Nsec3Record) → HasNsec3Records zone apex hash records
         → HasNoCollision zone hash name
-        → (form : NoWildcardDataForm (nsec3_words parameters hash records) apex name t)
+        → (form : NoWildcardDataForm (nsec3_words hash records) apex name t)
         → IsLookup zone name t (NoData (wildcard_of (rightmost name form.labels))) }
 {}
 
 /// What a proof of no closer name means: if the wildcard holds a type, that is the zone's answer for it.
 /// It holds whatever names share a hash.
 pub fn no_closer_by_nsec3_is_held_at_the_wildcard()
-    ensures { (zone : Zone) (apex name : Labels) (labels t : ℕ) (parameters : Parameters) (hash : NameHash)
-        (records : List Nsec3Record) → HasNsec3Records zone apex parameters hash records
-        → NoCloserForm (nsec3_words parameters hash records) apex name labels
+    ensures { (zone : Zone) (apex name : Labels) (labels t : ℕ) (hash : NameHash)
+        (records : List Nsec3Record) → HasNsec3Records zone apex hash records
+        → NoCloserForm (nsec3_words hash records) apex name labels
         → Holds zone (wildcard_of (rightmost name labels)) t
         → IsLookup zone name t (Held (wildcard_of (rightmost name labels))) }
 {}
 
 /// What a proof of an unsigned cut means: the zone has a delegation without DS there.
 pub fn unsigned_cut_by_nsec3_is_an_unsigned_delegation()
-    ensures { (zone : Zone) (apex name cut : Labels) (parameters : Parameters) (hash : NameHash)
-        (records : List Nsec3Record) → HasNsec3Records zone apex parameters hash records
-        → HasNoCollision zone hash name → UnsignedCutForm (nsec3_words parameters hash records) apex name cut
+    ensures { (zone : Zone) (apex name cut : Labels) (hash : NameHash)
+        (records : List Nsec3Record) → HasNsec3Records zone apex hash records
+        → HasNoCollision zone hash name → UnsignedCutForm (nsec3_words hash records) apex name cut
         → IsUnsignedDelegation (Holds zone cut) }
 {}
 
@@ -55,11 +60,11 @@ pub fn unsigned_cut_by_nsec3_is_an_unsigned_delegation()
 /// without DS or an empty non-terminal that exists through such alone. So it is for the next closer name of
 /// an unsigned cut by Opt-Out, and of an answer from a wildcard. It holds whatever names share a hash.
 pub fn opted_out_nodes_are_unsigned_ends()
-    ensures covered { (zone : Zone) (apex name : Labels) (parameters : Parameters) (hash : NameHash)
-        (records : List Nsec3Record) → HasNsec3Records zone apex parameters hash records
-        → IsCovered parameters hash records name → IsNode zone name → IsUnsignedEnd zone name }
-    ensures next_closer { (zone : Zone) (apex name : Labels) (labels : ℕ) (parameters : Parameters)
-        (hash : NameHash) (records : List Nsec3Record) → HasNsec3Records zone apex parameters hash records
-        → OptOutForm parameters hash records apex name labels ⊎ LooseCloserForm parameters hash records apex name labels
+    ensures covered { (zone : Zone) (apex name : Labels) (hash : NameHash)
+        (records : List Nsec3Record) → HasNsec3Records zone apex hash records
+        → IsCovered hash records name → IsNode zone name → IsUnsignedEnd zone name }
+    ensures next_closer { (zone : Zone) (apex name : Labels) (labels : ℕ) (hash : NameHash)
+        (records : List Nsec3Record) → HasNsec3Records zone apex hash records
+        → OptOutForm hash records apex name labels ⊎ LooseCloserForm hash records apex name labels
         → IsNode zone (rightmost name (labels + 1)) → IsUnsignedEnd zone (rightmost name (labels + 1)) }
 {}

@@ -9,7 +9,14 @@ ghost use Rattle.dnsv_denial.specs.Lookup.Answer.{NoName, NoData, Held};
 ghost use Rattle.dnsv_denial.specs.NsecChain.{NsecRecord, HasNsecRecords};
 ghost use Rattle.dnsv_denial.specs.Nsec.{nsec_words};
 ghost use Rattle.dnsv_denial.specs.Forms.{
-    NoNameForm, NoDataForm, EmptyForm, NoWildcardDataForm, EmptyWildcardForm, NoCloserForm, UnsignedCutForm};
+  NoNameForm,
+  NoDataForm,
+  EmptyForm,
+  NoWildcardDataForm,
+  EmptyWildcardForm,
+  NoCloserForm,
+  UnsignedCutForm,
+};
 
 /// What a proof of no such name means: the zone has no such name, whatever type is asked.
 pub fn no_name_by_nsec_is_no_name()

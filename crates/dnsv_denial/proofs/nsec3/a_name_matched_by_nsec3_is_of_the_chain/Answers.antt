@@ -2,9 +2,9 @@ use Rattle.dnsv_denial.proofs.Nsec3Truth.{matched}
 use Rattle.dnsv_denial.proofs.nsec3.a_name_matched_by_nsec3_is_of_the_chain.Goals as goal
 
 pub returns-clause-chained : goal.returns-clause-chained
-returns-clause-chained c = λ zone parameters hash names nsec3 name asked chain there apart is_asked matches.
-    (matched zone parameters hash names chain nsec3 there name asked apart is_asked matches).is_chained
+returns-clause-chained c = λ zone hash names nsec3 name asked chain there apart is_asked matches.
+    (matched zone hash names chain nsec3 there name asked apart is_asked matches).is_chained
 
 pub returns-clause-types : goal.returns-clause-types
-returns-clause-types c = λ zone parameters hash names nsec3 name asked chain there apart is_asked matches.
-    (matched zone parameters hash names chain nsec3 there name asked apart is_asked matches).types
+returns-clause-types c = λ zone hash names nsec3 name asked chain there apart is_asked matches.
+    (matched zone hash names chain nsec3 there name asked apart is_asked matches).types

@@ -4,11 +4,11 @@ use Rattle.dnsv_denial.proofs.Nsec3Truth.{nsec3_true}
 use Rattle.dnsv_denial.proofs.nsec3_meaning.no_data_by_nsec3_is_no_data.Goals as goal
 
 pub returns-clause-at_name : goal.returns-clause-at_name
-returns-clause-at_name c = λ zone apex name t parameters hash records has apart.
-    no_data zone (nsec3_words parameters hash records) apex name has.well_formed has.same_apex
-    (nsec3_true zone parameters hash has.names records name has.well_formed has.chain_names apart has.in_chain) t
+returns-clause-at_name c = λ zone apex name t hash records has apart.
+    no_data zone (nsec3_words hash records) apex name has.well_formed has.same_apex
+    (nsec3_true zone hash has.names records name has.well_formed has.chain_names apart has.in_chain) t
 
 pub returns-clause-at_wildcard : goal.returns-clause-at_wildcard
-returns-clause-at_wildcard c = λ zone apex name t parameters hash records has apart.
-    no_wildcard_data zone (nsec3_words parameters hash records) apex name has.well_formed has.same_apex
-    (nsec3_true zone parameters hash has.names records name has.well_formed has.chain_names apart has.in_chain) t
+returns-clause-at_wildcard c = λ zone apex name t hash records has apart.
+    no_wildcard_data zone (nsec3_words hash records) apex name has.well_formed has.same_apex
+    (nsec3_true zone hash has.names records name has.well_formed has.chain_names apart has.in_chain) t

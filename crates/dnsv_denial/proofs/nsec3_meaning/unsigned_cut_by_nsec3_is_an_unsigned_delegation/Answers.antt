@@ -4,6 +4,6 @@ use Rattle.dnsv_denial.proofs.Nsec3Truth.{nsec3_true}
 use Rattle.dnsv_denial.proofs.nsec3_meaning.unsigned_cut_by_nsec3_is_an_unsigned_delegation.Goals as goal
 
 pub returns : goal.returns
-returns c = λ zone apex name cut parameters hash records has apart.
-    unsigned_cut zone (nsec3_words parameters hash records) apex name has.well_formed has.same_apex
-    (nsec3_true zone parameters hash has.names records name has.well_formed has.chain_names apart has.in_chain) cut
+returns c = λ zone apex name cut hash records has apart.
+    unsigned_cut zone (nsec3_words hash records) apex name has.well_formed has.same_apex
+    (nsec3_true zone hash has.names records name has.well_formed has.chain_names apart has.in_chain) cut
