@@ -1,4 +1,7 @@
 pub mod ByWireLemmas
+pub mod DecimalLemmas
+pub mod FieldLemmas
+pub mod LineLemmas
 pub mod NameLemmas
 pub mod OctetLemmas
 pub mod OneReading

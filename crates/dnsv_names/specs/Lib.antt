@@ -6,6 +6,9 @@ pub mod CircleLaws
 pub mod Count
 pub mod KeyLaws
 pub mod Keys
+pub mod LineLaws
+pub mod LineReading
+pub mod Lines
 pub mod Name
 pub mod NameError
 pub mod Octets

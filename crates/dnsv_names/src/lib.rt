@@ -8,8 +8,10 @@ pub use circle::{
     the_next_is_behind,
 };
 pub use count::{Count, counts_add_up};
+pub use decimal::{decimal_u8, decimal_u16};
 pub use error::NameError;
 pub use hash20::Hash20;
+pub use lines::{Line, Lines, a_line_has_one_list_of_fields, a_text_has_one_list_of_lines};
 pub use name::{LABEL_LIMIT, Name, WIRE_LIMIT};
 pub use number::{RecordType, record_types_have_their_numbers};
 pub use octets::{u16_at, u32_at};
@@ -29,8 +31,10 @@ pub use tree_laws::{
 mod by_wire;
 mod circle;
 mod count;
+mod decimal;
 mod error;
 mod hash20;
+mod lines;
 mod name;
 mod number;
 mod octets;

@@ -1,0 +1,5 @@
+use Rattle.dnsv_names.specs.LineLaws.{HasLines-read}
+use Rattle.dnsv_names.proofs.lines.Lines.new.Goals as goal
+
+pub returns : goal.returns
+returns c = HasLines-read c.args.text.now
