@@ -234,13 +234,43 @@ module _ {K : Type 0} {cmp : K → K → Ordering} (total : IsTotalOrder cmp) wh
       (one_inside total o p x (λ tied. absent (member_respects total x tied o_member)) (λ tied. absent (member_respects total x tied p_member)) differ)))
       (tied_or_not (cmp o p))
 
-  beyond : (o n x m : K) (ends : Ordering) → cmp o n ≡ ends → between ends (cmp o x) (cmp x n) → ¬ between ends (cmp o m) (cmp m n) → cmp o x ≡ Less → cmp x m ≡ Less → (cmp x n ≡ Less) × ¬ (cmp m n ≡ Less)
-  beyond o n x m Less is p outside o_x x_m = (p.1, λ m_n. outside (total.trans o x m o_x x_m, m_n))
-  beyond o n x m Greater is p outside o_x x_m = absurd (outside (inl (total.trans o x m o_x x_m)))
-  beyond o n x m Equal is p outside o_x x_m = absurd (outside (λ tied. let less = total.trans o x m o_x x_m in cc))
+  owner_side : (o n c x : K) (ends at_c : Ordering) → cmp o n ≡ ends → cmp o c ≡ at_c → ¬ between ends at_c (cmp c n) → between ends (cmp o x) (cmp x n) → cmp c x ≡ Less → (cmp o c ≡ Equal) ⊎ ((cmp c o ≡ Less) × (cmp o x ≡ Less))
+  owner_side o n c x ends Equal is at outside inside first = inl at
+  owner_side o n c x Less Greater is at outside inside first = inr (back total o c at, inside.0)
+  owner_side o n c x Equal Greater is at outside inside first = absurd (outside (λ tied. cc))
+  owner_side o n c x Greater Greater is at outside inside first =
+      ⊎_elim (λ (behind : cmp o x ≡ Less). inr (back total o c at, behind))
+      (λ (ahead : cmp x n ≡ Less). absurd (outside (inr (total.trans c x n first ahead)))) inside
+  owner_side o n c x Less Less is at outside inside first = absurd (outside (refl, total.trans c x n first inside.1))
+  owner_side o n c x Equal Less is at outside inside first = absurd (outside (λ tied. cc))
+  owner_side o n c x Greater Less is at outside inside first = absurd (outside (inl refl))
 
-  -- Where a member stands behind a value of a gap, and the owner before it, the next stands behind the value too, and
-  -- not behind the member.
-  pub next_is_behind : {members : List K} {o n x m : K} → IsSuccessor cmp members o n → IsMember cmp members m → cmp o x ≡ Less → cmp x m ≡ Less → Gap cmp o n x → (cmp x n ≡ Less) × ¬ (cmp m n ≡ Less)
-  next_is_behind {members} {o} {n} {x} {m} successor member o_x x_m gap =
-      beyond o n x m (cmp o n) refl gap.lies (λ inside. successor.none_between m member (record { lies = inside })) o_x x_m
+  -- Where a value lies in a gap and one before it doesn't, the owner is that one or between the two.
+  pub owner_between : (o n c x : K) → ¬ Gap cmp o n c → Gap cmp o n x → cmp c x ≡ Less → (cmp o c ≡ Equal) ⊎ ((cmp c o ≡ Less) × (cmp o x ≡ Less))
+  owner_between o n c x outside inside first =
+      owner_side o n c x (cmp o n) (cmp o c) refl refl (λ lies. outside (record { lies = lies })) inside.lies first
+
+  next_side : (o n x y : K) (ends at_y : Ordering) → cmp o n ≡ ends → cmp y n ≡ at_y → ¬ between ends (cmp o y) at_y → between ends (cmp o x) (cmp x n) → cmp x y ≡ Less → (cmp n y ≡ Equal) ⊎ ((cmp x n ≡ Less) × (cmp n y ≡ Less))
+  next_side o n x y ends Equal is at outside inside first = inl (tied_back total y n at)
+  next_side o n x y Less Greater is at outside inside first = inr (inside.1, back total y n at)
+  next_side o n x y Equal Greater is at outside inside first =
+      absurd (outside (λ tied. let alike = total.congr o y n tied in cc))
+  next_side o n x y Greater Greater is at outside inside first =
+      ⊎_elim (λ (behind : cmp o x ≡ Less). absurd (outside (inl (total.trans o x y behind first))))
+      (λ (ahead : cmp x n ≡ Less). inr (ahead, back total y n at)) inside
+  next_side o n x y Less Less is at outside inside first = absurd (outside (total.trans o x y inside.0 first, refl))
+  next_side o n x y Equal Less is at outside inside first = absurd (outside (λ tied. let alike = total.congr o y n tied in cc))
+  next_side o n x y Greater Less is at outside inside first = absurd (outside (inr refl))
+
+  -- Where a value lies in a gap and one behind it doesn't, the next is that one or between the two.
+  pub next_between : (o n x y : K) → ¬ Gap cmp o n y → Gap cmp o n x → cmp x y ≡ Less → (cmp n y ≡ Equal) ⊎ ((cmp x n ≡ Less) × (cmp n y ≡ Less))
+  next_between o n x y outside inside first =
+      next_side o n x y (cmp o n) (cmp y n) refl refl (λ lies. outside (record { lies = lies })) inside.lies first
+
+  -- So where a member comes behind a value of a gap, the next comes behind the value too, and not behind the member.
+  pub next_is_behind : {members : List K} {o n x m : K} → IsSuccessor cmp members o n → IsMember cmp members m → Gap cmp o n x → cmp x m ≡ Less → (cmp x n ≡ Less) × ¬ (cmp m n ≡ Less)
+  next_is_behind {members} {o} {n} {x} {m} successor member gap first =
+      ⊎_elim
+      (λ (tied : cmp n m ≡ Equal). (alike_right total n m x tied ∙ first, λ less. let other = tied_back total n m tied in cc))
+      (λ (inside : (cmp x n ≡ Less) × (cmp n m ≡ Less)). (inside.0, λ less. let other = total.trans n m n inside.1 less in let itself = tied_itself total n in cc))
+      (next_between o n x m (successor.none_between m member) gap first)

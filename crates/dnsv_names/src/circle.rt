@@ -49,13 +49,20 @@ pub fn all_else_lies_in_one_gap<T: Circle>()
         → T.cmp owner other ≡ Ordering.Equal }
 {}
 
-/// A law of circles: where `x` lies in the gap of an owner before it, and some member comes behind `x`, the owner's
-/// successor comes behind `x` too, and not behind that member.
+/// A law of circles: where a member comes behind a value of a gap, the gap's next comes behind the value too, and not
+/// behind that member.
 pub fn the_next_is_behind<T: Circle>()
     ensures { (members : List T) (owner next x member : T) → IsSuccessor T.cmp members owner next
-        → IsMember T.cmp members member → Gap T.cmp owner next x
-        → T.cmp owner x ≡ Ordering.Less → T.cmp x member ≡ Ordering.Less
+        → IsMember T.cmp members member → Gap T.cmp owner next x → T.cmp x member ≡ Ordering.Less
         → (T.cmp x next ≡ Ordering.Less) × ¬ (T.cmp member next ≡ Ordering.Less) }
+{}
+
+/// A law of circles: where a value lies in a gap and a member comes before it, the gap's owner is that member or comes
+/// behind it, and before the value.
+pub fn the_owner_is_before<T: Circle>()
+    ensures { (members : List T) (owner next x member : T) → IsSuccessor T.cmp members owner next
+        → IsMember T.cmp members member → Gap T.cmp owner next x → T.cmp member x ≡ Ordering.Less
+        → (T.cmp owner x ≡ Ordering.Less) × ¬ (T.cmp owner member ≡ Ordering.Less) }
 {}
 
 #[cfg(test)]
