@@ -1,6 +1,5 @@
 mod AnswerLemmas
 mod AnyLemmas
-mod GapLemmas
 mod LookupLemmas
 mod MeaningLemmas
 mod NsecLemmas

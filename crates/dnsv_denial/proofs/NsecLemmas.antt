@@ -12,7 +12,7 @@ use Rattle.dnsv_denial.specs.Types.{IsDelegation, IsClosed}
 use Rattle.dnsv_denial.specs.Zone.{Entry, Zone, IsOwner, Holds, IsNode, IsClosedAt, IsWellFormed}
 use Rattle.dnsv_denial.specs.NsecChain.{NsecRecord, IsInBitmap, IsBitmapOf, owners, IsInNsecChain}
 use Rattle.dnsv_denial.specs.Nsec.{Covers, IsFair, IsAbsentBy, IsInnerBy, IsNodeBy}
-use Rattle.dnsv_denial.proofs.GapLemmas.{owner_between, next_between}
+use Rattle.dnsv_names.specs.CircleLaws.{owner_between, next_between}
 use Rattle.dnsv_denial.proofs.ZoneLemmas.{closed_respects, closed_owner, owner_under, node_of_owner, owner_respects}
 
 -- owners are members of the circle
