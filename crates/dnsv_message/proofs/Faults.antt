@@ -6,7 +6,7 @@ use Rattle.dnsv_message.specs.declared.errors.DecodeError.TheVariants.{TrailingB
 use Rattle.dnsv_message.specs.declared.record.Question.{Question}
 use Rattle.dnsv_message.specs.declared.record.Record.{Record}
 use Rattle.dnsv_message.specs.NameAt.{NumberAt}
-use Rattle.dnsv_message.specs.Grammar.{HeaderOf, QuestionAt, RecordAt, RecordFaultAt, InOrder, FirstFault, FaultOf}
+use Rattle.dnsv_message.specs.Grammar.{HeaderOf, QuestionAt, RecordAt, RecordFaultAt, InOrder, FirstFault, RecordsFault, FaultOf}
 use Rattle.dnsv_message.proofs.Sequences.{InOrder-append, FirstFault-front, FirstFault-behind}
 
 -- the counts of a header that is there, and the questions that it counts
@@ -30,9 +30,22 @@ module _ {octets : List ℕ} {question_count answer_count authority_count additi
     additional_count = begun.additional_count_at;
   }
 
+  -- a fault of all records is one of the octets
+  behind_questions : {error : DecodeError} → RecordsFault octets (answer_count + authority_count + additional_count) place error → FaultOf octets error
+  behind_questions fault = inr (record {
+    id = big_from 0 2 octets;
+    flags = big_from 2 2 octets;
+    question_count = question_count;
+    answer_count = answer_count;
+    authority_count = authority_count;
+    additional_count = additional_count;
+    header = header_of;
+    fault = inr (record { questions = questions; end = place; stand = begun.questions_at; all = begun.all_questions; fault = fault });
+  })
+
   fault_of_records : {error : DecodeError} → FirstFault (RecordAt octets) (RecordFaultAt octets) (answer_count + authority_count + additional_count) 1 place error → FaultOf octets error
   fault_of_records fault =
-      inr (big_from 0 2 octets, big_from 2 2 octets, question_count, answer_count, authority_count, additional_count, header_of, inr (questions, place, begun.questions_at, begun.all_questions, inl fault))
+      behind_questions (inl fault)
 
   pub fault_of_answer : {error : DecodeError} → FirstFault (RecordAt octets) (RecordFaultAt octets) answer_count 1 place error → FaultOf octets error
   fault_of_answer {error} fault =
@@ -57,26 +70,11 @@ module _ {octets : List ℕ} {question_count answer_count authority_count additi
 
       pub fault_of_rest : (additional : List Record) (end : ℕ) → InOrder (RecordAt octets) after_authority additional end → length additional ≡ additional_count → end < length octets → FaultOf octets TrailingBytes
       fault_of_rest additional end additional_at all_additional left =
-          inr (
-            big_from 0 2 octets,
-            big_from 2 2 octets,
-            question_count,
-            answer_count,
-            authority_count,
-            additional_count,
-            header_of,
-            inr (
-              questions,
-              place,
-              begun.questions_at,
-              begun.all_questions,
-              inr (
-                (answer ++ authority) ++ additional,
-                end,
-                InOrder-append (RecordAt octets) (answer ++ authority) additional place after_authority end both_at additional_at,
-                omega (arith, length-append answer authority, length-append (answer ++ authority) additional, all_answer, all_authority, all_additional),
-                left,
-                refl,
-              ),
-            ),
-          )
+          behind_questions (inr (record {
+            records = (answer ++ authority) ++ additional;
+            end = end;
+            stand = InOrder-append (RecordAt octets) (answer ++ authority) additional place after_authority end both_at additional_at;
+            all = omega (arith, length-append answer authority, length-append (answer ++ authority) additional, all_answer, all_authority, all_additional);
+            more = left;
+            is = refl;
+          }))

@@ -12,7 +12,7 @@ use Rattle.dnsv_message.specs.Errors.{decode_error_of}
 use Rattle.dnsv_message.specs.Message.{Contents}
 use Rattle.dnsv_message.specs.Layout.{layout_of}
 use Rattle.dnsv_message.specs.NameAt.{NumberAt, NameFrom, NameFaultFrom, pointer_limit}
-use Rattle.dnsv_message.specs.Grammar.{InOrder, FirstFault, QuestionAt, QuestionFaultAt, RecordHeadAt, RecordAt, RecordFaultAt, CutShort, RdataAt, HeaderOf, MessageOf, FaultOf}
+use Rattle.dnsv_message.specs.Grammar.{InOrder, FirstFault, QuestionAt, QuestionFaultAt, RecordHeadAt, RecordAt, RecordFaultAt, CutShort, RdataAt, RdataFaultAt, FaultBehindHead, HeaderOf, LeavesOctets, RecordsFault, FaultBehindQuestions, BodyFault, FaultBehindHeader, MessageOf, FaultOf}
 use Rattle.dnsv_message.proofs.NameLaws.{NameAt_same, NameAt_sound, NameFaultAt_same}
 use Rattle.dnsv_message.proofs.RdataLemmas.{RdataAt_same}
 use Rattle.dnsv_message.proofs.Sequences.{InOrder-append, InOrder-same, InOrder-sound, FirstFault-same}
@@ -100,18 +100,7 @@ module _ (octets : List ℕ) (fit : (i : ℕ) → get_or octets i 0 < 256) where
         omega (arith, heads.starts, heads.sizes, at.ends, also.ends),
       )
 
-  -- a record's head is there, and its RDATA is not
-  RdataFault : (number rtype class start size : ℕ) → DecodeError → Type 0
-  RdataFault number rtype class start size error =
-      ((length octets < start + size) × (error ≡ Short))
-      ⊎ ((start + size ≤ length octets) × ((rdata : List ℕ) → RdataAt octets (layout_of rtype class) start size rdata → ⊥) × (error ≡ BadRdata number))
-
-  Headed : (number place : ℕ) → DecodeError → Type 0
-  Headed number place error =
-      (name : Labels) × (rtype class ttl start size : ℕ) × RecordHeadAt octets place name rtype class ttl start size × RdataFault number rtype class start size error
-
-  rdata_fault_same : (number rtype class start size : ℕ) (error other : DecodeError) → RdataFault number rtype class start size error → RdataFault number rtype class start size other → error ≡ other
-  unfolding RdataFault
+  rdata_fault_same : (number rtype class start size : ℕ) (error other : DecodeError) → RdataFaultAt octets number rtype class start size error → RdataFaultAt octets number rtype class start size other → error ≡ other
   rdata_fault_same number rtype class start size error other wrong also = ⊎_elim
       (λ (short : (length octets < start + size) × (error ≡ Short)). ⊎_elim
       (λ (short' : (length octets < start + size) × (other ≡ Short)). short.1 ∙ sym short'.1)
@@ -124,30 +113,28 @@ module _ (octets : List ℕ) (fit : (i : ℕ) → get_or octets i 0 < 256) where
       wrong
 
   record_sound : (number place : ℕ) (resource : Record) (end : ℕ) (error : DecodeError) → RecordAt octets place resource end → RecordFaultAt octets number place error → ⊥
-  unfolding RdataFault Headed
   record_sound number place resource end error at wrong = ⊎_elim
       (λ (cut : CutShort octets place 10 error). cut_short_sound place resource.name at.head.after_name 10 error at.head.named (omega (arith, at.head.sized.0)) cut)
-      (λ (headed : Headed number place error).
-      let heads = head_same place _ _ _ _ _ _ _ _ _ _ _ _ at.head headed.6 in
-      ⊎_elim (λ (short : (length octets < headed.4 + headed.5) × (error ≡ Short)). omega (arith, short.0, at.whole, heads.starts, heads.sizes))
-      (λ (bad : (headed.4 + headed.5 ≤ length octets) × ((rdata : List ℕ) → RdataAt octets (layout_of headed.1 headed.2) headed.4 headed.5 rdata → ⊥) × (error ≡ BadRdata number)).
+      (λ (headed : FaultBehindHead octets number place error).
+      let heads = head_same place _ _ _ _ _ _ _ _ _ _ _ _ at.head headed.head in
+      ⊎_elim (λ (short : (length octets < headed.start + headed.size) × (error ≡ Short)). omega (arith, short.0, at.whole, heads.starts, heads.sizes))
+      (λ (bad : (headed.start + headed.size ≤ length octets) × ((rdata : List ℕ) → RdataAt octets (layout_of headed.rtype headed.class) headed.start headed.size rdata → ⊥) × (error ≡ BadRdata number)).
       bad.1 resource.rdata (rdata_moved _ _ _ _ _ _ _ _ _ heads.types heads.classes heads.starts heads.sizes at.rdata))
-      headed.7)
+      headed.fault)
       wrong
 
   record_fault_same : (number place : ℕ) (error other : DecodeError) → RecordFaultAt octets number place error → RecordFaultAt octets number place other → error ≡ other
-  unfolding RdataFault Headed
   record_fault_same number place error other wrong also = ⊎_elim
       (λ (cut : CutShort octets place 10 error). ⊎_elim
       (λ (cut' : CutShort octets place 10 other). cut_short_same place 10 error other cut cut')
-      (λ (headed' : Headed number place other). absurd (cut_short_sound place headed'.0 headed'.6.after_name 10 error headed'.6.named (omega (arith, headed'.6.sized.0)) cut))
+      (λ (headed' : FaultBehindHead octets number place other). absurd (cut_short_sound place headed'.name headed'.head.after_name 10 error headed'.head.named (omega (arith, headed'.head.sized.0)) cut))
       also)
-      (λ (headed : Headed number place error). ⊎_elim
-      (λ (cut' : CutShort octets place 10 other). absurd (cut_short_sound place headed.0 headed.6.after_name 10 other headed.6.named (omega (arith, headed.6.sized.0)) cut'))
-      (λ (headed' : Headed number place other).
-      let heads = head_same place _ _ _ _ _ _ _ _ _ _ _ _ headed.6 headed'.6 in
-      rdata_fault_same number headed'.1 headed'.2 headed'.4 headed'.5 error other
-      (rw (← heads.types, ← heads.classes, ← heads.starts, ← heads.sizes) headed.7) headed'.7)
+      (λ (headed : FaultBehindHead octets number place error). ⊎_elim
+      (λ (cut' : CutShort octets place 10 other). absurd (cut_short_sound place headed.name headed.head.after_name 10 other headed.head.named (omega (arith, headed.head.sized.0)) cut'))
+      (λ (headed' : FaultBehindHead octets number place other).
+      let heads = head_same place _ _ _ _ _ _ _ _ _ _ _ _ headed.head headed'.head in
+      rdata_fault_same number headed'.rtype headed'.class headed'.start headed'.size error other
+      (rw (← heads.types, ← heads.classes, ← heads.starts, ← heads.sizes) headed.fault) headed'.fault)
       also)
       wrong
 
@@ -186,25 +173,6 @@ module _ (octets : List ℕ) (fit : (i : ℕ) → get_or octets i 0 < 256) where
         additional_counts = same 10 _ _ at.additional_count also.additional_count;
       }
 
-  -- the parts of a fault, from the end of the header on
-  abbrev LeftOver : (total place : ℕ) → DecodeError → Type 0
-  LeftOver total place error =
-      (records : List Record) × (end : ℕ) × InOrder (RecordAt octets) place records end × (length records ≡ total) × (end < length octets) × (error ≡ TrailingBytes)
-
-  abbrev RecordsFault : (total place : ℕ) → DecodeError → Type 0
-  RecordsFault total place error = FirstFault (RecordAt octets) (RecordFaultAt octets) total 1 place error ⊎ LeftOver total place error
-
-  abbrev BehindQuestions : (question_count total : ℕ) → DecodeError → Type 0
-  BehindQuestions question_count total error =
-      (questions : List Question) × (place : ℕ) × InOrder (QuestionAt octets) 12 questions place × (length questions ≡ question_count) × RecordsFault total place error
-
-  abbrev BodyFault : (question_count total : ℕ) → DecodeError → Type 0
-  BodyFault question_count total error = FirstFault (QuestionAt octets) (QuestionFaultAt octets) question_count 1 12 error ⊎ BehindQuestions question_count total error
-
-  abbrev BehindHeader : DecodeError → Type 0
-  BehindHeader error =
-      (id flags question_count answer_count authority_count additional_count : ℕ) × HeaderOf octets id flags question_count answer_count authority_count additional_count × BodyFault question_count (answer_count + authority_count + additional_count) error
-
   questions_sound : (xs : List Question) (count place end : ℕ) (error : DecodeError) → length xs ≡ count → InOrder (QuestionAt octets) place xs end → FirstFault (QuestionAt octets) (QuestionFaultAt octets) count 1 place error → ⊥
   questions_sound xs count place end error = InOrder-sound (QuestionAt octets) (QuestionFaultAt octets) question_same question_sound (λ number place. cut_short_same place 4) xs count 1 place end error
 
@@ -212,57 +180,57 @@ module _ (octets : List ℕ) (fit : (i : ℕ) → get_or octets i 0 < 256) where
   records_sound xs count place end error = InOrder-sound (RecordAt octets) (RecordFaultAt octets) record_same record_sound record_fault_same xs count 1 place end error
 
   -- records that fill the octets leave no fault
-  records_fault_sound : (xs : List Record) (total place end : ℕ) (error : DecodeError) → length xs ≡ total → InOrder (RecordAt octets) place xs end → end ≡ length octets → RecordsFault total place error → ⊥
+  records_fault_sound : (xs : List Record) (total place end : ℕ) (error : DecodeError) → length xs ≡ total → InOrder (RecordAt octets) place xs end → end ≡ length octets → RecordsFault octets total place error → ⊥
   records_fault_sound xs total place end error size order all wrong = ⊎_elim
       (λ (fault : FirstFault (RecordAt octets) (RecordFaultAt octets) total 1 place error). records_sound xs total place end error size order fault)
-      (λ (left : LeftOver total place error). omega (arith, (records_same xs left.0 place end left.1 (size ∙ sym left.3) order left.2).1, left.4, all))
+      (λ (left : LeavesOctets octets total place error). omega (arith, (records_same xs left.records place end left.end (size ∙ sym left.all) order left.stand).1, left.more, all))
       wrong
 
   -- a message has no fault
   pub MessageOf_sound : (message : Contents) (error : DecodeError) → MessageOf octets message → FaultOf octets error → ⊥
   MessageOf_sound message error at wrong = ⊎_elim
       (λ (short : (length octets < 12) × (error ≡ Short)). omega (arith, short.0, at.header.additional_count.0))
-      (λ (behind : BehindHeader error).
-      let counts = header_same _ _ _ _ _ _ _ _ _ _ _ _ at.header behind.6 in
+      (λ (behind : FaultBehindHeader octets error).
+      let counts = header_same _ _ _ _ _ _ _ _ _ _ _ _ at.header behind.header in
       ⊎_elim
-      (λ (question_count : FirstFault (QuestionAt octets) (QuestionFaultAt octets) behind.2 1 12 error).
-      questions_sound message.questions behind.2 12 at.after_questions error counts.question_counts at.questions question_count)
-      (λ (later : BehindQuestions behind.2 (behind.3 + behind.4 + behind.5) error).
-      let questions = questions_same message.questions later.0 12 at.after_questions later.1 (counts.question_counts ∙ sym later.3) at.questions later.2 in
+      (λ (question_count : FirstFault (QuestionAt octets) (QuestionFaultAt octets) behind.question_count 1 12 error).
+      questions_sound message.questions behind.question_count 12 at.after_questions error counts.question_counts at.questions question_count)
+      (λ (later : FaultBehindQuestions octets behind.question_count (behind.answer_count + behind.authority_count + behind.additional_count) error).
+      let questions = questions_same message.questions later.questions 12 at.after_questions later.end (counts.question_counts ∙ sym later.all) at.questions later.stand in
       let order = InOrder-append (RecordAt octets) (message.answer ++ message.authority) message.additional at.after_questions at.after_authority (length octets)
       (InOrder-append (RecordAt octets) message.answer message.authority at.after_questions at.after_answer at.after_authority at.answer at.authority) at.additional in
-      records_fault_sound ((message.answer ++ message.authority) ++ message.additional) (behind.3 + behind.4 + behind.5) later.1 (length octets) error
+      records_fault_sound ((message.answer ++ message.authority) ++ message.additional) (behind.answer_count + behind.authority_count + behind.additional_count) later.end (length octets) error
       (omega (arith, length-append message.answer message.authority, length-append (message.answer ++ message.authority) message.additional, counts.answer_counts, counts.authority_counts, counts.additional_counts))
       (subst (λ p. InOrder (RecordAt octets) p ((message.answer ++ message.authority) ++ message.additional) (length octets)) questions.1 order)
-      refl later.4)
-      behind.7)
+      refl later.fault)
+      behind.fault)
       wrong
 
-  records_fault_same : (total place : ℕ) (error other : DecodeError) → RecordsFault total place error → RecordsFault total place other → error ≡ other
+  records_fault_same : (total place : ℕ) (error other : DecodeError) → RecordsFault octets total place error → RecordsFault octets total place other → error ≡ other
   records_fault_same total place error other wrong also = ⊎_elim
       (λ (fault : FirstFault (RecordAt octets) (RecordFaultAt octets) total 1 place error). ⊎_elim
       (λ (fault' : FirstFault (RecordAt octets) (RecordFaultAt octets) total 1 place other).
       FirstFault-same (RecordAt octets) (RecordFaultAt octets) record_same record_sound record_fault_same total 1 place error other fault fault')
-      (λ (left' : LeftOver total place other). absurd (records_sound left'.0 total place left'.1 error left'.3 left'.2 fault))
+      (λ (left' : LeavesOctets octets total place other). absurd (records_sound left'.records total place left'.end error left'.all left'.stand fault))
       also)
-      (λ (left : LeftOver total place error). ⊎_elim
-      (λ (fault' : FirstFault (RecordAt octets) (RecordFaultAt octets) total 1 place other). absurd (records_sound left.0 total place left.1 other left.3 left.2 fault'))
-      (λ (left' : LeftOver total place other). left.5 ∙ sym left'.5)
+      (λ (left : LeavesOctets octets total place error). ⊎_elim
+      (λ (fault' : FirstFault (RecordAt octets) (RecordFaultAt octets) total 1 place other). absurd (records_sound left.records total place left.end other left.all left.stand fault'))
+      (λ (left' : LeavesOctets octets total place other). left.is ∙ sym left'.is)
       also)
       wrong
 
-  body_fault_same : (question_count total : ℕ) (error other : DecodeError) → BodyFault question_count total error → BodyFault question_count total other → error ≡ other
+  body_fault_same : (question_count total : ℕ) (error other : DecodeError) → BodyFault octets question_count total error → BodyFault octets question_count total other → error ≡ other
   body_fault_same question_count total error other wrong also = ⊎_elim
       (λ (fault : FirstFault (QuestionAt octets) (QuestionFaultAt octets) question_count 1 12 error). ⊎_elim
       (λ (fault' : FirstFault (QuestionAt octets) (QuestionFaultAt octets) question_count 1 12 other).
       FirstFault-same (QuestionAt octets) (QuestionFaultAt octets) question_same question_sound (λ number place. cut_short_same place 4) question_count 1 12 error other fault fault')
-      (λ (later' : BehindQuestions question_count total other). absurd (questions_sound later'.0 question_count 12 later'.1 error later'.3 later'.2 fault))
+      (λ (later' : FaultBehindQuestions octets question_count total other). absurd (questions_sound later'.questions question_count 12 later'.end error later'.all later'.stand fault))
       also)
-      (λ (later : BehindQuestions question_count total error). ⊎_elim
-      (λ (fault' : FirstFault (QuestionAt octets) (QuestionFaultAt octets) question_count 1 12 other). absurd (questions_sound later.0 question_count 12 later.1 other later.3 later.2 fault'))
-      (λ (later' : BehindQuestions question_count total other).
-      let questions = questions_same later.0 later'.0 12 later.1 later'.1 (later.3 ∙ sym later'.3) later.2 later'.2 in
-      records_fault_same total later.1 error other later.4 (subst (λ p. RecordsFault total p other) (sym questions.1) later'.4))
+      (λ (later : FaultBehindQuestions octets question_count total error). ⊎_elim
+      (λ (fault' : FirstFault (QuestionAt octets) (QuestionFaultAt octets) question_count 1 12 other). absurd (questions_sound later.questions question_count 12 later.end other later.all later.stand fault'))
+      (λ (later' : FaultBehindQuestions octets question_count total other).
+      let questions = questions_same later.questions later'.questions 12 later.end later'.end (later.all ∙ sym later'.all) later.stand later'.stand in
+      records_fault_same total later.end error other later.fault (subst (λ p. RecordsFault octets total p other) (sym questions.1) later'.fault))
       also)
       wrong
 
@@ -271,16 +239,16 @@ module _ (octets : List ℕ) (fit : (i : ℕ) → get_or octets i 0 < 256) where
   FaultOf_same error other wrong also = ⊎_elim
       (λ (short : (length octets < 12) × (error ≡ Short)). ⊎_elim
       (λ (short' : (length octets < 12) × (other ≡ Short)). short.1 ∙ sym short'.1)
-      (λ (behind' : BehindHeader other). absurd (omega (arith, short.0, behind'.6.additional_count.0)))
+      (λ (behind' : FaultBehindHeader octets other). absurd (omega (arith, short.0, behind'.header.additional_count.0)))
       also)
-      (λ (behind : BehindHeader error). ⊎_elim
-      (λ (short' : (length octets < 12) × (other ≡ Short)). absurd (omega (arith, short'.0, behind.6.additional_count.0)))
-      (λ (behind' : BehindHeader other).
-      let counts = header_same _ _ _ _ _ _ _ _ _ _ _ _ behind.6 behind'.6 in
-      let totals : behind'.3 + behind'.4 + behind'.5 ≡ behind.3 + behind.4 + behind.5 = omega (arith, counts.answer_counts, counts.authority_counts, counts.additional_counts) in
-      body_fault_same behind.2 (behind.3 + behind.4 + behind.5) error other behind.7
-      (subst (λ n. BodyFault n (behind.3 + behind.4 + behind.5) other) (sym counts.question_counts)
-      (subst (λ n. BodyFault behind'.2 n other) totals behind'.7)))
+      (λ (behind : FaultBehindHeader octets error). ⊎_elim
+      (λ (short' : (length octets < 12) × (other ≡ Short)). absurd (omega (arith, short'.0, behind.header.additional_count.0)))
+      (λ (behind' : FaultBehindHeader octets other).
+      let counts = header_same _ _ _ _ _ _ _ _ _ _ _ _ behind.header behind'.header in
+      let totals : behind'.answer_count + behind'.authority_count + behind'.additional_count ≡ behind.answer_count + behind.authority_count + behind.additional_count = omega (arith, counts.answer_counts, counts.authority_counts, counts.additional_counts) in
+      body_fault_same behind.question_count (behind.answer_count + behind.authority_count + behind.additional_count) error other behind.fault
+      (subst (λ n. BodyFault octets n (behind.answer_count + behind.authority_count + behind.additional_count) other) (sym counts.question_counts)
+      (subst (λ n. BodyFault octets behind'.question_count n other) totals behind'.fault)))
       also)
       wrong
 

@@ -92,7 +92,8 @@ pub record HeaderOf (octets : List ℕ) (id flags questions answer authority add
 -- The octets are the message: its header, and as many questions and records as the header says, one after
 -- another, with nothing left over.
 pub record MessageOf (octets : List ℕ) (message : Contents) : Type 0 where
-  pub header : HeaderOf octets message.id message.flags (length message.questions) (length message.answer) (length message.authority) (length message.additional)
+  pub header : HeaderOf octets message.id message.flags (length message.questions)
+      (length message.answer) (length message.authority) (length message.additional)
   pub after_questions : ℕ
   pub after_answer : ℕ
   pub after_authority : ℕ
@@ -115,22 +116,67 @@ CutShort octets place more error =
 abbrev pub QuestionFaultAt : List ℕ → ℕ → ℕ → DecodeError → Type 0
 QuestionFaultAt octets number place error = CutShort octets place 4 error
 
--- no record stands at the place: its head is cut short, its RDATA is, or that isn't laid out as its type asks
-abbrev pub RecordFaultAt : List ℕ → ℕ → ℕ → DecodeError → Type 0
-RecordFaultAt octets number place error =
-    CutShort octets place 10 error
-    ⊎ ((name : Labels) × (rtype class ttl start size : ℕ) × RecordHeadAt octets place name rtype class ttl start size
-    × (((length octets < start + size) × (error ≡ Short))
-    ⊎ ((start + size ≤ length octets) × ((rdata : List ℕ) → RdataAt octets (layout_of rtype class) start size rdata → ⊥) × (error ≡ BadRdata number))))
+-- an RDATA's end is missing, or the RDATA isn't laid out as its type asks
+abbrev pub RdataFaultAt : List ℕ → ℕ → ℕ → ℕ → ℕ → ℕ → DecodeError → Type 0
+RdataFaultAt octets number rtype class start size error =
+    ((length octets < start + size) × (error ≡ Short))
+    ⊎ ((start + size ≤ length octets) × ((rdata : List ℕ) → RdataAt octets (layout_of rtype class) start size rdata → ⊥)
+    × (error ≡ BadRdata number))
 
--- The fault of octets that are no message: that of the first field, from left to right, that can't be read.
--- A section's records are numbered on from those before it.
+-- the head of a record stands at the place, and its RDATA has the fault
+pub record FaultBehindHead (octets : List ℕ) (number place : ℕ) (error : DecodeError) : Type 0 where
+  pub name : Labels
+  pub rtype : ℕ
+  pub class : ℕ
+  pub ttl : ℕ
+  pub start : ℕ
+  pub size : ℕ
+  pub head : RecordHeadAt octets place name rtype class ttl start size
+  pub fault : RdataFaultAt octets number rtype class start size error
+
+-- no record stands at the place: its head is cut short, or its RDATA has a fault
+abbrev pub RecordFaultAt : List ℕ → ℕ → ℕ → DecodeError → Type 0
+RecordFaultAt octets number place error = CutShort octets place 10 error ⊎ FaultBehindHead octets number place error
+
+-- so many records stand from the place on, and octets are left over behind them
+pub record LeavesOctets (octets : List ℕ) (count place : ℕ) (error : DecodeError) : Type 0 where
+  pub records : List Record
+  pub end : ℕ
+  pub stand : InOrder (RecordAt octets) place records end
+  pub all : length records ≡ count
+  pub more : end < length octets
+  pub is : error ≡ TrailingBytes
+
+-- the fault of so many records that should fill the octets from the place on, numbered through the three sections
+abbrev pub RecordsFault : List ℕ → ℕ → ℕ → DecodeError → Type 0
+RecordsFault octets count place error =
+    FirstFault (RecordAt octets) (RecordFaultAt octets) count 1 place error ⊎ LeavesOctets octets count place error
+
+-- all questions stand, and the records behind them have the fault
+pub record FaultBehindQuestions (octets : List ℕ) (question_count record_count : ℕ) (error : DecodeError) : Type 0 where
+  pub questions : List Question
+  pub end : ℕ
+  pub stand : InOrder (QuestionAt octets) 12 questions end
+  pub all : length questions ≡ question_count
+  pub fault : RecordsFault octets record_count end error
+
+-- the fault of the questions and records behind a header, of which there are so many
+abbrev pub BodyFault : List ℕ → ℕ → ℕ → DecodeError → Type 0
+BodyFault octets question_count record_count error =
+    FirstFault (QuestionAt octets) (QuestionFaultAt octets) question_count 1 12 error
+    ⊎ FaultBehindQuestions octets question_count record_count error
+
+-- the header is there, and what it counts has the fault
+pub record FaultBehindHeader (octets : List ℕ) (error : DecodeError) : Type 0 where
+  pub id : ℕ
+  pub flags : ℕ
+  pub question_count : ℕ
+  pub answer_count : ℕ
+  pub authority_count : ℕ
+  pub additional_count : ℕ
+  pub header : HeaderOf octets id flags question_count answer_count authority_count additional_count
+  pub fault : BodyFault octets question_count (answer_count + authority_count + additional_count) error
+
+-- the fault of octets that are no message: that of the first field, from left to right, that can't be read
 abbrev pub FaultOf : List ℕ → DecodeError → Type 0
-FaultOf octets error =
-    ((length octets < 12) × (error ≡ Short))
-    ⊎ ((id flags question_count answer_count authority_count additional_count : ℕ) × HeaderOf octets id flags question_count answer_count authority_count additional_count
-    × (FirstFault (QuestionAt octets) (QuestionFaultAt octets) question_count 1 12 error
-    ⊎ ((questions : List Question) × (p : ℕ) × InOrder (QuestionAt octets) 12 questions p × (length questions ≡ question_count)
-    × (FirstFault (RecordAt octets) (RecordFaultAt octets) (answer_count + authority_count + additional_count) 1 p error
-    ⊎ ((records : List Record) × (end : ℕ) × InOrder (RecordAt octets) p records end × (length records ≡ answer_count + authority_count + additional_count)
-    × (end < length octets) × (error ≡ TrailingBytes))))))
+FaultOf octets error = ((length octets < 12) × (error ≡ Short)) ⊎ FaultBehindHeader octets error

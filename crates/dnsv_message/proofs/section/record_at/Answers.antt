@@ -4,29 +4,29 @@ use Rattle.dnsv_message.proofs.section.record_at.Goals as goal
 
 pub returns-then-octets-start-clause-fault : goal.returns-then-octets-start-clause-fault
 returns-then-octets-start-clause-fault c =
-    inr (inr (
-      c.in_ok-name.name,
-      c.u16_at.result,
-      c.u16_at-2.result,
-      c.u32_at.result,
-      c.in_ok-name.after_name + 10,
-      c.u16_at-size.result,
-      record { after_name = c.in_ok-name.after_name; named = c.in_ok-name.ensures.found; typed = c.u16_at.ensures; classed = c.u16_at-2.ensures; timed = c.u32_at.ensures; sized = c.u16_at-size.ensures; starts = refl },
-      inl (omega arith, refl),
-    ))
+    inr (inr (record {
+      name = c.in_ok-name.name;
+      rtype = c.u16_at.result;
+      class = c.u16_at-2.result;
+      ttl = c.u32_at.result;
+      start = c.in_ok-name.after_name + 10;
+      size = c.u16_at-size.result;
+      head = record { after_name = c.in_ok-name.after_name; named = c.in_ok-name.ensures.found; typed = c.u16_at.ensures; classed = c.u16_at-2.ensures; timed = c.u32_at.ensures; sized = c.u16_at-size.ensures; starts = refl };
+      fault = inl (omega arith, refl);
+    }))
 
 pub returns-in_default-clause-fault : goal.returns-in_default-clause-fault
 returns-in_default-clause-fault c =
-    inr (inr (
-      c.in_ok-name.name,
-      c.u16_at.result,
-      c.u16_at-2.result,
-      c.u32_at.result,
-      c.in_ok-name.after_name + 10,
-      c.u16_at-size.result,
-      record { after_name = c.in_ok-name.after_name; named = c.in_ok-name.ensures.found; typed = c.u16_at.ensures; classed = c.u16_at-2.ensures; timed = c.u32_at.ensures; sized = c.u16_at-size.ensures; starts = refl },
-      inr (omega arith, rw c.of-layout.ensures at (MatchOption-at_none _ _ c.in_default.is c.in_ok-rdata.ensures), refl),
-    ))
+    inr (inr (record {
+      name = c.in_ok-name.name;
+      rtype = c.u16_at.result;
+      class = c.u16_at-2.result;
+      ttl = c.u32_at.result;
+      start = c.in_ok-name.after_name + 10;
+      size = c.u16_at-size.result;
+      head = record { after_name = c.in_ok-name.after_name; named = c.in_ok-name.ensures.found; typed = c.u16_at.ensures; classed = c.u16_at-2.ensures; timed = c.u32_at.ensures; sized = c.u16_at-size.ensures; starts = refl };
+      fault = inr (omega arith, rw c.of-layout.ensures at (MatchOption-at_none _ _ c.in_default.is c.in_ok-rdata.ensures), refl);
+    }))
 
 pub returns-clause-found : goal.returns-clause-found
 returns-clause-found c =
