@@ -1,14 +1,18 @@
 -- What has been read of a stream so far, and what it says of the stream as a whole.
-use Rattle.std.proofs.Common.{◌≡◌, ℕ, zero, suc, ◌+◌, ◌-◌, ◌<◌, ◌≤◌, List, [], ◌∷◌, ◌++◌, length, take, drop, refl, sym, ap, ◌∙◌, zero-add, min, arith, append_assoc, length-append, Option, Some, None, IfSome}
+use Rattle.std.proofs.Common.{◌≡◌, ◌⊎◌, inl, inr, ⊎_elim, subst, flat_map, ℕ, zero, suc, ◌+◌, ◌-◌, ◌<◌, ◌≤◌, List, [], ◌∷◌, ◌++◌, length, take, drop, refl, sym, ap, ◌∙◌, zero-add, min, arith, append_assoc, length-append, Option, Some, None, IfSome}
 use Rattle.std.proofs.Math.Nat.{sub-zero}
 use Rattle.std.proofs.lemmas.List.{append-nil, take_all, take_at, take-take, length-take-le, take-append-drop}
+use Rattle.std.proofs.lemmas.Bool.{cases_lt}
+use Rattle.std.specs.List.{AllByRecursion}
 use Rattle.std.proofs.KnownBytes.{Consumes-nil, Consumes-trans, Consumes-whole, Keeps-refl}
 use Rattle.std.specs.Io.KnownBytes.{Consumes, IsAtEnd, Keeps}
 use Rattle.dnsv_message.specs.declared.TheConstants.{FILE_LIMIT}
-use Rattle.dnsv_message.specs.Frames.{Frames, IsZero, HasZeroLength, HasNoFault, IsTooLong, EndsTorn, IsCapture, StopsAtFault}
+use Rattle.dnsv_names.specs.Octets.{AreOctets}
+use Rattle.dnsv_message.specs.Frames.{frame, Frames, IsZero, HasZeroLength, HasNoFault, IsTooLong, EndsTorn, IsCapture, StopsAtFault}
 use Rattle.dnsv_message.specs.Framer.{Gains}
 use Rattle.dnsv_message.proofs.FileLemmas.{stops_before, stops_behind}
-use Rattle.dnsv_message.proofs.FrameLemmas.{Frames-append, one_framing, zero_begins_no_frame}
+use Rattle.dnsv_message.proofs.FrameLemmas.{Frames-append, one_framing, some_reading, zero_begins_no_frame}
+use Rattle.dnsv_message.proofs.FitLemmas.{each-front, each-behind}
 
 -- the reader gave octets that are these messages and the rest, and so many may still come
 pub record HasRead (old now : Option (List ℕ)) (messages : List (List ℕ)) (rest : List ℕ) (left : ℕ) : Type 0 where
@@ -179,3 +183,55 @@ HasRead-stops_behind more old now next messages rest buf left count x not_zero c
 -- nothing was read
 pub nothing-stops : (more : ℕ) (old : Option (List ℕ)) → StopsAtFault HasNoFault more old old
 nothing-stops more old = HasRead-stops_before more old old old [] [] FILE_LIMIT (HasRead-start old [] [] FILE_LIMIT refl refl refl) nothing_not_zero (Keeps-refl old)
+
+pub torn_frame_alone : (file : List ℕ) → EndsTorn file → ¬ IsTooLong file
+torn_frame_alone file torn = λ too_long. omega (arith, torn.0, too_long.0)
+
+-- ---- every file has an answer
+
+zero_or_not : (rest : List ℕ) → IsZero rest ⊎ (¬ IsZero rest)
+zero_or_not [] = inr (λ came. absurd (cc came.1))
+zero_or_not (x ∷ []) = inr (λ came. absurd (cc came.1))
+zero_or_not (zero ∷ (zero ∷ rest)) = inl (rest, refl)
+zero_or_not (zero ∷ (suc y ∷ rest)) = inr (λ came. let same : suc y ≡ 0 = cc came.1 in absurd (omega (arith, same)))
+zero_or_not (suc x ∷ (y ∷ rest)) = inr (λ came. let same : suc x ≡ 0 = cc came.1 in absurd (omega (arith, same)))
+
+whole_answer : (file : List ℕ) (messages : List (List ℕ)) (rest : List ℕ) → length file ≤ FILE_LIMIT → Frames file messages rest → ¬ IsZero rest → ((messages : List (List ℕ)) × IsCapture file messages) ⊎ EndsTorn file
+whole_answer file messages [] within frames not_zero = inl (messages, record { within = within; frames = frames })
+whole_answer file messages (octet ∷ rest) within frames not_zero =
+    inr (within, (messages, octet ∷ rest, frames, (λ none. absurd (cc none)), not_zero))
+
+pub some_answer : (file : List ℕ) → AllByRecursion (λ octet. octet < 256) file → ((messages : List (List ℕ)) × IsCapture file messages) ⊎ (HasZeroLength file ⊎ (EndsTorn file ⊎ IsTooLong file))
+some_answer file are =
+    let read = some_reading (take FILE_LIMIT file) (recursion-take FILE_LIMIT file are) in
+    ⊎_elim
+    (λ (zero_rest : IsZero read.1). inr (inl (read.0, read.1, read.2, zero_rest)))
+    (λ (not_zero : ¬ IsZero read.1). ⊎_elim
+    (λ (long : FILE_LIMIT < length file). inr (inr (inr (
+      long,
+      λ came. not_zero (let same = (one_framing (take FILE_LIMIT file) came.0 read.0 came.1 read.1 came.2 read.2).1 in rw same at came.3),
+    ))))
+    (λ (within : length file ≤ FILE_LIMIT). ⊎_elim
+    (λ (capture : (messages : List (List ℕ)) × IsCapture file messages). inl capture)
+    (λ (torn : EndsTorn file). inr (inr (inl torn)))
+    (whole_answer file read.0 read.1 within (within_limit FILE_LIMIT file read.0 read.1 within read.2) not_zero))
+    (cases_lt FILE_LIMIT (length file)))
+    (zero_or_not read.1) where
+      recursion-take : (n : ℕ) (xs : List ℕ) → AllByRecursion (λ octet. octet < 256) xs → AllByRecursion (λ octet. octet < 256) (take n xs)
+      recursion-take zero xs are = tt
+      recursion-take (suc n) [] are = tt
+      recursion-take (suc n) (x ∷ xs) are = (are.0, recursion-take n xs are.1)
+
+-- ---- the messages of a file are octets
+
+frames_octets : (messages : List (List ℕ)) → AreOctets (flat_map frame messages) → AllByRecursion AreOctets messages
+frames_octets [] are = tt
+frames_octets (message ∷ messages) are =
+    let IsOctet : ℕ → Type 0 = λ octet. octet < 256 in (
+      (each-front IsOctet (frame message) (flat_map frame messages) are).1.1,
+      frames_octets messages (each-behind IsOctet (frame message) (flat_map frame messages) are),
+    )
+
+pub capture_octets : (file : List ℕ) (messages : List (List ℕ)) → AreOctets file → IsCapture file messages → AllByRecursion AreOctets messages
+capture_octets file messages are capture =
+    frames_octets messages (subst AreOctets (capture.frames.whole ∙ append-nil (flat_map frame messages)) are)

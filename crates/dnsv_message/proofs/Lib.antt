@@ -10,6 +10,7 @@ pub mod RdataWritten
 pub mod FitLemmas
 pub mod EncodingLemmas
 pub mod OneEncoding
+pub mod MessageOrFault
 pub mod CaptureLemmas
 pub mod FrameLemmas
 pub mod FramerLemmas

@@ -23,7 +23,7 @@ use Rattle.dnsv_message.proofs.RdataWritten.{Stands, name_is, name_stands}
 
 module _ (octets : List ℕ) where
   -- a part behind a part
-  Stands-join : (place : ℕ) (a b : List ℕ) (here : ℕ) → place + length a ≡ here → Stands octets place a → Stands octets here b → Stands octets place (a ++ b)
+  pub Stands-join : (place : ℕ) (a b : List ℕ) (here : ℕ) → place + length a ≡ here → Stands octets place a → Stands octets here b → Stands octets place (a ++ b)
   Stands-join place a b here ends first second = record {
     form = ap (λ n. take n (drop place octets)) (length-append a b) ∙ take-add (length a) (length b) (drop place octets)
         ∙ ap (λ xs. xs ++ take (length b) (drop (length a) (drop place octets))) first.form

@@ -50,7 +50,7 @@ InOrder-map At To leads [] place end order = order
 InOrder-map At To leads (x ∷ xs) place end order = (order.0, leads place x order.0 order.1, InOrder-map At To leads xs order.0 end order.2)
 
 module _ (octets : List ℕ) where
-  labels_are : (place run pointers : ℕ) (labels : Labels) (end : ℕ) → NameAt octets place run pointers labels end → AllByRecursion IsLabel labels
+  pub labels_are : (place run pointers : ℕ) (labels : Labels) (end : ℕ) → NameAt octets place run pointers labels end → AllByRecursion IsLabel labels
   labels_are place run pointers labels end (root at) = tt
   labels_are place run pointers labels end (label at more) = (at.0, labels_are _ _ _ _ _ more)
   labels_are place run pointers labels end (pointer at back more) = labels_are _ _ _ _ _ more

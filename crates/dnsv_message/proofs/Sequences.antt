@@ -1,5 +1,5 @@
 -- Things one after another, and the first of them that doesn't stand at its place.
-use Rattle.std.proofs.Common.{◌≡◌, ℕ, zero, suc, ◌+◌, ◌-◌, ◌<◌, List, [], ◌∷◌, ◌++◌, length, refl, sym, ap, subst, ◌∙◌, inl, inr, ⊎_elim, arith, append_assoc, length-append}
+use Rattle.std.proofs.Common.{◌≡◌, ◌⊎◌, ◌≤◌, ℕ, zero, suc, ◌+◌, ◌-◌, ◌<◌, List, [], ◌∷◌, ◌++◌, length, refl, sym, ap, subst, ◌∙◌, inl, inr, ⊎_elim, arith, append_assoc, length-append}
 use Rattle.std.proofs.lemmas.List.{append-nil}
 use Rattle.dnsv_message.specs.Grammar.{InOrder, FirstFault}
 
@@ -117,3 +117,33 @@ module _ {X E : Type 0} (At : ℕ → X → ℕ → Type 0) (Faulty : ℕ → �
       (subst (λ n. FirstFault At Faulty count (suc number) n other) (sym heads.1) later'.3))
       also)
       fault
+
+-- Where each place has a thing or a fault, so many things stand one after another, or there is a first fault.
+pub InOrder-or_fault : {X E : Type 0} (At : ℕ → X → ℕ → Type 0) (Faulty : ℕ → ℕ → E → Type 0)
+    → ((number place : ℕ) → ((x : X) × (end : ℕ) × At place x end) ⊎ ((error : E) × Faulty number place error))
+    → (count number place : ℕ)
+    → ((xs : List X) × (end : ℕ) × InOrder At place xs end × (length xs ≡ count)) ⊎ ((error : E) × FirstFault At Faulty count number place error)
+InOrder-or_fault At Faulty each zero number place = inl ([], place, refl, refl)
+InOrder-or_fault {X} {E} At Faulty each (suc count) number place = ⊎_elim
+    (λ (here : (x : X) × (end : ℕ) × At place x end). ⊎_elim
+    (λ (rest : (xs : List X) × (end : ℕ) × InOrder At here.1 xs end × (length xs ≡ count)).
+    inl (here.0 ∷ rest.0, rest.1, (here.1, here.2, rest.2), ap suc rest.3))
+    (λ (later : (error : E) × FirstFault At Faulty count (suc number) here.1 error). inr (later.0, inr (here.0, here.1, here.2, later.1)))
+    (InOrder-or_fault At Faulty each count (suc number) here.1))
+    (λ (wrong : (error : E) × Faulty number place error). inr (wrong.0, inl wrong.1))
+    (each number place)
+
+-- things that end within a limit end there together
+pub InOrder-within : {X : Type 0} (At : ℕ → X → ℕ → Type 0) (limit : ℕ) → ((place : ℕ) (x : X) (end : ℕ) → At place x end → end ≤ limit) → (xs : List X) (place end : ℕ) → place ≤ limit → InOrder At place xs end → end ≤ limit
+InOrder-within At limit within [] place end here order = omega (arith, order)
+InOrder-within At limit within (x ∷ xs) place end here order =
+    InOrder-within At limit within xs order.0 end (within place x order.0 order.1) order.2
+
+-- the first so many of them, and the others
+pub InOrder-split : {X : Type 0} (At : ℕ → X → ℕ → Type 0) (a b : ℕ) (xs : List X) (place end : ℕ) → length xs ≡ a + b → InOrder At place xs end
+    → (ys zs : List X) × (middle : ℕ) × (length ys ≡ a) × (length zs ≡ b) × InOrder At place ys middle × InOrder At middle zs end
+InOrder-split At zero b xs place end size order = ([], xs, place, refl, omega (arith, size), refl, order)
+InOrder-split At (suc a) b [] place end size order = absurd (omega (arith, size))
+InOrder-split At (suc a) b (x ∷ xs) place end size order =
+    let rest = InOrder-split At a b xs order.0 end (omega (arith, size)) order.2 in
+    (x ∷ rest.0, rest.1, rest.2, ap suc rest.3, rest.4, (order.0, order.1, rest.5), rest.6)

@@ -1,7 +1,8 @@
 //! Captured messages, as a stream of frames gives them.
-ghost use Rattle.std.specs.Prelude.{◌≡◌, ◌<◌, List, ℕ, IfOk, IfSome, IsErrOf, OnOk};
+ghost use Rattle.std.specs.Prelude.{◌≡◌, ◌⊎◌, ◌<◌, List, ℕ, IfOk, IfSome, IsErrOf, OnOk};
 ghost use Rattle.std.specs.List.{AllByRecursion};
 ghost use Rattle.std.specs.Io.KnownBytes.{IsAtEnd};
+ghost use Rattle.dnsv_names.specs.Octets.{AreOctets};
 ghost use Rattle.dnsv_message.specs.Counted.{failures_of, inner_of};
 ghost use Rattle.dnsv_message.specs.Frames.{EndsTorn, Frames, HasNoFault, HasZeroLength, IsCapture, IsTooLong, StopsAtFault, octets_of_each};
 
@@ -64,18 +65,25 @@ pub fn read_capture<R: Read>(
 
 /// Every stream of octets is read as frames and a rest, in one way.
 pub fn one_reading()
-    ensures some { (stream : List ℕ) → AllByRecursion (λ octet. octet < 256) stream →
+    ensures some { (stream : List ℕ) → AreOctets stream →
         (messages : List (List ℕ)) × (rest : List ℕ) × Frames stream messages rest }
-    ensures one { (stream : List ℕ) (a b : List (List ℕ)) (r s : List ℕ) → Frames stream a r → Frames stream b s → (a ≡ b) × (r ≡ s) }
+    ensures one { (stream : List ℕ) (a b : List (List ℕ)) (r s : List ℕ) →
+        Frames stream a r → Frames stream b s → (a ≡ b) × (r ≡ s) }
 {}
 
-/// A file has one answer at most: messages, a length 0, an end within a frame, or an octet too many.
+/// A file of octets has one answer: messages, which are octets too, a length 0, an end within a frame, or an octet
+/// too many.
 pub fn one_answer()
+    ensures some { (file : List ℕ) → AreOctets file →
+        ((messages : List (List ℕ)) × IsCapture file messages)
+        ⊎ (HasZeroLength file ⊎ (EndsTorn file ⊎ IsTooLong file)) }
     ensures messages { (file : List ℕ) (a b : List (List ℕ)) → IsCapture file a → IsCapture file b → a ≡ b }
     ensures messages_alone { (file : List ℕ) (messages : List (List ℕ)) → IsCapture file messages →
         (¬ HasZeroLength file) × (¬ EndsTorn file) × (¬ IsTooLong file) }
     ensures zero_length_alone { (file : List ℕ) → HasZeroLength file → (¬ EndsTorn file) × (¬ IsTooLong file) }
     ensures torn_frame_alone { (file : List ℕ) → EndsTorn file → ¬ IsTooLong file }
+    ensures octets { (file : List ℕ) (messages : List (List ℕ)) → AreOctets file → IsCapture file messages →
+        AllByRecursion AreOctets messages }
 {}
 
 #[cfg(test)]
