@@ -1,5 +1,6 @@
 mod AnswerLemmas
 mod AnyLemmas
+mod Example
 mod LookupLemmas
 mod MeaningLemmas
 mod NsecLemmas

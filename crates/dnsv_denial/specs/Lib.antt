@@ -1,4 +1,5 @@
 pub mod Any
+pub mod Example
 pub mod Forms
 pub mod Lookup
 pub mod Nsec

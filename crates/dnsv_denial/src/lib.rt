@@ -11,8 +11,9 @@ pub use nsec::{
     the_owner_before_a_name_is_the_end_above_it,
 };
 pub use nsec_meaning::{
-    no_closer_by_nsec_is_held_at_the_wildcard, no_data_by_nsec_is_no_data,
-    no_name_by_nsec_is_no_name, unsigned_cut_by_nsec_is_an_unsigned_delegation,
+    a_small_zone_has_a_proof_of_no_such_name, no_closer_by_nsec_is_held_at_the_wildcard,
+    no_data_by_nsec_is_no_data, no_name_by_nsec_is_no_name,
+    unsigned_cut_by_nsec_is_an_unsigned_delegation,
 };
 pub use nsec3::{
     a_name_covered_by_nsec3_is_none_of_the_chain, a_name_matched_by_nsec3_is_of_the_chain,

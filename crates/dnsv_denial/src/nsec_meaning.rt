@@ -8,6 +8,7 @@ ghost use Rattle.dnsv_denial.specs.Lookup.{IsLookup};
 ghost use Rattle.dnsv_denial.specs.Lookup.Answer.{NoName, NoData, Held};
 ghost use Rattle.dnsv_denial.specs.NsecChain.{NsecRecord, HasNsecRecords};
 ghost use Rattle.dnsv_denial.specs.Nsec.{nsec_words};
+ghost use Rattle.dnsv_denial.specs.Example.{zone as example_zone, records as example_records, e_name, b_name};
 ghost use Rattle.dnsv_denial.specs.Forms.{
   NoNameForm,
   NoDataForm,
@@ -54,4 +55,10 @@ pub fn unsigned_cut_by_nsec_is_an_unsigned_delegation()
     ensures { (zone : Zone) (apex name cut : Labels) (records : List NsecRecord)
         → HasNsecRecords zone apex records → UnsignedCutForm (nsec_words apex records) apex name cut
         → IsUnsignedDelegation (Holds zone cut) }
+{}
+
+/// The premises can be met: a small zone has two records in its chain that prove that it has no such name.
+pub fn a_small_zone_has_a_proof_of_no_such_name()
+    ensures premises { HasNsecRecords example_zone e_name example_records }
+    ensures form { NoNameForm (nsec_words e_name example_records) e_name b_name }
 {}
