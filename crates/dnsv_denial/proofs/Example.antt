@@ -1,28 +1,23 @@
 -- The small zone meets the premises of the laws, and has a proof of no such name.
-use Rattle.std.proofs.Common.{◌≡◌, ℕ, ◌<◌, ◌≤◌, ◌+◌, ◌⊎◌, Bool, true, false, ◌||◌, IsTrue, List, [], ◌∷◌, length, refl, sym, ap, ◌∙◌, inl, inr, ⊎_elim, arith}
-use Rattle.std.specs.Prelude.{◌==◌}
+use Rattle.std.proofs.Common.{◌≡◌, ◌≤◌, ◌⊎◌, true, false, IsTrue, List, [], ◌∷◌, length, refl, sym, inl, inr, ⊎_elim, arith}
 use Rattle.std.specs.List.{AllByRecursion}
-use Rattle.std.specs.Bool.{Decides}
 use Rattle.std.proofs.lemmas.Cmp.{tied_itself}
-use Rattle.std.specs.declared.cmp.Ordering.{Ordering}
-use Rattle.std.specs.declared.cmp.Ordering.TheVariants.{Less, Equal, Greater}
-use Rattle.std.specs.Cmp.{IsTotalOrder}
+use Rattle.std.specs.declared.cmp.Ordering.TheVariants.{Equal}
 use Rattle.dnsv_names.specs.Name.{Labels, SameName, same_name, IsAtOrBelow}
-use Rattle.dnsv_names.specs.Order.{canonical_cmp, IsBelow}
+use Rattle.dnsv_names.specs.Order.{canonical_cmp}
 use Rattle.dnsv_names.specs.OrderLaws.{canonical_cmp_total, same_name_Decides}
 use Rattle.dnsv_names.specs.Tree.{wildcard_of}
 use Rattle.dnsv_names.specs.Keys.{is_at_or_below}
-use Rattle.dnsv_names.specs.Circle.{between, Gap, has, IsMember, IsSuccessor}
+use Rattle.dnsv_names.specs.Circle.{Gap, has}
 use Rattle.dnsv_names.specs.CircleLaws.{gap_respects}
 use Rattle.dnsv_names.specs.TreeLaws.{at_or_below_respects, below_length, same_labels, is_at_or_below_Decides}
-use Rattle.dnsv_denial.specs.TypeNumbers.{ns, soa, dname}
-use Rattle.dnsv_denial.specs.Any.{Any}
-use Rattle.dnsv_denial.specs.Types.{IsDelegation, IsClosed}
-use Rattle.dnsv_denial.specs.Zone.{Entry, Zone, IsOwner, Holds, IsNode, IsClosedAt, IsWellFormed}
-use Rattle.dnsv_denial.specs.NsecChain.{NsecRecord, IsBitmapOf, owners, IsInNsecChain, HasNsecRecords}
-use Rattle.dnsv_denial.specs.Nsec.{IsAbsentBy, nsec_words}
+use Rattle.dnsv_denial.specs.TypeNumbers.{dname}
+use Rattle.dnsv_denial.specs.Types.{IsDelegation}
+use Rattle.dnsv_denial.specs.Zone.{IsOwner, Holds, IsClosedAt, IsWellFormed}
+use Rattle.dnsv_denial.specs.NsecChain.{IsBitmapOf, owners, HasNsecRecords}
+use Rattle.dnsv_denial.specs.Nsec.{nsec_words}
 use Rattle.dnsv_denial.specs.Example.{e_name, a_name, b_name, s_name, apex_types, address_types, cut_types, zone, records}
-use Rattle.dnsv_denial.specs.Forms.{IsAbove, EndsAt, NoNameForm}
+use Rattle.dnsv_denial.specs.Forms.{NoNameForm}
 
 differ : (a b : Labels) → same_name a b ≡ false → ¬ SameName a b
 differ a b test same = let yes = (same_name_Decides a b).1 same in cc

@@ -4,6 +4,7 @@ mod Example
 mod LookupLemmas
 mod MeaningLemmas
 mod NsecLemmas
+mod NsecComplete
 mod NsecTruth
 mod Nsec3Truth
 mod ZoneLemmas

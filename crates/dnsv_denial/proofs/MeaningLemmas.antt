@@ -1,5 +1,5 @@
 -- What a form means for a zone, where its words are true there.
-use Rattle.std.proofs.Common.{◌≡◌, ◌≢◌, ℕ, ◌+◌, ◌<◌, Bool, length, refl, inr, arith}
+use Rattle.std.proofs.Common.{inl, ◌≡◌, ◌≢◌, ℕ, ◌+◌, ◌<◌, Bool, length, refl, inr, arith}
 use Rattle.dnsv_names.specs.Name.{Labels, SameName, IsAtOrBelow, rightmost}
 use Rattle.dnsv_names.specs.Order.{IsBelow}
 use Rattle.dnsv_names.specs.Tree.{wildcard_of}
@@ -13,7 +13,7 @@ use Rattle.dnsv_denial.specs.Lookup.IsSource.{itself}
 use Rattle.dnsv_denial.specs.NsecChain.{IsInBitmap, IsBitmapOf}
 use Rattle.dnsv_denial.specs.Nsec3Chain.{IsAsked}
 use Rattle.dnsv_denial.specs.Nsec3Chain.IsAsked.{itself as asked_above, wildcard as asked_wildcard}
-use Rattle.dnsv_denial.specs.Forms.{Words, IsAbove, EndsAt, NoNameForm, NoDataForm, EmptyForm, NoWildcardDataForm, EmptyWildcardForm, NoCloserForm, UnsignedCutForm}
+use Rattle.dnsv_denial.specs.Forms.{Words, IsAbove, EndsAt, NoNameForm, NoDataForm, EmptyForm, NoWildcardDataForm, EmptyWildcardForm, NoDataForms, NoCloserForm, UnsignedCutForm}
 use Rattle.dnsv_names.specs.AncestorLaws.{rightmost_above, rightmost_below, wildcard_below}
 use Rattle.dnsv_denial.proofs.ZoneLemmas.{holds_owner, owner_node, node_above, closest, nothing_closed}
 use Rattle.dnsv_denial.proofs.LookupLemmas.{IsMissing, node_here, missing_no_name, missing_no_data, missing_held}
@@ -135,6 +135,12 @@ module _ (zone : Zone) (words : Words) (apex name : Labels) (well : IsWellFormed
       let told = true_.inner star (star_within form.labels form.ends.above) form.inner in
       let none = empty_denied zone star t told.no_owner in
       missing_no_data zone name form.labels t well (ends_missing form.labels form.ends) told.node none.no_type none.no_alias
+
+  pub any_no_data : (t : ℕ) → NoDataForms words apex name t → (source : Labels) × IsLookup zone name t (NoData source)
+  any_no_data t (inl form) = (name, no_data t form)
+  any_no_data t (inr (inl form)) = (name, empty t form)
+  any_no_data t (inr (inr (inl form))) = (wildcard_of (rightmost name form.labels), no_wildcard_data t form)
+  any_no_data t (inr (inr (inr form))) = (wildcard_of (rightmost name form.labels), empty_wildcard t form)
 
   pub unsigned_cut : (cut : Labels) → UnsignedCutForm words apex name cut → IsUnsignedDelegation (Holds zone cut)
   unsigned_cut cut form =

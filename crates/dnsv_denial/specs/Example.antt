@@ -2,7 +2,7 @@
 -- `s.e.`, and no `b.e.`. It shows that the premises of the laws can be met.
 use Rattle.std.specs.Prelude.{ℕ, ◌==◌, ◌||◌, Bool, List, [], ◌∷◌}
 use Rattle.dnsv_names.specs.Name.{Labels}
-use Rattle.dnsv_denial.specs.Zone.{Entry, Zone}
+use Rattle.dnsv_denial.specs.Zone.{Zone}
 use Rattle.dnsv_denial.specs.NsecChain.{NsecRecord}
 
 abbrev pub e_name : Labels

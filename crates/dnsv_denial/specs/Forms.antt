@@ -1,6 +1,6 @@
 -- The forms of a proof of denial (RFC 4035 5.4, RFC 5155 8). One table serves NSEC and NSEC3, which differ in how
 -- their records say the words of it.
-use Rattle.std.specs.Prelude.{◌+◌, ◌<◌, ℕ, length}
+use Rattle.std.specs.Prelude.{◌⊎◌, ◌+◌, ◌<◌, ℕ, length}
 use Rattle.dnsv_names.specs.Name.{Labels, IsAtOrBelow, rightmost}
 use Rattle.dnsv_names.specs.Order.{IsBelow}
 use Rattle.dnsv_names.specs.Tree.{wildcard_of}
@@ -52,6 +52,12 @@ pub record EmptyWildcardForm (words : Words) (apex name : Labels) : Type 0 where
   pub labels : ℕ
   pub ends : EndsAt words apex name labels
   pub inner : words.Inner (wildcard_of (rightmost name labels))
+
+-- there is no data: any of these forms
+abbrev pub NoDataForms : Words → Labels → Labels → ℕ → Type 0
+NoDataForms words apex name t =
+    NoDataForm words apex name t ⊎ EmptyForm words apex name ⊎ NoWildcardDataForm words apex name t
+    ⊎ EmptyWildcardForm words apex name
 
 -- an answer from the wildcard below the name's so many labels has no closer name against it
 -- (RFC 4035 5.3.4, RFC 5155 8.8)

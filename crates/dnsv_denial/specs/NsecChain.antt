@@ -5,6 +5,7 @@ use Rattle.dnsv_names.specs.Name.{Labels, SameName}
 use Rattle.dnsv_names.specs.Order.{canonical_cmp}
 use Rattle.dnsv_names.specs.Circle.{IsSuccessor}
 use Rattle.dnsv_denial.specs.TypeNumbers.{rrsig, nsec}
+use Rattle.dnsv_denial.specs.Any.{Any}
 use Rattle.dnsv_denial.specs.Zone.{Zone, IsOwner, Holds, IsWellFormed}
 
 -- an NSEC record: its owner, the next owner's name and a test of the types in its bitmap (RFC 4034 4.1)
@@ -39,3 +40,8 @@ pub record HasNsecRecords (zone : Zone) (apex : Labels) (records : List NsecReco
   pub well_formed : IsWellFormed zone
   pub same_apex : SameName apex zone.apex
   pub in_chain : AllByRecursion (IsInNsecChain zone) records
+
+-- The records are the zone's whole chain.
+pub record IsNsecChainOf (zone : Zone) (apex : Labels) (records : List NsecRecord) : Type 0 where
+  pub has_records : HasNsecRecords zone apex records
+  pub each_owner : (name : Labels) → IsOwner zone name → Any (λ nsec. SameName nsec.owner name) records

@@ -10,6 +10,10 @@ pub use nsec::{
     a_name_inner_by_nsec_is_an_empty_non_terminal, nsec_records_show_nodes,
     the_owner_before_a_name_is_the_end_above_it,
 };
+pub use nsec_complete::{
+    an_nsec_chain_proves_each_missing_name, an_nsec_chain_proves_each_missing_type,
+    an_nsec_chain_proves_each_unsigned_delegation,
+};
 pub use nsec_meaning::{
     a_small_zone_has_a_proof_of_no_such_name, no_closer_by_nsec_is_held_at_the_wildcard,
     no_data_by_nsec_is_no_data, no_name_by_nsec_is_no_name,
@@ -33,5 +37,6 @@ mod lookup;
 mod nsec;
 mod nsec3;
 mod nsec3_meaning;
+mod nsec_complete;
 mod nsec_meaning;
 mod zone;
