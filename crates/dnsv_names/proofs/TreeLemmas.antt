@@ -7,7 +7,8 @@ use Rattle.dnsv_names.specs.Name.{Labels, IsName, wire, lower_case, IsAtOrBelow}
 use Rattle.dnsv_names.specs.Spelling.{labels_of, SpellsName}
 use Rattle.dnsv_names.specs.AncestorLaws.{at_or_below_ends, ends_at_or_below, IsName-drop, IsLabel-asterisk}
 use Rattle.dnsv_names.specs.Tree.{asterisk, wildcard_of, IsWildcard, is_wildcard}
-use Rattle.dnsv_names.proofs.NameLemmas.{lower_case-wire, lower_labels, wire-injective, SpellsName-wire, labels_of-wire}
+use Rattle.dnsv_names.specs.WireLaws.{lower_case-wire, lower_labels, wire-injective, labels_of-wire}
+use Rattle.dnsv_names.proofs.NameLemmas.{SpellsName-wire}
 
 -- the test on the octets of the two wire forms
 pub at_or_below_Decides : (name above : Labels) (k : ℕ) (octets : List ℕ) (answer : Bool) → IsName name → IsName above → k ≡ length name - length above → length above ≤ length name → octets ≡ wire (drop k name) → Decides answer (map to_ascii_lowercase octets ≡ map to_ascii_lowercase (wire above)) → Decides answer (IsAtOrBelow name above)

@@ -9,7 +9,8 @@ use Rattle.dnsv_names.specs.Spelling.{labels_of, SpellsName}
 use Rattle.dnsv_names.specs.Text.{SpellsLabel, SpellsLabels, IsTextOf, FirstFault}
 use Rattle.dnsv_names.specs.declared.error.NameError.{NameError}
 use Rattle.dnsv_names.specs.declared.error.NameError.TheVariants.{LongName, NotAbsolute}
-use Rattle.dnsv_names.proofs.NameLemmas.{SpellsName-wire, labels_of-wire}
+use Rattle.dnsv_names.specs.WireLaws.{labels_of-wire}
+use Rattle.dnsv_names.proofs.NameLemmas.{SpellsName-wire}
 
 -- the wire form of labels without the root
 abbrev pub unrooted : Labels → List ℕ

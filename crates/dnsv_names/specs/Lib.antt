@@ -19,3 +19,4 @@ pub mod Spelling
 pub mod Text
 pub mod Tree
 pub mod TreeLaws
+pub mod WireLaws

@@ -22,10 +22,11 @@ pub use order::{
 pub use parse::{a_text_has_one_reading, names_are_spelled_by_their_text};
 pub use tree::ASTERISK_LABEL;
 pub use tree_laws::{
-    ancestors_stand_in_one_line, at_or_below_is_tested, equal_names_have_equal_sizes,
-    names_above_are_the_rightmost_labels, names_at_or_below_come_together,
-    names_below_have_more_labels, names_form_a_tree, rightmost_labels_are_ancestors,
-    the_next_closer_name_is_below_the_closest_encloser, wildcards_stand_right_below,
+    a_wire_form_is_one_name, ancestors_stand_in_one_line, at_or_below_is_tested,
+    equal_names_have_equal_sizes, names_above_are_the_rightmost_labels,
+    names_at_or_below_come_together, names_below_have_more_labels, names_form_a_tree,
+    rightmost_labels_are_ancestors, the_next_closer_name_is_below_the_closest_encloser,
+    wildcards_stand_right_below,
 };
 
 mod by_wire;

@@ -3,8 +3,9 @@
 //!
 //! Each is a function that does nothing and ensures the law. A caller learns it by a call; a proof file of
 //! any crate cites the lemma of the same subject in `specs/`.
-ghost use Rattle.std.specs.Prelude.{◌≡◌, ◌≢◌, ◌↔◌, ◌⊎◌, ◌+◌, ◌<◌, ◌≤◌, List, ℕ, [], ◌∷◌, length, IsTrue};
-ghost use Rattle.dnsv_names.specs.Name.{Labels, IsName, IsAtOrBelow, SameName, wire, rightmost};
+ghost use Rattle.std.specs.Prelude.{◌≡◌, ◌≢◌, ◌↔◌, ◌⊎◌, ◌+◌, ◌<◌, ◌≤◌, List, ℕ, [], ◌∷◌, ◌++◌, length, map, IsTrue};
+ghost use Rattle.std.specs.Char.{to_ascii_lowercase};
+ghost use Rattle.dnsv_names.specs.Name.{Labels, IsName, IsAtOrBelow, SameName, lower_case, wire, rightmost};
 ghost use Rattle.dnsv_names.specs.Order.{IsBefore, IsBelow};
 ghost use Rattle.dnsv_names.specs.Tree.{wildcard_of};
 ghost use Rattle.dnsv_names.specs.Keys.{is_at_or_below};
@@ -49,6 +50,15 @@ pub fn names_below_have_more_labels()
 pub fn equal_names_have_equal_sizes()
     ensures labels { (a b : Labels) → SameName a b → length a ≡ length b }
     ensures octets { (a b : Labels) → SameName a b → length (wire a) ≡ length (wire b) }
+{}
+
+/// A law of names: at most one name's wire form begins octets. In lower case it is the wire form of the name in lower
+/// case, which is a name too.
+pub fn a_wire_form_is_one_name()
+    ensures one { (a b : Labels) (after_a after_b : List ℕ) → IsName a → IsName b
+        → wire a ++ after_a ≡ wire b ++ after_b → (a ≡ b) × (after_a ≡ after_b) }
+    ensures lower { (name : Labels) → IsName name → map to_ascii_lowercase (wire name) ≡ wire (lower_case name) }
+    ensures name { (name : Labels) → IsName name → IsName (lower_case name) }
 {}
 
 /// A law of ancestors: the `n` rightmost labels of a name are so many, and a name where it is one. They are above

@@ -1,6 +1,7 @@
 use Rattle.std.proofs.Common.{◌<◌, length, arith}
 use Rattle.dnsv_names.specs.Spelling.{labels_of}
-use Rattle.dnsv_names.proofs.NameLemmas.{Stands-start, place_within, length-wire, label_left, Stands-next, root_reached}
+use Rattle.dnsv_names.specs.WireLaws.{length-wire}
+use Rattle.dnsv_names.proofs.NameLemmas.{Stands-start, place_within, label_left, Stands-next, root_reached}
 use Rattle.dnsv_names.proofs.wire.label_count.Goals as goal
 
 pub loop-place-init : goal.loop-place-init

@@ -1,9 +1,9 @@
 use Rattle.std.proofs.Common.{◌≡◌, ◌∷◌, List, ℕ, length, map, ap, ◌∙◌}
 use Rattle.std.specs.Char.{to_ascii_lowercase}
-use Rattle.dnsv_names.specs.Name.{Labels, IsName, wire, lower_case}
+use Rattle.dnsv_names.specs.Name.{Labels, IsName, wire}
 use Rattle.dnsv_names.specs.Octets.{octets_cmp}
 use Rattle.dnsv_names.specs.ByWire.{search_octets}
-use Rattle.dnsv_names.proofs.NameLemmas.{lower_case-wire}
+use Rattle.dnsv_names.specs.WireLaws.{lower_case-wire}
 use Rattle.dnsv_names.proofs.by_wire.ByWireOrd.cmp.Goals as goal
 
 searched : (name : Labels) (octets : List ℕ) → IsName name → octets ≡ wire name → length octets ∷ map to_ascii_lowercase octets ≡ search_octets name

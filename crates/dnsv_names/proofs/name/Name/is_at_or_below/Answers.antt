@@ -2,7 +2,8 @@ use Rattle.std.proofs.Common.{◌≡◌, ◌-◌, length, drop, ap, ◌∙◌, a
 use Rattle.std.proofs.lemmas.List.{take_rest}
 use Rattle.dnsv_names.specs.Name.{wire}
 use Rattle.dnsv_names.specs.Spelling.{labels_of}
-use Rattle.dnsv_names.proofs.NameLemmas.{SpellsName-wire, labels_of-wire}
+use Rattle.dnsv_names.specs.WireLaws.{labels_of-wire}
+use Rattle.dnsv_names.proofs.NameLemmas.{SpellsName-wire}
 use Rattle.dnsv_names.proofs.TreeLemmas.{at_or_below_Decides}
 use Rattle.dnsv_names.proofs.name.Name.is_at_or_below.Goals as goal
 

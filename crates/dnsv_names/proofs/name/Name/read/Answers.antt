@@ -2,7 +2,7 @@ use Rattle.std.proofs.Common.{◌≡◌, length, take, sym, ap, ◌∙◌, Some,
 use Rattle.std.proofs.lemmas.List.{take_at}
 use Rattle.dnsv_names.specs.Name.{wire}
 use Rattle.dnsv_names.specs.Spelling.{labels_of}
-use Rattle.dnsv_names.proofs.NameLemmas.{labels_of-wire}
+use Rattle.dnsv_names.specs.WireLaws.{labels_of-wire}
 use Rattle.dnsv_names.proofs.name.Name.read.Goals as goal
 
 pub returns-clause-every : goal.returns-clause-every

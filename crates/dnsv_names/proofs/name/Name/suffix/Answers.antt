@@ -3,7 +3,8 @@ use Rattle.std.proofs.lemmas.List.{take-append-drop, take_rest}
 use Rattle.dnsv_names.specs.Name.{wire, lower_case, rightmost}
 use Rattle.dnsv_names.specs.Spelling.{labels_of}
 use Rattle.dnsv_names.specs.AncestorLaws.{IsName-drop}
-use Rattle.dnsv_names.proofs.NameLemmas.{SpellsName-wire, labels_of-wire}
+use Rattle.dnsv_names.specs.WireLaws.{labels_of-wire}
+use Rattle.dnsv_names.proofs.NameLemmas.{SpellsName-wire}
 use Rattle.dnsv_names.proofs.name.Name.suffix.Goals as goal
 
 module _ (c : goal.After-copied) where
