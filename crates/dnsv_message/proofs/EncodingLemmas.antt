@@ -17,7 +17,7 @@ use Rattle.dnsv_message.specs.Layout.{layout_of}
 use Rattle.dnsv_message.specs.NameAt.{NumberAt}
 use Rattle.dnsv_message.specs.Grammar.{InOrder, QuestionAt, RecordAt, MessageOf, IsMessage}
 use Rattle.dnsv_message.specs.Fits.{FitsQuestion, FitsRecord, FitsMessage}
-use Rattle.dnsv_message.specs.Encoding.{question_octets, record_octets, header_octets, message_octets, uncompressed, PlainQuestionAt, PlainRecordAt, PlainMessageOf}
+use Rattle.dnsv_message.specs.Encoding.{question_octets, record_octets, header_octets, message_octets, plain_layout, PlainQuestionAt, PlainRecordAt, PlainMessageOf}
 use Rattle.dnsv_message.proofs.Numbers.{number_behind, octet_fits}
 use Rattle.dnsv_message.proofs.NameWalk.{part_within}
 use Rattle.dnsv_message.proofs.Sequences.{InOrder-append}

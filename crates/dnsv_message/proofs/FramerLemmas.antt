@@ -5,7 +5,7 @@ use Rattle.std.specs.List.{flat_map}
 use Rattle.dnsv_message.specs.declared.errors.ReadError.{ReadError}
 use Rattle.dnsv_message.specs.declared.errors.ReadError.TheVariants.{OutOfMemory, Read, TooLong, ZeroLength, TornFrame}
 use Rattle.dnsv_message.specs.Frames.{frame, BeginsNoFrame, BeginsWith, Frames, IsZero}
-use Rattle.dnsv_message.specs.Framer.{Framing, Gains, IsEndError, Keeps, Feeds, FeedsAll}
+use Rattle.dnsv_message.specs.Framer.{Framing, Gains, IsEndError, KeepsRest, Feeds, FeedsAll}
 use Rattle.dnsv_message.specs.OpenFrame.{rest_of}
 use Rattle.dnsv_message.proofs.FrameLemmas.{Gains-append, Gains-none, one_framing, same_frame, zero_begins_no_frame}
 use Rattle.dnsv_message.proofs.CaptureLemmas.{zero_goes_on}
@@ -23,11 +23,11 @@ Feeds-open rest piece old new left gains not_zero = record { left = left; gains 
 pub Feeds-zero : (rest piece : List ℕ) (old new : List (List ℕ)) (left kept : List ℕ) → Gains old new (rest ++ piece) left → IsZero left → kept ≡ 0 ∷ (0 ∷ []) → Feeds rest piece old new kept
 Feeds-zero rest piece old new left kept gains zero_left same = record { left = left; gains = gains; keeps = inr (zero_left, same) }
 
-kept_open : (left kept : List ℕ) → Keeps left kept → ¬ IsZero kept → (kept ≡ left) × ¬ IsZero left
+kept_open : (left kept : List ℕ) → KeepsRest left kept → ¬ IsZero kept → (kept ≡ left) × ¬ IsZero left
 kept_open left kept (inl x) not_zero = (x.1, x.0)
 kept_open left kept (inr x) not_zero = absurd (not_zero (rw x.1 length_zero))
 
-kept_zero : (left kept : List ℕ) → Keeps left kept → IsZero kept → IsZero left
+kept_zero : (left kept : List ℕ) → KeepsRest left kept → IsZero kept → IsZero left
 kept_zero left kept (inl x) zero_kept = rw x.1 at zero_kept
 kept_zero left kept (inr x) zero_kept = x.0
 
@@ -40,7 +40,7 @@ pub Gains-zero : (rest piece : List ℕ) (old new : List (List ℕ)) (kept : Lis
 Gains-zero rest piece old new kept x zero_kept = (x.left, kept_zero x.left kept x.keeps zero_kept, x.gains)
 
 -- what is kept of a rest is one thing
-kept_once : (left a b : List ℕ) → Keeps left a → Keeps left b → a ≡ b
+kept_once : (left a b : List ℕ) → KeepsRest left a → KeepsRest left b → a ≡ b
 kept_once left a b (inl x) (inl y) = x.1 ∙ sym y.1
 kept_once left a b (inl x) (inr y) = absurd (x.0 y.0)
 kept_once left a b (inr x) (inl y) = absurd (y.0 x.0)
@@ -61,8 +61,8 @@ nothing_behind_zero piece old new left x =
     (record { whole = refl; each = tt; no_more = zero_begins_no_frame piece }) in
     (x.gained ∙ ap (λ messages. old ++ messages) same.0 ∙ append-nil old, (piece, same.1))
 
-feed_on : (rest a b : List ℕ) (old mid new : List (List ℕ)) (left between end kept : List ℕ) → Gains old mid (rest ++ a) left → Keeps left between
-    → Gains mid new (between ++ b) end → Keeps end kept → Feeds rest (a ++ b) old new kept
+feed_on : (rest a b : List ℕ) (old mid new : List (List ℕ)) (left between end kept : List ℕ) → Gains old mid (rest ++ a) left → KeepsRest left between
+    → Gains mid new (between ++ b) end → KeepsRest end kept → Feeds rest (a ++ b) old new kept
 feed_on rest a b old mid new left between end kept x (inl goes_on) y keeps =
     let joined = Gains-append old mid new (rest ++ a) b left end x (rw goes_on.1 at y) in
     record { left = end; gains = rw append_assoc at joined; keeps = keeps }
@@ -83,9 +83,9 @@ Feeds-append rest a b old mid new between kept x y = feed_on rest a b old mid ne
 -- what a framer can keep: no whole frame, and nothing behind a length 0
 record IsKept (rest : List ℕ) : Type 0 where
   pub no_more : BeginsNoFrame rest
-  pub keeps : Keeps rest rest
+  pub keeps : KeepsRest rest rest
 
-kept_of : (left kept : List ℕ) → BeginsNoFrame left → Keeps left kept → IsKept kept
+kept_of : (left kept : List ℕ) → BeginsNoFrame left → KeepsRest left kept → IsKept kept
 kept_of left kept no_more (inl x) = rw x.1 (record { no_more = no_more; keeps = inl (x.0, refl) })
 kept_of left kept no_more (inr x) = rw x.1 (record { no_more = zero_begins_no_frame []; keeps = inr (length_zero, refl) })
 

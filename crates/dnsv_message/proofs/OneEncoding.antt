@@ -15,7 +15,7 @@ use Rattle.dnsv_message.specs.Layout.{layout_of}
 use Rattle.dnsv_message.specs.Message.{Contents, records_of}
 use Rattle.dnsv_message.specs.NameAt.{NameFrom, NumberAt, pointer_limit}
 use Rattle.dnsv_message.specs.Grammar.{InOrder, RdataNameAt, RdataAt, part_of}
-use Rattle.dnsv_message.specs.Encoding.{question_octets, record_octets, header_octets, message_octets, uncompressed, PlainQuestionAt, PlainRecordAt, PlainMessageOf}
+use Rattle.dnsv_message.specs.Encoding.{question_octets, record_octets, header_octets, message_octets, plain_layout, PlainQuestionAt, PlainRecordAt, PlainMessageOf}
 use Rattle.dnsv_message.proofs.Numbers.{number_behind, octet_fits, octets_of_part}
 use Rattle.dnsv_message.proofs.NameLaws.{NameAt_same}
 use Rattle.dnsv_message.proofs.RdataLemmas.{head_fits}
@@ -54,13 +54,13 @@ module _ (octets : List ℕ) where
   names_spelled limit = InOrder-spelled (RdataNameAt octets limit false) wire (λ place name end at. (record { form = at.1 }, at.2))
 
   -- an RDATA no name of which is compressed
-  rdata_spelled : (layout : Layout) (start size : ℕ) (rdata : List ℕ) → RdataAt octets (uncompressed layout) start size rdata → start + size ≤ length octets → Stands octets start rdata × (length rdata ≡ size)
+  rdata_spelled : (layout : Layout) (start size : ℕ) (rdata : List ℕ) → RdataAt octets (plain_layout layout) start size rdata → start + size ≤ length octets → Stands octets start rdata × (length rdata ≡ size)
   unfolding Spelled
   rdata_spelled layout start size rdata at within =
       let front = part_of octets start layout.head in
       let names = flat_map wire at.names in
       let behind = part_of octets at.after_names at.rest in
-      let headed : length front ≡ layout.head = length-take-le layout.head (drop start octets) (omega (arith, head_fits octets (uncompressed layout) start size rdata at, length-drop start octets)) in
+      let headed : length front ≡ layout.head = length-take-le layout.head (drop start octets) (omega (arith, head_fits octets (plain_layout layout) start size rdata at, length-drop start octets)) in
       let tailed : length behind ≡ at.rest = length-take-le at.rest (drop at.after_names octets) (omega (arith, at.filled, length-drop at.after_names octets)) in
       let spelled = names_spelled (start + size) at.names (start + layout.head) at.after_names at.named in
       let two = Stands-join start front names (start + layout.head) (omega (arith, headed)) (part_stands start layout.head headed) spelled.0 in

@@ -22,14 +22,14 @@ pub record GainsFirst (old new : List (List ℕ)) (stream : List ℕ) : Type 0 w
   pub begins : BeginsWith stream messages
 
 -- a rest is kept as it is, but of one that begins with the length 0 that alone
-abbrev pub Keeps : List ℕ → List ℕ → Type 0
-Keeps rest kept = ((¬ IsZero rest) × (kept ≡ rest)) ⊎ (IsZero rest × (kept ≡ 0 ∷ (0 ∷ [])))
+abbrev pub KeepsRest : List ℕ → List ℕ → Type 0
+KeepsRest rest kept = ((¬ IsZero rest) × (kept ≡ rest)) ⊎ (IsZero rest × (kept ≡ 0 ∷ (0 ∷ [])))
 
 -- a piece comes behind a rest: the messages of both, joined, are added, and what is left then is kept
 pub record Feeds (rest piece : List ℕ) (old new : List (List ℕ)) (kept : List ℕ) : Type 0 where
   pub left : List ℕ
   pub gains : Gains old new (rest ++ piece) left
-  pub keeps : Keeps left kept
+  pub keeps : KeepsRest left kept
 
 -- pieces come one after another
 abbrev pub FeedsAll : List ℕ → List (List ℕ) → List (List ℕ) → List (List ℕ) → List ℕ → Type 0
@@ -46,4 +46,5 @@ IsPieceError _ = ⊥
 -- why the stream may not end: the framer has failed, or a beginning of a frame is left
 abbrev pub IsEndError : Framing → ReadError → Type 0
 IsEndError framing error =
-    (framing.fault ≡ Some error) ⊎ ((framing.fault ≡ None) × (error ≡ TornFrame) × (framing.rest ≢ []) × ¬ IsZero framing.rest)
+    (framing.fault ≡ Some error)
+    ⊎ ((framing.fault ≡ None) × (error ≡ TornFrame) × (framing.rest ≢ []) × ¬ IsZero framing.rest)

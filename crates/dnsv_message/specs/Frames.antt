@@ -49,11 +49,14 @@ pub record IsCapture (file : List ℕ) (messages : List (List ℕ)) : Type 0 whe
 
 -- a length 0 stands in a frame's place, and both of its octets lie within the limit
 abbrev pub HasZeroLength : List ℕ → Type 0
-HasZeroLength file = (messages : List (List ℕ)) × (rest : List ℕ) × Frames (take file_limit file) messages rest × IsZero rest
+HasZeroLength file =
+    (messages : List (List ℕ)) × (rest : List ℕ) × Frames (take file_limit file) messages rest × IsZero rest
 
 -- the file ends within a frame
 abbrev pub EndsTorn : List ℕ → Type 0
-EndsTorn file = (length file ≤ file_limit) × ((messages : List (List ℕ)) × (rest : List ℕ) × Frames file messages rest × (rest ≢ []) × ¬ IsZero rest)
+EndsTorn file =
+    (length file ≤ file_limit)
+    × ((messages : List (List ℕ)) × (rest : List ℕ) × Frames file messages rest × (rest ≢ []) × ¬ IsZero rest)
 
 -- an octet lies past the limit, and no length 0 before it
 abbrev pub IsTooLong : List ℕ → Type 0

@@ -23,7 +23,8 @@ InOrder At place (x ∷ xs) end = (next : ℕ) × At place x next × InOrder At 
 abbrev pub FirstFault : {X E : Type 0} → (ℕ → X → ℕ → Type 0) → (ℕ → ℕ → E → Type 0) → ℕ → ℕ → ℕ → E → Type 0
 FirstFault At Faulty zero number place error = ⊥
 FirstFault {X} At Faulty (suc count) number place error =
-    Faulty number place error ⊎ ((x : X) × (next : ℕ) × At place x next × FirstFault At Faulty count (suc number) next error)
+    Faulty number place error
+    ⊎ ((x : X) × (next : ℕ) × At place x next × FirstFault At Faulty count (suc number) next error)
 
 -- a question: a name, a type and a class (RFC 1035 4.1.2)
 pub record QuestionAt (octets : List ℕ) (place : ℕ) (question : Question) (end : ℕ) : Type 0 where
@@ -80,7 +81,8 @@ pub record RecordAt (octets : List ℕ) (place : ℕ) (resource : Record) (end :
   pub rdata : RdataAt octets (layout_of resource.rtype.0 resource.class.0) start size resource.rdata
   pub ends : end ≡ start + size
 
--- the header's numbers: identifier, flags, and how many questions and records of each section there are (RFC 1035 4.1.1)
+-- the header's numbers: identifier, flags, and how many questions and records of each section there are
+-- (RFC 1035 4.1.1)
 pub record HeaderOf (octets : List ℕ) (id flags questions answer authority additional : ℕ) : Type 0 where
   pub identifier : NumberAt octets 0 2 id
   pub flag_bits : NumberAt octets 2 2 flags
@@ -110,7 +112,8 @@ IsMessage message = (octets : List ℕ) × AreOctets octets × MessageOf octets 
 abbrev pub CutShort : List ℕ → ℕ → ℕ → DecodeError → Type 0
 CutShort octets place more error =
     ((fault : NameFault) × NameFaultFrom octets place fault × (error ≡ decode_error_of fault))
-    ⊎ ((name : Labels) × (after_name : ℕ) × NameFrom octets place name after_name × (length octets < after_name + more) × (error ≡ Short))
+    ⊎ ((name : Labels) × (after_name : ℕ) × NameFrom octets place name after_name
+    × (length octets < after_name + more) × (error ≡ Short))
 
 -- no question stands at the place
 abbrev pub QuestionFaultAt : List ℕ → ℕ → ℕ → DecodeError → Type 0

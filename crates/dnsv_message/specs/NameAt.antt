@@ -1,4 +1,5 @@
--- Names in a message (RFC 1035 3.1, 4.1.4): which name the octets spell at a place, and the fault that comes first where they spell none.
+-- Names in a message (RFC 1035 3.1, 4.1.4): which name the octets spell at a place, and the fault that comes first where
+-- they spell none.
 use Rattle.std.specs.Prelude.{◌≡◌, ◌⊎◌, ℕ, suc, ◌+◌, ◌*◌, ◌^◌, ◌<◌, ◌≤◌, List, [], ◌∷◌, length, take, drop}
 use Rattle.byteorder.specs.Endian.{big_from}
 use Rattle.dnsv_names.specs.Name.{Labels, IsLabel, wire}
@@ -47,16 +48,21 @@ NameFrom octets place name end = NameAt octets place place pointer_limit name en
 -- what a length octet announces is not all there
 abbrev pub IsTorn : List ℕ → ℕ → Type 0
 IsTorn octets place = (octet : ℕ) × NumberAt octets place 1 octet
-    × (((0 < octet) × (octet < 64) × (length octets < place + (1 + octet))) ⊎ ((192 ≤ octet) × (length octets < place + 2)))
+    × (((0 < octet) × (octet < 64) × (length octets < place + (1 + octet)))
+    ⊎ ((192 ≤ octet) × (length octets < place + 2)))
 
 -- No case of `NameAt` goes on at the place, where `size` octets of the name are written out already. Each
 -- fault leaves out those before it.
 abbrev pub FaultHere : List ℕ → ℕ → ℕ → ℕ → ℕ → NameFault → Type 0
 FaultHere octets place run pointers size Short = (length octets ≤ place) ⊎ IsTorn octets place
-FaultHere octets place run pointers size BadLabel = (octet : ℕ) × NumberAt octets place 1 octet × (64 ≤ octet) × (octet < 192)
-FaultHere octets place run pointers size BadPointer = (target : ℕ) × PointerAt octets place target × (run ≤ target)
-FaultHere octets place run pointers size TooManyPointers = (target : ℕ) × PointerAt octets place target × (target < run) × (pointers ≡ 0)
-FaultHere octets place run pointers size LongName = (label : List ℕ) × LabelAt octets place label × (255 < size + (1 + length label) + 1)
+FaultHere octets place run pointers size BadLabel =
+    (octet : ℕ) × NumberAt octets place 1 octet × (64 ≤ octet) × (octet < 192)
+FaultHere octets place run pointers size BadPointer =
+    (target : ℕ) × PointerAt octets place target × (run ≤ target)
+FaultHere octets place run pointers size TooManyPointers =
+    (target : ℕ) × PointerAt octets place target × (target < run) × (pointers ≡ 0)
+FaultHere octets place run pointers size LongName =
+    (label : List ℕ) × LabelAt octets place label × (255 < size + (1 + length label) + 1)
 
 -- the fault of the first place on the spelling where no case goes on
 pub data NameFaultAt (octets : List ℕ) : ℕ → ℕ → ℕ → ℕ → NameFault → Type 0 where

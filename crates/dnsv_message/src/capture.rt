@@ -29,11 +29,13 @@ pub fn read_capture<R: Read>(
     ensures messages { IfOk result (λ messages. IfSome (R.remaining (inner_of reader.old))
         (λ octets. IsCapture octets (octets_of_each messages.items))) }
     ensures too_long { IsErrOf result ReadError.TooLong → IfSome (R.remaining (inner_of reader.old)) IsTooLong }
-    ensures zero_length { IsErrOf result ReadError.ZeroLength → IfSome (R.remaining (inner_of reader.old)) HasZeroLength }
+    ensures zero_length { IsErrOf result ReadError.ZeroLength →
+        IfSome (R.remaining (inner_of reader.old)) HasZeroLength }
     ensures torn_frame { IsErrOf result ReadError.TornFrame → IfSome (R.remaining (inner_of reader.old)) EndsTorn }
     ensures end { OnOk result (IsAtEnd (R.remaining (inner_of reader.new))) }
     // Nothing is read behind the piece in which a fault stands, nor after a read that failed.
-    ensures stops { StopsAtFault HasNoFault 65536 (R.remaining (inner_of reader.old)) (R.remaining (inner_of reader.new)) }
+    ensures stops { StopsAtFault HasNoFault 65536
+        (R.remaining (inner_of reader.old)) (R.remaining (inner_of reader.new)) }
     ensures stops_failed { IsErrOf result ReadError.Read →
         StopsAtFault HasNoFault 0 (R.remaining (inner_of reader.old)) (R.remaining (inner_of reader.new)) }
 

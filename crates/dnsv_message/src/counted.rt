@@ -66,7 +66,8 @@ impl<R: Read> Read for Counted<R> {
 
     fn read(&mut self, buf: &mut [u8]) -> io::Result<usize>
         ensures bound { ReadsAtMost result buf.new }
-        ensures bytes { ReadConsumes (R.remaining (inner_of self.old)) (R.remaining (inner_of self.new)) result buf.new }
+        ensures bytes { ReadConsumes (R.remaining (inner_of self.old)) (R.remaining (inner_of self.new))
+            result buf.new }
         ensures failures { failures_of self.new ≡ count_after (failures_of self.old) (is_err result) }
     {
         let result = self.inner.read(buf);
@@ -75,7 +76,8 @@ impl<R: Read> Read for Counted<R> {
     }
 
     fn read_exact(&mut self, buf: &mut [u8]) -> io::Result<()>
-        ensures bytes { OnOk result (Consumes (R.remaining (inner_of self.old)) (R.remaining (inner_of self.new)) buf.new) }
+        ensures bytes { OnOk result
+            (Consumes (R.remaining (inner_of self.old)) (R.remaining (inner_of self.new)) buf.new) }
         ensures failures { failures_of self.new ≡ count_after (failures_of self.old) (is_err result) }
     {
         let result = self.inner.read_exact(buf);
@@ -114,8 +116,10 @@ impl<W: Write> Write for Counted<W> {
 
     /// The first write that fails is not tried again, and so the call fails with it. It counts as one call.
     fn write_all(&mut self, buf: &[u8]) -> io::Result<()>
-        ensures bytes { OnOk result (Appends (W.contents (inner_of self.old)) (W.contents (inner_of self.new)) buf.now) }
-        ensures begun { IfErr result (λ _. AppendsBeginning (W.contents (inner_of self.old)) (W.contents (inner_of self.new)) buf.now) }
+        ensures bytes { OnOk result
+            (Appends (W.contents (inner_of self.old)) (W.contents (inner_of self.new)) buf.now) }
+        ensures begun { IfErr result (λ _.
+            AppendsBeginning (W.contents (inner_of self.old)) (W.contents (inner_of self.new)) buf.now) }
         ensures failures { failures_of self.new ≡ count_after (failures_of self.old) (is_err result) }
     {
         let result = write_in_turn(&mut self.inner, buf);

@@ -60,7 +60,8 @@ pub(crate) fn read_piece<R: Read>(
     piece: &mut [u8],
 ) -> Result<usize, ReadError>
     ensures bound { ReadsAtMost result piece.new }
-    ensures bytes { ReadConsumes (R.remaining (inner_of reader.old)) (R.remaining (inner_of reader.new)) result piece.new }
+    ensures bytes { ReadConsumes (R.remaining (inner_of reader.old)) (R.remaining (inner_of reader.new))
+        result piece.new }
     ensures failures { failures_of reader.new ≡ count_after (failures_of reader.old) (is_err result) }
     ensures only { IfErr result (λ error. error ≡ ReadError.Read) }
 {

@@ -21,7 +21,7 @@ pub struct Framer {
 }
 
 impl Model for Framer {
-    ghost use Rattle.std.specs.Prelude.{◌≤◌, length, IfSome};
+    ghost use Rattle.std.specs.Prelude.{◌≡◌, ◌≤◌, [], length, IfSome};
     ghost use Rattle.dnsv_message.specs.Framer.{Framing, IsPieceError};
     ghost use Rattle.dnsv_message.specs.OpenFrame.{rest_of};
 
@@ -29,7 +29,9 @@ impl Model for Framer {
 
     ghost view = { λ framer. record { rest = rest_of framer.failed framer.frame; fault = framer.failed } };
 
-    ghost invariant = { λ framer. (length framer.frame ≤ 65536) × IfSome framer.failed IsPieceError };
+    // A framer that has failed keeps nothing.
+    ghost invariant = { λ framer. (length framer.frame ≤ 65536)
+        × IfSome framer.failed (λ fault. IsPieceError fault × (framer.frame ≡ [])) };
 }
 
 impl Framer {

@@ -2,7 +2,7 @@
 ghost use Rattle.std.specs.Prelude.{◌≡◌, ◌≢◌, ◌<◌, ◌≤◌, ◌∷◌, ◌++◌, [], List, ℕ, length, take, IfErr, IfOk, IsErrOf, MatchResult, OnErr, OnOk};
 ghost use Rattle.dnsv_message.specs.Frames.{Frames, IsZero, octets_of_each};
 ghost use Rattle.dnsv_message.specs.Framer.{Gains, GainsFirst, IsPieceError};
-ghost use Rattle.dnsv_message.specs.OpenFrame.{octets_of};
+ghost use Rattle.dnsv_message.specs.OpenFrame.{octets_of, IsOpen};
 
 use crate::errors::ReadError;
 use std::alloc::Global;
@@ -26,7 +26,7 @@ impl Model for OpenFrame {
 
     ghost view = { λ parts. octets_of parts.high parts.announced parts.message.items };
 
-    ghost invariant = { λ parts. 0 < parts.announced → length parts.message.items < parts.announced };
+    ghost invariant = { λ parts. IsOpen parts.announced parts.message.items };
 }
 
 impl OpenFrame {

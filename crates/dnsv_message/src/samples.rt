@@ -27,6 +27,25 @@ pub fn capture(alloc: Global) -> Result<Vec<u8>, Fail> {
     Ok(octets)
 }
 
+// A message of 65,535 octets, the most that a frame holds: one record whose RDATA fills it.
+pub fn longest(alloc: Global) -> Result<Vec<u8>, Fail> {
+    let mut octets = Vec::from_slice(alloc, b"\0\x03\x84\0\0\0\0\x01\0\0\0\0")?;
+    octets.extend_from_slice(b"\0\0\x10\0\x01\0\0\0\0\xff\xe8")?;
+    octets.extend_from_slice(&vec![in alloc; 0x2a; 65_512]?)?;
+    Ok(octets)
+}
+
+// Three such messages, each behind its length: 196,611 octets, which fill three pieces and begin a fourth.
+pub fn long_capture(alloc: Global) -> Result<Vec<u8>, Fail> {
+    let message = longest(alloc)?;
+    let mut octets = Vec::new(alloc);
+    for _ in 0..3 {
+        octets.extend_from_slice(b"\xff\xff")?;
+        octets.extend_from_slice(&message)?;
+    }
+    Ok(octets)
+}
+
 // Gives its octets a few at a time, and fails at one of its reads.
 #[derive(Drop)]
 pub struct Pieces<'a> {

@@ -102,7 +102,8 @@ fn record_at(
     number: usize,
 ) -> Result<(Record, usize), DecodeError>
     ensures found { IfOk result (λ found. RecordAt octets.now place found.0 found.1) }
-    ensures fault { IfErr result (λ error. (error ≡ DecodeError.OutOfMemory) ⊎ RecordFaultAt octets.now number place error) }
+    ensures fault { IfErr result (λ error. (error ≡ DecodeError.OutOfMemory)
+        ⊎ RecordFaultAt octets.now number place error) }
 {
     let (name, after_name) = name_at(octets, place)?;
     if octets.len() - after_name < RECORD_TAIL {

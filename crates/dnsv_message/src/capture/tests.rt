@@ -1,5 +1,5 @@
 use super::*;
-use crate::samples::{FIRST, Pieces, SECOND, capture};
+use crate::samples::{FIRST, Pieces, SECOND, capture, long_capture, longest};
 use std::io::{Cursor, ErrorKind};
 use std::process::Abort;
 use std::test::Fail;
@@ -30,6 +30,20 @@ fn reads_the_same_in_any_pieces(rt: HostRuntime) -> Result<(), Fail> {
             &mut Counted::new(Cursor::new(octets.as_slice())),
         )?,
     );
+    Ok(())
+}
+
+#[test]
+fn reads_a_file_of_several_pieces_and_no_more_often(rt: HostRuntime) -> Result<(), Fail> {
+    let octets = long_capture(rt.alloc())?;
+    let mut reader = Counted::new(Pieces::of(octets.as_slice(), octets.len()));
+    let messages = read_capture(rt.alloc(), &mut reader)?;
+    assert_eq!(rt; reader.failures(), 0);
+    assert_eq!(rt; messages.len(), 3);
+    for message in &messages {
+        assert_eq!(rt; message.as_slice(), longest(rt.alloc())?.as_slice());
+    }
+    assert_eq!(rt; reader.get_ref().reads, 5, "four pieces and the end");
     Ok(())
 }
 

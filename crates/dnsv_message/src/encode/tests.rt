@@ -85,3 +85,26 @@ fn an_empty_message_is_its_header(rt: HostRuntime) -> Result<(), Fail> {
     assert_eq!(rt; encoded.as_slice(), header);
     Ok(())
 }
+
+#[test]
+fn writes_more_octets_than_a_frame_holds(rt: HostRuntime) -> Result<(), Fail> {
+    // A question for a name of 255 octets, and 300 records without RDATA whose owner is a pointer to that name.
+    let mut octets = Vec::from_slice(rt.alloc(), b"\0\x04\x84\0\0\x01\x01\x2c\0\0\0\0")?;
+    let mut name = Vec::new(rt.alloc());
+    for _ in 0..127 {
+        name.extend_from_slice(b"\x01a")?;
+    }
+    name.push(0)?;
+    octets.extend_from_slice(&name)?;
+    octets.extend_from_slice(b"\0\x10\0\x01")?;
+    for _ in 0..300 {
+        octets.extend_from_slice(b"\xc0\x0c\0\x10\0\x01\0\0\0\0\0\0")?;
+    }
+    let written = Message::decode(rt.alloc(), &octets)?.encode(rt.alloc())?;
+    assert_eq!(rt; written.len(), 79_771);
+    assert_eq!(rt; &written[79_506..79_761], name.as_slice());
+    let again = Message::decode(rt.alloc(), &written)?;
+    assert_eq!(rt; again.records(Section::Answer).len(), 300);
+    assert_eq!(rt; again.records(Section::Answer)[299].name.labels(), 127);
+    Ok(())
+}

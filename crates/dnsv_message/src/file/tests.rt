@@ -1,5 +1,5 @@
 use super::*;
-use crate::samples::{Pieces, capture};
+use crate::samples::{Pieces, capture, long_capture};
 use std::io::ErrorKind;
 use std::process::Abort;
 use std::test::Fail;
@@ -15,6 +15,17 @@ fn gives_the_octets_in_any_pieces(rt: HostRuntime) -> Result<(), Fail> {
     }
     let nothing: &[u8] = b"";
     assert!(rt; read_all(rt.alloc(), &mut Counted::new(nothing))?.is_empty());
+    Ok(())
+}
+
+#[test]
+fn reads_a_file_of_several_pieces_and_no_more_often(rt: HostRuntime) -> Result<(), Fail> {
+    let file = long_capture(rt.alloc())?;
+    let mut reader = Counted::new(Pieces::of(file.as_slice(), file.len()));
+    let octets = read_all(rt.alloc(), &mut reader)?;
+    assert_eq!(rt; octets.as_slice(), file.as_slice());
+    assert_eq!(rt; reader.failures(), 0);
+    assert_eq!(rt; reader.get_ref().reads, 5, "four pieces and the end");
     Ok(())
 }
 

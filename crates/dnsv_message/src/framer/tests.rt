@@ -1,5 +1,5 @@
 use super::*;
-use crate::samples::{FIRST, SECOND, capture};
+use crate::samples::{FIRST, SECOND, capture, long_capture, longest};
 use std::process::Abort;
 use std::test::Fail;
 
@@ -34,6 +34,20 @@ fn single_octets_give_the_same(rt: HostRuntime) -> Result<(), Fail> {
         framer.feed(&[*octet], &mut messages)?;
     }
     expect_both(&rt, &framer, messages);
+    Ok(())
+}
+
+#[test]
+fn takes_messages_of_65535_octets(rt: HostRuntime) -> Result<(), Fail> {
+    let stream = long_capture(rt.alloc())?;
+    let mut framer = Framer::new(rt.alloc());
+    let mut messages = Vec::new(rt.alloc());
+    framer.feed(&stream[..65_536], &mut messages)?;
+    assert_eq!(rt; framer.finish(), Err(ReadError::TornFrame));
+    framer.feed(&stream[65_536..], &mut messages)?;
+    assert_eq!(rt; framer.finish(), Ok(()));
+    assert_eq!(rt; messages.len(), 3);
+    assert_eq!(rt; messages[0].as_slice(), longest(rt.alloc())?.as_slice());
     Ok(())
 }
 

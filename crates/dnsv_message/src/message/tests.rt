@@ -1,5 +1,6 @@
 use super::*;
 use crate::number::{Class, Ttl};
+use crate::samples::longest;
 use dnsv_names::RecordType;
 use std::alloc::AllocError;
 use std::test::Fail;
@@ -230,5 +231,18 @@ fn asks_no_layout_of_other_classes(rt: HostRuntime) -> Result<(), Fail> {
     let records = message.records(Section::Answer);
     assert_eq!(rt; records.len(), 1);
     assert_eq!(rt; records[0].rdata.octets(), b"five.".as_slice());
+    Ok(())
+}
+
+#[test]
+fn takes_a_message_of_65535_octets(rt: HostRuntime) -> Result<(), Fail> {
+    let octets = longest(rt.alloc())?;
+    assert_eq!(rt; octets.len(), 65_535);
+    let (message, tail) = Message::decode_with_tail(rt.alloc(), &octets)?;
+    assert_eq!(rt; tail, Some(12));
+    let records = message.records(Section::Answer);
+    assert_eq!(rt; records.len(), 1);
+    assert_eq!(rt; records[0].rdata.octets(), &octets[23..]);
+    assert_eq!(rt; message.encode(rt.alloc())?.as_slice(), octets.as_slice());
     Ok(())
 }
