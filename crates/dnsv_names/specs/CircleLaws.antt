@@ -1,4 +1,5 @@
--- The laws of circles, for proofs, for any total order.
+-- The laws of circles, for proofs, for any total order: `canonical_cmp_total` is that of names, and
+-- `nat_list_cmp_total` of std that of octets.
 use Rattle.std.proofs.Common.{◌≡◌, ◌≢◌, List, [], ◌∷◌, ◌⊎◌, refl, sym, ap, ◌∙◌, inl, inr, ⊎_elim}
 use Rattle.std.proofs.lemmas.Cmp.{tied_itself, tied_back, alike_right, back_total}
 use Rattle.std.specs.declared.cmp.Ordering.{Ordering}
@@ -171,6 +172,18 @@ module _ {K : Type 0} {cmp : K → K → Ordering} (total : IsTotalOrder cmp) wh
       (λ (outside : ¬ Gap cmp owner old.0 first). (old.0, farther (second ∷ rest) owner old.0 first old.1 outside))
       (gap_cases owner old.0 first)
 
+  pub successor_among : (members : List K) (some owner : K) → IsMember cmp members some → (next : K) × IsSuccessor cmp members owner next
+  successor_among [] some owner member = absurd member.there
+  successor_among (first ∷ rest) some owner member = successor owner first rest
+
+  -- equal values have the same successors
+  pub successor_respects : {members : List K} {owner next : K} (owner' : K) → cmp owner owner' ≡ Equal → IsSuccessor cmp members owner next → IsSuccessor cmp members owner' next
+  successor_respects {members} {owner} {next} owner' tied old = record {
+    member = old.member;
+    none_between = λ x member gap. old.none_between x member
+        (gap_respects owner next x (tied_back total owner owner' tied) (tied_itself total next) (tied_itself total x) gap);
+  }
+
   apart : (o x n : K) → cmp o x ≢ Equal → cmp n x ≢ Equal → ¬ Gap cmp o x n → Gap cmp o n x
   apart o x n p q outside =
       record { lies = rw (total.antisymm x n) (other_way (cmp o x) (cmp o n) (cmp n x) p q (λ inside. outside (record { lies = inside }))) }
@@ -223,6 +236,10 @@ module _ {K : Type 0} {cmp : K → K → Ordering} (total : IsTotalOrder cmp) wh
         found.1,
         λ next successor. apart total found.0 x next (other found.0 found.1) (other next successor.member) (found.2 next successor.member),
       )
+
+  pub lies_in_a_gap_among : (members : List K) (some x : K) → IsMember cmp members some → ¬ IsMember cmp members x → (owner : K) × IsMember cmp members owner × ((next : K) → IsSuccessor cmp members owner next → Gap cmp owner next x)
+  lies_in_a_gap_among [] some x member absent = absurd member.there
+  lies_in_a_gap_among (first ∷ rest) some x member absent = lies_in_a_gap first rest x absent
 
   -- And in that of one member alone.
   pub one_gap : {members : List K} {x : K} (o n p m : K) → IsMember cmp members o → IsMember cmp members p → IsSuccessor cmp members o n → IsSuccessor cmp members p m → Gap cmp o n x → Gap cmp p m x → ¬ IsMember cmp members x → cmp o p ≡ Equal

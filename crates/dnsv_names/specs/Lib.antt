@@ -10,6 +10,7 @@ pub mod LineLaws
 pub mod LineReading
 pub mod Lines
 pub mod Name
+pub mod NameCircleLaws
 pub mod NameError
 pub mod Octets
 pub mod Order

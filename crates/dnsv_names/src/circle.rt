@@ -1,5 +1,7 @@
 //! Circles of values: a chain's owners in their order, the last of which the first follows.
-ghost use Rattle.std.specs.Prelude.{◌≡◌, ◌≢◌, ◌↔◌, List, ◌∷◌, IsTrue};
+ghost use Rattle.std.specs.Prelude.{◌≡◌, ◌≢◌, ◌↔◌, List, IsTrue};
+ghost use Rattle.dnsv_names.specs.Name.{Labels, IsAtOrBelow};
+ghost use Rattle.dnsv_names.specs.Order.{canonical_cmp};
 ghost use Rattle.dnsv_names.specs.Circle.{Gap, IsMember, IsSuccessor};
 
 use crate::hash20::Hash20;
@@ -27,18 +29,18 @@ pub fn covers<T: Circle>(owner: &T, next: &T, x: &T) -> bool
     }
 }
 
-/// A law of circles: each value has a successor among the members, where there are any. Between it and its
-/// successor no member lies.
+/// A law of circles: each value has a successor in a circle that has a member. Between it and its successor no member
+/// lies.
 pub fn each_value_has_a_successor<T: Circle>()
-    ensures { (owner first : T) (rest : List T)
-        → (next : T) × IsSuccessor T.cmp (first ∷ rest) owner next }
+    ensures { (members : List T) (some owner : T) → IsMember T.cmp members some
+        → (next : T) × IsSuccessor T.cmp members owner next }
 {}
 
 /// A law of circles: what equals no member lies in the gap of one of them, whichever successor that one is given.
 pub fn all_else_lies_in_a_gap<T: Circle>()
-    ensures { (first : T) (rest : List T) (x : T) → ¬ IsMember T.cmp (first ∷ rest) x
-        → (owner : T) × IsMember T.cmp (first ∷ rest) owner
-        × ((next : T) → IsSuccessor T.cmp (first ∷ rest) owner next → Gap T.cmp owner next x) }
+    ensures { (members : List T) (some x : T) → IsMember T.cmp members some → ¬ IsMember T.cmp members x
+        → (owner : T) × IsMember T.cmp members owner
+        × ((next : T) → IsSuccessor T.cmp members owner next → Gap T.cmp owner next x) }
 {}
 
 /// A law of circles: what equals no member lies in the gap of no two of them.
@@ -63,6 +65,22 @@ pub fn the_owner_is_before<T: Circle>()
     ensures { (members : List T) (owner next x member : T) → IsSuccessor T.cmp members owner next
         → IsMember T.cmp members member → Gap T.cmp owner next x → T.cmp member x ≡ Ordering.Less
         → (T.cmp owner x ≡ Ordering.Less) × ¬ (T.cmp owner member ≡ Ordering.Less) }
+{}
+
+/// A law of circles of names: where a name lies in a gap and a member is at or below it, the gap's next is at or below
+/// it. So the record that covers an empty non-terminal shows that it is one.
+pub fn the_next_is_below_what_has_a_member_below()
+    ensures { (members : List Labels) (owner next name member : Labels)
+        → IsSuccessor canonical_cmp members owner next → IsMember canonical_cmp members member
+        → Gap canonical_cmp owner next name → IsAtOrBelow member name → IsAtOrBelow next name }
+{}
+
+/// A law of circles of names: where a name lies in a gap and a member is at or above it, the gap's owner is at or below
+/// that member. So the owner before a name that is below a delegation is the delegation, if no member is below that.
+pub fn the_owner_is_below_each_member_above()
+    ensures { (members : List Labels) (owner next name member : Labels)
+        → IsSuccessor canonical_cmp members owner next → IsMember canonical_cmp members member
+        → Gap canonical_cmp owner next name → IsAtOrBelow name member → IsAtOrBelow owner member }
 {}
 
 #[cfg(test)]

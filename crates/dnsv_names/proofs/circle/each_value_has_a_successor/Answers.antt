@@ -1,5 +1,5 @@
-use Rattle.dnsv_names.specs.CircleLaws.{successor}
+use Rattle.dnsv_names.specs.CircleLaws.{successor_among}
 use Rattle.dnsv_names.proofs.circle.each_value_has_a_successor.Goals as goal
 
 pub returns : goal.returns
-returns g c = successor g.met.T.Ord.total
+returns g c = successor_among g.met.T.Ord.total
