@@ -23,7 +23,7 @@ use Rattle.dnsv_denial.proofs.ZoneLemmas.{closed_respects, closed_owner, apex_no
 abbrev pub Decided : Type 0 → Type 0
 Decided P = P ⊎ ¬ P
 
-decided : {P : Type 0} (test : Bool) → Decides test P → Decided P
+pub decided : {P : Type 0} (test : Bool) → Decides test P → Decided P
 decided true d = inl (d.0 refl)
 decided false d = inr (λ p. let yes = d.1 p in cc)
 
@@ -109,39 +109,45 @@ end_above_decided zone name =
     (closed_owner zone end.cut end.closed).entry)))
     (any_decided (λ each. IsBelow name each.owner × IsClosedAt zone each.owner) (λ each. both (below_decided name each.owner) (closed_decided zone each.owner)) zone.entries)
 
-pub record Encloser (zone : Zone) (name : Labels) : Type 0 where
+-- the most of a name's rightmost labels that are such, where the name itself isn't
+pub record Longest (P : Labels → Type 0) (name : Labels) : Type 0 where
   pub labels : ℕ
-  pub is_closest : IsClosestEncloser zone name labels
+  pub proper : labels < length name
+  pub holds : P (rightmost name labels)
+  pub longest : (more : ℕ) → labels < more → more ≤ length name → ¬ P (rightmost name more)
 
--- from k labels on none are a node, and fewer are one
-search_down : (zone : Zone) (name : Labels) (k base : ℕ) → k ≤ length name → base < k → IsNode zone (rightmost name base) → ((more : ℕ) → k ≤ more → more ≤ length name → ¬ IsNode zone (rightmost name more)) → Encloser zone name
-search_down zone name zero base within below node none = absurd (omega arith)
-search_down zone name (suc j) base within below node none =
-    ⊎_elim (λ (here : IsNode zone (rightmost name j)).
-    record { labels = j; is_closest = record { proper = omega arith; node = here; closest = λ more above long. none more (omega arith) long } })
-    (λ (not_here : ¬ IsNode zone (rightmost name j)).
-    let other : ¬ (base ≡ j) = λ same. not_here (rw (← same) node) in
-    search_down zone name j base (omega arith) (omega arith) node
+-- from k labels on none are such, and fewer are
+search_down : (P : Labels → Type 0) → ((x : Labels) → Decided (P x)) → (name : Labels) (k base : ℕ) → k ≤ length name → base < k → P (rightmost name base) → ((more : ℕ) → k ≤ more → more ≤ length name → ¬ P (rightmost name more)) → Longest P name
+search_down P each name zero base within below some none = absurd (omega arith)
+search_down P each name (suc j) base within below some none =
+    ⊎_elim (λ (here : P (rightmost name j)). record { labels = j; proper = omega arith; holds = here; longest = λ more above long. none more (omega arith) long })
+    (λ (not_here : ¬ P (rightmost name j)).
+    let other : ¬ (base ≡ j) = λ same. not_here (subst (λ (n : ℕ). P (rightmost name n)) same some) in
+    search_down P each name j base (omega arith) (omega arith) some
     (λ more above long.
     let cases : (more ≡ j) ⊎ (suc j ≤ more) = grind arith in
-    ⊎_elim (λ (is : more ≡ j). rw is not_here) (λ (later : suc j ≤ more). none more later long) cases))
-    (node_decided zone (rightmost name j))
+    ⊎_elim (λ (is : more ≡ j). subst (λ (n : ℕ). ¬ P (rightmost name n)) (sym is) not_here) (λ (later : suc j ≤ more). none more later long) cases))
+    (each (rightmost name j))
+
+-- where some of the labels are such, and not the whole name, there are most of them
+pub longest_part : (P : Labels → Type 0) → ((x : Labels) → Decided (P x)) → (name : Labels) (base : ℕ) → base ≤ length name → P (rightmost name base) → ¬ P name → Longest P name
+longest_part P each name base within some none =
+    let whole : ¬ P (rightmost name (length name)) = λ is. none (subst (λ (n : Labels). P n) (rightmost_all name (length name) (omega arith)) is) in
+    let cases : (base ≡ length name) ⊎ (base < length name) = grind arith in
+    ⊎_elim (λ (even : base ≡ length name). absurd (whole (subst (λ (n : ℕ). P (rightmost name n)) even some)))
+    (λ (shorter : base < length name).
+    search_down P each name (length name) base (omega arith) shorter some
+    (λ more above fits. let is : more ≡ length name = omega arith in subst (λ (n : ℕ). ¬ P (rightmost name n)) (sym is) whole))
+    cases
 
 -- a name in the zone that is no node has a closest encloser
-pub has_encloser : (zone : Zone) (name : Labels) → IsWellFormed zone → IsAtOrBelow name zone.apex → ¬ IsNode zone name → Encloser zone name
+pub has_encloser : (zone : Zone) (name : Labels) → IsWellFormed zone → IsAtOrBelow name zone.apex → ¬ IsNode zone name → (labels : ℕ) × IsClosestEncloser zone name labels
 has_encloser zone name well within none =
-    let long : length zone.apex ≤ length name = at_or_below_length name zone.apex within in
     let apex : SameName (rightmost name (length zone.apex)) zone.apex = rightmost_same name zone.apex within in
     let node : IsNode zone (rightmost name (length zone.apex)) =
     node_respects zone zone.apex (rightmost name (length zone.apex)) (sym apex) (apex_node zone well) in
-    let all : rightmost name (length name) ≡ name = rightmost_all name (length name) (omega arith) in
-    let whole : ¬ IsNode zone (rightmost name (length name)) = λ is. none (subst (λ (n : Labels). IsNode zone n) all is) in
-    let cases : (length zone.apex ≡ length name) ⊎ (length zone.apex < length name) = grind arith in
-    ⊎_elim (λ (even : length zone.apex ≡ length name). absurd (whole (subst (λ (n : ℕ). IsNode zone (rightmost name n)) even node)))
-    (λ (shorter : length zone.apex < length name).
-    search_down zone name (length name) (length zone.apex) (omega arith) shorter node
-    (λ more above fits. let is : more ≡ length name = omega arith in rw is whole))
-    cases
+    let part = longest_part (IsNode zone) (node_decided zone) name (length zone.apex) (at_or_below_length name zone.apex within) node none in
+    (part.labels, record { proper = part.proper; node = part.holds; closest = part.longest })
 
 -- ---- the answer
 
@@ -163,10 +169,10 @@ answer_here zone name t well within here =
     ⊎_elim (λ (node : IsNode zone name). answer_at zone name name t here (itself node))
     (λ (none : ¬ IsNode zone name).
     let encloser = has_encloser zone name well within none in
-    let star = wildcard_of (rightmost name encloser.labels) in
-    ⊎_elim (λ (node : IsNode zone star). answer_at zone name star t here (wildcard encloser.labels encloser.is_closest node))
+    let star = wildcard_of (rightmost name encloser.0) in
+    ⊎_elim (λ (node : IsNode zone star). answer_at zone name star t here (wildcard encloser.0 encloser.1 node))
     (λ (no_star : ¬ IsNode zone star).
-    record { answer = NoName; is_lookup = (here, record { labels = encloser.labels; encloser = encloser.is_closest; no_wildcard = no_star }) })
+    record { answer = NoName; is_lookup = (here, record { labels = encloser.0; encloser = encloser.1; no_wildcard = no_star }) })
     (node_decided zone star))
     (node_decided zone name)
 

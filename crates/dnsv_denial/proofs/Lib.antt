@@ -6,5 +6,6 @@ mod MeaningLemmas
 mod NsecLemmas
 mod NsecComplete
 mod NsecTruth
+mod Nsec3Complete
 mod Nsec3Truth
 mod ZoneLemmas

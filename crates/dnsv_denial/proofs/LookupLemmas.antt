@@ -60,7 +60,7 @@ missing_held zone name labels t well missing holds =
 -- ---- one answer
 
 -- two closest enclosers of a name have as many labels
-one_encloser : (zone : Zone) (name : Labels) (m n : ℕ) → IsClosestEncloser zone name m → IsClosestEncloser zone name n → m ≡ n
+pub one_encloser : (zone : Zone) (name : Labels) (m n : ℕ) → IsClosestEncloser zone name m → IsClosestEncloser zone name n → m ≡ n
 one_encloser zone name m n p q =
     let cases : (m ≡ n) ⊎ ((m < n) ⊎ (n < m)) = grind arith in
     ⊎_elim (λ (same : m ≡ n). same)

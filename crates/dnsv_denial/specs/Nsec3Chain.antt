@@ -70,6 +70,12 @@ pub record HasNsec3Records (zone : Zone) (apex : Labels) (hash : NameHash) (reco
   pub chain_names : AreChainNames zone names
   pub in_chain : AllByRecursion (IsInNsec3Chain zone hash names) records
 
+-- The records are one whole chain of the zone.
+pub record IsNsec3ChainOf (zone : Zone) (apex : Labels) (hash : NameHash) (records : List Nsec3Record) : Type 0 where
+  pub has_records : HasNsec3Records zone apex hash records
+  pub each_name : (name : Labels) → IsChained has_records.names name
+      → Any (λ nsec3. nsec3.hash ≡ hash.of name) records
+
 -- Names whose hashes a proof asks for: the question's name, its ancestors, and the wildcards right below these.
 pub data IsAsked (name : Labels) : Labels → Type 0 where
   itself : (above : Labels) → IsAtOrBelow name above → IsAsked name above

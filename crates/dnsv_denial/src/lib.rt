@@ -23,6 +23,11 @@ pub use nsec3::{
     a_name_covered_by_nsec3_is_none_of_the_chain, a_name_matched_by_nsec3_is_of_the_chain,
     an_encloser_by_nsec3_is_an_open_node,
 };
+pub use nsec3_complete::{
+    an_nsec3_chain_proves_each_denial_or_tells_of_opt_out,
+    an_nsec3_chain_tells_of_each_unsigned_delegation,
+    an_nsec3_chain_without_opt_out_proves_each_denial,
+};
 pub use nsec3_meaning::{
     no_closer_by_nsec3_is_held_at_the_wildcard, no_data_by_nsec3_is_no_data,
     no_name_by_nsec3_is_no_name, opted_out_nodes_are_unsigned_ends,
@@ -36,6 +41,7 @@ pub use zone::{
 mod lookup;
 mod nsec;
 mod nsec3;
+mod nsec3_complete;
 mod nsec3_meaning;
 mod nsec_complete;
 mod nsec_meaning;

@@ -144,7 +144,7 @@ key_at_trans_below p q = key_longer_below (key_at_or_below_trans p (key_below_at
 pub key_cmp_total : IsTotalOrder key_cmp
 key_cmp_total = lists_total nat_list_cmp_total
 
-label_cmp_exact : (a b : List ℕ) → label_cmp a b ≡ Equal → a ≡ b
+pub label_cmp_exact : (a b : List ℕ) → label_cmp a b ≡ Equal → a ≡ b
 label_cmp_exact a b tied = (bytes_decides a b).0 (texts_ties a b ∙ (Equal-is (label_cmp a b)).1 tied)
 
 then_tied : (o p : Ordering) → ordering_then o p ≡ Equal → (o ≡ Equal) × (p ≡ Equal)
