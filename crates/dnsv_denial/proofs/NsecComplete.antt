@@ -1,15 +1,14 @@
 -- The whole NSEC chain of a zone proves each denial of its lookup.
-use Rattle.std.proofs.Common.{◌≡◌, ◌≢◌, ℕ, ◌+◌, Bool, List, [], ◌∷◌, refl, sym, ◌∙◌, inl, inr, ⊎_elim, arith}
+use Rattle.std.proofs.Common.{◌≡◌, ◌≢◌, ℕ, ◌+◌, Bool, List, [], ◌∷◌, sym, ◌∙◌, inl, inr, ⊎_elim, arith}
 use Rattle.std.proofs.lemmas.Cmp.{tied_itself}
-use Rattle.std.specs.declared.cmp.Ordering.TheVariants.{Less, Equal}
 use Rattle.std.specs.List.{AllByRecursion}
 use Rattle.dnsv_names.specs.Name.{Labels, SameName, IsAtOrBelow, rightmost}
-use Rattle.dnsv_names.specs.Order.{canonical_cmp, IsBelow}
-use Rattle.dnsv_names.specs.OrderLaws.{canonical_cmp_total, canonical_Equal, SameName_Equal}
+use Rattle.dnsv_names.specs.Order.{IsBelow}
+use Rattle.dnsv_names.specs.OrderLaws.{canonical_cmp_total, SameName_Equal}
 use Rattle.dnsv_names.specs.Tree.{asterisk, wildcard_of}
-use Rattle.dnsv_names.specs.Circle.{Gap, IsMember, IsSuccessor}
-use Rattle.dnsv_names.specs.CircleLaws.{gap_respects, lies_in_a_gap, next_between}
-use Rattle.dnsv_names.specs.TreeLaws.{same_at_or_below, at_or_below_trans, at_or_below_cases, at_trans_below, below_trans_at, before_below, interval, same_or_not}
+use Rattle.dnsv_names.specs.CircleLaws.{gap_respects, successor_respects, lies_in_a_gap_among}
+use Rattle.dnsv_names.specs.NameCircleLaws.{next_at_or_below}
+use Rattle.dnsv_names.specs.TreeLaws.{same_at_or_below, at_or_below_trans, at_trans_below, below_trans_at, same_or_not}
 use Rattle.dnsv_names.specs.AncestorLaws.{rightmost_above, rightmost_below, rightmost_in_line, wildcard_below, parent_at_or_below}
 use Rattle.dnsv_denial.specs.TypeNumbers.{ns, cname, soa, dname, ds, rrsig, nsec}
 use Rattle.dnsv_denial.specs.Any.{Any}
@@ -25,7 +24,7 @@ use Rattle.dnsv_denial.specs.Forms.{EndsAt, NoNameForm, NoDataForms, UnsignedCut
 use Rattle.dnsv_denial.proofs.AnyLemmas.{any_map}
 use Rattle.dnsv_denial.proofs.ZoneLemmas.{holds_owner, holds_respects, owner_under, owner_node, node_of_owner, node_not_below}
 use Rattle.dnsv_denial.proofs.AnswerLemmas.{Decided, any_decided}
-use Rattle.dnsv_denial.proofs.NsecLemmas.{member_of_owner, owner_of_member, plain_type, covered_no_owner}
+use Rattle.dnsv_denial.proofs.NsecLemmas.{member_of_owner, owner_of_member, plain_type}
 use Rattle.dnsv_denial.proofs.MeaningLemmas.{no_name, any_no_data}
 use Rattle.dnsv_denial.proofs.NsecTruth.{bitmap_respects, nsec_true}
 
@@ -46,19 +45,6 @@ pub bits_closed : (zone : Zone) (name : Labels) (types : ℕ → Bool) → IsBit
 bits_closed zone name types bitmap closed =
     ⊎_elim (λ (delegation : IsDelegation (IsInBitmap types)). inl (bits_delegation zone name types bitmap delegation))
     (λ (alias : IsInBitmap types dname). inr (plain_type zone name types dname (λ is. omega arith) (λ is. omega arith) bitmap alias)) closed
-
--- a member's gap that covers, in a list that isn't empty
-gap_of_list : (members : List Labels) (some x : Labels) → IsMember canonical_cmp members some → ¬ IsMember canonical_cmp members x → (owner : Labels) × IsMember canonical_cmp members owner × ((next : Labels) → IsSuccessor canonical_cmp members owner next → Gap canonical_cmp owner next x)
-gap_of_list [] some x member absent = absurd member.there
-gap_of_list (first ∷ rest) some x member absent = lies_in_a_gap canonical_cmp_total first rest x absent
-
--- equal owners have one successor
-successor_respects : (members : List Labels) (a b next : Labels) → SameName a b → IsSuccessor canonical_cmp members a next → IsSuccessor canonical_cmp members b next
-successor_respects members a b next same successor = record {
-  member = successor.member;
-  none_between = λ x member gap. successor.none_between x member
-      (gap_respects canonical_cmp_total a next x (SameName_Equal b a (sym same)) (tied_itself canonical_cmp_total next) (tied_itself canonical_cmp_total x) gap);
-}
 
 -- a name with its types denied, by the zone
 pub record MayDeny (zone : Zone) (name : Labels) (t : ℕ) : Type 0 where
@@ -123,11 +109,11 @@ module _ (zone : Zone) (apex : Labels) (records : List NsecRecord) (chain : IsNs
   -- what is no owner is covered
   covered : (x : Labels) → ¬ IsOwner zone x → Any (λ r. Covers r x × IsInNsecChain zone r) records
   covered x none =
-      let some = gap_of_list (owners zone) zone.apex x (member_of_owner zone zone.apex (holds_owner zone zone.apex soa well.apex)) (λ member. none (owner_of_member zone x member)) in
+      let some = lies_in_a_gap_among canonical_cmp_total (owners zone) zone.apex x (member_of_owner zone zone.apex (holds_owner zone zone.apex soa well.apex)) (λ member. none (owner_of_member zone x member)) in
       any_map (λ r. SameName r.owner some.0 × IsInNsecChain zone r) (λ r. Covers r x × IsInNsecChain zone r) records
       (λ r there. (
         gap_respects canonical_cmp_total r.owner r.next x (SameName_Equal some.0 r.owner (sym there.0)) (tied_itself canonical_cmp_total r.next) (tied_itself canonical_cmp_total x)
-            (some.2 r.next (successor_respects (owners zone) r.owner some.0 r.next there.0 there.1.next)),
+            (some.2 r.next (successor_respects canonical_cmp_total some.0 (SameName_Equal r.owner some.0 there.0) there.1.next)),
         there.1,
       ))
       (record_at some.0 (owner_of_member zone some.0 some.1))
@@ -146,20 +132,10 @@ module _ (zone : Zone) (apex : Labels) (records : List NsecRecord) (chain : IsNs
       (covered x (λ owner. none (owner_node zone x well owner)))
 
   -- the next owner behind an empty non-terminal is below it
-  next_below : (r : NsecRecord) (x : Labels) → Covers r x → IsInNsecChain zone r → IsNode zone x → ¬ IsOwner zone x → IsAtOrBelow r.next x
-  next_below r x covers there node none =
+  next_below : (r : NsecRecord) (x : Labels) → Covers r x → IsInNsecChain zone r → IsNode zone x → IsAtOrBelow r.next x
+  next_below r x covers there node =
       let some = owner_under zone x node in
-      ⊎_elim (λ (same : SameName some.owner x). absurd (covered_no_owner zone r there some.owner
-      (gap_respects canonical_cmp_total r.owner r.next some.owner (tied_itself canonical_cmp_total r.owner) (tied_itself canonical_cmp_total r.next) (SameName_Equal x some.owner (sym same)) covers)
-      some.is_owner))
-      (λ (below : IsBelow some.owner x).
-      ⊎_elim (λ (tied : canonical_cmp r.next some.owner ≡ Equal).
-      at_or_below_trans r.next some.owner x (same_at_or_below r.next some.owner (canonical_Equal r.next some.owner tied)) some.under)
-      (λ (between : (canonical_cmp x r.next ≡ Less) × (canonical_cmp r.next some.owner ≡ Less)).
-      interval x x r.next some.owner (same_at_or_below x x refl) some.under between.0 between.1)
-      (next_between canonical_cmp_total r.owner r.next x some.owner
-      (there.next.none_between some.owner (member_of_owner zone some.owner some.is_owner)) covers (before_below some.owner x below)))
-      (at_or_below_cases some.owner x some.under)
+      next_at_or_below r.owner r.next x some.owner (there.next.none_between some.owner (member_of_owner zone some.owner some.is_owner)) covers some.under
 
   inner : (x : Labels) → IsNode zone x → ¬ IsOwner zone x → Any (λ r. IsInnerBy r x) records
   inner x node none =
@@ -167,7 +143,7 @@ module _ (zone : Zone) (apex : Labels) (records : List NsecRecord) (chain : IsNs
       (λ r there. record {
         covers = there.0;
         fair = fair r x there.1 (λ cut below closed. node_not_below zone cut x well closed node below);
-        some_below = next_below r x there.0 there.1 node none;
+        some_below = next_below r x there.0 there.1 node;
       })
       (covered x none)
 

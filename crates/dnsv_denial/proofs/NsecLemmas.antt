@@ -1,19 +1,19 @@
 -- What an NSEC record of a zone's chain proves.
-use Rattle.std.proofs.Common.{◌≡◌, ◌≢◌, ℕ, ◌⊎◌, Bool, List, [], ◌∷◌, map, refl, sym, inl, inr, ⊎_elim, arith}
-use Rattle.std.specs.declared.cmp.Ordering.TheVariants.{Less, Equal}
+use Rattle.std.proofs.Common.{◌≡◌, ◌≢◌, ℕ, ◌⊎◌, Bool, List, [], ◌∷◌, map, sym, inl, inr, ⊎_elim, arith}
+use Rattle.std.specs.declared.cmp.Ordering.TheVariants.{Equal}
 use Rattle.dnsv_names.specs.Name.{Labels, SameName, IsAtOrBelow}
 use Rattle.dnsv_names.specs.Order.{canonical_cmp, IsBelow}
-use Rattle.dnsv_names.specs.OrderLaws.{canonical_cmp_total, canonical_Equal, SameName_Equal}
+use Rattle.dnsv_names.specs.OrderLaws.{canonical_Equal, SameName_Equal}
 use Rattle.dnsv_names.specs.Circle.{has, IsMember}
-use Rattle.dnsv_names.specs.TreeLaws.{same_at_or_below, at_or_below_trans, at_or_below_cases, below_trans_at, before_below, interval}
+use Rattle.dnsv_names.specs.TreeLaws.{same_at_or_below, at_or_below_cases, below_trans_at}
 use Rattle.dnsv_denial.specs.TypeNumbers.{ns, soa, dname, rrsig, nsec}
 use Rattle.dnsv_denial.specs.Any.{Any}
 use Rattle.dnsv_denial.specs.Types.{IsDelegation, IsClosed}
 use Rattle.dnsv_denial.specs.Zone.{Entry, Zone, IsOwner, Holds, IsNode, IsClosedAt, IsWellFormed}
 use Rattle.dnsv_denial.specs.NsecChain.{NsecRecord, IsInBitmap, IsBitmapOf, owners, IsInNsecChain}
 use Rattle.dnsv_denial.specs.Nsec.{Covers, IsFair, IsAbsentBy, IsInnerBy, IsNodeBy}
-use Rattle.dnsv_names.specs.CircleLaws.{owner_between, next_between}
-use Rattle.dnsv_denial.proofs.ZoneLemmas.{closed_respects, closed_owner, owner_under, node_of_owner, owner_respects}
+use Rattle.dnsv_names.specs.NameCircleLaws.{owner_at_or_below, next_at_or_below}
+use Rattle.dnsv_denial.proofs.ZoneLemmas.{closed_respects, closed_owner, owner_under, node_of_owner}
 
 -- owners are members of the circle
 member_by : (name : Labels) (entries : List Entry) → Any (λ each. SameName each.owner name) entries → has canonical_cmp (map (λ each. each.owner) entries) name
@@ -63,14 +63,10 @@ module _ (zone : Zone) (r : NsecRecord) (there : IsInNsecChain zone r) (name : L
   -- the owner before a name is the end of the zone above the name, where there is one
   pub owner_is_the_end : (cut : Labels) → IsWellFormed zone → Covers r name → IsClosedAt zone cut → IsBelow name cut → SameName r.owner cut
   owner_is_the_end cut well covers closed below =
-      ⊎_elim (λ (tied : canonical_cmp r.owner cut ≡ Equal). canonical_Equal r.owner cut tied)
-      (λ (between : (canonical_cmp cut r.owner ≡ Less) × (canonical_cmp r.owner name ≡ Less)).
-      let under : IsAtOrBelow r.owner cut = interval cut cut r.owner name (same_at_or_below cut cut refl) below.0 between.0 between.1 in
+      let outside = there.next.none_between cut (member_of_owner zone cut (closed_owner zone cut closed)) in
       ⊎_elim (λ (same : SameName r.owner cut). same)
       (λ (inside : IsBelow r.owner cut). absurd (well.ends cut r.owner closed there.owner inside))
-      (at_or_below_cases r.owner cut under))
-      (owner_between canonical_cmp_total r.owner r.next cut name
-      (there.next.none_between cut (member_of_owner zone cut (closed_owner zone cut closed))) covers (before_below name cut below))
+      (at_or_below_cases r.owner cut (owner_at_or_below r.owner r.next name cut outside covers below.0))
 
   -- nothing above a name that a fair record covers is closed
   pub fair_open_above : (cut : Labels) → IsWellFormed zone → Covers r name → IsFair r name → IsBelow name cut → ¬ IsClosedAt zone cut
@@ -83,15 +79,8 @@ module _ (zone : Zone) (r : NsecRecord) (there : IsInNsecChain zone r) (name : L
   pub absent_no_node : IsAbsentBy r name → ¬ IsNode zone name
   absent_no_node absent node =
       let some = owner_under zone name node in
-      ⊎_elim (λ (same : SameName some.owner name). covered_no_owner absent.covers (owner_respects zone some.owner name same some.is_owner))
-      (λ (below : IsBelow some.owner name).
-      ⊎_elim (λ (tied : canonical_cmp r.next some.owner ≡ Equal).
-      absent.nothing_below (at_or_below_trans r.next some.owner name (same_at_or_below r.next some.owner (canonical_Equal r.next some.owner tied)) some.under))
-      (λ (between : (canonical_cmp name r.next ≡ Less) × (canonical_cmp r.next some.owner ≡ Less)).
-      absent.nothing_below (interval name name r.next some.owner (same_at_or_below name name refl) some.under between.0 between.1))
-      (next_between canonical_cmp_total r.owner r.next name some.owner
-      (there.next.none_between some.owner (member_of_owner zone some.owner some.is_owner)) absent.covers (before_below some.owner name below)))
-      (at_or_below_cases some.owner name some.under)
+      let outside = there.next.none_between some.owner (member_of_owner zone some.owner some.is_owner) in
+      absent.nothing_below (next_at_or_below r.owner r.next name some.owner outside absent.covers some.under)
 
   -- an empty non-terminal is a node and no owner
   pub inner_node : IsAtOrBelow name zone.apex → IsInnerBy r name → IsNode zone name
