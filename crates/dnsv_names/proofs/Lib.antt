@@ -1,11 +1,12 @@
-pub mod ByWireLemmas
+pub mod CompareLemmas
 pub mod DecimalLemmas
+pub mod EndLemmas
 pub mod FieldLemmas
 pub mod LineLemmas
+pub mod LowerLemmas
 pub mod NameLemmas
 pub mod OctetLemmas
 pub mod OneReading
-pub mod OrderLemmas
 pub mod ParseLemmas
 pub mod ReadLemmas
 pub mod TextLemmas

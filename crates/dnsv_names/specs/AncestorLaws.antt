@@ -84,7 +84,7 @@ rightmost_respects a b n same =
     ∙ drop-map (λ label. map to_ascii_lowercase label) (length b - n) b
 
 -- equal names have wire forms of one length
-length_lower_wire : (name : Labels) → length (wire (lower_case name)) ≡ length (wire name)
+pub length_lower_wire : (name : Labels) → length (wire (lower_case name)) ≡ length (wire name)
 length_lower_wire [] = refl
 length_lower_wire (label ∷ name) = simp (length-append, length-map) (omega (arith, length_lower_wire name))
 

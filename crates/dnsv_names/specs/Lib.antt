@@ -4,6 +4,7 @@ pub mod ByWireLaws
 pub mod Circle
 pub mod CircleLaws
 pub mod Count
+pub mod Ends
 pub mod KeyLaws
 pub mod Keys
 pub mod LineLaws

@@ -2,12 +2,13 @@
 ghost use Rattle.std.specs.Prelude.{◌≡◌, ◌∷◌, refl, length, map};
 ghost use Rattle.std.specs.Char.{to_ascii_lowercase};
 ghost use Rattle.std.specs.Cmp.{on_equiv, on_total, partial_equiv_from_equiv, partial_order_from_agreeing_total};
-ghost use Rattle.std.specs.Ordering.{as_partial_cmp, nat_cmp};
+ghost use Rattle.std.specs.Ordering.{as_partial_cmp};
 ghost use Rattle.dnsv_names.specs.ByWire.{search_cmp};
 ghost use Rattle.dnsv_names.specs.ByWireLaws.{same_name_equiv, search_cmp_total, search_ties};
 ghost use Rattle.dnsv_names.specs.Name.{same_name};
 ghost use Rattle.dnsv_names.specs.Octets.{octets_cmp};
 
+use crate::lower::lower_order;
 use crate::name::Name;
 use std::cmp::Ordering;
 
@@ -63,22 +64,5 @@ fn octets_order(a: &[u8], b: &[u8]) -> Ordering
     if a.len() != b.len() {
         return a.len().cmp(&b.len());
     }
-    for i in 0..a.len() {
-        let order = octet_order(a[i], b[i]);
-        if order != Ordering::Equal {
-            return order;
-        }
-    }
-    Ordering::Equal
-}
-
-/// The order of two octets in lower case.
-fn octet_order(a: u8, b: u8) -> Ordering
-    ensures { result ≡ nat_cmp (to_ascii_lowercase a) (to_ascii_lowercase b) }
-{
-    // Mostly the octets are the same already.
-    if a == b {
-        return Ordering::Equal;
-    }
-    a.to_ascii_lowercase().cmp(&b.to_ascii_lowercase())
+    lower_order(a, b)
 }

@@ -36,6 +36,7 @@ mod decimal;
 mod error;
 mod hash20;
 mod lines;
+mod lower;
 mod name;
 mod number;
 mod octets;

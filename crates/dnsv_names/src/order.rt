@@ -1,15 +1,14 @@
 //! The canonical order of names (RFC 4034 6.1), and their hash.
-ghost use Rattle.std.specs.Prelude.{◌≡◌, ◌↔◌, ◌<◌, ◌+◌, ◌++◌, refl, length, take, drop, map, slice_index};
-ghost use Rattle.std.specs.Char.{to_ascii_lowercase};
+ghost use Rattle.std.specs.Prelude.{◌≡◌, ◌↔◌, ◌<◌, ◌+◌, ◌++◌, refl, length, take, drop, slice_index};
 ghost use Rattle.std.specs.Cmp.{IsTotalOrder, partial_order_from_agreeing_total};
 ghost use Rattle.std.specs.Ordering.{as_partial_cmp};
 ghost use Rattle.dnsv_names.specs.Name.{Labels, SameName, IsAtOrBelow};
-ghost use Rattle.dnsv_names.specs.Order.{label_cmp, from_the_right, canonical_cmp, IsBefore, IsBelow};
+ghost use Rattle.dnsv_names.specs.Order.{from_the_right, canonical_cmp, IsBefore, IsBelow};
 ghost use Rattle.dnsv_names.specs.OrderLaws.{canonical_cmp_total, same_name_ties, hash_input_of, hash_respects_eq};
 ghost use Rattle.dnsv_names.specs.Spelling.{labels_of, SpellsName};
 
+use crate::lower::{alike_at_end, lower_order};
 use crate::name::Name;
-use crate::wire::{label_count, label_place};
 use std::cmp::Ordering;
 use std::hash::{Hash, Hasher};
 
@@ -66,39 +65,43 @@ fn compared(a: &[u8], b: &[u8]) -> Ordering
     requires second { SpellsName b.now }
     ensures { result ≡ canonical_cmp (labels_of a.now) (labels_of b.now) }
 {
-    let in_a = label_count(a);
-    let in_b = label_count(b);
-    let shared = in_a.min(in_b);
-    let mut a_place = label_place(a, in_a - shared);
-    let mut b_place = label_place(b, in_b - shared);
-    let mut order = Ordering::Equal;
-    // From left to right, so that a label decides before those to its left.
-    for _i in 0..shared {
-        let a_label = label_at(a, a_place);
-        let b_label = label_at(b, b_place);
-        order = label_order(a_label, b_label).then(order);
-        a_place += 1 + a_label.len();
-        b_place += 1 + b_label.len();
+    let alike = alike_at_end(a, b);
+    let mut a_rest = a;
+    let mut b_rest = b;
+    let mut a_label = None;
+    let mut b_label = None;
+    // The longer rest goes on to its next label, until both are the same labels.
+    while a_rest.len() != b_rest.len() || a_rest.len() > alike {
+        if a_rest.len() > b_rest.len() {
+            a_label = Some(a_rest);
+            a_rest = behind_label(a_rest);
+        } else {
+            b_label = Some(b_rest);
+            b_rest = behind_label(b_rest);
+        }
     }
-    order.then(in_a.cmp(&in_b))
+    match (a_label, b_label) {
+        (Some(a), Some(b)) => lower_order(first_label(a), first_label(b)),
+        (Some(_), None) => Ordering::Greater,
+        (None, Some(_)) => Ordering::Less,
+        (None, None) => Ordering::Equal,
+    }
 }
 
-/// The octets of the label whose length stands at the place.
-fn label_at(octets: &[u8], place: usize) -> &[u8]
-    requires { place + slice_index octets.now place < length octets.now }
-    ensures { result.now ≡ take (slice_index octets.now place) (drop (place + 1) octets.now) }
+/// The octets of the label that stands in front, behind its length.
+fn first_label(octets: &[u8]) -> &[u8]
+    requires { slice_index octets.now 0 < length octets.now }
+    ensures { result.now ≡ take (slice_index octets.now 0) (drop 1 octets.now) }
 {
-    let start = place + 1;
-    &octets[start..start + octets[place] as usize]
+    &octets[1..1 + octets[0] as usize]
 }
 
-/// The order of two labels, without regard to case.
-fn label_order(a: &[u8], b: &[u8]) -> Ordering
-    ensures { result ≡ label_cmp (map to_ascii_lowercase a.now) (map to_ascii_lowercase b.now) }
+/// What stands behind the label in front.
+fn behind_label(octets: &[u8]) -> &[u8]
+    requires { slice_index octets.now 0 < length octets.now }
+    ensures { result.now ≡ drop (1 + slice_index octets.now 0) octets.now }
 {
-    let a = a.iter().map(|octet| octet.to_ascii_lowercase());
-    let b = b.iter().map(|octet| octet.to_ascii_lowercase());
-    a.cmp(b)
+    &octets[1 + octets[0] as usize..]
 }
 
 /// A law of the canonical order: it is total, and its equality is that of names.

@@ -1,73 +1,103 @@
-use Rattle.std.proofs.Common.{◌≡◌, ◌<◌, ◌+◌, ◌-◌, length, drop, map, sym, ap, ◌∙◌, arith, refl, length-drop, add-zero}
-use Rattle.std.proofs.lemmas.List.{get_or-drop, length-map}
+use Rattle.std.proofs.Common.{◌<◌, ◌≤◌, length, ◌∙◌, arith, subst, refl, map, Some, inl, inr}
 use Rattle.std.specs.Char.{to_ascii_lowercase}
-use Rattle.std.specs.Ordering.{ordering_then}
-use Rattle.dnsv_names.specs.Name.{lower_case}
 use Rattle.dnsv_names.specs.Order.{label_cmp}
-use Rattle.dnsv_names.specs.Spelling.{labels_of}
-use Rattle.dnsv_names.proofs.NameLemmas.{place_within, Stands-next, length_spelled}
-use Rattle.dnsv_names.proofs.OrderLemmas.{StepsOver, steps_over, decided, decided_more, decided_all}
+use Rattle.dnsv_names.proofs.CompareLemmas.{Walked, Apart, StepsOn, GoesOn, beyond_alike, beyond_root, label_in_front, steps_on, some_rest, Apart-left, Apart-right, label_there, ended_together, ended_first, ended_last, ended_apart, root_alike}
 use Rattle.dnsv_names.proofs.order.compared.Goals as goal
+use Rattle.dnsv_names.proofs.order.compared.Goals.{then-a_rest-b_rest, else-a_rest-b_rest+then-a_rest-alike}
 
-pub loop-i-init : goal.loop-i-init
-loop-i-init c = record {
-  left = record { form = rw add-zero c.label_place-a_place.ensures.rest };
-  right = record { form = rw add-zero c.label_place-b_place.ensures.rest };
-  so_far = refl;
-}
+-- the longer rest is longer than the root
+long_a : (c : goal.Then-a_rest-b_rest-2) → 1 < length c.loop-a_rest.a_rest.now
+long_a c = omega (arith, some_rest c.loop-a_rest.invariant.right, c.if-a_rest-b_rest-2.true)
 
-pub label_at-a_label-requires : goal.label_at-a_label-requires
-label_at-a_label-requires c =
-    let more : c.label_count-in_a.result - c.min-shared.result + c.loop-i._i < length (labels_of c.args.a.now) = omega arith in
-    omega (arith, place_within (Stands-next c.loop-i.invariant.left more))
+pub behind_label-a_rest-requires : goal.behind_label-a_rest-requires
+behind_label-a_rest-requires c = omega (arith, label_in_front c.loop-a_rest.invariant.left (long_a c))
 
-pub label_at-b_label-requires : goal.label_at-b_label-requires
-label_at-b_label-requires c =
-    let more : c.label_count-in_b.result - c.min-shared.result + c.loop-i._i < length (labels_of c.args.b.now) = omega arith in
-    omega (arith, place_within (Stands-next c.loop-i.invariant.right more))
-
-module _ (c : goal.After-then-order) where
-  left : StepsOver c.args.a.now (labels_of c.args.a.now) c.loop-i.a_place (c.label_count-in_a.result - c.min-shared.result + c.loop-i._i) c.label_at-a_label.result.now
-  left = steps_over c.args.a.now (labels_of c.args.a.now) c.loop-i.a_place (c.label_count-in_a.result - c.min-shared.result + c.loop-i._i) c.label_at-a_label.result.now
-      c.loop-i.invariant.left (omega arith) c.label_at-a_label.ensures
-
-  right : StepsOver c.args.b.now (labels_of c.args.b.now) c.loop-i.b_place (c.label_count-in_b.result - c.min-shared.result + c.loop-i._i) c.label_at-b_label.result.now
-  right = steps_over c.args.b.now (labels_of c.args.b.now) c.loop-i.b_place (c.label_count-in_b.result - c.min-shared.result + c.loop-i._i) c.label_at-b_label.result.now
-      c.loop-i.invariant.right (omega arith) c.label_at-b_label.ensures
-
-pub overflow_add-a_place-in-loop-i : goal.overflow_add-a_place-in-loop-i
-overflow_add-a_place-in-loop-i c = omega (arith, (left c).within, length_spelled _ c.requires.first)
-
-pub overflow_add-b_place-in-loop-i : goal.overflow_add-b_place-in-loop-i
-overflow_add-b_place-in-loop-i c = omega (arith, (right c).within, length_spelled _ c.requires.second)
-
-pub loop-i-preserved : goal.loop-i-preserved
-loop-i-preserved c =
-    let skip_a = c.label_count-in_a.result - c.min-shared.result in
-    let skip_b = c.label_count-in_b.result - c.min-shared.result in
-    let keys_a = lower_case (labels_of c.args.a.now) in
-    let keys_b = lower_case (labels_of c.args.b.now) in
-    let in_a : c.loop-i._i < length (drop skip_a keys_a) = simp (length-drop, length-map) (omega arith) in
-    let in_b : c.loop-i._i < length (drop skip_b keys_b) = simp (length-drop, length-map) (omega arith) in
+pub loop-a_rest-preserved-then-a_rest-b_rest-2 : goal.loop-a_rest-preserved-then-a_rest-b_rest-2
+loop-a_rest-preserved-then-a_rest-b_rest-2 c =
+    let on : StepsOn c.args.a.now c.loop-a_rest.a_rest.now c.behind_label-a_rest.result.now =
+    steps_on c.args.a.now c.loop-a_rest.a_rest.now c.behind_label-a_rest.result.now c.loop-a_rest.a_label c.loop-a_rest.invariant.left
+    (omega (arith, some_rest c.loop-a_rest.invariant.right, c.if-a_rest-b_rest-2.true)) c.behind_label-a_rest.ensures in
     record {
-      left = (left c).next _ (omega arith);
-      right = (right c).next _ (omega arith);
-      so_far = c.then-order.ensures
-          ∙ ap (λ o. ordering_then c.label_order.result o) c.loop-i.invariant.so_far
-          ∙ ap (λ o. ordering_then o (decided (drop skip_a keys_a) (drop skip_b keys_b) c.loop-i._i))
-          (c.label_order.ensures ∙ ap (λ key. label_cmp key (map to_ascii_lowercase c.label_at-b_label.result.now)) ((left c).key ∙ sym (get_or-drop skip_a keys_a c.loop-i._i _))
-          ∙ ap (label_cmp _) ((right c).key ∙ sym (get_or-drop skip_b keys_b c.loop-i._i _)))
-          ∙ sym (decided_more (drop skip_a keys_a) (drop skip_b keys_b) c.loop-i._i in_a in_b);
+      left = on.label c.loop-a_rest.a_rest refl;
+      right = c.loop-a_rest.invariant.right;
+      apart = Apart-left c.alike_at_end-alike.result c.loop-a_rest.a_rest.now c.loop-a_rest.b_rest.now c.behind_label-a_rest.result.now
+          c.loop-a_rest.a_label c.loop-a_rest.b_label c.loop-a_rest.a_rest c.loop-a_rest.invariant.apart refl c.if-a_rest-b_rest-2.true on.shorter;
     }
 
-pub returns : goal.returns
-returns c =
-    let skip_a = c.label_count-in_a.result - c.min-shared.result in
-    let skip_b = c.label_count-in_b.result - c.min-shared.result in
-    let keys_a = lower_case (labels_of c.args.a.now) in
-    let keys_b = lower_case (labels_of c.args.b.now) in
-    let all : c.loop-i._i ≡ c.min-shared.result = omega arith in
-    c.then.ensures
-    ∙ ap (λ o. ordering_then o c.cmp.result) (c.loop-i.invariant.so_far ∙ ap (decided (drop skip_a keys_a) (drop skip_b keys_b)) all)
-    ∙ ap (ordering_then (decided (drop skip_a keys_a) (drop skip_b keys_b) c.min-shared.result)) c.cmp.ensures
-    ∙ sym (decided_all keys_a keys_b _ _ c.min-shared.result (c.label_count-in_a.ensures ∙ sym (length-map _ _)) (c.label_count-in_b.ensures ∙ sym (length-map _ _)) c.min-shared.ensures)
+pub behind_label-b_rest-requires : goal.behind_label-b_rest-requires
+behind_label-b_rest-requires c =
+    let m = length c.loop-a_rest.a_rest.now in
+    let n = length c.loop-a_rest.b_rest.now in
+    let goes_on : GoesOn c.alike_at_end-alike.result m n = elim c.if-a_rest-b_rest.branch [
+      | then-a_rest-b_rest w ↦ inl w.if-a_rest-b_rest.true
+      | else-a_rest-b_rest+then-a_rest-alike w ↦ inr (w.if-a_rest-b_rest.false, w.if-a_rest-alike.true)
+    ] in
+    let root : 1 ≤ c.alike_at_end-alike.result = c.alike_at_end-alike.ensures.most 1 (root_alike c.args.a.now c.args.b.now c.requires.first c.requires.second) in
+    omega (arith, label_in_front c.loop-a_rest.invariant.right (beyond_root c.alike_at_end-alike.result m n goes_on root (some_rest c.loop-a_rest.invariant.left) c.if-a_rest-b_rest-2.false))
+
+pub loop-a_rest-preserved : goal.loop-a_rest-preserved
+loop-a_rest-preserved c =
+    let alike = c.alike_at_end-alike.result in
+    let m = length c.loop-a_rest.a_rest.now in
+    let n = length c.loop-a_rest.b_rest.now in
+    let goes_on : GoesOn alike m n = elim c.if-a_rest-b_rest.branch [
+      | then-a_rest-b_rest w ↦ inl w.if-a_rest-b_rest.true
+      | else-a_rest-b_rest+then-a_rest-alike w ↦ inr (w.if-a_rest-b_rest.false, w.if-a_rest-alike.true)
+    ] in
+    let root : 1 ≤ alike = c.alike_at_end-alike.ensures.most 1 (root_alike c.args.a.now c.args.b.now c.requires.first c.requires.second) in
+    let on : StepsOn c.args.b.now c.loop-a_rest.b_rest.now c.behind_label-b_rest.result.now =
+    steps_on c.args.b.now c.loop-a_rest.b_rest.now c.behind_label-b_rest.result.now c.loop-a_rest.b_label c.loop-a_rest.invariant.right
+    (beyond_root alike m n goes_on root (some_rest c.loop-a_rest.invariant.left) c.if-a_rest-b_rest-2.false) c.behind_label-b_rest.ensures in
+    record {
+      left = c.loop-a_rest.invariant.left;
+      right = on.label c.loop-a_rest.b_rest refl;
+      apart = Apart-right alike c.loop-a_rest.a_rest.now c.loop-a_rest.b_rest.now c.behind_label-b_rest.result.now
+          c.loop-a_rest.a_label c.loop-a_rest.b_label c.loop-a_rest.b_rest c.loop-a_rest.invariant.apart refl c.if-a_rest-b_rest-2.false
+          (beyond_alike alike m n goes_on) on.shorter;
+    }
+
+pub first_label-requires : goal.first_label-requires
+first_label-requires c =
+    label_there c.args.a.now c.loop-a_rest.a_rest.now c.in-Some-Some.a
+    (subst (λ label. Walked c.args.a.now c.loop-a_rest.a_rest.now label) c.in-Some-Some.is-0 c.loop-a_rest.invariant.left)
+
+pub first_label-requires-in-Some-Some : goal.first_label-requires-in-Some-Some
+first_label-requires-in-Some-Some c =
+    label_there c.args.b.now c.loop-a_rest.b_rest.now c.in-Some-Some.b
+    (subst (λ label. Walked c.args.b.now c.loop-a_rest.b_rest.now label) c.in-Some-Some.is-1 c.loop-a_rest.invariant.right)
+
+pub returns-in-Some-Some : goal.returns-in-Some-Some
+returns-in-Some-Some c =
+    let a_rest = c.loop-a_rest.a_rest.now in
+    let b_rest = c.loop-a_rest.b_rest.now in
+    let alike = c.alike_at_end-alike.result in
+    let apart : Apart alike a_rest b_rest (Some c.in-Some-Some.a) (Some c.in-Some-Some.b) =
+    subst (λ label. Apart alike a_rest b_rest (Some c.in-Some-Some.a) label) c.in-Some-Some.is-1
+    (subst (λ label. Apart alike a_rest b_rest label c.loop-a_rest.b_label) c.in-Some-Some.is-0 c.loop-a_rest.invariant.apart) in
+    c.lower_order.ensures
+    ∙ (λ i. label_cmp (map to_ascii_lowercase (c.first_label.ensures i)) (map to_ascii_lowercase (c.first_label-in-Some-Some.ensures i)))
+    ∙ ended_apart c.args.a.now c.args.b.now c.requires.first c.requires.second alike c.alike_at_end-alike.ensures.alike c.alike_at_end-alike.ensures.most
+    a_rest b_rest c.if-a_rest-b_rest.false c.if-a_rest-alike.false c.in-Some-Some.a c.in-Some-Some.b apart
+    (subst (λ label. Walked c.args.a.now a_rest label) c.in-Some-Some.is-0 c.loop-a_rest.invariant.left)
+    (subst (λ label. Walked c.args.b.now b_rest label) c.in-Some-Some.is-1 c.loop-a_rest.invariant.right)
+
+pub returns-in-Some-None : goal.returns-in-Some-None
+returns-in-Some-None c =
+    ended_last c.args.a.now c.args.b.now c.requires.first c.requires.second c.alike_at_end-alike.result c.alike_at_end-alike.ensures.alike c.alike_at_end-alike.ensures.most
+    c.loop-a_rest.a_rest.now c.loop-a_rest.b_rest.now c.if-a_rest-b_rest.false c.if-a_rest-alike.false c.in-Some-None.field-0-0
+    (subst (λ label. Walked c.args.a.now c.loop-a_rest.a_rest.now label) c.in-Some-None.is-0 c.loop-a_rest.invariant.left)
+    (subst (λ label. Walked c.args.b.now c.loop-a_rest.b_rest.now label) c.in-Some-None.is-1 c.loop-a_rest.invariant.right)
+
+pub returns-in-None-Some : goal.returns-in-None-Some
+returns-in-None-Some c =
+    ended_first c.args.a.now c.args.b.now c.requires.first c.requires.second c.alike_at_end-alike.result c.alike_at_end-alike.ensures.alike c.alike_at_end-alike.ensures.most
+    c.loop-a_rest.a_rest.now c.loop-a_rest.b_rest.now c.if-a_rest-b_rest.false c.if-a_rest-alike.false c.in-None-Some.field-0-1
+    (subst (λ label. Walked c.args.a.now c.loop-a_rest.a_rest.now label) c.in-None-Some.is-0 c.loop-a_rest.invariant.left)
+    (subst (λ label. Walked c.args.b.now c.loop-a_rest.b_rest.now label) c.in-None-Some.is-1 c.loop-a_rest.invariant.right)
+
+pub returns-in-None-None : goal.returns-in-None-None
+returns-in-None-None c =
+    ended_together c.args.a.now c.args.b.now c.requires.first c.requires.second c.alike_at_end-alike.result c.alike_at_end-alike.ensures.alike c.alike_at_end-alike.ensures.most
+    c.loop-a_rest.a_rest.now c.loop-a_rest.b_rest.now c.if-a_rest-b_rest.false c.if-a_rest-alike.false
+    (subst (λ label. Walked c.args.a.now c.loop-a_rest.a_rest.now label) c.in-None-None.is-0 c.loop-a_rest.invariant.left)
+    (subst (λ label. Walked c.args.b.now c.loop-a_rest.b_rest.now label) c.in-None-None.is-1 c.loop-a_rest.invariant.right)

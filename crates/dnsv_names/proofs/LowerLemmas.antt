@@ -1,5 +1,5 @@
--- The order to search by, octet by octet.
-use Rattle.std.proofs.Common.{◌≡◌, ◌≢◌, ℕ, ◌+◌, ◌<◌, List, ◌∷◌, length, get_or, drop, map, refl, sym, ap, ◌∙◌, arith, Bool, true, false, not, ◌==◌}
+-- The order of octets in lower case, octet by octet.
+use Rattle.std.proofs.Common.{◌≡◌, ◌≢◌, ℕ, ◌+◌, ◌-◌, ◌<◌, List, [], ◌∷◌, min, length-drop, length, get_or, drop, map, refl, sym, ap, ◌∙◌, arith, Bool, true, false, not, ◌==◌}
 use Rattle.std.proofs.lemmas.Bool.Decides.{nat_tests}
 use Rattle.std.proofs.lemmas.List.{drop_more, get_or-map, length-map}
 use Rattle.std.specs.Char.{to_ascii_lowercase}
@@ -16,6 +16,12 @@ from_here octets i within =
     drop_more (lower octets) i 0 (rw length-map within)
     ∙ ap (λ octet. octet ∷ drop (i + 1) (lower octets)) (get_or-map to_ascii_lowercase octets i 0 0 within)
 
+-- what isn't tied decides
+pub untied : (o rest : Ordering) → o ≢ Equal → ordering_then o rest ≡ o
+untied Less rest other = refl
+untied Equal rest other = absurd (other refl)
+untied Greater rest other = refl
+
 module _ (a b : List ℕ) (i : ℕ) (in_a : i < length a) (in_b : i < length b) (so_far : octets_cmp (lower a) (lower b) ≡ octets_cmp (drop i (lower a)) (drop i (lower b))) (order : Ordering) (is : order ≡ nat_cmp (to_ascii_lowercase (get_or a i 0)) (to_ascii_lowercase (get_or b i 0))) where
   decided_here : octets_cmp (lower a) (lower b) ≡ ordering_then order (octets_cmp (drop (i + 1) (lower a)) (drop (i + 1) (lower b)))
   decided_here =
@@ -26,19 +32,21 @@ module _ (a b : List ℕ) (i : ℕ) (in_a : i < length a) (in_b : i < length b) 
   pub tied_here : order ≡ Equal → octets_cmp (lower a) (lower b) ≡ octets_cmp (drop (i + 1) (lower a)) (drop (i + 1) (lower b))
   tied_here tied = decided_here ∙ ap (λ o. ordering_then o (octets_cmp (drop (i + 1) (lower a)) (drop (i + 1) (lower b)))) tied
 
-  untied : (o rest : Ordering) → o ≢ Equal → ordering_then o rest ≡ o
-  untied Less rest other = refl
-  untied Equal rest other = absurd (other refl)
-  untied Greater rest other = refl
-
   -- others decide
-  pub untied_here : order ≢ Equal → length a ≡ length b → order ≡ octets_cmp (length a ∷ lower a) (length b ∷ lower b)
-  untied_here other size =
-      sym (untied order _ other) ∙ sym decided_here
-      ∙ ap (λ o. ordering_then o (octets_cmp (lower a) (lower b))) (same_size (length a) (length b) size)
-    where
-      same_size : (m n : ℕ) → m ≡ n → Equal ≡ nat_cmp m n
-      same_size m n same = grind (arith, nat_tests)
+  pub untied_here : order ≢ Equal → order ≡ octets_cmp (lower a) (lower b)
+  untied_here other = sym (untied order _ other) ∙ sym decided_here
+
+-- where one list has ended, the lengths decide
+lengths_decide : (s t : List ℕ) (m n : ℕ) → length s ≡ m - min m n → length t ≡ n - min m n → octets_cmp s t ≡ nat_cmp m n
+lengths_decide [] [] m n left right = grind (arith, nat_tests)
+lengths_decide [] (y ∷ t) m n left right = grind (arith, nat_tests)
+lengths_decide (x ∷ s) [] m n left right = grind (arith, nat_tests)
+lengths_decide (x ∷ s) (y ∷ t) m n left right = absurd (omega arith)
+
+pub ended : (a b : List ℕ) (i : ℕ) → i ≡ min (length a) (length b) → octets_cmp (drop i (lower a)) (drop i (lower b)) ≡ nat_cmp (length a) (length b)
+ended a b i is =
+    lengths_decide (drop i (lower a)) (drop i (lower b)) (length a) (length b)
+    (length-drop i (lower a) ∙ simp length-map (omega (arith, is))) (length-drop i (lower b) ∙ simp length-map (omega (arith, is)))
 
 -- what the test of two orderings tells
 pub tied_by_test : (o : Ordering) (test : Bool) → test ≡ not (ordering_index o == 1) → test ≡ false → o ≡ Equal

@@ -1,7 +1,7 @@
 use Rattle.std.proofs.Common.{◌≡◌, drop, map}
 use Rattle.std.specs.Char.{to_ascii_lowercase}
 use Rattle.dnsv_names.specs.Octets.{octets_cmp}
-use Rattle.dnsv_names.proofs.by_wire.octets_order.Given as goal
+use Rattle.dnsv_names.proofs.lower.lower_order.Given as goal
 
 -- the octets so far are the same in lower case, so what is left decides
 abbrev pub invariant-loop-i : goal.invariant-loop-i
