@@ -45,7 +45,7 @@ impl Request {
 #[derive(Debug, Drop, Error)]
 pub enum LineError {
     /// Memory ran out.
-    #[error("fault 90\n")]
+    #[error("out of memory\n")]
     OutOfMemory,
     /// A word is no text in UTF-8.
     #[error("error: a word of the command line is not UTF-8\n")]
