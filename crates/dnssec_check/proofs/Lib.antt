@@ -2,6 +2,7 @@ pub mod LineLemmas
 pub mod RowLemmas
 pub mod WalkLemmas
 pub mod CapturedLemmas
+pub mod FileFaultLemmas
 pub mod ListingLemmas
 pub mod ShowingLemmas
 pub mod ProgramLemmas

@@ -27,7 +27,7 @@ use Rattle.dnssec_check.specs.Captured.{Demand, AnyMessage, NewEvidence, Meets, 
 use Rattle.dnssec_check.specs.Listing.{data_line, SignatureLines, RrsetLines}
 use Rattle.dnssec_check.specs.Run.{IsTextOf, IsRefusalOf, demand_of}
 use Rattle.dnssec_check.specs.Showing.{message_text, texts_from}
-use Rattle.dnssec_check.specs.Status.{IsToldAs}
+use Rattle.dnssec_check.specs.Status.{TellsMessageError}
 use Rattle.dnssec_check.proofs.OneReason.{taken_or_refused, one_reason}
 
 -- ---- the captured messages are octets
@@ -132,7 +132,7 @@ one_text (request.List capture moment) file are a b x y =
 
 -- ---- the refusal
 
-told_once : (error : DecodeError) (a b : Refusal) (m n : Option ℕ) → IsToldAs error a m → IsToldAs error b n → (a ≡ b) × (m ≡ n)
+told_once : (error : DecodeError) (a b : Refusal) (m n : Option ℕ) → TellsMessageError error a m → TellsMessageError error b n → (a ≡ b) × (m ≡ n)
 told_once decode.OutOfMemory a b m n x y = absurd x
 told_once decode.Short a b m n x y = (x.0 ∙ sym y.0, x.1 ∙ sym y.1)
 told_once decode.BadLabel a b m n x y = (x.0 ∙ sym y.0, x.1 ∙ sym y.1)
@@ -175,7 +175,7 @@ module _ (octets : List ℕ) (are : AreOctets octets) where
 
     refused_once : (a b : Refusal) (m n : Option ℕ) → MessageRefused demand held octets a m → MessageRefused demand held octets b n → (a ≡ b) × (m ≡ n)
     refused_once a b m n (inl x) (inl y) =
-        told_once x.0 a b m n x.2 (subst (λ error. IsToldAs error b n) (FaultOf_same octets (octet_fits octets are) y.0 x.0 y.1 x.1) y.2)
+        told_once x.0 a b m n x.2 (subst (λ error. TellsMessageError error b n) (FaultOf_same octets (octet_fits octets are) y.0 x.0 y.1 x.1) y.2)
     refused_once a b m n (inl x) (inr y) = absurd (no_fault y.0 x.0 y.1 x.1)
     refused_once a b m n (inr x) (inl y) = absurd (no_fault x.0 y.0 x.1 y.1)
     refused_once a b m n (inr x) (inr y) =

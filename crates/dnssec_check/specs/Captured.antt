@@ -10,7 +10,7 @@ use Rattle.dnsv_canonical.specs.Evidence as evidence
 use Rattle.dnssec_check.specs.declared.status.Refusal.{Refusal}
 use Rattle.dnssec_check.specs.declared.status.Refusal.TheVariants as refusal
 use Rattle.dnssec_check.specs.declared.status.Place.{Place}
-use Rattle.dnssec_check.specs.Status.{IsToldAs, IsToldOf}
+use Rattle.dnssec_check.specs.Status.{TellsMessageError, TellsCaptureError}
 
 -- what a request asks of each message: nothing, or that a capture takes it besides those before it
 pub data Demand : Type 0 where
@@ -44,13 +44,13 @@ pub record Holds (demand : Demand) (file : List ℕ) (messages : List Contents) 
 abbrev pub Fails : Demand → Evidence → Contents → Refusal → Option ℕ → Type 0
 Fails AnyMessage held message why record_number = ⊥
 Fails NewEvidence held message why record_number =
-    (error : CaptureError) × evidence.IsRefusal held message error × IsToldOf error why record_number
+    (error : CaptureError) × evidence.IsRefusal held message error × TellsCaptureError error why record_number
 
 -- the octets are no message, or one that isn't as it is asked to be, and are refused as this, with the number
 -- of the record at fault
 abbrev pub MessageRefused : Demand → Evidence → List ℕ → Refusal → Option ℕ → Type 0
 MessageRefused demand held octets why record_number =
-    ((error : DecodeError) × FaultOf octets error × IsToldAs error why record_number)
+    ((error : DecodeError) × FaultOf octets error × TellsMessageError error why record_number)
     ⊎ ((message : Contents) × MessageOf octets message × Fails demand held message why record_number)
 
 -- of these messages, the first of which has the number, the first that isn't taken is refused so

@@ -1,4 +1,5 @@
 pub mod Captured
+pub mod FileFaults
 pub mod Line
 pub mod Listing
 pub mod Moment

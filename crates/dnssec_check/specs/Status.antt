@@ -59,23 +59,23 @@ outcome_code (Ok status) = status_code status
 outcome_code (Err failed) = fault_code (fault_number failed)
 
 -- a message's fault is told as this refusal, with the number of the record at fault
-abbrev pub IsToldAs : DecodeError → Refusal → Option ℕ → Type 0
-IsToldAs decode.OutOfMemory why number = ⊥
-IsToldAs decode.Short why number = (why ≡ refusal.Short) × (number ≡ None)
-IsToldAs decode.BadLabel why number = (why ≡ refusal.BadLabel) × (number ≡ None)
-IsToldAs decode.BadPointer why number = (why ≡ refusal.BadPointer) × (number ≡ None)
-IsToldAs decode.TooManyPointers why number = (why ≡ refusal.TooManyPointers) × (number ≡ None)
-IsToldAs decode.LongName why number = (why ≡ refusal.LongName) × (number ≡ None)
-IsToldAs (decode.BadRdata k) why number = (why ≡ refusal.BadRdata) × (number ≡ Some k)
-IsToldAs decode.TrailingBytes why number = (why ≡ refusal.TrailingBytes) × (number ≡ None)
+abbrev pub TellsMessageError : DecodeError → Refusal → Option ℕ → Type 0
+TellsMessageError decode.OutOfMemory why number = ⊥
+TellsMessageError decode.Short why number = (why ≡ refusal.Short) × (number ≡ None)
+TellsMessageError decode.BadLabel why number = (why ≡ refusal.BadLabel) × (number ≡ None)
+TellsMessageError decode.BadPointer why number = (why ≡ refusal.BadPointer) × (number ≡ None)
+TellsMessageError decode.TooManyPointers why number = (why ≡ refusal.TooManyPointers) × (number ≡ None)
+TellsMessageError decode.LongName why number = (why ≡ refusal.LongName) × (number ≡ None)
+TellsMessageError (decode.BadRdata k) why number = (why ≡ refusal.BadRdata) × (number ≡ Some k)
+TellsMessageError decode.TrailingBytes why number = (why ≡ refusal.TrailingBytes) × (number ≡ None)
 
 -- why a capture doesn't take a message is told as this refusal, with the number of the record at fault
-abbrev pub IsToldOf : CaptureError → Refusal → Option ℕ → Type 0
-IsToldOf capture.OutOfMemory why number = ⊥
-IsToldOf capture.NotAResponse why number = (why ≡ refusal.NotAResponse) × (number ≡ None)
-IsToldOf capture.Truncated why number = (why ≡ refusal.Truncated) × (number ≡ None)
-IsToldOf (capture.BadRdata k) why number = (why ≡ refusal.BadRdata) × (number ≡ Some k)
-IsToldOf capture.Limit why number = (why ≡ refusal.Limit) × (number ≡ None)
+abbrev pub TellsCaptureError : CaptureError → Refusal → Option ℕ → Type 0
+TellsCaptureError capture.OutOfMemory why number = ⊥
+TellsCaptureError capture.NotAResponse why number = (why ≡ refusal.NotAResponse) × (number ≡ None)
+TellsCaptureError capture.Truncated why number = (why ≡ refusal.Truncated) × (number ≡ None)
+TellsCaptureError (capture.BadRdata k) why number = (why ≡ refusal.BadRdata) × (number ≡ Some k)
+TellsCaptureError capture.Limit why number = (why ≡ refusal.Limit) × (number ≡ None)
 
 -- ---- the line that tells a fault
 

@@ -14,7 +14,7 @@ use Rattle.dnsv_canonical.specs.declared.capture.CaptureError.{CaptureError}
 use Rattle.dnsv_canonical.specs.declared.capture.CaptureError.TheVariants as capture
 use Rattle.dnsv_canonical.specs.Evidence.{Evidence}
 use Rattle.dnssec_check.specs.Captured.{Demand, MessageRefused}
-use Rattle.dnssec_check.specs.Status.{IsToldAs, IsToldOf}
+use Rattle.dnssec_check.specs.Status.{TellsMessageError, TellsCaptureError}
 
 abbrev nowhere : Place
 nowhere = record { message = None; «record» = None; line = None }
@@ -44,12 +44,12 @@ IsRefusedAt demand held octets number why place =
 abbrev pub IsDecodeFault : DecodeError → ℕ → Fault → Type 0
 IsDecodeFault decode.OutOfMemory number told = told ≡ fault.OutOfMemory
 IsDecodeFault error number (fault.Refused why place) =
-    IsToldAs error why place.«record» × (place.message ≡ Some number) × (place.line ≡ None)
+    TellsMessageError error why place.«record» × (place.message ≡ Some number) × (place.line ≡ None)
 IsDecodeFault error number _ = ⊥
 
 -- the fault tells why a capture doesn't take the message with this number
 abbrev pub IsCaptureFault : CaptureError → ℕ → Fault → Type 0
 IsCaptureFault capture.OutOfMemory number told = told ≡ fault.OutOfMemory
 IsCaptureFault error number (fault.Refused why place) =
-    IsToldOf error why place.«record» × (place.message ≡ Some number) × (place.line ≡ None)
+    TellsCaptureError error why place.«record» × (place.message ≡ Some number) × (place.line ≡ None)
 IsCaptureFault error number _ = ⊥

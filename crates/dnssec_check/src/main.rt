@@ -1,7 +1,7 @@
 //! `dnssec_check`: what captured DNS messages prove.
 #![tactic(auto)]
 
-mod captured;
+mod capture_file;
 #[cfg(test)]
 mod captures;
 mod laws;

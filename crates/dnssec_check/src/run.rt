@@ -1,14 +1,11 @@
 //! The run of a request over its files.
-ghost use Rattle.std.specs.Prelude.{◌≡◌, ◌<◌, List, ℕ, IfErr, IfOk, IfSome, IsErrOf, OnOk, string_bytes};
+ghost use Rattle.std.specs.Prelude.{◌≡◌, ◌<◌, List, ℕ, IfErr, IfOk, IfSome, OnOk, string_bytes};
 ghost use Rattle.std.specs.Io.KnownBytes.{Appends};
 ghost use Rattle.dnsv_message.specs.Counted.{inner_of, failures_of, AppendsBeginning};
-ghost use Rattle.dnsv_message.specs.Frames.{IsTooLong};
+ghost use Rattle.dnssec_check.specs.FileFaults.{TellsFileFaults};
 ghost use Rattle.dnssec_check.specs.Run.{IsTextOf, IsRefusalOf};
-ghost use Rattle.dnssec_check.specs.declared.status.InputFile.TheVariants.{Capture};
-ghost use Rattle.dnssec_check.specs.declared.status.Place.{Place};
-ghost use Rattle.dnssec_check.specs.declared.status.Refusal.{Refusal};
 
-use crate::captured::{captured, evidence};
+use crate::capture_file::{evidence_in, messages_in};
 use crate::line::Request;
 use crate::listing::listing;
 use crate::showing::showing;
@@ -37,25 +34,21 @@ pub fn run<R: Read, W: Write>(
 ) -> Result<Status, Fault>
     // The output got exactly the defined text.
     ensures done { OnOk result (IfSome (R.remaining (inner_of inputs.old.capture)) (λ file.
-        (text : List ℕ) × IsTextOf request.now file text × Appends (W.contents (inner_of output.old)) (W.contents (inner_of output.new)) text)) }
+        (text : List ℕ) × IsTextOf request.now file text
+        × Appends (W.contents (inner_of output.old)) (W.contents (inner_of output.new)) text)) }
 
     // What the file is refused for is the first that it is to be refused for.
-    ensures refused { (why : Refusal) (place : Place) → result ≡ Err (Fault.Refused why place)
-        → IfSome (R.remaining (inner_of inputs.old.capture)) (λ file. IsRefusalOf request.now file why place) }
-    ensures too_long { result ≡ Err (Fault.TooLong Capture) → IfSome (R.remaining (inner_of inputs.old.capture)) IsTooLong }
+    ensures faults { TellsFileFaults (IsRefusalOf request.now) (R.remaining (inner_of inputs.old.capture))
+        (failures_of inputs.old.capture) (failures_of inputs.new.capture) result }
 
-    // Only where the stream failed in this call, by the count, unless that began at its greatest value.
-    ensures read { result ≡ Err (Fault.ReadFailed Capture) → failures_of inputs.old.capture < u64.MAX
-        → failures_of inputs.old.capture < failures_of inputs.new.capture }
-    ensures failed { failures_of inputs.old.capture < failures_of inputs.new.capture → IsErrOf result (Fault.ReadFailed Capture) }
-    ensures write { result ≡ Err Fault.WriteFailed → failures_of output.old < u64.MAX → failures_of output.old < failures_of output.new }
+    // Only where the output failed in this call, by the count, unless that began at its greatest value.
+    ensures write { result ≡ Err Fault.WriteFailed
+        → failures_of output.old < u64.MAX → failures_of output.old < failures_of output.new }
 
     // A failed write leaves a beginning of the defined text.
     ensures begun { result ≡ Err Fault.WriteFailed → IfSome (R.remaining (inner_of inputs.old.capture)) (λ file.
-        (text : List ℕ) × IsTextOf request.now file text × AppendsBeginning (W.contents (inner_of output.old)) (W.contents (inner_of output.new)) text) }
-
-    // A file that is opened already can't fail to open.
-    ensures opened { IfErr result (λ fault. fault ≡ Fault.OpenFailed Capture → ⊥) }
+        (text : List ℕ) × IsTextOf request.now file text
+        × AppendsBeginning (W.contents (inner_of output.old)) (W.contents (inner_of output.new)) text) }
 
     // Nothing is written unless the whole text is made.
     ensures untouched { IfErr result (λ fault. (fault ≡ Fault.WriteFailed → ⊥) → output.new ≡ output.old) }
@@ -73,17 +66,15 @@ fn text_of<R: Read>(
     request: &Request,
     capture: &mut Counted<R>,
 ) -> Result<String, Fault>
-    ensures text { IfOk result (λ text. IfSome (R.remaining (inner_of capture.old)) (λ file. IsTextOf request.now file (string_bytes text))) }
-    ensures refused { (why : Refusal) (place : Place) → result ≡ Err (Fault.Refused why place)
-        → IfSome (R.remaining (inner_of capture.old)) (λ file. IsRefusalOf request.now file why place) }
-    ensures too_long { result ≡ Err (Fault.TooLong Capture) → IfSome (R.remaining (inner_of capture.old)) IsTooLong }
-    ensures read { result ≡ Err (Fault.ReadFailed Capture) → failures_of capture.old < u64.MAX → failures_of capture.old < failures_of capture.new }
-    ensures failed { failures_of capture.old < failures_of capture.new → IsErrOf result (Fault.ReadFailed Capture) }
-    ensures only { IfErr result (λ fault. (fault ≡ Fault.WriteFailed → ⊥) × (fault ≡ Fault.OpenFailed Capture → ⊥)) }
+    ensures text { IfOk result (λ text. IfSome (R.remaining (inner_of capture.old)) (λ file.
+        IsTextOf request.now file (string_bytes text))) }
+    ensures faults { TellsFileFaults (IsRefusalOf request.now) (R.remaining (inner_of capture.old))
+        (failures_of capture.old) (failures_of capture.new) result }
+    ensures unwritten { IfErr result (λ fault. fault ≡ Fault.WriteFailed → ⊥) }
 {
     match request {
-        Request::Show { .. } => Ok(showing(alloc, &captured(alloc, capture)?)?),
-        Request::List { .. } => Ok(listing(alloc, &evidence(alloc, capture)?)?),
+        Request::Show { .. } => Ok(showing(alloc, &messages_in(alloc, capture)?)?),
+        Request::List { .. } => Ok(listing(alloc, &evidence_in(alloc, capture)?)?),
     }
 }
 

@@ -9,7 +9,7 @@ use std::fmt;
 /// How a run ended that wrote its whole text.
 #[derive(Clone, Copy, Debug, PartialEq, Eq)]
 pub enum Status {
-    /// The text was listed.
+    /// The text that was asked for is written.
     Done,
 }
 

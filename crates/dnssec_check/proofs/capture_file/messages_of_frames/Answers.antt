@@ -2,7 +2,7 @@ use Rattle.dnsv_canonical.specs.Evidence.{evidence_of}
 use Rattle.dnssec_check.specs.Captured.{AnyMessage}
 use Rattle.dnssec_check.proofs.CapturedLemmas.{IsFaultOf-weaker, Judged-next, Judged-refused, frame_here}
 use Rattle.std.proofs.lemmas.Result.{err_from_is_err_and}
-use Rattle.dnssec_check.proofs.captured.decoded.Goals as goal
+use Rattle.dnssec_check.proofs.capture_file.messages_of_frames.Goals as goal
 
 pub loop-index-preserved : goal.loop-index-preserved
 loop-index-preserved c =

@@ -1,11 +1,16 @@
 //! The messages of a file of captured messages.
-ghost use Rattle.std.specs.Prelude.{◌≡◌, ◌<◌, List, ℕ, IfErr, IfOk, IfSome, IsErrOf, OnOk, Some, None};
+ghost use Rattle.std.specs.Prelude.{◌≡◌, List, IfErr, IfOk, IfSome, OnOk, Some, None};
 ghost use Rattle.dnsv_message.specs.Counted.{inner_of, failures_of};
+ghost use Rattle.dnsv_message.specs.Errors.{decode_error_code};
+ghost use Rattle.dnsv_message.specs.ReadError.{read_error_code};
 ghost use Rattle.dnsv_message.specs.Frames.{IsCapture, IsTooLong, octets_of_each};
 ghost use Rattle.dnsv_message.specs.Grammar.{MessageOf};
 ghost use Rattle.dnsv_message.specs.Message.{Contents};
 ghost use Rattle.dnsv_canonical.specs.Evidence.{Evidence, evidence_of, no_evidence, with_message};
-ghost use Rattle.dnssec_check.specs.Captured.{Demand, AnyMessage, NewEvidence, AllTaken, Meets, Holds, FirstRefused, IsRefusal};
+ghost use Rattle.dnssec_check.specs.Captured.{Demand, AnyMessage, NewEvidence, AllTaken, Meets, Holds};
+ghost use Rattle.dnssec_check.specs.Captured.{FirstRefused, IsRefusal};
+ghost use Rattle.dnssec_check.specs.FileFaults.{TellsFileFaults};
+ghost use Rattle.dnssec_check.specs.Status.{fault_number};
 ghost use Rattle.dnssec_check.specs.Told.{IsReadFault, IsDecodeFault, IsCaptureFault, IsFaultOf, IsRefusedAt};
 ghost use Rattle.dnssec_check.specs.declared.status.Place.{Place};
 ghost use Rattle.dnssec_check.specs.declared.status.Refusal.{Refusal};
@@ -20,46 +25,42 @@ use std::io::Read;
 ///
 /// The fault is the first in the order of the work: reading the file, its framing, and then each message in
 /// turn.
-pub fn captured<R: Read>(alloc: Global, capture: &mut Counted<R>) -> Result<Vec<Message>, Fault>
-    ensures messages { IfOk result (λ messages. IfSome (R.remaining (inner_of capture.old)) (λ file. Holds AnyMessage file messages.items)) }
-    ensures refused { (why : Refusal) (place : Place) → result ≡ Err (Fault.Refused why place)
-        → IfSome (R.remaining (inner_of capture.old)) (λ file. IsRefusal AnyMessage file why place) }
-    ensures too_long { result ≡ Err (Fault.TooLong InputFile.Capture) → IfSome (R.remaining (inner_of capture.old)) IsTooLong }
-    ensures read { result ≡ Err (Fault.ReadFailed InputFile.Capture) → failures_of capture.old < u64.MAX → failures_of capture.old < failures_of capture.new }
-    ensures failed { failures_of capture.old < failures_of capture.new → IsErrOf result (Fault.ReadFailed InputFile.Capture) }
-    ensures only { IfErr result (λ fault. (fault ≡ Fault.WriteFailed → ⊥) × (fault ≡ Fault.OpenFailed InputFile.Capture → ⊥)) }
+pub fn messages_in<R: Read>(
+    alloc: Global,
+    capture: &mut Counted<R>,
+) -> Result<Vec<Message>, Fault>
+    ensures messages { IfOk result (λ messages. IfSome (R.remaining (inner_of capture.old)) (λ file.
+        Holds AnyMessage file messages.items)) }
+    ensures faults { TellsFileFaults (IsRefusal AnyMessage) (R.remaining (inner_of capture.old))
+        (failures_of capture.old) (failures_of capture.new) result }
+    ensures unwritten { IfErr result (λ fault. fault ≡ Fault.WriteFailed → ⊥) }
 {
     let frames = frames(alloc, capture)?;
-    decoded(alloc, &frames)
+    messages_of_frames(alloc, &frames)
 }
 
 /// The evidence of the file's messages.
 ///
 /// The fault is the first in the order of the work: reading the file, its framing, and then each message in
 /// turn, which is read and then added to those before it.
-pub fn evidence<R: Read>(alloc: Global, capture: &mut Counted<R>) -> Result<Capture, Fault>
+pub fn evidence_in<R: Read>(alloc: Global, capture: &mut Counted<R>) -> Result<Capture, Fault>
     ensures evidence { IfOk result (λ held. IfSome (R.remaining (inner_of capture.old)) (λ file.
         (messages : List Contents) × Holds NewEvidence file messages × (held ≡ evidence_of messages))) }
-    ensures refused { (why : Refusal) (place : Place) → result ≡ Err (Fault.Refused why place)
-        → IfSome (R.remaining (inner_of capture.old)) (λ file. IsRefusal NewEvidence file why place) }
-    ensures too_long { result ≡ Err (Fault.TooLong InputFile.Capture) → IfSome (R.remaining (inner_of capture.old)) IsTooLong }
-    ensures read { result ≡ Err (Fault.ReadFailed InputFile.Capture) → failures_of capture.old < u64.MAX → failures_of capture.old < failures_of capture.new }
-    ensures failed { failures_of capture.old < failures_of capture.new → IsErrOf result (Fault.ReadFailed InputFile.Capture) }
-    ensures only { IfErr result (λ fault. (fault ≡ Fault.WriteFailed → ⊥) × (fault ≡ Fault.OpenFailed InputFile.Capture → ⊥)) }
+    ensures faults { TellsFileFaults (IsRefusal NewEvidence) (R.remaining (inner_of capture.old))
+        (failures_of capture.old) (failures_of capture.new) result }
+    ensures unwritten { IfErr result (λ fault. fault ≡ Fault.WriteFailed → ⊥) }
 {
     let frames = frames(alloc, capture)?;
-    gathered(alloc, &frames)
+    evidence_of_frames(alloc, &frames)
 }
 
 /// The octets of each message of the file.
 fn frames<R: Read>(alloc: Global, capture: &mut Counted<R>) -> Result<Vec<Vec<u8>>, Fault>
-    ensures frames { IfOk result (λ frames. IfSome (R.remaining (inner_of capture.old)) (λ file. IsCapture file (octets_of_each frames.items))) }
-    ensures refused { (demand : Demand) (why : Refusal) (place : Place) → result ≡ Err (Fault.Refused why place)
-        → IfSome (R.remaining (inner_of capture.old)) (λ file. IsRefusal demand file why place) }
-    ensures too_long { result ≡ Err (Fault.TooLong InputFile.Capture) → IfSome (R.remaining (inner_of capture.old)) IsTooLong }
-    ensures read { result ≡ Err (Fault.ReadFailed InputFile.Capture) → failures_of capture.old < u64.MAX → failures_of capture.old < failures_of capture.new }
-    ensures failed { failures_of capture.old < failures_of capture.new → IsErrOf result (Fault.ReadFailed InputFile.Capture) }
-    ensures only { IfErr result (λ fault. (fault ≡ Fault.WriteFailed → ⊥) × (fault ≡ Fault.OpenFailed InputFile.Capture → ⊥)) }
+    ensures frames { IfOk result (λ frames. IfSome (R.remaining (inner_of capture.old)) (λ file.
+        IsCapture file (octets_of_each frames.items))) }
+    ensures faults { (demand : Demand) → TellsFileFaults (IsRefusal demand) (R.remaining (inner_of capture.old))
+        (failures_of capture.old) (failures_of capture.new) result }
+    ensures unwritten { IfErr result (λ fault. fault ≡ Fault.WriteFailed → ⊥) }
 {
     match read_capture(alloc, capture) {
         Ok(frames) => Ok(frames),
@@ -69,7 +70,8 @@ fn frames<R: Read>(alloc: Global, capture: &mut Counted<R>) -> Result<Vec<Vec<u8
 
 /// The fault of a file of captured messages that wasn't read.
 fn read_fault(error: ReadError) -> Fault
-    ensures { IsReadFault error result }
+    ensures told { IsReadFault error result }
+    ensures number { fault_number result ≡ read_error_code error }
 {
     match error {
         ReadError::OutOfMemory => Fault::OutOfMemory,
@@ -81,7 +83,7 @@ fn read_fault(error: ReadError) -> Fault
 }
 
 /// The messages of the frames; the fault is that of the first that is none.
-fn decoded(alloc: Global, frames: &[Vec<u8>]) -> Result<Vec<Message>, Fault>
+fn messages_of_frames(alloc: Global, frames: &[Vec<u8>]) -> Result<Vec<Message>, Fault>
     ensures taken { IfOk result (λ messages. AllTaken AnyMessage no_evidence (octets_of_each frames.now) messages.items) }
     ensures refused { IfErr result (IsFaultOf (FirstRefused AnyMessage no_evidence 1 (octets_of_each frames.now))) }
 {
@@ -93,21 +95,22 @@ fn decoded(alloc: Global, frames: &[Vec<u8>]) -> Result<Vec<Message>, Fault>
 }
 
 /// The evidence of the frames' messages; the fault is that of the first that isn't taken.
-fn gathered(alloc: Global, frames: &[Vec<u8>]) -> Result<Capture, Fault>
+fn evidence_of_frames(alloc: Global, frames: &[Vec<u8>]) -> Result<Capture, Fault>
     ensures taken { IfOk result (λ held. (messages : List Contents)
         × AllTaken NewEvidence no_evidence (octets_of_each frames.now) messages × (held ≡ evidence_of messages)) }
     ensures refused { IfErr result (IsFaultOf (FirstRefused NewEvidence no_evidence 1 (octets_of_each frames.now))) }
 {
     let mut held = Capture::new(alloc);
     for (index, frame) in frames.iter().enumerate() {
-        take(alloc, &mut held, frame, index + 1)?;
+        add_frame(alloc, &mut held, frame, index + 1)?;
     }
     Ok(held)
 }
 
 /// Adds the message with this number to the evidence.
-fn take(alloc: Global, held: &mut Capture, octets: &[u8], number: usize) -> Result<(), Fault>
-    ensures taken { OnOk result ((message : Contents) × (MessageOf octets.now message × Meets NewEvidence held.old message)
+fn add_frame(alloc: Global, held: &mut Capture, octets: &[u8], number: usize) -> Result<(), Fault>
+    ensures taken { OnOk result ((message : Contents)
+        × (MessageOf octets.now message × Meets NewEvidence held.old message)
         × (held.new ≡ with_message held.old message)) }
     ensures refused { IfErr result (IsFaultOf (IsRefusedAt NewEvidence held.old octets.now number)) }
 {
@@ -121,7 +124,8 @@ fn take(alloc: Global, held: &mut Capture, octets: &[u8], number: usize) -> Resu
 /// The message with this number.
 fn message_of(alloc: Global, octets: &[u8], number: usize) -> Result<Message, Fault>
     ensures found { IfOk result (MessageOf octets.now) }
-    ensures refused { (demand : Demand) (held : Evidence) → IfErr result (IsFaultOf (IsRefusedAt demand held octets.now number)) }
+    ensures refused { (demand : Demand) (held : Evidence)
+        → IfErr result (IsFaultOf (IsRefusedAt demand held octets.now number)) }
 {
     match Message::decode(alloc, octets) {
         Ok(message) => Ok(message),
@@ -131,7 +135,8 @@ fn message_of(alloc: Global, octets: &[u8], number: usize) -> Result<Message, Fa
 
 /// The fault of the message with this number, which can't be read.
 fn decode_fault(error: DecodeError, number: usize) -> Fault
-    ensures { IsDecodeFault error number result }
+    ensures told { IsDecodeFault error number result }
+    ensures number { fault_number result ≡ decode_error_code error }
 {
     match error {
         DecodeError::OutOfMemory => Fault::OutOfMemory,

@@ -1,7 +1,7 @@
 use Rattle.std.proofs.lemmas.Result.{err_from_is_err_and}
 use Rattle.dnssec_check.specs.Captured.{NewEvidence}
 use Rattle.dnssec_check.proofs.CapturedLemmas.{capture_refused}
-use Rattle.dnssec_check.proofs.captured.take.Goals as goal
+use Rattle.dnssec_check.proofs.capture_file.add_frame.Goals as goal
 
 pub returns-in_err-message-clause-refused : goal.returns-in_err-message-clause-refused
 returns-in_err-message-clause-refused c =
