@@ -11,14 +11,16 @@ use Rattle.dnssec_check.specs.Line.{IsAccepted, IsRefused, capture_of, line_code
 use Rattle.dnssec_check.specs.Run.{IsTextOf, IsRefusalOf}
 
 -- the words ask for something, and the output got just what the file that they name has for it
-pub record WroteText (words : List Text) (octets_at : List ℕ → Option (List ℕ)) (old new : Option (List ℕ)) : Type 0 where
+pub record WroteText (words : List Text) (octets_at : List ℕ → Option (List ℕ))
+    (old new : Option (List ℕ)) : Type 0 where
   pub request : Request
   pub accepted : IsAccepted words request
   pub text : IfSome (octets_at (capture_of request)) (λ file.
       (text : List ℕ) × IsTextOf request file text × Appends old new text)
 
 -- the words ask for something, and the output got a beginning of what the file that they name has for it
-pub record BeganText (words : List Text) (octets_at : List ℕ → Option (List ℕ)) (old new : Option (List ℕ)) : Type 0 where
+pub record BeganText (words : List Text) (octets_at : List ℕ → Option (List ℕ))
+    (old new : Option (List ℕ)) : Type 0 where
   pub request : Request
   pub accepted : IsAccepted words request
   pub text : IfSome (octets_at (capture_of request)) (λ file.

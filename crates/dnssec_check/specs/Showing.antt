@@ -51,7 +51,8 @@ record_line number resource =
 -- the lines of the message with the number; its records are numbered through its three sections
 abbrev pub message_text : ℕ → Contents → List ℕ
 message_text number message =
-    message_line number message ++ flat_map question_line message.questions ++ texts_from record_line 1 (records_of message)
+    message_line number message ++ flat_map question_line message.questions
+    ++ texts_from record_line 1 (records_of message)
 
 -- the file holds messages, whatever they are, and the text has the lines of each
 abbrev pub IsShowing : List ℕ → List ℕ → Type 0

@@ -25,10 +25,7 @@ use std::io::Read;
 ///
 /// The fault is the first in the order of the work: reading the file, its framing, and then each message in
 /// turn.
-pub fn messages_in<R: Read>(
-    alloc: Global,
-    capture: &mut Counted<R>,
-) -> Result<Vec<Message>, Fault>
+pub fn messages_in<R: Read>(alloc: Global, capture: &mut Counted<R>) -> Result<Vec<Message>, Fault>
     ensures messages { IfOk result (λ messages. IfSome (R.remaining (inner_of capture.old)) (λ file.
         Holds AnyMessage file messages.items)) }
     ensures faults { TellsFileFaults (IsRefusal AnyMessage) (R.remaining (inner_of capture.old))
@@ -84,7 +81,8 @@ fn read_fault(error: ReadError) -> Fault
 
 /// The messages of the frames; the fault is that of the first that is none.
 fn messages_of_frames(alloc: Global, frames: &[Vec<u8>]) -> Result<Vec<Message>, Fault>
-    ensures taken { IfOk result (λ messages. AllTaken AnyMessage no_evidence (octets_of_each frames.now) messages.items) }
+    ensures taken { IfOk result (λ messages.
+        AllTaken AnyMessage no_evidence (octets_of_each frames.now) messages.items) }
     ensures refused { IfErr result (IsFaultOf (FirstRefused AnyMessage no_evidence 1 (octets_of_each frames.now))) }
 {
     let mut messages = Vec::new(alloc);

@@ -8,7 +8,8 @@ ghost use Rattle.dnssec_check.specs.declared.status.Refusal.{Refusal};
 
 /// A request has at most one text for a file.
 pub fn one_text()
-    ensures { (asked : Request) (file : List ℕ) → AreOctets file → (a b : List ℕ) → IsTextOf asked file a → IsTextOf asked file b → a ≡ b }
+    ensures { (asked : Request) (file : List ℕ) → AreOctets file → (a b : List ℕ)
+        → IsTextOf asked file a → IsTextOf asked file b → a ≡ b }
 {}
 
 /// A file for which a request has a text isn't refused.

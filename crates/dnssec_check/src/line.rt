@@ -3,7 +3,9 @@ ghost use Rattle.std.specs.Prelude.{◌≡◌, ⊤, false, IfErr, IfOk, codes, m
 ghost use Rattle.std.specs.IoError.{error_kind as io_error_kind};
 ghost use Rattle.clap.specs.Words.{app_of, found_of, rows_of, rule_of};
 ghost use Rattle.clap.specs.declared.Command.TheViews.{out-Command as fields_of};
-ghost use Rattle.dnssec_check.specs.Line.{Asks, HasCapture, HasListValues, IsAccepted, IsRefused, all_rule, capture_of, capture_rule, line_code, line_error, list_app, moment_rule, program_app, show_app, words_error};
+ghost use Rattle.dnssec_check.specs.Line.{Asks, HasCapture, HasListValues, IsAccepted, IsRefused};
+ghost use Rattle.dnssec_check.specs.Line.{all_rule, capture_rule, moment_rule, list_app, program_app, show_app};
+ghost use Rattle.dnssec_check.specs.Line.{capture_of, line_code, line_error, words_error};
 ghost use Rattle.dnssec_check.specs.declared.line.LineError.TheVariants.{OutOfMemory};
 
 use crate::moment::Moment;

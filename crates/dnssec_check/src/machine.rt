@@ -1,5 +1,6 @@
 //! What the program has of the machine that runs it: the words of its command line, and files.
-ghost use Rattle.std.specs.Prelude.{◌≡◌, Bool, ℕ, List, Option, None, Some, IfErr, IfOk, IfSome, is_ok, map, string_bytes};
+ghost use Rattle.std.specs.Prelude.{◌≡◌, Bool, ℕ, List, Option, None, Some, map, string_bytes};
+ghost use Rattle.std.specs.Prelude.{IfErr, IfOk, IfSome, is_ok};
 ghost use Rattle.dnssec_check.specs.declared.line.LineError.{LineError};
 ghost use Rattle.dnssec_check.specs.declared.line.LineError.TheVariants.{OutOfMemory};
 
@@ -27,13 +28,15 @@ pub trait Machine {
 
     /// The words of the command line, of which the first is the program's name.
     fn words(&self) -> Result<Vec<String>, LineError>
-        ensures told { IfOk result (λ said. IfSome (given_words self.now) (λ told. map string_bytes said.items ≡ told)) }
+        ensures told { IfOk result (λ said. IfSome (given_words self.now) (λ told.
+            map string_bytes said.items ≡ told)) }
         ensures failed { IfErr result (λ error. IfSome (given_words self.now) (λ _. error ≡ OutOfMemory)) };
 
     /// Opens the file at the path.
     fn open(&self, path: &str) -> io::Result<Self::File>
         ensures opens { IfSome (opens self.now path.now) (λ opens. is_ok result ≡ opens) }
-        ensures octets { IfOk result (λ file. IfSome (octets_at self.now path.now) (λ octets. Self.File.remaining file ≡ Some octets)) };
+        ensures octets { IfOk result (λ file. IfSome (octets_at self.now path.now) (λ octets.
+            Self.File.remaining file ≡ Some octets)) };
 }
 
 /// The machine by what its system gives. No contract tells what that is.

@@ -90,7 +90,8 @@ fn answer<M: Machine, W: Write>(
     ensures write { result ≡ Err Fault.WriteFailed
         → failures_of output.old < u64.MAX → failures_of output.old < failures_of output.new }
     ensures begun { result ≡ Err Fault.WriteFailed
-        → IfSome (M.octets_at machine.now (capture_of request.now)) (λ file. (text : List ℕ) × IsTextOf request.now file text
+        → IfSome (M.octets_at machine.now (capture_of request.now)) (λ file.
+        (text : List ℕ) × IsTextOf request.now file text
         × AppendsBeginning (W.contents (inner_of output.old)) (W.contents (inner_of output.new)) text) }
     ensures untouched { IfErr result (λ fault. (fault ≡ Fault.WriteFailed → ⊥) → output.new ≡ output.old) }
 {

@@ -1,6 +1,7 @@
 //! The text of `show`: the captured messages with their questions and records.
 ghost use Rattle.std.specs.Prelude.{◌≡◌, ◌++◌, ◌+◌, ◌<◌, ℕ, List, IfOk, OnOk, length, flat_map, string_bytes};
-ghost use Rattle.dnssec_check.specs.Showing.{texts_from, message_line, question_line, record_line, message_text, about_text, rdata_text};
+ghost use Rattle.dnssec_check.specs.Showing.{texts_from, message_line, question_line, record_line};
+ghost use Rattle.dnssec_check.specs.Showing.{message_text, about_text, rdata_text};
 
 use dnsv_message::{Class, Message, Question, Record, Section};
 use dnsv_names::{Name, RecordType};
@@ -101,7 +102,8 @@ fn push_records(
     records: &[Record],
 ) -> Result<(), AllocError>
     requires { before + length records.now < u64.MAX }
-    ensures { OnOk result (string_bytes text.new ≡ string_bytes text.old ++ texts_from record_line (before + 1) records.now) }
+    ensures { OnOk result (string_bytes text.new
+        ≡ string_bytes text.old ++ texts_from record_line (before + 1) records.now) }
 {
     for (index, resource) in records.iter().enumerate() {
         push_record(alloc, text, before + index + 1, resource)?;

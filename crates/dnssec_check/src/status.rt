@@ -1,6 +1,7 @@
 //! How a run ends: with its text written, or with a fault.
 ghost use Rattle.std.specs.Prelude.{◌≡◌, Some};
-ghost use Rattle.dnssec_check.specs.Status.{status_code, fault_code, fault_number, fault_text, file_word, place_text, refusal_number};
+ghost use Rattle.dnssec_check.specs.Status.{status_code, fault_code, fault_number, refusal_number};
+ghost use Rattle.dnssec_check.specs.Status.{fault_text, file_word, place_text};
 
 use std::alloc::{AllocError, AllocFailed};
 use std::error::Error;

@@ -11,4 +11,4 @@ returns-in_err-frames-clause-faults g c =
 pub returns-clause-faults : goal.returns-clause-faults
 returns-clause-faults g c =
     TellsFileFaults-then _ _ c.messages_of_frames.result (c.in_ok-frames.ensures.faults AnyMessage)
-        (frames_refused AnyMessage _ _ c.in_ok-frames.ensures.frames) (rw c.deref.ensures.value at c.messages_of_frames.ensures.refused)
+    (frames_refused AnyMessage _ _ c.in_ok-frames.ensures.frames) (rw c.deref.ensures.value at c.messages_of_frames.ensures.refused)
