@@ -8,3 +8,4 @@ pub mod ShowingLemmas
 pub mod ProgramLemmas
 pub mod OneReason
 pub mod OneText
+pub mod AnswerLemmas

@@ -16,7 +16,7 @@ use Rattle.dnsv_canonical.specs.Evidence.{Evidence}
 use Rattle.dnssec_check.specs.Captured.{Demand, MessageRefused}
 use Rattle.dnssec_check.specs.Status.{TellsMessageError, TellsCaptureError}
 
-abbrev nowhere : Place
+abbrev pub nowhere : Place
 nowhere = record { message = None; «record» = None; line = None }
 
 abbrev pub IsReadFault : ReadError → Fault → Type 0

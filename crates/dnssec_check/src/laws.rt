@@ -1,10 +1,15 @@
 //! What the definitions of a request's text and of a refusal say of each other, for a file of octets.
-ghost use Rattle.std.specs.Prelude.{◌≡◌, List, ℕ};
+ghost use Rattle.std.specs.Prelude.{◌≡◌, ◌⊎◌, List, ℕ};
 ghost use Rattle.dnsv_names.specs.Octets.{AreOctets};
+ghost use Rattle.dnsv_message.specs.Frames.{IsTooLong};
+ghost use Rattle.dnssec_check.specs.Captured.{AnyMessage, IsRefusal};
+ghost use Rattle.dnssec_check.specs.Showing.{IsShowing};
 ghost use Rattle.dnssec_check.specs.Run.{IsTextOf, IsRefusalOf};
 ghost use Rattle.dnssec_check.specs.declared.line.Request.{Request};
 ghost use Rattle.dnssec_check.specs.declared.status.Place.{Place};
 ghost use Rattle.dnssec_check.specs.declared.status.Refusal.{Refusal};
+
+use dnsv_message::{message_or_fault, one_answer};
 
 /// A request has at most one text for a file.
 pub fn one_text()
@@ -23,3 +28,12 @@ pub fn one_refusal()
     ensures { (asked : Request) (file : List ℕ) → AreOctets file → (a b : Refusal) (p q : Place)
         → IsRefusalOf asked file a p → IsRefusalOf asked file b q → (a ≡ b) × (p ≡ q) }
 {}
+
+/// A file of octets is shown, or refused, or has an octet too many.
+pub fn every_file_is_shown_or_refused()
+    ensures { (file : List ℕ) → AreOctets file → ((text : List ℕ) × IsShowing file text)
+        ⊎ (((why : Refusal) × (place : Place) × IsRefusal AnyMessage file why place) ⊎ IsTooLong file) }
+{
+    one_answer();
+    message_or_fault();
+}
