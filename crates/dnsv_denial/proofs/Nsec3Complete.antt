@@ -9,9 +9,9 @@ use Rattle.std.specs.List.{AllByRecursion}
 use Rattle.dnsv_names.specs.Name.{Labels, SameName, IsAtOrBelow, rightmost}
 use Rattle.dnsv_names.specs.Order.{label_cmp, IsBelow}
 use Rattle.dnsv_names.specs.Tree.{wildcard_of}
-use Rattle.dnsv_names.specs.Circle.{Gap, has, IsMember, IsSuccessor}
+use Rattle.dnsv_names.specs.Circle.{Gap, has, IsSuccessor}
 use Rattle.dnsv_names.specs.KeyLaws.{label_cmp_exact}
-use Rattle.dnsv_names.specs.CircleLaws.{lies_in_a_gap}
+use Rattle.dnsv_names.specs.CircleLaws.{lies_in_a_gap_among}
 use Rattle.dnsv_names.specs.TreeLaws.{same_at_or_below, at_or_below_trans, at_or_below_length, same_or_not, at_or_below_or_not}
 use Rattle.dnsv_names.specs.AncestorLaws.{rightmost_above, rightmost_below, rightmost_same, rightmost_length, rightmost_rightmost, rightmost_in_line}
 use Rattle.dnsv_denial.specs.TypeNumbers.{ns, cname, soa, ds, rrsig, nsec}
@@ -89,11 +89,6 @@ chained_respects : (names : List Labels) (a b : Labels) → SameName a b → IsC
 chained_respects names a b same chained =
     record { entry = any_map (λ each. SameName each a) (λ each. SameName each b) names (λ each there. there ∙ same) chained.entry }
 
--- a hash whose gap covers, in a list that isn't empty
-gap_of_hashes : (members : List (List ℕ)) (some x : List ℕ) → IsMember label_cmp members some → ¬ IsMember label_cmp members x → (owner : List ℕ) × IsMember label_cmp members owner × ((next : List ℕ) → IsSuccessor label_cmp members owner next → Gap label_cmp owner next x)
-gap_of_hashes [] some x member absent = absurd member.there
-gap_of_hashes (first ∷ rest) some x member absent = lies_in_a_gap nat_list_cmp_total first rest x absent
-
 -- a record of the chain covers the name
 abbrev HasCover : Zone → NameHash → List Labels → List Nsec3Record → Labels → Type 0
 HasCover zone hash names records x = Any (λ r. Covers hash r x × IsInNsec3Chain zone hash names r) records
@@ -121,7 +116,7 @@ module _ (zone : Zone) (apex : Labels) (hash : NameHash) (records : List Nsec3Re
   covered : (x : Labels) → ¬ Hashed hash chain.has_records.names (hash.of x) → HasCover zone hash chain.has_records.names records x
   covered x none =
       let at_apex : Hashed hash chain.has_records.names (hash.of zone.apex) = record { name = zone.apex; is_chained = apex_chained; is_hash = refl } in
-      let some = gap_of_hashes (map hash.of chain.has_records.names) (hash.of zone.apex) (hash.of x)
+      let some = lies_in_a_gap_among nat_list_cmp_total (map hash.of chain.has_records.names) (hash.of zone.apex) (hash.of x)
       (record { there = hashed_member hash chain.has_records.names (hash.of zone.apex) at_apex })
       (λ member. none (member_hashed hash chain.has_records.names (hash.of x) member.there)) in
       let owner = member_hashed hash chain.has_records.names some.0 some.1.there in

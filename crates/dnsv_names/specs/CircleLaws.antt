@@ -155,8 +155,7 @@ module _ {K : Type 0} {cmp : K → K → Ordering} (total : IsTotalOrder cmp) wh
         (λ (later : IsMember cmp members x). old.none_between x later gap) (member_split there);
   }
 
-  -- in a circle with a member each value has a successor
-  pub successor : (owner first : K) (rest : List K) → (next : K) × IsSuccessor cmp (first ∷ rest) owner next
+  successor : (owner first : K) (rest : List K) → (next : K) × IsSuccessor cmp (first ∷ rest) owner next
   successor owner first [] = (
     first,
     record {
@@ -172,6 +171,7 @@ module _ {K : Type 0} {cmp : K → K → Ordering} (total : IsTotalOrder cmp) wh
       (λ (outside : ¬ Gap cmp owner old.0 first). (old.0, farther (second ∷ rest) owner old.0 first old.1 outside))
       (gap_cases owner old.0 first)
 
+  -- in a circle with a member each value has a successor
   pub successor_among : (members : List K) (some owner : K) → IsMember cmp members some → (next : K) × IsSuccessor cmp members owner next
   successor_among [] some owner member = absurd member.there
   successor_among (first ∷ rest) some owner member = successor owner first rest
@@ -226,8 +226,7 @@ module _ {K : Type 0} {cmp : K → K → Ordering} (total : IsTotalOrder cmp) wh
             (record { lies = turned total found.0 x y (cmp found.0 x) refl gap.lies }),
       )
 
-  -- What equals no member lies in the gap of one: some member's, whatever its successor.
-  pub lies_in_a_gap : (first : K) (rest : List K) (x : K) → ¬ IsMember cmp (first ∷ rest) x →
+  lies_in_a_gap : (first : K) (rest : List K) (x : K) → ¬ IsMember cmp (first ∷ rest) x →
       (owner : K) × IsMember cmp (first ∷ rest) owner × ((next : K) → IsSuccessor cmp (first ∷ rest) owner next → Gap cmp owner next x)
   lies_in_a_gap first rest x absent =
       let found = predecessor x first rest in
@@ -237,6 +236,7 @@ module _ {K : Type 0} {cmp : K → K → Ordering} (total : IsTotalOrder cmp) wh
         λ next successor. apart total found.0 x next (other found.0 found.1) (other next successor.member) (found.2 next successor.member),
       )
 
+  -- What equals no member lies in the gap of one: some member's, whatever its successor.
   pub lies_in_a_gap_among : (members : List K) (some x : K) → IsMember cmp members some → ¬ IsMember cmp members x → (owner : K) × IsMember cmp members owner × ((next : K) → IsSuccessor cmp members owner next → Gap cmp owner next x)
   lies_in_a_gap_among [] some x member absent = absurd member.there
   lies_in_a_gap_among (first ∷ rest) some x member absent = lies_in_a_gap first rest x absent
