@@ -29,10 +29,9 @@ number_stands : (octets : List ℕ) (place n number : ℕ) → 0 < n → number 
 number_stands octets place n number some small stands =
     let size : length (bytes_high_first n number) ≡ n = length-bytes_high_first n number in
     let parts : drop place octets ≡ bytes_high_first n number ++ drop (length (bytes_high_first n number)) (drop place octets) =
-    sym (take-append-drop (length (bytes_high_first n number)) (drop place octets)) ∙ ap (λ xs. xs ++ drop (length (bytes_high_first n number)) (drop place octets)) stands.form in (
-      omega (arith, size, part_within octets place (bytes_high_first n number) (omega (arith, size)) stands.form),
-      sym (big_number-reads_back n number (drop (length (bytes_high_first n number)) (drop place octets)) small) ∙ ap (big_from 0 n) (sym parts) ∙ number_behind octets place n,
-    )
+    sym (take-append-drop (length (bytes_high_first n number)) (drop place octets)) ∙ ap (λ xs. xs ++ drop (length (bytes_high_first n number)) (drop place octets)) stands.form in
+    let within : place + n ≤ length octets = omega (arith, size, part_within octets place (bytes_high_first n number) (omega (arith, size)) stands.form) in
+    (within, sym (big_number-reads_back n number (drop (length (bytes_high_first n number)) (drop place octets)) small) ∙ ap (big_from 0 n) (sym parts) ∙ sym (number_behind octets place n within))
 
 module _ (octets : List ℕ) where
   u16_stands : (place number : ℕ) → number < 256 ^ 2 → Stands octets place (to_be_bytes w16 number) → NumberAt octets place 2 number

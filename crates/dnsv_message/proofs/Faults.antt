@@ -1,6 +1,6 @@
 -- The fault of octets that are no message, from the fault of one of its sections.
 use Rattle.std.proofs.Common.{◌≡◌, ℕ, ◌+◌, ◌<◌, ◌≤◌, List, ◌++◌, length, refl, subst, inl, inr, arith, add_assoc, length-append}
-use Rattle.byteorder.specs.Endian.{big_from}
+use Rattle.dnsv_names.specs.Octets.{number_at}
 use Rattle.dnsv_message.specs.declared.errors.DecodeError.{DecodeError}
 use Rattle.dnsv_message.specs.declared.errors.DecodeError.TheVariants.{TrailingBytes}
 use Rattle.dnsv_message.specs.declared.record.Question.{Question}
@@ -20,7 +20,7 @@ pub record Begun (octets : List ℕ) (question_count answer_count authority_coun
   pub all_questions : length questions ≡ question_count
 
 module _ {octets : List ℕ} {question_count answer_count authority_count additional_count : ℕ} {questions : List Question} {place : ℕ} (begun : Begun octets question_count answer_count authority_count additional_count questions place) where
-  pub header_of : HeaderOf octets (big_from 0 2 octets) (big_from 2 2 octets) question_count answer_count authority_count additional_count
+  pub header_of : HeaderOf octets (number_at octets 0 2) (number_at octets 2 2) question_count answer_count authority_count additional_count
   header_of = record {
     identifier = (omega (arith, begun.header_there), refl);
     flag_bits = (omega (arith, begun.header_there), refl);
@@ -33,8 +33,8 @@ module _ {octets : List ℕ} {question_count answer_count authority_count additi
   -- a fault of all records is one of the octets
   behind_questions : {error : DecodeError} → RecordsFault octets (answer_count + authority_count + additional_count) place error → FaultOf octets error
   behind_questions fault = inr (record {
-    id = big_from 0 2 octets;
-    flags = big_from 2 2 octets;
+    id = number_at octets 0 2;
+    flags = number_at octets 2 2;
     question_count = question_count;
     answer_count = answer_count;
     authority_count = authority_count;

@@ -12,7 +12,7 @@ use Rattle.dnsv_message.specs.Layout.{layout_of}
 use Rattle.dnsv_message.specs.NameAt.{NumberAt}
 use Rattle.dnsv_message.specs.Grammar.{QuestionAt, RdataNameAt, RdataAt, RecordAt, MessageOf, IsMessage, part_of}
 use Rattle.dnsv_message.specs.Fits.{FitsQuestion, FitsRecord, FitsMessage}
-use Rattle.dnsv_message.proofs.Numbers.{octet_fits, octets_of_part}
+use Rattle.dnsv_message.proofs.Numbers.{octet_fits, octets_of_part, number_sum}
 use Rattle.dnsv_message.proofs.RdataLemmas.{rdata_name}
 use Rattle.dnsv_message.proofs.RdataWritten.{InOrder-each, name_is, layout_short, rdata_short, rdata_parts}
 use Rattle.dnsv_message.proofs.TailLemmas.{records_in_order}
@@ -46,7 +46,7 @@ names_octets (name ∷ names) each =
 -- ---- questions and records
 
 number_fits : (octets : List ℕ) (place n number : ℕ) → ((i : ℕ) → get_or octets i 0 < 256) → NumberAt octets place n number → number < 256 ^ n
-number_fits octets place n number fit at = rw at.1 (big_from-lt place n octets fit)
+number_fits octets place n number fit at = rw (number_sum octets place n number at) (big_from-lt place n octets fit)
 
 module _ (octets : List ℕ) (fit : (i : ℕ) → get_or octets i 0 < 256) where
   rdata_octets : (rtype class start size : ℕ) (rdata : List ℕ) → RdataAt octets (layout_of rtype class) start size rdata → AreOctets rdata

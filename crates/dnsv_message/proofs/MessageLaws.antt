@@ -1,8 +1,8 @@
 -- Octets are at most one message, or have one fault, and never both.
 use Rattle.std.proofs.Common.{◌≡◌, ◌⊎◌, ℕ, ◌+◌, ◌<◌, ◌≤◌, List, ◌++◌, length, get_or, refl, sym, ap, subst, ◌∙◌, arith, ⊎_elim, length-append, Result, Ok, Err}
 use Rattle.std.specs.Result.{IfOk, IfErr, MatchResult}
-use Rattle.byteorder.specs.Endian.{big_from}
 use Rattle.dnsv_names.specs.Name.{Labels}
+use Rattle.dnsv_names.specs.Octets.{number_at}
 use Rattle.dnsv_message.specs.declared.errors.NameFault.{NameFault}
 use Rattle.dnsv_message.specs.declared.errors.DecodeError.{DecodeError}
 use Rattle.dnsv_message.specs.declared.errors.DecodeError.TheVariants.{OutOfMemory, Short, BadRdata, TrailingBytes}
@@ -19,7 +19,7 @@ use Rattle.dnsv_message.proofs.Sequences.{InOrder-append, InOrder-same, InOrder-
 
 module _ (octets : List ℕ) where
   number_same : (place other width n m : ℕ) → place ≡ other → NumberAt octets place width n → NumberAt octets other width m → n ≡ m
-  number_same place other width n m same at also = at.1 ∙ ap (λ p. big_from p width octets) same ∙ sym also.1
+  number_same place other width n m same at also = at.1 ∙ ap (λ p. number_at octets p width) same ∙ sym also.1
 
 module _ (octets : List ℕ) (fit : (i : ℕ) → get_or octets i 0 < 256) where
   name_same : (place : ℕ) (name other : Labels) (end after : ℕ) → NameFrom octets place name end → NameFrom octets place other after → (name ≡ other) × (end ≡ after)

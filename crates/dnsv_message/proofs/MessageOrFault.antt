@@ -3,8 +3,8 @@ use Rattle.std.proofs.Common.{◌≡◌, ◌⊎◌, inl, inr, ⊎_elim, ℕ, zer
 use Rattle.std.specs.Prelude.{flat_map}
 use Rattle.std.proofs.lemmas.Bool.{cases_lt}
 use Rattle.std.proofs.lemmas.List.{drop_more}
-use Rattle.byteorder.specs.Endian.{big_from}
 use Rattle.dnsv_names.specs.Name.{Labels, IsName, wire}
+use Rattle.dnsv_names.specs.Octets.{number_at}
 use Rattle.dnsv_message.specs.declared.errors.NameFault.{NameFault}
 use Rattle.dnsv_message.specs.declared.errors.NameFault.TheVariants as name
 use Rattle.dnsv_message.specs.declared.errors.DecodeError.{DecodeError}
@@ -17,7 +17,7 @@ use Rattle.dnsv_message.specs.Layout.{layout_of}
 use Rattle.dnsv_message.specs.Message.{Contents}
 use Rattle.dnsv_message.specs.NameAt.{NumberAt, PartAt, LabelAt, PointerAt, NameAt, root, label, pointer, NameFrom, NameFaultAt, here, after_label, after_pointer, NameFaultFrom, pointer_limit}
 use Rattle.dnsv_message.specs.Grammar.{InOrder, FirstFault, QuestionAt, QuestionFaultAt, CutShort, RdataNameAt, RdataAt, IsTail, part_of, RecordHeadAt, RecordAt, RecordFaultAt, HeaderOf, RecordsFault, BodyFault, MessageOf, FaultOf}
-use Rattle.dnsv_message.proofs.Numbers.{label_here}
+use Rattle.dnsv_message.proofs.Numbers.{label_here, number_sum, number_from}
 use Rattle.dnsv_message.proofs.NameWalk.{end_within}
 use Rattle.dnsv_message.proofs.NameLaws.{NameAt_same, NameAt_sound}
 use Rattle.dnsv_message.proofs.RdataLemmas.{NoName, plain_at, rdata_name, head_fits, names_same, names_missing}
@@ -69,8 +69,10 @@ module _ (octets : List ℕ) (fit : (i : ℕ) → get_or octets i 0 < 256) where
   pointer_or place run pointers size n room octet top led = ⊎_elim
       (λ (missing : length octets < place + 2). inr (name.Short, here (inr (n, octet, inr (top, missing)))))
       (λ (whole : place + 2 ≤ length octets).
-      let target = big_from place 2 octets - 49152 in
-      let at : PointerAt octets place target = (omega (arith, fit place, fit (suc place), octet.1), (whole, omega (arith, octet.1))) in
+      let first = number_sum octets place 1 n octet in
+      let both = number_sum octets place 2 (number_at octets place 2) (whole, refl) in
+      let target = number_at octets place 2 - 49152 in
+      let at : PointerAt octets place target = (omega (arith, fit place, fit (suc place), first, both), (whole, omega (arith, first, both))) in
       ⊎_elim
       (λ (back : target < run). follow_or place run pointers size target room at back led)
       (λ (forward : run ≤ target). inr (name.BadPointer, here (target, at, forward)))
@@ -82,7 +84,7 @@ module _ (octets : List ℕ) (fit : (i : ℕ) → get_or octets i 0 < 256) where
   name_on pointers led (suc fuel) place run size room enough = ⊎_elim
       (λ (within : place < length octets).
       let n = get_or octets place 0 in
-      let octet : NumberAt octets place 1 n = (omega (arith, within), omega arith) in
+      let octet : NumberAt octets place 1 n = number_from octets place 1 n (omega (arith, within)) (omega arith) in
       ⊎_elim
       (λ (none : n < 1). inl ([], place + 1, root (octet.0, omega (arith, none)), omega (arith, room)))
       (λ (some : 1 ≤ n). ⊎_elim
@@ -118,7 +120,7 @@ module _ (octets : List ℕ) (fit : (i : ℕ) → get_or octets i 0 < 256) where
   question_or number place = ⊎_elim
       (λ (found : (name : Labels) × (after_name : ℕ) × NameFrom octets place name after_name × (after_name + 4 ≤ length octets)).
       let after = found.1 in
-      let question : Question = record { name = found.0; rtype = record { 0 = big_from after 2 octets }; class = record { 0 = big_from (after + 2) 2 octets } } in
+      let question : Question = record { name = found.0; rtype = record { 0 = number_at octets after 2 }; class = record { 0 = number_at octets (after + 2) 2 } } in
       inl (question, after + 4, record { after_name = after; name = found.2; rtype = (omega (arith, found.3), refl); class = (omega (arith, found.3), refl); ends = refl }))
       inr
       (cut_short_or place 4)
@@ -128,7 +130,7 @@ module _ (octets : List ℕ) (fit : (i : ℕ) → get_or octets i 0 < 256) where
   -- what is read without following a pointer is spelled there
   plain_name : (place run : ℕ) (labels : Labels) (end : ℕ) → NameAt octets place run zero labels end → Stands octets place (wire labels) × (end ≡ place + length (wire labels))
   plain_name place run labels end (root at) = (
-    record { form = ap (take 1) (drop_more octets place 0 (omega (arith, at.0))) ∙ ap (λ n. n ∷ []) (omega (arith, at.1)) },
+    record { form = ap (take 1) (drop_more octets place 0 (omega (arith, at.0))) ∙ ap (λ n. n ∷ []) (omega (arith, number_sum octets place 1 0 at)) },
     omega arith,
   )
   plain_name place run labels end (label {first = first} {labels = rest} at more) =
@@ -208,10 +210,10 @@ module _ (octets : List ℕ) (fit : (i : ℕ) → get_or octets i 0 < 256) where
   record_or number place = ⊎_elim
       (λ (found : (name : Labels) × (after_name : ℕ) × NameFrom octets place name after_name × (after_name + 10 ≤ length octets)).
       let after = found.1 in
-      let rtype = big_from after 2 octets in
-      let class = big_from (after + 2) 2 octets in
-      let ttl = big_from (after + 4) 4 octets in
-      let size = big_from (after + 8) 2 octets in
+      let rtype = number_at octets after 2 in
+      let class = number_at octets (after + 2) 2 in
+      let ttl = number_at octets (after + 4) 4 in
+      let size = number_at octets (after + 8) 2 in
       let start = after + 10 in
       let head : RecordHeadAt octets place found.0 rtype class ttl start size = record {
         after_name = after;
@@ -240,12 +242,12 @@ module _ (octets : List ℕ) (fit : (i : ℕ) → get_or octets i 0 < 256) where
   some_message_or_fault = ⊎_elim
       (λ (short : length octets < 12). inr (Short, inl (short, refl)))
       (λ (whole : 12 ≤ length octets).
-      let id = big_from 0 2 octets in
-      let flags = big_from 2 2 octets in
-      let question_count = big_from 4 2 octets in
-      let answer_count = big_from 6 2 octets in
-      let authority_count = big_from 8 2 octets in
-      let additional_count = big_from 10 2 octets in
+      let id = number_at octets 0 2 in
+      let flags = number_at octets 2 2 in
+      let question_count = number_at octets 4 2 in
+      let answer_count = number_at octets 6 2 in
+      let authority_count = number_at octets 8 2 in
+      let additional_count = number_at octets 10 2 in
       let total = answer_count + authority_count + additional_count in
       let header : HeaderOf octets id flags question_count answer_count authority_count additional_count = record {
         identifier = (omega (arith, whole), refl);

@@ -5,11 +5,12 @@ use Rattle.dnsv_names.specs.Name.{Labels, wire}
 use Rattle.dnsv_message.specs.declared.errors.NameFault.{NameFault}
 use Rattle.dnsv_message.specs.declared.errors.NameFault.TheVariants.{Short, BadLabel, BadPointer, TooManyPointers, LongName}
 use Rattle.dnsv_message.specs.NameAt.{NumberAt, LabelAt, PointerAt, NameAt, root, label, pointer, IsTorn, FaultHere, NameFaultAt, here, after_label, after_pointer}
+use Rattle.dnsv_message.proofs.Numbers.{number_sum}
 use Rattle.dnsv_message.proofs.NameWalk.{part_within, wire_not_empty}
 
 module _ (octets : List ℕ) where
   octet_of_number : (place n : ℕ) → NumberAt octets place 1 n → get_or octets place 0 ≡ n
-  octet_of_number place n at = omega (arith, at.1)
+  octet_of_number place n at = omega (arith, number_sum octets place 1 n at)
 
   octet_of_label : (place : ℕ) (first : List ℕ) → LabelAt octets place first → get_or octets place 0 ≡ length first
   octet_of_label place first at =
@@ -42,7 +43,7 @@ module _ (octets : List ℕ) where
 
   module _ (fit : (i : ℕ) → get_or octets i 0 < 256) where
     octet_of_pointer : (place target : ℕ) → PointerAt octets place target → 192 ≤ get_or octets place 0
-    octet_of_pointer place target at = omega (arith, at.1.1, fit place, fit (suc place))
+    octet_of_pointer place target at = omega (arith, number_sum octets place 2 _ at.1, fit place, fit (suc place))
 
     pub NameAt_same : (place run pointers : ℕ) (labels others : Labels) (end other : ℕ) → NameAt octets place run pointers labels end → NameAt octets place run pointers others other → (labels ≡ others) × (end ≡ other)
     NameAt_same place run pointers labels others end other (root at) also = elim (cases place run pointers others other also) [

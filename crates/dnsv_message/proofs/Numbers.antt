@@ -4,19 +4,22 @@ use Rattle.std.proofs.lemmas.List.{get_or-drop, drop_more, length-take-le}
 use Rattle.std.proofs.lemmas.List.Elements.{All-from_get_or, All-take, All-drop, recursion_from_All}
 use Rattle.std.proofs.lemmas.Bool.{false≢true}
 use Rattle.std.specs.List.{AllByRecursion}
-use Rattle.byteorder.specs.Endian.{big_from, big_number}
-use Rattle.dnsv_names.specs.Octets.{AreOctets}
+use Rattle.byteorder.specs.Endian.{big_from}
+use Rattle.dnsv_names.specs.Octets.{AreOctets, number_at}
+use Rattle.dnsv_names.specs.OctetLaws.{number_at-big_from}
 use Rattle.dnsv_message.specs.Grammar.{part_of}
 use Rattle.dnsv_message.specs.NameAt.{NumberAt, LabelAt}
 
--- reading from a place on is reading at the place
-big_from-drop : (octets : List ℕ) (place i n : ℕ) → big_from i n (drop place octets) ≡ big_from (place + i) n octets
-big_from-drop octets place i zero = refl
-big_from-drop octets place i (suc n) =
-    rw (get_or-drop place octets i 0, big_from-drop octets place (suc i) n, add-suc place i) refl
+-- the number at a place is the sum of its octets, each by its power of 256
+pub number_sum : (octets : List ℕ) (place width n : ℕ) → NumberAt octets place width n → n ≡ big_from place width octets
+number_sum octets place width n at = at.1 ∙ number_at-big_from octets place width at.0
 
-pub number_behind : (octets : List ℕ) (place n : ℕ) → big_number n (drop place octets) ≡ big_from place n octets
-number_behind octets place n = big_from-drop octets place 0 n ∙ ap (λ i. big_from i n octets) (add-zero place)
+pub number_from : (octets : List ℕ) (place width n : ℕ) → place + width ≤ length octets → n ≡ big_from place width octets → NumberAt octets place width n
+number_from octets place width n within same = (within, same ∙ sym (number_at-big_from octets place width within))
+
+-- and that of the octets behind the place
+pub number_behind : (octets : List ℕ) (place n : ℕ) → place + n ≤ length octets → number_at octets place n ≡ big_from 0 n (drop place octets)
+number_behind octets place n within = number_at-big_from (drop place octets) 0 n (omega (arith, within, length-drop place octets))
 
 -- the octets of a part are octets
 pub octets_of_part : (octets : List ℕ) (place n : ℕ) → ((i : ℕ) → get_or octets i 0 < 256) → AllByRecursion (λ octet. octet < 256) (take n (drop place octets))
@@ -28,7 +31,7 @@ octets_of_part octets place n fit = recursion_from_All (λ octet. octet < 256) (
 -- behind a length stands its label, where the octets are long enough
 pub label_here : (octets : List ℕ) (place n : ℕ) → ((i : ℕ) → get_or octets i 0 < 256) → NumberAt octets place 1 n → 0 < n → n ≤ 63 → place + (1 + n) ≤ length octets → (label : List ℕ) × LabelAt octets place label × (n ≡ length label)
 label_here octets place n fit octet not_empty small within =
-    let first_is : get_or octets place 0 ≡ n = omega (arith, octet.1) in
+    let first_is : get_or octets place 0 ≡ n = omega (arith, number_sum octets place 1 n octet) in
     let size : length (take n (drop (place + 1) octets)) ≡ n = length-take-le n (drop (place + 1) octets) (omega (arith, length-drop (place + 1) octets)) in (
       take n (drop (place + 1) octets),
       (

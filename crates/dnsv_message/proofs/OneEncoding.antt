@@ -75,7 +75,7 @@ module _ (octets : List ℕ) (fit : (i : ℕ) → get_or octets i 0 < 256) where
       let part = part_of octets place 2 in
       let size : length part ≡ 2 = length-take-le 2 (drop place octets) (omega (arith, at.0, length-drop place octets)) in
       let same : big_from 0 2 part ≡ from_be_bytes w16 part = omega arith in
-      let is : number ≡ from_be_bytes w16 part = at.1 ∙ sym (number_behind octets place 2) ∙ sym (big_from-take 0 2 2 (drop place octets) (omega arith)) ∙ same in
+      let is : number ≡ from_be_bytes w16 part = at.1 ∙ number_behind octets place 2 at.0 ∙ sym (big_from-take 0 2 2 (drop place octets) (omega arith)) ∙ same in
       record { form = sym (be_bytes_2 part number size (octet_fits part (octets_of_part octets place 2 fit)) is) }
 
   u32_spelled : (place number : ℕ) → NumberAt octets place 4 number → Stands octets place (to_be_bytes w32 number)
@@ -83,7 +83,7 @@ module _ (octets : List ℕ) (fit : (i : ℕ) → get_or octets i 0 < 256) where
       let part = part_of octets place 4 in
       let size : length part ≡ 4 = length-take-le 4 (drop place octets) (omega (arith, at.0, length-drop place octets)) in
       let same : big_from 0 4 part ≡ from_be_bytes w32 part = omega arith in
-      let is : number ≡ from_be_bytes w32 part = at.1 ∙ sym (number_behind octets place 4) ∙ sym (big_from-take 0 4 4 (drop place octets) (omega arith)) ∙ same in
+      let is : number ≡ from_be_bytes w32 part = at.1 ∙ number_behind octets place 4 at.0 ∙ sym (big_from-take 0 4 4 (drop place octets) (omega arith)) ∙ same in
       record { form = sym (be_bytes_4 part number size (octet_fits part (octets_of_part octets place 4 fit)) is) }
 
   -- a name without a pointer ends behind its wire form

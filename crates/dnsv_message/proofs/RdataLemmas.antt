@@ -13,7 +13,7 @@ use Rattle.dnsv_message.specs.Grammar.{InOrder, FirstFault, RdataNameAt, RdataAt
 use Rattle.dnsv_message.proofs.NameWalk.{part_within}
 use Rattle.dnsv_message.proofs.NameLaws.{NameAt_same, NameAt_sound}
 use Rattle.dnsv_message.proofs.Sequences.{Reading, Reading-start, Reading-next, Reading-fault, Reading-order, InOrder-same, InOrder-sound}
-use Rattle.dnsv_message.proofs.Numbers.{part_same}
+use Rattle.dnsv_message.proofs.Numbers.{part_same, number_from}
 
 -- octets that begin with two parts begin with the first, and then with the second
 pub part_split : (a b octets : List ℕ) → take (length (a ++ b)) octets ≡ a ++ b → (take (length a) octets ≡ a) × (take (length b) (drop (length a) octets) ≡ b)
@@ -30,7 +30,7 @@ module _ (octets : List ℕ) where
       let octet : get_or octets place 0 ≡ 0 =
       ap (λ n. get_or octets n 0) (sym (add-zero place)) ∙ sym (get_or-drop place octets 0 0)
       ∙ sym (get_or-take 1 (drop place octets) 0 0 (omega arith)) ∙ ap (λ xs. get_or xs 0 0) at in
-      root (part_within octets place (0 ∷ []) (omega arith) at, omega (arith, octet))
+      root (number_from octets place 1 0 (part_within octets place (0 ∷ []) (omega arith) at) (omega (arith, octet)))
   plain_at (first ∷ labels) place run pointers each at =
       let parts = part_split (length first ∷ first) (wire labels) (drop place octets) at in
       let counts : place + (1 + length first) ≡ place + suc (length first) = omega arith in

@@ -1,8 +1,8 @@
 -- Names in a message (RFC 1035 3.1, 4.1.4): which name the octets spell at a place, and the fault that comes first where
 -- they spell none.
 use Rattle.std.specs.Prelude.{◌≡◌, ◌⊎◌, ℕ, suc, ◌+◌, ◌*◌, ◌^◌, ◌<◌, ◌≤◌, List, [], ◌∷◌, length, take, drop}
-use Rattle.byteorder.specs.Endian.{big_from}
 use Rattle.dnsv_names.specs.Name.{Labels, IsLabel, wire}
+use Rattle.dnsv_names.specs.Octets.{number_at}
 use Rattle.dnsv_message.specs.declared.errors.NameFault.{NameFault}
 use Rattle.dnsv_message.specs.declared.errors.NameFault.TheVariants.{Short, BadLabel, BadPointer, TooManyPointers, LongName}
 
@@ -12,7 +12,7 @@ PartAt octets place part = take (length part) (drop place octets) ≡ part
 
 -- the number stands in `width` octets from the place on, the highest octet first
 abbrev pub NumberAt : List ℕ → ℕ → ℕ → ℕ → Type 0
-NumberAt octets place width number = (place + width ≤ length octets) × (number ≡ big_from place width octets)
+NumberAt octets place width number = (place + width ≤ length octets) × (number ≡ number_at octets place width)
 
 -- a label stands at the place, behind its length
 abbrev pub LabelAt : List ℕ → ℕ → List ℕ → Type 0

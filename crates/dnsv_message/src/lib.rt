@@ -18,7 +18,6 @@ mod capture;
 mod counted;
 mod encode;
 mod errors;
-mod fields;
 mod file;
 mod framer;
 mod framing;

@@ -3,10 +3,10 @@ ghost use Rattle.std.specs.Prelude.{◌≡◌, ◌⊎◌, ℕ, List, IfOk, IfErr
 
 use crate::encode::{push_questions, push_records};
 use crate::errors::DecodeError;
-use crate::fields::u16_at;
 use crate::number::Flags;
 use crate::record::{Question, Record, Section};
 use crate::section::{questions_at, records_at};
+use dnsv_names::u16_at;
 use std::alloc::{AllocError, Global};
 use std::marker::Model;
 

@@ -4,9 +4,8 @@ ghost use Rattle.dnsv_message.specs.NameAt.{NameFrom, NameFaultFrom, NumberAt, F
 ghost use Rattle.dnsv_message.specs.Steps.{StepAt};
 
 use crate::errors::NameFault;
-use crate::fields::u16_at;
 use arrayvec::ArrayVec;
-use dnsv_names::{LABEL_LIMIT, Name, WIRE_LIMIT};
+use dnsv_names::{LABEL_LIMIT, Name, WIRE_LIMIT, u16_at};
 
 /// How many pointers a name follows at most.
 const POINTER_LIMIT: usize = 32;

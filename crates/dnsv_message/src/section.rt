@@ -4,12 +4,11 @@ ghost use Rattle.dnsv_message.specs.Grammar.{QuestionAt, QuestionFaultAt, Record
 ghost use Rattle.dnsv_message.specs.Tail.{LastAt};
 
 use crate::errors::DecodeError;
-use crate::fields::{u16_at, u32_at};
 use crate::name_at::name_at;
 use crate::number::{Class, Ttl};
 use crate::rdata::{Layout, rdata_at};
 use crate::record::{Question, Record};
-use dnsv_names::RecordType;
+use dnsv_names::{RecordType, u16_at, u32_at};
 use std::alloc::Global;
 
 /// How many octets of a question stand behind its name.

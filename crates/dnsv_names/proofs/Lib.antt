@@ -5,7 +5,6 @@ pub mod FieldLemmas
 pub mod LineLemmas
 pub mod LowerLemmas
 pub mod NameLemmas
-pub mod OctetLemmas
 pub mod OneReading
 pub mod ParseLemmas
 pub mod ReadLemmas

@@ -14,6 +14,7 @@ pub mod Name
 pub mod NameCircleLaws
 pub mod NameError
 pub mod Octets
+pub mod OctetLaws
 pub mod Order
 pub mod OrderLaws
 pub mod Reading

@@ -11,7 +11,7 @@ returns-then-octets-start-clause-fault c =
       ttl = c.u32_at.result;
       start = c.in_ok-name.after_name + 10;
       size = c.u16_at-size.result;
-      head = record { after_name = c.in_ok-name.after_name; named = c.in_ok-name.ensures.found; typed = c.u16_at.ensures; classed = c.u16_at-2.ensures; timed = c.u32_at.ensures; sized = c.u16_at-size.ensures; starts = refl };
+      head = record { after_name = c.in_ok-name.after_name; named = c.in_ok-name.ensures.found; typed = (omega arith, c.u16_at.ensures); classed = (omega arith, c.u16_at-2.ensures); timed = (omega arith, c.u32_at.ensures); sized = (omega arith, c.u16_at-size.ensures); starts = refl };
       fault = inl (omega arith, refl);
     }))
 
@@ -24,7 +24,7 @@ returns-in_default-clause-fault c =
       ttl = c.u32_at.result;
       start = c.in_ok-name.after_name + 10;
       size = c.u16_at-size.result;
-      head = record { after_name = c.in_ok-name.after_name; named = c.in_ok-name.ensures.found; typed = c.u16_at.ensures; classed = c.u16_at-2.ensures; timed = c.u32_at.ensures; sized = c.u16_at-size.ensures; starts = refl };
+      head = record { after_name = c.in_ok-name.after_name; named = c.in_ok-name.ensures.found; typed = (omega arith, c.u16_at.ensures); classed = (omega arith, c.u16_at-2.ensures); timed = (omega arith, c.u32_at.ensures); sized = (omega arith, c.u16_at-size.ensures); starts = refl };
       fault = inr (omega arith, rw c.of-layout.ensures at (MatchOption-at_none _ _ c.in_default.is c.in_ok-rdata.ensures), refl);
     }))
 
@@ -33,7 +33,7 @@ returns-clause-found c =
     record {
       start = c.in_ok-name.after_name + 10;
       size = c.u16_at-size.result;
-      head = record { after_name = c.in_ok-name.after_name; named = c.in_ok-name.ensures.found; typed = c.u16_at.ensures; classed = c.u16_at-2.ensures; timed = c.u32_at.ensures; sized = c.u16_at-size.ensures; starts = refl };
+      head = record { after_name = c.in_ok-name.after_name; named = c.in_ok-name.ensures.found; typed = (omega arith, c.u16_at.ensures); classed = (omega arith, c.u16_at-2.ensures); timed = (omega arith, c.u32_at.ensures); sized = (omega arith, c.u16_at-size.ensures); starts = refl };
       whole = omega arith;
       rdata = rw c.of-layout.ensures at (MatchOption-at_some _ _ _ c.in-Some.is c.in_ok-rdata.ensures);
       ends = refl;

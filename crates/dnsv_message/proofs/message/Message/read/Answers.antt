@@ -12,24 +12,24 @@ use Rattle.dnsv_message.proofs.message.Message.read.Goals as goal
 pub returns-in_err-answer-clause-fault : goal.returns-in_err-answer-clause-fault
 returns-in_err-answer-clause-fault c =
     let p = err_from_is_err_and c.from_residual-in_err-answer.result c.from_residual-in_err-answer.ensures.1 in
-    let begun : Begun c.args.octets.now c.u16_at-question_count.result c.u16_at-answer_count.result c.u16_at-authority_count.result c.u16_at-additional_count.result c.in_ok-questions.questions.items c.in_ok-questions.place = record { header_there = c.if-octets-lt-HEADER_LENGTH.false; question_count_at = c.u16_at-question_count.ensures; answer_count_at = c.u16_at-answer_count.ensures; authority_count_at = c.u16_at-authority_count.ensures; additional_count_at = c.u16_at-additional_count.ensures; questions_at = c.in_ok-questions.ensures.found; all_questions = c.in_ok-questions.ensures.count } in
+    let begun : Begun c.args.octets.now c.u16_at-question_count.result c.u16_at-answer_count.result c.u16_at-authority_count.result c.u16_at-additional_count.result c.in_ok-questions.questions.items c.in_ok-questions.place = record { header_there = c.if-octets-lt-HEADER_LENGTH.false; question_count_at = (omega (arith, c.if-octets-lt-HEADER_LENGTH.false), c.u16_at-question_count.ensures); answer_count_at = (omega (arith, c.if-octets-lt-HEADER_LENGTH.false), c.u16_at-answer_count.ensures); authority_count_at = (omega (arith, c.if-octets-lt-HEADER_LENGTH.false), c.u16_at-authority_count.ensures); additional_count_at = (omega (arith, c.if-octets-lt-HEADER_LENGTH.false), c.u16_at-additional_count.ensures); questions_at = c.in_ok-questions.ensures.found; all_questions = c.in_ok-questions.ensures.count } in
     rw (p.1, p.2) (⊎_elim (λ memory. inl memory) (λ fault. inr (fault_of_answer begun fault)) c.in_err-answer.ensures.fault)
 
 pub returns-in_err-authority-clause-fault : goal.returns-in_err-authority-clause-fault
 returns-in_err-authority-clause-fault c =
     let p = err_from_is_err_and c.from_residual-in_err-authority.result c.from_residual-in_err-authority.ensures.1 in
-    let begun : Begun c.args.octets.now c.u16_at-question_count.result c.u16_at-answer_count.result c.u16_at-authority_count.result c.u16_at-additional_count.result c.in_ok-questions.questions.items c.in_ok-questions.place = record { header_there = c.if-octets-lt-HEADER_LENGTH.false; question_count_at = c.u16_at-question_count.ensures; answer_count_at = c.u16_at-answer_count.ensures; authority_count_at = c.u16_at-authority_count.ensures; additional_count_at = c.u16_at-additional_count.ensures; questions_at = c.in_ok-questions.ensures.found; all_questions = c.in_ok-questions.ensures.count } in
+    let begun : Begun c.args.octets.now c.u16_at-question_count.result c.u16_at-answer_count.result c.u16_at-authority_count.result c.u16_at-additional_count.result c.in_ok-questions.questions.items c.in_ok-questions.place = record { header_there = c.if-octets-lt-HEADER_LENGTH.false; question_count_at = (omega (arith, c.if-octets-lt-HEADER_LENGTH.false), c.u16_at-question_count.ensures); answer_count_at = (omega (arith, c.if-octets-lt-HEADER_LENGTH.false), c.u16_at-answer_count.ensures); authority_count_at = (omega (arith, c.if-octets-lt-HEADER_LENGTH.false), c.u16_at-authority_count.ensures); additional_count_at = (omega (arith, c.if-octets-lt-HEADER_LENGTH.false), c.u16_at-additional_count.ensures); questions_at = c.in_ok-questions.ensures.found; all_questions = c.in_ok-questions.ensures.count } in
     rw (p.1, p.2) (⊎_elim (λ memory. inl memory) (λ fault. inr (fault_of_authority begun c.in_ok-answer.answer.records.items c.in_ok-answer.answer.end c.in_ok-answer.ensures.found c.in_ok-answer.ensures.count fault)) c.in_err-authority.ensures.fault)
 
 pub returns-in_err-additional-clause-fault : goal.returns-in_err-additional-clause-fault
 returns-in_err-additional-clause-fault c =
     let p = err_from_is_err_and c.from_residual-in_err-additional.result c.from_residual-in_err-additional.ensures.1 in
-    let begun : Begun c.args.octets.now c.u16_at-question_count.result c.u16_at-answer_count.result c.u16_at-authority_count.result c.u16_at-additional_count.result c.in_ok-questions.questions.items c.in_ok-questions.place = record { header_there = c.if-octets-lt-HEADER_LENGTH.false; question_count_at = c.u16_at-question_count.ensures; answer_count_at = c.u16_at-answer_count.ensures; authority_count_at = c.u16_at-authority_count.ensures; additional_count_at = c.u16_at-additional_count.ensures; questions_at = c.in_ok-questions.ensures.found; all_questions = c.in_ok-questions.ensures.count } in
+    let begun : Begun c.args.octets.now c.u16_at-question_count.result c.u16_at-answer_count.result c.u16_at-authority_count.result c.u16_at-additional_count.result c.in_ok-questions.questions.items c.in_ok-questions.place = record { header_there = c.if-octets-lt-HEADER_LENGTH.false; question_count_at = (omega (arith, c.if-octets-lt-HEADER_LENGTH.false), c.u16_at-question_count.ensures); answer_count_at = (omega (arith, c.if-octets-lt-HEADER_LENGTH.false), c.u16_at-answer_count.ensures); authority_count_at = (omega (arith, c.if-octets-lt-HEADER_LENGTH.false), c.u16_at-authority_count.ensures); additional_count_at = (omega (arith, c.if-octets-lt-HEADER_LENGTH.false), c.u16_at-additional_count.ensures); questions_at = c.in_ok-questions.ensures.found; all_questions = c.in_ok-questions.ensures.count } in
     rw (p.1, p.2) (⊎_elim (λ memory. inl memory) (λ fault. inr (fault_of_additional begun c.in_ok-answer.answer.records.items c.in_ok-answer.answer.end c.in_ok-answer.ensures.found c.in_ok-answer.ensures.count c.in_ok-authority.authority.records.items c.in_ok-authority.authority.end c.in_ok-authority.ensures.found c.in_ok-authority.ensures.count fault)) c.in_err-additional.ensures.fault)
 
 pub returns-then-additional-octets-clause-fault : goal.returns-then-additional-octets-clause-fault
 returns-then-additional-octets-clause-fault c =
-    let begun : Begun c.args.octets.now c.u16_at-question_count.result c.u16_at-answer_count.result c.u16_at-authority_count.result c.u16_at-additional_count.result c.in_ok-questions.questions.items c.in_ok-questions.place = record { header_there = c.if-octets-lt-HEADER_LENGTH.false; question_count_at = c.u16_at-question_count.ensures; answer_count_at = c.u16_at-answer_count.ensures; authority_count_at = c.u16_at-authority_count.ensures; additional_count_at = c.u16_at-additional_count.ensures; questions_at = c.in_ok-questions.ensures.found; all_questions = c.in_ok-questions.ensures.count } in
+    let begun : Begun c.args.octets.now c.u16_at-question_count.result c.u16_at-answer_count.result c.u16_at-authority_count.result c.u16_at-additional_count.result c.in_ok-questions.questions.items c.in_ok-questions.place = record { header_there = c.if-octets-lt-HEADER_LENGTH.false; question_count_at = (omega (arith, c.if-octets-lt-HEADER_LENGTH.false), c.u16_at-question_count.ensures); answer_count_at = (omega (arith, c.if-octets-lt-HEADER_LENGTH.false), c.u16_at-answer_count.ensures); authority_count_at = (omega (arith, c.if-octets-lt-HEADER_LENGTH.false), c.u16_at-authority_count.ensures); additional_count_at = (omega (arith, c.if-octets-lt-HEADER_LENGTH.false), c.u16_at-additional_count.ensures); questions_at = c.in_ok-questions.ensures.found; all_questions = c.in_ok-questions.ensures.count } in
     inr (fault_of_rest begun c.in_ok-answer.answer.records.items c.in_ok-answer.answer.end c.in_ok-answer.ensures.found c.in_ok-answer.ensures.count c.in_ok-authority.authority.records.items c.in_ok-authority.authority.end c.in_ok-authority.ensures.found c.in_ok-authority.ensures.count c.in_ok-additional.additional.records.items c.in_ok-additional.additional.end c.in_ok-additional.ensures.found c.in_ok-additional.ensures.count c.if-additional-octets.true)
 
 pub invariant_of-message : goal.invariant_of-message
@@ -40,7 +40,7 @@ invariant_of-message c =
       c.args.octets.now,
       recursion_from_All (λ octet. octet < 256) c.args.octets.now (All-from_get_or (λ octet. octet < 256) c.args.octets.now 0 (λ i within. omega (arith, c.type_inv.octets i))),
       record {
-        header = record { identifier = c.u16_at.ensures; flag_bits = c.u16_at-2.ensures; question_count = rw c.in_ok-questions.ensures.count c.u16_at-question_count.ensures; answer_count = rw c.in_ok-answer.ensures.count c.u16_at-answer_count.ensures; authority_count = rw c.in_ok-authority.ensures.count c.u16_at-authority_count.ensures; additional_count = rw c.in_ok-additional.ensures.count c.u16_at-additional_count.ensures };
+        header = record { identifier = (omega (arith, c.if-octets-lt-HEADER_LENGTH.false), c.u16_at.ensures); flag_bits = (omega (arith, c.if-octets-lt-HEADER_LENGTH.false), c.u16_at-2.ensures); question_count = rw c.in_ok-questions.ensures.count (omega (arith, c.if-octets-lt-HEADER_LENGTH.false), c.u16_at-question_count.ensures); answer_count = rw c.in_ok-answer.ensures.count (omega (arith, c.if-octets-lt-HEADER_LENGTH.false), c.u16_at-answer_count.ensures); authority_count = rw c.in_ok-authority.ensures.count (omega (arith, c.if-octets-lt-HEADER_LENGTH.false), c.u16_at-authority_count.ensures); additional_count = rw c.in_ok-additional.ensures.count (omega (arith, c.if-octets-lt-HEADER_LENGTH.false), c.u16_at-additional_count.ensures) };
         after_questions = c.in_ok-questions.place;
         after_answer = c.in_ok-answer.answer.end;
         after_authority = c.in_ok-authority.authority.end;

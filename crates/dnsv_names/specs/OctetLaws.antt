@@ -1,4 +1,5 @@
--- The number that octets write is the sum of the octets, each by its power of 256.
+-- The laws of the numbers that octets write, for proofs: such a number is the sum of the octets, each by its power of
+-- 256.
 use Rattle.std.proofs.Common.{◌≡◌, ℕ, zero, suc, ◌+◌, ◌-◌, ◌*◌, ◌^◌, ◌≤◌, List, length, get_or, take, drop, refl, sym, ap, ◌∙◌, arith, add_assoc, add-zero, add-suc}
 use Rattle.std.proofs.Math.Nat.{add-mul, mul_assoc, mul_comm, pow-suc}
 use Rattle.std.proofs.lemmas.List.{drop_more, get_or-drop, take_rest}
