@@ -4,6 +4,7 @@
 //! and NSEC3 records, the forms of a proof, and what a proof says of each zone whose chain has its records.
 #![tactic(auto)]
 
+pub use chain::each_zone_has_a_chain;
 pub use lookup::a_question_has_one_answer;
 pub use nsec::{
     a_name_absent_by_nsec_is_no_node, a_name_covered_fairly_has_nothing_closed_above,
@@ -38,6 +39,7 @@ pub use zone::{
     nothing_closed_is_above_a_missing_name, what_is_above_a_node_is_a_node,
 };
 
+mod chain;
 mod lookup;
 mod nsec;
 mod nsec3;
