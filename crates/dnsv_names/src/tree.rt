@@ -1,6 +1,6 @@
 //! Names above and below a name (RFC 1034 3.1).
 ghost use Rattle.std.specs.Prelude.{◌≡◌, ◌↔◌, ◌<◌, ◌≤◌, List, ℕ, [], ◌∷◌, length, MatchOption, MatchResult, IsTrue, IfOk};
-ghost use Rattle.dnsv_names.specs.Name.{Labels, IsName, IsAtOrBelow, wire};
+ghost use Rattle.dnsv_names.specs.Name.{Labels, IsName, IsAtOrBelow, wire, rightmost};
 ghost use Rattle.dnsv_names.specs.Tree.{wildcard_of, is_wildcard, IsWildcard};
 
 use crate::error::NameError;
@@ -60,6 +60,19 @@ impl Name {
         octets.try_extend_from_slice(&ASTERISK_LABEL).unwrap();
         octets.try_extend_from_slice(below).unwrap();
         Ok(Name { octets })
+    }
+
+    /// The wildcard right below the name's `n` rightmost labels: the source of synthesis, where these are
+    /// the name's closest encloser (RFC 4592 3.3.1). It is no longer than the name can be.
+    pub fn source_of_synthesis(&self, n: usize) -> Name
+        requires { n < length self.now }
+        ensures { result ≡ wildcard_of (rightmost self.now n) }
+    {
+        self.keeps_its_limits();
+        match self.suffix(n).wildcard_of() {
+            Ok(wildcard) => wildcard,
+            Err(_) => unreachable!(),
+        }
     }
 }
 

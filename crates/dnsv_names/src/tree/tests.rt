@@ -44,3 +44,19 @@ fn makes_wildcards_within_the_limit(rt: HostRuntime) -> Result<(), Fail> {
     assert_eq!(rt; fits.wildcard_of()?.wildcard_of(), Err(NameError::LongName));
     Ok(())
 }
+
+// A row of RFC 4592 3.3.1, and a wildcard as long as a name can be.
+#[test]
+fn finds_the_source_of_synthesis(rt: HostRuntime) -> Result<(), Fail> {
+    let name = Name::parse(b"_telnet._tcp.host3.example.")?;
+    assert_eq!(rt; name.source_of_synthesis(1), Name::parse(b"*.example.")?);
+    assert_eq!(rt; name.source_of_synthesis(0), Name::parse(b"*.")?);
+
+    let mut text = Vec::new(rt.alloc());
+    for _ in 0..127 {
+        text.extend_from_slice(b"a.")?;
+    }
+    let longest = Name::parse(text.as_slice())?;
+    assert_eq!(rt; longest.source_of_synthesis(126).wire().len(), 255);
+    Ok(())
+}
