@@ -5,4 +5,4 @@ pub returns-clause-nsec : goal.returns-clause-nsec
 returns-clause-nsec c = nsec_chain
 
 pub returns-clause-nsec3 : goal.returns-clause-nsec3
-returns-clause-nsec3 c = nsec3_chain
+returns-clause-nsec3 c = λ zone hash well. nsec3_chain zone well hash
