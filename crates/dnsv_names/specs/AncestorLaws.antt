@@ -20,7 +20,8 @@ at_or_below_ends name above k same = (
       ∙ ap (λ labels. lower_case (take k name) ++ labels) same ∙ sym (lower_case-append (take k name) above),
 )
 
-pub ends_at_or_below : (name above : Labels) (k : ℕ) → k ≡ length name - length above → IsAtOrBelow name above → SameName (drop k name) above
+pub ends_at_or_below : (name above : Labels) (k : ℕ) → k ≡ length name - length above → IsAtOrBelow name above
+    → SameName (drop k name) above
 ends_at_or_below name above k from below =
     let same : length name ≡ length (below.0 ++ above) = sym (length-map name _) ∙ ap length below.1 ∙ length-map (below.0 ++ above) _ in
     let front : length (lower_case below.0) ≡ k = omega (arith, length-append below.0 above, length-map below.0 (λ label. map to_ascii_lowercase label)) in
@@ -42,7 +43,8 @@ rightmost_none name = drop_all (length name - 0) name (omega arith)
 pub rightmost_all : (name : Labels) (n : ℕ) → length name ≤ n → rightmost name n ≡ name
 rightmost_all name n all = let none : length name - n ≡ 0 = omega arith in ap (λ k. drop k name) none
 
-pub rightmost_more : (name : Labels) (n : ℕ) → n < length name → (label : List ℕ) × (rightmost name (n + 1) ≡ label ∷ rightmost name n)
+pub rightmost_more : (name : Labels) (n : ℕ) → n < length name
+    → (label : List ℕ) × (rightmost name (n + 1) ≡ label ∷ rightmost name n)
 rightmost_more name n more = (
   get_or name (length name - (n + 1)) [],
   drop_more name (length name - (n + 1)) [] (omega arith) ∙ ap (λ k. get_or name (length name - (n + 1)) [] ∷ drop k name) (omega arith),
@@ -56,20 +58,23 @@ pub rightmost_same : (name above : Labels) → IsAtOrBelow name above → SameNa
 rightmost_same name above below = ends_at_or_below name above (length name - length above) refl below
 
 pub rightmost_below : (name : Labels) (n : ℕ) → n < length name → IsBelow name (rightmost name n)
-rightmost_below name n more = below_by_length name (rightmost name n) (rightmost_above name n) (omega (arith, rightmost_length name n (omega arith)))
+rightmost_below name n more =
+    below_by_length name (rightmost name n) (rightmost_above name n) (omega (arith, rightmost_length name n (omega arith)))
 
 pub rightmost_in_line : (name : Labels) (n m : ℕ) → m ≤ n → IsAtOrBelow (rightmost name n) (rightmost name m)
 rightmost_in_line name n m fewer =
     at_or_below_ends (rightmost name n) (rightmost name m) (length (rightmost name n) - m) (ap lower_case (rightmost_rightmost name n m fewer))
 
 -- the next closer name is below the closest encloser (RFC 5155 1.3)
-pub rightmost_next_below : (name : Labels) (n : ℕ) → n < length name → IsBelow (rightmost name (n + 1)) (rightmost name n)
+pub rightmost_next_below : (name : Labels) (n : ℕ) → n < length name
+    → IsBelow (rightmost name (n + 1)) (rightmost name n)
 rightmost_next_below name n more =
     below_by_length (rightmost name (n + 1)) (rightmost name n) (rightmost_in_line name (n + 1) n (omega arith))
     (omega (arith, rightmost_length name n (omega arith), rightmost_length name (n + 1) (omega arith)))
 
 -- what is above a name is above one with n labels too, or at or below the one with n + 1
-pub above_or_next : (name above : Labels) (n : ℕ) → n < length name → IsAtOrBelow name above → IsAtOrBelow (rightmost name n) above ⊎ IsAtOrBelow above (rightmost name (n + 1))
+pub above_or_next : (name above : Labels) (n : ℕ) → n < length name → IsAtOrBelow name above
+    → IsAtOrBelow (rightmost name n) above ⊎ IsAtOrBelow above (rightmost name (n + 1))
 above_or_next name above n more below =
     ⊎_elim
     (λ (longer : n < length above). inr (ancestors_in_line name (rightmost name (n + 1)) above (rightmost_above name (n + 1)) below (omega (arith, rightmost_length name (n + 1) (omega arith)))))
@@ -111,9 +116,11 @@ IsName-rightmost name n is_name = IsName-drop (length name - n) name is_name
 
 -- the name behind a label is above it
 pub parent_above : (label : List ℕ) (parent : Labels) → IsBelow (label ∷ parent) parent
-parent_above label parent = below_by_length (label ∷ parent) parent (at_or_below_ends (label ∷ parent) parent 1 refl) (omega arith)
+parent_above label parent =
+    below_by_length (label ∷ parent) parent (at_or_below_ends (label ∷ parent) parent 1 refl) (omega arith)
 
-pub parent_at_or_below : (label : List ℕ) (parent above : Labels) → IsBelow (label ∷ parent) above → IsAtOrBelow parent above
+pub parent_at_or_below : (label : List ℕ) (parent above : Labels) → IsBelow (label ∷ parent) above
+    → IsAtOrBelow parent above
 parent_at_or_below label parent above below =
     ancestors_in_line (label ∷ parent) above parent below.0 (parent_above label parent).0 (omega (arith, below_length (label ∷ parent) above below))
 
@@ -133,7 +140,8 @@ wildcards_same a b same = parents_same asterisk asterisk a b same
 pub IsLabel-asterisk : IsLabel asterisk
 IsLabel-asterisk = record { not_empty = omega arith; at_most_63 = omega arith; octets = (omega arith, tt) }
 
-pub wildcard_no_longer : (label : List ℕ) (name : Labels) → IsLabel label → length (wire (wildcard_of name)) ≤ length (wire (label ∷ name))
+pub wildcard_no_longer : (label : List ℕ) (name : Labels) → IsLabel label
+    → length (wire (wildcard_of name)) ≤ length (wire (label ∷ name))
 wildcard_no_longer label name is_label = omega (arith, length-append label (wire name), is_label.not_empty)
 
 -- where there is room for a label there is for `*`
@@ -143,7 +151,8 @@ IsName-wildcard label name is_name = record {
   at_most_255 = omega (arith, wildcard_no_longer label name is_name.each.0, is_name.at_most_255);
 }
 
-pub IsName-wildcard_of_rightmost : (name : Labels) (n : ℕ) → n < length name → IsName name → IsName (wildcard_of (rightmost name n))
+pub IsName-wildcard_of_rightmost : (name : Labels) (n : ℕ) → n < length name → IsName name
+    → IsName (wildcard_of (rightmost name n))
 IsName-wildcard_of_rightmost name n more is_name =
     let next = rightmost_more name n more in
     IsName-wildcard next.0 (rightmost name n) (rw (next.1) at (IsName-rightmost name (n + 1) is_name))

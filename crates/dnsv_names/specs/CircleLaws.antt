@@ -18,9 +18,12 @@ between_cases Less Greater q = inr (λ in_gap. cc)
 between_cases Greater Less q = inl (inl refl)
 between_cases Greater p Less = inl (inr refl)
 between_cases Greater Equal Equal = inr (λ in_gap. ⊎_elim (λ (p : Equal ≡ Less). cc) (λ (q : Equal ≡ Less). cc) in_gap)
-between_cases Greater Equal Greater = inr (λ in_gap. ⊎_elim (λ (p : Equal ≡ Less). cc) (λ (q : Greater ≡ Less). cc) in_gap)
-between_cases Greater Greater Equal = inr (λ in_gap. ⊎_elim (λ (p : Greater ≡ Less). cc) (λ (q : Equal ≡ Less). cc) in_gap)
-between_cases Greater Greater Greater = inr (λ in_gap. ⊎_elim (λ (p : Greater ≡ Less). cc) (λ (q : Greater ≡ Less). cc) in_gap)
+between_cases Greater Equal Greater =
+    inr (λ in_gap. ⊎_elim (λ (p : Equal ≡ Less). cc) (λ (q : Greater ≡ Less). cc) in_gap)
+between_cases Greater Greater Equal =
+    inr (λ in_gap. ⊎_elim (λ (p : Greater ≡ Less). cc) (λ (q : Equal ≡ Less). cc) in_gap)
+between_cases Greater Greater Greater =
+    inr (λ in_gap. ⊎_elim (λ (p : Greater ≡ Less). cc) (λ (q : Greater ≡ Less). cc) in_gap)
 between_cases Equal Equal q = inr (λ in_gap. in_gap refl)
 between_cases Equal Less q = inl (λ same. cc)
 between_cases Equal Greater q = inl (λ same. cc)
@@ -31,7 +34,8 @@ tied_or_not Equal = inl refl
 tied_or_not Greater = inr (λ tied. cc)
 
 -- of three values none of which are equal, n is behind x in the circle from o on, or x behind n
-other_way : (o_x o_n n_x : Ordering) → o_x ≢ Equal → n_x ≢ Equal → ¬ between o_x o_n n_x → between o_n o_x (ordering_reverse n_x)
+other_way : (o_x o_n n_x : Ordering) → o_x ≢ Equal → n_x ≢ Equal → ¬ between o_x o_n n_x
+    → between o_n o_x (ordering_reverse n_x)
 other_way Equal o_n n_x p q outside = absurd (p refl)
 other_way o_x o_n Equal p q outside = absurd (q refl)
 other_way Less Equal Less p q outside = p
@@ -46,7 +50,8 @@ other_way Greater Greater Less p q outside = absurd (outside (inr refl))
 other_way Greater Greater Greater p q outside = inr refl
 
 -- of two values that aren't equal, seen from a third, one lies between the other and it
-turns : (o_x p_x o_p : Ordering) → o_x ≢ Equal → p_x ≢ Equal → o_p ≢ Equal → between o_x o_p p_x ⊎ between p_x (ordering_reverse o_p) o_x
+turns : (o_x p_x o_p : Ordering) → o_x ≢ Equal → p_x ≢ Equal → o_p ≢ Equal
+    → between o_x o_p p_x ⊎ between p_x (ordering_reverse o_p) o_x
 turns Equal p_x o_p a b c = absurd (a refl)
 turns o_x Equal o_p a b c = absurd (b refl)
 turns o_x p_x Equal a b c = absurd (c refl)
@@ -68,14 +73,16 @@ module _ {K : Type 0} {cmp : K → K → Ordering} (total : IsTotalOrder cmp) wh
       (between_cases (cmp owner next) (cmp owner x) (cmp x next))
 
   -- equal values lie in the same gaps, and gaps with equal ends are the same
-  pub gap_respects : {owner next x : K} (owner' next' x' : K) → cmp owner owner' ≡ Equal → cmp next next' ≡ Equal → cmp x x' ≡ Equal → Gap cmp owner next x → Gap cmp owner' next' x'
+  pub gap_respects : {owner next x : K} (owner' next' x' : K) → cmp owner owner' ≡ Equal → cmp next next' ≡ Equal
+      → cmp x x' ≡ Equal → Gap cmp owner next x → Gap cmp owner' next' x'
   gap_respects {owner} {next} {x} owner' next' x' o n e gap =
       let ends : cmp owner next ≡ cmp owner' next' = total.congr owner owner' next o ∙ alike_right total next next' owner' n in
       let behind : cmp owner x ≡ cmp owner' x' = total.congr owner owner' x o ∙ alike_right total x x' owner' e in
       let ahead : cmp x next ≡ cmp x' next' = total.congr x x' next e ∙ alike_right total next next' x' n in
       record { lies = rw (← ends, ← behind, ← ahead) gap.lies }
 
-  outside_owner : (owner next : K) (ends : Ordering) → cmp owner next ≡ ends → between ends (cmp owner owner) (cmp owner next) → ⊥
+  outside_owner : (owner next : K) (ends : Ordering) → cmp owner next ≡ ends
+      → between ends (cmp owner owner) (cmp owner next) → ⊥
   outside_owner owner next Less is p = let itself = tied_itself total owner in cc
   outside_owner owner next Equal is p = p (tied_itself total owner)
   outside_owner owner next Greater is p =
@@ -86,7 +93,8 @@ module _ {K : Type 0} {cmp : K → K → Ordering} (total : IsTotalOrder cmp) wh
   pub gap_without_owner : {owner next : K} → Gap cmp owner next owner → ⊥
   gap_without_owner {owner} {next} gap = outside_owner owner next (cmp owner next) refl gap.lies
 
-  outside_next : (owner next : K) (ends : Ordering) → cmp owner next ≡ ends → between ends (cmp owner next) (cmp next next) → ⊥
+  outside_next : (owner next : K) (ends : Ordering) → cmp owner next ≡ ends
+      → between ends (cmp owner next) (cmp next next) → ⊥
   outside_next owner next Less is p = let itself = tied_itself total next in cc
   outside_next owner next Equal is p = p is
   outside_next owner next Greater is p =
@@ -97,7 +105,8 @@ module _ {K : Type 0} {cmp : K → K → Ordering} (total : IsTotalOrder cmp) wh
   pub gap_without_next : {owner next : K} → Gap cmp owner next next → ⊥
   gap_without_next {owner} {next} gap = outside_next owner next (cmp owner next) refl gap.lies
 
-  nested : (o n y m : K) (ends : Ordering) → cmp o n ≡ ends → (inner : Ordering) → cmp o y ≡ inner → between ends inner (cmp y n) → between inner (cmp o m) (cmp m y) → between ends (cmp o m) (cmp m n)
+  nested : (o n y m : K) (ends : Ordering) → cmp o n ≡ ends → (inner : Ordering) → cmp o y ≡ inner
+      → between ends inner (cmp y n) → between inner (cmp o m) (cmp m y) → between ends (cmp o m) (cmp m n)
   nested o n y m Less is Less oy p q = (q.0, total.trans m y n q.1 p.1)
   nested o n y m Less is Equal oy p q = absurd (cc)
   nested o n y m Less is Greater oy p q = absurd (cc)
@@ -124,7 +133,8 @@ module _ {K : Type 0} {cmp : K → K → Ordering} (total : IsTotalOrder cmp) wh
   has_respects (member ∷ members) x y tied p =
       ⊎_elim (λ (here : cmp x member ≡ Equal). inl (sym (total.congr x y member tied) ∙ here)) (λ (there : has cmp members x). inr (has_respects members x y tied there)) p
 
-  pub member_respects : {members : List K} {x : K} (y : K) → cmp x y ≡ Equal → IsMember cmp members x → IsMember cmp members y
+  pub member_respects : {members : List K} {x : K} (y : K) → cmp x y ≡ Equal → IsMember cmp members x
+      → IsMember cmp members y
   member_respects {members} {x} y tied p = record { there = has_respects members x y tied p.there }
 
   -- one member more
@@ -134,12 +144,14 @@ module _ {K : Type 0} {cmp : K → K → Ordering} (total : IsTotalOrder cmp) wh
   pub member_more : (member : K) {members : List K} {x : K} → IsMember cmp members x → IsMember cmp (member ∷ members) x
   member_more member p = record { there = inr p.there }
 
-  pub member_split : {member : K} {members : List K} {x : K} → IsMember cmp (member ∷ members) x → (cmp x member ≡ Equal) ⊎ IsMember cmp members x
+  pub member_split : {member : K} {members : List K} {x : K} → IsMember cmp (member ∷ members) x
+      → (cmp x member ≡ Equal) ⊎ IsMember cmp members x
   member_split {member} {members} {x} p =
       ⊎_elim (λ (here : cmp x member ≡ Equal). inl here) (λ (there : has cmp members x). inr (record { there = there })) p.there
 
   -- the successor, when a member is added
-  nearer : (members : List K) (owner next member : K) → IsSuccessor cmp members owner next → Gap cmp owner next member → IsSuccessor cmp (member ∷ members) owner member
+  nearer : (members : List K) (owner next member : K) → IsSuccessor cmp members owner next
+      → Gap cmp owner next member → IsSuccessor cmp (member ∷ members) owner member
   nearer members owner next member old inside = record {
     member = member_first member members;
     none_between = λ x there gap.
@@ -147,7 +159,8 @@ module _ {K : Type 0} {cmp : K → K → Ordering} (total : IsTotalOrder cmp) wh
         (λ (later : IsMember cmp members x). old.none_between x later (gap_nested inside gap)) (member_split there);
   }
 
-  farther : (members : List K) (owner next member : K) → IsSuccessor cmp members owner next → ¬ Gap cmp owner next member → IsSuccessor cmp (member ∷ members) owner next
+  farther : (members : List K) (owner next member : K) → IsSuccessor cmp members owner next
+      → ¬ Gap cmp owner next member → IsSuccessor cmp (member ∷ members) owner next
   farther members owner next member old outside = record {
     member = member_more member old.member;
     none_between = λ x there gap.
@@ -172,12 +185,14 @@ module _ {K : Type 0} {cmp : K → K → Ordering} (total : IsTotalOrder cmp) wh
       (gap_cases owner old.0 first)
 
   -- in a circle with a member each value has a successor
-  pub successor_among : (members : List K) (some owner : K) → IsMember cmp members some → (next : K) × IsSuccessor cmp members owner next
+  pub successor_among : (members : List K) (some owner : K) → IsMember cmp members some
+      → (next : K) × IsSuccessor cmp members owner next
   successor_among [] some owner member = absurd member.there
   successor_among (first ∷ rest) some owner member = successor owner first rest
 
   -- equal values have the same successors
-  pub successor_respects : {members : List K} {owner next : K} (owner' : K) → cmp owner owner' ≡ Equal → IsSuccessor cmp members owner next → IsSuccessor cmp members owner' next
+  pub successor_respects : {members : List K} {owner next : K} (owner' : K) → cmp owner owner' ≡ Equal
+      → IsSuccessor cmp members owner next → IsSuccessor cmp members owner' next
   successor_respects {members} {owner} {next} owner' tied old = record {
     member = old.member;
     none_between = λ x member gap. old.none_between x member
@@ -186,7 +201,10 @@ module _ {K : Type 0} {cmp : K → K → Ordering} (total : IsTotalOrder cmp) wh
 
   apart : (o x n : K) → cmp o x ≢ Equal → cmp n x ≢ Equal → ¬ Gap cmp o x n → Gap cmp o n x
   apart o x n p q outside =
-      record { lies = rw (total.antisymm x n) (other_way (cmp o x) (cmp o n) (cmp n x) p q (λ inside. outside (record { lies = inside }))) }
+      record {
+        lies =
+            rw (total.antisymm x n) (other_way (cmp o x) (cmp o n) (cmp n x) p q (λ inside. outside (record { lies = inside })));
+      }
 
   one_inside : (o p x : K) → cmp o x ≢ Equal → cmp p x ≢ Equal → cmp o p ≢ Equal → Gap cmp o x p ⊎ Gap cmp p x o
   one_inside o p x a b c =
@@ -195,12 +213,14 @@ module _ {K : Type 0} {cmp : K → K → Ordering} (total : IsTotalOrder cmp) wh
       (turns (cmp o x) (cmp p x) (cmp o p) a b c)
 
   -- the gap, seen from its other end
-  turned : (o n x : K) (ends : Ordering) → cmp o n ≡ ends → between ends (cmp o x) (cmp x n) → between ends (cmp x n) (cmp o x)
+  turned : (o n x : K) (ends : Ordering) → cmp o n ≡ ends → between ends (cmp o x) (cmp x n)
+      → between ends (cmp x n) (cmp o x)
   turned o n x Less is p = (p.1, p.0)
   turned o n x Greater is p = ⊎_elim (λ (a : cmp o x ≡ Less). inr a) (λ (b : cmp x n ≡ Less). inl b) p
   turned o n x Equal is p = λ tied. p (total.congr o n x is ∙ tied_back total x n tied)
 
-  turned_back : (o n x : K) (ends : Ordering) → cmp o n ≡ ends → between ends (cmp x n) (cmp o x) → between ends (cmp o x) (cmp x n)
+  turned_back : (o n x : K) (ends : Ordering) → cmp o n ≡ ends → between ends (cmp x n) (cmp o x)
+      → between ends (cmp o x) (cmp x n)
   turned_back o n x Less is p = (p.1, p.0)
   turned_back o n x Greater is p = ⊎_elim (λ (a : cmp x n ≡ Less). inr a) (λ (b : cmp o x ≡ Less). inl b) p
   turned_back o n x Equal is p = λ tied. p (alike_right total n o x (tied_back total o n is) ∙ tied_back total o x tied)
@@ -217,7 +237,8 @@ module _ {K : Type 0} {cmp : K → K → Ordering} (total : IsTotalOrder cmp) wh
       ⊎_elim (λ (here : cmp member x ≡ Equal). inl (tied_back total member x here)) (λ (there : has (flip_args cmp) members x). inr (has_turned_back members x there)) p
 
   -- the member before a value: none lies between the two
-  predecessor : (x first : K) (rest : List K) → (owner : K) × IsMember cmp (first ∷ rest) owner × ((y : K) → IsMember cmp (first ∷ rest) y → ¬ Gap cmp owner x y)
+  predecessor : (x first : K) (rest : List K)
+      → (owner : K) × IsMember cmp (first ∷ rest) owner × ((y : K) → IsMember cmp (first ∷ rest) y → ¬ Gap cmp owner x y)
   predecessor x first rest =
       let found = successor (back_total total) x first rest in (
         found.0,
@@ -237,12 +258,15 @@ module _ {K : Type 0} {cmp : K → K → Ordering} (total : IsTotalOrder cmp) wh
       )
 
   -- What equals no member lies in the gap of one: some member's, whatever its successor.
-  pub lies_in_a_gap_among : (members : List K) (some x : K) → IsMember cmp members some → ¬ IsMember cmp members x → (owner : K) × IsMember cmp members owner × ((next : K) → IsSuccessor cmp members owner next → Gap cmp owner next x)
+  pub lies_in_a_gap_among : (members : List K) (some x : K) → IsMember cmp members some → ¬ IsMember cmp members x
+      → (owner : K) × IsMember cmp members owner × ((next : K) → IsSuccessor cmp members owner next → Gap cmp owner next x)
   lies_in_a_gap_among [] some x member absent = absurd member.there
   lies_in_a_gap_among (first ∷ rest) some x member absent = lies_in_a_gap first rest x absent
 
   -- And in that of one member alone.
-  pub one_gap : {members : List K} {x : K} (o n p m : K) → IsMember cmp members o → IsMember cmp members p → IsSuccessor cmp members o n → IsSuccessor cmp members p m → Gap cmp o n x → Gap cmp p m x → ¬ IsMember cmp members x → cmp o p ≡ Equal
+  pub one_gap : {members : List K} {x : K} (o n p m : K) → IsMember cmp members o → IsMember cmp members p
+      → IsSuccessor cmp members o n → IsSuccessor cmp members p m → Gap cmp o n x → Gap cmp p m x
+      → ¬ IsMember cmp members x → cmp o p ≡ Equal
   one_gap {members} {x} o n p m o_member p_member o_successor p_successor o_gap p_gap absent =
       ⊎_elim (λ (tied : cmp o p ≡ Equal). tied)
       (λ (differ : cmp o p ≢ Equal). absurd (⊎_elim
@@ -251,7 +275,9 @@ module _ {K : Type 0} {cmp : K → K → Ordering} (total : IsTotalOrder cmp) wh
       (one_inside total o p x (λ tied. absent (member_respects total x tied o_member)) (λ tied. absent (member_respects total x tied p_member)) differ)))
       (tied_or_not (cmp o p))
 
-  owner_side : (o n c x : K) (ends at_c : Ordering) → cmp o n ≡ ends → cmp o c ≡ at_c → ¬ between ends at_c (cmp c n) → between ends (cmp o x) (cmp x n) → cmp c x ≡ Less → (cmp o c ≡ Equal) ⊎ ((cmp c o ≡ Less) × (cmp o x ≡ Less))
+  owner_side : (o n c x : K) (ends at_c : Ordering) → cmp o n ≡ ends → cmp o c ≡ at_c
+      → ¬ between ends at_c (cmp c n) → between ends (cmp o x) (cmp x n) → cmp c x ≡ Less
+      → (cmp o c ≡ Equal) ⊎ ((cmp c o ≡ Less) × (cmp o x ≡ Less))
   owner_side o n c x ends Equal is at outside inside first = inl at
   owner_side o n c x Less Greater is at outside inside first = inr (back total o c at, inside.0)
   owner_side o n c x Equal Greater is at outside inside first = absurd (outside (λ tied. cc))
@@ -263,11 +289,14 @@ module _ {K : Type 0} {cmp : K → K → Ordering} (total : IsTotalOrder cmp) wh
   owner_side o n c x Greater Less is at outside inside first = absurd (outside (inl refl))
 
   -- Where a value lies in a gap and one before it doesn't, the owner is that one or between the two.
-  pub owner_between : (o n c x : K) → ¬ Gap cmp o n c → Gap cmp o n x → cmp c x ≡ Less → (cmp o c ≡ Equal) ⊎ ((cmp c o ≡ Less) × (cmp o x ≡ Less))
+  pub owner_between : (o n c x : K) → ¬ Gap cmp o n c → Gap cmp o n x → cmp c x ≡ Less
+      → (cmp o c ≡ Equal) ⊎ ((cmp c o ≡ Less) × (cmp o x ≡ Less))
   owner_between o n c x outside inside first =
       owner_side o n c x (cmp o n) (cmp o c) refl refl (λ lies. outside (record { lies = lies })) inside.lies first
 
-  next_side : (o n x y : K) (ends at_y : Ordering) → cmp o n ≡ ends → cmp y n ≡ at_y → ¬ between ends (cmp o y) at_y → between ends (cmp o x) (cmp x n) → cmp x y ≡ Less → (cmp n y ≡ Equal) ⊎ ((cmp x n ≡ Less) × (cmp n y ≡ Less))
+  next_side : (o n x y : K) (ends at_y : Ordering) → cmp o n ≡ ends → cmp y n ≡ at_y → ¬ between ends (cmp o y) at_y
+      → between ends (cmp o x) (cmp x n) → cmp x y ≡ Less
+      → (cmp n y ≡ Equal) ⊎ ((cmp x n ≡ Less) × (cmp n y ≡ Less))
   next_side o n x y ends Equal is at outside inside first = inl (tied_back total y n at)
   next_side o n x y Less Greater is at outside inside first = inr (inside.1, back total y n at)
   next_side o n x y Equal Greater is at outside inside first =
@@ -276,16 +305,19 @@ module _ {K : Type 0} {cmp : K → K → Ordering} (total : IsTotalOrder cmp) wh
       ⊎_elim (λ (behind : cmp o x ≡ Less). absurd (outside (inl (total.trans o x y behind first))))
       (λ (ahead : cmp x n ≡ Less). inr (ahead, back total y n at)) inside
   next_side o n x y Less Less is at outside inside first = absurd (outside (total.trans o x y inside.0 first, refl))
-  next_side o n x y Equal Less is at outside inside first = absurd (outside (λ tied. let alike = total.congr o y n tied in cc))
+  next_side o n x y Equal Less is at outside inside first =
+      absurd (outside (λ tied. let alike = total.congr o y n tied in cc))
   next_side o n x y Greater Less is at outside inside first = absurd (outside (inr refl))
 
   -- Where a value lies in a gap and one behind it doesn't, the next is that one or between the two.
-  pub next_between : (o n x y : K) → ¬ Gap cmp o n y → Gap cmp o n x → cmp x y ≡ Less → (cmp n y ≡ Equal) ⊎ ((cmp x n ≡ Less) × (cmp n y ≡ Less))
+  pub next_between : (o n x y : K) → ¬ Gap cmp o n y → Gap cmp o n x → cmp x y ≡ Less
+      → (cmp n y ≡ Equal) ⊎ ((cmp x n ≡ Less) × (cmp n y ≡ Less))
   next_between o n x y outside inside first =
       next_side o n x y (cmp o n) (cmp y n) refl refl (λ lies. outside (record { lies = lies })) inside.lies first
 
   -- So where a member comes behind a value of a gap, the next comes behind the value too, and not behind the member.
-  pub next_is_behind : {members : List K} {o n x m : K} → IsSuccessor cmp members o n → IsMember cmp members m → Gap cmp o n x → cmp x m ≡ Less → (cmp x n ≡ Less) × ¬ (cmp m n ≡ Less)
+  pub next_is_behind : {members : List K} {o n x m : K} → IsSuccessor cmp members o n → IsMember cmp members m
+      → Gap cmp o n x → cmp x m ≡ Less → (cmp x n ≡ Less) × ¬ (cmp m n ≡ Less)
   next_is_behind {members} {o} {n} {x} {m} successor member gap first =
       ⊎_elim
       (λ (tied : cmp n m ≡ Equal). (alike_right total n m x tied ∙ first, λ less. let other = tied_back total n m tied in cc))

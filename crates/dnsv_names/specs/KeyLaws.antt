@@ -57,7 +57,8 @@ append_begins (c ∷ a) rest = (refl, append_begins a rest)
 begins_rest : (x a : Labels) → begins x a → a ++ drop (length a) x ≡ x
 begins_rest x [] p = refl
 begins_rest [] (c ∷ a) p = absurd p
-begins_rest (e ∷ x) (c ∷ a) p = ap (λ label. label ∷ (a ++ drop (length a) x)) (sym p.0) ∙ ap (λ key. e ∷ key) (begins_rest x a p.1)
+begins_rest (e ∷ x) (c ∷ a) p =
+    ap (λ label. label ∷ (a ++ drop (length a) x)) (sym p.0) ∙ ap (λ key. e ∷ key) (begins_rest x a p.1)
 
 -- each key is at or below itself
 pub key_at_itself : (key : Labels) → KeyAtOrBelow key key
@@ -135,10 +136,12 @@ pub key_below_irrefl : {x : Labels} → KeyBelow x x → ⊥
 key_below_irrefl {x} p = omega (arith, key_below_length p)
 
 pub key_below_trans_at : {x y z : Labels} → KeyBelow x y → KeyAtOrBelow y z → KeyBelow x z
-key_below_trans_at p q = key_longer_below (key_at_or_below_trans (key_below_at p) q) (omega (arith, key_below_length p, key_length q))
+key_below_trans_at p q =
+    key_longer_below (key_at_or_below_trans (key_below_at p) q) (omega (arith, key_below_length p, key_length q))
 
 pub key_at_trans_below : {x y z : Labels} → KeyAtOrBelow x y → KeyBelow y z → KeyBelow x z
-key_at_trans_below p q = key_longer_below (key_at_or_below_trans p (key_below_at q)) (omega (arith, key_length p, key_below_length q))
+key_at_trans_below p q =
+    key_longer_below (key_at_or_below_trans p (key_below_at q)) (omega (arith, key_length p, key_below_length q))
 
 -- the order of keys is total, and ties no two
 pub key_cmp_total : IsTotalOrder key_cmp
@@ -175,7 +178,8 @@ key_at_or_before {x} {a} p =
     ⊎_elim (λ (same : x ≡ a). inl same) (λ (below : KeyBelow x a). inr (key_before_below below)) (key_at_or_below_cases p)
 
 -- where heads are tied the rests decide
-heads : (o : Ordering) (p q : Ordering) → ordering_then o p ≡ Less → (o ≡ Equal → p ≡ Less → q ≡ Less) → ordering_then o q ≡ Less
+heads : (o : Ordering) (p q : Ordering) → ordering_then o p ≡ Less → (o ≡ Equal → p ≡ Less → q ≡ Less)
+    → ordering_then o q ≡ Less
 heads Less p q first rest = refl
 heads Equal p q first rest = rest refl first
 heads Greater p q first rest = absurd (cc)
@@ -191,7 +195,8 @@ behind_all (c ∷ a) (e ∷ x) (d ∷ y) first apart p =
 
 -- what comes behind a key, and isn't at or below it, comes behind all that is
 pub key_behind_all : {a x y : Labels} → KeyBefore a y → (KeyAtOrBelow y a → ⊥) → KeyAtOrBelow x a → KeyBefore x y
-key_behind_all {a} {x} {y} first apart p = record { less = behind_all a x y first.less (λ more. apart (record { alike = more })) p.alike }
+key_behind_all {a} {x} {y} first apart p =
+    record { less = behind_all a x y first.less (λ more. apart (record { alike = more })) p.alike }
 
 -- the test of `begins`
 label_test_Decides : (a b : List ℕ) → Decides (pointwise nat_eq a b) (a ≡ b)
@@ -200,7 +205,8 @@ label_test_Decides = pointwise_decides Decides-eqb
 begins_test_Decides : (key above : Labels) → Decides (begins_test key above) (begins key above)
 begins_test_Decides key [] = (λ yes. tt, λ holds. refl)
 begins_test_Decides [] (label ∷ above) = (λ yes. cc, λ holds. absurd holds)
-begins_test_Decides (own ∷ key) (label ∷ above) = Decides-and _ _ (label_test_Decides own label) (begins_test_Decides key above)
+begins_test_Decides (own ∷ key) (label ∷ above) =
+    Decides-and _ _ (label_test_Decides own label) (begins_test_Decides key above)
 
 pub key_test_Decides : (key above : Labels) → Decides (begins_test key above) (KeyAtOrBelow key above)
 key_test_Decides key above =

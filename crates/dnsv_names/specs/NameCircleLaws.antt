@@ -16,7 +16,8 @@ module _ (owner next : Labels) where
       gap_respects canonical_cmp_total owner next b (tied_itself canonical_cmp_total owner) (tied_itself canonical_cmp_total next) (SameName_Equal a b same) gap
 
   -- Where a name lies in a gap and one at or below it doesn't, the next is at or below it.
-  pub next_at_or_below : (x y : Labels) → ¬ Gap canonical_cmp owner next y → Gap canonical_cmp owner next x → IsAtOrBelow y x → IsAtOrBelow next x
+  pub next_at_or_below : (x y : Labels) → ¬ Gap canonical_cmp owner next y → Gap canonical_cmp owner next x
+      → IsAtOrBelow y x → IsAtOrBelow next x
   next_at_or_below x y outside inside under =
       ⊎_elim (λ (same : SameName y x). absurd (outside (same_gap x y (sym same) inside)))
       (λ (below : IsBelow y x).
@@ -26,7 +27,8 @@ module _ (owner next : Labels) where
       (at_or_below_cases y x under)
 
   -- Where a name lies in a gap and one at or above it doesn't, the owner is at or below that one.
-  pub owner_at_or_below : (x above : Labels) → ¬ Gap canonical_cmp owner next above → Gap canonical_cmp owner next x → IsAtOrBelow x above → IsAtOrBelow owner above
+  pub owner_at_or_below : (x above : Labels) → ¬ Gap canonical_cmp owner next above → Gap canonical_cmp owner next x
+      → IsAtOrBelow x above → IsAtOrBelow owner above
   owner_at_or_below x above outside inside under =
       ⊎_elim (λ (same : SameName x above). absurd (outside (same_gap x above same inside)))
       (λ (below : IsBelow x above).

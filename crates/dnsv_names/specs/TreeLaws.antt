@@ -13,12 +13,14 @@ use Rattle.dnsv_names.specs.Keys.{KeyAtOrBelow, KeyBelow, is_at_or_below}
 use Rattle.dnsv_names.specs.KeyLaws.{append_key, key_rest, key_at_or_below_trans, key_at_or_below_antisymm, key_below_root, key_in_line, key_length, key_longer_below, key_below_length, key_below_at, key_at_or_below_cases, key_before_below, key_behind_all, key_test_Decides}
 
 -- the labels of a name that ends with those of another, from the right
-pub from_the_right_below : (name front above : Labels) → SameName name (front ++ above) → from_the_right name ≡ from_the_right above ++ from_the_right front
+pub from_the_right_below : (name front above : Labels) → SameName name (front ++ above)
+    → from_the_right name ≡ from_the_right above ++ from_the_right front
 from_the_right_below name front above same =
     ap reverse (same ∙ map-append (λ label. map _ label) front above) ∙ reverse-append (lower_case front) (lower_case above)
 
 -- a name whose labels from the right begin with those of another is at or below it
-pub at_or_below_begins : (name above rest : Labels) → from_the_right name ≡ from_the_right above ++ rest → IsAtOrBelow name above
+pub at_or_below_begins : (name above rest : Labels) → from_the_right name ≡ from_the_right above ++ rest
+    → IsAtOrBelow name above
 at_or_below_begins name above rest begins =
     let split : lower_case name ≡ reverse rest ++ lower_case above =
     sym (reverse-reverse (lower_case name)) ∙ ap reverse begins ∙ reverse-append (from_the_right above) rest
@@ -30,12 +32,15 @@ at_or_below_begins name above rest begins =
     )
 
 -- names by their keys
-pub key_of_at_or_below : (name above : Labels) → IsAtOrBelow name above → KeyAtOrBelow (from_the_right name) (from_the_right above)
+pub key_of_at_or_below : (name above : Labels) → IsAtOrBelow name above
+    → KeyAtOrBelow (from_the_right name) (from_the_right above)
 key_of_at_or_below name above below =
     subst (λ (key : Labels). KeyAtOrBelow key (from_the_right above)) (sym (from_the_right_below name below.0 above below.1)) (append_key (from_the_right above) (from_the_right below.0))
 
-pub at_or_below_of_key : (name above : Labels) → KeyAtOrBelow (from_the_right name) (from_the_right above) → IsAtOrBelow name above
-at_or_below_of_key name above below = at_or_below_begins name above (drop (length (from_the_right above)) (from_the_right name)) (sym (key_rest below))
+pub at_or_below_of_key : (name above : Labels) → KeyAtOrBelow (from_the_right name) (from_the_right above)
+    → IsAtOrBelow name above
+at_or_below_of_key name above below =
+    at_or_below_begins name above (drop (length (from_the_right above)) (from_the_right name)) (sym (key_rest below))
 
 pub key_of_same : (a b : Labels) → SameName a b → from_the_right a ≡ from_the_right b
 key_of_same a b same = ap reverse same
@@ -61,10 +66,12 @@ pub at_or_below_root : (name : Labels) → IsAtOrBelow name []
 at_or_below_root name = at_or_below_of_key name [] (key_below_root (from_the_right name))
 
 pub at_or_below_trans : (x y z : Labels) → IsAtOrBelow x y → IsAtOrBelow y z → IsAtOrBelow x z
-at_or_below_trans x y z p q = at_or_below_of_key x z (key_at_or_below_trans (key_of_at_or_below x y p) (key_of_at_or_below y z q))
+at_or_below_trans x y z p q =
+    at_or_below_of_key x z (key_at_or_below_trans (key_of_at_or_below x y p) (key_of_at_or_below y z q))
 
 pub at_or_below_antisymm : (a b : Labels) → IsAtOrBelow a b → IsAtOrBelow b a → SameName a b
-at_or_below_antisymm a b p q = same_of_key a b (key_at_or_below_antisymm (key_of_at_or_below a b p) (key_of_at_or_below b a q))
+at_or_below_antisymm a b p q =
+    same_of_key a b (key_at_or_below_antisymm (key_of_at_or_below a b p) (key_of_at_or_below b a q))
 
 -- equal names are at or below the same, and have the same at or below them
 pub at_or_below_respects : (a b c d : Labels) → SameName a b → SameName c d → IsAtOrBelow a c → IsAtOrBelow b d
@@ -72,7 +79,8 @@ at_or_below_respects a b c d left right p =
     at_or_below_trans b c d (at_or_below_trans b a c (same_at_or_below b a (sym left)) p) (same_at_or_below c d right)
 
 pub at_or_below_length : (name above : Labels) → IsAtOrBelow name above → length above ≤ length name
-at_or_below_length name above below = omega (arith, key_labels name, key_labels above, key_length (key_of_at_or_below name above below))
+at_or_below_length name above below =
+    omega (arith, key_labels name, key_labels above, key_length (key_of_at_or_below name above below))
 
 pub ancestors_in_line : (x a b : Labels) → IsAtOrBelow x a → IsAtOrBelow x b → length a ≤ length b → IsAtOrBelow b a
 ancestors_in_line x a b p q shorter =
@@ -117,7 +125,8 @@ pub below_not_above : (name above : Labels) → IsBelow name above → IsAtOrBel
 below_not_above name above below back = omega (arith, below_length name above below, at_or_below_length above name back)
 
 pub below_respects : (a b c d : Labels) → SameName a b → SameName c d → IsBelow a c → IsBelow b d
-below_respects a b c d left right p = (at_or_below_respects a b c d left right p.0, λ same. p.1 (left ∙ same ∙ sym right))
+below_respects a b c d left right p =
+    (at_or_below_respects a b c d left right p.0, λ same. p.1 (left ∙ same ∙ sym right))
 
 -- of two names above a third, one is above the other
 pub either_above : (x a b : Labels) → IsAtOrBelow x a → IsAtOrBelow x b → IsAtOrBelow a b ⊎ IsBelow b a
@@ -144,7 +153,8 @@ behind_all above x y first outside below =
     (key_behind_all (record { less = first }) (λ key. outside (at_or_below_of_key y above key)) (key_of_at_or_below x above below)).less
 
 never_both : (x y : Labels) → IsBefore x y → IsBefore y x → ⊥
-never_both x y p q = let back = canonical_cmp_total.antisymm x y in let turned : ordering_reverse (canonical_cmp y x) ≡ Greater = ap ordering_reverse q in cc
+never_both x y p q =
+    let back = canonical_cmp_total.antisymm x y in let turned : ordering_reverse (canonical_cmp y x) ≡ Greater = ap ordering_reverse q in cc
 
 decided : {P : Type 0} (test : Bool) → Decides test P → P ⊎ ¬ P
 decided true decides = inl (decides.0 refl)
@@ -163,7 +173,8 @@ pub same_or_not : (a b : Labels) → SameName a b ⊎ ¬ SameName a b
 same_or_not a b = decided (same_name a b) (same_name_Decides a b)
 
 -- no name comes between two that are at or below a third and isn't there too
-pub interval : (above x y z : Labels) → IsAtOrBelow x above → IsAtOrBelow z above → IsBefore x y → IsBefore y z → IsAtOrBelow y above
+pub interval : (above x y z : Labels) → IsAtOrBelow x above → IsAtOrBelow z above → IsBefore x y → IsBefore y z
+    → IsAtOrBelow y above
 interval above x y z x_below z_below x_y y_z =
     ⊎_elim (λ (inside : IsAtOrBelow y above). inside)
     (λ (outside : ¬ IsAtOrBelow y above).

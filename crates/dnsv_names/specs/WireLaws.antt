@@ -13,7 +13,8 @@ labels_after-append [] octets = refl
 labels_after-append (octet ∷ front) octets = labels_after-append front octets
 
 -- a wire form spells its labels, whatever follows it
-pub labels_of-append : (labels : Labels) (rest : List ℕ) → AllByRecursion IsLabel labels → labels_of (wire labels ++ rest) ≡ labels
+pub labels_of-append : (labels : Labels) (rest : List ℕ) → AllByRecursion IsLabel labels
+    → labels_of (wire labels ++ rest) ≡ labels
 labels_of-append [] rest each = refl
 labels_of-append ([] ∷ labels) rest each = absurd (omega (arith, each.0.not_empty))
 labels_of-append ((octet ∷ label) ∷ labels) rest each =
@@ -39,7 +40,8 @@ pub lower_below : (n : ℕ) → n < 65 → to_ascii_lowercase n ≡ n
 lower_below n small = grind (arith, nat_tests)
 
 -- lower case leaves the lengths as they are, since none is a letter
-pub lower_case-wire : (labels : Labels) → AllByRecursion IsLabel labels → map to_ascii_lowercase (wire labels) ≡ wire (lower_case labels)
+pub lower_case-wire : (labels : Labels) → AllByRecursion IsLabel labels
+    → map to_ascii_lowercase (wire labels) ≡ wire (lower_case labels)
 lower_case-wire [] each = refl
 lower_case-wire (label ∷ labels) each =
     let small : to_ascii_lowercase (length label) ≡ length label = lower_below (length label) (omega (arith, each.0.at_most_63)) in
@@ -48,7 +50,8 @@ lower_case-wire (label ∷ labels) each =
 lower_octet : (octet : ℕ) → octet < 256 → to_ascii_lowercase octet < 256
 lower_octet octet small = grind (arith, nat_tests)
 
-lower_octets : (label : List ℕ) → AllByRecursion (λ octet. octet < 256) label → AllByRecursion (λ octet. octet < 256) (map to_ascii_lowercase label)
+lower_octets : (label : List ℕ) → AllByRecursion (λ octet. octet < 256) label
+    → AllByRecursion (λ octet. octet < 256) (map to_ascii_lowercase label)
 lower_octets [] each = tt
 lower_octets (octet ∷ label) each = (lower_octet octet each.0, lower_octets label each.1)
 
@@ -61,10 +64,15 @@ lower_labels (label ∷ labels) each =
 pub IsName-lower_case : (labels : Labels) → IsName labels → IsName (lower_case labels)
 IsName-lower_case labels name =
     let same = ap length (lower_case-wire labels name.each) in
-    record { each = lower_labels labels name.each; at_most_255 = omega (arith, same, length-map (wire labels) to_ascii_lowercase, name.at_most_255) }
+    record {
+      each =
+          lower_labels labels name.each;
+      at_most_255 = omega (arith, same, length-map (wire labels) to_ascii_lowercase, name.at_most_255);
+    }
 
 -- one name's wire form begins octets, and what follows it is one
-pub wire-front : (a b : Labels) (after_a after_b : List ℕ) → AllByRecursion IsLabel a → AllByRecursion IsLabel b → wire a ++ after_a ≡ wire b ++ after_b → (a ≡ b) × (after_a ≡ after_b)
+pub wire-front : (a b : Labels) (after_a after_b : List ℕ) → AllByRecursion IsLabel a → AllByRecursion IsLabel b
+    → wire a ++ after_a ≡ wire b ++ after_b → (a ≡ b) × (after_a ≡ after_b)
 wire-front a b after_a after_b a_each b_each same =
     let alike : a ≡ b = sym (labels_of-append a after_a a_each) ∙ ap labels_of same ∙ labels_of-append b after_b b_each in
     (alike, append_cancel_left (wire b) after_a after_b (ap (λ name. wire name ++ after_a) (sym alike) ∙ same))
