@@ -1,7 +1,7 @@
 -- Some member of a list is such.
-use Rattle.std.proofs.Common.{◌≡◌, List, [], ◌∷◌, refl, inl, inr, ⊎_elim}
+use Rattle.std.proofs.Common.{◌≡◌, List, [], ◌∷◌, refl, inl, inr, ⊎_elim, sym, subst}
 use Rattle.std.specs.List.{AllByRecursion}
-use Rattle.dnsv_denial.specs.Any.{Any}
+use Rattle.dnsv_denial.specs.Any.{Any, AreAmong}
 
 pub any_map : {X : Type 0} (P Q : X → Type 0) (xs : List X) → ((x : X) → P x → Q x) → Any P xs → Any Q xs
 any_map P Q [] f some = absurd some
@@ -30,3 +30,10 @@ pub found_of : {X : Type 0} (P Q : X → Type 0) (xs : List X) → AllByRecursio
 found_of P Q [] all some = absurd some
 found_of P Q (x ∷ xs) all some =
     ⊎_elim (λ (h : P x). record { member = x; holds = h; kind = all.0 }) (λ (rest : Any P xs). found_of P Q xs all.1 rest) some
+
+-- what is such among the few is among the many
+pub any_among : {X : Type 0} (P : X → Type 0) (few many : List X) → AreAmong few many → Any P few → Any P many
+any_among P [] many among some = absurd some
+any_among P (x ∷ few) many among some =
+    ⊎_elim (λ (here : P x). any_map (λ each. each ≡ x) P many (λ each is. subst P (sym is) here) among.0)
+    (λ (rest : Any P few). any_among P few many among.1 rest) some

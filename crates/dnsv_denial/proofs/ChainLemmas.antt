@@ -1,20 +1,20 @@
 -- Each zone has a chain of either kind.
-use Rattle.std.proofs.Common.{◌≡◌, ◌≢◌, ℕ, zero, suc, ◌+◌, ◌-◌, ◌<◌, ◌≤◌, ◌⊎◌, Bool, true, false, IsTrue, List, [], ◌∷◌, ◌++◌, map, length, refl, sym, ap, ◌∙◌, inl, inr, ⊎_elim, arith, subst}
-use Rattle.std.proofs.lemmas.Cmp.{tied_itself, nat_list_cmp_total}
+use Rattle.std.proofs.Common.{◌≡◌, ℕ, zero, suc, ◌+◌, ◌-◌, ◌≤◌, ◌⊎◌, Bool, true, false, IsTrue, List, [], ◌∷◌, ◌++◌, map, length, refl, ap, ◌∙◌, inl, inr, ⊎_elim, arith}
+use Rattle.std.proofs.lemmas.Cmp.{nat_list_cmp_total}
 use Rattle.std.specs.List.{AllByRecursion}
 use Rattle.dnsv_names.specs.Name.{Labels, lower_case, SameName, IsAtOrBelow, rightmost}
 use Rattle.dnsv_names.specs.Order.{canonical_cmp, label_cmp}
 use Rattle.dnsv_names.specs.OrderLaws.{canonical_cmp_total}
-use Rattle.dnsv_names.specs.Circle.{Gap, IsMember, IsSuccessor}
+use Rattle.dnsv_names.specs.Circle.{IsMember, IsSuccessor}
 use Rattle.dnsv_names.specs.CircleLaws.{successor_among}
 use Rattle.dnsv_names.specs.TreeLaws.{same_at_or_below, at_or_below_trans, at_or_below_length}
 use Rattle.dnsv_names.specs.AncestorLaws.{rightmost_above, rightmost_same, rightmost_in_line}
 use Rattle.dnsv_denial.specs.TypeNumbers.{soa}
 use Rattle.dnsv_denial.specs.Any.{Any}
-use Rattle.dnsv_denial.specs.Zone.{Entry, Zone, IsOwner, Holds, IsNode, IsWellFormed}
+use Rattle.dnsv_denial.specs.Zone.{Entry, Zone, IsOwner, IsNode, IsWellFormed}
 use Rattle.dnsv_denial.specs.NsecChain.{NsecRecord, IsBitmapOf, owners, IsInNsecChain, IsNsecChainOf}
-use Rattle.dnsv_denial.specs.Nsec3Chain.{Nsec3Record, NameHash, IsUnsignedEnd, IsChained, AreChainNames, IsInNsec3Chain, HasNsec3Records, IsNsec3ChainOf}
-use Rattle.dnsv_denial.proofs.AnyLemmas.{any_map, found}
+use Rattle.dnsv_denial.specs.Nsec3Chain.{Nsec3Record, NameHash, IsChained, AreChainNames, IsInNsec3Chain, IsNsec3ChainOf}
+use Rattle.dnsv_denial.proofs.AnyLemmas.{any_map}
 use Rattle.dnsv_denial.proofs.ZoneLemmas.{holds_owner, apex_node, node_of_owner, node_respects}
 use Rattle.dnsv_denial.proofs.AnswerLemmas.{Decided, holds_decided}
 use Rattle.dnsv_denial.proofs.NsecLemmas.{member_of_owner}

@@ -4,6 +4,7 @@ mod ChainLemmas
 mod Example
 mod LookupLemmas
 mod MeaningLemmas
+mod MoreLemmas
 mod NsecLemmas
 mod NsecComplete
 mod NsecTruth

@@ -6,6 +6,7 @@
 
 pub use chain::each_zone_has_a_chain;
 pub use lookup::a_question_has_one_answer;
+pub use more::{more_nsec_records_prove_no_less, more_nsec3_records_prove_no_less};
 pub use nsec::{
     a_name_absent_by_nsec_is_no_node, a_name_covered_fairly_has_nothing_closed_above,
     a_name_inner_by_nsec_is_an_empty_non_terminal, nsec_records_show_nodes,
@@ -41,6 +42,7 @@ pub use zone::{
 
 mod chain;
 mod lookup;
+mod more;
 mod nsec;
 mod nsec3;
 mod nsec3_complete;
