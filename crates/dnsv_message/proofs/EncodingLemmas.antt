@@ -21,6 +21,7 @@ use Rattle.dnsv_message.specs.Encoding.{question_octets, record_octets, header_o
 use Rattle.dnsv_message.proofs.Numbers.{number_behind, octet_fits}
 use Rattle.dnsv_message.proofs.NameWalk.{part_within}
 use Rattle.dnsv_message.proofs.Sequences.{InOrder-append}
+use Rattle.dnsv_message.proofs.RecordParts.{up_to_type, up_to_class, up_to_ttl, up_to_size, length-up_to_type, length-up_to_class, length-up_to_ttl, length-up_to_size}
 use Rattle.dnsv_message.proofs.RdataWritten.{Stands, Stands-end, InOrder-stands, InOrder-each, InOrder-map, name_is, name_stands, rdata_stands}
 use Rattle.dnsv_message.proofs.FitLemmas.{IsMessage-fits, answer_fits, authority_fits, additional_fits}
 
@@ -70,18 +71,14 @@ module _ (octets : List ℕ) where
       let ttl = to_be_bytes w32 resource.ttl.0 in
       let size = to_be_bytes w16 (length resource.rdata) in
       let one = wire resource.name in
-      let two = one ++ rtype in
-      let three = two ++ class in
-      let four = three ++ ttl in
-      let five = four ++ size in
-      let twos : length two ≡ length one + 2 = omega (arith, length-append one rtype) in
-      let threes : length three ≡ length one + 4 = omega (arith, length-append two class, twos) in
-      let fours : length four ≡ length one + 8 = omega (arith, length-append three ttl, threes) in
-      let fives : length five ≡ length one + 10 = omega (arith, length-append four size, fours) in
-      let fifth = Stands-end five resource.rdata (after_name + 10) (omega (arith, fives)) stands in
-      let fourth = Stands-end four size (after_name + 8) (omega (arith, fours)) fifth.0 in
-      let third = Stands-end three ttl (after_name + 4) (omega (arith, threes)) fourth.0 in
-      let second = Stands-end two class (after_name + 2) (omega (arith, twos)) third.0 in
+      let two = up_to_type resource in
+      let three = up_to_class resource in
+      let four = up_to_ttl resource in
+      let five = up_to_size resource in
+      let fifth = Stands-end five resource.rdata (after_name + 10) (omega (arith, length-up_to_size resource)) stands in
+      let fourth = Stands-end four size (after_name + 8) (omega (arith, length-up_to_ttl resource)) fifth.0 in
+      let third = Stands-end three ttl (after_name + 4) (omega (arith, length-up_to_class resource)) fourth.0 in
+      let second = Stands-end two class (after_name + 2) (omega (arith, length-up_to_type resource)) third.0 in
       let first = Stands-end one rtype after_name refl second.0 in
       let sized : length resource.rdata < 256 ^ 2 = omega (arith, fits.size) in
       let parts = rdata_stands octets resource.rtype.0 resource.class.0 in
@@ -100,7 +97,7 @@ module _ (octets : List ℕ) where
           };
           whole = end_of_part (after_name + 10) resource.rdata fifth.1 (omega (arith, (u16_stands (after_name + 8) (length resource.rdata) sized fourth.1).0));
           rdata = parts (layout_of resource.rtype.0 resource.class.0).pointers (after_name + 10) resource.rdata fits.parts fifth.1;
-          ends = omega (arith, length-append five resource.rdata, fives);
+          ends = omega (arith, length-append five resource.rdata, length-up_to_size resource);
         };
         name = first.0.form;
         rdata = parts false (after_name + 10) resource.rdata fits.parts fifth.1;

@@ -6,6 +6,7 @@ pub mod NameLaws
 pub mod RdataLemmas
 pub mod MessageLaws
 pub mod TailLemmas
+pub mod RecordParts
 pub mod RdataWritten
 pub mod FitLemmas
 pub mod EncodingLemmas

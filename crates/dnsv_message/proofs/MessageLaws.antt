@@ -150,11 +150,11 @@ module _ (octets : List ℕ) (fit : (i : ℕ) → get_or octets i 0 < 256) where
       let same : (place n m : ℕ) → NumberAt octets place 2 n → NumberAt octets place 2 m → n ≡ m = λ place n m. number_same octets place place 2 n m refl in
       let ids = same 0 _ _ at.header.identifier also.header.identifier in
       let flags = same 2 _ _ at.header.flag_bits also.header.flag_bits in
-      let question_count = questions_same _ _ 12 _ _ (same 4 _ _ at.header.question_count also.header.question_count) at.questions also.questions in
-      let answer_count = records_same _ _ _ _ _ (same 6 _ _ at.header.answer_count also.header.answer_count) at.answer (subst (λ p. InOrder (RecordAt octets) p other.answer also.after_answer) (sym question_count.1) also.answer) in
-      let authority_count = records_same _ _ _ _ _ (same 8 _ _ at.header.authority_count also.header.authority_count) at.authority (subst (λ p. InOrder (RecordAt octets) p other.authority also.after_authority) (sym answer_count.1) also.authority) in
-      let additional_count = records_same _ _ _ _ _ (same 10 _ _ at.header.additional_count also.header.additional_count) at.additional (subst (λ p. InOrder (RecordAt octets) p other.additional (length octets)) (sym authority_count.1) also.additional) in
-      λ i. record { id = ids i; flags = flags i; questions = question_count.0 i; answer = answer_count.0 i; authority = authority_count.0 i; additional = additional_count.0 i }
+      let questions = questions_same _ _ 12 _ _ (same 4 _ _ at.header.question_count also.header.question_count) at.questions also.questions in
+      let answer = records_same _ _ _ _ _ (same 6 _ _ at.header.answer_count also.header.answer_count) at.answer (subst (λ p. InOrder (RecordAt octets) p other.answer also.after_answer) (sym questions.1) also.answer) in
+      let authority = records_same _ _ _ _ _ (same 8 _ _ at.header.authority_count also.header.authority_count) at.authority (subst (λ p. InOrder (RecordAt octets) p other.authority also.after_authority) (sym answer.1) also.authority) in
+      let additional = records_same _ _ _ _ _ (same 10 _ _ at.header.additional_count also.header.additional_count) at.additional (subst (λ p. InOrder (RecordAt octets) p other.additional (length octets)) (sym authority.1) also.additional) in
+      λ i. record { id = ids i; flags = flags i; questions = questions.0 i; answer = answer.0 i; authority = authority.0 i; additional = additional.0 i }
 
   -- what a header says is one
   record HeaderSame (question_count answer_count authority_count additional_count question_count' answer_count' authority_count' additional_count' : ℕ) : Type 0 where

@@ -19,6 +19,7 @@ use Rattle.dnsv_message.specs.Encoding.{question_octets, record_octets, header_o
 use Rattle.dnsv_message.proofs.Numbers.{number_behind, octet_fits, octets_of_part}
 use Rattle.dnsv_message.proofs.NameLaws.{NameAt_same}
 use Rattle.dnsv_message.proofs.RdataLemmas.{head_fits}
+use Rattle.dnsv_message.proofs.RecordParts.{up_to_type, up_to_class, up_to_ttl, up_to_size, length-up_to_type, length-up_to_class, length-up_to_ttl, length-up_to_size}
 use Rattle.dnsv_message.proofs.RdataWritten.{Stands, name_is, name_stands}
 
 module _ (octets : List ℕ) where
@@ -94,15 +95,15 @@ module _ (octets : List ℕ) (fit : (i : ℕ) → get_or octets i 0 < 256) where
   question_spelled : (place : ℕ) (question : Question) (end : ℕ) → PlainQuestionAt octets place question end → Spelled octets place (question_octets question) end
   unfolding Spelled
   question_spelled place question end at =
-      let question_count = at.0 in
+      let stands = at.0 in
       let one = wire question.name in
       let rtype = to_be_bytes w16 question.rtype.0 in
       let class = to_be_bytes w16 question.class.0 in
       let first : Stands octets place one = record { form = at.1 } in
-      let after : question_count.after_name ≡ place + length one = name_ends place question.name question_count.after_name question_count.name first in
-      let second = Stands-join octets place one rtype question_count.after_name (sym after) first (u16_spelled question_count.after_name question.rtype.0 question_count.rtype) in
-      let third = Stands-join octets place (one ++ rtype) class (question_count.after_name + 2) (omega (arith, after, length-append one rtype)) second (u16_spelled (question_count.after_name + 2) question.class.0 question_count.class) in
-      (third, omega (arith, question_count.ends, after, length-append one rtype, length-append (one ++ rtype) class))
+      let after : stands.after_name ≡ place + length one = name_ends place question.name stands.after_name stands.name first in
+      let second = Stands-join octets place one rtype stands.after_name (sym after) first (u16_spelled stands.after_name question.rtype.0 stands.rtype) in
+      let third = Stands-join octets place (one ++ rtype) class (stands.after_name + 2) (omega (arith, after, length-append one rtype)) second (u16_spelled (stands.after_name + 2) question.class.0 stands.class) in
+      (third, omega (arith, stands.ends, after, length-append one rtype, length-append (one ++ rtype) class))
 
   record_spelled : (place : ℕ) (resource : Record) (end : ℕ) → PlainRecordAt octets place resource end → Spelled octets place (record_octets resource) end
   unfolding Spelled
@@ -113,24 +114,20 @@ module _ (octets : List ℕ) (fit : (i : ℕ) → get_or octets i 0 < 256) where
       let ttl = to_be_bytes w32 resource.ttl.0 in
       let size = to_be_bytes w16 (length resource.rdata) in
       let one = wire resource.name in
-      let two = one ++ rtype in
-      let three = two ++ class in
-      let four = three ++ ttl in
-      let five = four ++ size in
-      let twos : length two ≡ length one + 2 = omega (arith, length-append one rtype) in
-      let threes : length three ≡ length one + 4 = omega (arith, length-append two class, twos) in
-      let fours : length four ≡ length one + 8 = omega (arith, length-append three ttl, threes) in
-      let fives : length five ≡ length one + 10 = omega (arith, length-append four size, fours) in
+      let two = up_to_type resource in
+      let three = up_to_class resource in
+      let four = up_to_ttl resource in
+      let five = up_to_size resource in
       let first : Stands octets place one = record { form = at.name } in
       let after : head.after_name ≡ place + length one = name_ends place resource.name head.after_name head.named first in
       let rdata = rdata_spelled octets (layout_of resource.rtype.0 resource.class.0) at.stands.start at.stands.size resource.rdata at.rdata at.stands.whole in
       let sized : NumberAt octets (head.after_name + 8) 2 (length resource.rdata) = rw rdata.1 head.sized in
       let second = Stands-join octets place one rtype head.after_name (sym after) first (u16_spelled head.after_name resource.rtype.0 head.typed) in
-      let third = Stands-join octets place two class (head.after_name + 2) (omega (arith, after, twos)) second (u16_spelled (head.after_name + 2) resource.class.0 head.classed) in
-      let fourth = Stands-join octets place three ttl (head.after_name + 4) (omega (arith, after, threes)) third (u32_spelled (head.after_name + 4) resource.ttl.0 head.timed) in
-      let fifth = Stands-join octets place four size (head.after_name + 8) (omega (arith, after, fours)) fourth (u16_spelled (head.after_name + 8) (length resource.rdata) sized) in
-      let sixth = Stands-join octets place five resource.rdata at.stands.start (omega (arith, after, fives, head.starts)) fifth rdata.0 in
-      (sixth, omega (arith, at.stands.ends, head.starts, after, fives, rdata.1, length-append five resource.rdata))
+      let third = Stands-join octets place two class (head.after_name + 2) (omega (arith, after, length-up_to_type resource)) second (u16_spelled (head.after_name + 2) resource.class.0 head.classed) in
+      let fourth = Stands-join octets place three ttl (head.after_name + 4) (omega (arith, after, length-up_to_class resource)) third (u32_spelled (head.after_name + 4) resource.ttl.0 head.timed) in
+      let fifth = Stands-join octets place four size (head.after_name + 8) (omega (arith, after, length-up_to_ttl resource)) fourth (u16_spelled (head.after_name + 8) (length resource.rdata) sized) in
+      let sixth = Stands-join octets place five resource.rdata at.stands.start (omega (arith, after, length-up_to_size resource, head.starts)) fifth rdata.0 in
+      (sixth, omega (arith, at.stands.ends, head.starts, after, length-up_to_size resource, rdata.1, length-append five resource.rdata))
 
   -- the octets of a message without pointers
   pub PlainMessageOf-written : (message : Contents) → PlainMessageOf octets message → octets ≡ message_octets message
