@@ -11,7 +11,7 @@ pub use laws::{
     one_tail, the_encoding_is_the_message,
 };
 pub use message::Message;
-pub use number::{Class, Flags, Ttl};
+pub use number::{Class, Flags};
 pub use record::{Question, Rdata, Record, Section};
 
 mod capture;

@@ -54,7 +54,7 @@ const HEADER_LENGTH: usize = 12;
 
 impl Message {
     ghost use Rattle.dnsv_message.specs.Message.{Contents, section_of};
-    ghost use Rattle.dnsv_message.specs.Grammar.{MessageOf, FaultOf};
+    ghost use Rattle.dnsv_message.specs.Grammar.{IsMessage, MessageOf, FaultOf};
     ghost use Rattle.dnsv_message.specs.Tail.{IsTailOf};
     ghost use Rattle.dnsv_message.specs.Encoding.{header_octets, message_octets, PlainMessageOf};
     ghost use Rattle.dnsv_names.specs.Octets.{AreOctets};
@@ -127,6 +127,13 @@ impl Message {
             additional: additional.records,
         };
         Ok((message, tail))
+    }
+
+    /// A law of messages: each is what some octets are. It takes no time.
+    pub fn is_of_octets(&self)
+        ensures { IsMessage self.now }
+    {
+        let _ = &self.id;
     }
 
     /// The identifier, by which an answer is matched to its query (RFC 1035 4.1.1).

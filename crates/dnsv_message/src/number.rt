@@ -11,10 +11,6 @@ impl Class {
     pub const IN: Class = Class(1);
 }
 
-/// For how many seconds a record may be kept (RFC 1035 3.2.1).
-#[derive(Clone, Copy, Debug, PartialEq, Eq, PartialOrd, Ord, Hash)]
-pub struct Ttl(pub u32);
-
 /// The second 16 bits of a message's header (RFC 1035 4.1.1).
 #[derive(Clone, Copy, Debug, PartialEq, Eq, PartialOrd, Ord, Hash)]
 pub struct Flags(pub u16);

@@ -1,8 +1,8 @@
 //! What the sections of a message hold.
 ghost use Rattle.std.specs.Prelude.{◌≡◌, ℕ, List};
 
-use crate::number::{Class, Ttl};
-use dnsv_names::{Name, RecordType};
+use crate::number::Class;
+use dnsv_names::{Name, RecordType, Ttl};
 use std::marker::Model;
 
 /// The sections of records, in the order of a message (RFC 1035 4.1).

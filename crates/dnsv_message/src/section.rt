@@ -5,10 +5,10 @@ ghost use Rattle.dnsv_message.specs.Tail.{LastAt};
 
 use crate::errors::DecodeError;
 use crate::name_at::name_at;
-use crate::number::{Class, Ttl};
+use crate::number::Class;
 use crate::rdata::{Layout, rdata_at};
 use crate::record::{Question, Record};
-use dnsv_names::{RecordType, u16_at, u32_at};
+use dnsv_names::{RecordType, Ttl, u16_at, u32_at};
 use std::alloc::Global;
 
 /// How many octets of a question stand behind its name.

@@ -1,4 +1,4 @@
-//! The numbers of record types.
+//! The numbers of records that more than one crate knows.
 ghost use Rattle.std.specs.Prelude.{◌≡◌};
 
 /// The number of a record type (RFC 1035 3.2.2).
@@ -48,6 +48,10 @@ impl RecordType {
     /// A gap between two hashes of names and the types of the first (RFC 5155 3).
     pub const NSEC3: RecordType = RecordType(50);
 }
+
+/// A time to live: for how many seconds a record may be kept (RFC 1035 3.2.1).
+#[derive(Clone, Copy, Debug, PartialEq, Eq, PartialOrd, Ord, Hash)]
+pub struct Ttl(pub u32);
 
 /// A law of the numbers: each record type has the one that its standard assigns (RFC 1035 3.2.2, RFC 3596
 /// 2.1, RFC 2782, RFC 6672 2.1, RFC 4034 2 to 5, RFC 5155 3).

@@ -3,3 +3,4 @@ pub mod BitmapLemmas
 pub mod BlockLemmas
 pub mod OctetLemmas
 pub mod RecordLemmas
+pub mod OneRecord

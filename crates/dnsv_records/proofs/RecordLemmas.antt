@@ -10,7 +10,8 @@ use Rattle.dnsv_records.specs.declared.error.Field.TheVariants.{Head, Name, Salt
 use Rattle.dnsv_records.specs.declared.error.RecordError.{RecordError}
 use Rattle.dnsv_records.specs.declared.error.RecordError.TheVariants.{OutOfMemory, BadRdata}
 use Rattle.dnsv_records.specs.Bitmap.{IsBitmap, BitmapFault}
-use Rattle.dnsv_records.specs.Layout.{number_at, BeginsWithName, IsCounted, BeginsWithCounted}
+use Rattle.dnsv_names.specs.Octets.{number_at}
+use Rattle.dnsv_records.specs.Layout.{BeginsWithName, IsCounted, BeginsWithCounted}
 use Rattle.dnsv_records.specs.Rrsig.{RrsigFault}
 use Rattle.dnsv_records.specs.Nsec.{NsecFault}
 use Rattle.dnsv_records.specs.Nsec3.{Nsec3Fault}

@@ -3,7 +3,7 @@ use Rattle.std.specs.Prelude.{◌≡◌, ℕ, ◌<◌, ◌≤◌, List, length, 
 use Rattle.dnsv_records.specs.declared.error.Field.{Field}
 use Rattle.dnsv_records.specs.declared.error.Field.TheVariants.{Head}
 use Rattle.dnsv_records.specs.declared.dnskey.Dnskey.{Dnskey}
-use Rattle.dnsv_records.specs.Layout.{number_at}
+use Rattle.dnsv_names.specs.Octets.{number_at}
 
 -- flags in 16 bits, protocol in 8, algorithm in 8, and the key
 pub record IsDnskey (rdata : List ℕ) (dnskey : Dnskey) : Type 0 where

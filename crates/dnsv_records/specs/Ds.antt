@@ -3,7 +3,7 @@ use Rattle.std.specs.Prelude.{◌≡◌, ℕ, ◌<◌, ◌≤◌, List, length, 
 use Rattle.dnsv_records.specs.declared.error.Field.{Field}
 use Rattle.dnsv_records.specs.declared.error.Field.TheVariants.{Head}
 use Rattle.dnsv_records.specs.declared.ds.Ds.{Ds}
-use Rattle.dnsv_records.specs.Layout.{number_at}
+use Rattle.dnsv_names.specs.Octets.{number_at}
 
 -- key tag in 16 bits, algorithm in 8, digest type in 8, and the digest
 pub record IsDs (rdata : List ℕ) (ds : Ds) : Type 0 where

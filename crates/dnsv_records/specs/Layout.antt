@@ -1,16 +1,6 @@
--- Where the fields of RDATA stand. An octet is a number below 256.
-use Rattle.std.specs.Prelude.{◌≡◌, ℕ, ◌<◌, List, ◌∷◌, ◌++◌, length, take, drop}
-use Rattle.std.specs.List.{AllByRecursion}
-use Rattle.std.specs.Int.Digits.{number_from_digits}
+-- Where the fields of RDATA stand.
+use Rattle.std.specs.Prelude.{◌≡◌, ℕ, List, ◌∷◌, ◌++◌, length}
 use Rattle.dnsv_names.specs.Name.{Labels, IsName, wire}
-
--- each is an octet
-abbrev pub AreOctets : List ℕ → Type 0
-AreOctets octets = AllByRecursion (λ octet. octet < 256) octets
-
--- the number of so many octets at the place, the highest first (RFC 1035 2.3.2)
-abbrev pub number_at : List ℕ → ℕ → ℕ → ℕ
-number_at octets place width = number_from_digits 256 (take width (drop place octets))
 
 -- an uncompressed name stands at the front (RFC 1035 3.1)
 abbrev pub BeginsWithName : List ℕ → Type 0

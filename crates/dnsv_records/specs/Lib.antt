@@ -1,3 +1,4 @@
+pub mod Algorithm
 pub mod Base32Hex
 pub mod Bitmap
 pub mod Blocks

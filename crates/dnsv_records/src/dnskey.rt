@@ -1,7 +1,8 @@
 //! The RDATA of DNSKEY (RFC 4034 2).
 use crate::error::{Field, RecordError};
-use crate::number::{Algorithm, u16_at};
+use crate::number::Algorithm;
 use crate::octets::Octets;
+use dnsv_names::u16_at;
 use std::alloc::Global;
 
 /// The flags of a DNSKEY (RFC 4034 2.1.1).

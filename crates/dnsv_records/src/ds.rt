@@ -1,7 +1,8 @@
 //! The RDATA of DS (RFC 4034 5).
 use crate::error::{Field, RecordError};
-use crate::number::{Algorithm, DigestType, KeyTag, u16_at};
+use crate::number::{Algorithm, DigestType, KeyTag};
 use crate::octets::Octets;
+use dnsv_names::u16_at;
 use std::alloc::Global;
 
 /// A delegation's link to a key of the zone below (RFC 4034 5.1).

@@ -2,7 +2,7 @@
 ghost use Rattle.std.specs.Prelude.{◌≡◌, List, ℕ};
 ghost use Rattle.dnsv_records.specs.Bitmap.{Types, Bitmap};
 ghost use Rattle.dnsv_records.specs.Base32Hex.{Base32Hex, IsHash};
-ghost use Rattle.dnsv_records.specs.Layout.{AreOctets};
+ghost use Rattle.dnsv_names.specs.Octets.{AreOctets};
 ghost use Rattle.dnsv_records.specs.Dnskey.{IsDnskey};
 ghost use Rattle.dnsv_records.specs.Ds.{IsDs};
 ghost use Rattle.dnsv_records.specs.Rrsig.{IsRrsig};
@@ -28,8 +28,13 @@ pub fn base32hex_laws()
     ensures one_text { (hash a b : List ℕ) → IsHash hash → Base32Hex a hash → Base32Hex b hash → a ≡ b }
 {}
 
-/// A DNSKEY, DS, RRSIG, NSEC or NSEC3 has at most one spelling as RDATA.
+/// RDATA is at most one DNSKEY, DS, RRSIG, NSEC or NSEC3, and each of these has at most one spelling as RDATA.
 pub fn record_laws()
+    ensures one_dnskey { (rdata : List ℕ) (a b : Dnskey) → IsDnskey rdata a → IsDnskey rdata b → a ≡ b }
+    ensures one_ds { (rdata : List ℕ) (a b : Ds) → IsDs rdata a → IsDs rdata b → a ≡ b }
+    ensures one_rrsig { (rdata : List ℕ) (a b : Rrsig) → IsRrsig rdata a → IsRrsig rdata b → a ≡ b }
+    ensures one_nsec { (rdata : List ℕ) (a b : Nsec) → IsNsec rdata a → IsNsec rdata b → a ≡ b }
+    ensures one_nsec3 { (rdata : List ℕ) (a b : Nsec3) → IsNsec3 rdata a → IsNsec3 rdata b → a ≡ b }
     ensures dnskey { (a b : List ℕ) (dnskey : Dnskey) → AreOctets a → AreOctets b
         → IsDnskey a dnskey → IsDnskey b dnskey → a ≡ b }
     ensures ds { (a b : List ℕ) (ds : Ds) → AreOctets a → AreOctets b → IsDs a ds → IsDs b ds → a ≡ b }

@@ -8,12 +8,12 @@ pub use ds::Ds;
 pub use error::{Field, RecordError};
 pub use laws::{base32hex_laws, bitmap_laws, record_laws};
 pub use nsec::Nsec;
-pub use nsec3::{HashAlgorithm, ITERATIONS_LIMIT, Nsec3, Nsec3Flags};
+pub use nsec3::{HashAlgorithm, Iterations, Nsec3, Nsec3Flags, Nsec3Parameters, UsableNsec3};
 pub use number::{Algorithm, DigestType, KeyTag};
 pub use octets::Octets;
 pub use rrsig::Rrsig;
 pub use tag::key_tag;
-pub use time::time_valid;
+pub use time::{Expiration, Inception, time_valid};
 
 mod base32hex;
 mod bitmap;

@@ -1,8 +1,9 @@
 //! The RDATA of NSEC3 (RFC 5155 3).
 use crate::bitmap::TypeBitmap;
 use crate::error::{Field, RecordError};
-use crate::number::{split_counted, u16_at};
+use crate::number::split_counted;
 use crate::octets::Octets;
+use dnsv_names::{Hash20, u16_at};
 use std::alloc::Global;
 
 /// How many octets stand before the salt's length.
@@ -10,9 +11,6 @@ const HEAD: usize = 4;
 
 /// How many octets a hash by SHA-1 has (RFC 5155 11).
 const HASH_LENGTH: usize = 20;
-
-/// How many more times than once a name is hashed at most, in a record that is used.
-pub const ITERATIONS_LIMIT: u16 = 500;
 
 /// The number of an algorithm that hashes names (RFC 5155 11).
 #[derive(Clone, Copy, Debug, PartialEq, Eq, PartialOrd, Ord, Hash)]
@@ -39,15 +37,30 @@ impl Nsec3Flags {
     }
 }
 
+/// How many more times than once a name is hashed (RFC 5155 3.1.3).
+#[derive(Clone, Copy, Debug, PartialEq, Eq, PartialOrd, Ord, Hash)]
+pub struct Iterations(pub u16);
+
+impl Iterations {
+    /// The most that a record may ask for and be used.
+    pub const LIMIT: Iterations = Iterations(500);
+}
+
+/// The NSEC3 parameters of a record: what its hash was made with (RFC 5155 3.1.3, 3.1.5). They are ordered by
+/// iterations, and then by the octets of the salt.
+#[derive(Debug, PartialEq, Eq, PartialOrd, Ord, Drop)]
+pub struct Nsec3Parameters {
+    pub iterations: Iterations,
+    /// The octets that each hash is made with besides.
+    pub salt: Octets,
+}
+
 /// Which types the name with the owner's hash has, and which hash is the next of the zone (RFC 5155 3.1).
 #[derive(Debug, Drop)]
 pub struct Nsec3 {
     pub algorithm: HashAlgorithm,
     pub flags: Nsec3Flags,
-    /// How many more times than once a name is hashed.
-    pub iterations: u16,
-    /// What each hash is made with besides.
-    pub salt: Octets,
+    pub parameters: Nsec3Parameters,
     /// The next owner's hash; behind the last one the first.
     pub next_hash: Octets,
     /// The types that the name has.
@@ -55,8 +68,8 @@ pub struct Nsec3 {
 }
 
 impl Nsec3 {
-    ghost use Rattle.std.specs.Prelude.{◌≡◌, IfOk, IsTrue, ◌↔◌};
-    ghost use Rattle.dnsv_records.specs.Nsec3.{IsNsec3, Nsec3Fault, IsUsable};
+    ghost use Rattle.std.specs.Prelude.{◌≡◌, IfOk, IsTrue, ◌↔◌, MatchOption};
+    ghost use Rattle.dnsv_records.specs.Nsec3.{IsNsec3, Nsec3Fault, IsUsable, IsUsed};
     ghost use Rattle.dnsv_records.specs.Reading.{IsFirstFault, Gives};
 
     /// Reads an NSEC3's RDATA. `BadRdata` names the first of head, salt, hash and bitmap that is not
@@ -82,8 +95,10 @@ impl Nsec3 {
         Ok(Nsec3 {
             algorithm: HashAlgorithm(rdata[0]),
             flags: Nsec3Flags(rdata[1]),
-            iterations: u16_at(rdata, 2),
-            salt: Octets::copy_of(alloc, salt)?,
+            parameters: Nsec3Parameters {
+                iterations: Iterations(u16_at(rdata, 2)),
+                salt: Octets::copy_of(alloc, salt)?,
+            },
             next_hash: Octets::copy_of(alloc, next_hash)?,
             types,
         })
@@ -97,6 +112,33 @@ impl Nsec3 {
         self.algorithm == HashAlgorithm::SHA1
             && self.flags.0 <= 1
             && self.next_hash.as_slice().len() == HASH_LENGTH
-            && self.iterations <= ITERATIONS_LIMIT
+            && self.parameters.iterations <= Iterations::LIMIT
     }
+
+    /// The record as one that may carry a denial; `None` where it isn't [usable](Nsec3::is_usable).
+    pub fn usable(&self) -> Option<UsableNsec3<'_>>
+        ensures { MatchOption result (¬ IsUsable self.now) (IsUsed self.now) }
+    {
+        if !self.is_usable() {
+            return None;
+        }
+        let next_hash = <[u8; HASH_LENGTH]>::try_from(self.next_hash.as_slice()).ok()?;
+        Some(UsableNsec3 {
+            is_opt_out: self.flags.is_opt_out(),
+            parameters: &self.parameters,
+            next_hash: Hash20::new(next_hash),
+            types: &self.types,
+        })
+    }
+}
+
+/// An NSEC3 record that may carry a denial.
+pub struct UsableNsec3<'a> {
+    /// Whether unsigned delegations may be left out between the owner and the next hash (RFC 5155 3.1.2.1).
+    pub is_opt_out: bool,
+    pub parameters: &'a Nsec3Parameters,
+    /// The next owner's hash; behind the last one the first.
+    pub next_hash: Hash20,
+    /// The types that the name with the owner's hash has.
+    pub types: &'a TypeBitmap,
 }

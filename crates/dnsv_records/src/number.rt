@@ -1,10 +1,25 @@
 //! The numbers in the heads of records, and how they are read.
-ghost use Rattle.std.specs.Prelude.{◌≡◌, ◌+◌, ◌≤◌, length, IfSome, IfNone};
-ghost use Rattle.dnsv_records.specs.Layout.{number_at, IsCounted, BeginsWithCounted};
+ghost use Rattle.std.specs.Prelude.{◌≡◌, IfSome, IfNone};
+ghost use Rattle.dnsv_records.specs.Layout.{IsCounted, BeginsWithCounted};
 
 /// The number of a DNSSEC algorithm (RFC 4034 appendix A.1).
 #[derive(Clone, Copy, Debug, PartialEq, Eq, PartialOrd, Ord, Hash)]
 pub struct Algorithm(pub u8);
+
+impl Algorithm {
+    ghost use Rattle.dnsv_records.specs.Algorithm.{is_supported};
+
+    /// Whether signatures of the algorithm count: RSA with SHA-1, SHA-256 or SHA-512, ECDSA on P-256 or P-384,
+    /// Ed25519 and Ed448 (RFC 3110, RFC 5155 2, RFC 5702, RFC 6605, RFC 8080).
+    pub fn is_supported(self) -> bool
+        ensures { result ≡ is_supported self.0 }
+    {
+        SUPPORTED.contains(&self.0)
+    }
+}
+
+/// The numbers of the algorithms whose signatures count.
+const SUPPORTED: [u8; 8] = [5, 7, 8, 10, 13, 14, 15, 16];
 
 /// The number of the hash that makes a DS record's digest (RFC 4034 appendix A.2).
 #[derive(Clone, Copy, Debug, PartialEq, Eq, PartialOrd, Ord, Hash)]
@@ -13,27 +28,6 @@ pub struct DigestType(pub u8);
 /// The number that names a DNSKEY in short (RFC 4034 appendix B). Several keys may have the same.
 #[derive(Clone, Copy, Debug, PartialEq, Eq, PartialOrd, Ord, Hash)]
 pub struct KeyTag(pub u16);
-
-/// The number of 16 bits at the place, its high octet first (RFC 1035 2.3.2).
-pub fn u16_at(octets: &[u8], place: usize) -> u16
-    requires { place + 2 ≤ length octets.now }
-    ensures { result ≡ number_at octets.now place 2 }
-{
-    u16::from_be_bytes([octets[place], octets[place + 1]])
-}
-
-/// The number of 32 bits at the place, its highest octet first (RFC 1035 2.3.2).
-pub fn u32_at(octets: &[u8], place: usize) -> u32
-    requires { place + 4 ≤ length octets.now }
-    ensures { result ≡ number_at octets.now place 4 }
-{
-    u32::from_be_bytes([
-        octets[place],
-        octets[place + 1],
-        octets[place + 2],
-        octets[place + 3],
-    ])
-}
 
 /// The octets that stand at the front behind their count in 8 bits, and the octets behind them;
 /// `None` where not all of them are there.

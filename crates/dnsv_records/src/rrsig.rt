@@ -1,8 +1,9 @@
 //! The RDATA of RRSIG (RFC 4034 3).
 use crate::error::{Field, RecordError};
-use crate::number::{Algorithm, KeyTag, u16_at, u32_at};
+use crate::number::{Algorithm, KeyTag};
 use crate::octets::Octets;
-use dnsv_names::{Name, RecordType};
+use crate::time::{Expiration, Inception};
+use dnsv_names::{Name, RecordType, Ttl, u16_at, u32_at};
 use std::alloc::Global;
 
 /// How many octets stand before the signer's name.
@@ -16,12 +17,10 @@ pub struct Rrsig {
     pub algorithm: Algorithm,
     /// How many labels the owner's name had when it was signed, the root and a leftmost `*` not counted.
     pub labels: u8,
-    /// The time to live of the records when they were signed, in seconds.
-    pub original_ttl: u32,
-    /// The last moment at which the signature is valid, in seconds since 1970, modulo 2^32.
-    pub expiration: u32,
-    /// The first moment at which the signature is valid, in seconds since 1970, modulo 2^32.
-    pub inception: u32,
+    /// The time to live of the records when they were signed.
+    pub original_ttl: Ttl,
+    pub expiration: Expiration,
+    pub inception: Inception,
     /// The tag of the key that signed.
     pub key_tag: KeyTag,
     /// The zone whose key signed, as it is spelled.
@@ -55,9 +54,9 @@ impl Rrsig {
             type_covered: RecordType(u16_at(rdata, 0)),
             algorithm: Algorithm(rdata[2]),
             labels: rdata[3],
-            original_ttl: u32_at(rdata, 4),
-            expiration: u32_at(rdata, 8),
-            inception: u32_at(rdata, 12),
+            original_ttl: Ttl(u32_at(rdata, 4)),
+            expiration: Expiration(u32_at(rdata, 8)),
+            inception: Inception(u32_at(rdata, 12)),
             key_tag: KeyTag(u16_at(rdata, 16)),
             signer,
             signature,

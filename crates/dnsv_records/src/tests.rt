@@ -1,5 +1,5 @@
 use super::*;
-use dnsv_names::{Hash20, RecordType};
+use dnsv_names::{Hash20, RecordType, Ttl};
 use std::alloc::{AllocError, Global};
 use std::test::Fail;
 
@@ -50,14 +50,19 @@ fn tags_keys(rt: HostRuntime) {
     assert_eq!(rt; key_tag(b"\x01\x00\x03\x0d\x03\x04\x01\x02"), 2067);
 }
 
+// Whether a signature with these times is valid at the moment.
+fn is_valid(inception: u32, expiration: u32, moment: u64) -> bool {
+    time_valid(Inception(inception), Expiration(expiration), moment)
+}
+
 #[test]
 fn compares_times_around_the_circle(rt: HostRuntime) {
-    assert!(rt; time_valid(4294967280, 16, 4294967280));
-    assert!(rt; time_valid(4294967280, 16, 4294967301));
-    assert!(rt; time_valid(4294967280, 16, 4294967312));
-    assert!(rt; !time_valid(4294967280, 16, 4294967279));
-    assert!(rt; !time_valid(4294967280, 16, 4294967313));
-    assert!(rt; !time_valid(0, 2147483648, 0), "a distance of 2^31");
+    assert!(rt; is_valid(4294967280, 16, 4294967280));
+    assert!(rt; is_valid(4294967280, 16, 4294967301));
+    assert!(rt; is_valid(4294967280, 16, 4294967312));
+    assert!(rt; !is_valid(4294967280, 16, 4294967279));
+    assert!(rt; !is_valid(4294967280, 16, 4294967313));
+    assert!(rt; !is_valid(0, 2147483648, 0), "a distance of 2^31");
 }
 
 #[test]
@@ -121,9 +126,9 @@ fn reads_signatures(rt: HostRuntime) -> Result<(), Fail> {
     assert_eq!(rt; rrsig.type_covered, RecordType::DNSKEY);
     assert_eq!(rt; rrsig.algorithm, Algorithm(13));
     assert_eq!(rt; rrsig.labels, 1);
-    assert_eq!(rt; rrsig.original_ttl, 3600);
-    assert_eq!(rt; rrsig.expiration, 2000);
-    assert_eq!(rt; rrsig.inception, 1000);
+    assert_eq!(rt; rrsig.original_ttl, Ttl(3600));
+    assert_eq!(rt; rrsig.expiration, Expiration(2000));
+    assert_eq!(rt; rrsig.inception, Inception(1000));
     assert_eq!(rt; rrsig.key_tag, KeyTag(2063));
     assert_eq!(rt; rrsig.signer.wire(), b"\x07example\x00".as_slice());
     assert_eq!(rt; rrsig.signature.as_slice(), b"\xcc".as_slice());
@@ -195,14 +200,14 @@ fn reads_hashed_denials(rt: HostRuntime) -> Result<(), Fail> {
     let nsec3 = Nsec3::read(rt.alloc(), &HASHED_DENIAL)?;
     assert_eq!(rt; nsec3.algorithm, HashAlgorithm::SHA1);
     assert!(rt; nsec3.flags.is_opt_out());
-    assert_eq!(rt; nsec3.iterations, 500);
-    assert_eq!(rt; nsec3.salt.as_slice(), b"\xaa\xbb\xcc\xdd".as_slice());
+    assert_eq!(rt; nsec3.parameters.iterations, Iterations(500));
+    assert_eq!(rt; nsec3.parameters.salt.as_slice(), b"\xaa\xbb\xcc\xdd".as_slice());
     assert_eq!(rt; nsec3.next_hash.as_slice(), EXAMPLE_HASH.as_slice());
     assert!(rt; nsec3.types.contains(RecordType(1)));
     assert!(rt; nsec3.is_usable());
 
     let bare = Nsec3::read(rt.alloc(), b"\x01\x00\x00\x0c\x00\x00")?;
-    assert!(rt; bare.salt.as_slice().is_empty());
+    assert!(rt; bare.parameters.salt.as_slice().is_empty());
     assert!(rt; bare.next_hash.as_slice().is_empty());
     assert!(rt; bare.types.write().is_empty());
     assert!(rt; !bare.is_usable(), "no hash of 20 octets");
@@ -252,7 +257,7 @@ fn reads_the_longest_rdata(rt: HostRuntime) -> Result<(), Fail> {
     let mut nsec3 = filled(rt.alloc(), nsec3.as_slice(), 255)?;
     push_every_type(&mut nsec3)?;
     let nsec3 = Nsec3::read(rt.alloc(), nsec3.as_slice())?;
-    assert_eq!(rt; nsec3.salt.as_slice().len(), 255);
+    assert_eq!(rt; nsec3.parameters.salt.as_slice().len(), 255);
     assert_eq!(rt; nsec3.next_hash.as_slice().len(), 255);
     assert_eq!(rt; nsec3.types.write().len(), 8704);
     Ok(())

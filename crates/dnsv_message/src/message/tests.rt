@@ -1,7 +1,7 @@
 use super::*;
-use crate::number::{Class, Ttl};
+use crate::number::Class;
 use crate::samples::longest;
-use dnsv_names::RecordType;
+use dnsv_names::{RecordType, Ttl};
 use std::alloc::AllocError;
 use std::test::Fail;
 

@@ -2,6 +2,7 @@ use Rattle.std.proofs.Common.{◌++◌, ◌∷◌, length, refl, sym, ap, ◌∙
 use Rattle.dnsv_names.specs.Name.{wire}
 use Rattle.dnsv_records.proofs.BitmapLemmas.{same_spelling}
 use Rattle.dnsv_records.proofs.RecordLemmas.{same_field, same_front, same_whole}
+use Rattle.dnsv_records.proofs.OneRecord as one
 use Rattle.dnsv_records.proofs.laws.record_laws.Goals as goal
 
 pub returns-clause-dnskey : goal.returns-clause-dnskey
@@ -48,4 +49,19 @@ returns-clause-nsec3 c = λ a b nsec3 low_a low_b p q.
     let to_4 = same_front 2 2 4 a b refl to_2 (same_field 2 2 a b low_a low_b (omega arith) (omega arith) (sym p.iterations ∙ q.iterations)) in
     let bits = same_spelling nsec3.types p.bits q.bits p.bitmap q.bitmap in
     let behind = p.next_hash ∙ ap (λ bits. length nsec3.next_hash ∷ (nsec3.next_hash ++ bits)) bits ∙ sym q.next_hash in
-    same_whole 4 a b to_4 (p.salt ∙ ap (λ rest. length nsec3.salt ∷ (nsec3.salt ++ rest)) behind ∙ sym q.salt)
+    same_whole 4 a b to_4 (p.salt ∙ ap (λ rest. length nsec3.parameters.salt ∷ (nsec3.parameters.salt ++ rest)) behind ∙ sym q.salt)
+
+pub returns-clause-one_dnskey : goal.returns-clause-one_dnskey
+returns-clause-one_dnskey c = one.one_dnskey
+
+pub returns-clause-one_ds : goal.returns-clause-one_ds
+returns-clause-one_ds c = one.one_ds
+
+pub returns-clause-one_rrsig : goal.returns-clause-one_rrsig
+returns-clause-one_rrsig c = one.one_rrsig
+
+pub returns-clause-one_nsec : goal.returns-clause-one_nsec
+returns-clause-one_nsec c = one.one_nsec
+
+pub returns-clause-one_nsec3 : goal.returns-clause-one_nsec3
+returns-clause-one_nsec3 c = one.one_nsec3

@@ -8,7 +8,7 @@ use Rattle.dnsv_records.proofs.nsec3.Nsec3.read.Goals as goal
 
 pub returns-in_default-split_counted-clause-every : goal.returns-in_default-split_counted-clause-every
 returns-in_default-split_counted-clause-every c = λ nsec3 is.
-    let salt = same_counted (drop 4 c.args.rdata.now) c.in-Some.salt.now nsec3.salt c.in-Some.behind_salt.now is.behind_salt (sym (take_rest c.args.rdata.now 4) ∙ c.in-Some.ensures.found) is.salt in
+    let salt = same_counted (drop 4 c.args.rdata.now) c.in-Some.salt.now nsec3.parameters.salt c.in-Some.behind_salt.now is.behind_salt (sym (take_rest c.args.rdata.now 4) ∙ c.in-Some.ensures.found) is.salt in
     absurd (c.in_default-split_counted.ensures.none (nsec3.next_hash, is.bits, salt.1 ∙ is.next_hash))
 
 pub returns-in_default-split_counted-clause-fault : goal.returns-in_default-split_counted-clause-fault
@@ -18,7 +18,7 @@ returns-in_default-split_counted-clause-fault c =
 pub returns-in_err-types-clause-every : goal.returns-in_err-types-clause-every
 returns-in_err-types-clause-every c = λ nsec3 is.
     let p = err_from_is_err_and c.from_residual.result c.from_residual.ensures.1 in
-    let salt = same_counted (drop 4 c.args.rdata.now) c.in-Some.salt.now nsec3.salt c.in-Some.behind_salt.now is.behind_salt (sym (take_rest c.args.rdata.now 4) ∙ c.in-Some.ensures.found) is.salt in
+    let salt = same_counted (drop 4 c.args.rdata.now) c.in-Some.salt.now nsec3.parameters.salt c.in-Some.behind_salt.now is.behind_salt (sym (take_rest c.args.rdata.now 4) ∙ c.in-Some.ensures.found) is.salt in
     let hash = same_counted c.in-Some.behind_salt.now c.in-Some-split_counted.next_hash.now nsec3.next_hash c.in-Some-split_counted.bits.now is.bits c.in-Some-split_counted.ensures.found (salt.1 ∙ is.next_hash) in
     let spelled = subst (λ xs. Bitmap xs nsec3.types) (sym hash.1) is.bitmap in
     rw (p.1, p.2) (Gives-err c.in_err-types.field-0.0 nsec3.types nsec3 (c.in_err-types.ensures.every nsec3.types spelled))
@@ -41,7 +41,7 @@ returns-in_err-types-clause-fault c =
 pub returns-clause-every : goal.returns-clause-every
 returns-clause-every c = λ nsec3 is.
     let rdata = c.args.rdata.now in
-    let salt = same_counted (drop 4 rdata) c.in-Some.salt.now nsec3.salt c.in-Some.behind_salt.now is.behind_salt (sym (take_rest rdata 4) ∙ c.in-Some.ensures.found) is.salt in
+    let salt = same_counted (drop 4 rdata) c.in-Some.salt.now nsec3.parameters.salt c.in-Some.behind_salt.now is.behind_salt (sym (take_rest rdata 4) ∙ c.in-Some.ensures.found) is.salt in
     let hash = same_counted c.in-Some.behind_salt.now c.in-Some-split_counted.next_hash.now nsec3.next_hash c.in-Some-split_counted.bits.now is.bits c.in-Some-split_counted.ensures.found (salt.1 ∙ is.next_hash) in
     let spelled = subst (λ xs. Bitmap xs nsec3.types) (sym hash.1) is.bitmap in
     let types = Gives-ok c.in_ok-types.types nsec3.types (c.in_ok-types.ensures.every nsec3.types spelled) in
@@ -53,8 +53,7 @@ returns-clause-every c = λ nsec3 is.
     inl (λ i. Ok record {
       algorithm = record { 0 = algorithm i };
       flags = record { 0 = flags i };
-      iterations = iterations i;
-      salt = salt_copied i;
+      parameters = record { iterations = record { 0 = iterations i }; salt = salt_copied i };
       next_hash = hash_copied i;
       types = types i;
     })

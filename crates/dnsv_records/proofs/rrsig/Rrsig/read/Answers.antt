@@ -35,17 +35,17 @@ returns-clause-every c = λ rrsig is.
     let type_covered : c.u16_at.result ≡ rrsig.type_covered.0 = c.u16_at.ensures ∙ sym is.type_covered in
     let algorithm = number_at-one rdata 2 (omega arith) ∙ sym is.algorithm in
     let labels = number_at-one rdata 3 (omega arith) ∙ sym is.labels in
-    let original_ttl : c.u32_at.result ≡ rrsig.original_ttl = c.u32_at.ensures ∙ sym is.original_ttl in
-    let expiration : c.u32_at-2.result ≡ rrsig.expiration = c.u32_at-2.ensures ∙ sym is.expiration in
-    let inception : c.u32_at-3.result ≡ rrsig.inception = c.u32_at-3.ensures ∙ sym is.inception in
+    let original_ttl : c.u32_at.result ≡ rrsig.original_ttl.0 = c.u32_at.ensures ∙ sym is.original_ttl in
+    let expiration : c.u32_at-2.result ≡ rrsig.expiration.0 = c.u32_at-2.ensures ∙ sym is.expiration in
+    let inception : c.u32_at-3.result ≡ rrsig.inception.0 = c.u32_at-3.ensures ∙ sym is.inception in
     let key_tag : c.u16_at-2.result ≡ rrsig.key_tag.0 = c.u16_at-2.ensures ∙ sym is.key_tag in
     inl (λ i. Ok record {
       type_covered = record { 0 = type_covered i };
       algorithm = record { 0 = algorithm i };
       labels = labels i;
-      original_ttl = original_ttl i;
-      expiration = expiration i;
-      inception = inception i;
+      original_ttl = record { 0 = original_ttl i };
+      expiration = record { 0 = expiration i };
+      inception = record { 0 = inception i };
       key_tag = record { 0 = key_tag i };
       signer = signer i;
       signature = signature i;

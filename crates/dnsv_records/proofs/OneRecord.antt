@@ -1,0 +1,97 @@
+-- RDATA is read in one way.
+use Rattle.std.proofs.Common.{◌≡◌, ℕ, List, [], ◌∷◌, ◌++◌, length, refl, sym, ap, subst, ◌∙◌, arith, append_assoc}
+use Rattle.std.proofs.lemmas.List.{take_at, drop_at}
+use Rattle.std.proofs.Common.{take, drop}
+use Rattle.std.specs.List.{AllByRecursion}
+use Rattle.dnsv_names.specs.Name.{Labels, IsLabel, wire}
+use Rattle.dnsv_records.specs.declared.dnskey.Dnskey.{Dnskey}
+use Rattle.dnsv_records.specs.declared.ds.Ds.{Ds}
+use Rattle.dnsv_records.specs.declared.nsec.Nsec.{Nsec}
+use Rattle.dnsv_records.specs.declared.nsec3.Nsec3.{Nsec3}
+use Rattle.dnsv_records.specs.declared.rrsig.Rrsig.{Rrsig}
+use Rattle.dnsv_records.specs.Bitmap.{Bitmap}
+use Rattle.dnsv_records.specs.Dnskey.{IsDnskey}
+use Rattle.dnsv_records.specs.Ds.{IsDs}
+use Rattle.dnsv_records.specs.Nsec.{IsNsec}
+use Rattle.dnsv_records.specs.Nsec3.{IsNsec3}
+use Rattle.dnsv_records.specs.Rrsig.{IsRrsig}
+use Rattle.dnsv_records.proofs.BitmapLemmas.{same_types}
+use Rattle.dnsv_records.proofs.RecordLemmas.{same_counted}
+
+same_start : (a b x y : List ℕ) → length a ≡ length b → a ++ x ≡ b ++ y → (a ≡ b) × (x ≡ y)
+same_start a b x y size same = (
+  sym (take_at a x (length a) refl) ∙ ap (take (length a)) same ∙ take_at b y (length a) (sym size),
+  sym (drop_at a x (length a) refl) ∙ ap (drop (length a)) same ∙ drop_at b y (length a) (sym size),
+)
+
+-- spellings of two names that begin the same octets are of one name
+pub one_wire : (a b : Labels) (x y : List ℕ) → AllByRecursion IsLabel a → AllByRecursion IsLabel b → wire a ++ x ≡ wire b ++ y → (a ≡ b) × (x ≡ y)
+one_wire [] [] x y each other same = let behind : x ≡ y = cc in (refl, behind)
+one_wire [] (m ∷ b) x y each other same = let none : 0 ≡ length m = cc in absurd (omega (arith, none, other.0.not_empty))
+one_wire (l ∷ a) [] x y each other same = let none : length l ≡ 0 = cc in absurd (omega (arith, none, each.0.not_empty))
+one_wire (l ∷ a) (m ∷ b) x y each other same =
+    let size : length l ≡ length m = cc in
+    let behind : (l ++ wire a) ++ x ≡ (m ++ wire b) ++ y = cc in
+    let front = same_start l m (wire a ++ x) (wire b ++ y) size (sym (append_assoc l (wire a) x) ∙ behind ∙ append_assoc m (wire b) y) in
+    let rest = one_wire a b x y each.1 other.1 front.1 in
+    (ap (λ label. label ∷ a) front.0 ∙ ap (λ labels. m ∷ labels) rest.0, rest.1)
+
+pub one_dnskey : (rdata : List ℕ) (a b : Dnskey) → IsDnskey rdata a → IsDnskey rdata b → a ≡ b
+one_dnskey rdata a b p q =
+    let flags : a.flags.0 ≡ b.flags.0 = p.flags ∙ sym q.flags in
+    let protocol : a.protocol ≡ b.protocol = p.protocol ∙ sym q.protocol in
+    let algorithm : a.algorithm.0 ≡ b.algorithm.0 = p.algorithm ∙ sym q.algorithm in
+    let key : a.key ≡ b.key = p.key ∙ sym q.key in
+    λ i. record { flags = record { 0 = flags i }; protocol = protocol i; algorithm = record { 0 = algorithm i }; key = key i }
+
+pub one_ds : (rdata : List ℕ) (a b : Ds) → IsDs rdata a → IsDs rdata b → a ≡ b
+one_ds rdata a b p q =
+    let key_tag : a.key_tag.0 ≡ b.key_tag.0 = p.key_tag ∙ sym q.key_tag in
+    let algorithm : a.algorithm.0 ≡ b.algorithm.0 = p.algorithm ∙ sym q.algorithm in
+    let digest_type : a.digest_type.0 ≡ b.digest_type.0 = p.digest_type ∙ sym q.digest_type in
+    let digest : a.digest ≡ b.digest = p.digest ∙ sym q.digest in
+    λ i. record { key_tag = record { 0 = key_tag i }; algorithm = record { 0 = algorithm i }; digest_type = record { 0 = digest_type i }; digest = digest i }
+
+pub one_rrsig : (rdata : List ℕ) (a b : Rrsig) → IsRrsig rdata a → IsRrsig rdata b → a ≡ b
+one_rrsig rdata a b p q =
+    let behind = one_wire a.signer b.signer a.signature b.signature p.name.each q.name.each (sym p.rest ∙ q.rest) in
+    let type_covered : a.type_covered.0 ≡ b.type_covered.0 = p.type_covered ∙ sym q.type_covered in
+    let algorithm : a.algorithm.0 ≡ b.algorithm.0 = p.algorithm ∙ sym q.algorithm in
+    let labels : a.labels ≡ b.labels = p.labels ∙ sym q.labels in
+    let original_ttl : a.original_ttl.0 ≡ b.original_ttl.0 = p.original_ttl ∙ sym q.original_ttl in
+    let expiration : a.expiration.0 ≡ b.expiration.0 = p.expiration ∙ sym q.expiration in
+    let inception : a.inception.0 ≡ b.inception.0 = p.inception ∙ sym q.inception in
+    let key_tag : a.key_tag.0 ≡ b.key_tag.0 = p.key_tag ∙ sym q.key_tag in
+    λ i. record {
+      type_covered = record { 0 = type_covered i };
+      algorithm = record { 0 = algorithm i };
+      labels = labels i;
+      original_ttl = record { 0 = original_ttl i };
+      expiration = record { 0 = expiration i };
+      inception = record { 0 = inception i };
+      key_tag = record { 0 = key_tag i };
+      signer = behind.0 i;
+      signature = behind.1 i;
+    }
+
+pub one_nsec : (rdata : List ℕ) (a b : Nsec) → IsNsec rdata a → IsNsec rdata b → a ≡ b
+one_nsec rdata a b p q =
+    let parts = one_wire a.next b.next p.bits q.bits p.name.each q.name.each (sym p.whole ∙ q.whole) in
+    let types : a.types ≡ b.types = same_types q.bits a.types b.types (subst (λ bits. Bitmap bits a.types) parts.1 p.bitmap) q.bitmap in
+    λ i. record { next = parts.0 i; types = types i }
+
+pub one_nsec3 : (rdata : List ℕ) (a b : Nsec3) → IsNsec3 rdata a → IsNsec3 rdata b → a ≡ b
+one_nsec3 rdata a b p q =
+    let salt = same_counted (drop 4 rdata) a.parameters.salt b.parameters.salt p.behind_salt q.behind_salt p.salt q.salt in
+    let hash = same_counted p.behind_salt a.next_hash b.next_hash p.bits q.bits p.next_hash (salt.1 ∙ q.next_hash) in
+    let types : a.types ≡ b.types = same_types q.bits a.types b.types (subst (λ bits. Bitmap bits a.types) hash.1 p.bitmap) q.bitmap in
+    let algorithm : a.algorithm.0 ≡ b.algorithm.0 = p.algorithm ∙ sym q.algorithm in
+    let flags : a.flags.0 ≡ b.flags.0 = p.flags ∙ sym q.flags in
+    let iterations : a.parameters.iterations.0 ≡ b.parameters.iterations.0 = p.iterations ∙ sym q.iterations in
+    λ i. record {
+      algorithm = record { 0 = algorithm i };
+      flags = record { 0 = flags i };
+      parameters = record { iterations = record { 0 = iterations i }; salt = salt.0 i };
+      next_hash = hash.0 i;
+      types = types i;
+    }
