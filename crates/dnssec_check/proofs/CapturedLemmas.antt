@@ -9,7 +9,7 @@ use Rattle.dnsv_message.specs.Grammar.{MessageOf}
 use Rattle.dnsv_message.specs.Message.{Contents}
 use Rattle.dnsv_canonical.specs.declared.capture.CaptureError.{CaptureError}
 use Rattle.dnsv_canonical.specs.declared.capture.CaptureError.TheVariants as capture
-use Rattle.dnsv_canonical.specs.Evidence.{Evidence, IsRefusal, evidence_of, no_evidence, with_message}
+use Rattle.dnsv_canonical.specs.Evidence.{Evidence, IsReasonAgainst, evidence_of, no_evidence, with_message}
 use Rattle.dnssec_check.specs.declared.status.Fault.{Fault}
 use Rattle.dnssec_check.specs.declared.status.Fault.TheVariants as fault
 use Rattle.dnssec_check.specs.declared.status.Place.{Place}
@@ -48,7 +48,7 @@ told_alike told P refused why place is =
 
 -- what a capture doesn't take is refused
 module _ (held : Evidence) (octets : List ℕ) (number : ℕ) (message : Contents) (is : MessageOf octets message) where
-  pub capture_refused : (error : CaptureError) (told : Fault) → IsRefusal held message error → IsCaptureFault error number told → IsFaultOf (IsRefusedAt NewEvidence held octets number) told
+  pub capture_refused : (error : CaptureError) (told : Fault) → IsReasonAgainst held message error → IsCaptureFault error number told → IsFaultOf (IsRefusedAt NewEvidence held octets number) told
   capture_refused capture.OutOfMemory told refused tells = subst (IsFaultOf (IsRefusedAt NewEvidence held octets number)) (sym tells) tt
   capture_refused capture.NotAResponse (fault.Refused why place) refused tells = (inr (message, is, (capture.NotAResponse, refused, tells.0)), tells.1, tells.2)
   capture_refused capture.Truncated (fault.Refused why place) refused tells = (inr (message, is, (capture.Truncated, refused, tells.0)), tells.1, tells.2)

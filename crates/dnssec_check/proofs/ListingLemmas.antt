@@ -4,20 +4,20 @@ use Rattle.std.proofs.lemmas.List.{drop_more, drop_all, append-nil}
 use Rattle.std.specs.List.{AllZip}
 use Rattle.dnsv_records.specs.declared.rrsig.Rrsig.{Rrsig}
 use Rattle.dnsv_records.specs.Rrsig.{IsRrsig}
-use Rattle.dnsv_canonical.specs.Rrsets.{Group}
+use Rattle.dnsv_canonical.specs.Rrsets.{ReceivedRrset}
 use Rattle.dnsv_canonical.specs.SignedData.{IsSignedData}
 use Rattle.dnssec_check.specs.Listing.{SignatureLines, RrsetLines, data_line}
 
 -- the signatures before the place have their lines in the text, and the rest of the lines may follow
-pub record Listed (number : ℕ) (rrset : Group) (signatures : List (List ℕ)) (done : ℕ) (before now : List ℕ) : Type 0 where
+pub record Listed (number : ℕ) (rrset : ReceivedRrset) (signatures : List (List ℕ)) (done : ℕ) (before now : List ℕ) : Type 0 where
   pub text : List ℕ
   pub written : now ≡ before ++ text
   pub lines : (rest : List ℕ) → SignatureLines number rrset (done + 1) (drop done signatures) rest → SignatureLines number rrset 1 signatures (text ++ rest)
 
-pub Listed-start : (number : ℕ) (rrset : Group) (signatures : List (List ℕ)) (before : List ℕ) → Listed number rrset signatures 0 before before
+pub Listed-start : (number : ℕ) (rrset : ReceivedRrset) (signatures : List (List ℕ)) (before : List ℕ) → Listed number rrset signatures 0 before before
 Listed-start number rrset signatures before = record { text = []; written = sym (append-nil before); lines = λ rest lines. lines }
 
-pub Listed-next : {number : ℕ} {rrset : Group} {signatures : List (List ℕ)} {done : ℕ} {before now : List ℕ} → Listed number rrset signatures done before now
+pub Listed-next : {number : ℕ} {rrset : ReceivedRrset} {signatures : List (List ℕ)} {done : ℕ} {before now : List ℕ} → Listed number rrset signatures done before now
     → (rdata : List ℕ) (rrsig : Rrsig) (octets : Option (List ℕ)) (after : List ℕ) → done < length signatures → get_or signatures done [] ≡ rdata → IsRrsig rdata rrsig
     → IsSignedData rrset.owner rrset.rtype rrset.rdata rrsig octets → after ≡ now ++ data_line number (done + 1) octets
     → Listed number rrset signatures (done + 1) before after
@@ -34,7 +34,7 @@ Listed-next {number} {rrset} {signatures} {done} {before} {now} listed rdata rrs
       (rrsig, octets, rest, is, signs, subst (λ n. SignatureLines number rrset n (drop (done + 1) signatures) rest) (omega arith) lines, refl)));
 }
 
-pub Listed-all : {number : ℕ} {rrset : Group} {signatures : List (List ℕ)} {done : ℕ} {before now : List ℕ} → Listed number rrset signatures done before now
+pub Listed-all : {number : ℕ} {rrset : ReceivedRrset} {signatures : List (List ℕ)} {done : ℕ} {before now : List ℕ} → Listed number rrset signatures done before now
     → length signatures ≤ done → (lines : List ℕ) × SignatureLines number rrset 1 signatures lines × (now ≡ before ++ lines)
 Listed-all {number} {rrset} {signatures} {done} {before} {now} listed all = (
   listed.text,
@@ -44,13 +44,13 @@ Listed-all {number} {rrset} {signatures} {done} {before} {now} listed all = (
 )
 
 -- the RRsets before the place have their lines in the text, and the rest of the lines may follow
-pub record Shown (rrsets : List Group) (done : ℕ) (text : List ℕ) : Type 0 where
+pub record Shown (rrsets : List ReceivedRrset) (done : ℕ) (text : List ℕ) : Type 0 where
   pub lines : (rest : List ℕ) → RrsetLines (done + 1) (drop done rrsets) rest → RrsetLines 1 rrsets (text ++ rest)
 
-pub Shown-start : (rrsets : List Group) → Shown rrsets 0 []
+pub Shown-start : (rrsets : List ReceivedRrset) → Shown rrsets 0 []
 Shown-start rrsets = record { lines = λ rest lines. lines }
 
-pub Shown-next : {rrsets : List Group} {done : ℕ} {text : List ℕ} → Shown rrsets done text → (rrset : Group) (after : List ℕ) → done < length rrsets → ((d : Group) → get_or rrsets done d ≡ rrset)
+pub Shown-next : {rrsets : List ReceivedRrset} {done : ℕ} {text : List ℕ} → Shown rrsets done text → (rrset : ReceivedRrset) (after : List ℕ) → done < length rrsets → ((d : ReceivedRrset) → get_or rrsets done d ≡ rrset)
     → (lines : List ℕ) × SignatureLines (done + 1) rrset 1 rrset.signatures lines × (after ≡ text ++ lines) → Shown rrsets (done + 1) after
 Shown-next {rrsets} {done} {text} shown rrset after within here added = record {
   lines = λ rest lines.
@@ -60,7 +60,7 @@ Shown-next {rrsets} {done} {text} shown rrset after within here added = record {
       (added.0, rest, added.1, subst (λ n. RrsetLines n (drop (done + 1) rrsets) rest) (omega arith) lines, refl)));
 }
 
-pub Shown-all : {rrsets : List Group} {done : ℕ} {text : List ℕ} → Shown rrsets done text → length rrsets ≤ done → RrsetLines 1 rrsets text
+pub Shown-all : {rrsets : List ReceivedRrset} {done : ℕ} {text : List ℕ} → Shown rrsets done text → length rrsets ≤ done → RrsetLines 1 rrsets text
 Shown-all {rrsets} {done} {text} shown all =
     subst (λ xs. RrsetLines 1 rrsets xs) (append-nil text) (shown.lines [] (subst (λ xs. RrsetLines (done + 1) xs []) (sym (drop_all done rrsets all)) refl))
 

@@ -5,7 +5,7 @@ use Rattle.dnsv_message.specs.declared.record.Record.{Record}
 use Rattle.dnsv_message.specs.Message.{Contents, records_of}
 use Rattle.dnsv_canonical.specs.declared.capture.CaptureError.{CaptureError}
 use Rattle.dnsv_canonical.specs.declared.capture.CaptureError.TheVariants as capture
-use Rattle.dnsv_canonical.specs.Evidence.{Evidence, IsFirstBad, IsReadable, IsRefusal}
+use Rattle.dnsv_canonical.specs.Evidence.{Evidence, IsFirstBad, IsReadable, IsReasonAgainst}
 use Rattle.dnssec_check.specs.declared.status.Refusal.{Refusal}
 use Rattle.dnssec_check.specs.Captured.{Meets, NewEvidence}
 use Rattle.dnssec_check.specs.Status.{TellsCaptureError}
@@ -31,7 +31,7 @@ one_first_bad records k l p q =
     p.6 ∙ ap suc (same_length p.0 q.0 p.2 q.2 p.1 q.1 (sym p.3 ∙ q.3) p.4 p.5 q.4 q.5) ∙ sym q.6
 
 -- what a capture takes it doesn't refuse
-pub taken_or_refused : (held : Evidence) (message : Contents) (error : CaptureError) (why : Refusal) (n : Option ℕ) → Meets NewEvidence held message → IsRefusal held message error → TellsCaptureError error why n → ⊥
+pub taken_or_refused : (held : Evidence) (message : Contents) (error : CaptureError) (why : Refusal) (n : Option ℕ) → Meets NewEvidence held message → IsReasonAgainst held message error → TellsCaptureError error why n → ⊥
 taken_or_refused held message capture.OutOfMemory why n meets refused told = told
 taken_or_refused held message capture.NotAResponse why n meets refused told = refused meets.0.0
 taken_or_refused held message capture.Truncated why n meets refused told = meets.0.1 refused.1
@@ -39,7 +39,7 @@ taken_or_refused held message (capture.BadRdata k) why n meets refused told = no
 taken_or_refused held message capture.Limit why n meets refused told = refused.2 meets.2
 
 -- a capture refuses a message for one reason
-pub one_reason : (held : Evidence) (message : Contents) (x y : CaptureError) (a b : Refusal) (m n : Option ℕ) → IsRefusal held message x → IsRefusal held message y → TellsCaptureError x a m → TellsCaptureError y b n → (a ≡ b) × (m ≡ n)
+pub one_reason : (held : Evidence) (message : Contents) (x y : CaptureError) (a b : Refusal) (m n : Option ℕ) → IsReasonAgainst held message x → IsReasonAgainst held message y → TellsCaptureError x a m → TellsCaptureError y b n → (a ≡ b) × (m ≡ n)
 one_reason held message capture.OutOfMemory y a b m n p q told other = absurd told
 one_reason held message x capture.OutOfMemory a b m n p q told other = absurd other
 one_reason held message capture.NotAResponse capture.NotAResponse a b m n p q told other = (told.0 ∙ sym other.0, told.1 ∙ sym other.1)

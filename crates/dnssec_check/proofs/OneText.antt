@@ -2,7 +2,6 @@
 use Rattle.std.proofs.Common.{◌≡◌, ℕ, suc, List, [], ◌∷◌, ◌++◌, length, refl, sym, ap, subst, ◌∙◌, inl, inr, arith, append_assoc, Option}
 use Rattle.std.proofs.lemmas.List.{append-nil}
 use Rattle.std.specs.List.{AllByRecursion, flat_map}
-use Rattle.dnsv_names.specs.Name.{Labels, IsLabel, wire}
 use Rattle.dnsv_message.specs.declared.errors.DecodeError.{DecodeError}
 use Rattle.dnsv_message.specs.declared.errors.DecodeError.TheVariants as decode
 use Rattle.dnsv_message.specs.Frames.{IsCapture, frame}
@@ -10,13 +9,13 @@ use Rattle.dnsv_message.specs.Grammar.{MessageOf, FaultOf}
 use Rattle.dnsv_message.specs.Message.{Contents}
 use Rattle.dnsv_names.specs.Octets.{AreOctets}
 use Rattle.dnsv_message.proofs.CaptureLemmas.{messages_alone, zero_length_alone}
-use Rattle.dnsv_message.proofs.FrameLemmas.{one_framing, same_front}
+use Rattle.dnsv_message.proofs.FrameLemmas.{one_framing}
 use Rattle.dnsv_message.proofs.MessageLaws.{FaultOf_same, MessageOf_same, MessageOf_sound}
 use Rattle.dnsv_message.proofs.Numbers.{octet_fits}
 use Rattle.dnsv_records.specs.declared.rrsig.Rrsig.{Rrsig}
-use Rattle.dnsv_records.specs.Rrsig.{IsRrsig}
+use Rattle.dnsv_records.proofs.OneRecord.{one_rrsig}
 use Rattle.dnsv_canonical.specs.Evidence.{Evidence, evidence_of, no_evidence, with_message}
-use Rattle.dnsv_canonical.specs.Rrsets.{Group}
+use Rattle.dnsv_canonical.specs.Rrsets.{ReceivedRrset}
 use Rattle.dnsv_canonical.specs.SignedData.{IsSignedData}
 use Rattle.dnsv_canonical.proofs.SignedLemmas.{signed_data_unique}
 use Rattle.dnssec_check.specs.declared.status.Place.{Place}
@@ -51,42 +50,7 @@ one_capture file a b x y = (one_framing file a b [] [] x.frames y.frames).0
 
 -- ---- the text
 
--- spellings of two names that begin the same octets are of one name
-one_wire : (a b : Labels) (x y : List ℕ) → AllByRecursion IsLabel a → AllByRecursion IsLabel b → wire a ++ x ≡ wire b ++ y → (a ≡ b) × (x ≡ y)
-one_wire [] [] x y each other same = let behind : x ≡ y = cc in (refl, behind)
-one_wire [] (m ∷ b) x y each other same = let none : 0 ≡ length m = cc in absurd (omega (arith, none, other.0.not_empty))
-one_wire (l ∷ a) [] x y each other same = let none : length l ≡ 0 = cc in absurd (omega (arith, none, each.0.not_empty))
-one_wire (l ∷ a) (m ∷ b) x y each other same =
-    let size : length l ≡ length m = cc in
-    let behind : (l ++ wire a) ++ x ≡ (m ++ wire b) ++ y = cc in
-    let front = same_front l m (wire a ++ x) (wire b ++ y) size (sym (append_assoc l (wire a) x) ∙ behind ∙ append_assoc m (wire b) y) in
-    let rest = one_wire a b x y each.1 other.1 front.1 in
-    (ap (λ label. label ∷ a) front.0 ∙ ap (λ labels. m ∷ labels) rest.0, rest.1)
-
--- the RDATA of a signature is read in one way
-one_rrsig : (rdata : List ℕ) (a b : Rrsig) → IsRrsig rdata a → IsRrsig rdata b → a ≡ b
-one_rrsig rdata a b p q =
-    let behind = one_wire a.signer b.signer a.signature b.signature p.name.each q.name.each (sym p.rest ∙ q.rest) in
-    let covered : a.type_covered.0 ≡ b.type_covered.0 = p.type_covered ∙ sym q.type_covered in
-    let algorithms : a.algorithm.0 ≡ b.algorithm.0 = p.algorithm ∙ sym q.algorithm in
-    let counts : a.labels ≡ b.labels = p.labels ∙ sym q.labels in
-    let ttls : a.original_ttl ≡ b.original_ttl = p.original_ttl ∙ sym q.original_ttl in
-    let ends : a.expiration ≡ b.expiration = p.expiration ∙ sym q.expiration in
-    let begins : a.inception ≡ b.inception = p.inception ∙ sym q.inception in
-    let tags : a.key_tag.0 ≡ b.key_tag.0 = p.key_tag ∙ sym q.key_tag in
-    λ i. record {
-      type_covered = record { 0 = covered i };
-      algorithm = record { 0 = algorithms i };
-      labels = counts i;
-      original_ttl = ttls i;
-      expiration = ends i;
-      inception = begins i;
-      key_tag = record { 0 = tags i };
-      signer = behind.0 i;
-      signature = behind.1 i;
-    }
-
-one_front : (number : ℕ) (rrset : Group) (signature : ℕ) (signatures : List (List ℕ)) (a b : List ℕ)
+one_front : (number : ℕ) (rrset : ReceivedRrset) (signature : ℕ) (signatures : List (List ℕ)) (a b : List ℕ)
     → SignatureLines number rrset signature signatures a → SignatureLines number rrset signature signatures b → a ≡ b
 one_front number rrset signature [] a b x y = x ∙ sym y
 one_front number rrset signature (rdata ∷ others) a b x y =
@@ -96,7 +60,7 @@ one_front number rrset signature (rdata ∷ others) a b x y =
     ∙ ap (λ rest. data_line number signature y.1 ++ rest) (one_front number rrset (suc signature) others x.2 y.2 x.5 y.5)
     ∙ sym y.6
 
-one_lines : (number : ℕ) (rrsets : List Group) (a b : List ℕ) → RrsetLines number rrsets a → RrsetLines number rrsets b → a ≡ b
+one_lines : (number : ℕ) (rrsets : List ReceivedRrset) (a b : List ℕ) → RrsetLines number rrsets a → RrsetLines number rrsets b → a ≡ b
 one_lines number [] a b x y = x ∙ sym y
 one_lines number (rrset ∷ rrsets) a b x y =
     x.4 ∙ ap (λ front. front ++ x.1) (one_front number rrset 1 rrset.signatures x.0 y.0 x.2 y.2)

@@ -44,7 +44,7 @@ pub record Holds (demand : Demand) (file : List ℕ) (messages : List Contents) 
 abbrev pub Fails : Demand → Evidence → Contents → Refusal → Option ℕ → Type 0
 Fails AnyMessage held message why record_number = ⊥
 Fails NewEvidence held message why record_number =
-    (error : CaptureError) × evidence.IsRefusal held message error × TellsCaptureError error why record_number
+    (error : CaptureError) × evidence.IsReasonAgainst held message error × TellsCaptureError error why record_number
 
 -- the octets are no message, or one that isn't as it is asked to be, and are refused as this, with the number
 -- of the record at fault

@@ -6,7 +6,7 @@ use Rattle.dnsv_message.specs.Message.{Contents}
 use Rattle.dnsv_records.specs.declared.rrsig.Rrsig.{Rrsig}
 use Rattle.dnsv_records.specs.Rrsig.{IsRrsig}
 use Rattle.dnsv_canonical.specs.Evidence.{evidence_of}
-use Rattle.dnsv_canonical.specs.Rrsets.{Group}
+use Rattle.dnsv_canonical.specs.Rrsets.{ReceivedRrset}
 use Rattle.dnsv_canonical.specs.SignedData.{IsSignedData}
 use Rattle.dnssec_check.specs.Captured.{Holds, NewEvidence}
 
@@ -21,7 +21,7 @@ data_line rrset signature octets =
     codes "data " ++ decimal rrset ++ codes " " ++ decimal signature ++ codes " " ++ data_text octets ++ codes "\n"
 
 -- the text has a line for each of these signatures over the RRset, the first of which has the number
-abbrev pub SignatureLines : ℕ → Group → ℕ → List (List ℕ) → List ℕ → Type 0
+abbrev pub SignatureLines : ℕ → ReceivedRrset → ℕ → List (List ℕ) → List ℕ → Type 0
 SignatureLines number rrset signature [] text = text ≡ []
 SignatureLines number rrset signature (rdata ∷ others) text =
     (rrsig : Rrsig) × (octets : Option (List ℕ)) × (rest : List ℕ) × IsRrsig rdata rrsig
@@ -29,7 +29,7 @@ SignatureLines number rrset signature (rdata ∷ others) text =
     × (text ≡ data_line number signature octets ++ rest)
 
 -- the text has the lines of these RRsets, the first of which has the number
-abbrev pub RrsetLines : ℕ → List Group → List ℕ → Type 0
+abbrev pub RrsetLines : ℕ → List ReceivedRrset → List ℕ → Type 0
 RrsetLines number [] text = text ≡ []
 RrsetLines number (rrset ∷ rrsets) text =
     (front : List ℕ) × (rest : List ℕ) × SignatureLines number rrset 1 rrset.signatures front

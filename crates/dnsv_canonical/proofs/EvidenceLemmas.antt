@@ -4,7 +4,6 @@ use Rattle.std.proofs.lemmas.List.{append-nil}
 use Rattle.std.proofs.lemmas.Bool.{and_parts, eqb-true, false≢true}
 use Rattle.std.proofs.lemmas.Cmp.{nat_eq_equiv}
 use Rattle.std.specs.Prelude.{filter, flat_map, ◌==◌}
-use Rattle.std.specs.Str.{bytes_eq}
 use Rattle.std.specs.List.{AllByRecursion, AllZip, enumerate_from, fold}
 use Rattle.dnsv_names.specs.Name.{Labels}
 use Rattle.dnsv_message.specs.declared.record.Record.{Record}
@@ -12,19 +11,21 @@ use Rattle.dnsv_message.specs.declared.record.Section.{Section}
 use Rattle.dnsv_message.specs.declared.record.Section.TheVariants.{Answer, Authority, Additional}
 use Rattle.dnsv_message.specs.Message.{Contents, records_of}
 use Rattle.dnsv_records.proofs.OctetLemmas.{recursion-append}
+use Rattle.dnsv_records.specs.declared.nsec3.Nsec3Parameters.{Nsec3Parameters}
 use Rattle.dnsv_records.specs.declared.rrsig.Rrsig.{Rrsig}
 use Rattle.dnsv_records.specs.Rrsig.{IsRrsig}
-use Rattle.dnsv_canonical.specs.Evidence.{Evidence, AtMost, IsReadable, IsWithinLimits, IsSmall, IsPairAmong, nsec3_rdata, with_message, evidence_of, signatures_at}
-use Rattle.dnsv_canonical.specs.Kept.{HasRrsig, ArePairs}
-use Rattle.dnsv_canonical.specs.Rrsets.{Group, is_signature, appears_first, first_appearances, rrset_of, rrsets_in, message_rrsets, rrsets_from, rrsets_of}
+use Rattle.dnsv_canonical.specs.Evidence.{AreParameters, Evidence, AtMost, IsReadable, IsWithinLimits, IsSmall, AreParametersAmong, nsec3_rdata, with_message, evidence_of, signatures_at}
+use Rattle.dnsv_canonical.specs.Kept.{IsHeld}
+use Rattle.dnsv_canonical.specs.Rdata.{IsWellFormed}
+use Rattle.dnsv_canonical.specs.Rrsets.{ReceivedRrset, is_signature, appears_first, first_appearances, rrset_of, rrsets_in, message_rrsets, rrsets_from, rrsets_of}
 use Rattle.dnsv_canonical.proofs.CanonicalLemmas.{each_map}
 use Rattle.dnsv_canonical.proofs.ListLemmas.{each_front, each_behind, each_chosen}
-use Rattle.dnsv_canonical.proofs.PairLemmas.{Pair, nsec3_rdata-append, few_pairs}
+use Rattle.dnsv_canonical.proofs.ParameterLemmas.{nsec3_rdata-append, few_pairs}
 
 -- ---- each RRset
 
 -- what holds of each RRset of a section whose records are of a kind holds of each RRset of a message of such records
-module _ (IsKind : Record → Type 0) (P : Group → Type 0)
+module _ (IsKind : Record → Type 0) (P : ReceivedRrset → Type 0)
     (one : (number : ℕ) (section : Section) (records : List Record) (first : Record) → AllByRecursion IsKind records → P (rrset_of number section records first)) where
   each_in_section : (number : ℕ) (section : Section) (records firsts : List Record) → AllByRecursion IsKind records → AllByRecursion P (map (rrset_of number section records) firsts)
   each_in_section number section records [] each = tt
@@ -39,81 +40,65 @@ module _ (IsKind : Record → Type 0) (P : Group → Type 0)
       (each_in_section number Authority message.authority _ (each_behind IsKind message.answer message.authority front)))
       (each_in_section number Additional message.additional _ (each_behind IsKind (message.answer ++ message.authority) message.additional each))
 
--- ---- signatures of records that can be read
-
-readable : (owner : Labels) (rtype : ℕ) (r : Record) → IsReadable r → is_signature owner rtype r ≡ true → HasRrsig r.rdata
-readable owner rtype r can signs =
-    let covers = and_parts _ _ signs in
-    let begins = and_parts _ _ covers.0 in
-    let kinds = and_parts _ _ begins.0 in
-    (can (eqb-true _ _ kinds.1)).rrsig (eqb-true _ _ kinds.0)
-
-chosen : (owner : Labels) (rtype : ℕ) (rs : List Record) → AllByRecursion IsReadable rs → AllByRecursion HasRrsig (map (λ (r : Record). r.rdata) (filter (is_signature owner rtype) rs))
-chosen owner rtype rs can = each_map (λ (r : Record). r.rdata) HasRrsig _ (each_chosen (is_signature owner rtype) IsReadable (λ r. HasRrsig r.rdata) (λ r. readable owner rtype r) rs can)
-
-first_appearances_kept : (P : List ℕ → Type 0) (xs : List (List ℕ)) → AllByRecursion P xs → AllByRecursion P (first_appearances bytes_eq xs)
-first_appearances_kept P xs all = chosen_kept (appears_first bytes_eq xs) 0 xs all where
-  chosen_kept : (test : ℕ × List ℕ → Bool) (k : ℕ) (ys : List (List ℕ)) → AllByRecursion P ys → AllByRecursion P (map (λ (placed : ℕ × List ℕ). placed.1) (filter test (enumerate_from k ys)))
+-- what holds of each element holds of each that appears first
+pub first_appearances_kept : {X : Type 0} (same : X → X → Bool) (P : X → Type 0) (xs : List X) → AllByRecursion P xs → AllByRecursion P (first_appearances same xs)
+first_appearances_kept {X} same P xs all = chosen_kept (appears_first same xs) 0 xs all where
+  chosen_kept : (test : ℕ × X → Bool) (k : ℕ) (ys : List X) → AllByRecursion P ys → AllByRecursion P (map (λ (placed : ℕ × X). placed.1) (filter test (enumerate_from k ys)))
   chosen_kept test k [] all = tt
   chosen_kept test k (y ∷ ys) all = chosen_at (test (k, y)) all.0 (chosen_kept test (k + 1) ys all.1) where
-    chosen_at : (first : Bool) → P y → AllByRecursion P (map (λ (placed : ℕ × List ℕ). placed.1) (filter test (enumerate_from (k + 1) ys)))
-        → AllByRecursion P (map (λ (placed : ℕ × List ℕ). placed.1) (cond first ((k, y) ∷ filter test (enumerate_from (k + 1) ys)) (filter test (enumerate_from (k + 1) ys))))
+    chosen_at : (first : Bool) → P y → AllByRecursion P (map (λ (placed : ℕ × X). placed.1) (filter test (enumerate_from (k + 1) ys)))
+        → AllByRecursion P (map (λ (placed : ℕ × X). placed.1) (cond first ((k, y) ∷ filter test (enumerate_from (k + 1) ys)) (filter test (enumerate_from (k + 1) ys))))
     chosen_at true p rest = (p, rest)
     chosen_at false p rest = rest
-
--- the signatures of a message whose records can be read
-pub message_readable : (number : ℕ) (message : Contents) → AllByRecursion IsReadable (records_of message) → AllByRecursion (λ rrset. AllByRecursion HasRrsig rrset.signatures) (message_rrsets number message)
-message_readable =
-    each_rrset IsReadable (λ rrset. AllByRecursion HasRrsig rrset.signatures)
-    (λ number section records first can. first_appearances_kept HasRrsig _ (chosen first.name first.rtype.0 records can))
 
 -- ---- limits
 
 -- the pairs of the RRsets so far and of more
-ArePairs-joined : (old new : List Group) (pairs : List Pair) → ArePairs (nsec3_rdata old ++ nsec3_rdata new) pairs → ArePairs (nsec3_rdata (old ++ new)) pairs
-ArePairs-joined old new pairs are =
-    subst (λ received. ArePairs received pairs) (sym (nsec3_rdata-append old new)) are
+AreParameters-joined : (old new : List ReceivedRrset) (pairs : List Nsec3Parameters) → AreParameters (nsec3_rdata old ++ nsec3_rdata new) pairs → AreParameters (nsec3_rdata (old ++ new)) pairs
+AreParameters-joined old new pairs are =
+    subst (λ received. AreParameters received pairs) (sym (nsec3_rdata-append old new)) are
 
-pub pairs_so_far : (old drafts : List Group) (kept lent fresh : List Pair) → ArePairs (nsec3_rdata old) kept → lent ≡ kept
-    → ((earlier : List (List ℕ)) → ArePairs earlier lent → ArePairs (earlier ++ nsec3_rdata drafts) (lent ++ fresh)) → ArePairs (nsec3_rdata old ++ nsec3_rdata drafts) (kept ++ fresh)
+pub pairs_so_far : (old drafts : List ReceivedRrset) (kept lent fresh : List Nsec3Parameters) → AreParameters (nsec3_rdata old) kept → lent ≡ kept
+    → ((earlier : List (List ℕ)) → AreParameters earlier lent → AreParameters (earlier ++ nsec3_rdata drafts) (lent ++ fresh)) → AreParameters (nsec3_rdata old ++ nsec3_rdata drafts) (kept ++ fresh)
 pairs_so_far old drafts kept lent fresh are same more =
-    subst (λ pairs. ArePairs (nsec3_rdata old ++ nsec3_rdata drafts) (pairs ++ fresh)) same (more (nsec3_rdata old) (subst (ArePairs (nsec3_rdata old)) (sym same) are))
+    subst (λ pairs. AreParameters (nsec3_rdata old ++ nsec3_rdata drafts) (pairs ++ fresh)) same (more (nsec3_rdata old) (subst (AreParameters (nsec3_rdata old)) (sym same) are))
 
-pub not_small : (drafts : List Group) (answer : Bool) → (IsTrue answer ↔ AllByRecursion IsSmall drafts) → answer ≡ false → ¬ AllByRecursion IsSmall drafts
+pub not_small : (drafts : List ReceivedRrset) (answer : Bool) → (IsTrue answer ↔ AllByRecursion IsSmall drafts) → answer ≡ false → ¬ AllByRecursion IsSmall drafts
 not_small drafts answer decides none small = let turned : true ≡ false = sym (decides.1 small) ∙ none in cc
 
 -- what is kept with a message more
-pub grown : (messages records total : ℕ) (old : List Group) (message : Contents) (kept fresh : List Pair) (drafts : List Group)
-    → IsWithinLimits (record { messages = messages; records = records; rrsets = old }) → messages < 64 → total ≤ 4096 → AllByRecursion IsSmall drafts
-    → ArePairs (nsec3_rdata old ++ nsec3_rdata drafts) (kept ++ fresh) → length (kept ++ fresh) ≤ 8
-    → IsWithinLimits (record { messages = messages + 1; records = total; rrsets = old ++ drafts }) × ArePairs (nsec3_rdata (old ++ drafts)) (kept ++ fresh)
-grown messages records total old message kept fresh drafts within few_messages few_records small are few = (
-  record {
+pub grown : (messages records total : ℕ) (old : List ReceivedRrset) (message : Contents) (kept fresh : List Nsec3Parameters) (drafts : List ReceivedRrset)
+    → IsHeld (record { messages = messages; records = records; rrsets = old }) kept → messages < 64 → total ≤ 4096 → AllByRecursion IsWellFormed drafts → AllByRecursion IsSmall drafts
+    → AreParameters (nsec3_rdata old ++ nsec3_rdata drafts) (kept ++ fresh) → length (kept ++ fresh) ≤ 8
+    → IsHeld (record { messages = messages + 1; records = total; rrsets = old ++ drafts }) (kept ++ fresh)
+grown messages records total old message kept fresh drafts held few_messages few_records formed small are few = record {
+  limits = record {
     messages = omega (arith, few_messages);
     records = few_records;
-    rrsets = recursion-append IsSmall old drafts within.rrsets small;
-    pairs = (few_pairs 8 _ (kept ++ fresh) (ArePairs-joined old drafts (kept ++ fresh) are)).0 few;
-  },
-  ArePairs-joined old drafts (kept ++ fresh) are,
-)
+    rrsets = recursion-append IsSmall old drafts held.limits.rrsets small;
+    parameters = (few_pairs 8 _ (kept ++ fresh) (AreParameters-joined old drafts (kept ++ fresh) are)).0 few;
+  };
+  well_formed = recursion-append IsWellFormed old drafts held.well_formed formed;
+  parameters = AreParameters-joined old drafts (kept ++ fresh) are;
+}
 
-numbered : (held : Evidence) (message : Contents) (drafts : List Group) → drafts ≡ message_rrsets (held.messages + 1) message → drafts ≡ message_rrsets (suc held.messages) message
+numbered : (held : Evidence) (message : Contents) (drafts : List ReceivedRrset) → drafts ≡ message_rrsets (held.messages + 1) message → drafts ≡ message_rrsets (suc held.messages) message
 numbered held message drafts is = is ∙ ap (λ n. message_rrsets n message) (omega arith)
 
 -- a message's RRsets beyond their limits
-pub large_refused : (held : Evidence) (message : Contents) (drafts : List Group) → drafts ≡ message_rrsets (held.messages + 1) message → ¬ AllByRecursion IsSmall drafts → ¬ IsWithinLimits (with_message held message)
+pub large_refused : (held : Evidence) (message : Contents) (drafts : List ReceivedRrset) → drafts ≡ message_rrsets (held.messages + 1) message → ¬ AllByRecursion IsSmall drafts → ¬ IsWithinLimits (with_message held message)
 large_refused held message drafts is large within =
     large (subst (AllByRecursion IsSmall) (sym (numbered held message drafts is)) (each_behind IsSmall held.rrsets (message_rrsets (suc held.messages) message) within.rrsets))
 
 -- too many pairs
-pub many_refused : (held : Evidence) (message : Contents) (drafts : List Group) → drafts ≡ message_rrsets (held.messages + 1) message
-    → ¬ AtMost 8 (IsPairAmong (nsec3_rdata held.rrsets ++ nsec3_rdata drafts)) → ¬ IsWithinLimits (with_message held message)
+pub many_refused : (held : Evidence) (message : Contents) (drafts : List ReceivedRrset) → drafts ≡ message_rrsets (held.messages + 1) message
+    → ¬ AtMost 8 (AreParametersAmong (nsec3_rdata held.rrsets ++ nsec3_rdata drafts)) → ¬ IsWithinLimits (with_message held message)
 many_refused held message drafts is many within =
-    many (subst (λ received. AtMost 8 (IsPairAmong received)) (nsec3_rdata-append held.rrsets drafts)
-    (subst (λ rrsets. AtMost 8 (IsPairAmong (nsec3_rdata (held.rrsets ++ rrsets)))) (sym (numbered held message drafts is)) within.pairs))
+    many (subst (λ received. AtMost 8 (AreParametersAmong received)) (nsec3_rdata-append held.rrsets drafts)
+    (subst (λ rrsets. AtMost 8 (AreParametersAmong (nsec3_rdata (held.rrsets ++ rrsets)))) (sym (numbered held message drafts is)) within.parameters))
 
 -- the new value, as it is kept and as it is defined
-pub grown_is : (messages records total : ℕ) (old : List Group) (message : Contents) (drafts : List Group) → total ≡ records + length (records_of message) → drafts ≡ message_rrsets (messages + 1) message
+pub grown_is : (messages records total : ℕ) (old : List ReceivedRrset) (message : Contents) (drafts : List ReceivedRrset) → total ≡ records + length (records_of message) → drafts ≡ message_rrsets (messages + 1) message
     → record { messages = messages + 1; records = total; rrsets = old ++ drafts } ≡ with_message (record { messages = messages; records = records; rrsets = old }) message
 grown_is messages records total old message drafts counted is =
     let next : messages + 1 ≡ suc messages = omega arith in
@@ -134,20 +119,20 @@ evidence_rrsets messages = held_rrsets _ messages
 -- ---- the signatures of the RRset with a number
 
 module _ (number : ℕ) where
-  abbrev has_number : ℕ × Group → Bool
+  abbrev has_number : ℕ × ReceivedRrset → Bool
   has_number numbered = numbered.0 == number
 
-  abbrev signatures_from : List (ℕ × Group) → List (List ℕ)
-  signatures_from numbered = flat_map (λ (n : ℕ × Group). n.1.signatures) numbered
+  abbrev signatures_from : List (ℕ × ReceivedRrset) → List (List ℕ)
+  signatures_from numbered = flat_map (λ (n : ℕ × ReceivedRrset). n.1.signatures) numbered
 
-  none_numbered : (start : ℕ) (rrsets : List Group) → (number < start) ⊎ (start + length rrsets ≤ number) → signatures_from (filter has_number (enumerate_from start rrsets)) ≡ []
+  none_numbered : (start : ℕ) (rrsets : List ReceivedRrset) → (number < start) ⊎ (start + length rrsets ≤ number) → signatures_from (filter has_number (enumerate_from start rrsets)) ≡ []
   none_numbered start [] outside = refl
   none_numbered start (x ∷ xs) outside = test (none_numbered (start + 1) xs) (start == number) refl where
     test : ((number < start + 1) ⊎ (start + 1 + length xs ≤ number) → signatures_from (filter has_number (enumerate_from (start + 1) xs)) ≡ []) → (is : Bool) → (start == number) ≡ is → signatures_from (cond is ((start, x) ∷ filter has_number (enumerate_from (start + 1) xs)) (filter has_number (enumerate_from (start + 1) xs))) ≡ []
     test later true same = absurd (⊎_elim (λ below. omega (arith, below, eqb-true start number same)) (λ above. omega (arith, above, eqb-true start number same)) outside)
     test later false other = later (⊎_elim (λ below. inl (omega (arith, below))) (λ above. inr (omega (arith, above))) outside)
 
-  numbered_here : (start : ℕ) (rrsets : List Group) (i : ℕ) (d : Group) → i < length rrsets → start + i ≡ number → signatures_from (filter has_number (enumerate_from start rrsets)) ≡ (get_or rrsets i d).signatures
+  numbered_here : (start : ℕ) (rrsets : List ReceivedRrset) (i : ℕ) (d : ReceivedRrset) → i < length rrsets → start + i ≡ number → signatures_from (filter has_number (enumerate_from start rrsets)) ≡ (get_or rrsets i d).signatures
   numbered_here start [] i d within is = absurd (omega (arith, within))
   numbered_here start (x ∷ xs) zero d within is = test (start == number) refl where
     test : (first : Bool) → (start == number) ≡ first → signatures_from (cond first ((start, x) ∷ filter has_number (enumerate_from (start + 1) xs)) (filter has_number (enumerate_from (start + 1) xs))) ≡ x.signatures
@@ -158,12 +143,12 @@ module _ (number : ℕ) where
     test later true same = absurd (omega (arith, is, eqb-true start number same))
     test later false other = later
 
-pub no_signatures : (rrsets : List Group) (number : ℕ) → (number ≡ 0) ⊎ (length rrsets < number) → AllZip IsRrsig (signatures_at rrsets number) []
+pub no_signatures : (rrsets : List ReceivedRrset) (number : ℕ) → (number ≡ 0) ⊎ (length rrsets < number) → AllZip IsRrsig (signatures_at rrsets number) []
 no_signatures rrsets number outside =
     subst (λ rdata. AllZip IsRrsig rdata []) (sym (none_numbered number 1 rrsets (⊎_elim (λ none. inl (omega (arith, none))) (λ above. inr (omega (arith, above))) outside))) tt
 
-pub its_signatures : (rrsets : List Group) (number : ℕ) (x : Group) (rrsigs : List Rrsig) → 0 < number → number ≤ length rrsets → x ≡ get_or rrsets (number - 1) x → AllZip IsRrsig x.signatures rrsigs → AllZip IsRrsig (signatures_at rrsets number) rrsigs
+pub its_signatures : (rrsets : List ReceivedRrset) (number : ℕ) (x : ReceivedRrset) (rrsigs : List Rrsig) → 0 < number → number ≤ length rrsets → x ≡ get_or rrsets (number - 1) x → AllZip IsRrsig x.signatures rrsigs → AllZip IsRrsig (signatures_at rrsets number) rrsigs
 its_signatures rrsets zero x rrsigs some within at are = absurd (omega (arith, some))
 its_signatures rrsets (suc i) x rrsigs some within at are =
     let here : get_or rrsets i x ≡ x = ap (λ j. get_or rrsets j x) (omega arith) ∙ sym at in
-    subst (λ rdata. AllZip IsRrsig rdata rrsigs) (sym (numbered_here (suc i) 1 rrsets i x (omega (arith, within)) (omega arith) ∙ ap (λ (g : Group). g.signatures) here)) are
+    subst (λ rdata. AllZip IsRrsig rdata rrsigs) (sym (numbered_here (suc i) 1 rrsets i x (omega (arith, within)) (omega arith) ∙ ap (λ (g : ReceivedRrset). g.signatures) here)) are

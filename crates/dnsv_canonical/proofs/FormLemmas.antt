@@ -9,20 +9,18 @@ use Rattle.std.proofs.lemmas.List.Elements.{All-contains, All-from_recursion}
 use Rattle.std.proofs.lemmas.Map.Views.{Contains-from_any}
 use Rattle.dnsv_names.specs.Name.{Labels, IsName, wire, lower_case}
 use Rattle.dnsv_names.specs.WireLaws.{lower_case-wire}
-use Rattle.dnsv_message.specs.Layout.{layout_of}
 use Rattle.dnsv_message.specs.declared.record.Record.{Record}
 use Rattle.dnsv_message.specs.declared.record.Section.{Section}
-use Rattle.dnsv_message.specs.Grammar.{IsMessage}
+use Rattle.dnsv_message.specs.Grammar.{IsMessage, IsTail}
 use Rattle.dnsv_message.specs.Message.{Contents, records_of}
-use Rattle.dnsv_message.specs.Fits.{FitsRecord}
-use Rattle.dnsv_message.specs.Parts.{HasParts as HasPartsInClass}
-use Rattle.dnsv_message.proofs.FitLemmas.{IsMessage-fits}
+use Rattle.dnsv_message.specs.Fits.{FitsMessage, FitsRecord}
+use Rattle.dnsv_message.specs.Parts.{AreParts, HasParts, head_size, rdata_of, tail_size}
 use Rattle.dnsv_records.proofs.OctetLemmas.{recursion-append}
-use Rattle.dnsv_canonical.specs.Rrsets.{Group, is_grouped, same_rrset, rrset_of, message_rrsets, rrsets_from}
+use Rattle.dnsv_canonical.specs.Rrsets.{ReceivedRrset, is_grouped, same_rrset, rrset_of, message_rrsets, rrsets_from}
 use Rattle.dnsv_canonical.proofs.CanonicalLemmas.{each_map}
 use Rattle.dnsv_canonical.proofs.ListLemmas.{each_chosen}
 use Rattle.dnsv_canonical.proofs.EvidenceLemmas.{each_rrset}
-use Rattle.dnsv_canonical.specs.CanonicalRdata.{AreParts, HasParts, lowered_types, lowered_but_last, names_lowered, rdata_of, canonical_form}
+use Rattle.dnsv_canonical.specs.CanonicalRdata.{lowered_types, lowered_but_last, names_lowered, canonical_form}
 
 -- ---- the form of RDATA that is laid out
 
@@ -40,60 +38,59 @@ lowered_end behind octets end size =
 module _ (before : List ℕ) (names : List Labels) (behind : List ℕ) where
   abbrev Lowers : ℕ → Type 0
   Lowers rtype =
-      AreParts (layout_of rtype 1) before names behind → canonical_form rtype (rdata_of before names behind) ≡ rdata_of before (map lower_case names) behind
+      AreParts rtype 1 before names behind → canonical_form rtype (rdata_of before names behind) ≡ rdata_of before (map lower_case names) behind
 
-  by_layout : (head count tail : ℕ) (pointers : Bool) → AreParts (record { head = head; names = count; pointers = pointers; tail = Some tail }) before names behind
+  by_sizes : (rtype head tail : ℕ) → head_size rtype 1 ≡ head → tail_size rtype 1 ≡ Some tail → AreParts rtype 1 before names behind
       → names_lowered (Some (head, tail)) (rdata_of before names behind) ≡ rdata_of before (map lower_case names) behind
-  by_layout head count tail pointers parts =
+  by_sizes rtype head tail at_head at_tail parts =
       let rest : List ℕ = flat_map wire names ++ behind in
+      let headed : length before ≡ head = parts.head ∙ at_head in
+      let ends : length behind ≡ tail = subst (λ size. IsTail size (length behind)) at_tail parts.tail in
       ap (λ rdata. names_lowered (Some (head, tail)) rdata) (append_assoc before (flat_map wire names) behind)
-      ∙ (λ i. take_at before rest head parts.headed i ++ lowered_but_last tail (drop_at before rest head parts.headed i))
-      ∙ ap (λ octets. before ++ octets) (lowered_end tail (flat_map wire names) behind parts.ends ∙ ap (λ octets. octets ++ behind) (lower_names names parts.each))
+      ∙ (λ i. take_at before rest head headed i ++ lowered_but_last tail (drop_at before rest head headed i))
+      ∙ ap (λ octets. before ++ octets) (lowered_end tail (flat_map wire names) behind ends ∙ ap (λ octets. octets ++ behind) (lower_names names parts.each))
       ∙ sym (append_assoc before (flat_map wire (map lower_case names)) behind)
 
   -- NS, CNAME, SOA, PTR, MX, SRV and DNAME
   each_lowers : AllByRecursion Lowers lowered_types
   each_lowers = (
-    by_layout 0 1 0 true,
-    (by_layout 0 1 0 true, (by_layout 0 2 20 true, (by_layout 0 1 0 true, (by_layout 2 1 0 true, (by_layout 6 1 0 true, (by_layout 0 1 0 false, tt)))))),
+    by_sizes 2 0 0 refl refl,
+    (by_sizes 5 0 0 refl refl, (by_sizes 6 0 20 refl refl, (by_sizes 12 0 0 refl refl, (by_sizes 15 2 0 refl refl, (by_sizes 33 6 0 refl refl, (by_sizes 39 0 0 refl refl, tt)))))),
   )
 
 pub lowered_types_lower : (rtype : ℕ) → Contains lowered_types rtype → (before : List ℕ) (names : List Labels) (behind : List ℕ)
-    → AreParts (layout_of rtype 1) before names behind → canonical_form rtype (rdata_of before names behind) ≡ rdata_of before (map lower_case names) behind
+    → AreParts rtype 1 before names behind → canonical_form rtype (rdata_of before names behind) ≡ rdata_of before (map lower_case names) behind
 lowered_types_lower rtype listed before names behind =
     All-contains (Lowers before names behind) lowered_types rtype (All-from_recursion (Lowers before names behind) lowered_types (each_lowers before names behind)) listed
 
 pub other_types_keep : (rtype : ℕ) → ¬ Contains lowered_types rtype → (rdata : List ℕ) → canonical_form rtype rdata ≡ rdata
 other_types_keep rtype none rdata = test (list_any (λ other. other == rtype) lowered_types) refl where
   test : (is : Bool) → list_any (λ other. other == rtype) lowered_types ≡ is
-      → names_lowered (if is then Some ((layout_of rtype 1).head, unwrap_or (layout_of rtype 1).tail 0) else None) rdata ≡ rdata
+      → names_lowered (if is then Some (head_size rtype 1, unwrap_or (tail_size rtype 1) 0) else None) rdata ≡ rdata
   test true is = absurd (none (Contains-from_any {eq = λ q other. other == q} (λ x y same. sym (eqb-true y x same)) rtype lowered_types is))
   test false is = refl
 
 -- ---- the RDATA of messages
 
-has_parts : (rtype : ℕ) (rdata : List ℕ) → HasPartsInClass rtype 1 rdata → HasParts rtype rdata
-has_parts rtype rdata has =
-    (has.0, has.1, has.2, record { headed = has.3.head; counted = has.3.count; each = has.3.each; ends = has.3.tail }, has.4)
+abbrev AllHaveParts : ReceivedRrset → Type 0
+AllHaveParts rrset = AllByRecursion (HasParts rrset.rtype 1) rrset.rdata
 
-abbrev AllHaveParts : Group → Type 0
-AllHaveParts rrset = AllByRecursion (HasParts rrset.rtype) rrset.rdata
-
-own_parts : (first r : Record) → FitsRecord r → is_grouped r ≡ true → same_rrset first r ≡ true → HasParts first.rtype.0 r.rdata
+pub own_parts : (first r : Record) → FitsRecord r → is_grouped r ≡ true → same_rrset first r ≡ true → HasParts first.rtype.0 1 r.rdata
 own_parts first r fits grouped same =
     let class : r.class.0 ≡ 1 = eqb-true _ _ (and_parts _ _ grouped).0 in
     let rtype : r.rtype.0 ≡ first.rtype.0 = sym (eqb-true _ _ (and_parts (first.rtype.0 == r.rtype.0) _ same).0) in
-    has_parts first.rtype.0 r.rdata (subst (λ n. HasPartsInClass n 1 r.rdata) rtype (subst (λ n. HasPartsInClass r.rtype.0 n r.rdata) class fits.parts))
+    subst (λ n. HasParts n 1 r.rdata) rtype (subst (λ n. HasParts r.rtype.0 n r.rdata) class fits.parts)
 
 rrset_parts : (number : ℕ) (section : Section) (records : List Record) (first : Record) → AllByRecursion FitsRecord records → AllHaveParts (rrset_of number section records first)
 rrset_parts number section records first each =
-    each_map (λ (r : Record). r.rdata) (HasParts first.rtype.0) _
-    (each_chosen (same_rrset first) (λ r. FitsRecord r × (is_grouped r ≡ true)) (λ r. HasParts first.rtype.0 r.rdata) (λ r fits. own_parts first r fits.0 fits.1) (filter is_grouped records)
+    each_map (λ (r : Record). r.rdata) (HasParts first.rtype.0 1) _
+    (each_chosen (same_rrset first) (λ r. FitsRecord r × (is_grouped r ≡ true)) (λ r. HasParts first.rtype.0 1 r.rdata) (λ r fits. own_parts first r fits.0 fits.1) (filter is_grouped records)
     (each_chosen is_grouped FitsRecord (λ r. FitsRecord r × (is_grouped r ≡ true)) (λ r fits grouped. (fits, grouped)) records each))
 
-pub messages_parts : (number : ℕ) (messages : List Contents) → AllByRecursion IsMessage messages → AllByRecursion (λ rrset. AllByRecursion (HasParts rrset.rtype) rrset.rdata) (rrsets_from number messages)
-messages_parts number [] are = tt
-messages_parts number (message ∷ messages) are =
+pub messages_parts : ((message : Contents) → IsMessage message → FitsMessage message) → (number : ℕ) (messages : List Contents) → AllByRecursion IsMessage messages
+    → AllByRecursion (λ rrset. AllByRecursion (HasParts rrset.rtype 1) rrset.rdata) (rrsets_from number messages)
+messages_parts fit number [] are = tt
+messages_parts fit number (message ∷ messages) are =
     recursion-append AllHaveParts (message_rrsets number message) (rrsets_from (suc number) messages)
-    (each_rrset FitsRecord AllHaveParts rrset_parts number message (IsMessage-fits message are.0).records)
-    (messages_parts (suc number) messages are.1)
+    (each_rrset FitsRecord AllHaveParts rrset_parts number message (fit message are.0).records)
+    (messages_parts fit (suc number) messages are.1)

@@ -11,7 +11,7 @@ use Rattle.std.specs.Cmp.{IsEquivalence}
 use Rattle.dnsv_names.specs.Name.{Labels, lower_case, same_name}
 use Rattle.dnsv_message.specs.declared.record.Record.{Record}
 use Rattle.dnsv_message.specs.declared.record.Section.{Section}
-use Rattle.dnsv_canonical.specs.Rrsets.{Group, appears_first, first_appearances, is_grouped, same_rrset, is_signature, rrset_of}
+use Rattle.dnsv_canonical.specs.Rrsets.{ReceivedRrset, appears_first, first_appearances, is_grouped, same_rrset, is_signature, rrset_of}
 
 module _ {X : Type 0} (p q : X → Bool) where
   -- whether one of those that pass the first test passes the second
@@ -68,7 +68,7 @@ map_cond f x b = elim b as (λ t. map f (cond t (x ∷ []) []) ≡ cond t (f x �
 pub rrsets_more : (message : ℕ) (section : Section) (records earlier : List Record) (i : ℕ) (d : Record) → i < length earlier → map (rrset_of message section records) (first_appearances same_rrset (filter is_grouped (take (i + 1) earlier))) ≡ map (rrset_of message section records) (first_appearances same_rrset (filter is_grouped (take i earlier))) ++ cond (is_grouped (get_or earlier i d) && not (list_any (λ r. is_grouped r && same_rrset r (get_or earlier i d)) (take i earlier))) (rrset_of message section records (get_or earlier i d) ∷ []) []
 rrsets_more message section records earlier i d within =
     let x : Record = get_or earlier i d in
-    let g : Record → Group = rrset_of message section records in
+    let g : Record → ReceivedRrset = rrset_of message section records in
     ap (λ rs. map g (first_appearances same_rrset rs)) (filter_more is_grouped earlier i d within)
     ∙ ap (map g) (first_appearances_more same_rrset (filter is_grouped (take i earlier)) x (is_grouped x))
     ∙ map-append g (first_appearances same_rrset (filter is_grouped (take i earlier))) _
@@ -87,7 +87,7 @@ no_element test (x ∷ xs) =
       | false ↦ no_element test xs
     ]
 
-same_rrset_itself : (x : Record) → same_rrset x x ≡ true
+pub same_rrset_itself : (x : Record) → same_rrset x x ≡ true
 same_rrset_itself x = λ i. nat_eq_equiv.refl x.rtype.0 i && same_name_equiv.refl x.name i
 
 -- the RDATA of the RRset that the record belongs to
@@ -141,7 +141,7 @@ module _ (records : List Record) (i : ℕ) (x : Record) (within : i < length rec
         both false false = refl
 
 module _ (message : ℕ) (section : Section) (records : List Record) (i : ℕ) (x : Record) (within : i < length records) (at : x ≡ get_or records i x) where
-  abbrev appeared_at : ℕ → List Group
+  abbrev appeared_at : ℕ → List ReceivedRrset
   appeared_at n = map (rrset_of message section records) (first_appearances same_rrset (filter is_grouped (take n records)))
 
   -- the RRsets up to the next record by the two tests on it
@@ -151,7 +151,7 @@ module _ (message : ℕ) (section : Section) (records : List Record) (i : ℕ) (
       ∙ ap (λ (r : Record). appeared_at i ++ cond (is_grouped r && not (list_any (λ s. is_grouped s && same_rrset s r) (take i records))) (rrset_of message section records r ∷ []) []) (sym at)
       ∙ (λ j. appeared_at i ++ cond (grouped_is j && not (appeared_is j)) (rrset_of message section records x ∷ []) [])
 
-  module _ (old before : List Group) (so_far : before ≡ old ++ appeared_at i) where
+  module _ (old before : List ReceivedRrset) (so_far : before ≡ old ++ appeared_at i) where
     pub rrset_appears : is_grouped x ≡ true → list_any (λ r. is_grouped r && same_rrset r x) (take i records) ≡ false → before ++ rrset_of message section records x ∷ [] ≡ old ++ appeared_at (i + 1)
     rrset_appears grouped appeared =
         ap (λ gs. gs ++ rrset_of message section records x ∷ []) so_far ∙ append_assoc old (appeared_at i) (rrset_of message section records x ∷ [])

@@ -5,6 +5,7 @@ pub mod GroupLemmas
 pub mod ByRrsetLemmas
 pub mod LimitLemmas
 pub mod ListLemmas
-pub mod PairLemmas
+pub mod ParameterLemmas
 pub mod ReadableLemmas
 pub mod SignedLemmas
+pub mod WellFormedLemmas

@@ -6,15 +6,14 @@ use Rattle.std.proofs.Math.Dec.{leb}
 use Rattle.std.specs.Prelude.{Contains, Result, IfOk}
 use Rattle.std.specs.Borrow.{Bor}
 use Rattle.std.specs.declared.alloc.AllocError.{AllocError}
-use Rattle.dnsv_canonical.specs.Rrsets.{Group}
+use Rattle.dnsv_canonical.specs.Rrsets.{ReceivedRrset}
 use Rattle.dnsv_canonical.proofs.ReadableLemmas.{IfOk-same}
 use Rattle.std.specs.declared.cmp.Ordering.TheVariants.{Less}
 use Rattle.std.specs.List.Sorted.{IsStrictlySortedBy}
 use Rattle.std.proofs.lemmas.Cmp.{nat_list_cmp_total}
 use Rattle.std.proofs.lemmas.Map.Lookups.{exact_bytes}
 use Rattle.dnsv_canonical.specs.Canonical.{rdata_cmp, IsCanonical}
-use Rattle.dnsv_canonical.specs.Evidence.{AtMost, IsSmall}
-use Rattle.dnsv_canonical.specs.Kept.{IsDistinct}
+use Rattle.dnsv_canonical.specs.Evidence.{IsDistinct, AtMost, IsSmall}
 use Rattle.dnsv_canonical.proofs.CanonicalLemmas.{IsMember, IsMember-from_contains, Contains-from_member, member_passes, never_below_itself}
 
 -- what is left of a list without one of its elements
@@ -70,7 +69,7 @@ few_keys received keys is =
       λ some. le-leb _ _ (omega (arith, few.1 some, length-map keys (λ (r : Bor (List ℕ)). r.now))),
     )
 
-pub small_by_keys : (rrset : Group) (received : List (List ℕ)) → received ≡ rrset.rdata → rrset.rtype ≡ 48 → length rrset.signatures ≤ 16 → (answer : Result Bool AllocError)
+pub small_by_keys : (rrset : ReceivedRrset) (received : List (List ℕ)) → received ≡ rrset.rdata → rrset.rtype ≡ 48 → length rrset.signatures ≤ 16 → (answer : Result Bool AllocError)
     → IfOk answer (λ yes. IsTrue yes ↔ AtMost 16 (Contains received)) → IfOk answer (λ yes. IsTrue yes ↔ IsSmall rrset)
 small_by_keys rrset received same is few answer decides =
     IfOk-same answer decides

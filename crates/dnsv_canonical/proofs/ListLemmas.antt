@@ -1,12 +1,10 @@
 -- Facts about each element of a list.
-use Rattle.std.proofs.Common.{◌≡◌, ℕ, ◌+◌, ◌<◌, Bool, true, false, cond, List, [], ◌∷◌, ◌++◌, length, get_or, take, map, refl, sym, subst, arith}
+use Rattle.std.proofs.Common.{◌≡◌, ℕ, ◌+◌, ◌<◌, Bool, true, false, cond, List, [], ◌∷◌, ◌++◌, length, get_or, take, map, Vec, refl, sym, subst, arith}
 use Rattle.std.proofs.lemmas.List.{map_more, get_or-map, length-map}
 use Rattle.std.proofs.lemmas.List.Elements.{All-from_recursion, All-get_or}
 use Rattle.std.specs.Prelude.{filter}
 use Rattle.std.specs.Borrow.{Bor}
 use Rattle.std.specs.List.{AllByRecursion, AllZip}
-use Rattle.dnsv_records.specs.declared.rrsig.Rrsig.{Rrsig}
-use Rattle.dnsv_records.specs.Rrsig.{IsRrsig}
 
 pub each_at : {X : Type 0} (P : X → Type 0) (xs : List X) (i : ℕ) (d : X) → AllByRecursion P xs → i < length xs → P (get_or xs i d)
 each_at P xs i d each within = All-get_or P xs i d within (All-from_recursion P xs each)
@@ -16,6 +14,13 @@ pub each_borrowed : (P : List ℕ → Type 0) (slices : List (Bor (List ℕ))) (
 each_borrowed P slices i d each within =
     subst P (get_or-map (λ (r : Bor (List ℕ)). r.now) slices i d d.now within)
     (each_at P (map (λ r. r.now) slices) i d.now each (omega (arith, within, length-map slices (λ (r : Bor (List ℕ)). r.now))))
+
+-- the octets of a vector at a place
+pub each_vector : {Y : Type 0} (P : List ℕ → Type 0) (vectors : List (Vec ℕ Y)) (i : ℕ) (x : Vec ℕ Y) → AllByRecursion P (map (λ v. v.items) vectors) → i < length vectors → x ≡ get_or vectors i x → P x.items
+each_vector {Y} P vectors i x each within at =
+    subst (λ (v : Vec ℕ Y). P v.items) (sym at)
+    (subst P (get_or-map (λ (v : Vec ℕ Y). v.items) vectors i x x.items within)
+    (each_at P (map (λ (v : Vec ℕ Y). v.items) vectors) i x.items each (omega (arith, within, length-map vectors (λ (v : Vec ℕ Y). v.items)))))
 
 pub each_front : {X : Type 0} (P : X → Type 0) (xs ys : List X) → AllByRecursion P (xs ++ ys) → AllByRecursion P xs
 each_front P [] ys each = tt
@@ -39,9 +44,10 @@ pairs_more R [] (z ∷ ys) x y all here = absurd all
 pairs_more R (z ∷ xs) [] x y all here = absurd all
 pairs_more R (w ∷ xs) (z ∷ ys) x y all here = (all.0, pairs_more R xs ys x y all.1 here)
 
-pub rrsigs_more : (slices : List (Bor (List ℕ))) (i : ℕ) (d : Bor (List ℕ)) (before after : List Rrsig) (rrsig : Rrsig) → i < length slices → AllZip IsRrsig (map (λ r. r.now) (take i slices)) before → IsRrsig (get_or slices i d).now rrsig
-    → after ≡ before ++ rrsig ∷ [] → AllZip IsRrsig (map (λ r. r.now) (take (i + 1) slices)) after
-rrsigs_more slices i d before after rrsig within so_far is pushed =
-    subst (λ rdata. AllZip IsRrsig rdata after) (sym (map_more (λ (r : Bor (List ℕ)). r.now) slices i d within))
-    (subst (λ rrsigs. AllZip IsRrsig (map (λ (r : Bor (List ℕ)). r.now) (take i slices) ++ (get_or slices i d).now ∷ []) rrsigs) (sym pushed)
-    (pairs_more IsRrsig (map (λ (r : Bor (List ℕ)). r.now) (take i slices)) before (get_or slices i d).now rrsig so_far is))
+-- one RDATA more is read
+pub read_more : {T : Type 0} (R : List ℕ → T → Type 0) (slices : List (Bor (List ℕ))) (i : ℕ) (d : Bor (List ℕ)) (before after : List T) (value : T) → i < length slices → AllZip R (map (λ r. r.now) (take i slices)) before → R (get_or slices i d).now value
+    → after ≡ before ++ value ∷ [] → AllZip R (map (λ r. r.now) (take (i + 1) slices)) after
+read_more R slices i d before after value within so_far is pushed =
+    subst (λ rdata. AllZip R rdata after) (sym (map_more (λ (r : Bor (List ℕ)). r.now) slices i d within))
+    (subst (λ values. AllZip R (map (λ (r : Bor (List ℕ)). r.now) (take i slices) ++ (get_or slices i d).now ∷ []) values) (sym pushed)
+    (pairs_more R (map (λ (r : Bor (List ℕ)). r.now) (take i slices)) before (get_or slices i d).now value so_far is))

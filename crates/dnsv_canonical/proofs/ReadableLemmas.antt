@@ -13,7 +13,8 @@ use Rattle.dnsv_records.specs.Nsec.{IsNsec}
 use Rattle.dnsv_records.specs.Nsec3.{IsNsec3}
 use Rattle.dnsv_records.specs.Reading.{Gives}
 use Rattle.dnsv_records.proofs.OctetLemmas.{recursion-append}
-use Rattle.dnsv_canonical.specs.Evidence.{Evidence, IsWhole, IsLaidOut, IsReadable, IsFirstBad, IsRefusal}
+use Rattle.dnsv_canonical.specs.Evidence.{Evidence, IsWhole, IsReadable, IsFirstBad, IsReasonAgainst}
+use Rattle.dnsv_canonical.specs.Rdata.{IsLaidOut}
 use Rattle.dnsv_canonical.specs.Kept.{told, IsBadAfter}
 use Rattle.dnsv_canonical.specs.declared.capture.CaptureError.{CaptureError}
 use Rattle.dnsv_canonical.specs.declared.capture.CaptureError.TheVariants.{OutOfMemory, NotAResponse, Truncated, BadRdata, Limit}
@@ -27,6 +28,12 @@ given_none P value field (inr given) = cc
 pub given_same : {V : Type 0} (value other : V) → Gives (Ok value) other → value ≡ other
 given_same value other (inl given) = cc
 given_same value other (inr given) = cc
+
+-- what can be read fails for want of memory alone
+pub fails_alone : {V : Type 0} (result : Result V RecordError) (value : V) → Gives result value → IfErr result (λ error. error ≡ records.OutOfMemory)
+fails_alone (Ok found) value given = tt
+fails_alone (Err error) value (inl given) = cc
+fails_alone (Err error) value (inr given) = cc
 
 pub told_decides : {V : Type 0} (P : V → Type 0) (result : Result V RecordError) → IfOk result P → ((value : V) → P value → Gives result value) → IfOk (told result) (λ answer. IsTrue answer ↔ ((value : V) × P value))
 told_decides P (Ok value) found every = (λ _. (value, found), λ _. refl)
@@ -70,7 +77,7 @@ IsFirstBad-behind xs ys k each first = (
 
 -- what is told of the second of three sections, and of the others, is told of the message
 module _ (held : Evidence) (message : Contents) (whole : IsWhole message) where
-  pub refused_in_answer : (error : CaptureError) → IsBadAfter 0 message.answer error → IsRefusal held message error
+  pub refused_in_answer : (error : CaptureError) → IsBadAfter 0 message.answer error → IsReasonAgainst held message error
   refused_in_answer OutOfMemory bad = tt
   refused_in_answer (BadRdata k) bad =
       (whole, subst (IsFirstBad (records_of message)) (omega (arith, bad.2)) (IsFirstBad-front (message.answer ++ message.authority) message.additional bad.0 (IsFirstBad-front message.answer message.authority bad.0 bad.1)))
@@ -78,7 +85,7 @@ module _ (held : Evidence) (message : Contents) (whole : IsWhole message) where
   refused_in_answer Truncated bad = absurd bad
   refused_in_answer Limit bad = absurd bad
 
-  pub refused_in_authority : (error : CaptureError) → AllByRecursion IsReadable message.answer → IsBadAfter (length message.answer) message.authority error → IsRefusal held message error
+  pub refused_in_authority : (error : CaptureError) → AllByRecursion IsReadable message.answer → IsBadAfter (length message.answer) message.authority error → IsReasonAgainst held message error
   refused_in_authority OutOfMemory each bad = tt
   refused_in_authority (BadRdata k) each bad =
       (whole, subst (IsFirstBad (records_of message)) (sym bad.2) (IsFirstBad-front (message.answer ++ message.authority) message.additional _ (IsFirstBad-behind message.answer message.authority bad.0 each bad.1)))
@@ -86,7 +93,7 @@ module _ (held : Evidence) (message : Contents) (whole : IsWhole message) where
   refused_in_authority Truncated each bad = absurd bad
   refused_in_authority Limit each bad = absurd bad
 
-  pub refused_in_additional : (error : CaptureError) (earlier : ℕ) → earlier ≡ length message.answer + length message.authority → AllByRecursion IsReadable message.answer → AllByRecursion IsReadable message.authority → IsBadAfter earlier message.additional error → IsRefusal held message error
+  pub refused_in_additional : (error : CaptureError) (earlier : ℕ) → earlier ≡ length message.answer + length message.authority → AllByRecursion IsReadable message.answer → AllByRecursion IsReadable message.authority → IsBadAfter earlier message.additional error → IsReasonAgainst held message error
   refused_in_additional OutOfMemory earlier is answer authority bad = tt
   refused_in_additional (BadRdata k) earlier is answer authority bad = (
     whole,

@@ -2,13 +2,10 @@
 --
 -- `canonical_form` is said of octets, so that it holds of any RDATA. What it does to RDATA that is laid out as its
 -- type asks is said of names, by the law `canonical_form_lowers_the_names`.
-use Rattle.std.specs.Prelude.{◌≡◌, ℕ, ◌-◌, ◌==◌, if◌then◌else◌, List, [], ◌∷◌, ◌++◌, length, take, drop, map, flat_map, Option, Some, None, unwrap_or}
+use Rattle.std.specs.Prelude.{ℕ, ◌-◌, ◌==◌, if◌then◌else◌, List, [], ◌∷◌, ◌++◌, length, take, drop, map, Option, Some, None, unwrap_or}
 use Rattle.std.specs.Char.{to_ascii_lowercase}
-use Rattle.std.specs.List.{AllByRecursion, list_any}
-use Rattle.dnsv_names.specs.Name.{Labels, IsName, wire}
-use Rattle.dnsv_message.specs.declared.rdata.Layout.{Layout}
-use Rattle.dnsv_message.specs.Grammar.{IsTail}
-use Rattle.dnsv_message.specs.Layout.{layout_of}
+use Rattle.std.specs.List.{list_any}
+use Rattle.dnsv_message.specs.Parts.{head_size, tail_size}
 
 -- ---- names in RDATA
 
@@ -22,30 +19,13 @@ listed_types =
 abbrev pub lowered_types : List ℕ
 lowered_types = 2 ∷ 5 ∷ 6 ∷ 12 ∷ 15 ∷ 33 ∷ 39 ∷ []
 
--- what stands before the names of an RDATA, its names, and what stands behind them, as the layout asks
-pub record AreParts (layout : Layout) (before : List ℕ) (names : List Labels) (behind : List ℕ) : Type 0 where
-  pub headed : length before ≡ layout.head
-  pub counted : length names ≡ layout.names
-  pub each : AllByRecursion IsName names
-  pub ends : IsTail layout.tail (length behind)
-
--- the RDATA of these parts, no name compressed
-abbrev pub rdata_of : List ℕ → List Labels → List ℕ → List ℕ
-rdata_of before names behind = before ++ flat_map wire names ++ behind
-
--- the RDATA has the parts that its type asks for in class IN
-abbrev pub HasParts : ℕ → List ℕ → Type 0
-HasParts rtype rdata =
-    (before : List ℕ) × (names : List Labels) × (behind : List ℕ) × AreParts (layout_of rtype 1) before names behind
-    × (rdata ≡ rdata_of before names behind)
-
 -- ---- canonical form
 
 -- how many octets stand before and behind the names, where canonical form has them in lower case
-abbrev pub names_of : ℕ → Option (ℕ × ℕ)
-names_of rtype =
+abbrev pub octets_around_names : ℕ → Option (ℕ × ℕ)
+octets_around_names rtype =
     if list_any (λ other. other == rtype) lowered_types
-    then Some ((layout_of rtype 1).head, unwrap_or (layout_of rtype 1).tail 0)
+    then Some (head_size rtype 1, unwrap_or (tail_size rtype 1) 0)
     else None
 
 -- the octets in lower case but for the last `behind`
@@ -61,4 +41,4 @@ names_lowered (Some around) rdata = take around.0 rdata ++ lowered_but_last arou
 
 -- the RDATA of the type in canonical form
 abbrev pub canonical_form : ℕ → List ℕ → List ℕ
-canonical_form rtype rdata = names_lowered (names_of rtype) rdata
+canonical_form rtype rdata = names_lowered (octets_around_names rtype) rdata

@@ -1,5 +1,6 @@
--- What a capture keeps to know its limits. No public clause cites this module.
-use Rattle.std.specs.Prelude.{◌≡◌, ◌↔◌, ℕ, ◌+◌, Bool, true, false, List, [], ◌∷◌, ⊤, Contains, Result, Ok, Err}
+-- Steps of taking a message. No public clause cites this module.
+use Rattle.std.specs.Prelude.{◌≡◌, ℕ, ◌+◌, Bool, true, false, List, ⊤, Result, Ok, Err}
+use Rattle.std.specs.List.{AllByRecursion}
 use Rattle.std.specs.declared.alloc.AllocError.{AllocError}
 use Rattle.std.specs.Allocator.{alloc_error}
 use Rattle.dnsv_message.specs.declared.record.Record.{Record}
@@ -7,13 +8,9 @@ use Rattle.dnsv_records.specs.declared.error.RecordError.{RecordError}
 use Rattle.dnsv_records.specs.declared.error.RecordError.TheVariants as records
 use Rattle.dnsv_canonical.specs.declared.capture.CaptureError.{CaptureError}
 use Rattle.dnsv_canonical.specs.declared.capture.CaptureError.TheVariants.{OutOfMemory, BadRdata, Limit}
-use Rattle.dnsv_records.specs.declared.rrsig.Rrsig.{Rrsig}
-use Rattle.dnsv_records.specs.Rrsig.{IsRrsig}
-use Rattle.dnsv_canonical.specs.Evidence.{AtMost, IsFirstBad, IsPairAmong}
-
--- the RDATA is some RRSIG
-abbrev pub HasRrsig : List ℕ → Type 0
-HasRrsig rdata = (rrsig : Rrsig) × IsRrsig rdata rrsig
+use Rattle.dnsv_records.specs.declared.nsec3.Nsec3Parameters.{Nsec3Parameters}
+use Rattle.dnsv_canonical.specs.Evidence.{Evidence, AtMost, IsFirstBad, AreParameters, AreParametersAmong, IsWithinLimits, nsec3_rdata}
+use Rattle.dnsv_canonical.specs.Rdata.{IsWellFormed}
 
 -- whether something was read, unless memory ran out
 abbrev pub told : {T : Type 0} → Result T RecordError → Result Bool AllocError
@@ -27,18 +24,15 @@ IsBadAfter earlier records OutOfMemory = ⊤
 IsBadAfter earlier records (BadRdata k) = (place : ℕ) × IsFirstBad records place × (k ≡ earlier + place)
 IsBadAfter earlier records _ = ⊥
 
--- no element stands in the list twice
-abbrev pub IsDistinct : {X : Type 0} → List X → Type 0
-IsDistinct [] = ⊤
-IsDistinct (x ∷ xs) = ¬ Contains xs x × IsDistinct xs
+-- why the parameters of the NSEC3 records aren't kept
+abbrev pub IsParametersRefusal : List (List ℕ) → CaptureError → Type 0
+IsParametersRefusal received OutOfMemory = ⊤
+IsParametersRefusal received Limit = ¬ AtMost 8 (AreParametersAmong received)
+IsParametersRefusal received _ = ⊥
 
--- the pairs are those of the NSEC3 records, each once
-pub record ArePairs (received : List (List ℕ)) (pairs : List (ℕ × List ℕ)) : Type 0 where
-  pub distinct : IsDistinct pairs
-  pub members : (pair : ℕ × List ℕ) → Contains pairs pair ↔ IsPairAmong received pair
-
--- why the pairs of the NSEC3 records aren't gathered
-abbrev pub IsPairRefusal : List (List ℕ) → CaptureError → Type 0
-IsPairRefusal received OutOfMemory = ⊤
-IsPairRefusal received Limit = ¬ AtMost 8 (IsPairAmong received)
-IsPairRefusal received _ = ⊥
+-- what a capture keeps with what it holds: its RRsets are well formed and within their limits, and these are the
+-- parameters of their usable NSEC3 records
+pub record IsHeld (held : Evidence) (all : List Nsec3Parameters) : Type 0 where
+  pub limits : IsWithinLimits held
+  pub well_formed : AllByRecursion IsWellFormed held.rrsets
+  pub parameters : AreParameters (nsec3_rdata held.rrsets) all

@@ -5,3 +5,5 @@ pub mod Kept
 pub mod SignedData
 pub mod Rrsets
 pub mod ByRrset
+pub mod Rdata
+pub mod Records

@@ -1,5 +1,5 @@
 -- The RRsets of messages and their signatures (RFC 2181 5, RFC 4035 5.3.1).
-use Rattle.std.specs.Prelude.{ℕ, suc, ◌==◌, nat_le, Bool, not, ◌&&◌, List, [], ◌∷◌, ◌++◌, map, filter, take, nat_eq}
+use Rattle.std.specs.Prelude.{◌≡◌, ◌≢◌, ℕ, suc, ◌==◌, nat_le, Bool, IsTrue, not, ◌&&◌, List, [], ◌∷◌, ◌++◌, map, filter, take, nat_eq}
 use Rattle.std.specs.Int.{w16, to_be_bytes}
 use Rattle.std.specs.List.{enumerate_from, list_any, starts_with}
 use Rattle.std.specs.Str.{bytes_eq}
@@ -11,7 +11,7 @@ use Rattle.dnsv_message.specs.Message.{Contents}
 
 -- an RRset: the number of its message, from 1 on, its section, the owner as its first record spells it, its type,
 -- the RDATA of its records as received, and the RDATA of its signatures
-pub record Group : Type 0 where
+pub record ReceivedRrset : Type 0 where
   pub message : ℕ
   pub section : Section
   pub owner : Labels
@@ -27,6 +27,13 @@ ungrouped_types = 0 ∷ 3 ∷ 4 ∷ 7 ∷ 8 ∷ 9 ∷ 14 ∷ 17 ∷ 18 ∷ 21 �
 -- whether records of the type form RRsets: those of 128 to 255, which stand for no data, don't either
 abbrev pub forms_rrsets : ℕ → Bool
 forms_rrsets rtype = not (list_any (λ other. other == rtype) ungrouped_types) && not (nat_le 128 rtype && nat_le rtype 255)
+
+-- The type can be asked at the name: it forms RRsets, is neither NSEC nor NSEC3, and is not DS at the root.
+pub record IsQuestion (name : Labels) (rtype : ℕ) : Type 0 where
+  pub forms : IsTrue (forms_rrsets rtype)
+  pub not_nsec : rtype ≢ 47
+  pub not_nsec3 : rtype ≢ 50
+  pub below_root : rtype ≡ 43 → name ≢ []
 
 -- whether the record belongs to an RRset: it is of class IN, and of a type that forms them
 abbrev pub is_grouped : Record → Bool
@@ -54,7 +61,7 @@ abbrev pub signatures_of : List Record → Labels → ℕ → List (List ℕ)
 signatures_of records owner rtype = first_appearances bytes_eq (map (λ r. r.rdata) (filter (is_signature owner rtype) records))
 
 -- the RRset in the section that the record belongs to, which is its first
-abbrev pub rrset_of : ℕ → Section → List Record → Record → Group
+abbrev pub rrset_of : ℕ → Section → List Record → Record → ReceivedRrset
 rrset_of message section records first = record {
   message = message;
   section = section;
@@ -65,21 +72,21 @@ rrset_of message section records first = record {
 }
 
 -- the RRsets of a section, by first appearance
-abbrev pub rrsets_in : ℕ → Section → List Record → List Group
+abbrev pub rrsets_in : ℕ → Section → List Record → List ReceivedRrset
 rrsets_in message section records =
     map (rrset_of message section records) (first_appearances same_rrset (filter is_grouped records))
 
 -- the RRsets of the message, which has the number, by section
-abbrev pub message_rrsets : ℕ → Contents → List Group
+abbrev pub message_rrsets : ℕ → Contents → List ReceivedRrset
 message_rrsets number message =
     rrsets_in number Answer message.answer ++ rrsets_in number Authority message.authority
     ++ rrsets_in number Additional message.additional
 
 -- the RRsets of messages of which the first has the number
-abbrev pub rrsets_from : ℕ → List Contents → List Group
+abbrev pub rrsets_from : ℕ → List Contents → List ReceivedRrset
 rrsets_from number [] = []
 rrsets_from number (message ∷ messages) = message_rrsets number message ++ rrsets_from (suc number) messages
 
 -- the RRsets of all messages: the k-th of them, from 1 on, is RRset k
-abbrev pub rrsets_of : List Contents → List Group
+abbrev pub rrsets_of : List Contents → List ReceivedRrset
 rrsets_of messages = rrsets_from 1 messages

@@ -3,16 +3,17 @@ ghost use Rattle.std.specs.Prelude.{◌≡◌, IfErr, List, OnErr, OnOk};
 ghost use Rattle.std.specs.List.{AllByRecursion, AllZip};
 ghost use Rattle.dnsv_message.specs.Message.{Contents, records_of};
 ghost use Rattle.dnsv_records.specs.Rrsig.{IsRrsig};
-ghost use Rattle.dnsv_canonical.specs.Evidence.{Evidence, IsReadable, IsRefusal, IsWhole, IsWithinLimits, evidence_of, no_evidence, signatures_at, with_message};
+ghost use Rattle.dnsv_canonical.specs.Evidence.{AreParameters, Evidence, IsReadable, IsReasonAgainst, IsWhole, IsWithinLimits, evidence_of, no_evidence, nsec3_rdata, signatures_at, with_message};
+ghost use Rattle.dnsv_canonical.specs.Rdata.{IsWellFormed};
 ghost use Rattle.dnsv_canonical.specs.Rrsets.{rrsets_of};
 ghost use Rattle.dnsv_canonical.specs.declared.capture.CaptureError.TheVariants.{OutOfMemory};
 
 use crate::draft::message_rrsets;
-use crate::limits::{MESSAGE_LIMIT, are_small, fresh_pairs, records_with};
+use crate::limits::{MESSAGE_LIMIT, are_small, fresh_parameters, records_with};
 use crate::readable::check_rdata;
-use crate::rrset::{Rrset, owned};
-use dnsv_message::Message;
-use dnsv_records::{Octets, Rrsig};
+use crate::rrset::{Rrset, to_rrsets};
+use dnsv_message::{Message, messages_fit};
+use dnsv_records::{Nsec3Parameters, Rrsig};
 use std::alloc::{AllocError, AllocFailed, Global};
 use std::marker::Model;
 use thiserror::Error;
@@ -33,8 +34,7 @@ pub enum CaptureError {
     #[error("record {0} has bad RDATA")]
     BadRdata(usize),
     /// With the message the capture would have more than 64 messages, 4,096 records, 16 distinct keys in a DNSKEY
-    /// RRset, 16 distinct signatures of an RRset, or 8 distinct pairs of iterations and salt over its usable NSEC3
-    /// records.
+    /// RRset, 16 distinct signatures of an RRset, or 8 distinct parameters of its usable NSEC3 records.
     #[error("the capture would pass a limit")]
     Limit,
 }
@@ -62,13 +62,13 @@ pub struct Capture {
     messages: usize,
     records: usize,
     rrsets: Vec<Rrset>,
-    /// The pairs of iterations and salt of the NSEC3 records that can be used, each once.
-    pairs: Vec<(u16, Octets)>,
+    /// The parameters of the NSEC3 records that can be used, each once.
+    parameters: Vec<Nsec3Parameters>,
 }
 
 impl Model for Capture {
-    ghost use Rattle.dnsv_canonical.specs.Evidence.{Evidence, IsWithinLimits, nsec3_rdata};
-    ghost use Rattle.dnsv_canonical.specs.Kept.{ArePairs};
+    ghost use Rattle.dnsv_canonical.specs.Evidence.{Evidence};
+    ghost use Rattle.dnsv_canonical.specs.Kept.{IsHeld};
 
     ghost Value = { Evidence };
 
@@ -78,9 +78,11 @@ impl Model for Capture {
       rrsets = capture.rrsets.items;
     } };
 
-    ghost invariant = { λ capture.
-        IsWithinLimits (record { messages = capture.messages; records = capture.records; rrsets = capture.rrsets.items })
-        × ArePairs (nsec3_rdata capture.rrsets.items) capture.pairs.items };
+    ghost invariant = { λ capture. IsHeld (record {
+      messages = capture.messages;
+      records = capture.records;
+      rrsets = capture.rrsets.items;
+    }) capture.parameters.items };
 }
 
 impl Capture {
@@ -93,7 +95,7 @@ impl Capture {
             messages: 0,
             records: 0,
             rrsets: Vec::new(alloc),
-            pairs: Vec::new(alloc),
+            parameters: Vec::new(alloc),
         }
     }
 
@@ -106,7 +108,7 @@ impl Capture {
         ensures limits { OnOk result (IsWithinLimits (with_message self.old message.now)) }
 
         // Each reason leaves out those before it.
-        ensures refused { IfErr result (IsRefusal self.old message.now) }
+        ensures refused { IfErr result (IsReasonAgainst self.old message.now) }
         ensures unchanged { OnErr result (self.new ≡ self.old) }
     {
         check_whole(message)?;
@@ -121,12 +123,15 @@ impl Capture {
         if !are_small(self.alloc, drafts.as_slice())? {
             return Err(CaptureError::Limit);
         }
-        let mut pairs = fresh_pairs(self.alloc, self.pairs.as_slice(), drafts.as_slice())?;
-        let mut rrsets = owned(self.alloc, drafts.as_slice())?;
-        self.pairs.reserve(pairs.len())?;
+        let mut parameters = fresh_parameters(self.alloc, self.parameters.as_slice(), drafts.as_slice())?;
+        // What is true of every message.
+        message.is_of_octets();
+        messages_fit();
+        let mut rrsets = to_rrsets(self.alloc, drafts.as_slice())?;
+        self.parameters.reserve(parameters.len())?;
         self.rrsets.append(&mut rrsets)?;
-        // There is room for the pairs, so nothing fails from here on.
-        let Ok(()) = self.pairs.append(&mut pairs) else {
+        // There is room for the parameters, so nothing fails from here on.
+        let Ok(()) = self.parameters.append(&mut parameters) else {
             unreachable!();
         };
         self.messages += 1;
@@ -136,9 +141,18 @@ impl Capture {
 
     /// The RRsets of the messages by first appearance; they are numbered from 1.
     pub fn rrsets(&self) -> &[Rrset]
-        ensures { result.now ≡ self.now.rrsets }
+        ensures value { result.now ≡ self.now.rrsets }
+        ensures well_formed { AllByRecursion IsWellFormed self.now.rrsets }
+        ensures limits { IsWithinLimits self.now }
     {
         &self.rrsets
+    }
+
+    /// The parameters of the usable NSEC3 records of all RRsets, each once: at most 8.
+    pub fn nsec3_parameters(&self) -> &[Nsec3Parameters]
+        ensures { AreParameters (nsec3_rdata self.now.rrsets) result.now }
+    {
+        &self.parameters
     }
 
     /// The signatures of the RRset with the number, from 1 on; none where no RRset has it. They are numbered
@@ -162,7 +176,7 @@ pub fn captures_hold_the_rrsets()
 /// Whether the message is a response that wasn't cut to fit.
 fn check_whole(message: &Message) -> Result<(), CaptureError>
     ensures ok { OnOk result (IsWhole message.now) }
-    ensures refused { (held : Evidence) → IfErr result (IsRefusal held message.now) }
+    ensures refused { (held : Evidence) → IfErr result (IsReasonAgainst held message.now) }
 {
     if !message.flags().is_response() {
         return Err(CaptureError::NotAResponse);

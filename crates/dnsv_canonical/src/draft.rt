@@ -26,9 +26,9 @@ pub struct Draft<'a> {
 
 impl<'a> Model for Draft<'a> {
     ghost use Rattle.std.specs.Prelude.{map};
-    ghost use Rattle.dnsv_canonical.specs.Rrsets.{Group};
+    ghost use Rattle.dnsv_canonical.specs.Rrsets.{ReceivedRrset};
 
-    ghost Value = { Group };
+    ghost Value = { ReceivedRrset };
 
     ghost view = { λ rrset. record {
       message = rrset.message;

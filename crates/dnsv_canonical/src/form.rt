@@ -3,11 +3,12 @@ ghost use Rattle.std.specs.Prelude.{◌≡◌, ◌++◌, ℕ, List, Contains, If
 ghost use Rattle.std.specs.List.{AllByRecursion};
 ghost use Rattle.dnsv_names.specs.Name.{Labels, lower_case};
 ghost use Rattle.dnsv_message.specs.Grammar.{IsMessage};
-ghost use Rattle.dnsv_message.specs.Layout.{layout_of};
 ghost use Rattle.dnsv_message.specs.Message.{Contents};
-ghost use Rattle.dnsv_canonical.specs.CanonicalRdata.{AreParts, HasParts, names_of, listed_types, lowered_types, lowered_but_last, rdata_of, canonical_form};
+ghost use Rattle.dnsv_message.specs.Parts.{AreParts, HasParts, rdata_of};
+ghost use Rattle.dnsv_canonical.specs.CanonicalRdata.{octets_around_names, listed_types, lowered_types, lowered_but_last, canonical_form};
 ghost use Rattle.dnsv_canonical.specs.Rrsets.{forms_rrsets, rrsets_of};
 
+use dnsv_message::messages_fit;
 use dnsv_names::RecordType;
 use std::alloc::{AllocError, Global};
 
@@ -31,7 +32,7 @@ pub fn canonical_forms(
 /// everything else is as received.
 pub fn canonical_form_lowers_the_names()
     ensures lowered { (rtype : ℕ) → Contains lowered_types rtype → (before : List ℕ) (names : List Labels) (behind : List ℕ)
-        → AreParts (layout_of rtype 1) before names behind
+        → AreParts rtype 1 before names behind
         → canonical_form rtype (rdata_of before names behind) ≡ rdata_of before (map lower_case names) behind }
     ensures kept { (rtype : ℕ) → ¬ Contains lowered_types rtype → (rdata : List ℕ) → canonical_form rtype rdata ≡ rdata }
     // No other type that the standard lists forms an RRset.
@@ -40,8 +41,10 @@ pub fn canonical_form_lowers_the_names()
     ensures nsec { (rdata : List ℕ) → canonical_form 47 rdata ≡ rdata }
     // All RDATA of the RRsets of messages has the parts that its type asks for.
     ensures parts { (messages : List Contents) → AllByRecursion IsMessage messages
-        → AllByRecursion (λ rrset. AllByRecursion (HasParts rrset.rtype) rrset.rdata) (rrsets_of messages) }
-{}
+        → AllByRecursion (λ rrset. AllByRecursion (HasParts rrset.rtype 1) rrset.rdata) (rrsets_of messages) }
+{
+    messages_fit();
+}
 
 /// The vectors' octets.
 pub fn slices<'a>(alloc: Global, forms: &'a [Vec<u8>]) -> Result<Vec<&'a [u8]>, AllocError>
@@ -58,7 +61,7 @@ pub fn slices<'a>(alloc: Global, forms: &'a [Vec<u8>]) -> Result<Vec<&'a [u8]>, 
 fn canonical_form(alloc: Global, rtype: RecordType, rdata: &[u8]) -> Result<Vec<u8>, AllocError>
     ensures { IfOk result (λ form. form.items ≡ canonical_form rtype.0 rdata.now) }
 {
-    match names_of(rtype) {
+    match octets_around_names(rtype) {
         Some((before, behind)) => names_lowered(alloc, rdata, before, behind),
         None => rdata.to_vec(alloc),
     }
@@ -66,8 +69,8 @@ fn canonical_form(alloc: Global, rtype: RecordType, rdata: &[u8]) -> Result<Vec<
 
 /// How many octets stand before and behind the names in the type's RDATA: NS, CNAME, PTR and DNAME, SOA, MX and
 /// SRV have names that canonical form lowers.
-fn names_of(rtype: RecordType) -> Option<(usize, usize)>
-    ensures { result ≡ names_of rtype.0 }
+fn octets_around_names(rtype: RecordType) -> Option<(usize, usize)>
+    ensures { result ≡ octets_around_names rtype.0 }
 {
     match rtype {
         RecordType::NS | RecordType::CNAME | RecordType::PTR | RecordType::DNAME => Some((0, 0)),

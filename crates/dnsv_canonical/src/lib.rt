@@ -5,7 +5,8 @@ pub use canonical::one_canonical_list;
 pub use capture::{Capture, CaptureError, captures_hold_the_rrsets};
 pub use form::canonical_form_lowers_the_names;
 pub use rrset::{Rrset, canonical_rrset, signed_data};
-pub use signed::one_signed_data;
+pub use section::{forms_rrsets, is_question};
+pub use signed::{is_expanded, one_signed_data, signed_label_count};
 
 mod by_rrset;
 mod canonical;
@@ -14,6 +15,7 @@ mod draft;
 mod form;
 mod limits;
 mod readable;
+mod records;
 mod rrset;
 mod section;
 mod signed;

@@ -2,15 +2,15 @@
 ghost use Rattle.std.specs.Prelude.{◌≡◌, ◌↔◌, ◌+◌, ◌<◌, ◌≤◌, ℕ, List, [], ◌∷◌, ◌++◌, length, map, Contains, Option, Some, IfErr, IfOk, IsTrue, OnOk, MatchOption};
 ghost use Rattle.std.specs.List.{AllByRecursion};
 ghost use Rattle.dnsv_message.specs.Message.{records_of};
-ghost use Rattle.dnsv_canonical.specs.Evidence.{IsSmall, AtMost, IsPairOf, nsec3_rdata};
-ghost use Rattle.dnsv_canonical.specs.Kept.{ArePairs, IsPairRefusal};
+ghost use Rattle.dnsv_canonical.specs.Evidence.{AreParameters, IsSmall, AtMost, AreUsableParameters, nsec3_rdata};
+ghost use Rattle.dnsv_canonical.specs.Kept.{IsParametersRefusal};
 
 use crate::canonical::canonical_rdata;
 use crate::capture::CaptureError;
 use crate::draft::Draft;
 use dnsv_message::{Message, Section};
 use dnsv_names::RecordType;
-use dnsv_records::{Nsec3, Octets, RecordError};
+use dnsv_records::{Nsec3, Nsec3Parameters, RecordError};
 use std::alloc::{AllocError, Global};
 
 /// How many messages a capture has at most.
@@ -25,8 +25,8 @@ pub const KEY_LIMIT: usize = 16;
 /// How many signatures an RRset has at most, equal ones counted once.
 pub const SIGNATURE_LIMIT: usize = 16;
 
-/// How many pairs of iterations and salt the usable NSEC3 records of a capture have at most.
-pub const PAIR_LIMIT: usize = 8;
+/// How many NSEC3 parameters the usable NSEC3 records of a capture have at most, equal ones counted once.
+pub const PARAMETERS_LIMIT: usize = 8;
 
 /// So many records and those of the message, or `None` above the limit.
 pub fn records_with(records: usize, message: &Message) -> Option<usize>
@@ -77,18 +77,18 @@ fn has_few_keys(alloc: Global, received: &[&[u8]]) -> Result<bool, AllocError>
     Ok(keys.as_slice().len() <= KEY_LIMIT)
 }
 
-/// The pairs of iterations and salt of the RRsets' NSEC3 records that can be used, each once, but for those that
-/// are kept. A ninth is refused where it is met, so that no more than 8 are ever held.
-pub fn fresh_pairs(
+/// The parameters of the RRsets' NSEC3 records that can be used, each once, but for those that are kept. The ninth
+/// are refused where they are met, so that no more than 8 are ever held.
+pub fn fresh_parameters(
     alloc: Global,
-    kept: &[(u16, Octets)],
+    kept: &[Nsec3Parameters],
     drafts: &[Draft<'_>],
-) -> Result<Vec<(u16, Octets)>, CaptureError>
-    ensures gathered { IfOk result (λ fresh. (earlier : List (List ℕ)) → ArePairs earlier kept.now
-        → ArePairs (earlier ++ nsec3_rdata drafts.now) (kept.now ++ fresh.items)) }
+) -> Result<Vec<Nsec3Parameters>, CaptureError>
+    ensures all { IfOk result (λ fresh. (earlier : List (List ℕ)) → AreParameters earlier kept.now
+        → AreParameters (earlier ++ nsec3_rdata drafts.now) (kept.now ++ fresh.items)) }
     ensures few { IfOk result (λ fresh. length kept.now ≤ 8 → length (kept.now ++ fresh.items) ≤ 8) }
-    ensures refused { (earlier : List (List ℕ)) → ArePairs earlier kept.now
-        → IfErr result (IsPairRefusal (earlier ++ nsec3_rdata drafts.now)) }
+    ensures refused { (earlier : List (List ℕ)) → AreParameters earlier kept.now
+        → IfErr result (IsParametersRefusal (earlier ++ nsec3_rdata drafts.now)) }
 {
     let mut fresh = Vec::new(alloc);
     for draft in drafts {
@@ -97,19 +97,19 @@ pub fn fresh_pairs(
     Ok(fresh)
 }
 
-/// Adds the pairs of the RRset, where it has NSEC3 records, that are not among the others.
+/// Adds the parameters of the RRset, where it has NSEC3 records, that are not among the others.
 fn add_rrset(
     alloc: Global,
-    kept: &[(u16, Octets)],
-    fresh: &mut Vec<(u16, Octets)>,
+    kept: &[Nsec3Parameters],
+    fresh: &mut Vec<Nsec3Parameters>,
     draft: &Draft<'_>,
 ) -> Result<(), CaptureError>
-    ensures gathered { OnOk result ((earlier : List (List ℕ)) → ArePairs earlier (kept.now ++ fresh.old.items)
-        → ArePairs (earlier ++ nsec3_rdata (draft.now ∷ [])) (kept.now ++ fresh.new.items)) }
+    ensures all { OnOk result ((earlier : List (List ℕ)) → AreParameters earlier (kept.now ++ fresh.old.items)
+        → AreParameters (earlier ++ nsec3_rdata (draft.now ∷ [])) (kept.now ++ fresh.new.items)) }
     ensures few { OnOk result (length (kept.now ++ fresh.old.items) ≤ 8
         → length (kept.now ++ fresh.new.items) ≤ 8) }
-    ensures refused { (earlier : List (List ℕ)) → ArePairs earlier (kept.now ++ fresh.old.items)
-        → IfErr result (IsPairRefusal (earlier ++ nsec3_rdata (draft.now ∷ []))) }
+    ensures refused { (earlier : List (List ℕ)) → AreParameters earlier (kept.now ++ fresh.old.items)
+        → IfErr result (IsParametersRefusal (earlier ++ nsec3_rdata (draft.now ∷ []))) }
 {
     if draft.rtype() != RecordType::NSEC3 {
         return Ok(());
@@ -117,65 +117,69 @@ fn add_rrset(
     add_records(alloc, kept, fresh, draft.rdata())
 }
 
-/// Adds the pairs of NSEC3 records that are not among the others.
+/// Adds the parameters of NSEC3 records that are not among the others.
 fn add_records(
     alloc: Global,
-    kept: &[(u16, Octets)],
-    fresh: &mut Vec<(u16, Octets)>,
+    kept: &[Nsec3Parameters],
+    fresh: &mut Vec<Nsec3Parameters>,
     received: &[&[u8]],
 ) -> Result<(), CaptureError>
-    ensures gathered { OnOk result ((earlier : List (List ℕ)) → ArePairs earlier (kept.now ++ fresh.old.items)
-        → ArePairs (earlier ++ map (λ r. r.now) received.now) (kept.now ++ fresh.new.items)) }
+    ensures all { OnOk result ((earlier : List (List ℕ)) → AreParameters earlier (kept.now ++ fresh.old.items)
+        → AreParameters (earlier ++ map (λ r. r.now) received.now) (kept.now ++ fresh.new.items)) }
     ensures few { OnOk result (length (kept.now ++ fresh.old.items) ≤ 8
         → length (kept.now ++ fresh.new.items) ≤ 8) }
-    ensures refused { (earlier : List (List ℕ)) → ArePairs earlier (kept.now ++ fresh.old.items)
-        → IfErr result (IsPairRefusal (earlier ++ map (λ r. r.now) received.now)) }
+    ensures refused { (earlier : List (List ℕ)) → AreParameters earlier (kept.now ++ fresh.old.items)
+        → IfErr result (IsParametersRefusal (earlier ++ map (λ r. r.now) received.now)) }
 {
     for rdata in received {
-        let found = usable_pair(alloc, rdata)?;
-        add_pair(kept, fresh, found)?;
+        let found = usable_parameters(alloc, rdata)?;
+        add_parameters(kept, fresh, found)?;
     }
     Ok(())
 }
 
-/// Adds the pair of an NSEC3 record, if it has one that is not among the others. A ninth is refused.
-fn add_pair(
-    kept: &[(u16, Octets)],
-    fresh: &mut Vec<(u16, Octets)>,
-    found: Option<(u16, Octets)>,
+/// Adds the parameters of an NSEC3 record, if it can be used and they are not among the others. The ninth are refused.
+fn add_parameters(
+    kept: &[Nsec3Parameters],
+    fresh: &mut Vec<Nsec3Parameters>,
+    found: Option<Nsec3Parameters>,
 ) -> Result<(), CaptureError>
-    ensures gathered { OnOk result ((earlier : List (List ℕ)) (rdata : List ℕ) → ArePairs earlier (kept.now ++ fresh.old.items)
-        → ((pair : ℕ × List ℕ) → (found ≡ Some pair) ↔ IsPairOf rdata pair)
-        → ArePairs (earlier ++ rdata ∷ []) (kept.now ++ fresh.new.items)) }
+    ensures all { OnOk result ((earlier : List (List ℕ)) (rdata : List ℕ) → AreParameters earlier (kept.now ++ fresh.old.items)
+        → ((parameters : Nsec3Parameters) → (found ≡ Some parameters) ↔ AreUsableParameters rdata parameters)
+        → AreParameters (earlier ++ rdata ∷ []) (kept.now ++ fresh.new.items)) }
     ensures few { OnOk result (length (kept.now ++ fresh.old.items) ≤ 8
         → length (kept.now ++ fresh.new.items) ≤ 8) }
-    ensures refused { (earlier : List (List ℕ)) (rdata : List ℕ) → ArePairs earlier (kept.now ++ fresh.old.items)
-        → ((pair : ℕ × List ℕ) → (found ≡ Some pair) ↔ IsPairOf rdata pair)
-        → IfErr result (IsPairRefusal (earlier ++ rdata ∷ [])) }
+    ensures refused { (earlier : List (List ℕ)) (rdata : List ℕ) → AreParameters earlier (kept.now ++ fresh.old.items)
+        → ((parameters : Nsec3Parameters) → (found ≡ Some parameters) ↔ AreUsableParameters rdata parameters)
+        → IfErr result (IsParametersRefusal (earlier ++ rdata ∷ [])) }
 {
-    let Some(pair) = found else {
+    let Some(parameters) = found else {
         return Ok(());
     };
-    if is_among(kept, fresh.as_slice(), &pair) {
+    if is_among(kept, fresh.as_slice(), &parameters) {
         return Ok(());
     }
-    if kept.len().saturating_add(fresh.len()) >= PAIR_LIMIT {
+    if kept.len().saturating_add(fresh.len()) >= PARAMETERS_LIMIT {
         return Err(CaptureError::Limit);
     }
-    fresh.push(pair)?;
+    fresh.push(parameters)?;
     Ok(())
 }
 
-/// Whether the pair is among those of the two lists.
-fn is_among(kept: &[(u16, Octets)], fresh: &[(u16, Octets)], pair: &(u16, Octets)) -> bool
-    ensures { IsTrue result ↔ Contains (kept.now ++ fresh.now) pair.now }
+/// Whether the parameters are among those of the two lists.
+fn is_among(
+    kept: &[Nsec3Parameters],
+    fresh: &[Nsec3Parameters],
+    parameters: &Nsec3Parameters,
+) -> bool
+    ensures { IsTrue result ↔ Contains (kept.now ++ fresh.now) parameters.now }
 {
-    kept.contains(pair) || fresh.contains(pair)
+    kept.contains(parameters) || fresh.contains(parameters)
 }
 
-/// The iterations and the salt of an NSEC3 record, if it can be used.
-fn usable_pair(alloc: Global, rdata: &[u8]) -> Result<Option<(u16, Octets)>, AllocError>
-    ensures { IfOk result (λ found. (pair : ℕ × List ℕ) → (found ≡ Some pair) ↔ IsPairOf rdata.now pair) }
+/// The parameters of an NSEC3 record, if it can be used.
+fn usable_parameters(alloc: Global, rdata: &[u8]) -> Result<Option<Nsec3Parameters>, AllocError>
+    ensures { IfOk result (λ found. (parameters : Nsec3Parameters) → (found ≡ Some parameters) ↔ AreUsableParameters rdata.now parameters) }
 {
     let nsec3 = match Nsec3::read(alloc, rdata) {
         Ok(nsec3) => nsec3,
@@ -185,5 +189,5 @@ fn usable_pair(alloc: Global, rdata: &[u8]) -> Result<Option<(u16, Octets)>, All
     if !nsec3.is_usable() {
         return Ok(None);
     }
-    Ok(Some((nsec3.iterations, nsec3.salt)))
+    Ok(Some(nsec3.parameters))
 }

@@ -2,7 +2,8 @@
 ghost use Rattle.std.specs.Prelude.{◌≡◌, ◌↔◌, ◌+◌, ◌<◌, length, IfOk, IsTrue, OnOk, IfErr, MatchOption};
 ghost use Rattle.std.specs.List.{AllByRecursion};
 ghost use Rattle.dnsv_message.specs.Message.{records_of};
-ghost use Rattle.dnsv_canonical.specs.Evidence.{Evidence, IsWhole, IsLaidOut, IsReadable, IsFirstBad, IsRefusal};
+ghost use Rattle.dnsv_canonical.specs.Evidence.{Evidence, IsWhole, IsReadable, IsFirstBad, IsReasonAgainst};
+ghost use Rattle.dnsv_canonical.specs.Rdata.{IsLaidOut};
 ghost use Rattle.dnsv_canonical.specs.Kept.{told, IsBadAfter};
 
 use crate::capture::CaptureError;
@@ -15,7 +16,7 @@ use std::alloc::{AllocError, Global};
 /// by its number through the three sections, from 1 on.
 pub fn check_rdata(alloc: Global, message: &Message) -> Result<(), CaptureError>
     ensures ok { OnOk result (AllByRecursion IsReadable (records_of message.now)) }
-    ensures refused { (held : Evidence) → IsWhole message.now → IfErr result (IsRefusal held message.now) }
+    ensures refused { (held : Evidence) → IsWhole message.now → IfErr result (IsReasonAgainst held message.now) }
 {
     let answer = message.records(Section::Answer);
     let authority = message.records(Section::Authority);

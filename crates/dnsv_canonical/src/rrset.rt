@@ -1,21 +1,26 @@
 //! RRsets: the records of one message, section, owner and type.
-ghost use Rattle.std.specs.Prelude.{◌≡◌, IfOk, map};
+ghost use Rattle.std.specs.Prelude.{◌≡◌, ◌<◌, ℕ, List, IfOk, length, map, slice_index_or};
 ghost use Rattle.std.specs.List.{AllByRecursion, AllZip};
 ghost use Rattle.std.specs.Option.{option_map};
 ghost use Rattle.dnsv_message.specs.declared.record.Section.{Section};
+ghost use Rattle.dnsv_records.specs.Dnskey.{IsDnskey};
+ghost use Rattle.dnsv_records.specs.Ds.{IsDs};
+ghost use Rattle.dnsv_records.specs.Nsec.{IsNsec};
+ghost use Rattle.dnsv_records.specs.Nsec3.{IsNsec3};
 ghost use Rattle.dnsv_records.specs.Rrsig.{IsRrsig};
 ghost use Rattle.dnsv_canonical.specs.Canonical.{IsCanonical};
 ghost use Rattle.dnsv_canonical.specs.CanonicalRdata.{canonical_form};
-ghost use Rattle.dnsv_canonical.specs.Kept.{HasRrsig};
+ghost use Rattle.dnsv_canonical.specs.Rdata.{IsRdata, IsWellFormed, rdata_of_type};
 ghost use Rattle.dnsv_canonical.specs.SignedData.{IsSignedData};
 
 use crate::canonical::canonical_rdata;
 use crate::draft::Draft;
 use crate::form::{canonical_forms, slices};
+use crate::records::{Records, read_each, read_records};
 use crate::signed::signed_octets;
 use dnsv_message::Section;
 use dnsv_names::{Name, RecordType};
-use dnsv_records::{RecordError, Rrsig};
+use dnsv_records::{Dnskey, Ds, Nsec, Nsec3, Rrsig};
 use std::alloc::{AllocError, Global};
 use std::marker::Model;
 
@@ -30,17 +35,18 @@ pub struct Rrset {
     owner: Name,
     rtype: RecordType,
     rdata: Vec<Vec<u8>>,
+    records: Records,
     signature_rdata: Vec<Vec<u8>>,
     signatures: Vec<Rrsig>,
 }
 
 impl Model for Rrset {
     ghost use Rattle.std.specs.Prelude.{map};
-    ghost use Rattle.std.specs.List.{AllZip};
-    ghost use Rattle.dnsv_records.specs.Rrsig.{IsRrsig};
-    ghost use Rattle.dnsv_canonical.specs.Rrsets.{Group};
+    ghost use Rattle.dnsv_canonical.specs.Rrsets.{ReceivedRrset};
 
-    ghost Value = { Group };
+    ghost Value = { ReceivedRrset };
+
+    ghost use Rattle.dnsv_canonical.specs.Records.{IsKept};
 
     ghost view = { λ rrset. record {
       message = rrset.message;
@@ -51,13 +57,20 @@ impl Model for Rrset {
       signatures = map (λ r. r.items) rrset.signature_rdata.items;
     } };
 
-    ghost invariant = { λ rrset. AllZip IsRrsig (map (λ r. r.items) rrset.signature_rdata.items) rrset.signatures.items };
+    ghost invariant = { λ rrset. IsKept (record {
+      message = rrset.message;
+      section = rrset.section;
+      owner = rrset.owner;
+      rtype = rrset.rtype.0;
+      rdata = map (λ r. r.items) rrset.rdata.items;
+      signatures = map (λ r. r.items) rrset.signature_rdata.items;
+    }) rrset.records rrset.signatures.items };
 }
 
 impl Rrset {
     /// The RRset in memory of its own.
     fn of(alloc: Global, draft: &Draft<'_>) -> Result<Rrset, AllocError>
-        requires { AllByRecursion HasRrsig draft.now.signatures }
+        requires { IsWellFormed draft.now }
         ensures { IfOk result (λ rrset. rrset ≡ draft.now) }
     {
         Ok(Rrset {
@@ -66,8 +79,9 @@ impl Rrset {
             owner: draft.owner().clone()?,
             rtype: draft.rtype(),
             rdata: copies(alloc, draft.rdata())?,
+            records: read_records(alloc, draft.rtype(), draft.rdata())?,
             signature_rdata: copies(alloc, draft.signatures())?,
-            signatures: rrsigs(alloc, draft.signatures())?,
+            signatures: read_each(alloc, draft.signatures())?,
         })
     }
 
@@ -99,11 +113,61 @@ impl Rrset {
         self.rtype
     }
 
-    /// The RDATA of its records as received, in order.
-    pub fn rdata(&self) -> &[Vec<u8>]
-        ensures { map (λ r. r.items) result.now ≡ self.now.rdata }
+    /// How many records it has: at least one. Equal ones count each.
+    pub fn len(&self) -> usize
+        ensures count { result ≡ length self.now.rdata }
+        ensures well_formed { IsWellFormed self.now }
     {
-        &self.rdata
+        self.rdata.len()
+    }
+
+    /// The RDATA of the record at the place, from 0 on, as received.
+    pub fn rdata(&self, place: usize) -> &[u8]
+        requires { place < length self.now.rdata }
+        ensures value { (other : List ℕ) → slice_index_or self.now.rdata place other ≡ result.now }
+        ensures well_formed { IsRdata self.now.rtype result.now }
+    {
+        &self.rdata[place]
+    }
+
+    /// The keys of a DNSKEY RRset, in the order of its RDATA; none of an RRset of another type.
+    pub fn dnskeys(&self) -> &[Dnskey]
+        ensures { AllZip IsDnskey (rdata_of_type 48 self.now) result.now }
+    {
+        match &self.records {
+            Records::Dnskeys(keys) => keys,
+            _ => &[],
+        }
+    }
+
+    /// The records of a DS RRset, in the order of its RDATA; none of an RRset of another type.
+    pub fn ds_records(&self) -> &[Ds]
+        ensures { AllZip IsDs (rdata_of_type 43 self.now) result.now }
+    {
+        match &self.records {
+            Records::DsRecords(digests) => digests,
+            _ => &[],
+        }
+    }
+
+    /// The records of an NSEC RRset, in the order of its RDATA; none of an RRset of another type.
+    pub fn nsecs(&self) -> &[Nsec]
+        ensures { AllZip IsNsec (rdata_of_type 47 self.now) result.now }
+    {
+        match &self.records {
+            Records::Nsecs(nsecs) => nsecs,
+            _ => &[],
+        }
+    }
+
+    /// The records of an NSEC3 RRset, in the order of its RDATA; none of an RRset of another type.
+    pub fn nsec3s(&self) -> &[Nsec3]
+        ensures { AllZip IsNsec3 (rdata_of_type 50 self.now) result.now }
+    {
+        match &self.records {
+            Records::Nsec3s(nsec3s) => nsec3s,
+            _ => &[],
+        }
     }
 
     /// The IN RRSIG records of its message, section and owner that cover its type, in order, of those with equal
@@ -121,7 +185,7 @@ pub fn canonical_rrset(alloc: Global, rrset: &Rrset) -> Result<Vec<Vec<u8>>, All
     ensures { IfOk result (λ canonical. IsCanonical (map (canonical_form rrset.now.rtype) rrset.now.rdata)
         (map (λ r. r.items) canonical.items)) }
 {
-    let received = slices(alloc, rrset.rdata())?;
+    let received = slices(alloc, &rrset.rdata)?;
     let forms = canonical_forms(alloc, rrset.rtype(), received.as_slice())?;
     let forms = slices(alloc, forms.as_slice())?;
     let sorted = canonical_rdata(alloc, forms.as_slice())?;
@@ -139,7 +203,7 @@ pub fn signed_data(
     ensures { IfOk result (λ answer. IsSignedData rrset.now.owner rrset.now.rtype rrset.now.rdata rrsig.now
         (option_map (λ octets. octets.items) answer)) }
 {
-    let received = slices(alloc, rrset.rdata())?;
+    let received = slices(alloc, &rrset.rdata)?;
     signed_octets(
         alloc,
         rrset.owner(),
@@ -150,8 +214,8 @@ pub fn signed_data(
 }
 
 /// The RRsets in memory of their own.
-pub fn owned(alloc: Global, drafts: &[Draft<'_>]) -> Result<Vec<Rrset>, AllocError>
-    requires { AllByRecursion (λ draft. AllByRecursion HasRrsig draft.signatures) drafts.now }
+pub fn to_rrsets(alloc: Global, drafts: &[Draft<'_>]) -> Result<Vec<Rrset>, AllocError>
+    requires { AllByRecursion IsWellFormed drafts.now }
     ensures { IfOk result (λ rrsets. rrsets.items ≡ drafts.now) }
 {
     let mut rrsets = Vec::new(alloc);
@@ -170,28 +234,4 @@ fn copies(alloc: Global, slices: &[&[u8]]) -> Result<Vec<Vec<u8>>, AllocError>
         copies.push(Vec::from_slice(alloc, octets)?)?;
     }
     Ok(copies)
-}
-
-/// Reads the RDATA of signatures.
-fn rrsigs(alloc: Global, signatures: &[&[u8]]) -> Result<Vec<Rrsig>, AllocError>
-    requires { AllByRecursion HasRrsig (map (λ r. r.now) signatures.now) }
-    ensures { IfOk result (λ rrsigs. AllZip IsRrsig (map (λ r. r.now) signatures.now) rrsigs.items) }
-{
-    let mut rrsigs = Vec::new(alloc);
-    for rdata in signatures {
-        rrsigs.push(rrsig(alloc, rdata)?)?;
-    }
-    Ok(rrsigs)
-}
-
-/// Reads the RDATA of a signature.
-fn rrsig(alloc: Global, rdata: &[u8]) -> Result<Rrsig, AllocError>
-    requires { HasRrsig rdata.now }
-    ensures { IfOk result (IsRrsig rdata.now) }
-{
-    match Rrsig::read(alloc, rdata) {
-        Ok(rrsig) => Ok(rrsig),
-        Err(RecordError::OutOfMemory) => Err(AllocError),
-        Err(RecordError::BadRdata(_)) => unreachable!(),
-    }
 }

@@ -1,14 +1,14 @@
 //! What the records of one section say of each other.
-ghost use Rattle.std.specs.Prelude.{◌≡◌, ◌&&◌, ◌==◌, ◌<◌, ◌^◌, ℕ, IfOk, map, filter, false};
+ghost use Rattle.std.specs.Prelude.{◌≡◌, ◌↔◌, ◌&&◌, ◌==◌, ◌<◌, ◌^◌, ℕ, IfOk, IsTrue, map, filter, false};
 ghost use Rattle.std.specs.Option.{option_map_or};
 ghost use Rattle.dnsv_names.specs.Name.{Labels, same_name};
 ghost use Rattle.dnsv_message.specs.declared.record.Record.{Record};
 ghost use Rattle.dnsv_canonical.specs.ByRrset.{rdata_at};
-ghost use Rattle.dnsv_canonical.specs.Rrsets.{forms_rrsets, is_grouped, same_rrset, is_signature};
+ghost use Rattle.dnsv_canonical.specs.Rrsets.{forms_rrsets, is_grouped, IsQuestion, same_rrset, is_signature};
 
 use crate::by_rrset::{RdataByRrset, add};
 use dnsv_message::{Class, Record};
-use dnsv_names::RecordType;
+use dnsv_names::{Name, RecordType};
 use std::alloc::{AllocError, Global};
 use std::collections::BTreeMap;
 
@@ -18,11 +18,23 @@ const UNGROUPED: [u16; 18] = [
     0, 3, 4, 7, 8, 9, 14, 17, 18, 21, 24, 26, 30, 35, 36, 38, 41, 46,
 ];
 
-/// Whether records of the type form RRsets.
-fn forms_rrsets(rtype: RecordType) -> bool
+/// Whether records of the type form RRsets: those of types 0, OPT, RRSIG and 128 to 255, which stand for no data or
+/// for other records, don't, nor do those of MD, MF, MB, MG, MR, MINFO, RP, AFSDB, RT, SIG, PX, NXT, NAPTR, KX and A6.
+pub fn forms_rrsets(rtype: RecordType) -> bool
     ensures { result ≡ forms_rrsets rtype.0 }
 {
     !UNGROUPED.contains(&rtype.0) && !(128 <= rtype.0 && rtype.0 <= 255)
+}
+
+/// Whether the type can be asked at the name: it forms RRsets, is neither NSEC nor NSEC3, which answer no question by
+/// themselves, and is not DS at the root, which no zone is above.
+pub fn is_question(name: &Name, rtype: RecordType) -> bool
+    ensures { IsTrue result ↔ IsQuestion name.now rtype.0 }
+{
+    if !forms_rrsets(rtype) || rtype == RecordType::NSEC || rtype == RecordType::NSEC3 {
+        return false;
+    }
+    rtype != RecordType::DS || name.labels() > 0
 }
 
 /// Whether the candidate belongs to an RRset: it is of class IN, and of a type that forms them.

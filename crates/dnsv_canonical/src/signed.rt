@@ -1,19 +1,17 @@
 //! The octets that a signature signs.
-ghost use Rattle.std.specs.Prelude.{◌≡◌, ◌++◌, ◌≤◌, ℕ, List, Option, IfOk, OnOk, map, length};
+ghost use Rattle.std.specs.Prelude.{◌≡◌, ◌↔◌, ◌++◌, ◌≤◌, ℕ, List, Option, IfOk, IsTrue, OnOk, map, length};
+ghost use Rattle.std.specs.List.{AllByRecursion};
 ghost use Rattle.std.specs.Option.{option_map};
 ghost use Rattle.std.specs.Int.{w16, w32, to_be_bytes};
 ghost use Rattle.dnsv_names.specs.Name.{Labels, wire};
-ghost use Rattle.dnsv_canonical.specs.SignedData.{signed_label_count, signed_front, signed_owner, IsSignedData};
+ghost use Rattle.dnsv_canonical.specs.SignedData.{signed_label_count, signed_front, signed_owner, IsExpanded, IsSignedData};
 
 use crate::canonical::canonical_rdata;
 use crate::form::{canonical_forms, slices};
 use dnsv_message::Class;
-use dnsv_names::{Name, RecordType};
+use dnsv_names::{ASTERISK_LABEL, Name, RecordType};
 use dnsv_records::Rrsig;
 use std::alloc::{AllocError, Global};
-
-/// The label that stands for what a wildcard expands to, in wire form (RFC 1034 4.3.3).
-const WILDCARD: [u8; 2] = *b"\x01*";
 
 /// The octets that the signature signs over an RRset (RFC 4034 3.1.8.1, 6.2, 6.3; RFC 4035 5.3.2): the RRSIG's
 /// RDATA without the signature, and each record once in canonical form and order, with the original TTL and the
@@ -27,10 +25,11 @@ pub fn signed_octets(
     received: &[&[u8]],
     rrsig: &Rrsig,
 ) -> Result<Option<Vec<u8>>, AllocError>
+    requires { AllByRecursion (λ rdata. length rdata ≤ 65535) (map (λ r. r.now) received.now) }
     ensures { IfOk result (λ answer. IsSignedData owner.now rtype.0 (map (λ r. r.now) received.now) rrsig.now
         (option_map (λ octets. octets.items) answer)) }
 {
-    if rrsig.labels as usize > label_count(owner) {
+    if rrsig.labels as usize > signed_label_count(owner) {
         return Ok(None);
     }
     let mut octets = front_octets(alloc, rrsig)?;
@@ -50,6 +49,22 @@ pub fn one_signed_data()
         → IsSignedData owner rtype received rrsig a → IsSignedData owner rtype received rrsig b → a ≡ b }
 {}
 
+/// How many labels of the owner a signature counts: neither the root's nor a leftmost `*` (RFC 4034 3.1.3).
+pub fn signed_label_count(owner: &Name) -> usize
+    ensures { result ≡ signed_label_count owner.now }
+{
+    let labels = owner.labels();
+    if owner.is_wildcard() { labels - 1 } else { labels }
+}
+
+/// Whether the signature is expanded over the owner: a wildcard with fewer labels was signed, and the owner is a name
+/// that it stands for (RFC 4035 5.3.2).
+pub fn is_expanded(owner: &Name, rrsig: &Rrsig) -> bool
+    ensures { IsTrue result ↔ IsExpanded owner.now rrsig.now }
+{
+    (rrsig.labels as usize) < signed_label_count(owner)
+}
+
 /// What is signed before the records: the RDATA without the signature, its signer in lower case.
 fn front_octets(alloc: Global, rrsig: &Rrsig) -> Result<Vec<u8>, AllocError>
     ensures { IfOk result (λ octets. octets.items ≡ signed_front rrsig.now) }
@@ -58,9 +73,9 @@ fn front_octets(alloc: Global, rrsig: &Rrsig) -> Result<Vec<u8>, AllocError>
     octets.extend_from_slice(&rrsig.type_covered.0.to_be_bytes())?;
     octets.push(rrsig.algorithm.0)?;
     octets.push(rrsig.labels)?;
-    octets.extend_from_slice(&rrsig.original_ttl.to_be_bytes())?;
-    octets.extend_from_slice(&rrsig.expiration.to_be_bytes())?;
-    octets.extend_from_slice(&rrsig.inception.to_be_bytes())?;
+    octets.extend_from_slice(&rrsig.original_ttl.0.to_be_bytes())?;
+    octets.extend_from_slice(&rrsig.expiration.0.to_be_bytes())?;
+    octets.extend_from_slice(&rrsig.inception.0.to_be_bytes())?;
     octets.extend_from_slice(&rrsig.key_tag.0.to_be_bytes())?;
     octets.extend_from_slice(rrsig.signer.to_lower().wire())?;
     Ok(octets)
@@ -68,6 +83,7 @@ fn front_octets(alloc: Global, rrsig: &Rrsig) -> Result<Vec<u8>, AllocError>
 
 /// Adds a signed record: what begins each of them, the length of its RDATA in 16 bits, and its RDATA.
 fn push_record(octets: &mut Vec<u8>, front: &[u8], rdata: &[u8]) -> Result<(), AllocError>
+    requires { length rdata.now ≤ 65535 }
     ensures { OnOk result (octets.new.items
         ≡ octets.old.items ++ front.now ++ to_be_bytes w16 (length rdata.now) ++ rdata.now) }
 {
@@ -86,13 +102,13 @@ fn record_front(
 ) -> Result<Vec<u8>, AllocError>
     requires { rrsig.now.labels ≤ signed_label_count owner.now }
     ensures { IfOk result (λ octets. octets.items ≡ wire (signed_owner owner.now rrsig.now.labels)
-        ++ to_be_bytes w16 rtype.0 ++ to_be_bytes w16 1 ++ to_be_bytes w32 rrsig.now.original_ttl) }
+        ++ to_be_bytes w16 rtype.0 ++ to_be_bytes w16 1 ++ to_be_bytes w32 rrsig.now.original_ttl.0) }
 {
     let mut octets = owner_octets(alloc, owner, rrsig.labels as usize)?;
     octets.extend_from_slice(&rtype.0.to_be_bytes())?;
     octets.extend_from_slice(&Class::IN.0.to_be_bytes())?;
     let ttl = rrsig.original_ttl;
-    octets.extend_from_slice(&ttl.to_be_bytes())?;
+    octets.extend_from_slice(&ttl.0.to_be_bytes())?;
     Ok(octets)
 }
 
@@ -102,8 +118,8 @@ fn owner_octets(alloc: Global, owner: &Name, labels: usize) -> Result<Vec<u8>, A
     ensures { IfOk result (λ octets. octets.items ≡ wire (signed_owner owner.now labels)) }
 {
     let mut octets = Vec::new(alloc);
-    if labels < label_count(owner) {
-        octets.extend_from_slice(&WILDCARD)?;
+    if labels < signed_label_count(owner) {
+        octets.extend_from_slice(&ASTERISK_LABEL)?;
         octets.extend_from_slice(owner.suffix(labels).to_lower().wire())?;
     } else {
         octets.extend_from_slice(owner.to_lower().wire())?;
@@ -111,23 +127,12 @@ fn owner_octets(alloc: Global, owner: &Name, labels: usize) -> Result<Vec<u8>, A
     Ok(octets)
 }
 
-/// How many labels of the owner a signature counts: neither the root's nor a leftmost `*` (RFC 4034 3.1.3).
-fn label_count(owner: &Name) -> usize
-    ensures { result ≡ signed_label_count owner.now }
-{
-    let labels = owner.labels();
-    if labels > 0 && owner.label(0) == b"*".as_slice() {
-        labels - 1
-    } else {
-        labels
-    }
-}
-
-/// The length of an RDATA in 16 bits; no RDATA of a message is longer.
+/// The length of an RDATA in 16 bits.
 fn length_octets(rdata: &[u8]) -> [u8; 2]
+    requires { length rdata.now ≤ 65535 }
     ensures { result ≡ to_be_bytes w16 (length rdata.now) }
 {
-    ((rdata.len() % 0x1_0000) as u16).to_be_bytes()
+    (rdata.len() as u16).to_be_bytes()
 }
 
 #[cfg(test)]

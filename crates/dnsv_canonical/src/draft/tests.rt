@@ -1,5 +1,6 @@
 use super::*;
-use dnsv_message::{Class, Rdata, Ttl};
+use dnsv_message::{Class, Rdata};
+use dnsv_names::Ttl;
 use std::test::Fail;
 
 const HOST: &[u8] = b"\x04host\x07example\x00";

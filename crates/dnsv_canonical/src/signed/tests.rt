@@ -1,3 +1,6 @@
+ghost use Rattle.std.specs.Prelude.{◌≤◌, length, map};
+ghost use Rattle.std.specs.List.{AllByRecursion};
+
 use super::*;
 use std::alloc::Global;
 use std::test::Fail;
@@ -15,7 +18,9 @@ fn signed(
     owner: &[u8],
     labels: u8,
     received: &[&[u8]],
-) -> Result<Option<Vec<u8>>, Fail> {
+) -> Result<Option<Vec<u8>>, Fail>
+    requires { AllByRecursion (λ rdata. length rdata ≤ 65535) (map (λ r. r.now) received.now) }
+{
     let (owner, _) = Name::read(owner).ok_or("a name")?;
     let mut rdata = RRSIG.to_vec(alloc)?;
     if rdata.len() > 3 {

@@ -16,5 +16,5 @@ loop-index-preserved c =
 
 pub returns : goal.returns
 returns c =
-    subst (λ rrsets. RrsetLines 1 rrsets (string_bytes c.loop-index.text)) c.rrsets-rrsets.ensures
+    subst (λ rrsets. RrsetLines 1 rrsets (string_bytes c.loop-index.text)) c.rrsets-rrsets.ensures.value
     (Shown-all c.loop-index.invariant c.loop-index-test.false)

@@ -8,4 +8,4 @@ pub returns-clause-kept : goal.returns-clause-kept
 returns-clause-kept c = other_types_keep
 
 pub returns-clause-parts : goal.returns-clause-parts
-returns-clause-parts c = messages_parts 1
+returns-clause-parts c = messages_parts c.messages_fit.ensures 1

@@ -1,7 +1,7 @@
 use Rattle.std.proofs.Common.{◌+◌, subst, arith, ap, length}
 use Rattle.std.proofs.lemmas.Result.{err_from_is_err_and}
 use Rattle.std.specs.List.{AllByRecursion}
-use Rattle.dnsv_canonical.specs.Evidence.{IsReadable, IsRefusal}
+use Rattle.dnsv_canonical.specs.Evidence.{IsReadable, IsReasonAgainst}
 use Rattle.dnsv_canonical.specs.Kept.{IsBadAfter}
 use Rattle.dnsv_canonical.proofs.ReadableLemmas.{refused_in_answer, refused_in_authority, refused_in_additional, IfErr-weaker}
 use Rattle.dnsv_canonical.proofs.readable.check_rdata.Goals as goal
@@ -22,7 +22,7 @@ returns-in_err-check_section-2-clause-refused c = λ held whole.
 
 pub returns-clause-refused : goal.returns-clause-refused
 returns-clause-refused c = λ held whole.
-    IfErr-weaker (IsBadAfter (length c.records-answer.result.now + length c.records-authority.result.now) c.records-additional.result.now) (IsRefusal held c.args.message.now) c.check_section-3.result
+    IfErr-weaker (IsBadAfter (length c.records-answer.result.now + length c.records-authority.result.now) c.records-additional.result.now) (IsReasonAgainst held c.args.message.now) c.check_section-3.result
     (λ error bad. refused_in_additional held c.args.message.now whole error _
     (omega (arith, ap length c.records-answer.ensures, ap length c.records-authority.ensures))
     (subst (AllByRecursion IsReadable) c.records-answer.ensures c.in_ok-check_section.ensures.ok)

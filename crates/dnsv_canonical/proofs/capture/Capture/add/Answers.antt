@@ -4,16 +4,18 @@ use Rattle.std.specs.List.{AllByRecursion}
 use Rattle.dnsv_message.specs.Message.{Contents, records_of}
 use Rattle.dnsv_canonical.specs.declared.capture.CaptureError.{CaptureError}
 use Rattle.dnsv_canonical.specs.declared.capture.CaptureError.TheVariants.{OutOfMemory, NotAResponse, Truncated, BadRdata, Limit}
-use Rattle.dnsv_canonical.specs.Evidence.{AtMost, Evidence, IsPairAmong, IsReadable, IsRefusal, IsSmall, IsWhole, IsWithinLimits, nsec3_rdata, with_message}
-use Rattle.dnsv_canonical.specs.Kept.{HasRrsig, ArePairs, IsPairRefusal}
-use Rattle.dnsv_canonical.specs.Rrsets.{Group}
-use Rattle.dnsv_canonical.proofs.EvidenceLemmas.{message_readable, large_refused, many_refused, grown, grown_is, pairs_so_far, not_small}
-use Rattle.dnsv_canonical.proofs.PairLemmas.{few_pairs}
+use Rattle.dnsv_canonical.specs.Evidence.{AreParameters, AtMost, Evidence, AreParametersAmong, IsReadable, IsReasonAgainst, IsSmall, IsWhole, IsWithinLimits, nsec3_rdata, with_message}
+use Rattle.dnsv_canonical.specs.Kept.{IsHeld, IsParametersRefusal}
+use Rattle.dnsv_canonical.specs.Rdata.{IsWellFormed}
+use Rattle.dnsv_canonical.specs.Rrsets.{ReceivedRrset}
+use Rattle.dnsv_canonical.proofs.EvidenceLemmas.{large_refused, many_refused, grown, grown_is, pairs_so_far, not_small}
+use Rattle.dnsv_canonical.proofs.ParameterLemmas.{few_pairs}
+use Rattle.dnsv_canonical.proofs.WellFormedLemmas.{message_well_formed}
 use Rattle.dnsv_canonical.proofs.capture.Capture.add.Goals as goal
 
--- why the pairs aren't gathered, as a refusal of the message
+-- why the pairs aren't all, as a refusal of the message
 pairs_refusal : (held : Evidence) (message : Contents) (received : List (List ℕ)) (error : CaptureError) → IsWhole message → AllByRecursion IsReadable (records_of message)
-    → (¬ AtMost 8 (IsPairAmong received) → ¬ IsWithinLimits (with_message held message)) → IsPairRefusal received error → IsRefusal held message error
+    → (¬ AtMost 8 (AreParametersAmong received) → ¬ IsWithinLimits (with_message held message)) → IsParametersRefusal received error → IsReasonAgainst held message error
 pairs_refusal held message received OutOfMemory whole readable above refused = tt
 pairs_refusal held message received NotAResponse whole readable above refused = absurd refused
 pairs_refusal held message received Truncated whole readable above refused = absurd refused
@@ -39,41 +41,43 @@ returns-then-not-branch-clause-refused c = (
       c.as_slice.result.now (c.as_slice.ensures.value ∙ c.in_ok-drafts.ensures) (not_small c.as_slice.result.now c.in_ok-are_small.field-0 c.in_ok-are_small.ensures c.if-not-branch.true)),
 )
 
-pub returns-in_err-pairs-clause-refused : goal.returns-in_err-pairs-clause-refused
-returns-in_err-pairs-clause-refused c =
-    let p = err_from_is_err_and c.from_residual-in_err-pairs.result c.from_residual-in_err-pairs.ensures.1 in
+pub returns-in_err-parameters-clause-refused : goal.returns-in_err-parameters-clause-refused
+returns-in_err-parameters-clause-refused c =
+    let p = err_from_is_err_and c.from_residual-in_err-parameters.result c.from_residual-in_err-parameters.ensures.1 in
     rw (p.1, p.2) (pairs_refusal c.args.self.now c.args.message.now (nsec3_rdata c.self.inside.rrsets.items ++ nsec3_rdata c.as_slice-3.result.now) _
     c.in_ok-check_whole.ensures.ok c.in_ok-check_rdata.ensures.ok
     (λ many. subst (λ held. IsWithinLimits (with_message held c.args.message.now) → ⊥) c.self.view_is
     (many_refused (record { messages = c.self.inside.messages; records = c.self.inside.records; rrsets = c.self.inside.rrsets.items }) c.args.message.now
     c.as_slice-3.result.now (c.as_slice-3.ensures.value ∙ c.in_ok-drafts.ensures) many))
-    (c.in_err-pairs.ensures.refused (nsec3_rdata c.self.inside.rrsets.items) (subst (ArePairs (nsec3_rdata c.self.inside.rrsets.items)) (sym c.as_slice-2.ensures.value) c.self.invariant.1)))
+    (c.in_err-parameters.ensures.refused (nsec3_rdata c.self.inside.rrsets.items) (subst (AreParameters (nsec3_rdata c.self.inside.rrsets.items)) (sym c.as_slice-2.ensures.value) c.self.invariant.parameters)))
 
-pub owned-requires : goal.owned-requires
-owned-requires c =
-    subst (AllByRecursion (λ (draft : Group). AllByRecursion HasRrsig draft.signatures)) (sym (c.as_slice-4.ensures.value ∙ c.in_ok-drafts.ensures))
-    (message_readable (c.self.inside.messages + 1) c.args.message.now c.in_ok-check_rdata.ensures.ok)
+pub to_rrsets-requires : goal.to_rrsets-requires
+to_rrsets-requires c =
+    subst (AllByRecursion IsWellFormed) (sym (c.as_slice-4.ensures.value ∙ c.in_ok-drafts.ensures))
+    (message_well_formed (c.self.inside.messages + 1) c.args.message.now (c.messages_fit.ensures c.args.message.now c.is_of_octets.ensures) c.in_ok-check_rdata.ensures.ok)
 
 pub invariant_of-self-in_err-append : goal.invariant_of-self-in_err-append
 invariant_of-self-in_err-append c = rw (c.in_err-append.ensures.items, c.in_ok-reserve.ensures.items) c.self.invariant
 
 -- what is kept with the message
-after : (c : goal.After-drop-drafts-2) → IsWithinLimits (record { messages = c.self.inside.messages + 1; records = c.in-Some.records; rrsets = c.self.inside.rrsets.items ++ c.in_ok-drafts.drafts.items })
-    × ArePairs (nsec3_rdata (c.self.inside.rrsets.items ++ c.in_ok-drafts.drafts.items)) (c.self.inside.pairs.items ++ c.in_ok-pairs.pairs.items)
+after : (c : goal.After-drop-drafts-2) → IsHeld (record { messages = c.self.inside.messages + 1; records = c.in-Some.records; rrsets = c.self.inside.rrsets.items ++ c.in_ok-drafts.drafts.items })
+    (c.self.inside.parameters.items ++ c.in_ok-parameters.parameters.items)
 after c =
-    grown c.self.inside.messages c.self.inside.records c.in-Some.records c.self.inside.rrsets.items c.args.message.now c.self.inside.pairs.items c.in_ok-pairs.pairs.items c.in_ok-drafts.drafts.items
-    c.self.invariant.0 (omega arith) c.in-Some.ensures.1
+    grown c.self.inside.messages c.self.inside.records c.in-Some.records c.self.inside.rrsets.items c.args.message.now c.self.inside.parameters.items c.in_ok-parameters.parameters.items c.in_ok-drafts.drafts.items
+    c.self.invariant (omega arith) c.in-Some.ensures.1
+    (subst (AllByRecursion IsWellFormed) (sym c.in_ok-drafts.ensures)
+    (message_well_formed (c.self.inside.messages + 1) c.args.message.now (c.messages_fit.ensures c.args.message.now c.is_of_octets.ensures) c.in_ok-check_rdata.ensures.ok))
     (subst (AllByRecursion IsSmall) c.as_slice.ensures.value (c.in_ok-are_small.ensures.0 c.if-not-branch.false))
-    (subst (λ (drafts : List Group). ArePairs (nsec3_rdata c.self.inside.rrsets.items ++ nsec3_rdata drafts) (c.self.inside.pairs.items ++ c.in_ok-pairs.pairs.items)) c.as_slice-3.ensures.value
-    (pairs_so_far c.self.inside.rrsets.items c.as_slice-3.result.now c.self.inside.pairs.items c.as_slice-2.result.now c.in_ok-pairs.pairs.items c.self.invariant.1 c.as_slice-2.ensures.value c.in_ok-pairs.ensures.gathered))
-    (rw (← c.as_slice-2.ensures.value) (c.in_ok-pairs.ensures.few (rw c.as_slice-2.ensures.value
-    ((few_pairs 8 (nsec3_rdata c.self.inside.rrsets.items) c.self.inside.pairs.items c.self.invariant.1).1 c.self.invariant.0.pairs))))
+    (subst (λ (drafts : List ReceivedRrset). AreParameters (nsec3_rdata c.self.inside.rrsets.items ++ nsec3_rdata drafts) (c.self.inside.parameters.items ++ c.in_ok-parameters.parameters.items)) c.as_slice-3.ensures.value
+    (pairs_so_far c.self.inside.rrsets.items c.as_slice-3.result.now c.self.inside.parameters.items c.as_slice-2.result.now c.in_ok-parameters.parameters.items c.self.invariant.parameters c.as_slice-2.ensures.value c.in_ok-parameters.ensures.all))
+    (rw (← c.as_slice-2.ensures.value) (c.in_ok-parameters.ensures.few (rw c.as_slice-2.ensures.value
+    ((few_pairs 8 (nsec3_rdata c.self.inside.rrsets.items) c.self.inside.parameters.items c.self.invariant.parameters).1 c.self.invariant.limits.parameters))))
 
 pub invariant_of-self-2 : goal.invariant_of-self-2
 invariant_of-self-2 c =
     rw (
       c.in_ok-append.ensures.items ∙ ap (λ rrsets. c.self.inside.rrsets.items ++ rrsets) (c.in_ok-rrsets.ensures ∙ c.as_slice-4.ensures.value),
-      c.in-Ok.ensures.items ∙ ap (λ pairs. pairs ++ c.in_ok-pairs.pairs.items) c.in_ok-reserve.ensures.items,
+      c.in-Ok.ensures.items ∙ ap (λ pairs. pairs ++ c.in_ok-parameters.parameters.items) c.in_ok-reserve.ensures.items,
     ) (after c)
 
 pub returns-clause-limits : goal.returns-clause-limits
@@ -81,4 +85,4 @@ returns-clause-limits c =
     subst (λ held. IsWithinLimits (with_message held c.args.message.now)) c.self.view_is
     (subst IsWithinLimits
     (grown_is c.self.inside.messages c.self.inside.records c.in-Some.records c.self.inside.rrsets.items c.args.message.now c.in_ok-drafts.drafts.items c.in-Some.ensures.0 c.in_ok-drafts.ensures)
-    (after c).0)
+    (after c).limits)

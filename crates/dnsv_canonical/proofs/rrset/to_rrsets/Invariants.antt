@@ -1,5 +1,5 @@
 use Rattle.std.proofs.Common.{◌≡◌, take}
-use Rattle.dnsv_canonical.proofs.rrset.owned.Given as goal
+use Rattle.dnsv_canonical.proofs.rrset.to_rrsets.Given as goal
 
 -- the RRsets so far
 abbrev pub invariant-loop-draft : goal.invariant-loop-draft

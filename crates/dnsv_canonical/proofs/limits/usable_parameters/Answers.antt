@@ -3,8 +3,8 @@ use Rattle.dnsv_records.specs.declared.nsec3.Nsec3.{Nsec3}
 use Rattle.dnsv_records.specs.declared.error.RecordError.{RecordError}
 use Rattle.dnsv_records.specs.Nsec3.{IsNsec3}
 use Rattle.dnsv_records.specs.Reading.{Gives}
-use Rattle.dnsv_canonical.proofs.PairLemmas.{pair_of_usable, no_pair_unusable, no_pair_bad}
-use Rattle.dnsv_canonical.proofs.limits.usable_pair.Goals as goal
+use Rattle.dnsv_canonical.proofs.ParameterLemmas.{pair_of_usable, no_pair_unusable, no_pair_bad}
+use Rattle.dnsv_canonical.proofs.limits.usable_parameters.Goals as goal
 
 pub returns-in-Err-BadRdata : goal.returns-in-Err-BadRdata
 returns-in-Err-BadRdata c =

@@ -1,0 +1,8 @@
+use Rattle.std.proofs.Common.{subst, sym}
+use Rattle.std.specs.List.{AllByRecursion}
+use Rattle.dnsv_canonical.proofs.WellFormedLemmas.{HasRrsig, signatures_read}
+use Rattle.dnsv_canonical.proofs.rrset.Rrset.of.Goals as goal
+
+pub read_each-requires : goal.read_each-requires
+read_each-requires c =
+    subst (AllByRecursion HasRrsig) (sym c.signatures-2.ensures) (signatures_read c.args.draft.now.rtype c.args.draft.now.signatures c.requires.each_signature)
