@@ -11,7 +11,7 @@ use Rattle.dnsv_names.specs.AncestorLaws.{rightmost_all, rightmost_same}
 use Rattle.dnsv_denial.specs.TypeNumbers.{ns, cname, soa, dname, ds}
 use Rattle.dnsv_denial.specs.Any.{Any}
 use Rattle.dnsv_denial.specs.Types.{IsDelegation}
-use Rattle.dnsv_denial.specs.Zone.{Entry, Zone, Holds, IsNode, IsClosedAt, IsWellFormed}
+use Rattle.dnsv_denial.specs.Zone.{Entry, Zone, Holds, IsNode, IsClosedAt, IsWellFormed, IsOwner}
 use Rattle.dnsv_denial.specs.Lookup.{Answer, IsElsewhere, IsClosestEncloser, IsSource, IsLookup}
 use Rattle.dnsv_denial.specs.Lookup.Answer.{Held, Alias, NoData, NoName, Elsewhere}
 use Rattle.dnsv_denial.specs.Lookup.IsElsewhere.{outside, below_end, at_delegation, at_apex}
@@ -54,6 +54,12 @@ below_decided name above =
 
 bit_decided : (bit : Bool) → Decided (IsTrue bit)
 bit_decided bit = decided bit (λ yes. yes, λ yes. yes)
+
+pub owner_decided : (zone : Zone) (name : Labels) → Decided (IsOwner zone name)
+owner_decided zone name =
+    ⊎_elim (λ (some : Any (λ each. SameName each.owner name) zone.entries). inl (record { entry = some }))
+    (λ (none : ¬ Any (λ each. SameName each.owner name) zone.entries). inr (λ owner. none owner.entry))
+    (any_decided (λ each. SameName each.owner name) (λ each. same_or_not each.owner name) zone.entries)
 
 pub holds_decided : (zone : Zone) (name : Labels) (t : ℕ) → Decided (Holds zone name t)
 holds_decided zone name t =

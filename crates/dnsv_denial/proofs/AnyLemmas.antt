@@ -37,3 +37,9 @@ any_among P [] many among some = absurd some
 any_among P (x ∷ few) many among some =
     ⊎_elim (λ (here : P x). any_map (λ each. each ≡ x) P many (λ each is. subst P (sym is) here) among.0)
     (λ (rest : Any P few). any_among P few many among.1 rest) some
+
+-- some member is such, where each is of some kind
+pub any_both : {X : Type 0} (P Q : X → Type 0) (xs : List X) → AllByRecursion Q xs → Any P xs → Any (λ x. P x × Q x) xs
+any_both P Q [] all some = absurd some
+any_both P Q (x ∷ xs) all some =
+    ⊎_elim (λ (here : P x). inl (here, all.0)) (λ (rest : Any P xs). inr (any_both P Q xs all.1 rest)) some

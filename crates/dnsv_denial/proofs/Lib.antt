@@ -1,5 +1,6 @@
 mod AnswerLemmas
 mod AnyLemmas
+mod BitmapLemmas
 mod ChainLemmas
 mod Example
 mod LookupLemmas

@@ -1,9 +1,9 @@
 -- What a zone answers, from where the name stands in it.
 use Rattle.std.proofs.Common.{◌≡◌, ◌≢◌, ℕ, ◌<◌, ◌⊎◌, refl, sym, ap, ⊎_elim, arith, subst}
-use Rattle.dnsv_names.specs.Name.{Labels, rightmost}
+use Rattle.dnsv_names.specs.Name.{Labels, rightmost, IsAtOrBelow}
 use Rattle.dnsv_names.specs.Order.{IsBelow}
-use Rattle.dnsv_names.specs.Tree.{wildcard_of}
-use Rattle.dnsv_names.specs.TreeLaws.{at_or_below_trans}
+use Rattle.dnsv_names.specs.Tree.{wildcard_of, asterisk}
+use Rattle.dnsv_names.specs.TreeLaws.{at_or_below_trans, below_trans_at, at_trans_below}
 use Rattle.dnsv_denial.specs.TypeNumbers.{ns, cname, soa, ds}
 use Rattle.dnsv_denial.specs.Types.{IsDelegation}
 use Rattle.dnsv_denial.specs.Zone.{Zone, Holds, IsNode, IsClosedAt, IsWellFormed}
@@ -11,7 +11,7 @@ use Rattle.dnsv_denial.specs.Lookup.{Answer, IsElsewhere, IsClosestEncloser, IsS
 use Rattle.dnsv_denial.specs.Lookup.Answer.{Held, Alias, NoData, NoName, Elsewhere}
 use Rattle.dnsv_denial.specs.Lookup.IsElsewhere.{outside, below_end, at_delegation, at_apex}
 use Rattle.dnsv_denial.specs.Lookup.IsSource.{itself, wildcard}
-use Rattle.dnsv_names.specs.AncestorLaws.{rightmost_above}
+use Rattle.dnsv_names.specs.AncestorLaws.{rightmost_above, parent_at_or_below}
 use Rattle.dnsv_denial.proofs.ZoneLemmas.{holds_owner, holds_respects, owner_node, apex_node, node_respects, node_not_below, name_no_node}
 
 -- The name is no node, its closest encloser has so many labels, and the zone doesn't end above it.
@@ -56,6 +56,14 @@ missing_held zone name labels t well missing holds =
       missing_here zone name labels t well missing,
       (wildcard labels missing.encloser (owner_node zone star well (holds_owner zone star t holds)), holds),
     )
+
+-- where lookup isn't elsewhere nothing above the name, its ancestors and their wildcards is closed
+pub open_above_here : (zone : Zone) (name : Labels) (t : ℕ) → ¬ IsElsewhere zone name t → (above cut : Labels) → IsAtOrBelow name above → IsBelow above cut → ¬ IsClosedAt zone cut
+open_above_here zone name t here above cut under below closed = here (below_end cut (at_trans_below name above cut under below) closed)
+
+pub open_above_wildcard : (zone : Zone) (name : Labels) (t : ℕ) → ¬ IsElsewhere zone name t → (parent cut : Labels) → IsBelow name parent → IsBelow (wildcard_of parent) cut → ¬ IsClosedAt zone cut
+open_above_wildcard zone name t here parent cut under below closed =
+    here (below_end cut (below_trans_at name parent cut under (parent_at_or_below asterisk parent cut below)) closed)
 
 -- ---- one answer
 

@@ -17,7 +17,7 @@ use Rattle.dnsv_denial.specs.Forms.{Words, IsAbove, EndsAt, NoNameForm, NoDataFo
 use Rattle.dnsv_names.specs.AncestorLaws.{rightmost_above, rightmost_below, wildcard_below}
 use Rattle.dnsv_denial.proofs.ZoneLemmas.{holds_owner, owner_node, node_above, closest, nothing_closed}
 use Rattle.dnsv_denial.proofs.LookupLemmas.{IsMissing, node_here, missing_no_name, missing_no_data, missing_held}
-use Rattle.dnsv_denial.proofs.NsecLemmas.{plain_type, delegation_bits}
+use Rattle.dnsv_denial.proofs.BitmapLemmas.{plain_type, delegation_bits}
 
 -- a node of the zone with these types, of which something is said
 pub record Told (zone : Zone) (name : Labels) (Says : (ℕ → Type 0) → Type 0) : Type 0 where

@@ -28,14 +28,13 @@ use Rattle.dnsv_denial.specs.Nsec3Chain.IsAsked.{itself as asked_above, wildcard
 use Rattle.dnsv_denial.specs.Nsec3Chain.IsUnsignedEnd.{delegation, non_terminal}
 use Rattle.dnsv_denial.specs.Nsec3.{Matches, Covers, nsec3_words, IsCovered, IsOptedOut, OptOutForm}
 use Rattle.dnsv_denial.specs.Forms.{IsAbove, EndsAt, NoNameForm, NoDataForm, NoDataForms, UnsignedCutForm}
-use Rattle.dnsv_denial.proofs.AnyLemmas.{any_map, found}
+use Rattle.dnsv_denial.proofs.AnyLemmas.{any_map, found, any_both}
 use Rattle.dnsv_denial.proofs.ZoneLemmas.{holds_owner, holds_respects, owner_node, apex_node, node_above, node_not_below, node_respects, closest, name_no_node}
-use Rattle.dnsv_denial.proofs.LookupLemmas.{one_encloser}
+use Rattle.dnsv_denial.proofs.LookupLemmas.{one_encloser, open_above_here}
 use Rattle.dnsv_denial.proofs.AnswerLemmas.{Decided, decided, any_decided, Longest, longest_part}
-use Rattle.dnsv_denial.proofs.NsecLemmas.{plain_type}
-use Rattle.dnsv_denial.proofs.NsecComplete.{any_both, bits_closed, denies_bits, may_deny_here, may_deny_wildcard, open_above_here}
 use Rattle.dnsv_denial.proofs.MeaningLemmas.{no_name, any_no_data}
 use Rattle.dnsv_denial.proofs.Nsec3Truth.{matched, firm_no_node, nsec3_true}
+use Rattle.dnsv_denial.proofs.BitmapLemmas.{plain_type, bits_closed, denies_bits, may_deny_here, may_deny_wildcard}
 
 -- a name of the chain with this hash
 pub record Hashed (hash : NameHash) (names : List Labels) (value : List ℕ) : Type 0 where

@@ -13,12 +13,11 @@ use Rattle.dnsv_denial.specs.NsecChain.{IsInBitmap, IsBitmapOf}
 use Rattle.dnsv_denial.specs.Nsec3Chain.{Nsec3Record, NameHash, IsUnsignedEnd, IsChained, AreChainNames, IsInNsec3Chain, IsAsked, HasNoCollision}
 use Rattle.dnsv_denial.specs.Nsec3Chain.IsAsked.{itself as asked_above}
 use Rattle.dnsv_denial.specs.Nsec3.{Matches, Covers, nsec3_words}
-use Rattle.dnsv_denial.proofs.AnyLemmas.{found_of}
 use Rattle.dnsv_names.specs.AncestorLaws.{rightmost_above}
+use Rattle.dnsv_denial.proofs.AnyLemmas.{found_of}
 use Rattle.dnsv_denial.proofs.ZoneLemmas.{node_respects, nothing_closed}
-use Rattle.dnsv_denial.proofs.NsecLemmas.{closed_bits}
-use Rattle.dnsv_denial.proofs.NsecTruth.{bitmap_respects}
 use Rattle.dnsv_denial.proofs.MeaningLemmas.{Told, AreTrue}
+use Rattle.dnsv_denial.proofs.BitmapLemmas.{closed_bits, bitmap_respects}
 
 -- the hash of a name of the chain is a member of the circle of hashes
 hash_by : (hash : NameHash) (names : List Labels) (name : Labels) → Any (λ each. SameName each name) names → has label_cmp (map hash.of names) (hash.of name)

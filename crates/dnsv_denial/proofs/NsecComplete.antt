@@ -1,98 +1,32 @@
 -- The whole NSEC chain of a zone proves each denial of its lookup.
-use Rattle.std.proofs.Common.{◌≡◌, ◌≢◌, ℕ, ◌+◌, Bool, List, [], ◌∷◌, sym, ◌∙◌, inl, inr, ⊎_elim, arith}
+use Rattle.std.proofs.Common.{◌≢◌, ℕ, ◌+◌, Bool, List, sym, ◌∙◌, inl, inr, ⊎_elim, arith}
 use Rattle.std.proofs.lemmas.Cmp.{tied_itself}
-use Rattle.std.specs.List.{AllByRecursion}
 use Rattle.dnsv_names.specs.Name.{Labels, SameName, IsAtOrBelow, rightmost}
 use Rattle.dnsv_names.specs.Order.{IsBelow}
 use Rattle.dnsv_names.specs.OrderLaws.{canonical_cmp_total, SameName_Equal}
-use Rattle.dnsv_names.specs.Tree.{asterisk, wildcard_of}
+use Rattle.dnsv_names.specs.Tree.{wildcard_of}
 use Rattle.dnsv_names.specs.CircleLaws.{gap_respects, successor_respects, lies_in_a_gap_among}
 use Rattle.dnsv_names.specs.NameCircleLaws.{next_at_or_below}
-use Rattle.dnsv_names.specs.TreeLaws.{same_at_or_below, at_or_below_trans, at_trans_below, below_trans_at, same_or_not}
-use Rattle.dnsv_names.specs.AncestorLaws.{rightmost_above, rightmost_below, rightmost_in_line, wildcard_below, parent_at_or_below}
-use Rattle.dnsv_denial.specs.TypeNumbers.{ns, cname, soa, dname, ds, rrsig, nsec}
+use Rattle.dnsv_names.specs.TreeLaws.{same_at_or_below, at_or_below_trans}
+use Rattle.dnsv_names.specs.AncestorLaws.{rightmost_above, rightmost_below, rightmost_in_line, wildcard_below}
+use Rattle.dnsv_denial.specs.TypeNumbers.{ns, cname, soa, ds, rrsig, nsec}
 use Rattle.dnsv_denial.specs.Any.{Any}
-use Rattle.dnsv_denial.specs.Types.{IsDelegation, IsClosed, Denies, IsUnsignedDelegation}
+use Rattle.dnsv_denial.specs.Types.{Denies, IsUnsignedDelegation}
 use Rattle.dnsv_denial.specs.Zone.{Zone, IsOwner, Holds, IsNode, IsClosedAt, IsWellFormed}
 use Rattle.dnsv_denial.specs.Lookup.{IsElsewhere, IsClosestEncloser, IsSource, IsLookup}
 use Rattle.dnsv_denial.specs.Lookup.Answer.{NoData, NoName}
-use Rattle.dnsv_denial.specs.Lookup.IsElsewhere.{below_end, at_delegation, at_apex}
 use Rattle.dnsv_denial.specs.Lookup.IsSource.{itself, wildcard}
 use Rattle.dnsv_denial.specs.NsecChain.{NsecRecord, IsInBitmap, IsBitmapOf, owners, IsInNsecChain, IsNsecChainOf}
 use Rattle.dnsv_denial.specs.Nsec.{Covers, IsFair, IsAbsentBy, IsInnerBy, IsNodeBy, nsec_words}
 use Rattle.dnsv_denial.specs.Forms.{EndsAt, NoNameForm, NoDataForms, UnsignedCutForm}
-use Rattle.dnsv_denial.proofs.AnyLemmas.{any_map}
+use Rattle.dnsv_denial.proofs.AnyLemmas.{any_map, any_both}
 use Rattle.dnsv_denial.proofs.ZoneLemmas.{holds_owner, holds_respects, owner_under, owner_node, node_of_owner, node_not_below}
-use Rattle.dnsv_denial.proofs.AnswerLemmas.{Decided, any_decided}
-use Rattle.dnsv_denial.proofs.NsecLemmas.{member_of_owner, owner_of_member, plain_type}
+use Rattle.dnsv_denial.proofs.AnswerLemmas.{owner_decided}
+use Rattle.dnsv_denial.proofs.NsecLemmas.{member_of_owner, owner_of_member}
 use Rattle.dnsv_denial.proofs.MeaningLemmas.{no_name, any_no_data}
-use Rattle.dnsv_denial.proofs.NsecTruth.{bitmap_respects, nsec_true}
-
--- some member is such, where each is of some kind
-pub any_both : {X : Type 0} (P Q : X → Type 0) (xs : List X) → AllByRecursion Q xs → Any P xs → Any (λ x. P x × Q x) xs
-any_both P Q [] all some = absurd some
-any_both P Q (x ∷ xs) all some =
-    ⊎_elim (λ (here : P x). inl (here, all.0)) (λ (rest : Any P xs). inr (any_both P Q xs all.1 rest)) some
-
--- what a bitmap says of the zone, the other way round
-pub bits_delegation : (zone : Zone) (name : Labels) (types : ℕ → Bool) → IsBitmapOf zone name types → IsDelegation (IsInBitmap types) → IsDelegation (Holds zone name)
-bits_delegation zone name types bitmap delegation = record {
-  servers = plain_type zone name types ns (λ is. omega arith) (λ is. omega arith) bitmap delegation.servers;
-  no_apex = λ holds. delegation.no_apex (bitmap.all soa holds);
-}
-
-pub bits_closed : (zone : Zone) (name : Labels) (types : ℕ → Bool) → IsBitmapOf zone name types → IsClosed (IsInBitmap types) → IsClosedAt zone name
-bits_closed zone name types bitmap closed =
-    ⊎_elim (λ (delegation : IsDelegation (IsInBitmap types)). inl (bits_delegation zone name types bitmap delegation))
-    (λ (alias : IsInBitmap types dname). inr (plain_type zone name types dname (λ is. omega arith) (λ is. omega arith) bitmap alias)) closed
-
--- a name with its types denied, by the zone
-pub record MayDeny (zone : Zone) (name : Labels) (t : ℕ) : Type 0 where
-  pub no_type : ¬ Holds zone name t
-  pub no_alias : ¬ Holds zone name cname
-  pub no_cut : t ≢ ds → ¬ IsDelegation (Holds zone name)
-  pub no_apex : t ≡ ds → ¬ Holds zone name soa
-
-pub denies_bits : (zone : Zone) (name : Labels) (types : ℕ → Bool) (t : ℕ) → t ≢ rrsig → t ≢ nsec → IsBitmapOf zone name types → MayDeny zone name t → Denies (IsInBitmap types) t
-denies_bits zone name types t other another bitmap may = record {
-  no_type = λ bit. may.no_type (plain_type zone name types t other another bitmap bit);
-  no_alias = λ bit. may.no_alias (plain_type zone name types cname (λ is. omega arith) (λ is. omega arith) bitmap bit);
-  side = (
-    λ is_ds bit. may.no_apex is_ds (plain_type zone name types soa (λ is. omega arith) (λ is. omega arith) bitmap bit),
-    λ not_ds delegation. may.no_cut not_ds (bits_delegation zone name types bitmap delegation),
-  );
-}
-
--- of a node that lookup answers at, and of a wildcard, all of it may be said
-pub may_deny_here : (zone : Zone) (name : Labels) (t : ℕ) → IsWellFormed zone → ¬ IsElsewhere zone name t → ¬ Holds zone name t → ¬ Holds zone name cname → MayDeny zone name t
-may_deny_here zone name t well here no_type no_alias = record {
-  no_type = no_type;
-  no_alias = no_alias;
-  no_cut = λ not_ds delegation. here (at_delegation delegation not_ds);
-  no_apex = λ is_ds holds. here (at_apex (well.no_other_apex name holds) is_ds);
-}
-
-pub may_deny_wildcard : (zone : Zone) (parent : Labels) (t : ℕ) → IsWellFormed zone → IsAtOrBelow parent zone.apex → ¬ Holds zone (wildcard_of parent) t → ¬ Holds zone (wildcard_of parent) cname → MayDeny zone (wildcard_of parent) t
-may_deny_wildcard zone parent t well within no_type no_alias = record {
-  no_type = no_type;
-  no_alias = no_alias;
-  no_cut = λ not_ds delegation. well.wildcards parent (inl delegation);
-  no_apex = λ is_ds holds. (below_trans_at (wildcard_of parent) parent zone.apex (wildcard_below parent) within).1 (well.no_other_apex (wildcard_of parent) holds);
-}
-
--- where lookup isn't elsewhere nothing above the name, its ancestors and their wildcards is closed
-pub open_above_here : (zone : Zone) (name : Labels) (t : ℕ) → ¬ IsElsewhere zone name t → (above cut : Labels) → IsAtOrBelow name above → IsBelow above cut → ¬ IsClosedAt zone cut
-open_above_here zone name t here above cut under below closed = here (below_end cut (at_trans_below name above cut under below) closed)
-
-pub open_above_wildcard : (zone : Zone) (name : Labels) (t : ℕ) → ¬ IsElsewhere zone name t → (parent cut : Labels) → IsBelow name parent → IsBelow (wildcard_of parent) cut → ¬ IsClosedAt zone cut
-open_above_wildcard zone name t here parent cut under below closed =
-    here (below_end cut (below_trans_at name parent cut under (parent_at_or_below asterisk parent cut below)) closed)
-
-pub owner_decided : (zone : Zone) (name : Labels) → Decided (IsOwner zone name)
-owner_decided zone name =
-    ⊎_elim (λ (some : Any (λ each. SameName each.owner name) zone.entries). inl (record { entry = some }))
-    (λ (none : ¬ Any (λ each. SameName each.owner name) zone.entries). inr (λ owner. none owner.entry))
-    (any_decided (λ each. SameName each.owner name) (λ each. same_or_not each.owner name) zone.entries)
+use Rattle.dnsv_denial.proofs.NsecTruth.{nsec_true}
+use Rattle.dnsv_denial.proofs.BitmapLemmas.{plain_type, bits_closed, bitmap_respects, denies_bits, may_deny_here, may_deny_wildcard}
+use Rattle.dnsv_denial.proofs.LookupLemmas.{open_above_here, open_above_wildcard}
 
 module _ (zone : Zone) (apex : Labels) (records : List NsecRecord) (chain : IsNsecChainOf zone apex records) where
   well : IsWellFormed zone

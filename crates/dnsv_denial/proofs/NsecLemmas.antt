@@ -1,19 +1,18 @@
 -- What an NSEC record of a zone's chain proves.
-use Rattle.std.proofs.Common.{◌≡◌, ◌≢◌, ℕ, ◌⊎◌, Bool, List, [], ◌∷◌, map, sym, inl, inr, ⊎_elim, arith}
+use Rattle.std.proofs.Common.{◌≡◌, List, [], ◌∷◌, map, sym, inl, inr, ⊎_elim}
 use Rattle.std.specs.declared.cmp.Ordering.TheVariants.{Equal}
 use Rattle.dnsv_names.specs.Name.{Labels, SameName, IsAtOrBelow}
 use Rattle.dnsv_names.specs.Order.{canonical_cmp, IsBelow}
 use Rattle.dnsv_names.specs.OrderLaws.{canonical_Equal, SameName_Equal}
 use Rattle.dnsv_names.specs.Circle.{has, IsMember}
 use Rattle.dnsv_names.specs.TreeLaws.{same_at_or_below, at_or_below_cases, below_trans_at}
-use Rattle.dnsv_denial.specs.TypeNumbers.{ns, soa, dname, rrsig, nsec}
 use Rattle.dnsv_denial.specs.Any.{Any}
-use Rattle.dnsv_denial.specs.Types.{IsDelegation, IsClosed}
-use Rattle.dnsv_denial.specs.Zone.{Entry, Zone, IsOwner, Holds, IsNode, IsClosedAt, IsWellFormed}
-use Rattle.dnsv_denial.specs.NsecChain.{NsecRecord, IsInBitmap, IsBitmapOf, owners, IsInNsecChain}
+use Rattle.dnsv_denial.specs.Zone.{Entry, Zone, IsOwner, IsNode, IsClosedAt, IsWellFormed}
+use Rattle.dnsv_denial.specs.NsecChain.{NsecRecord, owners, IsInNsecChain}
 use Rattle.dnsv_denial.specs.Nsec.{Covers, IsFair, IsAbsentBy, IsInnerBy, IsNodeBy}
 use Rattle.dnsv_names.specs.NameCircleLaws.{owner_at_or_below, next_at_or_below}
 use Rattle.dnsv_denial.proofs.ZoneLemmas.{closed_respects, closed_owner, owner_under, node_of_owner}
+use Rattle.dnsv_denial.proofs.BitmapLemmas.{closed_bits}
 
 -- owners are members of the circle
 member_by : (name : Labels) (entries : List Entry) → Any (λ each. SameName each.owner name) entries → has canonical_cmp (map (λ each. each.owner) entries) name
@@ -33,25 +32,6 @@ owner_by name (entry ∷ entries) some =
 
 pub owner_of_member : (zone : Zone) (name : Labels) → IsMember canonical_cmp (owners zone) name → IsOwner zone name
 owner_of_member zone name member = record { entry = owner_by name zone.entries member.there }
-
--- ---- bitmaps
-
-pub plain_type : (zone : Zone) (name : Labels) (types : ℕ → Bool) (t : ℕ) → t ≢ rrsig → t ≢ nsec → IsBitmapOf zone name types → IsInBitmap types t → Holds zone name t
-plain_type zone name types t other another bitmap bit =
-    ⊎_elim (λ (holds : Holds zone name t). holds)
-    (λ (of_chain : (t ≡ rrsig) ⊎ (t ≡ nsec)). absurd (⊎_elim (λ (is : t ≡ rrsig). other is) (λ (is : t ≡ nsec). another is) of_chain))
-    (bitmap.no_more t bit)
-
-pub delegation_bits : (zone : Zone) (name : Labels) (types : ℕ → Bool) → IsBitmapOf zone name types → IsDelegation (Holds zone name) → IsDelegation (IsInBitmap types)
-delegation_bits zone name types bitmap delegation = record {
-  servers = bitmap.all ns delegation.servers;
-  no_apex = λ bit. delegation.no_apex (plain_type zone name types soa (λ is. omega arith) (λ is. omega arith) bitmap bit);
-}
-
-pub closed_bits : (zone : Zone) (name : Labels) (types : ℕ → Bool) → IsBitmapOf zone name types → IsClosedAt zone name → IsClosed (IsInBitmap types)
-closed_bits zone name types bitmap closed =
-    ⊎_elim (λ (delegation : IsDelegation (Holds zone name)). inl (delegation_bits zone name types bitmap delegation))
-    (λ (alias : Holds zone name dname). inr (bitmap.all dname alias)) closed
 
 -- ---- the words
 

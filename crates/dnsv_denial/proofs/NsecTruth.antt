@@ -1,26 +1,20 @@
 -- What NSEC records of a zone's chain say is so.
-use Rattle.std.proofs.Common.{ℕ, ◌+◌, ◌⊎◌, Bool, List, sym, ◌∙◌, inl, inr, ⊎_elim}
+use Rattle.std.proofs.Common.{ℕ, ◌+◌, ◌⊎◌, List, sym, ◌∙◌, ⊎_elim}
 use Rattle.std.specs.List.{AllByRecursion}
 use Rattle.dnsv_names.specs.Name.{Labels, SameName, IsAtOrBelow, rightmost}
 use Rattle.dnsv_names.specs.Order.{IsBelow}
 use Rattle.dnsv_names.specs.TreeLaws.{below_trans_at}
 use Rattle.dnsv_names.specs.AncestorLaws.{rightmost_next_below}
 use Rattle.dnsv_denial.specs.Any.{Any}
-use Rattle.dnsv_denial.specs.Zone.{Zone, Holds, IsNode, IsClosedAt, IsWellFormed}
+use Rattle.dnsv_denial.specs.Zone.{Zone, IsNode, IsClosedAt, IsWellFormed}
 use Rattle.dnsv_denial.specs.Lookup.{IsClosestEncloser}
-use Rattle.dnsv_denial.specs.NsecChain.{NsecRecord, IsInBitmap, IsBitmapOf, IsInNsecChain}
+use Rattle.dnsv_denial.specs.NsecChain.{NsecRecord, IsInBitmap, IsInNsecChain}
 use Rattle.dnsv_denial.specs.Nsec.{IsAbsentBy, IsInnerBy, IsNodeBy, nsec_words}
 use Rattle.dnsv_denial.proofs.AnyLemmas.{found_of}
-use Rattle.dnsv_denial.proofs.ZoneLemmas.{holds_respects, owner_respects, apex_node, closed_node, encloser_below, node_respects, owner_node}
+use Rattle.dnsv_denial.proofs.ZoneLemmas.{owner_respects, apex_node, closed_node, encloser_below, node_respects, owner_node}
 use Rattle.dnsv_denial.proofs.NsecLemmas.{covered_no_owner, fair_open_above, absent_no_node, inner_node, told_node}
 use Rattle.dnsv_denial.proofs.MeaningLemmas.{Told, IsInner, AreTrue}
-
--- the bitmap of a name is that of an equal one
-pub bitmap_respects : (zone : Zone) (a b : Labels) (types : ℕ → Bool) → SameName a b → IsBitmapOf zone a types → IsBitmapOf zone b types
-bitmap_respects zone a b types same bitmap = record {
-  all = λ t holds. bitmap.all t (holds_respects zone b a t (sym same) holds);
-  no_more = λ t bit. ⊎_elim (λ (holds : Holds zone a t). inl (holds_respects zone a b t same holds)) (λ of_chain. inr of_chain) (bitmap.no_more t bit);
-}
+use Rattle.dnsv_denial.proofs.BitmapLemmas.{bitmap_respects}
 
 module _ (zone : Zone) (apex name : Labels) (records : List NsecRecord) (well : IsWellFormed zone) (same : SameName apex zone.apex) (all : AllByRecursion (IsInNsecChain zone) records) where
   pub absent : (x : Labels) → Any (λ r. IsAbsentBy r x) records → ¬ IsNode zone x

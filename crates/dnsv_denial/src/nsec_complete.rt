@@ -22,7 +22,8 @@ pub fn an_nsec_chain_proves_each_missing_name()
 pub fn an_nsec_chain_proves_each_missing_type()
     ensures { (zone : Zone) (apex name : Labels) (t : ℕ) (records : List NsecRecord)
         → IsNsecChainOf zone apex records → t ≢ rrsig → t ≢ nsec
-        → ((source : Labels) × IsLookup zone name t (NoData source)) ↔ NoDataForms (nsec_words apex records) apex name t }
+        → ((source : Labels) × IsLookup zone name t (NoData source))
+        ↔ NoDataForms (nsec_words apex records) apex name t }
 {}
 
 /// A law of NSEC: the whole chain proves each delegation without DS at or above a name.
