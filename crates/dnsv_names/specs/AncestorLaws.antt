@@ -28,7 +28,7 @@ ends_at_or_below name above k from below =
     sym (drop-map (λ label. map to_ascii_lowercase label) k name)
     ∙ ap (drop k) (below.1 ∙ lower_case-append below.0 above) ∙ drop_at (lower_case below.0) (lower_case above) k front
 
--- the rightmost labels: how many they are, those of them, none, all, and one more
+-- the rightmost labels: how many they are, those of them, none, all, all but one, and one more
 pub rightmost_length : (name : Labels) (n : ℕ) → n ≤ length name → length (rightmost name n) ≡ n
 rightmost_length name n within = omega (arith, length-drop (length name - n) name)
 
@@ -42,6 +42,10 @@ rightmost_none name = drop_all (length name - 0) name (omega arith)
 
 pub rightmost_all : (name : Labels) (n : ℕ) → length name ≤ n → rightmost name n ≡ name
 rightmost_all name n all = let none : length name - n ≡ 0 = omega arith in ap (λ k. drop k name) none
+
+pub rightmost_parent : (label : List ℕ) (parent : Labels) → rightmost (label ∷ parent) (length parent) ≡ parent
+rightmost_parent label parent =
+    let one : length (label ∷ parent) - length parent ≡ 1 = omega arith in ap (λ k. drop k (label ∷ parent)) one
 
 pub rightmost_more : (name : Labels) (n : ℕ) → n < length name
     → (label : List ℕ) × (rightmost name (n + 1) ≡ label ∷ rightmost name n)

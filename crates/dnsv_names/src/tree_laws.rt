@@ -68,6 +68,7 @@ pub fn rightmost_labels_are_ancestors()
     ensures part { (name : Labels) (n m : ℕ) → m ≤ n → rightmost (rightmost name n) m ≡ rightmost name m }
     ensures none { (name : Labels) → rightmost name 0 ≡ [] }
     ensures all { (name : Labels) (n : ℕ) → length name ≤ n → rightmost name n ≡ name }
+    ensures parent { (label : List ℕ) (parent : Labels) → rightmost (label ∷ parent) (length parent) ≡ parent }
     ensures one_more { (name : Labels) (n : ℕ) → n < length name
         → (label : List ℕ) × (rightmost name (n + 1) ≡ label ∷ rightmost name n) }
     ensures name { (name : Labels) (n : ℕ) → IsName name → IsName (rightmost name n) }

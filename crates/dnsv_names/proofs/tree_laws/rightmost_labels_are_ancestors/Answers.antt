@@ -1,4 +1,4 @@
-use Rattle.dnsv_names.specs.AncestorLaws.{rightmost_length, rightmost_rightmost, rightmost_none, rightmost_all, rightmost_more, IsName-rightmost, rightmost_above, rightmost_respects}
+use Rattle.dnsv_names.specs.AncestorLaws.{rightmost_length, rightmost_rightmost, rightmost_none, rightmost_all, rightmost_parent, rightmost_more, IsName-rightmost, rightmost_above, rightmost_respects}
 use Rattle.dnsv_names.proofs.tree_laws.rightmost_labels_are_ancestors.Goals as goal
 
 pub returns-clause-length : goal.returns-clause-length
@@ -12,6 +12,9 @@ returns-clause-none c = rightmost_none
 
 pub returns-clause-all : goal.returns-clause-all
 returns-clause-all c = rightmost_all
+
+pub returns-clause-parent : goal.returns-clause-parent
+returns-clause-parent c = rightmost_parent
 
 pub returns-clause-one_more : goal.returns-clause-one_more
 returns-clause-one_more c = rightmost_more
