@@ -4,9 +4,21 @@ use Rattle.std.proofs.Common.{◌≡◌, ◌≢◌, List, [], ◌∷◌, ◌⊎�
 use Rattle.std.proofs.lemmas.Cmp.{tied_itself, tied_back, alike_right, back_total}
 use Rattle.std.specs.declared.cmp.Ordering.{Ordering}
 use Rattle.std.specs.declared.cmp.Ordering.TheVariants.{Less, Equal, Greater}
-use Rattle.std.specs.Ordering.{ordering_reverse, flip_args}
+use Rattle.std.specs.Ordering.{ordering_reverse, flip_args, is_lt, is_eq}
+use Rattle.std.specs.Bool.{Decides}
+use Rattle.std.proofs.lemmas.Bool.Decides.{Decides-and, Decides-or, Decides-not}
 use Rattle.std.specs.Cmp.{IsTotalOrder}
-use Rattle.dnsv_names.specs.Circle.{between, Gap, has, IsMember, IsSuccessor}
+use Rattle.dnsv_names.specs.Circle.{between, is_between, Gap, is_in_gap, has, IsMember, IsSuccessor}
+
+is_lt_Decides : (o : Ordering) → Decides (is_lt o) (o ≡ Less)
+is_lt_Decides Less = (λ yes. refl, λ less. refl)
+is_lt_Decides Equal = (λ yes. cc, λ less. cc)
+is_lt_Decides Greater = (λ yes. cc, λ less. cc)
+
+is_eq_Decides : (o : Ordering) → Decides (is_eq o) (o ≡ Equal)
+is_eq_Decides Less = (λ yes. cc, λ tied. cc)
+is_eq_Decides Equal = (λ yes. refl, λ tied. refl)
+is_eq_Decides Greater = (λ yes. cc, λ tied. cc)
 
 -- whether the three comparisons put x into the gap
 between_cases : (o p q : Ordering) → between o p q ⊎ ¬ between o p q
@@ -27,6 +39,17 @@ between_cases Greater Greater Greater =
 between_cases Equal Equal q = inr (λ in_gap. in_gap refl)
 between_cases Equal Less q = inl (λ same. cc)
 between_cases Equal Greater q = inl (λ same. cc)
+
+is_between_Decides : (o p q : Ordering) → Decides (is_between o p q) (between o p q)
+is_between_Decides Less p q = Decides-and (is_lt p) (is_lt q) (is_lt_Decides p) (is_lt_Decides q)
+is_between_Decides Greater p q = Decides-or (is_lt p) (is_lt q) (is_lt_Decides p) (is_lt_Decides q)
+is_between_Decides Equal p q = Decides-not (is_eq p) (is_eq_Decides p)
+
+-- the test of the gap
+pub is_in_gap_Decides : {K : Type 0} (cmp : K → K → Ordering) (owner next x : K) → Decides (is_in_gap cmp owner next x) (Gap cmp owner next x)
+is_in_gap_Decides cmp owner next x =
+    let test = is_between_Decides (cmp owner next) (cmp owner x) (cmp x next) in
+    (λ yes. record { lies = test.0 yes }, λ gap. test.1 gap.lies)
 
 tied_or_not : (o : Ordering) → (o ≡ Equal) ⊎ (o ≢ Equal)
 tied_or_not Less = inr (λ tied. cc)

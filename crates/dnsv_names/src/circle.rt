@@ -2,7 +2,7 @@
 ghost use Rattle.std.specs.Prelude.{◌≡◌, ◌≢◌, ◌↔◌, List, IsTrue};
 ghost use Rattle.dnsv_names.specs.Name.{Labels, IsAtOrBelow};
 ghost use Rattle.dnsv_names.specs.Order.{canonical_cmp};
-ghost use Rattle.dnsv_names.specs.Circle.{Gap, IsMember, IsSuccessor};
+ghost use Rattle.dnsv_names.specs.Circle.{Gap, is_in_gap, IsMember, IsSuccessor};
 
 use crate::hash20::Hash20;
 use crate::name::Name;
@@ -20,7 +20,8 @@ impl Circle for Hash20 {}
 /// last of its circle, behind `owner` or before `next`; where the two are equal, since `owner` is alone, anywhere
 /// but at it.
 pub fn covers<T: Circle>(owner: &T, next: &T, x: &T) -> bool
-    ensures { IsTrue result ↔ Gap T.cmp owner.now next.now x.now }
+    ensures gap { IsTrue result ↔ Gap T.cmp owner.now next.now x.now }
+    ensures test { result ≡ is_in_gap T.cmp owner.now next.now x.now }
 {
     match owner.cmp(next) {
         Ordering::Less => owner < x && x < next,

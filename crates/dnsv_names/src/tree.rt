@@ -1,6 +1,7 @@
 //! Names above and below a name (RFC 1034 3.1).
 ghost use Rattle.std.specs.Prelude.{◌≡◌, ◌↔◌, ◌<◌, ◌≤◌, List, ℕ, [], ◌∷◌, length, MatchOption, MatchResult, IsTrue, IfOk};
 ghost use Rattle.dnsv_names.specs.Name.{Labels, IsName, IsAtOrBelow, wire, rightmost};
+ghost use Rattle.dnsv_names.specs.Keys.{is_at_or_below};
 ghost use Rattle.dnsv_names.specs.Tree.{wildcard_of, is_wildcard, IsWildcard};
 
 use crate::error::NameError;
@@ -24,7 +25,8 @@ impl Name {
     /// Whether the name is `above` or stands below it: the labels of `above` end those of the name,
     /// without regard to case.
     pub fn is_at_or_below(&self, above: &Name) -> bool
-        ensures { IsTrue result ↔ IsAtOrBelow self.now above.now }
+        ensures at_or_below { IsTrue result ↔ IsAtOrBelow self.now above.now }
+        ensures test { result ≡ is_at_or_below self.now above.now }
     {
         let count = self.labels();
         let kept = above.labels();
