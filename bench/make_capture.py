@@ -7,6 +7,7 @@ Each message is a response with RECORDS records in its answer section, of one of
   signed  RRsets of five records of the types A, AAAA, MX, TXT and NS at owners of their own, each with
           16 signatures, the most that an RRset may have
   owners  records each with an owner of its own, the most that a section can hold apart
+  deep    the same, with owners of 122 labels
   pairs   NSEC3 records each with a salt of its own, which is refused
 """
 import random
@@ -15,6 +16,7 @@ import sys
 
 TYPES = {1: 4, 28: 16, 15: None, 16: 24, 2: None}  # the type and how many octets its RDATA has
 ZONE = b"\x05bench\x07example\x00"
+DEEP = b"\x01a" * 121 + b"\x00"
 
 
 def record(owner, rtype, rdata):
@@ -42,7 +44,7 @@ def nsec3(number):
 
 def records_of(draw, count, kind):
     """The records of one message, RRset by RRset."""
-    pointer = struct.pack("!H", 0xC000 + 12)  # the question's name, which is the zone
+    pointer = struct.pack("!H", 0xC000 + 12)  # the question's name
     if kind == "pairs":
         return [record(pointer, 50, nsec3(number)) for number in range(count)]
     signatures = 16 if kind == "signed" else 0
@@ -65,7 +67,8 @@ def main():
     for number in range(messages):
         records = records_of(draw, count, kind)
         header = struct.pack("!HHHHHH", number, 0x8400, 1, len(records), 0, 0)
-        octets = header + ZONE + struct.pack("!HH", 255, 1) + b"".join(records)
+        asked = DEEP if kind == "deep" else ZONE
+        octets = header + asked + struct.pack("!HH", 255, 1) + b"".join(records)
         sys.stdout.buffer.write(struct.pack("!H", len(octets)) + octets)
 
 

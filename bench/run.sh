@@ -30,5 +30,6 @@ report() { # KIND MESSAGES RECORDS
 }
 
 for messages in 4 16 64; do report signed "$messages" 64; done
-for records in 160 640 2560; do report owners 1 "$records"; done
+for records in 160 640 2560 3000; do report owners 1 "$records"; done
+report deep 1 3000
 for records in 100 400 1600; do report pairs 1 "$records"; done
