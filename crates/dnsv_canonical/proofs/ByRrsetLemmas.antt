@@ -1,5 +1,5 @@
 -- RDATA kept by RRset, as one key's changes.
-use Rattle.std.proofs.Common.{◌≡◌, ℕ, ◌+◌, ◌<◌, ◌==◌, ◌&&◌, ◌||◌, Bool, true, false, cond, not, Option, Some, List, [], ◌∷◌, ◌++◌, length, take, get_or, map, Vec, Bor, if◌then◌else◌, refl, sym, ap, ◌∙◌, append-nil}
+use Rattle.std.proofs.Common.{◌≡◌, ℕ, ◌+◌, ◌<◌, ◌==◌, ◌&&◌, ◌||◌, Bool, true, false, cond, not, Option, Some, List, [], ◌∷◌, ◌++◌, length, take, get_or, map, Vec, Bor, if◌then◌else◌, refl, sym, ap, ◌∙◌, append-nil, arith}
 use Rattle.std.proofs.lemmas.Cmp.{nat_eq_equiv, on_equiv, and_equiv}
 use Rattle.std.proofs.lemmas.List.{map-append, take_more}
 use Rattle.std.proofs.lemmas.List.Folds.{list_any-append}
@@ -65,7 +65,7 @@ module _ {Y : Type 0} (m n : BTreeMap Key (Kept Y)) (k : Key) (kept : Option (Ke
       ]
 
 -- RDATA that is put back behind what was taken from one key is added there, and the others have what they had
-pub rdata_added : {Y : Type 0} (old left new : BTreeMap Key (Kept Y)) (k : Key) (taken more : Kept Y) (rdata : Bor (List ℕ)) → map (λ r. r.now) taken.items ≡ rdata_at old k.0.0 k.1.0.now → ((t : ℕ) (name : Labels) → rdata_at left t name ≡ if k.0.0 == t && same_name k.1.0.now name then [] else rdata_at old t name) → more.items ≡ taken.items ++ rdata ∷ [] → Updates key_cmp left new k (Some more) → (t : ℕ) (name : Labels) → rdata_at new t name ≡ rdata_at old t name ++ (if t == k.0.0 && same_name name k.1.0.now then rdata.now ∷ [] else [])
+pub rdata_added : {Y : Type 0} (old left new : BTreeMap Key (Kept Y)) (k : Key) (taken more : Kept Y) (rdata : Bor (List ℕ)) → map (λ r. r.now) taken.items ≡ rdata_at old k.0.0 k.1.0.now → ((t : ℕ) (name : Labels) → (k.0.0 == t && same_name k.1.0.now name) ≡ false → rdata_at left t name ≡ rdata_at old t name) → more.items ≡ taken.items ++ rdata ∷ [] → Updates key_cmp left new k (Some more) → (t : ℕ) (name : Labels) → rdata_at new t name ≡ rdata_at old t name ++ (if t == k.0.0 && same_name name k.1.0.now then rdata.now ∷ [] else [])
 rdata_added old left new k taken more rdata was others given updates t name =
     let q : Key = key_of t name in
     let octets : Bor (List ℕ) → List ℕ = λ r. r.now in
@@ -73,9 +73,15 @@ rdata_added old left new k taken more rdata was others given updates t name =
     ∙ elim (same_key k q) as (λ b. same_key k q ≡ b → (if b then map octets more.items else rdata_at left t name) ≡ rdata_at old t name ++ (if b then rdata.now ∷ [] else [])) [
       | true ↦ λ is. ap (map octets) given ∙ map-append octets taken.items (rdata ∷ [])
           ∙ ap (λ rs. rs ++ rdata.now ∷ []) (was ∙ ap octets_of (lookup_congr same_key same_key_equiv.congr old.entries k q is))
-      | false ↦ λ is. others t name ∙ ap (λ b. if b then [] else rdata_at old t name) is ∙ sym (append-nil (rdata_at old t name))
+      | false ↦ λ is. others t name is ∙ sym (append-nil (rdata_at old t name))
     ] refl
     ∙ ap (λ b. rdata_at old t name ++ (if b then rdata.now ∷ [] else [])) (same_key_equiv.symm k q)
+
+-- one RDATA alone appears first
+pub alone : (xs : List (Bor (List ℕ))) → length xs < 2 → map (λ r. r.now) xs ≡ first_appearances bytes_eq (map (λ r. r.now) xs)
+alone [] few = refl
+alone (x ∷ []) few = refl
+alone (x ∷ y ∷ xs) few = absurd (omega arith)
 
 abbrev octets_cmp : Bor (List ℕ) → Bor (List ℕ) → Ordering
 octets_cmp a b = slice_cmp nat_cmp a.now b.now

@@ -24,9 +24,13 @@ pub fn add<'a>(
     ensures { OnOk result ((t : ℕ) (name : Labels) → rdata_at by_rrset.new t name ≡ rdata_at by_rrset.old t name
         ++ (if t == rtype.0 && same_name name owner.now then rdata.now ∷ [] else [])) }
 {
-    let mut received = taken(alloc, by_rrset, rtype, owner);
-    received.push(rdata)?;
-    by_rrset.insert((rtype, ByWire(owner)), received)?;
+    let mut first = Vec::new(alloc);
+    first.push(rdata)?;
+    // Mostly nothing is there, and one search does.
+    if let Some(mut received) = by_rrset.insert((rtype, ByWire(owner)), first)? {
+        received.push(rdata)?;
+        by_rrset.insert((rtype, ByWire(owner)), received)?;
+    }
     Ok(())
 }
 
@@ -63,6 +67,9 @@ pub fn distinct<'a>(
     let Some(received) = by_rrset.get(&(rtype, ByWire(owner))) else {
         return Ok(distinct);
     };
+    if received.len() < 2 {
+        return Ok(Vec::from_slice(alloc, received)?);
+    }
     let mut seen = BTreeSet::new(alloc);
     for rdata in received {
         if seen.insert(*rdata)? {

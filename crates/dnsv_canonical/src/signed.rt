@@ -9,7 +9,7 @@ ghost use Rattle.dnsv_canonical.specs.SignedData.{signed_label_count, signed_fro
 use crate::canonical::canonical_rdata;
 use crate::form::{canonical_forms, slices};
 use dnsv_message::Class;
-use dnsv_names::{ASTERISK_LABEL, Name, RecordType};
+use dnsv_names::{ASTERISK_LABEL, Name, RecordType, WIRE_LIMIT};
 use dnsv_records::Rrsig;
 use std::alloc::{AllocError, Global};
 
@@ -69,7 +69,8 @@ pub fn is_expanded(owner: &Name, rrsig: &Rrsig) -> bool
 fn front_octets(alloc: Global, rrsig: &Rrsig) -> Result<Vec<u8>, AllocError>
     ensures { IfOk result (λ octets. octets.items ≡ signed_front rrsig.now) }
 {
-    let mut octets = Vec::new(alloc);
+    // The octets before the signer, and a signer.
+    let mut octets = Vec::with_capacity(alloc, 18 + WIRE_LIMIT)?;
     octets.extend_from_slice(&rrsig.type_covered.0.to_be_bytes())?;
     octets.push(rrsig.algorithm.0)?;
     octets.push(rrsig.labels)?;
@@ -117,7 +118,8 @@ fn owner_octets(alloc: Global, owner: &Name, labels: usize) -> Result<Vec<u8>, A
     requires { labels ≤ signed_label_count owner.now }
     ensures { IfOk result (λ octets. octets.items ≡ wire (signed_owner owner.now labels)) }
 {
-    let mut octets = Vec::new(alloc);
+    // An owner, and what stands between it and the RDATA's length.
+    let mut octets = Vec::with_capacity(alloc, WIRE_LIMIT + 8)?;
     if labels < signed_label_count(owner) {
         octets.extend_from_slice(&ASTERISK_LABEL)?;
         octets.extend_from_slice(owner.suffix(labels).to_lower().wire())?;

@@ -1,9 +1,9 @@
-use Rattle.std.proofs.Common.{List, ℕ, Bor, sym, ap, ◌∙◌, arith, map}
+use Rattle.std.proofs.Common.{List, ℕ, Bor, length, sym, ap, ◌∙◌, arith, map}
 use Rattle.std.proofs.lemmas.List.{take_all}
 use Rattle.std.specs.Option.{option_copied}
 use Rattle.dnsv_canonical.specs.Rrsets.{first_appearances}
 use Rattle.std.specs.Str.{bytes_eq}
-use Rattle.dnsv_canonical.proofs.ByRrsetLemmas.{rdata_found, octets_of, seen_more, once_more, no_more}
+use Rattle.dnsv_canonical.proofs.ByRrsetLemmas.{alone, rdata_found, octets_of, seen_more, once_more, no_more}
 use Rattle.dnsv_canonical.proofs.by_rrset.distinct.Goals as goal
 use Rattle.dnsv_canonical.proofs.by_rrset.distinct.Goals.{then-branch+in_ok-push, else-branch}
 
@@ -11,6 +11,13 @@ pub returns-in_default-clause-once : goal.returns-in_default-clause-once
 returns-in_default-clause-once c =
     ap (map (λ r. r.now)) c.new-distinct.ensures.items
     ∙ ap (first_appearances bytes_eq) (ap (λ o. octets_of (option_copied o)) (sym c.in_default.is) ∙ ap octets_of c.get.ensures.value ∙ rdata_found c.args.by_rrset.now (c.args.rtype, record { 0 = c.args.owner }))
+
+pub returns-then-len-lt2-clause-once : goal.returns-then-len-lt2-clause-once
+returns-then-len-lt2-clause-once c =
+    let items = c.in_ok-from_slice.ensures.items ∙ c.deref.ensures.value in
+    alone c.in_ok-from_slice.field-0.items (omega (arith, ap length items, c.if-len-lt2.true, c.len.ensures))
+    ∙ ap (λ xs. first_appearances bytes_eq (map (λ r. r.now) xs)) items
+    ∙ ap (first_appearances bytes_eq) (ap (λ o. octets_of (option_copied o)) (sym c.in-Some.is) ∙ ap octets_of c.get.ensures.value ∙ rdata_found c.args.by_rrset.now (c.args.rtype, record { 0 = c.args.owner }))
 
 pub loop-rdata-preserved : goal.loop-rdata-preserved
 loop-rdata-preserved c =
