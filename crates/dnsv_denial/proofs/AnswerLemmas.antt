@@ -1,12 +1,11 @@
 -- Each question has an answer: what a lookup asks for can be decided.
-use Rattle.std.proofs.Common.{◌≡◌, ◌≢◌, ℕ, zero, suc, ◌<◌, ◌≤◌, ◌⊎◌, Bool, true, false, IsTrue, List, [], ◌∷◌, length, refl, sym, inl, inr, ⊎_elim, arith, subst}
+use Rattle.std.proofs.Common.{◌≡◌, ◌≢◌, ℕ, zero, suc, ◌<◌, ◌≤◌, ◌⊎◌, Bool, IsTrue, List, [], ◌∷◌, length, sym, inl, inr, ⊎_elim, arith, subst}
 use Rattle.std.proofs.lemmas.Bool.Decides.{Decides-eqb}
 use Rattle.std.specs.Prelude.{nat_eq}
-use Rattle.std.specs.Bool.{Decides}
 use Rattle.dnsv_names.specs.Name.{Labels, SameName, IsAtOrBelow, rightmost}
 use Rattle.dnsv_names.specs.Order.{IsBelow}
 use Rattle.dnsv_names.specs.Tree.{wildcard_of}
-use Rattle.dnsv_names.specs.TreeLaws.{same_at_or_below, at_or_below_length, below_trans_at, at_or_below_or_not, same_or_not}
+use Rattle.dnsv_names.specs.TreeLaws.{same_at_or_below, at_or_below_length, below_trans_at, decided, at_or_below_or_not, below_or_not, same_or_not}
 use Rattle.dnsv_names.specs.AncestorLaws.{rightmost_all, rightmost_same}
 use Rattle.dnsv_denial.specs.TypeNumbers.{ns, cname, soa, dname, ds}
 use Rattle.dnsv_denial.specs.Any.{Any}
@@ -22,10 +21,6 @@ use Rattle.dnsv_denial.proofs.ZoneLemmas.{closed_respects, closed_owner, apex_no
 -- a fact or its opposite
 abbrev pub Decided : Type 0 → Type 0
 Decided P = P ⊎ ¬ P
-
-pub decided : {P : Type 0} (test : Bool) → Decides test P → Decided P
-decided true d = inl (d.0 refl)
-decided false d = inr (λ p. let yes = d.1 p in cc)
 
 both : {P Q : Type 0} → Decided P → Decided Q → Decided (P × Q)
 both {P} {Q} (inl p) (inl q) = inl (p, q)
@@ -44,13 +39,6 @@ any_decided P each (x ∷ xs) =
 
 number_decided : (m n : ℕ) → Decided (m ≡ n)
 number_decided m n = decided (nat_eq m n) (Decides-eqb m n)
-
-below_decided : (name above : Labels) → Decided (IsBelow name above)
-below_decided name above =
-    ⊎_elim (λ (under : IsAtOrBelow name above).
-    ⊎_elim (λ (same : SameName name above). inr (λ below. below.1 same)) (λ (other : ¬ SameName name above). inl (under, other)) (same_or_not name above))
-    (λ (apart : ¬ IsAtOrBelow name above). inr (λ below. apart below.0))
-    (at_or_below_or_not name above)
 
 bit_decided : (bit : Bool) → Decided (IsTrue bit)
 bit_decided bit = decided bit (λ yes. yes, λ yes. yes)
@@ -113,7 +101,7 @@ end_above_decided zone name =
       closed_respects zone end.cut each.owner (sym same) end.closed,
     ))
     (closed_owner zone end.cut end.closed).entry)))
-    (any_decided (λ each. IsBelow name each.owner × IsClosedAt zone each.owner) (λ each. both (below_decided name each.owner) (closed_decided zone each.owner)) zone.entries)
+    (any_decided (λ each. IsBelow name each.owner × IsClosedAt zone each.owner) (λ each. both (below_or_not name each.owner) (closed_decided zone each.owner)) zone.entries)
 
 -- the most of a name's rightmost labels that are such, where the name itself isn't
 pub record Longest (P : Labels → Type 0) (name : Labels) : Type 0 where

@@ -12,7 +12,7 @@ use Rattle.dnsv_names.specs.Tree.{wildcard_of}
 use Rattle.dnsv_names.specs.Circle.{Gap, has, IsSuccessor}
 use Rattle.dnsv_names.specs.KeyLaws.{label_cmp_exact}
 use Rattle.dnsv_names.specs.CircleLaws.{lies_in_a_gap_among}
-use Rattle.dnsv_names.specs.TreeLaws.{same_at_or_below, at_or_below_trans, at_or_below_length, same_or_not, at_or_below_or_not}
+use Rattle.dnsv_names.specs.TreeLaws.{same_at_or_below, at_or_below_trans, at_or_below_length, same_or_not, at_or_below_or_not, decided}
 use Rattle.dnsv_names.specs.AncestorLaws.{rightmost_above, rightmost_below, rightmost_same, rightmost_length, rightmost_rightmost, rightmost_in_line}
 use Rattle.dnsv_denial.specs.TypeNumbers.{ns, cname, soa, ds, rrsig, nsec}
 use Rattle.dnsv_denial.specs.Any.{Any}
@@ -31,7 +31,7 @@ use Rattle.dnsv_denial.specs.Forms.{IsAbove, EndsAt, NoNameForm, NoDataForm, NoD
 use Rattle.dnsv_denial.proofs.AnyLemmas.{any_map, found, any_both}
 use Rattle.dnsv_denial.proofs.ZoneLemmas.{holds_owner, holds_respects, owner_node, apex_node, node_above, node_not_below, node_respects, closest, name_no_node}
 use Rattle.dnsv_denial.proofs.LookupLemmas.{one_encloser, open_above_here}
-use Rattle.dnsv_denial.proofs.AnswerLemmas.{Decided, decided, any_decided, Longest, longest_part}
+use Rattle.dnsv_denial.proofs.AnswerLemmas.{Decided, any_decided, Longest, longest_part}
 use Rattle.dnsv_denial.proofs.MeaningLemmas.{no_name, any_no_data}
 use Rattle.dnsv_denial.proofs.Nsec3Truth.{matched, firm_no_node, nsec3_true}
 use Rattle.dnsv_denial.proofs.BitmapLemmas.{plain_type, bits_closed, denies_bits, may_deny_here, may_deny_wildcard}

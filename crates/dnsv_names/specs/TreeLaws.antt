@@ -156,7 +156,8 @@ never_both : (x y : Labels) → IsBefore x y → IsBefore y x → ⊥
 never_both x y p q =
     let back = canonical_cmp_total.antisymm x y in let turned : ordering_reverse (canonical_cmp y x) ≡ Greater = ap ordering_reverse q in cc
 
-decided : {P : Type 0} (test : Bool) → Decides test P → P ⊎ ¬ P
+-- a test that decides a fact leads to the fact or its opposite
+pub decided : {P : Type 0} (test : Bool) → Decides test P → P ⊎ ¬ P
 decided true decides = inl (decides.0 refl)
 decided false decides = inr (λ p. let yes = decides.1 p in cc)
 
@@ -171,6 +172,14 @@ at_or_below_or_not name above = decided (is_at_or_below name above) (is_at_or_be
 
 pub same_or_not : (a b : Labels) → SameName a b ⊎ ¬ SameName a b
 same_or_not a b = decided (same_name a b) (same_name_Decides a b)
+
+pub below_or_not : (name above : Labels) → IsBelow name above ⊎ ¬ IsBelow name above
+below_or_not name above =
+    ⊎_elim (λ (same : SameName name above). inr (λ below. below.1 same))
+    (λ (other : ¬ SameName name above).
+    ⊎_elim (λ (under : IsAtOrBelow name above). inl (under, other))
+    (λ (apart : ¬ IsAtOrBelow name above). inr (λ below. apart below.0)) (at_or_below_or_not name above))
+    (same_or_not name above)
 
 -- no name comes between two that are at or below a third and isn't there too
 pub interval : (above x y z : Labels) → IsAtOrBelow x above → IsAtOrBelow z above → IsBefore x y → IsBefore y z
