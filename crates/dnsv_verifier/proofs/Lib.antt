@@ -1,0 +1,4 @@
+pub mod AnswerLemmas
+pub mod PanelLemmas
+pub mod StatementLemmas
+pub mod StatementsLemmas

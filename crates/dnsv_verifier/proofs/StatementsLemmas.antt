@@ -1,0 +1,147 @@
+-- Reading a file of statements, line by line.
+use Rattle.std.proofs.Common.{◌≡◌, ◌≢◌, ℕ, List, [], ◌∷◌, ◌++◌, refl, sym, ap, ◌∙◌, subst, append_assoc, arith, Bool, true, false, cond, Option, Some, None, ◌⊎◌, inl, inr, ⊎_elim}
+use Rattle.std.proofs.lemmas.Cmp.{tied_itself}
+use Rattle.std.proofs.lemmas.List.{append-nil}
+use Rattle.std.proofs.lemmas.List.Elements.{Contains-push, Contains-push_cases, Contains-append_left}
+use Rattle.std.specs.BTreeMap.{BTreeMap, get}
+use Rattle.std.specs.List.{Contains}
+use Rattle.std.specs.Map.{lookup}
+use Rattle.std.specs.Ordering.{is_eq}
+use Rattle.std.specs.declared.cmp.Ordering.{Ordering}
+use Rattle.std.specs.declared.cmp.Ordering.TheVariants.{Less, Equal, Greater}
+use Rattle.dnsv_names.specs.Lines.{HasLines, NumberedLine}
+use Rattle.dnsv_verifier.specs.Entry.{entry_cmp}
+use Rattle.dnsv_verifier.specs.EntryLaws.{entry_cmp_total, entry_Equal}
+use Rattle.dnsv_verifier.specs.Statements.{States, AreStatements, Agree, AreStatementsOf, IsFaultOf, IsFaultOfLine, IsSaid, answer_by, listed_answer, other_word}
+use Rattle.dnsv_verifier.specs.StatementsReading.{AddsStatement, RefusesLine, said_in}
+use Rattle.dnsv_verifier.specs.declared.answer.Answer.{Answer}
+use Rattle.dnsv_verifier.specs.declared.answer.Answer.TheVariants.{Valid, Invalid, Unknown}
+use Rattle.dnsv_verifier.specs.declared.entry.Entry.{Entry}
+use Rattle.dnsv_verifier.specs.declared.statement.Word.{Word}
+use Rattle.dnsv_verifier.specs.declared.statement.Word.TheVariants.{Good, Bad}
+use Rattle.dnsv_verifier.specs.declared.statements.StatementsError.{StatementsError}
+use Rattle.dnsv_verifier.specs.declared.statements.StatementsError.TheVariants.{OutOfMemory, Syntax, Contradiction}
+
+-- lines were read as statements, and a tree says just what they do
+pub record SaysSoFar (lines : List NumberedLine) (said : BTreeMap Entry Word) : Type 0 where
+  pub statements : List (Entry × Word)
+  pub each : AreStatements lines statements
+  pub found : (entry : Entry) (word : Word) → said_in said entry ≡ Some word → Contains statements (entry, word)
+  pub kept : (entry : Entry) (word : Word) → Contains statements (entry, word) → said_in said entry ≡ Some word
+
+words_differ : Good ≡ Bad → ⊥
+words_differ e = cc
+
+pub says_agree : {lines : List NumberedLine} {said : BTreeMap Entry Word} (so_far : SaysSoFar lines said) → Agree so_far.statements
+says_agree {lines} {said} so_far entry good bad =
+    let first = so_far.kept entry Good good in
+    let second = so_far.kept entry Bad bad in
+    words_differ (cc)
+
+pub says_none : (said : BTreeMap Entry Word) → said.entries ≡ [] → SaysSoFar [] said
+says_none said empty =
+    let none : (entry : Entry) → said_in said entry ≡ None =
+    λ entry. ap (λ (entries : List (Entry × Word)). lookup (λ each. is_eq (entry_cmp entry each)) entries) empty in
+    record {
+      statements = [];
+      each = tt;
+      found = λ entry word e. let nothing = none entry in absurd (cc);
+      kept = λ entry word contains. absurd (omega (arith, contains.1));
+    }
+
+are_more : (lines : List NumberedLine) (statements : List (Entry × Word)) (line : NumberedLine) (entry : Entry) (word : Word) → AreStatements lines statements → States line.octets entry word → AreStatements (lines ++ line ∷ []) (statements ++ (entry, word) ∷ [])
+are_more [] [] line entry word each states = (states, tt)
+are_more [] (s ∷ statements) line entry word each states = absurd each
+are_more (l ∷ lines) [] line entry word each states = absurd each
+are_more (l ∷ lines) (s ∷ statements) line entry word each states = (each.0, are_more lines statements line entry word each.1 states)
+
+is_eq_is : (o : Ordering) → is_eq o ≡ true → o ≡ Equal
+is_eq_is Equal e = refl
+is_eq_is Less e = cc
+is_eq_is Greater e = cc
+
+same_word : (a b : Word) → (a ≡ other_word b → ⊥) → a ≡ b
+same_word Good Good apart = refl
+same_word Good Bad apart = absurd (apart refl)
+same_word Bad Good apart = absurd (apart refl)
+same_word Bad Bad apart = refl
+
+module _ {lines : List NumberedLine} {old new : BTreeMap Entry Word} (line : NumberedLine) (so_far : SaysSoFar lines old) (adds : AddsStatement line.octets old new) where
+  found_by : (entry : Entry) (word : Word) (b : Bool) → is_eq (entry_cmp adds.entry entry) ≡ b → cond b (Some adds.word) (said_in old entry) ≡ Some word → Contains (so_far.statements ++ (adds.entry, adds.word) ∷ []) (entry, word)
+  found_by entry word true tied e =
+      let first : adds.entry ≡ entry = entry_Equal adds.entry entry (is_eq_is (entry_cmp adds.entry entry) tied) in
+      let second : adds.word ≡ word = cc in
+      let both : (adds.entry, adds.word) ≡ (entry, word) = λ i. (first i, second i) in
+      let P : Entry × Word → Type 0 = λ pair. Contains (so_far.statements ++ (adds.entry, adds.word) ∷ []) pair in
+      subst P both (Contains-push so_far.statements (adds.entry, adds.word))
+  found_by entry word false apart e = Contains-append_left so_far.statements _ (entry, word) (so_far.found entry word e)
+
+  old_kept : (entry : Entry) (word : Word) (b : Bool) → is_eq (entry_cmp adds.entry entry) ≡ b → Contains so_far.statements (entry, word) → cond b (Some adds.word) (said_in old entry) ≡ Some word
+  old_kept entry word true tied contains =
+      let same : adds.entry ≡ entry = entry_Equal adds.entry entry (is_eq_is (entry_cmp adds.entry entry) tied) in
+      let was : said_in old entry ≡ Some word = so_far.kept entry word contains in
+      ap Some (sym (same_word word adds.word (λ other. adds.free (ap (said_in old) same ∙ was ∙ ap Some other))))
+  old_kept entry word false apart contains = so_far.kept entry word contains
+
+  new_kept : (entry : Entry) (word : Word) (b : Bool) → is_eq (entry_cmp adds.entry entry) ≡ b → ◌≡◌ {A = Entry × Word} (adds.entry, adds.word) (entry, word) → cond b (Some adds.word) (said_in old entry) ≡ Some word
+  new_kept entry word true tied same = ap (λ (pair : Entry × Word). Some pair.1) same
+  new_kept entry word false apart same =
+      let itself : is_eq (entry_cmp adds.entry adds.entry) ≡ true = ap is_eq (tied_itself entry_cmp_total adds.entry) in
+      let moved : is_eq (entry_cmp adds.entry adds.entry) ≡ is_eq (entry_cmp adds.entry entry) = ap (λ (pair : Entry × Word). is_eq (entry_cmp adds.entry pair.0)) same in
+      absurd (cc)
+
+  kept_by : (entry : Entry) (word : Word) (b : Bool) → is_eq (entry_cmp adds.entry entry) ≡ b → Contains (so_far.statements ++ (adds.entry, adds.word) ∷ []) (entry, word) → cond b (Some adds.word) (said_in old entry) ≡ Some word
+  kept_by entry word b which contains =
+      elim (Contains-push_cases so_far.statements (adds.entry, adds.word) (entry, word) contains) [
+        | inl before ↦ old_kept entry word b which before
+        | inr same ↦ new_kept entry word b which same
+      ]
+
+  pub says_more : SaysSoFar (lines ++ line ∷ []) new
+  says_more =
+      record {
+        statements = so_far.statements ++ (adds.entry, adds.word) ∷ [];
+        each = are_more lines so_far.statements line adds.entry adds.word so_far.each adds.states;
+        found = λ entry word e. found_by entry word (is_eq (entry_cmp adds.entry entry)) refl (sym (adds.updates entry) ∙ e);
+        kept = λ entry word contains. adds.updates entry ∙ kept_by entry word (is_eq (entry_cmp adds.entry entry)) refl contains;
+      }
+
+-- the first fault
+pub fault_of : (text : List ℕ) (before : List NumberedLine) (line : NumberedLine) (after : List NumberedLine) (said : BTreeMap Entry Word) (error : StatementsError) → HasLines text (before ++ line ∷ after) → SaysSoFar before said → RefusesLine error line said → (error ≡ OutOfMemory) ⊎ IsFaultOf text error
+fault_of text before line after said OutOfMemory has so_far refuses = inl refl
+fault_of text before line after said (Syntax number) has so_far refuses =
+    inr record { before = before; line = line; after = after; has = has; statements = so_far.statements; each = so_far.each; agree = says_agree so_far; there = refuses }
+fault_of text before line after said (Contradiction number) has so_far refuses =
+    inr record { before = before; line = line; after = after; has = has; statements = so_far.statements; each = so_far.each; agree = says_agree so_far; there = (refuses.0, (refuses.1.0, refuses.1.1, refuses.1.2, so_far.found refuses.1.0 (other_word refuses.1.1) refuses.1.3)) }
+
+said_by : (lines : List NumberedLine) (said : BTreeMap Entry Word) (so_far : SaysSoFar lines said) (entry : Entry) (found : Option Word) → said_in said entry ≡ found → IsSaid so_far.statements entry (answer_by found)
+said_by lines said so_far entry None e = λ word contains. let was = so_far.kept entry word contains in absurd (cc)
+said_by lines said so_far entry (Some Good) e = so_far.found entry Good e
+said_by lines said so_far entry (Some Bad) e = so_far.found entry Bad e
+
+-- what is listed at the end is what the file says
+pub all_said : (text : List ℕ) (lines : List NumberedLine) (said : BTreeMap Entry Word) (listed : List (Entry × Word)) → HasLines text lines → SaysSoFar lines said → listed ≡ said.entries → (statements : List (Entry × Word)) × AreStatementsOf text statements × ((entry : Entry) → IsSaid statements entry (listed_answer listed entry))
+all_said text lines said listed has so_far same = (
+  so_far.statements,
+  record { lines = lines; has = has; each = so_far.each; agree = says_agree so_far },
+  λ entry.
+      let moved : answer_by (said_in said entry) ≡ listed_answer listed entry =
+      ap (λ (entries : List (Entry × Word)). listed_answer entries entry) (sym same) in
+      let P : Answer → Type 0 = λ answer. IsSaid so_far.statements entry answer in
+      subst P moved (said_by lines said so_far entry (said_in said entry) refl),
+)
+
+pub has_more : (text : List ℕ) (read left rest : List NumberedLine) (line : NumberedLine) → left ≡ line ∷ rest → HasLines text (read ++ left) → HasLines text ((read ++ line ∷ []) ++ rest)
+has_more text read left rest line next has =
+    let P : List NumberedLine → Type 0 = λ lines. HasLines text lines in
+    subst P (ap (λ lines. read ++ lines) next ∙ sym (append_assoc read (line ∷ []) rest)) has
+
+pub has_next : (text : List ℕ) (read left rest : List NumberedLine) (line : NumberedLine) → left ≡ line ∷ rest → HasLines text (read ++ left) → HasLines text (read ++ line ∷ rest)
+has_next text read left rest line next has =
+    let P : List NumberedLine → Type 0 = λ lines. HasLines text lines in
+    subst P (ap (λ lines. read ++ lines) next) has
+
+pub has_all : (text : List ℕ) (read left : List NumberedLine) → left ≡ [] → HasLines text (read ++ left) → HasLines text read
+has_all text read left none has =
+    let P : List NumberedLine → Type 0 = λ lines. HasLines text lines in
+    subst P (ap (λ lines. read ++ lines) none ∙ append-nil read) has

@@ -1,0 +1,26 @@
+use Rattle.std.proofs.Common.{◌≡◌, sym, ◌∙◌, rules}
+use Rattle.std.proofs.lemmas.Result.{err_from_is_err_and}
+use Rattle.dnsv_verifier.proofs.StatementsLemmas.{says_none, says_more, has_more, has_next, has_all, fault_of, all_said}
+use Rattle.dnsv_verifier.proofs.statements.Statements.parse.Goals as goal
+
+pub loop-line-init : goal.loop-line-init
+loop-line-init c =
+    record { has = rw c.into_iter-line-iterator.ensures.into_iter_gives c.new-line-items.ensures; says = says_none _ c.new-said.ensures.empty }
+
+pub loop-line-preserved : goal.loop-line-preserved
+loop-line-preserved c =
+    record {
+      has = has_more c.args.text.now c.loop-line.yielded _ _ c.in-Some.line c.in-Some.ensures.steps c.loop-line.invariant.has;
+      says = says_more c.in-Some.line c.loop-line.invariant.says c.in_ok-add.ensures.adds;
+    }
+
+pub returns-in_err-add-clause-fault : goal.returns-in_err-add-clause-fault
+returns-in_err-add-clause-fault c =
+    let p = err_from_is_err_and c.from_residual.result c.from_residual.ensures.1 in
+    rw (p.1, p.2)
+    (fault_of c.args.text.now c.loop-line.yielded c.in-Some.line c.next.new.self c.loop-line.said _ (has_next c.args.text.now c.loop-line.yielded _ _ c.in-Some.line c.in-Some.ensures.steps c.loop-line.invariant.has) c.loop-line.invariant.says c.in_err-add.ensures.refuses)
+
+pub returns-clause-found : goal.returns-clause-found
+returns-clause-found c =
+    let same : c.in_ok-collect.field-0.items ≡ c.loop-line.said.entries = search rules in
+    all_said c.args.text.now c.loop-line.yielded c.loop-line.said c.in_ok-collect.field-0.items (has_all c.args.text.now c.loop-line.yielded _ c.in-None.ensures.steps.0 c.loop-line.invariant.has) c.loop-line.invariant.says same

@@ -1,0 +1,11 @@
+use Rattle.dnsv_verifier.specs.StatementsLaws.{AreStatementsOf-only, AreStatementsOf-no_fault, IsFaultOf-only}
+use Rattle.dnsv_verifier.proofs.statements.a_text_is_one_list_of_statements.Goals as goal
+
+pub returns-clause-statements : goal.returns-clause-statements
+returns-clause-statements c = AreStatementsOf-only
+
+pub returns-clause-fault : goal.returns-clause-fault
+returns-clause-fault c = IsFaultOf-only
+
+pub returns-clause-apart : goal.returns-clause-apart
+returns-clause-apart c = AreStatementsOf-no_fault

@@ -1,0 +1,37 @@
+-- How statements are read. No public clause cites this module.
+use Rattle.std.specs.Prelude.{◌≡◌, ◌≢◌, ℕ, List, Option, Some, None, codes, if◌then◌else◌}
+use Rattle.std.specs.BTreeMap.{BTreeMap, get}
+use Rattle.std.specs.Ordering.{is_eq}
+use Rattle.std.specs.Str.{bytes_eq}
+use Rattle.dnsv_names.specs.Lines.{NumberedLine}
+use Rattle.dnsv_verifier.specs.Entry.{entry_cmp}
+use Rattle.dnsv_verifier.specs.Statements.{States, other_word}
+use Rattle.dnsv_verifier.specs.declared.entry.Entry.{Entry}
+use Rattle.dnsv_verifier.specs.declared.statements.StatementsError.{StatementsError}
+use Rattle.dnsv_verifier.specs.declared.statements.StatementsError.TheVariants.{OutOfMemory, Syntax, Contradiction}
+use Rattle.dnsv_verifier.specs.declared.statement.Word.{Word}
+use Rattle.dnsv_verifier.specs.declared.statement.Word.TheVariants.{Good, Bad}
+
+-- the word that a field is
+abbrev pub word_of : List ℕ → Option Word
+word_of field = if bytes_eq field (codes "good") then Some Good else (if bytes_eq field (codes "bad") then Some Bad else None)
+
+-- what a tree says of an entry
+abbrev pub said_in : BTreeMap Entry Word → Entry → Option Word
+said_in said entry = get entry_cmp said entry
+
+-- a line adds its statement, which nothing said before contradicts
+pub record AddsStatement (line : List ℕ) (old new : BTreeMap Entry Word) : Type 0 where
+  pub entry : Entry
+  pub word : Word
+  pub states : States line entry word
+  pub free : said_in old entry ≢ Some (other_word word)
+  pub updates : (each : Entry) → said_in new each ≡ (if is_eq (entry_cmp entry each) then Some word else said_in old each)
+
+-- what is wrong with a line behind what was said
+abbrev pub RefusesLine : StatementsError → NumberedLine → BTreeMap Entry Word → Type 0
+RefusesLine OutOfMemory line said = Unit {0}
+RefusesLine (Syntax number) line said =
+    (number ≡ line.number) × ((entry : Entry) (word : Word) → States line.octets entry word → ⊥)
+RefusesLine (Contradiction number) line said =
+    (number ≡ line.number) × ((entry : Entry) × (word : Word) × States line.octets entry word × (said_in said entry ≡ Some (other_word word)))

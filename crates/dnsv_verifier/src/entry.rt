@@ -1,0 +1,103 @@
+//! What a verifier is asked.
+ghost use Rattle.std.specs.Prelude.{◌≡◌, refl};
+ghost use Rattle.std.specs.Cmp.{partial_equiv_from_equiv, partial_order_from_agreeing_total};
+ghost use Rattle.std.specs.Ordering.{as_partial_cmp, eq_by_cmp};
+ghost use Rattle.std.proofs.lemmas.Cmp.{eq_by_cmp_equiv};
+
+use dnsv_records::{Algorithm, Octets};
+use std::cmp::Ordering;
+
+/// The four values that a signature is verified by (RFC 4035 5.3.3). Entries are ordered by algorithm, key,
+/// signed data and signature, octets as unsigned numbers.
+#[derive(Debug, Drop)]
+pub struct Entry {
+    /// The number of the algorithm (RFC 4034 A.1).
+    pub algorithm: Algorithm,
+    /// The public key, as the field of a DNSKEY record has it (RFC 4034 2.1.4).
+    pub key: Octets,
+    /// The octets that are signed (RFC 4034 3.1.8.1).
+    pub signed_data: Octets,
+    /// The signature, as the field of an RRSIG record has it (RFC 4034 3.1.8).
+    pub signature: Octets,
+}
+
+impl Entry {
+    ghost use Rattle.dnsv_verifier.specs.Entry.{entry_cmp};
+
+    /// How the entry of these four values stands to this one.
+    pub(crate) fn compared(
+        &self,
+        algorithm: Algorithm,
+        key: &[u8],
+        signed_data: &[u8],
+        signature: &[u8],
+    ) -> Ordering
+        ensures { result ≡ entry_cmp (record {
+          algorithm = algorithm;
+          key = key.now;
+          signed_data = signed_data.now;
+          signature = signature.now;
+        }) self.now }
+    {
+        algorithm
+            .0
+            .cmp(&self.algorithm.0)
+            .then_with(|| key.cmp(self.key.as_slice()))
+            .then_with(|| signed_data.cmp(self.signed_data.as_slice()))
+            .then_with(|| signature.cmp(self.signature.as_slice()))
+    }
+}
+
+impl Ord for Entry {
+    ghost use Rattle.dnsv_verifier.specs.Entry.{entry_cmp};
+    ghost use Rattle.dnsv_verifier.specs.EntryLaws.{entry_cmp_total};
+
+    ghost cmp = { entry_cmp };
+
+    ghost total = { entry_cmp_total };
+
+    ghost matches_partial_cmp = { λ a b. refl };
+
+    ghost matches_eq = { λ a b. refl };
+
+    fn cmp(&self, other: &Entry) -> Ordering {
+        self.algorithm
+            .0
+            .cmp(&other.algorithm.0)
+            .then_with(|| self.key.cmp(&other.key))
+            .then_with(|| self.signed_data.cmp(&other.signed_data))
+            .then_with(|| self.signature.cmp(&other.signature))
+    }
+}
+
+impl PartialOrd for Entry {
+    ghost use Rattle.dnsv_verifier.specs.Entry.{entry_cmp};
+    ghost use Rattle.dnsv_verifier.specs.EntryLaws.{entry_cmp_total};
+
+    ghost partial_cmp = { as_partial_cmp entry_cmp };
+
+    ghost laws = { partial_order_from_agreeing_total entry_cmp entry_cmp_total (λ a b. refl) (λ a b. refl) };
+
+    fn partial_cmp(&self, other: &Entry) -> Option<Ordering> {
+        Some(self.cmp(other))
+    }
+}
+
+impl PartialEq for Entry {
+    ghost use Rattle.dnsv_verifier.specs.Entry.{entry_cmp};
+    ghost use Rattle.dnsv_verifier.specs.EntryLaws.{entry_cmp_total};
+
+    ghost eq = { eq_by_cmp entry_cmp };
+
+    ghost laws = { partial_equiv_from_equiv (eq_by_cmp_equiv entry_cmp_total) };
+
+    fn eq(&self, other: &Entry) -> bool {
+        self.cmp(other) == Ordering::Equal
+    }
+}
+
+impl Eq for Entry {
+    ghost use Rattle.dnsv_verifier.specs.EntryLaws.{entry_cmp_total};
+
+    ghost laws = { eq_by_cmp_equiv entry_cmp_total };
+}

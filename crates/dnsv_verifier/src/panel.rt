@@ -1,0 +1,117 @@
+//! Several verifiers as one.
+ghost use Rattle.std.specs.Prelude.{◌≡◌, map};
+ghost use Rattle.dnsv_verifier.specs.Panel.{joint_answer};
+ghost use Rattle.dnsv_verifier.specs.declared.entry.Entry.{Entry};
+
+use crate::answer::Answer;
+use crate::verifier::Verifier;
+use dnsv_records::Algorithm;
+
+/// Verifiers that are asked together.
+#[derive(Drop)]
+pub struct Panel {
+    /// The members, which are all asked.
+    pub members: Vec<Box<dyn Verifier>>,
+}
+
+impl Panel {
+    /// A panel of these members.
+    pub fn new(members: Vec<Box<dyn Verifier>>) -> Panel
+        ensures { result.members.items ≡ members.items }
+    {
+        Panel { members }
+    }
+}
+
+impl Verifier for Panel {
+    ghost meaning = { λ panel entry. joint_answer (map (λ member. (Verifier-box member).meaning member.value entry) panel.members.items) };
+
+    fn answer(
+        &self,
+        algorithm: Algorithm,
+        key: &[u8],
+        signed_data: &[u8],
+        signature: &[u8],
+    ) -> Answer {
+        let mut joint = Answer::Unknown;
+        for member in &self.members {
+            joint = joint.joined(answer_of(member, algorithm, key, signed_data, signature));
+        }
+        joint
+    }
+}
+
+/// What one member says.
+fn answer_of(
+    member: &Box<dyn Verifier>,
+    algorithm: Algorithm,
+    key: &[u8],
+    signed_data: &[u8],
+    signature: &[u8],
+) -> Answer
+    ensures { result ≡ meaning member.now (record {
+      algorithm = algorithm;
+      key = key.now;
+      signed_data = signed_data.now;
+      signature = signature.now;
+    }) }
+{
+    member.answer(algorithm, key, signed_data, signature)
+}
+
+#[cfg(test)]
+mod tests {
+    use super::*;
+    use std::test::Fail;
+
+    /// Says the same of every entry.
+    #[derive(Drop)]
+    struct Always(Answer);
+
+    impl Verifier for Always {
+        ghost meaning = { λ always entry. always.0 };
+
+        fn answer(
+            &self,
+            _algorithm: Algorithm,
+            _key: &[u8],
+            _signed_data: &[u8],
+            _signature: &[u8],
+        ) -> Answer {
+            self.0
+        }
+    }
+
+    #[test]
+    fn invalid_beats_valid_and_valid_beats_unknown(rt: HostRuntime) -> Result<(), Fail> {
+        let mut members: Vec<Box<dyn Verifier>> = Vec::new(rt.alloc());
+        members.push(Box::new(rt.alloc(), Always(Answer::Unknown))?)?;
+        members.push(Box::new(rt.alloc(), Always(Answer::Valid))?)?;
+        members.push(Box::new(rt.alloc(), Always(Answer::Unknown))?)?;
+        let panel = Panel::new(members);
+        assert_eq!(rt;
+            panel.answer(Algorithm(13), b"\x01", b"\x02", b"\x03"),
+            Answer::Valid
+        );
+
+        let mut members: Vec<Box<dyn Verifier>> = Vec::new(rt.alloc());
+        members.push(Box::new(rt.alloc(), Always(Answer::Valid))?)?;
+        members.push(Box::new(rt.alloc(), Always(Answer::Unknown))?)?;
+        members.push(Box::new(rt.alloc(), Always(Answer::Invalid))?)?;
+        let panel = Panel::new(members);
+        assert_eq!(rt;
+            panel.answer(Algorithm(13), b"\x01", b"\x02", b"\x03"),
+            Answer::Invalid
+        );
+        Ok(())
+    }
+
+    #[test]
+    fn nobody_knows_nothing(rt: HostRuntime) {
+        let panel = Panel::new(Vec::new(rt.alloc()));
+        assert_eq!(rt;
+            panel.answer(Algorithm(13), b"\x01", b"\x02", b"\x03"),
+            Answer::Unknown
+        );
+    }
+}

@@ -1,0 +1,160 @@
+//! Files of statements.
+ghost use Rattle.std.specs.Prelude.{◌≡◌, ◌⊎◌, ℕ, List, Vec, IfOk, IfErr, OnOk};
+ghost use Rattle.dnsv_verifier.specs.Statements.{AreStatementsOf, IsFaultOf, IsSaid, listed_answer};
+ghost use Rattle.dnsv_verifier.specs.StatementsReading.{AddsStatement, RefusesLine};
+ghost use Rattle.dnsv_verifier.specs.declared.entry.Entry.{Entry};
+ghost use Rattle.dnsv_verifier.specs.declared.statement.Word.{Word};
+ghost use Rattle.dnsv_verifier.specs.declared.statements.StatementsError.{StatementsError};
+
+use crate::answer::Answer;
+use crate::entry::Entry;
+use crate::statement::{Word, statement_of};
+use crate::verifier::Verifier;
+use dnsv_names::{Line, Lines};
+use dnsv_records::Algorithm;
+use std::alloc::{AllocError, AllocFailed, Global};
+use std::cmp::Ordering;
+use std::collections::BTreeMap;
+use std::marker::Model;
+use thiserror::Error;
+
+/// What keeps a text from being a file of statements. Each has a number that stays.
+#[derive(Clone, Copy, Debug, PartialEq, Eq, Error)]
+pub enum StatementsError {
+    /// 90: memory was refused.
+    #[error("memory was refused")]
+    OutOfMemory,
+    /// 501: the line of this number is no statement.
+    #[error("line {0} is no statement")]
+    Syntax(usize),
+    /// 502: the line of this number calls an entry good that was called bad before, or the other way round.
+    #[error("line {0} contradicts an earlier one")]
+    Contradiction(usize),
+}
+
+impl StatementsError {
+    ghost use Rattle.dnsv_verifier.specs.StatementsError.{statements_error_code};
+
+    /// The number of the error.
+    pub fn code(&self) -> u16
+        ensures { result ≡ statements_error_code self.now }
+    {
+        match self {
+            StatementsError::OutOfMemory => 90,
+            StatementsError::Syntax(_) => 501,
+            StatementsError::Contradiction(_) => 502,
+        }
+    }
+}
+
+impl From<AllocError> for StatementsError {
+    ghost use Rattle.std.specs.Prelude.{◌≡◌};
+    ghost use Rattle.dnsv_verifier.specs.declared.statements.StatementsError.TheVariants.{OutOfMemory};
+
+    ghost from_gives = { λ _ error. error ≡ OutOfMemory };
+
+    fn from(_error: AllocError) -> StatementsError {
+        StatementsError::OutOfMemory
+    }
+}
+
+impl<T: Drop> From<AllocFailed<T>> for StatementsError {
+    ghost use Rattle.std.specs.Prelude.{◌≡◌};
+    ghost use Rattle.dnsv_verifier.specs.declared.statements.StatementsError.TheVariants.{OutOfMemory};
+
+    ghost from_gives = { λ _ error. error ≡ OutOfMemory };
+
+    fn from(_refused: AllocFailed<T>) -> StatementsError {
+        StatementsError::OutOfMemory
+    }
+}
+
+/// What a file says of entries: which signatures are good and which are bad.
+#[derive(Drop)]
+pub struct Statements {
+    listed: Vec<(Entry, Word)>,
+}
+
+impl Model for Statements {
+    ghost use Rattle.std.specs.Prelude.{List};
+    ghost use Rattle.dnsv_verifier.specs.declared.entry.Entry.{Entry};
+    ghost use Rattle.dnsv_verifier.specs.declared.statement.Word.{Word};
+
+    ghost Value = { List (Entry × Word) };
+
+    ghost view = { λ statements. statements.listed.items };
+}
+
+impl Statements {
+    /// Reads a file of statements. Each line that counts is `good` or `bad`, the number of an algorithm, and the
+    /// key, the signed data and the signature in hex digits, `-` where one has no octets.
+    ///
+    /// The first line with a fault counts: `Syntax` where it is no statement, else `Contradiction` where it calls
+    /// an entry good that an earlier line called bad, or the other way round. A plain repeat is none.
+    pub fn parse(alloc: Global, text: &[u8]) -> Result<Statements, StatementsError>
+        // What is listed is what the file says.
+        ensures found { IfOk result (λ listed. (statements : List (Entry × Word))
+            × AreStatementsOf text.now statements
+            × ((entry : Entry) → IsSaid statements entry (listed_answer listed entry))) }
+        // A refusal is the first fault, unless memory was refused.
+        ensures fault { IfErr result (λ error. (error ≡ StatementsError.OutOfMemory)
+            ⊎ IsFaultOf text.now error) }
+    {
+        let mut said = BTreeMap::new(alloc);
+        for line in Lines::new(text) {
+            add(alloc, &mut said, &line)?;
+        }
+        Ok(Statements {
+            listed: said.into_iter().collect(alloc)?,
+        })
+    }
+}
+
+impl Verifier for Statements {
+    ghost meaning = { listed_answer };
+
+    fn answer(
+        &self,
+        algorithm: Algorithm,
+        key: &[u8],
+        signed_data: &[u8],
+        signature: &[u8],
+    ) -> Answer {
+        for (entry, word) in &self.listed {
+            let order = entry.compared(algorithm, key, signed_data, signature);
+            if order == Ordering::Equal {
+                return word.answer();
+            }
+        }
+        Answer::Unknown
+    }
+}
+
+/// A law of files of statements: a text is at most one list of statements, has at most one first fault, and never
+/// both.
+pub fn a_text_is_one_list_of_statements()
+    ensures statements { (text : List ℕ) (a b : List (Entry × Word)) → AreStatementsOf text a
+        → AreStatementsOf text b → a ≡ b }
+    ensures fault { (text : List ℕ) (a b : StatementsError) → IsFaultOf text a → IsFaultOf text b
+        → a ≡ b }
+    ensures apart { (text : List ℕ) (statements : List (Entry × Word)) (fault : StatementsError)
+        → AreStatementsOf text statements → IsFaultOf text fault → ⊥ }
+{}
+
+/// Adds what a line states, unless something else was said.
+fn add(alloc: Global, said: &mut BTreeMap<Entry, Word>, line: &Line) -> Result<(), StatementsError>
+    ensures adds { OnOk result (AddsStatement line.now.octets said.old said.new) }
+    ensures refuses { IfErr result (λ error. RefusesLine error line.now said.old) }
+{
+    let Some((entry, word)) = statement_of(alloc, line)? else {
+        return Err(StatementsError::Syntax(line.number()));
+    };
+    if said.get(&entry) == Some(&word.other()) {
+        return Err(StatementsError::Contradiction(line.number()));
+    }
+    said.insert(entry, word)?;
+    Ok(())
+}
+
+#[cfg(test)]
+mod tests;
