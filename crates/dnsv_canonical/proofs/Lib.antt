@@ -9,3 +9,4 @@ pub mod ParameterLemmas
 pub mod ReadableLemmas
 pub mod SignedLemmas
 pub mod WellFormedLemmas
+pub mod LawLemmas

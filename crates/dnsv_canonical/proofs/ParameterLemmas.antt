@@ -47,7 +47,7 @@ any_contains pairs pair any = Contains-from_any {eq = known} (λ x y same. sym (
 pub contains_any : (pairs : List Nsec3Parameters) (pair : Nsec3Parameters) → Contains pairs pair → list_any (λ y. nat_eq y.iterations.0 pair.iterations.0 && pointwise nat_eq y.salt pair.salt) pairs ≡ true
 contains_any pairs pair found = list_any_at (known pair) pairs found.0 pair found.1 (ap (known pair) found.2 ∙ pair_itself pair)
 
-distinct_push : {X : Type 0} (xs : List X) (x : X) → IsDistinct xs → ¬ Contains xs x → IsDistinct (xs ++ x ∷ [])
+pub distinct_push : {X : Type 0} (xs : List X) (x : X) → IsDistinct xs → ¬ Contains xs x → IsDistinct (xs ++ x ∷ [])
 distinct_push [] x distinct new = (λ found. absurd (omega (arith, found.1)), tt)
 distinct_push (y ∷ ys) x distinct new = (
   λ found. ⊎_elim (λ front. distinct.0 front) (λ last. new (0, omega arith, sym last)) (Contains-push_cases ys x y found),

@@ -3,9 +3,8 @@ ghost use Rattle.std.specs.Prelude.{◌≡◌, IfErr, List, OnErr, OnOk};
 ghost use Rattle.std.specs.List.{AllByRecursion, AllZip};
 ghost use Rattle.dnsv_message.specs.Message.{Contents, records_of};
 ghost use Rattle.dnsv_records.specs.Rrsig.{IsRrsig};
-ghost use Rattle.dnsv_canonical.specs.Evidence.{AreParameters, Evidence, IsReadable, IsReasonAgainst, IsWhole, IsWithinLimits, evidence_of, no_evidence, nsec3_rdata, signatures_at, with_message};
+ghost use Rattle.dnsv_canonical.specs.Evidence.{AreParameters, Evidence, IsReadable, IsReasonAgainst, IsWhole, IsWithinLimits, no_evidence, nsec3_rdata, signatures_at, with_message};
 ghost use Rattle.dnsv_canonical.specs.Rdata.{IsWellFormed};
-ghost use Rattle.dnsv_canonical.specs.Rrsets.{rrsets_of};
 ghost use Rattle.dnsv_canonical.specs.declared.capture.CaptureError.TheVariants.{OutOfMemory};
 
 use crate::draft::message_rrsets;
@@ -123,7 +122,11 @@ impl Capture {
         if !are_small(self.alloc, drafts.as_slice())? {
             return Err(CaptureError::Limit);
         }
-        let mut parameters = fresh_parameters(self.alloc, self.parameters.as_slice(), drafts.as_slice())?;
+        let mut parameters = fresh_parameters(
+            self.alloc,
+            self.parameters.as_slice(),
+            drafts.as_slice(),
+        )?;
         // What is true of every message.
         message.is_of_octets();
         messages_fit();
@@ -167,11 +170,6 @@ impl Capture {
         rrsets[rrset - 1].signatures()
     }
 }
-
-/// A law of captures: messages that are added one by one give the RRsets of them all.
-pub fn captures_hold_the_rrsets()
-    ensures { (messages : List Contents) → (evidence_of messages).rrsets ≡ rrsets_of messages }
-{}
 
 /// Whether the message is a response that wasn't cut to fit.
 fn check_whole(message: &Message) -> Result<(), CaptureError>

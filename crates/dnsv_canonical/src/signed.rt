@@ -43,18 +43,16 @@ pub fn signed_octets(
     Ok(Some(octets))
 }
 
-/// A law of signed data: a signature signs at most one thing over the RDATA of an RRset.
-pub fn one_signed_data()
-    ensures { (owner : Labels) (rtype : ℕ) (received : List (List ℕ)) (rrsig : Rrsig) (a b : Option (List ℕ))
-        → IsSignedData owner rtype received rrsig a → IsSignedData owner rtype received rrsig b → a ≡ b }
-{}
-
 /// How many labels of the owner a signature counts: neither the root's nor a leftmost `*` (RFC 4034 3.1.3).
 pub fn signed_label_count(owner: &Name) -> usize
     ensures { result ≡ signed_label_count owner.now }
 {
     let labels = owner.labels();
-    if owner.is_wildcard() { labels - 1 } else { labels }
+    if owner.is_wildcard() {
+        labels - 1
+    } else {
+        labels
+    }
 }
 
 /// Whether the signature is expanded over the owner: a wildcard with fewer labels was signed, and the owner is a name

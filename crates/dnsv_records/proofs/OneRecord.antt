@@ -1,9 +1,6 @@
 -- RDATA is read in one way.
-use Rattle.std.proofs.Common.{◌≡◌, ℕ, List, [], ◌∷◌, ◌++◌, length, refl, sym, ap, subst, ◌∙◌, arith, append_assoc}
-use Rattle.std.proofs.lemmas.List.{take_at, drop_at}
-use Rattle.std.proofs.Common.{take, drop}
-use Rattle.std.specs.List.{AllByRecursion}
-use Rattle.dnsv_names.specs.Name.{Labels, IsLabel, wire}
+use Rattle.std.proofs.Common.{◌≡◌, ℕ, List, drop, sym, subst, ◌∙◌}
+use Rattle.dnsv_names.specs.WireLaws.{wire-front}
 use Rattle.dnsv_records.specs.declared.dnskey.Dnskey.{Dnskey}
 use Rattle.dnsv_records.specs.declared.ds.Ds.{Ds}
 use Rattle.dnsv_records.specs.declared.nsec.Nsec.{Nsec}
@@ -17,24 +14,6 @@ use Rattle.dnsv_records.specs.Nsec3.{IsNsec3}
 use Rattle.dnsv_records.specs.Rrsig.{IsRrsig}
 use Rattle.dnsv_records.proofs.BitmapLemmas.{same_types}
 use Rattle.dnsv_records.proofs.RecordLemmas.{same_counted}
-
-same_start : (a b x y : List ℕ) → length a ≡ length b → a ++ x ≡ b ++ y → (a ≡ b) × (x ≡ y)
-same_start a b x y size same = (
-  sym (take_at a x (length a) refl) ∙ ap (take (length a)) same ∙ take_at b y (length a) (sym size),
-  sym (drop_at a x (length a) refl) ∙ ap (drop (length a)) same ∙ drop_at b y (length a) (sym size),
-)
-
--- spellings of two names that begin the same octets are of one name
-pub one_wire : (a b : Labels) (x y : List ℕ) → AllByRecursion IsLabel a → AllByRecursion IsLabel b → wire a ++ x ≡ wire b ++ y → (a ≡ b) × (x ≡ y)
-one_wire [] [] x y each other same = let behind : x ≡ y = cc in (refl, behind)
-one_wire [] (m ∷ b) x y each other same = let none : 0 ≡ length m = cc in absurd (omega (arith, none, other.0.not_empty))
-one_wire (l ∷ a) [] x y each other same = let none : length l ≡ 0 = cc in absurd (omega (arith, none, each.0.not_empty))
-one_wire (l ∷ a) (m ∷ b) x y each other same =
-    let size : length l ≡ length m = cc in
-    let behind : (l ++ wire a) ++ x ≡ (m ++ wire b) ++ y = cc in
-    let front = same_start l m (wire a ++ x) (wire b ++ y) size (sym (append_assoc l (wire a) x) ∙ behind ∙ append_assoc m (wire b) y) in
-    let rest = one_wire a b x y each.1 other.1 front.1 in
-    (ap (λ label. label ∷ a) front.0 ∙ ap (λ labels. m ∷ labels) rest.0, rest.1)
 
 pub one_dnskey : (rdata : List ℕ) (a b : Dnskey) → IsDnskey rdata a → IsDnskey rdata b → a ≡ b
 one_dnskey rdata a b p q =
@@ -54,7 +33,7 @@ one_ds rdata a b p q =
 
 pub one_rrsig : (rdata : List ℕ) (a b : Rrsig) → IsRrsig rdata a → IsRrsig rdata b → a ≡ b
 one_rrsig rdata a b p q =
-    let behind = one_wire a.signer b.signer a.signature b.signature p.name.each q.name.each (sym p.rest ∙ q.rest) in
+    let behind = wire-front a.signer b.signer a.signature b.signature p.name.each q.name.each (sym p.rest ∙ q.rest) in
     let type_covered : a.type_covered.0 ≡ b.type_covered.0 = p.type_covered ∙ sym q.type_covered in
     let algorithm : a.algorithm.0 ≡ b.algorithm.0 = p.algorithm ∙ sym q.algorithm in
     let labels : a.labels ≡ b.labels = p.labels ∙ sym q.labels in
@@ -76,7 +55,7 @@ one_rrsig rdata a b p q =
 
 pub one_nsec : (rdata : List ℕ) (a b : Nsec) → IsNsec rdata a → IsNsec rdata b → a ≡ b
 one_nsec rdata a b p q =
-    let parts = one_wire a.next b.next p.bits q.bits p.name.each q.name.each (sym p.whole ∙ q.whole) in
+    let parts = wire-front a.next b.next p.bits q.bits p.name.each q.name.each (sym p.whole ∙ q.whole) in
     let types : a.types ≡ b.types = same_types q.bits a.types b.types (subst (λ bits. Bitmap bits a.types) parts.1 p.bitmap) q.bitmap in
     λ i. record { next = parts.0 i; types = types i }
 

@@ -133,6 +133,7 @@ impl Nsec3 {
 }
 
 /// An NSEC3 record that may carry a denial.
+#[derive(Clone, Copy, Debug)]
 pub struct UsableNsec3<'a> {
     /// Whether unsigned delegations may be left out between the owner and the next hash (RFC 5155 3.1.2.1).
     pub is_opt_out: bool,

@@ -201,16 +201,28 @@ fn reads_hashed_denials(rt: HostRuntime) -> Result<(), Fail> {
     assert_eq!(rt; nsec3.algorithm, HashAlgorithm::SHA1);
     assert!(rt; nsec3.flags.is_opt_out());
     assert_eq!(rt; nsec3.parameters.iterations, Iterations(500));
-    assert_eq!(rt; nsec3.parameters.salt.as_slice(), b"\xaa\xbb\xcc\xdd".as_slice());
+    assert_eq!(rt;
+        nsec3.parameters.salt.as_slice(),
+        b"\xaa\xbb\xcc\xdd".as_slice()
+    );
     assert_eq!(rt; nsec3.next_hash.as_slice(), EXAMPLE_HASH.as_slice());
     assert!(rt; nsec3.types.contains(RecordType(1)));
     assert!(rt; nsec3.is_usable());
+    let used = nsec3.usable().ok_or("a usable record")?;
+    assert!(rt; used.is_opt_out);
+    assert_eq!(rt; used.next_hash, Hash20::new(EXAMPLE_HASH));
+    assert!(rt; used.types.contains(RecordType(1)));
 
     let bare = Nsec3::read(rt.alloc(), b"\x01\x00\x00\x0c\x00\x00")?;
     assert!(rt; bare.parameters.salt.as_slice().is_empty());
     assert!(rt; bare.next_hash.as_slice().is_empty());
     assert!(rt; bare.types.write().is_empty());
     assert!(rt; !bare.is_usable(), "no hash of 20 octets");
+    assert!(rt; bare.usable().is_none());
+    assert!(rt;
+        bare.parameters < nsec3.parameters,
+        "12 iterations before 500"
+    );
 
     assert_eq!(rt;
         field_of(Nsec3::read(rt.alloc(), b"\x01\x00\x00")),

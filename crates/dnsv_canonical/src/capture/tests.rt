@@ -2,6 +2,7 @@ use super::*;
 use crate::rrset::{canonical_rrset, signed_data};
 use dnsv_message::Section;
 use dnsv_names::RecordType;
+use dnsv_records::{Iterations, KeyTag};
 use std::test::Fail;
 
 // Two equal A records of `Host.Example.` and their signature, with the question for them.
@@ -222,6 +223,34 @@ fn takes_16_keys_that_differ(rt: HostRuntime) -> Result<(), Fail> {
     let rrset = capture.rrsets().last().ok_or("an RRset")?;
     assert_eq!(rt; rrset.len(), 17);
     assert_eq!(rt; canonical_rrset(alloc, rrset)?.len(), 1);
+    let keys = rrset.dnskeys();
+    assert_eq!(rt; keys.len(), 17);
+    assert_eq!(rt; keys[16].key.as_slice(), [1].as_slice());
+    assert!(rt; rrset.ds_records().is_empty());
+    Ok(())
+}
+
+// A record of each type that is read, at the root.
+#[test]
+fn keeps_records_as_they_are_read(rt: HostRuntime) -> Result<(), Fail> {
+    let alloc = rt.alloc();
+    let mut records = Vec::new(alloc);
+    push_record(&mut records, 43, 1, b"\xec\x45\x05\x01\x2b\xb1")?;
+    push_record(&mut records, 47, 1, b"\x01a\x00\x00\x01\x40")?;
+    push_record(&mut records, 50, 1, nsec3(alloc, 12, 7)?.as_slice())?;
+    let mut capture = Capture::new(alloc);
+    capture.add(&response(alloc, 3, records.as_slice())?)?;
+    let [ds, nsec, hashed] = capture.rrsets() else {
+        return Err(Fail::from("three RRsets"));
+    };
+    let ds = ds.ds_records().first().ok_or("a DS record")?;
+    assert_eq!(rt; ds.key_tag, KeyTag(60485));
+    let nsec = nsec.nsecs().first().ok_or("an NSEC record")?;
+    assert_eq!(rt; nsec.next.wire(), b"\x01a\x00".as_slice());
+    let hashed = hashed.nsec3s().first().ok_or("an NSEC3 record")?;
+    let parameters = capture.nsec3_parameters().first().ok_or("parameters")?;
+    assert_eq!(rt; parameters, &hashed.parameters);
+    assert_eq!(rt; parameters.iterations, Iterations(12));
     Ok(())
 }
 

@@ -1,0 +1,49 @@
+//! Laws of RRsets, of evidence and of what is signed.
+//!
+//! Each is a function that does nothing and ensures the law, which its caller learns.
+ghost use Rattle.std.specs.Prelude.{◌≡◌, ◌≢◌, ◌↔◌, ◌++◌, ◌≤◌, suc, ℕ, List, Option, Some, Contains, filter, length, take};
+ghost use Rattle.std.specs.Str.{bytes_eq};
+ghost use Rattle.dnsv_names.specs.Name.{Labels, lower_case, wire};
+ghost use Rattle.dnsv_names.specs.Octets.{AreOctets};
+ghost use Rattle.dnsv_message.specs.Message.{Contents};
+ghost use Rattle.dnsv_message.specs.declared.record.Record.{Record};
+ghost use Rattle.dnsv_records.specs.declared.rrsig.Rrsig.{Rrsig};
+ghost use Rattle.dnsv_records.specs.Rrsig.{IsRrsig};
+ghost use Rattle.dnsv_canonical.specs.Evidence.{Evidence, IsDistinct, IsEvidence, IsReasonAgainst, evidence_of};
+ghost use Rattle.dnsv_canonical.specs.declared.capture.CaptureError.{CaptureError};
+ghost use Rattle.dnsv_canonical.specs.Rrsets.{first_appearances, is_grouped, rrsets_from, rrsets_of, same_rrset};
+ghost use Rattle.dnsv_canonical.specs.SignedData.{IsSignedData, signed_front, signed_label_count};
+
+/// Messages that are added one by one give the RRsets of them all.
+pub fn captures_hold_the_rrsets()
+    ensures { (messages : List Contents) → (evidence_of messages).rrsets ≡ rrsets_of messages }
+{}
+
+/// The RRsets of a beginning of the messages are a beginning of the RRsets.
+pub fn earlier_rrsets_keep_their_numbers()
+    ensures { (earlier later : List Contents)
+        → rrsets_of (earlier ++ later) ≡ rrsets_of earlier ++ rrsets_from (suc (length earlier)) later }
+{}
+
+/// What appears first has the members of the whole, and none twice.
+pub fn first_appearances_are_all_once()
+    ensures members { (received : List (List ℕ)) (rdata : List ℕ)
+        → Contains (first_appearances bytes_eq received) rdata ↔ Contains received rdata }
+    ensures once { (received : List (List ℕ)) → IsDistinct (first_appearances bytes_eq received) }
+{}
+
+/// What is signed before the records is the first 18 octets of the signature's RDATA, and its signer in lower case.
+pub fn signed_data_begins_as_the_signature()
+    ensures { (rdata : List ℕ) (rrsig : Rrsig) → AreOctets rdata → IsRrsig rdata rrsig
+        → signed_front rrsig ≡ take 18 rdata ++ wire (lower_case rrsig.signer) }
+{}
+
+/// A signature signs at most one thing over the RDATA of an RRset, and something just where Labels is not above the
+/// owner's count of labels.
+pub fn one_signed_data()
+    ensures one { (owner : Labels) (rtype : ℕ) (received : List (List ℕ)) (rrsig : Rrsig) (a b : Option (List ℕ))
+        → IsSignedData owner rtype received rrsig a → IsSignedData owner rtype received rrsig b → a ≡ b }
+    ensures some { (owner : Labels) (rtype : ℕ) (received : List (List ℕ)) (rrsig : Rrsig)
+        → ((octets : List ℕ) × IsSignedData owner rtype received rrsig (Some octets))
+        ↔ (rrsig.labels ≤ signed_label_count owner) }
+{}
