@@ -15,7 +15,7 @@ pub use hash20::Hash20;
 pub use lines::{Line, Lines, a_line_has_one_list_of_fields, a_text_has_one_list_of_lines};
 pub use name::{LABEL_LIMIT, Name, WIRE_LIMIT};
 pub use number::{RecordType, Ttl, record_types_have_their_numbers};
-pub use octets::{u16_at, u32_at};
+pub use octets::{u16_at, u32_at, u48_at};
 pub use order::{
     canonical_order_is_total, names_at_or_below_are_an_interval, names_at_or_below_begin_alike,
     names_come_before_those_below,

@@ -19,3 +19,11 @@ pub fn u32_at(octets: &[u8], place: usize) -> u32
 {
     BigEndian::read_u32(&octets[place..])
 }
+
+/// The number in the six octets at the place, the highest first.
+pub fn u48_at(octets: &[u8], place: usize) -> u64
+    requires { place + 6 ≤ length octets.now }
+    ensures { result ≡ number_at octets.now place 6 }
+{
+    BigEndian::read_u48(&octets[place..])
+}
