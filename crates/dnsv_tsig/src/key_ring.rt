@@ -1,0 +1,138 @@
+//! Keys that are shared with those who sign.
+ghost use Rattle.std.specs.Prelude.{◌≡◌, ◌⊎◌, ◌++◌, [], ◌∷◌, List, ℕ, None, IfOk, IfErr, OnOk, MatchOption};
+ghost use Rattle.std.specs.Option.{option_copied};
+ghost use Rattle.dnsv_names.specs.Lines.{AreFields};
+ghost use Rattle.dnsv_tsig.specs.Key.{key_named};
+
+use crate::error::KeyFileError;
+use base64::DecodeAllocError;
+use base64::engine::general_purpose::STANDARD;
+use dnsv_names::{Line, Lines, Name};
+use std::alloc::{AllocError, Global};
+use std::marker::Model;
+
+/// A key and its name (RFC 8945 5.2.1).
+#[derive(Debug, Drop)]
+pub struct Key {
+    name: Name,
+    secret: Vec<u8>,
+}
+
+impl Model for Key {
+    ghost use Rattle.dnsv_tsig.specs.Key.{SharedKey};
+
+    ghost Value = { SharedKey };
+
+    ghost view = { λ key. record { name = key.name; secret = key.secret.items } };
+}
+
+impl Key {
+    ghost use Rattle.dnsv_tsig.specs.Key.{SharedKey};
+    ghost use Rattle.dnsv_tsig.specs.KeyFile.{IsKeyLine};
+
+    /// The key's name, as its file spells it.
+    pub fn name(&self) -> &Name
+        ensures { result.now ≡ self.now.name }
+    {
+        &self.name
+    }
+
+    /// The key's octets.
+    pub(crate) fn secret(&self) -> &[u8]
+        ensures { result.now ≡ self.now.secret }
+    {
+        &self.secret
+    }
+
+    /// The key of a line; `None` where the line is no key's.
+    fn read(alloc: Global, line: &Line) -> Result<Option<Key>, AllocError>
+        ensures { IfOk result (λ found. MatchOption found
+            ((key : SharedKey) → IsKeyLine line.now.octets key → ⊥) (IsKeyLine line.now.octets)) }
+    {
+        let Some((text, coded)) = two_fields(line) else {
+            return Ok(None);
+        };
+        let Ok(name) = Name::parse(text) else {
+            return Ok(None);
+        };
+        match STANDARD.decode(alloc, coded) {
+            Ok(secret) => Ok(Some(Key { name, secret })),
+            Err(DecodeAllocError::OutOfMemory) => Err(AllocError),
+            Err(DecodeAllocError::DecodeError(_)) => Ok(None),
+        }
+    }
+}
+
+/// The keys by which messages are verified, in the order of their file.
+#[derive(Debug, Drop)]
+pub struct KeyRing {
+    keys: Vec<Key>,
+}
+
+impl Model for KeyRing {
+    ghost use Rattle.std.specs.Prelude.{List};
+    ghost use Rattle.dnsv_tsig.specs.Key.{SharedKey};
+
+    ghost Value = { List SharedKey };
+
+    ghost view = { λ ring. ring.keys.items };
+}
+
+impl KeyRing {
+    ghost use Rattle.dnsv_tsig.specs.Key.{SharedKey};
+    ghost use Rattle.dnsv_tsig.specs.KeyFile.{IsKeyLine, IsRefused, IsRingOf, IsKeyFault};
+
+    /// Reads a file of keys: a line each, the name and then the key in base64 with padding, with one space
+    /// between them. Empty lines and lines that begin with `#` are passed over, but counted.
+    ///
+    /// The error is that of the first line that is refused: it is no key's (`Syntax`), or an equal name stood
+    /// before (`DuplicateKey`).
+    pub fn parse(alloc: Global, text: &[u8]) -> Result<KeyRing, KeyFileError>
+        ensures ring { IfOk result (IsRingOf text.now) }
+        ensures fault { IfErr result (λ error. (error ≡ KeyFileError.OutOfMemory) ⊎ IsKeyFault text.now error) }
+    {
+        let mut ring = KeyRing {
+            keys: Vec::new(alloc),
+        };
+        for line in Lines::new(text) {
+            ring.add(alloc, &line)?;
+        }
+        Ok(ring)
+    }
+
+    /// Adds the key of a line.
+    fn add(&mut self, alloc: Global, line: &Line) -> Result<(), KeyFileError>
+        ensures added { OnOk result ((key : SharedKey) × IsKeyLine line.now.octets key
+            × (key_named key.name self.old ≡ None) × (self.new ≡ self.old ++ key ∷ [])) }
+        ensures fault { IfErr result (λ error. (error ≡ KeyFileError.OutOfMemory)
+            ⊎ IsRefused self.old (line.now ∷ []) error) }
+    {
+        let Some(key) = Key::read(alloc, line)? else {
+            return Err(KeyFileError::Syntax(line.number()));
+        };
+        if self.key_named(&key.name).is_some() {
+            return Err(KeyFileError::DuplicateKey(line.number()));
+        }
+        self.keys.push(key)?;
+        Ok(())
+    }
+
+    /// The key with this name, without regard to case.
+    pub fn key_named(&self, name: &Name) -> Option<&Key>
+        ensures { option_copied result ≡ key_named name.now self.now }
+    {
+        self.keys.iter().find(|key| key.name == *name)
+    }
+}
+
+/// The fields of a line that has two.
+fn two_fields<'a>(line: &Line<'a>) -> Option<(&'a [u8], &'a [u8])>
+    ensures { MatchOption result
+        ((text coded : List ℕ) → AreFields line.now.octets (text ∷ coded ∷ []) → ⊥)
+        (λ found. AreFields line.now.octets (found.0.now ∷ found.1.now ∷ [])) }
+{
+    let Some(fields) = line.fields::<2>() else {
+        return None;
+    };
+    Some((fields[0], fields[1]))
+}

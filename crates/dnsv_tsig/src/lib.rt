@@ -1,0 +1,17 @@
+//! Messages that are signed with a shared key (TSIG, RFC 8945), kept as evidence.
+#![tactic(auto)]
+
+pub use error::{KeyFileError, TsigError};
+pub use key_ring::{Key, KeyRing};
+pub use opened::{Opened, open};
+
+mod error;
+mod key_ring;
+mod mac;
+mod opened;
+#[cfg(test)]
+mod samples;
+mod signature;
+#[cfg(test)]
+mod tests;
+mod tsig;
