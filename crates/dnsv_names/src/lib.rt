@@ -21,6 +21,7 @@ pub use order::{
     names_come_before_those_below,
 };
 pub use parse::{a_text_has_one_reading, names_are_spelled_by_their_text};
+pub use text::TEXT_LIMIT;
 pub use tree::ASTERISK_LABEL;
 pub use tree_laws::{
     a_wire_form_is_one_name, ancestors_stand_in_one_line, at_or_below_is_tested,

@@ -89,7 +89,7 @@ fn compared(a: &[u8], b: &[u8]) -> Ordering
 }
 
 /// The octets of the label that stands in front, behind its length.
-fn first_label(octets: &[u8]) -> &[u8]
+pub fn first_label(octets: &[u8]) -> &[u8]
     requires { slice_index octets.now 0 < length octets.now }
     ensures { result.now ≡ take (slice_index octets.now 0) (drop 1 octets.now) }
 {
@@ -97,7 +97,7 @@ fn first_label(octets: &[u8]) -> &[u8]
 }
 
 /// What stands behind the label in front.
-fn behind_label(octets: &[u8]) -> &[u8]
+pub fn behind_label(octets: &[u8]) -> &[u8]
     requires { slice_index octets.now 0 < length octets.now }
     ensures { result.now ≡ drop (1 + slice_index octets.now 0) octets.now }
 {

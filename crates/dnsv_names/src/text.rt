@@ -1,59 +1,75 @@
 //! The text that is written for a name (RFC 1035 5.1).
-ghost use Rattle.std.specs.Prelude.{Some};
+ghost use Rattle.std.specs.Prelude.{◌≡◌, ◌+◌, ◌*◌, ◌<◌, ◌≤◌, ◌++◌, ◌∷◌, [], Some, length};
+ghost use Rattle.arrayvec.specs.ArrayString.{array_string_len};
 ghost use Rattle.dnsv_names.specs.Text.{octet_text, label_text, text_of};
 
-use crate::name::Name;
+use crate::name::{Name, WIRE_LIMIT};
+use crate::order::{behind_label, first_label};
+use arrayvec::ArrayString;
 use std::fmt;
 
-/// Each label and a dot, the root as `.`. A dot and a backslash within a label have a backslash before
-/// them, other octets 0x21 to 0x7e stand as they are, and all others as a backslash and three decimal
-/// digits.
+/// No text of a name has more octets: each octet but the root's takes four at most.
+pub const TEXT_LIMIT: usize = 4 * (WIRE_LIMIT - 1);
+
+impl Name {
+    /// The text of the name: each label and a dot, the root as `.`. A dot and a backslash within a label have a
+    /// backslash before them, other octets 0x21 to 0x7e stand as they are, and all others as a backslash and three
+    /// decimal digits.
+    pub fn text(&self) -> ArrayString<TEXT_LIMIT>
+        ensures { result.bytes ≡ text_of self.now }
+    {
+        let mut text = ArrayString::new();
+        let mut rest = self.wire();
+        if rest[0] == 0 {
+            text.push('.');
+            return text;
+        }
+        while rest[0] != 0 {
+            push_label(&mut text, first_label(rest));
+            rest = behind_label(rest);
+        }
+        text
+    }
+}
+
+/// The text of the name.
 impl fmt::Display for Name {
     ghost output = { λ name. Some (text_of name) };
 
     fn fmt<W: fmt::Write>(&self, f: &mut fmt::Formatter<W>) -> fmt::Result {
-        if self.labels() == 0 {
-            return write!(f, ".");
-        }
-        for i in 0..self.labels() {
-            let label = LabelText(self.label(i));
-            write!(f, "{label}.")?;
-        }
-        Ok(())
+        f.write_str(self.text().as_str())
     }
 }
 
-#[derive(Clone, Copy)]
-struct LabelText<'a>(&'a [u8]);
-
-impl fmt::Display for LabelText<'_> {
-    ghost output = { λ label. Some (label_text label.0.now) };
-
-    fn fmt<W: fmt::Write>(&self, f: &mut fmt::Formatter<W>) -> fmt::Result {
-        for octet in self.0 {
-            let octet = OctetText(*octet);
-            write!(f, "{octet}")?;
-        }
-        Ok(())
+/// Adds the text of a label, and a dot.
+fn push_label(text: &mut ArrayString<TEXT_LIMIT>, label: &[u8])
+    requires { array_string_len text.old + 4 * length label.now + 1 ≤ TEXT_LIMIT }
+    ensures text { text.new.bytes ≡ text.old.bytes ++ (label_text label.now ++ 46 ∷ []) }
+    ensures length { array_string_len text.new ≤ array_string_len text.old + 4 * length label.now + 1 }
+{
+    for octet in label {
+        push_octet(text, *octet);
     }
+    text.push('.');
 }
 
-#[derive(Clone, Copy)]
-struct OctetText(u8);
-
-impl fmt::Display for OctetText {
-    ghost output = { λ octet. Some (octet_text octet.0) };
-
-    fn fmt<W: fmt::Write>(&self, f: &mut fmt::Formatter<W>) -> fmt::Result {
-        let octet = self.0;
-        let seen = char::from(octet);
-        match octet {
-            b'.' | b'\\' => write!(f, "\\{seen}"),
-            b'!'..=b'~' => write!(f, "{seen}"),
-            _ => {
-                let (hundreds, tens, ones) = (octet / 100, octet / 10 % 10, octet % 10);
-                write!(f, "\\{hundreds}{tens}{ones}")
-            }
+/// Adds the text of an octet.
+fn push_octet(text: &mut ArrayString<TEXT_LIMIT>, octet: u8)
+    requires { array_string_len text.old + 4 ≤ TEXT_LIMIT }
+    ensures text { text.new.bytes ≡ text.old.bytes ++ octet_text octet }
+    ensures length { array_string_len text.new ≤ array_string_len text.old + 4 }
+{
+    match octet {
+        b'.' | b'\\' => {
+            text.push('\\');
+            text.push(char::from(octet));
+        }
+        b'!'..=b'~' => text.push(char::from(octet)),
+        _ => {
+            text.push('\\');
+            text.push(char::from(b'0' + octet / 100));
+            text.push(char::from(b'0' + octet / 10 % 10));
+            text.push(char::from(b'0' + octet % 10));
         }
     }
 }

@@ -18,7 +18,20 @@ fn writes_names(rt: HostRuntime) -> Result<(), Fail> {
     Ok(())
 }
 
-// No clause says that a name is written, however long its text is.
+// No clause says that a name is written, however many labels it has and however long its text is.
+#[test]
+fn writes_127_labels(rt: HostRuntime) -> Result<(), Fail> {
+    let mut written = String::new(rt.alloc());
+    for _ in 0..127 {
+        written.push_str("a.")?;
+    }
+    let name = Name::parse(written.as_bytes())?;
+    assert_eq!(rt; name.labels(), 127);
+    assert_eq!(rt; name.to_string(rt.alloc())?.as_str(), written.as_str());
+    assert_eq!(rt; name.text().as_str(), written.as_str());
+    Ok(())
+}
+
 #[test]
 fn writes_the_longest_text(rt: HostRuntime) -> Result<(), Fail> {
     let mut octets = Vec::new(rt.alloc());
