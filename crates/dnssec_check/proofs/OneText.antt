@@ -1,23 +1,18 @@
 -- For a file of octets a request has at most one text, or one refusal, and never both.
-use Rattle.std.proofs.Common.{◌≡◌, ℕ, suc, List, [], ◌∷◌, ◌++◌, length, refl, sym, ap, subst, ◌∙◌, inl, inr, arith, append_assoc, Option}
-use Rattle.std.proofs.lemmas.List.{append-nil}
-use Rattle.std.specs.List.{AllByRecursion, flat_map}
+use Rattle.std.proofs.Common.{◌≡◌, ℕ, suc, List, [], ◌∷◌, ◌++◌, refl, sym, ap, subst, ◌∙◌, inl, inr, Option}
+use Rattle.std.specs.List.{AllByRecursion}
+use Rattle.dnsv_names.specs.Name.{Labels}
 use Rattle.dnsv_message.specs.declared.errors.DecodeError.{DecodeError}
 use Rattle.dnsv_message.specs.declared.errors.DecodeError.TheVariants as decode
-use Rattle.dnsv_message.specs.Frames.{IsCapture, frame}
+use Rattle.dnsv_message.specs.Frames.{IsCapture, HasZeroLength, EndsTorn, IsTooLong}
 use Rattle.dnsv_message.specs.Grammar.{MessageOf, FaultOf}
 use Rattle.dnsv_message.specs.Message.{Contents}
 use Rattle.dnsv_names.specs.Octets.{AreOctets}
-use Rattle.dnsv_message.proofs.CaptureLemmas.{messages_alone, zero_length_alone}
-use Rattle.dnsv_message.proofs.FrameLemmas.{one_framing}
-use Rattle.dnsv_message.proofs.MessageLaws.{FaultOf_same, MessageOf_same, MessageOf_sound}
-use Rattle.dnsv_message.proofs.Numbers.{octet_fits}
 use Rattle.dnsv_records.specs.declared.rrsig.Rrsig.{Rrsig}
-use Rattle.dnsv_records.proofs.OneRecord.{one_rrsig}
+use Rattle.dnsv_records.specs.Rrsig.{IsRrsig}
 use Rattle.dnsv_canonical.specs.Evidence.{Evidence, evidence_of, no_evidence, with_message}
 use Rattle.dnsv_canonical.specs.Rrsets.{ReceivedRrset}
 use Rattle.dnsv_canonical.specs.SignedData.{IsSignedData}
-use Rattle.dnsv_canonical.proofs.SignedLemmas.{signed_data_unique}
 use Rattle.dnssec_check.specs.declared.status.Place.{Place}
 use Rattle.dnssec_check.specs.declared.status.Refusal.{Refusal}
 use Rattle.dnssec_check.specs.declared.line.Request.{Request}
@@ -29,170 +24,164 @@ use Rattle.dnssec_check.specs.Showing.{message_text, texts_from}
 use Rattle.dnssec_check.specs.Status.{TellsMessageError}
 use Rattle.dnssec_check.proofs.OneReason.{taken_or_refused, one_reason}
 
--- ---- the captured messages are octets
+-- the laws of the layers below: of messages and files of messages, of signatures and of what they sign
+pub record LayerLaws : Type 0 where
+  pub one_message : (octets : List ℕ) → AreOctets octets → (message other : Contents) → MessageOf octets message → MessageOf octets other → message ≡ other
+  pub no_fault_of_a_message : (octets : List ℕ) → AreOctets octets → (message : Contents) (error : DecodeError) → MessageOf octets message → FaultOf octets error → ⊥
+  pub one_fault : (octets : List ℕ) → AreOctets octets → (error other : DecodeError) → FaultOf octets error → FaultOf octets other → error ≡ other
+  pub one_capture : (file : List ℕ) (a b : List (List ℕ)) → IsCapture file a → IsCapture file b → a ≡ b
+  pub messages_alone : (file : List ℕ) (messages : List (List ℕ)) → IsCapture file messages → (¬ HasZeroLength file) × (¬ EndsTorn file) × (¬ IsTooLong file)
+  pub zero_length_alone : (file : List ℕ) → HasZeroLength file → (¬ EndsTorn file) × (¬ IsTooLong file)
+  pub capture_octets : (file : List ℕ) (messages : List (List ℕ)) → AreOctets file → IsCapture file messages → AllByRecursion AreOctets messages
+  pub one_rrsig : (rdata : List ℕ) (a b : Rrsig) → IsRrsig rdata a → IsRrsig rdata b → a ≡ b
+  pub one_signed_data : (owner : Labels) (rtype : ℕ) (received : List (List ℕ)) (rrsig : Rrsig) (a b : Option (List ℕ)) → IsSignedData owner rtype received rrsig a → IsSignedData owner rtype received rrsig b → a ≡ b
 
-parts_octets : (xs ys : List ℕ) → AreOctets (xs ++ ys) → AreOctets xs × AreOctets ys
-parts_octets [] ys are = (tt, are)
-parts_octets (x ∷ xs) ys are = let rest = parts_octets xs ys are.1 in ((are.0, rest.0), rest.1)
+module _ (laws : LayerLaws) where
+  -- ---- the text
 
-frames_octets : (frames : List (List ℕ)) → AreOctets (flat_map frame frames) → AllByRecursion AreOctets frames
-frames_octets [] are = tt
-frames_octets (octets ∷ frames) are =
-    let parts = parts_octets (frame octets) (flat_map frame frames) are in
-    (parts.0.1.1, frames_octets frames parts.1)
+  one_front : (number : ℕ) (rrset : ReceivedRrset) (signature : ℕ) (signatures : List (List ℕ)) (a b : List ℕ)
+      → SignatureLines number rrset signature signatures a → SignatureLines number rrset signature signatures b → a ≡ b
+  one_front number rrset signature [] a b x y = x ∙ sym y
+  one_front number rrset signature (rdata ∷ others) a b x y =
+      let signs : Rrsig → Type 0 = λ rrsig. IsSignedData rrset.owner rrset.rtype rrset.rdata rrsig x.1 in
+      let octets : x.1 ≡ y.1 = laws.one_signed_data rrset.owner rrset.rtype rrset.rdata y.0 x.1 y.1 (subst signs (laws.one_rrsig rdata x.0 y.0 x.3 y.3) x.4) y.4 in
+      x.6 ∙ ap (λ octets. data_line number signature octets ++ x.2) octets
+      ∙ ap (λ rest. data_line number signature y.1 ++ rest) (one_front number rrset (suc signature) others x.2 y.2 x.5 y.5)
+      ∙ sym y.6
 
-captured_octets : (file : List ℕ) (frames : List (List ℕ)) → AreOctets file → IsCapture file frames → AllByRecursion AreOctets frames
-captured_octets file frames are captured =
-    frames_octets frames (subst AreOctets (captured.frames.whole ∙ append-nil (flat_map frame frames)) are)
+  one_lines : (number : ℕ) (rrsets : List ReceivedRrset) (a b : List ℕ) → RrsetLines number rrsets a → RrsetLines number rrsets b → a ≡ b
+  one_lines number [] a b x y = x ∙ sym y
+  one_lines number (rrset ∷ rrsets) a b x y =
+      x.4 ∙ ap (λ front. front ++ x.1) (one_front number rrset 1 rrset.signatures x.0 y.0 x.2 y.2)
+      ∙ ap (λ rest. y.0 ++ rest) (one_lines (suc number) rrsets x.1 y.1 x.3 y.3)
+      ∙ sym y.4
 
-one_capture : (file : List ℕ) (a b : List (List ℕ)) → IsCapture file a → IsCapture file b → a ≡ b
-one_capture file a b x y = (one_framing file a b [] [] x.frames y.frames).0
+  one_taken : (demand : Demand) (held : Evidence) (frames : List (List ℕ)) (a b : List Contents) → AllByRecursion AreOctets frames → AllTaken demand held frames a → AllTaken demand held frames b → a ≡ b
+  one_taken demand held [] [] [] are x y = refl
+  one_taken demand held [] [] (n ∷ b) are x y = absurd y
+  one_taken demand held [] (m ∷ a) b are x y = absurd x
+  one_taken demand held (octets ∷ frames) [] b are x y = absurd x
+  one_taken demand held (octets ∷ frames) (m ∷ a) [] are x y = absurd y
+  one_taken demand held (octets ∷ frames) (m ∷ a) (n ∷ b) are x y =
+      let first : m ≡ n = laws.one_message octets are.0 m n x.0.0 y.0.0 in
+      ap (λ message. message ∷ a) first
+      ∙ ap (λ messages. n ∷ messages)
+      (one_taken demand (with_message held n) frames a b are.1 (subst (λ message. AllTaken demand (with_message held message) frames a) first x.1) y.1)
 
--- ---- the text
+  -- a file holds its messages alone
+  one_holding : (demand : Demand) (file : List ℕ) → AreOctets file → (a b : List Contents) → Holds demand file a → Holds demand file b → a ≡ b
+  one_holding demand file are a b x y =
+      let frames = laws.one_capture file y.frames x.frames y.captured x.captured in
+      one_taken demand no_evidence x.frames a b (laws.capture_octets file x.frames are x.captured) x.taken
+      (subst (λ frames. AllTaken demand no_evidence frames b) frames y.taken)
 
-one_front : (number : ℕ) (rrset : ReceivedRrset) (signature : ℕ) (signatures : List (List ℕ)) (a b : List ℕ)
-    → SignatureLines number rrset signature signatures a → SignatureLines number rrset signature signatures b → a ≡ b
-one_front number rrset signature [] a b x y = x ∙ sym y
-one_front number rrset signature (rdata ∷ others) a b x y =
-    let signs : Rrsig → Type 0 = λ rrsig. IsSignedData rrset.owner rrset.rtype rrset.rdata rrsig x.1 in
-    let octets : x.1 ≡ y.1 = signed_data_unique rrset.owner rrset.rtype rrset.rdata y.0 x.1 y.1 (subst signs (one_rrsig rdata x.0 y.0 x.3 y.3) x.4) y.4 in
-    x.6 ∙ ap (λ octets. data_line number signature octets ++ x.2) octets
-    ∙ ap (λ rest. data_line number signature y.1 ++ rest) (one_front number rrset (suc signature) others x.2 y.2 x.5 y.5)
-    ∙ sym y.6
+  -- a request has one text for a file
+  pub one_text : (asked : Request) (file : List ℕ) → AreOctets file → (a b : List ℕ) → IsTextOf asked file a → IsTextOf asked file b → a ≡ b
+  one_text (request.Show capture) file are a b x y =
+      x.2 ∙ ap (texts_from message_text 1) (one_holding AnyMessage file are x.0 y.0 x.1 y.1) ∙ sym y.2
+  one_text (request.List capture moment) file are a b x y =
+      one_lines 1 (evidence_of x.0).rrsets a b x.2
+      (subst (λ messages. RrsetLines 1 (evidence_of messages).rrsets b) (one_holding NewEvidence file are y.0 x.0 y.1 x.1) y.2)
 
-one_lines : (number : ℕ) (rrsets : List ReceivedRrset) (a b : List ℕ) → RrsetLines number rrsets a → RrsetLines number rrsets b → a ≡ b
-one_lines number [] a b x y = x ∙ sym y
-one_lines number (rrset ∷ rrsets) a b x y =
-    x.4 ∙ ap (λ front. front ++ x.1) (one_front number rrset 1 rrset.signatures x.0 y.0 x.2 y.2)
-    ∙ ap (λ rest. y.0 ++ rest) (one_lines (suc number) rrsets x.1 y.1 x.3 y.3)
-    ∙ sym y.4
+  -- ---- the refusal
 
-one_taken : (demand : Demand) (held : Evidence) (frames : List (List ℕ)) (a b : List Contents) → AllByRecursion AreOctets frames → AllTaken demand held frames a → AllTaken demand held frames b → a ≡ b
-one_taken demand held [] [] [] are x y = refl
-one_taken demand held [] [] (n ∷ b) are x y = absurd y
-one_taken demand held [] (m ∷ a) b are x y = absurd x
-one_taken demand held (octets ∷ frames) [] b are x y = absurd x
-one_taken demand held (octets ∷ frames) (m ∷ a) [] are x y = absurd y
-one_taken demand held (octets ∷ frames) (m ∷ a) (n ∷ b) are x y =
-    let first : m ≡ n = MessageOf_same octets (octet_fits octets are.0) m n x.0.0 y.0.0 in
-    ap (λ message. message ∷ a) first
-    ∙ ap (λ messages. n ∷ messages)
-    (one_taken demand (with_message held n) frames a b are.1 (subst (λ message. AllTaken demand (with_message held message) frames a) first x.1) y.1)
+  told_once : (error : DecodeError) (a b : Refusal) (m n : Option ℕ) → TellsMessageError error a m → TellsMessageError error b n → (a ≡ b) × (m ≡ n)
+  told_once decode.OutOfMemory a b m n x y = absurd x
+  told_once decode.Short a b m n x y = (x.0 ∙ sym y.0, x.1 ∙ sym y.1)
+  told_once decode.BadLabel a b m n x y = (x.0 ∙ sym y.0, x.1 ∙ sym y.1)
+  told_once decode.BadPointer a b m n x y = (x.0 ∙ sym y.0, x.1 ∙ sym y.1)
+  told_once decode.TooManyPointers a b m n x y = (x.0 ∙ sym y.0, x.1 ∙ sym y.1)
+  told_once decode.LongName a b m n x y = (x.0 ∙ sym y.0, x.1 ∙ sym y.1)
+  told_once (decode.BadRdata k) a b m n x y = (x.0 ∙ sym y.0, x.1 ∙ sym y.1)
+  told_once decode.TrailingBytes a b m n x y = (x.0 ∙ sym y.0, x.1 ∙ sym y.1)
 
--- a file holds its messages alone
-one_holding : (demand : Demand) (file : List ℕ) → AreOctets file → (a b : List Contents) → Holds demand file a → Holds demand file b → a ≡ b
-one_holding demand file are a b x y =
-    let frames = one_capture file y.frames x.frames y.captured x.captured in
-    one_taken demand no_evidence x.frames a b (captured_octets file x.frames are x.captured) x.taken
-    (subst (λ frames. AllTaken demand no_evidence frames b) frames y.taken)
+  same_place : (p q : Place) → p.message ≡ q.message → p.record ≡ q.record → p.line ≡ q.line → p ≡ q
+  same_place p q messages records lines = λ i. record { message = messages i; «record» = records i; line = lines i }
 
--- a request has one text for a file
-pub one_text : (asked : Request) (file : List ℕ) → AreOctets file → (a b : List ℕ) → IsTextOf asked file a → IsTextOf asked file b → a ≡ b
-one_text (request.Show capture) file are a b x y =
-    x.2 ∙ ap (texts_from message_text 1) (one_holding AnyMessage file are x.0 y.0 x.1 y.1) ∙ sym y.2
-one_text (request.List capture moment) file are a b x y =
-    one_lines 1 (evidence_of x.0).rrsets a b x.2
-    (subst (λ messages. RrsetLines 1 (evidence_of messages).rrsets b) (one_holding NewEvidence file are y.0 x.0 y.1 x.1) y.2)
+  same_nowhere : (p q : Place) → IsNowhere p → IsNowhere q → p ≡ q
+  same_nowhere p q x y = same_place p q (x.0 ∙ sym y.0) (x.1 ∙ sym y.1) (x.2 ∙ sym y.2)
 
--- ---- the refusal
+  -- ---- the messages that are asked for
 
-told_once : (error : DecodeError) (a b : Refusal) (m n : Option ℕ) → TellsMessageError error a m → TellsMessageError error b n → (a ≡ b) × (m ≡ n)
-told_once decode.OutOfMemory a b m n x y = absurd x
-told_once decode.Short a b m n x y = (x.0 ∙ sym y.0, x.1 ∙ sym y.1)
-told_once decode.BadLabel a b m n x y = (x.0 ∙ sym y.0, x.1 ∙ sym y.1)
-told_once decode.BadPointer a b m n x y = (x.0 ∙ sym y.0, x.1 ∙ sym y.1)
-told_once decode.TooManyPointers a b m n x y = (x.0 ∙ sym y.0, x.1 ∙ sym y.1)
-told_once decode.LongName a b m n x y = (x.0 ∙ sym y.0, x.1 ∙ sym y.1)
-told_once (decode.BadRdata k) a b m n x y = (x.0 ∙ sym y.0, x.1 ∙ sym y.1)
-told_once decode.TrailingBytes a b m n x y = (x.0 ∙ sym y.0, x.1 ∙ sym y.1)
+  meets_or_fails : (demand : Demand) (held : Evidence) (message : Contents) (why : Refusal) (n : Option ℕ) → Meets demand held message → Fails demand held message why n → ⊥
+  meets_or_fails AnyMessage held message why n meets fails = fails
+  meets_or_fails NewEvidence held message why n meets fails = taken_or_refused held message fails.0 why n meets fails.1 fails.2
 
-same_place : (p q : Place) → p.message ≡ q.message → p.record ≡ q.record → p.line ≡ q.line → p ≡ q
-same_place p q messages records lines = λ i. record { message = messages i; «record» = records i; line = lines i }
+  fails_once : (demand : Demand) (held : Evidence) (message : Contents) (a b : Refusal) (m n : Option ℕ) → Fails demand held message a m → Fails demand held message b n → (a ≡ b) × (m ≡ n)
+  fails_once AnyMessage held message a b m n x y = absurd x
+  fails_once NewEvidence held message a b m n x y = one_reason held message x.0 y.0 a b m n x.1 y.1 x.2 y.2
 
-same_nowhere : (p q : Place) → IsNowhere p → IsNowhere q → p ≡ q
-same_nowhere p q x y = same_place p q (x.0 ∙ sym y.0) (x.1 ∙ sym y.1) (x.2 ∙ sym y.2)
+  module _ (octets : List ℕ) (are : AreOctets octets) where
+    same_message : (m n : Contents) → MessageOf octets m → MessageOf octets n → m ≡ n
+    same_message = laws.one_message octets are
 
--- ---- the messages that are asked for
+    no_fault : (m : Contents) (error : DecodeError) → MessageOf octets m → FaultOf octets error → ⊥
+    no_fault = laws.no_fault_of_a_message octets are
 
-meets_or_fails : (demand : Demand) (held : Evidence) (message : Contents) (why : Refusal) (n : Option ℕ) → Meets demand held message → Fails demand held message why n → ⊥
-meets_or_fails AnyMessage held message why n meets fails = fails
-meets_or_fails NewEvidence held message why n meets fails = taken_or_refused held message fails.0 why n meets fails.1 fails.2
+    module _ (demand : Demand) (held : Evidence) where
+      -- a message that is taken isn't refused
+      taken_stands : (message : Contents) (why : Refusal) (n : Option ℕ) → MessageOf octets message × Meets demand held message → MessageRefused demand held octets why n → ⊥
+      taken_stands message why n taken (inl fault) = no_fault message fault.0 taken.0 fault.1
+      taken_stands message why n taken (inr failed) =
+          meets_or_fails demand held message why n taken.1
+          (subst (λ (m : Contents). Fails demand held m why n) (same_message failed.0 message failed.1 taken.0) failed.2)
 
-fails_once : (demand : Demand) (held : Evidence) (message : Contents) (a b : Refusal) (m n : Option ℕ) → Fails demand held message a m → Fails demand held message b n → (a ≡ b) × (m ≡ n)
-fails_once AnyMessage held message a b m n x y = absurd x
-fails_once NewEvidence held message a b m n x y = one_reason held message x.0 y.0 a b m n x.1 y.1 x.2 y.2
+      refused_once : (a b : Refusal) (m n : Option ℕ) → MessageRefused demand held octets a m → MessageRefused demand held octets b n → (a ≡ b) × (m ≡ n)
+      refused_once a b m n (inl x) (inl y) =
+          told_once x.0 a b m n x.2 (subst (λ error. TellsMessageError error b n) (laws.one_fault octets are y.0 x.0 y.1 x.1) y.2)
+      refused_once a b m n (inl x) (inr y) = absurd (no_fault y.0 x.0 y.1 x.1)
+      refused_once a b m n (inr x) (inl y) = absurd (no_fault x.0 y.0 x.1 y.1)
+      refused_once a b m n (inr x) (inr y) =
+          fails_once demand held x.0 a b m n x.2 (subst (λ (message : Contents). Fails demand held message b n) (same_message y.0 x.0 y.1 x.1) y.2)
 
-module _ (octets : List ℕ) (are : AreOctets octets) where
-  same_message : (m n : Contents) → MessageOf octets m → MessageOf octets n → m ≡ n
-  same_message = MessageOf_same octets (octet_fits octets are)
+  all_stand : (demand : Demand) (held : Evidence) (number : ℕ) (frames : List (List ℕ)) (messages : List Contents) (why : Refusal) (place : Place) → AllByRecursion AreOctets frames
+      → AllTaken demand held frames messages → FirstRefused demand held number frames why place → ⊥
+  all_stand demand held number [] messages why place are taken refused = refused
+  all_stand demand held number (octets ∷ frames) [] why place are taken refused = taken
+  all_stand demand held number (octets ∷ frames) (message ∷ messages) why place are taken (inl here) =
+      taken_stands octets are.0 demand held message why place.record taken.0 here.0
+  all_stand demand held number (octets ∷ frames) (message ∷ messages) why place are taken (inr later) =
+      all_stand demand (with_message held message) (suc number) frames messages why place are.1 taken.1
+      (subst (λ (m : Contents). FirstRefused demand (with_message held m) (suc number) frames why place) (same_message octets are.0 later.0 message later.1.0 taken.0.0) later.2)
 
-  no_fault : (m : Contents) (error : DecodeError) → MessageOf octets m → FaultOf octets error → ⊥
-  no_fault = MessageOf_sound octets (octet_fits octets are)
+  first_once : (demand : Demand) (held : Evidence) (number : ℕ) (frames : List (List ℕ)) (a b : Refusal) (p q : Place) → AllByRecursion AreOctets frames
+      → FirstRefused demand held number frames a p → FirstRefused demand held number frames b q → (a ≡ b) × (p ≡ q)
+  first_once demand held number [] a b p q are x y = absurd x
+  first_once demand held number (octets ∷ frames) a b p q are (inl x) (inl y) =
+      let same = refused_once octets are.0 demand held a b p.record q.record x.0 y.0 in
+      (same.0, same_place p q (x.1 ∙ sym y.1) same.1 (x.2 ∙ sym y.2))
+  first_once demand held number (octets ∷ frames) a b p q are (inl x) (inr y) = absurd (taken_stands octets are.0 demand held y.0 a p.record y.1 x.0)
+  first_once demand held number (octets ∷ frames) a b p q are (inr x) (inl y) = absurd (taken_stands octets are.0 demand held x.0 b q.record x.1 y.0)
+  first_once demand held number (octets ∷ frames) a b p q are (inr x) (inr y) =
+      first_once demand (with_message held x.0) (suc number) frames a b p q are.1 x.2
+      (subst (λ (m : Contents). FirstRefused demand (with_message held m) (suc number) frames b q) (same_message octets are.0 y.0 x.0 y.1.0 x.1.0) y.2)
 
-  module _ (demand : Demand) (held : Evidence) where
-    -- a message that is taken isn't refused
-    taken_stands : (message : Contents) (why : Refusal) (n : Option ℕ) → MessageOf octets message × Meets demand held message → MessageRefused demand held octets why n → ⊥
-    taken_stands message why n taken (inl fault) = no_fault message fault.0 taken.0 fault.1
-    taken_stands message why n taken (inr failed) =
-        meets_or_fails demand held message why n taken.1
-        (subst (λ (m : Contents). Fails demand held m why n) (same_message failed.0 message failed.1 taken.0) failed.2)
+  -- a file whose messages are taken isn't refused
+  holding_stands : (demand : Demand) (file : List ℕ) → AreOctets file → (messages : List Contents) (why : Refusal) (place : Place) → Holds demand file messages → IsRefusal demand file why place → ⊥
+  holding_stands demand file are messages why place x (inl zero) = (laws.messages_alone file x.frames x.captured).0 zero.0
+  holding_stands demand file are messages why place x (inr (inl torn)) = (laws.messages_alone file x.frames x.captured).1 torn.0
+  holding_stands demand file are messages why place x (inr (inr y)) =
+      all_stand demand no_evidence 1 x.frames messages why place (laws.capture_octets file x.frames are x.captured) x.taken
+      (subst (λ frames. FirstRefused demand no_evidence 1 frames why place) (laws.one_capture file y.0 x.frames y.1 x.captured) y.2)
 
-    refused_once : (a b : Refusal) (m n : Option ℕ) → MessageRefused demand held octets a m → MessageRefused demand held octets b n → (a ≡ b) × (m ≡ n)
-    refused_once a b m n (inl x) (inl y) =
-        told_once x.0 a b m n x.2 (subst (λ error. TellsMessageError error b n) (FaultOf_same octets (octet_fits octets are) y.0 x.0 y.1 x.1) y.2)
-    refused_once a b m n (inl x) (inr y) = absurd (no_fault y.0 x.0 y.1 x.1)
-    refused_once a b m n (inr x) (inl y) = absurd (no_fault x.0 y.0 x.1 y.1)
-    refused_once a b m n (inr x) (inr y) =
-        fails_once demand held x.0 a b m n x.2 (subst (λ (message : Contents). Fails demand held message b n) (same_message y.0 x.0 y.1 x.1) y.2)
+  -- a file that has a text isn't refused
+  pub text_stands : (asked : Request) (file : List ℕ) → AreOctets file → (text : List ℕ) (why : Refusal) (place : Place) → IsTextOf asked file text → IsRefusalOf asked file why place → ⊥
+  text_stands (request.Show capture) file are text why place x refused = holding_stands AnyMessage file are x.0 why place x.1 refused
+  text_stands (request.List capture moment) file are text why place x refused = holding_stands NewEvidence file are x.0 why place x.1 refused
 
-all_stand : (demand : Demand) (held : Evidence) (number : ℕ) (frames : List (List ℕ)) (messages : List Contents) (why : Refusal) (place : Place) → AllByRecursion AreOctets frames
-    → AllTaken demand held frames messages → FirstRefused demand held number frames why place → ⊥
-all_stand demand held number [] messages why place are taken refused = refused
-all_stand demand held number (octets ∷ frames) [] why place are taken refused = taken
-all_stand demand held number (octets ∷ frames) (message ∷ messages) why place are taken (inl here) =
-    taken_stands octets are.0 demand held message why place.record taken.0 here.0
-all_stand demand held number (octets ∷ frames) (message ∷ messages) why place are taken (inr later) =
-    all_stand demand (with_message held message) (suc number) frames messages why place are.1 taken.1
-    (subst (λ (m : Contents). FirstRefused demand (with_message held m) (suc number) frames why place) (same_message octets are.0 later.0 message later.1.0 taken.0.0) later.2)
+  -- a file has one refusal
+  one_refusal : (demand : Demand) (file : List ℕ) → AreOctets file → (a b : Refusal) (p q : Place) → IsRefusal demand file a p → IsRefusal demand file b q → (a ≡ b) × (p ≡ q)
+  one_refusal demand file are a b p q (inl x) (inl y) = (x.1 ∙ sym y.1, same_nowhere p q x.2 y.2)
+  one_refusal demand file are a b p q (inl x) (inr (inl y)) = absurd ((laws.zero_length_alone file x.0).0 y.0)
+  one_refusal demand file are a b p q (inl x) (inr (inr y)) = absurd ((laws.messages_alone file y.0 y.1).0 x.0)
+  one_refusal demand file are a b p q (inr (inl x)) (inl y) = absurd ((laws.zero_length_alone file y.0).0 x.0)
+  one_refusal demand file are a b p q (inr (inl x)) (inr (inl y)) = (x.1 ∙ sym y.1, same_nowhere p q x.2 y.2)
+  one_refusal demand file are a b p q (inr (inl x)) (inr (inr y)) = absurd ((laws.messages_alone file y.0 y.1).1 x.0)
+  one_refusal demand file are a b p q (inr (inr x)) (inl y) = absurd ((laws.messages_alone file x.0 x.1).0 y.0)
+  one_refusal demand file are a b p q (inr (inr x)) (inr (inl y)) = absurd ((laws.messages_alone file x.0 x.1).1 y.0)
+  one_refusal demand file are a b p q (inr (inr x)) (inr (inr y)) =
+      first_once demand no_evidence 1 x.0 a b p q (laws.capture_octets file x.0 are x.1) x.2
+      (subst (λ frames. FirstRefused demand no_evidence 1 frames b q) (laws.one_capture file y.0 x.0 y.1 x.1) y.2)
 
-first_once : (demand : Demand) (held : Evidence) (number : ℕ) (frames : List (List ℕ)) (a b : Refusal) (p q : Place) → AllByRecursion AreOctets frames
-    → FirstRefused demand held number frames a p → FirstRefused demand held number frames b q → (a ≡ b) × (p ≡ q)
-first_once demand held number [] a b p q are x y = absurd x
-first_once demand held number (octets ∷ frames) a b p q are (inl x) (inl y) =
-    let same = refused_once octets are.0 demand held a b p.record q.record x.0 y.0 in
-    (same.0, same_place p q (x.1 ∙ sym y.1) same.1 (x.2 ∙ sym y.2))
-first_once demand held number (octets ∷ frames) a b p q are (inl x) (inr y) = absurd (taken_stands octets are.0 demand held y.0 a p.record y.1 x.0)
-first_once demand held number (octets ∷ frames) a b p q are (inr x) (inl y) = absurd (taken_stands octets are.0 demand held x.0 b q.record x.1 y.0)
-first_once demand held number (octets ∷ frames) a b p q are (inr x) (inr y) =
-    first_once demand (with_message held x.0) (suc number) frames a b p q are.1 x.2
-    (subst (λ (m : Contents). FirstRefused demand (with_message held m) (suc number) frames b q) (same_message octets are.0 y.0 x.0 y.1.0 x.1.0) y.2)
-
--- a file whose messages are taken isn't refused
-holding_stands : (demand : Demand) (file : List ℕ) → AreOctets file → (messages : List Contents) (why : Refusal) (place : Place) → Holds demand file messages → IsRefusal demand file why place → ⊥
-holding_stands demand file are messages why place x (inl zero) = (messages_alone file x.frames x.captured).0 zero.0
-holding_stands demand file are messages why place x (inr (inl torn)) = (messages_alone file x.frames x.captured).1 torn.0
-holding_stands demand file are messages why place x (inr (inr y)) =
-    all_stand demand no_evidence 1 x.frames messages why place (captured_octets file x.frames are x.captured) x.taken
-    (subst (λ frames. FirstRefused demand no_evidence 1 frames why place) (one_capture file y.0 x.frames y.1 x.captured) y.2)
-
--- a file that has a text isn't refused
-pub text_stands : (asked : Request) (file : List ℕ) → AreOctets file → (text : List ℕ) (why : Refusal) (place : Place) → IsTextOf asked file text → IsRefusalOf asked file why place → ⊥
-text_stands (request.Show capture) file are text why place x refused = holding_stands AnyMessage file are x.0 why place x.1 refused
-text_stands (request.List capture moment) file are text why place x refused = holding_stands NewEvidence file are x.0 why place x.1 refused
-
--- a file has one refusal
-one_refusal : (demand : Demand) (file : List ℕ) → AreOctets file → (a b : Refusal) (p q : Place) → IsRefusal demand file a p → IsRefusal demand file b q → (a ≡ b) × (p ≡ q)
-one_refusal demand file are a b p q (inl x) (inl y) = (x.1 ∙ sym y.1, same_nowhere p q x.2 y.2)
-one_refusal demand file are a b p q (inl x) (inr (inl y)) = absurd ((zero_length_alone file x.0).0 y.0)
-one_refusal demand file are a b p q (inl x) (inr (inr y)) = absurd ((messages_alone file y.0 y.1).0 x.0)
-one_refusal demand file are a b p q (inr (inl x)) (inl y) = absurd ((zero_length_alone file y.0).0 x.0)
-one_refusal demand file are a b p q (inr (inl x)) (inr (inl y)) = (x.1 ∙ sym y.1, same_nowhere p q x.2 y.2)
-one_refusal demand file are a b p q (inr (inl x)) (inr (inr y)) = absurd ((messages_alone file y.0 y.1).1 x.0)
-one_refusal demand file are a b p q (inr (inr x)) (inl y) = absurd ((messages_alone file x.0 x.1).0 y.0)
-one_refusal demand file are a b p q (inr (inr x)) (inr (inl y)) = absurd ((messages_alone file x.0 x.1).1 y.0)
-one_refusal demand file are a b p q (inr (inr x)) (inr (inr y)) =
-    first_once demand no_evidence 1 x.0 a b p q (captured_octets file x.0 are x.1) x.2
-    (subst (λ frames. FirstRefused demand no_evidence 1 frames b q) (one_capture file y.0 x.0 y.1 x.1) y.2)
-
-pub one_refusal_of : (asked : Request) (file : List ℕ) → AreOctets file → (a b : Refusal) (p q : Place) → IsRefusalOf asked file a p → IsRefusalOf asked file b q → (a ≡ b) × (p ≡ q)
-one_refusal_of asked = one_refusal (demand_of asked)
+  pub one_refusal_of : (asked : Request) (file : List ℕ) → AreOctets file → (a b : Refusal) (p q : Place) → IsRefusalOf asked file a p → IsRefusalOf asked file b q → (a ≡ b) × (p ≡ q)
+  one_refusal_of asked = one_refusal (demand_of asked)

@@ -9,25 +9,48 @@ ghost use Rattle.dnssec_check.specs.declared.line.Request.{Request};
 ghost use Rattle.dnssec_check.specs.declared.status.Place.{Place};
 ghost use Rattle.dnssec_check.specs.declared.status.Refusal.{Refusal};
 
-use dnsv_message::{message_or_fault, one_answer};
+use dnsv_canonical::one_signed_data;
+use dnsv_message::{message_or_fault, no_fault_of_a_message, one_answer, one_fault, one_message};
+use dnsv_records::record_laws;
 
 /// A request has at most one text for a file.
 pub fn one_text()
     ensures { (asked : Request) (file : List ℕ) → AreOctets file → (a b : List ℕ)
         → IsTextOf asked file a → IsTextOf asked file b → a ≡ b }
-{}
+{
+    one_message();
+    no_fault_of_a_message();
+    one_fault();
+    one_answer();
+    record_laws();
+    one_signed_data();
+}
 
 /// A file for which a request has a text isn't refused.
 pub fn no_refusal_of_a_text()
     ensures { (asked : Request) (file : List ℕ) → AreOctets file → (text : List ℕ) (why : Refusal) (place : Place)
         → IsTextOf asked file text → IsRefusalOf asked file why place → ⊥ }
-{}
+{
+    one_message();
+    no_fault_of_a_message();
+    one_fault();
+    one_answer();
+    record_laws();
+    one_signed_data();
+}
 
 /// A request refuses a file for at most one reason, at one place.
 pub fn one_refusal()
     ensures { (asked : Request) (file : List ℕ) → AreOctets file → (a b : Refusal) (p q : Place)
         → IsRefusalOf asked file a p → IsRefusalOf asked file b q → (a ≡ b) × (p ≡ q) }
-{}
+{
+    one_message();
+    no_fault_of_a_message();
+    one_fault();
+    one_answer();
+    record_laws();
+    one_signed_data();
+}
 
 /// A file of octets is shown, or refused, or has an octet too many.
 pub fn every_file_is_shown_or_refused()
