@@ -1,5 +1,5 @@
 -- The octets that are written for a message are the message.
-use Rattle.std.proofs.Common.{◌≡◌, ℕ, ◌+◌, ◌^◌, ◌<◌, ◌≤◌, List, [], ◌∷◌, ◌++◌, length, get_or, drop, false, All, refl, sym, ap, subst, ◌∙◌, arith, append_assoc, length-append, length-take, length-drop}
+use Rattle.std.proofs.Common.{◌≡◌, ℕ, ◌+◌, ◌^◌, ◌<◌, ◌≤◌, List, [], ◌∷◌, ◌++◌, length, drop, false, All, refl, sym, ap, subst, ◌∙◌, arith, append_assoc, length-append, length-take, length-drop}
 use Rattle.std.specs.Prelude.{flat_map}
 use Rattle.std.specs.Int.{w16, w32, to_be_bytes, bytes_high_first}
 use Rattle.std.proofs.lemmas.List.{take-append-drop, take_all}
@@ -7,22 +7,21 @@ use Rattle.std.proofs.lemmas.List.Elements.{All-from_recursion}
 use Rattle.std.proofs.lemmas.Grind.{flat_map-append}
 use Rattle.std.specs.List.{AllByRecursion}
 use Rattle.byteorder.specs.Endian.{big_from}
-use Rattle.byteorder.specs.Numbers.{big_number-reads_back, big_from-lt, length-bytes_high_first}
-use Rattle.dnsv_names.specs.Name.{IsName, wire}
-use Rattle.dnsv_message.specs.declared.rdata.Layout.{Layout}
+use Rattle.byteorder.specs.Numbers.{big_number-reads_back, length-bytes_high_first}
+use Rattle.dnsv_names.specs.Name.{wire}
 use Rattle.dnsv_message.specs.declared.record.Question.{Question}
 use Rattle.dnsv_message.specs.declared.record.Record.{Record}
 use Rattle.dnsv_message.specs.Message.{Contents, records_of}
 use Rattle.dnsv_message.specs.Layout.{layout_of}
 use Rattle.dnsv_message.specs.NameAt.{NumberAt}
-use Rattle.dnsv_message.specs.Grammar.{InOrder, QuestionAt, RecordAt, MessageOf, IsMessage}
+use Rattle.dnsv_message.specs.Grammar.{InOrder, QuestionAt, RecordAt, IsMessage}
 use Rattle.dnsv_message.specs.Fits.{FitsQuestion, FitsRecord, FitsMessage}
-use Rattle.dnsv_message.specs.Encoding.{question_octets, record_octets, header_octets, message_octets, plain_layout, PlainQuestionAt, PlainRecordAt, PlainMessageOf}
-use Rattle.dnsv_message.proofs.Numbers.{number_behind, octet_fits}
+use Rattle.dnsv_message.specs.Encoding.{question_octets, record_octets, header_octets, message_octets, PlainQuestionAt, PlainRecordAt, PlainMessageOf}
+use Rattle.dnsv_message.proofs.Numbers.{number_behind}
 use Rattle.dnsv_message.proofs.NameWalk.{part_within}
 use Rattle.dnsv_message.proofs.Sequences.{InOrder-append}
 use Rattle.dnsv_message.proofs.RecordParts.{up_to_type, up_to_class, up_to_ttl, up_to_size, length-up_to_type, length-up_to_class, length-up_to_ttl, length-up_to_size}
-use Rattle.dnsv_message.proofs.RdataWritten.{Stands, Stands-end, InOrder-stands, InOrder-each, InOrder-map, name_is, name_stands, rdata_stands}
+use Rattle.dnsv_message.proofs.RdataWritten.{Stands, Stands-end, InOrder-stands, InOrder-map, name_stands, rdata_stands}
 use Rattle.dnsv_message.proofs.FitLemmas.{IsMessage-fits, answer_fits, authority_fits, additional_fits}
 
 -- a number in its octets is read as it is

@@ -5,7 +5,7 @@ use Rattle.dnsv_names.specs.Name.{Labels}
 use Rattle.dnsv_names.specs.Octets.{number_at}
 use Rattle.dnsv_message.specs.declared.errors.NameFault.{NameFault}
 use Rattle.dnsv_message.specs.declared.errors.DecodeError.{DecodeError}
-use Rattle.dnsv_message.specs.declared.errors.DecodeError.TheVariants.{OutOfMemory, Short, BadRdata, TrailingBytes}
+use Rattle.dnsv_message.specs.declared.errors.DecodeError.TheVariants.{OutOfMemory, Short, BadRdata}
 use Rattle.dnsv_message.specs.declared.record.Question.{Question}
 use Rattle.dnsv_message.specs.declared.record.Record.{Record}
 use Rattle.dnsv_message.specs.Errors.{decode_error_of}

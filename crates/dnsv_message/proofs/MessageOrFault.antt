@@ -1,9 +1,9 @@
 -- Every list of octets is a message, or has a fault.
-use Rattle.std.proofs.Common.{◌≡◌, ◌⊎◌, inl, inr, ⊎_elim, ℕ, zero, suc, ◌+◌, ◌-◌, ◌*◌, ◌^◌, ◌<◌, ◌≤◌, Bool, true, false, Option, Some, None, List, [], ◌∷◌, ◌++◌, length, get_or, take, drop, refl, sym, ap, subst, ◌∙◌, arith, length-append}
+use Rattle.std.proofs.Common.{◌≡◌, ◌⊎◌, inl, inr, ⊎_elim, ℕ, zero, suc, ◌+◌, ◌-◌, ◌<◌, ◌≤◌, Bool, true, false, Option, Some, None, List, [], ◌∷◌, ◌++◌, length, get_or, take, refl, sym, ap, subst, ◌∙◌, arith, length-append}
 use Rattle.std.specs.Prelude.{flat_map}
 use Rattle.std.proofs.lemmas.Bool.{cases_lt}
 use Rattle.std.proofs.lemmas.List.{drop_more}
-use Rattle.dnsv_names.specs.Name.{Labels, IsName, wire}
+use Rattle.dnsv_names.specs.Name.{Labels, wire}
 use Rattle.dnsv_names.specs.Octets.{number_at}
 use Rattle.dnsv_message.specs.declared.errors.NameFault.{NameFault}
 use Rattle.dnsv_message.specs.declared.errors.NameFault.TheVariants as name
@@ -15,10 +15,9 @@ use Rattle.dnsv_message.specs.declared.record.Record.{Record}
 use Rattle.dnsv_message.specs.Errors.{decode_error_of}
 use Rattle.dnsv_message.specs.Layout.{layout_of}
 use Rattle.dnsv_message.specs.Message.{Contents}
-use Rattle.dnsv_message.specs.NameAt.{NumberAt, PartAt, LabelAt, PointerAt, NameAt, root, label, pointer, NameFrom, NameFaultAt, here, after_label, after_pointer, NameFaultFrom, pointer_limit}
+use Rattle.dnsv_message.specs.NameAt.{NumberAt, LabelAt, PointerAt, NameAt, root, label, pointer, NameFrom, NameFaultAt, here, after_label, after_pointer, NameFaultFrom, pointer_limit}
 use Rattle.dnsv_message.specs.Grammar.{InOrder, FirstFault, QuestionAt, QuestionFaultAt, CutShort, RdataNameAt, RdataAt, IsTail, part_of, RecordHeadAt, RecordAt, RecordFaultAt, HeaderOf, RecordsFault, BodyFault, MessageOf, FaultOf}
 use Rattle.dnsv_message.proofs.Numbers.{label_here, number_sum, number_from}
-use Rattle.dnsv_message.proofs.NameWalk.{end_within}
 use Rattle.dnsv_message.proofs.NameLaws.{NameAt_same, NameAt_sound}
 use Rattle.dnsv_message.proofs.RdataLemmas.{NoName, plain_at, rdata_name, head_fits, names_same, names_missing}
 use Rattle.dnsv_message.proofs.RdataWritten.{Stands, labels_are}

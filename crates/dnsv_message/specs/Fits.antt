@@ -1,5 +1,5 @@
 -- What is true of every message: its names are names, its numbers fit their fields, and its RDATA is as its type asks.
-use Rattle.std.specs.Prelude.{ℕ, ◌<◌, ◌≤◌, ◌^◌, length}
+use Rattle.std.specs.Prelude.{◌<◌, ◌≤◌, ◌^◌, length}
 use Rattle.std.specs.List.{AllByRecursion}
 use Rattle.dnsv_names.specs.Name.{IsName}
 use Rattle.dnsv_names.specs.Octets.{AreOctets}

@@ -1,5 +1,4 @@
-use Rattle.std.proofs.Common.{◌≡◌, ◌-◌, ◌*◌, ◌^◌, ◌+◌, ◌≤◌, ◌<◌, ℕ, List, length, arith}
-use Rattle.dnsv_names.specs.Octets.{number_at}
+use Rattle.std.proofs.Common.{◌-◌, ◌^◌, ◌≤◌, ◌<◌, ℕ, List, arith}
 use Rattle.dnsv_message.specs.NameAt.{NumberAt, PointerAt}
 use Rattle.dnsv_message.proofs.Numbers.{number_sum}
 use Rattle.dnsv_message.proofs.name_at.pointer_step.Goals as goal
