@@ -11,5 +11,5 @@ returns c = one_refusal_of (record {
   zero_length_alone = c.one_answer.ensures.zero_length_alone;
   capture_octets = c.one_answer.ensures.octets;
   one_rrsig = c.record_laws.ensures.one_rrsig;
-  one_signed_data = c.one_signed_data.ensures;
+  one_signed_data = c.one_signed_data.ensures.one;
 })
