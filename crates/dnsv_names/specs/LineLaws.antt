@@ -28,7 +28,8 @@ pub lines_in-whole : (line : List ℕ) → 0 < length line → Lacks 10 line →
 lines_in-whole [] some lacks = absurd (omega (arith, some))
 lines_in-whole (x ∷ line) some lacks = lines_in-last (x ∷ line) lacks
 
-lines_in-flat_map : (ended : List (List ℕ)) (behind : List ℕ) → AllByRecursion (Lacks 10) ended → Lacks 10 behind → lines_in (flat_map (λ line. line ++ 10 ∷ []) ended ++ behind) ≡ ended ++ last_line behind
+lines_in-flat_map : (ended : List (List ℕ)) (behind : List ℕ) → AllByRecursion (Lacks 10) ended → Lacks 10 behind
+    → lines_in (flat_map (λ line. line ++ 10 ∷ []) ended ++ behind) ≡ ended ++ last_line behind
 lines_in-flat_map [] behind each last = lines_in-last behind last
 lines_in-flat_map (line ∷ ended) behind each last =
     rw (append_assoc (line ++ 10 ∷ []) (flat_map (λ line. line ++ 10 ∷ []) ended) behind, append_assoc line (10 ∷ []) (flat_map (λ line. line ++ 10 ∷ []) ended ++ behind), lines_in-ended line (flat_map (λ line. line ++ 10 ∷ []) ended ++ behind) each.0, lines_in-flat_map ended behind each.1 last) refl
@@ -38,13 +39,16 @@ pub AreLines-only : (text : List ℕ) (lines : List (List ℕ)) → AreLines tex
 AreLines-only text lines are =
     are.all ∙ sym (lines_in-flat_map are.ended are.behind are.each are.last) ∙ ap lines_in (sym are.octets)
 
-longer : (x : ℕ) (text : List ℕ) (ended : List (List ℕ)) (behind : List ℕ) → x ≢ 10 → AllByRecursion (Lacks 10) ended → Lacks 10 behind → text ≡ flat_map (λ line. line ++ 10 ∷ []) ended ++ behind → AreLines (x ∷ text) (lengthened x (ended ++ last_line behind))
+longer : (x : ℕ) (text : List ℕ) (ended : List (List ℕ)) (behind : List ℕ) → x ≢ 10 → AllByRecursion (Lacks 10) ended
+    → Lacks 10 behind → text ≡ flat_map (λ line. line ++ 10 ∷ []) ended ++ behind
+    → AreLines (x ∷ text) (lengthened x (ended ++ last_line behind))
 longer x text [] behind other each last octets =
     record { ended = []; behind = x ∷ behind; each = tt; last = (other, last); octets = ap (λ ys. x ∷ ys) octets; all = lengthened-last_line x behind }
 longer x text (line ∷ ended) behind other each last octets =
     record { ended = (x ∷ line) ∷ ended; behind = behind; each = ((other, each.0), each.1); last = last; octets = ap (λ ys. x ∷ ys) octets; all = refl }
 
-begun : (x : ℕ) (text : List ℕ) (b : Bool) → (x == 10) ≡ b → AreLines text (lines_in text) → AreLines (x ∷ text) (cond b ([] ∷ lines_in text) (lengthened x (lines_in text)))
+begun : (x : ℕ) (text : List ℕ) (b : Bool) → (x == 10) ≡ b → AreLines text (lines_in text)
+    → AreLines (x ∷ text) (cond b ([] ∷ lines_in text) (lengthened x (lines_in text)))
 begun x text true newline are =
     let same : x ≡ 10 = grind (arith, nat_tests) in
     record { ended = [] ∷ are.ended; behind = are.behind; each = (tt, are.each); last = are.last; octets = ap (λ y. y ∷ text) same ∙ ap (λ ys. 10 ∷ ys) are.octets; all = ap (λ lines. [] ∷ lines) are.all }
@@ -85,11 +89,14 @@ pub record HasPieces (text : List ℕ) (first : List ℕ) (more : List (List ℕ
   pub each : AllByRecursion (Lacks 32) (first ∷ more)
   pub parted : text ≡ join_with_byte 32 (first ∷ more)
 
-join-lengthened : (x : ℕ) (first : List ℕ) (more : List (List ℕ)) → join_with_byte 32 ((x ∷ first) ∷ more) ≡ x ∷ join_with_byte 32 (first ∷ more)
+join-lengthened : (x : ℕ) (first : List ℕ) (more : List (List ℕ))
+    → join_with_byte 32 ((x ∷ first) ∷ more) ≡ x ∷ join_with_byte 32 (first ∷ more)
 join-lengthened x first [] = refl
 join-lengthened x first (next ∷ more) = refl
 
-pieces_by : (x : ℕ) (text : List ℕ) (b : Bool) → (x == 32) ≡ b → (first : List ℕ) (more : List (List ℕ)) → HasPieces text first more → (f : List ℕ) × (m : List (List ℕ)) × (cond b ([] ∷ pieces_in text) (lengthened x (pieces_in text)) ≡ f ∷ m) × AllByRecursion (Lacks 32) (f ∷ m) × (x ∷ text ≡ join_with_byte 32 (f ∷ m))
+pieces_by : (x : ℕ) (text : List ℕ) (b : Bool) → (x == 32) ≡ b → (first : List ℕ) (more : List (List ℕ))
+    → HasPieces text first more
+    → (f : List ℕ) × (m : List (List ℕ)) × (cond b ([] ∷ pieces_in text) (lengthened x (pieces_in text)) ≡ f ∷ m) × AllByRecursion (Lacks 32) (f ∷ m) × (x ∷ text ≡ join_with_byte 32 (f ∷ m))
 pieces_by x text true space first more has =
     let same : x ≡ 32 = grind (arith, nat_tests) in
     ([], first ∷ more, ap (λ pieces. [] ∷ pieces) has.form, (tt, has.each), ap (λ y. y ∷ text) same ∙ ap (λ ys. 32 ∷ ys) has.parted)
@@ -106,17 +113,20 @@ pieces_of (x ∷ text) =
     (all.0, all.1, record { form = all.2; each = all.3; parted = all.4 })
 
 -- fields are the pieces of what they are joined to
-pieces_in-joined : (field : List ℕ) (fields : List (List ℕ)) → AllByRecursion IsField (field ∷ fields) → pieces_in (join_with_byte 32 (field ∷ fields)) ≡ field ∷ fields
+pieces_in-joined : (field : List ℕ) (fields : List (List ℕ)) → AllByRecursion IsField (field ∷ fields)
+    → pieces_in (join_with_byte 32 (field ∷ fields)) ≡ field ∷ fields
 pieces_in-joined field [] each = pieces_in-last field each.0.no_space
 pieces_in-joined field (next ∷ fields) each =
     pieces_in-field field (join_with_byte 32 (next ∷ fields)) each.0.no_space
     ∙ ap (λ pieces. field ∷ pieces) (pieces_in-joined next fields each.1)
 
-pub pieces_in-fields : (line : List ℕ) (fields : List (List ℕ)) → line ≢ [] → AreFields line fields → pieces_in line ≡ fields
+pub pieces_in-fields : (line : List ℕ) (fields : List (List ℕ)) → line ≢ [] → AreFields line fields
+    → pieces_in line ≡ fields
 pieces_in-fields line [] some are = absurd (some are.parted)
 pieces_in-fields line (field ∷ fields) some are = ap pieces_in are.parted ∙ pieces_in-joined field fields are.each
 
-joined_some : (field : List ℕ) (fields : List (List ℕ)) → AllByRecursion IsField (field ∷ fields) → join_with_byte 32 (field ∷ fields) ≢ []
+joined_some : (field : List ℕ) (fields : List (List ℕ)) → AllByRecursion IsField (field ∷ fields)
+    → join_with_byte 32 (field ∷ fields) ≢ []
 joined_some [] fields each e = absurd (each.0.some refl)
 joined_some (x ∷ field) [] each e = cc
 joined_some (x ∷ field) (next ∷ fields) each e = cc

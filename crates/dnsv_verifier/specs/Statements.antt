@@ -38,7 +38,8 @@ pub record States (line : List ℕ) (entry : Entry) (word : Word) : Type 0 where
 -- statements that lines make, one each
 abbrev pub AreStatements : List NumberedLine → List (Entry × Word) → Type 0
 AreStatements [] [] = Unit {0}
-AreStatements (line ∷ lines) (statement ∷ statements) = States line.octets statement.0 statement.1 × AreStatements lines statements
+AreStatements (line ∷ lines) (statement ∷ statements) =
+    States line.octets statement.0 statement.1 × AreStatements lines statements
 AreStatements [] (statement ∷ statements) = ⊥
 AreStatements (line ∷ lines) [] = ⊥
 
@@ -61,7 +62,8 @@ IsFaultOfLine (Syntax number) line before =
     (number ≡ line.number) × ((entry : Entry) (word : Word) → States line.octets entry word → ⊥)
 -- an entry that it calls good was called bad, or the other way round
 IsFaultOfLine (Contradiction number) line before =
-    (number ≡ line.number) × ((entry : Entry) × (word : Word) × States line.octets entry word × Contains before (entry, other_word word))
+    (number ≡ line.number)
+    × ((entry : Entry) × (word : Word) × States line.octets entry word × Contains before (entry, other_word word))
 
 -- the first fault of a file: the lines before it are statements that agree
 pub record IsFaultOf (text : List ℕ) (fault : StatementsError) : Type 0 where

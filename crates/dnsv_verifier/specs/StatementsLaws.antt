@@ -48,7 +48,8 @@ States-only line a b first second =
     λ i. (record { algorithm = record { 0 = algorithm_is i }; key = key_is i; signed_data = data_is i; signature = signature_is i }, word_is i)
 
 -- lines make one list of statements
-AreStatements-only : (lines : List NumberedLine) (a b : List (Entry × Word)) → AreStatements lines a → AreStatements lines b → a ≡ b
+AreStatements-only : (lines : List NumberedLine) (a b : List (Entry × Word)) → AreStatements lines a
+    → AreStatements lines b → a ≡ b
 AreStatements-only [] [] [] first second = refl
 AreStatements-only [] [] (y ∷ b) first second = absurd second
 AreStatements-only [] (x ∷ a) b first second = absurd first
@@ -58,7 +59,9 @@ AreStatements-only (line ∷ lines) (x ∷ a) (y ∷ b) first second =
     ap (λ z. z ∷ a) (States-only line.octets x y first.0 second.0) ∙ ap (λ zs. y ∷ zs) (AreStatements-only lines a b first.1 second.1)
 
 -- what a line behind others states
-stated_behind : (before : List NumberedLine) (line : NumberedLine) (more : List NumberedLine) (first all : List (Entry × Word)) → AreStatements before first → AreStatements (before ++ line ∷ more) all → (statement : Entry × Word) × (rest : List (Entry × Word)) × (all ≡ first ++ statement ∷ rest) × States line.octets statement.0 statement.1
+stated_behind : (before : List NumberedLine) (line : NumberedLine) (more : List NumberedLine) (first all : List (Entry × Word))
+    → AreStatements before first → AreStatements (before ++ line ∷ more) all
+    → (statement : Entry × Word) × (rest : List (Entry × Word)) × (all ≡ first ++ statement ∷ rest) × States line.octets statement.0 statement.1
 stated_behind [] line more [] [] each whole = absurd whole
 stated_behind [] line more [] (s ∷ all) each whole = (s, all, refl, whole.0)
 stated_behind [] line more (x ∷ first) all each whole = absurd each
@@ -69,12 +72,15 @@ stated_behind (l ∷ before) line more (x ∷ first) (s ∷ all) each whole =
     let same = States-only l.octets s x whole.0 each.0 in
     (behind.0, behind.1, ap (λ z. z ∷ all) same ∙ ap (λ zs. x ∷ zs) behind.2, behind.3)
 
-clash : (all : List (Entry × Word)) (entry : Entry) (word : Word) → Agree all → Contains all (entry, word) → Contains all (entry, other_word word) → ⊥
+clash : (all : List (Entry × Word)) (entry : Entry) (word : Word) → Agree all → Contains all (entry, word)
+    → Contains all (entry, other_word word) → ⊥
 clash all entry Good agree one other = agree entry one other
 clash all entry Bad agree one other = agree entry other one
 
 -- no line of statements that agree is faulty
-no_fault : (before : List NumberedLine) (line : NumberedLine) (more : List NumberedLine) (first all : List (Entry × Word)) → AreStatements before first → AreStatements (before ++ line ∷ more) all → Agree all → (fault : StatementsError) → IsFaultOfLine fault line first → ⊥
+no_fault : (before : List NumberedLine) (line : NumberedLine) (more : List NumberedLine) (first all : List (Entry × Word))
+    → AreStatements before first → AreStatements (before ++ line ∷ more) all → Agree all → (fault : StatementsError)
+    → IsFaultOfLine fault line first → ⊥
 no_fault before line more first all each whole agree OutOfMemory there = there
 no_fault before line more first all each whole agree (Syntax number) there =
     let behind = stated_behind before line more first all each whole in
@@ -104,7 +110,8 @@ further z w x y a b same (inr (inl later)) =
 further z w x y a b same (inr (inr earlier)) =
     inr (inr (earlier.0, ap (λ l. l ∷ a) same ∙ ap (λ ls. w ∷ ls) earlier.1))
 
-places : (a b : List NumberedLine) (x y : NumberedLine) (behind_a behind_b : List NumberedLine) → a ++ x ∷ behind_a ≡ b ++ y ∷ behind_b → Places a x b y
+places : (a b : List NumberedLine) (x y : NumberedLine) (behind_a behind_b : List NumberedLine)
+    → a ++ x ∷ behind_a ≡ b ++ y ∷ behind_b → Places a x b y
 places [] [] x y behind_a behind_b e = inl (refl, cc)
 places [] (w ∷ b) x y behind_a behind_b e = let first : w ≡ x = cc in inr (inl (b, ap (λ l. l ∷ b) first))
 places (z ∷ a) [] x y behind_a behind_b e = let first : z ≡ y = cc in inr (inr (a, ap (λ l. l ∷ a) first))
@@ -114,7 +121,8 @@ places (z ∷ a) (w ∷ b) x y behind_a behind_b e =
     further z w x y a b first (places a b x y behind_a behind_b rest)
 
 -- a line has one fault
-one_fault : (line : NumberedLine) (before : List (Entry × Word)) (a b : StatementsError) → IsFaultOfLine a line before → IsFaultOfLine b line before → a ≡ b
+one_fault : (line : NumberedLine) (before : List (Entry × Word)) (a b : StatementsError) → IsFaultOfLine a line before
+    → IsFaultOfLine b line before → a ≡ b
 one_fault line before OutOfMemory b first second = absurd first
 one_fault line before (Syntax m) OutOfMemory first second = absurd second
 one_fault line before (Syntax m) (Syntax n) first second = ap (λ k. Syntax k) (first.0 ∙ sym second.0)
@@ -124,19 +132,22 @@ one_fault line before (Contradiction m) (Syntax n) first second = absurd (second
 one_fault line before (Contradiction m) (Contradiction n) first second = ap (λ k. Contradiction k) (first.0 ∙ sym second.0)
 
 -- a text is one list of statements
-pub AreStatementsOf-only : (text : List ℕ) (a b : List (Entry × Word)) → AreStatementsOf text a → AreStatementsOf text b → a ≡ b
+pub AreStatementsOf-only : (text : List ℕ) (a b : List (Entry × Word)) → AreStatementsOf text a
+    → AreStatementsOf text b → a ≡ b
 AreStatementsOf-only text a b first second =
     let P : List NumberedLine → Type 0 = λ lines. AreStatements lines b in
     AreStatements-only first.lines a b first.each (subst P (HasLines-only text second.lines first.lines second.has first.has) second.each)
 
 -- a text of statements has no fault
-pub AreStatementsOf-no_fault : (text : List ℕ) (statements : List (Entry × Word)) (fault : StatementsError) → AreStatementsOf text statements → IsFaultOf text fault → ⊥
+pub AreStatementsOf-no_fault : (text : List ℕ) (statements : List (Entry × Word)) (fault : StatementsError)
+    → AreStatementsOf text statements → IsFaultOf text fault → ⊥
 AreStatementsOf-no_fault text statements fault are is =
     let P : List NumberedLine → Type 0 = λ lines. AreStatements lines statements in
     no_fault is.before is.line is.after is.statements statements is.each
     (subst P (HasLines-only text are.lines (is.before ++ is.line ∷ is.after) are.has is.has) are.each) are.agree fault is.there
 
-faults_at : (text : List ℕ) (a b : StatementsError) (first : IsFaultOf text a) (second : IsFaultOf text b) → Places first.before first.line second.before second.line → a ≡ b
+faults_at : (text : List ℕ) (a b : StatementsError) (first : IsFaultOf text a) (second : IsFaultOf text b)
+    → Places first.before first.line second.before second.line → a ≡ b
 faults_at text a b first second (inl here) =
     let P : List NumberedLine → Type 0 = λ lines. AreStatements lines second.statements in
     let statements_are : first.statements ≡ second.statements =

@@ -14,7 +14,8 @@ use Rattle.dnsv_verifier.specs.declared.statement.Word.TheVariants.{Good, Bad}
 
 -- the word that a field is
 abbrev pub word_of : List ℕ → Option Word
-word_of field = if bytes_eq field (codes "good") then Some Good else (if bytes_eq field (codes "bad") then Some Bad else None)
+word_of field =
+    if bytes_eq field (codes "good") then Some Good else (if bytes_eq field (codes "bad") then Some Bad else None)
 
 -- what a tree says of an entry
 abbrev pub said_in : BTreeMap Entry Word → Entry → Option Word
@@ -26,7 +27,8 @@ pub record AddsStatement (line : List ℕ) (old new : BTreeMap Entry Word) : Typ
   pub word : Word
   pub states : States line entry word
   pub free : said_in old entry ≢ Some (other_word word)
-  pub updates : (each : Entry) → said_in new each ≡ (if is_eq (entry_cmp entry each) then Some word else said_in old each)
+  pub updates : (each : Entry)
+      → said_in new each ≡ (if is_eq (entry_cmp entry each) then Some word else said_in old each)
 
 -- what is wrong with a line behind what was said
 abbrev pub RefusesLine : StatementsError → NumberedLine → BTreeMap Entry Word → Type 0
@@ -34,4 +36,5 @@ RefusesLine OutOfMemory line said = Unit {0}
 RefusesLine (Syntax number) line said =
     (number ≡ line.number) × ((entry : Entry) (word : Word) → States line.octets entry word → ⊥)
 RefusesLine (Contradiction number) line said =
-    (number ≡ line.number) × ((entry : Entry) × (word : Word) × States line.octets entry word × (said_in said entry ≡ Some (other_word word)))
+    (number ≡ line.number)
+    × ((entry : Entry) × (word : Word) × States line.octets entry word × (said_in said entry ≡ Some (other_word word)))

@@ -24,7 +24,8 @@ impl Panel {
 }
 
 impl Verifier for Panel {
-    ghost meaning = { λ panel entry. joint_answer (map (λ member. (Verifier-box member).meaning member.value entry) panel.members.items) };
+    ghost meaning = { λ panel entry. joint_answer
+        (map (λ member. (Verifier-box member).meaning member.value entry) panel.members.items) };
 
     fn answer(
         &self,
