@@ -1,5 +1,5 @@
 -- What is answered to signed octets, test by test.
-use Rattle.std.proofs.Common.{◌≡◌, ◌⊎◌, ℕ, ◌+◌, ◌<◌, List, [], ◌∷◌, Bool, true, false, Option, Some, None, Result, Ok, Err, inl, inr, refl, sym, ap, ◌∙◌, suc, zero, take, get_or, length, arith, nat_eq, ◌&&◌, add-one}
+use Rattle.std.proofs.Common.{◌≡◌, ◌⊎◌, ℕ, ◌+◌, ◌<◌, List, [], ◌∷◌, true, false, Option, Some, None, Result, Ok, Err, inl, inr, refl, ap, ◌∙◌, suc, zero, take, get_or, length, arith, nat_eq, ◌&&◌, add-one}
 use Rattle.std.specs.Str.{bytes_eq}
 use Rattle.dnsv_names.specs.Name.{Labels, same_name}
 use Rattle.dnsv_message.specs.declared.errors.DecodeError.{DecodeError}
@@ -14,7 +14,7 @@ use Rattle.dnsv_tsig.specs.Key.{SharedKey, key_named}
 use Rattle.dnsv_tsig.specs.Mac.{stripped, tsig_mac_of}
 use Rattle.dnsv_tsig.specs.Opened.{OpenedMessage}
 use Rattle.dnsv_tsig.specs.Tsig.{TsigFields}
-use Rattle.dnsv_tsig.specs.Answer.{answer_by, answer_under, failed_test, hmac_sha256_name, tsig_answer_of, unreadable, readable, unsigned, misformed, signed, LacksTsig, IsSigned}
+use Rattle.dnsv_tsig.specs.Answer.{answer_by, failed_test, hmac_sha256_name, tsig_answer_of, unreadable, readable, unsigned, misformed, signed, LacksTsig, IsSigned}
 
 -- octets are compared one after another
 same_at : (a b : List ℕ) (i : ℕ) → i < length a → i < length b

@@ -3,7 +3,6 @@ use Rattle.std.proofs.Common.{◌≡◌, ℕ, List, [], ◌∷◌, ◌++◌, Non
 use Rattle.dnsv_names.specs.Octets.{AreOctets}
 use Rattle.dnsv_names.specs.Lines.{NumberedLine}
 use Rattle.dnsv_tsig.specs.declared.error.KeyFileError.{KeyFileError}
-use Rattle.dnsv_tsig.specs.declared.error.KeyFileError.TheVariants.{Syntax, DuplicateKey}
 use Rattle.dnsv_tsig.specs.Key.{SharedKey, key_named}
 use Rattle.dnsv_tsig.specs.KeyFile.{IsKeyLine, GivesRing, IsRefused}
 

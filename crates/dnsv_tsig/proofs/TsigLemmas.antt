@@ -1,8 +1,8 @@
 -- The RDATA of TSIG has one reading.
-use Rattle.std.proofs.Common.{◌≡◌, ℕ, ◌+◌, ◌<◌, ◌≤◌, List, [], ◌∷◌, ◌++◌, length, take, drop, refl, sym, ap, subst, ◌∙◌, arith, append_assoc, length-append}
+use Rattle.std.proofs.Common.{◌≡◌, ℕ, List, [], ◌∷◌, ◌++◌, length, take, drop, refl, sym, ap, subst, ◌∙◌, arith, append_assoc, length-append}
 use Rattle.std.proofs.lemmas.List.{take_at, drop_at}
 use Rattle.std.specs.List.{AllByRecursion}
-use Rattle.dnsv_names.specs.Name.{Labels, IsLabel, IsName, wire}
+use Rattle.dnsv_names.specs.Name.{Labels, IsLabel, wire}
 use Rattle.dnsv_names.specs.Octets.{number_at}
 use Rattle.dnsv_message.specs.declared.record.Record.{Record}
 use Rattle.dnsv_tsig.specs.Answer.{LacksTsig}

@@ -1,6 +1,6 @@
 -- What is answered to octets that somebody kept as a signed message: the message inside of them, or the first test
 -- that they fail (RFC 8945 5.2).
-use Rattle.std.specs.Prelude.{◌≡◌, ◌≢◌, ◌⊎◌, ℕ, ◌+◌, ◌<◌, ◌≤◌, ◌==◌, nat_le, Bool, not, ◌&&◌, if◌then◌else◌, List, [], ◌∷◌, ◌++◌, length, take, codes, Option, Some, None, Result, Ok, Err}
+use Rattle.std.specs.Prelude.{◌≡◌, ◌≢◌, ℕ, ◌+◌, ◌≤◌, ◌==◌, nat_le, Bool, not, ◌&&◌, if◌then◌else◌, List, [], ◌∷◌, ◌++◌, length, take, codes, Option, Some, None, Result, Ok, Err}
 use Rattle.std.specs.List.{AllByRecursion}
 use Rattle.std.specs.Str.{bytes_eq}
 use Rattle.dnsv_names.specs.Name.{Labels, same_name}
@@ -67,16 +67,20 @@ answer_under (Some error) message key = Err error
 answer_under None message key = Ok (record { message = message; key = key })
 
 -- the key and the algorithm have to be known first (RFC 8945 5.2.1)
-abbrev pub answer_by : Option SharedKey → ℕ → Option (List ℕ) → List ℕ → ℕ → Labels → TsigFields → Result OpenedMessage TsigError
+abbrev pub answer_by : Option SharedKey → ℕ → Option (List ℕ) → List ℕ → ℕ → Labels → TsigFields
+    → Result OpenedMessage TsigError
 answer_by None now request octets place owner tsig = Err BadKey
 answer_by (Some key) now request octets place owner tsig =
     if same_name tsig.algorithm hmac_sha256_name
-    then answer_under (failed_test tsig (tsig_mac_of key.secret request octets place owner tsig) now) (stripped octets place tsig.original_id) key.name
+    then answer_under (failed_test tsig (tsig_mac_of key.secret request octets place owner tsig) now)
+    (stripped octets place tsig.original_id) key.name
     else Err BadKey
 
 -- a message that is read is answered so: by its signature, whose record begins at the place where the last record
 -- does, by the ring's keys, the moment, and the MAC of the request
-pub data MessageAnswer (octets : List ℕ) (message : Contents) (keys : List SharedKey) (now : ℕ) (request : Option (List ℕ)) : Result OpenedMessage TsigError → Type 0 where
+pub data MessageAnswer
+    (octets : List ℕ) (message : Contents) (keys : List SharedKey) (now : ℕ) (request : Option (List ℕ))
+    : Result OpenedMessage TsigError → Type 0 where
   unsigned : LacksTsig (records_of message) → MessageAnswer octets message keys now request (Err NoTsig)
   misformed : (LacksTsig (records_of message) → ⊥)
       → ((owner : Labels) (tsig : TsigFields) → IsSigned message owner tsig → ⊥)
@@ -84,11 +88,14 @@ pub data MessageAnswer (octets : List ℕ) (message : Contents) (keys : List Sha
   signed : {owner : Labels} {tsig : TsigFields} {place : ℕ}
       → IsSigned message owner tsig
       → TailAt octets message place
-      → MessageAnswer octets message keys now request (answer_by (key_named owner keys) now request octets place owner tsig)
+      → MessageAnswer octets message keys now request
+      (answer_by (key_named owner keys) now request octets place owner tsig)
 
 -- What is answered to octets: that they are no message, for their first fault, or what is answered to the message.
-pub data tsig_answer_of (octets : List ℕ) (keys : List SharedKey) (now : ℕ) (request : Option (List ℕ)) : Result OpenedMessage TsigError → Type 0 where
-  unreadable : {fault : DecodeError} → FaultOf octets fault → tsig_answer_of octets keys now request (Err (unreadable_as fault))
+pub data tsig_answer_of (octets : List ℕ) (keys : List SharedKey) (now : ℕ) (request : Option (List ℕ))
+    : Result OpenedMessage TsigError → Type 0 where
+  unreadable : {fault : DecodeError} → FaultOf octets fault
+      → tsig_answer_of octets keys now request (Err (unreadable_as fault))
   readable : {message : Contents} {answer : Result OpenedMessage TsigError} → MessageOf octets message
       → MessageAnswer octets message keys now request answer
       → tsig_answer_of octets keys now request answer

@@ -25,7 +25,8 @@ pub record IsKeyLine (line : List ℕ) (key : SharedKey) : Type 0 where
 abbrev pub GivesRing : List SharedKey → List NumberedLine → List SharedKey → Type 0
 GivesRing earlier [] ring = ring ≡ earlier
 GivesRing earlier (line ∷ lines) ring =
-    (key : SharedKey) × IsKeyLine line.octets key × (key_named key.name earlier ≡ None) × GivesRing (earlier ++ key ∷ []) lines ring
+    (key : SharedKey) × IsKeyLine line.octets key × (key_named key.name earlier ≡ None)
+    × GivesRing (earlier ++ key ∷ []) lines ring
 
 -- Behind keys that were read, the first line that is refused is no key's, or its key's name stood before.
 abbrev pub IsRefused : List SharedKey → List NumberedLine → KeyFileError → Type 0

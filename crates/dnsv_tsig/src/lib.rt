@@ -3,10 +3,12 @@
 
 pub use error::{KeyFileError, TsigError};
 pub use key_ring::{Key, KeyRing};
+pub use laws::{one_answer, one_ring_or_fault};
 pub use opened::{Opened, open};
 
 mod error;
 mod key_ring;
+mod laws;
 mod mac;
 mod opened;
 #[cfg(test)]

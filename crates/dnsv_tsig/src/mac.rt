@@ -28,7 +28,8 @@ pub fn right_mac(
 ) -> [u8; MAC_LENGTH]
     requires header { 12 ≤ place }
     requires within { place ≤ length octets.now }
-    ensures { result ≡ tsig_mac_of secret.now (option_copied request_mac.entry) octets.now place signature.now.owner.now signature.now.tsig }
+    ensures { result ≡ tsig_mac_of secret.now (option_copied request_mac.entry) octets.now place
+        signature.now.owner.now signature.now.tsig }
 {
     let tsig = &signature.tsig;
     let request = request_part(request_mac);

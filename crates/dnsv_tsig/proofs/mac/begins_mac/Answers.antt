@@ -1,4 +1,4 @@
-use Rattle.std.proofs.Common.{◌≡◌, ◌∙◌, ◌&&◌, ◌<◌, ap, arith, nat_eq, get_or, length}
+use Rattle.std.proofs.Common.{◌∙◌, ◌&&◌, ◌<◌, ap, arith, nat_eq, get_or, length}
 use Rattle.dnsv_tsig.proofs.AnswerLemmas.{same_more}
 use Rattle.dnsv_tsig.proofs.mac.begins_mac.Goals as goal
 

@@ -1,4 +1,4 @@
-use Rattle.std.proofs.Common.{◌≡◌, ◌∙◌, ℕ, List, [], ap, refl, lit<, lit≤}
+use Rattle.std.proofs.Common.{◌≡◌, ◌∙◌, ℕ, [], ap, refl, lit<, lit≤}
 use Rattle.dnsv_names.specs.Name.{Labels, IsName, same_name}
 use Rattle.dnsv_tsig.specs.Answer.{hmac_sha256_name}
 use Rattle.dnsv_tsig.proofs.opened.is_hmac_sha256.Goals as goal

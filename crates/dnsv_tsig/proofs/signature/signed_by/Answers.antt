@@ -1,6 +1,6 @@
 use Rattle.std.proofs.Common.{ℕ, List, ◌≡◌, length, ap, arith, subst, sym}
 use Rattle.std.proofs.lemmas.Option.{MatchOption-at_none}
-use Rattle.dnsv_tsig.specs.Tsig.{TsigFields, IsTsig}
+use Rattle.dnsv_tsig.specs.Tsig.{IsTsig}
 use Rattle.dnsv_tsig.proofs.TsigLemmas.{one_tsig}
 use Rattle.dnsv_tsig.proofs.signature.signed_by.Goals as goal
 

@@ -1,5 +1,3 @@
-use Rattle.std.proofs.Common.{ℕ, List, []}
-use Rattle.dnsv_names.specs.Lines.{HasLines, NumberedLine}
 use Rattle.dnsv_tsig.proofs.KeyLemmas.{GoesOn}
 use Rattle.dnsv_tsig.proofs.key_ring.KeyRing.parse.Given as goal
 

@@ -1,0 +1,64 @@
+-- A text is at most one ring, or has one fault.
+use Rattle.std.proofs.Common.{◌≡◌, ℕ, List, [], ◌∷◌, ◌++◌, None, Ok, inl, inr, sym, ap, subst, ◌∙◌, rules, get_or, ◌<◌}
+use Rattle.base64.specs.Engines.{standard}
+use Rattle.base64.specs.GeneralPurpose.{IsConsistent, decode_of, encode_of}
+use Rattle.base64.proofs.EngineFacts.{decode_of-encode_of}
+use Rattle.dnsv_names.specs.Name.{Labels, IsName}
+use Rattle.dnsv_names.specs.Text.{IsTextOf}
+use Rattle.dnsv_names.specs.Lines.{NumberedLine, AreFields}
+use Rattle.dnsv_tsig.specs.declared.error.KeyFileError.{KeyFileError}
+use Rattle.dnsv_tsig.specs.Key.{SharedKey, key_named}
+use Rattle.dnsv_tsig.specs.KeyFile.{IsKeyLine, GivesRing, IsRefused}
+use Rattle.dnsv_tsig.proofs.KeyLemmas.{octet_at_place}
+
+-- octets have one text in base64, of which they are the only ones
+decoded : (secret coded : List ℕ) → ((i : ℕ) → get_or secret i 0 < 256) → coded ≡ encode_of standard secret → decode_of standard coded ≡ Ok secret
+decoded secret coded bytes is =
+    let consistent : IsConsistent standard = search rules in
+    ap (decode_of standard) is ∙ decode_of-encode_of standard secret consistent bytes
+
+module _ (one_fields : (line : List ℕ) (a b : List (List ℕ)) → AreFields line a → AreFields line b → a ≡ b)
+    (one_name : (text : List ℕ) (a b : Labels) → IsName a → IsName b → IsTextOf text a → IsTextOf text b → a ≡ b) where
+  one_key : (line : List ℕ) (key other : SharedKey) → IsKeyLine line key → IsKeyLine line other → key ≡ other
+  one_key line key other p q =
+      let fields : p.text ∷ p.coded ∷ [] ≡ q.text ∷ q.coded ∷ [] = one_fields line (p.text ∷ p.coded ∷ []) (q.text ∷ q.coded ∷ []) p.fields q.fields in
+      let texts : p.text ≡ q.text = cc in
+      let codes : p.coded ≡ q.coded = cc in
+      let Spells : List ℕ → Type 0 = λ text. IsTextOf text key.name in
+      let names = one_name q.text key.name other.name p.is_name q.is_name (subst Spells texts p.name) q.name in
+      let first : decode_of standard q.coded ≡ Ok key.secret = sym (ap (decode_of standard) codes) ∙ decoded key.secret p.coded (octet_at_place key.secret p.octets) p.secret in
+      let second = decoded other.secret q.coded (octet_at_place other.secret q.octets) q.secret in
+      let secrets : key.secret ≡ other.secret = cc in
+      λ i. record { name = names i; secret = secrets i }
+
+  pub one_ring : (lines : List NumberedLine) (earlier ring other : List SharedKey) → GivesRing earlier lines ring → GivesRing earlier lines other → ring ≡ other
+  one_ring [] earlier ring other p q = p ∙ sym q
+  one_ring (line ∷ lines) earlier ring other (key, is, new, more) (key', is', new', more') =
+      let Gives : SharedKey → Type 0 = λ each. GivesRing (earlier ++ each ∷ []) lines ring in
+      one_ring lines (earlier ++ key' ∷ []) ring other (subst Gives (one_key line.octets key key' is is') more) more'
+
+  pub no_fault_of_a_ring : (lines : List NumberedLine) (earlier ring : List SharedKey) (error : KeyFileError) → GivesRing earlier lines ring → IsRefused earlier lines error → ⊥
+  no_fault_of_a_ring [] earlier ring error p bad = bad
+  no_fault_of_a_ring (line ∷ lines) earlier ring error (key, is, new, more) (inl bad) = bad.0 key is
+  no_fault_of_a_ring (line ∷ lines) earlier ring error (key, is, new, more) (inr (key', is', inl again)) =
+      let IsNew : SharedKey → Type 0 = λ each. key_named each.name earlier ≡ None in
+      again.0 (subst IsNew (one_key line.octets key key' is is') new)
+  no_fault_of_a_ring (line ∷ lines) earlier ring error (key, is, new, more) (inr (key', is', inr (new', bad))) =
+      let Gives : SharedKey → Type 0 = λ each. GivesRing (earlier ++ each ∷ []) lines ring in
+      no_fault_of_a_ring lines (earlier ++ key' ∷ []) ring error (subst Gives (one_key line.octets key key' is is') more) bad
+
+  pub one_refusal : (lines : List NumberedLine) (earlier : List SharedKey) (error other : KeyFileError) → IsRefused earlier lines error → IsRefused earlier lines other → error ≡ other
+  one_refusal [] earlier error other p q = absurd p
+  one_refusal (line ∷ lines) earlier error other (inl p) (inl q) = p.1 ∙ sym q.1
+  one_refusal (line ∷ lines) earlier error other (inl p) (inr q) = absurd (p.0 q.0 q.1)
+  one_refusal (line ∷ lines) earlier error other (inr p) (inl q) = absurd (q.0 p.0 p.1)
+  one_refusal (line ∷ lines) earlier error other (inr (key, is, inl p)) (inr (key', is', inl q)) = p.1 ∙ sym q.1
+  one_refusal (line ∷ lines) earlier error other (inr (key, is, inl p)) (inr (key', is', inr q)) =
+      let IsNew : SharedKey → Type 0 = λ each. key_named each.name earlier ≡ None in
+      absurd (p.0 (subst IsNew (sym (one_key line.octets key key' is is')) q.0))
+  one_refusal (line ∷ lines) earlier error other (inr (key, is, inr p)) (inr (key', is', inl q)) =
+      let IsNew : SharedKey → Type 0 = λ each. key_named each.name earlier ≡ None in
+      absurd (q.0 (subst IsNew (one_key line.octets key key' is is') p.0))
+  one_refusal (line ∷ lines) earlier error other (inr (key, is, inr p)) (inr (key', is', inr q)) =
+      let Refuses : SharedKey → Type 0 = λ each. IsRefused (earlier ++ each ∷ []) lines error in
+      one_refusal lines (earlier ++ key' ∷ []) error other (subst Refuses (one_key line.octets key key' is is') p.1) q.1
