@@ -58,7 +58,7 @@ rising_distinct (x ∷ xs) rises = (
   rising_distinct xs rises.1,
 )
 
-few_where_canonical : (limit : ℕ) (received canonical : List (List ℕ)) → IsCanonical received canonical → (length canonical ≤ limit) ↔ AtMost limit (Contains received)
+pub few_where_canonical : (limit : ℕ) (received canonical : List (List ℕ)) → IsCanonical received canonical → (length canonical ≤ limit) ↔ AtMost limit (Contains received)
 few_where_canonical limit received canonical is = few_where_distinct (Contains received) limit canonical (rising_distinct canonical is.rising) is.members
 
 -- the keys that are left of a DNSKEY RRset's RDATA

@@ -1,10 +1,11 @@
 //! Laws of RRsets, of evidence and of what is signed.
 //!
 //! Each is a function that does nothing and ensures the law, which its caller learns.
-ghost use Rattle.std.specs.Prelude.{◌≡◌, ◌≢◌, ◌↔◌, ◌++◌, ◌≤◌, suc, ℕ, List, Option, Some, Contains, filter, length, take};
+ghost use Rattle.std.specs.Prelude.{◌≡◌, ◌≢◌, ◌↔◌, ◌⊎◌, ◌++◌, ◌≤◌, suc, ℕ, List, Option, Some, Contains, filter, length, take};
 ghost use Rattle.std.specs.Str.{bytes_eq};
 ghost use Rattle.dnsv_names.specs.Name.{Labels, lower_case, wire};
 ghost use Rattle.dnsv_names.specs.Octets.{AreOctets};
+ghost use Rattle.dnsv_message.specs.Grammar.{IsMessage};
 ghost use Rattle.dnsv_message.specs.Message.{Contents};
 ghost use Rattle.dnsv_message.specs.declared.record.Record.{Record};
 ghost use Rattle.dnsv_records.specs.declared.rrsig.Rrsig.{Rrsig};
@@ -13,6 +14,9 @@ ghost use Rattle.dnsv_canonical.specs.Evidence.{Evidence, IsDistinct, IsEvidence
 ghost use Rattle.dnsv_canonical.specs.declared.capture.CaptureError.{CaptureError};
 ghost use Rattle.dnsv_canonical.specs.Rrsets.{first_appearances, is_grouped, rrsets_from, rrsets_of, same_rrset};
 ghost use Rattle.dnsv_canonical.specs.SignedData.{IsSignedData, signed_front, signed_label_count};
+
+use crate::capture::CaptureError;
+use dnsv_message::messages_fit;
 
 /// Messages that are added one by one give the RRsets of them all.
 pub fn captures_hold_the_rrsets()
@@ -47,3 +51,16 @@ pub fn one_signed_data()
         → ((octets : List ℕ) × IsSignedData owner rtype received rrsig (Some octets))
         ↔ (rrsig.labels ≤ signed_label_count owner) }
 {}
+
+/// A message is evidence besides what is held, or is refused for just one reason but for want of memory.
+pub fn evidence_or_one_refusal()
+    ensures some { (held : Evidence) (message : Contents) → IsMessage message → IsEvidence held message
+        ⊎ ((error : CaptureError) × (error ≢ CaptureError.OutOfMemory) × IsReasonAgainst held message error) }
+    ensures one { (held : Evidence) (message : Contents) (a b : CaptureError)
+        → a ≢ CaptureError.OutOfMemory → b ≢ CaptureError.OutOfMemory
+        → IsReasonAgainst held message a → IsReasonAgainst held message b → a ≡ b }
+    ensures never_both { (held : Evidence) (message : Contents) (error : CaptureError)
+        → error ≢ CaptureError.OutOfMemory → IsEvidence held message → IsReasonAgainst held message error → ⊥ }
+{
+    messages_fit();
+}

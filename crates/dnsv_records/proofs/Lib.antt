@@ -4,3 +4,4 @@ pub mod BlockLemmas
 pub mod OctetLemmas
 pub mod RecordLemmas
 pub mod OneRecord
+pub mod Decided
