@@ -6,6 +6,7 @@ pub mod Nsec
 pub mod NsecChain
 pub mod Nsec3
 pub mod Nsec3Chain
+pub mod Record
 pub mod TypeNumbers
 pub mod Types
 pub mod Zone

@@ -1,7 +1,8 @@
 //! Proofs that a name or a type isn't there (RFC 4035 5.4, RFC 5155 8), and what they mean for a zone.
 //!
 //! So far the crate has definitions and their laws: what a zone is and what it answers, its chains of NSEC
-//! and NSEC3 records, the forms of a proof, and what a proof says of each zone whose chain has its records.
+//! and NSEC3 records, the forms of a proof, and what a proof says of each zone whose chain has its records;
+//! and code that decides what one NSEC record says of a name.
 #![tactic(auto)]
 
 pub use chain::each_zone_has_a_chain;
@@ -35,6 +36,8 @@ pub use nsec3_meaning::{
     no_name_by_nsec3_is_no_name, opted_out_nodes_are_unsigned_ends,
     unsigned_cut_by_nsec3_is_an_unsigned_delegation,
 };
+pub use types::{denies, is_closed, is_delegation, is_unsigned_delegation};
+pub use words::{is_absent, is_covered, is_fair, is_inner, is_node};
 pub use zone::{
     a_next_closer_name_that_is_missing_ends_the_search, no_node_is_below_an_end_of_the_zone,
     nothing_closed_is_above_a_missing_name, what_is_above_a_node_is_a_node,
@@ -49,4 +52,6 @@ mod nsec3_complete;
 mod nsec3_meaning;
 mod nsec_complete;
 mod nsec_meaning;
+mod types;
+mod words;
 mod zone;
