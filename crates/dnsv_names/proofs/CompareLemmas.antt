@@ -1,5 +1,5 @@
 -- Names compared from the right: the labels behind two places are the same, and those before them decide.
-use Rattle.std.proofs.Common.{◌≡◌, ◌≢◌, ◌⊎◌, ℕ, zero, suc, ◌+◌, ◌-◌, ◌<◌, ◌≤◌, List, [], ◌∷◌, ◌++◌, length, get_or, take, drop, map, Option, Some, None, Bor, refl, sym, ap, ◌∙◌, arith, append_assoc, length-append, length-drop, reverse, ⊎_elim, inl, inr}
+use Rattle.std.proofs.Common.{◌≡◌, ◌≢◌, ℕ, zero, suc, ◌+◌, ◌-◌, ◌<◌, ◌≤◌, List, [], ◌∷◌, ◌++◌, length, get_or, take, drop, map, Option, Some, None, Bor, refl, sym, ap, ◌∙◌, arith, append_assoc, length-append, length-drop, reverse, ⊎_elim}
 use Rattle.std.proofs.lemmas.List.{drop_all, drop_at, drop_more, take-append-drop, take_more, map-append, reverse-append}
 use Rattle.std.proofs.lemmas.Bool.{cases_lt}
 use Rattle.std.proofs.lemmas.Cmp.{tied_itself, lists_total, nat_list_cmp_total}
@@ -10,7 +10,7 @@ use Rattle.std.specs.declared.cmp.Ordering.TheVariants.{Less, Equal, Greater}
 use Rattle.std.specs.Ordering.{ordering_then}
 use Rattle.std.specs.Cmp.Lexicographic.{slice_cmp}
 use Rattle.dnsv_names.specs.ByWireLaws.{same_wire}
-use Rattle.dnsv_names.specs.Ends.{EndAlike}
+use Rattle.dnsv_names.specs.Ends.{EndAlike, LabelBefore, Walked, WalkedTo}
 use Rattle.dnsv_names.specs.Name.{Labels, wire, lower_case}
 use Rattle.dnsv_names.specs.Order.{label_cmp, from_the_right, canonical_cmp}
 use Rattle.dnsv_names.specs.Spelling.{labels_of, SpellsName}
@@ -21,43 +21,32 @@ use Rattle.dnsv_names.specs.WireLaws.{wire_not_empty, lower_case-wire}
 use Rattle.dnsv_names.specs.AncestorLaws.{IsName-drop, length_lower_wire}
 use Rattle.dnsv_names.specs.KeyLaws.{label_cmp_exact}
 
--- the wire form of the label before the k-th place and of what follows it, where there is one
-abbrev pub LabelBefore : Labels → ℕ → Option (Bor (List ℕ)) → Type 0
-LabelBefore labels zero None = Unit {0}
-LabelBefore labels zero (Some octets) = ⊥
-LabelBefore labels (suc k) None = ⊥
-LabelBefore labels (suc k) (Some octets) = octets.now ≡ wire (drop k labels)
-
--- of a name, the rest is the wire form of the labels from some place on, and the label stands right before them
-pub record Walked (octets rest : List ℕ) (label : Option (Bor (List ℕ))) : Type 0 where
-  pub k : ℕ
-  pub within : k ≤ length (labels_of octets)
-  pub form : rest ≡ wire (drop k (labels_of octets))
-  pub before : LabelBefore (labels_of octets) k label
-
 -- no place of the one walk that lies within what is alike has been passed in the other walk
 pub record Apart (alike : ℕ) (a_rest b_rest : List ℕ) (a_label b_label : Option (Bor (List ℕ))) : Type 0 where
   pub first : IfSome a_label (λ a. length b_rest < length a.now)
   pub second : IfSome b_label (λ b. (length a_rest ≤ length b.now) × (length a_rest ≡ length b.now → alike < length b.now))
   pub both : IfSome a_label (λ a. IfSome b_label (λ b. length a.now ≡ length b.now → alike < length a.now))
 
-pub Walked-start : (octets : List ℕ) → SpellsName octets → Walked octets octets None
-Walked-start octets spells = record { k = 0; within = omega arith; form = spells.whole; before = tt }
+pub WalkedTo-start : (octets : List ℕ) (reach : ℕ) → SpellsName octets → Walked octets octets None
+WalkedTo-start octets reach spells = record { k = 0; within = omega arith; form = spells.whole; before = tt }
 
-pub Apart-start : (alike : ℕ) (a b : List ℕ) → Apart alike a b None None
-Apart-start alike a b = record { first = tt; second = tt; both = tt }
+-- walks to what is alike begin so
+pub Apart-start : (alike : ℕ) (a b a_rest b_rest : List ℕ) (a_label b_label : Option (Bor (List ℕ))) → WalkedTo a alike a_rest a_label → WalkedTo b alike b_rest b_label → Apart alike a_rest b_rest a_label b_label
+Apart-start alike a b a_rest b_rest None None left right = record { first = tt; second = tt; both = tt }
+Apart-start alike a b a_rest b_rest None (Some q) left right = record {
+  first = tt;
+  second = (omega (arith, left.near, right.far), λ same. right.far);
+  both = tt;
+}
+Apart-start alike a b a_rest b_rest (Some p) None left right = record { first = omega (arith, right.near, left.far); second = tt; both = tt }
+Apart-start alike a b a_rest b_rest (Some p) (Some q) left right = record {
+  first = omega (arith, right.near, left.far);
+  second = (omega (arith, left.near, right.far), λ same. right.far);
+  both = λ same. left.far;
+}
 
--- the rests have different lengths, or reach beyond what is alike
-abbrev pub GoesOn : ℕ → ℕ → ℕ → Type 0
-GoesOn alike m n = (m ≢ n) ⊎ ((m ≡ n) × (alike < m))
-
-pub beyond_alike : (alike m n : ℕ) → GoesOn alike m n → m ≡ n → alike < n
-beyond_alike alike m n (inl differ) same = absurd (differ same)
-beyond_alike alike m n (inr (is, beyond)) same = omega (arith, beyond, same)
-
-pub beyond_root : (alike m n : ℕ) → GoesOn alike m n → 1 ≤ alike → 0 < m → m ≤ n → 1 < n
-beyond_root alike m n (inl differ) root some upto = grind (arith, some, upto, differ)
-beyond_root alike m n (inr (is, beyond)) root some upto = omega (arith, beyond, upto, root)
+pub beyond_root : (m n : ℕ) → m ≢ n → 0 < m → m ≤ n → 1 < n
+beyond_root m n differ some upto = grind (arith, some, upto, differ)
 
 more_left : (labels : Labels) (k : ℕ) → 1 < length (wire (drop k labels)) → k < length labels
 more_left labels k long = ⊎_elim (λ (more : k < length labels). more)

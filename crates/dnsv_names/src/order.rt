@@ -5,6 +5,7 @@ ghost use Rattle.std.specs.Ordering.{as_partial_cmp};
 ghost use Rattle.dnsv_names.specs.Name.{Labels, SameName, IsAtOrBelow};
 ghost use Rattle.dnsv_names.specs.Order.{from_the_right, canonical_cmp, IsBefore, IsBelow};
 ghost use Rattle.dnsv_names.specs.OrderLaws.{canonical_cmp_total, same_name_ties, hash_input_of, hash_respects_eq};
+ghost use Rattle.dnsv_names.specs.Ends.{WalkedTo};
 ghost use Rattle.dnsv_names.specs.Spelling.{labels_of, SpellsName};
 
 use crate::lower::{alike_at_end, lower_order};
@@ -66,12 +67,10 @@ fn compared(a: &[u8], b: &[u8]) -> Ordering
     ensures { result ≡ canonical_cmp (labels_of a.now) (labels_of b.now) }
 {
     let alike = alike_at_end(a, b);
-    let mut a_rest = a;
-    let mut b_rest = b;
-    let mut a_label = None;
-    let mut b_label = None;
+    let (mut a_label, mut a_rest) = walked(a, alike);
+    let (mut b_label, mut b_rest) = walked(b, alike);
     // The longer rest goes on to its next label, until both are the same labels.
-    while a_rest.len() != b_rest.len() || a_rest.len() > alike {
+    while a_rest.len() != b_rest.len() {
         if a_rest.len() > b_rest.len() {
             a_label = Some(a_rest);
             a_rest = behind_label(a_rest);
@@ -86,6 +85,22 @@ fn compared(a: &[u8], b: &[u8]) -> Ordering
         (None, Some(_)) => Ordering::Less,
         (None, None) => Ordering::Equal,
     }
+}
+
+/// The first rest of the wire form, from some label on, that has at most `reach` octets, and the wire form from the
+/// label before it on.
+fn walked(octets: &[u8], reach: usize) -> (Option<&[u8]>, &[u8])
+    requires name { SpellsName octets.now }
+    requires root { 0 < reach }
+    ensures { WalkedTo octets.now reach result.1.now result.0 }
+{
+    let mut label = None;
+    let mut rest = octets;
+    while rest.len() > reach {
+        label = Some(rest);
+        rest = behind_label(rest);
+    }
+    (label, rest)
 }
 
 /// The octets of the label that stands in front, behind its length.
