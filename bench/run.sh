@@ -1,6 +1,6 @@
 #!/usr/bin/env bash
-# Measures `list --all` and `show` over captures of 256, 1,024 and 4,096 records, and prints the rows of the
-# tables in docs/PERFORMANCE.md. It needs the built program (make), python3, valgrind and GNU time.
+# Measures `list --all` and `show` over a transfer of a signed zone (transfer.cap) and over captures that it makes, and
+# prints the rows of the tables in docs/PERFORMANCE.md. It needs the built program (make), python3, valgrind and GNU time.
 set -euo pipefail
 cd "$(dirname "$0")"
 program=../crates/dnssec_check/out/dnssec_check
@@ -29,6 +29,9 @@ report() { # KIND MESSAGES RECORDS
   measure "$room/capture" show --capture "$room/capture"
 }
 
+echo "transfer: 63 messages"
+measure transfer.cap list --capture transfer.cap --moment 1795348800 --all
+measure transfer.cap show --capture transfer.cap
 for messages in 4 16 64; do report signed "$messages" 64; done
 for records in 160 640 2560 3000; do report owners 1 "$records"; done
 report deep 1 3000
