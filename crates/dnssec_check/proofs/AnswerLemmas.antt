@@ -15,7 +15,7 @@ use Rattle.dnsv_canonical.specs.Evidence.{Evidence, no_evidence, with_message}
 use Rattle.dnssec_check.specs.declared.status.Place.{Place}
 use Rattle.dnssec_check.specs.declared.status.Refusal.{Refusal}
 use Rattle.dnssec_check.specs.declared.status.Refusal.TheVariants as refusal
-use Rattle.dnssec_check.specs.Captured.{AnyMessage, Demand, Meets, Fails, AllTaken, FirstRefused, Holds, IsRefusal}
+use Rattle.dnssec_check.specs.CaptureFile.{AnyMessage, Demand, Meets, Fails, AllTaken, FirstRefused, Holds, IsRefusal}
 use Rattle.dnssec_check.specs.Status.{TellsMessageError}
 use Rattle.dnssec_check.specs.Showing.{IsShowing, message_text, texts_from}
 use Rattle.dnssec_check.specs.Told.{nowhere}
@@ -87,8 +87,8 @@ message_told octets decode.TrailingBytes fault = (refusal.TrailingBytes, None, (
 
 -- octets are a message or have a fault, and a message is as it is asked to be or is refused
 module _ (demand : Demand)
-    (decoded : (octets : List ℕ) → AreOctets octets → ((message : Contents) × MessageOf octets message) ⊎ ((error : DecodeError) × FaultOf octets error))
-    (judged : (held : Evidence) (message : Contents) → IsMessage message
+    (message_or_fault : (octets : List ℕ) → AreOctets octets → ((message : Contents) × MessageOf octets message) ⊎ ((error : DecodeError) × FaultOf octets error))
+    (meets_or_fails : (held : Evidence) (message : Contents) → IsMessage message
     → Meets demand held message ⊎ ((why : Refusal) × (k : Option ℕ) × Fails demand held message why k)) where
   -- the frames are messages as is asked, or the first that isn't is refused
   abbrev Answer : Evidence → ℕ → List (List ℕ) → Type 0
@@ -116,17 +116,17 @@ module _ (demand : Demand)
       → ((message : Contents) × MessageOf octets message) ⊎ ((error : DecodeError) × FaultOf octets error) → Answer held number (octets ∷ frames)
   joined held number octets frames are rest (inr fault) = unread held number octets frames fault.0 fault.1 (message_told octets fault.0 fault.1)
   joined held number octets frames are rest (inl found) =
-      read held number octets frames found.0 found.1 (judged held found.0 (octets, are, found.1)) (rest (with_message held found.0) (suc number))
+      read held number octets frames found.0 found.1 (meets_or_fails held found.0 (octets, are, found.1)) (rest (with_message held found.0) (suc number))
 
   frames_answer : (frames : List (List ℕ)) → AllByRecursion AreOctets frames → (held : Evidence) (number : ℕ) → Answer held number frames
   frames_answer [] each held number = inl ([], tt)
   frames_answer (octets ∷ frames) each held number =
-      joined held number octets frames each.0 (frames_answer frames each.1) (decoded octets each.0)
+      joined held number octets frames each.0 (frames_answer frames each.1) (message_or_fault octets each.0)
 
-  captured : (file : List ℕ) (frames : List (List ℕ)) → IsCapture file frames → Answer no_evidence 1 frames
+  of_frames : (file : List ℕ) (frames : List (List ℕ)) → IsCapture file frames → Answer no_evidence 1 frames
       → ((messages : List Contents) × Holds demand file messages) ⊎ ((why : Refusal) × (place : Place) × IsRefusal demand file why place)
-  captured file frames is (inl taken) = inl (taken.0, record { frames = frames; captured = is; taken = taken.1 })
-  captured file frames is (inr refused) = inr (refused.0, refused.1, inr (inr (frames, is, refused.2)))
+  of_frames file frames is (inl taken) = inl (taken.0, record { frames = frames; framing = is; taken = taken.1 })
+  of_frames file frames is (inr refused) = inr (refused.0, refused.1, inr (inr (frames, is, refused.2)))
 
   either : {A B C : Type 0} → A ⊎ B → A ⊎ (B ⊎ C)
   either (inl a) = inl a
@@ -138,7 +138,7 @@ module _ (demand : Demand)
       → ((frames : List (List ℕ)) → IsCapture file frames → AllByRecursion AreOctets frames)
       → ((messages : List Contents) × Holds demand file messages)
       ⊎ (((why : Refusal) × (place : Place) × IsRefusal demand file why place) ⊎ IsTooLong file)
-  file_answer file (inl found) are = either (captured file found.0 found.1 (frames_answer found.0 (are found.0 found.1) no_evidence 1))
+  file_answer file (inl found) are = either (of_frames file found.0 found.1 (frames_answer found.0 (are found.0 found.1) no_evidence 1))
   file_answer file (inr (inl zero_length)) are = inr (inl (refusal.ZeroLength, nowhere, inl (zero_length, refl, (refl, refl, refl))))
   file_answer file (inr (inr (inl torn))) are = inr (inl (refusal.TornFrame, nowhere, inr (inl (torn, refl, (refl, refl, refl)))))
   file_answer file (inr (inr (inr too_long))) are = inr (inr too_long)

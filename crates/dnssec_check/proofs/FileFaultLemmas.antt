@@ -3,7 +3,7 @@ use Rattle.std.proofs.Common.{◌≡◌, ◌<◌, ℕ, List, Option, Some, None,
 use Rattle.std.specs.Prelude.{Result, Ok, Err, IfErr, IfSome}
 use Rattle.dnsv_message.specs.Frames.{IsCapture}
 use Rattle.dnsv_canonical.specs.Evidence.{no_evidence}
-use Rattle.dnssec_check.specs.Captured.{Demand, FirstRefused, IsRefusal}
+use Rattle.dnssec_check.specs.CaptureFile.{Demand, FirstRefused, IsRefusal}
 use Rattle.dnssec_check.specs.declared.status.Fault.{Fault}
 use Rattle.dnssec_check.specs.declared.status.Fault.TheVariants as fault
 use Rattle.dnssec_check.specs.declared.status.InputFile.TheVariants.{Capture}

@@ -1,7 +1,7 @@
 pub mod LineLemmas
 pub mod RowLemmas
 pub mod WalkLemmas
-pub mod CapturedLemmas
+pub mod CaptureFileLemmas
 pub mod FileFaultLemmas
 pub mod ListingLemmas
 pub mod ShowingLemmas

@@ -7,7 +7,7 @@ use Rattle.dnsv_canonical.specs.declared.capture.CaptureError.{CaptureError}
 use Rattle.dnsv_canonical.specs.declared.capture.CaptureError.TheVariants as capture
 use Rattle.dnsv_canonical.specs.Evidence.{Evidence, IsFirstBad, IsReadable, IsReasonAgainst}
 use Rattle.dnssec_check.specs.declared.status.Refusal.{Refusal}
-use Rattle.dnssec_check.specs.Captured.{Meets, NewEvidence}
+use Rattle.dnssec_check.specs.CaptureFile.{Meets, NewEvidence}
 use Rattle.dnssec_check.specs.Status.{TellsCaptureError}
 
 readable_at : (before behind : List Record) (bad : Record) → AllByRecursion IsReadable (before ++ bad ∷ behind) → IsReadable bad

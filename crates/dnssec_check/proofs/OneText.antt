@@ -17,7 +17,7 @@ use Rattle.dnssec_check.specs.declared.status.Place.{Place}
 use Rattle.dnssec_check.specs.declared.status.Refusal.{Refusal}
 use Rattle.dnssec_check.specs.declared.line.Request.{Request}
 use Rattle.dnssec_check.specs.declared.line.Request.TheVariants as request
-use Rattle.dnssec_check.specs.Captured.{Demand, AnyMessage, NewEvidence, Meets, Fails, AllTaken, Holds, MessageRefused, FirstRefused, IsNowhere, IsRefusal}
+use Rattle.dnssec_check.specs.CaptureFile.{Demand, AnyMessage, NewEvidence, Meets, Fails, AllTaken, Holds, MessageRefused, FirstRefused, IsNowhere, IsRefusal}
 use Rattle.dnssec_check.specs.Listing.{data_line, SignatureLines, RrsetLines}
 use Rattle.dnssec_check.specs.Run.{IsTextOf, IsRefusalOf, demand_of}
 use Rattle.dnssec_check.specs.Showing.{message_text, texts_from}
@@ -71,8 +71,8 @@ module _ (laws : LayerLaws) where
   -- a file holds its messages alone
   one_holding : (demand : Demand) (file : List ℕ) → AreOctets file → (a b : List Contents) → Holds demand file a → Holds demand file b → a ≡ b
   one_holding demand file are a b x y =
-      let frames = laws.one_capture file y.frames x.frames y.captured x.captured in
-      one_taken demand no_evidence x.frames a b (laws.capture_octets file x.frames are x.captured) x.taken
+      let frames = laws.one_capture file y.frames x.frames y.framing x.framing in
+      one_taken demand no_evidence x.frames a b (laws.capture_octets file x.frames are x.framing) x.taken
       (subst (λ frames. AllTaken demand no_evidence frames b) frames y.taken)
 
   -- a request has one text for a file
@@ -158,11 +158,11 @@ module _ (laws : LayerLaws) where
 
   -- a file whose messages are taken isn't refused
   holding_stands : (demand : Demand) (file : List ℕ) → AreOctets file → (messages : List Contents) (why : Refusal) (place : Place) → Holds demand file messages → IsRefusal demand file why place → ⊥
-  holding_stands demand file are messages why place x (inl zero) = (laws.messages_alone file x.frames x.captured).0 zero.0
-  holding_stands demand file are messages why place x (inr (inl torn)) = (laws.messages_alone file x.frames x.captured).1 torn.0
+  holding_stands demand file are messages why place x (inl zero) = (laws.messages_alone file x.frames x.framing).0 zero.0
+  holding_stands demand file are messages why place x (inr (inl torn)) = (laws.messages_alone file x.frames x.framing).1 torn.0
   holding_stands demand file are messages why place x (inr (inr y)) =
-      all_stand demand no_evidence 1 x.frames messages why place (laws.capture_octets file x.frames are x.captured) x.taken
-      (subst (λ frames. FirstRefused demand no_evidence 1 frames why place) (laws.one_capture file y.0 x.frames y.1 x.captured) y.2)
+      all_stand demand no_evidence 1 x.frames messages why place (laws.capture_octets file x.frames are x.framing) x.taken
+      (subst (λ frames. FirstRefused demand no_evidence 1 frames why place) (laws.one_capture file y.0 x.frames y.1 x.framing) y.2)
 
   -- a file that has a text isn't refused
   pub text_stands : (asked : Request) (file : List ℕ) → AreOctets file → (text : List ℕ) (why : Refusal) (place : Place) → IsTextOf asked file text → IsRefusalOf asked file why place → ⊥

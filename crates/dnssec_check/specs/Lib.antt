@@ -1,4 +1,4 @@
-pub mod Captured
+pub mod CaptureFile
 pub mod FileFaults
 pub mod Line
 pub mod Listing

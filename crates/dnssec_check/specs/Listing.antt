@@ -8,7 +8,7 @@ use Rattle.dnsv_records.specs.Rrsig.{IsRrsig}
 use Rattle.dnsv_canonical.specs.Evidence.{evidence_of}
 use Rattle.dnsv_canonical.specs.Rrsets.{ReceivedRrset}
 use Rattle.dnsv_canonical.specs.SignedData.{IsSignedData}
-use Rattle.dnssec_check.specs.Captured.{Holds, NewEvidence}
+use Rattle.dnssec_check.specs.CaptureFile.{Holds, NewEvidence}
 
 -- octets in lower case hex, and `-` for none
 abbrev pub data_text : Option (List ℕ) → List ℕ

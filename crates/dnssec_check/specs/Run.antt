@@ -4,7 +4,7 @@ use Rattle.dnssec_check.specs.declared.line.Request.{Request}
 use Rattle.dnssec_check.specs.declared.line.Request.TheVariants as request
 use Rattle.dnssec_check.specs.declared.status.Place.{Place}
 use Rattle.dnssec_check.specs.declared.status.Refusal.{Refusal}
-use Rattle.dnssec_check.specs.Captured.{Demand, AnyMessage, NewEvidence, IsRefusal}
+use Rattle.dnssec_check.specs.CaptureFile.{Demand, AnyMessage, NewEvidence, IsRefusal}
 use Rattle.dnssec_check.specs.Listing.{IsListing}
 use Rattle.dnssec_check.specs.Showing.{IsShowing}
 

@@ -13,7 +13,7 @@ use Rattle.dnssec_check.specs.declared.status.Refusal.TheVariants as refusal
 use Rattle.dnsv_canonical.specs.declared.capture.CaptureError.{CaptureError}
 use Rattle.dnsv_canonical.specs.declared.capture.CaptureError.TheVariants as capture
 use Rattle.dnsv_canonical.specs.Evidence.{Evidence}
-use Rattle.dnssec_check.specs.Captured.{Demand, MessageRefused}
+use Rattle.dnssec_check.specs.CaptureFile.{Demand, MessageRefused}
 use Rattle.dnssec_check.specs.Status.{TellsMessageError, TellsCaptureError}
 
 abbrev pub nowhere : Place

@@ -7,8 +7,8 @@ ghost use Rattle.dnsv_message.specs.Frames.{IsCapture, IsTooLong, octets_of_each
 ghost use Rattle.dnsv_message.specs.Grammar.{MessageOf};
 ghost use Rattle.dnsv_message.specs.Message.{Contents};
 ghost use Rattle.dnsv_canonical.specs.Evidence.{Evidence, evidence_of, no_evidence, with_message};
-ghost use Rattle.dnssec_check.specs.Captured.{Demand, AnyMessage, NewEvidence, AllTaken, Meets, Holds};
-ghost use Rattle.dnssec_check.specs.Captured.{FirstRefused, IsRefusal};
+ghost use Rattle.dnssec_check.specs.CaptureFile.{Demand, AnyMessage, NewEvidence, AllTaken, Meets, Holds};
+ghost use Rattle.dnssec_check.specs.CaptureFile.{FirstRefused, IsRefusal};
 ghost use Rattle.dnssec_check.specs.FileFaults.{TellsFileFaults};
 ghost use Rattle.dnssec_check.specs.Status.{fault_number};
 ghost use Rattle.dnssec_check.specs.Told.{IsReadFault, IsDecodeFault, IsCaptureFault, IsFaultOf, IsRefusedAt};

@@ -2,7 +2,7 @@
 ghost use Rattle.std.specs.Prelude.{◌≡◌, ◌⊎◌, List, ℕ};
 ghost use Rattle.dnsv_names.specs.Octets.{AreOctets};
 ghost use Rattle.dnsv_message.specs.Frames.{IsTooLong};
-ghost use Rattle.dnssec_check.specs.Captured.{AnyMessage, IsRefusal};
+ghost use Rattle.dnssec_check.specs.CaptureFile.{AnyMessage, IsRefusal};
 ghost use Rattle.dnssec_check.specs.Showing.{IsShowing};
 ghost use Rattle.dnssec_check.specs.Run.{IsTextOf, IsRefusalOf};
 ghost use Rattle.dnssec_check.specs.declared.line.Request.{Request};

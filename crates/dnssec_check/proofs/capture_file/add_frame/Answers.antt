@@ -1,6 +1,6 @@
 use Rattle.std.proofs.lemmas.Result.{err_from_is_err_and}
-use Rattle.dnssec_check.specs.Captured.{NewEvidence}
-use Rattle.dnssec_check.proofs.CapturedLemmas.{capture_refused}
+use Rattle.dnssec_check.specs.CaptureFile.{NewEvidence}
+use Rattle.dnssec_check.proofs.CaptureFileLemmas.{capture_refused}
 use Rattle.dnssec_check.proofs.capture_file.add_frame.Goals as goal
 
 pub returns-in_err-message-clause-refused : goal.returns-in_err-message-clause-refused

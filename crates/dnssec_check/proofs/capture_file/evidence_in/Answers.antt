@@ -1,5 +1,5 @@
 use Rattle.std.proofs.lemmas.Result.{err_from_is_err_and}
-use Rattle.dnssec_check.specs.Captured.{NewEvidence}
+use Rattle.dnssec_check.specs.CaptureFile.{NewEvidence}
 use Rattle.dnssec_check.proofs.FileFaultLemmas.{TellsFileFaults-passed, TellsFileFaults-then, frames_refused}
 use Rattle.dnssec_check.proofs.capture_file.evidence_in.Goals as goal
 

@@ -1,5 +1,5 @@
 use Rattle.std.proofs.lemmas.Result.{err_from_is_err_and}
-use Rattle.dnssec_check.specs.Captured.{AnyMessage}
+use Rattle.dnssec_check.specs.CaptureFile.{AnyMessage}
 use Rattle.dnssec_check.proofs.FileFaultLemmas.{TellsFileFaults-passed, TellsFileFaults-then, frames_refused}
 use Rattle.dnssec_check.proofs.capture_file.messages_in.Goals as goal
 

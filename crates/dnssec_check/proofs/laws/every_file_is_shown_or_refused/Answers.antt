@@ -1,5 +1,5 @@
 use Rattle.std.proofs.Common.{inl}
-use Rattle.dnssec_check.specs.Captured.{AnyMessage}
+use Rattle.dnssec_check.specs.CaptureFile.{AnyMessage}
 use Rattle.dnssec_check.proofs.AnswerLemmas.{file_answer, shown}
 use Rattle.dnssec_check.proofs.laws.every_file_is_shown_or_refused.Goals as goal
 

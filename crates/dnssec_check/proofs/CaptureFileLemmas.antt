@@ -14,7 +14,7 @@ use Rattle.dnssec_check.specs.declared.status.Fault.{Fault}
 use Rattle.dnssec_check.specs.declared.status.Fault.TheVariants as fault
 use Rattle.dnssec_check.specs.declared.status.Place.{Place}
 use Rattle.dnssec_check.specs.declared.status.Refusal.{Refusal}
-use Rattle.dnssec_check.specs.Captured.{Demand, NewEvidence, Meets, AllTaken, FirstRefused}
+use Rattle.dnssec_check.specs.CaptureFile.{Demand, NewEvidence, Meets, AllTaken, FirstRefused}
 use Rattle.dnssec_check.specs.Told.{IsFaultOf, IsRefusedAt, IsCaptureFault}
 
 -- one message more at the end
@@ -76,19 +76,19 @@ module _ (held : Evidence) (octets : List ℕ) (number : ℕ) (message : Content
   capture_refused capture.Limit fault.WriteFailed refused tells = absurd tells
 
 -- the messages before the place are taken, and what is refused from there on is the first that is
-pub record Judged (demand : Demand) (frames : List (List ℕ)) (done : ℕ) (messages : List Contents) : Type 0 where
+pub record MessagesSoFar (demand : Demand) (frames : List (List ℕ)) (done : ℕ) (messages : List Contents) : Type 0 where
   pub taken : AllTaken demand no_evidence (take done frames) messages
   pub refused : (why : Refusal) (place : Place) → FirstRefused demand (evidence_of messages) (done + 1) (drop done frames) why place → FirstRefused demand no_evidence 1 frames why place
 
-pub Judged-start : (demand : Demand) (frames : List (List ℕ)) → Judged demand frames 0 []
-Judged-start demand frames = record { taken = tt; refused = λ why place refused. refused }
+pub MessagesSoFar-start : (demand : Demand) (frames : List (List ℕ)) → MessagesSoFar demand frames 0 []
+MessagesSoFar-start demand frames = record { taken = tt; refused = λ why place refused. refused }
 
-module _ {demand : Demand} {frames : List (List ℕ)} {done : ℕ} {messages : List Contents} (judged : Judged demand frames done messages) (octets : List ℕ) (within : done < length frames) (here : get_or frames done [] ≡ octets) where
+module _ {demand : Demand} {frames : List (List ℕ)} {done : ℕ} {messages : List Contents} (judged : MessagesSoFar demand frames done messages) (octets : List ℕ) (within : done < length frames) (here : get_or frames done [] ≡ octets) where
   next : drop done frames ≡ octets ∷ drop (done + 1) frames
   next = drop_more frames done [] within ∙ ap (λ xs. xs ∷ drop (done + 1) frames) here
 
-  pub Judged-next : (message : Contents) → MessageOf octets message × Meets demand (evidence_of messages) message → Judged demand frames (done + 1) (messages ++ message ∷ [])
-  Judged-next message taken = record {
+  pub MessagesSoFar-next : (message : Contents) → MessageOf octets message × Meets demand (evidence_of messages) message → MessagesSoFar demand frames (done + 1) (messages ++ message ∷ [])
+  MessagesSoFar-next message taken = record {
     taken = subst (λ xs. AllTaken demand no_evidence xs (messages ++ message ∷ []))
         (sym (take_more frames done [] within ∙ ap (λ xs. take done frames ++ xs ∷ []) here))
         (AllTaken-push demand no_evidence (take done frames) messages octets message judged.taken taken);
@@ -102,36 +102,36 @@ module _ {demand : Demand} {frames : List (List ℕ)} {done : ℕ} {messages : L
         )));
   }
 
-  pub Judged-refused : (why : Refusal) (place : Place) → IsRefusedAt demand (evidence_of messages) octets (done + 1) why place → FirstRefused demand no_evidence 1 frames why place
-  Judged-refused why place refused = judged.refused why place (subst (λ xs. FirstRefused demand (evidence_of messages) (done + 1) xs why place) (sym next) (inl refused))
+  pub MessagesSoFar-refused : (why : Refusal) (place : Place) → IsRefusedAt demand (evidence_of messages) octets (done + 1) why place → FirstRefused demand no_evidence 1 frames why place
+  MessagesSoFar-refused why place refused = judged.refused why place (subst (λ xs. FirstRefused demand (evidence_of messages) (done + 1) xs why place) (sym next) (inl refused))
 
-pub Judged-all : (demand : Demand) (frames : List (List ℕ)) (done : ℕ) (messages : List Contents) → length frames ≤ done → Judged demand frames done messages → AllTaken demand no_evidence frames messages
-Judged-all demand frames done messages all judged = subst (λ xs. AllTaken demand no_evidence xs messages) (take_all done frames all) judged.taken
+pub MessagesSoFar-all : (demand : Demand) (frames : List (List ℕ)) (done : ℕ) (messages : List Contents) → length frames ≤ done → MessagesSoFar demand frames done messages → AllTaken demand no_evidence frames messages
+MessagesSoFar-all demand frames done messages all judged = subst (λ xs. AllTaken demand no_evidence xs messages) (take_all done frames all) judged.taken
 
 -- the evidence is that of the messages before the place
-pub record Gathered (frames : List (List ℕ)) (done : ℕ) (held : Evidence) : Type 0 where
+pub record EvidenceSoFar (frames : List (List ℕ)) (done : ℕ) (held : Evidence) : Type 0 where
   pub messages : List Contents
-  pub judged : Judged NewEvidence frames done messages
+  pub judged : MessagesSoFar NewEvidence frames done messages
   pub same : held ≡ evidence_of messages
 
-pub Gathered-start : (frames : List (List ℕ)) (held : Evidence) → held ≡ no_evidence → Gathered frames 0 held
-Gathered-start frames held none = record { messages = []; judged = Judged-start NewEvidence frames; same = none }
+pub EvidenceSoFar-start : (frames : List (List ℕ)) (held : Evidence) → held ≡ no_evidence → EvidenceSoFar frames 0 held
+EvidenceSoFar-start frames held none = record { messages = []; judged = MessagesSoFar-start NewEvidence frames; same = none }
 
-module _ {frames : List (List ℕ)} {done : ℕ} {held : Evidence} (gathered : Gathered frames done held) (octets : List ℕ) (within : done < length frames) (here : get_or frames done [] ≡ octets) where
-  pub Gathered-next : (after : Evidence) → (message : Contents) × (MessageOf octets message × Meets NewEvidence held message) × (after ≡ with_message held message) → Gathered frames (done + 1) after
-  Gathered-next after taken = record {
+module _ {frames : List (List ℕ)} {done : ℕ} {held : Evidence} (gathered : EvidenceSoFar frames done held) (octets : List ℕ) (within : done < length frames) (here : get_or frames done [] ≡ octets) where
+  pub EvidenceSoFar-next : (after : Evidence) → (message : Contents) × (MessageOf octets message × Meets NewEvidence held message) × (after ≡ with_message held message) → EvidenceSoFar frames (done + 1) after
+  EvidenceSoFar-next after taken = record {
     messages = gathered.messages ++ taken.0 ∷ [];
-    judged = Judged-next gathered.judged octets within here taken.0 (taken.1.0, subst (λ held. Meets NewEvidence held taken.0) gathered.same taken.1.1);
+    judged = MessagesSoFar-next gathered.judged octets within here taken.0 (taken.1.0, subst (λ held. Meets NewEvidence held taken.0) gathered.same taken.1.1);
     same = taken.2 ∙ ap (λ held. with_message held taken.0) gathered.same ∙ sym (fold-push no_evidence gathered.messages taken.0);
   }
 
-  pub Gathered-refused : (why : Refusal) (place : Place) → IsRefusedAt NewEvidence held octets (done + 1) why place → FirstRefused NewEvidence no_evidence 1 frames why place
-  Gathered-refused why place refused =
-      Judged-refused gathered.judged octets within here why place (subst (λ held. IsRefusedAt NewEvidence held octets (done + 1) why place) gathered.same refused)
+  pub EvidenceSoFar-refused : (why : Refusal) (place : Place) → IsRefusedAt NewEvidence held octets (done + 1) why place → FirstRefused NewEvidence no_evidence 1 frames why place
+  EvidenceSoFar-refused why place refused =
+      MessagesSoFar-refused gathered.judged octets within here why place (subst (λ held. IsRefusedAt NewEvidence held octets (done + 1) why place) gathered.same refused)
 
-pub Gathered-all : (frames : List (List ℕ)) (done : ℕ) (held : Evidence) → length frames ≤ done → Gathered frames done held
+pub EvidenceSoFar-all : (frames : List (List ℕ)) (done : ℕ) (held : Evidence) → length frames ≤ done → EvidenceSoFar frames done held
     → (messages : List Contents) × AllTaken NewEvidence no_evidence frames messages × (held ≡ evidence_of messages)
-Gathered-all frames done held all gathered = (gathered.messages, Judged-all NewEvidence frames done gathered.messages all gathered.judged, gathered.same)
+EvidenceSoFar-all frames done held all gathered = (gathered.messages, MessagesSoFar-all NewEvidence frames done gathered.messages all gathered.judged, gathered.same)
 
 -- the octets of the frame at a place
 pub frame_here : (frames : List (Vec ℕ Global)) (i : ℕ) (frame : Vec ℕ Global) (octets : List ℕ) → i < length frames → frame ≡ get_or frames i frame → octets ≡ frame.items → (i < length (octets_of_each frames)) × (get_or (octets_of_each frames) i [] ≡ octets)

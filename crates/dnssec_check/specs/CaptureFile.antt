@@ -35,7 +35,7 @@ AllTaken demand held (octets ∷ frames) (message ∷ messages) =
 -- the file is captured messages, which are these, and each is as it is asked to be
 pub record Holds (demand : Demand) (file : List ℕ) (messages : List Contents) : Type 0 where
   pub frames : List (List ℕ)
-  pub captured : IsCapture file frames
+  pub framing : IsCapture file frames
   pub taken : AllTaken demand no_evidence frames messages
 
 -- ---- what is refused instead
