@@ -42,9 +42,7 @@ fn takes_messages_of_65535_octets(rt: HostRuntime) -> Result<(), Fail> {
     let stream = long_capture(rt.alloc())?;
     let mut framer = Framer::new(rt.alloc());
     let mut messages = Vec::new(rt.alloc());
-    framer.feed(&stream[..65_536], &mut messages)?;
-    assert_eq!(rt; framer.finish(), Err(ReadError::TornFrame));
-    framer.feed(&stream[65_536..], &mut messages)?;
+    framer.feed(&stream, &mut messages)?;
     assert_eq!(rt; framer.finish(), Ok(()));
     assert_eq!(rt; messages.len(), 3);
     assert_eq!(rt; messages[0].as_slice(), longest(rt.alloc())?.as_slice());
