@@ -3,6 +3,7 @@ mod AnyLemmas
 mod BitmapLemmas
 mod ChainLemmas
 mod Example
+mod FirstLemmas
 mod LookupLemmas
 mod MeaningLemmas
 mod MoreLemmas

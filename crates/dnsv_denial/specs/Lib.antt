@@ -1,5 +1,6 @@
 pub mod Any
 pub mod Example
+pub mod First
 pub mod Forms
 pub mod Lookup
 pub mod Nsec

@@ -6,6 +6,7 @@
 #![tactic(auto)]
 
 pub use chain::each_zone_has_a_chain;
+pub use entry::NsecEntry;
 pub use lookup::a_question_has_one_answer;
 pub use more::{more_nsec_records_prove_no_less, more_nsec3_records_prove_no_less};
 pub use nsec::{
@@ -36,6 +37,7 @@ pub use nsec3_meaning::{
     no_name_by_nsec3_is_no_name, opted_out_nodes_are_unsigned_ends,
     unsigned_cut_by_nsec3_is_an_unsigned_delegation,
 };
+pub use search::{Absent, Denied, Inner, Node, UnsignedDelegation, Word, first_to_say};
 pub use types::{denies, is_closed, is_delegation, is_unsigned_delegation};
 pub use words::{is_absent, is_covered, is_fair, is_inner, is_node};
 pub use zone::{
@@ -44,6 +46,7 @@ pub use zone::{
 };
 
 mod chain;
+mod entry;
 mod lookup;
 mod more;
 mod nsec;
@@ -52,6 +55,7 @@ mod nsec3_complete;
 mod nsec3_meaning;
 mod nsec_complete;
 mod nsec_meaning;
+mod search;
 mod types;
 mod words;
 mod zone;
