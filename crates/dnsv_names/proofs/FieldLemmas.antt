@@ -1,5 +1,5 @@
 -- Reading the fields of a line from the left.
-use Rattle.std.proofs.Common.{◌≡◌, ◌≢◌, ℕ, ◌+◌, ◌<◌, ◌≤◌, List, [], ◌∷◌, ◌++◌, length, refl, sym, ap, ◌∙◌, arith, append_assoc, length-append, Bool, true, false, cond, ◌==◌, Option, Some, None, subst}
+use Rattle.std.proofs.Common.{◌≡◌, ◌≢◌, ℕ, List, [], ◌∷◌, ◌++◌, length, refl, sym, ap, ◌∙◌, arith, append_assoc, length-append, true, false, ◌==◌, Option, Some, None, subst}
 use Rattle.std.proofs.lemmas.Bool.Decides.{nat_tests}
 use Rattle.std.proofs.lemmas.List.{append-nil}
 use Rattle.std.specs.List.{AllByRecursion, join_with_byte}
@@ -7,7 +7,7 @@ use Rattle.std.specs.Option.{is_some, option_copied}
 use denote.Ref.{Bor}
 use Rattle.dnsv_names.specs.Lines.{Lacks, IsField, AreFields, is_passed_over}
 use Rattle.dnsv_names.specs.LineReading.{pieces_in, pieces_left}
-use Rattle.dnsv_names.specs.LineLaws.{HasPieces, pieces_of, pieces_in-fields}
+use Rattle.dnsv_names.specs.LineLaws.{pieces_of, pieces_in-fields}
 
 -- So much of a line was read: fields, and the pieces that are left.
 pub record ReadsFields (line : List ℕ) (found : List (List ℕ)) (rest : Option (List ℕ)) : Type 0 where

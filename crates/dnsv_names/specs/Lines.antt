@@ -1,6 +1,6 @@
 -- The lines of a text file, their fields, and the text of a number. A text is octets of any values: 10 ends
 -- a line, 32 parts fields, and 35 is `#`.
-use Rattle.std.specs.Prelude.{◌≡◌, ◌≢◌, ℕ, ◌+◌, ◌==◌, Bool, true, not, List, [], ◌∷◌, ◌++◌, filter, map}
+use Rattle.std.specs.Prelude.{◌≡◌, ◌≢◌, ℕ, ◌==◌, Bool, true, not, List, [], ◌∷◌, ◌++◌, filter, map}
 use Rattle.std.specs.List.{AllByRecursion, enumerate_from, flat_map, join_with_byte}
 
 -- the octet stands nowhere in the text

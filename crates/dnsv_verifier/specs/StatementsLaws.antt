@@ -1,10 +1,10 @@
 -- The laws of files of statements, for proofs: a text is one list of statements or has one first fault.
-use Rattle.std.proofs.Common.{◌≡◌, ℕ, ◌<◌, List, [], ◌∷◌, ◌++◌, length, refl, sym, ap, ◌∙◌, arith, subst, Some, codes, ◌⊎◌, inl, inr}
+use Rattle.std.proofs.Common.{◌≡◌, ℕ, List, [], ◌∷◌, ◌++◌, length, refl, sym, ap, ◌∙◌, arith, subst, Some, codes, ◌⊎◌, inl, inr}
 use Rattle.std.proofs.lemmas.Fmt.{decimal_injective}
 use Rattle.std.proofs.lemmas.List.Elements.{Contains-append_left, Contains-append_right}
 use Rattle.std.specs.Fmt.{decimal}
 use Rattle.std.specs.List.{Contains}
-use Rattle.dnsv_names.specs.Lines.{HasLines, NumberedLine}
+use Rattle.dnsv_names.specs.Lines.{NumberedLine}
 use Rattle.dnsv_names.specs.LineLaws.{AreFields-only, HasLines-only}
 use Rattle.dnsv_verifier.specs.HexField.{hex_value}
 use Rattle.dnsv_verifier.specs.Statements.{States, AreStatements, Agree, AreStatementsOf, IsFaultOf, IsFaultOfLine, other_word, word_text}

@@ -1,5 +1,4 @@
-use Rattle.std.proofs.Common.{ap, sym, ◌∙◌}
-use Rattle.dnsv_verifier.specs.Panel.{joined}
+use Rattle.std.proofs.Common.{sym, ◌∙◌}
 use Rattle.dnsv_verifier.proofs.PanelLemmas.{asked_more, asked_all, joined-Unknown}
 use Rattle.dnsv_verifier.proofs.panel.PanelVerifier.answer.Goals as goal
 

@@ -1,4 +1,4 @@
-use Rattle.std.proofs.Common.{◌≡◌, sym, ◌∙◌, rules}
+use Rattle.std.proofs.Common.{◌≡◌, rules}
 use Rattle.std.proofs.lemmas.Result.{err_from_is_err_and}
 use Rattle.dnsv_verifier.proofs.StatementsLemmas.{says_none, says_more, has_more, has_next, has_all, fault_of, all_said}
 use Rattle.dnsv_verifier.proofs.statements.Statements.parse.Goals as goal

@@ -1,7 +1,4 @@
-use Rattle.std.proofs.Common.{sym, ◌∙◌, ap, List}
-use Rattle.dnsv_verifier.specs.Statements.{listed_answer}
-use Rattle.dnsv_verifier.specs.declared.entry.Entry.{Entry}
-use Rattle.dnsv_verifier.specs.declared.statement.Word.{Word}
+use Rattle.std.proofs.Common.{sym, ◌∙◌}
 use Rattle.dnsv_verifier.proofs.AnswerLemmas.{answer_found, answer_more, answer_none}
 use Rattle.dnsv_verifier.proofs.statements.StatementsVerifier.answer.Goals as goal
 
