@@ -208,7 +208,9 @@ fn reads_hashed_denials(rt: HostRuntime) -> Result<(), Fail> {
     assert_eq!(rt; nsec3.next_hash.as_slice(), EXAMPLE_HASH.as_slice());
     assert!(rt; nsec3.types.contains(RecordType(1)));
     assert!(rt; nsec3.is_usable());
-    let used = nsec3.usable().ok_or("a usable record")?;
+    let Some(used) = nsec3.usable() else {
+        return Err(Fail::from("a usable record"));
+    };
     assert!(rt; used.is_opt_out);
     assert_eq!(rt; used.next_hash, Hash20::new(EXAMPLE_HASH));
     assert!(rt; used.types.contains(RecordType(1)));
