@@ -2,14 +2,15 @@
 ghost use Rattle.std.specs.Prelude.{◌≡◌, ◌⊎◌, List, ℕ};
 ghost use Rattle.dnsv_names.specs.Octets.{AreOctets};
 ghost use Rattle.dnsv_message.specs.Frames.{IsTooLong};
-ghost use Rattle.dnssec_check.specs.CaptureFile.{AnyMessage, IsRefusal};
+ghost use Rattle.dnssec_check.specs.CaptureFile.{AnyMessage, IsRefusal, NewEvidence};
+ghost use Rattle.dnssec_check.specs.Listing.{IsListing};
 ghost use Rattle.dnssec_check.specs.Showing.{IsShowing};
 ghost use Rattle.dnssec_check.specs.Run.{IsTextOf, IsRefusalOf};
 ghost use Rattle.dnssec_check.specs.declared.line.Request.{Request};
 ghost use Rattle.dnssec_check.specs.declared.status.Place.{Place};
 ghost use Rattle.dnssec_check.specs.declared.status.Refusal.{Refusal};
 
-use dnsv_canonical::one_signed_data;
+use dnsv_canonical::{evidence_or_one_refusal, one_signed_data, rrsets_are_well_formed};
 use dnsv_message::{message_or_fault, no_fault_of_a_message, one_answer, one_fault, one_message};
 use dnsv_records::record_laws;
 
@@ -59,4 +60,16 @@ pub fn every_file_is_shown_or_refused()
 {
     one_answer();
     message_or_fault();
+}
+
+/// A file of octets is listed, or refused, or has an octet too many.
+pub fn every_file_is_listed_or_refused()
+    ensures { (file : List ℕ) → AreOctets file → ((text : List ℕ) × IsListing file text)
+        ⊎ (((why : Refusal) × (place : Place) × IsRefusal NewEvidence file why place) ⊎ IsTooLong file) }
+{
+    one_answer();
+    message_or_fault();
+    evidence_or_one_refusal();
+    one_signed_data();
+    rrsets_are_well_formed();
 }

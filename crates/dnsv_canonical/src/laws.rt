@@ -2,17 +2,19 @@
 //!
 //! Each is a function that does nothing and ensures the law, which its caller learns.
 ghost use Rattle.std.specs.Prelude.{◌≡◌, ◌≢◌, ◌↔◌, ◌⊎◌, ◌++◌, ◌≤◌, suc, ℕ, List, Option, Some, Contains, filter, length, take};
+ghost use Rattle.std.specs.List.{AllByRecursion};
 ghost use Rattle.std.specs.Str.{bytes_eq};
 ghost use Rattle.dnsv_names.specs.Name.{Labels, lower_case, wire};
 ghost use Rattle.dnsv_names.specs.Octets.{AreOctets};
 ghost use Rattle.dnsv_message.specs.Grammar.{IsMessage};
-ghost use Rattle.dnsv_message.specs.Message.{Contents};
+ghost use Rattle.dnsv_message.specs.Message.{Contents, records_of};
 ghost use Rattle.dnsv_message.specs.declared.record.Record.{Record};
 ghost use Rattle.dnsv_records.specs.declared.rrsig.Rrsig.{Rrsig};
 ghost use Rattle.dnsv_records.specs.Rrsig.{IsRrsig};
-ghost use Rattle.dnsv_canonical.specs.Evidence.{Evidence, IsDistinct, IsEvidence, IsReasonAgainst, evidence_of};
+ghost use Rattle.dnsv_canonical.specs.Evidence.{Evidence, IsDistinct, IsEvidence, IsReadable, IsReasonAgainst, evidence_of};
+ghost use Rattle.dnsv_canonical.specs.Rdata.{IsWellFormed};
 ghost use Rattle.dnsv_canonical.specs.declared.capture.CaptureError.{CaptureError};
-ghost use Rattle.dnsv_canonical.specs.Rrsets.{first_appearances, is_grouped, rrsets_from, rrsets_of, same_rrset};
+ghost use Rattle.dnsv_canonical.specs.Rrsets.{first_appearances, is_grouped, message_rrsets, rrsets_from, rrsets_of, same_rrset};
 ghost use Rattle.dnsv_canonical.specs.SignedData.{IsSignedData, signed_front, signed_label_count};
 
 use crate::capture::CaptureError;
@@ -61,6 +63,14 @@ pub fn evidence_or_one_refusal()
         → IsReasonAgainst held message a → IsReasonAgainst held message b → a ≡ b }
     ensures never_both { (held : Evidence) (message : Contents) (error : CaptureError)
         → error ≢ CaptureError.OutOfMemory → IsEvidence held message → IsReasonAgainst held message error → ⊥ }
+{
+    messages_fit();
+}
+
+/// The RRsets of a message whose records can be read are well formed.
+pub fn rrsets_are_well_formed()
+    ensures { (number : ℕ) (message : Contents) → IsMessage message
+        → AllByRecursion IsReadable (records_of message) → AllByRecursion IsWellFormed (message_rrsets number message) }
 {
     messages_fit();
 }
