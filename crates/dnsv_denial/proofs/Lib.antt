@@ -12,4 +12,5 @@ mod NsecComplete
 mod NsecTruth
 mod Nsec3Complete
 mod Nsec3Truth
+mod SingleLemmas
 mod ZoneLemmas

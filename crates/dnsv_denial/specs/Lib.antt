@@ -8,6 +8,7 @@ pub mod NsecChain
 pub mod Nsec3
 pub mod Nsec3Chain
 pub mod Record
+pub mod Shown
 pub mod TypeNumbers
 pub mod Types
 pub mod Zone

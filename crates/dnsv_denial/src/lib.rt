@@ -38,6 +38,7 @@ pub use nsec3_meaning::{
     unsigned_cut_by_nsec3_is_an_unsigned_delegation,
 };
 pub use search::{Absent, Denied, Inner, Node, UnsignedDelegation, Word, first_to_say};
+pub use single::{empty_non_terminal, no_closer};
 pub use types::{denies, is_closed, is_delegation, is_unsigned_delegation};
 pub use words::{is_absent, is_covered, is_fair, is_inner, is_node};
 pub use zone::{
@@ -56,6 +57,7 @@ mod nsec3_meaning;
 mod nsec_complete;
 mod nsec_meaning;
 mod search;
+mod single;
 mod types;
 mod words;
 mod zone;

@@ -38,6 +38,7 @@ pub fn first_to_say<W: Word>(word: &W, entries: &[NsecEntry]) -> Option<usize>
 }
 
 /// The word that a name is no node.
+#[derive(Debug, Drop)]
 pub struct Absent<'a>(pub &'a Name);
 
 impl Word for Absent<'_> {
@@ -49,6 +50,7 @@ impl Word for Absent<'_> {
 }
 
 /// The word that a name is an empty non-terminal.
+#[derive(Debug, Drop)]
 pub struct Inner<'a>(pub &'a Name);
 
 impl Word for Inner<'_> {
@@ -60,6 +62,7 @@ impl Word for Inner<'_> {
 }
 
 /// The word that a name is a node.
+#[derive(Debug, Drop)]
 pub struct Node<'a>(pub &'a Name);
 
 impl Word for Node<'_> {
@@ -71,6 +74,7 @@ impl Word for Node<'_> {
 }
 
 /// The word that a name is there without a type.
+#[derive(Debug, Drop)]
 pub struct Denied<'a> {
     /// The name that is there.
     pub name: &'a Name,
@@ -91,6 +95,7 @@ impl Word for Denied<'_> {
 }
 
 /// The word that a name is a delegation without DS.
+#[derive(Debug, Drop)]
 pub struct UnsignedDelegation<'a>(pub &'a Name);
 
 impl Word for UnsignedDelegation<'_> {

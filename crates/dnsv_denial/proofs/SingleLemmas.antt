@@ -1,0 +1,61 @@
+-- A form that one record carries stands over a list where its word stands of a member.
+use Rattle.std.proofs.Common.{ℕ, ◌+◌, ◌<◌, List, [], ◌∷◌, inl, inr, ⊎_elim, length}
+use Rattle.std.specs.Prelude.{map, Option, Some, None, MatchOption, IfSome}
+use Rattle.dnsv_names.specs.Name.{Labels, IsAtOrBelow, rightmost}
+use Rattle.dnsv_denial.specs.Any.{Any}
+use Rattle.dnsv_denial.specs.First.{IsFirst}
+use Rattle.dnsv_denial.specs.Shown.{ProvesAlone}
+use Rattle.dnsv_denial.specs.declared.entry.NsecEntry.{NsecEntry}
+use Rattle.dnsv_denial.specs.Record.{read_entry}
+use Rattle.dnsv_denial.specs.Nsec.{nsec_words, IsAbsentBy, IsInnerBy}
+use Rattle.dnsv_denial.specs.Forms.{EmptyForm, NoCloserForm}
+
+pub any_of_map : {X Y : Type 0} (f : X → Y) (P : Y → Type 0) (xs : List X) → Any P (map f xs) → Any (λ x. P (f x)) xs
+any_of_map f P [] some = absurd some
+any_of_map f P (x ∷ xs) some =
+    ⊎_elim (λ (here : P (f x)). inl here) (λ (rest : Any P (map f xs)). inr (any_of_map f P xs rest)) some
+
+pub no_empty : (apex name : Labels) (entries : List NsecEntry) → ¬ Any (λ entry. IsInnerBy (read_entry entry) name) entries
+    → ¬ EmptyForm (nsec_words apex (map read_entry entries)) apex name
+no_empty apex name entries none form = none (any_of_map read_entry (λ nsec. IsInnerBy nsec name) entries form.inner)
+
+pub empty_alone : (apex name : Labels) (entries : List NsecEntry) (place : ℕ) → IsAtOrBelow name apex
+    → IsFirst (λ entry. IsInnerBy (read_entry entry) name) entries place
+    → ProvesAlone (λ records. EmptyForm (nsec_words apex records) apex name) entries place
+empty_alone apex name entries place within first = record {
+  entry = first.member;
+  there = first.there;
+  proves = record { within = within; inner = inl first.such };
+}
+
+pub none_closer : (apex name : Labels) (labels : ℕ) (entries : List NsecEntry)
+    → ¬ Any (λ entry. IsAbsentBy (read_entry entry) (rightmost name (labels + 1))) entries
+    → ¬ NoCloserForm (nsec_words apex (map read_entry entries)) apex name labels
+none_closer apex name labels entries none form =
+    none (any_of_map read_entry (λ nsec. IsAbsentBy nsec (rightmost name (labels + 1))) entries form.next_closer)
+
+pub no_closer_alone : (apex name : Labels) (labels : ℕ) (entries : List NsecEntry) (place : ℕ) → labels < length name
+    → IsAtOrBelow (rightmost name labels) apex
+    → IsFirst (λ entry. IsAbsentBy (read_entry entry) (rightmost name (labels + 1))) entries place
+    → ProvesAlone (λ records. NoCloserForm (nsec_words apex records) apex name labels) entries place
+no_closer_alone apex name labels entries place proper within first = record {
+  entry = first.member;
+  there = first.there;
+  proves = record { above = record { proper = proper; within = within }; next_closer = inl first.such };
+}
+
+-- what was found out of the next closer name
+abbrev pub FoundAbsent : Option ℕ → List NsecEntry → Labels → Type 0
+FoundAbsent found entries name = MatchOption found
+    (¬ Any (λ entry. IsAbsentBy (read_entry entry) name) entries) (IsFirst (λ entry. IsAbsentBy (read_entry entry) name) entries)
+
+-- what is found, or that nothing is, as it is said of something else
+pub found_as : {N M : Type 0} (F G : ℕ → Type 0) (found : Option ℕ) → (N → M) → ((place : ℕ) → F place → G place)
+    → MatchOption found N F → MatchOption found M G
+found_as F G None none some holds = none holds
+found_as F G (Some place) none some holds = some place holds
+
+pub if_found : (N : Type 0) (F G : ℕ → Type 0) (found : Option ℕ) → ((place : ℕ) → F place → G place)
+    → MatchOption found N F → IfSome found G
+if_found N F G None some holds = tt
+if_found N F G (Some place) some holds = some place holds

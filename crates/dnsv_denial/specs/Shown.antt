@@ -1,0 +1,11 @@
+-- What one record of a list proves.
+use Rattle.std.specs.Prelude.{◌≡◌, ℕ, List, [], ◌∷◌, Some, slice_get}
+use Rattle.dnsv_denial.specs.declared.entry.NsecEntry.{NsecEntry}
+use Rattle.dnsv_denial.specs.Record.{read_entry}
+use Rattle.dnsv_denial.specs.NsecChain.{NsecRecord}
+
+-- the record at the place proves it by itself
+pub record ProvesAlone (Proves : List NsecRecord → Type 0) (entries : List NsecEntry) (place : ℕ) : Type 0 where
+  pub entry : NsecEntry
+  pub there : slice_get entries place ≡ Some entry
+  pub proves : Proves (read_entry entry ∷ [])

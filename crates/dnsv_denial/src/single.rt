@@ -1,0 +1,44 @@
+//! The forms of a proof that one NSEC record carries.
+ghost use Rattle.std.specs.Prelude.{◌+◌, MatchOption, IfSome, map};
+ghost use Rattle.dnsv_names.specs.Name.{rightmost};
+ghost use Rattle.dnsv_denial.specs.First.{IsFirst};
+ghost use Rattle.dnsv_denial.specs.Shown.{ProvesAlone};
+ghost use Rattle.dnsv_denial.specs.Record.{read_entry};
+ghost use Rattle.dnsv_denial.specs.Nsec.{nsec_words, IsAbsentBy, IsInnerBy};
+ghost use Rattle.dnsv_denial.specs.Forms.{EmptyForm, NoCloserForm};
+
+use crate::entry::NsecEntry;
+use crate::search::{Absent, Inner, first_to_say};
+use dnsv_names::Name;
+
+/// The place of the first record that shows the name to be an empty non-terminal of the zone (RFC 4592 2.2.2), or
+/// `None` where none does.
+pub fn empty_non_terminal(apex: &Name, name: &Name, entries: &[NsecEntry]) -> Option<usize>
+    ensures form { MatchOption result (¬ EmptyForm (nsec_words apex.now (map read_entry entries.now)) apex.now name.now)
+        (ProvesAlone (λ records. EmptyForm (nsec_words apex.now records) apex.now name.now) entries.now) }
+    ensures first { IfSome result (IsFirst (λ entry. IsInnerBy (read_entry entry) name.now) entries.now) }
+{
+    if !name.is_at_or_below(apex) {
+        return None;
+    }
+    first_to_say(&Inner(name), entries)
+}
+
+/// The place of the first record that leaves no closer name than the wildcard below the name's so many labels
+/// (RFC 4035 5.3.4), or `None` where none does or these labels are no proper ancestor of the name within the zone.
+pub fn no_closer(apex: &Name, name: &Name, labels: usize, entries: &[NsecEntry]) -> Option<usize>
+    ensures form { MatchOption result
+        (¬ NoCloserForm (nsec_words apex.now (map read_entry entries.now)) apex.now name.now labels)
+        (ProvesAlone (λ records. NoCloserForm (nsec_words apex.now records) apex.now name.now labels) entries.now) }
+    ensures first { IfSome result (IsFirst (λ entry. IsAbsentBy (read_entry entry) (rightmost name.now (labels + 1)))
+        entries.now) }
+{
+    if labels >= name.labels() {
+        return None;
+    }
+    if !name.suffix(labels).is_at_or_below(apex) {
+        return None;
+    }
+    let next_closer = name.suffix(labels + 1);
+    first_to_say(&Absent(&next_closer), entries)
+}
