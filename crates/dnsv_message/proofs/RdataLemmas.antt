@@ -8,8 +8,9 @@ use Rattle.std.specs.List.{AllByRecursion}
 use Rattle.dnsv_names.specs.Name.{Labels, IsLabel, IsName, wire}
 use Rattle.dnsv_message.specs.declared.errors.NameFault.{NameFault}
 use Rattle.dnsv_message.specs.declared.rdata.Layout.{Layout}
-use Rattle.dnsv_message.specs.NameAt.{PartAt, NameAt, root, label, pointer, NameFrom, NameFaultFrom, pointer_limit}
+use Rattle.dnsv_message.specs.NameAt.{PartAt, NameAt, root, label, NameFrom, NameFaultFrom, pointer_limit}
 use Rattle.dnsv_message.specs.Grammar.{InOrder, FirstFault, RdataNameAt, RdataAt, IsTail, part_of}
+use Rattle.dnsv_message.specs.TailLaws.{name_rises}
 use Rattle.dnsv_message.proofs.NameWalk.{part_within}
 use Rattle.dnsv_message.proofs.NameLaws.{NameAt_same, NameAt_sound}
 use Rattle.dnsv_message.proofs.Sequences.{Reading, Reading-start, Reading-next, Reading-fault, Reading-order, InOrder-same, InOrder-sound}
@@ -46,16 +47,10 @@ module _ (octets : List ℕ) where
   rdata_name limit false place name end at =
       ((subst (λ n. NameAt octets place place pointer_limit name n) (sym at.2) (plain_at name place place pointer_limit at.0.each at.1), at.0.at_most_255), at.3)
 
-  -- names rise
-  pub name_rises : (place run pointers : ℕ) (labels : Labels) (end : ℕ) → NameAt octets place run pointers labels end → place < end
-  name_rises place run pointers labels end (root at) = omega arith
-  name_rises place run pointers labels end (label {first = first} at more) = omega (arith, name_rises _ _ _ _ _ more)
-  name_rises place run pointers labels end (pointer at back more) = omega arith
-
   pub names_rise : (limit : ℕ) (pointers : Bool) (names : List Labels) (place end : ℕ) → InOrder (RdataNameAt octets limit pointers) place names end → place ≤ end
   names_rise limit pointers [] place end order = omega (arith, order)
   names_rise limit pointers (name ∷ names) place end order =
-      omega (arith, name_rises _ _ _ _ _ (rdata_name limit pointers place name order.0 order.1).0.0, names_rise limit pointers names order.0 end order.2)
+      omega (arith, name_rises octets _ _ _ _ _ (rdata_name limit pointers place name order.0 order.1).0.0, names_rise limit pointers names order.0 end order.2)
 
   -- no name of an RDATA stands at the place
   abbrev pub NoName : (limit : ℕ) (pointers : Bool) → ℕ → ℕ → Unit {0} → Type 0

@@ -1,13 +1,10 @@
 -- The last of things that stand one after another, and the last record of a message.
-use Rattle.std.proofs.Common.{◌≡◌, ℕ, ◌<◌, ◌≤◌, List, [], ◌∷◌, ◌++◌, length, get_or, refl, sym, ap, subst, ◌∙◌, arith, append_assoc, length-append, Option, Some, None}
+use Rattle.std.proofs.Common.{◌≡◌, ℕ, ◌<◌, List, [], ◌∷◌, ◌++◌, length, get_or, refl, sym, ap, subst, ◌∙◌, arith, append_assoc, length-append, Option, Some, None}
 use Rattle.std.specs.Option.{option_or}
 use Rattle.std.proofs.lemmas.List.{append-nil}
-use Rattle.dnsv_message.specs.declared.record.Question.{Question}
-use Rattle.dnsv_message.specs.declared.record.Record.{Record}
 use Rattle.dnsv_message.specs.Message.{Contents, records_of}
 use Rattle.dnsv_message.specs.Grammar.{InOrder, QuestionAt, RecordAt, MessageOf}
-use Rattle.dnsv_message.specs.Tail.{LastAt, TailAt, IsTailOf}
-use Rattle.dnsv_message.proofs.RdataLemmas.{name_rises}
+use Rattle.dnsv_message.specs.Tail.{LastAt, IsTailOf}
 use Rattle.dnsv_message.proofs.MessageLaws.{questions_same, records_same}
 use Rattle.dnsv_message.proofs.Sequences.{InOrder-append}
 
@@ -59,23 +56,6 @@ module _ (octets : List ℕ) where
   IsTailOf-some message at =
       let last = LastAt-some (RecordAt octets) (records_of message) at.after_questions (length octets) (records_in_order message at) in
       (last.0, IsTailOf-from_last message at.after_questions last.0 at.questions last.1)
-
-  InOrder-forward : {X : Type 0} (At : ℕ → X → ℕ → Type 0) → ((place : ℕ) (x : X) (end : ℕ) → At place x end → place < end) → (xs : List X) (place end : ℕ) → InOrder At place xs end → place ≤ end
-  InOrder-forward At forward [] place end order = omega (arith, order)
-  InOrder-forward At forward (x ∷ xs) place end order =
-      omega (arith, forward place x order.0 order.1, InOrder-forward At forward xs order.0 end order.2)
-
-  question_forward : (place : ℕ) (question : Question) (end : ℕ) → QuestionAt octets place question end → place < end
-  question_forward place question end at = omega (arith, at.ends, name_rises octets _ _ _ _ _ at.name.0)
-
-  record_forward : (place : ℕ) (resource : Record) (end : ℕ) → RecordAt octets place resource end → place < end
-  record_forward place resource end at = omega (arith, at.ends, at.head.starts, name_rises octets _ _ _ _ _ at.head.named.0)
-
-  pub TailAt-bounds : (message : Contents) (place : ℕ) → TailAt octets message place → (12 ≤ place) × (place < length octets)
-  TailAt-bounds message place tail = (
-    omega (arith, InOrder-forward (QuestionAt octets) question_forward message.questions 12 tail.after_questions tail.questions, InOrder-forward (RecordAt octets) record_forward tail.others tail.after_questions place tail.before),
-    record_forward place tail.last (length octets) tail.stands,
-  )
 
 -- a message has its last record at one place
 pub IsTailOf-same : (octets : List ℕ) → ((i : ℕ) → get_or octets i 0 < 256) → (message : Contents) (tail other : Option ℕ) → IsTailOf octets message tail → IsTailOf octets message other → tail ≡ other

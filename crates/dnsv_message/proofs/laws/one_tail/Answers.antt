@@ -1,5 +1,6 @@
 use Rattle.dnsv_message.proofs.Numbers.{octet_fits}
-use Rattle.dnsv_message.proofs.TailLemmas.{IsTailOf-some, IsTailOf-same, TailAt-bounds}
+use Rattle.dnsv_message.specs.TailLaws.{TailAt-bounds}
+use Rattle.dnsv_message.proofs.TailLemmas.{IsTailOf-some, IsTailOf-same}
 use Rattle.dnsv_message.proofs.laws.one_tail.Goals as goal
 
 pub returns-clause-some : goal.returns-clause-some
