@@ -2,7 +2,14 @@
 use Rattle.std.proofs.Common.{ℕ, ◌+◌, ◌<◌, List, [], ◌∷◌, inl, inr, ⊎_elim, length}
 use Rattle.std.specs.Prelude.{map, Option, Some, None, MatchOption, IfSome}
 use Rattle.dnsv_names.specs.Name.{Labels, IsAtOrBelow, rightmost}
+use Rattle.dnsv_names.specs.Tree.{wildcard_of}
 use Rattle.dnsv_denial.specs.Any.{Any}
+use Rattle.dnsv_denial.specs.Zone.{Zone, Holds}
+use Rattle.dnsv_denial.specs.Lookup.{IsLookup}
+use Rattle.dnsv_denial.specs.Lookup.Answer.{NoData, Held}
+use Rattle.dnsv_denial.specs.NsecChain.{HasNsecRecords}
+use Rattle.dnsv_denial.proofs.MeaningLemmas.{empty, held_at_wildcard}
+use Rattle.dnsv_denial.proofs.NsecTruth.{absent, nsec_true}
 use Rattle.dnsv_denial.specs.First.{IsFirst}
 use Rattle.dnsv_denial.specs.Shown.{ProvesAlone}
 use Rattle.dnsv_denial.specs.declared.entry.NsecEntry.{NsecEntry}
@@ -59,3 +66,26 @@ pub if_found : (N : Type 0) (F G : ℕ → Type 0) (found : Option ℕ) → ((pl
     → MatchOption found N F → IfSome found G
 if_found N F G None some holds = tt
 if_found N F G (Some place) some holds = some place holds
+
+-- what the record means for each zone whose chain has it
+pub empty_meaning : (apex name : Labels) (entries : List NsecEntry) (place : ℕ)
+    → ProvesAlone (λ records. EmptyForm (nsec_words apex records) apex name) entries place
+    → ProvesAlone (λ records. (zone : Zone) (t : ℕ) → HasNsecRecords zone apex records → IsLookup zone name t (NoData name)) entries place
+empty_meaning apex name entries place form = record {
+  entry = form.entry;
+  there = form.there;
+  proves = λ zone t has. empty zone (nsec_words apex (read_entry form.entry ∷ [])) apex name has.well_formed has.same_apex
+      (nsec_true zone apex name (read_entry form.entry ∷ []) has.well_formed has.same_apex has.in_chain) t form.proves;
+}
+
+pub closer_meaning : (apex name : Labels) (labels : ℕ) (entries : List NsecEntry) (place : ℕ)
+    → ProvesAlone (λ records. NoCloserForm (nsec_words apex records) apex name labels) entries place
+    → ProvesAlone (λ records. (zone : Zone) (t : ℕ) → HasNsecRecords zone apex records
+    → Holds zone (wildcard_of (rightmost name labels)) t
+    → IsLookup zone name t (Held (wildcard_of (rightmost name labels)))) entries place
+closer_meaning apex name labels entries place form = record {
+  entry = form.entry;
+  there = form.there;
+  proves = λ zone t has. held_at_wildcard zone (nsec_words apex (read_entry form.entry ∷ [])) apex name labels t has.well_formed has.same_apex
+      (absent zone apex name (read_entry form.entry ∷ []) has.well_formed has.same_apex has.in_chain) form.proves;
+}

@@ -1,6 +1,11 @@
 //! The forms of a proof that one NSEC record carries.
-ghost use Rattle.std.specs.Prelude.{◌+◌, MatchOption, IfSome, map};
+ghost use Rattle.std.specs.Prelude.{ℕ, ◌+◌, MatchOption, IfSome, map};
 ghost use Rattle.dnsv_names.specs.Name.{rightmost};
+ghost use Rattle.dnsv_names.specs.Tree.{wildcard_of};
+ghost use Rattle.dnsv_denial.specs.Zone.{Zone, Holds};
+ghost use Rattle.dnsv_denial.specs.Lookup.{IsLookup};
+ghost use Rattle.dnsv_denial.specs.Lookup.Answer.{NoData, Held};
+ghost use Rattle.dnsv_denial.specs.NsecChain.{HasNsecRecords};
 ghost use Rattle.dnsv_denial.specs.First.{IsFirst};
 ghost use Rattle.dnsv_denial.specs.Shown.{ProvesAlone};
 ghost use Rattle.dnsv_denial.specs.Record.{read_entry};
@@ -17,6 +22,9 @@ pub fn empty_non_terminal(apex: &Name, name: &Name, entries: &[NsecEntry]) -> Op
     ensures form { MatchOption result (¬ EmptyForm (nsec_words apex.now (map read_entry entries.now)) apex.now name.now)
         (ProvesAlone (λ records. EmptyForm (nsec_words apex.now records) apex.now name.now) entries.now) }
     ensures first { IfSome result (IsFirst (λ entry. IsInnerBy (read_entry entry) name.now) entries.now) }
+    // In each zone whose chain has the record, the name is there without any type.
+    ensures meaning { IfSome result (ProvesAlone (λ records. (zone : Zone) (t : ℕ)
+        → HasNsecRecords zone apex.now records → IsLookup zone name.now t (NoData name.now)) entries.now) }
 {
     if !name.is_at_or_below(apex) {
         return None;
@@ -32,6 +40,10 @@ pub fn no_closer(apex: &Name, name: &Name, labels: usize, entries: &[NsecEntry])
         (ProvesAlone (λ records. NoCloserForm (nsec_words apex.now records) apex.now name.now labels) entries.now) }
     ensures first { IfSome result (IsFirst (λ entry. IsAbsentBy (read_entry entry) (rightmost name.now (labels + 1)))
         entries.now) }
+    // In each zone whose chain has the record, the answer to a type that the wildcard has is the wildcard's.
+    ensures meaning { IfSome result (ProvesAlone (λ records. (zone : Zone) (t : ℕ)
+        → HasNsecRecords zone apex.now records → Holds zone (wildcard_of (rightmost name.now labels)) t
+        → IsLookup zone name.now t (Held (wildcard_of (rightmost name.now labels)))) entries.now) }
 {
     if labels >= name.labels() {
         return None;
