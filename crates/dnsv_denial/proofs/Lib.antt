@@ -2,6 +2,7 @@ mod AnswerLemmas
 mod AnyLemmas
 mod BitmapLemmas
 mod ChainLemmas
+mod CutLemmas
 mod Example
 mod FirstLemmas
 mod LookupLemmas

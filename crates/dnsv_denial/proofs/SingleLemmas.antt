@@ -1,21 +1,22 @@
 -- A form that one record carries stands over a list where its word stands of a member.
 use Rattle.std.proofs.Common.{ℕ, ◌+◌, ◌<◌, List, [], ◌∷◌, inl, inr, ⊎_elim, length}
 use Rattle.std.specs.Prelude.{map, Option, Some, None, MatchOption, IfSome}
-use Rattle.dnsv_names.specs.Name.{Labels, IsAtOrBelow, rightmost}
+use Rattle.dnsv_names.specs.Name.{Labels, SameName, IsAtOrBelow, rightmost}
 use Rattle.dnsv_names.specs.Tree.{wildcard_of}
 use Rattle.dnsv_denial.specs.Any.{Any}
+use Rattle.dnsv_denial.specs.Types.{Denies}
 use Rattle.dnsv_denial.specs.Zone.{Zone, Holds}
 use Rattle.dnsv_denial.specs.Lookup.{IsLookup}
 use Rattle.dnsv_denial.specs.Lookup.Answer.{NoData, Held}
-use Rattle.dnsv_denial.specs.NsecChain.{HasNsecRecords}
-use Rattle.dnsv_denial.proofs.MeaningLemmas.{empty, held_at_wildcard}
+use Rattle.dnsv_denial.specs.NsecChain.{HasNsecRecords, IsInBitmap}
+use Rattle.dnsv_denial.proofs.MeaningLemmas.{empty, no_data, held_at_wildcard}
 use Rattle.dnsv_denial.proofs.NsecTruth.{absent, nsec_true}
 use Rattle.dnsv_denial.specs.First.{IsFirst}
 use Rattle.dnsv_denial.specs.Shown.{ProvesAlone}
 use Rattle.dnsv_denial.specs.declared.entry.NsecEntry.{NsecEntry}
 use Rattle.dnsv_denial.specs.Record.{read_entry}
 use Rattle.dnsv_denial.specs.Nsec.{nsec_words, IsAbsentBy, IsInnerBy}
-use Rattle.dnsv_denial.specs.Forms.{EmptyForm, NoCloserForm}
+use Rattle.dnsv_denial.specs.Forms.{EmptyForm, NoCloserForm, NoDataForm}
 
 pub any_of_map : {X Y : Type 0} (f : X → Y) (P : Y → Type 0) (xs : List X) → Any P (map f xs) → Any (λ x. P (f x)) xs
 any_of_map f P [] some = absurd some
@@ -88,4 +89,32 @@ closer_meaning apex name labels entries place form = record {
   there = form.there;
   proves = λ zone t has. held_at_wildcard zone (nsec_words apex (read_entry form.entry ∷ [])) apex name labels t has.well_formed has.same_apex
       (absent zone apex name (read_entry form.entry ∷ []) has.well_formed has.same_apex has.in_chain) form.proves;
+}
+
+-- the record shows the name without the type
+abbrev pub ShowsDenied : Labels → ℕ → NsecEntry → Type 0
+ShowsDenied name t entry = SameName entry.owner.now name × Denies (IsInBitmap (read_entry entry).types) t
+
+pub no_data_none : (apex name : Labels) (t : ℕ) (entries : List NsecEntry) → ¬ Any (ShowsDenied name t) entries
+    → ¬ NoDataForm (nsec_words apex (map read_entry entries)) apex name t
+no_data_none apex name t entries none form =
+    none (any_of_map read_entry (λ nsec. SameName nsec.owner name × Denies (IsInBitmap nsec.types) t) entries form.types)
+
+pub no_data_alone : (apex name : Labels) (t : ℕ) (entries : List NsecEntry) (place : ℕ) → IsAtOrBelow name apex
+    → IsFirst (ShowsDenied name t) entries place
+    → ProvesAlone (λ records. NoDataForm (nsec_words apex records) apex name t) entries place
+no_data_alone apex name t entries place within first = record {
+  entry = first.member;
+  there = first.there;
+  proves = record { within = within; types = inl first.such };
+}
+
+pub no_data_meaning : (apex name : Labels) (t : ℕ) (entries : List NsecEntry) (place : ℕ)
+    → ProvesAlone (λ records. NoDataForm (nsec_words apex records) apex name t) entries place
+    → ProvesAlone (λ records. (zone : Zone) → HasNsecRecords zone apex records → IsLookup zone name t (NoData name)) entries place
+no_data_meaning apex name t entries place form = record {
+  entry = form.entry;
+  there = form.there;
+  proves = λ zone has. no_data zone (nsec_words apex (read_entry form.entry ∷ [])) apex name has.well_formed has.same_apex
+      (nsec_true zone apex name (read_entry form.entry ∷ []) has.well_formed has.same_apex has.in_chain) t form.proves;
 }

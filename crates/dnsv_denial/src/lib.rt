@@ -6,6 +6,7 @@
 #![tactic(auto)]
 
 pub use chain::each_zone_has_a_chain;
+pub use cut::{UnsignedCut, unsigned_cut};
 pub use entry::NsecEntry;
 pub use lookup::a_question_has_one_answer;
 pub use more::{more_nsec_records_prove_no_less, more_nsec3_records_prove_no_less};
@@ -38,7 +39,7 @@ pub use nsec3_meaning::{
     unsigned_cut_by_nsec3_is_an_unsigned_delegation,
 };
 pub use search::{Absent, Denied, Inner, Node, UnsignedDelegation, Word, first_to_say};
-pub use single::{empty_non_terminal, no_closer};
+pub use single::{empty_non_terminal, no_closer, no_data_at_name};
 pub use types::{denies, is_closed, is_delegation, is_unsigned_delegation};
 pub use words::{is_absent, is_covered, is_fair, is_inner, is_node};
 pub use zone::{
@@ -47,6 +48,7 @@ pub use zone::{
 };
 
 mod chain;
+mod cut;
 mod entry;
 mod lookup;
 mod more;

@@ -1,20 +1,44 @@
 //! The forms of a proof that one NSEC record carries.
 ghost use Rattle.std.specs.Prelude.{ℕ, ◌+◌, MatchOption, IfSome, map};
-ghost use Rattle.dnsv_names.specs.Name.{rightmost};
+ghost use Rattle.dnsv_names.specs.Name.{rightmost, SameName};
 ghost use Rattle.dnsv_names.specs.Tree.{wildcard_of};
+ghost use Rattle.dnsv_denial.specs.Types.{Denies};
 ghost use Rattle.dnsv_denial.specs.Zone.{Zone, Holds};
 ghost use Rattle.dnsv_denial.specs.Lookup.{IsLookup};
 ghost use Rattle.dnsv_denial.specs.Lookup.Answer.{NoData, Held};
-ghost use Rattle.dnsv_denial.specs.NsecChain.{HasNsecRecords};
+ghost use Rattle.dnsv_denial.specs.NsecChain.{HasNsecRecords, IsInBitmap};
 ghost use Rattle.dnsv_denial.specs.First.{IsFirst};
 ghost use Rattle.dnsv_denial.specs.Shown.{ProvesAlone};
 ghost use Rattle.dnsv_denial.specs.Record.{read_entry};
 ghost use Rattle.dnsv_denial.specs.Nsec.{nsec_words, IsAbsentBy, IsInnerBy};
-ghost use Rattle.dnsv_denial.specs.Forms.{EmptyForm, NoCloserForm};
+ghost use Rattle.dnsv_denial.specs.Forms.{EmptyForm, NoCloserForm, NoDataForm};
 
 use crate::entry::NsecEntry;
-use crate::search::{Absent, Inner, first_to_say};
-use dnsv_names::Name;
+use crate::search::{Absent, Denied, Inner, first_to_say};
+use dnsv_names::{Name, RecordType};
+
+/// The place of the first record that shows the name to be there without the type (RFC 4035 5.4), or `None` where
+/// none does or the name isn't within the zone.
+pub fn no_data_at_name(
+    apex: &Name,
+    name: &Name,
+    rtype: RecordType,
+    entries: &[NsecEntry],
+) -> Option<usize>
+    ensures form { MatchOption result
+        (¬ NoDataForm (nsec_words apex.now (map read_entry entries.now)) apex.now name.now rtype.0)
+        (ProvesAlone (λ records. NoDataForm (nsec_words apex.now records) apex.now name.now rtype.0) entries.now) }
+    ensures first { IfSome result (IsFirst (λ entry. SameName entry.owner.now name.now
+        × Denies (IsInBitmap (read_entry entry).types) rtype.0) entries.now) }
+    // In each zone whose chain has the record, the name is there without the type.
+    ensures meaning { IfSome result (ProvesAlone (λ records. (zone : Zone) → HasNsecRecords zone apex.now records
+        → IsLookup zone name.now rtype.0 (NoData name.now)) entries.now) }
+{
+    if !name.is_at_or_below(apex) {
+        return None;
+    }
+    first_to_say(&Denied { name, rtype }, entries)
+}
 
 /// The place of the first record that shows the name to be an empty non-terminal of the zone (RFC 4592 2.2.2), or
 /// `None` where none does.
