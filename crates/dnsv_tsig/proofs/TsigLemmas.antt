@@ -1,9 +1,8 @@
 -- The RDATA of TSIG has one reading.
-use Rattle.std.proofs.Common.{◌≡◌, ℕ, List, [], ◌∷◌, ◌++◌, length, take, drop, refl, sym, ap, subst, ◌∙◌, arith, append_assoc, length-append}
+use Rattle.std.proofs.Common.{◌≡◌, ℕ, List, [], ◌∷◌, ◌++◌, length, take, drop, refl, sym, ap, subst, ◌∙◌, arith, length-append}
 use Rattle.std.proofs.lemmas.List.{take_at, drop_at}
-use Rattle.std.specs.List.{AllByRecursion}
-use Rattle.dnsv_names.specs.Name.{Labels, IsLabel, wire}
 use Rattle.dnsv_names.specs.Octets.{number_at}
+use Rattle.dnsv_names.specs.WireLaws.{wire-front}
 use Rattle.dnsv_message.specs.declared.record.Record.{Record}
 use Rattle.dnsv_tsig.specs.Answer.{LacksTsig}
 use Rattle.dnsv_tsig.specs.Tsig.{TsigFields, AreParts, IsTsig}
@@ -14,20 +13,6 @@ same_parts a b x y size both = (
   sym (take_at a x (length a) refl) ∙ ap (take (length a)) both ∙ take_at b y (length a) (sym size),
   sym (drop_at a x (length a) refl) ∙ ap (drop (length a)) both ∙ drop_at b y (length a) (sym size),
 )
-
--- octets begin with at most one name
-pub one_front : (a b : Labels) (x y : List ℕ) → AllByRecursion IsLabel a → AllByRecursion IsLabel b → wire a ++ x ≡ wire b ++ y → (a ≡ b) × (x ≡ y)
-one_front [] [] x y a_each b_each both = (refl, cc)
-one_front [] (m ∷ ms) x y a_each b_each both =
-    let size : 0 ≡ length m = cc in absurd (omega (arith, b_each.0.not_empty))
-one_front (l ∷ ls) [] x y a_each b_each both =
-    let size : length l ≡ 0 = cc in absurd (omega (arith, a_each.0.not_empty))
-one_front (l ∷ ls) (m ∷ ms) x y a_each b_each both =
-    let size : length l ≡ length m = cc in
-    let tails : (l ++ wire ls) ++ x ≡ (m ++ wire ms) ++ y = cc in
-    let labels = same_parts l m (wire ls ++ x) (wire ms ++ y) size (sym (append_assoc l (wire ls) x) ∙ tails ∙ append_assoc m (wire ms) y) in
-    let rest = one_front ls ms x y a_each.1 b_each.1 labels.1 in
-    ((λ i. labels.0 i ∷ rest.0 i), rest.1)
 
 -- octets have their parts in one way
 pub record SameParts (before mac after other before' mac' after' other' : List ℕ) : Type 0 where
@@ -46,7 +31,7 @@ one_cut {octets} {before} {mac} {after} {other} {before'} {mac'} {after'} {other
 -- an RDATA is at most one TSIG record's
 pub one_tsig : {rdata : List ℕ} {tsig tsig' : TsigFields} → IsTsig rdata tsig → IsTsig rdata tsig' → tsig ≡ tsig'
 one_tsig {rdata} {tsig} {tsig'} p q =
-    let fronts = one_front tsig.algorithm tsig'.algorithm p.behind q.behind p.name.each q.name.each (sym p.front ∙ q.front) in
+    let fronts = wire-front tsig.algorithm tsig'.algorithm p.behind q.behind p.name.each q.name.each (sym p.front ∙ q.front) in
     let cut = one_cut (subst (λ xs. AreParts xs p.before_mac tsig.mac p.after_mac tsig.other) fronts.1 p.parts) q.parts in
     let time_signed = p.time_signed ∙ ap (λ xs. number_at xs 0 6) cut.before_mac ∙ sym q.time_signed in
     let fudge = p.fudge ∙ ap (λ xs. number_at xs 6 2) cut.before_mac ∙ sym q.fudge in
