@@ -1,5 +1,7 @@
 pub mod AnswerLaws
 pub mod AnswerLemmas
+pub mod Decisions
 pub mod KeyLaws
 pub mod KeyLemmas
+pub mod SomeAnswer
 pub mod TsigLemmas

@@ -9,17 +9,20 @@ ghost use Rattle.dnsv_tsig.specs.KeyFile.{IsRingOf, IsKeyFault};
 ghost use Rattle.dnsv_tsig.specs.Opened.{OpenedMessage};
 
 use crate::error::{KeyFileError, TsigError};
-use dnsv_message::{no_fault_of_a_message, one_fault, one_message, one_tail};
+use dnsv_message::{message_or_fault, no_fault_of_a_message, one_fault, one_message, one_tail};
 use dnsv_names::{
     a_line_has_one_list_of_fields, a_text_has_one_list_of_lines, a_text_has_one_reading,
 };
 
-/// Under a ring, at a moment and with a request's MAC, octets have at most one answer.
+/// Under a ring, at a moment and with a request's MAC, octets have exactly one answer.
 pub fn one_answer()
-    ensures { (octets : List ℕ) → AreOctets octets → (keys : List SharedKey) (now : ℕ) (request : Option (List ℕ))
+    ensures some { (octets : List ℕ) → AreOctets octets → (keys : List SharedKey) (now : ℕ) (request : Option (List ℕ))
+        → (answer : Result OpenedMessage TsigError) × tsig_answer_of octets keys now request answer }
+    ensures one { (octets : List ℕ) → AreOctets octets → (keys : List SharedKey) (now : ℕ) (request : Option (List ℕ))
         (answer other : Result OpenedMessage TsigError) → tsig_answer_of octets keys now request answer
         → tsig_answer_of octets keys now request other → answer ≡ other }
 {
+    message_or_fault();
     one_message();
     one_fault();
     no_fault_of_a_message();
