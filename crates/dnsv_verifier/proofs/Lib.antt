@@ -1,3 +1,4 @@
+pub mod AdmissibleLemmas
 pub mod AnswerLemmas
 pub mod PanelLemmas
 pub mod StatementLemmas

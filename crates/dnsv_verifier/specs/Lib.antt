@@ -1,3 +1,4 @@
+pub mod Admissible
 pub mod Entry
 pub mod EntryLaws
 pub mod HexField

@@ -1,17 +1,26 @@
 //! Whoever can verify signatures: what is asked of them, and what was said before (RFC 4035 5.3.3).
 #![tactic(auto)]
 
+pub use admissible::{is_admissible, is_verifiable, may_have_made};
 pub use answer::Answer;
 pub use entry::Entry;
 pub use hex_field::hex_octets;
+pub use key::KeyRecord;
+pub use laws::{
+    a_pair_has_one_entry, admissible_is_verifiable_and_made, good_depends_on_what_is_asked,
+    more_rrsets_ask_for_no_less,
+};
 pub use panel::Panel;
 pub use statement::Word;
 pub use statements::{Statements, StatementsError, a_text_is_one_list_of_statements};
 pub use verifier::Verifier;
 
+mod admissible;
 mod answer;
 mod entry;
 mod hex_field;
+mod key;
+mod laws;
 mod panel;
 mod statement;
 mod statements;

@@ -1,0 +1,50 @@
+//! Laws of what a verifier is asked.
+//!
+//! Each is a function that does nothing and ensures the law, which its caller learns.
+ghost use Rattle.std.specs.Prelude.{◌≡◌, ◌↔◌, ℕ, List, Contains};
+ghost use Rattle.dnsv_records.specs.declared.rrsig.Rrsig.{Rrsig};
+ghost use Rattle.dnsv_canonical.specs.Rrsets.{ReceivedRrset};
+ghost use Rattle.dnsv_verifier.specs.Admissible.{DnskeyRecord, IsAdmissible, IsAsked, IsEntryOf, IsGood, IsGoodAmong, IsKeyAmong, IsSignatureOf, IsVerifiable, MayHaveMade};
+ghost use Rattle.dnsv_verifier.specs.declared.answer.Answer.{Answer};
+ghost use Rattle.dnsv_verifier.specs.declared.entry.Entry.{Entry};
+
+use dnsv_canonical::one_signed_data;
+
+/// A key may be used for a signature just where the signature can be verified and the key may have made it.
+pub fn admissible_is_verifiable_and_made()
+    ensures { (moment : ℕ) (rrset : ReceivedRrset) (rrsig : Rrsig) (key : DnskeyRecord)
+        → IsAdmissible moment rrset rrsig key ↔ (IsVerifiable moment rrset rrsig × MayHaveMade key rrsig) }
+{}
+
+/// A verifier is asked at most one thing of a signature under a key, and one where the key may be used for it.
+pub fn a_pair_has_one_entry()
+    ensures one { (rrset : ReceivedRrset) (rrsig : Rrsig) (key : DnskeyRecord) (a b : Entry)
+        → IsEntryOf rrset rrsig key a → IsEntryOf rrset rrsig key b → a ≡ b }
+    ensures some { (moment : ℕ) (rrset : ReceivedRrset) (rrsig : Rrsig) (key : DnskeyRecord)
+        → IsAdmissible moment rrset rrsig key → (entry : Entry) × IsEntryOf rrset rrsig key entry }
+{
+    one_signed_data();
+}
+
+/// What is good in the evidence depends on the verifier through the entries that are asked alone.
+pub fn good_depends_on_what_is_asked()
+    ensures { (first second : Entry → Answer) (moment : ℕ) (rrsets : List ReceivedRrset)
+        → ((entry : Entry) → IsAsked moment rrsets entry → first entry ≡ second entry)
+        → (rrset : ReceivedRrset) (rrsig : Rrsig) (key : DnskeyRecord)
+        → Contains rrsets rrset → IsSignatureOf rrset rrsig → IsKeyAmong rrsets key
+        → IsGood first moment rrset rrsig key → IsGood second moment rrset rrsig key }
+{}
+
+/// More RRsets ask for no fewer entries, and take no key and no good signature away.
+pub fn more_rrsets_ask_for_no_less()
+    ensures keys { (rrsets more : List ReceivedRrset)
+        → ((rrset : ReceivedRrset) → Contains rrsets rrset → Contains more rrset)
+        → (key : DnskeyRecord) → IsKeyAmong rrsets key → IsKeyAmong more key }
+    ensures entries { (moment : ℕ) (rrsets more : List ReceivedRrset)
+        → ((rrset : ReceivedRrset) → Contains rrsets rrset → Contains more rrset)
+        → (entry : Entry) → IsAsked moment rrsets entry → IsAsked moment more entry }
+    ensures good { (meaning : Entry → Answer) (moment : ℕ) (rrsets more : List ReceivedRrset)
+        → ((rrset : ReceivedRrset) → Contains rrsets rrset → Contains more rrset)
+        → (rrset : ReceivedRrset) (rrsig : Rrsig)
+        → IsGoodAmong meaning moment rrsets rrset rrsig → IsGoodAmong meaning moment more rrset rrsig }
+{}
