@@ -1,15 +1,14 @@
 -- The delegations without DS above a name, by their number of labels.
 use Rattle.std.proofs.Common.{◌≡◌, ℕ, ◌+◌, ◌<◌, ◌≤◌, List, length, subst, sym, ◌∙◌, [], ◌∷◌, inl, inr, arith, ⊎_elim}
-use Rattle.std.specs.Prelude.{map, Option, Some, None, MatchOption, IfSome}
+use Rattle.std.specs.Prelude.{map}
 use Rattle.std.proofs.lemmas.Bool.{cases_lt}
 use Rattle.dnsv_names.specs.Name.{Labels, SameName, IsAtOrBelow, rightmost}
-use Rattle.dnsv_names.specs.Order.{IsBelow}
 use Rattle.dnsv_names.specs.TreeLaws.{ancestors_in_line, at_or_below_length, at_or_below_trans, below_by_length, below_length}
 use Rattle.dnsv_names.specs.AncestorLaws.{rightmost_above, rightmost_length, rightmost_same}
 use Rattle.dnsv_denial.specs.Any.{Any}
 use Rattle.dnsv_denial.specs.Types.{IsUnsignedDelegation}
 use Rattle.dnsv_denial.specs.Zone.{Zone, Holds}
-use Rattle.dnsv_denial.specs.NsecChain.{NsecRecord, HasNsecRecords, IsInBitmap}
+use Rattle.dnsv_denial.specs.NsecChain.{HasNsecRecords, IsInBitmap}
 use Rattle.dnsv_denial.specs.First.{IsFirst}
 use Rattle.dnsv_denial.specs.Shown.{ProvesAlone}
 use Rattle.dnsv_denial.specs.declared.entry.NsecEntry.{NsecEntry}

@@ -3,10 +3,12 @@ mod AnyLemmas
 mod BitmapLemmas
 mod ChainLemmas
 mod CutLemmas
+mod EndLemmas
 mod Example
 mod FirstLemmas
 mod LookupLemmas
 mod MeaningLemmas
+mod MissingLemmas
 mod MoreLemmas
 mod NsecLemmas
 mod NsecComplete

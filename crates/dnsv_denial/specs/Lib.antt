@@ -1,4 +1,6 @@
 pub mod Any
+pub mod Chosen
+pub mod ChosenNoName
 pub mod Example
 pub mod First
 pub mod Forms

@@ -2,13 +2,15 @@
 //!
 //! So far the crate has definitions and their laws: what a zone is and what it answers, its chains of NSEC
 //! and NSEC3 records, the forms of a proof, and what a proof says of each zone whose chain has its records;
-//! and code that decides what one NSEC record says of a name.
+//! and code that decides what one NSEC record says of a name, and finds the NSEC records of a proof.
 #![tactic(auto)]
 
 pub use chain::each_zone_has_a_chain;
 pub use cut::{UnsignedCut, unsigned_cut};
+pub use ends::{EndRecords, end_at};
 pub use entry::NsecEntry;
 pub use lookup::a_question_has_one_answer;
+pub use missing::{NoNameRecords, no_name};
 pub use more::{more_nsec_records_prove_no_less, more_nsec3_records_prove_no_less};
 pub use nsec::{
     a_name_absent_by_nsec_is_no_node, a_name_covered_fairly_has_nothing_closed_above,
@@ -49,8 +51,10 @@ pub use zone::{
 
 mod chain;
 mod cut;
+mod ends;
 mod entry;
 mod lookup;
+mod missing;
 mod more;
 mod nsec;
 mod nsec3;

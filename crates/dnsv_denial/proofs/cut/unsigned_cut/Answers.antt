@@ -1,12 +1,9 @@
 -- The first record of the fewest labels is found, and those with fewer labels have none.
 use Rattle.std.proofs.Common.{subst, ◌+◌, arith}
-use Rattle.dnsv_names.specs.Name.{Labels, IsAtOrBelow, rightmost}
+use Rattle.dnsv_names.specs.Name.{rightmost}
 use Rattle.dnsv_denial.specs.Any.{Any}
 use Rattle.dnsv_denial.specs.First.{IsFirst}
-use Rattle.dnsv_denial.specs.Shown.{ProvesAlone}
-use Rattle.dnsv_denial.specs.Nsec.{nsec_words}
-use Rattle.dnsv_denial.specs.Forms.{UnsignedCutForm}
-use Rattle.dnsv_denial.proofs.CutLemmas.{ShowsCut, NoCut, no_cut_at_all, no_cut_fewer, no_cut_outside, cut_alone, cut_meaning, none_up_to}
+use Rattle.dnsv_denial.proofs.CutLemmas.{ShowsCut, no_cut_at_all, no_cut_fewer, no_cut_outside, cut_alone, cut_meaning, none_up_to}
 use Rattle.dnsv_denial.proofs.cut.unsigned_cut.Goals as goal
 
 pub returns-then-not-is_at_or_below-clause-form : goal.returns-then-not-is_at_or_below-clause-form
