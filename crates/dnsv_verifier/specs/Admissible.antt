@@ -29,7 +29,7 @@ pub record IsOver (rrset : ReceivedRrset) (rrsig : Rrsig) : Type 0 where
   pub labels : rrsig.labels ≤ signed_label_count rrset.owner
 
 -- The signer may be the zone of an RRset of the type at the owner: it is the owner or an ancestor, for DS, which the
--- zone above keeps, an ancestor, and for DNSKEY, which stands at the zone's apex, the owner (RFC 4035 2.4, 2.2).
+-- zone above keeps, an ancestor, and for DNSKEY, which stands at the zone's apex, the owner (RFC 4035 2.1, 2.2, 2.4).
 -- Whether a zone cut lies between isn't asked.
 pub record MaySign (signer : Labels) (rtype : ℕ) (owner : Labels) : Type 0 where
   pub above : IsAtOrBelow owner signer

@@ -1,5 +1,5 @@
 //! Which DNSKEY may be used to verify which signature (RFC 4035 5.3.1).
-ghost use Rattle.std.specs.Prelude.{◌≡◌, ◌↔◌, IsTrue};
+ghost use Rattle.std.specs.Prelude.{◌↔◌, IsTrue};
 ghost use Rattle.dnsv_names.specs.Name.{SameName};
 ghost use Rattle.dnsv_canonical.specs.SignedData.{IsExpanded};
 ghost use Rattle.dnsv_verifier.specs.Admissible.{IsAdmissible, IsOver, IsVerifiable, IsZoneKeyOf, MayHaveMade, MaySign, Names, is_unexpanded};
@@ -46,7 +46,7 @@ fn is_over(rrset: &Rrset, rrsig: &Rrsig) -> bool
         && rrsig.labels as usize <= signed_label_count(rrset.owner())
 }
 
-/// Whether the signer may be the zone of an RRset of the type at the owner (RFC 4035 2.2, 2.4).
+/// Whether the signer may be the zone of an RRset of the type at the owner (RFC 4035 2.1, 2.2, 2.4).
 #[tactic(auto, using(crate::proofs::AdmissibleLemmas::dnskey_signer, crate::proofs::AdmissibleLemmas::ds_signer, crate::proofs::AdmissibleLemmas::other_signer))]
 fn may_sign(signer: &Name, rtype: RecordType, owner: &Name) -> bool
     ensures { IsTrue result ↔ MaySign signer.now rtype.0 owner.now }

@@ -1,4 +1,4 @@
-use Rattle.std.proofs.Common.{◌≡◌, sym, ◌∙◌}
+use Rattle.std.proofs.Common.{sym, ◌∙◌}
 use Rattle.dnsv_names.specs.OrderLaws.{same_name_Decides}
 use Rattle.dnsv_verifier.proofs.admissible.are_equal.Goals as goal
 
