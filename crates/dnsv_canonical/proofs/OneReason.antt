@@ -11,17 +11,20 @@ use Rattle.dnsv_message.specs.declared.record.Record.{Record}
 use Rattle.dnsv_message.specs.Fits.{FitsMessage, FitsRecord}
 use Rattle.dnsv_message.specs.Message.{Contents, records_of}
 use Rattle.dnsv_message.specs.Parts.{HasParts}
+use Rattle.dnsv_records.specs.declared.dnskey.Dnskey.{Dnskey}
+use Rattle.dnsv_records.specs.declared.ds.Ds.{Ds}
 use Rattle.dnsv_records.specs.declared.nsec.Nsec.{Nsec}
 use Rattle.dnsv_records.specs.declared.nsec3.Nsec3.{Nsec3}
 use Rattle.dnsv_records.specs.declared.nsec3.Nsec3Parameters.{Nsec3Parameters}
 use Rattle.dnsv_records.specs.declared.rrsig.Rrsig.{Rrsig}
 use Rattle.dnsv_records.specs.Bitmap.{IsBitmap}
+use Rattle.dnsv_records.specs.DecisionLaws.{Or, all_or, at_most_or, number_or, usable_or}
+use Rattle.dnsv_records.specs.Dnskey.{IsDnskey}
+use Rattle.dnsv_records.specs.Ds.{IsDs}
 use Rattle.dnsv_records.specs.Nsec.{IsNsec}
 use Rattle.dnsv_records.specs.Nsec3.{IsNsec3, IsUsable}
 use Rattle.dnsv_records.specs.Reading.{Gives}
 use Rattle.dnsv_records.specs.Rrsig.{IsRrsig}
-use Rattle.dnsv_records.proofs.Decided.{Or, all_or, at_most_or, bitmap_or, dnskey_or, ds_or, nsec3_or, number_or, usable_or}
-use Rattle.dnsv_records.proofs.OneRecord.{one_nsec3}
 use Rattle.dnsv_canonical.specs.declared.capture.CaptureError.{CaptureError}
 use Rattle.dnsv_canonical.specs.declared.capture.CaptureError.TheVariants.{OutOfMemory, NotAResponse, Truncated, BadRdata, Limit}
 use Rattle.dnsv_canonical.specs.Evidence.{AreParameters, AreUsableParameters, AreParametersAmong, AtMost, Evidence, IsEvidence, IsFirstBad, IsReadable, IsReasonAgainst, IsSmall, IsWhole, IsWithinLimits, nsec3_rdata, with_message}
@@ -124,51 +127,7 @@ rrsig_of_parts rdata has =
       },
     )
 
-nsec_or : (rdata : List ℕ) → HasParts 47 1 rdata → Or ((nsec : Nsec) × IsNsec rdata nsec)
-nsec_or rdata has =
-    let name = one_name has.1 has.3.count in
-    let named : IsName name.0 = (subst (AllByRecursion IsName) name.1 has.3.each).0 in
-    let whole : rdata ≡ wire name.0 ++ has.2 = named_rest 0 rdata has.0 has.1 has.2 name.0 has.3.head name.1 has.4 in
-    ⊎_elim
-    (λ bitmap. inl (record { next = name.0; types = bitmap.0 }, record { name = named; bits = has.2; whole = whole; bitmap = bitmap.1 }))
-    (λ none. inr (λ is. none (subst IsBitmap (wire-front is.0.next name.0 is.1.bits has.2 is.1.name.each named.each (sym is.1.whole ∙ whole)).1 (is.0.types, is.1.bitmap))))
-    (bitmap_or has.2)
-
-laid_or : (rtype : ℕ) (rdata : List ℕ) → HasParts rtype 1 rdata → Or (IsLaidOut rtype rdata)
-laid_or rtype rdata has =
-    ⊎_elim (λ is. ⊎_elim
-    (λ read. inl (record { ds = λ _. read; rrsig = λ other. absurd (omega (arith, is, other)); nsec = λ other. absurd (omega (arith, is, other)); dnskey = λ other. absurd (omega (arith, is, other)); nsec3 = λ other. absurd (omega (arith, is, other)) }))
-    (λ none. inr (λ laid. none (laid.ds is))) (ds_or rdata))
-    (λ not_ds. ⊎_elim
-    (λ is. inl (record { ds = λ other. absurd (not_ds other); rrsig = λ _. rrsig_of_parts rdata (subst (λ n. HasParts n 1 rdata) is has); nsec = λ other. absurd (omega (arith, is, other)); dnskey = λ other. absurd (omega (arith, is, other)); nsec3 = λ other. absurd (omega (arith, is, other)) }))
-    (λ not_rrsig. ⊎_elim (λ is. ⊎_elim
-    (λ read. inl (record { ds = λ other. absurd (not_ds other); rrsig = λ other. absurd (not_rrsig other); nsec = λ _. read; dnskey = λ other. absurd (omega (arith, is, other)); nsec3 = λ other. absurd (omega (arith, is, other)) }))
-    (λ none. inr (λ laid. none (laid.nsec is))) (nsec_or rdata (subst (λ n. HasParts n 1 rdata) is has)))
-    (λ not_nsec. ⊎_elim (λ is. ⊎_elim
-    (λ read. inl (record { ds = λ other. absurd (not_ds other); rrsig = λ other. absurd (not_rrsig other); nsec = λ other. absurd (not_nsec other); dnskey = λ _. read; nsec3 = λ other. absurd (omega (arith, is, other)) }))
-    (λ none. inr (λ laid. none (laid.dnskey is))) (dnskey_or rdata))
-    (λ not_dnskey. ⊎_elim (λ is. ⊎_elim
-    (λ read. inl (record { ds = λ other. absurd (not_ds other); rrsig = λ other. absurd (not_rrsig other); nsec = λ other. absurd (not_nsec other); dnskey = λ other. absurd (not_dnskey other); nsec3 = λ _. read }))
-    (λ none. inr (λ laid. none (laid.nsec3 is))) (nsec3_or rdata))
-    (λ not_nsec3. inl (record { ds = λ other. absurd (not_ds other); rrsig = λ other. absurd (not_rrsig other); nsec = λ other. absurd (not_nsec other); dnskey = λ other. absurd (not_dnskey other); nsec3 = λ other. absurd (not_nsec3 other) }))
-    (number_or rtype 50)) (number_or rtype 48)) (number_or rtype 47)) (number_or rtype 46)) (number_or rtype 43)
-
-readable_or : (r : Record) → FitsRecord r → Or (IsReadable r)
-readable_or r fits =
-    ⊎_elim
-    (λ internet. ⊎_elim (λ laid. inl (λ _. laid)) (λ none. inr (λ can. none (can internet))) (laid_or r.rtype.0 r.rdata (subst (λ n. HasParts r.rtype.0 n r.rdata) internet fits.parts)))
-    (λ other. inl (λ internet. absurd (other internet)))
-    (number_or r.class.0 1)
-
-first_bad_or : (rs : List Record) → AllByRecursion FitsRecord rs → AllByRecursion IsReadable rs ⊎ ((k : ℕ) × IsFirstBad rs k)
-first_bad_or [] fits = inl tt
-first_bad_or (r ∷ rs) fits =
-    ⊎_elim
-    (λ can. ⊎_elim (λ all. inl (can, all)) (λ first. inr (1 + first.0, IsFirstBad-behind (r ∷ []) rs first.0 (can, tt) first.1)) (first_bad_or rs fits.1))
-    (λ bad. inr (1, ([], r, rs, refl, tt, bad, refl)))
-    (readable_or r fits.0)
-
--- ---- whether the limits hold
+-- ---- whether the limits hold of an RRset
 
 keys_or : (rrset : ReceivedRrset) → Or (rrset.rtype ≡ 48 → AtMost 16 (Contains rrset.rdata))
 keys_or rrset =
@@ -189,18 +148,6 @@ record Found (rdata : List ℕ) : Type 0 where
   found : Option Nsec3Parameters
   reads : (parameters : Nsec3Parameters) → (found ≡ Some parameters) ↔ AreUsableParameters rdata parameters
 
-found_in : (rdata : List ℕ) → Found rdata
-found_in rdata =
-    ⊎_elim
-    (λ (read : (nsec3 : Nsec3) × IsNsec3 rdata nsec3).
-    let every : (other : Nsec3) → IsNsec3 rdata other → Gives (Ok read.0) other = λ other is. inl (ap Ok (one_nsec3 rdata read.0 other read.1 is)) in
-    ⊎_elim
-    (λ (usable : IsUsable read.0). record { found = Some read.0.parameters; reads = pair_of_usable rdata read.0 read.1 usable every })
-    (λ (unusable : ¬ IsUsable read.0). record { found = None; reads = no_pair_unusable rdata read.0 unusable every })
-    (usable_or read.0))
-    (λ (none : ¬ ((nsec3 : Nsec3) × IsNsec3 rdata nsec3)). record { found = None; reads = λ parameters. (λ same. cc, λ of. absurd (none (of.0, of.1))) })
-    (nsec3_or rdata)
-
 among_or : (all : List Nsec3Parameters) (parameters : Nsec3Parameters) → Or (Contains all parameters)
 among_or all parameters = test (list_any (λ y. nat_eq y.iterations.0 parameters.iterations.0 && pointwise nat_eq y.salt parameters.salt) all) refl where
   test : (is : Bool) → list_any (λ y. nat_eq y.iterations.0 parameters.iterations.0 && pointwise nat_eq y.salt parameters.salt) all ≡ is → Or (Contains all parameters)
@@ -216,44 +163,113 @@ more_parameters earlier all are rdata (Some parameters) reads =
     (λ new. (all ++ parameters ∷ [], AreParameters-new earlier all are rdata (Some parameters) reads parameters refl new))
     (among_or all parameters)
 
-parameters_up_to : (received : List (List ℕ)) (n : ℕ) → n ≤ length received → (all : List Nsec3Parameters) × AreParameters (take n received) all
-parameters_up_to received zero within = ([], record { distinct = tt; members = λ parameters. (λ found. absurd (omega (arith, found.1)), λ among. absurd (omega (arith, among.1.1))) })
-parameters_up_to received (suc n) within =
-    let so_far = parameters_up_to received n (omega arith) in
-    let rdata : List ℕ = get_or received n [] in
-    let found = found_in rdata in
-    let count : suc n ≡ n + 1 = omega arith in
-    let next : take (suc n) received ≡ take n received ++ rdata ∷ [] = ap (λ k. take k received) count ∙ take_more received n [] (omega arith) in
-    subst (λ front. (all : List Nsec3Parameters) × AreParameters front all) (sym next) (more_parameters (take n received) so_far.0 so_far.1 rdata found.found found.reads)
-
-parameters_or : (received : List (List ℕ)) → Or (AtMost 8 (AreParametersAmong received))
-parameters_or received =
-    let all = subst (λ front. (all : List Nsec3Parameters) × AreParameters front all) (take_all (length received) received (omega arith)) (parameters_up_to received (length received) (omega arith)) in
-    let few = few_pairs 8 received all.0 all.1 in
-    ⊎_elim (λ short. inl (few.0 short)) (λ long. inr (λ some. long (few.1 some))) (at_most_or (length all.0) 8)
-
-limits_or : (held : Evidence) → Or (IsWithinLimits held)
-limits_or held =
-    ⊎_elim (λ messages. ⊎_elim (λ records. ⊎_elim (λ rrsets. ⊎_elim
-    (λ parameters. inl (record { messages = messages; records = records; rrsets = rrsets; parameters = parameters }))
-    (λ none. inr (λ within. none within.parameters)) (parameters_or (nsec3_rdata held.rrsets)))
-    (λ none. inr (λ within. none within.rrsets)) (all_or IsSmall small_or held.rrsets))
-    (λ none. inr (λ within. none within.records)) (at_most_or held.records 4096))
-    (λ none. inr (λ within. none within.messages)) (at_most_or held.messages 64)
-
--- ---- a message
+-- ---- whether a message is refused
 
 abbrev IsRefusedSomehow : Evidence → Contents → Type 0
 IsRefusedSomehow held message = (error : CaptureError) × (error ≢ OutOfMemory) × IsReasonAgainst held message error
 
-pub evidence_or_reason : (held : Evidence) (message : Contents) → FitsMessage message → IsEvidence held message ⊎ IsRefusedSomehow held message
-evidence_or_reason held message fits =
-    ⊎_elim (λ response. ⊎_elim
-    (λ cut. inr (Truncated, (λ same. cc), (response, cut)))
-    (λ uncut. ⊎_elim (λ can. ⊎_elim
-    (λ within. inl ((response, uncut), can, within))
-    (λ beyond. inr (Limit, (λ same. cc), ((response, uncut), can, beyond))) (limits_or (with_message held message)))
-    (λ first. inr (BadRdata first.0, (λ same. cc), ((response, uncut), first.1))) (first_bad_or (records_of message) fits.records))
-    (number_or (bit_and message.flags 0x0200) 0x0200))
-    (λ query. inr (NotAResponse, (λ same. cc), query))
-    (number_or (bit_and message.flags 0x8000) 0x8000)
+-- ---- with the laws of records
+
+-- the laws of the layer below: octets are a record or not, and not two
+pub record RecordLaws : Type 0 where
+  pub dnskey : (rdata : List ℕ) → Or ((dnskey : Dnskey) × IsDnskey rdata dnskey)
+  pub ds : (rdata : List ℕ) → Or ((ds : Ds) × IsDs rdata ds)
+  pub nsec3 : (rdata : List ℕ) → Or ((nsec3 : Nsec3) × IsNsec3 rdata nsec3)
+  pub bitmap : (octets : List ℕ) → Or (IsBitmap octets)
+  pub one_nsec3 : (rdata : List ℕ) (a b : Nsec3) → IsNsec3 rdata a → IsNsec3 rdata b → a ≡ b
+
+module _ (laws : RecordLaws) where
+  nsec_or : (rdata : List ℕ) → HasParts 47 1 rdata → Or ((nsec : Nsec) × IsNsec rdata nsec)
+  nsec_or rdata has =
+      let name = one_name has.1 has.3.count in
+      let named : IsName name.0 = (subst (AllByRecursion IsName) name.1 has.3.each).0 in
+      let whole : rdata ≡ wire name.0 ++ has.2 = named_rest 0 rdata has.0 has.1 has.2 name.0 has.3.head name.1 has.4 in
+      ⊎_elim
+      (λ bitmap. inl (record { next = name.0; types = bitmap.0 }, record { name = named; bits = has.2; whole = whole; bitmap = bitmap.1 }))
+      (λ none. inr (λ is. none (subst IsBitmap (wire-front is.0.next name.0 is.1.bits has.2 is.1.name.each named.each (sym is.1.whole ∙ whole)).1 (is.0.types, is.1.bitmap))))
+      (laws.bitmap has.2)
+
+  laid_or : (rtype : ℕ) (rdata : List ℕ) → HasParts rtype 1 rdata → Or (IsLaidOut rtype rdata)
+  laid_or rtype rdata has =
+      ⊎_elim (λ is. ⊎_elim
+      (λ read. inl (record { ds = λ _. read; rrsig = λ other. absurd (omega (arith, is, other)); nsec = λ other. absurd (omega (arith, is, other)); dnskey = λ other. absurd (omega (arith, is, other)); nsec3 = λ other. absurd (omega (arith, is, other)) }))
+      (λ none. inr (λ laid. none (laid.ds is))) (laws.ds rdata))
+      (λ not_ds. ⊎_elim
+      (λ is. inl (record { ds = λ other. absurd (not_ds other); rrsig = λ _. rrsig_of_parts rdata (subst (λ n. HasParts n 1 rdata) is has); nsec = λ other. absurd (omega (arith, is, other)); dnskey = λ other. absurd (omega (arith, is, other)); nsec3 = λ other. absurd (omega (arith, is, other)) }))
+      (λ not_rrsig. ⊎_elim (λ is. ⊎_elim
+      (λ read. inl (record { ds = λ other. absurd (not_ds other); rrsig = λ other. absurd (not_rrsig other); nsec = λ _. read; dnskey = λ other. absurd (omega (arith, is, other)); nsec3 = λ other. absurd (omega (arith, is, other)) }))
+      (λ none. inr (λ laid. none (laid.nsec is))) (nsec_or rdata (subst (λ n. HasParts n 1 rdata) is has)))
+      (λ not_nsec. ⊎_elim (λ is. ⊎_elim
+      (λ read. inl (record { ds = λ other. absurd (not_ds other); rrsig = λ other. absurd (not_rrsig other); nsec = λ other. absurd (not_nsec other); dnskey = λ _. read; nsec3 = λ other. absurd (omega (arith, is, other)) }))
+      (λ none. inr (λ laid. none (laid.dnskey is))) (laws.dnskey rdata))
+      (λ not_dnskey. ⊎_elim (λ is. ⊎_elim
+      (λ read. inl (record { ds = λ other. absurd (not_ds other); rrsig = λ other. absurd (not_rrsig other); nsec = λ other. absurd (not_nsec other); dnskey = λ other. absurd (not_dnskey other); nsec3 = λ _. read }))
+      (λ none. inr (λ laid. none (laid.nsec3 is))) (laws.nsec3 rdata))
+      (λ not_nsec3. inl (record { ds = λ other. absurd (not_ds other); rrsig = λ other. absurd (not_rrsig other); nsec = λ other. absurd (not_nsec other); dnskey = λ other. absurd (not_dnskey other); nsec3 = λ other. absurd (not_nsec3 other) }))
+      (number_or rtype 50)) (number_or rtype 48)) (number_or rtype 47)) (number_or rtype 46)) (number_or rtype 43)
+
+  readable_or : (r : Record) → FitsRecord r → Or (IsReadable r)
+  readable_or r fits =
+      ⊎_elim
+      (λ internet. ⊎_elim (λ laid. inl (λ _. laid)) (λ none. inr (λ can. none (can internet))) (laid_or r.rtype.0 r.rdata (subst (λ n. HasParts r.rtype.0 n r.rdata) internet fits.parts)))
+      (λ other. inl (λ internet. absurd (other internet)))
+      (number_or r.class.0 1)
+
+  first_bad_or : (rs : List Record) → AllByRecursion FitsRecord rs → AllByRecursion IsReadable rs ⊎ ((k : ℕ) × IsFirstBad rs k)
+  first_bad_or [] fits = inl tt
+  first_bad_or (r ∷ rs) fits =
+      ⊎_elim
+      (λ can. ⊎_elim (λ all. inl (can, all)) (λ first. inr (1 + first.0, IsFirstBad-behind (r ∷ []) rs first.0 (can, tt) first.1)) (first_bad_or rs fits.1))
+      (λ bad. inr (1, ([], r, rs, refl, tt, bad, refl)))
+      (readable_or r fits.0)
+
+  -- ---- whether the limits hold, of the parameters and of all
+
+  found_in : (rdata : List ℕ) → Found rdata
+  found_in rdata =
+      ⊎_elim
+      (λ (read : (nsec3 : Nsec3) × IsNsec3 rdata nsec3).
+      let every : (other : Nsec3) → IsNsec3 rdata other → Gives (Ok read.0) other = λ other is. inl (ap Ok (laws.one_nsec3 rdata read.0 other read.1 is)) in
+      ⊎_elim
+      (λ (usable : IsUsable read.0). record { found = Some read.0.parameters; reads = pair_of_usable rdata read.0 read.1 usable every })
+      (λ (unusable : ¬ IsUsable read.0). record { found = None; reads = no_pair_unusable rdata read.0 unusable every })
+      (usable_or read.0))
+      (λ (none : ¬ ((nsec3 : Nsec3) × IsNsec3 rdata nsec3)). record { found = None; reads = λ parameters. (λ same. cc, λ of. absurd (none (of.0, of.1))) })
+      (laws.nsec3 rdata)
+
+  parameters_up_to : (received : List (List ℕ)) (n : ℕ) → n ≤ length received → (all : List Nsec3Parameters) × AreParameters (take n received) all
+  parameters_up_to received zero within = ([], record { distinct = tt; members = λ parameters. (λ found. absurd (omega (arith, found.1)), λ among. absurd (omega (arith, among.1.1))) })
+  parameters_up_to received (suc n) within =
+      let so_far = parameters_up_to received n (omega arith) in
+      let rdata : List ℕ = get_or received n [] in
+      let found = found_in rdata in
+      let count : suc n ≡ n + 1 = omega arith in
+      let next : take (suc n) received ≡ take n received ++ rdata ∷ [] = ap (λ k. take k received) count ∙ take_more received n [] (omega arith) in
+      subst (λ front. (all : List Nsec3Parameters) × AreParameters front all) (sym next) (more_parameters (take n received) so_far.0 so_far.1 rdata found.found found.reads)
+
+  parameters_or : (received : List (List ℕ)) → Or (AtMost 8 (AreParametersAmong received))
+  parameters_or received =
+      let all = subst (λ front. (all : List Nsec3Parameters) × AreParameters front all) (take_all (length received) received (omega arith)) (parameters_up_to received (length received) (omega arith)) in
+      let few = few_pairs 8 received all.0 all.1 in
+      ⊎_elim (λ short. inl (few.0 short)) (λ long. inr (λ some. long (few.1 some))) (at_most_or (length all.0) 8)
+
+  limits_or : (held : Evidence) → Or (IsWithinLimits held)
+  limits_or held =
+      ⊎_elim (λ messages. ⊎_elim (λ records. ⊎_elim (λ rrsets. ⊎_elim
+      (λ parameters. inl (record { messages = messages; records = records; rrsets = rrsets; parameters = parameters }))
+      (λ none. inr (λ within. none within.parameters)) (parameters_or (nsec3_rdata held.rrsets)))
+      (λ none. inr (λ within. none within.rrsets)) (all_or IsSmall small_or held.rrsets))
+      (λ none. inr (λ within. none within.records)) (at_most_or held.records 4096))
+      (λ none. inr (λ within. none within.messages)) (at_most_or held.messages 64)
+
+  pub evidence_or_reason : (held : Evidence) (message : Contents) → FitsMessage message → IsEvidence held message ⊎ IsRefusedSomehow held message
+  evidence_or_reason held message fits =
+      ⊎_elim (λ response. ⊎_elim
+      (λ cut. inr (Truncated, (λ same. cc), (response, cut)))
+      (λ uncut. ⊎_elim (λ can. ⊎_elim
+      (λ within. inl ((response, uncut), can, within))
+      (λ beyond. inr (Limit, (λ same. cc), ((response, uncut), can, beyond))) (limits_or (with_message held message)))
+      (λ first. inr (BadRdata first.0, (λ same. cc), ((response, uncut), first.1))) (first_bad_or (records_of message) fits.records))
+      (number_or (bit_and message.flags 0x0200) 0x0200))
+      (λ query. inr (NotAResponse, (λ same. cc), query))
+      (number_or (bit_and message.flags 0x8000) 0x8000)

@@ -19,6 +19,7 @@ ghost use Rattle.dnsv_canonical.specs.SignedData.{IsSignedData, signed_front, si
 
 use crate::capture::CaptureError;
 use dnsv_message::messages_fit;
+use dnsv_records::{record_laws, records_are_decided};
 
 /// Messages that are added one by one give the RRsets of them all.
 pub fn captures_hold_the_rrsets()
@@ -65,6 +66,8 @@ pub fn evidence_or_one_refusal()
         → error ≢ CaptureError.OutOfMemory → IsEvidence held message → IsReasonAgainst held message error → ⊥ }
 {
     messages_fit();
+    record_laws();
+    records_are_decided();
 }
 
 /// The RRsets of a message whose records can be read are well formed.

@@ -1,7 +1,5 @@
 -- Whether octets are a record: for each there is an answer.
 use Rattle.std.proofs.Common.{◌≡◌, ◌≢◌, ◌⊎◌, inl, inr, ⊎_elim, ℕ, ◌+◌, ◌-◌, ◌<◌, ◌≤◌, Bool, true, false, List, [], ◌∷◌, ◌++◌, length, get_or, take, drop, refl, sym, ap, ◌∙◌, subst, arith}
-use Rattle.std.proofs.lemmas.Bool.{cases_lt}
-use Rattle.std.proofs.lemmas.Bool.Decides.{eqb_tells}
 use Rattle.std.proofs.lemmas.List.{length-take-le, take-append-drop, length-append}
 use Rattle.std.proofs.lemmas.Slice.Eq.{bytes_eq-Decides}
 use Rattle.std.specs.List.{AllByRecursion, flat_map}
@@ -12,29 +10,13 @@ use Rattle.dnsv_records.specs.declared.ds.Ds.{Ds}
 use Rattle.dnsv_records.specs.declared.nsec3.Nsec3.{Nsec3}
 use Rattle.dnsv_records.specs.Bitmap.{Block, block_octets, IsBitmap, WindowsRise}
 use Rattle.dnsv_records.specs.Blocks.{blocks_of, IsGoodBlock, AreBlocks}
+use Rattle.dnsv_records.specs.DecisionLaws.{Or, all_or, at_most_or, less_or, number_or}
 use Rattle.dnsv_records.specs.Dnskey.{IsDnskey}
 use Rattle.dnsv_records.specs.Ds.{IsDs}
 use Rattle.dnsv_records.specs.Layout.{IsCounted, BeginsWithCounted}
-use Rattle.dnsv_records.specs.Nsec3.{IsNsec3, IsUsable}
+use Rattle.dnsv_records.specs.Nsec3.{IsNsec3}
 use Rattle.dnsv_records.proofs.BitmapLemmas.{Bitmap-types_of, AreBlocks-Bitmap}
 use Rattle.dnsv_records.proofs.RecordLemmas.{same_counted}
-
-abbrev pub Or : Type 0 → Type 0
-Or P = P ⊎ ¬ P
-
-pub all_or : {X : Type 0} (P : X → Type 0) → ((x : X) → Or (P x)) → (xs : List X) → Or (AllByRecursion P xs)
-all_or P each [] = inl tt
-all_or P each (x ∷ xs) =
-    ⊎_elim (λ here. ⊎_elim (λ rest. inl (here, rest)) (λ none. inr (λ all. none all.1)) (all_or P each xs)) (λ none. inr (λ all. none all.0)) (each x)
-
-pub less_or : (m n : ℕ) → Or (m < n)
-less_or m n = ⊎_elim (λ less. inl less) (λ not_less. inr (λ less. omega (arith, not_less, less))) (cases_lt m n)
-
-pub at_most_or : (m n : ℕ) → Or (m ≤ n)
-at_most_or m n = ⊎_elim (λ more. inr (λ most. omega (arith, more, most))) (λ most. inl most) (cases_lt n m)
-
-pub number_or : (m n : ℕ) → Or (m ≡ n)
-number_or m n = ⊎_elim (λ is. inl is.1) (λ other. inr other.1) (eqb_tells m n)
 
 octets_or : (xs ys : List ℕ) → Or (xs ≡ ys)
 octets_or xs ys = test (bytes_eq xs ys) refl where
@@ -120,12 +102,3 @@ nsec3_or rdata =
     (λ none. inr (λ is. none (is.0.next_hash, is.1.bits, (same_counted (drop 4 rdata) salt.0 is.0.parameters.salt salt.1 is.1.behind_salt salt.2 is.1.salt).1 ∙ is.1.next_hash))) (counted_or salt.1))
     (λ none. inr (λ is. none (is.0.parameters.salt, is.1.behind_salt, is.1.salt))) (counted_or (drop 4 rdata)))
     (λ none. inr (λ is. none is.1.head)) (at_most_or 4 (length rdata))
-
-pub usable_or : (nsec3 : Nsec3) → Or (IsUsable nsec3)
-usable_or nsec3 =
-    ⊎_elim (λ sha1. ⊎_elim (λ flags. ⊎_elim (λ next_hash. ⊎_elim
-    (λ iterations. inl (record { sha1 = sha1; flags = flags; next_hash = next_hash; iterations = iterations }))
-    (λ none. inr (λ is. none is.iterations)) (at_most_or nsec3.parameters.iterations.0 500))
-    (λ none. inr (λ is. none is.next_hash)) (number_or (length nsec3.next_hash) 20))
-    (λ none. inr (λ is. none is.flags)) (at_most_or nsec3.flags.0 1))
-    (λ none. inr (λ is. none is.sha1)) (number_or nsec3.algorithm.0 1)

@@ -1,7 +1,6 @@
 pub mod Base32Lemmas
 pub mod BitmapLemmas
 pub mod BlockLemmas
-pub mod OctetLemmas
 pub mod RecordLemmas
 pub mod OneRecord
 pub mod Decided

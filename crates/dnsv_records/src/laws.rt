@@ -1,6 +1,6 @@
 //! What the definitions say of each other.
-ghost use Rattle.std.specs.Prelude.{◌≡◌, List, ℕ};
-ghost use Rattle.dnsv_records.specs.Bitmap.{Types, Bitmap};
+ghost use Rattle.std.specs.Prelude.{◌≡◌, ◌⊎◌, List, ℕ};
+ghost use Rattle.dnsv_records.specs.Bitmap.{Types, Bitmap, IsBitmap};
 ghost use Rattle.dnsv_records.specs.Base32Hex.{Base32Hex, IsHash};
 ghost use Rattle.dnsv_names.specs.Octets.{AreOctets};
 ghost use Rattle.dnsv_records.specs.Dnskey.{IsDnskey};
@@ -43,4 +43,15 @@ pub fn record_laws()
     ensures nsec { (a b : List ℕ) (nsec : Nsec) → IsNsec a nsec → IsNsec b nsec → a ≡ b }
     ensures nsec3 { (a b : List ℕ) (nsec3 : Nsec3) → AreOctets a → AreOctets b
         → IsNsec3 a nsec3 → IsNsec3 b nsec3 → a ≡ b }
+{}
+
+/// Octets are the RDATA of a DNSKEY, DS or NSEC3 record, or are not, and so with type bitmaps. RRSIG and NSEC have a
+/// name besides, which `dnsv_message` finds.
+pub fn records_are_decided()
+    ensures dnskey { (rdata : List ℕ) → ((dnskey : Dnskey) × IsDnskey rdata dnskey)
+        ⊎ ¬ ((dnskey : Dnskey) × IsDnskey rdata dnskey) }
+    ensures ds { (rdata : List ℕ) → ((ds : Ds) × IsDs rdata ds) ⊎ ¬ ((ds : Ds) × IsDs rdata ds) }
+    ensures nsec3 { (rdata : List ℕ) → ((nsec3 : Nsec3) × IsNsec3 rdata nsec3)
+        ⊎ ¬ ((nsec3 : Nsec3) × IsNsec3 rdata nsec3) }
+    ensures bitmap { (octets : List ℕ) → IsBitmap octets ⊎ ¬ IsBitmap octets }
 {}

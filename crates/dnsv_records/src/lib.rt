@@ -6,7 +6,7 @@ pub use bitmap::TypeBitmap;
 pub use dnskey::{Dnskey, DnskeyFlags};
 pub use ds::Ds;
 pub use error::{Field, RecordError};
-pub use laws::{base32hex_laws, bitmap_laws, record_laws};
+pub use laws::{base32hex_laws, bitmap_laws, record_laws, records_are_decided};
 pub use nsec::Nsec;
 pub use nsec3::{HashAlgorithm, Iterations, Nsec3, Nsec3Flags, Nsec3Parameters, UsableNsec3};
 pub use number::{Algorithm, DigestType, KeyTag};

@@ -2,7 +2,14 @@ use Rattle.dnsv_canonical.proofs.OneReason.{evidence_or_reason, evidence_or_refu
 use Rattle.dnsv_canonical.proofs.laws.evidence_or_one_refusal.Goals as goal
 
 pub returns-clause-some : goal.returns-clause-some
-returns-clause-some c = λ held message is. evidence_or_reason held message (c.messages_fit.ensures message is)
+returns-clause-some c = λ held message is.
+    evidence_or_reason (record {
+      dnskey = c.records_are_decided.ensures.dnskey;
+      ds = c.records_are_decided.ensures.ds;
+      nsec3 = c.records_are_decided.ensures.nsec3;
+      bitmap = c.records_are_decided.ensures.bitmap;
+      one_nsec3 = c.record_laws.ensures.one_nsec3;
+    }) held message (c.messages_fit.ensures message is)
 
 pub returns-clause-one : goal.returns-clause-one
 returns-clause-one c = one_reason

@@ -2,7 +2,7 @@ use Rattle.std.proofs.Common.{◌≡◌, ◌+◌, ◌-◌, ◌*◌, ◌++◌, le
 use Rattle.std.specs.Int.Digits.{number_from_digits}
 use Rattle.arrayvec.specs.ArrayVec.{array_vec_len}
 use Rattle.dnsv_records.proofs.Base32Lemmas.{Base32Hex-append}
-use Rattle.dnsv_records.proofs.OctetLemmas.{take_part, length_part}
+use Rattle.dnsv_records.specs.OctetLaws.{take_part, length_part}
 use Rattle.dnsv_records.proofs.base32hex.base32hex_write.Goals as goal
 
 pub loop-group-preserved : goal.loop-group-preserved

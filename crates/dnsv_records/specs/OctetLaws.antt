@@ -1,4 +1,4 @@
--- Lists of octets, and what holds of each.
+-- The laws of lists and of parts of lists, for proofs: of their members, their lengths and where parts stand.
 use Rattle.std.proofs.Common.{◌≡◌, ℕ, suc, zero, ◌+◌, ◌<◌, ◌≤◌, List, [], ◌∷◌, ◌++◌, length, get_or, take, drop, map, sym, ap, ◌∙◌, arith, length-drop}
 use Rattle.std.proofs.lemmas.List.{take-append-drop, take-take, drop-take, drop-map, take-map, length-take-le}
 use Rattle.std.proofs.lemmas.List.Elements.{All-from_get_or, recursion_from_All}
