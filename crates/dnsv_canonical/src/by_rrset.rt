@@ -35,13 +35,13 @@ pub fn add<'a>(
 }
 
 /// Takes out the RDATA that is there for the type and owner: none where nothing is.
-pub fn taken<'a>(
+pub fn take_rdata<'a>(
     alloc: Global,
     by_rrset: &mut RdataByRrset<'a>,
     rtype: RecordType,
     owner: &'a Name,
 ) -> Vec<&'a [u8]>
-    ensures taken { map (λ r. r.now) result.items ≡ rdata_at by_rrset.old rtype.0 owner.now }
+    ensures value { map (λ r. r.now) result.items ≡ rdata_at by_rrset.old rtype.0 owner.now }
     ensures left { (t : ℕ) (name : Labels) → rdata_at by_rrset.new t name
         ≡ (if rtype.0 == t && same_name owner.now name then [] else rdata_at by_rrset.old t name) }
 {
@@ -52,20 +52,20 @@ pub fn taken<'a>(
 }
 
 /// The RDATA that is there for the type and owner, in order, of equal ones the first.
-pub fn distinct<'a>(
+pub fn distinct_rdata<'a>(
     alloc: Global,
     by_rrset: &RdataByRrset<'a>,
     rtype: RecordType,
     owner: &'a Name,
 ) -> Result<Vec<&'a [u8]>, AllocError>
-    ensures once { IfOk result (λ distinct. map (λ r. r.now) distinct.items
+    ensures once { IfOk result (λ first_ones. map (λ r. r.now) first_ones.items
         ≡ first_appearances bytes_eq (rdata_at by_rrset.now rtype.0 owner.now)) }
     // The type has 16 bits, which a caller needs to know of signatures.
     ensures fits { rtype.0 < 2 ^ 16 }
 {
-    let mut distinct = Vec::new(alloc);
+    let mut first_ones = Vec::new(alloc);
     let Some(received) = by_rrset.get(&(rtype, ByWire(owner))) else {
-        return Ok(distinct);
+        return Ok(first_ones);
     };
     if received.len() < 2 {
         return Ok(Vec::from_slice(alloc, received)?);
@@ -73,8 +73,8 @@ pub fn distinct<'a>(
     let mut seen = BTreeSet::new(alloc);
     for rdata in received {
         if seen.insert(*rdata)? {
-            distinct.push(*rdata)?;
+            first_ones.push(*rdata)?;
         }
     }
-    Ok(distinct)
+    Ok(first_ones)
 }

@@ -2,7 +2,7 @@
 ghost use Rattle.std.specs.Prelude.{◌≡◌, ◌++◌, ◌+◌, IfOk, OnOk, map, List, ℕ};
 ghost use Rattle.dnsv_message.specs.declared.record.Section.{Section};
 
-use crate::by_rrset::{distinct, taken};
+use crate::by_rrset::{distinct_rdata, take_rdata};
 use crate::section::{is_grouped, rdata_by_rrset, signatures_by_rrset};
 use dnsv_message::{Message, Record, Section};
 use dnsv_names::{Name, RecordType};
@@ -136,7 +136,7 @@ fn add_section<'a>(
         let rtype = record.rtype;
         let owner = &record.name;
         // The first record of an RRset takes the RDATA of all, and leaves none to the others.
-        let rdata = taken(alloc, &mut data, rtype, owner);
+        let rdata = take_rdata(alloc, &mut data, rtype, owner);
         if !rdata.is_empty() {
             rrsets.push(Draft {
                 message,
@@ -144,7 +144,7 @@ fn add_section<'a>(
                 owner,
                 rtype,
                 rdata,
-                signatures: distinct(alloc, &signatures, rtype, owner)?,
+                signatures: distinct_rdata(alloc, &signatures, rtype, owner)?,
             })?;
         }
     }

@@ -4,7 +4,7 @@ use Rattle.dnsv_message.specs.declared.record.Record.{Record}
 use Rattle.dnsv_canonical.specs.Rrsets.{first_appearances}
 use Rattle.dnsv_canonical.proofs.GroupLemmas.{rrset_appears, rrset_appeared, rdata_of, had_at, had_is, left_after}
 use Rattle.dnsv_canonical.proofs.draft.add_section.Goals as goal
-use Rattle.dnsv_canonical.proofs.draft.add_section.Goals.{then-not-is_empty+in_ok-distinct+in_ok-push, else-not-is_empty}
+use Rattle.dnsv_canonical.proofs.draft.add_section.Goals.{then-not-is_empty+in_ok-distinct_rdata+in_ok-push, else-not-is_empty}
 
 pub loop-record-preserved : goal.loop-record-preserved
 loop-record-preserved c =
@@ -12,15 +12,15 @@ loop-record-preserved c =
     let i : ℕ = c.loop-record.record-index in
     let x : Record = c.record-item.result in
     let grouped = sym c.is_grouped.ensures ∙ c.if-not-is_grouped.false in
-    let taken : map (λ r. r.now) c.taken-rdata.result.items ≡ (if had_at records i x then [] else rdata_of records x) =
-    c.taken-rdata.ensures.taken ∙ c.loop-record.invariant.1 x in
+    let taken : map (λ r. r.now) c.take_rdata-rdata.result.items ≡ (if had_at records i x then [] else rdata_of records x) =
+    c.take_rdata-rdata.ensures.value ∙ c.loop-record.invariant.1 x in
     let had : had_at records i x ≡ c.is_empty.result =
-    had_is records i x c.loop-record-test.true c.record-item.is grouped (λ r. r.now) c.taken-rdata.result.items taken
-    ∙ ap (λ n. n == 0) (sym c.taken-rdata.result.ok.0) ∙ sym c.is_empty.ensures in (
+    had_is records i x c.loop-record-test.true c.record-item.is grouped (λ r. r.now) c.take_rdata-rdata.result.items taken
+    ∙ ap (λ n. n == 0) (sym c.take_rdata-rdata.result.ok.0) ∙ sym c.is_empty.ensures in (
       elim c.if-not-is_empty.branch [
-        | then-not-is_empty+in_ok-distinct+in_ok-push w ↦
-            let rdata : map (λ r. r.now) c.taken-rdata.result.items ≡ rdata_of records x = taken ∙ ap (λ b. if b then [] else rdata_of records x) (had ∙ w.if-not-is_empty.true) in
-            let signatures = w.in_ok-distinct.ensures.once ∙ ap (first_appearances bytes_eq) (c.in_ok-signatures.ensures x.name x.rtype.0 w.distinct.ensures.fits) in
+        | then-not-is_empty+in_ok-distinct_rdata+in_ok-push w ↦
+            let rdata : map (λ r. r.now) c.take_rdata-rdata.result.items ≡ rdata_of records x = taken ∙ ap (λ b. if b then [] else rdata_of records x) (had ∙ w.if-not-is_empty.true) in
+            let signatures = w.in_ok-distinct_rdata.ensures.once ∙ ap (first_appearances bytes_eq) (c.in_ok-signatures.ensures x.name x.rtype.0 w.distinct_rdata.ensures.fits) in
             ap (λ v. v.items) w.rrsets-is ∙ w.in_ok-push.ensures.items
             ∙ (λ j. c.loop-record.rrsets.items ++ record { message = c.args.message; section = c.args.section; owner = x.name; rtype = x.rtype.0; rdata = rdata j; signatures = signatures j } ∷ [])
             ∙ rrset_appears c.args.message c.args.section records i x c.loop-record-test.true c.record-item.is
@@ -30,5 +30,5 @@ loop-record-preserved c =
             ∙ rrset_appeared c.args.message c.args.section records i x c.loop-record-test.true c.record-item.is
             c.args.rrsets.now.items c.loop-record.rrsets.items c.loop-record.invariant.0 grouped (had ∙ w.if-not-is_empty.false)
       ],
-      λ first. left_after records i x c.loop-record-test.true c.record-item.is grouped first _ _ (c.loop-record.invariant.1 first) (c.taken-rdata.ensures.left first.rtype.0 first.name),
+      λ first. left_after records i x c.loop-record-test.true c.record-item.is grouped first _ _ (c.loop-record.invariant.1 first) (c.take_rdata-rdata.ensures.left first.rtype.0 first.name),
     )
