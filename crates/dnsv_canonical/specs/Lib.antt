@@ -1,5 +1,6 @@
 pub mod Canonical
 pub mod CanonicalRdata
+pub mod CaptureError
 pub mod Evidence
 pub mod Kept
 pub mod SignedData

@@ -38,6 +38,23 @@ pub enum CaptureError {
     Limit,
 }
 
+impl CaptureError {
+    ghost use Rattle.dnsv_canonical.specs.CaptureError.{capture_error_code};
+
+    /// The number of the error, by which programs tell it.
+    pub fn code(self) -> u16
+        ensures { result ≡ capture_error_code self }
+    {
+        match self {
+            CaptureError::OutOfMemory => 90,
+            CaptureError::NotAResponse => 401,
+            CaptureError::Truncated => 402,
+            CaptureError::BadRdata(_) => 206,
+            CaptureError::Limit => 403,
+        }
+    }
+}
+
 impl From<AllocError> for CaptureError {
     ghost from_gives = { λ _ error. error ≡ OutOfMemory };
 
