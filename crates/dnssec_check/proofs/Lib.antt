@@ -6,7 +6,6 @@ pub mod FileFaultLemmas
 pub mod ListingLemmas
 pub mod ShowingLemmas
 pub mod ProgramLemmas
-pub mod OneReason
 pub mod OneText
 pub mod AnswerLemmas
 pub mod ListedLemmas

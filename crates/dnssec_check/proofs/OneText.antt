@@ -1,5 +1,5 @@
 -- For a file of octets a request has at most one text, or one refusal, and never both.
-use Rattle.std.proofs.Common.{◌≡◌, ℕ, suc, List, [], ◌∷◌, ◌++◌, refl, sym, ap, subst, ◌∙◌, inl, inr, Option}
+use Rattle.std.proofs.Common.{◌≡◌, ◌≢◌, ℕ, suc, List, [], ◌∷◌, ◌++◌, refl, sym, ap, subst, ◌∙◌, inl, inr, Option}
 use Rattle.std.specs.List.{AllByRecursion}
 use Rattle.dnsv_names.specs.Name.{Labels}
 use Rattle.dnsv_message.specs.declared.errors.DecodeError.{DecodeError}
@@ -10,7 +10,9 @@ use Rattle.dnsv_message.specs.Message.{Contents}
 use Rattle.dnsv_names.specs.Octets.{AreOctets}
 use Rattle.dnsv_records.specs.declared.rrsig.Rrsig.{Rrsig}
 use Rattle.dnsv_records.specs.Rrsig.{IsRrsig}
-use Rattle.dnsv_canonical.specs.Evidence.{Evidence, evidence_of, no_evidence, with_message}
+use Rattle.dnsv_canonical.specs.declared.capture.CaptureError.{CaptureError}
+use Rattle.dnsv_canonical.specs.declared.capture.CaptureError.TheVariants as capture
+use Rattle.dnsv_canonical.specs.Evidence.{Evidence, IsEvidence, IsReasonAgainst, evidence_of, no_evidence, with_message}
 use Rattle.dnsv_canonical.specs.Rrsets.{ReceivedRrset}
 use Rattle.dnsv_canonical.specs.SignedData.{IsSignedData}
 use Rattle.dnssec_check.specs.declared.status.Place.{Place}
@@ -21,10 +23,9 @@ use Rattle.dnssec_check.specs.CaptureFile.{Demand, AnyMessage, NewEvidence, Meet
 use Rattle.dnssec_check.specs.Listing.{data_line, SignatureLines, RrsetLines}
 use Rattle.dnssec_check.specs.Run.{IsTextOf, IsRefusalOf, demand_of}
 use Rattle.dnssec_check.specs.Showing.{message_text, texts_from}
-use Rattle.dnssec_check.specs.Status.{TellsMessageError}
-use Rattle.dnssec_check.proofs.OneReason.{taken_or_refused, one_reason}
+use Rattle.dnssec_check.specs.Status.{TellsMessageError, TellsCaptureError}
 
--- the laws of the layers below: of messages and files of messages, of signatures and of what they sign
+-- the laws of the layers below: of messages and files of messages, of signatures and of what they sign, and of evidence
 pub record LayerLaws : Type 0 where
   pub one_message : (octets : List ℕ) → AreOctets octets → (message other : Contents) → MessageOf octets message → MessageOf octets other → message ≡ other
   pub no_fault_of_a_message : (octets : List ℕ) → AreOctets octets → (message : Contents) (error : DecodeError) → MessageOf octets message → FaultOf octets error → ⊥
@@ -35,6 +36,8 @@ pub record LayerLaws : Type 0 where
   pub capture_octets : (file : List ℕ) (messages : List (List ℕ)) → AreOctets file → IsCapture file messages → AllByRecursion AreOctets messages
   pub one_rrsig : (rdata : List ℕ) (a b : Rrsig) → IsRrsig rdata a → IsRrsig rdata b → a ≡ b
   pub one_signed_data : (owner : Labels) (rtype : ℕ) (received : List (List ℕ)) (rrsig : Rrsig) (a b : Option (List ℕ)) → IsSignedData owner rtype received rrsig a → IsSignedData owner rtype received rrsig b → a ≡ b
+  pub one_reason : (held : Evidence) (message : Contents) (a b : CaptureError) → a ≢ capture.OutOfMemory → b ≢ capture.OutOfMemory → IsReasonAgainst held message a → IsReasonAgainst held message b → a ≡ b
+  pub no_reason_against_evidence : (held : Evidence) (message : Contents) (error : CaptureError) → error ≢ capture.OutOfMemory → IsEvidence held message → IsReasonAgainst held message error → ⊥
 
 module _ (laws : LayerLaws) where
   -- ---- the text
@@ -103,13 +106,30 @@ module _ (laws : LayerLaws) where
 
   -- ---- the messages that are asked for
 
+  no_want_of_memory : (error : CaptureError) (why : Refusal) (n : Option ℕ) → TellsCaptureError error why n → error ≢ capture.OutOfMemory
+  no_want_of_memory capture.OutOfMemory why n told = absurd told
+  no_want_of_memory capture.NotAResponse why n told = λ same. cc
+  no_want_of_memory capture.Truncated why n told = λ same. cc
+  no_want_of_memory (capture.BadRdata k) why n told = λ same. cc
+  no_want_of_memory capture.Limit why n told = λ same. cc
+
+  capture_told_once : (error : CaptureError) (a b : Refusal) (m n : Option ℕ) → TellsCaptureError error a m → TellsCaptureError error b n → (a ≡ b) × (m ≡ n)
+  capture_told_once capture.OutOfMemory a b m n x y = absurd x
+  capture_told_once capture.NotAResponse a b m n x y = (x.0 ∙ sym y.0, x.1 ∙ sym y.1)
+  capture_told_once capture.Truncated a b m n x y = (x.0 ∙ sym y.0, x.1 ∙ sym y.1)
+  capture_told_once (capture.BadRdata k) a b m n x y = (x.0 ∙ sym y.0, x.1 ∙ sym y.1)
+  capture_told_once capture.Limit a b m n x y = (x.0 ∙ sym y.0, x.1 ∙ sym y.1)
+
   meets_or_fails : (demand : Demand) (held : Evidence) (message : Contents) (why : Refusal) (n : Option ℕ) → Meets demand held message → Fails demand held message why n → ⊥
   meets_or_fails AnyMessage held message why n meets fails = fails
-  meets_or_fails NewEvidence held message why n meets fails = taken_or_refused held message fails.0 why n meets fails.1 fails.2
+  meets_or_fails NewEvidence held message why n meets fails =
+      laws.no_reason_against_evidence held message fails.0 (no_want_of_memory fails.0 why n fails.2) meets fails.1
 
   fails_once : (demand : Demand) (held : Evidence) (message : Contents) (a b : Refusal) (m n : Option ℕ) → Fails demand held message a m → Fails demand held message b n → (a ≡ b) × (m ≡ n)
   fails_once AnyMessage held message a b m n x y = absurd x
-  fails_once NewEvidence held message a b m n x y = one_reason held message x.0 y.0 a b m n x.1 y.1 x.2 y.2
+  fails_once NewEvidence held message a b m n x y =
+      let same : x.0 ≡ y.0 = laws.one_reason held message x.0 y.0 (no_want_of_memory x.0 a m x.2) (no_want_of_memory y.0 b n y.2) x.1 y.1 in
+      capture_told_once y.0 a b m n (subst (λ error. TellsCaptureError error a m) same x.2) y.2
 
   module _ (octets : List ℕ) (are : AreOctets octets) where
     same_message : (m n : Contents) → MessageOf octets m → MessageOf octets n → m ≡ n

@@ -6,6 +6,7 @@ ghost use Rattle.dnsv_message.specs.ReadError.{read_error_code};
 ghost use Rattle.dnsv_message.specs.Frames.{IsCapture, IsTooLong, octets_of_each};
 ghost use Rattle.dnsv_message.specs.Grammar.{MessageOf};
 ghost use Rattle.dnsv_message.specs.Message.{Contents};
+ghost use Rattle.dnsv_canonical.specs.CaptureError.{capture_error_code};
 ghost use Rattle.dnsv_canonical.specs.Evidence.{Evidence, evidence_of, no_evidence, with_message};
 ghost use Rattle.dnssec_check.specs.CaptureFile.{Demand, AnyMessage, NewEvidence, AllTaken, Meets, Holds};
 ghost use Rattle.dnssec_check.specs.CaptureFile.{FirstRefused, IsRefusal};
@@ -150,7 +151,8 @@ fn decode_fault(error: DecodeError, number: usize) -> Fault
 
 /// The fault of the message with this number, which the capture doesn't take.
 fn capture_fault(error: CaptureError, number: usize) -> Fault
-    ensures { IsCaptureFault error number result }
+    ensures told { IsCaptureFault error number result }
+    ensures number { fault_number result ≡ capture_error_code error }
 {
     match error {
         CaptureError::OutOfMemory => Fault::OutOfMemory,

@@ -25,6 +25,7 @@ pub fn one_text()
     one_answer();
     record_laws();
     one_signed_data();
+    evidence_or_one_refusal();
 }
 
 /// A file for which a request has a text isn't refused.
@@ -38,6 +39,7 @@ pub fn no_refusal_of_a_text()
     one_answer();
     record_laws();
     one_signed_data();
+    evidence_or_one_refusal();
 }
 
 /// A request refuses a file for at most one reason, at one place.
@@ -51,6 +53,7 @@ pub fn one_refusal()
     one_answer();
     record_laws();
     one_signed_data();
+    evidence_or_one_refusal();
 }
 
 /// A file of octets is shown, or refused, or has an octet too many.

@@ -11,4 +11,4 @@ returns-in_err-message-clause-refused c =
 pub returns-clause-refused : goal.returns-clause-refused
 returns-clause-refused c =
     capture_refused c.args.held.now c.args.octets.now c.args.number c.in_ok-message.message c.in_ok-message.ensures.found
-    c.in-Err.error c.capture_fault.result c.in-Err.ensures.refused c.capture_fault.ensures
+    c.in-Err.error c.capture_fault.result c.in-Err.ensures.refused c.capture_fault.ensures.told

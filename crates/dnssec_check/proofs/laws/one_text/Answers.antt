@@ -12,4 +12,6 @@ returns c = one_text (record {
   capture_octets = c.one_answer.ensures.octets;
   one_rrsig = c.record_laws.ensures.one_rrsig;
   one_signed_data = c.one_signed_data.ensures.one;
+  one_reason = c.evidence_or_one_refusal.ensures.one;
+  no_reason_against_evidence = c.evidence_or_one_refusal.ensures.never_both;
 })
