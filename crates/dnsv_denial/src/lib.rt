@@ -64,6 +64,8 @@ mod nsec_complete;
 mod nsec_meaning;
 mod search;
 mod single;
+#[cfg(test)]
+mod tests;
 mod types;
 mod words;
 mod zone;
