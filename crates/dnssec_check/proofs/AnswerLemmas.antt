@@ -4,12 +4,8 @@ use Rattle.std.specs.List.{AllByRecursion}
 use Rattle.dnsv_names.specs.Octets.{AreOctets}
 use Rattle.dnsv_message.specs.declared.errors.DecodeError.{DecodeError}
 use Rattle.dnsv_message.specs.declared.errors.DecodeError.TheVariants as decode
-use Rattle.dnsv_message.specs.declared.errors.NameFault.{NameFault}
-use Rattle.dnsv_message.specs.declared.errors.NameFault.TheVariants as name
-use Rattle.dnsv_message.specs.Errors.{decode_error_of}
 use Rattle.dnsv_message.specs.Frames.{IsCapture, HasZeroLength, EndsTorn, IsTooLong}
-use Rattle.dnsv_message.specs.Grammar.{MessageOf, IsMessage, FaultOf, FirstFault, CutShort, RecordFaultAt, RdataFaultAt}
-use Rattle.dnsv_message.specs.Grammar.{BodyFault, QuestionAt, QuestionFaultAt, RecordAt, RecordsFault}
+use Rattle.dnsv_message.specs.Grammar.{MessageOf, IsMessage, FaultOf}
 use Rattle.dnsv_message.specs.Message.{Contents}
 use Rattle.dnsv_canonical.specs.Evidence.{Evidence, no_evidence, with_message}
 use Rattle.dnssec_check.specs.declared.status.Place.{Place}
@@ -20,74 +16,22 @@ use Rattle.dnssec_check.specs.Status.{TellsMessageError}
 use Rattle.dnssec_check.specs.Showing.{IsShowing, message_text, texts_from}
 use Rattle.dnssec_check.specs.Told.{nowhere}
 
--- ---- want of memory is no fault of octets
-
-not_short : decode.OutOfMemory ≡ decode.Short → ⊥
-not_short is = cc
-
-not_bad_rdata : (number : ℕ) → decode.OutOfMemory ≡ decode.BadRdata number → ⊥
-not_bad_rdata number is = cc
-
-not_trailing : decode.OutOfMemory ≡ decode.TrailingBytes → ⊥
-not_trailing is = cc
-
-not_a_name's : (fault : NameFault) → decode.OutOfMemory ≡ decode_error_of fault → ⊥
-not_a_name's name.Short is = cc
-not_a_name's name.BadLabel is = cc
-not_a_name's name.BadPointer is = cc
-not_a_name's name.TooManyPointers is = cc
-not_a_name's name.LongName is = cc
-
-not_cut : (octets : List ℕ) (place more : ℕ) → CutShort octets place more decode.OutOfMemory → ⊥
-not_cut octets place more (inl name) = not_a_name's name.0 name.2
-not_cut octets place more (inr behind) = not_short behind.4
-
-not_rdata : (octets : List ℕ) (number rtype class start size : ℕ) → RdataFaultAt octets number rtype class start size decode.OutOfMemory → ⊥
-not_rdata octets number rtype class start size (inl short) = not_short short.1
-not_rdata octets number rtype class start size (inr bad) = not_bad_rdata number bad.2
-
-not_a_record's : (octets : List ℕ) (number place : ℕ) → RecordFaultAt octets number place decode.OutOfMemory → ⊥
-not_a_record's octets number place (inl cut) = not_cut octets place 10 cut
-not_a_record's octets number place (inr behind) = not_rdata octets number behind.rtype behind.class behind.start behind.size behind.fault
-
-not_first : {X : Type 0} (At : ℕ → X → ℕ → Type 0) (Faulty : ℕ → ℕ → DecodeError → Type 0)
-    → ((number place : ℕ) → Faulty number place decode.OutOfMemory → ⊥)
-    → (count number place : ℕ) → FirstFault At Faulty count number place decode.OutOfMemory → ⊥
-not_first At Faulty never zero number place fault = fault
-not_first At Faulty never (suc count) number place (inl here) = never number place here
-not_first At Faulty never (suc count) number place (inr later) = not_first At Faulty never count (suc number) later.1 later.3
-
-not_the_records' : (octets : List ℕ) (count place : ℕ) → RecordsFault octets count place decode.OutOfMemory → ⊥
-not_the_records' octets count place (inl first) =
-    not_first (RecordAt octets) (RecordFaultAt octets) (not_a_record's octets) count 1 place first
-not_the_records' octets count place (inr left) = not_trailing left.is
-
-not_the_body's : (octets : List ℕ) (questions records : ℕ) → BodyFault octets questions records decode.OutOfMemory → ⊥
-not_the_body's octets questions records (inl first) =
-    not_first (QuestionAt octets) (QuestionFaultAt octets) (λ number place. not_cut octets place 4) questions 1 12 first
-not_the_body's octets questions records (inr behind) = not_the_records' octets records behind.end behind.fault
-
-not_memory : (octets : List ℕ) → FaultOf octets decode.OutOfMemory → ⊥
-not_memory octets (inl short) = not_short short.1
-not_memory octets (inr behind) =
-    not_the_body's octets behind.question_count (behind.answer_count + behind.authority_count + behind.additional_count) behind.fault
-
--- ---- answers
-
 -- each fault of octets is told as some refusal
-message_told : (octets : List ℕ) (error : DecodeError) → FaultOf octets error → (why : Refusal) × (k : Option ℕ) × TellsMessageError error why k
-message_told octets decode.OutOfMemory fault = absurd (not_memory octets fault)
-message_told octets decode.Short fault = (refusal.Short, None, (refl, refl))
-message_told octets decode.BadLabel fault = (refusal.BadLabel, None, (refl, refl))
-message_told octets decode.BadPointer fault = (refusal.BadPointer, None, (refl, refl))
-message_told octets decode.TooManyPointers fault = (refusal.TooManyPointers, None, (refl, refl))
-message_told octets decode.LongName fault = (refusal.LongName, None, (refl, refl))
-message_told octets (decode.BadRdata k) fault = (refusal.BadRdata, Some k, (refl, refl))
-message_told octets decode.TrailingBytes fault = (refusal.TrailingBytes, None, (refl, refl))
+message_told : (octets : List ℕ) → (FaultOf octets decode.OutOfMemory → ⊥) → (error : DecodeError) → FaultOf octets error
+    → (why : Refusal) × (k : Option ℕ) × TellsMessageError error why k
+message_told octets no_fault decode.OutOfMemory fault = absurd (no_fault fault)
+message_told octets no_fault decode.Short fault = (refusal.Short, None, (refl, refl))
+message_told octets no_fault decode.BadLabel fault = (refusal.BadLabel, None, (refl, refl))
+message_told octets no_fault decode.BadPointer fault = (refusal.BadPointer, None, (refl, refl))
+message_told octets no_fault decode.TooManyPointers fault = (refusal.TooManyPointers, None, (refl, refl))
+message_told octets no_fault decode.LongName fault = (refusal.LongName, None, (refl, refl))
+message_told octets no_fault (decode.BadRdata k) fault = (refusal.BadRdata, Some k, (refl, refl))
+message_told octets no_fault decode.TrailingBytes fault = (refusal.TrailingBytes, None, (refl, refl))
 
 -- octets are a message or have a fault, and a message is as it is asked to be or is refused
 module _ (demand : Demand)
     (message_or_fault : (octets : List ℕ) → AreOctets octets → ((message : Contents) × MessageOf octets message) ⊎ ((error : DecodeError) × FaultOf octets error))
+    (no_fault_of_memory : (octets : List ℕ) → FaultOf octets decode.OutOfMemory → ⊥)
     (meets_or_fails : (held : Evidence) (message : Contents) → IsMessage message
     → Meets demand held message ⊎ ((why : Refusal) × (k : Option ℕ) × Fails demand held message why k)) where
   -- the frames are messages as is asked, or the first that isn't is refused
@@ -114,7 +58,7 @@ module _ (demand : Demand)
   joined : (held : Evidence) (number : ℕ) (octets : List ℕ) (frames : List (List ℕ)) → AreOctets octets
       → ((held : Evidence) (number : ℕ) → Answer held number frames)
       → ((message : Contents) × MessageOf octets message) ⊎ ((error : DecodeError) × FaultOf octets error) → Answer held number (octets ∷ frames)
-  joined held number octets frames are rest (inr fault) = unread held number octets frames fault.0 fault.1 (message_told octets fault.0 fault.1)
+  joined held number octets frames are rest (inr fault) = unread held number octets frames fault.0 fault.1 (message_told octets (no_fault_of_memory octets) fault.0 fault.1)
   joined held number octets frames are rest (inl found) =
       read held number octets frames found.0 found.1 (meets_or_fails held found.0 (octets, are, found.1)) (rest (with_message held found.0) (suc number))
 

@@ -11,7 +11,9 @@ ghost use Rattle.dnssec_check.specs.declared.status.Place.{Place};
 ghost use Rattle.dnssec_check.specs.declared.status.Refusal.{Refusal};
 
 use dnsv_canonical::{evidence_or_one_refusal, one_signed_data, rrsets_are_well_formed};
-use dnsv_message::{message_or_fault, no_fault_of_a_message, one_answer, one_fault, one_message};
+use dnsv_message::{
+    message_or_fault, no_fault_of_a_message, no_fault_of_memory, one_answer, one_fault, one_message,
+};
 use dnsv_records::record_laws;
 
 /// A request has at most one text for a file.
@@ -63,6 +65,7 @@ pub fn every_file_is_shown_or_refused()
 {
     one_answer();
     message_or_fault();
+    no_fault_of_memory();
 }
 
 /// A file of octets is listed, or refused, or has an octet too many.
@@ -72,6 +75,7 @@ pub fn every_file_is_listed_or_refused()
 {
     one_answer();
     message_or_fault();
+    no_fault_of_memory();
     evidence_or_one_refusal();
     one_signed_data();
     rrsets_are_well_formed();

@@ -1,5 +1,5 @@
 -- What has been read of a stream so far, and what it says of the stream as a whole.
-use Rattle.std.proofs.Common.{◌≡◌, ◌⊎◌, inl, inr, ⊎_elim, subst, flat_map, ℕ, zero, suc, ◌+◌, ◌-◌, ◌<◌, ◌≤◌, List, [], ◌∷◌, ◌++◌, length, take, drop, refl, sym, ap, ◌∙◌, zero-add, min, arith, append_assoc, length-append, Option, Some, None, IfSome}
+use Rattle.std.proofs.Common.{◌≡◌, ◌⊎◌, inl, inr, ⊎_elim, subst, flat_map, ℕ, zero, suc, ◌+◌, ◌-◌, ◌<◌, ◌≤◌, List, [], ◌∷◌, ◌++◌, length, take, drop, refl, sym, ap, ◌∙◌, zero-add, arith, append_assoc, length-append, Option, Some, None, IfSome}
 use Rattle.std.proofs.Math.Nat.{sub-zero}
 use Rattle.std.proofs.lemmas.List.{append-nil, take_all, take_at, take-take, length-take-le, take-append-drop}
 use Rattle.std.proofs.lemmas.Bool.{cases_lt}
@@ -135,10 +135,6 @@ HasRead-too_long old now next messages new rest end buf left count n x consumes 
     rw (take-take n count buf fewer) (Frames-gained x.octets (take n buf) messages new rest end x.frames gains) in
     let found = too_long_came FILE_LIMIT xs x.octets (take count buf) ys n new end same (omega arith) (omega (arith, x.size)) y not_zero in
     (found.0, λ has_zero. found.1 has_zero.0 has_zero.1 has_zero.2 has_zero.3))
-
--- a failure is counted
-pub failed_once : (old now new : ℕ) → now ≡ old → new ≡ min (now + 1) 18446744073709551615 → old < 18446744073709551615 → old < new
-failed_once old now new same grew not_full = omega arith
 
 -- a file within the limit is read as a whole
 within_limit : (limit : ℕ) (file : List ℕ) (messages : List (List ℕ)) (rest : List ℕ) → length file ≤ limit → Frames (take limit file) messages rest → Frames file messages rest

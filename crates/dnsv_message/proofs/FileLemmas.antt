@@ -1,9 +1,12 @@
 -- What the octets that were read say of a file.
-use Rattle.std.proofs.Common.{◌≡◌, ℕ, ◌-◌, ◌<◌, ◌≤◌, List, [], ◌++◌, length, take, sym, ap, ◌∙◌, arith, length-append, Option, Some, None, IfSome}
+use Rattle.std.proofs.Common.{◌≡◌, ℕ, ◌+◌, ◌-◌, ◌<◌, ◌≤◌, min, List, [], ◌++◌, length, take, sym, ap, refl, ◌∙◌, arith, length-append, Option, Some, None, Ok, Err, IfSome}
 use Rattle.std.proofs.lemmas.List.{append-nil, length-take-le}
 use Rattle.std.proofs.KnownBytes.{Consumes-nil, Consumes-trans, Consumes-kept, Keeps-refl}
 use Rattle.std.specs.Io.KnownBytes.{Consumes, IsAtEnd, Keeps}
 use Rattle.dnsv_message.specs.Frames.{StopsAtFault, stops}
+use Rattle.dnsv_message.specs.Streams.{ReadsStream}
+use Rattle.dnsv_message.specs.declared.errors.ReadError.{ReadError}
+use Rattle.dnsv_message.specs.declared.errors.ReadError.TheVariants.{Read}
 
 pub nothing_read : (old : Option (List ℕ)) (octets : List ℕ) → octets ≡ [] → Consumes old old octets
 nothing_read old octets none = rw none (Consumes-nil old)
@@ -67,3 +70,47 @@ stops_behind IsFine more old now next before buf count fine x y short small =
 -- nothing was read
 pub nothing_stops : (limit more : ℕ) (old : Option (List ℕ)) → StopsAtFault (λ octets. length octets ≤ limit) more old old
 nothing_stops limit more old = stops_before (λ octets. length octets ≤ limit) more old old old [] (omega arith) (Consumes-nil old) (Keeps-refl old)
+
+-- what stops at once stops within a piece
+stops_within : (IsFine : List ℕ → Type 0) (more : ℕ) (old new : Option (List ℕ)) → StopsAtFault IsFine 0 old new → StopsAtFault IsFine more old new
+stops_within IsFine more old new (stops before piece fine small x) = stops before piece fine (omega (arith, small)) x
+
+-- a failure is counted
+failed_once : (before now after : ℕ) → now ≡ before → after ≡ min (now + 1) 18446744073709551615 → before < 18446744073709551615 → before < after
+failed_once before now after same grew not_full = omega arith
+
+none_counted : (before after : ℕ) → after ≡ before → before < after → ⊥
+none_counted before after same more = omega arith
+
+module _ {T : Type 0} (IsFine : List ℕ → Type 0) {old new : Option (List ℕ)} {before after : ℕ} where
+  -- the stream ended
+  pub ReadsStream-ended : (x : T) → after ≡ before → IsAtEnd new → StopsAtFault IsFine 65536 old new → ReadsStream IsFine old new before after (Ok x)
+  ReadsStream-ended x same ended stopped = record {
+    end = ended;
+    stops = stopped;
+    stops_failed = λ is. absurd (cc);
+    read = λ is. absurd (cc);
+    failed = λ more. absurd (none_counted before after same more);
+  }
+
+  -- no read failed, and something else did
+  pub ReadsStream-fault : (error : ReadError) → (error ≡ Read → ⊥) → after ≡ before → StopsAtFault IsFine 65536 old new
+      → ReadsStream {T = T} IsFine old new before after (Err error)
+  ReadsStream-fault error other same stopped = record {
+    end = tt;
+    stops = stopped;
+    stops_failed = λ is. absurd (other cc);
+    read = λ is. absurd (other cc);
+    failed = λ more. absurd (none_counted before after same more);
+  }
+
+  -- a read failed
+  pub ReadsStream-failed : (now : ℕ) → now ≡ before → after ≡ min (now + 1) 18446744073709551615 → StopsAtFault IsFine 0 old new
+      → ReadsStream {T = T} IsFine old new before after (Err Read)
+  ReadsStream-failed now same grew stopped = record {
+    end = tt;
+    stops = stops_within IsFine 65536 old new stopped;
+    stops_failed = λ is. stopped;
+    read = λ is not_full. failed_once before now after same grew not_full;
+    failed = λ more. refl;
+  }

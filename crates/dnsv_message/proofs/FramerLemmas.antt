@@ -1,11 +1,11 @@
 -- What a framer keeps between pieces, and that the cutting of a stream doesn't matter.
-use Rattle.std.proofs.Common.{◌≡◌, ◌≢◌, ℕ, ◌≤◌, List, [], ◌∷◌, ◌++◌, length, refl, sym, ap, ◌∙◌, inl, inr, arith, append_assoc, Option, Some, None}
+use Rattle.std.proofs.Common.{◌≡◌, ◌≢◌, ℕ, ◌≤◌, List, [], ◌∷◌, ◌++◌, length, refl, sym, ap, subst, ◌∙◌, inl, inr, arith, append_assoc, Option, Some, None}
 use Rattle.std.proofs.lemmas.List.{append-nil}
 use Rattle.std.specs.List.{flat_map}
 use Rattle.dnsv_message.specs.declared.errors.ReadError.{ReadError}
 use Rattle.dnsv_message.specs.declared.errors.ReadError.TheVariants.{OutOfMemory, Read, TooLong, ZeroLength, TornFrame}
 use Rattle.dnsv_message.specs.Frames.{frame, BeginsNoFrame, BeginsWith, Frames, IsZero}
-use Rattle.dnsv_message.specs.Framer.{Framing, Gains, IsEndError, KeepsRest, Feeds, FeedsAll}
+use Rattle.dnsv_message.specs.Framer.{Framing, Gains, IsEndError, IsPieceError, KeepsRest, Feeds, FeedsAll}
 use Rattle.dnsv_message.specs.OpenFrame.{rest_of}
 use Rattle.dnsv_message.proofs.FrameLemmas.{Gains-append, Gains-none, one_framing, same_frame, zero_begins_no_frame}
 use Rattle.dnsv_message.proofs.CaptureLemmas.{zero_goes_on}
@@ -136,6 +136,10 @@ Feeds-failed rest piece failed frame old same is_zero =
       gains = Gains-none old (rest ++ piece) (0 ∷ (0 ∷ piece)) front (zero_begins_no_frame piece);
       keeps = inr ((piece, refl), zero_rest);
     }
+
+-- a piece is at fault for itself, and not for its reader
+pub piece_not_read : (error : ReadError) → IsPieceError error → error ≡ Read → ⊥
+piece_not_read error is same = subst IsPieceError same is
 
 -- where a framer that hasn't failed may not end, a beginning of a frame is left
 pub torn_end : (framing : Framing) (error : ReadError) → framing.fault ≡ None → IsEndError framing error → (error ≡ TornFrame) × (framing.rest ≢ []) × ¬ IsZero framing.rest

@@ -12,6 +12,7 @@ pub mod FitLemmas
 pub mod EncodingLemmas
 pub mod OneEncoding
 pub mod MessageOrFault
+pub mod MemoryLemmas
 pub mod CaptureLemmas
 pub mod FrameLemmas
 pub mod FramerLemmas

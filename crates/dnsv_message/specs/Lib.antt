@@ -15,3 +15,4 @@ pub mod Frames
 pub mod OpenFrame
 pub mod Framer
 pub mod ReadError
+pub mod Streams

@@ -1,10 +1,10 @@
 //! Captured messages, as a stream of frames gives them.
-ghost use Rattle.std.specs.Prelude.{◌≡◌, ◌⊎◌, ◌<◌, List, ℕ, IfOk, IfSome, IsErrOf, OnOk};
+ghost use Rattle.std.specs.Prelude.{◌≡◌, ◌⊎◌, List, ℕ, IfOk, IfSome, IsErrOf};
 ghost use Rattle.std.specs.List.{AllByRecursion};
-ghost use Rattle.std.specs.Io.KnownBytes.{IsAtEnd};
 ghost use Rattle.dnsv_names.specs.Octets.{AreOctets};
 ghost use Rattle.dnsv_message.specs.Counted.{failures_of, inner_of};
-ghost use Rattle.dnsv_message.specs.Frames.{EndsTorn, Frames, HasNoFault, HasZeroLength, IsCapture, IsTooLong, StopsAtFault, octets_of_each};
+ghost use Rattle.dnsv_message.specs.Frames.{EndsTorn, Frames, HasNoFault, HasZeroLength, IsCapture, IsTooLong, octets_of_each};
+ghost use Rattle.dnsv_message.specs.Streams.{ReadsStream};
 
 use crate::FILE_LIMIT;
 use crate::counted::Counted;
@@ -32,17 +32,9 @@ pub fn read_capture<R: Read>(
     ensures zero_length { IsErrOf result ReadError.ZeroLength →
         IfSome (R.remaining (inner_of reader.old)) HasZeroLength }
     ensures torn_frame { IsErrOf result ReadError.TornFrame → IfSome (R.remaining (inner_of reader.old)) EndsTorn }
-    ensures end { OnOk result (IsAtEnd (R.remaining (inner_of reader.new))) }
-    // Nothing is read behind the piece in which a fault stands, nor after a read that failed.
-    ensures stops { StopsAtFault HasNoFault 65536
-        (R.remaining (inner_of reader.old)) (R.remaining (inner_of reader.new)) }
-    ensures stops_failed { IsErrOf result ReadError.Read →
-        StopsAtFault HasNoFault 0 (R.remaining (inner_of reader.old)) (R.remaining (inner_of reader.new)) }
-
-    // The reader failed, at any reader: by the count, unless that began at its greatest value.
-    ensures read { IsErrOf result ReadError.Read →
-        failures_of reader.old < u64.MAX → failures_of reader.old < failures_of reader.new }
-    ensures failed { failures_of reader.old < failures_of reader.new → IsErrOf result ReadError.Read }
+    ensures stream { ReadsStream HasNoFault
+        (R.remaining (inner_of reader.old)) (R.remaining (inner_of reader.new))
+        (failures_of reader.old) (failures_of reader.new) result }
 {
     let mut buffer = vec![in alloc; 0; PIECE_LIMIT]?;
     let piece = buffer.as_mut_slice();

@@ -1,10 +1,11 @@
 //! Files, as readers give them.
-ghost use Rattle.std.specs.Prelude.{◌≡◌, ◌<◌, ◌≤◌, length, is_err, vec_len, IfErr, IfOk, IfSome, IsErrOf, OnOk};
+ghost use Rattle.std.specs.Prelude.{◌≡◌, ◌<◌, ◌≤◌, length, is_err, vec_len, IfErr, IfOk, IfSome, IsErrOf};
 ghost use Rattle.std.specs.Io.{ReadsAtMost};
-ghost use Rattle.std.specs.Io.KnownBytes.{IsAtEnd, ReadConsumes};
+ghost use Rattle.std.specs.Io.KnownBytes.{ReadConsumes};
 ghost use Rattle.dnsv_message.specs.Counted.{count_after, failures_of, inner_of};
-ghost use Rattle.dnsv_message.specs.Frames.{StopsAtFault, file_limit};
+ghost use Rattle.dnsv_message.specs.Frames.{file_limit};
 ghost use Rattle.dnsv_message.specs.ReadError.{IsFileError};
+ghost use Rattle.dnsv_message.specs.Streams.{ReadsStream};
 
 use crate::FILE_LIMIT;
 use crate::counted::Counted;
@@ -25,17 +26,9 @@ pub fn read_all<R: Read>(alloc: Global, reader: &mut Counted<R>) -> Result<Vec<u
     ensures within { IfOk result (λ octets. vec_len octets ≤ file_limit) }
     ensures too_long { IsErrOf result ReadError.TooLong →
         IfSome (R.remaining (inner_of reader.old)) (λ file. file_limit < length file) }
-    ensures end { OnOk result (IsAtEnd (R.remaining (inner_of reader.new))) }
-    // Nothing is read behind the piece in which a fault stands, nor after a read that failed.
-    ensures stops { StopsAtFault (λ octets. length octets ≤ file_limit) 65536
-        (R.remaining (inner_of reader.old)) (R.remaining (inner_of reader.new)) }
-    ensures stops_failed { IsErrOf result ReadError.Read → StopsAtFault (λ octets. length octets ≤ file_limit) 0
-        (R.remaining (inner_of reader.old)) (R.remaining (inner_of reader.new)) }
-
-    // The reader failed, at any reader: by the count, unless that began at its greatest value.
-    ensures read { IsErrOf result ReadError.Read →
-        failures_of reader.old < u64.MAX → failures_of reader.old < failures_of reader.new }
-    ensures failed { failures_of reader.old < failures_of reader.new → IsErrOf result ReadError.Read }
+    ensures stream { ReadsStream (λ octets. length octets ≤ file_limit)
+        (R.remaining (inner_of reader.old)) (R.remaining (inner_of reader.new))
+        (failures_of reader.old) (failures_of reader.new) result }
     ensures only { IfErr result IsFileError }
 {
     let mut buffer = vec![in alloc; 0; PIECE_LIMIT]?;

@@ -3,6 +3,7 @@
 //! Each is a function that does nothing and ensures the law, which its caller learns.
 ghost use Rattle.std.specs.Prelude.{◌≡◌, ◌⊎◌, ◌<◌, ◌≤◌, List, ℕ, length, Option};
 ghost use Rattle.dnsv_message.specs.declared.errors.DecodeError.{DecodeError};
+ghost use Rattle.dnsv_message.specs.declared.errors.DecodeError.TheVariants.{OutOfMemory};
 ghost use Rattle.dnsv_message.specs.Message.{Contents};
 ghost use Rattle.dnsv_names.specs.Octets.{AreOctets};
 ghost use Rattle.dnsv_message.specs.Grammar.{MessageOf, IsMessage, FaultOf};
@@ -32,6 +33,11 @@ pub fn one_fault()
 pub fn message_or_fault()
     ensures { (octets : List ℕ) → AreOctets octets →
         ((message : Contents) × MessageOf octets message) ⊎ ((error : DecodeError) × FaultOf octets error) }
+{}
+
+/// Want of memory is no fault of octets.
+pub fn no_fault_of_memory()
+    ensures { (octets : List ℕ) → FaultOf octets OutOfMemory → ⊥ }
 {}
 
 /// What is true of every message: its names are names, its numbers fit their fields, and its RDATA is octets, at most

@@ -7,8 +7,8 @@ pub use errors::{DecodeError, NameFault, ReadError};
 pub use file::read_all;
 pub use framer::{Framer, any_cutting};
 pub use laws::{
-    message_or_fault, messages_fit, no_fault_of_a_message, one_encoding, one_fault, one_message,
-    one_tail, the_encoding_is_the_message,
+    message_or_fault, messages_fit, no_fault_of_a_message, no_fault_of_memory, one_encoding,
+    one_fault, one_message, one_tail, the_encoding_is_the_message,
 };
 pub use message::Message;
 pub use number::{Class, Flags};

@@ -1,8 +1,9 @@
 use Rattle.std.proofs.Common.{ap, ◌∙◌, refl, arith}
 use Rattle.std.proofs.lemmas.Result.{err_from_is_err_and}
-use Rattle.dnsv_message.specs.Frames.{octets_of_each}
-use Rattle.dnsv_message.proofs.CaptureLemmas.{HasRead-start, HasRead-more, HasRead-end, HasRead-zero, HasRead-too_long, HasRead-stops_before, HasRead-stops_behind, nothing-stops, failed_once, nothing_not_zero}
-use Rattle.dnsv_message.proofs.FramerLemmas.{Gains-open, Gains-zero, torn_end}
+use Rattle.dnsv_message.specs.Frames.{HasNoFault, octets_of_each}
+use Rattle.dnsv_message.proofs.CaptureLemmas.{HasRead-start, HasRead-more, HasRead-end, HasRead-zero, HasRead-too_long, HasRead-stops_before, HasRead-stops_behind, nothing-stops, nothing_not_zero}
+use Rattle.dnsv_message.proofs.FileLemmas.{ReadsStream-ended, ReadsStream-fault, ReadsStream-failed}
+use Rattle.dnsv_message.proofs.FramerLemmas.{Gains-open, Gains-zero, piece_not_read, torn_end}
 use Rattle.dnsv_message.proofs.capture.read_capture.Goals as goal
 
 pub loop-framer-init : goal.loop-framer-init
@@ -14,9 +15,6 @@ loop-framer-init g c = record {
   no_fault = c.new-framer.ensures.fault;
   not_zero = rw c.new-framer.ensures.rest nothing_not_zero;
 }
-
-pub returns-in_err-count-clause-read : goal.returns-in_err-count-clause-read
-returns-in_err-count-clause-read g c = λ is_read not_full. failed_once _ _ _ c.loop-framer.invariant.none_failed c.in_err-count.ensures.failures not_full
 
 pub returns-in_err-feed-clause-zero_length : goal.returns-in_err-feed-clause-zero_length
 returns-in_err-feed-clause-zero_length g c = λ is_zero.
@@ -66,48 +64,41 @@ returns-in_err-finish-clause-zero_length g c = λ is_it.
     let torn = (torn_end _ _ c.loop-framer.invariant.no_fault c.in_err-finish.ensures).0 in
     absurd (let is = p.1 in let same = p.2 in cc)
 
-pub returns-in_err-finish-clause-read : goal.returns-in_err-finish-clause-read
-returns-in_err-finish-clause-read g c = λ is_it not_full.
+pub returns-in_err-buffer-clause-stream : goal.returns-in_err-buffer-clause-stream
+returns-in_err-buffer-clause-stream g c =
+    let p = err_from_is_err_and c.from_residual.result c.from_residual.ensures.1 in
+    rw p.1 (ReadsStream-fault HasNoFault p.0 (λ is. let same = p.2 in cc) refl (nothing-stops 65536 _))
+
+pub returns-in_err-count-clause-stream : goal.returns-in_err-count-clause-stream
+returns-in_err-count-clause-stream g c =
+    let p = err_from_is_err_and c.from_residual-in_err-count.result c.from_residual-in_err-count.ensures.1 in
+    rw (p.1, p.2, c.in_err-count.ensures.only) (ReadsStream-failed HasNoFault _ c.loop-framer.invariant.none_failed c.in_err-count.ensures.failures
+    (HasRead-stops_before 0 _ _ _ _ _ c.loop-framer.left c.loop-framer.invariant.read c.loop-framer.invariant.not_zero c.in_err-count.ensures.bytes))
+
+pub returns-in_err-feed-clause-stream : goal.returns-in_err-feed-clause-stream
+returns-in_err-feed-clause-stream g c =
+    let p = err_from_is_err_and c.from_residual-in_err-feed.result c.from_residual-in_err-feed.ensures.1 in
+    rw p.1 (ReadsStream-fault HasNoFault p.0 (λ is. let same = p.2 in piece_not_read c.in_err-feed.field-0.0 c.in_err-feed.ensures.only cc) (c.in_ok-count.ensures.failures ∙ c.loop-framer.invariant.none_failed)
+    (HasRead-stops_behind 65536 _ _ _ _ _ c.read_piece.new.piece c.loop-framer.left c.in_ok-count.count c.loop-framer.invariant.read c.loop-framer.invariant.not_zero
+    c.in_ok-count.ensures.bytes.0 (omega (arith, c.in_ok-count.ensures.bound.0)) (omega (arith, c.loop-framer.invariant.piece, c.read_piece.auto.piece))))
+
+pub returns-then-within-count-clause-stream : goal.returns-then-within-count-clause-stream
+returns-then-within-count-clause-stream g c =
+    ReadsStream-fault HasNoFault _ (λ is. cc) (c.in_ok-count.ensures.failures ∙ c.loop-framer.invariant.none_failed)
+    (HasRead-stops_behind 65536 _ _ _ _ _ c.read_piece.new.piece c.loop-framer.left c.in_ok-count.count c.loop-framer.invariant.read c.loop-framer.invariant.not_zero
+    c.in_ok-count.ensures.bytes.0 (omega (arith, c.in_ok-count.ensures.bound.0)) (omega (arith, c.loop-framer.invariant.piece, c.read_piece.auto.piece)))
+
+pub returns-in_err-finish-clause-stream : goal.returns-in_err-finish-clause-stream
+returns-in_err-finish-clause-stream g c =
     let p = err_from_is_err_and c.from_residual-in_err-finish.result c.from_residual-in_err-finish.ensures.1 in
     let torn = (torn_end _ _ c.loop-framer.invariant.no_fault c.in_err-finish.ensures).0 in
-    absurd (let is = p.1 in let same = p.2 in cc)
+    rw p.1 (ReadsStream-fault HasNoFault p.0 (λ is. let same = p.2 in cc) (c.in_ok-count.ensures.failures ∙ c.loop-framer.invariant.none_failed)
+    (HasRead-stops_behind 65536 _ _ _ _ _ c.read_piece.new.piece c.loop-framer.left c.in_ok-count.count c.loop-framer.invariant.read c.loop-framer.invariant.not_zero
+    c.in_ok-count.ensures.bytes.0 (omega (arith, c.in_ok-count.ensures.bound.0)) (omega (arith, c.loop-framer.invariant.piece, c.read_piece.auto.piece))))
 
-pub returns-in_err-finish-clause-stops_failed : goal.returns-in_err-finish-clause-stops_failed
-returns-in_err-finish-clause-stops_failed g c = λ is_it.
-    let p = err_from_is_err_and c.from_residual-in_err-finish.result c.from_residual-in_err-finish.ensures.1 in
-    let torn = (torn_end _ _ c.loop-framer.invariant.no_fault c.in_err-finish.ensures).0 in
-    absurd (let is = p.1 in let same = p.2 in cc)
-
-pub returns-clause-end : goal.returns-clause-end
-returns-clause-end g c = c.in_ok-count.ensures.bytes.1 c.if-count-eq0.true (omega (arith, c.loop-framer.invariant.room, c.read_piece.auto.piece))
-
-pub returns-in_err-buffer-clause-stops : goal.returns-in_err-buffer-clause-stops
-returns-in_err-buffer-clause-stops g c = nothing-stops 65536 _
-
-pub returns-in_err-count-clause-stops : goal.returns-in_err-count-clause-stops
-returns-in_err-count-clause-stops g c =
-    HasRead-stops_before 65536 _ _ _ _ _ c.loop-framer.left c.loop-framer.invariant.read c.loop-framer.invariant.not_zero c.in_err-count.ensures.bytes
-
-pub returns-in_err-count-clause-stops_failed : goal.returns-in_err-count-clause-stops_failed
-returns-in_err-count-clause-stops_failed g c = λ _.
-    HasRead-stops_before 0 _ _ _ _ _ c.loop-framer.left c.loop-framer.invariant.read c.loop-framer.invariant.not_zero c.in_err-count.ensures.bytes
-
-pub returns-in_err-feed-clause-stops : goal.returns-in_err-feed-clause-stops
-returns-in_err-feed-clause-stops g c =
-    HasRead-stops_behind 65536 _ _ _ _ _ c.read_piece.new.piece c.loop-framer.left c.in_ok-count.count c.loop-framer.invariant.read c.loop-framer.invariant.not_zero
-    c.in_ok-count.ensures.bytes.0 (omega (arith, c.in_ok-count.ensures.bound.0)) (omega (arith, c.loop-framer.invariant.piece, c.read_piece.auto.piece))
-
-pub returns-then-within-count-clause-stops : goal.returns-then-within-count-clause-stops
-returns-then-within-count-clause-stops g c =
-    HasRead-stops_behind 65536 _ _ _ _ _ c.read_piece.new.piece c.loop-framer.left c.in_ok-count.count c.loop-framer.invariant.read c.loop-framer.invariant.not_zero
-    c.in_ok-count.ensures.bytes.0 (omega (arith, c.in_ok-count.ensures.bound.0)) (omega (arith, c.loop-framer.invariant.piece, c.read_piece.auto.piece))
-
-pub returns-in_err-finish-clause-stops : goal.returns-in_err-finish-clause-stops
-returns-in_err-finish-clause-stops g c =
-    HasRead-stops_behind 65536 _ _ _ _ _ c.read_piece.new.piece c.loop-framer.left c.in_ok-count.count c.loop-framer.invariant.read c.loop-framer.invariant.not_zero
-    c.in_ok-count.ensures.bytes.0 (omega (arith, c.in_ok-count.ensures.bound.0)) (omega (arith, c.loop-framer.invariant.piece, c.read_piece.auto.piece))
-
-pub returns-clause-stops : goal.returns-clause-stops
-returns-clause-stops g c =
-    HasRead-stops_behind 65536 _ _ _ _ _ c.read_piece.new.piece c.loop-framer.left c.in_ok-count.count c.loop-framer.invariant.read c.loop-framer.invariant.not_zero
-    c.in_ok-count.ensures.bytes.0 (omega (arith, c.in_ok-count.ensures.bound.0)) (omega (arith, c.loop-framer.invariant.piece, c.read_piece.auto.piece))
+pub returns-clause-stream : goal.returns-clause-stream
+returns-clause-stream g c =
+    ReadsStream-ended HasNoFault _ (c.in_ok-count.ensures.failures ∙ c.loop-framer.invariant.none_failed)
+    (c.in_ok-count.ensures.bytes.1 c.if-count-eq0.true (omega (arith, c.loop-framer.invariant.room, c.read_piece.auto.piece)))
+    (HasRead-stops_behind 65536 _ _ _ _ _ c.read_piece.new.piece c.loop-framer.left c.in_ok-count.count c.loop-framer.invariant.read c.loop-framer.invariant.not_zero
+    c.in_ok-count.ensures.bytes.0 (omega (arith, c.in_ok-count.ensures.bound.0)) (omega (arith, c.loop-framer.invariant.piece, c.read_piece.auto.piece)))
