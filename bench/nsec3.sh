@@ -1,6 +1,7 @@
 #!/usr/bin/env bash
 # Measures an iteration of `nsec3_hash` for salts of 0, 8 and 255 octets, and prints the rows of the table in
-# docs/PERFORMANCE.md. It builds bench/nsec3 in a copy of the repository. It needs valgrind.
+# docs/PERFORMANCE.md. It builds bench/nsec3 in a copy of the repository; its source has another ending, since the gate
+# takes each .rt file for one of a crate. It needs valgrind.
 set -euo pipefail
 cd "$(dirname "$0")"
 room=$(mktemp -d)
@@ -10,7 +11,7 @@ cp -r ../HANDLES "$room"
 cp -r ../crates/dnsv_names ../crates/dnsv_digest "$room/crates"
 grep -E '^dnsv_(names|digest):' ../crates.txt > "$room/crates.txt"
 echo 'nsec3_bench: dnsv_names dnsv_digest anyhow' >> "$room/crates.txt"
-cp nsec3/main.rt "$room/crates/nsec3_bench/src"
+cp nsec3/main.rt.in "$room/crates/nsec3_bench/src/main.rt"
 cd "$room/crates/nsec3_bench"
 rt run -- 0 0 > "$room/log" 2>&1
 
