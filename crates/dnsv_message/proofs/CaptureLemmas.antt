@@ -177,8 +177,8 @@ HasRead-stops_behind more old now next messages rest buf left count x not_zero c
     stops_behind HasNoFault more old now next x.octets buf count (no_fault_read old now messages rest left x not_zero) x.consumed consumes short small
 
 -- nothing was read
-pub nothing-stops : (more : ℕ) (old : Option (List ℕ)) → StopsAtFault HasNoFault more old old
-nothing-stops more old = HasRead-stops_before more old old old [] [] FILE_LIMIT (HasRead-start old [] [] FILE_LIMIT refl refl refl) nothing_not_zero (Keeps-refl old)
+pub unread_frames_stop : (more : ℕ) (old : Option (List ℕ)) → StopsAtFault HasNoFault more old old
+unread_frames_stop more old = HasRead-stops_before more old old old [] [] FILE_LIMIT (HasRead-start old [] [] FILE_LIMIT refl refl refl) nothing_not_zero (Keeps-refl old)
 
 pub torn_frame_alone : (file : List ℕ) → EndsTorn file → ¬ IsTooLong file
 torn_frame_alone file torn = λ too_long. omega (arith, torn.0, too_long.0)

@@ -68,8 +68,8 @@ stops_behind IsFine more old now next before buf count fine x y short small =
     stops before (take count buf) fine (omega (arith, size)) (Consumes-trans old now next before (take count buf) x y)
 
 -- nothing was read
-pub nothing_stops : (limit more : ℕ) (old : Option (List ℕ)) → StopsAtFault (λ octets. length octets ≤ limit) more old old
-nothing_stops limit more old = stops_before (λ octets. length octets ≤ limit) more old old old [] (omega arith) (Consumes-nil old) (Keeps-refl old)
+pub unread_octets_stop : (limit more : ℕ) (old : Option (List ℕ)) → StopsAtFault (λ octets. length octets ≤ limit) more old old
+unread_octets_stop limit more old = stops_before (λ octets. length octets ≤ limit) more old old old [] (omega arith) (Consumes-nil old) (Keeps-refl old)
 
 -- what stops at once stops within a piece
 stops_within : (IsFine : List ℕ → Type 0) (more : ℕ) (old new : Option (List ℕ)) → StopsAtFault IsFine 0 old new → StopsAtFault IsFine more old new

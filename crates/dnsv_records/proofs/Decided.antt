@@ -73,28 +73,34 @@ counted_or (n ∷ rest) =
 pub dnskey_or : (rdata : List ℕ) → Or ((dnskey : Dnskey) × IsDnskey rdata dnskey)
 dnskey_or rdata =
     ⊎_elim
-    (λ head. inl (record { flags = record { 0 = number_at rdata 0 2 }; protocol = number_at rdata 2 1; algorithm = record { 0 = number_at rdata 3 1 }; key = drop 4 rdata },
-    record { head = head; flags = refl; protocol = refl; algorithm = refl; key = refl }))
+    (λ head. inl (
+      record { flags = record { 0 = number_at rdata 0 2 }; protocol = number_at rdata 2 1; algorithm = record { 0 = number_at rdata 3 1 }; key = drop 4 rdata },
+      record { head = head; flags = refl; protocol = refl; algorithm = refl; key = refl },
+    ))
     (λ none. inr (λ is. none is.1.head)) (at_most_or 4 (length rdata))
 
 pub ds_or : (rdata : List ℕ) → Or ((ds : Ds) × IsDs rdata ds)
 ds_or rdata =
     ⊎_elim
-    (λ head. inl (record { key_tag = record { 0 = number_at rdata 0 2 }; algorithm = record { 0 = number_at rdata 2 1 }; digest_type = record { 0 = number_at rdata 3 1 }; digest = drop 4 rdata },
-    record { head = head; key_tag = refl; algorithm = refl; digest_type = refl; digest = refl }))
+    (λ head. inl (
+      record { key_tag = record { 0 = number_at rdata 0 2 }; algorithm = record { 0 = number_at rdata 2 1 }; digest_type = record { 0 = number_at rdata 3 1 }; digest = drop 4 rdata },
+      record { head = head; key_tag = refl; algorithm = refl; digest_type = refl; digest = refl },
+    ))
     (λ none. inr (λ is. none is.1.head)) (at_most_or 4 (length rdata))
 
 pub nsec3_or : (rdata : List ℕ) → Or ((nsec3 : Nsec3) × IsNsec3 rdata nsec3)
 nsec3_or rdata =
     ⊎_elim (λ head. ⊎_elim (λ salt. ⊎_elim (λ hash. ⊎_elim
-    (λ bitmap. inl (record {
-      algorithm = record { 0 = number_at rdata 0 1 };
-      flags = record { 0 = number_at rdata 1 1 };
-      parameters = record { iterations = record { 0 = number_at rdata 2 2 }; salt = salt.0 };
-      next_hash = hash.0;
-      types = bitmap.0;
-    },
-    record { head = head; algorithm = refl; flags = refl; iterations = refl; behind_salt = salt.1; salt = salt.2; bits = hash.1; next_hash = hash.2; bitmap = bitmap.1 }))
+    (λ bitmap. inl (
+      record {
+        algorithm = record { 0 = number_at rdata 0 1 };
+        flags = record { 0 = number_at rdata 1 1 };
+        parameters = record { iterations = record { 0 = number_at rdata 2 2 }; salt = salt.0 };
+        next_hash = hash.0;
+        types = bitmap.0;
+      },
+      record { head = head; algorithm = refl; flags = refl; iterations = refl; behind_salt = salt.1; salt = salt.2; bits = hash.1; next_hash = hash.2; bitmap = bitmap.1 },
+    ))
     (λ none. inr (λ is.
     let rest = (same_counted (drop 4 rdata) salt.0 is.0.parameters.salt salt.1 is.1.behind_salt salt.2 is.1.salt).1 in
     let bits = (same_counted salt.1 hash.0 is.0.next_hash hash.1 is.1.bits hash.2 (rest ∙ is.1.next_hash)).1 in

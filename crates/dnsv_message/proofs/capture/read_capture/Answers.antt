@@ -1,7 +1,7 @@
 use Rattle.std.proofs.Common.{ap, ◌∙◌, refl, arith}
 use Rattle.std.proofs.lemmas.Result.{err_from_is_err_and}
 use Rattle.dnsv_message.specs.Frames.{HasNoFault, octets_of_each}
-use Rattle.dnsv_message.proofs.CaptureLemmas.{HasRead-start, HasRead-more, HasRead-end, HasRead-zero, HasRead-too_long, HasRead-stops_before, HasRead-stops_behind, nothing-stops, nothing_not_zero}
+use Rattle.dnsv_message.proofs.CaptureLemmas.{HasRead-start, HasRead-more, HasRead-end, HasRead-zero, HasRead-too_long, HasRead-stops_before, HasRead-stops_behind, unread_frames_stop, nothing_not_zero}
 use Rattle.dnsv_message.proofs.FileLemmas.{ReadsStream-ended, ReadsStream-fault, ReadsStream-failed}
 use Rattle.dnsv_message.proofs.FramerLemmas.{Gains-open, Gains-zero, piece_not_read, torn_end}
 use Rattle.dnsv_message.proofs.capture.read_capture.Goals as goal
@@ -67,7 +67,7 @@ returns-in_err-finish-clause-zero_length g c = λ is_it.
 pub returns-in_err-buffer-clause-stream : goal.returns-in_err-buffer-clause-stream
 returns-in_err-buffer-clause-stream g c =
     let p = err_from_is_err_and c.from_residual.result c.from_residual.ensures.1 in
-    rw p.1 (ReadsStream-fault HasNoFault p.0 (λ is. let same = p.2 in cc) refl (nothing-stops 65536 _))
+    rw p.1 (ReadsStream-fault HasNoFault p.0 (λ is. let same = p.2 in cc) refl (unread_frames_stop 65536 _))
 
 pub returns-in_err-count-clause-stream : goal.returns-in_err-count-clause-stream
 returns-in_err-count-clause-stream g c =

@@ -1,7 +1,7 @@
 use Rattle.std.proofs.Common.{◌∙◌, ◌≤◌, length, refl, arith}
 use Rattle.std.proofs.lemmas.Result.{err_from_is_err_and}
 use Rattle.dnsv_message.specs.declared.TheConstants.{FILE_LIMIT}
-use Rattle.dnsv_message.proofs.FileLemmas.{nothing_read, nothing_within, piece_read, piece_within, file_too_long, file_read, nothing_stops, stops_before, stops_behind, ReadsStream-ended, ReadsStream-fault, ReadsStream-failed}
+use Rattle.dnsv_message.proofs.FileLemmas.{nothing_read, nothing_within, piece_read, piece_within, file_too_long, file_read, unread_octets_stop, stops_before, stops_behind, ReadsStream-ended, ReadsStream-fault, ReadsStream-failed}
 use Rattle.dnsv_message.proofs.file.read_all.Goals as goal
 
 pub loop-octets-init : goal.loop-octets-init
@@ -37,7 +37,7 @@ returns-clause-octets g c =
 pub returns-in_err-buffer-clause-stream : goal.returns-in_err-buffer-clause-stream
 returns-in_err-buffer-clause-stream g c =
     let p = err_from_is_err_and c.from_residual.result c.from_residual.ensures.1 in
-    rw p.1 (ReadsStream-fault (λ octets. length octets ≤ FILE_LIMIT) p.0 (λ is. let same = p.2 in cc) refl (nothing_stops FILE_LIMIT 65536 _))
+    rw p.1 (ReadsStream-fault (λ octets. length octets ≤ FILE_LIMIT) p.0 (λ is. let same = p.2 in cc) refl (unread_octets_stop FILE_LIMIT 65536 _))
 
 pub returns-in_err-count-clause-stream : goal.returns-in_err-count-clause-stream
 returns-in_err-count-clause-stream g c =
