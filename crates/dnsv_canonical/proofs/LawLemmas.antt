@@ -1,12 +1,13 @@
 -- Laws of RRsets and of signed data.
-use Rattle.std.proofs.Common.{◌≡◌, ℕ, zero, suc, ◌+◌, ◌<◌, ◌≤◌, Bool, true, false, cond, List, [], ◌∷◌, ◌++◌, length, get_or, map, take, drop, Some, refl, sym, ap, ◌∙◌, subst, ⊎_elim, arith, append_assoc, ◌↔◌}
-use Rattle.std.specs.Prelude.{Contains}
+use Rattle.std.proofs.Common.{◌≡◌, ℕ, suc, ◌+◌, ◌<◌, ◌≤◌, true, false, List, [], ◌∷◌, ◌++◌, length, get_or, map, take, drop, Some, refl, sym, ap, ◌∙◌, arith, append_assoc, ◌↔◌}
+use Rattle.std.specs.Prelude.{AllPairs, Contains}
 use Rattle.std.specs.Int.{w16, w32, byte_at, to_be_bytes}
 use Rattle.std.specs.Int.Digits.{number_from_digits}
-use Rattle.std.specs.List.{AllByRecursion, list_any}
+use Rattle.std.specs.List.{list_any}
 use Rattle.std.specs.Str.{bytes_eq}
-use Rattle.std.proofs.lemmas.List.{append-nil, drop-drop, take_all, take_more}
-use Rattle.std.proofs.lemmas.List.Elements.{Contains-append_left, Contains-push, Contains-push_cases}
+use Rattle.std.proofs.lemmas.Bool.{true≢false}
+use Rattle.std.proofs.lemmas.Cmp.{lists_equiv, nat_eq_equiv}
+use Rattle.std.proofs.lemmas.List.{drop-drop}
 use Rattle.std.proofs.lemmas.List.Folds.{list_any_at}
 use Rattle.std.proofs.lemmas.Map.Views.{Contains-from_any}
 use Rattle.std.proofs.lemmas.Slice.Eq.{bytes_eq-Decides}
@@ -20,9 +21,8 @@ use Rattle.dnsv_canonical.specs.CanonicalRdata.{canonical_form}
 use Rattle.dnsv_canonical.specs.Evidence.{IsDistinct}
 use Rattle.dnsv_canonical.specs.Rrsets.{first_appearances, message_rrsets, rrsets_from, rrsets_of}
 use Rattle.dnsv_canonical.specs.SignedData.{IsSignedData, signed_front, signed_label_count}
+use Rattle.dnsv_canonical.proofs.AppearanceLemmas.{first_appearances_any, first_appearances_apart}
 use Rattle.dnsv_canonical.proofs.CanonicalLemmas.{canonical_some}
-use Rattle.dnsv_canonical.proofs.GroupLemmas.{first_appearances-push}
-use Rattle.dnsv_canonical.proofs.ParameterLemmas.{distinct_push}
 
 -- ---- a beginning of the messages
 
@@ -39,51 +39,29 @@ rrsets_of-append earlier later = from_append 1 earlier later ∙ ap (λ n. rrset
 
 -- ---- first appearances
 
-record AreOnce (received once : List (List ℕ)) : Type 0 where
-  members : (rdata : List ℕ) → Contains once rdata ↔ Contains received rdata
-  distinct : IsDistinct once
-
 any_contains : (xs : List (List ℕ)) (x : List ℕ) → list_any (λ y. bytes_eq y x) xs ≡ true → Contains xs x
 any_contains xs x any = Contains-from_any {eq = λ q y. bytes_eq y q} (λ q y same. sym ((bytes_eq-Decides y q).0 same)) x xs any
 
 contains_any : (xs : List (List ℕ)) (x : List ℕ) → Contains xs x → list_any (λ y. bytes_eq y x) xs ≡ true
 contains_any xs x found = list_any_at (λ y. bytes_eq y x) xs found.0 x found.1 (ap (λ y. bytes_eq y x) found.2 ∙ (bytes_eq-Decides x x).1 refl)
 
-once_more : (received once : List (List ℕ)) (x : List ℕ) → AreOnce received once → (had : Bool) → list_any (λ y. bytes_eq y x) received ≡ had → AreOnce (received ++ x ∷ []) (once ++ cond had [] (x ∷ []))
-once_more received once x are true is =
-    subst (AreOnce (received ++ x ∷ [])) (sym (append-nil once)) (record {
-      members = λ rdata. (
-        λ found. Contains-append_left received (x ∷ []) rdata ((are.members rdata).0 found),
-        λ found. (are.members rdata).1 (⊎_elim (λ front. front) (λ last. subst (Contains received) last (any_contains received x is)) (Contains-push_cases received x rdata found)),
-      );
-      distinct = are.distinct;
-    })
-once_more received once x are false is = record {
-  members = λ rdata. (
-    λ found. ⊎_elim (λ front. Contains-append_left received (x ∷ []) rdata ((are.members rdata).0 front)) (λ last. subst (Contains (received ++ x ∷ [])) last (Contains-push received x)) (Contains-push_cases once x rdata found),
-    λ found. ⊎_elim (λ front. Contains-append_left once (x ∷ []) rdata ((are.members rdata).1 front)) (λ last. subst (Contains (once ++ x ∷ [])) last (Contains-push once x)) (Contains-push_cases received x rdata found),
-  );
-  distinct = distinct_push once x are.distinct (λ found. let had : true ≡ false = sym (contains_any received x ((are.members x).0 found)) ∙ is in cc);
-}
-
-once_up_to : (xs : List (List ℕ)) (n : ℕ) → n ≤ length xs → AreOnce (take n xs) (first_appearances bytes_eq (take n xs))
-once_up_to xs zero within = record { members = λ rdata. (λ found. found, λ found. found); distinct = tt }
-once_up_to xs (suc n) within =
-    let x : List ℕ = get_or xs n [] in
-    let count : suc n ≡ n + 1 = omega arith in
-    let next : take (suc n) xs ≡ take n xs ++ x ∷ [] = ap (λ k. take k xs) count ∙ take_more xs n [] (omega arith) in
-    subst (λ ys. AreOnce ys (first_appearances bytes_eq ys)) (sym next)
-    (subst (AreOnce (take n xs ++ x ∷ [])) (sym (first_appearances-push bytes_eq (take n xs) x))
-    (once_more (take n xs) (first_appearances bytes_eq (take n xs)) x (once_up_to xs n (omega arith)) (list_any (λ y. bytes_eq y x) (take n xs)) refl))
-
-once_of : (xs : List (List ℕ)) → AreOnce xs (first_appearances bytes_eq xs)
-once_of xs = subst (λ ys. AreOnce ys (first_appearances bytes_eq ys)) (take_all (length xs) xs (omega arith)) (once_up_to xs (length xs) (omega arith))
-
 pub first_appearances_members : (received : List (List ℕ)) (rdata : List ℕ) → Contains (first_appearances bytes_eq received) rdata ↔ Contains received rdata
-first_appearances_members received = (once_of received).members
+first_appearances_members received rdata =
+    let any : list_any (λ y. bytes_eq y rdata) (first_appearances bytes_eq received) ≡ list_any (λ y. bytes_eq y rdata) received =
+    first_appearances_any bytes_eq (lists_equiv nat_eq_equiv) rdata received in (
+      λ found. any_contains received rdata (sym any ∙ contains_any (first_appearances bytes_eq received) rdata found),
+      λ found. any_contains (first_appearances bytes_eq received) rdata (any ∙ contains_any received rdata found),
+    )
+
+distinct_apart : (xs : List (List ℕ)) → AllPairs (λ a b. bytes_eq a b ≡ false) xs → IsDistinct xs
+distinct_apart [] apart = tt
+distinct_apart (x ∷ xs) apart = (
+  λ found. true≢false (sym ((bytes_eq-Decides x (get_or xs found.0 x)).1 (sym found.2)) ∙ apart 0 (suc found.0) x (omega arith) (omega (arith, found.1))),
+  distinct_apart xs (λ i j d before within. apart (suc i) (suc j) d (omega (arith, before)) (omega (arith, within))),
+)
 
 pub first_appearances_once : (received : List (List ℕ)) → IsDistinct (first_appearances bytes_eq received)
-first_appearances_once received = (once_of received).distinct
+first_appearances_once received = distinct_apart (first_appearances bytes_eq received) (first_appearances_apart bytes_eq received)
 
 -- ---- the front of what is signed
 

@@ -9,5 +9,6 @@ pub mod ParameterLemmas
 pub mod ReadableLemmas
 pub mod SignedLemmas
 pub mod WellFormedLemmas
+pub mod AppearanceLemmas
 pub mod LawLemmas
 pub mod OneReason

@@ -1,20 +1,21 @@
 //! Laws of RRsets, of evidence and of what is signed.
 //!
 //! Each is a function that does nothing and ensures the law, which its caller learns.
-ghost use Rattle.std.specs.Prelude.{◌≡◌, ◌≢◌, ◌↔◌, ◌⊎◌, ◌++◌, ◌≤◌, suc, ℕ, List, Option, Some, Contains, filter, length, take};
+ghost use Rattle.std.specs.Prelude.{◌≡◌, ◌≢◌, ◌↔◌, ◌⊎◌, ◌++◌, ◌≤◌, suc, ℕ, IsTrue, List, Option, Some, AllPairs, Contains, filter, length, take};
 ghost use Rattle.std.specs.List.{AllByRecursion};
 ghost use Rattle.std.specs.Str.{bytes_eq};
-ghost use Rattle.dnsv_names.specs.Name.{Labels, lower_case, wire};
+ghost use Rattle.dnsv_names.specs.Name.{Labels, SameName, lower_case, wire};
 ghost use Rattle.dnsv_names.specs.Octets.{AreOctets};
 ghost use Rattle.dnsv_message.specs.Grammar.{IsMessage};
 ghost use Rattle.dnsv_message.specs.Message.{Contents, records_of};
 ghost use Rattle.dnsv_message.specs.declared.record.Record.{Record};
+ghost use Rattle.dnsv_message.specs.declared.record.Section.{Section};
 ghost use Rattle.dnsv_records.specs.declared.rrsig.Rrsig.{Rrsig};
 ghost use Rattle.dnsv_records.specs.Rrsig.{IsRrsig};
 ghost use Rattle.dnsv_canonical.specs.Evidence.{Evidence, IsDistinct, IsEvidence, IsReadable, IsReasonAgainst, evidence_of};
 ghost use Rattle.dnsv_canonical.specs.Rdata.{IsWellFormed};
 ghost use Rattle.dnsv_canonical.specs.declared.capture.CaptureError.{CaptureError};
-ghost use Rattle.dnsv_canonical.specs.Rrsets.{first_appearances, is_grouped, message_rrsets, rrsets_from, rrsets_of, same_rrset};
+ghost use Rattle.dnsv_canonical.specs.Rrsets.{ReceivedRrset, first_appearances, is_grouped, message_rrsets, rrsets_from, rrsets_in, rrsets_of};
 ghost use Rattle.dnsv_canonical.specs.SignedData.{IsSignedData, signed_front, signed_label_count};
 
 use crate::capture::CaptureError;
@@ -37,6 +38,18 @@ pub fn first_appearances_are_all_once()
     ensures members { (received : List (List ℕ)) (rdata : List ℕ)
         → Contains (first_appearances bytes_eq received) rdata ↔ Contains received rdata }
     ensures once { (received : List (List ℕ)) → IsDistinct (first_appearances bytes_eq received) }
+{}
+
+/// Each record of a section that belongs to an RRset is in one of the section's RRsets, and no two of those have one
+/// type and one owner, without regard to case (RFC 2181 5).
+pub fn records_are_in_one_rrset()
+    ensures some { (number : ℕ) (section : Section) (records : List Record) (r : Record)
+        → Contains records r → IsTrue (is_grouped r)
+        → (rrset : ReceivedRrset) × Contains (rrsets_in number section records) rrset
+        × (rrset.rtype ≡ r.rtype.0) × SameName rrset.owner r.name × Contains rrset.rdata r.rdata }
+    ensures one { (number : ℕ) (section : Section) (records : List Record)
+        → AllPairs (λ (a : ReceivedRrset) (b : ReceivedRrset). a.rtype ≡ b.rtype → SameName a.owner b.owner → ⊥)
+        (rrsets_in number section records) }
 {}
 
 /// What is signed before the records is the first 18 octets of the signature's RDATA, and its signer in lower case.

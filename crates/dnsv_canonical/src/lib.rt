@@ -6,8 +6,8 @@ pub use capture::{Capture, CaptureError};
 pub use form::canonical_form_lowers_the_names;
 pub use laws::{
     captures_hold_the_rrsets, earlier_rrsets_keep_their_numbers, evidence_or_one_refusal,
-    first_appearances_are_all_once, one_signed_data, rrsets_are_well_formed,
-    signed_data_begins_as_the_signature,
+    first_appearances_are_all_once, one_signed_data, records_are_in_one_rrset,
+    rrsets_are_well_formed, signed_data_begins_as_the_signature,
 };
 pub use rrset::{Rrset, canonical_rrset, signed_data};
 pub use section::{forms_rrsets, is_question};
