@@ -1,5 +1,5 @@
 # Needs the kit's command `rt` on the path, and nothing else.
-.PHONY: all test demo examples wrong-bodies
+.PHONY: all test demo examples wrong-bodies test-tools
 
 program = crates/dnssec_check/out/dnssec_check
 
@@ -22,3 +22,7 @@ examples: all
 # Every wrong body, those that the gate leaves out too, of all crates or of those named, as CRATES="dnsv_names".
 wrong-bodies:
 	tools/wrong-bodies $(CRATES)
+
+# The tests of the tools around the program; they need python3 with its package cryptography, and nothing of the kit.
+test-tools:
+	python3 -m unittest discover -s tools/tests

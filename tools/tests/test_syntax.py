@@ -1,0 +1,34 @@
+"""The tools run with Python 3.9 and the standard library, and verify needs one package more."""
+import ast
+import sys
+import unittest
+
+from tool import TOOLS
+
+NAMES = ("verify",)
+PACKAGES = {"verify": {"cryptography"}}
+
+
+def imported(tree):
+    """The packages that a module imports."""
+    names = [alias.name for node in ast.walk(tree) if isinstance(node, ast.Import) for alias in node.names]
+    names += [node.module for node in ast.walk(tree) if isinstance(node, ast.ImportFrom)]
+    return {name.split(".")[0] for name in names}
+
+
+class Syntax(unittest.TestCase):
+    def test_each_tool_has_the_syntax_of_python_3_9(self):
+        for name in NAMES:
+            with self.subTest(name):
+                ast.parse((TOOLS / name).read_text(), feature_version=(3, 9))
+
+    @unittest.skipUnless(hasattr(sys, "stdlib_module_names"), "needs Python 3.10")
+    def test_each_tool_imports_nothing_else(self):
+        for name in NAMES:
+            with self.subTest(name):
+                others = imported(ast.parse((TOOLS / name).read_text())) - sys.stdlib_module_names
+                self.assertEqual(others, PACKAGES.get(name, set()))
+
+
+if __name__ == "__main__":
+    unittest.main()

@@ -1,0 +1,255 @@
+"""Tests of tools/verify: the vectors of the RFCs, lines of real zones, and what is malformed or refused."""
+import hashlib
+import unittest
+
+from cryptography.hazmat.primitives import hashes
+from cryptography.hazmat.primitives.asymmetric import padding, rsa
+
+from tool import DATA, load, run
+
+VERIFY = load("verify")
+P256_ORDER = 0xFFFFFFFF00000000FFFFFFFFFFFFFFFFBCE6FAADA7179E84F3B9CAC2FC632551
+
+
+def vectors():
+    """Each vector's name and its line."""
+    lines = (DATA / "vectors").read_text().splitlines()
+    return zip(lines[::2], lines[1::2])
+
+
+def parts_of(line):
+    """The algorithm, the key, the signed octets and the signature of a line."""
+    _, algorithm, *fields = line.split(" ")
+    return (int(algorithm), *map(VERIFY.octets_of, fields))
+
+
+def with_bit_changed(octets, place):
+    changed = bytearray(octets)
+    changed[place] ^= 1
+    return bytes(changed)
+
+
+def octets_of_number(number):
+    return number.to_bytes((number.bit_length() + 7) // 8, "big")
+
+
+def key_field(modulus, exponent):
+    """RFC 3110 2."""
+    e = octets_of_number(exponent)
+    front = bytes([len(e)]) if len(e) < 256 else b"\x00" + len(e).to_bytes(2, "big")
+    return front + e + octets_of_number(modulus)
+
+
+class Vectors(unittest.TestCase):
+    def test_each_vector_is_good(self):
+        for name, line in vectors():
+            with self.subTest(name):
+                self.assertTrue(VERIFY.is_good(*parts_of(line)))
+
+    def test_no_vector_is_good_with_a_bit_changed(self):
+        for name, line in vectors():
+            algorithm, *fields = parts_of(line)
+            for field, place in ((0, -1), (1, 0), (1, -1), (2, 0), (2, -1)):
+                with self.subTest(name, field=field, place=place):
+                    changed = list(fields)
+                    changed[field] = with_bit_changed(fields[field], place)
+                    self.assertFalse(VERIFY.is_good(algorithm, *changed))
+
+    def test_every_algorithm_has_a_vector_or_a_real_line(self):
+        lines = [line for _, line in vectors()] + (DATA / "todo").read_text().splitlines()
+        self.assertEqual({parts_of(line)[0] for line in lines}, {5, 7, 8, 10, 13, 14, 15, 16})
+
+    def test_no_vector_is_good_by_another_algorithm(self):
+        for name, line in vectors():
+            algorithm, *fields = parts_of(line)
+            for other in set(VERIFY.VERIFIERS) - {algorithm} - ({5, 7} if algorithm in (5, 7) else set()):
+                with self.subTest(name, other=other):
+                    self.assertFalse(VERIFY.is_good(other, *fields))
+
+
+class RealLines(unittest.TestCase):
+    def test_real_lines_get_the_statements_that_were_made_for_them(self):
+        status, output, errors = run("verify", DATA / "todo")
+        self.assertEqual((status, errors), (0, ""))
+        self.assertEqual(output, (DATA / "statements").read_bytes())
+
+    def test_the_standard_input_is_read_where_no_file_is_named(self):
+        given = (DATA / "todo").read_bytes()
+        self.assertEqual(run("verify", given=given), run("verify", DATA / "todo"))
+        self.assertEqual(run("verify", "-", given=given), run("verify", DATA / "todo"))
+
+    def test_the_last_newline_may_be_missing(self):
+        given = (DATA / "todo").read_bytes()
+        self.assertEqual(run("verify", given=given[:-1]), run("verify", given=given))
+
+
+class RsaKeys(unittest.TestCase):
+    """Keys that the package makes, and numbers that a key or a signature may not have."""
+
+    @classmethod
+    def setUpClass(cls):
+        cls.private = rsa.generate_private_key(65537, 2056)
+        numbers = cls.private.private_numbers()
+        cls.modulus, cls.phi = numbers.public_numbers.n, (numbers.p - 1) * (numbers.q - 1)
+        cls.size = (cls.modulus.bit_length() + 7) // 8
+
+    def signed(self, message, exponent=65537):
+        """What the private key makes of the padded message."""
+        secret = pow(exponent, -1, self.phi)
+        return pow(int.from_bytes(message, "big"), secret, self.modulus).to_bytes(self.size, "big")
+
+    def padded(self, info, digest, behind=b"", octets=None):
+        end = b"\x00" + info + digest + behind
+        count = self.size - 2 - len(end) if octets is None else octets
+        return (b"\x00\x01" + b"\xff" * count + end).ljust(self.size, b"\x00")
+
+    def is_good(self, signature, exponent=65537, key=None, algorithm=8):
+        return VERIFY.is_good(algorithm, key or key_field(self.modulus, exponent), b"data", signature)
+
+    def test_what_the_package_signs_is_good(self):
+        kinds = {5: hashes.SHA1(), 7: hashes.SHA1(), 8: hashes.SHA256(), 10: hashes.SHA512()}
+        for algorithm, kind in kinds.items():
+            with self.subTest(algorithm):
+                signature = self.private.sign(b"data", padding.PKCS1v15(), kind)
+                self.assertTrue(self.is_good(signature, algorithm=algorithm))
+
+    def test_an_exponent_of_more_than_255_octets(self):
+        exponent = self.phi - 1
+        self.assertGreater(len(octets_of_number(exponent)), 255)
+        message = self.padded(VERIFY.DIGEST_INFO["sha256"], hashlib.sha256(b"data").digest())
+        self.assertTrue(self.is_good(self.signed(message, exponent), exponent))
+
+    def test_other_padding_is_bad(self):
+        info, digest = VERIFY.DIGEST_INFO["sha256"], hashlib.sha256(b"data").digest()
+        without_null = bytes.fromhex("302f300b0609608648016503040201") + bytes.fromhex("0420")
+        good = self.padded(info, digest)
+        self.assertTrue(self.is_good(self.signed(good)))
+        others = {
+            "octets behind the hash": self.padded(info, digest, behind=b"\x00" * 40),
+            "eight octets of padding": self.padded(info, digest, octets=8),
+            "no parameters of the hash": self.padded(without_null, digest),
+            "block type 2": b"\x00\x02" + good[2:],
+            "another hash's name": self.padded(VERIFY.DIGEST_INFO["sha1"], digest),
+        }
+        for name, message in others.items():
+            with self.subTest(name):
+                self.assertFalse(self.is_good(self.signed(message)))
+
+    def test_malformed_keys_are_bad(self):
+        signature = self.private.sign(b"data", padding.PKCS1v15(), hashes.SHA256())
+        n, e = octets_of_number(self.modulus), b"\x01\x00\x01"
+        self.assertTrue(self.is_good(signature, key=b"\x03" + e + n))
+        keys = {
+            "the exponent begins with 0": b"\x04\x00" + e + n,
+            "the modulus begins with 0": b"\x03" + e + b"\x00" + n,
+            "a short length in two octets": b"\x00\x00\x03" + e + n,
+            "no modulus": b"\x03" + e,
+            "an exponent that isn't whole": b"\xff" + e + n,
+            "a length that isn't whole": b"\x00\x01",
+        }
+        for name, key in keys.items():
+            with self.subTest(name):
+                self.assertFalse(self.is_good(signature, key=key))
+
+    def test_numbers_that_no_key_has_are_bad(self):
+        """Each of these would make the padded message its own signature, or let anyone sign."""
+        message = self.padded(VERIFY.DIGEST_INFO["sha256"], hashlib.sha256(b"data").digest())
+        self.assertFalse(self.is_good(message, exponent=1))
+        self.assertFalse(self.is_good(self.signed(message), exponent=65537 + 2 * self.phi))
+        self.assertFalse(self.is_good(message, key=key_field(self.modulus + 1, 65537)))
+
+    def test_a_number_of_more_than_4096_bits_is_bad(self):
+        long_modulus = (1 << 4097) + 1
+        self.assertFalse(self.is_good(bytes(513), key=key_field(long_modulus, 3)))
+        with self.assertRaises(VERIFY.Malformed):
+            VERIFY.rsa_key(key_field(long_modulus, 3))
+        self.assertEqual(VERIFY.rsa_key(key_field((1 << 4095) + 1, 3)), ((1 << 4095) + 1, 3))
+
+    def test_a_signature_has_the_length_of_the_modulus_and_is_below_it(self):
+        signature = self.private.sign(b"data", padding.PKCS1v15(), hashes.SHA256())
+        higher = int.from_bytes(signature, "big") + self.modulus
+        self.assertFalse(self.is_good(b"\x00" + signature))
+        self.assertFalse(self.is_good(signature[:-1]))
+        self.assertFalse(self.is_good(b""))
+        if higher < 1 << (8 * self.size):
+            self.assertFalse(self.is_good(higher.to_bytes(self.size, "big")))
+
+    def test_a_modulus_without_room_for_the_padding_is_bad(self):
+        size = 11 + len(VERIFY.DIGEST_INFO["sha256"]) + 32
+        self.assertFalse(VERIFY.is_good(8, key_field((1 << (8 * size - 9)) + 1, 3), b"data", bytes(size - 1)))
+
+
+class CurveKeys(unittest.TestCase):
+    def test_keys_and_signatures_of_another_length_are_bad(self):
+        for name, line in vectors():
+            algorithm, key, data, signature = parts_of(line)
+            if algorithm < 13:
+                continue
+            for bad_key, bad_signature in ((b"", signature), (key[1:], signature), (key + b"\x00", signature),
+                                           (key, b""), (key, signature[1:]), (key, signature + b"\x00")):
+                with self.subTest(name, key=len(bad_key), signature=len(bad_signature)):
+                    self.assertFalse(VERIFY.is_good(algorithm, bad_key, data, bad_signature))
+
+    def test_a_point_off_the_curve_is_bad(self):
+        self.assertFalse(VERIFY.is_good(13, bytes(64), b"data", bytes(63) + b"\x01"))
+
+    def test_numbers_of_ecdsa_out_of_range_are_bad(self):
+        line = next(line for name, line in vectors() if "P-256" in name)
+        algorithm, key, data, signature = parts_of(line)
+        for half in (bytes(32), P256_ORDER.to_bytes(32, "big"), b"\xff" * 32):
+            self.assertFalse(VERIFY.is_good(algorithm, key, data, half + signature[32:]))
+            self.assertFalse(VERIFY.is_good(algorithm, key, data, signature[:32] + half))
+
+
+class Lines(unittest.TestCase):
+    def refused(self, given, line, *words):
+        status, output, errors = run("verify", *words, given=given)
+        self.assertEqual((status, output), (1, b""))
+        self.assertIn(f"line {line}:", errors)
+
+    def test_what_is_no_line_to_verify_is_refused_by_its_number(self):
+        for text in (b"", b"# note", b"Pending a. 1", b"todo", b"todo 13 01 02", b"todo 13 01 02 03 04",
+                     b"todo 13  01 02 03", b"todo 013 01 02 03", b"todo 13 0 02 03", b"todo 13 0g 02 03", b"good 13 01 02 03",
+                     b" todo 13 01 02 03", b"todo 13 01 02 03 ", b"todo 13 01 02 03\r", b"todo 13 01 02 \xff"):
+            with self.subTest(text):
+                self.refused(b"todo 13 01 02 03\n" + text + b"\n", 2)
+
+    def test_an_algorithm_that_is_not_known_is_refused(self):
+        for number in (0, 1, 3, 6, 12, 17, 253, 999):
+            self.refused(b"todo %d 01 02 03\n" % number, 1)
+            self.refused(b"todo %d 01 02 03\n" % number, 1, "--from-check")
+
+    def test_other_lines_of_a_verdict_are_passed_over_where_that_is_asked(self):
+        name, line = next(iter(vectors()))
+        given = f"Pending www.example.net. 1\nalias a. rrset 2 signature 1\n\n{line}\n".encode()
+        self.refused(given, 1)
+        wanted = ("good" + line[4:] + "\n").encode()
+        self.assertEqual(run("verify", "--from-check", given=given), (0, wanted, ""))
+
+    def test_a_torn_line_is_refused_also_there(self):
+        self.refused(b"Pending a. 1\ntodo 13 01\n", 2, "--from-check")
+        self.refused(b"Pending a. 1\ntodo\n", 2, "--from-check")
+
+    def test_fields_are_kept_as_they_are_spelled(self):
+        self.assertEqual(run("verify", given=b"todo 13 AbCd - EF\n"), (0, b"bad 13 AbCd - EF\n", ""))
+
+    def test_nothing_gives_nothing(self):
+        self.assertEqual(run("verify", given=b""), (0, b"", ""))
+
+    def test_a_file_that_is_not_there(self):
+        status, output, errors = run("verify", DATA / "no-such-file")
+        self.assertEqual((status, output), (1, b""))
+        self.assertIn("no-such-file", errors)
+
+    def test_help(self):
+        status, output, _ = run("verify", "--help")
+        self.assertEqual(status, 0)
+        for word in (b"todo ALG KEY DATA SIG", b"--from-check", b"RFC 8080", b"exit status"):
+            self.assertIn(word, output)
+
+    def test_another_option_is_a_wrong_command_line(self):
+        self.assertEqual(run("verify", "--from")[0], 2)
+
+
+if __name__ == "__main__":
+    unittest.main()
