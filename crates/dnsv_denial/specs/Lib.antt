@@ -4,6 +4,7 @@ pub mod ChosenNoName
 pub mod Example
 pub mod First
 pub mod Forms
+pub mod HashedNames
 pub mod Lookup
 pub mod Nsec
 pub mod NsecChain

@@ -8,7 +8,8 @@
 pub use chain::each_zone_has_a_chain;
 pub use cut::{UnsignedCut, unsigned_cut};
 pub use ends::{EndRecords, end_at};
-pub use entry::NsecEntry;
+pub use entry::{Nsec3Entry, NsecEntry};
+pub use hashes::AskedHashes;
 pub use lookup::a_question_has_one_answer;
 pub use missing::{NoNameRecords, no_name};
 pub use more::{more_nsec_records_prove_no_less, more_nsec3_records_prove_no_less};
@@ -40,6 +41,7 @@ pub use nsec3_meaning::{
     no_name_by_nsec3_is_no_name, opted_out_nodes_are_unsigned_ends,
     unsigned_cut_by_nsec3_is_an_unsigned_delegation,
 };
+pub use number::RecordNumber;
 pub use search::{Absent, Denied, Inner, Node, UnsignedDelegation, Word, first_to_say};
 pub use single::{empty_non_terminal, no_closer, no_data_at_name};
 pub use types::{denies, is_closed, is_delegation, is_unsigned_delegation};
@@ -53,6 +55,7 @@ mod chain;
 mod cut;
 mod ends;
 mod entry;
+mod hashes;
 mod lookup;
 mod missing;
 mod more;
@@ -62,6 +65,7 @@ mod nsec3_complete;
 mod nsec3_meaning;
 mod nsec_complete;
 mod nsec_meaning;
+mod number;
 mod search;
 mod single;
 #[cfg(test)]

@@ -45,17 +45,21 @@ impl Chain {
 
     fn entries(&self) -> [NsecEntry<'_>; 5] {
         [
-            entry(&self.owners[0], &self.denials[0]),
-            entry(&self.owners[1], &self.denials[1]),
-            entry(&self.owners[2], &self.denials[2]),
-            entry(&self.owners[3], &self.denials[3]),
-            entry(&self.owners[4], &self.denials[4]),
+            entry(1, &self.owners[0], &self.denials[0]),
+            entry(2, &self.owners[1], &self.denials[1]),
+            entry(3, &self.owners[2], &self.denials[2]),
+            entry(4, &self.owners[3], &self.denials[3]),
+            entry(5, &self.owners[4], &self.denials[4]),
         ]
     }
 }
 
-fn entry<'a>(owner: &'a Name, nsec: &'a Nsec) -> NsecEntry<'a> {
-    NsecEntry { owner, nsec }
+fn entry<'a>(rrset: usize, owner: &'a Name, nsec: &'a Nsec) -> NsecEntry<'a> {
+    NsecEntry {
+        number: RecordNumber { rrset, place: 1 },
+        owner,
+        nsec,
+    }
 }
 
 #[test]

@@ -1,0 +1,11 @@
+//! The number of a record among the evidence.
+
+/// A record by its number: the RRset that it is in, and its place among that RRset's records in canonical order (RFC
+/// 4034 6.3), each counted from 1. Numbers are ordered by RRset, and then by place.
+#[derive(Clone, Copy, Debug, PartialEq, Eq, PartialOrd, Ord)]
+pub struct RecordNumber {
+    /// The number of the RRset.
+    pub rrset: usize,
+    /// The place of the record in it.
+    pub place: usize,
+}
