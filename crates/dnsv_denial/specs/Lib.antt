@@ -1,4 +1,5 @@
 pub mod Any
+pub mod ChainSaid
 pub mod Chosen
 pub mod ChosenNoName
 pub mod Example
@@ -10,7 +11,9 @@ pub mod Nsec
 pub mod NsecChain
 pub mod Nsec3
 pub mod Nsec3Chain
+pub mod Parts
 pub mod Record
+pub mod RecordWords
 pub mod Shown
 pub mod TypeNumbers
 pub mod Types

@@ -42,6 +42,7 @@ pub use nsec3_meaning::{
     unsigned_cut_by_nsec3_is_an_unsigned_delegation,
 };
 pub use number::RecordNumber;
+pub use records::ChainRecords;
 pub use search::{Absent, Denied, Inner, Node, UnsignedDelegation, Word, first_to_say};
 pub use single::{empty_non_terminal, no_closer, no_data_at_name};
 pub use types::{denies, is_closed, is_delegation, is_unsigned_delegation};
@@ -66,6 +67,7 @@ mod nsec3_meaning;
 mod nsec_complete;
 mod nsec_meaning;
 mod number;
+mod records;
 mod search;
 mod single;
 #[cfg(test)]
