@@ -3,3 +3,4 @@ pub mod AnswerLemmas
 pub mod PanelLemmas
 pub mod StatementLemmas
 pub mod StatementsLemmas
+pub mod TableLemmas

@@ -7,3 +7,4 @@ pub mod Statements
 pub mod StatementsError
 pub mod StatementsLaws
 pub mod StatementsReading
+pub mod Table

@@ -5,7 +5,9 @@ ghost use Rattle.std.specs.Prelude.{◌≡◌, ◌↔◌, ℕ, List, Contains};
 ghost use Rattle.dnsv_records.specs.declared.rrsig.Rrsig.{Rrsig};
 ghost use Rattle.dnsv_canonical.specs.Rrsets.{ReceivedRrset};
 ghost use Rattle.dnsv_verifier.specs.Admissible.{DnskeyRecord, IsAdmissible, IsAsked, IsEntryOf, IsGood, IsGoodAmong, IsKeyAmong, IsSignatureOf, IsVerifiable, MayHaveMade};
+ghost use Rattle.dnsv_verifier.specs.Table.{IsTableOf, TableContents, hoped_answer, hopeful, table_answer, unknown_entries};
 ghost use Rattle.dnsv_verifier.specs.declared.answer.Answer.{Answer};
+ghost use Rattle.dnsv_verifier.specs.declared.answer.Answer.TheVariants.{Valid, Unknown};
 ghost use Rattle.dnsv_verifier.specs.declared.entry.Entry.{Entry};
 
 use dnsv_canonical::one_signed_data;
@@ -47,4 +49,31 @@ pub fn more_rrsets_ask_for_no_less()
         → ((rrset : ReceivedRrset) → Contains rrsets rrset → Contains more rrset)
         → (rrset : ReceivedRrset) (rrsig : Rrsig)
         → IsGoodAmong meaning moment rrsets rrset rrsig → IsGoodAmong meaning moment more rrset rrsig }
+{}
+
+/// A table stands for the verifier that it was made with: both say the same of each entry that is asked, and what is
+/// good in the evidence is so by either. There is one table.
+pub fn a_table_is_its_verifier()
+    ensures answer { (meaning : Entry → Answer) (moment : ℕ) (rrsets : List ReceivedRrset) (contents : TableContents)
+        → IsTableOf meaning moment rrsets contents
+        → (entry : Entry) → IsAsked moment rrsets entry → table_answer contents entry ≡ meaning entry }
+    ensures others { (meaning : Entry → Answer) (moment : ℕ) (rrsets : List ReceivedRrset) (contents : TableContents)
+        → IsTableOf meaning moment rrsets contents
+        → (entry : Entry) → ¬ IsAsked moment rrsets entry → table_answer contents entry ≡ Unknown }
+    ensures one { (meaning : Entry → Answer) (moment : ℕ) (rrsets : List ReceivedRrset) (a b : TableContents)
+        → IsTableOf meaning moment rrsets a → IsTableOf meaning moment rrsets b → a ≡ b }
+{}
+
+/// A verifier that says Valid of each Unknown entry of a table, and of each other asked entry what the table's does, has
+/// the hopeful table.
+pub fn unknown_entries_may_turn_out_valid()
+    ensures hopeful { (meaning later : Entry → Answer) (moment : ℕ) (rrsets : List ReceivedRrset)
+        (contents : TableContents) → IsTableOf meaning moment rrsets contents
+        → ((entry : Entry) → Contains (unknown_entries contents) entry → later entry ≡ Valid)
+        → ((entry : Entry) → IsAsked moment rrsets entry → ¬ Contains (unknown_entries contents) entry
+        → later entry ≡ meaning entry)
+        → IsTableOf later moment rrsets (hopeful contents) }
+    ensures hoped { (meaning : Entry → Answer) (moment : ℕ) (rrsets : List ReceivedRrset) (contents : TableContents)
+        → IsTableOf meaning moment rrsets contents
+        → IsTableOf (λ entry. hoped_answer (meaning entry)) moment rrsets (hopeful contents) }
 {}

@@ -3,20 +3,23 @@
 
 pub use admissible::{is_admissible, is_verifiable, may_have_made};
 pub use answer::Answer;
+pub use ask::ask_all;
 pub use entry::Entry;
 pub use hex_field::hex_octets;
 pub use key::KeyRecord;
 pub use laws::{
-    a_pair_has_one_entry, admissible_is_verifiable_and_made, good_depends_on_what_is_asked,
-    more_rrsets_ask_for_no_less,
+    a_pair_has_one_entry, a_table_is_its_verifier, admissible_is_verifiable_and_made,
+    good_depends_on_what_is_asked, more_rrsets_ask_for_no_less, unknown_entries_may_turn_out_valid,
 };
 pub use panel::Panel;
 pub use statement::Word;
 pub use statements::{Statements, StatementsError, a_text_is_one_list_of_statements};
+pub use table::Table;
 pub use verifier::Verifier;
 
 mod admissible;
 mod answer;
+mod ask;
 mod entry;
 mod hex_field;
 mod key;
@@ -24,4 +27,5 @@ mod laws;
 mod panel;
 mod statement;
 mod statements;
+mod table;
 mod verifier;

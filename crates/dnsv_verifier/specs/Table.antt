@@ -1,0 +1,52 @@
+-- The table of what a verifier says of the evidence: each entry that is asked, with the answer.
+use Rattle.std.specs.Prelude.{◌≡◌, ◌↔◌, ℕ, Bool, true, false, List, Option, Contains, filter, map, unwrap_or}
+use Rattle.std.specs.List.Sorted.{IsStrictlySortedBy}
+use Rattle.std.specs.Map.{lookup}
+use Rattle.std.specs.Ordering.{is_eq}
+use Rattle.dnsv_canonical.specs.Rrsets.{ReceivedRrset}
+use Rattle.dnsv_verifier.specs.Admissible.{IsAsked}
+use Rattle.dnsv_verifier.specs.Entry.{entry_cmp}
+use Rattle.dnsv_verifier.specs.declared.answer.Answer.{Answer}
+use Rattle.dnsv_verifier.specs.declared.answer.Answer.TheVariants.{Valid, Invalid, Unknown}
+use Rattle.dnsv_verifier.specs.declared.entry.Entry.{Entry}
+
+-- a moment, and entries with what was said of them
+pub record TableContents : Type 0 where
+  pub moment : ℕ
+  pub answers : List (Entry × Answer)
+
+-- the answer that is listed for the entry, Unknown where none is
+abbrev pub table_answer : TableContents → Entry → Answer
+table_answer contents entry = unwrap_or (lookup (λ each. is_eq (entry_cmp entry each)) contents.answers) Unknown
+
+abbrev pub is_unknown : Answer → Bool
+is_unknown Unknown = true
+is_unknown Valid = false
+is_unknown Invalid = false
+
+-- the entries that are listed as Unknown, in order
+abbrev pub unknown_entries : TableContents → List Entry
+unknown_entries contents = map (λ each. each.0) (filter (λ each. is_unknown each.1) contents.answers)
+
+-- the best that may come of an answer: Unknown may turn out Valid
+abbrev pub hoped_answer : Answer → Answer
+hoped_answer Unknown = Valid
+hoped_answer Valid = Valid
+hoped_answer Invalid = Invalid
+
+-- the same with each Unknown one Valid
+abbrev pub hopeful : TableContents → TableContents
+hopeful contents = record {
+  moment = contents.moment;
+  answers = map (λ each. (each.0, hoped_answer each.1)) contents.answers;
+}
+
+-- The contents are the moment and what a verifier of this meaning says of just those entries that are asked, each
+-- once, by rising algorithm, key, signed data and signature.
+pub record IsTableOf (meaning : Entry → Answer) (moment : ℕ) (rrsets : List ReceivedRrset) (contents : TableContents)
+    : Type 0 where
+  pub of_moment : contents.moment ≡ moment
+  pub entries : List Entry
+  pub rising : IsStrictlySortedBy entry_cmp entries
+  pub asked : (entry : Entry) → Contains entries entry ↔ IsAsked moment rrsets entry
+  pub answers : contents.answers ≡ map (λ entry. (entry, meaning entry)) entries
