@@ -5,8 +5,8 @@ import unittest
 
 from tool import TOOLS
 
-NAMES = ("verify",)
-PACKAGES = {"verify": {"cryptography"}}
+NAMES = ("verify", "capture", "packets.py")
+PACKAGES = {"verify": {"cryptography"}, "capture": {"packets"}}
 
 
 def imported(tree):

@@ -5,7 +5,7 @@ import unittest
 from cryptography.hazmat.primitives import hashes
 from cryptography.hazmat.primitives.asymmetric import padding, rsa
 
-from tool import DATA, load, run
+from tool import DATA, TOOLS, load, run, run_program
 
 VERIFY = load("verify")
 P256_ORDER = 0xFFFFFFFF00000000FFFFFFFFFFFFFFFFBCE6FAADA7179E84F3B9CAC2FC632551
@@ -38,6 +38,14 @@ def key_field(modulus, exponent):
     e = octets_of_number(exponent)
     front = bytes([len(e)]) if len(e) < 256 else b"\x00" + len(e).to_bytes(2, "big")
     return front + e + octets_of_number(modulus)
+
+
+def prime_from(number):
+    """A number from `number` on that the test of Fermat takes for a prime."""
+    number |= 1
+    while pow(2, number - 1, number) != 1:
+        number += 2
+    return number
 
 
 class Vectors(unittest.TestCase):
@@ -73,6 +81,11 @@ class RealLines(unittest.TestCase):
         self.assertEqual((status, errors), (0, ""))
         self.assertEqual(output, (DATA / "statements").read_bytes())
 
+    def test_the_program_itself(self):
+        given = (DATA / "todo").read_bytes()
+        self.assertEqual(run_program(TOOLS / "verify", given=given), (0, (DATA / "statements").read_bytes(), ""))
+        self.assertEqual(run_program(TOOLS / "verify", given=b"x")[:2], (1, b""))
+
     def test_the_standard_input_is_read_where_no_file_is_named(self):
         given = (DATA / "todo").read_bytes()
         self.assertEqual(run("verify", given=given), run("verify", DATA / "todo"))
@@ -88,7 +101,7 @@ class RsaKeys(unittest.TestCase):
 
     @classmethod
     def setUpClass(cls):
-        cls.private = rsa.generate_private_key(65537, 2056)
+        cls.private = rsa.generate_private_key(65537, 2050)
         numbers = cls.private.private_numbers()
         cls.modulus, cls.phi = numbers.public_numbers.n, (numbers.p - 1) * (numbers.q - 1)
         cls.size = (cls.modulus.bit_length() + 7) // 8
@@ -171,12 +184,24 @@ class RsaKeys(unittest.TestCase):
         self.assertFalse(self.is_good(b"\x00" + signature))
         self.assertFalse(self.is_good(signature[:-1]))
         self.assertFalse(self.is_good(b""))
-        if higher < 1 << (8 * self.size):
-            self.assertFalse(self.is_good(higher.to_bytes(self.size, "big")))
+        self.assertFalse(self.is_good(higher.to_bytes(self.size, "big")))
 
-    def test_a_modulus_without_room_for_the_padding_is_bad(self):
-        size = 11 + len(VERIFY.DIGEST_INFO["sha256"]) + 32
-        self.assertFalse(VERIFY.is_good(8, key_field((1 << (8 * size - 9)) + 1, 3), b"data", bytes(size - 1)))
+    def test_the_padding_has_eight_octets_at_least(self):
+        """Keys of 488 and 496 bits, the second one the shortest that can sign with SHA-256."""
+        end = b"\x00" + VERIFY.DIGEST_INFO["sha256"] + hashlib.sha256(b"data").digest()
+        for bits, is_good in ((488, False), (496, True)):
+            p, q = prime_from(1 << (bits // 2 - 1)), prime_from(3 << (bits // 2 - 2) + 1)
+            size = ((p * q).bit_length() + 7) // 8
+            message = b"\x00\x01".ljust(size - len(end), b"\xff") + end
+            secret = pow(65537, -1, (p - 1) * (q - 1))
+            signature = pow(int.from_bytes(message, "big"), secret, p * q).to_bytes(size, "big")
+            with self.subTest(size=size):
+                self.assertEqual(VERIFY.is_good(8, key_field(p * q, 65537), b"data", signature), is_good)
+
+    def test_even_numbers_are_malformed(self):
+        for modulus, exponent in ((self.modulus + 1, 65537), (self.modulus, 65536)):
+            with self.assertRaises(VERIFY.Malformed):
+                VERIFY.rsa_key(key_field(modulus, exponent))
 
 
 class CurveKeys(unittest.TestCase):
@@ -185,8 +210,10 @@ class CurveKeys(unittest.TestCase):
             algorithm, key, data, signature = parts_of(line)
             if algorithm < 13:
                 continue
+            size = len(signature) // 2
             for bad_key, bad_signature in ((b"", signature), (key[1:], signature), (key + b"\x00", signature),
-                                           (key, b""), (key, signature[1:]), (key, signature + b"\x00")):
+                                           (key, b""), (key, signature[1:]), (key, signature + b"\x00"),
+                                           (key, signature[:size] + b"\x00" + signature[size:])):
                 with self.subTest(name, key=len(bad_key), signature=len(bad_signature)):
                     self.assertFalse(VERIFY.is_good(algorithm, bad_key, data, bad_signature))
 
@@ -209,8 +236,9 @@ class Lines(unittest.TestCase):
 
     def test_what_is_no_line_to_verify_is_refused_by_its_number(self):
         for text in (b"", b"# note", b"Pending a. 1", b"todo", b"todo 13 01 02", b"todo 13 01 02 03 04",
-                     b"todo 13  01 02 03", b"todo 013 01 02 03", b"todo 13 0 02 03", b"todo 13 0g 02 03", b"good 13 01 02 03",
-                     b" todo 13 01 02 03", b"todo 13 01 02 03 ", b"todo 13 01 02 03\r", b"todo 13 01 02 \xff"):
+                     b"todo 13  01 02 03", b"todo 013 01 02 03", b"todo 13 0 02 03", b"todo 13 0g 02 03",
+                     b"good 13 01 02 03", b" todo 13 01 02 03", b"todo 13 01 02 03 ", b"todo 13 01 02 03\r",
+                     b"todo 13 01 02 \xff"):
             with self.subTest(text):
                 self.refused(b"todo 13 01 02 03\n" + text + b"\n", 2)
 

@@ -1,0 +1,86 @@
+"""Messages, packets and packet captures for the tests, laid out as their standards say."""
+import struct
+
+
+def name_octets(text):
+    return b"".join(bytes([len(label)]) + label.encode() for label in text.split(".") if label) + b"\x00"
+
+
+def message(identifier=1, name="www.example.", flags=0x8400, more=b""):
+    """A message of one question of type A, with `more` behind it."""
+    return struct.pack("!6H", identifier, flags, 1, 0, 0, 0) + name_octets(name) + b"\x00\x01\x00\x01" + more
+
+
+def framed(*messages):
+    return b"".join(len(each).to_bytes(2, "big") + each for each in messages)
+
+
+# IP
+
+
+CLIENT, SERVER = (b"\x7f\x00\x00\x01", 40000), (b"\x7f\x00\x00\x02", 53)
+CLIENT_6, SERVER_6 = (bytes(15) + b"\x01", 40000), (bytes(15) + b"\x02", 53)
+
+
+def udp(octets, source=SERVER, target=CLIENT):
+    return 17, source, target, struct.pack("!4H", source[1], target[1], 8 + len(octets), 0) + octets
+
+
+def tcp(octets, sequence, source=SERVER, target=CLIENT, syn=False):
+    header = struct.pack("!2H2I2B3H", source[1], target[1], sequence, 0, 6 << 4, 2 if syn else 16, 0, 0, 0)
+    return 6, source, target, header + b"\x01\x01\x01\x00" + octets
+
+
+def ipv4(carried, fragment=0, options=b"", behind=b""):
+    protocol, source, target, octets = carried
+    size = 20 + len(options)
+    front = struct.pack("!2B3H2BH", 4 << 4 | size // 4, 0, size + len(octets), 0, fragment, 64, protocol, 0)
+    return front + source[0] + target[0] + options + octets + behind
+
+
+def ipv6(carried, headers=()):
+    """`headers` are the extension headers' types and octets behind the first, which names what follows."""
+    protocol, source, target, octets = carried
+    for kind, body in reversed(headers):
+        protocol, octets = kind, bytes([protocol]) + body + octets
+    return struct.pack("!IHBB", 6 << 28, len(octets), protocol, 64) + source[0] + target[0] + octets
+
+
+# Links
+
+
+def ethernet(ip, tags=b""):
+    return bytes(12) + tags + (b"\x08\x00" if ip[0] >> 4 == 4 else b"\x86\xdd") + ip
+
+
+def pcap(packets, link=1, order="<", magic=0xA1B2C3D4, lost=0):
+    """`lost` is how many octets of each packet weren't captured."""
+    file = struct.pack(order + "I2H4I", magic, 2, 4, 0, 0, 65535, link)
+    return file + b"".join(struct.pack(order + "4I", 0, 0, len(each), len(each) + lost) + each for each in packets)
+
+
+def block(kind, body, order):
+    body += bytes(-len(body) % 4)
+    size = struct.pack(order + "I", 12 + len(body))
+    return struct.pack(order + "I", kind) + size + body + size
+
+
+def section(order="<"):
+    return block(0x0A0D0D0A, struct.pack(order + "I2Hq", 0x1A2B3C4D, 1, 0, -1), order)
+
+
+def interface(link, order="<"):
+    return block(1, struct.pack(order + "2HI", link, 0, 0), order)
+
+
+def enhanced(number, packet, order="<", sent=None):
+    sizes = len(packet), len(packet) if sent is None else sent
+    return block(6, struct.pack(order + "5I", number, 0, 0, *sizes) + packet, order)
+
+
+def old(number, packet, order="<"):
+    return block(2, struct.pack(order + "2H4I", number, 7, 0, 0, len(packet), len(packet)) + packet, order)
+
+
+def simple(packet, order="<"):
+    return block(3, struct.pack(order + "I", len(packet)) + packet, order)
