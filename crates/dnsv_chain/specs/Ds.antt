@@ -1,12 +1,13 @@
--- Which DS records of a DS RRset count (RFC 4035 5.2, RFC 4509 3).
-use Rattle.std.specs.Prelude.{◌≡◌, ℕ, List, Some}
-use Rattle.dnsv_names.specs.Name.{Labels}
+-- Which records of a DS RRset count (RFC 4509 3), and which keys they match (RFC 4034 5.2, RFC 4035 5.2).
+use Rattle.std.specs.Prelude.{◌≡◌, ℕ, List, Some, Contains, IsTrue}
+use Rattle.dnsv_names.specs.Name.{Labels, SameName}
+use Rattle.dnsv_records.specs.Algorithm.{is_supported}
 use Rattle.dnsv_records.specs.KeyTag.{key_tag_of}
 use Rattle.dnsv_records.specs.declared.ds.Ds.{Ds}
-use Rattle.dnsv_records.specs.declared.dnskey.Dnskey.{Dnskey}
 use Rattle.dnsv_digest.specs.Digest.{ds_digest_of}
 use Rattle.dnsv_digest.specs.DigestType.{IsStronger, digest_type_of}
 use Rattle.dnsv_digest.specs.declared.digest_type.DigestType.{DigestType}
+use Rattle.dnsv_verifier.specs.Admissible.{DnskeyRecord}
 
 -- the digest type with the number a goes before that with the number b; a number that isn't supported has no place
 abbrev pub GoesBefore : ℕ → ℕ → Type 0
@@ -14,9 +15,40 @@ GoesBefore a b =
     (stronger : DigestType) × (weaker : DigestType)
     × (digest_type_of a ≡ Some stronger) × (digest_type_of b ≡ Some weaker) × IsStronger stronger weaker
 
--- a DS record matches a key of the same owner: algorithm and key tag agree, and the digest is the key's by a digest
--- type that is supported (RFC 4034 5.1.4, 5.2; RFC 4035 5.2)
-pub record IsMatch (ds : Ds) (owner : Labels) (key : Dnskey) (rdata : List ℕ) : Type 0 where
-  pub algorithm : ds.algorithm ≡ key.algorithm
-  pub key_tag : ds.key_tag.0 ≡ key_tag_of rdata
-  pub digest : ds_digest_of ds.digest_type.0 owner rdata ≡ Some ds.digest
+-- A record of a DS RRset is ignored beside a record of the same RRset whose digest type goes before its own, whatever
+-- the algorithm of that one is (RFC 4509 3).
+pub record IsIgnored (records : List Ds) (ds : Ds) : Type 0 where
+  pub other : Ds
+  pub among : Contains records other
+  pub before : GoesBefore other.digest_type.0 ds.digest_type.0
+
+-- A record of a DS RRset is usable where its algorithm and its digest type are supported, and it isn't ignored.
+pub record IsUsable (records : List Ds) (ds : Ds) : Type 0 where
+  pub algorithm : IsTrue (is_supported ds.algorithm.0)
+  pub digest_type : (supported : DigestType) × (digest_type_of ds.digest_type.0 ≡ Some supported)
+  pub counts : ¬ IsIgnored records ds
+
+-- the digest of a DS record is the key's, by a digest type that is supported (RFC 4034 5.1.4)
+abbrev pub HasDigestOf : Ds → DnskeyRecord → Type 0
+HasDigestOf ds key = ds_digest_of ds.digest_type.0 key.owner key.rdata ≡ Some ds.digest
+
+-- A DS record of the owner matches a key: the key is the owner's, algorithm and key tag agree, and the digest is the
+-- key's (RFC 4034 5.2, RFC 4035 5.2).
+pub record IsMatch (owner : Labels) (ds : Ds) (key : DnskeyRecord) : Type 0 where
+  pub same_owner : SameName owner key.owner
+  pub algorithm : ds.algorithm.0 ≡ key.dnskey.algorithm.0
+  pub key_tag : ds.key_tag.0 ≡ key_tag_of key.rdata
+  pub digest : HasDigestOf ds key
+
+-- a DS RRset has a usable record
+pub record HasUsable (records : List Ds) : Type 0 where
+  pub ds : Ds
+  pub among : Contains records ds
+  pub usable : IsUsable records ds
+
+-- a usable record of a DS RRset of the owner matches the key
+pub record HasUsableMatch (owner : Labels) (records : List Ds) (key : DnskeyRecord) : Type 0 where
+  pub ds : Ds
+  pub among : Contains records ds
+  pub usable : IsUsable records ds
+  pub matching : IsMatch owner ds key

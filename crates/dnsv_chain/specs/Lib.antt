@@ -1,1 +1,4 @@
+pub mod Anchor
+pub mod AnchorFile
+pub mod AnchorsError
 pub mod Ds

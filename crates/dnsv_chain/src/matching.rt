@@ -1,20 +1,39 @@
 //! Which keys a DS record matches.
 ghost use Rattle.std.specs.Prelude.{◌↔◌, IsTrue};
-ghost use Rattle.dnsv_chain.specs.Ds.{IsMatch};
+ghost use Rattle.dnsv_chain.specs.Ds.{HasDigestOf, HasUsableMatch, IsMatch};
 
+use crate::usable::is_usable;
 use dnsv_digest::ds_digest;
 use dnsv_names::Name;
-use dnsv_records::{Dnskey, Ds, key_tag};
+use dnsv_records::Ds;
+use dnsv_verifier::KeyRecord;
 
-/// Whether a DS record matches a key of the same owner that has this RDATA (RFC 4035 5.2).
-pub fn is_match(ds: &Ds, owner: &Name, key: &Dnskey, rdata: &[u8]) -> bool
-    ensures { IsTrue result ↔ IsMatch ds.now owner.now key.now rdata.now }
+/// Whether a DS record of the owner matches the key (RFC 4035 5.2): the key is the owner's, algorithm and key tag
+/// agree, and the digest is the key's by a digest type that is supported.
+pub fn is_match(owner: &Name, ds: &Ds, key: &KeyRecord<'_>) -> bool
+    ensures { IsTrue result ↔ IsMatch owner.now ds.now key.now }
 {
-    if ds.algorithm != key.algorithm || ds.key_tag.0 != key_tag(rdata) {
-        return false;
+    ds.algorithm.0 == key.dnskey().algorithm.0
+        && ds.key_tag.0 == key.key_tag().0
+        && *owner == *key.owner()
+        && has_digest_of(ds, key)
+}
+
+/// Whether the record's digest is the key's (RFC 4034 5.1.4).
+fn has_digest_of(ds: &Ds, key: &KeyRecord<'_>) -> bool
+    ensures { IsTrue result ↔ HasDigestOf ds.now key.now }
+{
+    match ds_digest(ds.digest_type.0, key.owner(), key.rdata()) {
+        Some(digest) => digest.octets() == ds.digest.as_slice(),
+        None => false,
     }
-    let Some(digest) = ds_digest(ds.digest_type.0, owner, rdata) else {
-        return false;
-    };
-    digest.octets() == ds.digest.as_slice()
+}
+
+/// Whether a usable record of a DS RRset of the owner matches the key.
+pub fn has_usable_match(owner: &Name, records: &[Ds], key: &KeyRecord<'_>) -> bool
+    ensures { IsTrue result ↔ HasUsableMatch owner.now records.now key.now }
+{
+    records
+        .iter()
+        .any(|ds| is_match(owner, ds, key) && is_usable(records, ds))
 }

@@ -1,0 +1,108 @@
+//! Files of trust anchors.
+ghost use Rattle.std.specs.Prelude.{◌≡◌, ◌⊎◌, ◌↔◌, IsTrue, IfOk, IfErr};
+ghost use Rattle.dnsv_chain.specs.AnchorFile.{AreAnchorsOf, IsFaultOf};
+
+use crate::anchor::Anchor;
+use dnsv_verifier::KeyRecord;
+use std::alloc::{AllocError, AllocFailed, Global};
+use std::marker::Model;
+use thiserror::Error;
+
+/// What keeps a text from being a file of trust anchors. Each has a number that stays.
+#[derive(Clone, Copy, Debug, PartialEq, Eq, Error)]
+pub enum AnchorsError {
+    /// 90: memory was refused.
+    #[error("memory was refused")]
+    OutOfMemory,
+    /// 601: the line of this number is no anchor.
+    #[error("line {0} is no trust anchor")]
+    Syntax(usize),
+    /// 602: the line of this number is the 65th anchor.
+    #[error("line {0} is the 65th trust anchor")]
+    TooMany(usize),
+}
+
+impl AnchorsError {
+    ghost use Rattle.dnsv_chain.specs.AnchorsError.{anchors_error_code};
+
+    /// The number of the error.
+    pub fn code(&self) -> u16
+        ensures { result ≡ anchors_error_code self.now }
+    {
+        match self {
+            AnchorsError::OutOfMemory => 90,
+            AnchorsError::Syntax(_) => 601,
+            AnchorsError::TooMany(_) => 602,
+        }
+    }
+}
+
+impl From<AllocError> for AnchorsError {
+    ghost use Rattle.dnsv_chain.specs.declared.anchors.AnchorsError.TheVariants.{OutOfMemory};
+
+    ghost from_gives = { λ _ error. error ≡ OutOfMemory };
+
+    fn from(_error: AllocError) -> AnchorsError {
+        AnchorsError::OutOfMemory
+    }
+}
+
+impl<T: Drop> From<AllocFailed<T>> for AnchorsError {
+    ghost use Rattle.dnsv_chain.specs.declared.anchors.AnchorsError.TheVariants.{OutOfMemory};
+
+    ghost from_gives = { λ _ error. error ≡ OutOfMemory };
+
+    fn from(_refused: AllocFailed<T>) -> AnchorsError {
+        AnchorsError::OutOfMemory
+    }
+}
+
+/// The trust anchors of a file, in the order of its lines: at most 64. A repeat counts.
+#[derive(Debug, Drop)]
+pub struct Anchors {
+    anchors: Vec<Anchor>,
+}
+
+impl Model for Anchors {
+    ghost use Rattle.std.specs.Prelude.{List};
+    ghost use Rattle.dnsv_chain.specs.declared.anchor.Anchor.{Anchor};
+
+    ghost Value = { List Anchor };
+
+    ghost view = { λ anchors. anchors.anchors.items };
+}
+
+impl Anchors {
+    ghost use Rattle.dnsv_chain.specs.Anchor.{HasAnchorMatch};
+
+    /// Reads a file of trust anchors. Each line that counts is a DS record, `DS`, its owner, key tag, algorithm and
+    /// digest type, and the digest in hex digits, `-` where it has no octets; or a DNSKEY record, `KEY`, its owner,
+    /// flags, protocol and algorithm, and the key in base64 with padding. One space stands between two fields, and
+    /// numbers are decimal. Empty lines and lines that begin with `#` are passed over, but counted.
+    ///
+    /// The first line with a fault counts: `Syntax` where it is no anchor, else `TooMany` where 64 anchors, repeats
+    /// among them, stand before it.
+    pub fn parse(_alloc: Global, _text: &[u8]) -> Result<Anchors, AnchorsError>
+        // What is read is what the file says.
+        ensures anchors { IfOk result (AreAnchorsOf _text.now) }
+        // A refusal is the first fault, unless memory was refused.
+        ensures fault { IfErr result (λ error. (error ≡ AnchorsError.OutOfMemory) ⊎ IsFaultOf _text.now error) }
+    {
+        // STAND-IN
+        Err(AnchorsError::OutOfMemory)
+    }
+
+    /// The anchors, in the order of their lines.
+    pub fn as_slice(&self) -> &[Anchor]
+        ensures { result.now ≡ self.now }
+    {
+        &self.anchors
+    }
+
+    /// Whether an anchor matches the key.
+    pub fn is_match(&self, key: &KeyRecord<'_>) -> bool
+        ensures { IsTrue result ↔ HasAnchorMatch self.now key.now }
+    {
+        self.anchors.iter().any(|anchor| anchor.is_match(key))
+    }
+}
