@@ -1,7 +1,8 @@
 # Needs the kit's command `rt` on the path, and nothing else.
-.PHONY: all test demo examples wrong-bodies test-tools
+.PHONY: all test demo examples wrong-bodies test-tools install
 
 program = crates/dnssec_check/out/dnssec_check
+PREFIX = /usr/local
 
 # Proves and builds the program, and shows its help.
 all:
@@ -26,3 +27,16 @@ wrong-bodies:
 # The tests of the tools around the program; they need python3 with its package cryptography, and nothing of the kit.
 test-tools:
 	python3 -m unittest discover -s tools/tests
+
+# The program, its manual page, and the tools as dnssec_check-capture and dnssec_check-verify, below PREFIX.
+install: | $(program)
+	install -d $(DESTDIR)$(PREFIX)/bin $(DESTDIR)$(PREFIX)/lib/dnssec_check $(DESTDIR)$(PREFIX)/share/man/man1
+	install -m 755 $(program) $(DESTDIR)$(PREFIX)/bin
+	install -m 755 tools/capture tools/verify $(DESTDIR)$(PREFIX)/lib/dnssec_check
+	install -m 644 tools/packets.py $(DESTDIR)$(PREFIX)/lib/dnssec_check
+	ln -sf ../lib/dnssec_check/capture $(DESTDIR)$(PREFIX)/bin/dnssec_check-capture
+	ln -sf ../lib/dnssec_check/verify $(DESTDIR)$(PREFIX)/bin/dnssec_check-verify
+	install -m 644 docs/dnssec_check.1 $(DESTDIR)$(PREFIX)/share/man/man1
+
+$(program):
+	$(MAKE) all

@@ -1,0 +1,43 @@
+"""Tests of what `make install` puts where, and that it runs from there."""
+import pathlib
+import shutil
+import subprocess
+import tempfile
+import unittest
+
+from tool import DATA, TOOLS, run_program
+
+PROGRAM = TOOLS.parent / "crates" / "dnssec_check" / "out" / "dnssec_check"
+MANUAL = TOOLS.parent / "docs" / "dnssec_check.1"
+
+
+class Install(unittest.TestCase):
+    @unittest.skipUnless(PROGRAM.exists() and shutil.which("make"), "needs the built program, and make")
+    def test_what_is_installed_runs_from_there(self):
+        with tempfile.TemporaryDirectory() as room:
+            words = ["make", "--silent", "install", "PREFIX=/opt/x", f"DESTDIR={room}"]
+            subprocess.run(words, cwd=TOOLS.parent, check=True, capture_output=True)
+            place = pathlib.Path(room) / "opt" / "x"
+            tools = place / "bin"
+            wanted = {"dnssec_check", "dnssec_check-capture", "dnssec_check-verify"}
+            self.assertEqual({path.name for path in tools.iterdir()}, wanted)
+            self.assertEqual((place / "share/man/man1/dnssec_check.1").read_bytes(), MANUAL.read_bytes())
+            capture = place / "capture"
+            words = ("--pcap", DATA / "loopback.pcap", "--port", "5300", "--output", capture)
+            self.assertEqual(run_program(tools / "dnssec_check-capture", *words)[:2], (0, b""))
+            shown = run_program(tools / "dnssec_check", "show", "--capture", capture)
+            self.assertEqual((shown[0], shown[1].count(b"message "), shown[2]), (0, 5, ""))
+            verified = run_program(tools / "dnssec_check-verify", DATA / "todo")
+            self.assertEqual(verified, (0, (DATA / "statements").read_bytes(), ""))
+
+
+class Manual(unittest.TestCase):
+    @unittest.skipUnless(shutil.which("mandoc"), "needs mandoc")
+    def test_the_manual_page_is_well_formed(self):
+        done = subprocess.run(["mandoc", "-T", "lint", "-W", "style", MANUAL], capture_output=True, text=True)
+        told = [line for line in done.stdout.splitlines() if "outdated mandoc.db" not in line]
+        self.assertEqual(told, [])
+
+
+if __name__ == "__main__":
+    unittest.main()
