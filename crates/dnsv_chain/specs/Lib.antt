@@ -2,3 +2,5 @@ pub mod Anchor
 pub mod AnchorFile
 pub mod AnchorsError
 pub mod Ds
+pub mod Trust
+pub mod Trusted

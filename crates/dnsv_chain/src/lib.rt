@@ -1,14 +1,19 @@
 //! Which keys are trusted: trust anchors and DS records, and the keys that match them (RFC 4035 5).
 //!
-//! So far the crate says which records of a DS RRset are usable, and which keys they and trust anchors match.
+//! A DNSKEY RRset is trusted where one of its keys signs it and matches a trust anchor, or matches a usable record of a
+//! DS RRset that is signed by a trusted RRset above.
 #![tactic(auto)]
 
 pub use anchor::Anchor;
 pub use anchors::{Anchors, AnchorsError};
+pub use chain::trusted;
 pub use matching::{has_usable_match, is_match};
+pub use trust::Trust;
 pub use usable::{goes_before, has_usable, is_usable};
 
 mod anchor;
 mod anchors;
+mod chain;
 mod matching;
+mod trust;
 mod usable;
