@@ -1,6 +1,7 @@
 pub mod Anchor
 pub mod AnchorFile
 pub mod AnchorsError
+pub mod Derivation
 pub mod Ds
 pub mod Trust
 pub mod Trusted

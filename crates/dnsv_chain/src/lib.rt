@@ -7,6 +7,10 @@
 pub use anchor::Anchor;
 pub use anchors::{Anchors, AnchorsError};
 pub use chain::trusted;
+pub use laws::{
+    more_evidence_takes_no_trust_away, nothing_is_trusted_without_an_anchor,
+    trust_depends_on_what_is_asked, trust_leads_down_from_an_anchor,
+};
 pub use matching::{has_usable_match, is_match};
 pub use trust::Trust;
 pub use usable::{goes_before, has_usable, is_usable};
@@ -14,6 +18,7 @@ pub use usable::{goes_before, has_usable, is_usable};
 mod anchor;
 mod anchors;
 mod chain;
+mod laws;
 mod matching;
 mod trust;
 mod usable;
