@@ -42,10 +42,12 @@ pub use nsec3_meaning::{
     unsigned_cut_by_nsec3_is_an_unsigned_delegation,
 };
 pub use number::RecordNumber;
+pub use proof::Proof;
 pub use records::ChainRecords;
 pub use search::{Absent, Denied, Inner, Node, UnsignedDelegation, Word, first_to_say};
 pub use single::{empty_non_terminal, no_closer, no_data_at_name};
 pub use types::{denies, is_closed, is_delegation, is_unsigned_delegation};
+pub use view::View;
 pub use words::{is_absent, is_covered, is_fair, is_inner, is_node};
 pub use zone::{
     a_next_closer_name_that_is_missing_ends_the_search, no_node_is_below_an_end_of_the_zone,
@@ -67,11 +69,13 @@ mod nsec3_meaning;
 mod nsec_complete;
 mod nsec_meaning;
 mod number;
+mod proof;
 mod records;
 mod search;
 mod single;
 #[cfg(test)]
 mod tests;
 mod types;
+mod view;
 mod words;
 mod zone;

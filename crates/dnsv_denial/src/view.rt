@@ -1,0 +1,143 @@
+//! What the evidence says of one question: that there is no such name or type, or that it is unsigned.
+ghost use Rattle.std.specs.Prelude.{◌≡◌, ◌+◌, ℕ, IfOk, IfSome, MatchOption};
+ghost use Rattle.dnsv_names.specs.Name.{Labels, rightmost};
+ghost use Rattle.dnsv_names.specs.Tree.{wildcard_of};
+ghost use Rattle.dnsv_denial.specs.Cuts.{HasLooseCloser, HasUnsignedCut, IsUnsignedCut};
+ghost use Rattle.dnsv_denial.specs.FirstProof.{
+  CanProveNoCloser,
+  CanProveNoData,
+  CanProveNoName,
+  IsFirstNoCloser,
+  IsFirstNoData,
+  IsFirstNoName,
+};
+ghost use Rattle.dnsv_denial.specs.Lookup.{IsLookup};
+ghost use Rattle.dnsv_denial.specs.Lookup.Answer.{Held, NoData, NoName};
+ghost use Rattle.dnsv_denial.specs.ProofMeaning.{HasProofRecords};
+ghost use Rattle.dnsv_denial.specs.Viewed.{SecuredIn};
+ghost use Rattle.dnsv_denial.specs.Zone.{Zone, Holds};
+
+use crate::proof::Proof;
+use dnsv_canonical::Capture;
+use dnsv_chain::Trust;
+use dnsv_names::{Count, Name, RecordType};
+use std::alloc::{AllocError, Global};
+use std::marker::Model;
+
+/// The secured NSEC and NSEC3 records of a capture that can speak of a question's name: those of the zones at or above
+/// it.
+#[derive(Drop)]
+pub struct View<'a> {
+    capture: &'a Capture,
+    trust: &'a Trust,
+    name: &'a Name,
+}
+
+impl<'a> Model for View<'a> {
+    ghost use Rattle.dnsv_denial.specs.Viewed.{Viewed};
+
+    ghost Value = { Viewed };
+
+    ghost view = { λ view. record {
+      rrsets = view.capture.now.rrsets;
+      trust = view.trust.now;
+      name = view.name.now;
+    } };
+
+    // STAND-IN
+    ghost invariant = { λ view. ⊥ };
+}
+
+impl<'a> View<'a> {
+    /// Gathers the records for the question's name. `trust` is that of the capture. `count` grows by the hashes of NSEC3
+    /// that are made: those of the name, its ancestors and the wildcards right below its proper ancestors, for each
+    /// iterations and salt of a usable NSEC3 record of the capture.
+    pub fn new(
+        alloc: Global,
+        capture: &'a Capture,
+        trust: &'a Trust,
+        name: &'a Name,
+        count: &mut Count,
+    ) -> Result<View<'a>, AllocError>
+        ensures { IfOk result (λ view. view
+            ≡ record { rrsets = capture.now.rrsets; trust = trust.now; name = name.now }) }
+    {
+        // STAND-IN
+        Err(AllocError)
+    }
+
+    /// The first proof that there is no such name (RFC 4035 5.4, RFC 5155 8.4); `None` where the evidence has none.
+    pub fn no_name(&self) -> Option<Proof>
+        ensures first { MatchOption result
+            (¬ CanProveNoName (SecuredIn self.now.trust) self.now.rrsets self.now.name)
+            (IsFirstNoName (SecuredIn self.now.trust) self.now.rrsets self.now.name) }
+        // Each zone that has the records in its chain has no such name, whatever type is asked.
+        ensures meaning { IfSome result (λ proof. (zone : Zone) (t : ℕ)
+            → HasProofRecords self.now.rrsets self.now.name proof zone → IsLookup zone self.now.name t NoName) }
+    {
+        // STAND-IN
+        let _name = self.name;
+        None
+    }
+
+    /// The first proof that the type isn't at the name, nor at a wildcard that stands for it (RFC 4035 5.4, RFC 5155
+    /// 8.5 to 8.7); `None` where the evidence has none.
+    pub fn no_data(&self, rtype: RecordType) -> Option<Proof>
+        ensures first { MatchOption result
+            (¬ CanProveNoData (SecuredIn self.now.trust) self.now.rrsets self.now.name rtype.0)
+            (IsFirstNoData (SecuredIn self.now.trust) self.now.rrsets self.now.name rtype.0) }
+        // Each zone that has the records in its chain answers that there is no data of the type.
+        ensures meaning { IfSome result (λ proof. (zone : Zone)
+            → HasProofRecords self.now.rrsets self.now.name proof zone
+            → (source : Labels) × IsLookup zone self.now.name rtype.0 (NoData source)) }
+    {
+        // STAND-IN
+        let _name = self.name;
+        None
+    }
+
+    /// The first proof that an answer of the zone from the wildcard below the name's so many rightmost labels has no
+    /// closer name against it (RFC 4035 5.3.4, RFC 5155 8.8); `None` where the evidence has none, or these labels are no
+    /// proper ancestor of the name at or below the zone.
+    pub fn no_closer(&self, zone: &Name, labels: usize) -> Option<Proof>
+        ensures first { MatchOption result
+            (¬ CanProveNoCloser (SecuredIn self.now.trust) self.now.rrsets self.now.name labels zone.now)
+            (IsFirstNoCloser (SecuredIn self.now.trust) self.now.rrsets self.now.name labels zone.now) }
+        // In each zone that has the records in its chain, the answer to a type that the wildcard has is the wildcard's.
+        ensures meaning { IfSome result (λ proof. (signer : Zone) (t : ℕ)
+            → HasProofRecords self.now.rrsets self.now.name proof signer
+            → Holds signer (wildcard_of (rightmost self.now.name labels)) t
+            → IsLookup signer self.now.name t (Held (wildcard_of (rightmost self.now.name labels)))) }
+    {
+        // STAND-IN
+        let _name = self.name;
+        None
+    }
+
+    /// The name from which on the question's name may be unsigned: the highest delegation without DS; else the highest
+    /// whose DS records can't be used; else the next closer name of the longest closest encloser where Opt-Out may
+    /// leave out a delegation (RFC 4035 5.2, RFC 5155 8.6, 8.9, 9.2). `None` where the evidence shows none.
+    pub fn unsigned_cut(&self) -> Option<Name>
+        ensures { MatchOption result
+            (¬ HasUnsignedCut (SecuredIn self.now.trust) self.now.rrsets self.now.name)
+            (IsUnsignedCut (SecuredIn self.now.trust) self.now.rrsets self.now.name) }
+    {
+        // STAND-IN
+        let _name = self.name;
+        None
+    }
+
+    /// The next closer name to the name's so many rightmost labels, if Opt-Out may leave out an unsigned delegation of
+    /// the zone there, against an answer from the wildcard (RFC 5155 8.8). `None` where the evidence shows none, or
+    /// these labels are no proper ancestor of the name at or below the zone.
+    pub fn loose_closer(&self, zone: &Name, labels: usize) -> Option<Name>
+        ensures { MatchOption result
+            (¬ HasLooseCloser (SecuredIn self.now.trust) self.now.rrsets self.now.name labels zone.now)
+            (λ closer. HasLooseCloser (SecuredIn self.now.trust) self.now.rrsets self.now.name labels zone.now
+            × (closer ≡ rightmost self.now.name (labels + 1))) }
+    {
+        // STAND-IN
+        let _name = self.name;
+        None
+    }
+}
