@@ -99,7 +99,7 @@ no_fault before line more first all each whole agree (Contradiction number) ther
     clash all entry word agree one other
 
 -- two places in one list
-abbrev Places : List NumberedLine → NumberedLine → List NumberedLine → NumberedLine → Type 0
+abbrev pub Places : List NumberedLine → NumberedLine → List NumberedLine → NumberedLine → Type 0
 Places a x b y =
     ((a ≡ b) × (x ≡ y)) ⊎ (((more : List NumberedLine) × (b ≡ a ++ x ∷ more)) ⊎ ((more : List NumberedLine) × (a ≡ b ++ y ∷ more)))
 
@@ -110,7 +110,7 @@ further z w x y a b same (inr (inl later)) =
 further z w x y a b same (inr (inr earlier)) =
     inr (inr (earlier.0, ap (λ l. l ∷ a) same ∙ ap (λ ls. w ∷ ls) earlier.1))
 
-places : (a b : List NumberedLine) (x y : NumberedLine) (behind_a behind_b : List NumberedLine)
+pub places : (a b : List NumberedLine) (x y : NumberedLine) (behind_a behind_b : List NumberedLine)
     → a ++ x ∷ behind_a ≡ b ++ y ∷ behind_b → Places a x b y
 places [] [] x y behind_a behind_b e = inl (refl, cc)
 places [] (w ∷ b) x y behind_a behind_b e = let first : w ≡ x = cc in inr (inl (b, ap (λ l. l ∷ b) first))
