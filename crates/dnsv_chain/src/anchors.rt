@@ -1,12 +1,19 @@
 //! Files of trust anchors.
-ghost use Rattle.std.specs.Prelude.{◌≡◌, ◌⊎◌, ◌↔◌, IsTrue, IfOk, IfErr};
-ghost use Rattle.dnsv_chain.specs.AnchorFile.{AreAnchorsOf, IsFaultOf};
+ghost use Rattle.std.specs.Prelude.{◌≡◌, ◌<◌, ◌≤◌, ◌⊎◌, ◌↔◌, ◌++◌, ◌∷◌, [], List, ℕ, length, IsTrue, IfOk, IfErr, OnOk};
+ghost use Rattle.dnsv_chain.specs.AnchorFile.{AreAnchorsOf, IsAnchorLine, IsFaultOf, IsFaultOfLine};
+ghost use Rattle.dnsv_chain.specs.declared.anchor.Anchor.{Anchor};
+ghost use Rattle.dnsv_chain.specs.declared.anchors.AnchorsError.{AnchorsError};
 
 use crate::anchor::Anchor;
+use crate::anchor_line::anchor_of;
+use dnsv_names::{Line, Lines, a_text_has_one_reading};
 use dnsv_verifier::KeyRecord;
 use std::alloc::{AllocError, AllocFailed, Global};
 use std::marker::Model;
 use thiserror::Error;
+
+/// How many anchors a file has at most.
+const ANCHOR_LIMIT: usize = 64;
 
 /// What keeps a text from being a file of trust anchors. Each has a number that stays.
 #[derive(Clone, Copy, Debug, PartialEq, Eq, Error)]
@@ -82,14 +89,37 @@ impl Anchors {
     ///
     /// The first line with a fault counts: `Syntax` where it is no anchor, else `TooMany` where 64 anchors, repeats
     /// among them, stand before it.
-    pub fn parse(_alloc: Global, _text: &[u8]) -> Result<Anchors, AnchorsError>
+    pub fn parse(alloc: Global, text: &[u8]) -> Result<Anchors, AnchorsError>
         // What is read is what the file says.
-        ensures anchors { IfOk result (AreAnchorsOf _text.now) }
+        ensures anchors { IfOk result (AreAnchorsOf text.now) }
         // A refusal is the first fault, unless memory was refused.
-        ensures fault { IfErr result (λ error. (error ≡ AnchorsError.OutOfMemory) ⊎ IsFaultOf _text.now error) }
+        ensures fault { IfErr result (λ error. (error ≡ AnchorsError.OutOfMemory) ⊎ IsFaultOf text.now error) }
     {
-        // STAND-IN
-        Err(AnchorsError::OutOfMemory)
+        let mut anchors = Anchors {
+            anchors: Vec::new(alloc),
+        };
+        for line in Lines::new(text) {
+            anchors.add(alloc, &line)?;
+        }
+        Ok(anchors)
+    }
+
+    /// Adds the anchor of a line, behind at most 64.
+    fn add(&mut self, alloc: Global, line: &Line) -> Result<(), AnchorsError>
+        requires { length self.old ≤ 64 }
+        ensures added { OnOk result ((anchor : Anchor) × IsAnchorLine line.now.octets anchor
+            × (length self.old < 64) × (self.new ≡ self.old ++ anchor ∷ [])) }
+        ensures fault { IfErr result (λ error. (error ≡ AnchorsError.OutOfMemory)
+            ⊎ IsFaultOfLine error line.now self.old) }
+    {
+        let Some(anchor) = anchor_of(alloc, line)? else {
+            return Err(AnchorsError::Syntax(line.number()));
+        };
+        if self.anchors.len() >= ANCHOR_LIMIT {
+            return Err(AnchorsError::TooMany(line.number()));
+        }
+        self.anchors.push(anchor)?;
+        Ok(())
     }
 
     /// The anchors, in the order of their lines.
@@ -106,3 +136,17 @@ impl Anchors {
         self.anchors.iter().any(|anchor| anchor.is_match(key))
     }
 }
+
+/// A law of files of trust anchors: a text is at most one list of anchors, has at most one first fault, and never
+/// both.
+pub fn a_text_is_one_list_of_anchors()
+    ensures anchors { (text : List ℕ) (a b : List Anchor) → AreAnchorsOf text a → AreAnchorsOf text b → a ≡ b }
+    ensures fault { (text : List ℕ) (a b : AnchorsError) → IsFaultOf text a → IsFaultOf text b → a ≡ b }
+    ensures apart { (text : List ℕ) (anchors : List Anchor) (fault : AnchorsError) → AreAnchorsOf text anchors
+        → IsFaultOf text fault → ⊥ }
+{
+    a_text_has_one_reading();
+}
+
+#[cfg(test)]
+mod tests;

@@ -5,7 +5,7 @@
 #![tactic(auto)]
 
 pub use anchor::Anchor;
-pub use anchors::{Anchors, AnchorsError};
+pub use anchors::{Anchors, AnchorsError, a_text_is_one_list_of_anchors};
 pub use chain::trusted;
 pub use laws::{
     more_evidence_takes_no_trust_away, nothing_is_trusted_without_an_anchor,
@@ -16,7 +16,9 @@ pub use trust::Trust;
 pub use usable::{goes_before, has_usable, is_usable};
 
 mod anchor;
+mod anchor_line;
 mod anchors;
+mod base64_field;
 mod chain;
 mod laws;
 mod matching;

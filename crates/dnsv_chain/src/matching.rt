@@ -37,3 +37,6 @@ pub fn has_usable_match(owner: &Name, records: &[Ds], key: &KeyRecord<'_>) -> bo
         .iter()
         .any(|ds| is_match(owner, ds, key) && is_usable(records, ds))
 }
+
+#[cfg(test)]
+mod tests;
