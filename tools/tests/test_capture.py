@@ -308,6 +308,12 @@ class CommandLine(unittest.TestCase):
         self.assertIn("capture: dropped message 1 of -: a query", done[2])
         self.assertEqual(run_program(TOOLS / "capture", "--stream", "-")[0], 1)
 
+    def test_a_write_that_fails(self):
+        with open("/dev/full", "wb") as full:
+            status, errors = run_program(TOOLS / "capture", "--stream", "-", given=framed(ONE), output=full)[::2]
+        self.assertEqual((status, errors.count("\n")), (1, 1))
+        self.assertEqual(run("capture", "--stream", "-", "--output", "/dev/full", given=framed(ONE))[0], 1)
+
     def test_a_file_that_is_not_there(self):
         status, output, errors = run("capture", "--stream", DATA / "no-such-file")
         self.assertEqual((status, output), (1, b""))

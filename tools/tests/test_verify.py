@@ -86,6 +86,11 @@ class RealLines(unittest.TestCase):
         self.assertEqual(run_program(TOOLS / "verify", given=given), (0, (DATA / "statements").read_bytes(), ""))
         self.assertEqual(run_program(TOOLS / "verify", given=b"x")[:2], (1, b""))
 
+    def test_a_write_that_fails(self):
+        with open("/dev/full", "wb") as full:
+            status, errors = run_program(TOOLS / "verify", DATA / "todo", output=full)[::2]
+        self.assertEqual((status, errors.count("\n")), (1, 1))
+
     def test_the_standard_input_is_read_where_no_file_is_named(self):
         given = (DATA / "todo").read_bytes()
         self.assertEqual(run("verify", given=given), run("verify", DATA / "todo"))

@@ -36,7 +36,7 @@ def run(name, *words, given=b""):
     return status, output.buffer.getvalue(), errors.buffer.getvalue().decode()
 
 
-def run_program(path, *words, given=b""):
+def run_program(path, *words, given=b"", output=subprocess.PIPE):
     """The same, by a process of its own."""
-    done = subprocess.run([str(path), *map(str, words)], input=given, capture_output=True)
+    done = subprocess.run([str(path), *map(str, words)], input=given, stdout=output, stderr=subprocess.PIPE)
     return done.returncode, done.stdout, done.stderr.decode()
