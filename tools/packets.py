@@ -157,7 +157,7 @@ def end_text(address, port):
     return f"{ipaddress.ip_address(address)} port {port}"
 
 
-def carried_by(packet, ports):
+def payload_of(packet, ports):
     """The datagram or the segment that a packet carries from or to one of the ports, None where it carries neither."""
     ip = ip_packet(ip_octets(packet))
     if ip is None or ip.protocol not in (TCP, UDP):
