@@ -9,3 +9,4 @@ pub mod ProgramLemmas
 pub mod OneText
 pub mod AnswerLemmas
 pub mod ListedLemmas
+pub mod StatementsFileLemmas

@@ -1,4 +1,4 @@
--- What the matches of `show` and `list` read as, and that they have them.
+-- What the matches of each subcommand read as, and that they have them.
 use Rattle.std.proofs.Common.{◌≡◌, ◌⊎◌, ◌≤◌, ◌∙◌, ℕ, Bool, true, false, not, List, Option, Some, None, ap, refl, sym, subst, inl, inr, arith, slice_index}
 use Rattle.std.proofs.lemmas.Slice.Eq.{bytes_eq-Decides}
 use Rattle.std.specs.Prelude.{IfErr, IsErrAnd, Ok, Err, Result}
@@ -24,10 +24,11 @@ use Rattle.clap.specs.declared.error.ErrorKind.{ErrorKind}
 use Rattle.clap.specs.declared.error.ErrorKind.TheVariants as kind
 use Rattle.clap.specs.declared.builder.ValueParser.TheVariants as parser
 use Rattle.dnssec_check.specs.declared.line.LineError.{LineError}
-use Rattle.dnssec_check.proofs.RowLemmas.{AreRowsIn, IsRowIn, IsRowOf, StartsPassing}
+use Rattle.dnssec_check.proofs.RowLemmas.{AreRowsIn, IsIn, IsRowIn, IsRowOf, StartsPassing}
 use Rattle.dnssec_check.proofs.WalkLemmas.{AllLeaveValues, level_in}
 use Rattle.clap.proofs.ValueTestLemmas.{accepts-Accepts}
-use Rattle.dnssec_check.specs.Line.{HasCapture, HasListValues, IsRefused, capture_rule, error_of_kind, line_error, list_app, moment_rule, moment_said, program_app, show_app}
+use Rattle.dnssec_check.specs.Commands.{all_rule, capture_rule, list_app, moment_rule, program_app, show_app}
+use Rattle.dnssec_check.specs.Line.{HasCapture, HasListValues, HasMoment, HasValue, IsFlag, IsRefused, error_of_kind, flag_said, line_error, moment_said}
 use Rattle.dnssec_check.specs.Moment.{last_moment}
 
 -- a text that passed the bounds of a moment reads as the moment that it says
@@ -50,32 +51,48 @@ no_subcommand true true argument is e = cc
 no_subcommand true false argument is e = cc
 no_subcommand false help argument is e = cc
 
--- the program with two subcommands
-abbrev with_two : Shape → Shape → Shape → App
-with_two top one other = record { top = top; subs = one ∷ other ∷ [] }
-
 -- the subcommand was entered, with rows that have no fault
 abbrev Enters : Option (Text × List Row) → Shape → Type 0
 Enters met sub = (rows : List Row) × (met ≡ Some (sub.name, rows)) × AreRowsIn sub.rules rows × (check_fault sub rows false ≡ [])
 
--- the subcommand at which a walk stopped has no fault
-at_stop : (top one other : Shape) (stop : Option (Text × List Text)) → AllLeaveValues one → AllLeaveValues other
-    → entered_fault (with_two top one other) stop ≡ [] → is_some (entered (with_two top one other) stop) ≡ true
-    → Enters (entered (with_two top one other) stop) one ⊎ Enters (entered (with_two top one other) stop) other
-at_stop top one other None first second fault some = cc
-at_stop top one other (Some p) first second fault some = found (answers_to p.0 (label_of one)) (answers_to p.0 (label_of other)) fault some
+-- one of the subcommands was
+abbrev EntersOneOf : Option (Text × List Row) → List Shape → Type 0
+EntersOneOf met [] = ⊥
+EntersOneOf met (sub ∷ subs) = Enters met sub ⊎ EntersOneOf met subs
+
+abbrev EachLeavesValues : List Shape → Type 0
+EachLeavesValues [] = Unit {0}
+EachLeavesValues (sub ∷ subs) = AllLeaveValues sub × EachLeavesValues subs
+
+abbrev sub_named : List Shape → Text → Option Shape
+sub_named subs word = find (λ s. answers_to word (label_of s)) subs
+
+-- the subcommand that is found has no fault
+found_sub : (subs : List Shape) (p : Text × List Text) → EachLeavesValues subs
+    → option_map_or (λ s. level_fault s [] nothing_held p.1 false []) (sub_named subs p.0) [] ≡ []
+    → is_some (option_map (λ s. rows_at s p.1) (sub_named subs p.0)) ≡ true
+    → EntersOneOf (option_map (λ s. rows_at s p.1) (sub_named subs p.0)) subs
+found_sub [] p leaves fault some = cc
+found_sub (sub ∷ subs) p leaves fault some =
+    go (answers_to p.0 (label_of sub)) fault some (λ none has. found_sub subs p leaves.1 none has)
   where
-    found : (t u : Bool) → option_map_or (λ s. level_fault s [] nothing_held p.1 false []) (cond t (Some one) (cond u (Some other) None)) [] ≡ []
-        → is_some (option_map (λ s. rows_at s p.1) (cond t (Some one) (cond u (Some other) None))) ≡ true
-        → Enters (option_map (λ s. rows_at s p.1) (cond t (Some one) (cond u (Some other) None))) one
-        ⊎ Enters (option_map (λ s. rows_at s p.1) (cond t (Some one) (cond u (Some other) None))) other
-    found true u none has =
-        let below = level_in one [] p.1 false [] first none in
-        inl (rows_after one.rules [] p.1, refl, below.1, below.2)
-    found false true none has =
-        let below = level_in other [] p.1 false [] second none in
-        inr (rows_after other.rules [] p.1, refl, below.1, below.2)
-    found false false none has = cc
+    go : (t : Bool) → option_map_or (λ s. level_fault s [] nothing_held p.1 false []) (cond t (Some sub) (sub_named subs p.0)) [] ≡ []
+        → is_some (option_map (λ s. rows_at s p.1) (cond t (Some sub) (sub_named subs p.0))) ≡ true
+        → (option_map_or (λ s. level_fault s [] nothing_held p.1 false []) (sub_named subs p.0) [] ≡ []
+        → is_some (option_map (λ s. rows_at s p.1) (sub_named subs p.0)) ≡ true
+        → EntersOneOf (option_map (λ s. rows_at s p.1) (sub_named subs p.0)) subs)
+        → EntersOneOf (option_map (λ s. rows_at s p.1) (cond t (Some sub) (sub_named subs p.0))) (sub ∷ subs)
+    go true none has rest =
+        let below = level_in sub [] p.1 false [] leaves.0 none in
+        inl (rows_after sub.rules [] p.1, refl, below.1, below.2)
+    go false none has rest = inr (rest none has)
+
+-- the subcommand at which a walk stopped has no fault
+at_stop : (top : Shape) (subs : List Shape) (stop : Option (Text × List Text)) → EachLeavesValues subs
+    → entered_fault (record { top = top; subs = subs }) stop ≡ [] → is_some (entered (record { top = top; subs = subs }) stop) ≡ true
+    → EntersOneOf (entered (record { top = top; subs = subs }) stop) subs
+at_stop top subs None leaves fault some = cc
+at_stop top subs (Some p) leaves fault some = found_sub subs p leaves fault some
 
 was_entered : (top : Shape) (rows : List Row) (t : Bool) → top.subcommand_required ≡ true → check_fault top rows t ≡ [] → t ≡ true
 was_entered top rows true wanted fault = refl
@@ -85,27 +102,32 @@ was_entered top rows false wanted fault = absurd (no_subcommand top.subcommand_r
     wanted fault)
 
 -- where a program that wants one of its subcommands has no fault, one was entered, and has no fault
-pub one_entered : (top one other : Shape) (words : List Text) → AllLeaveValues top → AllLeaveValues one → AllLeaveValues other → top.subcommand_required ≡ true
-    → built_fault (with_two top one other) nothing_held words ≡ []
-    → Enters (entered (with_two top one other) (stop_after top.rules (names_of (with_two top one other)) words)) one
-    ⊎ Enters (entered (with_two top one other) (stop_after top.rules (names_of (with_two top one other)) words)) other
-one_entered top one other words top_leaves first second wanted e =
-    let names = names_of (with_two top one other) in
+pub one_entered : (top : Shape) (subs : List Shape) (words : List Text) → AllLeaveValues top → EachLeavesValues subs → top.subcommand_required ≡ true
+    → built_fault (record { top = top; subs = subs }) nothing_held words ≡ []
+    → EntersOneOf (entered (record { top = top; subs = subs }) (stop_after top.rules (names_of (record { top = top; subs = subs })) words)) subs
+one_entered top subs words top_leaves leaves wanted e =
+    let names = names_of (record { top = top; subs = subs }) in
     let stop = stop_after top.rules names words in
-    let down = level_in top names words (is_some (entered (with_two top one other) stop)) (entered_fault (with_two top one other) stop) top_leaves e in
-    at_stop top one other stop first second down.0 (was_entered top (rows_after top.rules names words) (is_some (entered (with_two top one other) stop)) wanted down.2)
+    let down = level_in top names words (is_some (entered (record { top = top; subs = subs }) stop)) (entered_fault (record { top = top; subs = subs }) stop) top_leaves e in
+    at_stop top subs stop leaves down.0 (was_entered top (rows_after top.rules names words) (is_some (entered (record { top = top; subs = subs }) stop)) wanted down.2)
 
--- ---- the values of `show` and `list`
+-- ---- the values of options
 
--- what building makes of the program, of `show` and of `list`
+-- what building makes of the program and of its subcommands
 abbrev program_shape : Shape
 program_shape = (built program_app).top
 
+abbrev leaf : App → Shape
+leaf command = built_leaf (inherited (marked_built program_app.top) command.top)
+
 abbrev show_shape : Shape
-show_shape = built_leaf (inherited (marked_built program_app.top) show_app.top)
+show_shape = leaf show_app
 
 abbrev list_shape : Shape
-list_shape = built_leaf (inherited (marked_built program_app.top) list_app.top)
+list_shape = leaf list_app
+
+abbrev sub_shapes : List Shape
+sub_shapes = show_shape ∷ list_shape ∷ []
 
 -- an argument has a value that it takes
 abbrev HasValueOf : Rule → Text → List Row → Type 0
@@ -137,98 +159,134 @@ found_row c id (x ∷ xs) r all found = go (bytes_eq x.id id) refl found (λ res
         (ap (λ (y : Row). y.id) (sym is) ∙ (bytes_eq-Decides x.id id).0 t, subst (IsRowIn c) is all.0)
     go false t same rest = rest same
 
-given_row : (c : List Rule) (id : Text) (rows : List Row) → AreRowsIn c rows → is_given id rows ≡ true
-    → (r : Row) × (find (λ r. bytes_eq r.id id) rows ≡ Some r) × (r.id ≡ id) × IsRowIn c r
-given_row c id rows all given = go (find (λ r. bytes_eq r.id id) rows) refl given
+-- of these arguments only this one has the id
+abbrev IsOnly : List Rule → Text → Rule → Type 0
+IsOnly [] id a = Unit {0}
+IsOnly (b ∷ c) id a = (bytes_eq b.id id ≡ true → b ≡ a) × IsOnly c id a
+
+only_row : (c : List Rule) (id : Text) (a : Rule) (r : Row) → IsOnly c id a → r.id ≡ id → IsRowIn c r → IsRowOf a r
+only_row [] id a r only same at = absurd at
+only_row (b ∷ c) id a r only same (inl h) =
+    subst (λ (x : Rule). IsRowOf x r) (only.0 ((bytes_eq-Decides b.id id).1 (h.0 ∙ same))) h
+only_row (b ∷ c) id a r only same (inr h) = only_row c id a r only.1 same h
+
+-- the row of an option has a value that the option takes, where it has a row
+value_found : (s : Shape) (id : Text) (a : Rule) (rows : List Row) (r : Row) → IsOnly s.rules id a → AreRowsIn s.rules rows
+    → find (λ r. bytes_eq r.id id) rows ≡ Some r → HasValueOf a id rows
+value_found s id a rows r only all found =
+    let row = found_row s.rules id rows r all found in
+    row_value a id rows r found (only_row s.rules id a r only row.0 row.1)
+
+-- an option that was given has a value
+value_given : (s : Shape) (id : Text) (a : Rule) (rows : List Row) → IsOnly s.rules id a → AreRowsIn s.rules rows
+    → is_given id rows ≡ true → HasValueOf a id rows
+value_given s id a rows only all given = go (find (λ r. bytes_eq r.id id) rows) refl given
   where
     go : (o : Option Row) → find (λ r. bytes_eq r.id id) rows ≡ o → option_map_or (λ r. explicit_source r.source) o false ≡ true
-        → (r : Row) × (find (λ r. bytes_eq r.id id) rows ≡ Some r) × (r.id ≡ id) × IsRowIn c r
+        → HasValueOf a id rows
     go None is h = cc
-    go (Some r) is h = let row = found_row c id rows r all is in (r, is, row.0, row.1)
+    go (Some r) is h = value_found s id a rows r only all is
 
-program_leaves : AllLeaveValues program_shape
-program_leaves = refl
+none_missing : (help sub missing : Bool) → check_kinds help sub missing ≡ [] → missing ≡ false
+none_missing true sub missing e = cc
+none_missing false true missing e = cc
+none_missing false false true e = cc
+none_missing false false false e = refl
 
-show_leaves : AllLeaveValues show_shape
-show_leaves = refl
+is_required : (required given : Bool) → (required && not given) ≡ false → required ≡ true → given ≡ true
+is_required true true e has = refl
+is_required true false e has = cc
+is_required false given e has = cc
 
-list_leaves : AllLeaveValues list_shape
-list_leaves = refl
+none_of_two : (x y : Bool) → (x || y) ≡ false → (x ≡ false) × (y ≡ false)
+none_of_two true y e = cc
+none_of_two false y e = (refl, e)
 
-program_is : built program_app ≡ with_two program_shape show_shape list_shape
-program_is = refl
+-- an argument that has to be there is given, where none is missing
+given_where_required : (c : List Rule) (rows : List Row) (a : Rule) → list_any (λ a. a.required && not (is_given a.id rows)) c ≡ false
+    → IsIn c a → a.required ≡ true → is_given a.id rows ≡ true
+given_where_required [] rows a none at required = absurd at
+given_where_required (b ∷ c) rows a none (inl same) required =
+    let two = none_of_two (b.required && not (is_given b.id rows)) (list_any (λ a. a.required && not (is_given a.id rows)) c) none in
+    ap (λ (x : Rule). is_given x.id rows) (sym same)
+    ∙ is_required b.required (is_given b.id rows) two.0 (ap (λ (x : Rule). x.required) same ∙ required)
+given_where_required (b ∷ c) rows a none (inr at) required =
+    given_where_required c rows a (none_of_two (b.required && not (is_given b.id rows)) (list_any (λ a. a.required && not (is_given a.id rows)) c) none).1 at required
 
--- two ids with other first letters
-other_id : (r : Row) (a b : Text) → a ≡ r.id → r.id ≡ b → (slice_index a 0 ≡ slice_index b 0 → ⊥) → ⊥
-other_id r a b is same differ = differ (ap (λ t. slice_index t 0) (is ∙ same))
+-- a required option of a subcommand without a fault has a value
+required_value : (s : Shape) (a : Rule) (rows : List Row) → IsOnly s.rules a.id a → IsIn s.rules a → a.required ≡ true → s.subcommand_negates_reqs ≡ false
+    → AreRowsIn s.rules rows → check_fault s rows false ≡ [] → HasValueOf a a.id rows
+required_value s a rows only at required negates all fault =
+    let missing = none_missing (s.arg_required_else_help && not (list_any (λ r. explicit_source r.source) rows)) s.subcommand_required
+    (not (s.subcommand_negates_reqs && false) && list_any (λ a. a.required && not (is_given a.id rows)) s.rules) fault in
+    value_given s a.id a rows only all (given_where_required s.rules rows a (rw negates at missing) at required)
 
--- `--capture`, `--moment` and what `clap` adds, as built
+-- the options, as built
 abbrev built_capture : Rule
 built_capture = filled capture_rule
 
 abbrev built_moment : Rule
 built_moment = filled moment_rule
 
-is_shown : (r : Row) → r.id ≡ codes "capture" → IsRowIn show_shape.rules r → IsRowOf built_capture r
-is_shown r same (inl h) = h
-is_shown r same (inr (inl h)) = absurd (other_id r (codes "help") (codes "capture") h.0 same (λ e. omega arith))
-is_shown r same (inr (inr h)) = absurd h
+abbrev built_all : Rule
+built_all = filled all_rule
 
-is_capture : (r : Row) → r.id ≡ codes "capture" → IsRowIn list_shape.rules r → IsRowOf built_capture r
-is_capture r same (inl h) = h
-is_capture r same (inr (inl h)) = absurd (other_id r (codes "moment") (codes "capture") h.0 same (λ e. omega arith))
-is_capture r same (inr (inr (inl h))) = absurd (other_id r (codes "all") (codes "capture") h.0 same (λ e. omega arith))
-is_capture r same (inr (inr (inr (inl h)))) = absurd (other_id r (codes "help") (codes "capture") h.0 same (λ e. omega arith))
-is_capture r same (inr (inr (inr (inr h)))) = absurd h
+-- ---- the values of each subcommand
 
-is_moment : (r : Row) → r.id ≡ codes "moment" → IsRowIn list_shape.rules r → IsRowOf built_moment r
-is_moment r same (inl h) = absurd (other_id r (codes "capture") (codes "moment") h.0 same (λ e. omega arith))
-is_moment r same (inr (inl h)) = h
-is_moment r same (inr (inr (inl h))) = absurd (other_id r (codes "all") (codes "moment") h.0 same (λ e. omega arith))
-is_moment r same (inr (inr (inr (inl h)))) = absurd (other_id r (codes "help") (codes "moment") h.0 same (λ e. omega arith))
-is_moment r same (inr (inr (inr (inr h)))) = absurd h
-
--- where none of the three required arguments is missing, the first two are given
-both_given : (x y z : Bool) → check_kinds false false (not x || (not y || (not z || false))) ≡ [] → (x ≡ true) × (y ≡ true)
-both_given true true z e = (refl, refl)
-both_given true false z e = cc
-both_given false y z e = cc
-
--- where the one required argument isn't missing, it is given
-one_given : (x : Bool) → check_kinds false false (not x || false) ≡ [] → x ≡ true
-one_given true e = refl
-one_given false e = cc
-
--- `show` without a fault has its value
 show_values : (rows : List Row) → AreRowsIn show_shape.rules rows → check_fault show_shape rows false ≡ [] → HasCapture rows
 show_values rows all fault =
-    let given = one_given (is_given (codes "capture") rows) fault in
-    let capture = given_row show_shape.rules (codes "capture") rows all given in
-    let file = row_value built_capture (codes "capture") rows capture.0 capture.1 (is_shown capture.0 capture.2 capture.3) in
+    let file = required_value show_shape built_capture rows (λ e. refl, (λ e. cc, tt)) (inl refl) refl refl all fault in
     ap is_some file.1
 
--- `list` without a fault has its values
+moment_has : (rows : List Row) → HasValueOf built_moment (codes "moment") rows → HasMoment rows
+moment_has rows number = (number.0, number.1, number.2, number.3)
+
+-- the text of a flag, by what the flag takes
+flag_text : (text : Text) → (bytes_eq text (codes "true") || bytes_eq text (codes "false")) ≡ true → IsFlag (Some text)
+flag_text text passes = go (bytes_eq text (codes "true")) (bytes_eq text (codes "false")) refl refl passes
+  where
+    go : (x y : Bool) → bytes_eq text (codes "true") ≡ x → bytes_eq text (codes "false") ≡ y → (x || y) ≡ true → IsFlag (Some text)
+    go true y is_x is_y e = inr (inl (ap (λ t. Some t) ((bytes_eq-Decides text (codes "true")).0 is_x)))
+    go false true is_x is_y e = inr (inr (ap (λ t. Some t) ((bytes_eq-Decides text (codes "false")).0 is_y)))
+    go false false is_x is_y e = cc
+
+flag_has : (rows : List Row) → IsOnly list_shape.rules (codes "all") built_all → AreRowsIn list_shape.rules rows → IsFlag (one_of (codes "all") rows)
+flag_has rows only all = go (find (λ r. bytes_eq r.id (codes "all")) rows) refl
+  where
+    go : (o : Option Row) → find (λ r. bytes_eq r.id (codes "all")) rows ≡ o → IsFlag (one_of (codes "all") rows)
+    go None is = inl (rw is refl)
+    go (Some r) is =
+        let value = value_found list_shape (codes "all") built_all rows r only all is in
+        subst IsFlag (sym value.2) (flag_text value.0 value.3)
+
 list_values : (rows : List Row) → AreRowsIn list_shape.rules rows → check_fault list_shape rows false ≡ [] → HasListValues rows
 list_values rows all fault =
-    let given = both_given (is_given (codes "capture") rows) (is_given (codes "moment") rows) (is_given (codes "all") rows) fault in
-    let capture = given_row list_shape.rules (codes "capture") rows all given.0 in
-    let moment = given_row list_shape.rules (codes "moment") rows all given.1 in
-    let file = row_value built_capture (codes "capture") rows capture.0 capture.1 (is_capture capture.0 capture.2 capture.3) in
-    let number = row_value built_moment (codes "moment") rows moment.0 moment.1 (is_moment moment.0 moment.2 moment.3) in
-    (ap is_some file.1, (number.0, number.1, number.2, number.3))
+    let file = required_value list_shape built_capture rows (λ e. refl, (λ e. cc, (λ e. cc, (λ e. cc, (λ e. cc, tt))))) (inl refl) refl refl all fault in
+    let number = required_value list_shape built_moment rows (λ e. cc, (λ e. refl, (λ e. cc, (λ e. cc, (λ e. cc, tt))))) (inr (inl refl)) refl refl all fault in
+    (ap is_some file.1, moment_has rows number, flag_has rows (λ e. cc, (λ e. cc, (λ e. cc, (λ e. refl, (λ e. cc, tt))))) all)
 
--- the words name this subcommand, whose rows are so
-abbrev pub Names : List Text → Text → (List Row → Type 0) → Type 0
-Names words name Are = (rows : List Row) × (subcommand_of program_app words ≡ Some (name, rows)) × Are rows
+-- what a flag's text says is what the matches give
+pub flag_read : (text : Option Text) (given : Bool) → IsFlag text → (text ≡ None → given ≡ false) → (text ≡ Some (codes "true") → given ≡ true)
+    → (text ≡ Some (codes "false") → given ≡ false) → flag_said text ≡ given
+flag_read text given (inl is) none some other = ap flag_said is ∙ sym (none is)
+flag_read text given (inr (inl is)) none some other = ap flag_said is ∙ sym (some is)
+flag_read text given (inr (inr is)) none some other = ap flag_said is ∙ sym (other is)
 
--- whatever the program takes is `show` or `list` with its values
-pub taken : (words : List Text) → fault_of program_app words ≡ [] → Names words (codes "show") HasCapture ⊎ Names words (codes "list") HasListValues
-taken words none = of (one_entered program_shape show_shape list_shape (argument_words program_app words) program_leaves show_leaves list_leaves refl none)
+-- a name and rows are those of one of the subcommands, with its values
+abbrev pub IsCommand : Text → List Row → Type 0
+IsCommand name rows = ((name ≡ codes "show") × HasCapture rows) ⊎ ((name ≡ codes "list") × HasListValues rows)
+
+-- whatever the program takes is a subcommand with its values
+pub taken : (words : List Text) → fault_of program_app words ≡ []
+    → (name : Text) × (rows : List Row) × (subcommand_of program_app words ≡ Some (name, rows)) × IsCommand name rows
+taken words none =
+    of (one_entered program_shape sub_shapes (argument_words program_app words) refl (refl, (refl, tt)) refl none)
   where
-    of : Enters (subcommand_of program_app words) show_shape ⊎ Enters (subcommand_of program_app words) list_shape
-        → Names words (codes "show") HasCapture ⊎ Names words (codes "list") HasListValues
-    of (inl show) = inl (show.0, show.1, show_values show.0 show.2 show.3)
-    of (inr list) = inr (list.0, list.1, list_values list.0 list.2 list.3)
+    of : EntersOneOf (subcommand_of program_app words) sub_shapes
+        → (name : Text) × (rows : List Row) × (subcommand_of program_app words ≡ Some (name, rows)) × IsCommand name rows
+    of (inl show) = (codes "show", show.0, show.1, inl (refl, show_values show.0 show.2 show.3))
+    of (inr (inl list)) = (codes "list", list.0, list.1, inr (refl, list_values list.0 list.2 list.3))
+    of (inr (inr none)) = absurd none
 
 -- an error of `clap` at the words, as the program tells it
 pub refused_as : (words : List Text) (e : Error) → HasKind (fault_of program_app words) e → IsRefused words (line_error e)
@@ -256,7 +314,7 @@ passed_up (Err error) a words e is passed kinds =
 pub record Sees (words : List Text) (name : Text) (rows : List Row) : Type 0 where
   pub none : fault_of program_app words ≡ []
   pub met : subcommand_of program_app words ≡ Some (name, rows)
-  pub has : ((name ≡ codes "show") × HasCapture rows) ⊎ ((name ≡ codes "list") × HasListValues rows)
+  pub has : IsCommand name rows
 
 -- what a caller sees of the subcommand
 seen : {X : Type 0} (name : X → Text) (rows : X → List Row) (o : Option X) (x : X) (met : Option (Text × List Row)) (n : Text) (rs : List Row)
@@ -273,7 +331,7 @@ mapped_twice : {A B C : Type 0} (f : B → C) (g : A → B) (o : Option A) → o
 mapped_twice f g None = refl
 mapped_twice f g (Some a) = refl
 
--- the matches of a parse by the program are those of `show` or `list`, with its values
+-- the matches of a parse by the program are those of a subcommand, with its values
 pub sees : {X : Type 0} (name : X → Text) (rows : X → List Row) (o : Option X) (x : X) (a : App) (words : List Text) (m : ArgMatches)
     → a ≡ program_app → HasMatchesOf a words m → (is_simple_and_free a ≡ true → fault_of a words ≡ []) → o ≡ Some x
     → option_map name o ≡ subcommand_name_of m → option_map rows o ≡ option_map (λ p. p.1) (subcommand_rows_of m)
@@ -289,25 +347,22 @@ sees name rows o x a words m is matched kinds found names same = of (taken words
     names_are : option_map name o ≡ option_map (λ p. p.0) (subcommand_rows_of m)
     names_are = names ∙ sym (mapped_twice _ _ (out-ArgMatches m).subcommand)
 
-    of : Names words (codes "show") HasCapture ⊎ Names words (codes "list") HasListValues → Sees words (name x) (rows x)
-    of (inl show) =
-        let at = seen name rows o x (subcommand_rows_of m) (codes "show") show.0 found names_are same (met ∙ show.1) in
-        record { none = none; met = show.1 ∙ (λ i. Some (at.0 i, at.1 i)); has = inl (sym at.0, subst HasCapture at.1 show.2) }
-    of (inr list) =
-        let at = seen name rows o x (subcommand_rows_of m) (codes "list") list.0 found names_are same (met ∙ list.1) in
-        record { none = none; met = list.1 ∙ (λ i. Some (at.0 i, at.1 i)); has = inr (sym at.0, subst HasListValues at.1 list.2) }
+    of : (n : Text) × (rs : List Row) × (subcommand_of program_app words ≡ Some (n, rs)) × IsCommand n rs → Sees words (name x) (rows x)
+    of entered =
+        let at = seen name rows o x (subcommand_rows_of m) entered.0 entered.1 found names_are same (met ∙ entered.2) in
+        record { none = none; met = entered.2 ∙ (λ i. Some (at.0 i, at.1 i)); has = subst (λ n. IsCommand n (rows x)) at.0 (subst (IsCommand entered.0) at.1 entered.3) }
 
 other_name : codes "list" ≡ codes "show" → ⊥
 other_name same = let first : 108 ≡ 115 = ap (λ t. slice_index t 0) same in omega (arith, first)
 
 pub is_show : {words : List Text} {name : Text} {rows : List Row} → Sees words name rows → name ≡ codes "show" → HasCapture rows
 is_show {words} {name} {rows} at same = go at.has where
-  go : ((name ≡ codes "show") × HasCapture rows) ⊎ ((name ≡ codes "list") × HasListValues rows) → HasCapture rows
+  go : IsCommand name rows → HasCapture rows
   go (inl show) = show.1
   go (inr list) = absurd (other_name (sym list.0 ∙ same))
 
 pub is_list : {words : List Text} {name : Text} {rows : List Row} → Sees words name rows → (name ≡ codes "show" → ⊥) → (name ≡ codes "list") × HasListValues rows
 is_list {words} {name} {rows} at other = go at.has where
-  go : ((name ≡ codes "show") × HasCapture rows) ⊎ ((name ≡ codes "list") × HasListValues rows) → (name ≡ codes "list") × HasListValues rows
+  go : IsCommand name rows → (name ≡ codes "list") × HasListValues rows
   go (inl show) = absurd (other show.0)
   go (inr list) = list

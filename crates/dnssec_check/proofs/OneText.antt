@@ -1,10 +1,11 @@
--- For a file of octets a request has at most one text, or one refusal, and never both.
+-- For its files a request has at most one text, or one first fault, and never both.
 use Rattle.std.proofs.Common.{◌≡◌, ◌≢◌, ℕ, suc, List, [], ◌∷◌, ◌++◌, refl, sym, ap, subst, ◌∙◌, inl, inr, Option}
-use Rattle.std.specs.List.{AllByRecursion}
+use Rattle.std.specs.List.{AllByRecursion, flat_map}
+use Rattle.std.specs.Prelude.{length, true, false}
 use Rattle.dnsv_names.specs.Name.{Labels}
 use Rattle.dnsv_message.specs.declared.errors.DecodeError.{DecodeError}
 use Rattle.dnsv_message.specs.declared.errors.DecodeError.TheVariants as decode
-use Rattle.dnsv_message.specs.Frames.{IsCapture, HasZeroLength, EndsTorn, IsTooLong}
+use Rattle.dnsv_message.specs.Frames.{IsCapture, HasZeroLength, EndsTorn, IsTooLong, file_limit}
 use Rattle.dnsv_message.specs.Grammar.{MessageOf, FaultOf}
 use Rattle.dnsv_message.specs.Message.{Contents}
 use Rattle.dnsv_names.specs.Octets.{AreOctets}
@@ -17,13 +18,22 @@ use Rattle.dnsv_canonical.specs.Rrsets.{ReceivedRrset}
 use Rattle.dnsv_canonical.specs.SignedData.{IsSignedData}
 use Rattle.dnssec_check.specs.declared.status.Place.{Place}
 use Rattle.dnssec_check.specs.declared.status.Refusal.{Refusal}
-use Rattle.dnssec_check.specs.declared.line.Request.{Request}
-use Rattle.dnssec_check.specs.declared.line.Request.TheVariants as request
-use Rattle.dnssec_check.specs.CaptureFile.{Demand, AnyMessage, NewEvidence, Meets, Fails, AllTaken, Holds, MessageRefused, FirstRefused, IsNowhere, IsRefusal}
+use Rattle.dnssec_check.specs.declared.request.Request.{Request}
+use Rattle.dnssec_check.specs.declared.request.Request.TheVariants as request
+use Rattle.dnssec_check.specs.declared.status.Fault.{Fault}
+use Rattle.dnssec_check.specs.declared.status.Fault.TheVariants as fault
+use Rattle.dnssec_check.specs.declared.status.InputFile.TheVariants.{Capture, Statements}
+use Rattle.dnssec_check.specs.CaptureFile.{Demand, AnyMessage, NewEvidence, Meets, Fails, AllTaken, Holds, MessageRefused, FirstRefused, IsFaultOfCapture, IsNowhere, IsRefusal}
 use Rattle.dnssec_check.specs.Listing.{data_line, SignatureLines, RrsetLines}
-use Rattle.dnssec_check.specs.Run.{IsTextOf, IsRefusalOf, demand_of}
+use Rattle.dnssec_check.specs.Files.{Files, octets_or_none}
+use Rattle.dnssec_check.specs.Run.{IsTextOf, IsFirstFault, IsFirstFaultOfTodo}
 use Rattle.dnssec_check.specs.Showing.{message_text, texts_from}
 use Rattle.dnssec_check.specs.Status.{TellsMessageError, TellsCaptureError}
+use Rattle.dnssec_check.specs.Todo.{IsTodo, todo_line}
+use Rattle.dnssec_check.proofs.StatementsFileLemmas.{no_statements_fault, one_meaning, one_statements_fault, too_many}
+use Rattle.dnsv_verifier.specs.Table.{IsTableOf, TableContents, unknown_entries}
+use Rattle.dnsv_verifier.specs.declared.answer.Answer.{Answer}
+use Rattle.dnsv_verifier.specs.declared.entry.Entry.{Entry}
 
 -- the laws of the layers below: of messages and files of messages, of signatures and of what they sign, and of evidence
 pub record LayerLaws : Type 0 where
@@ -37,6 +47,7 @@ pub record LayerLaws : Type 0 where
   pub one_rrsig : (rdata : List ℕ) (a b : Rrsig) → IsRrsig rdata a → IsRrsig rdata b → a ≡ b
   pub one_signed_data : (owner : Labels) (rtype : ℕ) (received : List (List ℕ)) (rrsig : Rrsig) (a b : Option (List ℕ)) → IsSignedData owner rtype received rrsig a → IsSignedData owner rtype received rrsig b → a ≡ b
   pub one_reason : (held : Evidence) (message : Contents) (a b : CaptureError) → a ≢ capture.OutOfMemory → b ≢ capture.OutOfMemory → IsReasonAgainst held message a → IsReasonAgainst held message b → a ≡ b
+  pub one_table : (meaning : Entry → Answer) (moment : ℕ) (rrsets : List ReceivedRrset) (a b : TableContents) → IsTableOf meaning moment rrsets a → IsTableOf meaning moment rrsets b → a ≡ b
   pub no_reason_against_evidence : (held : Evidence) (message : Contents) (error : CaptureError) → error ≢ capture.OutOfMemory → IsEvidence held message → IsReasonAgainst held message error → ⊥
 
 module _ (laws : LayerLaws) where
@@ -78,13 +89,19 @@ module _ (laws : LayerLaws) where
       one_taken demand no_evidence x.frames a b (laws.capture_octets file x.frames are x.framing) x.taken
       (subst (λ frames. AllTaken demand no_evidence frames b) frames y.taken)
 
-  -- a request has one text for a file
-  pub one_text : (asked : Request) (file : List ℕ) → AreOctets file → (a b : List ℕ) → IsTextOf asked file a → IsTextOf asked file b → a ≡ b
-  one_text (request.Show capture) file are a b x y =
-      x.2 ∙ ap (texts_from message_text 1) (one_holding AnyMessage file are x.0 y.0 x.1 y.1) ∙ sym y.2
-  one_text (request.List capture moment) file are a b x y =
+  -- a request has one text for its files
+  pub one_text : (asked : Request) (files : Files) → AreOctets files.capture → (a b : List ℕ) → IsTextOf asked files a → IsTextOf asked files b → a ≡ b
+  one_text (request.Show capture) files are a b x y =
+      x.2 ∙ ap (texts_from message_text 1) (one_holding AnyMessage files.capture are x.0 y.0 x.1 y.1) ∙ sym y.2
+  one_text (request.List capture moment statements true) files are a b x y =
       one_lines 1 (evidence_of x.0).rrsets a b x.2
-      (subst (λ messages. RrsetLines 1 (evidence_of messages).rrsets b) (one_holding NewEvidence file are y.0 x.0 y.1 x.1) y.2)
+      (subst (λ messages. RrsetLines 1 (evidence_of messages).rrsets b) (one_holding NewEvidence files.capture are y.0 x.0 y.1 x.1) y.2)
+  one_text (request.List capture moment statements false) files are a b x y =
+      let messages = one_holding NewEvidence files.capture are x.messages y.messages x.holds y.holds in
+      let meanings = one_meaning (octets_or_none files.statements) x.meaning y.meaning x.said y.said in
+      let first = subst (λ (meaning : Entry → Answer). IsTableOf meaning moment (evidence_of x.messages).rrsets x.table) meanings x.is_table in
+      let second = subst (λ messages. IsTableOf y.meaning moment (evidence_of messages).rrsets x.table) messages first in
+      x.lines ∙ ap (λ table. flat_map todo_line (unknown_entries table)) (laws.one_table y.meaning moment (evidence_of y.messages).rrsets x.table y.table second y.is_table) ∙ sym y.lines
 
   -- ---- the refusal
 
@@ -184,11 +201,6 @@ module _ (laws : LayerLaws) where
       all_stand demand no_evidence 1 x.frames messages why place (laws.capture_octets file x.frames are x.framing) x.taken
       (subst (λ frames. FirstRefused demand no_evidence 1 frames why place) (laws.one_capture file y.0 x.frames y.1 x.framing) y.2)
 
-  -- a file that has a text isn't refused
-  pub text_stands : (asked : Request) (file : List ℕ) → AreOctets file → (text : List ℕ) (why : Refusal) (place : Place) → IsTextOf asked file text → IsRefusalOf asked file why place → ⊥
-  text_stands (request.Show capture) file are text why place x refused = holding_stands AnyMessage file are x.0 why place x.1 refused
-  text_stands (request.List capture moment) file are text why place x refused = holding_stands NewEvidence file are x.0 why place x.1 refused
-
   -- a file has one refusal
   one_refusal : (demand : Demand) (file : List ℕ) → AreOctets file → (a b : Refusal) (p q : Place) → IsRefusal demand file a p → IsRefusal demand file b q → (a ≡ b) × (p ≡ q)
   one_refusal demand file are a b p q (inl x) (inl y) = (x.1 ∙ sym y.1, same_nowhere p q x.2 y.2)
@@ -203,5 +215,59 @@ module _ (laws : LayerLaws) where
       first_once demand no_evidence 1 x.0 a b p q (laws.capture_octets file x.0 are x.1) x.2
       (subst (λ frames. FirstRefused demand no_evidence 1 frames b q) (laws.one_capture file y.0 x.0 y.1 x.1) y.2)
 
-  pub one_refusal_of : (asked : Request) (file : List ℕ) → AreOctets file → (a b : Refusal) (p q : Place) → IsRefusalOf asked file a p → IsRefusalOf asked file b q → (a ≡ b) × (p ≡ q)
-  one_refusal_of asked = one_refusal (demand_of asked)
+  -- a file whose messages are taken has no fault
+  no_capture_fault : (demand : Demand) (file : List ℕ) → AreOctets file → (messages : List Contents) (told : Fault) → Holds demand file messages → IsFaultOfCapture demand file told → ⊥
+  no_capture_fault demand file are messages (fault.Refused why place) x refused = holding_stands demand file are messages why place x refused
+  no_capture_fault demand file are messages (fault.TooLong Capture) x long = too_many (length file) file_limit x.framing.within long.0
+  no_capture_fault demand file are messages (fault.TooLong Statements) x long = long
+  no_capture_fault demand file are messages fault.OutOfMemory x fault = fault
+  no_capture_fault demand file are messages (fault.ReadFailed other) x fault = fault
+  no_capture_fault demand file are messages (fault.OpenFailed other) x fault = fault
+  no_capture_fault demand file are messages fault.WriteFailed x fault = fault
+
+  -- a file that is refused isn't too long
+  no_long_refusal : (demand : Demand) (file : List ℕ) (why : Refusal) (place : Place) → IsRefusal demand file why place → IsTooLong file → ⊥
+  no_long_refusal demand file why place (inl zero) long = long.1 zero.0
+  no_long_refusal demand file why place (inr (inl torn)) long = too_many (length file) file_limit torn.0.0 long.0
+  no_long_refusal demand file why place (inr (inr framed)) long = too_many (length file) file_limit framed.1.within long.0
+
+  same_refusal : (a b : Refusal) (p q : Place) → (a ≡ b) × (p ≡ q) → fault.Refused a p ≡ fault.Refused b q
+  same_refusal a b p q same = λ i. fault.Refused (same.0 i) (same.1 i)
+
+  one_capture_fault : (demand : Demand) (file : List ℕ) → AreOctets file → (a b : Fault) → IsFaultOfCapture demand file a → IsFaultOfCapture demand file b → a ≡ b
+  one_capture_fault demand file are (fault.Refused a p) (fault.Refused b q) x y = same_refusal a b p q (one_refusal demand file are a b p q x y)
+  one_capture_fault demand file are (fault.Refused a p) (fault.TooLong Capture) x y = absurd (no_long_refusal demand file a p x y)
+  one_capture_fault demand file are (fault.TooLong Capture) (fault.Refused b q) x y = absurd (no_long_refusal demand file b q y x)
+  one_capture_fault demand file are (fault.TooLong Capture) (fault.TooLong Capture) x y = refl
+  one_capture_fault demand file are (fault.TooLong Statements) b x y = absurd x
+  one_capture_fault demand file are a (fault.TooLong Statements) x y = absurd y
+  one_capture_fault demand file are fault.OutOfMemory b x y = absurd x
+  one_capture_fault demand file are (fault.ReadFailed other) b x y = absurd x
+  one_capture_fault demand file are (fault.OpenFailed other) b x y = absurd x
+  one_capture_fault demand file are fault.WriteFailed b x y = absurd x
+  one_capture_fault demand file are a fault.OutOfMemory x y = absurd y
+  one_capture_fault demand file are a (fault.ReadFailed other) x y = absurd y
+  one_capture_fault demand file are a (fault.OpenFailed other) x y = absurd y
+  one_capture_fault demand file are a fault.WriteFailed x y = absurd y
+
+  no_todo_fault : (moment : ℕ) (files : Files) → AreOctets files.capture → (text : List ℕ) (told : Fault) → IsTodo moment files text → IsFirstFaultOfTodo files told → ⊥
+  no_todo_fault moment files are text told x (inl captured) = no_capture_fault NewEvidence files.capture are x.messages told x.holds captured
+  no_todo_fault moment files are text told x (inr stated) = no_statements_fault (octets_or_none files.statements) x.meaning told x.said stated.1
+
+  one_todo_fault : (files : Files) → AreOctets files.capture → (a b : Fault) → IsFirstFaultOfTodo files a → IsFirstFaultOfTodo files b → a ≡ b
+  one_todo_fault files are a b (inl x) (inl y) = one_capture_fault NewEvidence files.capture are a b x y
+  one_todo_fault files are a b (inl x) (inr y) = absurd (no_capture_fault NewEvidence files.capture are y.0.0 a y.0.1 x)
+  one_todo_fault files are a b (inr x) (inl y) = absurd (no_capture_fault NewEvidence files.capture are x.0.0 b x.0.1 y)
+  one_todo_fault files are a b (inr x) (inr y) = one_statements_fault (octets_or_none files.statements) a b x.1 y.1
+
+  -- files that have a text have no fault
+  pub text_stands : (asked : Request) (files : Files) → AreOctets files.capture → (text : List ℕ) (told : Fault) → IsTextOf asked files text → IsFirstFault asked files told → ⊥
+  text_stands (request.Show capture) files are text told x fault = no_capture_fault AnyMessage files.capture are x.0 told x.1 fault
+  text_stands (request.List capture moment statements true) files are text told x fault = no_capture_fault NewEvidence files.capture are x.0 told x.1 fault
+  text_stands (request.List capture moment statements false) files are text told x fault = no_todo_fault moment files are text told x fault
+
+  -- files have one first fault
+  pub one_first_fault : (asked : Request) (files : Files) → AreOctets files.capture → (a b : Fault) → IsFirstFault asked files a → IsFirstFault asked files b → a ≡ b
+  one_first_fault (request.Show capture) files are a b x y = one_capture_fault AnyMessage files.capture are a b x y
+  one_first_fault (request.List capture moment statements true) files are a b x y = one_capture_fault NewEvidence files.capture are a b x y
+  one_first_fault (request.List capture moment statements false) files are a b x y = one_todo_fault files are a b x y

@@ -4,7 +4,7 @@ use Rattle.std.specs.Prelude.{Result, Ok, Err, IfErr, IfOk, IfSome, OnOk, if◌t
 use Rattle.std.specs.List.{list_any}
 use Rattle.std.specs.Io.KnownBytes.{Appends}
 use Rattle.dnsv_message.specs.Counted.{AppendsBeginning}
-use Rattle.dnssec_check.specs.declared.line.Request.{Request}
+use Rattle.dnssec_check.specs.declared.request.Request.{Request}
 use Rattle.dnssec_check.specs.declared.status.Status.{Status}
 use Rattle.dnssec_check.specs.declared.status.Status.TheVariants.{Done}
 use Rattle.dnssec_check.specs.declared.status.Fault.{Fault}
@@ -12,9 +12,10 @@ use Rattle.dnssec_check.specs.declared.status.Fault.TheVariants as fault
 use Rattle.dnssec_check.specs.declared.status.Place.{Place}
 use Rattle.dnssec_check.specs.declared.status.Refusal.{Refusal}
 use Rattle.dnssec_check.specs.declared.status.Refusal.TheVariants as refusal
-use Rattle.dnssec_check.specs.Line.{IsAccepted, capture_of}
-use Rattle.dnssec_check.specs.Program.{BeganText, RefusedFile, RefusedWords, WroteText}
-use Rattle.dnssec_check.specs.Run.{IsTextOf, IsRefusalOf}
+use Rattle.dnssec_check.specs.Files.{Files}
+use Rattle.dnssec_check.specs.Line.{IsAccepted}
+use Rattle.dnssec_check.specs.Program.{AreFilesAt, BeganText, RefusedFiles, RefusedWords, WroteText}
+use Rattle.dnssec_check.specs.Run.{IsTextOf, IsFirstFault}
 use Rattle.dnssec_check.specs.Status.{failures, fault_code, fault_number, outcome_code, refusal_number}
 
 -- what is said of the words that were handed out holds of those that the machine tells
@@ -65,6 +66,8 @@ refusal_ends_with_7 refusal.TornFrame = refl
 refusal_ends_with_7 refusal.NotAResponse = refl
 refusal_ends_with_7 refusal.Truncated = refl
 refusal_ends_with_7 refusal.Limit = refl
+refusal_ends_with_7 refusal.StatementSyntax = refl
+refusal_ends_with_7 refusal.Contradiction = refl
 
 -- 1 is the exit status of a failed write, or of a fault that left the output as it was
 pub ended_failed : {Same Begun : Type 0} (outcome : Result Status Fault) → outcome_code outcome ≡ 1
@@ -84,27 +87,22 @@ left_alone code is_1 (inr same) = same
 
 pub began : (given : Option (List (List ℕ))) (octets_at : List ℕ → Option (List ℕ)) (old new : Option (List ℕ)) (request : Request)
     → IfSome given (λ words. IsAccepted words request)
-    → IfSome (octets_at (capture_of request)) (λ file. (text : List ℕ) × IsTextOf request file text × AppendsBeginning old new text)
+    → ((files : Files) → AreFilesAt octets_at request files → (text : List ℕ) × IsTextOf request files text × AppendsBeginning old new text)
     → IfSome given (λ words. BeganText words octets_at old new)
 began None octets_at old new request accepted text = tt
 began (Some words) octets_at old new request accepted text = record { request = request; accepted = accepted; text = text }
 
 pub wrote : (given : Option (List (List ℕ))) (octets_at : List ℕ → Option (List ℕ)) (old new : Option (List ℕ)) (request : Request)
     → IfSome given (λ words. IsAccepted words request)
-    → IfSome (octets_at (capture_of request)) (λ file. (text : List ℕ) × IsTextOf request file text × Appends old new text)
+    → ((files : Files) → AreFilesAt octets_at request files → (text : List ℕ) × IsTextOf request files text × Appends old new text)
     → IfSome given (λ words. WroteText words octets_at old new ⊎ RefusedWords words 0)
 wrote None octets_at old new request accepted text = tt
 wrote (Some words) octets_at old new request accepted text = inl (record { request = request; accepted = accepted; text = text })
 
 pub refused : (given : Option (List (List ℕ))) (octets_at : List ℕ → Option (List ℕ)) (request : Request) (why : Refusal) (place : Place)
     → IfSome given (λ words. IsAccepted words request)
-    → IfSome (octets_at (capture_of request)) (λ file. IsRefusalOf request file why place)
-    → IfSome given (λ words. RefusedFile words octets_at)
+    → ((files : Files) → AreFilesAt octets_at request files → IsFirstFault request files (fault.Refused why place))
+    → IfSome given (λ words. RefusedFiles words octets_at)
 refused None octets_at request why place accepted holds = tt
 refused (Some words) octets_at request why place accepted holds =
-    record { request = request; accepted = accepted; refused = refused_somehow (octets_at (capture_of request)) holds }
-  where
-    refused_somehow : (file : Option (List ℕ)) → IfSome file (λ octets. IsRefusalOf request octets why place)
-        → IfSome file (λ octets. (why : Refusal) × (place : Place) × IsRefusalOf request octets why place)
-    refused_somehow None holds = tt
-    refused_somehow (Some octets) holds = (why, place, holds)
+    record { request = request; accepted = accepted; refused = λ files are. (why, place, holds files are) }

@@ -1,12 +1,15 @@
 -- Files of captured messages: which messages a file holds, and what it is refused for.
 use Rattle.std.specs.Prelude.{◌≡◌, ◌⊎◌, ⊤, ℕ, suc, List, [], ◌∷◌, Option, Some, None}
 use Rattle.dnsv_message.specs.declared.errors.DecodeError.{DecodeError}
-use Rattle.dnsv_message.specs.Frames.{IsCapture, HasZeroLength, EndsTorn}
+use Rattle.dnsv_message.specs.Frames.{IsCapture, HasZeroLength, EndsTorn, IsTooLong}
 use Rattle.dnsv_message.specs.Grammar.{MessageOf, FaultOf}
 use Rattle.dnsv_message.specs.Message.{Contents}
 use Rattle.dnsv_canonical.specs.declared.capture.CaptureError.{CaptureError}
 use Rattle.dnsv_canonical.specs.Evidence.{Evidence, IsEvidence, no_evidence, with_message}
 use Rattle.dnsv_canonical.specs.Evidence as evidence
+use Rattle.dnssec_check.specs.declared.status.Fault.{Fault}
+use Rattle.dnssec_check.specs.declared.status.Fault.TheVariants as fault
+use Rattle.dnssec_check.specs.declared.status.InputFile.TheVariants.{Capture}
 use Rattle.dnssec_check.specs.declared.status.Refusal.{Refusal}
 use Rattle.dnssec_check.specs.declared.status.Refusal.TheVariants as refusal
 use Rattle.dnssec_check.specs.declared.status.Place.{Place}
@@ -71,3 +74,9 @@ IsRefusal demand file why place =
     (HasZeroLength file × (why ≡ refusal.ZeroLength) × IsNowhere place)
     ⊎ (EndsTorn file × (why ≡ refusal.TornFrame) × IsNowhere place)
     ⊎ ((frames : List (List ℕ)) × IsCapture file frames × FirstRefused demand no_evidence 1 frames why place)
+
+-- the file has this fault: it is refused so, or it is too long
+abbrev pub IsFaultOfCapture : Demand → List ℕ → Fault → Type 0
+IsFaultOfCapture demand file (fault.Refused why place) = IsRefusal demand file why place
+IsFaultOfCapture demand file (fault.TooLong Capture) = IsTooLong file
+IsFaultOfCapture demand file _ = ⊥

@@ -1,22 +1,57 @@
--- What a call over the file of captured messages answers where that file is at fault.
-use Rattle.std.specs.Prelude.{◌≡◌, ◌<◌, ◌-◌, ◌^◌, ℕ, List, Option, Result, Err, IfErr, IfSome, IsErrOf}
-use Rattle.dnsv_message.specs.Frames.{IsTooLong}
+-- What a call over files answers where one of them is at fault.
+use Rattle.std.specs.Prelude.{◌≡◌, ◌<◌, ◌≤◌, ◌-◌, ◌^◌, ⊤, ℕ, List, Option, Result, Err, IfErr, IfSome, IsErrOf, length}
+use Rattle.dnsv_message.specs.Counted.{failures_of}
+use Rattle.dnsv_message.specs.Frames.{file_limit}
+use Rattle.dnssec_check.specs.declared.run.Inputs.{Inputs}
 use Rattle.dnssec_check.specs.declared.status.Fault.{Fault}
 use Rattle.dnssec_check.specs.declared.status.Fault.TheVariants as fault
-use Rattle.dnssec_check.specs.declared.status.InputFile.TheVariants.{Capture}
+use Rattle.dnssec_check.specs.declared.status.InputFile.{InputFile}
+use Rattle.dnssec_check.specs.declared.status.InputFile.TheVariants.{Capture, Statements}
 use Rattle.dnssec_check.specs.declared.status.Place.{Place}
 use Rattle.dnssec_check.specs.declared.status.Refusal.{Refusal}
+use Rattle.dnssec_check.specs.Files.{Files, AreTold, given_failures}
+
+-- where the octets of a file are at fault, this is so
+abbrev pub OfOctets : (Fault → Type 0) → Fault → Type 0
+OfOctets Holds (fault.Refused why place) = Holds (fault.Refused why place)
+OfOctets Holds (fault.TooLong file) = Holds (fault.TooLong file)
+OfOctets Holds _ = ⊤
+
+-- the fault is in what the file holds or in reading it, or is the want of memory
+abbrev pub IsAbout : InputFile → Fault → Type 0
+IsAbout file fault.OutOfMemory = ⊤
+IsAbout file (fault.Refused why place) = ⊤
+IsAbout file (fault.ReadFailed other) = other ≡ file
+IsAbout file (fault.TooLong other) = other ≡ file
+IsAbout file (fault.OpenFailed other) = ⊥
+IsAbout file fault.WriteFailed = ⊥
+
+-- The answer tells a failed read of the file, and tells none that wasn't: by the count of the calls of its reader
+-- that failed, unless that began at its greatest value.
+pub record TellsFailedReads {T : Type 0} (file : InputFile) (before after : ℕ) (result : Result T Fault) : Type 0 where
+  pub read : result ≡ Err (fault.ReadFailed file) → before < 2 ^ 64 - 1 → before < after
+  pub failed : before < after → IsErrOf result (fault.ReadFailed file)
 
 -- The answer tells no fault that the file hasn't. `octets` are those of the file, where its reader tells them;
 -- `before` and `after` count the calls of the reader that failed.
-pub record TellsFileFaults {T : Type 0} (IsRefused : List ℕ → Refusal → Place → Type 0)
+pub record TellsFileFaults {T : Type 0} (file : InputFile) (IsFault : List ℕ → Fault → Type 0)
     (octets : Option (List ℕ)) (before after : ℕ) (result : Result T Fault) : Type 0 where
-  pub refused : (why : Refusal) (place : Place) → result ≡ Err (fault.Refused why place)
-      → IfSome octets (λ file. IsRefused file why place)
-  pub too_long : result ≡ Err (fault.TooLong Capture) → IfSome octets IsTooLong
-  -- only where the reader failed in this call, by the count, unless that began at its greatest value
-  pub read : result ≡ Err (fault.ReadFailed Capture) → before < 2 ^ 64 - 1 → before < after
-  -- and wherever it failed
-  pub failed : before < after → IsErrOf result (fault.ReadFailed Capture)
+  pub told : IfErr result (λ told. IfSome octets (λ octets. OfOctets (IsFault octets) told))
+  pub reads : TellsFailedReads file before after result
+  pub about : IfErr result (IsAbout file)
+
+-- a text file has this fault: too many octets, or, within the limit, this is refused
+abbrev pub IsTextFault : InputFile → (List ℕ → Refusal → Place → Type 0) → List ℕ → Fault → Type 0
+IsTextFault file IsRefused octets (fault.Refused why place) = (length octets ≤ file_limit) × IsRefused octets why place
+IsTextFault file IsRefused octets (fault.TooLong other) = (other ≡ file) × (file_limit < length octets)
+IsTextFault file IsRefused octets _ = ⊥
+
+-- The answer tells the first fault of the files, and no other. `remaining` are the octets of a reader, where it
+-- tells them.
+pub record TellsFaults {R T : Type 0} (IsFirst : Files → Fault → Type 0) (remaining : R → Option (List ℕ))
+    (before after : Inputs R) (result : Result T Fault) : Type 0 where
+  pub first : (files : Files) → AreTold remaining before files → IfErr result (OfOctets (IsFirst files))
+  pub capture : TellsFailedReads Capture (failures_of before.capture) (failures_of after.capture) result
+  pub statements : TellsFailedReads Statements (given_failures before.statements) (given_failures after.statements) result
   -- a file that is open can't fail to open
-  pub opened : IfErr result (λ told. told ≡ fault.OpenFailed Capture → ⊥)
+  pub opened : IfErr result (λ told. (file : InputFile) → told ≡ fault.OpenFailed file → ⊥)

@@ -1,10 +1,16 @@
 pub mod CaptureFile
+pub mod Commands
 pub mod FileFaults
+pub mod Files
+pub mod HexText
 pub mod Line
 pub mod Listing
 pub mod Moment
 pub mod Program
+pub mod Request
 pub mod Run
 pub mod Showing
+pub mod StatementsFile
 pub mod Status
+pub mod Todo
 pub mod Told

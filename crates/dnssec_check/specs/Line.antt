@@ -1,69 +1,23 @@
--- The command line: the commands of the program as `clap` sees them, and what their words ask for.
-use Rattle.std.specs.Prelude.{◌≡◌, ◌≢◌, ⊤, ℕ, true, List, [], Option, Some, None}
+-- The command line: what its words ask for.
+use Rattle.std.specs.Prelude.{◌≡◌, ◌≢◌, ◌⊎◌, ⊤, ℕ, Bool, true, false, List, [], Option, Some, None}
 use Rattle.std.specs.Prelude.{if◌then◌else◌, codes, is_some, option_and_then, string_bytes}
+use Rattle.std.specs.Option.{option_map}
+use Rattle.std.specs.Str.{bytes_eq}
 use Rattle.std.specs.Str.Parse.{digits_value, without_leading_plus}
-use Rattle.clap.specs.Words.{App, Row, Rule, Text, first_of, kind_of, new_app, new_rule, one_of}
-use Rattle.clap.specs.Words.{IsAmong, fault_of, subcommand_of, with_rule, with_subcommand}
+use Rattle.clap.specs.Words.{Row, Text, first_of, kind_of, one_of}
+use Rattle.clap.specs.Words.{IsAmong, fault_of, subcommand_of}
 use Rattle.clap.specs.ValueTests.{is_unsigned_in}
-use Rattle.clap.specs.declared.builder.action.ArgAction.TheVariants.{SetTrue}
-use Rattle.clap.specs.declared.builder.value_parser.ValueParser.TheVariants as parser
 use Rattle.clap.specs.declared.error.Error.{Error}
 use Rattle.clap.specs.declared.error.kind.ErrorKind.{ErrorKind}
 use Rattle.clap.specs.declared.error.kind.ErrorKind.TheVariants as kind
 use Rattle.std.specs.declared.io.ErrorKind.{ErrorKind as IoErrorKind}
 use Rattle.std.specs.declared.io.ErrorKind.TheVariants as io
+use Rattle.dnssec_check.specs.Commands.{program_app}
 use Rattle.dnssec_check.specs.Moment.{last_moment}
-use Rattle.dnssec_check.specs.declared.line.Request.{Request}
-use Rattle.dnssec_check.specs.declared.line.Request.TheVariants as request
+use Rattle.dnssec_check.specs.declared.request.Request.{Request}
+use Rattle.dnssec_check.specs.declared.request.Request.TheVariants as request
 use Rattle.dnssec_check.specs.declared.line.LineError.{LineError}
 use Rattle.dnssec_check.specs.declared.line.LineError.TheVariants as line
-
--- ---- the commands
-
--- `--capture FILE`, which has to be there
-abbrev pub capture_rule : Rule
-capture_rule = record (new_rule (codes "capture")) {
-  long = Some (codes "capture");
-  value_names = 1;
-  required = true;
-}
-
--- `--moment N`, which has to be there, with a decimal number up to the last moment
-abbrev pub moment_rule : Rule
-moment_rule = record (new_rule (codes "moment")) {
-  long = Some (codes "moment");
-  value_names = 1;
-  parser = Some (parser.Unsigned 0 last_moment);
-  required = true;
-}
-
--- `--all`, which takes no value and has to be there
-abbrev pub all_rule : Rule
-all_rule = record (new_rule (codes "all")) {
-  long = Some (codes "all");
-  action = Some SetTrue;
-  required = true;
-}
-
--- `show --capture FILE`
-abbrev pub show_app : App
-show_app = with_rule (new_app (codes "show")) capture_rule
-
--- `list --capture FILE --moment N --all`
-abbrev pub list_app : App
-list_app = with_rule (with_rule (with_rule (new_app (codes "list")) capture_rule) moment_rule) all_rule
-
--- the program, which wants one of its subcommands
-abbrev pub bare_app : App
-bare_app = record (new_app (codes "dnssec_check")) {
-  top = record (new_app (codes "dnssec_check")).top {
-    disable_help_subcommand = true;
-    subcommand_required = true;
-  };
-}
-
-abbrev pub program_app : App
-program_app = with_subcommand (with_subcommand bare_app show_app.top) list_app.top
 
 -- ---- what the words ask for
 
@@ -73,24 +27,26 @@ moment_said text =
     if is_unsigned_in 0 last_moment text then Some (digits_value 10 (without_leading_plus text))
     else None
 
+-- whether a flag was given, by its text
+abbrev pub flag_said : Option Text → Bool
+flag_said None = false
+flag_said (Some text) = bytes_eq text (codes "true")
+
 -- a subcommand and the values of its options ask for the request
 abbrev pub Asks : Text → List Row → Request → Type 0
 Asks name rows (request.Show capture) = (name ≡ codes "show")
     × (first_of (codes "capture") rows ≡ Some (string_bytes capture))
-Asks name rows (request.List capture moment) = (name ≡ codes "list")
+Asks name rows (request.List capture moment statements all) = (name ≡ codes "list")
     × (first_of (codes "capture") rows ≡ Some (string_bytes capture))
     × (option_and_then moment_said (first_of (codes "moment") rows) ≡ Some moment)
+    × (first_of (codes "statements") rows ≡ option_map string_bytes statements)
+    × (flag_said (one_of (codes "all") rows) ≡ all)
 
 -- the program takes the words, and their subcommand and its values ask for the request
 abbrev pub IsAccepted : List Text → Request → Type 0
 IsAccepted words asked = (fault_of program_app words ≡ [])
     × ((name : Text) × (rows : List Row)
     × (subcommand_of program_app words ≡ Some (name, rows)) × Asks name rows asked)
-
--- the path of the file of captured messages
-abbrev pub capture_of : Request → List ℕ
-capture_of (request.Show capture) = string_bytes capture
-capture_of (request.List capture moment) = string_bytes capture
 
 -- ---- why they ask for nothing
 
@@ -125,10 +81,20 @@ line_code (line.Misused refusal) = 2
 
 -- ---- what `show` and `list` need of their matches
 
+abbrev pub HasValue : Text → List Row → Type 0
+HasValue option rows = is_some (first_of option rows) ≡ true
+
 abbrev pub HasCapture : List Row → Type 0
-HasCapture rows = is_some (first_of (codes "capture") rows) ≡ true
+HasCapture rows = HasValue (codes "capture") rows
+
+-- a text within the bounds of a moment
+abbrev pub HasMoment : List Row → Type 0
+HasMoment rows = (text : Text) × (first_of (codes "moment") rows ≡ Some text)
+    × (one_of (codes "moment") rows ≡ Some text) × (is_unsigned_in 0 last_moment text ≡ true)
+
+-- the text of a flag is a truth value's, or it has none
+abbrev pub IsFlag : Option Text → Type 0
+IsFlag text = (text ≡ None) ⊎ ((text ≡ Some (codes "true")) ⊎ (text ≡ Some (codes "false")))
 
 abbrev pub HasListValues : List Row → Type 0
-HasListValues rows = HasCapture rows
-    × ((text : Text) × (first_of (codes "moment") rows ≡ Some text)
-    × (one_of (codes "moment") rows ≡ Some text) × (is_unsigned_in 0 last_moment text ≡ true))
+HasListValues rows = HasCapture rows × HasMoment rows × IsFlag (one_of (codes "all") rows)

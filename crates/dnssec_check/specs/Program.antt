@@ -1,37 +1,65 @@
 -- How the program ends, where its machine tells the words of the command line and the octets of files.
-use Rattle.std.specs.Prelude.{◌≡◌, ℕ, List, Option, IfSome}
+use Rattle.std.specs.Prelude.{◌≡◌, ℕ, Bool, not, List, [], ◌∷◌, ◌++◌, Option, Some, None, find}
+use Rattle.std.specs.Option.{option_map}
 use Rattle.std.specs.Io.KnownBytes.{Appends}
 use Rattle.dnsv_message.specs.Counted.{AppendsBeginning}
 use Rattle.clap.specs.Words.{Text}
-use Rattle.dnssec_check.specs.declared.line.Request.{Request}
+use Rattle.dnssec_check.specs.declared.request.Request.{Request}
 use Rattle.dnssec_check.specs.declared.line.LineError.{LineError}
+use Rattle.dnssec_check.specs.declared.status.Fault.TheVariants as fault
+use Rattle.dnssec_check.specs.declared.status.InputFile.{InputFile}
+use Rattle.dnssec_check.specs.declared.status.InputFile.TheVariants.{Capture, Statements}
 use Rattle.dnssec_check.specs.declared.status.Place.{Place}
 use Rattle.dnssec_check.specs.declared.status.Refusal.{Refusal}
-use Rattle.dnssec_check.specs.Line.{IsAccepted, IsRefused, capture_of, line_code}
-use Rattle.dnssec_check.specs.Run.{IsTextOf, IsRefusalOf}
+use Rattle.dnssec_check.specs.Files.{Files}
+use Rattle.dnssec_check.specs.Line.{IsAccepted, IsRefused, line_code}
+use Rattle.dnssec_check.specs.Request.{capture_of, statements_of}
+use Rattle.dnssec_check.specs.Run.{IsTextOf, IsFirstFault}
 
--- the words ask for something, and the output got just what the file that they name has for it
+-- ---- files
+
+-- the files that the request names hold these octets
+pub record AreFilesAt (octets_at : List ℕ → Option (List ℕ)) (request : Request) (files : Files) : Type 0 where
+  pub capture : octets_at (capture_of request) ≡ Some files.capture
+  pub statements : option_map octets_at (statements_of request) ≡ option_map (λ octets. Some octets) files.statements
+
+-- a file with its path, where one is given
+abbrev pub given_path : InputFile → Option (List ℕ) → List (InputFile × List ℕ)
+given_path file None = []
+given_path file (Some path) = (file, path) ∷ []
+
+-- the files of a request with their paths, in the order in which they are opened
+abbrev pub paths_of : Request → List (InputFile × List ℕ)
+paths_of request = (Capture, capture_of request) ∷ given_path Statements (statements_of request)
+
+-- the first of the files that doesn't open
+abbrev pub first_unopened : (List ℕ → Bool) → List (InputFile × List ℕ) → Option InputFile
+first_unopened opens paths = option_map (λ file. file.0) (find (λ file. not (opens file.1)) paths)
+
+-- ---- ends
+
+-- the words ask for something, and the output got just what the files that they name have for it
 pub record WroteText (words : List Text) (octets_at : List ℕ → Option (List ℕ))
     (old new : Option (List ℕ)) : Type 0 where
   pub request : Request
   pub accepted : IsAccepted words request
-  pub text : IfSome (octets_at (capture_of request)) (λ file.
-      (text : List ℕ) × IsTextOf request file text × Appends old new text)
+  pub text : (files : Files) → AreFilesAt octets_at request files
+      → (text : List ℕ) × IsTextOf request files text × Appends old new text
 
--- the words ask for something, and the output got a beginning of what the file that they name has for it
+-- the words ask for something, and the output got a beginning of what the files that they name have for it
 pub record BeganText (words : List Text) (octets_at : List ℕ → Option (List ℕ))
     (old new : Option (List ℕ)) : Type 0 where
   pub request : Request
   pub accepted : IsAccepted words request
-  pub text : IfSome (octets_at (capture_of request)) (λ file.
-      (text : List ℕ) × IsTextOf request file text × AppendsBeginning old new text)
+  pub text : (files : Files) → AreFilesAt octets_at request files
+      → (text : List ℕ) × IsTextOf request files text × AppendsBeginning old new text
 
--- the words ask for something, and the file that they name is refused
-pub record RefusedFile (words : List Text) (octets_at : List ℕ → Option (List ℕ)) : Type 0 where
+-- the words ask for something, and the first fault of the files that they name is a refusal
+pub record RefusedFiles (words : List Text) (octets_at : List ℕ → Option (List ℕ)) : Type 0 where
   pub request : Request
   pub accepted : IsAccepted words request
-  pub refused : IfSome (octets_at (capture_of request)) (λ file.
-      (why : Refusal) × (place : Place) × IsRefusalOf request file why place)
+  pub refused : (files : Files) → AreFilesAt octets_at request files
+      → (why : Refusal) × (place : Place) × IsFirstFault request files (fault.Refused why place)
 
 -- the words ask for nothing, which the program ends with this exit status
 pub record RefusedWords (words : List Text) (code : ℕ) : Type 0 where

@@ -1,23 +1,32 @@
--- What a request asks of a file of captured messages, and what the file is refused for.
-use Rattle.std.specs.Prelude.{ℕ, List}
-use Rattle.dnssec_check.specs.declared.line.Request.{Request}
-use Rattle.dnssec_check.specs.declared.line.Request.TheVariants as request
-use Rattle.dnssec_check.specs.declared.status.Place.{Place}
-use Rattle.dnssec_check.specs.declared.status.Refusal.{Refusal}
-use Rattle.dnssec_check.specs.CaptureFile.{Demand, AnyMessage, NewEvidence, IsRefusal}
+-- What a request asks of its files, and what is their first fault.
+use Rattle.std.specs.Prelude.{◌⊎◌, ℕ, true, false, List}
+use Rattle.dnsv_message.specs.Message.{Contents}
+use Rattle.dnssec_check.specs.declared.request.Request.{Request}
+use Rattle.dnssec_check.specs.declared.request.Request.TheVariants as request
+use Rattle.dnssec_check.specs.declared.status.Fault.{Fault}
+use Rattle.dnssec_check.specs.CaptureFile.{AnyMessage, NewEvidence, Holds, IsFaultOfCapture}
+use Rattle.dnssec_check.specs.Files.{Files, octets_or_none}
 use Rattle.dnssec_check.specs.Listing.{IsListing}
 use Rattle.dnssec_check.specs.Showing.{IsShowing}
+use Rattle.dnssec_check.specs.StatementsFile.{IsFaultOfStatements}
+use Rattle.dnssec_check.specs.Todo.{IsTodo}
 
--- the file has this text
-abbrev pub IsTextOf : Request → List ℕ → List ℕ → Type 0
-IsTextOf (request.Show capture) file text = IsShowing file text
-IsTextOf (request.List capture moment) file text = IsListing file text
+-- the files have this text
+abbrev pub IsTextOf : Request → Files → List ℕ → Type 0
+IsTextOf (request.Show capture) files text = IsShowing files.capture text
+IsTextOf (request.List capture moment statements true) files text = IsListing files.capture text
+IsTextOf (request.List capture moment statements false) files text = IsTodo moment files text
 
--- what is asked of each message
-abbrev pub demand_of : Request → Demand
-demand_of (request.Show capture) = AnyMessage
-demand_of (request.List capture moment) = NewEvidence
+-- the file of captured messages has this fault; or it has none, and the file of statements has it
+abbrev pub IsFirstFaultOfTodo : Files → Fault → Type 0
+IsFirstFaultOfTodo files fault =
+    IsFaultOfCapture NewEvidence files.capture fault
+    ⊎ (((messages : List Contents) × Holds NewEvidence files.capture messages)
+    × IsFaultOfStatements (octets_or_none files.statements) fault)
 
--- the file is refused for this reason, at this place
-abbrev pub IsRefusalOf : Request → List ℕ → Refusal → Place → Type 0
-IsRefusalOf asked file why place = IsRefusal (demand_of asked) file why place
+-- the first fault of the files, in the order of the work
+abbrev pub IsFirstFault : Request → Files → Fault → Type 0
+IsFirstFault (request.Show capture) files fault = IsFaultOfCapture AnyMessage files.capture fault
+IsFirstFault (request.List capture moment statements true) files fault =
+    IsFaultOfCapture NewEvidence files.capture fault
+IsFirstFault (request.List capture moment statements false) files fault = IsFirstFaultOfTodo files fault

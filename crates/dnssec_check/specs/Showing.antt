@@ -10,15 +10,11 @@ use Rattle.dnsv_message.specs.declared.record.Question.{Question}
 use Rattle.dnsv_message.specs.declared.record.Record.{Record}
 use Rattle.dnsv_message.specs.Message.{Contents, records_of}
 use Rattle.dnssec_check.specs.CaptureFile.{Holds, AnyMessage}
+use Rattle.dnssec_check.specs.HexText.{hex_text}
 
 -- the octets of a number of 16 bits, the high one first, in lower case hex
 abbrev pub hex_of_16 : ℕ → List ℕ
 hex_of_16 number = encode_lower (to_be_bytes w16 number)
-
--- the octets of an RDATA in lower case hex, and `-` where there are none
-abbrev pub rdata_text : List ℕ → List ℕ
-rdata_text [] = codes "-"
-rdata_text (octet ∷ octets) = encode_lower (octet ∷ octets)
 
 -- the text of each of these, of which the first has the number
 abbrev pub texts_from : {X : Type 0} → (ℕ → X → List ℕ) → ℕ → List X → List ℕ
@@ -46,7 +42,7 @@ question_line question = codes "question " ++ about_text question.name question.
 abbrev pub record_line : ℕ → Record → List ℕ
 record_line number resource =
     codes "record " ++ decimal number ++ codes " " ++ about_text resource.name resource.rtype.0 resource.class.0
-    ++ codes " " ++ decimal resource.ttl.0 ++ codes " " ++ rdata_text resource.rdata ++ codes "\n"
+    ++ codes " " ++ decimal resource.ttl.0 ++ codes " " ++ hex_text resource.rdata ++ codes "\n"
 
 -- the lines of the message with the number; its records are numbered through its three sections
 abbrev pub message_text : ℕ → Contents → List ℕ

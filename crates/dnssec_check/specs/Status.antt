@@ -10,7 +10,7 @@ use Rattle.dnsv_canonical.specs.declared.capture.CaptureError.TheVariants as cap
 use Rattle.dnssec_check.specs.declared.status.Status.{Status}
 use Rattle.dnssec_check.specs.declared.status.Status.TheVariants.{Done}
 use Rattle.dnssec_check.specs.declared.status.InputFile.{InputFile}
-use Rattle.dnssec_check.specs.declared.status.InputFile.TheVariants.{Capture}
+use Rattle.dnssec_check.specs.declared.status.InputFile.TheVariants.{Capture, Statements}
 use Rattle.dnssec_check.specs.declared.status.Refusal.{Refusal}
 use Rattle.dnssec_check.specs.declared.status.Refusal.TheVariants as refusal
 use Rattle.dnssec_check.specs.declared.status.Place.{Place}
@@ -36,6 +36,8 @@ refusal_number refusal.TornFrame = 209
 refusal_number refusal.NotAResponse = 401
 refusal_number refusal.Truncated = 402
 refusal_number refusal.Limit = 403
+refusal_number refusal.StatementSyntax = 501
+refusal_number refusal.Contradiction = 502
 
 abbrev pub fault_number : Fault → ℕ
 fault_number fault.OutOfMemory = 90
@@ -82,6 +84,7 @@ TellsCaptureError capture.Limit why number = (why ≡ refusal.Limit) × (number 
 -- the word of the option that names the file
 abbrev pub file_word : InputFile → List ℕ
 file_word Capture = codes "capture"
+file_word Statements = codes "statements"
 
 -- a word and the number behind it, or nothing where there is none
 abbrev pub numbered : List ℕ → Option ℕ → List ℕ

@@ -1,11 +1,12 @@
 -- How the faults of the layers below are told. No public clause cites this module.
-use Rattle.std.specs.Prelude.{◌≡◌, ⊤, ℕ, List, Some, None}
+use Rattle.std.specs.Prelude.{◌≡◌, ⊤, ℕ, List, Option, Some, None}
 use Rattle.dnsv_message.specs.declared.errors.DecodeError.{DecodeError}
 use Rattle.dnsv_message.specs.declared.errors.DecodeError.TheVariants as decode
 use Rattle.dnsv_message.specs.declared.errors.ReadError.{ReadError}
 use Rattle.dnsv_message.specs.declared.errors.ReadError.TheVariants as read
 use Rattle.dnssec_check.specs.declared.status.Fault.{Fault}
 use Rattle.dnssec_check.specs.declared.status.Fault.TheVariants as fault
+use Rattle.dnssec_check.specs.declared.status.InputFile.{InputFile}
 use Rattle.dnssec_check.specs.declared.status.InputFile.TheVariants.{Capture}
 use Rattle.dnssec_check.specs.declared.status.Place.{Place}
 use Rattle.dnssec_check.specs.declared.status.Refusal.{Refusal}
@@ -14,6 +15,9 @@ use Rattle.dnsv_canonical.specs.declared.capture.CaptureError.{CaptureError}
 use Rattle.dnsv_canonical.specs.declared.capture.CaptureError.TheVariants as capture
 use Rattle.dnsv_canonical.specs.Evidence.{Evidence}
 use Rattle.dnssec_check.specs.CaptureFile.{Demand, MessageRefused}
+use Rattle.dnsv_verifier.specs.declared.statements.StatementsError.{StatementsError}
+use Rattle.dnsv_verifier.specs.declared.statements.StatementsError.TheVariants as statements
+use Rattle.dnssec_check.specs.StatementsFile.{TellsStatementsError}
 use Rattle.dnssec_check.specs.Status.{TellsMessageError, TellsCaptureError}
 
 abbrev pub nowhere : Place
@@ -25,6 +29,26 @@ IsReadFault read.Read told = told ≡ fault.ReadFailed Capture
 IsReadFault read.TooLong told = told ≡ fault.TooLong Capture
 IsReadFault read.ZeroLength told = told ≡ fault.Refused refusal.ZeroLength nowhere
 IsReadFault read.TornFrame told = told ≡ fault.Refused refusal.TornFrame nowhere
+
+-- how a text file that wasn't read is told
+abbrev pub IsTextFault : InputFile → ReadError → Fault → Type 0
+IsTextFault file read.OutOfMemory told = told ≡ fault.OutOfMemory
+IsTextFault file read.Read told = told ≡ fault.ReadFailed file
+IsTextFault file read.TooLong told = told ≡ fault.TooLong file
+IsTextFault file _ told = ⊥
+
+-- nothing else is told where a text file isn't read
+abbrev pub IsTextReadFault : InputFile → Fault → Type 0
+IsTextReadFault file fault.OutOfMemory = ⊤
+IsTextReadFault file (fault.ReadFailed other) = other ≡ file
+IsTextReadFault file (fault.TooLong other) = other ≡ file
+IsTextReadFault file _ = ⊥
+
+-- the fault tells the error of a file of statements
+abbrev pub IsStatementsFault : StatementsError → Fault → Type 0
+IsStatementsFault statements.OutOfMemory told = told ≡ fault.OutOfMemory
+IsStatementsFault error (fault.Refused why place) = TellsStatementsError error why place
+IsStatementsFault error _ = ⊥
 
 -- the fault is a refusal of which this holds, or the want of memory
 abbrev pub IsFaultOf : (Refusal → Place → Type 0) → Fault → Type 0
@@ -53,3 +77,13 @@ IsCaptureFault capture.OutOfMemory number told = told ≡ fault.OutOfMemory
 IsCaptureFault error number (fault.Refused why place) =
     TellsCaptureError error why place.«record» × (place.message ≡ Some number) × (place.line ≡ None)
 IsCaptureFault error number _ = ⊥
+
+-- a file that doesn't open is told
+abbrev pub IsOpenFault : Fault → Type 0
+IsOpenFault (fault.OpenFailed file) = ⊤
+IsOpenFault _ = ⊥
+
+-- the file that doesn't open is told
+abbrev pub IsUnopened : Option InputFile → Fault → Type 0
+IsUnopened unopened (fault.OpenFailed file) = unopened ≡ Some file
+IsUnopened unopened _ = ⊥

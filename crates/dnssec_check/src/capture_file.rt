@@ -9,7 +9,7 @@ ghost use Rattle.dnsv_message.specs.Message.{Contents};
 ghost use Rattle.dnsv_canonical.specs.CaptureError.{capture_error_code};
 ghost use Rattle.dnsv_canonical.specs.Evidence.{Evidence, evidence_of, no_evidence, with_message};
 ghost use Rattle.dnssec_check.specs.CaptureFile.{Demand, AnyMessage, NewEvidence, AllTaken, Meets, Holds};
-ghost use Rattle.dnssec_check.specs.CaptureFile.{FirstRefused, IsRefusal};
+ghost use Rattle.dnssec_check.specs.CaptureFile.{FirstRefused, IsFaultOfCapture};
 ghost use Rattle.dnssec_check.specs.FileFaults.{TellsFileFaults};
 ghost use Rattle.dnssec_check.specs.Status.{fault_number};
 ghost use Rattle.dnssec_check.specs.Told.{IsReadFault, IsDecodeFault, IsCaptureFault, IsFaultOf, IsRefusedAt};
@@ -29,9 +29,8 @@ use std::io::Read;
 pub fn messages_in<R: Read>(alloc: Global, capture: &mut Counted<R>) -> Result<Vec<Message>, Fault>
     ensures messages { IfOk result (λ messages. IfSome (R.remaining (inner_of capture.old)) (λ file.
         Holds AnyMessage file messages.items)) }
-    ensures faults { TellsFileFaults (IsRefusal AnyMessage) (R.remaining (inner_of capture.old))
+    ensures faults { TellsFileFaults InputFile.Capture (IsFaultOfCapture AnyMessage) (R.remaining (inner_of capture.old))
         (failures_of capture.old) (failures_of capture.new) result }
-    ensures unwritten { IfErr result (λ fault. fault ≡ Fault.WriteFailed → ⊥) }
 {
     let frames = frames(alloc, capture)?;
     messages_of_frames(alloc, &frames)
@@ -44,9 +43,8 @@ pub fn messages_in<R: Read>(alloc: Global, capture: &mut Counted<R>) -> Result<V
 pub fn evidence_in<R: Read>(alloc: Global, capture: &mut Counted<R>) -> Result<Capture, Fault>
     ensures evidence { IfOk result (λ held. IfSome (R.remaining (inner_of capture.old)) (λ file.
         (messages : List Contents) × Holds NewEvidence file messages × (held ≡ evidence_of messages))) }
-    ensures faults { TellsFileFaults (IsRefusal NewEvidence) (R.remaining (inner_of capture.old))
+    ensures faults { TellsFileFaults InputFile.Capture (IsFaultOfCapture NewEvidence) (R.remaining (inner_of capture.old))
         (failures_of capture.old) (failures_of capture.new) result }
-    ensures unwritten { IfErr result (λ fault. fault ≡ Fault.WriteFailed → ⊥) }
 {
     let frames = frames(alloc, capture)?;
     evidence_of_frames(alloc, &frames)
@@ -56,9 +54,8 @@ pub fn evidence_in<R: Read>(alloc: Global, capture: &mut Counted<R>) -> Result<C
 fn frames<R: Read>(alloc: Global, capture: &mut Counted<R>) -> Result<Vec<Vec<u8>>, Fault>
     ensures frames { IfOk result (λ frames. IfSome (R.remaining (inner_of capture.old)) (λ file.
         IsCapture file (octets_of_each frames.items))) }
-    ensures faults { (demand : Demand) → TellsFileFaults (IsRefusal demand) (R.remaining (inner_of capture.old))
-        (failures_of capture.old) (failures_of capture.new) result }
-    ensures unwritten { IfErr result (λ fault. fault ≡ Fault.WriteFailed → ⊥) }
+    ensures faults { (demand : Demand) → TellsFileFaults InputFile.Capture (IsFaultOfCapture demand)
+        (R.remaining (inner_of capture.old)) (failures_of capture.old) (failures_of capture.new) result }
 {
     match read_capture(alloc, capture) {
         Ok(frames) => Ok(frames),

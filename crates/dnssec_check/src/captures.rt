@@ -1,6 +1,6 @@
 //! What real name servers sent, and what another program says of it, octet for octet.
-use crate::line::Request;
 use crate::moment::Moment;
+use crate::request::Request;
 use crate::run::{Inputs, run};
 use crate::status::Status;
 use dnsv_message::{Counted, Message, read_capture};
@@ -11,6 +11,7 @@ use std::test::Fail;
 mod alg5_alias_a;
 mod bind_srv;
 mod ed_nosuch;
+mod ldns_wild_a;
 
 /// The answer with the DNSKEY records of the root, in hex.
 const ROOT_KEYS: &str =
@@ -40,7 +41,7 @@ impl Real {
         let file = file_of(alloc, self.messages)?;
         let text = printed(alloc, show(alloc)?, &file)?;
         assert_eq!(rt; text.as_slice(), self.shown.as_bytes());
-        let text = printed(alloc, list(alloc)?, &file)?;
+        let text = printed(alloc, list(alloc, true)?, &file)?;
         assert_eq!(rt; text.as_slice(), self.listed.as_bytes());
         let anew = written_anew(alloc, &file)?;
         let text = printed(alloc, show(alloc)?, &anew)?;
@@ -79,16 +80,22 @@ fn show(alloc: Global) -> Result<Request, Fail> {
     Ok(Request::Show { capture })
 }
 
-fn list(alloc: Global) -> Result<Request, Fail> {
+fn list(alloc: Global, all: bool) -> Result<Request, Fail> {
     let capture = String::from_str(alloc, "capture")?;
     let moment = Moment::new(1_795_348_800).ok_or("no moment")?;
-    Ok(Request::List { capture, moment })
+    Ok(Request::List {
+        capture,
+        moment,
+        statements: None,
+        all,
+    })
 }
 
 /// What the run writes for the file.
 fn printed(alloc: Global, request: Request, file: &[u8]) -> Result<Vec<u8>, Fail> {
     let mut inputs = Inputs {
         capture: Counted::new(file),
+        statements: None,
     };
     let mut output = Counted::new(Vec::new(alloc));
     let Status::Done = run(alloc, &request, &mut inputs, &mut output)?;
@@ -123,4 +130,23 @@ fn agrees_on_ed_nosuch(rt: HostRuntime) -> Result<(), Fail> {
         listed: ed_nosuch::LISTED,
     };
     real.agrees(&rt)
+}
+
+// What the program lists of captured messages that a verifier has to check.
+fn to_check(alloc: Global, messages: &[&str]) -> Result<Vec<u8>, Fail> {
+    printed(alloc, list(alloc, false)?, &file_of(alloc, messages)?)
+}
+
+#[test]
+fn lists_what_is_to_check_of_ed_nosuch(rt: HostRuntime) -> Result<(), Fail> {
+    let text = to_check(rt.alloc(), ed_nosuch::MESSAGES)?;
+    assert_eq!(rt; text.as_slice(), ed_nosuch::TO_CHECK.as_bytes());
+    Ok(())
+}
+
+#[test]
+fn lists_what_is_to_check_of_ldns_wild_a(rt: HostRuntime) -> Result<(), Fail> {
+    let text = to_check(rt.alloc(), ldns_wild_a::MESSAGES)?;
+    assert_eq!(rt; text.as_slice(), ldns_wild_a::TO_CHECK.as_bytes());
+    Ok(())
 }

@@ -1,12 +1,14 @@
-//! What the definitions of a request's text and of a refusal say of each other, for a file of octets.
+//! What the definitions of a request's text and of its first fault say of each other, for files of octets.
 ghost use Rattle.std.specs.Prelude.{◌≡◌, ◌⊎◌, List, ℕ};
 ghost use Rattle.dnsv_names.specs.Octets.{AreOctets};
 ghost use Rattle.dnsv_message.specs.Frames.{IsTooLong};
 ghost use Rattle.dnssec_check.specs.CaptureFile.{AnyMessage, IsRefusal, NewEvidence};
 ghost use Rattle.dnssec_check.specs.Listing.{IsListing};
 ghost use Rattle.dnssec_check.specs.Showing.{IsShowing};
-ghost use Rattle.dnssec_check.specs.Run.{IsTextOf, IsRefusalOf};
-ghost use Rattle.dnssec_check.specs.declared.line.Request.{Request};
+ghost use Rattle.dnssec_check.specs.Files.{Files};
+ghost use Rattle.dnssec_check.specs.Run.{IsTextOf, IsFirstFault};
+ghost use Rattle.dnssec_check.specs.declared.status.Fault.{Fault};
+ghost use Rattle.dnssec_check.specs.declared.request.Request.{Request};
 ghost use Rattle.dnssec_check.specs.declared.status.Place.{Place};
 ghost use Rattle.dnssec_check.specs.declared.status.Refusal.{Refusal};
 
@@ -15,11 +17,12 @@ use dnsv_message::{
     message_or_fault, no_fault_of_a_message, no_fault_of_memory, one_answer, one_fault, one_message,
 };
 use dnsv_records::record_laws;
+use dnsv_verifier::a_table_is_its_verifier;
 
-/// A request has at most one text for a file.
+/// A request has at most one text for its files.
 pub fn one_text()
-    ensures { (asked : Request) (file : List ℕ) → AreOctets file → (a b : List ℕ)
-        → IsTextOf asked file a → IsTextOf asked file b → a ≡ b }
+    ensures { (asked : Request) (files : Files) → AreOctets files.capture → (a b : List ℕ)
+        → IsTextOf asked files a → IsTextOf asked files b → a ≡ b }
 {
     one_message();
     no_fault_of_a_message();
@@ -28,12 +31,13 @@ pub fn one_text()
     record_laws();
     one_signed_data();
     evidence_or_one_refusal();
+    a_table_is_its_verifier();
 }
 
-/// A file for which a request has a text isn't refused.
-pub fn no_refusal_of_a_text()
-    ensures { (asked : Request) (file : List ℕ) → AreOctets file → (text : List ℕ) (why : Refusal) (place : Place)
-        → IsTextOf asked file text → IsRefusalOf asked file why place → ⊥ }
+/// Files for which a request has a text have no fault.
+pub fn no_fault_of_a_text()
+    ensures { (asked : Request) (files : Files) → AreOctets files.capture → (text : List ℕ) (fault : Fault)
+        → IsTextOf asked files text → IsFirstFault asked files fault → ⊥ }
 {
     one_message();
     no_fault_of_a_message();
@@ -42,12 +46,13 @@ pub fn no_refusal_of_a_text()
     record_laws();
     one_signed_data();
     evidence_or_one_refusal();
+    a_table_is_its_verifier();
 }
 
-/// A request refuses a file for at most one reason, at one place.
-pub fn one_refusal()
-    ensures { (asked : Request) (file : List ℕ) → AreOctets file → (a b : Refusal) (p q : Place)
-        → IsRefusalOf asked file a p → IsRefusalOf asked file b q → (a ≡ b) × (p ≡ q) }
+/// For a request files have at most one first fault.
+pub fn one_first_fault()
+    ensures { (asked : Request) (files : Files) → AreOctets files.capture → (a b : Fault)
+        → IsFirstFault asked files a → IsFirstFault asked files b → a ≡ b }
 {
     one_message();
     no_fault_of_a_message();
@@ -56,6 +61,7 @@ pub fn one_refusal()
     record_laws();
     one_signed_data();
     evidence_or_one_refusal();
+    a_table_is_its_verifier();
 }
 
 /// A file of octets is shown, or refused, or has an octet too many.

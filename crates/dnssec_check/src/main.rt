@@ -4,17 +4,23 @@
 mod capture_file;
 #[cfg(test)]
 mod captures;
+mod commands;
+mod hex_text;
 mod laws;
 mod line;
 mod listing;
 mod machine;
 mod moment;
 mod program;
+mod request;
 mod run;
 #[cfg(test)]
 mod samples;
 mod showing;
+mod statements_file;
 mod status;
+mod text_file;
+mod todo;
 
 use std::process::ExitCode;
 

@@ -1,18 +1,23 @@
 //! The program around the run: its words, its files, and how it tells that it failed.
-ghost use Rattle.std.specs.Prelude.{◌≡◌, ◌<◌, ◌⊎◌, ◌↔◌, IfErr, IfOk, IfSome, List, ℕ, OnOk, false};
+ghost use Rattle.std.specs.Prelude.{◌≡◌, ◌<◌, ◌⊎◌, ◌↔◌, Bool, IfErr, IfOk, IfSome, List, ℕ, OnOk, Option, is_ok};
+ghost use Rattle.std.specs.Option.{option_map};
 ghost use Rattle.std.specs.Io.KnownBytes.{Appends};
 ghost use Rattle.dnsv_message.specs.Counted.{inner_of, failures_of, AppendsBeginning};
-ghost use Rattle.dnssec_check.specs.Line.{IsAccepted, IsRefused, capture_of, line_code};
-ghost use Rattle.dnssec_check.specs.Program.{BeganText, RefusedFile, RefusedWords, WroteText};
-ghost use Rattle.dnssec_check.specs.Run.{IsTextOf, IsRefusalOf};
+ghost use Rattle.dnssec_check.specs.Files.{AreTold, Files, IsToldBy};
+ghost use Rattle.dnssec_check.specs.Line.{IsAccepted, IsRefused, line_code};
+ghost use Rattle.dnssec_check.specs.Program.{AreFilesAt, BeganText, RefusedFiles, RefusedWords, WroteText};
+ghost use Rattle.dnssec_check.specs.Program.{first_unopened, given_path, paths_of};
+ghost use Rattle.dnssec_check.specs.Run.{IsTextOf, IsFirstFault};
 ghost use Rattle.dnssec_check.specs.Status.{outcome_code};
+ghost use Rattle.dnssec_check.specs.Told.{IsOpenFault, IsUnopened};
 ghost use Rattle.dnssec_check.specs.declared.status.Fault.TheVariants as Fault;
-ghost use Rattle.dnssec_check.specs.declared.status.InputFile.TheVariants as InputFile;
+ghost use Rattle.dnssec_check.specs.declared.status.InputFile.{InputFile};
 ghost use Rattle.dnssec_check.specs.declared.status.Place.{Place};
 ghost use Rattle.dnssec_check.specs.declared.status.Refusal.{Refusal};
 
-use crate::line::{LineError, Request, read_line};
+use crate::line::{LineError, read_line};
 use crate::machine::{Host, Machine};
+use crate::request::Request;
 use crate::run::{Inputs, run};
 use crate::status::{Fault, InputFile, Status};
 use dnsv_message::Counted;
@@ -33,7 +38,7 @@ pub fn exit_status_on<R: Env + Files + AllocGlobal + Print, E: Print>(
 }
 
 /// Does what the command line asks for. The answer is the exit status: 0 where the output got the text,
-/// or help, 7 where the file is refused, 2 where the words are no command, and 1 where the machine failed.
+/// or help, 7 where a file is refused, 2 where the words are no command, and 1 where the machine failed.
 pub fn exit_status<M: Machine, W: Write, E: Write>(
     machine: &M,
     output: &mut Counted<W>,
@@ -43,7 +48,7 @@ pub fn exit_status<M: Machine, W: Write, E: Write>(
         WroteText words (M.octets_at machine.now) (W.contents (inner_of output.old)) (W.contents (inner_of output.new))
         ⊎ RefusedWords words 0) }
     ensures refused { result ≡ 7
-        → IfSome (M.given_words machine.now) (λ words. RefusedFile words (M.octets_at machine.now)) }
+        → IfSome (M.given_words machine.now) (λ words. RefusedFiles words (M.octets_at machine.now)) }
     ensures misused { result ≡ 2 → IfSome (M.given_words machine.now) (λ words. RefusedWords words 2) }
     ensures untouched { (result ≡ 2) ⊎ (result ≡ 7) → output.new ≡ output.old }
 
@@ -78,30 +83,78 @@ fn answer<M: Machine, W: Write>(
     request: &Request,
     output: &mut Counted<W>,
 ) -> Result<Status, Fault>
-    ensures done { OnOk result (IfSome (M.octets_at machine.now (capture_of request.now)) (λ file.
-        (text : List ℕ) × IsTextOf request.now file text
-        × Appends (W.contents (inner_of output.old)) (W.contents (inner_of output.new)) text)) }
-    ensures refused { (why : Refusal) (place : Place) → result ≡ Err (Fault.Refused why place)
-        → IfSome (M.octets_at machine.now (capture_of request.now)) (λ file. IsRefusalOf request.now file why place) }
+    ensures done { (files : Files) → AreFilesAt (M.octets_at machine.now) request.now files → OnOk result (
+        (text : List ℕ) × IsTextOf request.now files text
+        × Appends (W.contents (inner_of output.old)) (W.contents (inner_of output.new)) text) }
+    ensures refused { (files : Files) → AreFilesAt (M.octets_at machine.now) request.now files
+        → (why : Refusal) (place : Place) → result ≡ Err (Fault.Refused why place)
+        → IsFirstFault request.now files (Fault.Refused why place) }
 
-    // The file doesn't open exactly where that is the fault.
-    ensures unopened { IfSome (M.opens machine.now (capture_of request.now)) (λ opens.
-        (opens ≡ false) ↔ (result ≡ Err (Fault.OpenFailed InputFile.Capture))) }
+    // The first file that doesn't open is the fault.
+    ensures unopened { (opens : List ℕ → Bool) → ((path : List ℕ) → M.opens machine.now path ≡ Some (opens path))
+        → (file : InputFile) → (result ≡ Err (Fault.OpenFailed file))
+        ↔ (first_unopened opens (paths_of request.now) ≡ Some file) }
     ensures write { result ≡ Err Fault.WriteFailed
         → failures_of output.old < u64.MAX → failures_of output.old < failures_of output.new }
-    ensures begun { result ≡ Err Fault.WriteFailed
-        → IfSome (M.octets_at machine.now (capture_of request.now)) (λ file.
-        (text : List ℕ) × IsTextOf request.now file text
-        × AppendsBeginning (W.contents (inner_of output.old)) (W.contents (inner_of output.new)) text) }
+    ensures begun { (files : Files) → AreFilesAt (M.octets_at machine.now) request.now files
+        → result ≡ Err Fault.WriteFailed → (text : List ℕ) × IsTextOf request.now files text
+        × AppendsBeginning (W.contents (inner_of output.old)) (W.contents (inner_of output.new)) text }
     ensures untouched { IfErr result (λ fault. (fault ≡ Fault.WriteFailed → ⊥) → output.new ≡ output.old) }
 {
-    let Ok(capture) = machine.open(request.capture()) else {
-        return Err(Fault::OpenFailed(InputFile::Capture));
-    };
-    let mut inputs = Inputs {
-        capture: Counted::new(capture),
-    };
+    let mut inputs = open_all(machine, request)?;
     run(machine.alloc(), request, &mut inputs, output)
+}
+
+/// Opens the files of the request: the captured messages, and then the statements.
+fn open_all<M: Machine>(machine: &M, request: &Request) -> Result<Inputs<M::File>, Fault>
+    ensures files { (files : Files) → AreFilesAt (M.octets_at machine.now) request.now files
+        → IfOk result (λ inputs. AreTold M.File.remaining inputs files) }
+    ensures opened { (opens : List ℕ → Bool) → ((path : List ℕ) → M.opens machine.now path ≡ Some (opens path))
+        → OnOk result (first_unopened opens (paths_of request.now) ≡ None) }
+    ensures unopened { (opens : List ℕ → Bool) → ((path : List ℕ) → M.opens machine.now path ≡ Some (opens path))
+        → IfErr result (IsUnopened (first_unopened opens (paths_of request.now))) }
+    ensures only { IfErr result IsOpenFault }
+{
+    let capture = open(machine, InputFile::Capture, request.capture())?;
+    let statements = open_given(machine, InputFile::Statements, request.statements())?;
+    Ok(Inputs {
+        capture,
+        statements,
+    })
+}
+
+/// Opens a file that may be given.
+fn open_given<M: Machine>(
+    machine: &M,
+    file: InputFile,
+    path: Option<&str>,
+) -> Result<Option<Counted<M::File>>, Fault>
+    ensures octets { (octets : Option (List ℕ))
+        → option_map (M.octets_at machine.now) (option_map (λ path. path.now) path.entry) ≡ option_map (λ each. Some each) octets
+        → IfOk result (λ opened. IsToldBy M.File.remaining opened octets) }
+    ensures opened { (opens : List ℕ → Bool) → ((path : List ℕ) → M.opens machine.now path ≡ Some (opens path))
+        → OnOk result (first_unopened opens (given_path file (option_map (λ path. path.now) path.entry)) ≡ None) }
+    ensures unopened { (opens : List ℕ → Bool) → ((path : List ℕ) → M.opens machine.now path ≡ Some (opens path))
+        → IfErr result (IsUnopened (first_unopened opens (given_path file (option_map (λ path. path.now) path.entry)))) }
+    ensures only { IfErr result IsOpenFault }
+{
+    match path {
+        Some(path) => Ok(Some(open(machine, file, path)?)),
+        None => Ok(None),
+    }
+}
+
+/// Opens a file.
+fn open<M: Machine>(machine: &M, file: InputFile, path: &str) -> Result<Counted<M::File>, Fault>
+    ensures octets { (octets : List ℕ) → M.octets_at machine.now path.now ≡ Some octets
+        → IfOk result (λ opened. M.File.remaining (inner_of opened) ≡ Some octets) }
+    ensures opens { (opens : Bool) → M.opens machine.now path.now ≡ Some opens → is_ok result ≡ opens }
+    ensures only { IfErr result (λ fault. fault ≡ Fault.OpenFailed file) }
+{
+    match machine.open(path) {
+        Ok(opened) => Ok(Counted::new(opened)),
+        Err(_) => Err(Fault::OpenFailed(file)),
+    }
 }
 
 /// Tells why the command line gives no request: help on the output, and anything else on the errors. The answer

@@ -1,15 +1,23 @@
 //! The run of a request over its files.
-ghost use Rattle.std.specs.Prelude.{◌≡◌, ◌<◌, List, ℕ, IfErr, IfOk, IfSome, OnOk, string_bytes};
+ghost use Rattle.std.specs.Prelude.{◌≡◌, ◌<◌, List, ℕ, IfErr, IfOk, OnOk, string_bytes};
 ghost use Rattle.std.specs.Io.KnownBytes.{Appends};
 ghost use Rattle.dnsv_message.specs.Counted.{inner_of, failures_of, AppendsBeginning};
-ghost use Rattle.dnssec_check.specs.FileFaults.{TellsFileFaults};
-ghost use Rattle.dnssec_check.specs.Run.{IsTextOf, IsRefusalOf};
+ghost use Rattle.dnssec_check.specs.CaptureFile.{AnyMessage, NewEvidence, IsFaultOfCapture};
+ghost use Rattle.dnssec_check.specs.FileFaults.{TellsFaults};
+ghost use Rattle.dnssec_check.specs.Files.{AreTold, Files};
+ghost use Rattle.dnssec_check.specs.Listing.{IsListing};
+ghost use Rattle.dnssec_check.specs.Run.{IsTextOf, IsFirstFault, IsFirstFaultOfTodo};
+ghost use Rattle.dnssec_check.specs.Showing.{IsShowing};
+ghost use Rattle.dnssec_check.specs.Todo.{IsTodo};
 
 use crate::capture_file::{evidence_in, messages_in};
-use crate::line::Request;
 use crate::listing::listing;
+use crate::moment::Moment;
+use crate::request::Request;
 use crate::showing::showing;
+use crate::statements_file::statements_in;
 use crate::status::{Fault, Status};
+use crate::todo::still_to_check;
 use dnsv_message::Counted;
 use std::alloc::Global;
 use std::io::{Read, Write};
@@ -19,13 +27,15 @@ use std::io::{Read, Write};
 pub struct Inputs<R> {
     /// The captured messages.
     pub capture: Counted<R>,
+    /// The statements, where they are given.
+    pub statements: Option<Counted<R>>,
 }
 
 /// Makes the whole text that the request asks for, and then writes it.
 ///
 /// The answer is a status where the output got the whole text, and else the first fault in the order of the
-/// work: reading the file of captured messages, its framing, and then each message in turn. A write that fails
-/// is not tried again; the output then has a beginning of the text.
+/// work: reading the file of captured messages, its framing, each message in turn, and then the statements. A write
+/// that fails is not tried again; the output then has a beginning of the text.
 pub fn run<R: Read, W: Write>(
     alloc: Global,
     request: &Request,
@@ -33,27 +43,26 @@ pub fn run<R: Read, W: Write>(
     output: &mut Counted<W>,
 ) -> Result<Status, Fault>
     // The output got exactly the defined text.
-    ensures done { OnOk result (IfSome (R.remaining (inner_of inputs.old.capture)) (λ file.
-        (text : List ℕ) × IsTextOf request.now file text
-        × Appends (W.contents (inner_of output.old)) (W.contents (inner_of output.new)) text)) }
+    ensures done { (files : Files) → AreTold R.remaining inputs.old files → OnOk result ((text : List ℕ)
+        × IsTextOf request.now files text
+        × Appends (W.contents (inner_of output.old)) (W.contents (inner_of output.new)) text) }
 
-    // What the file is refused for is the first that it is to be refused for.
-    ensures faults { TellsFileFaults (IsRefusalOf request.now) (R.remaining (inner_of inputs.old.capture))
-        (failures_of inputs.old.capture) (failures_of inputs.new.capture) result }
+    // The fault is the first that the files have.
+    ensures faults { TellsFaults (IsFirstFault request.now) R.remaining inputs.old inputs.new result }
 
     // Only where the output failed in this call, by the count, unless that began at its greatest value.
     ensures write { result ≡ Err Fault.WriteFailed
         → failures_of output.old < u64.MAX → failures_of output.old < failures_of output.new }
 
     // A failed write leaves a beginning of the defined text.
-    ensures begun { result ≡ Err Fault.WriteFailed → IfSome (R.remaining (inner_of inputs.old.capture)) (λ file.
-        (text : List ℕ) × IsTextOf request.now file text
-        × AppendsBeginning (W.contents (inner_of output.old)) (W.contents (inner_of output.new)) text) }
+    ensures begun { (files : Files) → AreTold R.remaining inputs.old files → result ≡ Err Fault.WriteFailed
+        → (text : List ℕ) × IsTextOf request.now files text
+        × AppendsBeginning (W.contents (inner_of output.old)) (W.contents (inner_of output.new)) text }
 
     // Nothing is written unless the whole text is made.
     ensures untouched { IfErr result (λ fault. (fault ≡ Fault.WriteFailed → ⊥) → output.new ≡ output.old) }
 {
-    let text = text_of(alloc, request, &mut inputs.capture)?;
+    let text = text_of(alloc, request, inputs)?;
     match output.write_all(text.as_bytes()) {
         Ok(()) => Ok(Status::Done),
         Err(_) => Err(Fault::WriteFailed),
@@ -64,18 +73,54 @@ pub fn run<R: Read, W: Write>(
 fn text_of<R: Read>(
     alloc: Global,
     request: &Request,
-    capture: &mut Counted<R>,
+    inputs: &mut Inputs<R>,
 ) -> Result<String, Fault>
-    ensures text { IfOk result (λ text. IfSome (R.remaining (inner_of capture.old)) (λ file.
-        IsTextOf request.now file (string_bytes text))) }
-    ensures faults { TellsFileFaults (IsRefusalOf request.now) (R.remaining (inner_of capture.old))
-        (failures_of capture.old) (failures_of capture.new) result }
+    ensures text { (files : Files) → AreTold R.remaining inputs.old files
+        → IfOk result (λ text. IsTextOf request.now files (string_bytes text)) }
+    ensures faults { TellsFaults (IsFirstFault request.now) R.remaining inputs.old inputs.new result }
     ensures unwritten { IfErr result (λ fault. fault ≡ Fault.WriteFailed → ⊥) }
 {
     match request {
-        Request::Show { .. } => Ok(showing(alloc, &messages_in(alloc, capture)?)?),
-        Request::List { .. } => Ok(listing(alloc, &evidence_in(alloc, capture)?)?),
+        Request::Show { .. } => shown(alloc, inputs),
+        Request::List { all: true, .. } => listed(alloc, inputs),
+        Request::List { moment, .. } => todo(alloc, *moment, inputs),
     }
+}
+
+/// The messages with their questions and records.
+fn shown<R: Read>(alloc: Global, inputs: &mut Inputs<R>) -> Result<String, Fault>
+    ensures text { (files : Files) → AreTold R.remaining inputs.old files
+        → IfOk result (λ text. IsShowing files.capture (string_bytes text)) }
+    ensures faults { TellsFaults (λ files. IsFaultOfCapture AnyMessage files.capture) R.remaining
+        inputs.old inputs.new result }
+    ensures unwritten { IfErr result (λ fault. fault ≡ Fault.WriteFailed → ⊥) }
+{
+    let messages = messages_in(alloc, &mut inputs.capture)?;
+    Ok(showing(alloc, &messages)?)
+}
+
+/// What each signature signs.
+fn listed<R: Read>(alloc: Global, inputs: &mut Inputs<R>) -> Result<String, Fault>
+    ensures text { (files : Files) → AreTold R.remaining inputs.old files
+        → IfOk result (λ text. IsListing files.capture (string_bytes text)) }
+    ensures faults { TellsFaults (λ files. IsFaultOfCapture NewEvidence files.capture) R.remaining
+        inputs.old inputs.new result }
+    ensures unwritten { IfErr result (λ fault. fault ≡ Fault.WriteFailed → ⊥) }
+{
+    let held = evidence_in(alloc, &mut inputs.capture)?;
+    Ok(listing(alloc, &held)?)
+}
+
+/// What a verifier still has to check.
+fn todo<R: Read>(alloc: Global, moment: Moment, inputs: &mut Inputs<R>) -> Result<String, Fault>
+    ensures text { (files : Files) → AreTold R.remaining inputs.old files
+        → IfOk result (λ text. IsTodo moment files (string_bytes text)) }
+    ensures faults { TellsFaults IsFirstFaultOfTodo R.remaining inputs.old inputs.new result }
+    ensures unwritten { IfErr result (λ fault. fault ≡ Fault.WriteFailed → ⊥) }
+{
+    let held = evidence_in(alloc, &mut inputs.capture)?;
+    let statements = statements_in(alloc, &mut inputs.statements)?;
+    Ok(still_to_check(alloc, &held, moment, &statements)?)
 }
 
 #[cfg(test)]

@@ -1,8 +1,9 @@
 //! The text of `show`: the captured messages with their questions and records.
 ghost use Rattle.std.specs.Prelude.{◌≡◌, ◌++◌, ◌+◌, ◌<◌, ℕ, List, IfOk, OnOk, length, flat_map, string_bytes};
 ghost use Rattle.dnssec_check.specs.Showing.{texts_from, message_line, question_line, record_line};
-ghost use Rattle.dnssec_check.specs.Showing.{message_text, about_text, rdata_text};
+ghost use Rattle.dnssec_check.specs.Showing.{message_text, about_text};
 
+use crate::hex_text::hex_text;
 use dnsv_message::{Class, Message, Question, Record, Section};
 use dnsv_names::{Name, RecordType};
 use std::alloc::{AllocError, Global};
@@ -126,17 +127,6 @@ fn push_record(
     push_about(text, &resource.name, resource.rtype, resource.class)?;
     writeln!(text, " {ttl} {rdata}")?;
     Ok(())
-}
-
-/// The octets in lower case hex, and `-` where there are none.
-fn hex_text(alloc: Global, octets: &[u8]) -> Result<String, AllocError>
-    ensures { IfOk result (λ text. string_bytes text ≡ rdata_text octets.now) }
-{
-    if octets.is_empty() {
-        String::from_str(alloc, "-")
-    } else {
-        hex::encode(alloc, octets)
-    }
 }
 
 #[cfg(test)]

@@ -30,6 +30,8 @@ impl Status {
 pub enum InputFile {
     /// The file of captured messages.
     Capture,
+    /// The file of statements.
+    Statements,
 }
 
 impl InputFile {
@@ -39,6 +41,7 @@ impl InputFile {
     {
         match self {
             InputFile::Capture => "capture",
+            InputFile::Statements => "statements",
         }
     }
 }
@@ -71,6 +74,10 @@ pub enum Refusal {
     /// With a message the capture would have too many messages or records, keys or signatures of an RRset, or
     /// pairs of iterations and salt.
     Limit,
+    /// A line of the file of statements is no statement.
+    StatementSyntax,
+    /// A statement calls an entry good that was called bad before, or the other way round.
+    Contradiction,
 }
 
 impl Refusal {
@@ -91,6 +98,8 @@ impl Refusal {
             Refusal::NotAResponse => 401,
             Refusal::Truncated => 402,
             Refusal::Limit => 403,
+            Refusal::StatementSyntax => 501,
+            Refusal::Contradiction => 502,
         }
     }
 }

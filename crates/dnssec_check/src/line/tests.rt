@@ -1,4 +1,5 @@
-use crate::line::{LineError, Request, read_line};
+use crate::line::{LineError, read_line};
+use crate::request::Request;
 use std::alloc::Global;
 use std::test::Fail;
 
@@ -23,24 +24,44 @@ fn reads_a_request_to_show(rt: HostRuntime) -> Result<(), Fail> {
 
 #[test]
 fn reads_a_request_to_list(rt: HostRuntime) -> Result<(), Fail> {
-    for (line, path, seconds) in [
+    for (line, path, said, seconds, wanted) in [
         (
             "dnssec_check list --capture a.bin --moment 1500 --all",
             "a.bin",
+            None,
             1500,
+            true,
         ),
         (
-            "./check list --all --moment=+281474976710655 --capture=--all",
+            "./check list --all --moment=+281474976710655 --capture=--all --statements b",
             "--all",
+            None,
             281_474_976_710_655,
+            true,
+        ),
+        (
+            "dnssec_check list --moment 0 --capture a",
+            "a",
+            None,
+            0,
+            false,
+        ),
+        (
+            "dnssec_check list --statements said --capture a --moment 1",
+            "a",
+            Some("said"),
+            1,
+            false,
         ),
     ] {
         let request = read(rt.alloc(), line)?;
         assert_eq!(rt; request.capture(), path, "{line}");
-        let Request::List { moment, .. } = request else {
+        assert_eq!(rt; request.statements(), said, "{line}");
+        let Request::List { moment, all, .. } = request else {
             return Err(Fail::from(line));
         };
         assert_eq!(rt; moment.seconds(), seconds, "{line}");
+        assert_eq!(rt; all, wanted, "{line}");
     }
     Ok(())
 }
@@ -59,14 +80,17 @@ fn refuses_other_words(rt: HostRuntime) {
         "dnssec_check show --capture a --capture a",
         "dnssec_check show --capture a b",
         "dnssec_check help",
-        "dnssec_check list --capture a --moment 1",
         "dnssec_check list --capture a --all",
         "dnssec_check list --moment 1 --all",
         "dnssec_check list --capture --moment 1 --all",
         "dnssec_check list --capture a --moment 281474976710656 --all",
         "dnssec_check list --capture a --moment -1 --all",
         "dnssec_check list --capture a --moment= --all",
-        "dnssec_check list --capture a --moment 1 --all --statements b",
+        "dnssec_check list --capture a --moment 1 --statements",
+        "dnssec_check list --capture a --moment 1 --statements b --statements b",
+        "dnssec_check list --capture a --moment 1 --all=true",
+        "dnssec_check list --capture a --moment 1 --all --all",
+        "dnssec_check show --capture a --statements b",
         "dnssec_check list --capture a --capture a --moment 1 --all",
         "dnssec_check list --capture a --moment 1 --all b",
     ];
@@ -85,6 +109,11 @@ fn shows_help(rt: HostRuntime) -> Result<(), Fail> {
         ("dnssec_check list --help", "--capture <FILE>"),
         ("dnssec_check list --help", "--moment <N>"),
         ("dnssec_check list --help", "--all"),
+        ("dnssec_check list --help", "--statements <FILE>"),
+        (
+            "dnssec_check list --help",
+            "Lists the signatures that a verifier still has to check",
+        ),
     ] {
         let Err(LineError::Help(help)) = read(rt.alloc(), line) else {
             return Err(Fail::from(line));

@@ -41,6 +41,8 @@ fn request(alloc: Global) -> Result<Request, Fail> {
     Ok(Request::List {
         capture: String::from_str(alloc, "capture")?,
         moment: Moment::new(1500).ok_or("a moment")?,
+        statements: None,
+        all: true,
     })
 }
 
@@ -48,6 +50,7 @@ fn request(alloc: Global) -> Result<Request, Fail> {
 fn listed(alloc: Global, octets: &[u8]) -> Result<(Result<Status, Fault>, Vec<u8>), Fail> {
     let mut inputs = Inputs {
         capture: Counted::new(octets),
+        statements: None,
     };
     let mut output = Counted::new(Vec::new(alloc));
     let answer = run(alloc, &request(alloc)?, &mut inputs, &mut output);
@@ -207,6 +210,7 @@ fn tells_the_stream_that_failed(rt: HostRuntime) -> Result<(), Fail> {
     for request in [&list, &show] {
         let mut inputs = Inputs {
             capture: Counted::new(Failing(HOST)),
+            statements: None,
         };
         let mut output = Counted::new(Vec::new(rt.alloc()));
         let answer = run(rt.alloc(), request, &mut inputs, &mut output);
@@ -215,6 +219,7 @@ fn tells_the_stream_that_failed(rt: HostRuntime) -> Result<(), Fail> {
 
         let mut inputs = Inputs {
             capture: Counted::new(HOST.as_slice()),
+            statements: None,
         };
         let mut output = Counted::new(Broken);
         let answer = run(rt.alloc(), request, &mut inputs, &mut output);

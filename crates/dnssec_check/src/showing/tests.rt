@@ -1,4 +1,4 @@
-use crate::line::Request;
+use crate::request::Request;
 use crate::run::{Inputs, run};
 use crate::samples::{HOST, KEYS};
 use crate::status::{Fault, Status};
@@ -13,6 +13,7 @@ fn shown(alloc: Global, octets: &[u8]) -> Result<(Result<Status, Fault>, Vec<u8>
     };
     let mut inputs = Inputs {
         capture: Counted::new(octets),
+        statements: None,
     };
     let mut output = Counted::new(Vec::new(alloc));
     let answer = run(alloc, &request, &mut inputs, &mut output);

@@ -13,5 +13,6 @@ returns c = one_text (record {
   one_rrsig = c.record_laws.ensures.one_rrsig;
   one_signed_data = c.one_signed_data.ensures.one;
   one_reason = c.evidence_or_one_refusal.ensures.one;
+  one_table = c.a_table_is_its_verifier.ensures.one;
   no_reason_against_evidence = c.evidence_or_one_refusal.ensures.never_both;
 })

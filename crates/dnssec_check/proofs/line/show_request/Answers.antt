@@ -1,16 +1,5 @@
-use Rattle.std.proofs.Common.{ap, refl, sym, codes, ◌≡◌, ◌∙◌, Some}
-use Rattle.std.specs.Prelude.{option_map}
-use Rattle.clap.specs.Words.{first_value, found_of}
-use Rattle.clap.proofs.CallerLemmas.{some_of_text}
-use Rattle.clap.proofs.WalkLemmas.{first_value-rows}
+use Rattle.std.proofs.Common.{refl}
 use Rattle.dnssec_check.proofs.line.show_request.Goals as goal
 
-pub unwrap-requires : goal.unwrap-requires
-unwrap-requires c = some_of_text _ c.get_str.result _ c.get_str.ensures (rw first_value-rows c.requires)
-
 pub returns : goal.returns
-returns c =
-    let word : first_value (found_of c.args.show.now) (codes "capture") ≡ Some c.unwrap.result.now = sym c.get_str.ensures ∙ ap (option_map (λ s. s.now)) c.unwrap.ensures in (
-      refl,
-      sym (first_value-rows (found_of c.args.show.now) (codes "capture")) ∙ word ∙ ap (λ t. Some t) (sym c.in_ok-capture.ensures.ok),
-    )
+returns c = (refl, c.in_ok-capture.ensures)

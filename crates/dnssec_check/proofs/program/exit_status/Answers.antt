@@ -4,17 +4,17 @@ use Rattle.dnssec_check.proofs.program.exit_status.Goals as goal
 
 pub returns-in-Ok-clause-done : goal.returns-in-Ok-clause-done
 returns-in-Ok-clause-done g c = λ is_0.
-    wrote _ _ _ _ _ c.in-Ok.ensures.accepted (ended_well _ (sym c.finish.ensures ∙ is_0) c.answer-outcome.ensures.done)
+    wrote _ _ _ _ _ c.in-Ok.ensures.accepted (λ files are. ended_well _ (sym c.finish.ensures ∙ is_0) (c.answer-outcome.ensures.done files are))
 
 pub returns-in-Ok-clause-refused : goal.returns-in-Ok-clause-refused
 returns-in-Ok-clause-refused g c = λ is_7.
     let (why, place, same) = ended_refused _ (sym c.finish.ensures ∙ is_7) in
-    refused _ _ _ why place c.in-Ok.ensures.accepted (c.answer-outcome.ensures.refused why place same)
+    refused _ _ _ why place c.in-Ok.ensures.accepted (λ files are. c.answer-outcome.ensures.refused files are why place same)
 
 pub returns-in-Ok-clause-failed : goal.returns-in-Ok-clause-failed
 returns-in-Ok-clause-failed g c = λ is_1.
     ended_failed _ (sym c.finish.ensures ∙ is_1) c.answer-outcome.ensures.untouched (λ failed.
-    (c.answer-outcome.ensures.write failed, began _ _ _ _ _ c.in-Ok.ensures.accepted (c.answer-outcome.ensures.begun failed)))
+    (c.answer-outcome.ensures.write failed, began _ _ _ _ _ c.in-Ok.ensures.accepted (λ files are. c.answer-outcome.ensures.begun files are failed)))
 
 pub returns-in-Err-clause-failed : goal.returns-in-Err-clause-failed
 returns-in-Err-clause-failed g c = λ is_1. inl (left_alone _ is_1 c.refuse.ensures.untouched)

@@ -5,7 +5,7 @@ use Rattle.clap.specs.declared.Arg.{Arg}
 use Rattle.clap.specs.declared.builder.ValueParser.{ValueParser}
 use Rattle.clap.specs.declared.builder.ValueParser.TheVariants as parser
 use Rattle.dnssec_check.specs.Moment.{last_moment}
-use Rattle.dnssec_check.proofs.line.moment_option.Goals as goal
+use Rattle.dnssec_check.proofs.commands.moment_option.Goals as goal
 
 abbrev demanded : Option ValueParser → Rule → Rule
 demanded p r = record r { parser = p; required = true }

@@ -1,5 +1,5 @@
 use Rattle.dnssec_check.proofs.OneText.{text_stands}
-use Rattle.dnssec_check.proofs.laws.no_refusal_of_a_text.Goals as goal
+use Rattle.dnssec_check.proofs.laws.no_fault_of_a_text.Goals as goal
 
 pub returns : goal.returns
 returns c = text_stands (record {
@@ -13,5 +13,6 @@ returns c = text_stands (record {
   one_rrsig = c.record_laws.ensures.one_rrsig;
   one_signed_data = c.one_signed_data.ensures.one;
   one_reason = c.evidence_or_one_refusal.ensures.one;
+  one_table = c.a_table_is_its_verifier.ensures.one;
   no_reason_against_evidence = c.evidence_or_one_refusal.ensures.never_both;
 })

@@ -2,8 +2,8 @@ use Rattle.std.proofs.Common.{ap, ap₂, codes, true, ◌≡◌, ◌∙◌}
 use Rattle.std.proofs.lemmas.Result.{IfOk-weaker}
 use Rattle.clap.specs.Words.{App, app_of, new_app, with_subcommand}
 use Rattle.clap.specs.Simple.{app_of_fields}
-use Rattle.dnssec_check.specs.Line.{bare_app, show_app}
-use Rattle.dnssec_check.proofs.line.program.Goals as goal
+use Rattle.dnssec_check.specs.Commands.{bare_app, show_app}
+use Rattle.dnssec_check.proofs.commands.program.Goals as goal
 
 -- a command that stays without its subcommand `help`, and one that has to have a subcommand
 abbrev helpless : App → App

@@ -1,0 +1,92 @@
+//! The commands of the program.
+ghost use Rattle.std.specs.Prelude.{◌≡◌, false, IfOk};
+ghost use Rattle.clap.specs.Words.{app_of, rule_of};
+ghost use Rattle.clap.specs.declared.Command.TheViews.{out-Command as fields_of};
+ghost use Rattle.dnssec_check.specs.Commands.{all_rule, capture_rule, moment_rule, statements_rule};
+ghost use Rattle.dnssec_check.specs.Commands.{list_app, program_app, show_app};
+
+use crate::moment::Moment;
+use clap::{Arg, ArgAction, Command, value_parser};
+use std::alloc::{AllocError, Global};
+
+/// The program with its subcommands.
+pub fn program<'a>(alloc: Global) -> Result<Command<'a>, AllocError>
+    ensures { IfOk result (λ command. app_of command ≡ program_app) }
+{
+    Command::new(alloc, "dnssec_check")
+        .about("Says what captured DNS messages prove")
+        .disable_help_subcommand(true)
+        .subcommand_required(true)
+        .subcommand(show(alloc)?)?
+        .subcommand(list(alloc)?)
+}
+
+/// The subcommand `show`.
+fn show<'a>(alloc: Global) -> Result<Command<'a>, AllocError>
+    ensures { IfOk result (λ command. (app_of command ≡ show_app)
+        × ((fields_of command).has_globals ≡ false)) }
+{
+    Command::new(alloc, "show")
+        .about("Shows the captured messages with their questions and records")
+        .arg(capture_option(alloc))
+}
+
+/// The subcommand `list`.
+fn list<'a>(alloc: Global) -> Result<Command<'a>, AllocError>
+    ensures { IfOk result (λ command. (app_of command ≡ list_app)
+        × ((fields_of command).has_globals ≡ false)) }
+{
+    Command::new(alloc, "list")
+        .about("Lists the signatures that a verifier still has to check")
+        .arg(capture_option(alloc))?
+        .arg(moment_option(alloc))?
+        .arg(statements_option(alloc))?
+        .arg(all_flag(alloc))
+}
+
+/// `--capture FILE`
+fn capture_option<'a>(alloc: Global) -> Arg<'a>
+    ensures rule { rule_of result ≡ capture_rule }
+    ensures local { result.global ≡ false }
+{
+    Arg::new(alloc, "capture")
+        .long("capture")
+        .value_name("FILE")
+        .help("The captured messages, each behind its length in two octets")
+        .required(true)
+}
+
+/// `--moment N`
+fn moment_option<'a>(alloc: Global) -> Arg<'a>
+    ensures rule { rule_of result ≡ moment_rule }
+    ensures local { result.global ≡ false }
+{
+    Arg::new(alloc, "moment")
+        .long("moment")
+        .value_name("N")
+        .help("The moment in seconds since 1970, from 0 to 281474976710655")
+        .value_parser(value_parser!(u64).range(0..=Moment::LAST as i64))
+        .required(true)
+}
+
+/// `--statements FILE`
+fn statements_option<'a>(alloc: Global) -> Arg<'a>
+    ensures rule { rule_of result ≡ statements_rule }
+    ensures local { result.global ≡ false }
+{
+    Arg::new(alloc, "statements")
+        .long("statements")
+        .value_name("FILE")
+        .help("What was checked: lines `good ALG KEY DATA SIG` or `bad ALG KEY DATA SIG`, in hex")
+}
+
+/// `--all`
+fn all_flag<'a>(alloc: Global) -> Arg<'a>
+    ensures rule { rule_of result ≡ all_rule }
+    ensures local { result.global ≡ false }
+{
+    Arg::new(alloc, "all")
+        .long("all")
+        .help("Lists the signed octets of every signature, whatever was checked")
+        .action(ArgAction::SetTrue)
+}
