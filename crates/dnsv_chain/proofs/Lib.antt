@@ -4,3 +4,4 @@ pub mod AnchorLineLemmas
 pub mod DerivationLemmas
 pub mod FieldLemmas
 pub mod TrustedLemmas
+pub mod UsableLemmas

@@ -9,6 +9,10 @@ use Rattle.dnsv_digest.specs.DigestType.{IsStronger, digest_type_of}
 use Rattle.dnsv_digest.specs.declared.digest_type.DigestType.{DigestType}
 use Rattle.dnsv_verifier.specs.Admissible.{DnskeyRecord}
 
+-- a digest type with the number is supported
+abbrev pub IsSupported : ℕ → Type 0
+IsSupported number = (supported : DigestType) × (digest_type_of number ≡ Some supported)
+
 -- the digest type with the number a goes before that with the number b; a number that isn't supported has no place
 abbrev pub GoesBefore : ℕ → ℕ → Type 0
 GoesBefore a b =
@@ -25,7 +29,7 @@ pub record IsIgnored (records : List Ds) (ds : Ds) : Type 0 where
 -- A record of a DS RRset is usable where its algorithm and its digest type are supported, and it isn't ignored.
 pub record IsUsable (records : List Ds) (ds : Ds) : Type 0 where
   pub algorithm : IsTrue (is_supported ds.algorithm.0)
-  pub digest_type : (supported : DigestType) × (digest_type_of ds.digest_type.0 ≡ Some supported)
+  pub digest_type : IsSupported ds.digest_type.0
   pub counts : ¬ IsIgnored records ds
 
 -- the digest of a DS record is the key's, by a digest type that is supported (RFC 4034 5.1.4)

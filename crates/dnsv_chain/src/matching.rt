@@ -1,11 +1,12 @@
 //! Which keys a DS record matches.
 ghost use Rattle.std.specs.Prelude.{◌↔◌, IsTrue};
 ghost use Rattle.dnsv_chain.specs.Ds.{HasDigestOf, HasUsableMatch, IsMatch};
+ghost use Rattle.dnsv_chain.specs.DsReading.{HasLeadingMatch};
 
-use crate::usable::is_usable;
+use crate::usable::leading_digest_type;
 use dnsv_digest::ds_digest;
 use dnsv_names::Name;
-use dnsv_records::Ds;
+use dnsv_records::{DigestType, Ds};
 use dnsv_verifier::KeyRecord;
 
 /// Whether a DS record of the owner matches the key (RFC 4035 5.2): the key is the owner's, algorithm and key tag
@@ -33,9 +34,25 @@ fn has_digest_of(ds: &Ds, key: &KeyRecord<'_>) -> bool
 pub fn has_usable_match(owner: &Name, records: &[Ds], key: &KeyRecord<'_>) -> bool
     ensures { IsTrue result ↔ HasUsableMatch owner.now records.now key.now }
 {
-    records
-        .iter()
-        .any(|ds| is_match(owner, ds, key) && is_usable(records, ds))
+    if !key.dnskey().algorithm.is_supported() {
+        return false;
+    }
+    match leading_digest_type(records) {
+        Some(leading) => has_leading_match(owner, records, leading, key),
+        None => false,
+    }
+}
+
+/// Whether a record of the owner has the digest type and matches the key.
+fn has_leading_match(
+    owner: &Name,
+    records: &[Ds],
+    digest_type: DigestType,
+    key: &KeyRecord<'_>,
+) -> bool
+    ensures { IsTrue result ↔ HasLeadingMatch owner.now records.now digest_type.0 key.now }
+{
+    records.iter().any(|ds| ds.digest_type.0 == digest_type.0 && is_match(owner, ds, key))
 }
 
 #[cfg(test)]

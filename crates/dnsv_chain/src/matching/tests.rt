@@ -1,5 +1,5 @@
 use super::*;
-use crate::usable::has_usable;
+use crate::usable::{has_usable, is_usable};
 use dnsv_records::{Algorithm, DigestType, Dnskey, KeyTag, Octets};
 use std::alloc::Global;
 use std::test::Fail;
