@@ -1,6 +1,10 @@
 pub mod AdmissibleLemmas
 pub mod AnswerLemmas
+pub mod AskLemmas
+pub mod EntryLemmas
+pub mod KeyLemmas
 pub mod PanelLemmas
+pub mod SearchLemmas
 pub mod StatementLemmas
 pub mod StatementsLemmas
 pub mod TableLemmas

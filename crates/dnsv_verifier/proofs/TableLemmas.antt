@@ -4,7 +4,7 @@ use Rattle.std.proofs.lemmas.Cmp.{eq_by_cmp_equiv}
 use Rattle.std.proofs.lemmas.Map.Keys.{IsDistinct-from_sorted}
 use Rattle.std.proofs.lemmas.Map.Views.{lookup-from_Contains, Contains-keys_from_lookup}
 use Rattle.std.specs.Cmp.{IsEquivalence}
-use Rattle.std.specs.List.{Contains, IsDistinct, filter}
+use Rattle.std.specs.List.{AllByRecursion, Contains, IsDistinct, filter}
 use Rattle.std.specs.List.Sorted.{IsStrictlySortedBy}
 use Rattle.std.specs.Map.{keys_of, lookup}
 use Rattle.std.specs.Option.{IsSome, unwrap_or}
@@ -146,3 +146,34 @@ module _ (meaning : Entry → Answer) (moment : ℕ) (rrsets : List ReceivedRrse
         | Valid ↦ λ says. sym (stays entry asked (λ found. let clash : Valid ≡ Unknown = sym says ∙ unknown_among entry found in absurd (cc)) ∙ says)
         | Invalid ↦ λ says. sym (stays entry asked (λ found. let clash : Invalid ≡ Unknown = sym says ∙ unknown_among entry found in absurd (cc)) ∙ says)
       ] refl
+
+-- the entries of a part of the answers rise
+all_filtered : (P : Entry → Type 0) (test : Entry × Answer → Bool) (answers : List (Entry × Answer))
+    → AllByRecursion P (map (λ each. each.0) answers) → AllByRecursion P (map (λ each. each.0) (filter test answers))
+all_filtered P test [] each = tt
+all_filtered P test (a ∷ answers) each =
+    elim (test a) as (λ b. AllByRecursion P (map (λ each. each.0) (cond b (a ∷ filter test answers) (filter test answers)))) [
+      | true ↦ (each.0, all_filtered P test answers each.1)
+      | false ↦ all_filtered P test answers each.1
+    ]
+
+pub rising_filtered : (test : Entry × Answer → Bool) (answers : List (Entry × Answer))
+    → IsStrictlySortedBy entry_cmp (map (λ each. each.0) answers)
+    → IsStrictlySortedBy entry_cmp (map (λ each. each.0) (filter test answers))
+unfolding IsStrictlySortedBy
+rising_filtered test [] rising = tt
+rising_filtered test (a ∷ answers) rising =
+    elim (test a) as (λ b. IsStrictlySortedBy entry_cmp (map (λ each. each.0) (cond b (a ∷ filter test answers) (filter test answers)))) [
+      | true ↦ (all_filtered (λ y. entry_cmp a.0 y ≡ Less) test answers rising.0, rising_filtered test answers rising.1)
+      | false ↦ rising_filtered test answers rising.1
+    ]
+
+-- hoping changes no entry
+entries-hoped : (answers : List (Entry × Answer))
+    → map (λ (each : Entry × Answer). each.0) (map (λ (each : Entry × Answer). (each.0, hoped_answer each.1)) answers) ≡ map (λ each. each.0) answers
+entries-hoped [] = refl
+entries-hoped (a ∷ answers) = ap (λ rest. a.0 ∷ rest) (entries-hoped answers)
+
+pub rising_hoped : (answers : List (Entry × Answer)) → IsStrictlySortedBy entry_cmp (map (λ each. each.0) answers)
+    → IsStrictlySortedBy entry_cmp (map (λ (each : Entry × Answer). each.0) (map (λ (each : Entry × Answer). (each.0, hoped_answer each.1)) answers))
+rising_hoped answers rising = subst (IsStrictlySortedBy entry_cmp) (sym (entries-hoped answers)) rising

@@ -14,6 +14,17 @@ pub enum Answer {
 
 impl Answer {
     ghost use Rattle.dnsv_verifier.specs.Panel.{joined};
+    ghost use Rattle.dnsv_verifier.specs.Table.{hoped_answer};
+
+    /// The best that may come of it: Unknown may turn out Valid.
+    pub(crate) fn hoped(self) -> Answer
+        ensures { result ≡ hoped_answer self }
+    {
+        match self {
+            Answer::Unknown => Answer::Valid,
+            known => known,
+        }
+    }
 
     /// What two verifiers say together: Invalid where one does, else Valid where one does.
     pub(crate) fn joined(self, other: Answer) -> Answer

@@ -1,13 +1,26 @@
 //! Asking a verifier about all of the evidence.
-ghost use Rattle.std.specs.Prelude.{◌≡◌, IfOk, OnErr, length};
+ghost use Rattle.std.specs.Prelude.{◌≡◌, ◌↔◌, ◌<◌, Contains, IfOk, IsTrue, MatchOption, OnErr, OnOk, length, map};
+ghost use Rattle.std.specs.List.Sorted.{IsStrictlySortedBy};
+ghost use Rattle.dnsv_canonical.specs.SignedData.{signed_label_count};
 ghost use Rattle.dnsv_names.specs.Count.{counted};
+ghost use Rattle.dnsv_records.specs.declared.rrsig.Rrsig.{Rrsig};
+ghost use Rattle.dnsv_verifier.specs.Admissible.{DnskeyRecord, IsAsked, MayHaveMade};
+ghost use Rattle.dnsv_verifier.specs.Asking.{AddsJust, ComesOfSome, IsAskedIn, IsAskedOf, IsEntryBy, IsPartOf};
+ghost use Rattle.dnsv_verifier.specs.Entry.{entry_cmp};
 ghost use Rattle.dnsv_verifier.specs.Table.{IsTableOf};
+ghost use Rattle.dnsv_verifier.specs.declared.entry.Entry.{Entry};
 
+use crate::admissible::is_verifiable;
+use crate::answer::Answer;
+use crate::shared_entry::{SharedEntry, SignaturePart};
+use crate::shared_key::{SharedKey, keys_of};
 use crate::table::Table;
 use crate::verifier::Verifier;
-use dnsv_canonical::Capture;
+use dnsv_canonical::{Capture, Rrset, signed_data};
 use dnsv_names::Count;
+use dnsv_records::{Octets, Rrsig};
 use std::alloc::{AllocError, Global};
+use std::rc::Rc;
 
 /// Asks the verifier at the moment, in seconds since 1970, about each signature of the capture under each key that may
 /// be used for it (RFC 4035 5.3.1), each distinct entry once.
@@ -25,6 +38,130 @@ pub fn ask_all<V: Verifier>(
     ensures count { IfOk result (λ table. count.new ≡ counted count.old (length table.answers)) }
     ensures refused { OnErr result (count.new ≡ count.old) }
 {
-    // STAND-IN
-    Err(AllocError)
+    // What is true of every count.
+    let _ = count.value();
+    let entries = asked_entries(alloc, moment, capture.rrsets())?;
+    let mut answers = Vec::with_capacity(alloc, entries.len())?;
+    for entry in entries {
+        let answer = entry.answer_of(verifier);
+        count.add(1);
+        // There is room for all.
+        let Ok(()) = answers.push((entry, answer)) else {
+            unreachable!();
+        };
+    }
+    Ok(Table::new(moment, answers))
 }
+
+/// The entries that are asked of the RRsets, each once, rising.
+fn asked_entries(
+    alloc: Global,
+    moment: u64,
+    rrsets: &[Rrset],
+) -> Result<Vec<SharedEntry>, AllocError>
+    ensures rising { IfOk result (λ entries. IsStrictlySortedBy entry_cmp entries.items) }
+    ensures asked { IfOk result (λ entries. (entry : Entry)
+        → Contains entries.items entry ↔ IsAsked moment rrsets.now entry) }
+{
+    let keys = keys_of(alloc, rrsets)?;
+    let mut entries = Vec::new(alloc);
+    for rrset in rrsets {
+        add_rrset(alloc, moment, keys.as_slice(), rrset, &mut entries)?;
+    }
+    entries.sort_unstable();
+    entries.dedup();
+    Ok(entries)
+}
+
+/// Adds the entries of the RRset's signatures.
+fn add_rrset(
+    alloc: Global,
+    moment: u64,
+    keys: &[SharedKey<'_>],
+    rrset: &Rrset,
+    entries: &mut Vec<SharedEntry>,
+) -> Result<(), AllocError>
+    ensures { OnOk result (AddsJust (IsAskedIn moment keys.now rrset.now) entries.old.items entries.new.items) }
+{
+    for rrsig in rrset.signatures() {
+        add_signature(alloc, moment, keys, rrset, rrsig, entries)?;
+    }
+    Ok(())
+}
+
+/// Whether one of the keys may have made the signature.
+fn is_made_by_some(keys: &[SharedKey<'_>], rrsig: &Rrsig) -> bool
+    ensures { IsTrue result ↔ ((key : DnskeyRecord) × Contains keys.now key × MayHaveMade key rrsig.now) }
+{
+    keys.iter().any(|key| key.may_have_made(rrsig))
+}
+
+/// Adds the entries of the signature under the keys that may have made it.
+fn add_signature(
+    alloc: Global,
+    moment: u64,
+    keys: &[SharedKey<'_>],
+    rrset: &Rrset,
+    rrsig: &Rrsig,
+    entries: &mut Vec<SharedEntry>,
+) -> Result<(), AllocError>
+    ensures { OnOk result (AddsJust (IsAskedOf moment keys.now rrset.now rrsig.now) entries.old.items entries.new.items) }
+{
+    if !is_verifiable(moment, rrset, rrsig) || !is_made_by_some(keys, rrsig) {
+        return Ok(());
+    }
+    let Some(part) = part_of(alloc, rrset, rrsig)? else {
+        return Ok(());
+    };
+    add_entries(keys, rrsig, &Rc::new(alloc, part)?, entries)
+}
+
+/// What the signature gives to its entries. `None` where Labels is above the owner's count of labels.
+fn part_of(alloc: Global, rrset: &Rrset, rrsig: &Rrsig) -> Result<Option<SignaturePart>, AllocError>
+    ensures { IfOk result (λ found. MatchOption found (signed_label_count rrset.now.owner < rrsig.now.labels)
+        (IsPartOf rrset.now rrsig.now)) }
+{
+    let Some(octets) = signed_data(alloc, rrset, rrsig)? else {
+        return Ok(None);
+    };
+    Ok(Some(SignaturePart {
+        algorithm: rrsig.algorithm,
+        signed_data: Octets::from_vec(octets),
+        signature: Octets::copy_of(alloc, rrsig.signature.as_slice())?,
+    }))
+}
+
+/// Adds the entries of the part under the keys that may have made the signature.
+fn add_entries(
+    keys: &[SharedKey<'_>],
+    rrsig: &Rrsig,
+    part: &Rc<SignaturePart>,
+    entries: &mut Vec<SharedEntry>,
+) -> Result<(), AllocError>
+    ensures { OnOk result (AddsJust (ComesOfSome (IsEntryBy rrsig.now part.now.value) keys.now)
+        entries.old.items entries.new.items) }
+{
+    for key in keys {
+        add_entry(key, rrsig, part, entries)?;
+    }
+    Ok(())
+}
+
+/// Adds the entry of the part under the key, if that may have made the signature.
+fn add_entry(
+    key: &SharedKey<'_>,
+    rrsig: &Rrsig,
+    part: &Rc<SignaturePart>,
+    entries: &mut Vec<SharedEntry>,
+) -> Result<(), AllocError>
+    ensures { OnOk result (AddsJust (IsEntryBy rrsig.now part.now.value key.now) entries.old.items entries.new.items) }
+{
+    if !key.may_have_made(rrsig) {
+        return Ok(());
+    }
+    entries.push(key.entry(part)?)?;
+    Ok(())
+}
+
+#[cfg(test)]
+mod tests;

@@ -25,6 +25,8 @@ mod hex_field;
 mod key;
 mod laws;
 mod panel;
+mod shared_entry;
+mod shared_key;
 mod statement;
 mod statements;
 mod table;

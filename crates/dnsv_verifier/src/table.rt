@@ -1,11 +1,12 @@
 //! What a verifier says of the evidence, worked out once.
-ghost use Rattle.std.specs.Prelude.{◌≡◌, ◌+◌, ◌↔◌, ℕ, List, Contains, IfOk, OnErr, length, map};
+ghost use Rattle.std.specs.Prelude.{◌≡◌, IfOk, length, map};
 ghost use Rattle.std.specs.List.Sorted.{IsStrictlySortedBy};
 ghost use Rattle.dnsv_verifier.specs.Entry.{entry_cmp};
 ghost use Rattle.dnsv_verifier.specs.Table.{hopeful, unknown_entries};
 
 use crate::answer::Answer;
 use crate::entry::Entry;
+use crate::shared_entry::SharedEntry;
 use crate::verifier::Verifier;
 use dnsv_records::Algorithm;
 use std::alloc::{AllocError, Global};
@@ -16,21 +17,31 @@ use std::marker::Model;
 #[derive(Drop)]
 pub struct Table {
     moment: u64,
-    answers: Vec<(Entry, Answer)>,
+    answers: Vec<(SharedEntry, Answer)>,
 }
 
 impl Model for Table {
+    ghost use Rattle.std.specs.Prelude.{map};
+    ghost use Rattle.std.specs.List.Sorted.{IsStrictlySortedBy};
+    ghost use Rattle.dnsv_verifier.specs.Entry.{entry_cmp};
     ghost use Rattle.dnsv_verifier.specs.Table.{TableContents};
 
     ghost Value = { TableContents };
 
     ghost view = { λ table. record { moment = table.moment; answers = table.answers.items } };
 
-    // STAND-IN
-    ghost invariant = { λ _. ⊥ };
+    ghost invariant = { λ table. IsStrictlySortedBy entry_cmp (map (λ each. each.0) table.answers.items) };
 }
 
 impl Table {
+    /// The table of these answers, whose entries rise.
+    pub(crate) fn new(moment: u64, answers: Vec<(SharedEntry, Answer)>) -> Table
+        requires { IsStrictlySortedBy entry_cmp (map (λ each. each.0) answers.items) }
+        ensures { result ≡ record { moment = moment; answers = answers.items } }
+    {
+        Table { moment, answers }
+    }
+
     /// The moment, in seconds since 1970.
     pub fn moment(&self) -> u64
         ensures { result ≡ self.now.moment }
@@ -50,24 +61,26 @@ impl Table {
     /// and signature, octets as unsigned numbers.
     pub fn unknown(&self, alloc: Global) -> Result<Vec<Entry>, AllocError>
         ensures value { IfOk result (λ entries. entries.items ≡ unknown_entries self.now) }
-        ensures rising { IsStrictlySortedBy entry_cmp (unknown_entries self.now) }
+        ensures rising { IfOk result (λ entries. IsStrictlySortedBy entry_cmp entries.items) }
     {
-        // STAND-IN
-        if self.answers.is_empty() {
-            return Ok(Vec::new(alloc));
+        let mut entries = Vec::new(alloc);
+        for (entry, answer) in &self.answers {
+            if *answer == Answer::Unknown {
+                entries.push(entry.to_entry(alloc)?)?;
+            }
         }
-        Err(AllocError)
+        Ok(entries)
     }
 
     /// The best that may come of the table: the same moment and entries, each Unknown one Valid. It asks nobody.
     pub fn hopeful(&self, alloc: Global) -> Result<Table, AllocError>
         ensures { IfOk result (λ table. table ≡ hopeful self.now) }
     {
-        // STAND-IN
-        if self.answers.is_empty() {
-            return Err(AllocError);
+        let mut answers = Vec::with_capacity(alloc, self.answers.len())?;
+        for (entry, answer) in &self.answers {
+            answers.push((entry.again()?, answer.hoped()))?;
         }
-        Err(AllocError)
+        Ok(Table::new(self.moment, answers))
     }
 }
 
@@ -83,10 +96,12 @@ impl Verifier for Table {
         signed_data: &[u8],
         signature: &[u8],
     ) -> Answer {
-        // STAND-IN
-        if self.answers.is_empty() {
-            return Answer::Unknown;
+        let place = self.answers.binary_search_by(|(entry, _)| {
+            entry.compared(algorithm, key, signed_data, signature)
+        });
+        match place {
+            Ok(place) => self.answers[place].1,
+            Err(_) => Answer::Unknown,
         }
-        Answer::Unknown
     }
 }

@@ -1,0 +1,18 @@
+use Rattle.std.proofs.Common.{ap, sym, ◌∙◌}
+use Rattle.dnsv_verifier.specs.Admissible.{DnskeyRecord}
+use Rattle.dnsv_verifier.proofs.KeyLemmas.{within_rdata, keys_more, keys_all}
+use Rattle.dnsv_verifier.proofs.shared_key.add_keys.Goals as goal
+
+pub rdata-requires : goal.rdata-requires
+rdata-requires c =
+    within_rdata c.args.rrset.now c.dnskeys-dnskey-items.result.now c.dnskeys-dnskey-items.ensures c.loop-place.place c.loop-place-test.true
+
+pub loop-place-preserved : goal.loop-place-preserved
+loop-place-preserved c =
+    let made = c.in_ok-new.ensures in
+    rw c.in_ok-push.ensures.items
+    (keys_more c.args.rrset.now c.dnskeys-dnskey-items.result.now c.dnskeys-dnskey-items.ensures c.loop-place.place c.dnskey-item.result c.in_ok-new.field-0 _ _ c.loop-place-test.true c.dnskey-item.is (ap (λ (key : DnskeyRecord). key.owner) made ∙ c.owner.ensures) (λ other. c.rdata.ensures.value other ∙ sym (ap (λ (key : DnskeyRecord). key.rdata) made)) (ap (λ (key : DnskeyRecord). key.dnskey) made) c.loop-place.invariant)
+
+pub returns : goal.returns
+returns c =
+    keys_all c.args.rrset.now c.dnskeys-dnskey-items.result.now c.dnskeys-dnskey-items.ensures c.loop-place.place _ _ c.loop-place-test.false c.loop-place.invariant

@@ -1,0 +1,26 @@
+use Rattle.std.proofs.Common.{◌≡◌, Option, Some, None, ap, refl, sym, ◌∙◌, rules, unwrap_or, subst}
+use Rattle.std.proofs.lemmas.Fn.{always_returns_same}
+use Rattle.std.specs.List.Sorted.{IsStrictlySortedBy}
+use Rattle.std.specs.Ordering.{is_eq}
+use Rattle.dnsv_verifier.specs.Entry.{entry_cmp}
+use Rattle.dnsv_verifier.specs.declared.answer.Answer.{Answer}
+use Rattle.dnsv_verifier.specs.declared.entry.Entry.{Entry}
+use Rattle.dnsv_verifier.specs.declared.answer.Answer.TheVariants.{Unknown}
+use Rattle.dnsv_verifier.proofs.SearchLemmas.{found_at, absent_from}
+use Rattle.dnsv_verifier.proofs.table.TableVerifier.answer.Goals as goal
+
+pub returns-in-Ok : goal.returns-in-Ok
+returns-in-Ok c =
+    let asked : Entry = record { algorithm = c.args.algorithm; key = c.args.key.now; signed_data = c.args.signed_data.now; signature = c.args.signature.now } in
+    let by_entry = c.in-Ok.ensures.position (λ each. entry_cmp each.0 asked) (always_returns_same _ _ _ (λ a r f called. search rules)) in
+    let place_is = rw c.deref.ensures.value at c.in-Ok.ensures.bound in
+    let tied = rw c.deref.ensures.value at by_entry in
+    let found = found_at _ c.self.invariant asked c.in-Ok.place c.index.result.now place_is c.index.ensures tied in
+    rw (← c.self.view_is) (sym (ap (λ (answer : Option Answer). unwrap_or answer Unknown) found))
+
+pub returns-in-Err : goal.returns-in-Err
+returns-in-Err c =
+    let asked : Entry = record { algorithm = c.args.algorithm; key = c.args.key.now; signed_data = c.args.signed_data.now; signature = c.args.signature.now } in
+    let by_entry = c.in-Err.ensures.position (λ each. entry_cmp each.0 asked) (always_returns_same _ _ _ (λ a r f called. search rules)) in
+    let absent = absent_from _ (rw c.deref.ensures.value c.self.invariant) asked c.in-Err.field-0 by_entry in
+    rw (← c.self.view_is, ← c.deref.ensures.value) (sym (ap (λ (answer : Option Answer). unwrap_or answer Unknown) absent))
