@@ -1,24 +1,14 @@
--- What holds of no member by its place, is said of no member of the list.
-use Rattle.std.proofs.Common.{◌≡◌, ◌≢◌, ℕ, zero, suc, ◌+◌, ◌<◌, true, false, List, [], ◌∷◌, refl, ⊎_elim, arith, subst, length}
+-- What holds of no member by its place, is said at no place of the list.
+use Rattle.std.proofs.lemmas.Cmp.{ranked}
+use Rattle.std.proofs.Common.{sym, Option, None, ◌≤◌, ◌≡◌, ◌≢◌, ℕ, ◌+◌, ◌<◌, true, false, List, ⊎_elim, arith, subst}
 use Rattle.std.proofs.lemmas.Bool.Decides.{eqb_tells}
 use lib.Dec.{eqb}
-use Rattle.std.specs.Prelude.{Some, slice_get, take}
-use Rattle.dnsv_denial.specs.Any.{Any}
-
-pub none_before : {X : Type 0} (P : X → Type 0) (xs : List X) (n : ℕ)
-    → ((k : ℕ) (x : X) → k < n → slice_get xs k ≡ Some x → ¬ P x) → ¬ Any P (take n xs)
-none_before P xs zero not_such some = absurd some
-none_before P [] (suc n) not_such some = absurd some
-none_before P (x ∷ xs) (suc n) not_such some =
-    ⊎_elim (λ (here : P x). not_such 0 x (omega arith) refl here)
-    (λ (rest : Any P (take n xs)). none_before P xs n (λ k y small there. not_such (suc k) y (omega arith) there) rest) some
-
-pub none_at_all : {X : Type 0} (P : X → Type 0) (xs : List X) (n : ℕ) → n ≡ length xs
-    → ((k : ℕ) (x : X) → k < n → slice_get xs k ≡ Some x → ¬ P x) → ¬ Any P xs
-none_at_all P [] n whole not_such some = absurd some
-none_at_all P (x ∷ xs) n whole not_such some =
-    ⊎_elim (λ (here : P x). not_such 0 x (omega arith) refl here)
-    (λ (rest : Any P xs). none_at_all P xs (length xs) refl (λ k y small there. not_such (suc k) y (omega arith) there) rest) some
+use Rattle.std.specs.Prelude.{Bool, IsTrue, Some, is_some, slice_get, length}
+use Rattle.std.proofs.lemmas.Option.{slice_get_within}
+use Rattle.std.specs.Ordering.{nat_cmp}
+use Rattle.std.specs.declared.cmp.Ordering.TheVariants.{Less}
+use Rattle.dnsv_denial.specs.Parts.{IsLowest}
+use Rattle.dnsv_denial.specs.SaidAt.{IsSaidAt, IsFirstPlace}
 
 less : (k n : ℕ) → k < n + 1 → k ≢ n → k < n
 less k n small other = omega arith
@@ -32,3 +22,35 @@ none_with P xs n x last not_last before k y small there holds =
     let is : y ≡ x = cc in not_last (subst P is holds))
     (λ (other : (eqb k n ≡ false) × (k ≢ n)). before k y (less k n small other.1) there holds)
     (eqb_tells k n)
+
+nat_less : (m n : ℕ) → nat_cmp m n ≡ Less → m < n
+nat_less m n less = ranked m n Less (sym less)
+
+pub lowest_of : {X : Type 0} (P : X → Type 0) (xs : List X) (n : ℕ) (x : X) → slice_get xs n ≡ Some x → P x
+    → ((k : ℕ) (y : X) → k < n → slice_get xs k ≡ Some y → ¬ P y) → IsLowest nat_cmp (IsSaidAt P xs) n
+lowest_of P xs n x there holds before = record {
+  says = record { entry = x; there = there; says = holds };
+  lowest = λ other said less. before other said.entry (nat_less other n less) said.there said.says;
+}
+
+pub none_of : {X : Type 0} (P : X → Type 0) (xs : List X) (n : ℕ) → length xs ≤ n
+    → ((k : ℕ) (y : X) → k < n → slice_get xs k ≡ Some y → ¬ P y) → (place : ℕ) → ¬ IsSaidAt P xs place
+none_of P xs n whole before place said =
+    let within : place < length xs = slice_get_within xs place said.entry said.there in
+    before place said.entry (omega arith) said.there said.says
+
+-- the first that is such is the first of what comes to the same
+pub first_as : {X : Type 0} (P Q : X → Type 0) (xs : List X) (found : Option ℕ) → ((x : X) → P x → Q x)
+    → ((x : X) → Q x → P x) → IsFirstPlace (IsSaidAt P xs) found → IsFirstPlace (IsSaidAt Q xs) found
+first_as P Q xs None to from none =
+    λ place said. none place (record { entry = said.entry; there = said.there; says = from said.entry said.says })
+first_as P Q xs (Some place) to from first = record {
+  says = record { entry = first.says.entry; there = first.says.there; says = to first.says.entry first.says.says };
+  lowest = λ other said. first.lowest other (record { entry = said.entry; there = said.there; says = from said.entry said.says });
+}
+
+-- something is found where there is something
+pub some_first : (Says : ℕ → Type 0) (found : Option ℕ) (test : Bool) → test ≡ is_some found → IsFirstPlace Says found
+    → (IsTrue test → (place : ℕ) × Says place) × (((place : ℕ) × Says place) → IsTrue test)
+some_first Says None test is none = (λ yes. let bad : ⊥ = cc in absurd bad, λ some. absurd (none some.0 some.1))
+some_first Says (Some place) test is first = (λ yes. (place, first.says), λ some. is)

@@ -1,12 +1,20 @@
 -- Which records a proof of denial names where several prove it: of each form the closest encloser with most labels,
 -- and for each of its words the first record. `cmp` is the order of the records' indices.
-use Rattle.std.specs.Prelude.{◌≡◌, ◌≢◌, ◌⊎◌, ◌+◌, ◌≤◌, ℕ, List, [], ◌∷◌, ◌++◌}
+use Rattle.std.specs.Prelude.{◌≡◌, ◌≢◌, ◌⊎◌, ◌+◌, ◌<◌, ◌≤◌, ℕ, List, [], ◌∷◌, ◌++◌, length}
 use Rattle.std.specs.declared.cmp.Ordering.{Ordering}
 use Rattle.std.specs.declared.cmp.Ordering.TheVariants.{Less}
 use Rattle.dnsv_names.specs.Name.{Labels, IsAtOrBelow, rightmost}
 use Rattle.dnsv_names.specs.Tree.{wildcard_of}
 use Rattle.dnsv_denial.specs.RecordWords.{RecordWords, words}
-use Rattle.dnsv_denial.specs.Forms.{IsAbove, NoNameForm, NoDataForm, EmptyForm, NoWildcardDataForm, EmptyWildcardForm}
+use Rattle.dnsv_denial.specs.Forms.{
+  IsAbove,
+  NoNameForm,
+  NoDataForm,
+  EmptyForm,
+  NoWildcardDataForm,
+  EmptyWildcardForm,
+  UnsignedCutForm,
+}
 use Rattle.dnsv_denial.specs.Types.{Denies}
 
 -- the record says it, and none before it does
@@ -99,3 +107,20 @@ pub record OptsOut {Index : Type 0} (said : RecordWords Index) (apex name : Labe
       ⊎ ((index : Index) × said.OptedOut (rightmost name (labels + 1)) index)
   pub opted_out : ((index : Index) × said.OptedOut (rightmost name (labels + 1)) index)
       ⊎ ((index : Index) × said.OptedOut (wildcard_of (rightmost name labels)) index)
+
+-- An unsigned delegation may stand against an answer from the wildcard: a record with the Opt-Out flag covers the next
+-- closer name (RFC 5155 8.8).
+pub record LeavesCloser {Index : Type 0} (said : RecordWords Index) (apex name : Labels) (labels : ℕ) : Type 0 where
+  pub above : IsAbove apex name labels
+  pub opted_out : (index : Index) × said.OptedOut (rightmost name (labels + 1)) index
+
+-- the highest delegation without DS, at or above the name, has so many labels
+pub record IsHighestCut {Index : Type 0} (said : RecordWords Index) (apex name : Labels) (labels : ℕ) : Type 0 where
+  pub at_or_above : labels ≤ length name
+  pub cut : UnsignedCutForm (words said) apex name (rightmost name labels)
+  pub fewest : (fewer : ℕ) → fewer < labels → ¬ UnsignedCutForm (words said) apex name (rightmost name fewer)
+
+-- the closest encloser with most labels where an unsigned delegation may lie at or below the next closer name has so many
+pub record IsLowestOptOut {Index : Type 0} (said : RecordWords Index) (apex name : Labels) (labels : ℕ) : Type 0 where
+  pub opts_out : OptsOut said apex name labels
+  pub most : (more : ℕ) → OptsOut said apex name more → more ≤ labels

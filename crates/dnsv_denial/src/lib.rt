@@ -5,13 +5,13 @@
 //! and code that decides what one NSEC record says of a name, and finds the NSEC records of a proof.
 #![tactic(auto)]
 
+pub use asked::{AskedName, AskedTypes, AskedWildcard};
+pub use by_wildcard::no_name;
 pub use chain::each_zone_has_a_chain;
-pub use cut::{UnsignedCut, unsigned_cut};
-pub use ends::{EndRecords, end_at};
 pub use entry::{Nsec3Entry, NsecEntry};
-pub use hashes::AskedHashes;
+pub use hashes::Nsec3Records;
 pub use lookup::a_question_has_one_answer;
-pub use missing::{NoNameRecords, no_name};
+pub use missing_type::no_data;
 pub use more::{more_nsec_records_prove_no_less, more_nsec3_records_prove_no_less};
 pub use nsec::{
     a_name_absent_by_nsec_is_no_node, a_name_covered_fairly_has_nothing_closed_above,
@@ -44,8 +44,6 @@ pub use nsec3_meaning::{
 pub use number::RecordNumber;
 pub use proof::Proof;
 pub use records::ChainRecords;
-pub use search::{Absent, Denied, Inner, Node, UnsignedDelegation, Word, first_to_say};
-pub use single::{empty_non_terminal, no_closer, no_data_at_name};
 pub use types::{denies, is_closed, is_delegation, is_unsigned_delegation};
 pub use view::View;
 pub use words::{is_absent, is_covered, is_fair, is_inner, is_node};
@@ -54,27 +52,30 @@ pub use zone::{
     nothing_closed_is_above_a_missing_name, what_is_above_a_node_is_a_node,
 };
 
+mod asked;
+mod by_wildcard;
 mod chain;
-mod cut;
+mod closer;
+mod cuts;
 mod ends;
 mod entry;
 mod hashes;
 mod lookup;
-mod missing;
+mod missing_type;
 mod more;
 mod nsec;
 mod nsec3;
 mod nsec3_complete;
 mod nsec3_meaning;
+mod nsec3_words;
 mod nsec_complete;
 mod nsec_meaning;
+mod nsec_words;
 mod number;
 mod proof;
 mod records;
+mod said;
 mod search;
-mod single;
-#[cfg(test)]
-mod tests;
 mod types;
 mod view;
 mod words;

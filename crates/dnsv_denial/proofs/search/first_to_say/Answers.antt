@@ -1,7 +1,7 @@
 -- The record that says the word, the records before it, and all of them where none says it.
 use Rattle.std.proofs.Common.{refl, length, arith}
 use Rattle.std.proofs.lemmas.Option.{slice_get_read}
-use Rattle.dnsv_denial.proofs.FirstLemmas.{none_before, none_at_all, none_with}
+use Rattle.dnsv_denial.proofs.FirstLemmas.{none_with, lowest_of, none_of}
 use Rattle.dnsv_denial.proofs.search.first_to_say.Goals as goal
 
 pub loop-place-preserved : goal.loop-place-preserved
@@ -12,13 +12,12 @@ loop-place-preserved g c =
     c.loop-place.invariant
 
 pub returns-then-is_said_by : goal.returns-then-is_said_by
-returns-then-is_said_by g c = record {
-  member = c.index-entries-place.result;
-  there = slice_get_read c.args.entries.now (length c.args.entries.now) c.loop-place.place c.index-entries-place.result refl c.loop-place-test.true c.index-entries-place.is;
-  such = c.is_said_by.ensures.0 c.if-is_said_by.true;
-  none_before = none_before (g.W.Word.says c.args.word.now) c.args.entries.now c.loop-place.place c.loop-place.invariant;
-}
+returns-then-is_said_by g c =
+    lowest_of (g.W.Word.says c.args.word.now) c.args.entries.now c.loop-place.place c.index-entries-place.result
+    (slice_get_read c.args.entries.now (length c.args.entries.now) c.loop-place.place c.index-entries-place.result refl c.loop-place-test.true c.index-entries-place.is)
+    (c.is_said_by.ensures.0 c.if-is_said_by.true)
+    c.loop-place.invariant
 
 pub returns : goal.returns
 returns g c =
-    none_at_all (g.W.Word.says c.args.word.now) c.args.entries.now c.loop-place.place (omega arith) c.loop-place.invariant
+    none_of (g.W.Word.says c.args.word.now) c.args.entries.now c.loop-place.place (omega arith) c.loop-place.invariant

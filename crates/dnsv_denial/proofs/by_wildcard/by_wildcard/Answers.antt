@@ -1,0 +1,25 @@
+use Rattle.std.proofs.Common.{ℕ, ◌-◌, arith}
+use Rattle.dnsv_denial.specs.ByWildcard.{StandsAt}
+use Rattle.dnsv_denial.specs.ChainSaid.{chain_said}
+use Rattle.dnsv_denial.proofs.WildcardLemmas.{fewer_yet, none_above_apex}
+use Rattle.dnsv_denial.proofs.by_wildcard.by_wildcard.Goals as goal
+
+pub loop-labels-init : goal.loop-labels-init
+loop-labels-init c = λ more stands. omega (arith, stands.ends.above.proper, c.labels-labels.ensures.count)
+
+pub loop-labels-preserved : goal.loop-labels-preserved
+loop-labels-preserved c =
+    fewer_yet (StandsAt c.args.asked (chain_said c.args.apex.now c.args.records.now) c.args.apex.now c.args.name.now) c.loop-labels.labels
+    (omega (arith, c.loop-labels-test.true)) c.loop-labels.invariant c.in_default.ensures
+
+pub returns-in-Some : goal.returns-in-Some
+returns-in-Some c = record {
+  labels = c.loop-labels.labels - 1;
+  are = c.in-Some.ensures;
+  most_labels = λ more stands. omega (arith, c.loop-labels.invariant more stands, c.loop-labels-test.true);
+}
+
+pub returns : goal.returns
+returns c =
+    none_above_apex (chain_said c.args.apex.now c.args.records.now) c.args.apex.now c.args.name.now c.args.asked c.loop-labels.labels
+    (omega (arith, c.loop-labels-test.false)) c.loop-labels.invariant

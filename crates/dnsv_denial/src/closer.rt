@@ -1,0 +1,46 @@
+//! What records say against an answer from a wildcard (RFC 4035 5.3.4, RFC 5155 8.8).
+ghost use Rattle.std.specs.Prelude.{◌↔◌, IsTrue, MatchOption};
+ghost use Rattle.std.specs.Ordering.{nat_cmp};
+ghost use Rattle.dnsv_denial.specs.ChainSaid.{chain_said, HasHashes};
+ghost use Rattle.dnsv_denial.specs.Forms.{NoCloserForm};
+ghost use Rattle.dnsv_denial.specs.Parts.{IsNoCloserPart, LeavesCloser};
+ghost use Rattle.dnsv_denial.specs.RecordWords.{words};
+
+use crate::asked::AskedName;
+use crate::ends::is_above;
+use crate::records::ChainRecords;
+use crate::said::{absent, is_opted_out};
+use dnsv_names::Name;
+
+/// The place of the first record that leaves no closer name than the wildcard below the name's so many labels
+/// (RFC 4035 5.3.4, RFC 5155 8.8), or `None` where none does or these labels are no proper ancestor of the name within
+/// the zone.
+pub fn no_closer(
+    apex: &Name,
+    name: &Name,
+    labels: usize,
+    records: &ChainRecords<'_>,
+) -> Option<usize>
+    requires { HasHashes name.now records.now }
+    ensures { MatchOption result
+        (¬ NoCloserForm (words (chain_said apex.now records.now)) apex.now name.now labels)
+        (IsNoCloserPart nat_cmp (chain_said apex.now records.now) apex.now name.now labels) }
+{
+    if !is_above(apex, name, labels) {
+        return None;
+    }
+    absent(name, AskedName::Above(labels + 1), records)
+}
+
+/// Whether an unsigned delegation may stand against an answer from the wildcard below the name's so many labels: these
+/// are a proper ancestor of the name within the zone, and a record with the Opt-Out flag covers the next closer name
+/// (RFC 5155 8.8).
+pub fn loose_closer(apex: &Name, name: &Name, labels: usize, records: &ChainRecords<'_>) -> bool
+    requires { HasHashes name.now records.now }
+    ensures { IsTrue result ↔ LeavesCloser (chain_said apex.now records.now) apex.now name.now labels }
+{
+    if !is_above(apex, name, labels) {
+        return false;
+    }
+    is_opted_out(name, AskedName::Above(labels + 1), records)
+}
