@@ -1,5 +1,5 @@
 -- The hashes of names by SHA-1, and those of the names that a question asks for (RFC 5155 5).
-use Rattle.std.specs.Prelude.{◌≡◌, ℕ, ◌+◌, ◌<◌, ◌≤◌, List, Some, length, slice_get}
+use Rattle.std.specs.Prelude.{◌≡◌, ℕ, ◌+◌, ◌<◌, List, Some, length, slice_get}
 use Rattle.std.proofs.Common.{ap}
 use Rattle.dnsv_names.specs.Name.{Labels, wire, rightmost}
 use Rattle.dnsv_names.specs.Tree.{wildcard_of}
@@ -14,11 +14,13 @@ sha1_hash parameters = record {
   respects_case = λ a b same. ap (λ lower. iterated_hash parameters.salt (wire lower) parameters.iterations) same;
 }
 
+-- the list has so many values, which are those of the numbers from 0 on
+pub record AreEach {X : Type 0} (of : ℕ → X) (count : ℕ) (values : List X) : Type 0 where
+  pub same_count : length values ≡ count
+  pub each : (n : ℕ) → n < count → slice_get values n ≡ Some (of n)
+
 -- The hashes of a name's rightmost labels, from none of them to all, and those of the wildcards right below its
 -- proper ancestors.
 pub record AreHashes (hash : NameHash) (name : Labels) (above wildcards : List (List ℕ)) : Type 0 where
-  pub above_count : length above ≡ length name + 1
-  pub each_above : (n : ℕ) → n ≤ length name → slice_get above n ≡ Some (hash.of (rightmost name n))
-  pub wildcard_count : length wildcards ≡ length name
-  pub each_wildcard : (n : ℕ) → n < length name
-      → slice_get wildcards n ≡ Some (hash.of (wildcard_of (rightmost name n)))
+  pub each_above : AreEach (λ n. hash.of (rightmost name n)) (length name + 1) above
+  pub each_wildcard : AreEach (λ n. hash.of (wildcard_of (rightmost name n))) (length name) wildcards
