@@ -1,6 +1,7 @@
 mod AnswerLemmas
 mod AnyLemmas
 mod BitmapLemmas
+mod Bridge
 mod ChainLemmas
 mod CutLemmas
 mod Example
