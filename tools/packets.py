@@ -68,12 +68,15 @@ def blocks_of_pcapng(octets):
 
 def packet_of_block(kind, body, order, number, links):
     """A simple block has a packet of the first interface, the other kinds name theirs."""
+    numbers = [int.from_bytes(body[place:place + 4], order) for place in (0, 12, 16)]
+    interface, size, sent = numbers if kind == PACKET else (int.from_bytes(body[:2], order), *numbers[1:])
+    front = 20
     if kind == SIMPLE_PACKET:
-        sent = number_at(body, 0, 4, order)
-        return Packet(number, links[0], body[4:4 + sent], len(body) >= 4 + sent)
-    interface = number_at(body, 0, 4 if kind == PACKET else 2, order)
-    size, sent = number_at(body, 12, 4, order), number_at(body, 16, 4, order)
-    return Packet(number, links[interface], part_of(body, 20, size), size == sent)
+        interface, front, sent = 0, 4, numbers[0]
+        size = min(sent, len(body) - front)
+    if interface >= len(links):
+        raise BadFile("it has a packet of an interface that it doesn't describe")
+    return Packet(number, links[interface], part_of(body, front, size), size == sent)
 
 
 def packets_of_pcapng(octets):
@@ -82,7 +85,7 @@ def packets_of_pcapng(octets):
         if kind == SECTION:
             links = []
         elif kind == INTERFACE:
-            links.append(number_at(body, 0, 2, order))
+            links.append(int.from_bytes(body[:2], order))
         elif kind in (OLD_PACKET, SIMPLE_PACKET, PACKET):
             number += 1
             yield packet_of_block(kind, body, order, number, links)
@@ -123,10 +126,12 @@ def ip_octets(packet):
 
 def ipv4_packet(octets):
     """RFC 791 3.1; None for a fragment that isn't the first, and so has no ports."""
-    front, end = number_at(octets, 0, 1) % 16 * 4, number_at(octets, 2, 2) or len(octets)
+    front, end = octets[0] % 16 * 4, number_at(octets, 2, 2) or len(octets)
     fragment, protocol = number_at(octets, 6, 2), number_at(octets, 9, 1)
     if fragment & 0x1FFF:
         return None
+    if front < 20:
+        raise BadPacket("its IP header is too short")
     return IpPacket(octets[12:16], octets[16:20], protocol, octets[front:end], bool(fragment & 0x2000))
 
 
@@ -174,4 +179,6 @@ def payload_of(packet, ports):
     if ip.protocol == UDP:
         return Datagram(*ends, octets[8:number_at(octets, 4, 2)])
     front, flags = number_at(octets, 12, 1) // 16 * 4, number_at(octets, 13, 1)
+    if front < 20:
+        raise BadPacket("its TCP header is too short")
     return Segment(*ends, number_at(octets, 4, 4), bool(flags & SYN), octets[front:])

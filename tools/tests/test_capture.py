@@ -201,6 +201,21 @@ class Packets(PacketCase):
         self.takes(file, [ONE], "packet 1 of -: it ends too early")
         self.refuses(pcap([whole], lost=1), "packet 1 of -: it was cut")
 
+    def test_headers_that_are_too_short(self):
+        frame, whole = bytearray(ethernet(ipv4(udp(TWO)))), ethernet(ipv4(udp(ONE)))
+        frame[14] = 0x44
+        self.takes(pcap([frame, whole]), [ONE], "packet 1 of -: its IP header is too short")
+        frame = bytearray(ethernet(ipv4(tcp(framed(TWO), 1001))))
+        frame[14 + 20 + 12] = 0x40
+        self.takes(pcap([frame, whole]), [ONE], "packet 1 of -: its TCP header is too short")
+
+    def test_a_packet_of_an_unknown_interface_is_refused(self):
+        frame = ethernet(ipv4(udp(ONE)))
+        for packet in (build.enhanced(1, frame), build.old(1, frame)):
+            self.refuses(build.section() + build.interface(1) + packet, "-: it has a packet of an interface")
+        self.refuses(build.section() + build.simple(frame), "-: it has a packet of an interface")
+        self.refuses(build.section() + build.block(6, b"\0" * 8, "<"), "-: it has a packet of an interface")
+
     def test_a_file_that_is_torn_is_refused(self):
         for whole in (pcap([ethernet(ipv4(udp(ONE)))] * 2), build.section() + build.interface(1)
                       + build.enhanced(0, ethernet(ipv4(udp(ONE)))) * 2):
