@@ -1,5 +1,5 @@
 -- Lists that grow by just what was looked for.
-use Rattle.std.proofs.Common.{◌≡◌, ℕ, zero, suc, ◌+◌, ◌<◌, ◌≤◌, ◌⊎◌, inl, inr, ⊎_elim, List, [], ◌∷◌, ◌++◌, length, get_or, take, refl, sym, ap, ◌∙◌, subst, arith}
+use Rattle.std.proofs.Common.{◌≡◌, ◌↔◌, ℕ, zero, suc, ◌+◌, ◌<◌, ◌≤◌, ◌⊎◌, inl, inr, ⊎_elim, List, [], ◌∷◌, ◌++◌, length, get_or, take, refl, sym, ap, ◌∙◌, subst, arith}
 use Rattle.std.proofs.lemmas.List.{take_all, take_more}
 use Rattle.std.proofs.lemmas.List.Elements.{Contains-append_left, Contains-push, Contains-push_cases}
 use Rattle.std.specs.List.{AllZip, Contains}
@@ -30,6 +30,15 @@ adds_same P Q a b adds to from = record {
   kept = adds.kept;
   added = λ x q. adds.added x (from x q);
   only = λ x found. ⊎_elim (λ old. inl old) (λ p. inr (to x p)) (adds.only x found);
+}
+
+-- a list with the same members has grown by the same
+pub adds_moved : {X : Type 0} (P : X → Type 0) (a b c : List X) → AddsJust P a b
+    → ((x : X) → Contains c x ↔ Contains b x) → AddsJust P a c
+adds_moved P a b c adds same = record {
+  kept = λ x found. (same x).1 (adds.kept x found);
+  added = λ x p. (same x).1 (adds.added x p);
+  only = λ x found. adds.only x ((same x).0 found);
 }
 
 -- a loop that adds what comes of each member

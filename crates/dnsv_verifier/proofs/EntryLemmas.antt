@@ -1,5 +1,5 @@
 -- The entries of one signature, of one RRset and of all evidence.
-use Rattle.std.proofs.Common.{◌≡◌, ◌↔◌, ℕ, ◌<◌, ◌≤◌, ◌⊎◌, inl, inr, ⊎_elim, List, [], ◌∷◌, length, get_or, Some, refl, sym, ap, ◌∙◌, subst, arith}
+use Rattle.std.proofs.Common.{◌≡◌, ◌↔◌, ℕ, ◌<◌, ⊎_elim, List, [], length, get_or, Some, refl, sym, ◌∙◌, subst, arith}
 use Rattle.std.proofs.lemmas.List.Elements.{Contains-get_or}
 use Rattle.std.proofs.lemmas.List.Kept.{Contains-dedup, Contains-from_dedup}
 use Rattle.std.proofs.lemmas.List.Sorted.{Contains-permutation, IsPermutation-sym}
@@ -7,12 +7,11 @@ use Rattle.std.specs.List.{AllZip, Contains, dedup}
 use Rattle.std.specs.List.Sorted.{IsPermutation}
 use Rattle.std.specs.Ordering.{eq_by_cmp}
 use Rattle.dnsv_canonical.specs.Rrsets.{ReceivedRrset}
-use Rattle.dnsv_canonical.specs.SignedData.{IsSignedData}
 use Rattle.dnsv_canonical.proofs.SignedLemmas.{signed_data_unique}
 use Rattle.dnsv_records.specs.Rrsig.{IsRrsig}
 use Rattle.dnsv_records.specs.declared.rrsig.Rrsig.{Rrsig}
 use Rattle.dnsv_records.proofs.OneRecord.{one_rrsig}
-use Rattle.dnsv_verifier.specs.Admissible.{DnskeyRecord, IsAdmissible, IsAsked, IsEntryOf, IsKeyAmong, IsSignatureOf, IsVerifiable, MayHaveMade}
+use Rattle.dnsv_verifier.specs.Admissible.{DnskeyRecord, IsAsked, IsEntryOf, IsSignatureOf, IsVerifiable, MayHaveMade}
 use Rattle.dnsv_verifier.specs.Asking.{AddsJust, AreKeysOf, ComesOfSome, IsAskedIn, IsAskedOf, IsEntryBy, IsPartOf, entry_with}
 use Rattle.dnsv_verifier.specs.Entry.{entry_cmp}
 use Rattle.dnsv_verifier.specs.declared.entry.Entry.{Entry}
@@ -63,9 +62,15 @@ module _ (moment : ℕ) (rrset : ReceivedRrset) (rrsig : Rrsig) (keys : List Dns
     };
   }
 
-  pub adds_asked : (a b : List Entry) → AddsJust (ComesOfSome (IsEntryBy rrsig part) keys) a b
+  -- the keys that the signature names are enough
+  pub adds_asked : (named : List DnskeyRecord) → ((key : DnskeyRecord) → Contains named key → Contains keys key)
+      → ((key : DnskeyRecord) → Contains keys key → MayHaveMade key rrsig → Contains named key)
+      → (a b : List Entry) → AddsJust (ComesOfSome (IsEntryBy rrsig part) named) a b
       → AddsJust (IsAskedOf moment keys rrset rrsig) a b
-  adds_asked a b adds = adds_same (ComesOfSome (IsEntryBy rrsig part) keys) (IsAskedOf moment keys rrset rrsig) a b adds asked_by by_asked
+  adds_asked named among all a b adds =
+      adds_same (ComesOfSome (IsEntryBy rrsig part) named) (IsAskedOf moment keys rrset rrsig) a b adds
+      (λ entry comes. asked_by entry (record { source = comes.source; among = among comes.source comes.among; is = comes.is }))
+      (λ entry asked. let comes = by_asked entry asked in record { source = comes.source; among = all comes.source comes.among comes.is.made; is = comes.is })
 
 -- the signatures as they were read
 module _ (rrset : ReceivedRrset) (signatures : List Rrsig) (are : AllZip IsRrsig rrset.signatures signatures) where
@@ -121,10 +126,15 @@ module _ (moment : ℕ) (rrsets : List ReceivedRrset) (keys : List DnskeyRecord)
       (λ found. ⊎_elim (λ old. absurd (omega (arith, old.1))) (λ comes. asked_somewhere entry comes) (adds.only entry found), λ asked. adds.added entry (somewhere_asked entry asked))
 
 -- putting entries in order and dropping repeats keeps them
-pub same_asked : (P : Entry → Type 0) (entries sorted distinct : List Entry) → IsPermutation entries sorted
-    → distinct ≡ dedup (eq_by_cmp entry_cmp) sorted → ((entry : Entry) → Contains entries entry ↔ P entry)
-    → (entry : Entry) → Contains distinct entry ↔ P entry
-same_asked P entries sorted distinct moves is asked entry = (
-  λ found. (asked entry).0 (Contains-permutation sorted entries entry (IsPermutation-sym entries sorted moves) (Contains-from_dedup (eq_by_cmp entry_cmp) sorted entry (subst (λ (es : List Entry). Contains es entry) is found))),
-  λ p. subst (λ (es : List Entry). Contains es entry) (sym is) (Contains-dedup same_entry_equiv exact_entries sorted entry (Contains-permutation entries sorted entry moves ((asked entry).1 p))),
+pub same_entries : (entries sorted distinct : List Entry) → IsPermutation entries sorted
+    → distinct ≡ dedup (eq_by_cmp entry_cmp) sorted → (entry : Entry) → Contains distinct entry ↔ Contains entries entry
+same_entries entries sorted distinct moves is entry = (
+  λ found. Contains-permutation sorted entries entry (IsPermutation-sym entries sorted moves) (Contains-from_dedup (eq_by_cmp entry_cmp) sorted entry (subst (λ (es : List Entry). Contains es entry) is found)),
+  λ found. subst (λ (es : List Entry). Contains es entry) (sym is) (Contains-dedup same_entry_equiv exact_entries sorted entry (Contains-permutation entries sorted entry moves found)),
 )
+
+pub just_moved : (P : Entry → Type 0) (entries moved : List Entry)
+    → ((entry : Entry) → Contains moved entry ↔ Contains entries entry) → ((entry : Entry) → Contains entries entry ↔ P entry)
+    → (entry : Entry) → Contains moved entry ↔ P entry
+just_moved P entries moved same just entry =
+    (λ found. (just entry).0 ((same entry).0 found), λ p. (same entry).1 ((just entry).1 p))

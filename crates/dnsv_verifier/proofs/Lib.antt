@@ -1,8 +1,8 @@
 pub mod AdmissibleLemmas
-pub mod AnswerLemmas
 pub mod AskLemmas
 pub mod EntryLemmas
 pub mod KeyLemmas
+pub mod NamedLemmas
 pub mod PanelLemmas
 pub mod SearchLemmas
 pub mod StatementLemmas

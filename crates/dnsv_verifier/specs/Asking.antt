@@ -1,6 +1,11 @@
 -- How the entries that are asked are found. No public clause cites this module.
 use Rattle.std.specs.Prelude.{◌≡◌, ◌↔◌, ◌⊎◌, ℕ, List, Contains, Some}
+use Rattle.std.specs.Ordering.{nat_cmp, ordering_then}
+use Rattle.std.specs.declared.cmp.Ordering.{Ordering}
+use Rattle.dnsv_names.specs.Name.{Labels}
+use Rattle.dnsv_names.specs.Order.{canonical_cmp}
 use Rattle.dnsv_records.specs.Dnskey.{IsDnskey}
+use Rattle.dnsv_records.specs.KeyTag.{key_tag_of}
 use Rattle.dnsv_records.specs.declared.rrsig.Rrsig.{Rrsig}
 use Rattle.dnsv_canonical.specs.Rrsets.{ReceivedRrset}
 use Rattle.dnsv_canonical.specs.SignedData.{IsSignedData}
@@ -30,6 +35,24 @@ pub record IsKeyOf (rrset : ReceivedRrset) (key : DnskeyRecord) : Type 0 where
 -- the keys are just those of the evidence
 abbrev pub AreKeysOf : List ReceivedRrset → List DnskeyRecord → Type 0
 AreKeysOf rrsets keys = (key : DnskeyRecord) → Contains keys key ↔ IsKeyAmong rrsets key
+
+-- what a signature names keys by: tag, algorithm and owner (RFC 4034 3.1)
+pub record KeyName : Type 0 where
+  pub tag : ℕ
+  pub algorithm : ℕ
+  pub owner : Labels
+
+abbrev pub name_of_key : DnskeyRecord → KeyName
+name_of_key key = record { tag = key_tag_of key.rdata; algorithm = key.dnskey.algorithm.0; owner = key.owner }
+
+-- what the signature names keys by
+abbrev pub named_by : Rrsig → KeyName
+named_by rrsig = record { tag = rrsig.key_tag.0; algorithm = rrsig.algorithm.0; owner = rrsig.signer }
+
+-- by tag, algorithm and owner
+abbrev pub key_name_cmp : KeyName → KeyName → Ordering
+key_name_cmp a b =
+    ordering_then (ordering_then (nat_cmp a.tag b.tag) (nat_cmp a.algorithm b.algorithm)) (canonical_cmp a.owner b.owner)
 
 -- what the signature of the RRset gives to its entries
 pub record IsPartOf (rrset : ReceivedRrset) (rrsig : Rrsig) (part : SignaturePart) : Type 0 where

@@ -12,8 +12,9 @@ ghost use Rattle.dnsv_verifier.specs.declared.entry.Entry.{Entry};
 
 use crate::admissible::is_verifiable;
 use crate::answer::Answer;
+use crate::keys::Keys;
 use crate::shared_entry::{SharedEntry, SignaturePart};
-use crate::shared_key::{SharedKey, keys_of};
+use crate::shared_key::SharedKey;
 use crate::table::Table;
 use crate::verifier::Verifier;
 use dnsv_canonical::{Capture, Rrset, signed_data};
@@ -63,21 +64,43 @@ fn asked_entries(
     ensures asked { IfOk result (λ entries. (entry : Entry)
         → Contains entries.items entry ↔ IsAsked moment rrsets.now entry) }
 {
-    let keys = keys_of(alloc, rrsets)?;
+    let keys = Keys::of(alloc, rrsets)?;
     let mut entries = Vec::new(alloc);
+    let mut distinct = 0;
     for rrset in rrsets {
-        add_rrset(alloc, moment, keys.as_slice(), rrset, &mut entries)?;
+        add_rrset(alloc, moment, &keys, rrset, &mut entries)?;
+        distinct = drop_repeats(&mut entries, distinct);
     }
+    put_in_order(&mut entries);
+    Ok(entries)
+}
+
+/// Drops repeats once there may be more of them than of the entries that were distinct before, so that a message which
+/// comes again and again takes little memory. The answer is how many are known to be distinct.
+fn drop_repeats(entries: &mut Vec<SharedEntry>, distinct: usize) -> usize
+    ensures { (entry : Entry) → Contains entries.new.items entry ↔ Contains entries.old.items entry }
+{
+    if entries.len() / 2 <= distinct {
+        return distinct;
+    }
+    put_in_order(entries);
+    entries.len()
+}
+
+/// Puts the entries in order, each once.
+fn put_in_order(entries: &mut Vec<SharedEntry>)
+    ensures rising { IsStrictlySortedBy entry_cmp entries.new.items }
+    ensures same { (entry : Entry) → Contains entries.new.items entry ↔ Contains entries.old.items entry }
+{
     entries.sort_unstable();
     entries.dedup();
-    Ok(entries)
 }
 
 /// Adds the entries of the RRset's signatures.
 fn add_rrset(
     alloc: Global,
     moment: u64,
-    keys: &[SharedKey<'_>],
+    keys: &Keys<'_>,
     rrset: &Rrset,
     entries: &mut Vec<SharedEntry>,
 ) -> Result<(), AllocError>
@@ -100,20 +123,24 @@ fn is_made_by_some(keys: &[SharedKey<'_>], rrsig: &Rrsig) -> bool
 fn add_signature(
     alloc: Global,
     moment: u64,
-    keys: &[SharedKey<'_>],
+    keys: &Keys<'_>,
     rrset: &Rrset,
     rrsig: &Rrsig,
     entries: &mut Vec<SharedEntry>,
 ) -> Result<(), AllocError>
     ensures { OnOk result (AddsJust (IsAskedOf moment keys.now rrset.now rrsig.now) entries.old.items entries.new.items) }
 {
-    if !is_verifiable(moment, rrset, rrsig) || !is_made_by_some(keys, rrsig) {
+    if !is_verifiable(moment, rrset, rrsig) {
+        return Ok(());
+    }
+    let named = keys.named_by(rrsig);
+    if !is_made_by_some(named, rrsig) {
         return Ok(());
     }
     let Some(part) = part_of(alloc, rrset, rrsig)? else {
         return Ok(());
     };
-    add_entries(keys, rrsig, &Rc::new(alloc, part)?, entries)
+    add_entries(named, rrsig, &Rc::new(alloc, part)?, entries)
 }
 
 /// What the signature gives to its entries. `None` where Labels is above the owner's count of labels.

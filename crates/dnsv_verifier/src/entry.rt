@@ -24,7 +24,7 @@ pub struct Entry {
 impl Entry {
     ghost use Rattle.dnsv_verifier.specs.Entry.{entry_cmp};
 
-    /// How the entry of these four values stands to this one.
+    /// How this entry stands to the entry of these four values.
     pub(crate) fn compared(
         &self,
         algorithm: Algorithm,
@@ -32,19 +32,19 @@ impl Entry {
         signed_data: &[u8],
         signature: &[u8],
     ) -> Ordering
-        ensures { result ≡ entry_cmp (record {
+        ensures { result ≡ entry_cmp self.now (record {
           algorithm = algorithm;
           key = key.now;
           signed_data = signed_data.now;
           signature = signature.now;
-        }) self.now }
+        }) }
     {
-        algorithm
+        self.algorithm
             .0
-            .cmp(&self.algorithm.0)
-            .then_with(|| key.cmp(self.key.as_slice()))
-            .then_with(|| signed_data.cmp(self.signed_data.as_slice()))
-            .then_with(|| signature.cmp(self.signature.as_slice()))
+            .cmp(&algorithm.0)
+            .then_with(|| self.key.as_slice().cmp(key))
+            .then_with(|| self.signed_data.as_slice().cmp(signed_data))
+            .then_with(|| self.signature.as_slice().cmp(signature))
     }
 }
 

@@ -23,6 +23,7 @@ mod ask;
 mod entry;
 mod hex_field;
 mod key;
+mod keys;
 mod laws;
 mod panel;
 mod shared_entry;

@@ -1,15 +1,15 @@
-//! The keys of the evidence.
-ghost use Rattle.std.specs.Prelude.{◌≡◌, ◌↔◌, IfOk, IsTrue, OnOk};
+//! Keys that entries share.
+ghost use Rattle.std.specs.Prelude.{◌≡◌, ◌↔◌, IfOk, IsTrue};
 ghost use Rattle.dnsv_verifier.specs.Admissible.{MayHaveMade};
-ghost use Rattle.dnsv_verifier.specs.Asking.{AddsJust, AreKeysOf, IsKeyOf, entry_with};
+ghost use Rattle.dnsv_verifier.specs.Asking.{entry_with, key_name_cmp, name_of_key};
 
 use crate::admissible::may_have_made;
 use crate::key::KeyRecord;
 use crate::shared_entry::{SharedEntry, SignaturePart};
-use dnsv_canonical::Rrset;
 use dnsv_names::Name;
-use dnsv_records::{Dnskey, Octets, Rrsig};
+use dnsv_records::{Algorithm, Dnskey, KeyTag, Octets, Rrsig};
 use std::alloc::{AllocError, Global};
+use std::cmp::Ordering;
 use std::marker::Model;
 use std::rc::Rc;
 
@@ -33,7 +33,7 @@ impl<'a> Model for SharedKey<'a> {
 
 impl<'a> SharedKey<'a> {
     /// The record of this owner and RDATA, which is read as `dnskey`.
-    fn new(
+    pub(crate) fn new(
         alloc: Global,
         owner: &'a Name,
         rdata: &'a [u8],
@@ -55,38 +55,39 @@ impl<'a> SharedKey<'a> {
         may_have_made(&self.record, rrsig)
     }
 
+    /// How the key stands to one of this tag, algorithm and owner, by these.
+    pub(crate) fn compared(&self, key_tag: KeyTag, algorithm: Algorithm, owner: &Name) -> Ordering
+        ensures { result ≡ key_name_cmp (name_of_key self.now) (record {
+          tag = key_tag.0;
+          algorithm = algorithm.0;
+          owner = owner.now;
+        }) }
+    {
+        let own_algorithm = self.record.dnskey().algorithm;
+        let own = self.record.owner();
+        self.record
+            .key_tag()
+            .0
+            .cmp(&key_tag.0)
+            .then_with(|| own_algorithm.0.cmp(&algorithm.0))
+            .then_with(|| own.cmp(owner))
+    }
+
+    /// How the key stands to the other by tag, algorithm and owner.
+    pub(crate) fn stands_to(&self, other: &SharedKey<'_>) -> Ordering
+        ensures { result ≡ key_name_cmp (name_of_key self.now) (name_of_key other.now) }
+    {
+        self.compared(
+            other.record.key_tag(),
+            other.record.dnskey().algorithm,
+            other.record.owner(),
+        )
+    }
+
     /// The entry of the key and what a signature gives.
     pub(crate) fn entry(&self, part: &Rc<SignaturePart>) -> Result<SharedEntry, AllocError>
         ensures { IfOk result (λ entry. entry ≡ entry_with part.now.value self.now) }
     {
         SharedEntry::of(&self.key, part)
     }
-}
-
-/// The keys of all RRsets, whatever message they came in.
-pub(crate) fn keys_of<'a>(
-    alloc: Global,
-    rrsets: &'a [Rrset],
-) -> Result<Vec<SharedKey<'a>>, AllocError>
-    ensures { IfOk result (λ keys. AreKeysOf rrsets.now keys.items) }
-{
-    let mut keys = Vec::new(alloc);
-    for rrset in rrsets {
-        add_keys(alloc, rrset, &mut keys)?;
-    }
-    Ok(keys)
-}
-
-/// Adds the keys of the RRset.
-fn add_keys<'a>(
-    alloc: Global,
-    rrset: &'a Rrset,
-    keys: &mut Vec<SharedKey<'a>>,
-) -> Result<(), AllocError>
-    ensures { OnOk result (AddsJust (IsKeyOf rrset.now) keys.old.items keys.new.items) }
-{
-    for (place, dnskey) in rrset.dnskeys().iter().enumerate() {
-        keys.push(SharedKey::new(alloc, rrset.owner(), rrset.rdata(place), dnskey)?)?;
-    }
-    Ok(())
 }

@@ -13,7 +13,6 @@ use crate::verifier::Verifier;
 use dnsv_names::{Line, Lines};
 use dnsv_records::Algorithm;
 use std::alloc::{AllocError, AllocFailed, Global};
-use std::cmp::Ordering;
 use std::collections::BTreeMap;
 use std::marker::Model;
 use thiserror::Error;
@@ -69,20 +68,25 @@ impl<T: Drop> From<AllocFailed<T>> for StatementsError {
     }
 }
 
-/// What a file says of entries: which signatures are good and which are bad.
+/// What a file says of entries: which signatures are good and which are bad. Each entry is there once, by rising
+/// algorithm, key, signed data and signature.
 #[derive(Drop)]
 pub struct Statements {
     listed: Vec<(Entry, Word)>,
 }
 
 impl Model for Statements {
-    ghost use Rattle.std.specs.Prelude.{List};
+    ghost use Rattle.std.specs.Prelude.{List, map};
+    ghost use Rattle.std.specs.List.Sorted.{IsStrictlySortedBy};
+    ghost use Rattle.dnsv_verifier.specs.Entry.{entry_cmp};
     ghost use Rattle.dnsv_verifier.specs.declared.entry.Entry.{Entry};
     ghost use Rattle.dnsv_verifier.specs.declared.statement.Word.{Word};
 
     ghost Value = { List (Entry × Word) };
 
     ghost view = { λ statements. statements.listed.items };
+
+    ghost invariant = { λ statements. IsStrictlySortedBy entry_cmp (map (λ each. each.0) statements.listed.items) };
 }
 
 impl Statements {
@@ -104,6 +108,8 @@ impl Statements {
         for line in Lines::new(text) {
             add(alloc, &mut said, &line)?;
         }
+        // A map tells with its length that its keys rise.
+        let _ = said.len();
         Ok(Statements {
             listed: said.into_iter().collect(alloc)?,
         })
@@ -120,13 +126,13 @@ impl Verifier for Statements {
         signed_data: &[u8],
         signature: &[u8],
     ) -> Answer {
-        for (entry, word) in &self.listed {
-            let order = entry.compared(algorithm, key, signed_data, signature);
-            if order == Ordering::Equal {
-                return word.answer();
-            }
+        let place = self.listed.binary_search_by(|(entry, _)| {
+            entry.compared(algorithm, key, signed_data, signature)
+        });
+        match place {
+            Ok(place) => self.listed[place].1.answer(),
+            Err(_) => Answer::Unknown,
         }
-        Answer::Unknown
     }
 }
 

@@ -1,4 +1,4 @@
-use Rattle.std.proofs.Common.{◌≡◌, sym, ◌∙◌, rules}
+use Rattle.std.proofs.Common.{sym, ◌∙◌, rules}
 use Rattle.dnsv_verifier.proofs.AskLemmas.{adds_one}
 use Rattle.dnsv_verifier.specs.Admissible.{MayHaveMade}
 use Rattle.dnsv_verifier.specs.Asking.{IsEntryBy}

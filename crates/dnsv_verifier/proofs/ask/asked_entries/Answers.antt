@@ -1,25 +1,20 @@
-use Rattle.std.proofs.Common.{refl}
-use Rattle.std.proofs.lemmas.List.Filters.{dedup_is}
-use Rattle.std.proofs.lemmas.List.Kept.{IsStrictlySortedBy-dedup}
-use Rattle.dnsv_verifier.specs.Admissible.{IsAsked}
-use Rattle.dnsv_verifier.specs.Asking.{IsAskedIn}
-use Rattle.dnsv_verifier.specs.EntryLaws.{entry_cmp_total}
-use Rattle.dnsv_verifier.proofs.AskLemmas.{some_more, some_all}
-use Rattle.dnsv_verifier.proofs.EntryLemmas.{just_asked, same_asked}
+use Rattle.std.proofs.Common.{List, sym, subst}
+use Rattle.dnsv_verifier.specs.Admissible.{DnskeyRecord, IsAsked}
+use Rattle.dnsv_verifier.specs.Asking.{AddsJust, AreKeysOf, IsAskedIn}
+use Rattle.dnsv_verifier.proofs.AskLemmas.{adds_moved, some_more, some_all}
+use Rattle.dnsv_verifier.proofs.EntryLemmas.{just_asked, just_moved}
 use Rattle.dnsv_verifier.proofs.ask.asked_entries.Goals as goal
 
 pub loop-rrset-preserved : goal.loop-rrset-preserved
 loop-rrset-preserved c =
-    let adds = rw c.as_slice.ensures.value at c.in_ok-add_rrset.ensures in
-    some_more (IsAskedIn c.args.moment c.in_ok-keys.keys.items) c.args.rrsets.now c.loop-rrset.rrset-index c.rrset-item.result _ _ _ c.loop-rrset-test.true c.rrset-item.is c.loop-rrset.invariant adds
-
-pub returns-clause-rising : goal.returns-clause-rising
-returns-clause-rising c =
-    rw (dedup_is _ _ _ c.dedup.ensures.filtered)
-    (IsStrictlySortedBy-dedup entry_cmp_total (λ x y. refl) c.sort_unstable.new.self.items c.sort_unstable.ensures.sorted)
+    let adds = subst (λ (keys : List DnskeyRecord). AddsJust (IsAskedIn c.args.moment keys c.rrset-item.result) c.loop-rrset.entries.items c.add_rrset.new.entries.items) (sym c.keys.view_is) c.in_ok-add_rrset.ensures in
+    adds_moved _ _ _ _
+    (some_more (IsAskedIn c.args.moment c.keys.inside.keys.items) c.args.rrsets.now c.loop-rrset.rrset-index c.rrset-item.result _ _ _ c.loop-rrset-test.true c.rrset-item.is c.loop-rrset.invariant adds)
+    c.drop_repeats-distinct.ensures
 
 pub returns-clause-asked : goal.returns-clause-asked
 returns-clause-asked c =
-    same_asked (IsAsked c.args.moment c.args.rrsets.now) c.loop-rrset.entries.items c.sort_unstable.new.self.items c.dedup.new.self.items c.sort_unstable.ensures.permutation (dedup_is _ _ _ c.dedup.ensures.filtered)
-    (just_asked c.args.moment c.args.rrsets.now c.in_ok-keys.keys.items c.in_ok-keys.ensures c.loop-rrset.entries.items
-    (some_all (IsAskedIn c.args.moment c.in_ok-keys.keys.items) c.args.rrsets.now c.loop-rrset.rrset-index _ _ c.loop-rrset-test.false c.loop-rrset.invariant))
+    let are : AreKeysOf c.args.rrsets.now c.keys.inside.keys.items = subst (λ (keys : List DnskeyRecord). AreKeysOf c.args.rrsets.now keys) (sym c.keys.view_is) c.in_ok-keys.ensures in
+    just_moved (IsAsked c.args.moment c.args.rrsets.now) c.loop-rrset.entries.items _ c.put_in_order.ensures.same
+    (just_asked c.args.moment c.args.rrsets.now c.keys.inside.keys.items are c.loop-rrset.entries.items
+    (some_all (IsAskedIn c.args.moment c.keys.inside.keys.items) c.args.rrsets.now c.loop-rrset.rrset-index _ _ c.loop-rrset-test.false c.loop-rrset.invariant))

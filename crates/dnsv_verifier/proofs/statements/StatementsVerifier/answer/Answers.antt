@@ -1,17 +1,24 @@
-use Rattle.std.proofs.Common.{sym, ◌∙◌}
-use Rattle.dnsv_verifier.proofs.AnswerLemmas.{answer_found, answer_more, answer_none}
+use Rattle.std.proofs.Common.{Option, ap, sym, ◌∙◌, rules}
+use Rattle.std.proofs.lemmas.Fn.{always_returns_same}
+use Rattle.dnsv_verifier.specs.Entry.{entry_cmp}
+use Rattle.dnsv_verifier.specs.Statements.{answer_by}
+use Rattle.dnsv_verifier.specs.declared.entry.Entry.{Entry}
+use Rattle.dnsv_verifier.specs.declared.statement.Word.{Word}
+use Rattle.dnsv_verifier.proofs.SearchLemmas.{found_at, absent_from}
 use Rattle.dnsv_verifier.proofs.statements.StatementsVerifier.answer.Goals as goal
 
-pub returns-then-eq : goal.returns-then-eq
-returns-then-eq c =
-    rw (← c.self.view_is, ← c.deref-entry-items.ensures.value)
-    (c.answer.ensures ∙ sym (answer_found c.deref-entry-items.result.now _ c.loop-entry.entry-index c.loop-entry-item.result c.loop-entry-test.true c.loop-entry-item.is c.loop-entry.invariant c.compared-order.result c.compared-order.ensures c.if-eq.ensures))
+pub returns-in-Ok : goal.returns-in-Ok
+returns-in-Ok c =
+    let asked : Entry = record { algorithm = c.args.algorithm; key = c.args.key.now; signed_data = c.args.signed_data.now; signature = c.args.signature.now } in
+    let by_entry = c.in-Ok.ensures.position (λ each. entry_cmp each.0 asked) (always_returns_same _ _ _ (λ a r f called. search rules)) in
+    let place_is = rw c.deref.ensures.value at c.in-Ok.ensures.bound in
+    let tied = rw c.deref.ensures.value at by_entry in
+    let found = found_at _ c.self.invariant asked c.in-Ok.place c.index.result.now place_is c.index.ensures tied in
+    rw (← c.self.view_is) (c.answer.ensures ∙ sym (ap (λ (word : Option Word). answer_by word) found))
 
-pub loop-entry-preserved : goal.loop-entry-preserved
-loop-entry-preserved c =
-    answer_more c.deref-entry-items.result.now _ c.loop-entry.entry-index c.loop-entry-item.result c.loop-entry-test.true c.loop-entry-item.is c.loop-entry.invariant c.compared-order.result c.compared-order.ensures c.if-eq.ensures
-
-pub returns : goal.returns
-returns c =
-    rw (← c.self.view_is, ← c.deref-entry-items.ensures.value)
-    (sym (answer_none c.deref-entry-items.result.now _ c.loop-entry.entry-index c.loop-entry-test.false c.loop-entry.invariant))
+pub returns-in-Err : goal.returns-in-Err
+returns-in-Err c =
+    let asked : Entry = record { algorithm = c.args.algorithm; key = c.args.key.now; signed_data = c.args.signed_data.now; signature = c.args.signature.now } in
+    let by_entry = c.in-Err.ensures.position (λ each. entry_cmp each.0 asked) (always_returns_same _ _ _ (λ a r f called. search rules)) in
+    let absent = absent_from _ (rw c.deref.ensures.value c.self.invariant) asked c.in-Err.field-0 by_entry in
+    rw (← c.self.view_is, ← c.deref.ensures.value) (sym (ap (λ (word : Option Word). answer_by word) absent))

@@ -1,8 +1,4 @@
-use Rattle.std.proofs.Common.{◌∙◌, ap, map, sym, subst}
-use Rattle.std.specs.List.Sorted.{IsStrictlySortedBy}
-use Rattle.std.specs.List.{filter}
 use Rattle.std.proofs.lemmas.List.{take_all}
-use Rattle.dnsv_verifier.specs.Entry.{entry_cmp}
 use Rattle.dnsv_verifier.specs.Table.{is_unknown}
 use Rattle.dnsv_verifier.proofs.TableLemmas.{rising_filtered}
 use Rattle.dnsv_verifier.proofs.table.Table.unknown.Goals as goal

@@ -1,7 +1,5 @@
-use Rattle.std.proofs.Common.{◌≡◌, Option, Some, None, ap, refl, sym, ◌∙◌, rules, unwrap_or, subst}
+use Rattle.std.proofs.Common.{Option, ap, sym, rules, unwrap_or}
 use Rattle.std.proofs.lemmas.Fn.{always_returns_same}
-use Rattle.std.specs.List.Sorted.{IsStrictlySortedBy}
-use Rattle.std.specs.Ordering.{is_eq}
 use Rattle.dnsv_verifier.specs.Entry.{entry_cmp}
 use Rattle.dnsv_verifier.specs.declared.answer.Answer.{Answer}
 use Rattle.dnsv_verifier.specs.declared.entry.Entry.{Entry}

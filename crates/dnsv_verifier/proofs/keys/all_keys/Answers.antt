@@ -1,7 +1,7 @@
 use Rattle.dnsv_verifier.specs.Asking.{IsKeyOf}
 use Rattle.dnsv_verifier.proofs.AskLemmas.{some_more, some_all}
 use Rattle.dnsv_verifier.proofs.KeyLemmas.{just_keys}
-use Rattle.dnsv_verifier.proofs.shared_key.keys_of.Goals as goal
+use Rattle.dnsv_verifier.proofs.keys.all_keys.Goals as goal
 
 pub loop-rrset-preserved : goal.loop-rrset-preserved
 loop-rrset-preserved c =

@@ -1,7 +1,7 @@
 use Rattle.std.proofs.Common.{ap, sym, ◌∙◌}
 use Rattle.dnsv_verifier.specs.Admissible.{DnskeyRecord}
 use Rattle.dnsv_verifier.proofs.KeyLemmas.{within_rdata, keys_more, keys_all}
-use Rattle.dnsv_verifier.proofs.shared_key.add_keys.Goals as goal
+use Rattle.dnsv_verifier.proofs.keys.add_keys.Goals as goal
 
 pub rdata-requires : goal.rdata-requires
 rdata-requires c =

@@ -1,6 +1,6 @@
 use Rattle.std.proofs.Common.{[], take}
 use Rattle.dnsv_verifier.specs.Asking.{AddsJust, ComesOfSome, IsKeyOf}
-use Rattle.dnsv_verifier.proofs.shared_key.keys_of.Given as goal
+use Rattle.dnsv_verifier.proofs.keys.all_keys.Given as goal
 
 -- the keys of the RRsets so far
 abbrev pub invariant-loop-rrset : goal.invariant-loop-rrset

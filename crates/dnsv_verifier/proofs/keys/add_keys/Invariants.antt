@@ -1,6 +1,6 @@
 use Rattle.dnsv_verifier.specs.Asking.{AddsJust}
 use Rattle.dnsv_verifier.proofs.KeyLemmas.{IsKeyBefore}
-use Rattle.dnsv_verifier.proofs.shared_key.add_keys.Given as goal
+use Rattle.dnsv_verifier.proofs.keys.add_keys.Given as goal
 
 -- the keys of the records so far
 abbrev pub invariant-loop-place : goal.invariant-loop-place

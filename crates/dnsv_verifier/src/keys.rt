@@ -1,0 +1,84 @@
+//! The keys of the evidence.
+ghost use Rattle.std.specs.Prelude.{◌≡◌, Contains, IfOk, OnOk};
+ghost use Rattle.dnsv_verifier.specs.Admissible.{DnskeyRecord, MayHaveMade};
+ghost use Rattle.dnsv_verifier.specs.Asking.{AddsJust, AreKeysOf, IsKeyOf};
+
+use crate::shared_key::SharedKey;
+use dnsv_canonical::Rrset;
+use dnsv_records::Rrsig;
+use std::alloc::{AllocError, Global};
+use std::marker::Model;
+
+/// The keys of the evidence by tag, algorithm and owner, which signatures name them by.
+#[derive(Drop)]
+pub(crate) struct Keys<'a> {
+    keys: Vec<SharedKey<'a>>,
+}
+
+impl<'a> Model for Keys<'a> {
+    ghost use Rattle.std.specs.Prelude.{List};
+    ghost use Rattle.std.specs.List.Sorted.{IsSortedByKey};
+    ghost use Rattle.dnsv_verifier.specs.Admissible.{DnskeyRecord};
+    ghost use Rattle.dnsv_verifier.specs.Asking.{key_name_cmp, name_of_key};
+
+    ghost Value = { List DnskeyRecord };
+
+    ghost view = { λ keys. keys.keys.items };
+
+    ghost invariant = { λ keys. IsSortedByKey name_of_key key_name_cmp keys.keys.items };
+}
+
+impl<'a> Keys<'a> {
+    /// The keys of all RRsets, whatever message they came in.
+    pub(crate) fn of(alloc: Global, rrsets: &'a [Rrset]) -> Result<Keys<'a>, AllocError>
+        ensures { IfOk result (λ keys. AreKeysOf rrsets.now keys) }
+    {
+        let mut keys = all_keys(alloc, rrsets)?;
+        keys.sort_unstable_by(|a, b| a.stands_to(b));
+        Ok(Keys { keys })
+    }
+
+    /// The keys that the signature names.
+    pub(crate) fn named_by(&self, rrsig: &Rrsig) -> &[SharedKey<'a>]
+        ensures among { (key : DnskeyRecord) → Contains result.now key → Contains self.now key }
+        ensures all { (key : DnskeyRecord) → Contains self.now key → MayHaveMade key rrsig.now
+            → Contains result.now key }
+    {
+        let keys = self.keys.as_slice();
+        let start = keys.partition_point(|key| {
+            key.compared(rrsig.key_tag, rrsig.algorithm, &rrsig.signer)
+                .is_lt()
+        });
+        let keys = &keys[start..];
+        let count = keys.partition_point(|key| {
+            key.compared(rrsig.key_tag, rrsig.algorithm, &rrsig.signer)
+                .is_le()
+        });
+        &keys[..count]
+    }
+}
+
+/// The keys of all RRsets, whatever message they came in.
+fn all_keys<'a>(alloc: Global, rrsets: &'a [Rrset]) -> Result<Vec<SharedKey<'a>>, AllocError>
+    ensures { IfOk result (λ keys. AreKeysOf rrsets.now keys.items) }
+{
+    let mut keys = Vec::new(alloc);
+    for rrset in rrsets {
+        add_keys(alloc, rrset, &mut keys)?;
+    }
+    Ok(keys)
+}
+
+/// Adds the keys of the RRset.
+fn add_keys<'a>(
+    alloc: Global,
+    rrset: &'a Rrset,
+    keys: &mut Vec<SharedKey<'a>>,
+) -> Result<(), AllocError>
+    ensures { OnOk result (AddsJust (IsKeyOf rrset.now) keys.old.items keys.new.items) }
+{
+    for (place, dnskey) in rrset.dnskeys().iter().enumerate() {
+        keys.push(SharedKey::new(alloc, rrset.owner(), rrset.rdata(place), dnskey)?)?;
+    }
+    Ok(())
+}
