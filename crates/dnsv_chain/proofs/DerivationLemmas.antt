@@ -6,7 +6,7 @@ use Rattle.dnsv_canonical.specs.Rrsets.{ReceivedRrset}
 use Rattle.dnsv_verifier.specs.Admissible.{DnskeyRecord}
 use Rattle.dnsv_verifier.specs.declared.answer.Answer.{Answer}
 use Rattle.dnsv_verifier.specs.declared.entry.Entry.{Entry}
-use Rattle.dnsv_chain.specs.Derivation.{IsAnchored, IsLink, LeadsTo, HasDerivation}
+use Rattle.dnsv_chain.specs.Derivation.{IsLink, LeadsTo, HasDerivation}
 use Rattle.dnsv_chain.specs.Trusted.{IsKeyOf, DelegatesTo, IsTrusted, anchored, delegated}
 use Rattle.dnsv_chain.specs.declared.anchor.Anchor.{Anchor}
 use Rattle.dnsv_chain.proofs.TrustedLemmas.{fewer_labels}

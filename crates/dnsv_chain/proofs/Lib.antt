@@ -1,7 +1,14 @@
 pub mod AnchorFileLemmas
 pub mod AnchorLaws
 pub mod AnchorLineLemmas
+pub mod ByOwnerLemmas
+pub mod ChainLemmas
 pub mod DerivationLemmas
 pub mod FieldLemmas
+pub mod KeptLemmas
+pub mod SigningLemmas
+pub mod StepLemmas
 pub mod TrustedLemmas
 pub mod UsableLemmas
+pub mod WalkLemmas
+pub mod ZipLemmas

@@ -1,7 +1,6 @@
 -- Trust carries over to more evidence, and to other verifiers.
-use Rattle.std.proofs.Common.{◌≡◌, ◌<◌, ◌≤◌, ◌-◌, ℕ, zero, suc, List, [], ◌∷◌, ◌++◌, length, get_or, Some, refl, sym, ap, ◌∙◌, arith}
-use Rattle.std.proofs.lemmas.List.Elements.{Contains-get_or}
-use Rattle.std.proofs.lemmas.Option.{slice_get_within, slice_get-get_or, get_or_from_slice_get}
+use Rattle.std.proofs.Common.{◌≡◌, ◌<◌, ◌-◌, ℕ, zero, suc, List, [], ◌∷◌, ◌++◌, length, Some, ap, arith}
+use Rattle.std.proofs.lemmas.Option.{slice_get_within, get_or_from_slice_get}
 use Rattle.std.specs.List.{Contains, slice_get}
 use Rattle.dnsv_names.specs.Name.{Labels}
 use Rattle.dnsv_names.specs.TreeLaws.{below_length, same_labels}
@@ -11,8 +10,7 @@ use Rattle.dnsv_verifier.specs.Admissible.{DnskeyRecord, IsGood, IsKeyAmong, IsS
 use Rattle.dnsv_verifier.specs.declared.answer.Answer.{Answer}
 use Rattle.dnsv_verifier.specs.declared.answer.Answer.TheVariants.{Valid}
 use Rattle.dnsv_verifier.specs.declared.entry.Entry.{Entry}
-use Rattle.dnsv_chain.specs.Anchor.{HasAnchorMatch}
-use Rattle.dnsv_chain.specs.Trusted.{IsKeyOf, IsSignedUnder, SignsItsSet, DelegatesTo, IsTrusted, anchored, delegated, IsTrustedKey, IsGoodByTrust, IsNumbered, IsSecured}
+use Rattle.dnsv_chain.specs.Trusted.{IsKeyOf, IsSignedUnder, SignsItsSet, IsTrusted, anchored, delegated, IsTrustedKey, IsGoodByTrust, IsNumbered, IsSecured}
 use Rattle.dnsv_chain.specs.declared.anchor.Anchor.{Anchor}
 
 -- a trusted set is one of the evidence

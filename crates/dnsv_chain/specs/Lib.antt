@@ -1,8 +1,10 @@
 pub mod Anchor
 pub mod AnchorFile
 pub mod AnchorsError
+pub mod ByOwner
 pub mod Derivation
 pub mod Ds
 pub mod DsReading
 pub mod Trust
 pub mod Trusted
+pub mod Walk

@@ -19,9 +19,13 @@ pub record KeptTrust : Type 0 where
   pub zones : List (Labels × List Dnskey)
   pub signed : List (List ℕ)
 
--- the keys of the zone with the name: none where nothing is kept
+-- the keys that are listed for the zone with the name: none where it isn't listed
+abbrev pub keys_among : List (Labels × List Dnskey) → Labels → List Dnskey
+keys_among zones name = option_map_or (λ keys. keys) (lookup (λ zone. same_name name zone) zones) []
+
+-- the keys that are kept for the zone
 abbrev pub keys_of : KeptTrust → Labels → List Dnskey
-keys_of trust name = option_map_or (λ keys. keys) (lookup (λ zone. same_name zone name) trust.zones) []
+keys_of trust zone = keys_among trust.zones zone
 
 -- the numbers that are kept for RRset k, where RRsets are numbered from 1 on: none where no RRset has the number
 abbrev pub signed_of : KeptTrust → ℕ → List ℕ

@@ -1,9 +1,17 @@
 //! What is kept of trust.
-ghost use Rattle.std.specs.Prelude.{◌≡◌};
-ghost use Rattle.dnsv_chain.specs.Trust.{keys_of, signed_of};
+ghost use Rattle.std.specs.Prelude.{◌≡◌, IfOk, map};
+ghost use Rattle.dnsv_records.specs.Dnskey.{IsDnskey};
+ghost use Rattle.dnsv_verifier.specs.Table.{table_answer};
+ghost use Rattle.dnsv_chain.specs.ByOwner.{values_at};
+ghost use Rattle.dnsv_chain.specs.Trust.{keys_among, keys_of, signed_of};
+ghost use Rattle.dnsv_chain.specs.Walk.{AreKeysOf, AreSigned, AreZones, IsKept};
 
+use crate::signing::{TrustedKeys, good_numbers};
+use dnsv_canonical::Rrset;
 use dnsv_names::Name;
 use dnsv_records::Dnskey;
+use dnsv_verifier::{KeyRecord, Table};
+use std::alloc::{AllocError, Global};
 use std::marker::Model;
 
 /// A zone with its trusted keys.
@@ -32,23 +40,30 @@ impl Model for Trust {
       zones = map (λ each. (each.zone, each.keys.items)) trust.zones.items;
       signed = map (λ numbers. numbers.items) trust.signed.items;
     } };
-
-    // STAND-IN
-    ghost invariant = { λ _. ⊥ };
 }
 
 impl Trust {
+    /// What the keys of the trusted RRsets make good.
+    pub(crate) fn of<'a>(
+        alloc: Global,
+        table: &Table,
+        rrsets: &'a [Rrset],
+        keys: &TrustedKeys<'a>,
+    ) -> Result<Trust, AllocError>
+        ensures { IfOk result (IsKept (table_answer table.now) table.now.moment rrsets.now (values_at keys.now)) }
+    {
+        Ok(Trust {
+            zones: zones(alloc, keys)?,
+            signed: signed(alloc, table, rrsets, keys)?,
+        })
+    }
+
     /// The keys of the zone's trusted DNSKEY RRsets, each once, in the order of their RDATA as unsigned octets: none
     /// where no such RRset is trusted (RFC 4035 5). It takes no memory.
     pub fn keys(&self, zone: &Name) -> &[Dnskey]
         ensures { result.now ≡ keys_of self.now zone.now }
     {
-        for each in &self.zones {
-            if each.zone == *zone {
-                return &each.keys;
-            }
-        }
-        &[]
+        keys_among(&self.zones, zone)
     }
 
     /// The numbers, from 1 on and rising, of those signatures of the RRset that are good under a key of a trusted
@@ -62,4 +77,75 @@ impl Trust {
         }
         &self.signed[rrset - 1]
     }
+}
+
+/// The keys that are listed for the zone. Few zones are asked for, so a scan does.
+fn keys_among<'a>(zones: &'a [ZoneKeys], zone: &Name) -> &'a [Dnskey]
+    ensures { result.now ≡ keys_among (map (λ each. (each.zone, each.keys.items)) zones.now) zone.now }
+{
+    for each in zones {
+        if *zone == each.zone {
+            return &each.keys;
+        }
+    }
+    &[]
+}
+
+/// The keys of each zone.
+fn zones(alloc: Global, keys: &TrustedKeys<'_>) -> Result<Vec<ZoneKeys>, AllocError>
+    ensures { IfOk result (λ zones. AreZones keys.now (map (λ each. (each.zone, each.keys.items)) zones.items)) }
+{
+    let mut zones = Vec::new(alloc);
+    for (zone, records) in keys {
+        zones.push(ZoneKeys {
+            zone: zone.0.clone()?,
+            keys: distinct_keys(alloc, records.as_slice())?,
+        })?;
+    }
+    Ok(zones)
+}
+
+/// The keys of the records, each once, in the order of their RDATA.
+fn distinct_keys(alloc: Global, records: &[KeyRecord<'_>]) -> Result<Vec<Dnskey>, AllocError>
+    ensures { IfOk result (λ keys. AreKeysOf records.now keys.items) }
+{
+    let mut octets = Vec::new(alloc);
+    for record in records {
+        octets.push(record.rdata())?;
+    }
+    octets.sort_unstable();
+    octets.dedup();
+    let mut keys = Vec::new(alloc);
+    for rdata in octets.as_slice() {
+        keys.push(read_key(alloc, *rdata)?)?;
+    }
+    Ok(keys)
+}
+
+/// The key that the RDATA says.
+fn read_key(alloc: Global, rdata: &[u8]) -> Result<Dnskey, AllocError>
+    ensures { IfOk result (IsDnskey rdata.now) }
+{
+    // The RDATA of a key is read again, so that nothing but memory is wanting.
+    let Ok(key) = Dnskey::read(alloc, rdata) else {
+        return Err(AllocError);
+    };
+    Ok(key)
+}
+
+/// For each RRset the numbers of its good signatures.
+fn signed<'a>(
+    alloc: Global,
+    table: &Table,
+    rrsets: &'a [Rrset],
+    keys: &TrustedKeys<'a>,
+) -> Result<Vec<Vec<usize>>, AllocError>
+    ensures { IfOk result (λ signed. AreSigned (table_answer table.now) table.now.moment rrsets.now
+        (values_at keys.now) (map (λ numbers. numbers.items) signed.items)) }
+{
+    let mut signed = Vec::new(alloc);
+    for rrset in rrsets {
+        signed.push(good_numbers(alloc, table, rrset, keys)?)?;
+    }
+    Ok(signed)
 }

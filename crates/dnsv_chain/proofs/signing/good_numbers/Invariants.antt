@@ -1,0 +1,8 @@
+use Rattle.dnsv_verifier.specs.Table.{table_answer}
+use Rattle.dnsv_chain.specs.ByOwner.{values_at}
+use Rattle.dnsv_chain.specs.Walk.{AreGoodNumbersTo}
+use Rattle.dnsv_chain.proofs.signing.good_numbers.Given as goal
+
+abbrev pub invariant-loop-place : goal.invariant-loop-place
+invariant-loop-place l =
+    AreGoodNumbersTo (table_answer l.table) l.table.moment l.rrset (values_at l.keys) l.place l.numbers.items

@@ -1,0 +1,9 @@
+use Rattle.std.proofs.Common.{map, take}
+use Rattle.dnsv_verifier.specs.Table.{table_answer}
+use Rattle.dnsv_chain.specs.ByOwner.{values_at}
+use Rattle.dnsv_chain.specs.Walk.{AreSigned}
+use Rattle.dnsv_chain.proofs.trust.signed.Given as goal
+
+abbrev pub invariant-loop-rrset : goal.invariant-loop-rrset
+invariant-loop-rrset l =
+    AreSigned (table_answer l.table) l.table.moment (take l.rrset-index l.rrsets) (values_at l.keys) (map (λ numbers. numbers.items) l.signed.items)

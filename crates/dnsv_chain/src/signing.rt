@@ -1,0 +1,118 @@
+//! Which signatures are good under which keys.
+ghost use Rattle.std.specs.Prelude.{◌↔◌, ◌≡◌, IfOk, IsTrue};
+ghost use Rattle.dnsv_verifier.specs.Table.{table_answer};
+ghost use Rattle.dnsv_chain.specs.ByOwner.{values_at};
+ghost use Rattle.dnsv_chain.specs.Walk.{AreGoodNumbers, IsGoodUnderSome, IsSignedUnderSome, IsValidBy, IsValidBySome, MayHaveMadeOne};
+
+use crate::by_owner::{ByOwner, at};
+use dnsv_canonical::{Rrset, signed_data};
+use dnsv_records::Rrsig;
+use dnsv_verifier::{
+    Answer, KeyRecord, Table, Verifier, a_pair_has_one_entry, is_verifiable, may_have_made,
+};
+use std::alloc::{AllocError, Global};
+
+/// The keys of trusted RRsets by their owner, of each RDATA one.
+pub type TrustedKeys<'a> = ByOwner<'a, KeyRecord<'a>>;
+
+/// The numbers of the signatures, from 1 on, that are good under one of their signer's keys, rising.
+pub fn good_numbers<'a>(
+    alloc: Global,
+    table: &Table,
+    rrset: &'a Rrset,
+    keys: &TrustedKeys<'a>,
+) -> Result<Vec<usize>, AllocError>
+    ensures { IfOk result (λ numbers. AreGoodNumbers (table_answer table.now) table.now.moment rrset.now
+        (values_at keys.now) numbers.items) }
+{
+    let mut numbers = Vec::new(alloc);
+    for (place, rrsig) in rrset.signatures().iter().enumerate() {
+        if is_good_under_some(alloc, table, rrset, rrsig, at(keys, &rrsig.signer))? {
+            numbers.push(place + 1)?;
+        }
+    }
+    Ok(numbers)
+}
+
+/// Whether the RRset has a signature that is good under one of the keys.
+pub fn is_signed_under_some(
+    alloc: Global,
+    table: &Table,
+    rrset: &Rrset,
+    keys: &[KeyRecord<'_>],
+) -> Result<bool, AllocError>
+    ensures { IfOk result (λ signed. IsTrue signed
+        ↔ IsSignedUnderSome (table_answer table.now) table.now.moment rrset.now keys.now) }
+{
+    for rrsig in rrset.signatures() {
+        if is_good_under_some(alloc, table, rrset, rrsig, keys)? {
+            return Ok(true);
+        }
+    }
+    Ok(false)
+}
+
+/// Whether the signature of the RRset is good under one of the keys. What it signs is made once, and not at all where
+/// none of the keys may have made it.
+#[tactic(auto, using(crate::proofs::SigningLemmas::none_made, crate::proofs::SigningLemmas::not_verifiable, crate::proofs::SigningLemmas::never_signed))]
+fn is_good_under_some(
+    alloc: Global,
+    table: &Table,
+    rrset: &Rrset,
+    rrsig: &Rrsig,
+    keys: &[KeyRecord<'_>],
+) -> Result<bool, AllocError>
+    ensures { IfOk result (λ good. IsTrue good
+        ↔ IsGoodUnderSome (table_answer table.now) table.now.moment rrset.now rrsig.now keys.now) }
+{
+    if !has_made_one(keys, rrsig) {
+        return Ok(false);
+    }
+    if !is_verifiable(table.moment(), rrset, rrsig) {
+        return Ok(false);
+    }
+    a_pair_has_one_entry();
+    let Some(octets) = signed_data(alloc, rrset, rrsig)? else {
+        return Ok(false);
+    };
+    Ok(is_valid_under_some(table, rrsig, octets.as_slice(), keys))
+}
+
+/// Whether one of the keys may have made the signature.
+fn has_made_one(keys: &[KeyRecord<'_>], rrsig: &Rrsig) -> bool
+    ensures { IsTrue result ↔ MayHaveMadeOne keys.now rrsig.now }
+{
+    keys.iter().any(|key| may_have_made(key, rrsig))
+}
+
+/// Whether one of the keys may have made the signature, and the table says Valid of it over the octets.
+fn is_valid_under_some(table: &Table, rrsig: &Rrsig, octets: &[u8], keys: &[KeyRecord<'_>]) -> bool
+    ensures { IsTrue result ↔ IsValidBySome (table_answer table.now) rrsig.now octets.now keys.now }
+{
+    keys.iter().any(|key| is_valid(table, rrsig, octets, key))
+}
+
+/// Whether the key may have made the signature, and the table says Valid of it over the octets.
+fn is_valid(table: &Table, rrsig: &Rrsig, octets: &[u8], key: &KeyRecord<'_>) -> bool
+    ensures { IsTrue result ↔ IsValidBy (table_answer table.now) rrsig.now octets.now key.now }
+{
+    may_have_made(key, rrsig) && says_valid(table, rrsig, octets, key)
+}
+
+/// Whether the table says Valid of the signature over the octets under the key.
+fn says_valid(table: &Table, rrsig: &Rrsig, octets: &[u8], key: &KeyRecord<'_>) -> bool
+    ensures { IsTrue result ↔ (table_answer table.now (record {
+      algorithm = rrsig.now.algorithm;
+      key = key.now.dnskey.key;
+      signed_data = octets.now;
+      signature = rrsig.now.signature;
+    }) ≡ Answer.Valid) }
+{
+    let answer = table.answer(
+        rrsig.algorithm,
+        key.dnskey().key.as_slice(),
+        octets,
+        rrsig.signature.as_slice(),
+    );
+    answer == Answer::Valid
+}
