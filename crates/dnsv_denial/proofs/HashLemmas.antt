@@ -47,4 +47,4 @@ pub opted_out_first : (hash : NameHash) (name : Labels) (entries : List Nsec3Ent
 opted_out_first hash name entries found =
     first_as (λ entry. Covers hash (read_nsec3 entry) name × ((read_nsec3 entry).flags ≡ 1))
     (λ entry. Covers hash (read_nsec3 entry) name × ((read_nsec3 entry).flags ≢ 0)) entries found
-    (λ entry said. (said.0, has_flag entry.nsec3.is_opt_out said.1)) (λ entry said. (said.0, flag_is entry.nsec3.is_opt_out said.1))
+    (λ entry said. (said.0, has_flag entry.is_opt_out said.1)) (λ entry said. (said.0, flag_is entry.is_opt_out said.1))

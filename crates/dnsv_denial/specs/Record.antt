@@ -29,8 +29,8 @@ flags_of false = 0
 abbrev pub read_nsec3 : Nsec3Entry → Nsec3Record
 read_nsec3 entry = record {
   hash = entry.hash;
-  next = entry.nsec3.next_hash;
-  flags = flags_of entry.nsec3.is_opt_out;
-  types = λ t. set.contains entry.nsec3.types.now t;
-  parameters = parameters_of entry.nsec3.parameters.now;
+  next = entry.next_hash;
+  flags = flags_of entry.is_opt_out;
+  types = λ t. set.contains entry.types.now t;
+  parameters = parameters_of entry.parameters.now;
 }

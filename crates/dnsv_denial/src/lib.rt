@@ -8,6 +8,9 @@
 pub use asked::{AskedName, AskedTypes, AskedWildcard};
 pub use by_wildcard::no_name;
 pub use chain::each_zone_has_a_chain;
+pub use closer::{loose_closer, no_closer};
+pub use cuts::{opt_out, unsigned_delegation};
+pub use ends::{EndPlaces, Places};
 pub use entry::{Nsec3Entry, NsecEntry};
 pub use hashes::Nsec3Records;
 pub use hashing::{HashedNames, hash_names};
@@ -78,6 +81,8 @@ mod proof;
 mod records;
 mod said;
 mod search;
+#[cfg(test)]
+mod tests;
 mod types;
 mod view;
 mod words;

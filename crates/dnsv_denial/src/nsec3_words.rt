@@ -35,10 +35,10 @@ impl Word<Nsec3Entry<'_>> for Match<'_> {
         if entry.hash != self.hash {
             return false;
         }
-        if !same_parameters(entry.nsec3.parameters, self.parameters) {
+        if !same_parameters(entry.parameters, self.parameters) {
             return false;
         }
-        self.types.are(entry.nsec3.types)
+        self.types.are(entry.types)
     }
 }
 
@@ -58,13 +58,13 @@ impl Word<Nsec3Entry<'_>> for Cover<'_> {
         × ((read_nsec3 entry).flags ≡ flags_of word.is_opt_out) };
 
     fn is_said_by(&self, entry: &Nsec3Entry<'_>) -> bool {
-        if entry.nsec3.is_opt_out != self.is_opt_out {
+        if entry.is_opt_out != self.is_opt_out {
             return false;
         }
-        if !covers(&entry.hash, &entry.nsec3.next_hash, &self.hash) {
+        if !covers(&entry.hash, &entry.next_hash, &self.hash) {
             return false;
         }
-        same_parameters(entry.nsec3.parameters, self.parameters)
+        same_parameters(entry.parameters, self.parameters)
     }
 }
 
