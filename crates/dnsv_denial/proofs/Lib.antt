@@ -1,7 +1,6 @@
 mod AnswerLemmas
 mod AnyLemmas
 mod BitmapLemmas
-mod Bridge
 mod ChainLemmas
 mod CutLemmas
 mod Example
@@ -14,7 +13,10 @@ mod NsecLemmas
 mod NsecComplete
 mod NsecTruth
 mod NoDataLemmas
+mod NumberedLemmas
 mod Nsec3Complete
 mod Nsec3Truth
+mod PartsForm
+mod ProofMeaningLemmas
 mod WildcardLemmas
 mod ZoneLemmas
