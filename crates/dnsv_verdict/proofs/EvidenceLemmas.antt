@@ -1,0 +1,163 @@
+-- What evidence proves depends on which signatures are secured, and more of them prove no less.
+use Rattle.std.proofs.Common.{◌≡◌, ◌⊎◌, ◌+◌, ◌≤◌, ◌<◌, ℕ, List, inl, inr, ⊎_elim, length}
+use Rattle.dnsv_names.specs.Name.{Labels, rightmost}
+use Rattle.dnsv_canonical.specs.Rrsets.{ReceivedRrset}
+use Rattle.dnsv_denial.specs.Cuts.{no_ds, no_usable_ds, opt_out, IsUnsignedDelegationCut, IsUnusableDsCut, IsOptOutCut, IsFewest, IsMost, IsUnsignedCut, HasUnsignedCut, HasLooseCloser}
+use Rattle.dnsv_denial.specs.Evidence.{IsSecuredBy}
+use Rattle.dnsv_denial.specs.EvidenceWords.{Chain, SaidByNsec, SaidByNsec3, evidence_said, number_cmp}
+use Rattle.dnsv_denial.specs.EvidenceWords.Chain.{ByNsec, ByNsec3}
+use Rattle.dnsv_denial.specs.FirstProof.{CanBeProved, CanProveNoCloser, CanProveNoData, CanProveNoName, IsFirstNoData, IsFirstNoName, IsFirstProof, ProofRecords}
+use Rattle.dnsv_denial.specs.Forms.{Words}
+use Rattle.dnsv_denial.specs.NsecChain.{NsecRecord}
+use Rattle.dnsv_denial.specs.Nsec3Chain.{Nsec3Record, Parameters}
+use Rattle.dnsv_denial.specs.RecordWords.{RecordWords, words}
+use Rattle.dnsv_denial.specs.declared.number.RecordNumber.{RecordNumber}
+use Rattle.dnsv_verdict.proofs.FormLemmas.{SaysNoLess, no_name_to, no_data_to, no_closer_to, cut_to, opts_out_to, no_name_parts_to, no_data_parts_to}
+
+-- ---- more secured signatures prove no less
+
+module _ (S T : ℕ → ℕ → Type 0) (more : (k s : ℕ) → S k s → T k s) (rrsets : List ReceivedRrset) where
+  secured_by_to : (zone : Labels) (k : ℕ) → IsSecuredBy S rrsets zone k → IsSecuredBy T rrsets zone k
+  secured_by_to zone k by = record {
+    rrset = by.rrset;
+    is_rrset = by.is_rrset;
+    signed = record {
+      signature = by.signed.signature;
+      secured = more k by.signed.signature by.signed.secured;
+      rdata = by.signed.rdata;
+      is_signature = by.signed.is_signature;
+      rrsig = by.signed.rrsig;
+      read = by.signed.read;
+      signer = by.signed.signer;
+      unexpanded = by.signed.unexpanded;
+    };
+  }
+
+  nsec_to : (zone : Labels) (Says : NsecRecord → Type 0) (number : RecordNumber) → SaidByNsec S rrsets zone Says number → SaidByNsec T rrsets zone Says number
+  nsec_to zone Says number said =
+      (said.0, record { is = said.1.is; secured = secured_by_to zone number.rrset said.1.secured }, said.2)
+
+  nsec3_to : (zone : Labels) (Says : Nsec3Record → Type 0) (number : RecordNumber) → SaidByNsec3 S rrsets zone Says number → SaidByNsec3 T rrsets zone Says number
+  nsec3_to zone Says number said =
+      (said.0, record { is = said.1.is; secured = secured_by_to zone number.rrset said.1.secured }, said.2)
+
+  pub chain_to : (zone : Labels) (chain : Chain) → SaysNoLess (evidence_said S rrsets zone chain) (evidence_said T rrsets zone chain)
+  chain_to zone ByNsec = record {
+    needs_none = λ name same. same;
+    encloser = λ name. nsec_to zone _;
+    absent = λ name. nsec_to zone _;
+    inner = λ name. nsec_to zone _;
+    types_at = λ name Says. nsec_to zone _;
+    opted_out = λ name number never. never;
+  }
+  chain_to zone (ByNsec3 parameters) = record {
+    needs_none = λ name never. never;
+    encloser = λ name. nsec3_to zone _;
+    absent = λ name. nsec3_to zone _;
+    inner = λ name number never. never;
+    types_at = λ name Says. nsec3_to zone _;
+    opted_out = λ name. nsec3_to zone _;
+  }
+
+  pub no_name_can_to : (name : Labels) → CanProveNoName S rrsets name → CanProveNoName T rrsets name
+  no_name_can_to name can =
+      let zone = rightmost name can.0 in
+      (can.0, can.1, can.2, no_name_to (evidence_said S rrsets zone can.2) (evidence_said T rrsets zone can.2) (chain_to zone can.2) zone name can.3)
+
+  pub no_data_can_to : (name : Labels) (t : ℕ) → CanProveNoData S rrsets name t → CanProveNoData T rrsets name t
+  no_data_can_to name t can =
+      let zone = rightmost name can.0 in
+      (can.0, can.1, can.2, no_data_to (evidence_said S rrsets zone can.2) (evidence_said T rrsets zone can.2) (chain_to zone can.2) zone name t can.3)
+
+  pub no_closer_can_to : (name : Labels) (labels : ℕ) (zone : Labels) → CanProveNoCloser S rrsets name labels zone → CanProveNoCloser T rrsets name labels zone
+  no_closer_can_to name labels zone can =
+      (can.0, no_closer_to (evidence_said S rrsets zone can.0) (evidence_said T rrsets zone can.0) (chain_to zone can.0) zone name labels can.1)
+
+  pub delegation_cut_to : (name : Labels) (labels : ℕ) → IsUnsignedDelegationCut S rrsets name labels → IsUnsignedDelegationCut T rrsets name labels
+  delegation_cut_to name labels cut =
+      let zone = rightmost name cut.1 in
+      (cut.0, cut.1, cut.2, cut.3, cut_to (evidence_said S rrsets zone cut.3) (evidence_said T rrsets zone cut.3) (chain_to zone cut.3) zone name (rightmost name labels) cut.4)
+
+  pub ds_cut_to : (name : Labels) (labels : ℕ) → IsUnusableDsCut S rrsets name labels → IsUnusableDsCut T rrsets name labels
+  ds_cut_to name labels cut = record {
+    at_or_above = cut.at_or_above;
+    k = cut.k;
+    rrset = cut.rrset;
+    is_rrset = cut.is_rrset;
+    rtype = cut.rtype;
+    owner = cut.owner;
+    signature = cut.signature;
+    secured = more cut.k cut.signature cut.secured;
+    records = cut.records;
+    read = cut.read;
+    none = cut.none;
+  }
+
+  pub opt_out_cut_to : (name : Labels) (labels : ℕ) → IsOptOutCut S rrsets name labels → IsOptOutCut T rrsets name labels
+  opt_out_cut_to name labels cut =
+      let zone = rightmost name cut.0 in
+      (cut.0, cut.1, cut.2, opts_out_to (evidence_said S rrsets zone cut.2) (evidence_said T rrsets zone cut.2) (chain_to zone cut.2) zone name labels cut.3)
+
+  pub has_cut_to : (name : Labels) → HasUnsignedCut S rrsets name → HasUnsignedCut T rrsets name
+  has_cut_to name (labels, inl cut) = (labels, inl (delegation_cut_to name labels cut))
+  has_cut_to name (labels, inr (inl cut)) = (labels, inr (inl (ds_cut_to name labels cut)))
+  has_cut_to name (labels, inr (inr cut)) = (labels, inr (inr (opt_out_cut_to name labels cut)))
+
+  pub loose_closer_to : (name : Labels) (labels : ℕ) (zone : Labels) → HasLooseCloser S rrsets name labels zone → HasLooseCloser T rrsets name labels zone
+  loose_closer_to name labels zone loose = record {
+    above = loose.above;
+    chain = loose.chain;
+    covering = loose.covering;
+    opted_out = (chain_to zone loose.chain).opted_out (rightmost name (labels + 1)) loose.covering loose.opted_out;
+  }
+
+-- ---- what the first proof is depends on which are secured alone
+
+module _ (S T : ℕ → ℕ → Type 0) (to : (k s : ℕ) → S k s → T k s) (from : (k s : ℕ) → T k s → S k s) (rrsets : List ReceivedRrset) where
+  first_proof_to : (name : Labels) (Form : Words → Labels → Type 0) (Parts : RecordWords RecordNumber → Labels → List RecordNumber → Type 0)
+      → ((a b : RecordWords RecordNumber) → SaysNoLess a b → (zone : Labels) → Form (words a) zone → Form (words b) zone)
+      → ((a b : RecordWords RecordNumber) → SaysNoLess a b → SaysNoLess b a → (zone : Labels) (parts : List RecordNumber) → Parts a zone parts → Parts b zone parts)
+      → (proof : ProofRecords) → IsFirstProof S rrsets name Form Parts proof → IsFirstProof T rrsets name Form Parts proof
+  first_proof_to name Form Parts goes parts_go proof first =
+      let gain : (zone : Labels) (chain : Chain) → SaysNoLess (evidence_said S rrsets zone chain) (evidence_said T rrsets zone chain) = chain_to S T to rrsets in
+      let loss : (zone : Labels) (chain : Chain) → SaysNoLess (evidence_said T rrsets zone chain) (evidence_said S rrsets zone chain) = chain_to T S from rrsets in record {
+        labels = first.labels;
+        at_or_above = first.at_or_above;
+        zone = first.zone;
+        chain = first.chain;
+        stands = goes (evidence_said S rrsets proof.zone first.chain) (evidence_said T rrsets proof.zone first.chain) (gain proof.zone first.chain) proof.zone first.stands;
+        most_labels = λ more other above within stands. let zone = rightmost name more in
+            first.most_labels more other above within (goes (evidence_said T rrsets zone other) (evidence_said S rrsets zone other) (loss zone other) zone stands);
+        first = λ other before stands.
+            first.first other before (goes (evidence_said T rrsets proof.zone other) (evidence_said S rrsets proof.zone other) (loss proof.zone other) proof.zone stands);
+        parts = first.parts;
+        chosen = parts_go (evidence_said S rrsets proof.zone first.chain) (evidence_said T rrsets proof.zone first.chain) (gain proof.zone first.chain) (loss proof.zone first.chain) proof.zone first.parts first.chosen;
+        records = first.records;
+      }
+
+  pub first_no_name_to : (name : Labels) (proof : ProofRecords) → IsFirstNoName S rrsets name proof → IsFirstNoName T rrsets name proof
+  first_no_name_to name proof first =
+      first_proof_to name _ _ (λ a b less zone. no_name_to a b less zone name)
+      (λ a b less more zone. no_name_parts_to number_cmp a b less more zone name) proof first
+
+  pub first_no_data_to : (name : Labels) (t : ℕ) (proof : ProofRecords) → IsFirstNoData S rrsets name t proof → IsFirstNoData T rrsets name t proof
+  first_no_data_to name t proof first =
+      first_proof_to name _ _ (λ a b less zone. no_data_to a b less zone name t)
+      (λ a b less more zone. no_data_parts_to number_cmp a b less more zone name t) proof first
+
+  fewest_to : (P Q : ℕ → Type 0) → ((n : ℕ) → P n → Q n) → ((n : ℕ) → Q n → P n) → (labels : ℕ) → IsFewest P labels → IsFewest Q labels
+  fewest_to P Q f g labels is = record { holds = f labels is.holds; fewest = λ fewer less holds. is.fewest fewer less (g fewer holds) }
+
+  most_to : (P Q : ℕ → Type 0) → ((n : ℕ) → P n → Q n) → ((n : ℕ) → Q n → P n) → (labels : ℕ) → IsMost P labels → IsMost Q labels
+  most_to P Q f g labels is = record { holds = f labels is.holds; most = λ more less holds. is.most more less (g more holds) }
+
+  pub cut_is_to : (name cut : Labels) → IsUnsignedCut S rrsets name cut → IsUnsignedCut T rrsets name cut
+  cut_is_to name _ (no_ds labels few) =
+      no_ds labels (fewest_to (IsUnsignedDelegationCut S rrsets name) (IsUnsignedDelegationCut T rrsets name) (delegation_cut_to S T to rrsets name) (delegation_cut_to T S from rrsets name) labels few)
+  cut_is_to name _ (no_usable_ds labels none few) =
+      no_usable_ds labels (λ any cut. none any (delegation_cut_to T S from rrsets name any cut))
+      (fewest_to (IsUnusableDsCut S rrsets name) (IsUnusableDsCut T rrsets name) (ds_cut_to S T to rrsets name) (ds_cut_to T S from rrsets name) labels few)
+  cut_is_to name _ (opt_out labels none usable most) =
+      opt_out labels (λ any cut. none any (delegation_cut_to T S from rrsets name any cut))
+      (λ any cut. usable any (ds_cut_to T S from rrsets name any cut))
+      (most_to (IsOptOutCut S rrsets name) (IsOptOutCut T rrsets name) (opt_out_cut_to S T to rrsets name) (opt_out_cut_to T S from rrsets name) labels most)

@@ -1,0 +1,11 @@
+mod CaseLemmas
+mod EvidenceLemmas
+mod FormLemmas
+mod LowestLemmas
+mod OneProof
+mod PendingLemmas
+mod SearchLemmas
+mod SettledLemmas
+mod TrustLemmas
+mod UnknownLemmas
+mod ViewLemmas

@@ -1,0 +1,25 @@
+-- What a search finds for a view is found for what the view is of.
+use Rattle.std.proofs.Common.{◌≡◌, ◌⊎◌, ℕ}
+use Rattle.dnsv_records.specs.declared.rrsig.Rrsig.{Rrsig}
+use Rattle.dnsv_canonical.specs.Rrsets.{ReceivedRrset}
+use Rattle.dnsv_denial.specs.TypeNumbers.{cname}
+use Rattle.dnsv_denial.specs.Viewed.{SecuredIn, Viewed}
+use Rattle.dnsv_verdict.specs.Insecure.{IsLoose}
+use Rattle.dnsv_verdict.specs.Secure.{HoldsForName, IsLowest, IsSecuredAt}
+
+-- the RRset is of the type and holds for the view's name
+abbrev pub HoldsForView : ℕ → Viewed → ReceivedRrset → Rrsig → Type 0
+HoldsForView t view rrset rrsig = (rrset.rtype ≡ t) × HoldsForName (SecuredIn view.trust) view.rrsets view.name rrset rrsig
+
+-- the signature is loose for the view's name
+abbrev pub IsLooseForView : ℕ → Viewed → ReceivedRrset → Rrsig → Type 0
+IsLooseForView t view rrset rrsig =
+    ((rrset.rtype ≡ t) ⊎ (rrset.rtype ≡ cname)) × IsLoose (SecuredIn view.trust) view.rrsets view.name rrset rrsig
+
+-- numbers of a signature that is such, of the evidence that a view is of
+abbrev pub AtNumbers : Viewed → (ReceivedRrset → Rrsig → Type 0) → ℕ → ℕ → Type 0
+AtNumbers of Such = IsSecuredAt (SecuredIn of.trust) of.rrsets of.name Such
+
+-- the lowest such numbers, and the signature
+abbrev pub AtLowest : Viewed → (ReceivedRrset → Rrsig → Type 0) → ℕ → ℕ → Rrsig → Type 0
+AtLowest of Such k s rrsig = (is : IsLowest (AtNumbers of Such) k s) × (is.such.rrsig ≡ rrsig)

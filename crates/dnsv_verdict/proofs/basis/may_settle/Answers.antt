@@ -1,0 +1,41 @@
+-- the hopeful table's trust settles what the hopeful verifier settles
+use Rattle.std.proofs.Common.{refl, subst, sym}
+use Rattle.std.proofs.lemmas.Option.{MatchOption-at_none, MatchOption-at_some}
+use Rattle.dnsv_verifier.specs.Table.{IsTableOf, hoped_answer}
+use Rattle.dnsv_verifier.specs.declared.answer.Answer.{Answer}
+use Rattle.dnsv_verifier.specs.declared.entry.Entry.{Entry}
+use Rattle.dnsv_denial.specs.Viewed.{SecuredIn}
+use Rattle.dnsv_verdict.proofs.CaseLemmas.{settled_stands}
+use Rattle.dnsv_verdict.proofs.TrustLemmas.{settled_by_trust, settled_from_trust}
+use Rattle.dnsv_verdict.proofs.basis.may_settle.Goals as goal
+
+pub returns : goal.returns
+returns c = λ meaning moment table.
+    let basis = c.args.basis.now in
+    let hoped : Entry → Answer = λ entry. hoped_answer (meaning entry) in
+    let contents = c.in_ok-hopeful.hopeful in
+    let is : IsTableOf hoped moment basis.capture.now.rrsets contents =
+    subst (λ each. IsTableOf hoped moment basis.capture.now.rrsets each) (sym c.in_ok-hopeful.ensures)
+    (c.unknown_entries_may_turn_out_valid.ensures.hoped meaning moment basis.capture.now.rrsets basis.table.now table) in (
+      λ _. settled_from_trust hoped moment basis.capture.now.rrsets basis.anchors.now contents c.in_ok-trust.trust is.of_moment
+          (c.a_table_is_its_verifier.ensures.answer hoped moment basis.capture.now.rrsets contents is)
+          c.trust_depends_on_what_is_asked.ensures.numbers c.in_ok-trust.ensures c.args.name.now c.args.rtype.0
+          (settled_stands (SecuredIn c.in_ok-trust.trust) basis.capture.now.rrsets c.args.name.now c.args.rtype.0 c.in-Some._found
+          (MatchOption-at_some _ _ c.in-Some._found c.in-Some.is c.in_ok-_found.ensures.value)),
+      λ _. refl,
+    )
+
+pub returns-in_default : goal.returns-in_default
+returns-in_default c = λ meaning moment table.
+    let basis = c.args.basis.now in
+    let hoped : Entry → Answer = λ entry. hoped_answer (meaning entry) in
+    let contents = c.in_ok-hopeful.hopeful in
+    let is : IsTableOf hoped moment basis.capture.now.rrsets contents =
+    subst (λ each. IsTableOf hoped moment basis.capture.now.rrsets each) (sym c.in_ok-hopeful.ensures)
+    (c.unknown_entries_may_turn_out_valid.ensures.hoped meaning moment basis.capture.now.rrsets basis.table.now table) in (
+      λ never. cc,
+      λ may. absurd (MatchOption-at_none _ _ c.in_default.is c.in_ok-_found.ensures.value
+          (settled_by_trust hoped moment basis.capture.now.rrsets basis.anchors.now contents c.in_ok-trust.trust is.of_moment
+          (c.a_table_is_its_verifier.ensures.answer hoped moment basis.capture.now.rrsets contents is)
+          c.trust_depends_on_what_is_asked.ensures.numbers c.in_ok-trust.ensures c.args.name.now c.args.rtype.0 may)),
+    )

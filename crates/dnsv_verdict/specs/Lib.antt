@@ -1,0 +1,7 @@
+pub mod Insecure
+pub mod Meaning
+pub mod Search
+pub mod Secure
+pub mod Settled
+pub mod Verdict
+pub mod VerdictError

@@ -1,0 +1,94 @@
+-- The verdict on a question: the first of eight cases that holds.
+use Rattle.std.specs.Prelude.{◌≡◌, ◌↔◌, ℕ, List, Contains, length}
+use Rattle.std.specs.List.Sorted.{IsStrictlySortedBy}
+use Rattle.dnsv_names.specs.Name.{Labels, IsAtOrBelow}
+use Rattle.dnsv_canonical.specs.Rrsets.{ReceivedRrset}
+use Rattle.dnsv_verifier.specs.Admissible.{IsAsked}
+use Rattle.dnsv_verifier.specs.Entry.{entry_cmp}
+use Rattle.dnsv_verifier.specs.Table.{hoped_answer}
+use Rattle.dnsv_verifier.specs.declared.answer.Answer.{Answer}
+use Rattle.dnsv_verifier.specs.declared.answer.Answer.TheVariants.{Unknown}
+use Rattle.dnsv_verifier.specs.declared.entry.Entry.{Entry}
+use Rattle.dnsv_chain.specs.Trusted.{IsSecured}
+use Rattle.dnsv_chain.specs.declared.anchor.Anchor.{Anchor}
+use Rattle.dnsv_chain.specs.declared.anchor.Anchor.TheVariants.{Ds, Key}
+use Rattle.dnsv_verdict.specs.Settled.{IsSettled, IsSettledAs}
+use Rattle.dnsv_verdict.specs.declared.verdict.Verdict.{Verdict}
+use Rattle.dnsv_verdict.specs.declared.verdict.Verdict.TheVariants.{SecureAnswer, SecureAlias, SecureNoName, SecureNoData, Insecure, Pending, Bogus, Indeterminate}
+
+-- ---- what a question is judged by
+
+-- the RRsets of the evidence, the trust anchors, the moment, and what a verifier says of each entry
+pub record Basis : Type 0 where
+  pub rrsets : List ReceivedRrset
+  pub anchors : List Anchor
+  pub moment : ℕ
+  pub meaning : Entry → Answer
+
+-- the same with a verifier of another meaning
+abbrev pub with_meaning : Basis → (Entry → Answer) → Basis
+with_meaning basis meaning = record {
+  rrsets = basis.rrsets;
+  anchors = basis.anchors;
+  moment = basis.moment;
+  meaning = meaning;
+}
+
+-- the same with each Unknown taken as Valid
+abbrev pub hopeful : Basis → Basis
+hopeful basis = with_meaning basis (λ entry. hoped_answer (basis.meaning entry))
+
+-- ---- the cases, in their order
+
+-- 1 to 5: the evidence settles it, as `IsSettled` says
+abbrev pub Settles : Basis → Labels → ℕ → Type 0
+Settles basis name t = IsSettled (IsSecured basis.meaning basis.moment basis.rrsets basis.anchors) basis.rrsets name t
+
+-- and so
+abbrev pub SettlesAs : Basis → Labels → ℕ → Verdict → Type 0
+SettlesAs basis name t verdict =
+    IsSettledAs (IsSecured basis.meaning basis.moment basis.rrsets basis.anchors) basis.rrsets name t verdict
+
+-- 6: it would settle it if what isn't known were valid
+abbrev pub MaySettle : Basis → Labels → ℕ → Type 0
+MaySettle basis name t = Settles (hopeful basis) name t
+
+-- what the verifier is asked and doesn't know, in order
+pub record AreUnknown (basis : Basis) (entries : List Entry) : Type 0 where
+  pub rising : IsStrictlySortedBy entry_cmp entries
+  pub members : (entry : Entry) → Contains entries entry
+      ↔ (IsAsked basis.moment basis.rrsets entry × (basis.meaning entry ≡ Unknown))
+
+-- the owner of a trust anchor
+abbrev pub anchor_owner : Anchor → Labels
+anchor_owner (Ds owner ds) = owner
+anchor_owner (Key owner rdata) = owner
+
+-- 7: there is a trust anchor at or above the name (RFC 4035 4.3). 8: there is none.
+abbrev pub HasAnchor : List Anchor → Labels → Type 0
+HasAnchor anchors name = (anchor : Anchor) × Contains anchors anchor × IsAtOrBelow name (anchor_owner anchor)
+
+-- so many entries are asked: those of a list that has each once
+pub record IsNumberAsked (moment : ℕ) (rrsets : List ReceivedRrset) (count : ℕ) : Type 0 where
+  pub entries : List Entry
+  pub rising : IsStrictlySortedBy entry_cmp entries
+  pub members : (entry : Entry) → Contains entries entry ↔ IsAsked moment rrsets entry
+  pub is : count ≡ length entries
+
+-- ---- the verdict
+
+-- the verdict at a name, for a type: that of the first case which holds
+abbrev pub IsVerdictAt : Basis → Labels → ℕ → Verdict → Type 0
+IsVerdictAt basis name t (Pending entries) =
+    (¬ Settles basis name t) × MaySettle basis name t × AreUnknown basis entries
+IsVerdictAt basis name t Bogus = (¬ Settles basis name t) × (¬ MaySettle basis name t) × HasAnchor basis.anchors name
+IsVerdictAt basis name t Indeterminate =
+    (¬ Settles basis name t) × (¬ MaySettle basis name t) × (¬ HasAnchor basis.anchors name)
+IsVerdictAt basis name t verdict = SettlesAs basis name t verdict
+
+-- the verdict is one of the first five, which need no more answers
+abbrev pub IsConclusive : Verdict → Type 0
+IsConclusive (Pending entries) = ⊥
+IsConclusive Bogus = ⊥
+IsConclusive Indeterminate = ⊥
+IsConclusive verdict = Unit {0}

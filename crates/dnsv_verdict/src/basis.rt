@@ -1,0 +1,131 @@
+//! What questions are judged by, and the verdict on one.
+ghost use Rattle.std.specs.Prelude.{◌≡◌, ◌↔◌, ℕ, IfOk, IfSome, IsTrue, MatchOption};
+ghost use Rattle.dnsv_chain.specs.Trust.{IsTrustOf};
+ghost use Rattle.dnsv_denial.specs.Viewed.{SecuredIn};
+ghost use Rattle.dnsv_verifier.specs.Table.{IsTableOf, table_answer};
+ghost use Rattle.dnsv_verifier.specs.declared.answer.Answer.{Answer};
+ghost use Rattle.dnsv_verifier.specs.declared.entry.Entry.{Entry};
+ghost use Rattle.dnsv_verdict.specs.Meaning.{IsTrueOfZones};
+ghost use Rattle.dnsv_verdict.specs.Settled.{IsSettled, IsSettledAs};
+ghost use Rattle.dnsv_verdict.specs.Verdict.{HasAnchor, IsVerdictAt, MaySettle, anchor_owner};
+
+use crate::entries::Entries;
+use crate::settled::settled;
+use crate::verdict::Verdict;
+use dnsv_canonical::Capture;
+use dnsv_chain::{Anchor, Anchors, Trust, trust_depends_on_what_is_asked, trusted};
+use dnsv_denial::View;
+use dnsv_names::{Count, Name, RecordType};
+use dnsv_verifier::{Table, a_table_is_its_verifier, unknown_entries_may_turn_out_valid};
+use std::alloc::{AllocError, Global};
+
+/// What questions are judged by: the evidence, the trust anchors, and what the verifier says at the moment.
+#[derive(Drop)]
+pub struct Basis<'a> {
+    pub capture: &'a Capture,
+    pub anchors: &'a Anchors,
+    pub table: &'a Table,
+}
+
+/// The verdict at the name, for the type. `trust` is that of the basis. `hashed` grows by the SHA-1 digests that are
+/// worked out. The verifier isn't asked again.
+pub fn verdict_at(
+    alloc: Global,
+    basis: &Basis<'_>,
+    trust: &Trust,
+    name: &Name,
+    rtype: RecordType,
+    hashed: &mut Count,
+) -> Result<Verdict, AllocError>
+    requires { IsTrustOf (table_answer basis.now.table.now) basis.now.table.now.moment basis.now.capture.now.rrsets
+        basis.now.anchors.now trust.now }
+    ensures value { (meaning : Entry → Answer) (moment : ℕ)
+        → IsTableOf meaning moment basis.now.capture.now.rrsets basis.now.table.now
+        → IfOk result (IsVerdictAt (record {
+          rrsets = basis.now.capture.now.rrsets;
+          anchors = basis.now.anchors.now;
+          moment = moment;
+          meaning = meaning;
+        }) name.now rtype.0) }
+    ensures meaning { IfOk result (IsTrueOfZones basis.now.capture.now.rrsets name.now rtype.0) }
+{
+    a_table_is_its_verifier();
+    trust_depends_on_what_is_asked();
+    let found = settled_by(alloc, basis.capture, trust, name, rtype, hashed)?;
+    if let Some(verdict) = found {
+        return Ok(verdict);
+    }
+    if may_settle(alloc, basis, name, rtype, hashed)? {
+        let unknown = basis.table.unknown(alloc)?;
+        return Ok(Verdict::Pending(Entries::from_vec(unknown)));
+    }
+    if has_anchor(basis.anchors, name) {
+        return Ok(Verdict::Bogus);
+    }
+    Ok(Verdict::Indeterminate)
+}
+
+/// What the evidence settles about the question with this trust, if it settles it.
+fn settled_by(
+    alloc: Global,
+    capture: &Capture,
+    trust: &Trust,
+    name: &Name,
+    rtype: RecordType,
+    hashed: &mut Count,
+) -> Result<Option<Verdict>, AllocError>
+    ensures value { IfOk result (λ found. MatchOption found
+        (¬ IsSettled (SecuredIn trust.now) capture.now.rrsets name.now rtype.0)
+        (IsSettledAs (SecuredIn trust.now) capture.now.rrsets name.now rtype.0)) }
+    ensures meaning { IfOk result (λ found. IfSome found (IsTrueOfZones capture.now.rrsets name.now rtype.0)) }
+{
+    let view = View::new(alloc, capture, trust, name, hashed)?;
+    Ok(settled(capture, trust, name, rtype, &view))
+}
+
+/// Whether the evidence would settle the question if each entry that the verifier doesn't know were valid.
+fn may_settle(
+    alloc: Global,
+    basis: &Basis<'_>,
+    name: &Name,
+    rtype: RecordType,
+    hashed: &mut Count,
+) -> Result<bool, AllocError>
+    ensures { (meaning : Entry → Answer) (moment : ℕ)
+        → IsTableOf meaning moment basis.now.capture.now.rrsets basis.now.table.now
+        → IfOk result (λ may. IsTrue may ↔ MaySettle (record {
+          rrsets = basis.now.capture.now.rrsets;
+          anchors = basis.now.anchors.now;
+          moment = moment;
+          meaning = meaning;
+        }) name.now rtype.0) }
+{
+    a_table_is_its_verifier();
+    trust_depends_on_what_is_asked();
+    unknown_entries_may_turn_out_valid();
+    let hopeful = basis.table.hopeful(alloc)?;
+    let trust = trusted(alloc, basis.capture, basis.anchors, &hopeful)?;
+    let Some(_found) = settled_by(alloc, basis.capture, &trust, name, rtype, hashed)? else {
+        return Ok(false);
+    };
+    Ok(true)
+}
+
+/// Whether a trust anchor is at or above the name.
+fn has_anchor(anchors: &Anchors, name: &Name) -> bool
+    ensures { IsTrue result ↔ HasAnchor anchors.now name.now }
+{
+    anchors
+        .as_slice()
+        .iter()
+        .any(|anchor| name.is_at_or_below(owner_of(anchor)))
+}
+
+/// The owner of the trust anchor.
+fn owner_of(anchor: &Anchor) -> &Name
+    ensures { result.now ≡ anchor_owner anchor.now }
+{
+    match anchor {
+        Anchor::Ds { owner, .. } | Anchor::Key { owner, .. } => owner,
+    }
+}

@@ -1,0 +1,35 @@
+//! Laws of verdicts.
+//!
+//! Each is a function that does nothing and ensures the law, which its caller learns.
+ghost use Rattle.std.specs.Prelude.{◌≡◌, ℕ, List, Contains};
+ghost use Rattle.dnsv_names.specs.Name.{Labels};
+ghost use Rattle.dnsv_verifier.specs.declared.answer.Answer.{Answer};
+ghost use Rattle.dnsv_verifier.specs.declared.answer.Answer.TheVariants.{Valid};
+ghost use Rattle.dnsv_verifier.specs.declared.entry.Entry.{Entry};
+ghost use Rattle.dnsv_verdict.specs.Verdict.{Basis, IsConclusive, IsVerdictAt, Settles, with_meaning};
+
+use crate::verdict::Verdict;
+use dnsv_chain::trust_depends_on_what_is_asked;
+
+/// A question has at most one verdict, so none can be given in place of another.
+pub fn a_question_has_one_verdict()
+    ensures { (basis : Basis) (name : Labels) (t : ℕ) (a b : Verdict)
+        → IsVerdictAt basis name t a → IsVerdictAt basis name t b → a ≡ b }
+{}
+
+/// Where a verdict depends on entries, a verifier that says Valid of these, and of each other entry what was said,
+/// leads to a verdict that depends on none: a secure one, or that the name may be unsigned.
+pub fn valid_answers_settle_what_depends_on_them()
+    ensures settles { (basis : Basis) (name : Labels) (t : ℕ) (entries : List Entry) (later : Entry → Answer)
+        → IsVerdictAt basis name t (Verdict.Pending entries)
+        → ((entry : Entry) → Contains entries entry → later entry ≡ Valid)
+        → ((entry : Entry) → ¬ Contains entries entry → later entry ≡ basis.meaning entry)
+        → Settles (with_meaning basis later) name t }
+    ensures verdict { (basis : Basis) (name : Labels) (t : ℕ) (entries : List Entry) (later : Entry → Answer)
+        → IsVerdictAt basis name t (Verdict.Pending entries)
+        → ((entry : Entry) → Contains entries entry → later entry ≡ Valid)
+        → ((entry : Entry) → ¬ Contains entries entry → later entry ≡ basis.meaning entry)
+        → (verdict : Verdict) → IsVerdictAt (with_meaning basis later) name t verdict → IsConclusive verdict }
+{
+    trust_depends_on_what_is_asked();
+}

@@ -1,0 +1,18 @@
+//! The verdict on a question: what the evidence of a capture proves, from given trust anchors, at a moment
+//! (RFC 4035 4.3, 5).
+#![tactic(auto)]
+
+pub use entries::Entries;
+pub use error::VerdictError;
+pub use laws::{a_question_has_one_verdict, valid_answers_settle_what_depends_on_them};
+pub use report::{Report, validate};
+pub use verdict::Verdict;
+
+mod basis;
+mod entries;
+mod error;
+mod laws;
+mod report;
+mod search;
+mod settled;
+mod verdict;

@@ -1,0 +1,169 @@
+//! What the evidence settles about a question, if it settles it.
+ghost use Rattle.std.specs.Prelude.{◌≡◌, ◌≢◌, ℕ, IfSome, MatchOption};
+ghost use Rattle.dnsv_denial.specs.TypeNumbers.{cname};
+ghost use Rattle.dnsv_denial.specs.Viewed.{SecuredIn};
+ghost use Rattle.dnsv_verdict.specs.Insecure.{IsLooseCut, IsLooseSet};
+ghost use Rattle.dnsv_verdict.specs.Meaning.{IsTrueOfZones};
+ghost use Rattle.dnsv_verdict.specs.Secure.{IsLowest, IsSecureSet};
+ghost use Rattle.dnsv_verdict.specs.Settled.{HasAlias, IsSettled, IsSettledAs};
+
+use crate::search::{Found, Test, lowest};
+use crate::verdict::Verdict;
+use dnsv_canonical::{Capture, Rrset, is_expanded};
+use dnsv_chain::Trust;
+use dnsv_denial::View;
+use dnsv_names::{Name, RecordType};
+use dnsv_records::Rrsig;
+
+/// What the evidence settles: the first that holds of a secure answer, a secure alias, no such name, no data, and a
+/// name that may be unsigned. `None` where it settles nothing.
+pub fn settled(
+    capture: &Capture,
+    trust: &Trust,
+    name: &Name,
+    rtype: RecordType,
+    view: &View<'_>,
+) -> Option<Verdict>
+    requires { view.now ≡ record { rrsets = capture.now.rrsets; trust = trust.now; name = name.now } }
+    ensures value { MatchOption result (¬ IsSettled (SecuredIn trust.now) capture.now.rrsets name.now rtype.0)
+        (IsSettledAs (SecuredIn trust.now) capture.now.rrsets name.now rtype.0) }
+    ensures meaning { IfSome result (IsTrueOfZones capture.now.rrsets name.now rtype.0) }
+{
+    if let Some(found) = secure_set(capture, trust, name, rtype, view) {
+        return Some(Verdict::SecureAnswer(found.rrset, found.signature));
+    }
+    if let Some(found) = secure_alias(capture, trust, name, rtype, view) {
+        return Some(Verdict::SecureAlias(found.rrset, found.signature));
+    }
+    if let Some(proof) = view.no_name() {
+        return Some(Verdict::SecureNoName(proof));
+    }
+    if let Some(proof) = view.no_data(rtype) {
+        return Some(Verdict::SecureNoData(proof));
+    }
+    if let Some(cut) = view.unsigned_cut() {
+        return Some(Verdict::Insecure(cut));
+    }
+    if let Some(cut) = loose_cut(capture, trust, name, rtype, view) {
+        return Some(Verdict::Insecure(cut));
+    }
+    None
+}
+
+/// The lowest RRset of the name and type that holds for the name, and the lowest signature by which it does.
+fn secure_set<'a>(
+    capture: &'a Capture,
+    trust: &Trust,
+    name: &Name,
+    rtype: RecordType,
+    view: &View<'_>,
+) -> Option<Found<'a>>
+    requires { view.now ≡ record { rrsets = capture.now.rrsets; trust = trust.now; name = name.now } }
+    ensures { MatchOption result
+        ((k s : ℕ) → ¬ IsSecureSet (SecuredIn trust.now) capture.now.rrsets name.now rtype.0 k s)
+        (λ found. (is : IsLowest (IsSecureSet (SecuredIn trust.now) capture.now.rrsets name.now rtype.0)
+        found.rrset found.signature) × (is.such.rrsig ≡ found.rrsig.now)) }
+{
+    lowest(capture, trust, name, &HoldsForName { view, rtype })
+}
+
+/// The same for CNAME, where another type is asked.
+fn secure_alias<'a>(
+    capture: &'a Capture,
+    trust: &Trust,
+    name: &Name,
+    rtype: RecordType,
+    view: &View<'_>,
+) -> Option<Found<'a>>
+    requires { view.now ≡ record { rrsets = capture.now.rrsets; trust = trust.now; name = name.now } }
+    ensures { MatchOption result (¬ HasAlias (SecuredIn trust.now) capture.now.rrsets name.now rtype.0)
+        (λ found. (rtype.0 ≢ cname)
+        × IsLowest (IsSecureSet (SecuredIn trust.now) capture.now.rrsets name.now cname) found.rrset found.signature) }
+{
+    if rtype == RecordType::CNAME {
+        return None;
+    }
+    let Some(found) = secure_set(capture, trust, name, RecordType::CNAME, view) else {
+        return None;
+    };
+    Some(found)
+}
+
+/// The next closer name for the lowest RRset and signature of the name, and of the type or CNAME, that an unsigned
+/// delegation may stand against (RFC 5155 8.8).
+fn loose_cut(
+    capture: &Capture,
+    trust: &Trust,
+    name: &Name,
+    rtype: RecordType,
+    view: &View<'_>,
+) -> Option<Name>
+    requires { view.now ≡ record { rrsets = capture.now.rrsets; trust = trust.now; name = name.now } }
+    ensures { MatchOption result
+        ((k s : ℕ) → ¬ IsLooseSet (SecuredIn trust.now) capture.now.rrsets name.now rtype.0 k s)
+        (IsLooseCut (SecuredIn trust.now) capture.now.rrsets name.now rtype.0) }
+{
+    let Some(found) = lowest(capture, trust, name, &IsLoose { view, rtype }) else {
+        return None;
+    };
+    Some(name.suffix(found.rrsig.labels as usize + 1))
+}
+
+/// That an RRset of the type holds for the view's name by the signature: no wildcard is behind it, or there is a proof
+/// that no closer name than the wildcard exists (RFC 4035 5.3.4, RFC 5155 8.8).
+#[derive(Drop)]
+struct HoldsForName<'a> {
+    view: &'a View<'a>,
+    rtype: RecordType,
+}
+
+impl Test for HoldsForName<'_> {
+    ghost use Rattle.std.specs.Prelude.{◌≡◌};
+    ghost use Rattle.dnsv_denial.specs.Viewed.{SecuredIn};
+    ghost use Rattle.dnsv_verdict.specs.Secure.{HoldsForName};
+
+    ghost passes = { λ test rrset rrsig. (rrset.rtype ≡ test.rtype.0)
+        × HoldsForName (SecuredIn test.view.now.trust) test.view.now.rrsets test.view.now.name rrset rrsig };
+
+    fn is_passed_by(&self, rrset: &Rrset, rrsig: &Rrsig) -> bool {
+        if rrset.rtype() != self.rtype {
+            return false;
+        }
+        if !is_expanded(rrset.owner(), rrsig) {
+            return true;
+        }
+        self.view
+            .no_closer(&rrsig.signer, rrsig.labels as usize)
+            .is_some()
+    }
+}
+
+/// That a wildcard is behind the signature of an RRset of the type, or of CNAME, and an unsigned delegation may be
+/// closer to the view's name (RFC 5155 8.8).
+#[derive(Drop)]
+struct IsLoose<'a> {
+    view: &'a View<'a>,
+    rtype: RecordType,
+}
+
+impl Test for IsLoose<'_> {
+    ghost use Rattle.std.specs.Prelude.{◌≡◌, ◌⊎◌};
+    ghost use Rattle.dnsv_denial.specs.TypeNumbers.{cname};
+    ghost use Rattle.dnsv_denial.specs.Viewed.{SecuredIn};
+    ghost use Rattle.dnsv_verdict.specs.Insecure.{IsLoose};
+
+    ghost passes = { λ test rrset rrsig. ((rrset.rtype ≡ test.rtype.0) ⊎ (rrset.rtype ≡ cname))
+        × IsLoose (SecuredIn test.view.now.trust) test.view.now.rrsets test.view.now.name rrset rrsig };
+
+    fn is_passed_by(&self, rrset: &Rrset, rrsig: &Rrsig) -> bool {
+        if rrset.rtype() != self.rtype && rrset.rtype() != RecordType::CNAME {
+            return false;
+        }
+        if !is_expanded(rrset.owner(), rrsig) {
+            return false;
+        }
+        self.view
+            .loose_closer(&rrsig.signer, rrsig.labels as usize)
+            .is_some()
+    }
+}
