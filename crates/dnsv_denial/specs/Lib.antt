@@ -10,8 +10,9 @@ pub mod EvidenceWords
 pub mod Example
 pub mod FirstProof
 pub mod Forms
-pub mod HashedNames
+pub mod Gathered
 pub mod HashWords
+pub mod HashedNames
 pub mod Lookup
 pub mod Nsec
 pub mod Nsec3

@@ -58,11 +58,14 @@ pub use zone::{
 
 mod asked;
 mod by_wildcard;
+mod canonical_order;
 mod chain;
 mod closer;
 mod cuts;
 mod ends;
 mod entry;
+mod gather;
+mod gather_nsec3;
 mod hashes;
 mod hashing;
 mod lookup;
@@ -81,6 +84,7 @@ mod proof;
 mod records;
 mod said;
 mod search;
+mod secured;
 #[cfg(test)]
 mod tests;
 mod types;
