@@ -3,7 +3,7 @@ use Rattle.std.proofs.lemmas.Cmp.{ranked}
 use Rattle.std.proofs.Common.{sym, Option, None, ◌≤◌, ◌≡◌, ◌≢◌, ℕ, ◌+◌, ◌<◌, true, false, List, ⊎_elim, arith, subst}
 use Rattle.std.proofs.lemmas.Bool.Decides.{eqb_tells}
 use lib.Dec.{eqb}
-use Rattle.std.specs.Prelude.{Bool, IsTrue, Some, is_some, slice_get, length}
+use Rattle.std.specs.Prelude.{Bool, IfSome, IsTrue, MatchOption, Some, is_some, slice_get, length}
 use Rattle.std.proofs.lemmas.Option.{slice_get_within}
 use Rattle.std.specs.Ordering.{nat_cmp}
 use Rattle.std.specs.declared.cmp.Ordering.TheVariants.{Less}
@@ -54,3 +54,7 @@ pub some_first : (Says : ℕ → Type 0) (found : Option ℕ) (test : Bool) → 
     → (IsTrue test → (place : ℕ) × Says place) × (((place : ℕ) × Says place) → IsTrue test)
 some_first Says None test is none = (λ yes. let bad : ⊥ = cc in absurd bad, λ some. absurd (none some.0 some.1))
 some_first Says (Some place) test is first = (λ yes. (place, first.says), λ some. is)
+
+pub if_some : {X : Type 0} (N : Type 0) (F G : X → Type 0) (found : Option X) → ((x : X) → F x → G x) → MatchOption found N F → IfSome found G
+if_some N F G None to holds = tt
+if_some N F G (Some x) to holds = to x holds

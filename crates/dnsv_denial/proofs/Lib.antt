@@ -10,6 +10,7 @@ mod GatherLemmas
 mod Gathering
 mod HashLemmas
 mod LookupLemmas
+mod MeaningAt
 mod MeaningLemmas
 mod MoreLemmas
 mod NoDataLemmas

@@ -10,9 +10,10 @@ use Rattle.dnsv_names.specs.AncestorLaws.{rightmost_length}
 use Rattle.dnsv_denial.specs.declared.asked.AskedWildcard.{AskedWildcard}
 use Rattle.dnsv_denial.specs.declared.asked.AskedWildcard.TheVariants.{Absent, Empty, Without}
 use Rattle.dnsv_denial.specs.ByWildcard.{StandsAt, AreMostParts}
-use Rattle.dnsv_denial.specs.Forms.{IsAbove, NoNameForm, NoWildcardDataForm, EmptyWildcardForm}
-use Rattle.dnsv_denial.specs.Parts.{AreNoNameParts, AreWildcardDataParts, AreEmptyWildcardParts}
+use Rattle.dnsv_denial.specs.Forms.{IsAbove, NoNameForm, NoCloserForm}
+use Rattle.dnsv_denial.specs.Parts.{AreNoNameParts, IsNoCloserPart}
 use Rattle.dnsv_denial.specs.RecordWords.{RecordWords, words}
+use Rattle.dnsv_denial.specs.SaidAt.{IsFirstPlace}
 
 -- what holds of fewer than n only, and not of the last before n
 pub fewer_yet : (P : ℕ → Type 0) (n : ℕ) → 0 < n → ((k : ℕ) → P k → k < n) → ¬ P (n - 1) → (k : ℕ) → P k → k < n - 1
@@ -44,3 +45,8 @@ module _ (said : RecordWords ℕ) (apex name : Labels) where
     are = parts.are;
     most_labels = λ form. parts.most_labels form.labels (no_name_stands form);
   }
+
+  pub no_closer_found : (labels : ℕ) (found : Option ℕ) → IsAbove apex name labels → IsFirstPlace (said.Absent (rightmost name (labels + 1))) found
+      → MatchOption found (¬ NoCloserForm (words said) apex name labels) (IsNoCloserPart nat_cmp said apex name labels)
+  no_closer_found labels None above none = λ form. none form.next_closer.0 form.next_closer.1
+  no_closer_found labels (Some place) above first = record { above = above; next_closer = first }

@@ -21,6 +21,7 @@ pub mod NsecChain
 pub mod Parts
 pub mod ProofMeaning
 pub mod Record
+pub mod RecordsAt
 pub mod RecordWords
 pub mod SaidAt
 pub mod TypeNumbers

@@ -1,14 +1,18 @@
 //! The forms that ask something of the wildcard at the closest encloser.
-ghost use Rattle.std.specs.Prelude.{ℕ, ◌<◌, MatchOption, length};
+ghost use Rattle.std.specs.Prelude.{ℕ, ◌<◌, IfSome, MatchOption, length};
 ghost use Rattle.std.specs.Ordering.{nat_cmp};
 ghost use Rattle.dnsv_names.specs.Name.{Labels, rightmost};
 ghost use Rattle.dnsv_names.specs.Tree.{wildcard_of};
 ghost use Rattle.dnsv_denial.specs.ByWildcard.{wildcard_said, StandsAt, AreMostParts};
 ghost use Rattle.dnsv_denial.specs.ChainSaid.{chain_said, HasHashes};
 ghost use Rattle.dnsv_denial.specs.Forms.{NoNameForm};
+ghost use Rattle.dnsv_denial.specs.Lookup.{IsLookup};
+ghost use Rattle.dnsv_denial.specs.Lookup.Answer.{NoName};
 ghost use Rattle.dnsv_denial.specs.Parts.{AreNoNameParts, AreWildcardParts};
 ghost use Rattle.dnsv_denial.specs.RecordWords.{words};
+ghost use Rattle.dnsv_denial.specs.RecordsAt.{HasRecordsAt};
 ghost use Rattle.dnsv_denial.specs.SaidAt.{IsFirstPlace};
+ghost use Rattle.dnsv_denial.specs.Zone.{Zone};
 
 use crate::asked::{AskedName, AskedTypes, AskedWildcard};
 use crate::ends::{Places, end_at};
@@ -21,8 +25,11 @@ use dnsv_names::Name;
 /// if it needs one, of the next closer name, and of the wildcard at the closest encloser.
 pub fn no_name(apex: &Name, name: &Name, records: &ChainRecords<'_>) -> Option<Places>
     requires { HasHashes name.now records.now }
-    ensures { MatchOption result (¬ NoNameForm (words (chain_said apex.now records.now)) apex.now name.now)
+    ensures first { MatchOption result (¬ NoNameForm (words (chain_said apex.now records.now)) apex.now name.now)
         (λ places. AreNoNameParts nat_cmp (chain_said apex.now records.now) apex.now name.now places.items) }
+    // In each zone that has the records in its chain there is no such name, whatever type is asked.
+    ensures meaning { IfSome result (λ places. (zone : Zone) (t : ℕ)
+        → HasRecordsAt zone apex.now name.now records.now places.items → IsLookup zone name.now t NoName) }
 {
     by_wildcard(apex, name, AskedWildcard::Absent, records)
 }

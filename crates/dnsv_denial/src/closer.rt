@@ -1,10 +1,16 @@
 //! What records say against an answer from a wildcard (RFC 4035 5.3.4, RFC 5155 8.8).
-ghost use Rattle.std.specs.Prelude.{◌↔◌, IsTrue, MatchOption};
+ghost use Rattle.std.specs.Prelude.{ℕ, ◌↔◌, [], ◌∷◌, IfSome, IsTrue, MatchOption};
 ghost use Rattle.std.specs.Ordering.{nat_cmp};
+ghost use Rattle.dnsv_names.specs.Name.{rightmost};
+ghost use Rattle.dnsv_names.specs.Tree.{wildcard_of};
 ghost use Rattle.dnsv_denial.specs.ChainSaid.{chain_said, HasHashes};
 ghost use Rattle.dnsv_denial.specs.Forms.{NoCloserForm};
+ghost use Rattle.dnsv_denial.specs.Lookup.{IsLookup};
+ghost use Rattle.dnsv_denial.specs.Lookup.Answer.{Held};
 ghost use Rattle.dnsv_denial.specs.Parts.{IsNoCloserPart, LeavesCloser};
+ghost use Rattle.dnsv_denial.specs.RecordsAt.{HasRecordsAt};
 ghost use Rattle.dnsv_denial.specs.RecordWords.{words};
+ghost use Rattle.dnsv_denial.specs.Zone.{Zone, Holds};
 
 use crate::asked::AskedName;
 use crate::ends::is_above;
@@ -22,9 +28,14 @@ pub fn no_closer(
     records: &ChainRecords<'_>,
 ) -> Option<usize>
     requires { HasHashes name.now records.now }
-    ensures { MatchOption result
+    ensures first { MatchOption result
         (¬ NoCloserForm (words (chain_said apex.now records.now)) apex.now name.now labels)
         (IsNoCloserPart nat_cmp (chain_said apex.now records.now) apex.now name.now labels) }
+    // In each zone that has the record in its chain, the answer to a type that the wildcard has is the wildcard's.
+    ensures meaning { IfSome result (λ place. (zone : Zone) (t : ℕ)
+        → HasRecordsAt zone apex.now name.now records.now (place ∷ [])
+        → Holds zone (wildcard_of (rightmost name.now labels)) t
+        → IsLookup zone name.now t (Held (wildcard_of (rightmost name.now labels)))) }
 {
     if !is_above(apex, name, labels) {
         return None;

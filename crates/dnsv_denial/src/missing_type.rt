@@ -1,10 +1,15 @@
 //! The proof that a type isn't there (RFC 4035 5.4, RFC 5155 8.5 to 8.7).
-ghost use Rattle.std.specs.Prelude.{◌≡◌, [], ◌∷◌, MatchOption};
+ghost use Rattle.std.specs.Prelude.{◌≡◌, [], ◌∷◌, IfSome, MatchOption};
 ghost use Rattle.std.specs.Ordering.{nat_cmp};
+ghost use Rattle.dnsv_names.specs.Name.{Labels};
 ghost use Rattle.dnsv_denial.specs.ChainSaid.{chain_said, HasHashes};
 ghost use Rattle.dnsv_denial.specs.Forms.{NoDataForms};
+ghost use Rattle.dnsv_denial.specs.Lookup.{IsLookup};
+ghost use Rattle.dnsv_denial.specs.Lookup.Answer.{NoData};
 ghost use Rattle.dnsv_denial.specs.Parts.{AreNoDataParts};
+ghost use Rattle.dnsv_denial.specs.RecordsAt.{HasRecordsAt};
 ghost use Rattle.dnsv_denial.specs.RecordWords.{words};
+ghost use Rattle.dnsv_denial.specs.Zone.{Zone};
 
 use crate::asked::{AskedName, AskedTypes, AskedWildcard};
 use crate::by_wildcard::by_wildcard;
@@ -25,9 +30,13 @@ pub fn no_data(
     records: &ChainRecords<'_>,
 ) -> Option<Places>
     requires { HasHashes name.now records.now }
-    ensures { MatchOption result
+    ensures first { MatchOption result
         (¬ NoDataForms (words (chain_said apex.now records.now)) apex.now name.now rtype.0)
         (λ places. AreNoDataParts nat_cmp (chain_said apex.now records.now) apex.now name.now rtype.0 places.items) }
+    // In each zone that has the records in its chain, the name, or a wildcard for it, is there without the type.
+    ensures meaning { IfSome result (λ places. (zone : Zone)
+        → HasRecordsAt zone apex.now name.now records.now places.items
+        → (source : Labels) × IsLookup zone name.now rtype.0 (NoData source)) }
 {
     if !name.is_at_or_below(apex) {
         return None;

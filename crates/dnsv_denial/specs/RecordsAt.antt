@@ -1,0 +1,29 @@
+-- Zones that have the records at some places of a chain's.
+use Rattle.std.specs.Prelude.{ℕ, List, [], ◌∷◌, ◌++◌, Option, Some, None, map, slice_get}
+use Rattle.dnsv_names.specs.Name.{Labels}
+use Rattle.dnsv_denial.specs.declared.records.ChainRecords.{ChainRecords}
+use Rattle.dnsv_denial.specs.declared.records.ChainRecords.TheVariants.{Nsec, Nsec3}
+use Rattle.dnsv_denial.specs.AskedHash.{hash_of}
+use Rattle.dnsv_denial.specs.NsecChain.{HasNsecRecords}
+use Rattle.dnsv_denial.specs.Nsec3Chain.{HasNsec3Records, HasNoCollision}
+use Rattle.dnsv_denial.specs.Record.{read_entry, read_nsec3}
+use Rattle.dnsv_denial.specs.Zone.{Zone}
+
+-- the one member, where there is one
+abbrev pub listed : {X : Type 0} → Option X → List X
+listed None = []
+listed (Some member) = member ∷ []
+
+-- the members at the places
+abbrev pub at_places : {X : Type 0} → List X → List ℕ → List X
+at_places members [] = []
+at_places members (place ∷ places) = listed (slice_get members place) ++ at_places members places
+
+-- The zone has in its chain the records at the places; for NSEC3, where no node of it has the hash of another name that
+-- a question of the name asks for.
+abbrev pub HasRecordsAt : Zone → Labels → Labels → ChainRecords → List ℕ → Type 0
+HasRecordsAt zone apex name (Nsec entries) places =
+    HasNsecRecords zone apex (map read_entry (at_places entries.now places))
+HasRecordsAt zone apex name (Nsec3 hashed) places =
+    HasNsec3Records zone apex (hash_of hashed.now) (map read_nsec3 (at_places hashed.now.entries.now places))
+    × HasNoCollision zone (hash_of hashed.now) name
