@@ -1,14 +1,17 @@
+mod AlikeLemmas
 mod AnswerLemmas
 mod AnyLemmas
 mod BitmapLemmas
 mod ChainLemmas
 mod CutLemmas
+mod DenialLemmas
 mod EvidenceLemmas
 mod Example
 mod FirstLemmas
 mod GatherLemmas
 mod Gathering
 mod HashLemmas
+mod IndexLemmas
 mod LookupLemmas
 mod MeaningAt
 mod MeaningLemmas

@@ -4,6 +4,7 @@ pub mod AskedHash
 pub mod ByWildcard
 pub mod ChainSaid
 pub mod Cuts
+pub mod Denials
 pub mod EndPlace
 pub mod Evidence
 pub mod EvidenceWords

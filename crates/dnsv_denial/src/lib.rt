@@ -62,6 +62,7 @@ mod canonical_order;
 mod chain;
 mod closer;
 mod cuts;
+mod denial;
 mod ends;
 mod entry;
 mod gather;

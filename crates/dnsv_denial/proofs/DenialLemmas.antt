@@ -1,0 +1,106 @@
+-- Denials by places are denials by numbers, and the parts of a denial carry its form.
+use Rattle.std.proofs.Common.{◌≡◌, ℕ, ◌+◌, ◌<◌, List, [], ◌∷◌, ◌++◌, length, map, refl, sym, ap, subst, inl, inr}
+use Rattle.std.proofs.lemmas.Option.{slice_get_within}
+use Rattle.std.specs.List.{AllByRecursion}
+use Rattle.std.specs.Ordering.{nat_cmp}
+use Rattle.std.specs.declared.cmp.Ordering.{Ordering}
+use Rattle.dnsv_names.specs.Name.{Labels, rightmost}
+use Rattle.dnsv_names.specs.Tree.{wildcard_of}
+use Rattle.dnsv_records.specs.OctetLaws.{recursion-append}
+use Rattle.dnsv_denial.specs.Denials.{AreParts, DenialForm}
+use Rattle.dnsv_denial.specs.EvidenceWords.{number_cmp}
+use Rattle.dnsv_denial.specs.Forms.{Words, EndsAt}
+use Rattle.dnsv_denial.specs.Parts.{IsLowest, IsEncloserPart, AreEndParts, AreWildcardParts, AreNoDataParts}
+use Rattle.dnsv_denial.specs.Parts.IsEncloserPart.{no_record, a_record}
+use Rattle.dnsv_denial.specs.Parts.AreNoDataParts.{at_name, empty, at_wildcard, empty_wildcard}
+use Rattle.dnsv_denial.specs.RecordWords.{RecordWords, words}
+use Rattle.dnsv_denial.specs.Types.{Denies}
+use Rattle.dnsv_denial.specs.declared.denial.Denial.{Denial}
+use Rattle.dnsv_denial.specs.declared.denial.Denial.TheVariants.{NoName, NoData, NoCloser}
+use Rattle.dnsv_denial.specs.declared.number.RecordNumber.{RecordNumber}
+use Rattle.dnsv_denial.proofs.IndexLemmas.{AreInOrder, SaysAlike, SayAlike, number_at, words_from, no_name_parts, no_data_parts, no_closer_part}
+use Rattle.dnsv_denial.proofs.MoreLemmas.{no_name_more, no_data_more, no_closer_more}
+
+-- ---- the parts carry the form
+
+module _ {Index : Type 0} (cmp : Index → Index → Ordering) (said : RecordWords Index) (apex name : Labels) where
+  encloser_stands : (enc : Labels) (parts : List Index) → IsEncloserPart cmp said enc parts → (words said).Encloser enc
+  encloser_stands enc [] (no_record needs) = inl needs
+  encloser_stands enc (index ∷ []) (a_record _ needs lowest) = inr (index, lowest.says)
+  encloser_stands enc (index ∷ (_ ∷ _)) part = elim part [ ]
+
+  ends_stand : (labels : ℕ) (parts : List Index) → AreEndParts cmp said apex name labels parts → EndsAt (words said) apex name labels
+  ends_stand labels parts ends = record {
+    above = ends.above;
+    encloser = encloser_stands (rightmost name labels) ends.encloser_part ends.encloser;
+    next_closer = (ends.covering, ends.next_closer.says);
+  }
+
+  no_data_stands : (t : ℕ) (parts : List Index) → AreNoDataParts cmp said apex name t parts → DenialForm (NoData (record { 0 = t })) name (words said) apex
+  no_data_stands t (index ∷ []) (at_name _ within lowest) = inl (record { within = within; types = (index, lowest.says) })
+  no_data_stands t (index ∷ []) (empty _ no_form within lowest) = inr (inl (record { within = within; inner = (index, lowest.says) }))
+  no_data_stands t parts (at_wildcard _ no_form no_empty are) = inr (inr (inl (record {
+    labels = are.labels;
+    ends = ends_stand are.labels are.are.end_parts are.are.ends;
+    types = (are.are.last, are.are.wildcard.says);
+  })))
+  no_data_stands t parts (empty_wildcard _ no_form no_empty no_data are) = inr (inr (inr (record {
+    labels = are.labels;
+    ends = ends_stand are.labels are.are.end_parts are.are.ends;
+    inner = (are.are.last, are.are.wildcard.says);
+  })))
+
+  pub parts_stand : (denial : Denial) (parts : List Index) → AreParts cmp denial name said apex parts → DenialForm denial name (words said) apex
+  parts_stand NoName parts are = record {
+    labels = are.labels;
+    ends = ends_stand are.labels are.are.end_parts are.are.ends;
+    wildcard = (are.are.last, are.are.wildcard.says);
+  }
+  parts_stand (NoData rtype) parts are = no_data_stands rtype.0 parts are
+  parts_stand (NoCloser labels) parts are = record { above = are.2.above; next_closer = (are.0, are.2.next_closer.says) }
+
+-- ---- from places to numbers
+
+module _ (numbers : List RecordNumber) (order : AreInOrder numbers) (by : RecordWords ℕ) (of : RecordWords RecordNumber) (alike : SayAlike numbers by of) (apex name : Labels) where
+  pub parts_by_number : (denial : Denial) (places : List ℕ) → AreParts nat_cmp denial name by apex places → AreParts number_cmp denial name of apex (map (number_at numbers) places)
+  parts_by_number NoName places parts = no_name_parts numbers order by of alike apex name places parts
+  parts_by_number (NoData rtype) places parts = no_data_parts numbers order by of alike apex name rtype.0 places parts
+  parts_by_number (NoCloser labels) places parts = (number_at numbers parts.0, ap (map (number_at numbers)) parts.1, no_closer_part numbers order by of alike apex name labels parts.0 parts.2)
+
+  pub form_by_place : (denial : Denial) → DenialForm denial name (words of) apex → DenialForm denial name (words by) apex
+  form_by_place NoName form = no_name_more (words of) (words by) (words_from numbers by of alike) apex name form
+  form_by_place (NoData rtype) form = no_data_more (words of) (words by) (words_from numbers by of alike) apex name rtype.0 form
+  form_by_place (NoCloser labels) form = no_closer_more (words of) (words by) (words_from numbers by of alike) apex name labels form
+
+  -- each part is a place
+  is_place : (By : ℕ → Type 0) (Of : RecordNumber → Type 0) → SaysAlike numbers By Of → (place : ℕ) → IsLowest nat_cmp By place → place < length numbers
+  is_place By Of says place lowest = let it = says.to place lowest.says in slice_get_within numbers place it.0 it.1
+
+  encloser_places : (enc : Labels) (places : List ℕ) → IsEncloserPart nat_cmp by enc places → AllByRecursion (λ p. p < length numbers) places
+  encloser_places enc [] (no_record needs) = tt
+  encloser_places enc (place ∷ []) (a_record _ needs lowest) = (is_place (by.Encloser enc) (of.Encloser enc) (alike.encloser enc) place lowest, tt)
+  encloser_places enc (place ∷ (_ ∷ _)) part = elim part [ ]
+
+  wildcard_places : (labels : ℕ) (By : ℕ → Type 0) (Of : RecordNumber → Type 0) → SaysAlike numbers By Of → (places : List ℕ) → AreWildcardParts nat_cmp by apex name labels By places → AllByRecursion (λ p. p < length numbers) places
+  wildcard_places labels By Of says places parts = rw parts.all (rw parts.ends.both
+      (recursion-append (λ p. p < length numbers) (parts.ends.encloser_part ++ parts.ends.covering ∷ []) (parts.last ∷ [])
+      (recursion-append (λ p. p < length numbers) parts.ends.encloser_part (parts.ends.covering ∷ [])
+      (encloser_places (rightmost name labels) parts.ends.encloser_part parts.ends.encloser)
+      (is_place (by.Absent (rightmost name (labels + 1))) (of.Absent (rightmost name (labels + 1))) (alike.absent (rightmost name (labels + 1))) parts.ends.covering parts.ends.next_closer, tt))
+      (is_place By Of says parts.last parts.wildcard, tt)))
+
+  no_data_places : (t : ℕ) (places : List ℕ) → AreNoDataParts nat_cmp by apex name t places → AllByRecursion (λ p. p < length numbers) places
+  no_data_places t (place ∷ []) (at_name _ within lowest) = (is_place (by.TypesAt name (λ has. Denies has t)) (of.TypesAt name (λ has. Denies has t)) (alike.types_at name (λ has. Denies has t)) place lowest, tt)
+  no_data_places t (place ∷ []) (empty _ no_form within lowest) = (is_place (by.Inner name) (of.Inner name) (alike.inner name) place lowest, tt)
+  no_data_places t places (at_wildcard _ no_form no_empty are) =
+      wildcard_places are.labels (by.TypesAt (wildcard_of (rightmost name are.labels)) (λ has. Denies has t)) (of.TypesAt (wildcard_of (rightmost name are.labels)) (λ has. Denies has t))
+      (alike.types_at (wildcard_of (rightmost name are.labels)) (λ has. Denies has t)) places are.are
+  no_data_places t places (empty_wildcard _ no_form no_empty no_data are) =
+      wildcard_places are.labels (by.Inner (wildcard_of (rightmost name are.labels))) (of.Inner (wildcard_of (rightmost name are.labels))) (alike.inner (wildcard_of (rightmost name are.labels))) places are.are
+
+  pub parts_are_places : (denial : Denial) (places : List ℕ) → AreParts nat_cmp denial name by apex places → AllByRecursion (λ p. p < length numbers) places
+  parts_are_places NoName places parts =
+      wildcard_places parts.labels (by.Absent (wildcard_of (rightmost name parts.labels))) (of.Absent (wildcard_of (rightmost name parts.labels))) (alike.absent (wildcard_of (rightmost name parts.labels))) places parts.are
+  parts_are_places (NoData rtype) places parts = no_data_places rtype.0 places parts
+  parts_are_places (NoCloser labels) places parts =
+      rw parts.1 (is_place (by.Absent (rightmost name (labels + 1))) (of.Absent (rightmost name (labels + 1))) (alike.absent (rightmost name (labels + 1))) parts.0 parts.2.next_closer, tt)
