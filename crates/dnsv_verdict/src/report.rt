@@ -80,3 +80,6 @@ fn exact(asked: &Count, table: &Table) -> u64
     let _entries = table.len();
     asked.value()
 }
+
+#[cfg(test)]
+mod tests;
