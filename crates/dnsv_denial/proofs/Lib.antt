@@ -25,7 +25,9 @@ mod NsecGather
 mod NsecLemmas
 mod NsecTruth
 mod NumberedLemmas
+mod NumberLemmas
 mod PartsForm
+mod PlaceLemmas
 mod ProofMeaningLemmas
 mod WildcardLemmas
 mod ZoneLemmas

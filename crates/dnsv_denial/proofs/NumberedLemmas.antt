@@ -2,40 +2,19 @@
 use Rattle.std.proofs.Common.{◌≡◌, ℕ, List, ◌∷◌, map, sym, ap, ◌∙◌, subst, arith}
 use Rattle.std.specs.FinSet as set
 use Rattle.dnsv_names.specs.Name.{Labels}
-use Rattle.dnsv_records.specs.Nsec.{IsNsec}
 use Rattle.dnsv_records.specs.Nsec3.{IsNsec3}
 use Rattle.dnsv_records.specs.declared.nsec3.Nsec3.{Nsec3}
-use Rattle.dnsv_records.proofs.OneRecord.{one_nsec, one_nsec3}
+use Rattle.dnsv_records.proofs.OneRecord.{one_nsec3}
 use Rattle.dnsv_records.proofs.Base32Lemmas.{same_octets}
 use Rattle.std.specs.Char.{to_ascii_lowercase}
 use Rattle.dnsv_records.specs.Base32Hex.{Base32Hex}
-use Rattle.dnsv_canonical.specs.Canonical.{IsCanonical}
-use Rattle.dnsv_canonical.specs.CanonicalRdata.{canonical_form}
 use Rattle.dnsv_canonical.specs.Rrsets.{ReceivedRrset}
-use Rattle.dnsv_canonical.proofs.CanonicalLemmas.{canonical_unique}
-use Rattle.dnsv_chain.specs.Trusted.{IsNumbered}
-use Rattle.dnsv_denial.specs.Evidence.{IsRecordAt, IsNsecOf, IsNsec3Of, IsHashedOwner}
+use Rattle.dnsv_denial.specs.Evidence.{IsNsecOf, IsNsec3Of, IsHashedOwner}
 use Rattle.dnsv_denial.specs.NsecChain.{NsecRecord}
 use Rattle.dnsv_denial.specs.Nsec3Chain.{Nsec3Record}
-use Rattle.dnsv_denial.specs.Record.{nsec_record, parameters_of}
+use Rattle.dnsv_denial.specs.Record.{parameters_of}
 use Rattle.dnsv_denial.specs.declared.number.RecordNumber.{RecordNumber}
-
-pub one_member : {X : Type 0} (xs : List X) (n : ℕ) (a b : X) → IsNumbered xs n a → IsNumbered xs n b → a ≡ b
-one_member xs n a b is_a is_b = let at_a = is_a.1 in let at_b = is_b.1 in cc
-
-pub one_rdata : (rrsets : List ReceivedRrset) (n : RecordNumber) (r s : ReceivedRrset) (x y : List ℕ) → IsRecordAt rrsets n r x → IsRecordAt rrsets n s y → (r ≡ s) × (x ≡ y)
-one_rdata rrsets n r s x y is_x is_y =
-    let same : r ≡ s = one_member rrsets n.rrset r s is_x.is_rrset is_y.is_rrset in
-    let moved : IsCanonical (map (canonical_form s.rtype) s.rdata) is_x.canonical =
-    subst (λ (each : ReceivedRrset). IsCanonical (map (canonical_form each.rtype) each.rdata) is_x.canonical) same is_x.is_canonical in
-    let lists : is_x.canonical ≡ is_y.canonical = canonical_unique (map (canonical_form s.rtype) s.rdata) is_x.canonical is_y.canonical moved is_y.is_canonical in
-    (same, one_member is_y.canonical n.place x y (subst (λ c. IsNumbered c n.place x) lists is_x.is_rdata) is_y.is_rdata)
-
-pub one_nsec_of : (rrsets : List ReceivedRrset) (n : RecordNumber) (a b : NsecRecord) → IsNsecOf rrsets n a → IsNsecOf rrsets n b → a ≡ b
-one_nsec_of rrsets n a b is_a is_b =
-    let one = one_rdata rrsets n is_a.rrset is_b.rrset is_a.rdata is_b.rdata is_a.at is_b.at in
-    let fields = one_nsec is_b.rdata is_a.fields is_b.fields (subst (λ x. IsNsec x is_a.fields) one.1 is_a.read) is_b.read in
-    is_a.is ∙ ap (λ (r : ReceivedRrset). nsec_record r.owner is_a.fields) one.0 ∙ ap (nsec_record is_b.rrset.owner) fields ∙ sym is_b.is
+use Rattle.dnsv_denial.proofs.EvidenceLemmas.{one_record}
 
 -- one owner spells one hash
 one_hash : (first second owner other : Labels) (a b : List ℕ) → owner ≡ other → IsHashedOwner first owner a → IsHashedOwner second other b → a ≡ b
@@ -48,7 +27,7 @@ one_hash first second owner other a b same is_a is_b =
 -- whatever the zones
 pub one_nsec3_of : (rrsets : List ReceivedRrset) (first second : Labels) (n : RecordNumber) (a b : Nsec3Record) → IsNsec3Of rrsets first n a → IsNsec3Of rrsets second n b → a ≡ b
 one_nsec3_of rrsets first second n a b is_a is_b =
-    let one = one_rdata rrsets n is_a.rrset is_b.rrset is_a.rdata is_b.rdata is_a.at is_b.at in
+    let one = one_record rrsets n is_a.rrset is_b.rrset is_a.rdata is_b.rdata is_a.at is_b.at in
     let fields : is_a.fields ≡ is_b.fields = one_nsec3 is_b.rdata is_a.fields is_b.fields (subst (λ x. IsNsec3 x is_a.fields) one.1 is_a.read) is_b.read in
     let hash : a.hash ≡ b.hash = one_hash first second is_a.rrset.owner is_b.rrset.owner a.hash b.hash (ap (λ (r : ReceivedRrset). r.owner) one.0) is_a.owner is_b.owner in
     let next : a.next ≡ b.next = is_a.next ∙ ap (λ (f : Nsec3). f.next_hash) fields ∙ sym is_b.next in
@@ -60,6 +39,6 @@ one_nsec3_of rrsets first second n a b is_a is_b =
 -- no record is both
 pub nsec_or_nsec3 : (rrsets : List ReceivedRrset) (zone : Labels) (n : RecordNumber) (a : NsecRecord) (b : Nsec3Record) → IsNsecOf rrsets n a → IsNsec3Of rrsets zone n b → ⊥
 nsec_or_nsec3 rrsets zone n a b is_a is_b =
-    let one = one_rdata rrsets n is_a.rrset is_b.rrset is_a.rdata is_b.rdata is_a.at is_b.at in
+    let one = one_record rrsets n is_a.rrset is_b.rrset is_a.rdata is_b.rdata is_a.at is_b.at in
     let types : 47 ≡ 50 = sym is_a.rtype ∙ ap (λ (r : ReceivedRrset). r.rtype) one.0 ∙ is_b.rtype in
     omega (arith, types)

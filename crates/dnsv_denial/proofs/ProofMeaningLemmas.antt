@@ -31,7 +31,8 @@ use Rattle.dnsv_denial.proofs.AnyLemmas.{any_map, any_both, found}
 use Rattle.dnsv_denial.proofs.MeaningLemmas.{no_name, any_no_data, held_at_wildcard}
 use Rattle.dnsv_denial.proofs.NsecTruth.{nsec_true, absent as absent_by_nsec}
 use Rattle.dnsv_denial.proofs.Nsec3Truth.{nsec3_true, absent as absent_by_nsec3}
-use Rattle.dnsv_denial.proofs.NumberedLemmas.{one_nsec_of, one_nsec3_of, nsec_or_nsec3}
+use Rattle.dnsv_denial.proofs.EvidenceLemmas.{one_nsec_of}
+use Rattle.dnsv_denial.proofs.NumberedLemmas.{one_nsec3_of, nsec_or_nsec3}
 use Rattle.dnsv_denial.proofs.PartsForm.{SayNoMore, no_name_by, no_data_by, no_closer_by}
 
 -- the record with one of the numbers

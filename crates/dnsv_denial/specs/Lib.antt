@@ -19,6 +19,7 @@ pub mod Nsec
 pub mod Nsec3
 pub mod Nsec3Chain
 pub mod NsecChain
+pub mod Numbers
 pub mod Parts
 pub mod ProofMeaning
 pub mod Record

@@ -81,6 +81,7 @@ mod nsec_complete;
 mod nsec_meaning;
 mod nsec_words;
 mod number;
+mod numbers;
 mod proof;
 mod records;
 mod said;

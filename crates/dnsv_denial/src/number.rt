@@ -2,7 +2,7 @@
 
 /// A record by its number: the RRset that it is in, and its place among that RRset's records in canonical order (RFC
 /// 4034 6.3), each counted from 1. Numbers are ordered by RRset, and then by place.
-#[derive(Clone, Copy, Debug, PartialEq, Eq, PartialOrd, Ord)]
+#[derive(Clone, Copy, Debug, Default, PartialEq, Eq, PartialOrd, Ord)]
 pub struct RecordNumber {
     /// The number of the RRset.
     pub rrset: usize,
