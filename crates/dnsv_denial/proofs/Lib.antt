@@ -3,10 +3,12 @@ mod AnswerLemmas
 mod AnyLemmas
 mod BitmapLemmas
 mod ChainLemmas
+mod CutChainLemmas
 mod CutLemmas
 mod DenialLemmas
 mod EvidenceLemmas
 mod Example
+mod FindingLemmas
 mod FirstLemmas
 mod GatherLemmas
 mod Gathering

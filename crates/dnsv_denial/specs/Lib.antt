@@ -9,6 +9,7 @@ pub mod EndPlace
 pub mod Evidence
 pub mod EvidenceWords
 pub mod Example
+pub mod Findings
 pub mod FirstProof
 pub mod Forms
 pub mod Gathered

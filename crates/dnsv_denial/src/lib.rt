@@ -65,6 +65,8 @@ mod cuts;
 mod denial;
 mod ends;
 mod entry;
+mod findings;
+mod first_cut;
 mod gather;
 mod gather_nsec3;
 mod hashes;
@@ -90,6 +92,7 @@ mod secured;
 #[cfg(test)]
 mod tests;
 mod types;
+mod unusable_ds;
 mod view;
 mod words;
 mod zone;
