@@ -1,5 +1,5 @@
 #!/usr/bin/env bash
-# Measures `list --all` and `show` over a transfer of a signed zone (transfer.cap) and over captures that it makes, and
+# Measures `list`, `list --all` and `show` over a transfer of a signed zone (transfer.cap) and over captures that it makes, and
 # prints the rows of the tables in docs/PERFORMANCE.md. It needs the built program (make), python3, valgrind and GNU time.
 set -euo pipefail
 cd "$(dirname "$0")"
@@ -29,10 +29,19 @@ report() { # KIND MESSAGES RECORDS
   measure "$room/capture" show --capture "$room/capture"
 }
 
+report_list() { # KIND MESSAGES RECORDS
+  ./make_capture.py "$@" > "$room/capture"
+  echo "$1: $2 messages of $3 records, what is to check"
+  measure "$room/capture" list --capture "$room/capture" --moment 1500
+}
+
 echo "transfer: 63 messages"
+measure transfer.cap list --capture transfer.cap --moment 1795348800
 measure transfer.cap list --capture transfer.cap --moment 1795348800 --all
 measure transfer.cap show --capture transfer.cap
 for messages in 4 16 64; do report signed "$messages" 64; done
 for records in 160 640 2560 3000; do report owners 1 "$records"; done
 report deep 1 3000
 for records in 100 400 1600; do report pairs 1 "$records"; done
+for messages in 16 64; do report_list keyed "$messages" 64; done
+for messages in 1 4 16 64; do report_list tagged "$messages" 64; done
