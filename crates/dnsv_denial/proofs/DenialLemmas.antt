@@ -72,35 +72,39 @@ module _ (numbers : List RecordNumber) (order : AreInOrder numbers) (by : Record
   form_by_place (NoData rtype) form = no_data_more (words of) (words by) (words_from numbers by of alike) apex name rtype.0 form
   form_by_place (NoCloser labels) form = no_closer_more (words of) (words by) (words_from numbers by of alike) apex name labels form
 
-  -- each part is a place
-  is_place : (By : ℕ → Type 0) (Of : RecordNumber → Type 0) → SaysAlike numbers By Of → (place : ℕ) → IsLowest nat_cmp By place → place < length numbers
-  is_place By Of says place lowest = let it = says.to place lowest.says in slice_get_within numbers place it.0 it.1
+-- ---- places within the list
 
-  encloser_places : (enc : Labels) (places : List ℕ) → IsEncloserPart nat_cmp by enc places → AllByRecursion (λ p. p < length numbers) places
+pub record AreBound (count : ℕ) (by : RecordWords ℕ) : Type 1 where
+  pub encloser : (name : Labels) (place : ℕ) → by.Encloser name place → place < count
+  pub absent : (name : Labels) (place : ℕ) → by.Absent name place → place < count
+  pub inner : (name : Labels) (place : ℕ) → by.Inner name place → place < count
+  pub types_at : (name : Labels) (Says : (ℕ → Type 0) → Type 0) (place : ℕ) → by.TypesAt name Says place → place < count
+
+module _ (count : ℕ) (by : RecordWords ℕ) (bound : AreBound count by) (apex name : Labels) where
+  encloser_places : (enc : Labels) (places : List ℕ) → IsEncloserPart nat_cmp by enc places → AllByRecursion (λ p. p < count) places
   encloser_places enc [] (no_record needs) = tt
-  encloser_places enc (place ∷ []) (a_record _ needs lowest) = (is_place (by.Encloser enc) (of.Encloser enc) (alike.encloser enc) place lowest, tt)
+  encloser_places enc (place ∷ []) (a_record _ needs lowest) = (bound.encloser enc place lowest.says, tt)
   encloser_places enc (place ∷ (_ ∷ _)) part = elim part [ ]
 
-  wildcard_places : (labels : ℕ) (By : ℕ → Type 0) (Of : RecordNumber → Type 0) → SaysAlike numbers By Of → (places : List ℕ) → AreWildcardParts nat_cmp by apex name labels By places → AllByRecursion (λ p. p < length numbers) places
-  wildcard_places labels By Of says places parts = rw parts.all (rw parts.ends.both
-      (recursion-append (λ p. p < length numbers) (parts.ends.encloser_part ++ parts.ends.covering ∷ []) (parts.last ∷ [])
-      (recursion-append (λ p. p < length numbers) parts.ends.encloser_part (parts.ends.covering ∷ [])
+  wildcard_places : (labels : ℕ) (By : ℕ → Type 0) → ((place : ℕ) → By place → place < count) → (places : List ℕ) → AreWildcardParts nat_cmp by apex name labels By places → AllByRecursion (λ p. p < count) places
+  wildcard_places labels By says places parts = rw parts.all (rw parts.ends.both
+      (recursion-append (λ p. p < count) (parts.ends.encloser_part ++ parts.ends.covering ∷ []) (parts.last ∷ [])
+      (recursion-append (λ p. p < count) parts.ends.encloser_part (parts.ends.covering ∷ [])
       (encloser_places (rightmost name labels) parts.ends.encloser_part parts.ends.encloser)
-      (is_place (by.Absent (rightmost name (labels + 1))) (of.Absent (rightmost name (labels + 1))) (alike.absent (rightmost name (labels + 1))) parts.ends.covering parts.ends.next_closer, tt))
-      (is_place By Of says parts.last parts.wildcard, tt)))
+      (bound.absent (rightmost name (labels + 1)) parts.ends.covering parts.ends.next_closer.says, tt))
+      (says parts.last parts.wildcard.says, tt)))
 
-  no_data_places : (t : ℕ) (places : List ℕ) → AreNoDataParts nat_cmp by apex name t places → AllByRecursion (λ p. p < length numbers) places
-  no_data_places t (place ∷ []) (at_name _ within lowest) = (is_place (by.TypesAt name (λ has. Denies has t)) (of.TypesAt name (λ has. Denies has t)) (alike.types_at name (λ has. Denies has t)) place lowest, tt)
-  no_data_places t (place ∷ []) (empty _ no_form within lowest) = (is_place (by.Inner name) (of.Inner name) (alike.inner name) place lowest, tt)
+  no_data_places : (t : ℕ) (places : List ℕ) → AreNoDataParts nat_cmp by apex name t places → AllByRecursion (λ p. p < count) places
+  no_data_places t (place ∷ []) (at_name _ within lowest) = (bound.types_at name (λ has. Denies has t) place lowest.says, tt)
+  no_data_places t (place ∷ []) (empty _ no_form within lowest) = (bound.inner name place lowest.says, tt)
   no_data_places t places (at_wildcard _ no_form no_empty are) =
-      wildcard_places are.labels (by.TypesAt (wildcard_of (rightmost name are.labels)) (λ has. Denies has t)) (of.TypesAt (wildcard_of (rightmost name are.labels)) (λ has. Denies has t))
-      (alike.types_at (wildcard_of (rightmost name are.labels)) (λ has. Denies has t)) places are.are
+      wildcard_places are.labels (by.TypesAt (wildcard_of (rightmost name are.labels)) (λ has. Denies has t)) (bound.types_at (wildcard_of (rightmost name are.labels)) (λ has. Denies has t)) places are.are
   no_data_places t places (empty_wildcard _ no_form no_empty no_data are) =
-      wildcard_places are.labels (by.Inner (wildcard_of (rightmost name are.labels))) (of.Inner (wildcard_of (rightmost name are.labels))) (alike.inner (wildcard_of (rightmost name are.labels))) places are.are
+      wildcard_places are.labels (by.Inner (wildcard_of (rightmost name are.labels))) (bound.inner (wildcard_of (rightmost name are.labels))) places are.are
 
-  pub parts_are_places : (denial : Denial) (places : List ℕ) → AreParts nat_cmp denial name by apex places → AllByRecursion (λ p. p < length numbers) places
+  pub parts_are_places : (denial : Denial) (places : List ℕ) → AreParts nat_cmp denial name by apex places → AllByRecursion (λ p. p < count) places
   parts_are_places NoName places parts =
-      wildcard_places parts.labels (by.Absent (wildcard_of (rightmost name parts.labels))) (of.Absent (wildcard_of (rightmost name parts.labels))) (alike.absent (wildcard_of (rightmost name parts.labels))) places parts.are
+      wildcard_places parts.labels (by.Absent (wildcard_of (rightmost name parts.labels))) (bound.absent (wildcard_of (rightmost name parts.labels))) places parts.are
   parts_are_places (NoData rtype) places parts = no_data_places rtype.0 places parts
   parts_are_places (NoCloser labels) places parts =
-      rw parts.1 (is_place (by.Absent (rightmost name (labels + 1))) (of.Absent (rightmost name (labels + 1))) (alike.absent (rightmost name (labels + 1))) parts.0 parts.2.next_closer, tt)
+      rw parts.1 (bound.absent (rightmost name (labels + 1)) parts.0 parts.2.next_closer.says, tt)

@@ -4,6 +4,7 @@ mod AnyLemmas
 mod BitmapLemmas
 mod ChainLemmas
 mod CutChainLemmas
+mod ChainProofLemmas
 mod CutLemmas
 mod DenialLemmas
 mod EvidenceLemmas
@@ -26,10 +27,11 @@ mod NsecComplete
 mod NsecGather
 mod NsecLemmas
 mod NsecTruth
-mod NumberedLemmas
 mod NumberLemmas
+mod NumberedLemmas
 mod PartsForm
 mod PlaceLemmas
 mod ProofMeaningLemmas
 mod WildcardLemmas
 mod ZoneLemmas
+mod ZoneProofLemmas

@@ -2,6 +2,7 @@ pub mod Any
 pub mod Asked
 pub mod AskedHash
 pub mod ByWildcard
+pub mod ChainOf
 pub mod ChainSaid
 pub mod Cuts
 pub mod Denials
@@ -15,6 +16,7 @@ pub mod Forms
 pub mod Gathered
 pub mod HashWords
 pub mod HashedNames
+pub mod Kept
 pub mod Lookup
 pub mod Nsec
 pub mod Nsec3
@@ -24,8 +26,8 @@ pub mod Numbers
 pub mod Parts
 pub mod ProofMeaning
 pub mod Record
-pub mod RecordsAt
 pub mod RecordWords
+pub mod RecordsAt
 pub mod SaidAt
 pub mod TypeNumbers
 pub mod Types

@@ -23,6 +23,13 @@ impl Model for Proof {
 }
 
 impl Proof {
+    /// The proof by these records of the zone.
+    pub(crate) fn new(zone: Name, records: ArrayVec<RecordNumber, 3>) -> Proof
+        ensures { result ≡ record { zone = zone; records = records.items } }
+    {
+        Proof { zone, records }
+    }
+
     /// The zone, spelled as the question's name spells it.
     pub fn zone(&self) -> &Name
         ensures { result.now ≡ self.now.zone }
