@@ -38,7 +38,7 @@ both_less : (a b : RecordNumber) → number_cmp a b ≡ Less → number_cmp b a 
 both_less a b less more = let turned : Less ≡ Greater = sym less ∙ number_cmp_total.antisymm a b ∙ ap ordering_reverse more in cc
 
 -- the place of the member that is such
-any_place : {X : Type 0} (P : X → Type 0) (xs : List X) → Any P xs → (place : ℕ) × (x : X) × (slice_get xs place ≡ Some x) × P x
+pub any_place : {X : Type 0} (P : X → Type 0) (xs : List X) → Any P xs → (place : ℕ) × (x : X) × (slice_get xs place ≡ Some x) × P x
 any_place P [] some = absurd some
 any_place P (x ∷ xs) some =
     ⊎_elim (λ (here : P x). (0, x, refl, here)) (λ (rest : Any P xs). let it = any_place P xs rest in (suc it.0, it.1, it.2, it.3)) some
