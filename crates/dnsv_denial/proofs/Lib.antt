@@ -3,14 +3,16 @@ mod AnswerLemmas
 mod AnyLemmas
 mod BitmapLemmas
 mod ChainLemmas
-mod CutChainLemmas
 mod ChainProofLemmas
+mod CloserLemmas
+mod CutChainLemmas
 mod CutLemmas
 mod DenialLemmas
 mod EvidenceLemmas
 mod Example
 mod FindingLemmas
 mod FirstLemmas
+mod FirstProofLemmas
 mod GatherLemmas
 mod Gathering
 mod HashLemmas

@@ -1,7 +1,8 @@
 -- How a view keeps the records of zones, and what is found among them. No public clause cites this module.
-use Rattle.std.specs.Prelude.{◌≡◌, ◌<◌, ℕ, List, Some, slice_get}
+use Rattle.std.specs.Prelude.{◌≡◌, ◌+◌, ◌<◌, ℕ, List, Some, length, slice_get}
+use Rattle.std.specs.List.{AllByRecursion}
 use Rattle.std.specs.declared.cmp.Ordering.TheVariants.{Less}
-use Rattle.dnsv_names.specs.Name.{Labels}
+use Rattle.dnsv_names.specs.Name.{Labels, rightmost}
 use Rattle.dnsv_canonical.specs.Rrsets.{ReceivedRrset}
 use Rattle.dnsv_denial.specs.Any.{Any}
 use Rattle.dnsv_denial.specs.ChainOf.{IsProofBy}
@@ -37,6 +38,23 @@ pub record AreSets (Secured : ℕ → ℕ → Type 0) (rrsets : List ReceivedRrs
       → parameters_cmp (parameters_of a.parameters.now) (parameters_of b.parameters.now) ≡ Less
   pub all : (zone : Labels) (n : RecordNumber) (nsec3 : Nsec3Record) → IsNsec3At Secured rrsets zone n nsec3
       → Any (λ set. parameters_of set.parameters.now ≡ nsec3.parameters) sets
+
+-- zone n is that of the name's n rightmost labels, from the root to the whole name
+pub record AreZones (Secured : ℕ → ℕ → Type 0) (rrsets : List ReceivedRrset) (name : Labels) (zones : List ZoneRecords)
+    : Type 0 where
+  pub count : length zones ≡ length name + 1
+  pub each : (n : ℕ) (kept : ZoneRecords) → slice_get zones n ≡ Some kept
+      → (kept.zone ≡ rightmost name n) × IsZoneOf Secured rrsets kept
+
+-- what a view keeps for the name
+pub record IsViewOf
+    (Secured : ℕ → ℕ → Type 0) (rrsets : List ReceivedRrset) (name : Labels) (sets : List ParameterSet)
+    (zones : List ZoneRecords) : Type 0 where
+  pub hashed : AllByRecursion (IsSetOf name) sets
+  pub are_sets : AreSets Secured rrsets sets
+  pub are_zones : AreZones Secured rrsets name zones
+  -- STAND-IN: until each call of a view has its body
+  pub none_yet : ⊥
 
 -- ---- what is found
 

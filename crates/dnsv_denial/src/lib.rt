@@ -68,6 +68,7 @@ mod ends;
 mod entry;
 mod findings;
 mod first_cut;
+mod first_proof;
 mod gather;
 mod gather_nsec3;
 mod hashes;

@@ -17,7 +17,10 @@ ghost use Rattle.dnsv_denial.specs.ProofMeaning.{HasProofRecords};
 ghost use Rattle.dnsv_denial.specs.Viewed.{SecuredIn};
 ghost use Rattle.dnsv_denial.specs.Zone.{Zone, Holds};
 
+use crate::denial::Denial;
+use crate::first_proof::{first_proof, no_closer};
 use crate::proof::Proof;
+use crate::zone_records::{ParameterSet, ZoneRecords};
 use dnsv_canonical::Capture;
 use dnsv_chain::Trust;
 use dnsv_names::{Count, Name, RecordType};
@@ -31,10 +34,15 @@ pub struct View<'a> {
     capture: &'a Capture,
     trust: &'a Trust,
     name: &'a Name,
+    /// In the order of their parameters.
+    sets: Vec<ParameterSet<'a>>,
+    /// One for each number of the name's rightmost labels, from the root on.
+    zones: Vec<ZoneRecords<'a>>,
 }
 
 impl<'a> Model for View<'a> {
-    ghost use Rattle.dnsv_denial.specs.Viewed.{Viewed};
+    ghost use Rattle.dnsv_denial.specs.Kept.{IsViewOf};
+    ghost use Rattle.dnsv_denial.specs.Viewed.{SecuredIn, Viewed};
 
     ghost Value = { Viewed };
 
@@ -44,8 +52,8 @@ impl<'a> Model for View<'a> {
       name = view.name.now;
     } };
 
-    // STAND-IN
-    ghost invariant = { λ view. ⊥ };
+    ghost invariant = { λ view. IsViewOf (SecuredIn view.trust.now) view.capture.now.rrsets view.name.now
+        view.sets.items view.zones.items };
 }
 
 impl<'a> View<'a> {
@@ -75,9 +83,7 @@ impl<'a> View<'a> {
         ensures meaning { IfSome result (λ proof. (zone : Zone) (t : ℕ)
             → HasProofRecords self.now.rrsets self.now.name proof zone → IsLookup zone self.now.name t NoName) }
     {
-        // STAND-IN
-        let _name = self.name;
-        None
+        first_proof(Denial::NoName, self.name, &self.zones, &self.sets)
     }
 
     /// The first proof that the type isn't at the name, nor at a wildcard that stands for it (RFC 4035 5.4, RFC 5155
@@ -91,9 +97,7 @@ impl<'a> View<'a> {
             → HasProofRecords self.now.rrsets self.now.name proof zone
             → (source : Labels) × IsLookup zone self.now.name rtype.0 (NoData source)) }
     {
-        // STAND-IN
-        let _name = self.name;
-        None
+        first_proof(Denial::NoData(rtype), self.name, &self.zones, &self.sets)
     }
 
     /// The first proof that an answer of the zone from the wildcard below the name's so many rightmost labels has no
@@ -109,9 +113,7 @@ impl<'a> View<'a> {
             → Holds signer (wildcard_of (rightmost self.now.name labels)) t
             → IsLookup signer self.now.name t (Held (wildcard_of (rightmost self.now.name labels)))) }
     {
-        // STAND-IN
-        let _name = self.name;
-        None
+        no_closer(self.name, zone, labels, &self.zones, &self.sets)
     }
 
     /// The name from which on the question's name may be unsigned: the highest delegation without DS; else the highest

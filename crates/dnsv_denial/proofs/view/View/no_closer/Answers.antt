@@ -1,0 +1,14 @@
+use Rattle.dnsv_denial.specs.FirstProof.{CanProveNoCloser, IsFirstNoCloser}
+use Rattle.dnsv_denial.specs.Viewed.{SecuredIn}
+use Rattle.dnsv_denial.proofs.FirstLemmas.{if_some}
+use Rattle.dnsv_denial.proofs.ProofMeaningLemmas.{first_no_closer_means}
+use Rattle.dnsv_denial.proofs.view.View.no_closer.Goals as goal
+
+pub returns-clause-meaning : goal.returns-clause-meaning
+returns-clause-meaning c =
+    let first = c.no_closer.ensures c.self.inside.trust.now c.self.inside.capture.now.rrsets (rw c.deref-2.ensures.value c.self.invariant.are_sets) (rw c.deref.ensures.value c.self.invariant.are_zones) in
+    rw (← c.self.view_is) (if_some (¬ CanProveNoCloser (SecuredIn c.self.inside.trust.now) c.self.inside.capture.now.rrsets c.self.inside.name.now c.args.labels c.args.zone.now)
+    (IsFirstNoCloser (SecuredIn c.self.inside.trust.now) c.self.inside.capture.now.rrsets c.self.inside.name.now c.args.labels c.args.zone.now)
+    _ c.no_closer.result
+    (λ proof first signer t. first_no_closer_means (SecuredIn c.self.inside.trust.now) c.self.inside.capture.now.rrsets c.self.inside.name.now signer proof c.args.zone.now c.args.labels t first)
+    first)

@@ -1,0 +1,16 @@
+use Rattle.dnsv_denial.specs.FirstProof.{CanProveNoData, IsFirstNoData}
+use Rattle.dnsv_denial.specs.Viewed.{SecuredIn}
+use Rattle.dnsv_denial.proofs.FirstLemmas.{if_some}
+use Rattle.dnsv_denial.proofs.ProofMeaningLemmas.{first_no_data_means}
+use Rattle.dnsv_denial.proofs.view.View.no_data.Goals as goal
+
+pub returns-clause-first : goal.returns-clause-first
+returns-clause-first c = rw (← c.self.view_is)
+    (c.first_proof.ensures c.self.inside.trust.now c.self.inside.capture.now.rrsets (rw c.deref-2.ensures.value c.self.invariant.are_sets) (rw c.deref.ensures.value c.self.invariant.are_zones))
+
+pub returns-clause-meaning : goal.returns-clause-meaning
+returns-clause-meaning c =
+    if_some (¬ CanProveNoData (SecuredIn c.args.self.now.trust) c.args.self.now.rrsets c.args.self.now.name c.args.rtype.0) (IsFirstNoData (SecuredIn c.args.self.now.trust) c.args.self.now.rrsets c.args.self.now.name c.args.rtype.0)
+    _ c.first_proof.result
+    (λ proof first. λ zone has. first_no_data_means (SecuredIn c.args.self.now.trust) c.args.self.now.rrsets c.args.self.now.name zone proof c.args.rtype.0 first has)
+    (returns-clause-first c)
