@@ -5,7 +5,6 @@ mod BitmapLemmas
 mod ChainLemmas
 mod ChainProofLemmas
 mod CloserLemmas
-mod CutChainLemmas
 mod CutLemmas
 mod DenialLemmas
 mod EvidenceLemmas
@@ -18,6 +17,7 @@ mod Gathering
 mod HashLemmas
 mod IndexLemmas
 mod LookupLemmas
+mod LooseLemmas
 mod MeaningAt
 mod MeaningLemmas
 mod MoreLemmas
@@ -34,6 +34,7 @@ mod NumberedLemmas
 mod PartsForm
 mod PlaceLemmas
 mod ProofMeaningLemmas
+mod ShownLemmas
 mod WildcardLemmas
 mod ZoneLemmas
 mod ZoneProofLemmas

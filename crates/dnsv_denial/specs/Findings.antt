@@ -7,10 +7,6 @@ use Rattle.dnsv_records.specs.declared.ds.Ds.{Ds}
 use Rattle.dnsv_canonical.specs.Rrsets.{ReceivedRrset}
 use Rattle.dnsv_chain.specs.Ds.{HasUsable}
 use Rattle.dnsv_denial.specs.Cuts.{IsFewest, IsMost, IsUnsignedDelegationCut, IsUnusableDsCut, IsOptOutCut}
-use Rattle.dnsv_denial.specs.EvidenceWords.{Chain, evidence_said}
-use Rattle.dnsv_denial.specs.Forms.{UnsignedCutForm}
-use Rattle.dnsv_denial.specs.Parts.{OptsOut}
-use Rattle.dnsv_denial.specs.RecordWords.{words}
 
 -- ---- numbers of labels
 
@@ -53,27 +49,3 @@ pub record IsUnusableDs (Secured : ℕ → Type 0) (rrset : ReceivedRrset) (name
   pub records : List Ds
   pub read : AllZip IsDs rrset.rdata records
   pub none : ¬ HasUsable records
-
--- ---- chains that were looked at
-
--- a record of one of these chains, each by the labels of its apex, shows a delegation without DS
-pub record IsCutWithin
-    (Secured : ℕ → ℕ → Type 0) (rrsets : List ReceivedRrset) (name : Labels) (Within : ℕ → Chain → Type 0)
-    (labels : ℕ) : Type 0 where
-  pub fits : labels ≤ length name
-  pub apex : ℕ
-  pub in_line : apex ≤ length name
-  pub chain : Chain
-  pub within : Within apex chain
-  pub form : UnsignedCutForm (words (evidence_said Secured rrsets (rightmost name apex) chain))
-      (rightmost name apex) name (rightmost name labels)
-
--- one of these chains, each by the labels of its apex, may leave out an unsigned delegation
-pub record IsOptOutWithin
-    (Secured : ℕ → ℕ → Type 0) (rrsets : List ReceivedRrset) (name : Labels) (Within : ℕ → Chain → Type 0)
-    (labels : ℕ) : Type 0 where
-  pub apex : ℕ
-  pub in_line : apex ≤ length name
-  pub chain : Chain
-  pub within : Within apex chain
-  pub out : OptsOut (evidence_said Secured rrsets (rightmost name apex) chain) (rightmost name apex) name labels

@@ -29,6 +29,7 @@ pub mod Record
 pub mod RecordWords
 pub mod RecordsAt
 pub mod SaidAt
+pub mod ShownCuts
 pub mod TypeNumbers
 pub mod Types
 pub mod Viewed
