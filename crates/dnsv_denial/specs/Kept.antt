@@ -53,8 +53,6 @@ pub record IsViewOf
   pub hashed : AllByRecursion (IsSetOf name) sets
   pub are_sets : AreSets Secured rrsets sets
   pub are_zones : AreZones Secured rrsets name zones
-  -- STAND-IN: until each call of a view has its body
-  pub none_yet : ⊥
 
 -- ---- what is found
 

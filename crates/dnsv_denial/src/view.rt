@@ -19,6 +19,7 @@ ghost use Rattle.dnsv_denial.specs.Zone.{Zone, Holds};
 
 use crate::denial::Denial;
 use crate::first_proof::{first_proof, no_closer};
+use crate::kept_cuts::{loose_next_closer, unsigned_cut};
 use crate::proof::Proof;
 use crate::zone_records::{ParameterSet, ZoneRecords};
 use dnsv_canonical::Capture;
@@ -124,9 +125,7 @@ impl<'a> View<'a> {
             (¬ HasUnsignedCut (SecuredIn self.now.trust) self.now.rrsets self.now.name)
             (IsUnsignedCut (SecuredIn self.now.trust) self.now.rrsets self.now.name) }
     {
-        // STAND-IN
-        let _name = self.name;
-        None
+        unsigned_cut(self.capture, self.trust, self.name, &self.zones, &self.sets)
     }
 
     /// The next closer name to the name's so many rightmost labels, if Opt-Out may leave out an unsigned delegation of
@@ -138,8 +137,6 @@ impl<'a> View<'a> {
             (λ closer. HasLooseCloser (SecuredIn self.now.trust) self.now.rrsets self.now.name labels zone.now
             × (closer ≡ rightmost self.now.name (labels + 1))) }
     {
-        // STAND-IN
-        let _name = self.name;
-        None
+        loose_next_closer(self.name, zone, labels, &self.zones, &self.sets)
     }
 }
