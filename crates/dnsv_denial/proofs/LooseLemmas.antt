@@ -4,17 +4,15 @@ use Rattle.std.specs.Prelude.{Some, slice_get}
 use Rattle.std.proofs.lemmas.Option.{slice_get_read}
 use Rattle.dnsv_names.specs.Name.{Labels, SameName, IsAtOrBelow, rightmost}
 use Rattle.dnsv_names.specs.AncestorLaws.{rightmost_above, rightmost_same}
-use Rattle.dnsv_names.specs.TreeLaws.{at_or_below_length, at_or_below_respects, at_or_below_trans}
+use Rattle.dnsv_names.specs.TreeLaws.{at_or_below_length, at_or_below_trans}
 use Rattle.dnsv_canonical.specs.Rrsets.{ReceivedRrset}
 use Rattle.dnsv_denial.specs.ChainOf.{IsChainOf}
 use Rattle.dnsv_denial.specs.ChainSaid.{chain_said}
 use Rattle.dnsv_denial.specs.Cuts.{HasLooseCloser}
-use Rattle.dnsv_denial.specs.Evidence.{HasZoneSignature, IsSecuredBy, IsNsec3Of, IsNsec3At}
 use Rattle.dnsv_denial.specs.EvidenceWords.{Chain, evidence_said}
 use Rattle.dnsv_denial.specs.EvidenceWords.Chain.{ByNsec, ByNsec3}
 use Rattle.dnsv_denial.specs.Forms.{IsAbove}
 use Rattle.dnsv_denial.specs.Kept.{AreSets, AreZones, IsZoneOf}
-use Rattle.dnsv_denial.specs.Nsec3Chain.{Nsec3Record}
 use Rattle.dnsv_denial.specs.Numbers.{numbers_of}
 use Rattle.dnsv_denial.specs.Parts.{LeavesCloser}
 use Rattle.dnsv_denial.specs.Record.{parameters_of}
@@ -26,6 +24,7 @@ use Rattle.dnsv_denial.specs.declared.zone_records.ParameterSet.{ParameterSet}
 use Rattle.dnsv_denial.specs.declared.zone_records.ZoneRecords.{ZoneRecords}
 use Rattle.dnsv_denial.proofs.AlikeLemmas.{any_place}
 use Rattle.dnsv_denial.proofs.ChainProofLemmas.{chain_alike}
+use Rattle.dnsv_denial.proofs.CloserLemmas.{above_as, opted_out_as}
 use Rattle.dnsv_denial.proofs.IndexLemmas.{SayAlike}
 
 -- ---- by places and by numbers
@@ -74,60 +73,14 @@ module _ (Secured : ℕ → ℕ → Type 0) (rrsets : List ReceivedRrset) (name 
 
 -- ---- a zone of the same name
 
-module _ (Secured : ℕ → ℕ → Type 0) (rrsets : List ReceivedRrset) (a b : Labels) (same : SameName a b) where
-  signed_as : (Signed : ℕ → Type 0) (rrset : ReceivedRrset) → HasZoneSignature Signed rrset a → HasZoneSignature Signed rrset b
-  signed_as Signed rrset has = record {
-    signature = has.signature;
-    secured = has.secured;
-    rdata = has.rdata;
-    is_signature = has.is_signature;
-    rrsig = has.rrsig;
-    read = has.read;
-    signer = has.signer ∙ same;
-    unexpanded = has.unexpanded;
-  }
-
-  nsec3_as : (n : RecordNumber) (nsec3 : Nsec3Record) → IsNsec3At Secured rrsets a n nsec3 → IsNsec3At Secured rrsets b n nsec3
-  nsec3_as n nsec3 at = record {
-    is = record {
-      rrset = at.is.rrset;
-      rdata = at.is.rdata;
-      at = at.is.at;
-      rtype = at.is.rtype;
-      owner = record {
-        label = at.is.owner.label;
-        parent = at.is.owner.parent;
-        parts = at.is.owner.parts;
-        in_zone = at.is.owner.in_zone ∙ same;
-        is_hash = at.is.owner.is_hash;
-        spelled = at.is.owner.spelled;
-      };
-      fields = at.is.fields;
-      read = at.is.read;
-      usable = at.is.usable;
-      next = at.is.next;
-      flags = at.is.flags;
-      types = at.is.types;
-      parameters = at.is.parameters;
-    };
-    secured = record {
-      rrset = at.secured.rrset;
-      is_rrset = at.secured.is_rrset;
-      signed = signed_as (Secured n.rrset) at.secured.rrset at.secured.signed;
-    };
-  }
-
-  opted_out_as : (chain : Chain) (x : Labels) (n : RecordNumber) → (evidence_said Secured rrsets a chain).OptedOut x n → (evidence_said Secured rrsets b chain).OptedOut x n
-  opted_out_as ByNsec x n said = said
-  opted_out_as (ByNsec3 parameters) x n said = (said.0, nsec3_as n said.0 said.1, said.2)
-
-  pub loose_as : (name : Labels) (labels : ℕ) → HasLooseCloser Secured rrsets name labels a → HasLooseCloser Secured rrsets name labels b
-  loose_as name labels has = record {
-    above = record { proper = has.above.proper; within = at_or_below_respects (rightmost name labels) (rightmost name labels) a b refl same has.above.within };
-    chain = has.chain;
-    covering = has.covering;
-    opted_out = opted_out_as has.chain (rightmost name (labels + 1)) has.covering has.opted_out;
-  }
+loose_as : (Secured : ℕ → ℕ → Type 0) (rrsets : List ReceivedRrset) (name : Labels) (labels : ℕ) (a b : Labels) → SameName a b
+    → HasLooseCloser Secured rrsets name labels a → HasLooseCloser Secured rrsets name labels b
+loose_as Secured rrsets name labels a b same has = record {
+  above = above_as Secured rrsets name labels a b same has.above;
+  chain = has.chain;
+  covering = has.covering;
+  opted_out = opted_out_as Secured rrsets name labels a b same has.chain (rightmost name (labels + 1)) has.covering has.opted_out;
+}
 
 pub loose_within : (Secured : ℕ → ℕ → Type 0) (rrsets : List ReceivedRrset) (name : Labels) (labels : ℕ) (zone : Labels)
     → HasLooseCloser Secured rrsets name labels zone → IsAtOrBelow name zone
@@ -139,10 +92,10 @@ module _ (Secured : ℕ → ℕ → Type 0) (rrsets : List ReceivedRrset) (name 
   same_zone = subst (λ (z : Labels). SameName z zone) (sym is) (rightmost_same name zone below)
 
   pub loose_of_kept : HasLooseCloser Secured rrsets name labels kept → HasLooseCloser Secured rrsets name labels zone
-  loose_of_kept has = loose_as Secured rrsets kept zone same_zone name labels has
+  loose_of_kept has = loose_as Secured rrsets name labels kept zone same_zone has
 
   pub kept_of_loose : HasLooseCloser Secured rrsets name labels zone → HasLooseCloser Secured rrsets name labels kept
-  kept_of_loose has = loose_as Secured rrsets zone kept (sym same_zone) name labels has
+  kept_of_loose has = loose_as Secured rrsets name labels zone kept (sym same_zone) has
 
 -- the kept zone at the place of the zone's number of labels
 pub kept_at : (Secured : ℕ → ℕ → Type 0) (rrsets : List ReceivedRrset) (name zone : Labels) (zones : List ZoneRecords) (place : ℕ) (kept : ZoneRecords) → AreZones Secured rrsets name zones
