@@ -29,7 +29,7 @@ use Rattle.dnsv_denial.specs.declared.zone_records.ZoneRecords.{ZoneRecords}
 use Rattle.dnsv_denial.proofs.AlikeLemmas.{any_place}
 use Rattle.dnsv_denial.proofs.ChainProofLemmas.{chain_alike}
 use Rattle.dnsv_denial.proofs.FindingLemmas.{fewest_as, most_as, fewest_of_both, most_of_both}
-use Rattle.dnsv_denial.proofs.IndexLemmas.{SaysAlike, SayAlike, words_to, words_from}
+use Rattle.dnsv_denial.proofs.IndexLemmas.{SayAlike, words_to, words_from}
 use Rattle.dnsv_denial.proofs.MoreLemmas.{SayMore, unsigned_cut_more}
 
 -- ---- what is found of one and another

@@ -1,5 +1,5 @@
 -- what the sets so far show is found
-use Rattle.std.proofs.Common.{ℕ, List}
+use Rattle.std.proofs.Common.{List}
 use Rattle.dnsv_canonical.specs.Rrsets.{ReceivedRrset}
 use Rattle.dnsv_chain.specs.Trust.{KeptTrust}
 use Rattle.dnsv_denial.specs.Kept.{IsZoneOf}

@@ -1,4 +1,4 @@
-use Rattle.std.proofs.Common.{length, refl, arith}
+use Rattle.std.proofs.Common.{length, refl}
 use Rattle.std.proofs.lemmas.Option.{slice_get_read}
 use Rattle.dnsv_denial.specs.ShownCuts.{IsCutIn, IsOptOutIn}
 use Rattle.dnsv_denial.specs.Viewed.{SecuredIn}

@@ -1,7 +1,6 @@
-use Rattle.std.proofs.Common.{◌≡◌, ℕ, ◌+◌, ◌∙◌, List, length, ap, subst}
+use Rattle.std.proofs.Common.{ℕ, ◌∙◌, List, length, ap, subst}
 use Rattle.std.specs.Prelude.{Some, Contains}
 use Rattle.dnsv_names.specs.Name.{Labels}
-use Rattle.dnsv_chain.specs.Trust.{signed_of}
 use Rattle.dnsv_denial.specs.Findings.{IsLesser, IsUnusableDs}
 use Rattle.dnsv_denial.specs.Viewed.{SecuredIn}
 use Rattle.dnsv_denial.proofs.EvidenceLemmas.{numbered_here}
