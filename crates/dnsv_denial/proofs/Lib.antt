@@ -13,6 +13,7 @@ mod FindingLemmas
 mod FirstLemmas
 mod FirstProofLemmas
 mod GatherLemmas
+mod GatherZoneLemmas
 mod Gathering
 mod HashLemmas
 mod IndexLemmas

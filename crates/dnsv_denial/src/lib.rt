@@ -71,6 +71,7 @@ mod first_cut;
 mod first_proof;
 mod gather;
 mod gather_nsec3;
+mod gather_zones;
 mod hashes;
 mod hashing;
 mod kept_cuts;
