@@ -32,6 +32,7 @@ mod NsecLemmas
 mod NsecTruth
 mod NumberLemmas
 mod NumberedLemmas
+mod ParameterSetLemmas
 mod PartsForm
 mod PlaceLemmas
 mod ProofMeaningLemmas

@@ -19,6 +19,7 @@ ghost use Rattle.dnsv_denial.specs.Zone.{Zone, Holds};
 
 use crate::denial::Denial;
 use crate::first_proof::{first_proof, no_closer};
+use crate::gather_zones::{sets_of, zones_of};
 use crate::kept_cuts::{loose_next_closer, unsigned_cut};
 use crate::proof::Proof;
 use crate::zone_records::{ParameterSet, ZoneRecords};
@@ -71,8 +72,15 @@ impl<'a> View<'a> {
         ensures { IfOk result (λ view. view
             ≡ record { rrsets = capture.now.rrsets; trust = trust.now; name = name.now }) }
     {
-        // STAND-IN
-        Err(AllocError)
+        let sets = sets_of(alloc, capture.nsec3_parameters(), name, count)?;
+        let zones = zones_of(alloc, capture, trust, name)?;
+        Ok(View {
+            capture,
+            trust,
+            name,
+            sets,
+            zones,
+        })
     }
 
     /// The first proof that there is no such name (RFC 4035 5.4, RFC 5155 8.4); `None` where the evidence has none.
