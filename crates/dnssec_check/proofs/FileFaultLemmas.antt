@@ -2,14 +2,16 @@
 use Rattle.std.proofs.Common.{◌≡◌, ◌<◌, ◌-◌, ◌^◌, ℕ, List, Option, Some, None, ap, subst, sym, ◌∙◌, inl, inr, arith}
 use Rattle.std.specs.Prelude.{Result, Ok, Err, IfErr, IfSome, ⊤}
 use Rattle.dnsv_message.specs.Frames.{IsCapture}
-use Rattle.dnsv_canonical.specs.Evidence.{no_evidence}
-use Rattle.dnsv_message.specs.Counted.{inner_of, failures_of}
 use Rattle.dnsv_message.specs.Message.{Contents}
+use Rattle.dnsv_canonical.specs.Evidence.{Evidence, evidence_of, no_evidence}
+use Rattle.dnsv_message.specs.Counted.{inner_of, failures_of}
 use Rattle.dnssec_check.specs.CaptureFile.{Demand, FirstRefused, Holds, IsFaultOfCapture, IsRefusal, NewEvidence}
 use Rattle.dnssec_check.specs.declared.run.Inputs.{Inputs}
-use Rattle.dnssec_check.specs.declared.status.InputFile.TheVariants.{Capture, Statements}
+use Rattle.dnssec_check.specs.declared.status.InputFile.TheVariants.{Anchors, Capture, Statements}
 use Rattle.dnssec_check.specs.Files.{Files, AreTold, IsToldBy, given_failures, octets_or_none}
-use Rattle.dnssec_check.specs.Run.{IsFirstFaultOfTodo}
+use Rattle.dnsv_chain.specs.declared.anchor.Anchor.{Anchor}
+use Rattle.dnssec_check.specs.AnchorsFile.{HasAnchors, IsFaultOfAnchors}
+use Rattle.dnssec_check.specs.Run.{HasEvidence, IsFirstFaultOfFiles}
 use Rattle.dnssec_check.specs.StatementsFile.{IsFaultOfStatements}
 use Rattle.dnssec_check.specs.declared.status.Fault.{Fault}
 use Rattle.dnssec_check.specs.declared.status.Fault.TheVariants as fault
@@ -109,17 +111,109 @@ about_opened file told about other is = subst (IsAbout file) is about
 pub of_told : (P : List ℕ → Type 0) {octets : Option (List ℕ)} {file : List ℕ} → octets ≡ Some file → IfSome octets P → P file
 of_told P is holds = subst (λ octets. IfSome octets P) is holds
 
+-- want of memory is no fault of a file
+not_read : {U : Type 0} (result : Result U Fault) (file : InputFile) → IfErr result (λ told. told ≡ fault.OutOfMemory) → IfErr result (IsOther file)
+not_read (Ok x) file only = tt
+not_read (Err told) file only = λ is. let bad : fault.OutOfMemory ≡ fault.ReadFailed file = sym only ∙ is in cc
+
+no_octets : {U : Type 0} (P : Fault → Type 0) (result : Result U Fault) → IfErr result (λ told. told ≡ fault.OutOfMemory) → IfErr result (OfOctets P)
+no_octets P (Ok x) only = tt
+no_octets P (Err told) only = subst (OfOctets P) (sym only) tt
+
+not_opened : {U : Type 0} (result : Result U Fault) → IfErr result (λ told. told ≡ fault.OutOfMemory) → IfErr result (λ told. (file : InputFile) → told ≡ fault.OpenFailed file → ⊥)
+not_opened (Ok x) only = tt
+not_opened (Err told) only = λ file is. let bad : fault.OutOfMemory ≡ fault.OpenFailed file = sym only ∙ is in cc
+
 module _ {R U : Type 0} {remaining : R → Option (List ℕ)} {before after : Inputs R} where
   -- the file of captured messages is at fault
-  pub todo_captured : {T : Type 0} (told : Fault) → after.statements ≡ before.statements
-      → TellsFileFaults {T = T} Capture (IsFaultOfCapture NewEvidence) (remaining (inner_of before.capture)) (failures_of before.capture) (failures_of after.capture) (Err told)
-      → TellsFaults {T = U} IsFirstFaultOfTodo remaining before after (Err told)
-  todo_captured told same tells = record {
+  pub captured : {T : Type 0} (IsFirst : Files → Fault → Type 0) (told : Fault)
+      → ((files : Files) (fault : Fault) → IsFaultOfCapture NewEvidence files.capture fault → IsFirst files fault)
+      → after.anchors ≡ before.anchors → after.statements ≡ before.statements
+      → TellsFileFaults {T = T} Capture (IsFaultOfCapture NewEvidence) (remaining (inner_of before.capture)) (failures_of before.capture) (failures_of after.capture) (Err told) → TellsFaults {T = U} IsFirst remaining before after (Err told)
+  captured IsFirst told first anchors_stay statements_stay tells = record {
     first = λ files are.
-        OfOctets-weaker (IsFaultOfCapture NewEvidence files.capture) (IsFirstFaultOfTodo files) told (λ fault holds. inl holds)
+        OfOctets-weaker (IsFaultOfCapture NewEvidence files.capture) (IsFirst files) told (first files)
         (of_told (λ octets. OfOctets (IsFaultOfCapture NewEvidence octets) told) are.capture tells.told);
     capture = reads_passed told tells.reads;
-    statements = reads_untouched (given_failures before.statements) (given_failures after.statements) (Err told) (ap given_failures same)
+    anchors = reads_untouched (given_failures before.anchors) (given_failures after.anchors) (Err told) (ap given_failures anchors_stay)
+        (about_another Anchors told tells.about (λ is. cc));
+    statements = reads_untouched (given_failures before.statements) (given_failures after.statements) (Err told) (ap given_failures statements_stay)
         (about_another Statements told tells.about (λ is. cc));
     opened = about_opened Capture told tells.about;
   }
+
+  -- the file of captured messages is taken, and the trust anchors are at fault
+  pub anchored : {T V : Type 0} (x : V) (told : Fault) → after.statements ≡ before.statements
+      → TellsFileFaults {T = V} Capture (IsFaultOfCapture NewEvidence) (remaining (inner_of before.capture)) (failures_of before.capture) (failures_of after.capture) (Ok x)
+      → ((file : List ℕ) → remaining (inner_of before.capture) ≡ Some file → HasEvidence file)
+      → ((octets : Option (List ℕ)) → IsToldBy remaining before.anchors octets → OfOctets (IsFaultOfAnchors (octets_or_none octets)) told)
+      → TellsFailedReads {T = T} Anchors (given_failures before.anchors) (given_failures after.anchors) (Err told)
+      → IsAbout Anchors told
+      → TellsFaults {T = U} IsFirstFaultOfFiles remaining before after (Err told)
+  anchored x told statements_stay tells held faults reads about = record {
+    first = λ files are.
+        OfOctets-weaker (IsFaultOfAnchors (octets_or_none files.anchors)) (IsFirstFaultOfFiles files) told
+        (λ fault holds. inr (held files.capture are.capture, inl holds)) (faults files.anchors are.anchors);
+    capture = reads_then x (Err told) tells.reads (about_another Capture told about (λ is. cc));
+    anchors = reads_passed told reads;
+    statements = reads_untouched (given_failures before.statements) (given_failures after.statements) (Err told) (ap given_failures statements_stay)
+        (about_another Statements told about (λ is. cc));
+    opened = about_opened Anchors told about;
+  }
+
+  -- those are taken too, and the statements are at fault
+  pub stated : {T V W : Type 0} (x : V) (y : W) (told : Fault)
+      → TellsFileFaults {T = V} Capture (IsFaultOfCapture NewEvidence) (remaining (inner_of before.capture)) (failures_of before.capture) (failures_of after.capture) (Ok x)
+      → ((file : List ℕ) → remaining (inner_of before.capture) ≡ Some file → HasEvidence file)
+      → ((octets : Option (List ℕ)) → IsToldBy remaining before.anchors octets → (anchors : List Anchor) × HasAnchors (octets_or_none octets) anchors)
+      → TellsFailedReads {T = W} Anchors (given_failures before.anchors) (given_failures after.anchors) (Ok y)
+      → ((octets : Option (List ℕ)) → IsToldBy remaining before.statements octets → OfOctets (IsFaultOfStatements (octets_or_none octets)) told)
+      → TellsFailedReads {T = T} Statements (given_failures before.statements) (given_failures after.statements) (Err told)
+      → IsAbout Statements told
+      → TellsFaults {T = U} IsFirstFaultOfFiles remaining before after (Err told)
+  stated x y told tells held trusted anchor_reads faults reads about = record {
+    first = λ files are.
+        OfOctets-weaker (IsFaultOfStatements (octets_or_none files.statements)) (IsFirstFaultOfFiles files) told
+        (λ fault holds. inr (held files.capture are.capture, inr (trusted files.anchors are.anchors, holds))) (faults files.statements are.statements);
+    capture = reads_then x (Err told) tells.reads (about_another Capture told about (λ is. cc));
+    anchors = reads_then y (Err told) anchor_reads (about_another Anchors told about (λ is. cc));
+    statements = reads_passed told reads;
+    opened = about_opened Statements told about;
+  }
+
+  -- all are taken
+  pub all_taken : {V W X : Type 0} (x : V) (y : W) (z : X) (result : Result U Fault)
+      → TellsFileFaults {T = V} Capture (IsFaultOfCapture NewEvidence) (remaining (inner_of before.capture)) (failures_of before.capture) (failures_of after.capture) (Ok x)
+      → TellsFailedReads {T = W} Anchors (given_failures before.anchors) (given_failures after.anchors) (Ok y)
+      → TellsFailedReads {T = X} Statements (given_failures before.statements) (given_failures after.statements) (Ok z)
+      → IfErr result (λ told. told ≡ fault.OutOfMemory)
+      → TellsFaults {T = U} IsFirstFaultOfFiles remaining before after result
+  all_taken x y z result tells anchor_reads reads only = record {
+    first = λ files are. no_octets (IsFirstFaultOfFiles files) result only;
+    capture = reads_then x result tells.reads (not_read result Capture only);
+    anchors = reads_then y result anchor_reads (not_read result Anchors only);
+    statements = reads_then z result reads (not_read result Statements only);
+    opened = not_opened result only;
+  }
+
+-- what is the first fault of files is told as that of more
+pub TellsFaults-weaker : {R T : Type 0} {remaining : R → Option (List ℕ)} {before after : Inputs R} (P Q : Files → Fault → Type 0) (result : Result T Fault)
+    → ((files : Files) (fault : Fault) → P files fault → Q files fault)
+    → TellsFaults P remaining before after result → TellsFaults Q remaining before after result
+TellsFaults-weaker P Q (Ok x) weaker tells =
+    record { first = λ files are. tt; capture = tells.capture; anchors = tells.anchors; statements = tells.statements; opened = tells.opened }
+TellsFaults-weaker P Q (Err told) weaker tells = record {
+  first = λ files are. OfOctets-weaker (P files) (Q files) told (weaker files) (tells.first files are);
+  capture = tells.capture;
+  anchors = tells.anchors;
+  statements = tells.statements;
+  opened = tells.opened;
+}
+
+-- the messages of a capture that was taken
+pub has_evidence : (octets : Option (List ℕ)) (held : Evidence)
+    → IfSome octets (λ file. (messages : List Contents) × Holds NewEvidence file messages × (held ≡ evidence_of messages))
+    → (file : List ℕ) → octets ≡ Some file → HasEvidence file
+has_evidence octets held taken file is =
+    let messages = of_told (λ file. (messages : List Contents) × Holds NewEvidence file messages × (held ≡ evidence_of messages)) is taken in
+    (messages.0, messages.1)

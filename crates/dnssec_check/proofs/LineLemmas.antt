@@ -27,22 +27,34 @@ use Rattle.dnssec_check.specs.declared.line.LineError.{LineError}
 use Rattle.dnssec_check.proofs.RowLemmas.{AreRowsIn, IsIn, IsRowIn, IsRowOf, StartsPassing}
 use Rattle.dnssec_check.proofs.WalkLemmas.{AllLeaveValues, level_in}
 use Rattle.clap.proofs.ValueTestLemmas.{accepts-Accepts}
-use Rattle.dnssec_check.specs.Commands.{all_rule, capture_rule, list_app, moment_rule, program_app, show_app}
-use Rattle.dnssec_check.specs.Line.{HasCapture, HasListValues, HasMoment, HasValue, IsFlag, IsRefused, error_of_kind, flag_said, line_error, moment_said}
-use Rattle.dnssec_check.specs.Moment.{last_moment}
+use Rattle.dnssec_check.specs.Commands.{all_rule, anchors_rule, capture_rule, check_app, list_app, moment_rule, name_rule, program_app, show_app, type_rule}
+use Rattle.dnssec_check.specs.Line.{HasCapture, HasCheckValues, HasListValues, HasNumber, HasValue, IsFlag, IsRefused, error_of_kind, flag_said, line_error, number_said}
+use Rattle.std.specs.Option.{SomeIff}
+use Rattle.dnssec_check.specs.Moment.{IsMoment, last_moment}
 
--- a text that passed the bounds of a moment reads as the moment that it says
-pub moment_reads : (E : Type 0) (G : List ℕ → Result ℕ E → Type 0) (text : Text) (r : Option ℕ) → ReadsOne G text r
+-- a text that passed the bounds of a number reads as the number that it says
+pub number_reads : (last : ℕ) (E : Type 0) (G : List ℕ → Result ℕ E → Type 0) (text : Text) (r : Option ℕ) → ReadsOne G text r
     → ((u : List ℕ) (x : Result ℕ E) → G u x → ParsesUnsigned 64 10 u x)
-    → is_unsigned_in 0 last_moment text ≡ true
-    → (n : ℕ) × (r ≡ Some n) × (n ≤ last_moment) × (moment_said text ≡ Some n)
-moment_reads E G text (Some n) read only passed =
-    let within = accepts-Accepts false (parser.Unsigned 0 last_moment) text passed in
+    → is_unsigned_in 0 last text ≡ true
+    → (n : ℕ) × (r ≡ Some n) × (n ≤ last) × (number_said last text ≡ Some n)
+number_reads last E G text (Some n) read only passed =
+    let within = accepts-Accepts false (parser.Unsigned 0 last) text passed in
     let parsed = only text (Ok n) read in
     (n, refl, rw parsed.1 within.3, rw (passed, parsed.1) refl)
-moment_reads E G text None read only passed =
-    let within = accepts-Accepts false (parser.Unsigned 0 last_moment) text passed in
+number_reads last E G text None read only passed =
+    let within = accepts-Accepts false (parser.Unsigned 0 last) text passed in
     absurd (only text (Err read.0) read.1 (within.0, within.1))
+
+-- what `Moment::new` makes of a number within the bounds
+made : (o : Option ℕ) (n : ℕ) → SomeIff o (IsMoment n) n → IsMoment n → o ≡ Some n
+made None n refused fits = absurd (refused fits)
+made (Some m) n gives fits = ap (λ k. Some k) gives.1
+
+pub is_made : (o : Option ℕ) (n : ℕ) → SomeIff o (IsMoment n) n → IsMoment n → is_some o ≡ true
+is_made o n gives fits = ap is_some (made o n gives fits)
+
+pub same_moment : (o : Option ℕ) (n m : ℕ) → SomeIff o (IsMoment n) n → IsMoment n → o ≡ Some m → Path (Option ℕ) (Some n) (Some m)
+same_moment o n m gives fits is = sym (made o n gives fits) ∙ is
 
 -- ---- the subcommand
 
@@ -126,8 +138,11 @@ show_shape = leaf show_app
 abbrev list_shape : Shape
 list_shape = leaf list_app
 
+abbrev check_shape : Shape
+check_shape = leaf check_app
+
 abbrev sub_shapes : List Shape
-sub_shapes = show_shape ∷ list_shape ∷ []
+sub_shapes = show_shape ∷ list_shape ∷ check_shape ∷ []
 
 -- an argument has a value that it takes
 abbrev HasValueOf : Rule → Text → List Row → Type 0
@@ -231,6 +246,15 @@ built_moment = filled moment_rule
 abbrev built_all : Rule
 built_all = filled all_rule
 
+abbrev built_anchors : Rule
+built_anchors = filled anchors_rule
+
+abbrev built_name : Rule
+built_name = filled name_rule
+
+abbrev built_type : Rule
+built_type = filled type_rule
+
 -- ---- the values of each subcommand
 
 show_values : (rows : List Row) → AreRowsIn show_shape.rules rows → check_fault show_shape rows false ≡ [] → HasCapture rows
@@ -238,8 +262,11 @@ show_values rows all fault =
     let file = required_value show_shape built_capture rows (λ e. refl, (λ e. cc, tt)) (inl refl) refl refl all fault in
     ap is_some file.1
 
-moment_has : (rows : List Row) → HasValueOf built_moment (codes "moment") rows → HasMoment rows
+moment_has : (rows : List Row) → HasValueOf built_moment (codes "moment") rows → HasNumber (codes "moment") last_moment rows
 moment_has rows number = (number.0, number.1, number.2, number.3)
+
+type_has : (rows : List Row) → HasValueOf built_type (codes "type") rows → HasNumber (codes "type") 65535 rows
+type_has rows number = (number.0, number.1, number.2, number.3)
 
 -- the text of a flag, by what the flag takes
 flag_text : (text : Text) → (bytes_eq text (codes "true") || bytes_eq text (codes "false")) ≡ true → IsFlag (Some text)
@@ -265,6 +292,15 @@ list_values rows all fault =
     let number = required_value list_shape built_moment rows (λ e. cc, (λ e. refl, (λ e. cc, (λ e. cc, (λ e. cc, tt))))) (inr (inl refl)) refl refl all fault in
     (ap is_some file.1, moment_has rows number, flag_has rows (λ e. cc, (λ e. cc, (λ e. cc, (λ e. refl, (λ e. cc, tt))))) all)
 
+check_values : (rows : List Row) → AreRowsIn check_shape.rules rows → check_fault check_shape rows false ≡ [] → HasCheckValues rows
+check_values rows all fault =
+    let file = required_value check_shape built_capture rows (λ e. refl, (λ e. cc, (λ e. cc, (λ e. cc, (λ e. cc, (λ e. cc, (λ e. cc, tt))))))) (inl refl) refl refl all fault in
+    let anchors = required_value check_shape built_anchors rows (λ e. cc, (λ e. refl, (λ e. cc, (λ e. cc, (λ e. cc, (λ e. cc, (λ e. cc, tt))))))) (inr (inl refl)) refl refl all fault in
+    let moment = required_value check_shape built_moment rows (λ e. cc, (λ e. cc, (λ e. refl, (λ e. cc, (λ e. cc, (λ e. cc, (λ e. cc, tt))))))) (inr (inr (inl refl))) refl refl all fault in
+    let name = required_value check_shape built_name rows (λ e. cc, (λ e. cc, (λ e. cc, (λ e. refl, (λ e. cc, (λ e. cc, (λ e. cc, tt))))))) (inr (inr (inr (inl refl)))) refl refl all fault in
+    let rtype = required_value check_shape built_type rows (λ e. cc, (λ e. cc, (λ e. cc, (λ e. cc, (λ e. refl, (λ e. cc, (λ e. cc, tt))))))) (inr (inr (inr (inr (inl refl))))) refl refl all fault in
+    (ap is_some file.1, ap is_some anchors.1, moment_has rows moment, ap is_some name.1, type_has rows rtype)
+
 -- what a flag's text says is what the matches give
 pub flag_read : (text : Option Text) (given : Bool) → IsFlag text → (text ≡ None → given ≡ false) → (text ≡ Some (codes "true") → given ≡ true)
     → (text ≡ Some (codes "false") → given ≡ false) → flag_said text ≡ given
@@ -274,19 +310,21 @@ flag_read text given (inr (inr is)) none some other = ap flag_said is ∙ sym (o
 
 -- a name and rows are those of one of the subcommands, with its values
 abbrev pub IsCommand : Text → List Row → Type 0
-IsCommand name rows = ((name ≡ codes "show") × HasCapture rows) ⊎ ((name ≡ codes "list") × HasListValues rows)
+IsCommand name rows = ((name ≡ codes "show") × HasCapture rows)
+    ⊎ (((name ≡ codes "list") × HasListValues rows) ⊎ ((name ≡ codes "check") × HasCheckValues rows))
 
 -- whatever the program takes is a subcommand with its values
 pub taken : (words : List Text) → fault_of program_app words ≡ []
     → (name : Text) × (rows : List Row) × (subcommand_of program_app words ≡ Some (name, rows)) × IsCommand name rows
 taken words none =
-    of (one_entered program_shape sub_shapes (argument_words program_app words) refl (refl, (refl, tt)) refl none)
+    of (one_entered program_shape sub_shapes (argument_words program_app words) refl (refl, (refl, (refl, tt))) refl none)
   where
     of : EntersOneOf (subcommand_of program_app words) sub_shapes
         → (name : Text) × (rows : List Row) × (subcommand_of program_app words ≡ Some (name, rows)) × IsCommand name rows
     of (inl show) = (codes "show", show.0, show.1, inl (refl, show_values show.0 show.2 show.3))
-    of (inr (inl list)) = (codes "list", list.0, list.1, inr (refl, list_values list.0 list.2 list.3))
-    of (inr (inr none)) = absurd none
+    of (inr (inl list)) = (codes "list", list.0, list.1, inr (inl (refl, list_values list.0 list.2 list.3)))
+    of (inr (inr (inl check))) = (codes "check", check.0, check.1, inr (inr (refl, check_values check.0 check.2 check.3)))
+    of (inr (inr (inr none))) = absurd none
 
 -- an error of `clap` at the words, as the program tells it
 pub refused_as : (words : List Text) (e : Error) → HasKind (fault_of program_app words) e → IsRefused words (line_error e)
@@ -352,17 +390,34 @@ sees name rows o x a words m is matched kinds found names same = of (taken words
         let at = seen name rows o x (subcommand_rows_of m) entered.0 entered.1 found names_are same (met ∙ entered.2) in
         record { none = none; met = entered.2 ∙ (λ i. Some (at.0 i, at.1 i)); has = subst (λ n. IsCommand n (rows x)) at.0 (subst (IsCommand entered.0) at.1 entered.3) }
 
-other_name : codes "list" ≡ codes "show" → ⊥
-other_name same = let first : 108 ≡ 115 = ap (λ t. slice_index t 0) same in omega (arith, first)
+-- names with other first letters
+other_name : (a b : Text) → (slice_index a 0 ≡ slice_index b 0 → ⊥) → a ≡ b → ⊥
+other_name a b differ same = differ (ap (λ t. slice_index t 0) same)
 
 pub is_show : {words : List Text} {name : Text} {rows : List Row} → Sees words name rows → name ≡ codes "show" → HasCapture rows
 is_show {words} {name} {rows} at same = go at.has where
   go : IsCommand name rows → HasCapture rows
   go (inl show) = show.1
-  go (inr list) = absurd (other_name (sym list.0 ∙ same))
+  go (inr (inl list)) = absurd (other_name (codes "list") (codes "show") (λ e. omega (arith, e)) (sym list.0 ∙ same))
+  go (inr (inr check)) = absurd (other_name (codes "check") (codes "show") (λ e. omega (arith, e)) (sym check.0 ∙ same))
 
-pub is_list : {words : List Text} {name : Text} {rows : List Row} → Sees words name rows → (name ≡ codes "show" → ⊥) → (name ≡ codes "list") × HasListValues rows
-is_list {words} {name} {rows} at other = go at.has where
-  go : IsCommand name rows → (name ≡ codes "list") × HasListValues rows
-  go (inl show) = absurd (other show.0)
-  go (inr list) = list
+pub is_list : {words : List Text} {name : Text} {rows : List Row} → Sees words name rows → name ≡ codes "list" → HasListValues rows
+is_list {words} {name} {rows} at same = go at.has where
+  go : IsCommand name rows → HasListValues rows
+  go (inl show) = absurd (other_name (codes "show") (codes "list") (λ e. omega (arith, e)) (sym show.0 ∙ same))
+  go (inr (inl list)) = list.1
+  go (inr (inr check)) = absurd (other_name (codes "check") (codes "list") (λ e. omega (arith, e)) (sym check.0 ∙ same))
+
+pub is_check : {words : List Text} {name : Text} {rows : List Row} → Sees words name rows → (name ≡ codes "show" → ⊥) → (name ≡ codes "list" → ⊥)
+    → (name ≡ codes "check") × HasCheckValues rows
+is_check {words} {name} {rows} at no_show no_list = go at.has where
+  go : IsCommand name rows → (name ≡ codes "check") × HasCheckValues rows
+  go (inl show) = absurd (no_show show.0)
+  go (inr (inl list)) = absurd (no_list list.0)
+  go (inr (inr check)) = check
+
+-- a name that fails the test of another isn't that
+pub not_named : (name other : Text) → bytes_eq name other ≡ false → name ≡ other → ⊥
+not_named name other test same =
+    let yes = (bytes_eq-Decides name other).1 same in
+    let bad : true ≡ false = sym yes ∙ test in cc

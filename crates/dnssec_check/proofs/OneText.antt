@@ -22,10 +22,12 @@ use Rattle.dnssec_check.specs.declared.request.Request.{Request}
 use Rattle.dnssec_check.specs.declared.request.Request.TheVariants as request
 use Rattle.dnssec_check.specs.declared.status.Fault.{Fault}
 use Rattle.dnssec_check.specs.declared.status.Fault.TheVariants as fault
-use Rattle.dnssec_check.specs.declared.status.InputFile.TheVariants.{Capture, Statements}
+use Rattle.dnssec_check.specs.declared.status.InputFile.TheVariants.{Anchors, Capture, Statements}
+use Rattle.dnssec_check.specs.declared.status.Status.{Status}
 use Rattle.dnssec_check.specs.CaptureFile.{Demand, AnyMessage, NewEvidence, Meets, Fails, AllTaken, Holds, MessageRefused, FirstRefused, IsFaultOfCapture, IsNowhere, IsRefusal}
 use Rattle.dnssec_check.specs.Listing.{data_line, SignatureLines, RrsetLines}
 use Rattle.dnssec_check.specs.Files.{Files, octets_or_none}
+use Rattle.dnssec_check.specs.Request.{IsForMessages}
 use Rattle.dnssec_check.specs.Run.{IsTextOf, IsFirstFault, IsFirstFaultOfTodo}
 use Rattle.dnssec_check.specs.Showing.{message_text, texts_from}
 use Rattle.dnssec_check.specs.Status.{TellsMessageError, TellsCaptureError}
@@ -89,19 +91,26 @@ module _ (laws : LayerLaws) where
       one_taken demand no_evidence x.frames a b (laws.capture_octets file x.frames are x.framing) x.taken
       (subst (λ frames. AllTaken demand no_evidence frames b) frames y.taken)
 
-  -- a request has one text for its files
-  pub one_text : (asked : Request) (files : Files) → AreOctets files.capture → (a b : List ℕ) → IsTextOf asked files a → IsTextOf asked files b → a ≡ b
-  one_text (request.Show capture) files are a b x y =
-      x.2 ∙ ap (texts_from message_text 1) (one_holding AnyMessage files.capture are x.0 y.0 x.1 y.1) ∙ sym y.2
-  one_text (request.List capture moment statements true) files are a b x y =
-      one_lines 1 (evidence_of x.0).rrsets a b x.2
-      (subst (λ messages. RrsetLines 1 (evidence_of messages).rrsets b) (one_holding NewEvidence files.capture are y.0 x.0 y.1 x.1) y.2)
-  one_text (request.List capture moment statements false) files are a b x y =
+  one_todo : (moment : ℕ) (files : Files) → AreOctets files.capture → (a b : List ℕ) → IsTodo moment files a → IsTodo moment files b → a ≡ b
+  one_todo moment files are a b x y =
       let messages = one_holding NewEvidence files.capture are x.messages y.messages x.holds y.holds in
       let meanings = one_meaning (octets_or_none files.statements) x.meaning y.meaning x.said y.said in
       let first = subst (λ (meaning : Entry → Answer). IsTableOf meaning moment (evidence_of x.messages).rrsets x.table) meanings x.is_table in
       let second = subst (λ messages. IsTableOf y.meaning moment (evidence_of messages).rrsets x.table) messages first in
       x.lines ∙ ap (λ table. flat_map todo_line (unknown_entries table)) (laws.one_table y.meaning moment (evidence_of y.messages).rrsets x.table y.table second y.is_table) ∙ sym y.lines
+
+  -- a request to show or to list has one text for its files
+  pub one_text : (asked : Request) (files : Files) → IsForMessages asked → AreOctets files.capture → (s t : Status) (a b : List ℕ)
+      → IsTextOf asked files s a → IsTextOf asked files t b → (s ≡ t) × (a ≡ b)
+  one_text (request.Show capture) files for are s t a b x y =
+      (x.0 ∙ sym y.0, x.1.2 ∙ ap (texts_from message_text 1) (one_holding AnyMessage files.capture are x.1.0 y.1.0 x.1.1 y.1.1) ∙ sym y.1.2)
+  one_text (request.List capture moment statements true) files for are s t a b x y = (
+    x.0 ∙ sym y.0,
+    one_lines 1 (evidence_of x.1.0).rrsets a b x.1.2
+        (subst (λ messages. RrsetLines 1 (evidence_of messages).rrsets b) (one_holding NewEvidence files.capture are y.1.0 x.1.0 y.1.1 x.1.1) y.1.2),
+  )
+  one_text (request.List capture moment statements false) files for are s t a b x y = (x.0 ∙ sym y.0, one_todo moment files are a b x.1 y.1)
+  one_text (request.Check capture anchors moment name rtype statements) files for are s t a b x y = absurd for
 
   -- ---- the refusal
 
@@ -220,6 +229,7 @@ module _ (laws : LayerLaws) where
   no_capture_fault demand file are messages (fault.Refused why place) x refused = holding_stands demand file are messages why place x refused
   no_capture_fault demand file are messages (fault.TooLong Capture) x long = too_many (length file) file_limit x.framing.within long.0
   no_capture_fault demand file are messages (fault.TooLong Statements) x long = long
+  no_capture_fault demand file are messages (fault.TooLong Anchors) x long = long
   no_capture_fault demand file are messages fault.OutOfMemory x fault = fault
   no_capture_fault demand file are messages (fault.ReadFailed other) x fault = fault
   no_capture_fault demand file are messages (fault.OpenFailed other) x fault = fault
@@ -240,7 +250,9 @@ module _ (laws : LayerLaws) where
   one_capture_fault demand file are (fault.TooLong Capture) (fault.Refused b q) x y = absurd (no_long_refusal demand file b q y x)
   one_capture_fault demand file are (fault.TooLong Capture) (fault.TooLong Capture) x y = refl
   one_capture_fault demand file are (fault.TooLong Statements) b x y = absurd x
+  one_capture_fault demand file are (fault.TooLong Anchors) b x y = absurd x
   one_capture_fault demand file are a (fault.TooLong Statements) x y = absurd y
+  one_capture_fault demand file are a (fault.TooLong Anchors) x y = absurd y
   one_capture_fault demand file are fault.OutOfMemory b x y = absurd x
   one_capture_fault demand file are (fault.ReadFailed other) b x y = absurd x
   one_capture_fault demand file are (fault.OpenFailed other) b x y = absurd x
@@ -261,13 +273,16 @@ module _ (laws : LayerLaws) where
   one_todo_fault files are a b (inr x) (inr y) = one_statements_fault (octets_or_none files.statements) a b x.1 y.1
 
   -- files that have a text have no fault
-  pub text_stands : (asked : Request) (files : Files) → AreOctets files.capture → (text : List ℕ) (told : Fault) → IsTextOf asked files text → IsFirstFault asked files told → ⊥
-  text_stands (request.Show capture) files are text told x fault = no_capture_fault AnyMessage files.capture are x.0 told x.1 fault
-  text_stands (request.List capture moment statements true) files are text told x fault = no_capture_fault NewEvidence files.capture are x.0 told x.1 fault
-  text_stands (request.List capture moment statements false) files are text told x fault = no_todo_fault moment files are text told x fault
+  pub text_stands : (asked : Request) (files : Files) → IsForMessages asked → AreOctets files.capture → (end : Status) (text : List ℕ) (told : Fault)
+      → IsTextOf asked files end text → IsFirstFault asked files told → ⊥
+  text_stands (request.Show capture) files for are end text told x fault = no_capture_fault AnyMessage files.capture are x.1.0 told x.1.1 fault
+  text_stands (request.List capture moment statements true) files for are end text told x fault = no_capture_fault NewEvidence files.capture are x.1.0 told x.1.1 fault
+  text_stands (request.List capture moment statements false) files for are end text told x fault = no_todo_fault moment files are text told x.1 fault
+  text_stands (request.Check capture anchors moment name rtype statements) files for are end text told x fault = absurd for
 
   -- files have one first fault
-  pub one_first_fault : (asked : Request) (files : Files) → AreOctets files.capture → (a b : Fault) → IsFirstFault asked files a → IsFirstFault asked files b → a ≡ b
-  one_first_fault (request.Show capture) files are a b x y = one_capture_fault AnyMessage files.capture are a b x y
-  one_first_fault (request.List capture moment statements true) files are a b x y = one_capture_fault NewEvidence files.capture are a b x y
-  one_first_fault (request.List capture moment statements false) files are a b x y = one_todo_fault files are a b x y
+  pub one_first_fault : (asked : Request) (files : Files) → IsForMessages asked → AreOctets files.capture → (a b : Fault) → IsFirstFault asked files a → IsFirstFault asked files b → a ≡ b
+  one_first_fault (request.Show capture) files for are a b x y = one_capture_fault AnyMessage files.capture are a b x y
+  one_first_fault (request.List capture moment statements true) files for are a b x y = one_capture_fault NewEvidence files.capture are a b x y
+  one_first_fault (request.List capture moment statements false) files for are a b x y = one_todo_fault files are a b x y
+  one_first_fault (request.Check capture anchors moment name rtype statements) files for are a b x y = absurd for

@@ -1,12 +1,12 @@
 -- How the program ends by what its parts answer.
-use Rattle.std.proofs.Common.{◌≡◌, ◌<◌, ◌⊎◌, ◌==◌, ℕ, Bool, true, false, List, Option, Some, None, refl, subst, inl, inr, arith}
+use Rattle.std.proofs.Common.{◌≡◌, ◌<◌, ◌≤◌, ◌⊎◌, ◌==◌, ℕ, Bool, true, false, List, [], ◌∷◌, Option, Some, None, ap, refl, subst, sym, ◌∙◌, inl, inr, arith}
 use Rattle.std.specs.Prelude.{Result, Ok, Err, IfErr, IfOk, IfSome, OnOk, if◌then◌else◌}
 use Rattle.std.specs.List.{list_any}
 use Rattle.std.specs.Io.KnownBytes.{Appends}
 use Rattle.dnsv_message.specs.Counted.{AppendsBeginning}
 use Rattle.dnssec_check.specs.declared.request.Request.{Request}
 use Rattle.dnssec_check.specs.declared.status.Status.{Status}
-use Rattle.dnssec_check.specs.declared.status.Status.TheVariants.{Done}
+use Rattle.dnssec_check.specs.declared.status.Status.TheVariants.{Done, Insecure, Pending, Bogus, Indeterminate}
 use Rattle.dnssec_check.specs.declared.status.Fault.{Fault}
 use Rattle.dnssec_check.specs.declared.status.Fault.TheVariants as fault
 use Rattle.dnssec_check.specs.declared.status.Place.{Place}
@@ -14,9 +14,13 @@ use Rattle.dnssec_check.specs.declared.status.Refusal.{Refusal}
 use Rattle.dnssec_check.specs.declared.status.Refusal.TheVariants as refusal
 use Rattle.dnssec_check.specs.Files.{Files}
 use Rattle.dnssec_check.specs.Line.{IsAccepted}
-use Rattle.dnssec_check.specs.Program.{AreFilesAt, BeganText, RefusedFiles, RefusedWords, WroteText}
+use Rattle.dnssec_check.specs.Program.{AreFilesAt, BeganText, IsEnd, RefusedFiles, RefusedWords, WroteText, first_unopened, given_path, paths_of}
+use Rattle.dnssec_check.specs.Request.{anchors_of, capture_of, statements_of}
+use Rattle.dnssec_check.specs.Told.{IsUnopened}
+use Rattle.dnssec_check.specs.declared.status.InputFile.{InputFile}
+use Rattle.dnssec_check.specs.declared.status.InputFile.TheVariants.{Anchors, Capture, Statements}
 use Rattle.dnssec_check.specs.Run.{IsTextOf, IsFirstFault}
-use Rattle.dnssec_check.specs.Status.{failures, fault_code, fault_number, outcome_code, refusal_number}
+use Rattle.dnssec_check.specs.Status.{failures, fault_code, fault_number, outcome_code, refusal_number, status_code}
 
 -- what is said of the words that were handed out holds of those that the machine tells
 pub told_ok : {A E : Type 0} (P : List (List ℕ) → A → Type 0) (given : Option (List (List ℕ))) (words : List (List ℕ)) (result : Result A E)
@@ -33,19 +37,37 @@ told_err P None words (Err error) same holds = tt
 told_err P (Some told) words (Ok value) same holds = tt
 told_err P (Some told) words (Err error) same holds = subst (λ w. P w error) same holds
 
-is_no_0 : (is_failure : Bool) → ◌≡◌ {A = ℕ} (if is_failure then 1 else 7) 0 → ⊥
-is_no_0 true is_0 = omega (arith, is_0)
-is_no_0 false is_0 = omega (arith, is_0)
+-- a fault ends with 1 or 7
+no_end : (is_failure : Bool) (code : ℕ) → ◌≡◌ {A = ℕ} (if is_failure then 1 else 7) code → IsEnd code → ⊥
+no_end true code is (inl is_0) = omega (arith, is, is_0)
+no_end true code is (inr between) = omega (arith, is, between.0)
+no_end false code is (inl is_0) = omega (arith, is, is_0)
+no_end false code is (inr between) = omega (arith, is, between.1)
 
--- 0 is no fault's exit status
-pub ended_well : {X : Type 0} (outcome : Result Status Fault) → outcome_code outcome ≡ 0 → OnOk outcome X → X
-ended_well (Ok status) is_0 holds = holds
-ended_well (Err failed) is_0 holds = absurd (is_no_0 (list_any (λ failure. failure == fault_number failed) failures) is_0)
+-- such an exit status is no fault's
+pub ended_well : {X : Status → Type 0} (outcome : Result Status Fault) (code : ℕ) → outcome_code outcome ≡ code → IsEnd code → IfOk outcome X
+    → (status : Status) × (status_code status ≡ code) × X status
+ended_well (Ok status) code is ends holds = (status, is, holds)
+ended_well (Err failed) code is ends holds = absurd (no_end (list_any (λ failure. failure == fault_number failed) failures) code is ends)
+
+no_7 : (status : Status) → status_code status ≡ 7 → ⊥
+no_7 Done is_7 = omega (arith, is_7)
+no_7 Insecure is_7 = omega (arith, is_7)
+no_7 Pending is_7 = omega (arith, is_7)
+no_7 Bogus is_7 = omega (arith, is_7)
+no_7 Indeterminate is_7 = omega (arith, is_7)
+
+no_1 : (status : Status) → status_code status ≡ 1 → ⊥
+no_1 Done is_1 = omega (arith, is_1)
+no_1 Insecure is_1 = omega (arith, is_1)
+no_1 Pending is_1 = omega (arith, is_1)
+no_1 Bogus is_1 = omega (arith, is_1)
+no_1 Indeterminate is_1 = omega (arith, is_1)
 
 -- 7 is the exit status of a refusal alone
 pub ended_refused : (outcome : Result Status Fault) → outcome_code outcome ≡ 7
     → (why : Refusal) × (place : Place) × (outcome ≡ Err (fault.Refused why place))
-ended_refused (Ok Done) is_7 = absurd (omega (arith, is_7))
+ended_refused (Ok status) is_7 = absurd (no_7 status is_7)
 ended_refused (Err fault.OutOfMemory) is_7 = absurd (omega (arith, is_7))
 ended_refused (Err (fault.ReadFailed file)) is_7 = absurd (omega (arith, is_7))
 ended_refused (Err (fault.TooLong file)) is_7 = absurd (omega (arith, is_7))
@@ -54,6 +76,14 @@ ended_refused (Err fault.WriteFailed) is_7 = absurd (omega (arith, is_7))
 ended_refused (Err (fault.Refused why place)) is_7 = (why, place, refl)
 
 refusal_ends_with_7 : (why : Refusal) → fault_code (refusal_number why) ≡ 7
+refusal_ends_with_7 refusal.BadEscape = refl
+refusal_ends_with_7 refusal.EmptyLabel = refl
+refusal_ends_with_7 refusal.LongLabel = refl
+refusal_ends_with_7 refusal.LongQuestionName = refl
+refusal_ends_with_7 refusal.NotAbsolute = refl
+refusal_ends_with_7 refusal.AnchorSyntax = refl
+refusal_ends_with_7 refusal.TooManyAnchors = refl
+refusal_ends_with_7 refusal.BadQuestion = refl
 refusal_ends_with_7 refusal.Short = refl
 refusal_ends_with_7 refusal.BadLabel = refl
 refusal_ends_with_7 refusal.BadPointer = refl
@@ -72,7 +102,7 @@ refusal_ends_with_7 refusal.Contradiction = refl
 -- 1 is the exit status of a failed write, or of a fault that left the output as it was
 pub ended_failed : {Same Begun : Type 0} (outcome : Result Status Fault) → outcome_code outcome ≡ 1
     → IfErr outcome (λ failed. (failed ≡ fault.WriteFailed → ⊥) → Same) → (outcome ≡ Err fault.WriteFailed → Begun) → Same ⊎ Begun
-ended_failed (Ok Done) is_1 untouched begun = absurd (omega (arith, is_1))
+ended_failed (Ok status) is_1 untouched begun = absurd (no_1 status is_1)
 ended_failed (Err fault.OutOfMemory) is_1 untouched begun = inl (untouched (λ is. cc))
 ended_failed (Err (fault.ReadFailed file)) is_1 untouched begun = inl (untouched (λ is. cc))
 ended_failed (Err (fault.TooLong file)) is_1 untouched begun = inl (untouched (λ is. cc))
@@ -87,17 +117,22 @@ left_alone code is_1 (inr same) = same
 
 pub began : (given : Option (List (List ℕ))) (octets_at : List ℕ → Option (List ℕ)) (old new : Option (List ℕ)) (request : Request)
     → IfSome given (λ words. IsAccepted words request)
-    → ((files : Files) → AreFilesAt octets_at request files → (text : List ℕ) × IsTextOf request files text × AppendsBeginning old new text)
+    → ((files : Files) → AreFilesAt octets_at request files → (status : Status) × (text : List ℕ) × IsTextOf request files status text × AppendsBeginning old new text)
     → IfSome given (λ words. BeganText words octets_at old new)
 began None octets_at old new request accepted text = tt
 began (Some words) octets_at old new request accepted text = record { request = request; accepted = accepted; text = text }
 
-pub wrote : (given : Option (List (List ℕ))) (octets_at : List ℕ → Option (List ℕ)) (old new : Option (List ℕ)) (request : Request)
+pub wrote : (given : Option (List (List ℕ))) (octets_at : List ℕ → Option (List ℕ)) (old new : Option (List ℕ)) (request : Request) (code : ℕ)
     → IfSome given (λ words. IsAccepted words request)
-    → ((files : Files) → AreFilesAt octets_at request files → (text : List ℕ) × IsTextOf request files text × Appends old new text)
-    → IfSome given (λ words. WroteText words octets_at old new ⊎ RefusedWords words 0)
-wrote None octets_at old new request accepted text = tt
-wrote (Some words) octets_at old new request accepted text = inl (record { request = request; accepted = accepted; text = text })
+    → ((files : Files) → AreFilesAt octets_at request files
+    → (status : Status) × (status_code status ≡ code) × ((text : List ℕ) × IsTextOf request files status text × Appends old new text))
+    → IfSome given (λ words. WroteText words octets_at old new code ⊎ RefusedWords words code)
+wrote None octets_at old new request code accepted text = tt
+wrote (Some words) octets_at old new request code accepted text = inl (record {
+  request = request;
+  accepted = accepted;
+  text = λ files are. let ended = text files are in (ended.0, ended.2.0, ended.2.1, ended.1, ended.2.2);
+})
 
 pub refused : (given : Option (List (List ℕ))) (octets_at : List ℕ → Option (List ℕ)) (request : Request) (why : Refusal) (place : Place)
     → IfSome given (λ words. IsAccepted words request)
@@ -106,3 +141,36 @@ pub refused : (given : Option (List (List ℕ))) (octets_at : List ℕ → Optio
 refused None octets_at request why place accepted holds = tt
 refused (Some words) octets_at request why place accepted holds =
     record { request = request; accepted = accepted; refused = λ files are. (why, place, holds files are) }
+
+-- ---- files that don't open
+
+-- a file that opens is none that doesn't
+opened_first : (opens : List ℕ → Bool) (file : InputFile) (path : List ℕ) (others : List (InputFile × List ℕ)) → opens path ≡ true
+    → first_unopened opens ((file, path) ∷ others) ≡ first_unopened opens others
+opened_first opens file path others opened = rw opened refl
+
+module _ (opens : List ℕ → Bool) (request : Request) (path : List ℕ) (anchors : Option (List ℕ)) where
+  abbrev Behind : List (InputFile × List ℕ)
+  Behind = given_path Statements (statements_of request) []
+
+  capture_opened : true ≡ opens path → path ≡ capture_of request
+      → first_unopened opens (paths_of request) ≡ first_unopened opens (given_path Anchors (anchors_of request) Behind)
+  capture_opened opened is_path =
+      opened_first opens Capture (capture_of request) (given_path Anchors (anchors_of request) Behind) (ap opens (sym is_path) ∙ sym opened)
+
+  pub unopened_anchors : (told : Fault) → true ≡ opens path → path ≡ capture_of request → anchors ≡ anchors_of request
+      → ((others : List (InputFile × List ℕ)) → IsUnopened (first_unopened opens (given_path Anchors anchors others)) told)
+      → IsUnopened (first_unopened opens (paths_of request)) told
+  unopened_anchors told opened is_path are unopened =
+      subst (λ first. IsUnopened first told) (sym (capture_opened opened is_path))
+      (subst (λ given. IsUnopened (first_unopened opens (given_path Anchors given Behind)) told) are (unopened Behind))
+
+  pub unopened_statements : (statements : Option (List ℕ)) (told : Fault) → true ≡ opens path → path ≡ capture_of request → anchors ≡ anchors_of request
+      → ((others : List (InputFile × List ℕ)) → first_unopened opens (given_path Anchors anchors others) ≡ first_unopened opens others)
+      → statements ≡ statements_of request
+      → ((others : List (InputFile × List ℕ)) → IsUnopened (first_unopened opens (given_path Statements statements others)) told)
+      → IsUnopened (first_unopened opens (paths_of request)) told
+  unopened_statements statements told opened is_path are passed said unopened =
+      subst (λ first. IsUnopened first told)
+      (sym (capture_opened opened is_path ∙ ap (λ given. first_unopened opens (given_path Anchors given Behind)) (sym are) ∙ passed Behind))
+      (subst (λ given. IsUnopened (first_unopened opens (given_path Statements given [])) told) said (unopened []))

@@ -22,6 +22,31 @@ moment_rule = record (new_rule (codes "moment")) {
   required = true;
 }
 
+-- `--anchors FILE`, which has to be there
+abbrev pub anchors_rule : Rule
+anchors_rule = record (new_rule (codes "anchors")) {
+  long = Some (codes "anchors");
+  value_names = 1;
+  required = true;
+}
+
+-- `--name NAME`, which has to be there
+abbrev pub name_rule : Rule
+name_rule = record (new_rule (codes "name")) {
+  long = Some (codes "name");
+  value_names = 1;
+  required = true;
+}
+
+-- `--type N`, which has to be there, with a decimal number up to 65535
+abbrev pub type_rule : Rule
+type_rule = record (new_rule (codes "type")) {
+  long = Some (codes "type");
+  value_names = 1;
+  parser = Some (parser.Unsigned 0 65535);
+  required = true;
+}
+
 -- `--statements FILE`
 abbrev pub statements_rule : Rule
 statements_rule = record (new_rule (codes "statements")) {
@@ -45,6 +70,11 @@ abbrev pub list_app : App
 list_app = with_rule (with_rule (with_rule (with_rule (new_app (codes "list")) capture_rule) moment_rule)
     statements_rule) all_rule
 
+-- `check --capture FILE --anchors FILE --moment N --name NAME --type N [--statements FILE]`
+abbrev pub check_app : App
+check_app = with_rule (with_rule (with_rule (with_rule (with_rule (with_rule (new_app (codes "check"))
+    capture_rule) anchors_rule) moment_rule) name_rule) type_rule) statements_rule
+
 -- the program, which wants one of its subcommands
 abbrev pub bare_app : App
 bare_app = record (new_app (codes "dnssec_check")) {
@@ -55,4 +85,4 @@ bare_app = record (new_app (codes "dnssec_check")) {
 }
 
 abbrev pub program_app : App
-program_app = with_subcommand (with_subcommand bare_app show_app.top) list_app.top
+program_app = with_subcommand (with_subcommand (with_subcommand bare_app show_app.top) list_app.top) check_app.top

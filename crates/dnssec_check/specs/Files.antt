@@ -8,6 +8,7 @@ use Rattle.dnssec_check.specs.declared.run.Inputs.{Inputs}
 -- the octets of each file; one that isn't given has none
 pub record Files : Type 0 where
   pub capture : List ℕ
+  pub anchors : Option (List ℕ)
   pub statements : Option (List ℕ)
 
 -- the octets of a file, or none where it isn't given
@@ -26,4 +27,5 @@ given_failures reader = option_map_or failures_of reader 0
 -- the readers tell the octets of these files
 pub record AreTold {R : Type 0} (remaining : R → Option (List ℕ)) (inputs : Inputs R) (files : Files) : Type 0 where
   pub capture : remaining (inner_of inputs.capture) ≡ Some files.capture
+  pub anchors : IsToldBy remaining inputs.anchors files.anchors
   pub statements : IsToldBy remaining inputs.statements files.statements

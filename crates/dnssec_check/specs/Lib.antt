@@ -1,4 +1,6 @@
+pub mod AnchorsFile
 pub mod CaptureFile
+pub mod Checking
 pub mod Commands
 pub mod FileFaults
 pub mod Files
@@ -7,6 +9,7 @@ pub mod Line
 pub mod Listing
 pub mod Moment
 pub mod Program
+pub mod Question
 pub mod Request
 pub mod Run
 pub mod Showing

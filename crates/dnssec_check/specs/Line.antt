@@ -21,10 +21,10 @@ use Rattle.dnssec_check.specs.declared.line.LineError.TheVariants as line
 
 -- ---- what the words ask for
 
--- the moment that a text says: decimal digits, which may follow a `+`
-abbrev pub moment_said : Text → Option ℕ
-moment_said text =
-    if is_unsigned_in 0 last_moment text then Some (digits_value 10 (without_leading_plus text))
+-- the number up to the last that a text says: decimal digits, which may follow a `+`
+abbrev pub number_said : ℕ → Text → Option ℕ
+number_said last text =
+    if is_unsigned_in 0 last text then Some (digits_value 10 (without_leading_plus text))
     else None
 
 -- whether a flag was given, by its text
@@ -38,9 +38,16 @@ Asks name rows (request.Show capture) = (name ≡ codes "show")
     × (first_of (codes "capture") rows ≡ Some (string_bytes capture))
 Asks name rows (request.List capture moment statements all) = (name ≡ codes "list")
     × (first_of (codes "capture") rows ≡ Some (string_bytes capture))
-    × (option_and_then moment_said (first_of (codes "moment") rows) ≡ Some moment)
+    × (option_and_then (number_said last_moment) (first_of (codes "moment") rows) ≡ Some moment)
     × (first_of (codes "statements") rows ≡ option_map string_bytes statements)
     × (flag_said (one_of (codes "all") rows) ≡ all)
+Asks name rows (request.Check capture anchors moment asked rtype statements) = (name ≡ codes "check")
+    × (first_of (codes "capture") rows ≡ Some (string_bytes capture))
+    × (first_of (codes "anchors") rows ≡ Some (string_bytes anchors))
+    × (option_and_then (number_said last_moment) (first_of (codes "moment") rows) ≡ Some moment)
+    × (first_of (codes "name") rows ≡ Some (string_bytes asked))
+    × (option_and_then (number_said 65535) (first_of (codes "type") rows) ≡ Some rtype.0)
+    × (first_of (codes "statements") rows ≡ option_map string_bytes statements)
 
 -- the program takes the words, and their subcommand and its values ask for the request
 abbrev pub IsAccepted : List Text → Request → Type 0
@@ -79,7 +86,7 @@ line_code line.NotText = 2
 line_code (line.Help refusal) = 0
 line_code (line.Misused refusal) = 2
 
--- ---- what `show` and `list` need of their matches
+-- ---- what the subcommands need of their matches
 
 abbrev pub HasValue : Text → List Row → Type 0
 HasValue option rows = is_some (first_of option rows) ≡ true
@@ -87,14 +94,19 @@ HasValue option rows = is_some (first_of option rows) ≡ true
 abbrev pub HasCapture : List Row → Type 0
 HasCapture rows = HasValue (codes "capture") rows
 
--- a text within the bounds of a moment
-abbrev pub HasMoment : List Row → Type 0
-HasMoment rows = (text : Text) × (first_of (codes "moment") rows ≡ Some text)
-    × (one_of (codes "moment") rows ≡ Some text) × (is_unsigned_in 0 last_moment text ≡ true)
+-- the text of a number up to the last
+abbrev pub HasNumber : Text → ℕ → List Row → Type 0
+HasNumber option last rows = (text : Text) × (first_of option rows ≡ Some text)
+    × (one_of option rows ≡ Some text) × (is_unsigned_in 0 last text ≡ true)
 
 -- the text of a flag is a truth value's, or it has none
 abbrev pub IsFlag : Option Text → Type 0
 IsFlag text = (text ≡ None) ⊎ ((text ≡ Some (codes "true")) ⊎ (text ≡ Some (codes "false")))
 
 abbrev pub HasListValues : List Row → Type 0
-HasListValues rows = HasCapture rows × HasMoment rows × IsFlag (one_of (codes "all") rows)
+HasListValues rows = HasCapture rows × HasNumber (codes "moment") last_moment rows × IsFlag (one_of (codes "all") rows)
+
+abbrev pub HasCheckValues : List Row → Type 0
+HasCheckValues rows = HasCapture rows × HasValue (codes "anchors") rows
+    × HasNumber (codes "moment") last_moment rows × HasValue (codes "name") rows
+    × HasNumber (codes "type") 65535 rows

@@ -1,5 +1,5 @@
 -- How the program ends, where its machine tells the words of the command line and the octets of files.
-use Rattle.std.specs.Prelude.{◌≡◌, ℕ, Bool, not, List, [], ◌∷◌, ◌++◌, Option, Some, None, find}
+use Rattle.std.specs.Prelude.{◌≡◌, ◌⊎◌, ◌≤◌, ℕ, Bool, not, List, [], ◌∷◌, ◌++◌, Option, Some, None, find}
 use Rattle.std.specs.Option.{option_map}
 use Rattle.std.specs.Io.KnownBytes.{Appends}
 use Rattle.dnsv_message.specs.Counted.{AppendsBeginning}
@@ -8,29 +8,33 @@ use Rattle.dnssec_check.specs.declared.request.Request.{Request}
 use Rattle.dnssec_check.specs.declared.line.LineError.{LineError}
 use Rattle.dnssec_check.specs.declared.status.Fault.TheVariants as fault
 use Rattle.dnssec_check.specs.declared.status.InputFile.{InputFile}
-use Rattle.dnssec_check.specs.declared.status.InputFile.TheVariants.{Capture, Statements}
+use Rattle.dnssec_check.specs.declared.status.InputFile.TheVariants.{Anchors, Capture, Statements}
+use Rattle.dnssec_check.specs.declared.status.Status.{Status}
 use Rattle.dnssec_check.specs.declared.status.Place.{Place}
 use Rattle.dnssec_check.specs.declared.status.Refusal.{Refusal}
 use Rattle.dnssec_check.specs.Files.{Files}
 use Rattle.dnssec_check.specs.Line.{IsAccepted, IsRefused, line_code}
-use Rattle.dnssec_check.specs.Request.{capture_of, statements_of}
+use Rattle.dnssec_check.specs.Request.{anchors_of, capture_of, statements_of}
 use Rattle.dnssec_check.specs.Run.{IsTextOf, IsFirstFault}
+use Rattle.dnssec_check.specs.Status.{status_code}
 
 -- ---- files
 
 -- the files that the request names hold these octets
 pub record AreFilesAt (octets_at : List ℕ → Option (List ℕ)) (request : Request) (files : Files) : Type 0 where
   pub capture : octets_at (capture_of request) ≡ Some files.capture
+  pub anchors : option_map octets_at (anchors_of request) ≡ option_map (λ octets. Some octets) files.anchors
   pub statements : option_map octets_at (statements_of request) ≡ option_map (λ octets. Some octets) files.statements
 
--- a file with its path, where one is given
-abbrev pub given_path : InputFile → Option (List ℕ) → List (InputFile × List ℕ)
-given_path file None = []
-given_path file (Some path) = (file, path) ∷ []
+-- a file with its path, where one is given, before others
+abbrev pub given_path : InputFile → Option (List ℕ) → List (InputFile × List ℕ) → List (InputFile × List ℕ)
+given_path file None others = others
+given_path file (Some path) others = (file, path) ∷ others
 
 -- the files of a request with their paths, in the order in which they are opened
 abbrev pub paths_of : Request → List (InputFile × List ℕ)
-paths_of request = (Capture, capture_of request) ∷ given_path Statements (statements_of request)
+paths_of request = (Capture, capture_of request)
+    ∷ given_path Anchors (anchors_of request) (given_path Statements (statements_of request) [])
 
 -- the first of the files that doesn't open
 abbrev pub first_unopened : (List ℕ → Bool) → List (InputFile × List ℕ) → Option InputFile
@@ -38,13 +42,19 @@ first_unopened opens paths = option_map (λ file. file.0) (find (λ file. not (o
 
 -- ---- ends
 
--- the words ask for something, and the output got just what the files that they name have for it
+-- the exit statuses of a whole text
+abbrev pub IsEnd : ℕ → Type 0
+IsEnd code = (code ≡ 0) ⊎ ((3 ≤ code) × (code ≤ 6))
+
+-- the words ask for something, and the output got just what the files that they name have for it, which ends with
+-- this exit status
 pub record WroteText (words : List Text) (octets_at : List ℕ → Option (List ℕ))
-    (old new : Option (List ℕ)) : Type 0 where
+    (old new : Option (List ℕ)) (code : ℕ) : Type 0 where
   pub request : Request
   pub accepted : IsAccepted words request
   pub text : (files : Files) → AreFilesAt octets_at request files
-      → (text : List ℕ) × IsTextOf request files text × Appends old new text
+      → (status : Status) × (text : List ℕ) × IsTextOf request files status text
+      × (status_code status ≡ code) × Appends old new text
 
 -- the words ask for something, and the output got a beginning of what the files that they name have for it
 pub record BeganText (words : List Text) (octets_at : List ℕ → Option (List ℕ))
@@ -52,7 +62,7 @@ pub record BeganText (words : List Text) (octets_at : List ℕ → Option (List 
   pub request : Request
   pub accepted : IsAccepted words request
   pub text : (files : Files) → AreFilesAt octets_at request files
-      → (text : List ℕ) × IsTextOf request files text × AppendsBeginning old new text
+      → (status : Status) × (text : List ℕ) × IsTextOf request files status text × AppendsBeginning old new text
 
 -- the words ask for something, and the first fault of the files that they name is a refusal
 pub record RefusedFiles (words : List Text) (octets_at : List ℕ → Option (List ℕ)) : Type 0 where

@@ -1,32 +1,80 @@
 -- What a request asks of its files, and what is their first fault.
-use Rattle.std.specs.Prelude.{◌⊎◌, ℕ, true, false, List}
+use Rattle.std.specs.Prelude.{◌≡◌, ◌⊎◌, ℕ, true, false, List, string_bytes}
+use Rattle.dnsv_names.specs.Name.{Labels}
 use Rattle.dnsv_message.specs.Message.{Contents}
+use Rattle.dnsv_canonical.specs.Rrsets.{IsQuestion}
+use Rattle.dnsv_chain.specs.declared.anchor.Anchor.{Anchor}
 use Rattle.dnssec_check.specs.declared.request.Request.{Request}
 use Rattle.dnssec_check.specs.declared.request.Request.TheVariants as request
 use Rattle.dnssec_check.specs.declared.status.Fault.{Fault}
+use Rattle.dnssec_check.specs.declared.status.Fault.TheVariants as fault
+use Rattle.dnssec_check.specs.declared.status.Status.{Status}
+use Rattle.dnssec_check.specs.declared.status.Status.TheVariants.{Done}
+use Rattle.dnssec_check.specs.AnchorsFile.{HasAnchors, IsFaultOfAnchors}
 use Rattle.dnssec_check.specs.CaptureFile.{AnyMessage, NewEvidence, Holds, IsFaultOfCapture}
+use Rattle.dnssec_check.specs.Checking.{IsCheck}
 use Rattle.dnssec_check.specs.Files.{Files, octets_or_none}
 use Rattle.dnssec_check.specs.Listing.{IsListing}
+use Rattle.dnssec_check.specs.Question.{IsQuestionRefused, Spells}
 use Rattle.dnssec_check.specs.Showing.{IsShowing}
 use Rattle.dnssec_check.specs.StatementsFile.{IsFaultOfStatements}
 use Rattle.dnssec_check.specs.Todo.{IsTodo}
 
--- the files have this text
-abbrev pub IsTextOf : Request → Files → List ℕ → Type 0
-IsTextOf (request.Show capture) files text = IsShowing files.capture text
-IsTextOf (request.List capture moment statements true) files text = IsListing files.capture text
-IsTextOf (request.List capture moment statements false) files text = IsTodo moment files text
+-- ---- the text
+
+-- the question is one that can be asked, and the end and the text are those of its check
+abbrev pub IsAnswered : List ℕ → ℕ → ℕ → Files → Status → List ℕ → Type 0
+IsAnswered asked rtype moment files end text =
+    (name : Labels) × Spells asked name × IsQuestion name rtype × IsCheck name rtype moment files end text
+
+-- over these files the request ends so, with this text
+abbrev pub IsTextOf : Request → Files → Status → List ℕ → Type 0
+IsTextOf (request.Show capture) files end text = (end ≡ Done) × IsShowing files.capture text
+IsTextOf (request.List capture moment statements true) files end text = (end ≡ Done) × IsListing files.capture text
+IsTextOf (request.List capture moment statements false) files end text = (end ≡ Done) × IsTodo moment files text
+IsTextOf (request.Check capture anchors moment asked rtype statements) files end text =
+    IsAnswered (string_bytes asked) rtype.0 moment files end text
+
+-- ---- the first fault
+
+-- the file holds messages, each of them evidence besides those before it
+abbrev pub HasEvidence : List ℕ → Type 0
+HasEvidence file = (messages : List Contents) × Holds NewEvidence file messages
 
 -- the file of captured messages has this fault; or it has none, and the file of statements has it
 abbrev pub IsFirstFaultOfTodo : Files → Fault → Type 0
 IsFirstFaultOfTodo files fault =
     IsFaultOfCapture NewEvidence files.capture fault
-    ⊎ (((messages : List Contents) × Holds NewEvidence files.capture messages)
+    ⊎ (HasEvidence files.capture × IsFaultOfStatements (octets_or_none files.statements) fault)
+
+-- behind the file of captured messages, the first fault is in the trust anchors, and then in the statements
+abbrev pub IsFirstFaultBehind : Files → Fault → Type 0
+IsFirstFaultBehind files fault =
+    IsFaultOfAnchors (octets_or_none files.anchors) fault
+    ⊎ (((anchors : List Anchor) × HasAnchors (octets_or_none files.anchors) anchors)
     × IsFaultOfStatements (octets_or_none files.statements) fault)
 
--- the first fault of the files, in the order of the work
+abbrev pub IsFirstFaultOfFiles : Files → Fault → Type 0
+IsFirstFaultOfFiles files fault =
+    IsFaultOfCapture NewEvidence files.capture fault
+    ⊎ (HasEvidence files.capture × IsFirstFaultBehind files fault)
+
+-- the question is refused so
+abbrev pub IsFaultOfQuestion : List ℕ → ℕ → Fault → Type 0
+IsFaultOfQuestion asked rtype (fault.Refused why place) = IsQuestionRefused asked rtype why place
+IsFaultOfQuestion asked rtype _ = ⊥
+
+-- the question is refused, and else the first of the files that is at fault has this fault
+abbrev pub IsFirstFaultOfCheck : List ℕ → ℕ → Files → Fault → Type 0
+IsFirstFaultOfCheck asked rtype files fault =
+    IsFaultOfQuestion asked rtype fault
+    ⊎ (((name : Labels) × Spells asked name × IsQuestion name rtype) × IsFirstFaultOfFiles files fault)
+
+-- the first fault, in the order of the work
 abbrev pub IsFirstFault : Request → Files → Fault → Type 0
 IsFirstFault (request.Show capture) files fault = IsFaultOfCapture AnyMessage files.capture fault
 IsFirstFault (request.List capture moment statements true) files fault =
     IsFaultOfCapture NewEvidence files.capture fault
 IsFirstFault (request.List capture moment statements false) files fault = IsFirstFaultOfTodo files fault
+IsFirstFault (request.Check capture anchors moment asked rtype statements) files fault =
+    IsFirstFaultOfCheck (string_bytes asked) rtype.0 files fault

@@ -8,9 +8,9 @@ use Rattle.dnsv_message.specs.declared.errors.DecodeError.TheVariants as decode
 use Rattle.dnsv_canonical.specs.declared.capture.CaptureError.{CaptureError}
 use Rattle.dnsv_canonical.specs.declared.capture.CaptureError.TheVariants as capture
 use Rattle.dnssec_check.specs.declared.status.Status.{Status}
-use Rattle.dnssec_check.specs.declared.status.Status.TheVariants.{Done}
+use Rattle.dnssec_check.specs.declared.status.Status.TheVariants.{Done, Insecure, Pending, Bogus, Indeterminate}
 use Rattle.dnssec_check.specs.declared.status.InputFile.{InputFile}
-use Rattle.dnssec_check.specs.declared.status.InputFile.TheVariants.{Capture, Statements}
+use Rattle.dnssec_check.specs.declared.status.InputFile.TheVariants.{Anchors, Capture, Statements}
 use Rattle.dnssec_check.specs.declared.status.Refusal.{Refusal}
 use Rattle.dnssec_check.specs.declared.status.Refusal.TheVariants as refusal
 use Rattle.dnssec_check.specs.declared.status.Place.{Place}
@@ -20,10 +20,19 @@ use Rattle.dnssec_check.specs.declared.status.Fault.TheVariants as fault
 -- the exit status of a run that wrote its text
 abbrev pub status_code : Status → ℕ
 status_code Done = 0
+status_code Insecure = 3
+status_code Pending = 4
+status_code Bogus = 5
+status_code Indeterminate = 6
 
 -- ---- faults and their numbers
 
 abbrev pub refusal_number : Refusal → ℕ
+refusal_number refusal.BadEscape = 101
+refusal_number refusal.EmptyLabel = 102
+refusal_number refusal.LongLabel = 103
+refusal_number refusal.LongQuestionName = 104
+refusal_number refusal.NotAbsolute = 105
 refusal_number refusal.Short = 201
 refusal_number refusal.BadLabel = 202
 refusal_number refusal.BadPointer = 203
@@ -38,6 +47,9 @@ refusal_number refusal.Truncated = 402
 refusal_number refusal.Limit = 403
 refusal_number refusal.StatementSyntax = 501
 refusal_number refusal.Contradiction = 502
+refusal_number refusal.AnchorSyntax = 601
+refusal_number refusal.TooManyAnchors = 602
+refusal_number refusal.BadQuestion = 701
 
 abbrev pub fault_number : Fault → ℕ
 fault_number fault.OutOfMemory = 90
@@ -84,6 +96,7 @@ TellsCaptureError capture.Limit why number = (why ≡ refusal.Limit) × (number 
 -- the word of the option that names the file
 abbrev pub file_word : InputFile → List ℕ
 file_word Capture = codes "capture"
+file_word Anchors = codes "anchors"
 file_word Statements = codes "statements"
 
 -- a word and the number behind it, or nothing where there is none

@@ -17,6 +17,9 @@ use Rattle.dnsv_canonical.specs.Evidence.{Evidence}
 use Rattle.dnssec_check.specs.CaptureFile.{Demand, MessageRefused}
 use Rattle.dnsv_verifier.specs.declared.statements.StatementsError.{StatementsError}
 use Rattle.dnsv_verifier.specs.declared.statements.StatementsError.TheVariants as statements
+use Rattle.dnsv_chain.specs.declared.anchors.AnchorsError.{AnchorsError}
+use Rattle.dnsv_chain.specs.declared.anchors.AnchorsError.TheVariants as anchors
+use Rattle.dnssec_check.specs.AnchorsFile.{TellsAnchorsError}
 use Rattle.dnssec_check.specs.StatementsFile.{TellsStatementsError}
 use Rattle.dnssec_check.specs.Status.{TellsMessageError, TellsCaptureError}
 
@@ -49,6 +52,12 @@ abbrev pub IsStatementsFault : StatementsError → Fault → Type 0
 IsStatementsFault statements.OutOfMemory told = told ≡ fault.OutOfMemory
 IsStatementsFault error (fault.Refused why place) = TellsStatementsError error why place
 IsStatementsFault error _ = ⊥
+
+-- the fault tells the error of a file of trust anchors
+abbrev pub IsAnchorsFault : AnchorsError → Fault → Type 0
+IsAnchorsFault anchors.OutOfMemory told = told ≡ fault.OutOfMemory
+IsAnchorsFault error (fault.Refused why place) = TellsAnchorsError error why place
+IsAnchorsFault error _ = ⊥
 
 -- the fault is a refusal of which this holds, or the want of memory
 abbrev pub IsFaultOf : (Refusal → Place → Type 0) → Fault → Type 0

@@ -95,10 +95,13 @@ fn list(alloc: Global, all: bool) -> Result<Request, Fail> {
 fn printed(alloc: Global, request: Request, file: &[u8]) -> Result<Vec<u8>, Fail> {
     let mut inputs = Inputs {
         capture: Counted::new(file),
+        anchors: None,
         statements: None,
     };
     let mut output = Counted::new(Vec::new(alloc));
-    let Status::Done = run(alloc, &request, &mut inputs, &mut output)?;
+    if run(alloc, &request, &mut inputs, &mut output)? != Status::Done {
+        return Err(Fail::from("another end"));
+    }
     Ok(output.into_inner())
 }
 

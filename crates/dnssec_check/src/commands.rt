@@ -3,7 +3,8 @@ ghost use Rattle.std.specs.Prelude.{◌≡◌, false, IfOk};
 ghost use Rattle.clap.specs.Words.{app_of, rule_of};
 ghost use Rattle.clap.specs.declared.Command.TheViews.{out-Command as fields_of};
 ghost use Rattle.dnssec_check.specs.Commands.{all_rule, capture_rule, moment_rule, statements_rule};
-ghost use Rattle.dnssec_check.specs.Commands.{list_app, program_app, show_app};
+ghost use Rattle.dnssec_check.specs.Commands.{anchors_rule, name_rule, type_rule};
+ghost use Rattle.dnssec_check.specs.Commands.{check_app, list_app, program_app, show_app};
 
 use crate::moment::Moment;
 use clap::{Arg, ArgAction, Command, value_parser};
@@ -18,7 +19,8 @@ pub fn program<'a>(alloc: Global) -> Result<Command<'a>, AllocError>
         .disable_help_subcommand(true)
         .subcommand_required(true)
         .subcommand(show(alloc)?)?
-        .subcommand(list(alloc)?)
+        .subcommand(list(alloc)?)?
+        .subcommand(check(alloc)?)
 }
 
 /// The subcommand `show`.
@@ -44,6 +46,21 @@ fn list<'a>(alloc: Global) -> Result<Command<'a>, AllocError>
         .arg(all_flag(alloc))
 }
 
+/// The subcommand `check`.
+fn check<'a>(alloc: Global) -> Result<Command<'a>, AllocError>
+    ensures { IfOk result (λ command. (app_of command ≡ check_app)
+        × ((fields_of command).has_globals ≡ false)) }
+{
+    Command::new(alloc, "check")
+        .about("Says what the captured messages prove of a name and a type")
+        .arg(capture_option(alloc))?
+        .arg(anchors_option(alloc))?
+        .arg(moment_option(alloc))?
+        .arg(name_option(alloc))?
+        .arg(type_option(alloc))?
+        .arg(statements_option(alloc))
+}
+
 /// `--capture FILE`
 fn capture_option<'a>(alloc: Global) -> Arg<'a>
     ensures rule { rule_of result ≡ capture_rule }
@@ -53,6 +70,45 @@ fn capture_option<'a>(alloc: Global) -> Arg<'a>
         .long("capture")
         .value_name("FILE")
         .help("The captured messages, each behind its length in two octets")
+        .required(true)
+}
+
+/// `--anchors FILE`
+fn anchors_option<'a>(alloc: Global) -> Arg<'a>
+    ensures rule { rule_of result ≡ anchors_rule }
+    ensures local { result.global ≡ false }
+{
+    Arg::new(alloc, "anchors")
+        .long("anchors")
+        .value_name("FILE")
+        .help(
+            "The trust anchors: lines `DS NAME TAG ALG TYPE HEX` or `KEY NAME FLAGS 3 ALG BASE64`",
+        )
+        .required(true)
+}
+
+/// `--name NAME`
+fn name_option<'a>(alloc: Global) -> Arg<'a>
+    ensures rule { rule_of result ≡ name_rule }
+    ensures local { result.global ≡ false }
+{
+    Arg::new(alloc, "name")
+        .long("name")
+        .value_name("NAME")
+        .help("The name that is asked for, which ends with a dot")
+        .required(true)
+}
+
+/// `--type N`
+fn type_option<'a>(alloc: Global) -> Arg<'a>
+    ensures rule { rule_of result ≡ type_rule }
+    ensures local { result.global ≡ false }
+{
+    Arg::new(alloc, "type")
+        .long("type")
+        .value_name("N")
+        .help("The number of the type that is asked for, from 0 to 65535")
+        .value_parser(value_parser!(u64).range(0..=65_535))
         .required(true)
 }
 

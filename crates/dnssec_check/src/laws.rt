@@ -6,7 +6,9 @@ ghost use Rattle.dnssec_check.specs.CaptureFile.{AnyMessage, IsRefusal, NewEvide
 ghost use Rattle.dnssec_check.specs.Listing.{IsListing};
 ghost use Rattle.dnssec_check.specs.Showing.{IsShowing};
 ghost use Rattle.dnssec_check.specs.Files.{Files};
+ghost use Rattle.dnssec_check.specs.Request.{IsForMessages};
 ghost use Rattle.dnssec_check.specs.Run.{IsTextOf, IsFirstFault};
+ghost use Rattle.dnssec_check.specs.declared.status.Status.{Status};
 ghost use Rattle.dnssec_check.specs.declared.status.Fault.{Fault};
 ghost use Rattle.dnssec_check.specs.declared.request.Request.{Request};
 ghost use Rattle.dnssec_check.specs.declared.status.Place.{Place};
@@ -19,10 +21,10 @@ use dnsv_message::{
 use dnsv_records::record_laws;
 use dnsv_verifier::a_table_is_its_verifier;
 
-/// A request has at most one text for its files.
+/// A request to show or to list has at most one text for its files.
 pub fn one_text()
-    ensures { (asked : Request) (files : Files) → AreOctets files.capture → (a b : List ℕ)
-        → IsTextOf asked files a → IsTextOf asked files b → a ≡ b }
+    ensures { (asked : Request) (files : Files) → IsForMessages asked → AreOctets files.capture
+        → (s t : Status) (a b : List ℕ) → IsTextOf asked files s a → IsTextOf asked files t b → (s ≡ t) × (a ≡ b) }
 {
     one_message();
     no_fault_of_a_message();
@@ -34,10 +36,11 @@ pub fn one_text()
     a_table_is_its_verifier();
 }
 
-/// Files for which a request has a text have no fault.
+/// Files for which such a request has a text have no fault.
 pub fn no_fault_of_a_text()
-    ensures { (asked : Request) (files : Files) → AreOctets files.capture → (text : List ℕ) (fault : Fault)
-        → IsTextOf asked files text → IsFirstFault asked files fault → ⊥ }
+    ensures { (asked : Request) (files : Files) → IsForMessages asked → AreOctets files.capture
+        → (end : Status) (text : List ℕ) (fault : Fault)
+        → IsTextOf asked files end text → IsFirstFault asked files fault → ⊥ }
 {
     one_message();
     no_fault_of_a_message();
@@ -49,9 +52,9 @@ pub fn no_fault_of_a_text()
     a_table_is_its_verifier();
 }
 
-/// For a request files have at most one first fault.
+/// For such a request files have at most one first fault.
 pub fn one_first_fault()
-    ensures { (asked : Request) (files : Files) → AreOctets files.capture → (a b : Fault)
+    ensures { (asked : Request) (files : Files) → IsForMessages asked → AreOctets files.capture → (a b : Fault)
         → IsFirstFault asked files a → IsFirstFault asked files b → a ≡ b }
 {
     one_message();

@@ -1,10 +1,10 @@
 //! The command line.
-ghost use Rattle.std.specs.Prelude.{◌≡◌, ⊤, IfErr, IfOk, codes, map, string_bytes};
+ghost use Rattle.std.specs.Prelude.{◌≡◌, ◌≤◌, ⊤, IfErr, IfOk, codes, map, option_and_then, string_bytes};
 ghost use Rattle.std.specs.IoError.{error_kind as io_error_kind};
 ghost use Rattle.std.specs.Option.{option_map};
 ghost use Rattle.clap.specs.Words.{first_of, found_of, rows_of};
-ghost use Rattle.dnssec_check.specs.Line.{Asks, HasCapture, HasListValues, HasValue, IsAccepted, IsRefused};
-ghost use Rattle.dnssec_check.specs.Line.{line_code, line_error, words_error};
+ghost use Rattle.dnssec_check.specs.Line.{Asks, HasCapture, HasCheckValues, HasListValues, HasNumber, HasValue};
+ghost use Rattle.dnssec_check.specs.Line.{IsAccepted, IsRefused, line_code, line_error, number_said, words_error};
 ghost use Rattle.dnssec_check.specs.declared.line.LineError.TheVariants.{OutOfMemory};
 
 use crate::commands::program;
@@ -12,6 +12,7 @@ use crate::moment::Moment;
 use crate::request::Request;
 use clap::ArgMatches;
 use clap::error::ErrorKind;
+use dnsv_names::RecordType;
 use std::alloc::{AllocError, Global};
 use std::convert::AsStr;
 use std::io;
@@ -81,9 +82,10 @@ impl From<clap::Error> for LineError {
 
 /// Reads the words of the command line, of which the first is the program's name.
 ///
-/// Whatever `clap` takes for the commands `show --capture FILE` and
-/// `list --capture FILE --moment N [--statements FILE] [--all]` is a request, and each error is one that `clap`
-/// gives there, or the want of memory.
+/// Whatever `clap` takes for the commands `show --capture FILE`,
+/// `list --capture FILE --moment N [--statements FILE] [--all]` and
+/// `check --capture FILE --anchors FILE --moment N --name NAME --type N [--statements FILE]` is a request, and each
+/// error is one that `clap` gives there, or the want of memory.
 pub fn read_line<S: AsStr>(alloc: Global, words: &[S]) -> Result<Request, LineError>
     ensures accepted { IfOk result (λ request. IsAccepted (map S.text words.now) request) }
     ensures refused { IfErr result (λ error. IsRefused (map S.text words.now) error) }
@@ -92,8 +94,10 @@ pub fn read_line<S: AsStr>(alloc: Global, words: &[S]) -> Result<Request, LineEr
     let (name, values) = matches.subcommand().unwrap();
     if name == "show" {
         Ok(show_request(alloc, values)?)
-    } else {
+    } else if name == "list" {
         Ok(list_request(alloc, values)?)
+    } else {
+        Ok(check_request(alloc, values)?)
     }
 }
 
@@ -112,7 +116,7 @@ fn list_request(alloc: Global, list: &ArgMatches<'_>) -> Result<Request, AllocEr
     ensures { IfOk result (Asks (codes "list") (rows_of (found_of list.now))) }
 {
     let capture = value(alloc, list, "capture")?;
-    let moment = Moment::new(list.get_one::<u64>("moment").unwrap()).unwrap();
+    let moment = Moment::new(number(list, "moment", Moment::LAST)).unwrap();
     let statements = given_value(alloc, list, "statements")?;
     let all = list.get_flag("all");
     Ok(Request::List {
@@ -121,6 +125,37 @@ fn list_request(alloc: Global, list: &ArgMatches<'_>) -> Result<Request, AllocEr
         statements,
         all,
     })
+}
+
+/// The request of the matches of `check`.
+fn check_request(alloc: Global, check: &ArgMatches<'_>) -> Result<Request, AllocError>
+    requires { HasCheckValues (rows_of (found_of check.now)) }
+    ensures { IfOk result (Asks (codes "check") (rows_of (found_of check.now))) }
+{
+    let capture = value(alloc, check, "capture")?;
+    let anchors = value(alloc, check, "anchors")?;
+    let moment = Moment::new(number(check, "moment", Moment::LAST)).unwrap();
+    let name = value(alloc, check, "name")?;
+    let rtype = RecordType(number(check, "type", 65_535) as u16);
+    let statements = given_value(alloc, check, "statements")?;
+    Ok(Request::Check {
+        capture,
+        anchors,
+        moment,
+        name,
+        rtype,
+        statements,
+    })
+}
+
+/// The number of an option that is there, which is at most the last.
+fn number(matches: &ArgMatches<'_>, option: &str, last: u64) -> u64
+    requires { HasNumber option.now last (rows_of (found_of matches.now)) }
+    ensures said { option_and_then (number_said last) (first_of option.now (rows_of (found_of matches.now)))
+        ≡ Some result }
+    ensures bound { result ≤ last }
+{
+    matches.get_one::<u64>(option).unwrap()
 }
 
 /// The value of an option that is there.

@@ -1,9 +1,11 @@
 //! `dnssec_check`: what captured DNS messages prove.
 #![tactic(auto)]
 
+mod anchors_file;
 mod capture_file;
 #[cfg(test)]
 mod captures;
+mod checking;
 mod commands;
 mod hex_text;
 mod laws;
@@ -12,6 +14,7 @@ mod listing;
 mod machine;
 mod moment;
 mod program;
+mod question;
 mod request;
 mod run;
 #[cfg(test)]

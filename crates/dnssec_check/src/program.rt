@@ -1,11 +1,11 @@
 //! The program around the run: its words, its files, and how it tells that it failed.
-ghost use Rattle.std.specs.Prelude.{◌≡◌, ◌<◌, ◌⊎◌, ◌↔◌, Bool, IfErr, IfOk, IfSome, List, ℕ, OnOk, Option, is_ok};
+ghost use Rattle.std.specs.Prelude.{◌≡◌, ◌<◌, ◌≤◌, ◌⊎◌, ◌↔◌, Bool, IfErr, IfOk, IfSome, List, ℕ, OnOk, Option, is_ok};
 ghost use Rattle.std.specs.Option.{option_map};
 ghost use Rattle.std.specs.Io.KnownBytes.{Appends};
 ghost use Rattle.dnsv_message.specs.Counted.{inner_of, failures_of, AppendsBeginning};
 ghost use Rattle.dnssec_check.specs.Files.{AreTold, Files, IsToldBy};
 ghost use Rattle.dnssec_check.specs.Line.{IsAccepted, IsRefused, line_code};
-ghost use Rattle.dnssec_check.specs.Program.{AreFilesAt, BeganText, RefusedFiles, RefusedWords, WroteText};
+ghost use Rattle.dnssec_check.specs.Program.{AreFilesAt, BeganText, IsEnd, RefusedFiles, RefusedWords, WroteText};
 ghost use Rattle.dnssec_check.specs.Program.{first_unopened, given_path, paths_of};
 ghost use Rattle.dnssec_check.specs.Run.{IsTextOf, IsFirstFault};
 ghost use Rattle.dnssec_check.specs.Status.{outcome_code};
@@ -13,6 +13,7 @@ ghost use Rattle.dnssec_check.specs.Told.{IsOpenFault, IsUnopened};
 ghost use Rattle.dnssec_check.specs.declared.status.Fault.TheVariants as Fault;
 ghost use Rattle.dnssec_check.specs.declared.status.InputFile.{InputFile};
 ghost use Rattle.dnssec_check.specs.declared.status.Place.{Place};
+ghost use Rattle.dnssec_check.specs.declared.status.Status.{Status};
 ghost use Rattle.dnssec_check.specs.declared.status.Refusal.{Refusal};
 
 use crate::line::{LineError, read_line};
@@ -37,16 +38,17 @@ pub fn exit_status_on<R: Env + Files + AllocGlobal + Print, E: Print>(
     )
 }
 
-/// Does what the command line asks for. The answer is the exit status: 0 where the output got the text,
-/// or help, 7 where a file is refused, 2 where the words are no command, and 1 where the machine failed.
+/// Does what the command line asks for. The answer is the exit status: where the output got the text, 0, or 3 to 6
+/// for the verdicts Insecure, Pending, Bogus and Indeterminate; 0 where it got help; 7 where the question or a file is
+/// refused, 2 where the words are no command, and 1 where the machine failed.
 pub fn exit_status<M: Machine, W: Write, E: Write>(
     machine: &M,
     output: &mut Counted<W>,
     errors: &mut E,
 ) -> u8
-    ensures done { result ≡ 0 → IfSome (M.given_words machine.now) (λ words.
-        WroteText words (M.octets_at machine.now) (W.contents (inner_of output.old)) (W.contents (inner_of output.new))
-        ⊎ RefusedWords words 0) }
+    ensures done { IsEnd result → IfSome (M.given_words machine.now) (λ words. WroteText words
+        (M.octets_at machine.now) (W.contents (inner_of output.old)) (W.contents (inner_of output.new)) result
+        ⊎ RefusedWords words result) }
     ensures refused { result ≡ 7
         → IfSome (M.given_words machine.now) (λ words. RefusedFiles words (M.octets_at machine.now)) }
     ensures misused { result ≡ 2 → IfSome (M.given_words machine.now) (λ words. RefusedWords words 2) }
@@ -57,7 +59,7 @@ pub fn exit_status<M: Machine, W: Write, E: Write>(
         ((failures_of output.old < u64.MAX → failures_of output.old < failures_of output.new)
         × IfSome (M.given_words machine.now) (λ words. BeganText words (M.octets_at machine.now)
         (W.contents (inner_of output.old)) (W.contents (inner_of output.new)))) }
-    ensures codes { (result ≡ 0) ⊎ (result ≡ 1) ⊎ (result ≡ 2) ⊎ (result ≡ 7) }
+    ensures codes { result ≤ 7 }
 {
     match request(machine) {
         Ok(request) => {
@@ -83,8 +85,8 @@ fn answer<M: Machine, W: Write>(
     request: &Request,
     output: &mut Counted<W>,
 ) -> Result<Status, Fault>
-    ensures done { (files : Files) → AreFilesAt (M.octets_at machine.now) request.now files → OnOk result (
-        (text : List ℕ) × IsTextOf request.now files text
+    ensures done { (files : Files) → AreFilesAt (M.octets_at machine.now) request.now files → IfOk result (λ status.
+        (text : List ℕ) × IsTextOf request.now files status text
         × Appends (W.contents (inner_of output.old)) (W.contents (inner_of output.new)) text) }
     ensures refused { (files : Files) → AreFilesAt (M.octets_at machine.now) request.now files
         → (why : Refusal) (place : Place) → result ≡ Err (Fault.Refused why place)
@@ -97,7 +99,8 @@ fn answer<M: Machine, W: Write>(
     ensures write { result ≡ Err Fault.WriteFailed
         → failures_of output.old < u64.MAX → failures_of output.old < failures_of output.new }
     ensures begun { (files : Files) → AreFilesAt (M.octets_at machine.now) request.now files
-        → result ≡ Err Fault.WriteFailed → (text : List ℕ) × IsTextOf request.now files text
+        → result ≡ Err Fault.WriteFailed
+        → (status : Status) × (text : List ℕ) × IsTextOf request.now files status text
         × AppendsBeginning (W.contents (inner_of output.old)) (W.contents (inner_of output.new)) text }
     ensures untouched { IfErr result (λ fault. (fault ≡ Fault.WriteFailed → ⊥) → output.new ≡ output.old) }
 {
@@ -105,7 +108,7 @@ fn answer<M: Machine, W: Write>(
     run(machine.alloc(), request, &mut inputs, output)
 }
 
-/// Opens the files of the request: the captured messages, and then the statements.
+/// Opens the files of the request: the captured messages, the trust anchors, and then the statements.
 fn open_all<M: Machine>(machine: &M, request: &Request) -> Result<Inputs<M::File>, Fault>
     ensures files { (files : Files) → AreFilesAt (M.octets_at machine.now) request.now files
         → IfOk result (λ inputs. AreTold M.File.remaining inputs files) }
@@ -116,9 +119,11 @@ fn open_all<M: Machine>(machine: &M, request: &Request) -> Result<Inputs<M::File
     ensures only { IfErr result IsOpenFault }
 {
     let capture = open(machine, InputFile::Capture, request.capture())?;
+    let anchors = open_given(machine, InputFile::Anchors, request.anchors())?;
     let statements = open_given(machine, InputFile::Statements, request.statements())?;
     Ok(Inputs {
         capture,
+        anchors,
         statements,
     })
 }
@@ -133,9 +138,11 @@ fn open_given<M: Machine>(
         → option_map (M.octets_at machine.now) (option_map (λ path. path.now) path.entry) ≡ option_map (λ each. Some each) octets
         → IfOk result (λ opened. IsToldBy M.File.remaining opened octets) }
     ensures opened { (opens : List ℕ → Bool) → ((path : List ℕ) → M.opens machine.now path ≡ Some (opens path))
-        → OnOk result (first_unopened opens (given_path file (option_map (λ path. path.now) path.entry)) ≡ None) }
+        → (others : List (InputFile × List ℕ)) → OnOk result (first_unopened opens
+        (given_path file (option_map (λ path. path.now) path.entry) others) ≡ first_unopened opens others) }
     ensures unopened { (opens : List ℕ → Bool) → ((path : List ℕ) → M.opens machine.now path ≡ Some (opens path))
-        → IfErr result (IsUnopened (first_unopened opens (given_path file (option_map (λ path. path.now) path.entry)))) }
+        → (others : List (InputFile × List ℕ)) → IfErr result (IsUnopened (first_unopened opens
+        (given_path file (option_map (λ path. path.now) path.entry) others))) }
     ensures only { IfErr result IsOpenFault }
 {
     match path {

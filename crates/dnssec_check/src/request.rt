@@ -1,9 +1,10 @@
 //! What the program is asked to do.
 ghost use Rattle.std.specs.Prelude.{◌≡◌};
 ghost use Rattle.std.specs.Option.{option_map};
-ghost use Rattle.dnssec_check.specs.Request.{capture_of, statements_of};
+ghost use Rattle.dnssec_check.specs.Request.{anchors_of, capture_of, statements_of};
 
 use crate::moment::Moment;
+use dnsv_names::RecordType;
 
 /// What the program is asked to do.
 #[derive(Debug, Drop)]
@@ -23,6 +24,20 @@ pub enum Request {
         /// List the signed octets of each signature of each RRset. No statements are read then.
         all: bool,
     },
+    /// Say what the evidence proves of a question.
+    Check {
+        /// The path of the file of captured messages.
+        capture: String,
+        /// The path of the file of trust anchors.
+        anchors: String,
+        moment: Moment,
+        /// The name that is asked for, as text.
+        name: String,
+        /// The type that is asked for.
+        rtype: RecordType,
+        /// The path of the file of statements.
+        statements: Option<String>,
+    },
 }
 
 impl Request {
@@ -31,7 +46,19 @@ impl Request {
         ensures { result.now ≡ capture_of self.now }
     {
         match self {
-            Request::Show { capture } | Request::List { capture, .. } => capture.as_str(),
+            Request::Show { capture }
+            | Request::List { capture, .. }
+            | Request::Check { capture, .. } => capture.as_str(),
+        }
+    }
+
+    /// The path of the file of trust anchors, where one is read.
+    pub fn anchors(&self) -> Option<&str>
+        ensures { option_map (λ path. path.now) result ≡ anchors_of self.now }
+    {
+        match self {
+            Request::Check { anchors, .. } => Some(anchors.as_str()),
+            _ => None,
         }
     }
 
@@ -43,6 +70,10 @@ impl Request {
             Request::List {
                 statements: Some(path),
                 all: false,
+                ..
+            }
+            | Request::Check {
+                statements: Some(path),
                 ..
             } => Some(path.as_str()),
             _ => None,

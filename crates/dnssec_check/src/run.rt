@@ -1,24 +1,31 @@
 //! The run of a request over its files.
-ghost use Rattle.std.specs.Prelude.{◌≡◌, ◌<◌, List, ℕ, IfErr, IfOk, OnOk, string_bytes};
+ghost use Rattle.std.specs.Prelude.{◌≡◌, ◌<◌, List, ℕ, IfErr, IfOk, string_bytes};
 ghost use Rattle.std.specs.Io.KnownBytes.{Appends};
+ghost use Rattle.dnsv_canonical.specs.Rrsets.{IsQuestion};
 ghost use Rattle.dnsv_message.specs.Counted.{inner_of, failures_of, AppendsBeginning};
 ghost use Rattle.dnssec_check.specs.CaptureFile.{AnyMessage, NewEvidence, IsFaultOfCapture};
 ghost use Rattle.dnssec_check.specs.FileFaults.{TellsFaults};
 ghost use Rattle.dnssec_check.specs.Files.{AreTold, Files};
 ghost use Rattle.dnssec_check.specs.Listing.{IsListing};
-ghost use Rattle.dnssec_check.specs.Run.{IsTextOf, IsFirstFault, IsFirstFaultOfTodo};
+ghost use Rattle.dnssec_check.specs.Checking.{IsCheck};
+ghost use Rattle.dnssec_check.specs.Run.{IsAnswered, IsTextOf, IsFirstFault, IsFirstFaultOfCheck};
+ghost use Rattle.dnssec_check.specs.Run.{IsFirstFaultOfFiles, IsFirstFaultOfTodo};
 ghost use Rattle.dnssec_check.specs.Showing.{IsShowing};
 ghost use Rattle.dnssec_check.specs.Todo.{IsTodo};
 
+use crate::anchors_file::anchors_in;
 use crate::capture_file::{evidence_in, messages_in};
+use crate::checking::{Outcome, judged};
 use crate::listing::listing;
 use crate::moment::Moment;
+use crate::question::question_name;
 use crate::request::Request;
 use crate::showing::showing;
 use crate::statements_file::statements_in;
 use crate::status::{Fault, Status};
 use crate::todo::still_to_check;
 use dnsv_message::Counted;
+use dnsv_names::{Name, RecordType};
 use std::alloc::Global;
 use std::io::{Read, Write};
 
@@ -27,6 +34,8 @@ use std::io::{Read, Write};
 pub struct Inputs<R> {
     /// The captured messages.
     pub capture: Counted<R>,
+    /// The trust anchors, where they are given.
+    pub anchors: Option<Counted<R>>,
     /// The statements, where they are given.
     pub statements: Option<Counted<R>>,
 }
@@ -34,8 +43,9 @@ pub struct Inputs<R> {
 /// Makes the whole text that the request asks for, and then writes it.
 ///
 /// The answer is a status where the output got the whole text, and else the first fault in the order of the
-/// work: reading the file of captured messages, its framing, each message in turn, and then the statements. A write
-/// that fails is not tried again; the output then has a beginning of the text.
+/// work: the question's name and type, reading the file of captured messages, its framing, each message in turn, the
+/// trust anchors, and then the statements. A write that fails is not tried again; the output then has a beginning of
+/// the text.
 pub fn run<R: Read, W: Write>(
     alloc: Global,
     request: &Request,
@@ -43,8 +53,8 @@ pub fn run<R: Read, W: Write>(
     output: &mut Counted<W>,
 ) -> Result<Status, Fault>
     // The output got exactly the defined text.
-    ensures done { (files : Files) → AreTold R.remaining inputs.old files → OnOk result ((text : List ℕ)
-        × IsTextOf request.now files text
+    ensures done { (files : Files) → AreTold R.remaining inputs.old files → IfOk result (λ status. (text : List ℕ)
+        × IsTextOf request.now files status text
         × Appends (W.contents (inner_of output.old)) (W.contents (inner_of output.new)) text) }
 
     // The fault is the first that the files have.
@@ -56,34 +66,50 @@ pub fn run<R: Read, W: Write>(
 
     // A failed write leaves a beginning of the defined text.
     ensures begun { (files : Files) → AreTold R.remaining inputs.old files → result ≡ Err Fault.WriteFailed
-        → (text : List ℕ) × IsTextOf request.now files text
+        → (status : Status) × (text : List ℕ) × IsTextOf request.now files status text
         × AppendsBeginning (W.contents (inner_of output.old)) (W.contents (inner_of output.new)) text }
 
     // Nothing is written unless the whole text is made.
     ensures untouched { IfErr result (λ fault. (fault ≡ Fault.WriteFailed → ⊥) → output.new ≡ output.old) }
 {
-    let text = text_of(alloc, request, inputs)?;
-    match output.write_all(text.as_bytes()) {
-        Ok(()) => Ok(Status::Done),
+    let outcome = outcome_of(alloc, request, inputs)?;
+    match output.write_all(outcome.text.as_bytes()) {
+        Ok(()) => Ok(outcome.status),
         Err(_) => Err(Fault::WriteFailed),
     }
 }
 
-/// The text that the request asks for.
-fn text_of<R: Read>(
+/// The text that the request asks for, and how it ends.
+fn outcome_of<R: Read>(
     alloc: Global,
     request: &Request,
     inputs: &mut Inputs<R>,
-) -> Result<String, Fault>
+) -> Result<Outcome, Fault>
     ensures text { (files : Files) → AreTold R.remaining inputs.old files
-        → IfOk result (λ text. IsTextOf request.now files (string_bytes text)) }
+        → IfOk result (λ outcome. IsTextOf request.now files outcome.status (string_bytes outcome.text)) }
     ensures faults { TellsFaults (IsFirstFault request.now) R.remaining inputs.old inputs.new result }
     ensures unwritten { IfErr result (λ fault. fault ≡ Fault.WriteFailed → ⊥) }
 {
     match request {
-        Request::Show { .. } => shown(alloc, inputs),
-        Request::List { all: true, .. } => listed(alloc, inputs),
-        Request::List { moment, .. } => todo(alloc, *moment, inputs),
+        Request::Show { .. } => Ok(done(shown(alloc, inputs)?)),
+        Request::List { all: true, .. } => Ok(done(listed(alloc, inputs)?)),
+        Request::List { moment, .. } => Ok(done(todo(alloc, *moment, inputs)?)),
+        Request::Check {
+            name,
+            rtype,
+            moment,
+            ..
+        } => answered(alloc, name.as_bytes(), *rtype, *moment, inputs),
+    }
+}
+
+/// The end of a run that made this text.
+fn done(text: String) -> Outcome
+    ensures { result ≡ record { status = Status.Done; text = text } }
+{
+    Outcome {
+        status: Status::Done,
+        text,
     }
 }
 
@@ -121,6 +147,43 @@ fn todo<R: Read>(alloc: Global, moment: Moment, inputs: &mut Inputs<R>) -> Resul
     let held = evidence_in(alloc, &mut inputs.capture)?;
     let statements = statements_in(alloc, &mut inputs.statements)?;
     Ok(still_to_check(alloc, &held, moment, &statements)?)
+}
+
+/// The verdict on the question, if it is one that can be asked.
+fn answered<R: Read>(
+    alloc: Global,
+    asked: &[u8],
+    rtype: RecordType,
+    moment: Moment,
+    inputs: &mut Inputs<R>,
+) -> Result<Outcome, Fault>
+    ensures text { (files : Files) → AreTold R.remaining inputs.old files → IfOk result (λ outcome.
+        IsAnswered asked.now rtype.0 moment files outcome.status (string_bytes outcome.text)) }
+    ensures faults { TellsFaults (IsFirstFaultOfCheck asked.now rtype.0) R.remaining inputs.old inputs.new result }
+    ensures unwritten { IfErr result (λ fault. fault ≡ Fault.WriteFailed → ⊥) }
+{
+    let name = question_name(asked, rtype)?;
+    checked(alloc, &name, rtype, moment, inputs)
+}
+
+/// The verdict on the question.
+fn checked<R: Read>(
+    alloc: Global,
+    name: &Name,
+    rtype: RecordType,
+    moment: Moment,
+    inputs: &mut Inputs<R>,
+) -> Result<Outcome, Fault>
+    requires { IsQuestion name.now rtype.0 }
+    ensures text { (files : Files) → AreTold R.remaining inputs.old files → IfOk result (λ outcome.
+        IsCheck name.now rtype.0 moment files outcome.status (string_bytes outcome.text)) }
+    ensures faults { TellsFaults IsFirstFaultOfFiles R.remaining inputs.old inputs.new result }
+    ensures unwritten { IfErr result (λ fault. fault ≡ Fault.WriteFailed → ⊥) }
+{
+    let held = evidence_in(alloc, &mut inputs.capture)?;
+    let anchors = anchors_in(alloc, &mut inputs.anchors)?;
+    let statements = statements_in(alloc, &mut inputs.statements)?;
+    judged(alloc, &held, &anchors, moment, &statements, name, rtype)
 }
 
 #[cfg(test)]

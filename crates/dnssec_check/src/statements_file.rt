@@ -1,14 +1,14 @@
 //! Files of statements.
-ghost use Rattle.std.specs.Prelude.{◌≡◌, ◌≤◌, IfErr, IfOk, List, Option, ℕ, length};
+ghost use Rattle.std.specs.Prelude.{◌≤◌, IfErr, IfOk, List, Option, ℕ, length};
 ghost use Rattle.dnsv_message.specs.Frames.{file_limit};
 ghost use Rattle.dnsv_verifier.specs.Statements.{listed_answer};
 ghost use Rattle.dnssec_check.specs.FileFaults.{IsAbout, OfOctets, TellsFailedReads};
 ghost use Rattle.dnssec_check.specs.Files.{IsToldBy, given_failures, octets_or_none};
-ghost use Rattle.dnssec_check.specs.StatementsFile.{AreStatementsRefused, IsAtLine, IsFaultOfStatements, IsMeaningOf};
+ghost use Rattle.dnssec_check.specs.StatementsFile.{AreStatementsRefused, IsFaultOfStatements, IsMeaningOf};
 ghost use Rattle.dnssec_check.specs.Told.{IsFaultOf, IsStatementsFault};
 
-use crate::status::{Fault, InputFile, Place, Refusal};
-use crate::text_file::octets_in;
+use crate::status::{Fault, InputFile, Refusal};
+use crate::text_file::{octets_in, refused_line};
 use dnsv_message::Counted;
 use dnsv_verifier::{Statements, StatementsError};
 use std::alloc::Global;
@@ -50,21 +50,7 @@ fn statements_fault(error: StatementsError) -> Fault
 {
     match error {
         StatementsError::OutOfMemory => Fault::OutOfMemory,
-        StatementsError::Syntax(line) => refused(Refusal::StatementSyntax, line),
-        StatementsError::Contradiction(line) => refused(Refusal::Contradiction, line),
+        StatementsError::Syntax(line) => refused_line(Refusal::StatementSyntax, line),
+        StatementsError::Contradiction(line) => refused_line(Refusal::Contradiction, line),
     }
-}
-
-/// The refusal of a text for one of its lines.
-fn refused(why: Refusal, line: usize) -> Fault
-    ensures { (place : Place) × IsAtLine line place × (result ≡ Fault.Refused why place) }
-{
-    Fault::Refused(
-        why,
-        Place {
-            message: None,
-            record: None,
-            line: Some(line),
-        },
-    )
 }

@@ -10,8 +10,16 @@ use std::fmt;
 /// How a run ended that wrote its whole text.
 #[derive(Clone, Copy, Debug, PartialEq, Eq)]
 pub enum Status {
-    /// The text that was asked for is written.
+    /// The text that was asked for is written. A question's verdict is that the answer, or its absence, is secure.
     Done,
+    /// The question's name may lie in a zone that isn't signed.
+    Insecure,
+    /// The verdict depends on signatures that are still to be checked.
+    Pending,
+    /// The evidence proves nothing of a name at or below a trust anchor.
+    Bogus,
+    /// No trust anchor is at or above the question's name.
+    Indeterminate,
 }
 
 impl Status {
@@ -21,6 +29,10 @@ impl Status {
     {
         match self {
             Status::Done => 0,
+            Status::Insecure => 3,
+            Status::Pending => 4,
+            Status::Bogus => 5,
+            Status::Indeterminate => 6,
         }
     }
 }
@@ -30,6 +42,8 @@ impl Status {
 pub enum InputFile {
     /// The file of captured messages.
     Capture,
+    /// The file of trust anchors.
+    Anchors,
     /// The file of statements.
     Statements,
 }
@@ -41,6 +55,7 @@ impl InputFile {
     {
         match self {
             InputFile::Capture => "capture",
+            InputFile::Anchors => "anchors",
             InputFile::Statements => "statements",
         }
     }
@@ -49,6 +64,16 @@ impl InputFile {
 /// Why the input was refused.
 #[derive(Clone, Copy, Debug, PartialEq, Eq)]
 pub enum Refusal {
+    /// The question's name has an octet that no text spells (RFC 1035 5.1).
+    BadEscape,
+    /// The question's name has a dot that follows no label.
+    EmptyLabel,
+    /// The question's name has a label of more than 63 octets (RFC 1035 2.3.4).
+    LongLabel,
+    /// The question's name has a wire form of more than 255 octets (RFC 1035 2.3.4).
+    LongQuestionName,
+    /// The question's name doesn't end with the dot of the root (RFC 1035 5.1).
+    NotAbsolute,
     /// Octets are missing at the end of a message.
     Short,
     /// The top bits of a label's length octet are 01 or 10 (RFC 1035 4.1.4).
@@ -78,6 +103,12 @@ pub enum Refusal {
     StatementSyntax,
     /// A statement calls an entry good that was called bad before, or the other way round.
     Contradiction,
+    /// A line of the file of trust anchors is no anchor.
+    AnchorSyntax,
+    /// A line is the 65th trust anchor.
+    TooManyAnchors,
+    /// The question's type can't be asked for at the name.
+    BadQuestion,
 }
 
 impl Refusal {
@@ -86,6 +117,11 @@ impl Refusal {
         ensures { result ≡ refusal_number self.now }
     {
         match self {
+            Refusal::BadEscape => 101,
+            Refusal::EmptyLabel => 102,
+            Refusal::LongLabel => 103,
+            Refusal::LongQuestionName => 104,
+            Refusal::NotAbsolute => 105,
             Refusal::Short => 201,
             Refusal::BadLabel => 202,
             Refusal::BadPointer => 203,
@@ -100,6 +136,9 @@ impl Refusal {
             Refusal::Limit => 403,
             Refusal::StatementSyntax => 501,
             Refusal::Contradiction => 502,
+            Refusal::AnchorSyntax => 601,
+            Refusal::TooManyAnchors => 602,
+            Refusal::BadQuestion => 701,
         }
     }
 }

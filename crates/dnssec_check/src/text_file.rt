@@ -4,9 +4,10 @@ ghost use Rattle.dnsv_message.specs.Frames.{file_limit};
 ghost use Rattle.dnsv_message.specs.ReadError.{IsFileError};
 ghost use Rattle.dnssec_check.specs.FileFaults.{TellsFailedReads};
 ghost use Rattle.dnssec_check.specs.Files.{IsToldBy, given_failures, octets_or_none};
+ghost use Rattle.dnssec_check.specs.StatementsFile.{IsAtLine};
 ghost use Rattle.dnssec_check.specs.Told.{IsTextFault, IsTextReadFault};
 
-use crate::status::{Fault, InputFile};
+use crate::status::{Fault, InputFile, Place, Refusal};
 use dnsv_message::{Counted, ReadError, read_all};
 use std::alloc::Global;
 use std::io::Read;
@@ -44,4 +45,18 @@ fn read_fault(file: InputFile, error: ReadError) -> Fault
         ReadError::TooLong => Fault::TooLong(file),
         ReadError::ZeroLength | ReadError::TornFrame => unreachable!(),
     }
+}
+
+/// The refusal of a text for one of its lines.
+pub fn refused_line(why: Refusal, line: usize) -> Fault
+    ensures { (place : Place) × IsAtLine line place × (result ≡ Fault.Refused why place) }
+{
+    Fault::Refused(
+        why,
+        Place {
+            message: None,
+            record: None,
+            line: Some(line),
+        },
+    )
 }

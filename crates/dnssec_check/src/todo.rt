@@ -24,18 +24,19 @@ pub fn still_to_check<V: Verifier>(
     let mut asked = Count::new();
     let table = ask_all(alloc, held, moment.seconds(), verifier, &mut asked)?;
     let unknown = table.unknown(alloc)?;
-    todo_lines(alloc, &unknown)
+    let mut text = String::new(alloc);
+    push_entries(alloc, &mut text, &unknown)?;
+    Ok(text)
 }
 
-/// A line for each entry.
-fn todo_lines(alloc: Global, entries: &[Entry]) -> Result<String, AllocError>
-    ensures { IfOk result (λ text. string_bytes text ≡ flat_map todo_line entries.now) }
+/// Adds a line for each entry.
+pub fn push_entries(alloc: Global, text: &mut String, entries: &[Entry]) -> Result<(), AllocError>
+    ensures { OnOk result (string_bytes text.new ≡ string_bytes text.old ++ flat_map todo_line entries.now) }
 {
-    let mut text = String::new(alloc);
     for entry in entries {
-        push_entry(alloc, &mut text, entry)?;
+        push_entry(alloc, text, entry)?;
     }
-    Ok(text)
+    Ok(())
 }
 
 /// Adds the line of an entry.

@@ -50,6 +50,7 @@ fn request(alloc: Global) -> Result<Request, Fail> {
 fn listed(alloc: Global, octets: &[u8]) -> Result<(Result<Status, Fault>, Vec<u8>), Fail> {
     let mut inputs = Inputs {
         capture: Counted::new(octets),
+        anchors: None,
         statements: None,
     };
     let mut output = Counted::new(Vec::new(alloc));
@@ -210,6 +211,7 @@ fn tells_the_stream_that_failed(rt: HostRuntime) -> Result<(), Fail> {
     for request in [&list, &show] {
         let mut inputs = Inputs {
             capture: Counted::new(Failing(HOST)),
+            anchors: None,
             statements: None,
         };
         let mut output = Counted::new(Vec::new(rt.alloc()));
@@ -219,6 +221,7 @@ fn tells_the_stream_that_failed(rt: HostRuntime) -> Result<(), Fail> {
 
         let mut inputs = Inputs {
             capture: Counted::new(HOST.as_slice()),
+            anchors: None,
             statements: None,
         };
         let mut output = Counted::new(Broken);

@@ -13,6 +13,7 @@ fn shown(alloc: Global, octets: &[u8]) -> Result<(Result<Status, Fault>, Vec<u8>
     };
     let mut inputs = Inputs {
         capture: Counted::new(octets),
+        anchors: None,
         statements: None,
     };
     let mut output = Counted::new(Vec::new(alloc));

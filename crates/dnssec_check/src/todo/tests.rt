@@ -32,6 +32,7 @@ fn listed(
 ) -> Result<(Result<Status, Fault>, Vec<u8>), Fail> {
     let mut inputs = Inputs {
         capture: Counted::new(octets),
+        anchors: None,
         statements: said.map(|text| Counted::new(text)),
     };
     let mut output = Counted::new(Vec::new(alloc));

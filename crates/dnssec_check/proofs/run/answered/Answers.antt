@@ -1,0 +1,9 @@
+use Rattle.std.proofs.Common.{inr}
+use Rattle.dnssec_check.specs.Run.{IsFirstFaultOfCheck, IsFirstFaultOfFiles}
+use Rattle.dnssec_check.proofs.FileFaultLemmas.{TellsFaults-weaker}
+use Rattle.dnssec_check.proofs.run.answered.Goals as goal
+
+pub returns-clause-faults : goal.returns-clause-faults
+returns-clause-faults g c =
+    TellsFaults-weaker IsFirstFaultOfFiles (IsFirstFaultOfCheck c.args.asked.now c.args.rtype.0) c.checked.result
+    (λ files fault holds. inr ((c.in_ok-name.name, c.in_ok-name.ensures.name, c.in_ok-name.ensures.question), holds)) c.checked.ensures.faults

@@ -1,0 +1,30 @@
+use Rattle.std.proofs.Common.{inl, refl}
+use Rattle.std.proofs.lemmas.Result.{err_from_is_err_and}
+use Rattle.dnssec_check.specs.Run.{IsFirstFaultOfFiles}
+use Rattle.dnssec_check.proofs.FileFaultLemmas.{all_taken, anchored, captured, has_evidence, stated}
+use Rattle.dnssec_check.proofs.run.checked.Goals as goal
+
+pub returns-in_err-held-clause-faults : goal.returns-in_err-held-clause-faults
+returns-in_err-held-clause-faults g c =
+    let p = err_from_is_err_and c.from_residual.result c.from_residual.ensures.1 in
+    rw (p.1, p.2) (captured IsFirstFaultOfFiles c.in_err-held.field-0.0 (λ files fault holds. inl holds) refl refl c.in_err-held.ensures.faults)
+
+pub returns-in_err-anchors-clause-faults : goal.returns-in_err-anchors-clause-faults
+returns-in_err-anchors-clause-faults g c =
+    let p = err_from_is_err_and c.from_residual-in_err-anchors.result c.from_residual-in_err-anchors.ensures.1 in
+    rw (p.1, p.2) (anchored c.in_ok-held.held c.in_err-anchors.field-0.0 refl c.in_ok-held.ensures.faults
+    (has_evidence _ c.in_ok-held.held c.in_ok-held.ensures.evidence)
+    c.in_err-anchors.ensures.faults c.in_err-anchors.ensures.reads c.in_err-anchors.ensures.about)
+
+pub returns-in_err-statements-clause-faults : goal.returns-in_err-statements-clause-faults
+returns-in_err-statements-clause-faults g c =
+    let p = err_from_is_err_and c.from_residual-in_err-statements.result c.from_residual-in_err-statements.ensures.1 in
+    rw (p.1, p.2) (stated c.in_ok-held.held c.in_ok-anchors.anchors c.in_err-statements.field-0.0 c.in_ok-held.ensures.faults
+    (has_evidence _ c.in_ok-held.held c.in_ok-held.ensures.evidence)
+    (λ octets is. (c.in_ok-anchors.anchors, c.in_ok-anchors.ensures.anchors octets is)) c.in_ok-anchors.ensures.reads
+    c.in_err-statements.ensures.faults c.in_err-statements.ensures.reads c.in_err-statements.ensures.about)
+
+pub returns-clause-faults : goal.returns-clause-faults
+returns-clause-faults g c =
+    all_taken c.in_ok-held.held c.in_ok-anchors.anchors c.in_ok-statements.statements c.judged.result c.in_ok-held.ensures.faults
+    c.in_ok-anchors.ensures.reads c.in_ok-statements.ensures.reads c.judged.ensures.only
