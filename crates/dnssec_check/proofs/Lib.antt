@@ -2,6 +2,7 @@ pub mod LineLemmas
 pub mod RowLemmas
 pub mod WalkLemmas
 pub mod CaptureFileLemmas
+pub mod CheckLemmas
 pub mod FileFaultLemmas
 pub mod ListingLemmas
 pub mod ShowingLemmas

@@ -1,6 +1,8 @@
 use Rattle.std.proofs.Common.{inl, refl}
 use Rattle.std.proofs.lemmas.Result.{err_from_is_err_and}
+use Rattle.dnsv_verifier.specs.Statements.{listed_answer}
 use Rattle.dnssec_check.specs.Run.{IsFirstFaultOfFiles}
+use Rattle.dnssec_check.proofs.CheckLemmas.{all_checked}
 use Rattle.dnssec_check.proofs.FileFaultLemmas.{all_taken, anchored, captured, has_evidence, stated}
 use Rattle.dnssec_check.proofs.run.checked.Goals as goal
 
@@ -28,3 +30,10 @@ pub returns-clause-faults : goal.returns-clause-faults
 returns-clause-faults g c =
     all_taken c.in_ok-held.held c.in_ok-anchors.anchors c.in_ok-statements.statements c.judged.result c.in_ok-held.ensures.faults
     c.in_ok-anchors.ensures.reads c.in_ok-statements.ensures.reads c.judged.ensures.only
+
+pub returns-clause-text : goal.returns-clause-text
+returns-clause-text g c = λ files are.
+    all_checked c.args.name.now c.args.rtype.0 c.args.moment files c.in_ok-held.held c.in_ok-anchors.anchors
+    (listed_answer c.in_ok-statements.statements) c.judged.result are.capture c.in_ok-held.ensures.evidence
+    (c.in_ok-anchors.ensures.anchors files.anchors are.anchors)
+    (c.in_ok-statements.ensures.statements files.statements are.statements) c.judged.ensures.verdict
