@@ -10,6 +10,16 @@ use crate::moment::Moment;
 use clap::{Arg, ArgAction, Command, value_parser};
 use std::alloc::{AllocError, Global};
 
+/// How `check` ends, and a command line of it.
+const AFTER_CHECK: &str = "\
+Exit status: 0 for SecureAnswer, SecureAlias, SecureNoName and SecureNoData, 3 for Insecure,
+4 for Pending, 5 for Bogus, 6 for Indeterminate, 7 where the question or a file is refused,
+2 for words that are no command, 1 where memory, a file or the output failed
+
+Example:
+  dnssec_check check --capture www.cap --anchors root.anchors --moment 1795348800 \
+--name www.example. --type 1";
+
 /// The program with its subcommands.
 pub fn program<'a>(alloc: Global) -> Result<Command<'a>, AllocError>
     ensures { IfOk result (λ command. app_of command ≡ program_app) }
@@ -53,6 +63,7 @@ fn check<'a>(alloc: Global) -> Result<Command<'a>, AllocError>
 {
     Command::new(alloc, "check")
         .about("Says what the captured messages prove of a name and a type")
+        .after_help(AFTER_CHECK)
         .arg(capture_option(alloc))?
         .arg(anchors_option(alloc))?
         .arg(moment_option(alloc))?

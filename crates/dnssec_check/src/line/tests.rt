@@ -110,6 +110,8 @@ fn shows_help(rt: HostRuntime) -> Result<(), Fail> {
         ("dnssec_check list --help", "--moment <N>"),
         ("dnssec_check list --help", "--all"),
         ("dnssec_check list --help", "--statements <FILE>"),
+        ("dnssec_check check --help", "--anchors <FILE>"),
+        ("dnssec_check check --help", "6 for Indeterminate"),
         (
             "dnssec_check list --help",
             "Lists the signatures that a verifier still has to check",

@@ -23,17 +23,21 @@ fn request(alloc: Global, seconds: u64) -> Result<Request, Fail> {
     })
 }
 
-/// What the run over the octets answers, and what it writes.
-fn listed(
+/// What the run over the octets answers, and what it writes. Where nothing is said, there is no file of statements.
+fn listed<'a>(
     alloc: Global,
-    octets: &[u8],
-    said: Option<&[u8]>,
+    octets: &'a [u8],
+    said: &'a [u8],
     seconds: u64,
 ) -> Result<(Result<Status, Fault>, Vec<u8>), Fail> {
     let mut inputs = Inputs {
         capture: Counted::new(octets),
         anchors: None,
-        statements: said.map(|text| Counted::new(text)),
+        statements: if said.is_empty() {
+            None
+        } else {
+            Some(Counted::new(said))
+        },
     };
     let mut output = Counted::new(Vec::new(alloc));
     let answer = run(alloc, &request(alloc, seconds)?, &mut inputs, &mut output);
@@ -48,12 +52,12 @@ fn both(alloc: Global) -> Result<String, Fail> {
 fn lists_what_is_to_check_while_the_signatures_hold(rt: HostRuntime) -> Result<(), Fail> {
     let octets = signed(rt.alloc())?;
     for seconds in [1000, 1500, 2000] {
-        let (answer, text) = listed(rt.alloc(), &octets, None, seconds)?;
+        let (answer, text) = listed(rt.alloc(), &octets, b"", seconds)?;
         assert_eq!(rt; answer, Ok(Status::Done));
         assert_eq!(rt; text.as_slice(), both(rt.alloc())?.as_bytes());
     }
     for seconds in [999, 2001] {
-        let (answer, text) = listed(rt.alloc(), &octets, None, seconds)?;
+        let (answer, text) = listed(rt.alloc(), &octets, b"", seconds)?;
         assert_eq!(rt; answer, Ok(Status::Done));
         assert_eq!(rt; text.len(), 0);
     }
@@ -64,7 +68,7 @@ fn lists_what_is_to_check_while_the_signatures_hold(rt: HostRuntime) -> Result<(
 fn lists_what_comes_twice_once(rt: HostRuntime) -> Result<(), Fail> {
     let mut octets = signed(rt.alloc())?;
     octets.extend_from_slice(&signed(rt.alloc())?)?;
-    let (answer, text) = listed(rt.alloc(), &octets, None, 1500)?;
+    let (answer, text) = listed(rt.alloc(), &octets, b"", 1500)?;
     assert_eq!(rt; answer, Ok(Status::Done));
     assert_eq!(rt; text.as_slice(), both(rt.alloc())?.as_bytes());
     Ok(())
@@ -76,14 +80,14 @@ fn leaves_out_what_was_checked(rt: HostRuntime) -> Result<(), Fail> {
     let left = format!(in rt.alloc(); "todo 13 010203 {KEYS_DATA} cc\n")?;
     for word in ["good", "bad"] {
         let said = format!(in rt.alloc(); "{word} 13 010203 {HOST_DATA} aabb")?;
-        let (answer, text) = listed(rt.alloc(), &octets, Some(said.as_bytes()), 1500)?;
+        let (answer, text) = listed(rt.alloc(), &octets, said.as_bytes(), 1500)?;
         assert_eq!(rt; answer, Ok(Status::Done));
         assert_eq!(rt; text.as_slice(), left.as_bytes());
     }
     let said = format!(in rt.alloc();
         "good 13 010203 {HOST_DATA} aabb\nbad 13 010203 {KEYS_DATA} cc\n"
     )?;
-    let (answer, text) = listed(rt.alloc(), &octets, Some(said.as_bytes()), 1500)?;
+    let (answer, text) = listed(rt.alloc(), &octets, said.as_bytes(), 1500)?;
     assert_eq!(rt; answer, Ok(Status::Done));
     assert_eq!(rt; text.len(), 0);
     Ok(())
@@ -106,11 +110,11 @@ fn refuses_statements_by_their_first_faulty_line(rt: HostRuntime) -> Result<(), 
             line: Some(line),
             ..Place::NOWHERE
         };
-        let (answer, text) = listed(rt.alloc(), &octets, Some(said.as_bytes()), 1500)?;
+        let (answer, text) = listed(rt.alloc(), &octets, said.as_bytes(), 1500)?;
         assert_eq!(rt; answer, Err(Fault::Refused(why, place)));
         assert_eq!(rt; text.len(), 0);
         // The capture comes first.
-        let (answer, _) = listed(rt.alloc(), &torn, Some(said.as_bytes()), 1500)?;
+        let (answer, _) = listed(rt.alloc(), &torn, said.as_bytes(), 1500)?;
         let refused = Fault::Refused(Refusal::TornFrame, Place::NOWHERE);
         assert_eq!(rt; answer, Err(refused));
     }
@@ -129,7 +133,7 @@ fn lists_no_expanded_nsec(rt: HostRuntime) -> Result<(), Fail> {
     )?;
     octets.extend_from_slice(&u16::try_from(message.len())?.to_be_bytes())?;
     octets.extend_from_slice(&message)?;
-    let (answer, text) = listed(rt.alloc(), &octets, None, 1500)?;
+    let (answer, text) = listed(rt.alloc(), &octets, b"", 1500)?;
     assert_eq!(rt; answer, Ok(Status::Done));
     let left = format!(in rt.alloc(); "todo 13 010203 {KEYS_DATA} cc\n")?;
     assert_eq!(rt; text.as_slice(), left.as_bytes());

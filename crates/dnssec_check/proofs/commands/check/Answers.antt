@@ -10,9 +10,11 @@ use Rattle.dnssec_check.proofs.commands.check.Goals as goal
 pub returns : goal.returns
 returns c =
     let about_is : app_of c.about.result ≡ new_app (codes "check") = ap app_of_fields c.about.ensures ∙ c.new.ensures.app in
-    let none : (fields_of c.about.result).has_globals ≡ false = ap (λ f. f.has_globals) c.about.ensures ∙ c.new.ensures.local in
+    let after_help_is : app_of c.after_help.result ≡ new_app (codes "check") = ap app_of_fields c.after_help.ensures ∙ about_is in
+    let none : (fields_of c.after_help.result).has_globals ≡ false =
+    ap (λ f. f.has_globals) c.after_help.ensures ∙ ap (λ f. f.has_globals) c.about.ensures ∙ c.new.ensures.local in
     let with_capture : app_of c.in_ok-arg.field-0 ≡ with_rule (new_app (codes "check")) capture_rule =
-    c.in_ok-arg.ensures.shape c.capture_option.ensures.local ∙ ap₂ with_rule about_is c.capture_option.ensures.rule in
+    c.in_ok-arg.ensures.shape c.capture_option.ensures.local ∙ ap₂ with_rule after_help_is c.capture_option.ensures.rule in
     let after_capture : (fields_of c.in_ok-arg.field-0).has_globals ≡ false =
     c.in_ok-arg.ensures.globals ∙ ap₂ ◌||◌ none c.capture_option.ensures.local in
     let with_anchors : app_of c.in_ok-arg-2.field-0 ≡ with_rule (with_rule (new_app (codes "check")) capture_rule) anchors_rule =
