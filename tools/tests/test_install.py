@@ -1,5 +1,6 @@
 """Tests of what `make install` puts where, and that it runs from there."""
 import pathlib
+import re
 import shutil
 import subprocess
 import tempfile
@@ -9,6 +10,12 @@ from tool import DATA, TOOLS, run_program
 
 PROGRAM = TOOLS.parent / "crates" / "dnssec_check" / "out" / "dnssec_check"
 MANUAL = TOOLS.parent / "docs" / "dnssec_check.1"
+
+
+def numbers_of(row):
+    """The numbers of a table's field such as `201 to 207` or `401, 402`."""
+    numbers = [int(number) for number in re.findall(r"\d+", row)]
+    return range(numbers[0], numbers[1] + 1) if " to " in row else numbers
 
 
 class Install(unittest.TestCase):
@@ -37,6 +44,23 @@ class Manual(unittest.TestCase):
         done = subprocess.run(["mandoc", "-T", "lint", "-W", "style", MANUAL], capture_output=True, text=True)
         told = [line for line in done.stdout.splitlines() if "outdated mandoc.db" not in line]
         self.assertEqual(told, [])
+
+    def test_the_manual_page_has_each_number_of_the_program(self):
+        text = (TOOLS.parent / "docs" / "GUARANTEES.md").read_text().split("### Numbers of the program")[1]
+        rows = [line.split("|")[1] for line in text.splitlines() if re.match(r"\| \d", line)]
+        numbers = {number for row in rows for number in numbers_of(row)}
+        self.assertGreater(len(numbers), 15)
+        told = {int(item) for item in re.findall(r"^\.It (\d+)$", MANUAL.read_text(), re.MULTILINE)}
+        self.assertEqual(numbers - told, set())
+
+    @unittest.skipUnless(PROGRAM.exists(), "needs the built program")
+    def test_the_manual_page_has_each_option_of_the_program(self):
+        told = set(re.findall(r"\.(?:It|Op) Fl -([a-z]+)", MANUAL.read_text()))
+        helps = [run_program(PROGRAM, *words)[1].decode() for words in (["--help"], ["show", "--help"],
+                                                                       ["list", "--help"], ["check", "--help"])]
+        options = {option for text in helps for option in re.findall(r"--([a-z]+)", text)}
+        self.assertLessEqual({"capture", "moment", "all", "help"}, options)
+        self.assertEqual(options - told, set())
 
 
 if __name__ == "__main__":

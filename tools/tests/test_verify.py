@@ -101,6 +101,20 @@ class RealLines(unittest.TestCase):
         self.assertEqual(run("verify", given=given[:-1]), run("verify", given=given))
 
 
+class Examples(unittest.TestCase):
+    """What has to be verified of each real capture, and what was said of it."""
+
+    def test_the_lists_of_the_examples_get_the_statements_of_their_checks(self):
+        examples = TOOLS.parent / "examples"
+        checks = [path.parent for path in sorted(examples.glob("*-check/statements"))]
+        for check in checks:
+            todo = examples / check.name.replace("-check", "-list") / "stdout"
+            with self.subTest(check.name):
+                wanted = (0, (check / "statements").read_bytes(), "")
+                self.assertEqual(run("verify", todo), wanted)
+        self.assertGreater(len(checks), 30)
+
+
 class RsaKeys(unittest.TestCase):
     """Keys that the package makes, and numbers that a key or a signature may not have."""
 
