@@ -25,7 +25,8 @@ abbrev pub SignatureLines : ℕ → ReceivedRrset → ℕ → List (List ℕ) �
 SignatureLines number rrset signature [] text = text ≡ []
 SignatureLines number rrset signature (rdata ∷ others) text =
     (rrsig : Rrsig) × (octets : Option (List ℕ)) × (rest : List ℕ) × IsRrsig rdata rrsig
-    × IsSignedData rrset.owner rrset.rtype rrset.rdata rrsig octets × SignatureLines number rrset (suc signature) others rest
+    × IsSignedData rrset.owner rrset.rtype rrset.rdata rrsig octets
+    × SignatureLines number rrset (suc signature) others rest
     × (text ≡ data_line number signature octets ++ rest)
 
 -- the text has the lines of these RRsets, the first of which has the number

@@ -11,4 +11,5 @@ use Rattle.dnsv_names.specs.Name.{Labels, same_name}
 -- the RDATA that is kept for the type and owner, in order: none where nothing is
 abbrev pub rdata_at : {Y : Type 0} → BTreeMap (RecordType × ByWire) (Vec (Bor (List ℕ)) Y) → ℕ → Labels → List (List ℕ)
 rdata_at by_rrset rtype owner =
-    option_map_or (λ rdata. map (λ r. r.now) rdata.items) (lookup (λ key. (rtype == key.0.0) && same_name owner key.1.0.now) by_rrset.entries) []
+    option_map_or (λ rdata. map (λ r. r.now) rdata.items)
+    (lookup (λ key. (rtype == key.0.0) && same_name owner key.1.0.now) by_rrset.entries) []

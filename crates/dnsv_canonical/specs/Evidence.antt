@@ -68,11 +68,13 @@ nsec3_rdata rrsets = flat_map (λ rrset. if rrset.rtype == 50 then rrset.rdata e
 
 -- the parameters of a usable NSEC3 record (RFC 5155 3.1.3, 3.1.5)
 abbrev pub AreUsableParameters : List ℕ → Nsec3Parameters → Type 0
-AreUsableParameters rdata parameters = (nsec3 : Nsec3) × IsNsec3 rdata nsec3 × IsUsable nsec3 × (parameters ≡ nsec3.parameters)
+AreUsableParameters rdata parameters =
+    (nsec3 : Nsec3) × IsNsec3 rdata nsec3 × IsUsable nsec3 × (parameters ≡ nsec3.parameters)
 
 -- the parameters of one of these NSEC3 records, if it is usable
 abbrev pub AreParametersAmong : List (List ℕ) → Nsec3Parameters → Type 0
-AreParametersAmong received parameters = (rdata : List ℕ) × Contains received rdata × AreUsableParameters rdata parameters
+AreParametersAmong received parameters =
+    (rdata : List ℕ) × Contains received rdata × AreUsableParameters rdata parameters
 
 -- no element stands in the list twice
 abbrev pub IsDistinct : {X : Type 0} → List X → Type 0

@@ -26,7 +26,8 @@ ungrouped_types = 0 ∷ 3 ∷ 4 ∷ 7 ∷ 8 ∷ 9 ∷ 14 ∷ 17 ∷ 18 ∷ 21 �
 
 -- whether records of the type form RRsets: those of 128 to 255, which stand for no data, don't either
 abbrev pub forms_rrsets : ℕ → Bool
-forms_rrsets rtype = not (list_any (λ other. other == rtype) ungrouped_types) && not (nat_le 128 rtype && nat_le rtype 255)
+forms_rrsets rtype =
+    not (list_any (λ other. other == rtype) ungrouped_types) && not (nat_le 128 rtype && nat_le rtype 255)
 
 -- The type can be asked at the name: it forms RRsets, is neither NSEC nor NSEC3, and is not DS at the root.
 pub record IsQuestion (name : Labels) (rtype : ℕ) : Type 0 where
@@ -54,11 +55,13 @@ first_appearances same xs = map (λ placed. placed.1) (filter (appears_first sam
 -- whether the record is an IN RRSIG at the owner that covers the type, which its RDATA begins with
 abbrev pub is_signature : Labels → ℕ → Record → Bool
 is_signature owner rtype r =
-    (r.rtype.0 == 46) && (r.class.0 == 1) && starts_with nat_eq r.rdata (to_be_bytes w16 rtype) && same_name r.name owner
+    (r.rtype.0 == 46) && (r.class.0 == 1) && starts_with nat_eq r.rdata (to_be_bytes w16 rtype)
+    && same_name r.name owner
 
 -- the RDATA of the section's signatures over the RRset of the owner and type, in order, of equal ones the first
 abbrev pub signatures_of : List Record → Labels → ℕ → List (List ℕ)
-signatures_of records owner rtype = first_appearances bytes_eq (map (λ r. r.rdata) (filter (is_signature owner rtype) records))
+signatures_of records owner rtype =
+    first_appearances bytes_eq (map (λ r. r.rdata) (filter (is_signature owner rtype) records))
 
 -- the RRset in the section that the record belongs to, which is its first
 abbrev pub rrset_of : ℕ → Section → List Record → Record → ReceivedRrset

@@ -11,7 +11,8 @@ use Rattle.dnsv_records.specs.declared.rrsig.Rrsig.{Rrsig}
 -- the RRSIG's RDATA without the signature, its signer in lower case (RFC 4034 3.1, 3.1.8.1, 6.2)
 abbrev pub signed_front : Rrsig → List ℕ
 signed_front rrsig =
-    to_be_bytes w16 rrsig.type_covered.0 ++ rrsig.algorithm.0 ∷ rrsig.labels ∷ [] ++ to_be_bytes w32 rrsig.original_ttl.0
+    to_be_bytes w16 rrsig.type_covered.0 ++ rrsig.algorithm.0 ∷ rrsig.labels ∷ []
+    ++ to_be_bytes w32 rrsig.original_ttl.0
     ++ to_be_bytes w32 rrsig.expiration.0 ++ to_be_bytes w32 rrsig.inception.0 ++ to_be_bytes w16 rrsig.key_tag.0
     ++ wire (lower_case rrsig.signer)
 
@@ -32,7 +33,8 @@ signed_owner owner labels =
 -- a record as it is signed: owner, type, class IN, original TTL, length of the RDATA, RDATA (RFC 4034 3.1.8.1)
 abbrev pub signed_record : Labels → ℕ → ℕ → List ℕ → List ℕ
 signed_record owner rtype ttl rdata =
-    wire owner ++ to_be_bytes w16 rtype ++ to_be_bytes w16 1 ++ to_be_bytes w32 ttl ++ to_be_bytes w16 (length rdata) ++ rdata
+    wire owner ++ to_be_bytes w16 rtype ++ to_be_bytes w16 1 ++ to_be_bytes w32 ttl
+    ++ to_be_bytes w16 (length rdata) ++ rdata
 
 -- The answer is what the signature signs over the RDATA received at the owner: nothing where Labels is above the
 -- owner's count, and else the RDATA of the signature and each record of the canonical list. Each RDATA is brought to
@@ -43,4 +45,5 @@ IsSignedData owner rtype received rrsig None = signed_label_count owner < rrsig.
 IsSignedData owner rtype received rrsig (Some octets) =
     (rrsig.labels ≤ signed_label_count owner)
     × (canonical : List (List ℕ)) × IsCanonical (map (canonical_form rtype) received) canonical
-    × (octets ≡ signed_front rrsig ++ flat_map (signed_record (signed_owner owner rrsig.labels) rtype rrsig.original_ttl.0) canonical)
+    × (octets ≡ signed_front rrsig
+    ++ flat_map (signed_record (signed_owner owner rrsig.labels) rtype rrsig.original_ttl.0) canonical)

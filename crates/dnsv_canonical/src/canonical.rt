@@ -10,7 +10,8 @@ pub fn canonical_rdata<'a>(
     alloc: Global,
     received: &[&'a [u8]],
 ) -> Result<Vec<&'a [u8]>, AllocError>
-    ensures order { IfOk result (λ sorted. IsCanonical (map (λ r. r.now) received.now) (map (λ r. r.now) sorted.items)) }
+    ensures order { IfOk result (λ sorted. IsCanonical (map (λ r. r.now) received.now)
+        (map (λ r. r.now) sorted.items)) }
     // No other list is canonical.
     ensures only { IfOk result (λ sorted. (other : List (List ℕ)) → IsCanonical (map (λ r. r.now) received.now) other
         → other ≡ map (λ r. r.now) sorted.items) }

@@ -31,10 +31,12 @@ pub fn canonical_forms(
 /// A law of canonical form: the names in the RDATA of NS, CNAME, SOA, PTR, MX, SRV and DNAME are in lower case, and
 /// everything else is as received.
 pub fn canonical_form_lowers_the_names()
-    ensures lowered { (rtype : ℕ) → Contains lowered_types rtype → (before : List ℕ) (names : List Labels) (behind : List ℕ)
+    ensures lowered { (rtype : ℕ) → Contains lowered_types rtype
+        → (before : List ℕ) (names : List Labels) (behind : List ℕ)
         → AreParts rtype 1 before names behind
         → canonical_form rtype (rdata_of before names behind) ≡ rdata_of before (map lower_case names) behind }
-    ensures kept { (rtype : ℕ) → ¬ Contains lowered_types rtype → (rdata : List ℕ) → canonical_form rtype rdata ≡ rdata }
+    ensures kept { (rtype : ℕ) → ¬ Contains lowered_types rtype
+        → (rdata : List ℕ) → canonical_form rtype rdata ≡ rdata }
     // No other type that the standard lists forms an RRset.
     ensures listed { filter forms_rrsets listed_types ≡ lowered_types }
     // The next name of NSEC keeps its spelling.

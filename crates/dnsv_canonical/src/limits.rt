@@ -144,7 +144,8 @@ fn add_parameters(
     fresh: &mut Vec<Nsec3Parameters>,
     found: Option<Nsec3Parameters>,
 ) -> Result<(), CaptureError>
-    ensures all { OnOk result ((earlier : List (List ℕ)) (rdata : List ℕ) → AreParameters earlier (kept.now ++ fresh.old.items)
+    ensures all { OnOk result ((earlier : List (List ℕ)) (rdata : List ℕ)
+        → AreParameters earlier (kept.now ++ fresh.old.items)
         → ((parameters : Nsec3Parameters) → (found ≡ Some parameters) ↔ AreUsableParameters rdata parameters)
         → AreParameters (earlier ++ rdata ∷ []) (kept.now ++ fresh.new.items)) }
     ensures few { OnOk result (length (kept.now ++ fresh.old.items) ≤ 8
@@ -179,7 +180,8 @@ fn is_among(
 
 /// The parameters of an NSEC3 record, if it can be used.
 fn usable_parameters(alloc: Global, rdata: &[u8]) -> Result<Option<Nsec3Parameters>, AllocError>
-    ensures { IfOk result (λ found. (parameters : Nsec3Parameters) → (found ≡ Some parameters) ↔ AreUsableParameters rdata.now parameters) }
+    ensures { IfOk result (λ found. (parameters : Nsec3Parameters)
+        → (found ≡ Some parameters) ↔ AreUsableParameters rdata.now parameters) }
 {
     let nsec3 = match Nsec3::read(alloc, rdata) {
         Ok(nsec3) => nsec3,

@@ -40,7 +40,8 @@ fn check_section(alloc: Global, earlier: usize, records: &[Record]) -> Result<()
 
 /// Which of the records is the first that can't be read, from 1 on.
 fn first_bad(alloc: Global, records: &[Record]) -> Result<Option<usize>, AllocError>
-    ensures { IfOk result (λ found. MatchOption found (AllByRecursion IsReadable records.now) (IsFirstBad records.now)) }
+    ensures { IfOk result (λ found. MatchOption found (AllByRecursion IsReadable records.now)
+        (IsFirstBad records.now)) }
 {
     for (index, candidate) in records.iter().enumerate() {
         if !is_readable(alloc, candidate)? {

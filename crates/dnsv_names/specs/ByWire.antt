@@ -1,5 +1,5 @@
--- An order of names to search by, which costs less than the canonical one: by the length of the wire form, and then by its
--- octets in lower case. No RFC has it; it is total, and ties just the names that are equal.
+-- An order of names to search by, which costs less than the canonical one: by the length of the wire form, and then by
+-- its octets in lower case. No RFC has it; it is total, and ties just the names that are equal.
 use Rattle.std.specs.Prelude.{ℕ, List, ◌∷◌, length}
 use Rattle.std.specs.declared.cmp.Ordering.{Ordering}
 use Rattle.dnsv_names.specs.Name.{Labels, wire, lower_case}

@@ -11,7 +11,8 @@ decimal_value x y z = 100 * (x - 48) + 10 * (y - 48) + (z - 48)
 -- the octet that three digits in front spell, and the text behind them
 abbrev pub decimal_of : List ℕ → Option (ℕ × List ℕ)
 decimal_of (x ∷ y ∷ z ∷ text) =
-    if is_ascii_digit x && is_ascii_digit y && is_ascii_digit z && nat_lt (decimal_value x y z) 256 then Some (decimal_value x y z, text) else None
+    if is_ascii_digit x && is_ascii_digit y && is_ascii_digit z && nat_lt (decimal_value x y z) 256
+    then Some (decimal_value x y z, text) else None
 decimal_of _ = None
 
 -- the octet that what follows a backslash spells, and the text behind it

@@ -12,7 +12,8 @@ abbrev pub SpellsOctet : List ℕ → ℕ → Type 0
 SpellsOctet (c ∷ []) octet = IsAsciiGraphic c × (c ≢ 46) × (c ≢ 92) × (octet ≡ c)
 SpellsOctet (b ∷ c ∷ []) octet = (b ≡ 92) × IsAsciiGraphic c × ¬ IsAsciiDigit c × (octet ≡ c)
 SpellsOctet (b ∷ x ∷ y ∷ z ∷ []) octet =
-    (b ≡ 92) × IsAsciiDigit x × IsAsciiDigit y × IsAsciiDigit z × (octet ≡ 100 * (x - 48) + 10 * (y - 48) + (z - 48)) × (octet < 256)
+    (b ≡ 92) × IsAsciiDigit x × IsAsciiDigit y × IsAsciiDigit z
+    × (octet ≡ 100 * (x - 48) + 10 * (y - 48) + (z - 48)) × (octet < 256)
 SpellsOctet _ octet = ⊥
 
 -- a label is spelled by its octets, one after another
@@ -25,7 +26,8 @@ SpellsLabel text (octet ∷ label) =
 abbrev pub SpellsLabels : List ℕ → Labels → Type 0
 SpellsLabels text [] = text ≡ []
 SpellsLabels text (label ∷ labels) =
-    (front : List ℕ) × (rest : List ℕ) × (text ≡ front ++ 46 ∷ rest) × SpellsLabel front label × SpellsLabels rest labels
+    (front : List ℕ) × (rest : List ℕ) × (text ≡ front ++ 46 ∷ rest) × SpellsLabel front label
+    × SpellsLabels rest labels
 
 -- the text spells the name: the root by a dot, any other name by its labels
 abbrev pub IsTextOf : List ℕ → Labels → Type 0
@@ -37,7 +39,8 @@ IsTextOf text (label ∷ labels) = SpellsLabels text (label ∷ labels)
 abbrev pub octet_text : ℕ → List ℕ
 octet_text octet =
     if octet == 46 || octet == 92 then 92 ∷ octet ∷ []
-    else (if is_ascii_graphic octet then octet ∷ [] else 92 ∷ (48 + octet / 100) ∷ (48 + octet / 10 % 10) ∷ (48 + octet % 10) ∷ [])
+    else (if is_ascii_graphic octet then octet ∷ []
+    else 92 ∷ (48 + octet / 100) ∷ (48 + octet / 10 % 10) ∷ (48 + octet % 10) ∷ [])
 
 abbrev pub label_text : List ℕ → List ℕ
 label_text label = flat_map octet_text label
