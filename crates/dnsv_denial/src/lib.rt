@@ -1,8 +1,7 @@
 //! Proofs that a name or a type isn't there (RFC 4035 5.4, RFC 5155 8), and what they mean for a zone.
 //!
-//! So far the crate has definitions and their laws: what a zone is and what it answers, its chains of NSEC
-//! and NSEC3 records, the forms of a proof, and what a proof says of each zone whose chain has its records;
-//! and code that decides what one NSEC record says of a name, and finds the NSEC records of a proof.
+//! It says what a zone is and what it answers, its chains of NSEC and NSEC3 records, the forms of a proof, and what a
+//! proof means for each zone whose chain has its records. A `View` gives the first proof that the evidence has.
 #![tactic(auto)]
 
 pub use asked::{AskedName, AskedTypes, AskedWildcard};
