@@ -22,7 +22,7 @@ use Rattle.dnssec_check.specs.declared.request.Request.{Request}
 use Rattle.dnssec_check.specs.declared.request.Request.TheVariants as request
 use Rattle.dnssec_check.specs.declared.status.Fault.{Fault}
 use Rattle.dnssec_check.specs.declared.status.Fault.TheVariants as fault
-use Rattle.dnssec_check.specs.declared.status.InputFile.TheVariants.{Anchors, Capture, Statements}
+use Rattle.dnssec_check.specs.declared.status.InputFile.TheVariants.{Anchors, Capture, Keys, Macs, Statements}
 use Rattle.dnssec_check.specs.declared.status.Status.{Status}
 use Rattle.dnssec_check.specs.CaptureFile.{Demand, AnyMessage, NewEvidence, Meets, Fails, AllTaken, Holds, MessageRefused, FirstRefused, IsFaultOfCapture, IsNowhere, IsRefusal}
 use Rattle.dnssec_check.specs.Listing.{data_line, SignatureLines, RrsetLines}
@@ -230,6 +230,8 @@ module _ (laws : LayerLaws) where
   no_capture_fault demand file are messages (fault.TooLong Capture) x long = too_many (length file) file_limit x.framing.within long.0
   no_capture_fault demand file are messages (fault.TooLong Statements) x long = long
   no_capture_fault demand file are messages (fault.TooLong Anchors) x long = long
+  no_capture_fault demand file are messages (fault.TooLong Keys) x long = long
+  no_capture_fault demand file are messages (fault.TooLong Macs) x long = long
   no_capture_fault demand file are messages fault.OutOfMemory x fault = fault
   no_capture_fault demand file are messages (fault.ReadFailed other) x fault = fault
   no_capture_fault demand file are messages (fault.OpenFailed other) x fault = fault
@@ -251,8 +253,12 @@ module _ (laws : LayerLaws) where
   one_capture_fault demand file are (fault.TooLong Capture) (fault.TooLong Capture) x y = refl
   one_capture_fault demand file are (fault.TooLong Statements) b x y = absurd x
   one_capture_fault demand file are (fault.TooLong Anchors) b x y = absurd x
+  one_capture_fault demand file are (fault.TooLong Keys) b x y = absurd x
+  one_capture_fault demand file are (fault.TooLong Macs) b x y = absurd x
   one_capture_fault demand file are a (fault.TooLong Statements) x y = absurd y
   one_capture_fault demand file are a (fault.TooLong Anchors) x y = absurd y
+  one_capture_fault demand file are a (fault.TooLong Keys) x y = absurd y
+  one_capture_fault demand file are a (fault.TooLong Macs) x y = absurd y
   one_capture_fault demand file are fault.OutOfMemory b x y = absurd x
   one_capture_fault demand file are (fault.ReadFailed other) b x y = absurd x
   one_capture_fault demand file are (fault.OpenFailed other) b x y = absurd x

@@ -10,7 +10,7 @@ use Rattle.dnsv_canonical.specs.declared.capture.CaptureError.TheVariants as cap
 use Rattle.dnssec_check.specs.declared.status.Status.{Status}
 use Rattle.dnssec_check.specs.declared.status.Status.TheVariants.{Done, Insecure, Pending, Bogus, Indeterminate}
 use Rattle.dnssec_check.specs.declared.status.InputFile.{InputFile}
-use Rattle.dnssec_check.specs.declared.status.InputFile.TheVariants.{Anchors, Capture, Statements}
+use Rattle.dnssec_check.specs.declared.status.InputFile.TheVariants.{Anchors, Capture, Keys, Macs, Statements}
 use Rattle.dnssec_check.specs.declared.status.Refusal.{Refusal}
 use Rattle.dnssec_check.specs.declared.status.Refusal.TheVariants as refusal
 use Rattle.dnssec_check.specs.declared.status.Place.{Place}
@@ -42,6 +42,15 @@ refusal_number refusal.BadRdata = 206
 refusal_number refusal.TrailingBytes = 207
 refusal_number refusal.ZeroLength = 208
 refusal_number refusal.TornFrame = 209
+refusal_number refusal.KeySyntax = 301
+refusal_number refusal.DuplicateKey = 302
+refusal_number refusal.NoTsig = 310
+refusal_number refusal.TsigForm = 311
+refusal_number refusal.BadKey = 312
+refusal_number refusal.BadMac = 313
+refusal_number refusal.BadTime = 314
+refusal_number refusal.TruncatedMac = 315
+refusal_number refusal.PeerError = 316
 refusal_number refusal.NotAResponse = 401
 refusal_number refusal.Truncated = 402
 refusal_number refusal.Limit = 403
@@ -50,6 +59,8 @@ refusal_number refusal.Contradiction = 502
 refusal_number refusal.AnchorSyntax = 601
 refusal_number refusal.TooManyAnchors = 602
 refusal_number refusal.BadQuestion = 701
+refusal_number refusal.MacSyntax = 801
+refusal_number refusal.MacCount = 802
 
 abbrev pub fault_number : Fault → ℕ
 fault_number fault.OutOfMemory = 90
@@ -98,6 +109,8 @@ abbrev pub file_word : InputFile → List ℕ
 file_word Capture = codes "capture"
 file_word Anchors = codes "anchors"
 file_word Statements = codes "statements"
+file_word Keys = codes "keys"
+file_word Macs = codes "macs"
 
 -- a word and the number behind it, or nothing where there is none
 abbrev pub numbered : List ℕ → Option ℕ → List ℕ

@@ -46,6 +46,10 @@ pub enum InputFile {
     Anchors,
     /// The file of statements.
     Statements,
+    /// The file of keys.
+    Keys,
+    /// The file of request MACs.
+    Macs,
 }
 
 impl InputFile {
@@ -57,6 +61,8 @@ impl InputFile {
             InputFile::Capture => "capture",
             InputFile::Anchors => "anchors",
             InputFile::Statements => "statements",
+            InputFile::Keys => "keys",
+            InputFile::Macs => "macs",
         }
     }
 }
@@ -92,6 +98,24 @@ pub enum Refusal {
     ZeroLength,
     /// The stream ends inside a message or its length.
     TornFrame,
+    /// A line of the file of keys is no key.
+    KeySyntax,
+    /// A line of the file of keys names a key again.
+    DuplicateKey,
+    /// A message isn't signed with TSIG (RFC 8945 5.2).
+    NoTsig,
+    /// A message has several TSIG records, or one that isn't where or what it has to be (RFC 8945 4.2, 5.2).
+    TsigForm,
+    /// A message is signed under a key that the file of keys lacks, or by another algorithm (RFC 8945 5.2.1).
+    BadKey,
+    /// A message's MAC is wrong (RFC 8945 5.2.2).
+    BadMac,
+    /// The moment is too far from a message's time of signing (RFC 8945 5.2.3).
+    BadTime,
+    /// A message's MAC is only a beginning of the right one (RFC 8945 5.2.2.1).
+    TruncatedMac,
+    /// A message's signer tells an error (RFC 8945 5.4).
+    PeerError,
     /// A message is a query: QR is clear (RFC 1035 4.1.1).
     NotAResponse,
     /// A message was cut to fit: TC is set (RFC 1035 4.1.1).
@@ -109,6 +133,10 @@ pub enum Refusal {
     TooManyAnchors,
     /// The question's type can't be asked for at the name.
     BadQuestion,
+    /// A line of the file of request MACs is neither a MAC nor `-`.
+    MacSyntax,
+    /// The file of request MACs has more or fewer than the capture has messages.
+    MacCount,
 }
 
 impl Refusal {
@@ -131,6 +159,15 @@ impl Refusal {
             Refusal::TrailingBytes => 207,
             Refusal::ZeroLength => 208,
             Refusal::TornFrame => 209,
+            Refusal::KeySyntax => 301,
+            Refusal::DuplicateKey => 302,
+            Refusal::NoTsig => 310,
+            Refusal::TsigForm => 311,
+            Refusal::BadKey => 312,
+            Refusal::BadMac => 313,
+            Refusal::BadTime => 314,
+            Refusal::TruncatedMac => 315,
+            Refusal::PeerError => 316,
             Refusal::NotAResponse => 401,
             Refusal::Truncated => 402,
             Refusal::Limit => 403,
@@ -139,6 +176,8 @@ impl Refusal {
             Refusal::AnchorSyntax => 601,
             Refusal::TooManyAnchors => 602,
             Refusal::BadQuestion => 701,
+            Refusal::MacSyntax => 801,
+            Refusal::MacCount => 802,
         }
     }
 }
