@@ -6,6 +6,7 @@ mod ChainLemmas
 mod ChainProofLemmas
 mod CloserLemmas
 mod CutLemmas
+mod CutMeaningLemmas
 mod DenialLemmas
 mod EvidenceLemmas
 mod Example

@@ -50,7 +50,7 @@ no_words = record { Encloser = λ name. Unit {0}; Absent = λ name. ⊥; Inner =
 module _ (Secured : ℕ → ℕ → Type 0) (rrsets : List ReceivedRrset) (apex : Labels) (numbers : List RecordNumber) where
   -- NSEC records with these numbers say no more than they do as records of a chain
   module _ (records : List NsecRecord) (all : AllZip (IsNsecOf rrsets) numbers records) where
-    said_by : (Says : NsecRecord → Type 0) (n : RecordNumber) → IsMember n numbers → SaidByNsec Secured rrsets apex Says n → Any Says records
+    pub said_by : (Says : NsecRecord → Type 0) (n : RecordNumber) → IsMember n numbers → SaidByNsec Secured rrsets apex Says n → Any Says records
     said_by Says n there said =
         any_map (IsNsecOf rrsets n) Says records (λ r is. subst Says (one_nsec_of rrsets n said.0 r said.1.is is) said.2) (numbered (IsNsecOf rrsets) numbers records n all there)
 
@@ -64,7 +64,7 @@ module _ (Secured : ℕ → ℕ → Type 0) (rrsets : List ReceivedRrset) (apex 
     }
 
     -- they aren't NSEC3 records
-    no_nsec3 : (Says : Nsec3Record → Type 0) (n : RecordNumber) → IsMember n numbers → SaidByNsec3 Secured rrsets apex Says n → ⊥
+    pub no_nsec3 : (Says : Nsec3Record → Type 0) (n : RecordNumber) → IsMember n numbers → SaidByNsec3 Secured rrsets apex Says n → ⊥
     no_nsec3 Says n there said =
         let by = found_is (numbered (IsNsecOf rrsets) numbers records n all there) in nsec_or_nsec3 rrsets apex n by.0 said.0 by.1 said.1.is
       where
@@ -97,7 +97,7 @@ module _ (Secured : ℕ → ℕ → Type 0) (rrsets : List ReceivedRrset) (apex 
 
     module _ (parameters others : Parameters) (same : AllByRecursion (λ r. r.parameters ≡ others) records) where
       -- what is said with some parameters is said with those of the chain
-      said_with : (Says : NameHash → Nsec3Record → Type 0) → ((r : Nsec3Record) → Says (sha1_hash parameters) r → r.parameters ≡ parameters) → (n : RecordNumber) → IsMember n numbers
+      pub said_with : (Says : NameHash → Nsec3Record → Type 0) → ((r : Nsec3Record) → Says (sha1_hash parameters) r → r.parameters ≡ parameters) → (n : RecordNumber) → IsMember n numbers
           → SaidByNsec3 Secured rrsets apex (Says (sha1_hash parameters)) n → Any (Says (sha1_hash others)) records
       said_with Says its n there said =
           any_map (λ r. IsNsec3Of rrsets zone n r × (r.parameters ≡ others)) (Says (sha1_hash others)) records
@@ -123,7 +123,7 @@ among : (parts records : List RecordNumber) → AreRecordsOf parts records → (
 among parts records are n there = IsMember-from_contains records n ((are.members n).1 (Contains-from_member parts n there))
 
 -- the records of a chain have its parameters
-with_parameters : (zone : Zone) (hash : NameHash) (names : List Labels) (records : List Nsec3Record) → AllByRecursion (IsInNsec3Chain zone hash names) records → AllByRecursion (λ r. r.parameters ≡ hash.parameters) records
+pub with_parameters : (zone : Zone) (hash : NameHash) (names : List Labels) (records : List Nsec3Record) → AllByRecursion (IsInNsec3Chain zone hash names) records → AllByRecursion (λ r. r.parameters ≡ hash.parameters) records
 with_parameters zone hash names [] all = tt
 with_parameters zone hash names (r ∷ records) all = (all.0.same_parameters, with_parameters zone hash names records all.1)
 

@@ -4,6 +4,7 @@ pub mod AskedHash
 pub mod ByWildcard
 pub mod ChainOf
 pub mod ChainSaid
+pub mod CutMeaning
 pub mod Cuts
 pub mod Denials
 pub mod EndPlace

@@ -2,7 +2,9 @@
 ghost use Rattle.std.specs.Prelude.{◌≡◌, ◌+◌, ℕ, IfOk, IfSome, MatchOption};
 ghost use Rattle.dnsv_names.specs.Name.{Labels, rightmost};
 ghost use Rattle.dnsv_names.specs.Tree.{wildcard_of};
+ghost use Rattle.dnsv_denial.specs.CutMeaning.{IsCoveredEnd, MeansCut};
 ghost use Rattle.dnsv_denial.specs.Cuts.{HasLooseCloser, HasUnsignedCut, IsUnsignedCut};
+ghost use Rattle.dnsv_denial.specs.EvidenceWords.{Chain, evidence_said};
 ghost use Rattle.dnsv_denial.specs.FirstProof.{
   CanProveNoCloser,
   CanProveNoData,
@@ -59,8 +61,8 @@ impl<'a> Model for View<'a> {
 }
 
 impl<'a> View<'a> {
-    /// Gathers the records for the question's name. `trust` is that of the capture. `count` grows by the hashes of NSEC3
-    /// that are made: those of the name, its ancestors and the wildcards right below its proper ancestors, for each
+    /// Gathers the records for the question's name. `trust` is that of the capture. `count` grows by the hashes of
+    /// NSEC3 that are made: those of the name, its ancestors and the wildcards right below its proper ancestors, for each
     /// iterations and salt of a usable NSEC3 record of the capture.
     pub fn new(
         alloc: Global,
@@ -110,8 +112,8 @@ impl<'a> View<'a> {
     }
 
     /// The first proof that an answer of the zone from the wildcard below the name's so many rightmost labels has no
-    /// closer name against it (RFC 4035 5.3.4, RFC 5155 8.8); `None` where the evidence has none, or these labels are no
-    /// proper ancestor of the name at or below the zone.
+    /// closer name against it (RFC 4035 5.3.4, RFC 5155 8.8); `None` where the evidence has none, or these labels are
+    /// no proper ancestor of the name at or below the zone.
     pub fn no_closer(&self, zone: &Name, labels: usize) -> Option<Proof>
         ensures first { MatchOption result
             (¬ CanProveNoCloser (SecuredIn self.now.trust) self.now.rrsets self.now.name labels zone.now)
@@ -129,9 +131,12 @@ impl<'a> View<'a> {
     /// whose DS records can't be used; else the next closer name of the longest closest encloser where Opt-Out may
     /// leave out a delegation (RFC 4035 5.2, RFC 5155 8.6, 8.9, 9.2). `None` where the evidence shows none.
     pub fn unsigned_cut(&self) -> Option<Name>
-        ensures { MatchOption result
+        ensures first { MatchOption result
             (¬ HasUnsignedCut (SecuredIn self.now.trust) self.now.rrsets self.now.name)
             (IsUnsignedCut (SecuredIn self.now.trust) self.now.rrsets self.now.name) }
+        // Each zone that has the record in its chain has that delegation; and a name that Opt-Out may leave out is no
+        // node of it, or a delegation without DS, or exists through such alone.
+        ensures meaning { IfSome result (MeansCut (SecuredIn self.now.trust) self.now.rrsets self.now.name) }
     {
         unsigned_cut(self.capture, self.trust, self.name, &self.zones, &self.sets)
     }
@@ -140,10 +145,14 @@ impl<'a> View<'a> {
     /// the zone there, against an answer from the wildcard (RFC 5155 8.8). `None` where the evidence shows none, or
     /// these labels are no proper ancestor of the name at or below the zone.
     pub fn loose_closer(&self, zone: &Name, labels: usize) -> Option<Name>
-        ensures { MatchOption result
+        ensures closer { MatchOption result
             (¬ HasLooseCloser (SecuredIn self.now.trust) self.now.rrsets self.now.name labels zone.now)
             (λ closer. HasLooseCloser (SecuredIn self.now.trust) self.now.rrsets self.now.name labels zone.now
             × (closer ≡ rightmost self.now.name (labels + 1))) }
+        // In each zone that has the record in its chain, the name is no node, or a delegation without DS, or exists
+        // through such alone.
+        ensures meaning { IfSome result (λ closer. (chain : Chain) × IsCoveredEnd self.now.rrsets self.now.name
+            zone.now ((evidence_said (SecuredIn self.now.trust) self.now.rrsets zone.now chain).OptedOut) closer) }
     {
         loose_next_closer(self.name, zone, labels, &self.zones, &self.sets)
     }

@@ -46,7 +46,7 @@ returns-in-Some-unsigned_cut-clause-value c = (
   c.in_default-secure_alias.ensures,
   subst (λ view. ¬ CanProveNoName (SecuredIn view.trust) view.rrsets view.name) c.requires c.in_default-no_name.ensures.first,
   subst (λ view. ¬ CanProveNoData (SecuredIn view.trust) view.rrsets view.name c.args.rtype.0) c.requires c.in_default-no_data.ensures.first,
-  inl (subst (λ view. IsUnsignedCut (SecuredIn view.trust) view.rrsets view.name c.in-Some-unsigned_cut.cut) c.requires c.in-Some-unsigned_cut.ensures),
+  inl (subst (λ view. IsUnsignedCut (SecuredIn view.trust) view.rrsets view.name c.in-Some-unsigned_cut.cut) c.requires c.in-Some-unsigned_cut.ensures.first),
 )
 
 pub returns-in-Some-loose_cut-clause-value : goal.returns-in-Some-loose_cut-clause-value
@@ -55,7 +55,7 @@ returns-in-Some-loose_cut-clause-value c = (
   c.in_default-secure_alias.ensures,
   subst (λ view. ¬ CanProveNoName (SecuredIn view.trust) view.rrsets view.name) c.requires c.in_default-no_name.ensures.first,
   subst (λ view. ¬ CanProveNoData (SecuredIn view.trust) view.rrsets view.name c.args.rtype.0) c.requires c.in_default-no_data.ensures.first,
-  inr (subst (λ view. ¬ HasUnsignedCut (SecuredIn view.trust) view.rrsets view.name) c.requires c.in_default-unsigned_cut.ensures, c.in-Some-loose_cut.ensures),
+  inr (subst (λ view. ¬ HasUnsignedCut (SecuredIn view.trust) view.rrsets view.name) c.requires c.in_default-unsigned_cut.ensures.first, c.in-Some-loose_cut.ensures),
 )
 
 pub returns-clause-value : goal.returns-clause-value
@@ -65,5 +65,5 @@ returns-clause-value c =
     c.in_default-secure_alias.ensures
     (subst (λ view. ¬ CanProveNoName (SecuredIn view.trust) view.rrsets view.name) c.requires c.in_default-no_name.ensures.first)
     (subst (λ view. ¬ CanProveNoData (SecuredIn view.trust) view.rrsets view.name c.args.rtype.0) c.requires c.in_default-no_data.ensures.first)
-    (subst (λ view. ¬ HasUnsignedCut (SecuredIn view.trust) view.rrsets view.name) c.requires c.in_default-unsigned_cut.ensures)
+    (subst (λ view. ¬ HasUnsignedCut (SecuredIn view.trust) view.rrsets view.name) c.requires c.in_default-unsigned_cut.ensures.first)
     (λ k s loose. c.in_default-loose_cut.ensures k s loose)
