@@ -11,3 +11,4 @@ pub mod OneText
 pub mod AnswerLemmas
 pub mod ListedLemmas
 pub mod StatementsFileLemmas
+pub mod MacsFileLemmas

@@ -5,8 +5,10 @@ pub mod Commands
 pub mod FileFaults
 pub mod Files
 pub mod HexText
+pub mod KeysFile
 pub mod Line
 pub mod Listing
+pub mod MacsFile
 pub mod Moment
 pub mod Program
 pub mod Question

@@ -20,7 +20,10 @@ use Rattle.dnsv_verifier.specs.declared.statements.StatementsError.TheVariants a
 use Rattle.dnsv_chain.specs.declared.anchors.AnchorsError.{AnchorsError}
 use Rattle.dnsv_chain.specs.declared.anchors.AnchorsError.TheVariants as anchors
 use Rattle.dnssec_check.specs.AnchorsFile.{TellsAnchorsError}
+use Rattle.dnssec_check.specs.KeysFile.{TellsKeysError}
 use Rattle.dnssec_check.specs.StatementsFile.{TellsStatementsError}
+use Rattle.dnsv_tsig.specs.declared.error.KeyFileError.{KeyFileError}
+use Rattle.dnsv_tsig.specs.declared.error.KeyFileError.TheVariants as key_file
 use Rattle.dnssec_check.specs.Status.{TellsMessageError, TellsCaptureError}
 
 abbrev pub nowhere : Place
@@ -58,6 +61,12 @@ abbrev pub IsAnchorsFault : AnchorsError → Fault → Type 0
 IsAnchorsFault anchors.OutOfMemory told = told ≡ fault.OutOfMemory
 IsAnchorsFault error (fault.Refused why place) = TellsAnchorsError error why place
 IsAnchorsFault error _ = ⊥
+
+-- the fault tells the error of a file of keys
+abbrev pub IsKeysFault : KeyFileError → Fault → Type 0
+IsKeysFault key_file.OutOfMemory told = told ≡ fault.OutOfMemory
+IsKeysFault error (fault.Refused why place) = TellsKeysError error why place
+IsKeysFault error _ = ⊥
 
 -- the fault is a refusal of which this holds, or the want of memory
 abbrev pub IsFaultOf : (Refusal → Place → Type 0) → Fault → Type 0
