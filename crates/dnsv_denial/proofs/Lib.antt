@@ -1,6 +1,7 @@
 mod AlikeLemmas
 mod AnswerLemmas
 mod AnyLemmas
+mod AnyNameLemmas
 mod BitmapLemmas
 mod ChainLemmas
 mod ChainProofLemmas

@@ -6,6 +6,7 @@ ghost use Rattle.dnsv_denial.specs.Forms.{UnsignedCutForm};
 ghost use Rattle.dnsv_denial.specs.Parts.{IsHighestCut, IsLowestOptOut, OptsOut};
 ghost use Rattle.dnsv_denial.specs.RecordWords.{words};
 
+use crate::any_name::{has_opt_out, has_unsigned_delegation};
 use crate::asked::{AskedName, AskedTypes};
 use crate::ends::is_above;
 use crate::records::ChainRecords;
@@ -20,6 +21,9 @@ pub fn unsigned_delegation(apex: &Name, name: &Name, records: &ChainRecords<'_>)
         ((cut : Labels) → ¬ UnsignedCutForm (words (chain_said apex.now records.now)) apex.now name.now cut)
         (IsHighestCut (chain_said apex.now records.now) apex.now name.now) }
 {
+    if !has_unsigned_delegation(records) {
+        return None;
+    }
     if !name.is_at_or_below(apex) {
         return None;
     }
@@ -42,6 +46,9 @@ pub fn opt_out(apex: &Name, name: &Name, records: &ChainRecords<'_>) -> Option<u
         ((labels : ℕ) → ¬ OptsOut (chain_said apex.now records.now) apex.now name.now labels)
         (IsLowestOptOut (chain_said apex.now records.now) apex.now name.now) }
 {
+    if !has_opt_out(records) {
+        return None;
+    }
     let mut labels = name.labels();
     while labels > apex.labels() {
         labels -= 1;

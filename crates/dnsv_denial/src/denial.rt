@@ -5,6 +5,7 @@ ghost use Rattle.dnsv_denial.specs.ChainSaid.{chain_said, HasHashes};
 ghost use Rattle.dnsv_denial.specs.Denials.{AreParts, DenialForm};
 ghost use Rattle.dnsv_denial.specs.RecordWords.{words};
 
+use crate::any_name::has_records;
 use crate::by_wildcard::no_name;
 use crate::closer::no_closer;
 use crate::ends::Places;
@@ -32,6 +33,9 @@ impl Denial {
             (¬ DenialForm self name.now (words (chain_said apex.now records.now)) apex.now)
             (λ places. AreParts nat_cmp self name.now (chain_said apex.now records.now) apex.now places.items) }
     {
+        if !has_records(records) {
+            return None;
+        }
         match self {
             Denial::NoName => no_name(apex, name, records),
             Denial::NoData(rtype) => no_data(apex, name, rtype, records),

@@ -58,6 +58,7 @@ pub use zone::{
     nothing_closed_is_above_a_missing_name, what_is_above_a_node_is_a_node,
 };
 
+mod any_name;
 mod asked;
 mod by_wildcard;
 mod canonical_order;

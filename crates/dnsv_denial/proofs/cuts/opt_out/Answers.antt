@@ -1,8 +1,22 @@
-use Rattle.std.proofs.Common.{ℕ, ◌-◌, arith}
+use Rattle.std.proofs.Common.{ℕ, ◌+◌, ◌-◌, ⊎_elim, arith}
+use Rattle.dnsv_names.specs.Name.{rightmost}
+use Rattle.dnsv_names.specs.Tree.{wildcard_of}
 use Rattle.dnsv_denial.specs.ChainSaid.{chain_said}
 use Rattle.dnsv_denial.specs.Parts.{OptsOut}
 use Rattle.dnsv_denial.proofs.WildcardLemmas.{fewer_yet, no_fewer_labels}
 use Rattle.dnsv_denial.proofs.cuts.opt_out.Goals as goal
+
+pub returns-then-not-has_opt_out : goal.returns-then-not-has_opt_out
+returns-then-not-has_opt_out c = λ labels out.
+    let said = chain_said c.args.apex.now c.args.records.now in
+    let next = rightmost c.args.name.now (labels + 1) in
+    let star = wildcard_of (rightmost c.args.name.now labels) in
+    ⊎_elim
+    (λ (told : (place : ℕ) × said.OptedOut next place).
+    let holds = c.has_opt_out.ensures c.args.apex.now next told in let fails = c.if-not-has_opt_out.true in cc)
+    (λ (told : (place : ℕ) × said.OptedOut star place).
+    let holds = c.has_opt_out.ensures c.args.apex.now star told in let fails = c.if-not-has_opt_out.true in cc)
+    out.opted_out
 
 pub loop-labels-init : goal.loop-labels-init
 loop-labels-init c = λ more out. omega (arith, out.above.proper, c.labels-labels.ensures.count)

@@ -3,6 +3,10 @@ use Rattle.std.proofs.Common.{◌+◌, arith}
 use Rattle.dnsv_denial.proofs.CutLemmas.{no_cut_at_all, no_cut_outside, highest_cut, none_up_to}
 use Rattle.dnsv_denial.proofs.cuts.unsigned_delegation.Goals as goal
 
+pub returns-then-not-has_unsigned_delegation : goal.returns-then-not-has_unsigned_delegation
+returns-then-not-has_unsigned_delegation c = λ cut form.
+    let holds = c.has_unsigned_delegation.ensures c.args.apex.now cut form.types in let fails = c.if-not-has_unsigned_delegation.true in cc
+
 pub returns-then-not-is_at_or_below : goal.returns-then-not-is_at_or_below
 returns-then-not-is_at_or_below c =
     no_cut_outside c.args.apex.now c.args.name.now c.args.records.now
