@@ -10,7 +10,7 @@ pub record SaySoFar (lines : List NumberedLine) (anchors : List Anchor) : Type 0
   pub each : AreAnchors lines anchors
   pub few : length anchors ≤ 64
 
-are_more : (lines : List NumberedLine) (anchors : List Anchor) (line : NumberedLine) (anchor : Anchor) → AreAnchors lines anchors
+pub are_more : (lines : List NumberedLine) (anchors : List Anchor) (line : NumberedLine) (anchor : Anchor) → AreAnchors lines anchors
     → IsAnchorLine line.octets anchor → AreAnchors (lines ++ line ∷ []) (anchors ++ anchor ∷ [])
 are_more [] [] line anchor each is = (is, tt)
 are_more [] (a ∷ anchors) line anchor each is = absurd each

@@ -1,5 +1,6 @@
 -- A text is at most one list of anchors, or has one first fault.
-use Rattle.std.proofs.Common.{◌≡◌, ◌<◌, ◌≤◌, ◌^◌, ℕ, List, [], ◌∷◌, ◌++◌, length, get_or, refl, sym, ap, ◌∙◌, arith, subst, rules, Some, Ok, inl, inr, length-append}
+use Rattle.std.proofs.Common.{◌≡◌, ◌<◌, ◌≤◌, ◌^◌, ℕ, List, [], ◌∷◌, ◌++◌, length, get_or, refl, sym, ap, ◌∙◌, arith, subst, rules, Some, Ok, inl, inr, ⊎_elim, append_assoc, append-nil, length-append}
+use Rattle.std.proofs.lemmas.Bool.{cases_lt}
 use Rattle.std.proofs.lemmas.Fmt.{decimal_injective}
 use Rattle.std.proofs.lemmas.Slice.Zip.{AllZip-long}
 use Rattle.std.specs.Int.{w16, to_be_bytes}
@@ -8,8 +9,9 @@ use Rattle.base64.specs.GeneralPurpose.{IsConsistent, decode_of, encode_of}
 use Rattle.base64.proofs.EngineFacts.{decode_of-encode_of}
 use Rattle.dnsv_names.specs.Name.{Labels, IsName}
 use Rattle.dnsv_names.specs.Text.{IsTextOf}
-use Rattle.dnsv_names.specs.Lines.{NumberedLine}
-use Rattle.dnsv_names.specs.LineLaws.{AreFields-only, HasLines-only}
+use Rattle.dnsv_names.specs.Lines.{HasLines, NumberedLine, kept_from}
+use Rattle.dnsv_names.specs.LineLaws.{AreFields-only, HasLines-only, HasLines-read}
+use Rattle.dnsv_names.specs.LineReading.{lines_in}
 use Rattle.dnsv_records.specs.declared.ds.Ds.{Ds}
 use Rattle.dnsv_verifier.specs.HexField.{hex_value}
 use Rattle.dnsv_verifier.specs.StatementsLaws.{Places, places}
@@ -18,6 +20,7 @@ use Rattle.dnsv_chain.specs.declared.anchor.Anchor.{Anchor}
 use Rattle.dnsv_chain.specs.declared.anchor.Anchor.TheVariants as anchor
 use Rattle.dnsv_chain.specs.declared.anchors.AnchorsError.{AnchorsError}
 use Rattle.dnsv_chain.specs.declared.anchors.AnchorsError.TheVariants.{OutOfMemory, Syntax, TooMany}
+use Rattle.dnsv_chain.proofs.AnchorFileLemmas.{are_more}
 use Rattle.dnsv_chain.proofs.AnchorLineLemmas.{DS-KEY}
 use Rattle.dnsv_chain.proofs.FieldLemmas.{octet_at_place}
 
@@ -157,3 +160,43 @@ pub IsFaultOf-only : (text : List ℕ) (a b : AnchorsError) → IsFaultOf text a
 IsFaultOf-only text a b first second =
     faults_at text a b first second
     (places first.before second.before first.line second.line first.after second.after (HasLines-only text (first.before ++ first.line ∷ first.after) (second.before ++ second.line ∷ second.after) first.has second.has))
+
+-- ---- no text is neither
+
+module _ (text : List ℕ) (none : (anchors : List Anchor) → AreAnchorsOf text anchors → ⊥) (no_first : (fault : AnchorsError) → IsFaultOf text fault → ⊥) where
+  -- lines that say anchors don't end, and none comes behind them
+  no_end : (after before : List NumberedLine) (anchors : List Anchor) → HasLines text (before ++ after) → AreAnchors before anchors
+      → length anchors ≤ 64 → ⊥
+  no_end [] before anchors has each few =
+      none anchors (record { lines = before; has = subst (λ (lines : List NumberedLine). HasLines text lines) (append-nil before) has; each = each; few = few })
+  no_end (line ∷ after) before anchors has each few =
+      no_first (Syntax line.number) (record {
+        before = before;
+        line = line;
+        after = after;
+        has = has;
+        anchors = anchors;
+        each = each;
+        few = few;
+        there = (
+          refl,
+          λ anchor says. ⊎_elim
+              (λ (room : length anchors < 64). no_end after (before ++ line ∷ []) (anchors ++ anchor ∷ [])
+              (subst (λ (lines : List NumberedLine). HasLines text lines) (sym (append_assoc before (line ∷ []) after)) has)
+              (are_more before anchors line anchor each says) (omega (arith, room, length-append anchors (anchor ∷ []))))
+              (λ (full : 64 ≤ length anchors). no_first (TooMany line.number) (record {
+                before = before;
+                line = line;
+                after = after;
+                has = has;
+                anchors = anchors;
+                each = each;
+                few = few;
+                there = (refl, (anchor, says), omega (arith, full, few));
+              }))
+              (cases_lt (length anchors) 64),
+        );
+      })
+
+  pub anchors_or_fault : ⊥
+  anchors_or_fault = no_end (kept_from 1 (lines_in text)) [] [] (HasLines-read text) tt (omega arith)

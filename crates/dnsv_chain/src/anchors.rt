@@ -137,13 +137,15 @@ impl Anchors {
     }
 }
 
-/// A law of files of trust anchors: a text is at most one list of anchors, has at most one first fault, and never
-/// both.
+/// A law of files of trust anchors: a text is one list of anchors or has one first fault, never both, and no text has
+/// neither.
 pub fn a_text_is_one_list_of_anchors()
     ensures anchors { (text : List ℕ) (a b : List Anchor) → AreAnchorsOf text a → AreAnchorsOf text b → a ≡ b }
     ensures fault { (text : List ℕ) (a b : AnchorsError) → IsFaultOf text a → IsFaultOf text b → a ≡ b }
     ensures apart { (text : List ℕ) (anchors : List Anchor) (fault : AnchorsError) → AreAnchorsOf text anchors
         → IsFaultOf text fault → ⊥ }
+    ensures either { (text : List ℕ) → ((anchors : List Anchor) → AreAnchorsOf text anchors → ⊥)
+        → ((fault : AnchorsError) → IsFaultOf text fault → ⊥) → ⊥ }
 {
     a_text_has_one_reading();
 }
