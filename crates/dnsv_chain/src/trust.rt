@@ -1,6 +1,8 @@
 //! What is kept of trust.
 ghost use Rattle.std.specs.Prelude.{◌≡◌, IfOk, map};
+ghost use Rattle.std.specs.List.{AllZip};
 ghost use Rattle.dnsv_records.specs.Dnskey.{IsDnskey};
+ghost use Rattle.dnsv_canonical.specs.Canonical.{IsCanonical};
 ghost use Rattle.dnsv_verifier.specs.Table.{table_answer};
 ghost use Rattle.dnsv_chain.specs.ByOwner.{values_at};
 ghost use Rattle.dnsv_chain.specs.Trust.{keys_among, keys_of, signed_of};
@@ -109,15 +111,33 @@ fn zones(alloc: Global, keys: &TrustedKeys<'_>) -> Result<Vec<ZoneKeys>, AllocEr
 fn distinct_keys(alloc: Global, records: &[KeyRecord<'_>]) -> Result<Vec<Dnskey>, AllocError>
     ensures { IfOk result (λ keys. AreKeysOf records.now keys.items) }
 {
+    let octets = distinct_rdata(alloc, records)?;
+    Ok(read_keys(alloc, octets.as_slice())?)
+}
+
+/// The RDATA of the records, each once, in order.
+fn distinct_rdata<'a>(
+    alloc: Global,
+    records: &'a [KeyRecord<'_>],
+) -> Result<Vec<&'a [u8]>, AllocError>
+    ensures { IfOk result (λ octets. IsCanonical (map (λ key. key.rdata) records.now) (map (λ r. r.now) octets.items)) }
+{
     let mut octets = Vec::new(alloc);
     for record in records {
         octets.push(record.rdata())?;
     }
     octets.sort_unstable();
     octets.dedup();
+    Ok(octets)
+}
+
+/// The keys that these RDATA say, one each.
+fn read_keys(alloc: Global, octets: &[&[u8]]) -> Result<Vec<Dnskey>, AllocError>
+    ensures { IfOk result (λ keys. AllZip IsDnskey (map (λ r. r.now) octets.now) keys.items) }
+{
     let mut keys = Vec::new(alloc);
-    for rdata in octets.as_slice() {
-        keys.push(read_key(alloc, *rdata)?)?;
+    for rdata in octets {
+        keys.push(read_key(alloc, rdata)?)?;
     }
     Ok(keys)
 }
