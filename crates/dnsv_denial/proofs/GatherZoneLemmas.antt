@@ -1,10 +1,10 @@
 -- Zones and parameters that are gathered one after another.
-use Rattle.std.proofs.Common.{◌≡◌, ◌&&◌, Bor, Bool, true, false, cond, ℕ, zero, suc, ◌+◌, ◌<◌, ◌≤◌, List, [], ◌∷◌, ◌++◌, length, get_or, map, take, refl, sym, ap, ◌∙◌, subst, inl, inr, ⊎_elim, arith, length-append}
+use Rattle.std.proofs.Common.{◌≡◌, ◌↔◌, ◌&&◌, Bor, Bool, true, false, cond, ℕ, zero, suc, ◌+◌, ◌<◌, ◌≤◌, List, [], ◌∷◌, ◌++◌, length, get_or, map, take, refl, sym, ap, ◌∙◌, subst, inl, inr, ⊎_elim, arith, length-append}
 use Rattle.std.proofs.lemmas.Bool.{and_from, and_parts, eqb-true}
 use Rattle.std.proofs.lemmas.Cmp.{nat_eq_equiv, lists_equiv, on_total}
 use Rattle.std.proofs.lemmas.List.{map-append, take_all, take_more}
-use Rattle.std.proofs.lemmas.List.Kept.{IsStrictlySortedBy-dedup, Contains-dedup}
-use Rattle.std.proofs.lemmas.List.Sorted.{Contains-permutation, IsPermutation-map}
+use Rattle.std.proofs.lemmas.List.Kept.{IsStrictlySortedBy-dedup, Contains-dedup, Contains-from_dedup}
+use Rattle.std.proofs.lemmas.List.Sorted.{Contains-permutation, IsPermutation-map, IsPermutation-sym}
 use Rattle.std.specs.Cmp.{IsEquivalence, unsigned_ties}
 use Rattle.std.specs.Cmp.Derive.{on_tied, then_tied, tie}
 use Rattle.std.specs.Cmp.Lexicographic.{pointwise, texts_ties, bytes_decides}
@@ -103,12 +103,16 @@ module _ (given sorted kept : List (Bor Nsec3Parameters)) (ordered : IsSorted (�
   put_in_order = rw is (rising_map parameters_of parameters_cmp _ (rising_map (λ (each : Bor Nsec3Parameters). each.now) (λ a b. parameters_cmp (parameters_of a) (parameters_of b)) _
       (IsStrictlySortedBy-dedup (on_total (λ (each : Bor Nsec3Parameters). parameters_of each.now) parameters_total) (λ a b. ties a.now b.now) sorted ordered)))
 
-  pub all_in_order : IsPermutation given sorted → (x : Nsec3Parameters) → Contains (map (λ each. each.now) given) x → Contains (map (λ each. each.now) kept) x
-  all_in_order moved x found =
+  pub members_in_order : IsPermutation given sorted → (x : Nsec3Parameters) → Contains (map (λ each. each.now) given) x ↔ Contains (map (λ each. each.now) kept) x
+  members_in_order moved x =
       let mapped : IsPermutation (map (λ (b : Bor Nsec3Parameters). b.now) given) (map (λ (b : Bor Nsec3Parameters). b.now) sorted) = IsPermutation-map (λ b. b.now) given sorted moved in
-      let whole : map (λ (b : Bor Nsec3Parameters). b.now) kept ≡ dedup parameters_eq (map (λ b. b.now) sorted) = ap (map (λ b. b.now)) is ∙ map-dedup (λ (b : Bor Nsec3Parameters). b.now) parameters_eq sorted in
-      rw whole (Contains-dedup parameters_equiv same_parameters (map (λ b. b.now) sorted) x
-      (Contains-permutation (map (λ b. b.now) given) (map (λ b. b.now) sorted) x mapped found))
+      let whole : map (λ (b : Bor Nsec3Parameters). b.now) kept ≡ dedup parameters_eq (map (λ b. b.now) sorted) = ap (map (λ b. b.now)) is ∙ map-dedup (λ (b : Bor Nsec3Parameters). b.now) parameters_eq sorted in (
+        λ found. rw whole (Contains-dedup parameters_equiv same_parameters (map (λ b. b.now) sorted) x
+            (Contains-permutation (map (λ b. b.now) given) (map (λ b. b.now) sorted) x mapped found)),
+        λ found. Contains-permutation (map (λ b. b.now) sorted) (map (λ b. b.now) given) x
+            (IsPermutation-sym (map (λ (b : Bor Nsec3Parameters). b.now) given) (map (λ b. b.now) sorted) mapped)
+            (Contains-from_dedup parameters_eq (map (λ b. b.now) sorted) x (subst (λ xs. Contains xs x) whole found)),
+      )
 
 -- ---- sets
 

@@ -17,6 +17,7 @@ mod FirstProofLemmas
 mod GatherLemmas
 mod GatherZoneLemmas
 mod Gathering
+mod HashCountLemmas
 mod HashLemmas
 mod IndexLemmas
 mod LookupLemmas

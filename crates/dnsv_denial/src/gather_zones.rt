@@ -1,9 +1,11 @@
 //! The records of the zones at or above a name, and the hashes that a question of it asks for.
-ghost use Rattle.std.specs.Prelude.{◌≡◌, IfOk, Contains, map};
+ghost use Rattle.std.specs.Prelude.{◌≡◌, ◌↔◌, IfOk, Contains, map};
 ghost use Rattle.std.specs.List.{AllByRecursion};
 ghost use Rattle.std.specs.List.Sorted.{IsStrictlySortedBy};
+ghost use Rattle.dnsv_names.specs.Count.{counted};
 ghost use Rattle.dnsv_records.specs.declared.nsec3.Nsec3Parameters.{Nsec3Parameters};
 ghost use Rattle.dnsv_denial.specs.EvidenceWords.{parameters_cmp};
+ghost use Rattle.dnsv_denial.specs.HashedNames.{hashes_for};
 ghost use Rattle.dnsv_denial.specs.Kept.{AreZones, IsSetOf};
 ghost use Rattle.dnsv_denial.specs.Record.{parameters_of};
 ghost use Rattle.dnsv_denial.specs.Viewed.{SecuredIn};
@@ -41,7 +43,8 @@ pub fn zones_of<'a>(
     Ok(zones)
 }
 
-/// The hashes of the names that a question of the name asks for, for each of the parameters in their order.
+/// The hashes of the names that a question of the name asks for, for each of the parameters in their order, each once.
+/// `count` grows by how often something is hashed.
 pub fn sets_of<'a>(
     alloc: Global,
     all: &'a [Nsec3Parameters],
@@ -51,9 +54,12 @@ pub fn sets_of<'a>(
     ensures hashed { IfOk result (λ sets. AllByRecursion (IsSetOf name.now) sets.items) }
     ensures order { IfOk result (λ sets. IsStrictlySortedBy parameters_cmp
         (map parameters_of (map (λ set. set.parameters.now) sets.items))) }
-    ensures all { IfOk result (λ sets. (each : Nsec3Parameters) → Contains all.now each
-        → Contains (map (λ set. set.parameters.now) sets.items) each) }
+    ensures members { IfOk result (λ sets. (each : Nsec3Parameters) → Contains all.now each
+        ↔ Contains (map (λ set. set.parameters.now) sets.items) each) }
+    ensures count { IfOk result (λ sets. count.new
+        ≡ counted count.old (hashes_for name.now (map (λ set. set.parameters.now) sets.items))) }
 {
+    let _ = count.value();
     let ordered = in_order(alloc, all)?;
     let mut sets = Vec::new(alloc);
     for parameters in ordered.iter() {
@@ -73,8 +79,8 @@ fn in_order<'a>(
 ) -> Result<Vec<&'a Nsec3Parameters>, AllocError>
     ensures order { IfOk result (λ ordered. IsStrictlySortedBy parameters_cmp
         (map parameters_of (map (λ each. each.now) ordered.items))) }
-    ensures all { IfOk result (λ ordered. (each : Nsec3Parameters) → Contains all.now each
-        → Contains (map (λ each. each.now) ordered.items) each) }
+    ensures members { IfOk result (λ ordered. (each : Nsec3Parameters) → Contains all.now each
+        ↔ Contains (map (λ each. each.now) ordered.items) each) }
 {
     let mut ordered = Vec::new(alloc);
     for parameters in all {

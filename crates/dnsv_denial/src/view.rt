@@ -1,7 +1,10 @@
 //! What the evidence says of one question: that there is no such name or type, or that it is unsigned.
-ghost use Rattle.std.specs.Prelude.{◌≡◌, ◌+◌, ℕ, IfOk, IfSome, MatchOption};
+ghost use Rattle.std.specs.Prelude.{◌≡◌, ◌+◌, ℕ, IfOk, IfSome, List, MatchOption};
+ghost use Rattle.dnsv_names.specs.Count.{counted};
 ghost use Rattle.dnsv_names.specs.Name.{Labels, rightmost};
 ghost use Rattle.dnsv_names.specs.Tree.{wildcard_of};
+ghost use Rattle.dnsv_records.specs.declared.nsec3.Nsec3Parameters.{Nsec3Parameters};
+ghost use Rattle.dnsv_canonical.specs.Evidence.{AreParameters, nsec3_rdata};
 ghost use Rattle.dnsv_denial.specs.CutMeaning.{IsCoveredEnd, MeansCut};
 ghost use Rattle.dnsv_denial.specs.Cuts.{HasLooseCloser, HasUnsignedCut, IsUnsignedCut};
 ghost use Rattle.dnsv_denial.specs.EvidenceWords.{Chain, evidence_said};
@@ -13,6 +16,7 @@ ghost use Rattle.dnsv_denial.specs.FirstProof.{
   IsFirstNoData,
   IsFirstNoName,
 };
+ghost use Rattle.dnsv_denial.specs.HashedNames.{hashes_for};
 ghost use Rattle.dnsv_denial.specs.Lookup.{IsLookup};
 ghost use Rattle.dnsv_denial.specs.Lookup.Answer.{Held, NoData, NoName};
 ghost use Rattle.dnsv_denial.specs.ProofMeaning.{HasProofRecords};
@@ -61,9 +65,9 @@ impl<'a> Model for View<'a> {
 }
 
 impl<'a> View<'a> {
-    /// Gathers the records for the question's name. `trust` is that of the capture. `count` grows by the hashes of
-    /// NSEC3 that are made: those of the name, its ancestors and the wildcards right below its proper ancestors, for each
-    /// iterations and salt of a usable NSEC3 record of the capture.
+    /// Gathers the records for the question's name. `trust` is that of the capture. `count` grows by the hashes that
+    /// are made: one more than the iterations for the name, for each of its ancestors and for each wildcard right below
+    /// one of its proper ancestors, with each iterations and salt of a usable NSEC3 record of the capture (RFC 5155 5).
     pub fn new(
         alloc: Global,
         capture: &'a Capture,
@@ -71,8 +75,12 @@ impl<'a> View<'a> {
         name: &'a Name,
         count: &mut Count,
     ) -> Result<View<'a>, AllocError>
-        ensures { IfOk result (λ view. view
+        ensures value { IfOk result (λ view. view
             ≡ record { rrsets = capture.now.rrsets; trust = trust.now; name = name.now }) }
+        // Whatever the order of the parameters.
+        ensures count { IfOk result (λ view. (all : List Nsec3Parameters)
+            → AreParameters (nsec3_rdata capture.now.rrsets) all
+            → count.new ≡ counted count.old (hashes_for name.now all)) }
     {
         let sets = sets_of(alloc, capture.nsec3_parameters(), name, count)?;
         let zones = zones_of(alloc, capture, trust, name)?;
