@@ -1,8 +1,6 @@
 -- What the gathered records say by their places is what the evidence says by their numbers.
 use Rattle.std.proofs.Common.{◌≡◌, ◌≢◌, Bor, ℕ, zero, suc, ◌<◌, ◌≤◌, List, [], ◌∷◌, map, refl, sym, ap, ◌∙◌, subst, inl, inr, ⊎_elim, arith}
 use Rattle.std.proofs.lemmas.Bool.{cases_lt}
-use Rattle.std.proofs.lemmas.Cmp.{nat_cmp_total, on_total, then_total}
-use Rattle.std.specs.Cmp.{IsTotalOrder}
 use Rattle.std.specs.Ordering.{ordering_reverse}
 use Rattle.std.specs.Prelude.{⊤, Some, slice_get}
 use Rattle.std.specs.List.{AllByRecursion}
@@ -30,9 +28,7 @@ use Rattle.dnsv_denial.specs.declared.number.RecordNumber.{RecordNumber}
 use Rattle.dnsv_denial.specs.declared.records.ChainRecords.TheVariants.{Nsec, Nsec3}
 use Rattle.dnsv_denial.proofs.GatherLemmas.{mapped_at, each_at}
 use Rattle.dnsv_denial.proofs.IndexLemmas.{AreInOrder, SaysAlike, SayAlike}
-
-pub number_cmp_total : IsTotalOrder number_cmp
-number_cmp_total = then_total (on_total (λ (n : RecordNumber). n.rrset) nat_cmp_total) (on_total (λ (n : RecordNumber). n.place) nat_cmp_total)
+use Rattle.dnsv_denial.proofs.NumberLemmas.{number_cmp_total}
 
 both_less : (a b : RecordNumber) → number_cmp a b ≡ Less → number_cmp b a ≡ Less → ⊥
 both_less a b less more = let turned : Less ≡ Greater = sym less ∙ number_cmp_total.antisymm a b ∙ ap ordering_reverse more in cc

@@ -18,6 +18,7 @@ use Rattle.dnsv_names.specs.Name.{Labels, rightmost}
 use Rattle.dnsv_names.specs.Octets.{octets_cmp}
 use Rattle.dnsv_records.specs.OctetLaws.{recursion-append}
 use Rattle.dnsv_records.specs.declared.nsec3.Nsec3Parameters.{Nsec3Parameters}
+use Rattle.dnsv_canonical.proofs.CanonicalLemmas.{each_map}
 use Rattle.dnsv_canonical.specs.Rrsets.{ReceivedRrset}
 use Rattle.dnsv_denial.specs.EvidenceWords.{parameters_cmp}
 use Rattle.dnsv_denial.specs.Kept.{IsSetOf, IsZoneOf}
@@ -75,10 +76,6 @@ parameters_equiv = record {
 
 ties : (a b : Nsec3Parameters) → parameters_eq a b ≡ eq_by_cmp (λ x y. parameters_cmp (parameters_of x) (parameters_of y)) a b
 ties = (then_tied (on_tied (λ (n : Nsec3Parameters). n.iterations.0) (tie nat_cmp unsigned_ties)) (on_tied (λ (n : Nsec3Parameters). n.salt) (tie octets_cmp texts_ties))).ties
-
-each_map : {X Y : Type 0} (f : X → Y) (P : Y → Type 0) (xs : List X) → AllByRecursion (λ x. P (f x)) xs → AllByRecursion P (map f xs)
-each_map f P [] all = tt
-each_map f P (x ∷ xs) all = (all.0, each_map f P xs all.1)
 
 rising_map : {X Y : Type 0} (f : X → Y) (R : Y → Y → Ordering) (xs : List X) → IsStrictlySortedBy (λ a b. R (f a) (f b)) xs → IsStrictlySortedBy R (map f xs)
 unfolding IsStrictlySortedBy

@@ -1,5 +1,5 @@
 -- What records say by their places, they say by their numbers.
-use Rattle.std.proofs.Common.{◌≡◌, ◌≢◌, ◌⊎◌, ℕ, zero, suc, ◌+◌, ◌<◌, ◌≤◌, List, [], ◌∷◌, ◌++◌, get_or, map, refl, sym, ap, ◌∙◌, subst, inl, inr, ⊎_elim, arith}
+use Rattle.std.proofs.Common.{◌≡◌, ◌≢◌, ◌⊎◌, ℕ, zero, suc, ◌+◌, ◌<◌, ◌≤◌, List, [], ◌∷◌, ◌++◌, map, refl, sym, ap, ◌∙◌, subst, inl, inr, ⊎_elim, arith}
 use Rattle.std.proofs.lemmas.Bool.{cases_lt}
 use Rattle.std.proofs.lemmas.List.{map-append}
 use Rattle.std.proofs.lemmas.Option.{get_or_from_slice_get}
@@ -12,6 +12,7 @@ use Rattle.dnsv_names.specs.Name.{Labels, IsAtOrBelow, rightmost}
 use Rattle.dnsv_names.specs.Tree.{wildcard_of}
 use Rattle.dnsv_denial.specs.EvidenceWords.{number_cmp}
 use Rattle.dnsv_denial.specs.Forms.{Words, EndsAt, NoNameForm, NoDataForm, EmptyForm, NoWildcardDataForm, EmptyWildcardForm, NoDataForms, NoCloserForm, UnsignedCutForm}
+use Rattle.dnsv_denial.specs.Numbers.{number_at}
 use Rattle.dnsv_denial.specs.Parts.{IsLowest, IsEncloserPart, AreEndParts, AreWildcardParts, AreNoNameParts, AreWildcardDataParts, AreEmptyWildcardParts, AreNoDataParts, IsNoCloserPart}
 use Rattle.dnsv_denial.specs.Parts.IsEncloserPart.{no_record, a_record}
 use Rattle.dnsv_denial.specs.Parts.AreNoDataParts.{at_name, empty, at_wildcard, empty_wildcard}
@@ -61,10 +62,6 @@ module _ (numbers : List RecordNumber) (by : RecordWords ℕ) (of : RecordWords 
 
 pub record AreInOrder (numbers : List RecordNumber) : Type 0 where
   pub later : (i j : ℕ) (a b : RecordNumber) → slice_get numbers i ≡ Some a → slice_get numbers j ≡ Some b → number_cmp a b ≡ Less → i < j
-
--- the number at a place
-abbrev pub number_at : List RecordNumber → ℕ → RecordNumber
-number_at numbers place = get_or numbers place (record { rrset = 0; place = 0 })
 
 module _ (numbers : List RecordNumber) (order : AreInOrder numbers) where
   pub lowest_to : (By : ℕ → Type 0) (Of : RecordNumber → Type 0) → SaysAlike numbers By Of
