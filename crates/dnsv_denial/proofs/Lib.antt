@@ -9,6 +9,7 @@ mod CloserLemmas
 mod CutLemmas
 mod CutMeaningLemmas
 mod DenialLemmas
+mod EndLimitLemmas
 mod EvidenceLemmas
 mod Example
 mod FindingLemmas

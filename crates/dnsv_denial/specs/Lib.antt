@@ -7,6 +7,7 @@ pub mod ChainSaid
 pub mod CutMeaning
 pub mod Cuts
 pub mod Denials
+pub mod EndLimits
 pub mod EndPlace
 pub mod Evidence
 pub mod EvidenceWords

@@ -15,6 +15,7 @@ ghost use Rattle.dnsv_denial.specs.SaidAt.{IsFirstPlace};
 ghost use Rattle.dnsv_denial.specs.Zone.{Zone};
 
 use crate::asked::{AskedName, AskedTypes, AskedWildcard};
+use crate::end_limits::end_limits;
 use crate::ends::{Places, end_at};
 use crate::records::ChainRecords;
 use crate::said::{absent, inner, types_at};
@@ -46,8 +47,9 @@ pub fn by_wildcard(
         ((labels : ℕ) → ¬ StandsAt asked (chain_said apex.now records.now) apex.now name.now labels)
         (λ places. AreMostParts asked (chain_said apex.now records.now) apex.now name.now places.items) }
 {
-    let mut labels = name.labels();
-    while labels > apex.labels() {
+    let limits = end_limits(apex, name, records);
+    let mut labels = limits.limit;
+    while labels > limits.fewest {
         labels -= 1;
         if let Some(places) = by_wildcard_at(apex, name, labels, asked, records) {
             return Some(places);

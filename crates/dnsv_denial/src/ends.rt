@@ -67,16 +67,17 @@ pub fn end_at(
     if !is_above(apex, name, labels) {
         return None;
     }
-    let next_closer = absent(name, AskedName::Above(labels + 1), records)?;
     if needs_none(apex, name, labels, records) {
+        let next_closer = absent(name, AskedName::Above(labels + 1), records)?;
         return Some(EndPlaces {
             encloser: None,
             next_closer,
         });
     }
     let encloser = encloser(name, labels, records)?;
+    let covering = absent(name, AskedName::Above(labels + 1), records)?;
     Some(EndPlaces {
         encloser: Some(encloser),
-        next_closer,
+        next_closer: covering,
     })
 }

@@ -68,6 +68,7 @@ mod closer;
 mod cut_meaning;
 mod cuts;
 mod denial;
+mod end_limits;
 mod ends;
 mod entry;
 mod findings;

@@ -5,7 +5,7 @@ use Rattle.dnsv_denial.proofs.WildcardLemmas.{fewer_yet, none_above_apex}
 use Rattle.dnsv_denial.proofs.by_wildcard.by_wildcard.Goals as goal
 
 pub loop-labels-init : goal.loop-labels-init
-loop-labels-init c = λ more stands. omega (arith, stands.ends.above.proper, c.labels-labels.ensures.count)
+loop-labels-init c = λ more stands. (c.end_limits-limits.ensures.limits more stands.ends).1
 
 pub loop-labels-preserved : goal.loop-labels-preserved
 loop-labels-preserved c =
@@ -20,6 +20,7 @@ returns-in-Some c = record {
 }
 
 pub returns : goal.returns
-returns c =
-    none_above_apex (chain_said c.args.apex.now c.args.records.now) c.args.apex.now c.args.name.now c.args.asked c.loop-labels.labels
-    (omega (arith, c.loop-labels-test.false)) c.loop-labels.invariant
+returns c = λ more stands.
+    let between = (c.end_limits-limits.ensures.limits more stands.ends).0 in
+    let fewer = c.loop-labels.invariant more stands in
+    omega (arith, between, fewer, c.loop-labels-test.false)

@@ -22,7 +22,7 @@ returns c = record {
   encloser = a_record c.in_ok-encloser.encloser
       (λ needs. let holds = c.needs_none.ensures.1 needs in let fails = c.if-needs_none.false in cc)
       (c.in_ok-encloser.ensures c.args.apex.now);
-  covering = c.in_ok-next_closer.next_closer;
-  next_closer = c.in_ok-next_closer.ensures c.args.apex.now;
+  covering = c.in_ok-covering.covering;
+  next_closer = c.in_ok-covering.ensures c.args.apex.now;
   both = refl;
 }
