@@ -1,11 +1,15 @@
 mod CaseLemmas
 mod EvidenceLemmas
+mod FiniteLemmas
 mod FormLemmas
 mod LowestLemmas
 mod OneProof
 mod PendingLemmas
 mod SearchLemmas
 mod SettledLemmas
+mod SomeProof
+mod SomeVerdict
+mod SureLemmas
 mod TrustLemmas
 mod UnknownLemmas
 mod ViewLemmas

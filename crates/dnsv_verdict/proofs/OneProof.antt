@@ -1,5 +1,5 @@
 -- There is one first proof.
-use Rattle.std.proofs.Common.{◌≡◌, ◌≢◌, ◌⊎◌, ◌+◌, ◌<◌, ◌≤◌, ℕ, List, [], ◌∷◌, ◌++◌, refl, sym, ap, ◌∙◌, subst, inl, inr, ⊎_elim, arith, length}
+use Rattle.std.proofs.Common.{◌≡◌, ◌⊎◌, ◌+◌, ◌<◌, ◌≤◌, ℕ, List, [], ◌∷◌, ◌++◌, refl, sym, ap, ◌∙◌, subst, inl, inr, ⊎_elim, arith}
 use Rattle.std.proofs.lemmas.Cmp.{nat_cmp_total, nat_list_cmp_total, on_total, then_total}
 use Rattle.std.proofs.lemmas.Map.Lookups.{exact_bytes, exact_unsigned}
 use Rattle.std.specs.Cmp.{IsTotalOrder}
@@ -15,7 +15,7 @@ use Rattle.dnsv_denial.specs.Cuts.{no_ds, no_usable_ds, opt_out, IsUnsignedDeleg
 use Rattle.dnsv_denial.specs.EvidenceWords.{Chain, GoesBefore, nsec_first, by_parameters, evidence_said, number_cmp, parameters_cmp}
 use Rattle.dnsv_denial.specs.EvidenceWords.Chain.{ByNsec, ByNsec3}
 use Rattle.dnsv_denial.specs.FirstProof.{AreRecordsOf, CanBeProved, IsFirstNoData, IsFirstNoName, IsFirstProof, ProofRecords, StandsBy}
-use Rattle.dnsv_denial.specs.Forms.{Words, EndsAt, NoNameForm, NoDataForm, EmptyForm, NoWildcardDataForm, EmptyWildcardForm}
+use Rattle.dnsv_denial.specs.Forms.{Words, EndsAt, NoNameForm, NoWildcardDataForm, EmptyWildcardForm}
 use Rattle.dnsv_denial.specs.Nsec3Chain.{Parameters}
 use Rattle.dnsv_denial.specs.Parts.{IsLowest, IsEncloserPart, no_record, a_record, at_name, empty, at_wildcard, empty_wildcard, AreEndParts, AreWildcardParts, AreNoNameParts, AreWildcardDataParts, AreEmptyWildcardParts, AreNoDataParts}
 use Rattle.dnsv_denial.specs.RecordWords.{RecordWords, words}
@@ -29,18 +29,18 @@ then_Equal Equal b e = (refl, e)
 then_Equal Less b e = cc
 then_Equal Greater b e = cc
 
-number_total : IsTotalOrder number_cmp
+pub number_total : IsTotalOrder number_cmp
 number_total = then_total (on_total (λ (n : RecordNumber). n.rrset) nat_cmp_total) (on_total (λ (n : RecordNumber). n.place) nat_cmp_total)
 
-number_exact : (a b : RecordNumber) → number_cmp a b ≡ Equal → a ≡ b
+pub number_exact : (a b : RecordNumber) → number_cmp a b ≡ Equal → a ≡ b
 number_exact a b e =
     let both = then_Equal (nat_cmp a.rrset b.rrset) (nat_cmp a.place b.place) e in
     λ i. record { rrset = exact_unsigned a.rrset b.rrset both.0 i; place = exact_unsigned a.place b.place both.1 i }
 
-parameters_total : IsTotalOrder parameters_cmp
+pub parameters_total : IsTotalOrder parameters_cmp
 parameters_total = then_total (on_total (λ (p : Parameters). p.iterations) nat_cmp_total) (on_total (λ (p : Parameters). p.salt) nat_list_cmp_total)
 
-parameters_exact : (a b : Parameters) → parameters_cmp a b ≡ Equal → a ≡ b
+pub parameters_exact : (a b : Parameters) → parameters_cmp a b ≡ Equal → a ≡ b
 parameters_exact a b e =
     let both = then_Equal (nat_cmp a.iterations b.iterations) _ e in
     λ i. record { iterations = exact_unsigned a.iterations b.iterations both.0 i; salt = exact_bytes a.salt b.salt both.1 i }

@@ -1,5 +1,5 @@
 -- Where each unknown entry turns out valid, the hopeful answers come true.
-use Rattle.std.proofs.Common.{◌≡◌, ℕ, List, refl, sym, ap, ◌∙◌}
+use Rattle.std.proofs.Common.{◌≡◌, ℕ, List, [], refl, sym, ◌∙◌, arith}
 use Rattle.std.specs.Prelude.{Contains}
 use Rattle.dnsv_names.specs.Name.{Labels}
 use Rattle.dnsv_canonical.specs.Rrsets.{ReceivedRrset}
@@ -40,6 +40,11 @@ module _
       settled_to (IsSecured hoped basis.moment basis.rrsets basis.anchors) (IsSecured later basis.moment basis.rrsets basis.anchors)
       (depends hoped later basis.moment basis.rrsets basis.anchors
       (λ entry asked. as_hoped basis entries later unknown valid others entry asked (basis.meaning entry) refl)) basis.rrsets name t may
+
+  -- where nothing is unknown, hope changes nothing
+  pub nothing_to_hope : (basis : Basis) (name : Labels) (t : ℕ) → AreUnknown basis [] → MaySettle basis name t → Settles basis name t
+  nothing_to_hope basis name t unknown may =
+      hopes_settle basis name t [] basis.meaning may unknown (λ entry found. absurd (omega (arith, found.1))) (λ entry other. refl)
 
 -- a verdict on what is settled is one of the first five
 pub settled_is_conclusive : (basis : Basis) (name : Labels) (t : ℕ) (verdict : Verdict) → Settles basis name t

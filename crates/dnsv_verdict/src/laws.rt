@@ -1,7 +1,7 @@
 //! Laws of verdicts.
 //!
 //! Each is a function that does nothing and ensures the law, which its caller learns.
-ghost use Rattle.std.specs.Prelude.{◌≡◌, ℕ, List, Contains};
+ghost use Rattle.std.specs.Prelude.{◌≡◌, ℕ, List, [], Contains};
 ghost use Rattle.dnsv_names.specs.Name.{Labels};
 ghost use Rattle.dnsv_verifier.specs.declared.answer.Answer.{Answer};
 ghost use Rattle.dnsv_verifier.specs.declared.answer.Answer.TheVariants.{Valid};
@@ -17,8 +17,17 @@ pub fn a_question_has_one_verdict()
         → IsVerdictAt basis name t a → IsVerdictAt basis name t b → a ≡ b }
 {}
 
+/// A question has a verdict: it can't be that no verdict is the one. With the law above it has exactly one. Some of the
+/// cases ask whether records prove something, which their definitions don't decide; so the law says that none fails, and
+/// not which one it is.
+pub fn a_question_has_a_verdict()
+    ensures { (basis : Basis) (name : Labels) (t : ℕ)
+        → ¬ ((verdict : Verdict) → ¬ IsVerdictAt basis name t verdict) }
+{}
+
 /// Where a verdict depends on entries, a verifier that says Valid of these, and of each other entry what was said,
-/// leads to a verdict that depends on none: a secure one, or that the name may be unsigned.
+/// leads to a verdict that depends on none: a secure one, or that the name may be unsigned. So a verdict never depends on
+/// an empty list.
 pub fn valid_answers_settle_what_depends_on_them()
     ensures settles { (basis : Basis) (name : Labels) (t : ℕ) (entries : List Entry) (later : Entry → Answer)
         → IsVerdictAt basis name t (Verdict.Pending entries)
@@ -30,6 +39,7 @@ pub fn valid_answers_settle_what_depends_on_them()
         → ((entry : Entry) → Contains entries entry → later entry ≡ Valid)
         → ((entry : Entry) → ¬ Contains entries entry → later entry ≡ basis.meaning entry)
         → (verdict : Verdict) → IsVerdictAt (with_meaning basis later) name t verdict → IsConclusive verdict }
+    ensures some { (basis : Basis) (name : Labels) (t : ℕ) → ¬ IsVerdictAt basis name t (Verdict.Pending []) }
 {
     trust_depends_on_what_is_asked();
 }
