@@ -1,8 +1,8 @@
 -- What the trust of a table makes good is what the verifier makes good.
-use Rattle.std.proofs.Common.{◌≡◌, ◌↔◌, ℕ, List, subst, sym}
+use Rattle.std.proofs.Common.{◌≡◌, ℕ, List, subst, sym}
 use Rattle.dnsv_canonical.specs.Rrsets.{ReceivedRrset}
 use Rattle.dnsv_verifier.specs.Admissible.{IsAsked}
-use Rattle.dnsv_verifier.specs.Table.{IsTableOf, TableContents, table_answer}
+use Rattle.dnsv_verifier.specs.Table.{TableContents, table_answer}
 use Rattle.dnsv_verifier.specs.declared.answer.Answer.{Answer}
 use Rattle.dnsv_verifier.specs.declared.entry.Entry.{Entry}
 use Rattle.dnsv_chain.specs.Trust.{IsTrustOf, KeptTrust}
@@ -39,6 +39,9 @@ module _ (meaning : Entry → Answer) (moment : ℕ) (rrsets : List ReceivedRrse
 
   pub settled_by_trust : (name : Labels) (t : ℕ) → IsSettled (IsSecured meaning moment rrsets anchors) rrsets name t → IsSettled (SecuredIn trust) rrsets name t
   settled_by_trust name t = settled_to (IsSecured meaning moment rrsets anchors) (SecuredIn trust) secured_from rrsets name t
+
+  pub unsettled_by_trust : (name : Labels) (t : ℕ) → ¬ IsSettled (SecuredIn trust) rrsets name t → ¬ IsSettled (IsSecured meaning moment rrsets anchors) rrsets name t
+  unsettled_by_trust name t none settles = none (settled_by_trust name t settles)
 
   pub settled_as_by_trust : (name : Labels) (t : ℕ) (verdict : Verdict) → IsSettledAs (SecuredIn trust) rrsets name t verdict
       → IsSettledAs (IsSecured meaning moment rrsets anchors) rrsets name t verdict

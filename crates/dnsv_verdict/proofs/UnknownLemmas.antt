@@ -1,5 +1,6 @@
 -- What the verifier doesn't know, in order.
-use Rattle.std.proofs.Common.{◌≡◌, ◌⊎◌, List, [], ◌∷◌, map, cond, refl, sym, ap, ◌∙◌, subst, inl, inr, ⊎_elim}
+use Rattle.std.proofs.Common.{◌≡◌, ◌⊎◌, ◌==◌, true, List, [], ◌∷◌, length, map, cond, refl, sym, ap, ◌∙◌, subst, inl, inr, ⊎_elim, arith}
+use Rattle.std.proofs.lemmas.Bool.Decides.{nat_tests}
 use Rattle.std.specs.Prelude.{filter}
 use Rattle.std.specs.List.Sorted.{IsStrictlySortedBy}
 use Rattle.dnsv_canonical.proofs.CanonicalLemmas.{rising_unique, IsMember, Contains-from_member, IsMember-from_contains}
@@ -67,6 +68,10 @@ unknown_out meaning (e ∷ entries) entry member =
     ⊎_elim (λ (here : (entry ≡ e) × (meaning e ≡ Unknown)). (inl here.0, ap meaning here.0 ∙ here.1))
     (λ (later : IsMember entry (Unknowns meaning entries)). let rest = unknown_out meaning entries entry later in (inr rest.0, rest.1))
     (member_out e entry (meaning e) (Unknowns meaning entries) (subst (λ xs. IsMember entry xs) (one_more meaning e entries (meaning e)) member))
+
+pub none_unknown : (entries : List Entry) → true ≡ (length entries == 0) → entries ≡ []
+none_unknown [] test = refl
+none_unknown (entry ∷ entries) test = absurd (grind (arith, nat_tests))
 
 -- those of a table are what its verifier is asked and doesn't know
 pub table_unknown : (basis : Basis) (contents : TableContents) → IsTableOf basis.meaning basis.moment basis.rrsets contents

@@ -1,13 +1,15 @@
 //! What questions are judged by, and the verdict on one.
 ghost use Rattle.std.specs.Prelude.{◌≡◌, ◌↔◌, ℕ, IfOk, IfSome, IsTrue, MatchOption};
+ghost use Rattle.std.specs.List.Sorted.{IsStrictlySortedBy};
 ghost use Rattle.dnsv_chain.specs.Trust.{IsTrustOf};
 ghost use Rattle.dnsv_denial.specs.Viewed.{SecuredIn};
-ghost use Rattle.dnsv_verifier.specs.Table.{IsTableOf, table_answer};
+ghost use Rattle.dnsv_verifier.specs.Entry.{entry_cmp};
+ghost use Rattle.dnsv_verifier.specs.Table.{IsTableOf, table_answer, unknown_entries};
 ghost use Rattle.dnsv_verifier.specs.declared.answer.Answer.{Answer};
 ghost use Rattle.dnsv_verifier.specs.declared.entry.Entry.{Entry};
 ghost use Rattle.dnsv_verdict.specs.Meaning.{IsTrueOfZones};
 ghost use Rattle.dnsv_verdict.specs.Settled.{IsSettled, IsSettledAs};
-ghost use Rattle.dnsv_verdict.specs.Verdict.{HasAnchor, IsVerdictAt, MaySettle, anchor_owner};
+ghost use Rattle.dnsv_verdict.specs.Verdict.{HasAnchor, IsVerdictAt, MaySettle, Settles, anchor_owner};
 
 use crate::entries::Entries;
 use crate::settled::settled;
@@ -16,7 +18,7 @@ use dnsv_canonical::Capture;
 use dnsv_chain::{Anchor, Anchors, Trust, trust_depends_on_what_is_asked, trusted};
 use dnsv_denial::View;
 use dnsv_names::{Count, Name, RecordType};
-use dnsv_verifier::{Table, a_table_is_its_verifier, unknown_entries_may_turn_out_valid};
+use dnsv_verifier::{Entry, Table, a_table_is_its_verifier, unknown_entries_may_turn_out_valid};
 use std::alloc::{AllocError, Global};
 
 /// What questions are judged by: the evidence, the trust anchors, and what the verifier says at the moment.
@@ -55,8 +57,8 @@ pub fn verdict_at(
     if let Some(verdict) = found {
         return Ok(verdict);
     }
-    if may_settle(alloc, basis, name, rtype, hashed)? {
-        let unknown = basis.table.unknown(alloc)?;
+    let unknown = basis.table.unknown(alloc)?;
+    if may_settle(alloc, basis, &unknown, name, rtype, hashed)? {
         return Ok(Verdict::Pending(Entries::from_vec(unknown)));
     }
     if has_anchor(basis.anchors, name) {
@@ -83,16 +85,26 @@ fn settled_by(
     Ok(settled(capture, trust, name, rtype, &view))
 }
 
-/// Whether the evidence would settle the question if each entry that the verifier doesn't know were valid.
+/// Whether the evidence, which doesn't settle the question, would if each of the entries that the verifier doesn't know
+/// were valid. Where there are none, nothing is worked out again.
 fn may_settle(
     alloc: Global,
     basis: &Basis<'_>,
+    unknown: &[Entry],
     name: &Name,
     rtype: RecordType,
     hashed: &mut Count,
 ) -> Result<bool, AllocError>
+    requires entries { unknown.now ≡ unknown_entries basis.now.table.now }
+    requires rising { IsStrictlySortedBy entry_cmp unknown.now }
     ensures { (meaning : Entry → Answer) (moment : ℕ)
         → IsTableOf meaning moment basis.now.capture.now.rrsets basis.now.table.now
+        → ¬ Settles (record {
+          rrsets = basis.now.capture.now.rrsets;
+          anchors = basis.now.anchors.now;
+          moment = moment;
+          meaning = meaning;
+        }) name.now rtype.0
         → IfOk result (λ may. IsTrue may ↔ MaySettle (record {
           rrsets = basis.now.capture.now.rrsets;
           anchors = basis.now.anchors.now;
@@ -103,6 +115,9 @@ fn may_settle(
     a_table_is_its_verifier();
     trust_depends_on_what_is_asked();
     unknown_entries_may_turn_out_valid();
+    if unknown.is_empty() {
+        return Ok(false);
+    }
     let hopeful = basis.table.hopeful(alloc)?;
     let trust = trusted(alloc, basis.capture, basis.anchors, &hopeful)?;
     let Some(_found) = settled_by(alloc, basis.capture, &trust, name, rtype, hashed)? else {

@@ -1,16 +1,29 @@
--- the hopeful table's trust settles what the hopeful verifier settles
-use Rattle.std.proofs.Common.{refl, subst, sym}
+-- the hopeful table's trust settles what the hopeful verifier settles; where nothing is unknown, hope settles nothing more
+use Rattle.std.proofs.Common.{List, refl, subst, sym}
 use Rattle.std.proofs.lemmas.Option.{MatchOption-at_none, MatchOption-at_some}
 use Rattle.dnsv_verifier.specs.Table.{IsTableOf, hoped_answer}
 use Rattle.dnsv_verifier.specs.declared.answer.Answer.{Answer}
 use Rattle.dnsv_verifier.specs.declared.entry.Entry.{Entry}
 use Rattle.dnsv_denial.specs.Viewed.{SecuredIn}
 use Rattle.dnsv_verdict.proofs.CaseLemmas.{settled_stands}
+use Rattle.dnsv_verdict.proofs.PendingLemmas.{nothing_to_hope}
 use Rattle.dnsv_verdict.proofs.TrustLemmas.{settled_by_trust, settled_from_trust}
+use Rattle.dnsv_verdict.proofs.UnknownLemmas.{none_unknown, table_unknown}
+use Rattle.dnsv_verdict.specs.Verdict.{AreUnknown, Basis}
 use Rattle.dnsv_verdict.proofs.basis.may_settle.Goals as goal
 
+pub returns-then-is_empty : goal.returns-then-is_empty
+returns-then-is_empty c = λ meaning moment table unsettled.
+    let basis = c.args.basis.now in
+    let judged : Basis = record { rrsets = basis.capture.now.rrsets; anchors = basis.anchors.now; moment = moment; meaning = meaning } in (
+      λ never. cc,
+      λ may. absurd (unsettled (nothing_to_hope c.trust_depends_on_what_is_asked.ensures.numbers judged c.args.name.now c.args.rtype.0
+          (subst (λ (entries : List Entry). AreUnknown judged entries) (none_unknown c.args.unknown.now c.if-is_empty.ensures)
+          (table_unknown judged basis.table.now table c.args.unknown.now c.requires.entries c.requires.rising)) may)),
+    )
+
 pub returns : goal.returns
-returns c = λ meaning moment table.
+returns c = λ meaning moment table unsettled.
     let basis = c.args.basis.now in
     let hoped : Entry → Answer = λ entry. hoped_answer (meaning entry) in
     let contents = c.in_ok-hopeful.hopeful in
@@ -26,7 +39,7 @@ returns c = λ meaning moment table.
     )
 
 pub returns-in_default : goal.returns-in_default
-returns-in_default c = λ meaning moment table.
+returns-in_default c = λ meaning moment table unsettled.
     let basis = c.args.basis.now in
     let hoped : Entry → Answer = λ entry. hoped_answer (meaning entry) in
     let contents = c.in_ok-hopeful.hopeful in

@@ -1,7 +1,7 @@
 -- what the trust settles, the verifier settles; else what hope would settle, and the anchors
 use Rattle.std.proofs.Common.{sym, subst}
 use Rattle.std.proofs.lemmas.Option.{MatchOption-at_none, MatchOption-at_some}
-use Rattle.dnsv_verdict.proofs.TrustLemmas.{settled_as_by_trust, settled_by_trust, settled_is_verdict}
+use Rattle.dnsv_verdict.proofs.TrustLemmas.{settled_as_by_trust, settled_is_verdict, unsettled_by_trust}
 use Rattle.dnsv_verdict.proofs.UnknownLemmas.{table_unknown}
 use Rattle.dnsv_verdict.specs.Verdict.{AreUnknown, Basis}
 use Rattle.dnsv_verdict.proofs.basis.verdict_at.Goals as goal
@@ -19,34 +19,37 @@ returns-in-Some-clause-value c = λ meaning moment table.
 pub returns-then-branch-clause-value : goal.returns-then-branch-clause-value
 returns-then-branch-clause-value c = λ meaning moment table.
     let basis = c.args.basis.now in
-    let judged : Basis = record { rrsets = basis.capture.now.rrsets; anchors = basis.anchors.now; moment = moment; meaning = meaning } in (
-      λ settles. MatchOption-at_none _ _ c.in_default.is c.in_ok-found.ensures.value
-          (settled_by_trust meaning moment basis.capture.now.rrsets basis.anchors.now basis.table.now c.args.trust.now table.of_moment
-          (c.a_table_is_its_verifier.ensures.answer meaning moment basis.capture.now.rrsets basis.table.now table)
-          c.trust_depends_on_what_is_asked.ensures.numbers c.requires c.args.name.now c.args.rtype.0 settles),
-      (c.in_ok-may_settle.ensures meaning moment table).0 c.if-branch.true,
+    let judged : Basis = record { rrsets = basis.capture.now.rrsets; anchors = basis.anchors.now; moment = moment; meaning = meaning } in
+    let never = unsettled_by_trust meaning moment basis.capture.now.rrsets basis.anchors.now basis.table.now c.args.trust.now table.of_moment
+    (c.a_table_is_its_verifier.ensures.answer meaning moment basis.capture.now.rrsets basis.table.now table)
+    c.trust_depends_on_what_is_asked.ensures.numbers c.requires c.args.name.now c.args.rtype.0
+    (MatchOption-at_none _ _ c.in_default.is c.in_ok-found.ensures.value) in (
+      never,
+      (c.in_ok-may_settle.ensures meaning moment table never).0 c.if-branch.true,
       subst (λ entries. AreUnknown judged entries) (sym c.from_vec.ensures)
           (table_unknown judged basis.table.now table c.in_ok-unknown.unknown.items c.in_ok-unknown.ensures.value c.in_ok-unknown.ensures.rising),
     )
 
 pub returns-then-has_anchor-clause-value : goal.returns-then-has_anchor-clause-value
 returns-then-has_anchor-clause-value c = λ meaning moment table.
-    let basis = c.args.basis.now in (
-      λ settles. MatchOption-at_none _ _ c.in_default.is c.in_ok-found.ensures.value
-          (settled_by_trust meaning moment basis.capture.now.rrsets basis.anchors.now basis.table.now c.args.trust.now table.of_moment
-          (c.a_table_is_its_verifier.ensures.answer meaning moment basis.capture.now.rrsets basis.table.now table)
-          c.trust_depends_on_what_is_asked.ensures.numbers c.requires c.args.name.now c.args.rtype.0 settles),
-      λ may. (let holds = (c.in_ok-may_settle.ensures meaning moment table).1 may in let fails = c.if-branch.false in cc),
+    let basis = c.args.basis.now in
+    let never = unsettled_by_trust meaning moment basis.capture.now.rrsets basis.anchors.now basis.table.now c.args.trust.now table.of_moment
+    (c.a_table_is_its_verifier.ensures.answer meaning moment basis.capture.now.rrsets basis.table.now table)
+    c.trust_depends_on_what_is_asked.ensures.numbers c.requires c.args.name.now c.args.rtype.0
+    (MatchOption-at_none _ _ c.in_default.is c.in_ok-found.ensures.value) in (
+      never,
+      λ may. (let holds = (c.in_ok-may_settle.ensures meaning moment table never).1 may in let fails = c.if-branch.false in cc),
       c.has_anchor.ensures.0 c.if-has_anchor.true,
     )
 
 pub returns-clause-value : goal.returns-clause-value
 returns-clause-value c = λ meaning moment table.
-    let basis = c.args.basis.now in (
-      λ settles. MatchOption-at_none _ _ c.in_default.is c.in_ok-found.ensures.value
-          (settled_by_trust meaning moment basis.capture.now.rrsets basis.anchors.now basis.table.now c.args.trust.now table.of_moment
-          (c.a_table_is_its_verifier.ensures.answer meaning moment basis.capture.now.rrsets basis.table.now table)
-          c.trust_depends_on_what_is_asked.ensures.numbers c.requires c.args.name.now c.args.rtype.0 settles),
-      λ may. (let holds = (c.in_ok-may_settle.ensures meaning moment table).1 may in let fails = c.if-branch.false in cc),
+    let basis = c.args.basis.now in
+    let never = unsettled_by_trust meaning moment basis.capture.now.rrsets basis.anchors.now basis.table.now c.args.trust.now table.of_moment
+    (c.a_table_is_its_verifier.ensures.answer meaning moment basis.capture.now.rrsets basis.table.now table)
+    c.trust_depends_on_what_is_asked.ensures.numbers c.requires c.args.name.now c.args.rtype.0
+    (MatchOption-at_none _ _ c.in_default.is c.in_ok-found.ensures.value) in (
+      never,
+      λ may. (let holds = (c.in_ok-may_settle.ensures meaning moment table never).1 may in let fails = c.if-branch.false in cc),
       λ has. (let holds = c.has_anchor.ensures.1 has in let fails = c.if-has_anchor.false in cc),
     )
