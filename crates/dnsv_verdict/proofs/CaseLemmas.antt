@@ -1,5 +1,5 @@
 -- The first case that holds gives the verdict, and there is only one.
-use Rattle.std.proofs.Common.{◌≡◌, ◌⊎◌, ◌+◌, ◌<◌, ◌≤◌, ◌-◌, ℕ, List, refl, sym, ap, ◌∙◌, inl, inr, ⊎_elim, subst, arith}
+use Rattle.std.proofs.Common.{◌≡◌, ◌⊎◌, ◌+◌, ◌-◌, ℕ, List, refl, sym, ap, ◌∙◌, inl, inr, ⊎_elim, subst}
 use Rattle.std.specs.Prelude.{Some, slice_get}
 use Rattle.dnsv_names.specs.Name.{Labels, rightmost}
 use Rattle.dnsv_records.proofs.OneRecord.{one_rrsig}
@@ -7,7 +7,7 @@ use Rattle.dnsv_records.specs.Rrsig.{IsRrsig}
 use Rattle.dnsv_records.specs.declared.rrsig.Rrsig.{Rrsig}
 use Rattle.dnsv_canonical.specs.Rrsets.{ReceivedRrset}
 use Rattle.dnsv_verifier.specs.declared.entry.Entry.{Entry}
-use Rattle.dnsv_denial.specs.Cuts.{HasUnsignedCut, IsUnsignedCut}
+use Rattle.dnsv_denial.specs.Cuts.{HasUnsignedCut}
 use Rattle.dnsv_denial.specs.FirstProof.{CanProveNoData, CanProveNoName, IsFirstNoData, IsFirstNoName, ProofRecords}
 use Rattle.dnsv_denial.specs.TypeNumbers.{cname}
 use Rattle.dnsv_verdict.proofs.LowestLemmas.{one_lowest}

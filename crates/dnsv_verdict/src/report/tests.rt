@@ -392,3 +392,4 @@ fn some_types_cant_be_asked(rt: HostRuntime) -> Result<(), Fail> {
 }
 
 mod answers;
+mod hashes;

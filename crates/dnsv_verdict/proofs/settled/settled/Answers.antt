@@ -1,5 +1,5 @@
 -- the first case that holds, with those before it refuted
-use Rattle.std.proofs.Common.{ℕ, inl, inr, ⊎_elim, subst}
+use Rattle.std.proofs.Common.{ℕ, inl, inr, subst}
 use Rattle.dnsv_names.specs.Name.{Labels}
 use Rattle.dnsv_denial.specs.Cuts.{HasUnsignedCut, IsUnsignedCut}
 use Rattle.dnsv_denial.specs.FirstProof.{CanProveNoData, CanProveNoName, IsFirstNoData, IsFirstNoName}
