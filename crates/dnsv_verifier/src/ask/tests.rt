@@ -28,6 +28,11 @@ const EXPANDED_NSEC: &[u8] =
 const ADDRESS_DATA: &[u8] = b"00010d0200000e10000007d0000003e8080f076578616d706c6500\
 04686f7374076578616d706c65000001000100000e100004c0000201";
 
+// The signature of the address is bad.
+const ADDRESS_IS_BAD: &[u8] =
+    b"bad 13 010203 00010d0200000e10000007d0000003e8080f076578616d706c6500\
+04686f7374076578616d706c65000001000100000e100004c0000201 aabb\n";
+
 const KEYS_DATA: &[u8] = b"00300d0100000e10000007d0000003e8080f076578616d706c6500\
 076578616d706c65000030000100000e1000070100030d010203";
 
@@ -131,11 +136,7 @@ fn an_expanded_nsec_is_not_asked(rt: HostRuntime) -> Result<(), Fail> {
 fn a_table_keeps_what_was_said(rt: HostRuntime) -> Result<(), Fail> {
     let alloc = rt.alloc();
     let capture = capture_of(alloc, &[KEYS, ADDRESS])?;
-    let text = format!(in alloc;
-        "bad 13 010203 {} aabb\n",
-        str::from_utf8(ADDRESS_DATA).ok().ok_or("text")?
-    )?;
-    let statements = Statements::parse(alloc, text.as_bytes())?;
+    let statements = Statements::parse(alloc, ADDRESS_IS_BAD)?;
     let table = ask_all(alloc, &capture, 1500, &statements, &mut Count::new())?;
     assert!(rt; table.moment() == 1500 && table.len() == 2);
     let (bad, open) = (
