@@ -89,4 +89,4 @@ opt_out_more hash few many apex name labels among form = record {
 
 pub loose_closer_more : (hash : NameHash) (few many : List Nsec3Record) (apex name : Labels) (labels : ℕ) → AreAmong few many → LooseCloserForm hash few apex name labels → LooseCloserForm hash many apex name labels
 loose_closer_more hash few many apex name labels among form =
-    record { above = form.above; next_closer = opted_out_among hash few many (rightmost name (labels + 1)) among form.next_closer }
+    record { above = form.above; opted_out = opted_out_among hash few many (rightmost name (labels + 1)) among form.opted_out }

@@ -1,4 +1,5 @@
--- The records of a chain, as a view hands them to a form, and what is proved by them. No public clause cites this module.
+-- The records of a chain, as a view hands them to a form, and what is proved by them. No public clause cites this
+-- module.
 use Rattle.std.specs.Prelude.{◌≡◌, ℕ, List}
 use Rattle.dnsv_names.specs.Name.{Labels}
 use Rattle.dnsv_canonical.specs.Rrsets.{ReceivedRrset}

@@ -70,3 +70,20 @@ pub record UnsignedCutForm (words : Words) (apex name cut : Labels) : Type 0 whe
   pub at_or_above : IsAtOrBelow name cut
   pub below_apex : IsBelow cut apex
   pub types : words.TypesAt cut IsUnsignedDelegation
+
+-- ---- Opt-Out
+
+-- An unsigned delegation may lie at or below the next closer name: it is covered, and it or the wildcard at the
+-- closest encloser by a record with the Opt-Out flag (RFC 5155 8.6, 9.2). Records say which name is a closest encloser,
+-- which is covered, and which with the flag.
+pub record OptOut (Encloser Covered OptedOut : Labels → Type 0) (apex name : Labels) (labels : ℕ) : Type 0 where
+  pub above : IsAbove apex name labels
+  pub encloser : Encloser (rightmost name labels)
+  pub next_closer : Covered (rightmost name (labels + 1))
+  pub opted_out : OptedOut (rightmost name (labels + 1)) ⊎ OptedOut (wildcard_of (rightmost name labels))
+
+-- An unsigned delegation may stand against an answer from the wildcard below the name's so many labels: a record with
+-- the Opt-Out flag covers the next closer name (RFC 5155 8.8).
+pub record LooseCloser (OptedOut : Labels → Type 0) (apex name : Labels) (labels : ℕ) : Type 0 where
+  pub above : IsAbove apex name labels
+  pub opted_out : OptedOut (rightmost name (labels + 1))

@@ -20,7 +20,8 @@ pub record AreAll
     (Within : RecordNumber → Type 0) (entries : List E) : Type 0 where
   pub rising : IsStrictlySortedBy number_cmp (map number entries)
   pub each : AllByRecursion (λ entry. Within (number entry) × Is (number entry) (value entry)) entries
-  pub all : (n : RecordNumber) (x : X) → Within n → Is n x → Any (λ entry. (number entry ≡ n) × (value entry ≡ x)) entries
+  pub all : (n : RecordNumber) (x : X) → Within n → Is n x
+      → Any (λ entry. (number entry ≡ n) × (value entry ≡ x)) entries
 
 -- the entries are the NSEC records that have such numbers
 abbrev pub AreNsecs : List ReceivedRrset → (RecordNumber → Type 0) → List NsecEntry → Type 0

@@ -1,14 +1,13 @@
 -- What NSEC3 records with the same parameters say of names (RFC 5155 8).
-use Rattle.std.specs.Prelude.{◌≡◌, ◌≢◌, ◌⊎◌, ◌+◌, ℕ, List}
-use Rattle.dnsv_names.specs.Name.{Labels, rightmost}
+use Rattle.std.specs.Prelude.{◌≡◌, ◌≢◌, ℕ, List}
+use Rattle.dnsv_names.specs.Name.{Labels}
 use Rattle.dnsv_names.specs.Order.{label_cmp}
-use Rattle.dnsv_names.specs.Tree.{wildcard_of}
 use Rattle.dnsv_names.specs.Circle.{Gap}
 use Rattle.dnsv_denial.specs.Any.{Any}
 use Rattle.dnsv_denial.specs.Types.{IsClosed}
 use Rattle.dnsv_denial.specs.NsecChain.{IsInBitmap}
 use Rattle.dnsv_denial.specs.Nsec3Chain.{Nsec3Record, NameHash}
-use Rattle.dnsv_denial.specs.Forms.{Words, IsAbove}
+use Rattle.dnsv_denial.specs.Forms.{LooseCloser, OptOut, Words}
 
 -- the record has the name's hash (RFC 5155 1.3)
 pub record Matches (hash : NameHash) (nsec3 : Nsec3Record) (name : Labels) : Type 0 where
@@ -38,18 +37,11 @@ IsCovered hash records name = Any (λ nsec3. Covers hash nsec3 name) records
 abbrev pub IsOptedOut : NameHash → List Nsec3Record → Labels → Type 0
 IsOptedOut hash records name = Any (λ nsec3. Covers hash nsec3 name × (nsec3.flags ≢ 0)) records
 
--- An unsigned delegation may lie at or below the next closer name: it is covered, and it or the wildcard at the
--- closest encloser by a record with the Opt-Out flag (RFC 5155 8.6, 9.2).
-pub record OptOutForm (hash : NameHash) (records : List Nsec3Record) (apex name : Labels) (labels : ℕ) : Type 0 where
-  pub above : IsAbove apex name labels
-  pub encloser : (nsec3_words hash records).Encloser (rightmost name labels)
-  pub next_closer : IsCovered hash records (rightmost name (labels + 1))
-  pub opted_out : IsOptedOut hash records (rightmost name (labels + 1))
-      ⊎ IsOptedOut hash records (wildcard_of (rightmost name labels))
+-- these records leave open that an unsigned delegation lies at or below the next closer name
+abbrev pub OptOutForm : NameHash → List Nsec3Record → Labels → Labels → ℕ → Type 0
+OptOutForm hash records =
+    OptOut (λ name. (nsec3_words hash records).Encloser name) (IsCovered hash records) (IsOptedOut hash records)
 
--- an answer from the wildcard below the name's so many labels may have an unsigned delegation against it
--- (RFC 5155 8.8)
-pub record LooseCloserForm (hash : NameHash) (records : List Nsec3Record) (apex name : Labels) (labels : ℕ)
-    : Type 0 where
-  pub above : IsAbove apex name labels
-  pub next_closer : IsOptedOut hash records (rightmost name (labels + 1))
+-- they leave open that one stands against an answer from the wildcard
+abbrev pub LooseCloserForm : NameHash → List Nsec3Record → Labels → Labels → ℕ → Type 0
+LooseCloserForm hash records = LooseCloser (IsOptedOut hash records)

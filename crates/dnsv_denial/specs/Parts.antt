@@ -8,6 +8,8 @@ use Rattle.dnsv_names.specs.Tree.{wildcard_of}
 use Rattle.dnsv_denial.specs.RecordWords.{RecordWords, words}
 use Rattle.dnsv_denial.specs.Forms.{
   IsAbove,
+  LooseCloser,
+  OptOut,
   NoNameForm,
   NoDataForm,
   EmptyForm,
@@ -98,21 +100,16 @@ pub record IsNoCloserPart
   pub above : IsAbove apex name labels
   pub next_closer : IsLowest cmp (said.Absent (rightmost name (labels + 1))) part
 
--- An unsigned delegation may lie at or below the next closer name: it is covered, and it or the wildcard at the
--- closest encloser by a record with the Opt-Out flag (RFC 5155 8.6, 9.2).
-pub record OptsOut {Index : Type 0} (said : RecordWords Index) (apex name : Labels) (labels : ℕ) : Type 0 where
-  pub above : IsAbove apex name labels
-  pub encloser : (words said).Encloser (rightmost name labels)
-  pub next_closer : (words said).Absent (rightmost name (labels + 1))
-      ⊎ ((index : Index) × said.OptedOut (rightmost name (labels + 1)) index)
-  pub opted_out : ((index : Index) × said.OptedOut (rightmost name (labels + 1)) index)
-      ⊎ ((index : Index) × said.OptedOut (wildcard_of (rightmost name labels)) index)
+-- the records leave open that an unsigned delegation lies at or below the next closer name
+abbrev pub OptsOut : {Index : Type 0} → RecordWords Index → Labels → Labels → ℕ → Type 0
+OptsOut {Index} said =
+    OptOut (λ name. (words said).Encloser name)
+    (λ name. (words said).Absent name ⊎ ((index : Index) × said.OptedOut name index))
+    (λ name. (index : Index) × said.OptedOut name index)
 
--- An unsigned delegation may stand against an answer from the wildcard: a record with the Opt-Out flag covers the next
--- closer name (RFC 5155 8.8).
-pub record LeavesCloser {Index : Type 0} (said : RecordWords Index) (apex name : Labels) (labels : ℕ) : Type 0 where
-  pub above : IsAbove apex name labels
-  pub opted_out : (index : Index) × said.OptedOut (rightmost name (labels + 1)) index
+-- they leave open that one stands against an answer from the wildcard
+abbrev pub LeavesCloser : {Index : Type 0} → RecordWords Index → Labels → Labels → ℕ → Type 0
+LeavesCloser {Index} said = LooseCloser (λ name. (index : Index) × said.OptedOut name index)
 
 -- the highest delegation without DS, at or above the name, has so many labels
 pub record IsHighestCut {Index : Type 0} (said : RecordWords Index) (apex name : Labels) (labels : ℕ) : Type 0 where
@@ -120,7 +117,8 @@ pub record IsHighestCut {Index : Type 0} (said : RecordWords Index) (apex name :
   pub cut : UnsignedCutForm (words said) apex name (rightmost name labels)
   pub fewest : (fewer : ℕ) → fewer < labels → ¬ UnsignedCutForm (words said) apex name (rightmost name fewer)
 
--- the closest encloser with most labels where an unsigned delegation may lie at or below the next closer name has so many
+-- the closest encloser with most labels where an unsigned delegation may lie at or below the next closer name has so
+-- many
 pub record IsLowestOptOut {Index : Type 0} (said : RecordWords Index) (apex name : Labels) (labels : ℕ) : Type 0 where
   pub opts_out : OptsOut said apex name labels
   pub most : (more : ℕ) → OptsOut said apex name more → more ≤ labels

@@ -15,5 +15,5 @@ returns-clause-next_closer c = λ zone apex name labels hash records has form.
     (⊎_elim (λ (cut : OptOutForm hash records apex name labels). cut.next_closer)
     (λ (closer : LooseCloserForm hash records apex name labels).
     any_map (λ nsec3. Covers hash nsec3 (rightmost name (labels + 1)) × (nsec3.flags ≢ 0))
-    (λ nsec3. Covers hash nsec3 (rightmost name (labels + 1))) records (λ nsec3 both. both.0) closer.next_closer)
+    (λ nsec3. Covers hash nsec3 (rightmost name (labels + 1))) records (λ nsec3 both. both.0) closer.opted_out)
     form)
