@@ -2,6 +2,7 @@
 """Writes a file of captured messages for the bench, the same for the same numbers.
 
 usage: make_capture.py KIND MESSAGES RECORDS > FILE
+       make_capture.py anchor > FILE
 
 Each message is a response with RECORDS records in its answer section, of one of these kinds:
   signed  RRsets of five records of the types A, AAAA, MX, TXT and NS at owners of their own, each with
@@ -11,7 +12,16 @@ Each message is a response with RECORDS records in its answer section, of one of
   pairs   NSEC3 records each with a salt of its own, which is refused
   keyed   as signed, and the first message begins with a DNSKEY record, whose key each signature names
   tagged  as keyed, with 16 DNSKEY records of one tag, each of which may have made each signature
+  tree    zones of eight records each: a DS RRset that the zone above signs, the two keys, which both sign their RRset,
+          and an address; each zone has eight zones below it
+  chain   the same, and each zone has one zone below it
+  collide the keys of the first zone, and then in each message 16 keys of one tag of a zone below it and 46 DS records
+          with that tag, of which none matches; RECORDS says nothing here
+
+The second form writes a file of the anchor that the zones of tree, chain and collide begin with.
 """
+import base64
+import hashlib
 import random
 import struct
 import sys
@@ -79,11 +89,82 @@ def records_of(draw, count, kind, is_first):
     return records[:count]
 
 
+def zone_name(number, width):
+    """Zone 0 is the first, and each zone has as many below it as the width says."""
+    if number == 0:
+        return ZONE
+    label = b"z%d" % number if width > 1 else b"z"
+    return bytes([len(label)]) + label + zone_name((number - 1) // width, width)
+
+
+def zone_key(number, flags):
+    draw = random.Random(number * 1000 + flags)
+    return struct.pack("!HBB", flags, 3, 13) + draw.randbytes(64)
+
+
+def zone_signature(draw, rtype, owner, signer, tag):
+    labels = owner.count(b"z") + owner.count(b"sub") + 2
+    front = struct.pack("!HBBIIIH", rtype, 13, labels, 3600, 2000, 1000, tag)
+    return front + signer + draw.randbytes(64)
+
+
+def zone_records(draw, number, width):
+    zone, above = zone_name(number, width), (number - 1) // width if number else 0
+    parent = zone_name(above, width)
+    first, second = zone_key(number, 257), zone_key(number, 256)
+    digest = hashlib.sha256(zone + first).digest()
+    return [
+        record(zone, 43, struct.pack("!HBB", key_tag(first), 13, 2) + digest),
+        record(zone, 46, zone_signature(draw, 43, zone, parent, key_tag(zone_key(above, 256)))),
+        record(zone, 48, first),
+        record(zone, 48, second),
+        record(zone, 46, zone_signature(draw, 48, zone, zone, key_tag(first))),
+        record(zone, 46, zone_signature(draw, 48, zone, zone, key_tag(second))),
+        record(zone, 1, bytes([192, 0, 2, 1])),
+        record(zone, 46, zone_signature(draw, 1, zone, zone, key_tag(second))),
+    ]
+
+
+def zones_of(draw, number, count, width):
+    """The records of one message, zone by zone."""
+    zones = range(number * count // 8, (number + 1) * count // 8)
+    return [each for zone in zones for each in zone_records(draw, zone, width)]
+
+
+def collide(draw, number):
+    """The records of one message: keys of one tag, and DS records that each of them has to be tried with."""
+    if number == 0:
+        return zone_records(draw, 0, 8)[2:6]
+    below = b"\x03sub" + ZONE
+    numbers = range(number * 16, number * 16 + 16)
+    keys = [struct.pack("!HBBHH", 257, 3, 13, each, 65000 - each) + bytes(range(60)) for each in numbers]
+    tag = key_tag(keys[0])
+    return [
+        *(record(below, 43, struct.pack("!HBB", tag, 13, 2) + draw.randbytes(32)) for _ in range(46)),
+        record(below, 46, zone_signature(draw, 43, below, ZONE, key_tag(zone_key(0, 256)))),
+        *(record(below, 48, key) for key in keys),
+        record(below, 46, zone_signature(draw, 48, below, below, tag)),
+    ]
+
+
+def write_anchor():
+    key = zone_key(0, 257)
+    print("KEY bench.example. 257 3 13 " + base64.b64encode(key[4:]).decode())
+
+
 def main():
+    if sys.argv[1] == "anchor":
+        return write_anchor()
     kind, messages, count = sys.argv[1], int(sys.argv[2]), int(sys.argv[3])
     draw = random.Random(20261122)
     for number in range(messages):
-        records = records_of(draw, count, kind, number == 0)
+        width = {"tree": 8, "chain": 1}.get(kind)
+        if width:
+            records = zones_of(draw, number, count, width)
+        elif kind == "collide":
+            records = collide(draw, number)
+        else:
+            records = records_of(draw, count, kind, number == 0)
         header = struct.pack("!HHHHHH", number, 0x8400, 1, len(records), 0, 0)
         asked = DEEP if kind == "deep" else ZONE
         octets = header + asked + struct.pack("!HH", 255, 1) + b"".join(records)

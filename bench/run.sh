@@ -1,6 +1,7 @@
 #!/usr/bin/env bash
-# Measures `list`, `list --all` and `show` over a transfer of a signed zone (transfer.cap) and over captures that it makes, and
-# prints the rows of the tables in docs/PERFORMANCE.md. It needs the built program (make), python3, valgrind and GNU time.
+# Measures `list`, `list --all`, `show` and `check` over a transfer of a signed zone (transfer.cap) and over captures
+# that it makes, and prints the rows of the tables in docs/PERFORMANCE.md. It needs the built program (make), python3,
+# valgrind and GNU time.
 set -euo pipefail
 cd "$(dirname "$0")"
 program=../crates/dnssec_check/out/dnssec_check
@@ -35,6 +36,17 @@ report_list() { # KIND MESSAGES RECORDS
   measure "$room/capture" list --capture "$room/capture" --moment 1500
 }
 
+report_check() { # KIND MESSAGES RECORDS NAME
+  ./make_capture.py "$1" "$2" "$3" > "$room/capture"
+  ./make_capture.py anchor > "$room/anchors"
+  echo "$1: $2 messages of $3 records, every signature good"
+  measure "$room/capture" list --capture "$room/capture" --moment 1500
+  sed 's/^todo/good/' "$room/text" > "$room/statements"
+  cat "$room/capture" "$room/statements" > "$room/files"
+  measure "$room/files" check --capture "$room/capture" --anchors "$room/anchors" --moment 1500 --name "$4" --type 1 \
+    --statements "$room/statements"
+}
+
 echo "transfer: 63 messages"
 measure transfer.cap list --capture transfer.cap --moment 1795348800
 measure transfer.cap list --capture transfer.cap --moment 1795348800 --all
@@ -45,3 +57,7 @@ report deep 1 3000
 for records in 100 400 1600; do report pairs 1 "$records"; done
 for messages in 16 64; do report_list keyed "$messages" 64; done
 for messages in 1 4 16 64; do report_list tagged "$messages" 64; done
+report_check tree 16 64 z127.z15.z1.bench.example.
+report_check tree 64 64 z511.z63.z7.bench.example.
+report_check chain 60 8 "$(printf 'z.%.0s' {1..59})bench.example."
+for messages in 4 16; do report_check collide "$messages" 64 sub.bench.example.; done
