@@ -294,11 +294,11 @@ list_values rows all fault =
 
 check_values : (rows : List Row) → AreRowsIn check_shape.rules rows → check_fault check_shape rows false ≡ [] → HasCheckValues rows
 check_values rows all fault =
-    let file = required_value check_shape built_capture rows (λ e. refl, (λ e. cc, (λ e. cc, (λ e. cc, (λ e. cc, (λ e. cc, (λ e. cc, tt))))))) (inl refl) refl refl all fault in
-    let anchors = required_value check_shape built_anchors rows (λ e. cc, (λ e. refl, (λ e. cc, (λ e. cc, (λ e. cc, (λ e. cc, (λ e. cc, tt))))))) (inr (inl refl)) refl refl all fault in
-    let moment = required_value check_shape built_moment rows (λ e. cc, (λ e. cc, (λ e. refl, (λ e. cc, (λ e. cc, (λ e. cc, (λ e. cc, tt))))))) (inr (inr (inl refl))) refl refl all fault in
-    let name = required_value check_shape built_name rows (λ e. cc, (λ e. cc, (λ e. cc, (λ e. refl, (λ e. cc, (λ e. cc, (λ e. cc, tt))))))) (inr (inr (inr (inl refl)))) refl refl all fault in
-    let rtype = required_value check_shape built_type rows (λ e. cc, (λ e. cc, (λ e. cc, (λ e. cc, (λ e. refl, (λ e. cc, (λ e. cc, tt))))))) (inr (inr (inr (inr (inl refl))))) refl refl all fault in
+    let file = required_value check_shape built_capture rows (λ e. refl, (λ e. cc, (λ e. cc, (λ e. cc, (λ e. cc, (λ e. cc, (λ e. cc, (λ e. cc, (λ e. cc, tt))))))))) (inl refl) refl refl all fault in
+    let anchors = required_value check_shape built_anchors rows (λ e. cc, (λ e. refl, (λ e. cc, (λ e. cc, (λ e. cc, (λ e. cc, (λ e. cc, (λ e. cc, (λ e. cc, tt))))))))) (inr (inl refl)) refl refl all fault in
+    let moment = required_value check_shape built_moment rows (λ e. cc, (λ e. cc, (λ e. refl, (λ e. cc, (λ e. cc, (λ e. cc, (λ e. cc, (λ e. cc, (λ e. cc, tt))))))))) (inr (inr (inl refl))) refl refl all fault in
+    let name = required_value check_shape built_name rows (λ e. cc, (λ e. cc, (λ e. cc, (λ e. refl, (λ e. cc, (λ e. cc, (λ e. cc, (λ e. cc, (λ e. cc, tt))))))))) (inr (inr (inr (inl refl)))) refl refl all fault in
+    let rtype = required_value check_shape built_type rows (λ e. cc, (λ e. cc, (λ e. cc, (λ e. cc, (λ e. refl, (λ e. cc, (λ e. cc, (λ e. cc, (λ e. cc, tt))))))))) (inr (inr (inr (inr (inl refl))))) refl refl all fault in
     (ap is_some file.1, ap is_some anchors.1, moment_has rows moment, ap is_some name.1, type_has rows rtype)
 
 -- what a flag's text says is what the matches give

@@ -16,6 +16,7 @@ use Rattle.dnsv_canonical.specs.Rrsets.{ReceivedRrset, message_rrsets}
 use Rattle.dnsv_canonical.specs.SignedData.{IsSignedData, signed_label_count}
 use Rattle.dnssec_check.specs.declared.status.Refusal.{Refusal}
 use Rattle.dnssec_check.specs.declared.status.Refusal.TheVariants as refusal
+use Rattle.dnssec_check.specs.declared.envelope.Envelope.TheVariants.{Bare}
 use Rattle.dnssec_check.specs.CaptureFile.{AllTaken, Fails, Holds, Meets, NewEvidence}
 use Rattle.dnssec_check.specs.Listing.{IsListing, RrsetLines, SignatureLines, data_line}
 use Rattle.dnssec_check.specs.Status.{TellsCaptureError}
@@ -73,21 +74,21 @@ module _
   append_each [] ys each others = others
   append_each (x ∷ xs) ys each others = (each.0, append_each xs ys each.1 others)
 
-  all_formed : (held : Evidence) (frames : List (List ℕ)) (messages : List Contents) → AllByRecursion AreOctets frames
-      → AllTaken NewEvidence held frames messages → AllByRecursion IsWellFormed held.rrsets
+  all_formed : (held : Evidence) (number : ℕ) (frames : List (List ℕ)) (messages : List Contents) → AllByRecursion AreOctets frames
+      → AllTaken NewEvidence Bare held number frames messages → AllByRecursion IsWellFormed held.rrsets
       → AllByRecursion IsWellFormed (fold with_message held messages).rrsets
-  all_formed held [] [] are taken each = each
-  all_formed held [] (message ∷ messages) are taken each = absurd taken
-  all_formed held (octets ∷ frames) [] are taken each = absurd taken
-  all_formed held (octets ∷ frames) (message ∷ messages) are taken each =
-      all_formed (with_message held message) frames messages are.1 taken.1
+  all_formed held number [] [] are taken each = each
+  all_formed held number [] (message ∷ messages) are taken each = absurd taken
+  all_formed held number (octets ∷ frames) [] are taken each = absurd taken
+  all_formed held number (octets ∷ frames) (message ∷ messages) are taken each =
+      all_formed (with_message held message) (suc number) frames messages are.1 taken.1
       (append_each held.rrsets (message_rrsets (suc held.messages) message) each
       (formed (suc held.messages) message (octets, are.0, taken.0.0) taken.0.1.1))
 
   -- a file that holds evidence has the text of list
   pub listed : (file : List ℕ) (Else : Type 0) → ((frames : List (List ℕ)) → IsCapture file frames → AllByRecursion AreOctets frames)
-      → ((messages : List Contents) × Holds NewEvidence file messages) ⊎ Else → ((text : List ℕ) × IsListing file text) ⊎ Else
+      → ((messages : List Contents) × Holds NewEvidence Bare file messages) ⊎ Else → ((text : List ℕ) × IsListing file text) ⊎ Else
   listed file Else are (inr otherwise) = inr otherwise
   listed file Else are (inl held) =
-      let lines = rrset_lines 1 (evidence_of held.0).rrsets (all_formed no_evidence held.1.frames held.0 (are held.1.frames held.1.framing) held.1.taken tt) in
+      let lines = rrset_lines 1 (evidence_of held.0).rrsets (all_formed no_evidence 1 held.1.frames held.0 (are held.1.frames held.1.framing) held.1.taken tt) in
       inl (lines.0, (held.0, held.1, lines.1))

@@ -24,7 +24,8 @@ use Rattle.dnssec_check.specs.declared.status.Fault.{Fault}
 use Rattle.dnssec_check.specs.declared.status.Fault.TheVariants as fault
 use Rattle.dnssec_check.specs.declared.status.InputFile.TheVariants.{Anchors, Capture, Keys, Macs, Statements}
 use Rattle.dnssec_check.specs.declared.status.Status.{Status}
-use Rattle.dnssec_check.specs.CaptureFile.{Demand, AnyMessage, NewEvidence, Meets, Fails, AllTaken, Holds, MessageRefused, FirstRefused, IsFaultOfCapture, IsNowhere, IsRefusal}
+use Rattle.dnssec_check.specs.declared.envelope.Envelope.TheVariants.{Bare}
+use Rattle.dnssec_check.specs.CaptureFile.{AreFramesRefused, Demand, AnyMessage, NewEvidence, Meets, Fails, AllTaken, Holds, FrameRefused, FirstRefused, IsFaultOfCapture, IsNowhere, IsRefusal}
 use Rattle.dnssec_check.specs.Listing.{data_line, SignatureLines, RrsetLines}
 use Rattle.dnssec_check.specs.Files.{Files, octets_or_none}
 use Rattle.dnssec_check.specs.Request.{IsForMessages}
@@ -72,24 +73,26 @@ module _ (laws : LayerLaws) where
       ∙ ap (λ rest. y.0 ++ rest) (one_lines (suc number) rrsets x.1 y.1 x.3 y.3)
       ∙ sym y.4
 
-  one_taken : (demand : Demand) (held : Evidence) (frames : List (List ℕ)) (a b : List Contents) → AllByRecursion AreOctets frames → AllTaken demand held frames a → AllTaken demand held frames b → a ≡ b
-  one_taken demand held [] [] [] are x y = refl
-  one_taken demand held [] [] (n ∷ b) are x y = absurd y
-  one_taken demand held [] (m ∷ a) b are x y = absurd x
-  one_taken demand held (octets ∷ frames) [] b are x y = absurd x
-  one_taken demand held (octets ∷ frames) (m ∷ a) [] are x y = absurd y
-  one_taken demand held (octets ∷ frames) (m ∷ a) (n ∷ b) are x y =
+  one_taken : (demand : Demand) (held : Evidence) (number : ℕ) (frames : List (List ℕ)) (a b : List Contents) → AllByRecursion AreOctets frames
+      → AllTaken demand Bare held number frames a → AllTaken demand Bare held number frames b → a ≡ b
+  one_taken demand held number [] [] [] are x y = refl
+  one_taken demand held number [] [] (n ∷ b) are x y = absurd y
+  one_taken demand held number [] (m ∷ a) b are x y = absurd x
+  one_taken demand held number (octets ∷ frames) [] b are x y = absurd x
+  one_taken demand held number (octets ∷ frames) (m ∷ a) [] are x y = absurd y
+  one_taken demand held number (octets ∷ frames) (m ∷ a) (n ∷ b) are x y =
       let first : m ≡ n = laws.one_message octets are.0 m n x.0.0 y.0.0 in
       ap (λ message. message ∷ a) first
       ∙ ap (λ messages. n ∷ messages)
-      (one_taken demand (with_message held n) frames a b are.1 (subst (λ message. AllTaken demand (with_message held message) frames a) first x.1) y.1)
+      (one_taken demand (with_message held n) (suc number) frames a b are.1
+      (subst (λ message. AllTaken demand Bare (with_message held message) (suc number) frames a) first x.1) y.1)
 
   -- a file holds its messages alone
-  one_holding : (demand : Demand) (file : List ℕ) → AreOctets file → (a b : List Contents) → Holds demand file a → Holds demand file b → a ≡ b
+  one_holding : (demand : Demand) (file : List ℕ) → AreOctets file → (a b : List Contents) → Holds demand Bare file a → Holds demand Bare file b → a ≡ b
   one_holding demand file are a b x y =
       let frames = laws.one_capture file y.frames x.frames y.framing x.framing in
-      one_taken demand no_evidence x.frames a b (laws.capture_octets file x.frames are x.framing) x.taken
-      (subst (λ frames. AllTaken demand no_evidence frames b) frames y.taken)
+      one_taken demand no_evidence 1 x.frames a b (laws.capture_octets file x.frames are x.framing) x.taken
+      (subst (λ frames. AllTaken demand Bare no_evidence 1 frames b) frames y.taken)
 
   one_todo : (moment : ℕ) (files : Files) → AreOctets files.capture → (a b : List ℕ) → IsTodo moment files a → IsTodo moment files b → a ≡ b
   one_todo moment files are a b x y =
@@ -110,7 +113,7 @@ module _ (laws : LayerLaws) where
         (subst (λ messages. RrsetLines 1 (evidence_of messages).rrsets b) (one_holding NewEvidence files.capture are y.1.0 x.1.0 y.1.1 x.1.1) y.1.2),
   )
   one_text (request.List capture moment statements false) files for are s t a b x y = (x.0 ∙ sym y.0, one_todo moment files are a b x.1 y.1)
-  one_text (request.Check capture anchors moment name rtype statements) files for are s t a b x y = absurd for
+  one_text (request.Check capture anchors moment name rtype statements keys macs) files for are s t a b x y = absurd for
 
   -- ---- the refusal
 
@@ -164,15 +167,15 @@ module _ (laws : LayerLaws) where
     no_fault : (m : Contents) (error : DecodeError) → MessageOf octets m → FaultOf octets error → ⊥
     no_fault = laws.no_fault_of_a_message octets are
 
-    module _ (demand : Demand) (held : Evidence) where
+    module _ (demand : Demand) (held : Evidence) (number : ℕ) where
       -- a message that is taken isn't refused
-      taken_stands : (message : Contents) (why : Refusal) (n : Option ℕ) → MessageOf octets message × Meets demand held message → MessageRefused demand held octets why n → ⊥
+      taken_stands : (message : Contents) (why : Refusal) (n : Option ℕ) → MessageOf octets message × Meets demand held message → FrameRefused demand Bare held number octets why n → ⊥
       taken_stands message why n taken (inl fault) = no_fault message fault.0 taken.0 fault.1
       taken_stands message why n taken (inr failed) =
           meets_or_fails demand held message why n taken.1
           (subst (λ (m : Contents). Fails demand held m why n) (same_message failed.0 message failed.1 taken.0) failed.2)
 
-      refused_once : (a b : Refusal) (m n : Option ℕ) → MessageRefused demand held octets a m → MessageRefused demand held octets b n → (a ≡ b) × (m ≡ n)
+      refused_once : (a b : Refusal) (m n : Option ℕ) → FrameRefused demand Bare held number octets a m → FrameRefused demand Bare held number octets b n → (a ≡ b) × (m ≡ n)
       refused_once a b m n (inl x) (inl y) =
           told_once x.0 a b m n x.2 (subst (λ error. TellsMessageError error b n) (laws.one_fault octets are y.0 x.0 y.1 x.1) y.2)
       refused_once a b m n (inl x) (inr y) = absurd (no_fault y.0 x.0 y.1 x.1)
@@ -181,37 +184,42 @@ module _ (laws : LayerLaws) where
           fails_once demand held x.0 a b m n x.2 (subst (λ (message : Contents). Fails demand held message b n) (same_message y.0 x.0 y.1 x.1) y.2)
 
   all_stand : (demand : Demand) (held : Evidence) (number : ℕ) (frames : List (List ℕ)) (messages : List Contents) (why : Refusal) (place : Place) → AllByRecursion AreOctets frames
-      → AllTaken demand held frames messages → FirstRefused demand held number frames why place → ⊥
+      → AllTaken demand Bare held number frames messages → FirstRefused demand Bare held number frames why place → ⊥
   all_stand demand held number [] messages why place are taken refused = refused
   all_stand demand held number (octets ∷ frames) [] why place are taken refused = taken
   all_stand demand held number (octets ∷ frames) (message ∷ messages) why place are taken (inl here) =
-      taken_stands octets are.0 demand held message why place.record taken.0 here.0
+      taken_stands octets are.0 demand held number message why place.record taken.0 here.0
   all_stand demand held number (octets ∷ frames) (message ∷ messages) why place are taken (inr later) =
       all_stand demand (with_message held message) (suc number) frames messages why place are.1 taken.1
-      (subst (λ (m : Contents). FirstRefused demand (with_message held m) (suc number) frames why place) (same_message octets are.0 later.0 message later.1.0 taken.0.0) later.2)
+      (subst (λ (m : Contents). FirstRefused demand Bare (with_message held m) (suc number) frames why place) (same_message octets are.0 later.0 message later.1.0 taken.0.0) later.2)
 
   first_once : (demand : Demand) (held : Evidence) (number : ℕ) (frames : List (List ℕ)) (a b : Refusal) (p q : Place) → AllByRecursion AreOctets frames
-      → FirstRefused demand held number frames a p → FirstRefused demand held number frames b q → (a ≡ b) × (p ≡ q)
+      → FirstRefused demand Bare held number frames a p → FirstRefused demand Bare held number frames b q → (a ≡ b) × (p ≡ q)
   first_once demand held number [] a b p q are x y = absurd x
   first_once demand held number (octets ∷ frames) a b p q are (inl x) (inl y) =
-      let same = refused_once octets are.0 demand held a b p.record q.record x.0 y.0 in
+      let same = refused_once octets are.0 demand held number a b p.record q.record x.0 y.0 in
       (same.0, same_place p q (x.1 ∙ sym y.1) same.1 (x.2 ∙ sym y.2))
-  first_once demand held number (octets ∷ frames) a b p q are (inl x) (inr y) = absurd (taken_stands octets are.0 demand held y.0 a p.record y.1 x.0)
-  first_once demand held number (octets ∷ frames) a b p q are (inr x) (inl y) = absurd (taken_stands octets are.0 demand held x.0 b q.record x.1 y.0)
+  first_once demand held number (octets ∷ frames) a b p q are (inl x) (inr y) = absurd (taken_stands octets are.0 demand held number y.0 a p.record y.1 x.0)
+  first_once demand held number (octets ∷ frames) a b p q are (inr x) (inl y) = absurd (taken_stands octets are.0 demand held number x.0 b q.record x.1 y.0)
   first_once demand held number (octets ∷ frames) a b p q are (inr x) (inr y) =
       first_once demand (with_message held x.0) (suc number) frames a b p q are.1 x.2
-      (subst (λ (m : Contents). FirstRefused demand (with_message held m) (suc number) frames b q) (same_message octets are.0 y.0 x.0 y.1.0 x.1.0) y.2)
+      (subst (λ (m : Contents). FirstRefused demand Bare (with_message held m) (suc number) frames b q) (same_message octets are.0 y.0 x.0 y.1.0 x.1.0) y.2)
+
+  -- without keys no MAC is counted
+  of_frames : (demand : Demand) (frames : List (List ℕ)) (why : Refusal) (place : Place) → AreFramesRefused demand Bare frames why place → FirstRefused demand Bare no_evidence 1 frames why place
+  of_frames demand frames why place (inl miscounted) = absurd (miscounted.0 tt)
+  of_frames demand frames why place (inr refused) = refused.1
 
   -- a file whose messages are taken isn't refused
-  holding_stands : (demand : Demand) (file : List ℕ) → AreOctets file → (messages : List Contents) (why : Refusal) (place : Place) → Holds demand file messages → IsRefusal demand file why place → ⊥
+  holding_stands : (demand : Demand) (file : List ℕ) → AreOctets file → (messages : List Contents) (why : Refusal) (place : Place) → Holds demand Bare file messages → IsRefusal demand Bare file why place → ⊥
   holding_stands demand file are messages why place x (inl zero) = (laws.messages_alone file x.frames x.framing).0 zero.0
   holding_stands demand file are messages why place x (inr (inl torn)) = (laws.messages_alone file x.frames x.framing).1 torn.0
   holding_stands demand file are messages why place x (inr (inr y)) =
       all_stand demand no_evidence 1 x.frames messages why place (laws.capture_octets file x.frames are x.framing) x.taken
-      (subst (λ frames. FirstRefused demand no_evidence 1 frames why place) (laws.one_capture file y.0 x.frames y.1 x.framing) y.2)
+      (subst (λ frames. FirstRefused demand Bare no_evidence 1 frames why place) (laws.one_capture file y.0 x.frames y.1 x.framing) (of_frames demand y.0 why place y.2))
 
   -- a file has one refusal
-  one_refusal : (demand : Demand) (file : List ℕ) → AreOctets file → (a b : Refusal) (p q : Place) → IsRefusal demand file a p → IsRefusal demand file b q → (a ≡ b) × (p ≡ q)
+  one_refusal : (demand : Demand) (file : List ℕ) → AreOctets file → (a b : Refusal) (p q : Place) → IsRefusal demand Bare file a p → IsRefusal demand Bare file b q → (a ≡ b) × (p ≡ q)
   one_refusal demand file are a b p q (inl x) (inl y) = (x.1 ∙ sym y.1, same_nowhere p q x.2 y.2)
   one_refusal demand file are a b p q (inl x) (inr (inl y)) = absurd ((laws.zero_length_alone file x.0).0 y.0)
   one_refusal demand file are a b p q (inl x) (inr (inr y)) = absurd ((laws.messages_alone file y.0 y.1).0 x.0)
@@ -221,11 +229,11 @@ module _ (laws : LayerLaws) where
   one_refusal demand file are a b p q (inr (inr x)) (inl y) = absurd ((laws.messages_alone file x.0 x.1).0 y.0)
   one_refusal demand file are a b p q (inr (inr x)) (inr (inl y)) = absurd ((laws.messages_alone file x.0 x.1).1 y.0)
   one_refusal demand file are a b p q (inr (inr x)) (inr (inr y)) =
-      first_once demand no_evidence 1 x.0 a b p q (laws.capture_octets file x.0 are x.1) x.2
-      (subst (λ frames. FirstRefused demand no_evidence 1 frames b q) (laws.one_capture file y.0 x.0 y.1 x.1) y.2)
+      first_once demand no_evidence 1 x.0 a b p q (laws.capture_octets file x.0 are x.1) (of_frames demand x.0 a p x.2)
+      (subst (λ frames. FirstRefused demand Bare no_evidence 1 frames b q) (laws.one_capture file y.0 x.0 y.1 x.1) (of_frames demand y.0 b q y.2))
 
   -- a file whose messages are taken has no fault
-  no_capture_fault : (demand : Demand) (file : List ℕ) → AreOctets file → (messages : List Contents) (told : Fault) → Holds demand file messages → IsFaultOfCapture demand file told → ⊥
+  no_capture_fault : (demand : Demand) (file : List ℕ) → AreOctets file → (messages : List Contents) (told : Fault) → Holds demand Bare file messages → IsFaultOfCapture demand Bare file told → ⊥
   no_capture_fault demand file are messages (fault.Refused why place) x refused = holding_stands demand file are messages why place x refused
   no_capture_fault demand file are messages (fault.TooLong Capture) x long = too_many (length file) file_limit x.framing.within long.0
   no_capture_fault demand file are messages (fault.TooLong Statements) x long = long
@@ -238,7 +246,7 @@ module _ (laws : LayerLaws) where
   no_capture_fault demand file are messages fault.WriteFailed x fault = fault
 
   -- a file that is refused isn't too long
-  no_long_refusal : (demand : Demand) (file : List ℕ) (why : Refusal) (place : Place) → IsRefusal demand file why place → IsTooLong file → ⊥
+  no_long_refusal : (demand : Demand) (file : List ℕ) (why : Refusal) (place : Place) → IsRefusal demand Bare file why place → IsTooLong file → ⊥
   no_long_refusal demand file why place (inl zero) long = long.1 zero.0
   no_long_refusal demand file why place (inr (inl torn)) long = too_many (length file) file_limit torn.0.0 long.0
   no_long_refusal demand file why place (inr (inr framed)) long = too_many (length file) file_limit framed.1.within long.0
@@ -246,7 +254,7 @@ module _ (laws : LayerLaws) where
   same_refusal : (a b : Refusal) (p q : Place) → (a ≡ b) × (p ≡ q) → fault.Refused a p ≡ fault.Refused b q
   same_refusal a b p q same = λ i. fault.Refused (same.0 i) (same.1 i)
 
-  one_capture_fault : (demand : Demand) (file : List ℕ) → AreOctets file → (a b : Fault) → IsFaultOfCapture demand file a → IsFaultOfCapture demand file b → a ≡ b
+  one_capture_fault : (demand : Demand) (file : List ℕ) → AreOctets file → (a b : Fault) → IsFaultOfCapture demand Bare file a → IsFaultOfCapture demand Bare file b → a ≡ b
   one_capture_fault demand file are (fault.Refused a p) (fault.Refused b q) x y = same_refusal a b p q (one_refusal demand file are a b p q x y)
   one_capture_fault demand file are (fault.Refused a p) (fault.TooLong Capture) x y = absurd (no_long_refusal demand file a p x y)
   one_capture_fault demand file are (fault.TooLong Capture) (fault.Refused b q) x y = absurd (no_long_refusal demand file b q y x)
@@ -284,11 +292,11 @@ module _ (laws : LayerLaws) where
   text_stands (request.Show capture) files for are end text told x fault = no_capture_fault AnyMessage files.capture are x.1.0 told x.1.1 fault
   text_stands (request.List capture moment statements true) files for are end text told x fault = no_capture_fault NewEvidence files.capture are x.1.0 told x.1.1 fault
   text_stands (request.List capture moment statements false) files for are end text told x fault = no_todo_fault moment files are text told x.1 fault
-  text_stands (request.Check capture anchors moment name rtype statements) files for are end text told x fault = absurd for
+  text_stands (request.Check capture anchors moment name rtype statements keys macs) files for are end text told x fault = absurd for
 
   -- files have one first fault
   pub one_first_fault : (asked : Request) (files : Files) → IsForMessages asked → AreOctets files.capture → (a b : Fault) → IsFirstFault asked files a → IsFirstFault asked files b → a ≡ b
   one_first_fault (request.Show capture) files for are a b x y = one_capture_fault AnyMessage files.capture are a b x y
   one_first_fault (request.List capture moment statements true) files for are a b x y = one_capture_fault NewEvidence files.capture are a b x y
   one_first_fault (request.List capture moment statements false) files for are a b x y = one_todo_fault files are a b x y
-  one_first_fault (request.Check capture anchors moment name rtype statements) files for are a b x y = absurd for
+  one_first_fault (request.Check capture anchors moment name rtype statements keys macs) files for are a b x y = absurd for

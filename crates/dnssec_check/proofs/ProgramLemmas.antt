@@ -1,5 +1,5 @@
 -- How the program ends by what its parts answer.
-use Rattle.std.proofs.Common.{◌≡◌, ◌<◌, ◌≤◌, ◌⊎◌, ◌==◌, ℕ, Bool, true, false, List, [], ◌∷◌, Option, Some, None, ap, refl, subst, sym, ◌∙◌, inl, inr, arith}
+use Rattle.std.proofs.Common.{◌≡◌, ◌<◌, ◌≤◌, ◌⊎◌, ◌↔◌, ◌==◌, ℕ, Bool, true, false, List, [], ◌∷◌, Option, Some, None, ap, refl, subst, sym, ◌∙◌, inl, inr, arith}
 use Rattle.std.specs.Prelude.{Result, Ok, Err, IfErr, IfOk, IfSome, OnOk, if◌then◌else◌}
 use Rattle.std.specs.List.{list_any}
 use Rattle.std.specs.Io.KnownBytes.{Appends}
@@ -15,10 +15,10 @@ use Rattle.dnssec_check.specs.declared.status.Refusal.TheVariants as refusal
 use Rattle.dnssec_check.specs.Files.{Files}
 use Rattle.dnssec_check.specs.Line.{IsAccepted}
 use Rattle.dnssec_check.specs.Program.{AreFilesAt, BeganText, IsEnd, RefusedFiles, RefusedWords, WroteText, first_unopened, given_path, paths_of}
-use Rattle.dnssec_check.specs.Request.{anchors_of, capture_of, statements_of}
-use Rattle.dnssec_check.specs.Told.{IsUnopened}
+use Rattle.dnssec_check.specs.Request.{anchors_of, capture_of, keys_of, macs_of, statements_of}
+use Rattle.dnssec_check.specs.Told.{IsOpenFault, IsUnopened}
 use Rattle.dnssec_check.specs.declared.status.InputFile.{InputFile}
-use Rattle.dnssec_check.specs.declared.status.InputFile.TheVariants.{Anchors, Capture, Statements}
+use Rattle.dnssec_check.specs.declared.status.InputFile.TheVariants.{Anchors, Capture, Keys, Macs, Statements}
 use Rattle.dnssec_check.specs.Run.{IsTextOf, IsFirstFault}
 use Rattle.dnssec_check.specs.Status.{failures, fault_code, fault_number, outcome_code, refusal_number, status_code}
 
@@ -160,28 +160,93 @@ opened_first : (opens : List ℕ → Bool) (file : InputFile) (path : List ℕ) 
     → first_unopened opens ((file, path) ∷ others) ≡ first_unopened opens others
 opened_first opens file path others opened = rw opened refl
 
-module _ (opens : List ℕ → Bool) (request : Request) (path : List ℕ) (anchors : Option (List ℕ)) where
-  abbrev Behind : List (InputFile × List ℕ)
-  Behind = given_path Statements (statements_of request) []
+-- what the call that opened a file says, whatever comes behind it
+abbrev pub Passes : (List ℕ → Bool) → InputFile → Option (List ℕ) → Type 0
+Passes opens file path = (others : List (InputFile × List ℕ)) → first_unopened opens (given_path file path others) ≡ first_unopened opens others
 
-  capture_opened : true ≡ opens path → path ≡ capture_of request
-      → first_unopened opens (paths_of request) ≡ first_unopened opens (given_path Anchors (anchors_of request) Behind)
-  capture_opened opened is_path =
-      opened_first opens Capture (capture_of request) (given_path Anchors (anchors_of request) Behind) (ap opens (sym is_path) ∙ sym opened)
+-- a file that doesn't open, behind others that did, is told
+module _ (opens : List ℕ → Bool) (told : Fault) where
+  abbrev IsFirst : List (InputFile × List ℕ) → Type 0
+  IsFirst paths = IsUnopened (first_unopened opens paths) told
 
-  pub unopened_anchors : (told : Fault) → true ≡ opens path → path ≡ capture_of request → anchors ≡ anchors_of request
-      → ((others : List (InputFile × List ℕ)) → IsUnopened (first_unopened opens (given_path Anchors anchors others)) told)
-      → IsUnopened (first_unopened opens (paths_of request)) told
-  unopened_anchors told opened is_path are unopened =
-      subst (λ first. IsUnopened first told) (sym (capture_opened opened is_path))
-      (subst (λ given. IsUnopened (first_unopened opens (given_path Anchors given Behind)) told) are (unopened Behind))
+  abbrev Stops : InputFile → Option (List ℕ) → Type 0
+  Stops file path = (others : List (InputFile × List ℕ)) → IsFirst (given_path file path others)
 
-  pub unopened_statements : (statements : Option (List ℕ)) (told : Fault) → true ≡ opens path → path ≡ capture_of request → anchors ≡ anchors_of request
-      → ((others : List (InputFile × List ℕ)) → first_unopened opens (given_path Anchors anchors others) ≡ first_unopened opens others)
-      → statements ≡ statements_of request
-      → ((others : List (InputFile × List ℕ)) → IsUnopened (first_unopened opens (given_path Statements statements others)) told)
-      → IsUnopened (first_unopened opens (paths_of request)) told
-  unopened_statements statements told opened is_path are passed said unopened =
-      subst (λ first. IsUnopened first told)
-      (sym (capture_opened opened is_path ∙ ap (λ given. first_unopened opens (given_path Anchors given Behind)) (sym are) ∙ passed Behind))
-      (subst (λ given. IsUnopened (first_unopened opens (given_path Statements given [])) told) said (unopened []))
+  -- a file that opened, before others
+  past : (file : InputFile) (path asked : Option (List ℕ)) (others : List (InputFile × List ℕ)) → path ≡ asked → Passes opens file path
+      → IsFirst others → IsFirst (given_path file asked others)
+  past file path asked others same passes first =
+      subst (λ first. IsUnopened first told) (sym (ap (λ given. first_unopened opens (given_path file given others)) (sym same) ∙ passes others)) first
+
+  -- one that didn't
+  at : (file : InputFile) (path asked : Option (List ℕ)) (others : List (InputFile × List ℕ)) → path ≡ asked → Stops file path
+      → IsFirst (given_path file asked others)
+  at file path asked others same stops = subst (λ given. IsFirst (given_path file given others)) same (stops others)
+
+  module _ (request : Request) (path : List ℕ) (opened : true ≡ opens path) (is_path : path ≡ capture_of request) where
+    abbrev BehindKeys : List (InputFile × List ℕ)
+    BehindKeys = given_path Macs (macs_of request) []
+
+    abbrev BehindStatements : List (InputFile × List ℕ)
+    BehindStatements = given_path Keys (keys_of request) BehindKeys
+
+    abbrev BehindAnchors : List (InputFile × List ℕ)
+    BehindAnchors = given_path Statements (statements_of request) BehindStatements
+
+    past_capture : IsFirst (given_path Anchors (anchors_of request) BehindAnchors) → IsFirst (paths_of request)
+    past_capture first =
+        subst (λ first. IsUnopened first told)
+        (sym (opened_first opens Capture (capture_of request) (given_path Anchors (anchors_of request) BehindAnchors) (ap opens (sym is_path) ∙ sym opened)))
+        first
+
+    module _ (anchors : Option (List ℕ)) (anchors_are : anchors ≡ anchors_of request) where
+      pub unopened_anchors : Stops Anchors anchors → IsFirst (paths_of request)
+      unopened_anchors stops = past_capture (at Anchors anchors (anchors_of request) BehindAnchors anchors_are stops)
+
+      module _ (anchors_opened : Passes opens Anchors anchors) (statements : Option (List ℕ)) (statements_are : statements ≡ statements_of request) where
+        past_anchors : IsFirst BehindAnchors → IsFirst (paths_of request)
+        past_anchors first = past_capture (past Anchors anchors (anchors_of request) BehindAnchors anchors_are anchors_opened first)
+
+        pub unopened_statements : Stops Statements statements → IsFirst (paths_of request)
+        unopened_statements stops = past_anchors (at Statements statements (statements_of request) BehindStatements statements_are stops)
+
+        module _ (statements_opened : Passes opens Statements statements) (keys : Option (List ℕ)) (keys_are : keys ≡ keys_of request) where
+          past_statements : IsFirst BehindStatements → IsFirst (paths_of request)
+          past_statements first = past_anchors (past Statements statements (statements_of request) BehindStatements statements_are statements_opened first)
+
+          pub unopened_keys : Stops Keys keys → IsFirst (paths_of request)
+          unopened_keys stops = past_statements (at Keys keys (keys_of request) BehindKeys keys_are stops)
+
+          pub unopened_macs : Passes opens Keys keys → (macs : Option (List ℕ)) → macs ≡ macs_of request → Stops Macs macs → IsFirst (paths_of request)
+          unopened_macs keys_opened macs macs_are stops =
+              past_statements (past Keys keys (keys_of request) BehindKeys keys_are keys_opened (at Macs macs (macs_of request) [] macs_are stops))
+
+-- where each file opened, none is told
+pub all_opened : (opens : List ℕ → Bool) (request : Request) (path : List ℕ) → true ≡ opens path → path ≡ capture_of request
+    → (anchors : Option (List ℕ)) → anchors ≡ anchors_of request → Passes opens Anchors anchors
+    → (statements : Option (List ℕ)) → statements ≡ statements_of request → Passes opens Statements statements
+    → (keys : Option (List ℕ)) → keys ≡ keys_of request → Passes opens Keys keys
+    → (macs : Option (List ℕ)) → macs ≡ macs_of request → Passes opens Macs macs
+    → first_unopened opens (paths_of request) ≡ None
+all_opened opens request path opened is_path anchors anchors_are anchors_opened statements statements_are statements_opened keys keys_are keys_opened macs macs_are macs_opened =
+    let behind_keys = given_path Macs (macs_of request) [] in
+    let behind_statements = given_path Keys (keys_of request) behind_keys in
+    let behind_anchors = given_path Statements (statements_of request) behind_statements in
+    opened_first opens Capture (capture_of request) (given_path Anchors (anchors_of request) behind_anchors) (ap opens (sym is_path) ∙ sym opened)
+    ∙ ap (λ given. first_unopened opens (given_path Anchors given behind_anchors)) (sym anchors_are) ∙ anchors_opened behind_anchors
+    ∙ ap (λ given. first_unopened opens (given_path Statements given behind_statements)) (sym statements_are) ∙ statements_opened behind_statements
+    ∙ ap (λ given. first_unopened opens (given_path Keys given behind_keys)) (sym keys_are) ∙ keys_opened behind_keys
+    ∙ ap (λ given. first_unopened opens (given_path Macs given [])) (sym macs_are) ∙ macs_opened []
+
+-- the file that is told is the first that doesn't open
+pub which_unopened : {T : Type 0} (first : Option InputFile) (told : Fault) (file : InputFile) → IsUnopened first told → IsOpenFault told
+    → Path (Result T Fault) (Err told) (Err (fault.OpenFailed file)) ↔ (first ≡ Some file)
+which_unopened {T} first (fault.OpenFailed other) file is opening = (
+  λ e. let same : other ≡ file = cc in is ∙ ap (λ (f : InputFile). Some f) same,
+  λ e. let two : Some other ≡ Some file = sym is ∙ e in let same : other ≡ file = cc in ap (λ (f : InputFile). Err (fault.OpenFailed f)) same,
+)
+which_unopened first fault.OutOfMemory file is opening = absurd opening
+which_unopened first (fault.ReadFailed other) file is opening = absurd opening
+which_unopened first (fault.TooLong other) file is opening = absurd opening
+which_unopened first fault.WriteFailed file is opening = absurd opening
+which_unopened first (fault.Refused why place) file is opening = absurd opening

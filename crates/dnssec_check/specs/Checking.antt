@@ -15,7 +15,9 @@ use Rattle.dnsv_verdict.specs.Verdict.{IsVerdictAt}
 use Rattle.dnsv_verdict.specs.declared.verdict.Verdict.{Verdict}
 use Rattle.dnsv_verdict.specs.declared.verdict.Verdict.TheVariants as verdict
 use Rattle.dnssec_check.specs.AnchorsFile.{HasAnchors}
+use Rattle.dnssec_check.specs.declared.envelope.Envelope.{Envelope}
 use Rattle.dnssec_check.specs.CaptureFile.{Holds, NewEvidence}
+use Rattle.dnssec_check.specs.EnvelopeFiles.{IsEnvelopeOf}
 use Rattle.dnssec_check.specs.Files.{Files, octets_or_none}
 use Rattle.dnssec_check.specs.StatementsFile.{IsMeaningOf}
 use Rattle.dnssec_check.specs.Todo.{todo_line}
@@ -85,11 +87,14 @@ verdict_status _ = status.Done
 
 -- ---- the files
 
--- The capture holds messages, each of them evidence besides those before it, and the end and the text are those of the
--- verdict that they prove of the question, from the trust anchors, at the moment, under the statements.
+-- The capture holds messages, in frames that the keys open at the moment where keys are given, each of them evidence
+-- besides those before it, and the end and the text are those of the verdict that they prove of the question, from the
+-- trust anchors, at the moment, under the statements.
 pub record IsCheck (name : Labels) (rtype moment : ℕ) (files : Files) (end : Status) (text : List ℕ) : Type 0 where
+  pub envelope : Envelope
+  pub opens : IsEnvelopeOf files.keys files.macs moment envelope
   pub messages : List Contents
-  pub holds : Holds NewEvidence files.capture messages
+  pub holds : Holds NewEvidence envelope files.capture messages
   pub anchors : List Anchor
   pub trusted : HasAnchors (octets_or_none files.anchors) anchors
   pub meaning : Entry → Answer

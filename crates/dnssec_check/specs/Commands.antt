@@ -54,6 +54,20 @@ statements_rule = record (new_rule (codes "statements")) {
   value_names = 1;
 }
 
+-- `--keys FILE`
+abbrev pub keys_rule : Rule
+keys_rule = record (new_rule (codes "keys")) {
+  long = Some (codes "keys");
+  value_names = 1;
+}
+
+-- `--macs FILE`
+abbrev pub macs_rule : Rule
+macs_rule = record (new_rule (codes "macs")) {
+  long = Some (codes "macs");
+  value_names = 1;
+}
+
 -- `--all`, which takes no value
 abbrev pub all_rule : Rule
 all_rule = record (new_rule (codes "all")) {
@@ -70,10 +84,12 @@ abbrev pub list_app : App
 list_app = with_rule (with_rule (with_rule (with_rule (new_app (codes "list")) capture_rule) moment_rule)
     statements_rule) all_rule
 
--- `check --capture FILE --anchors FILE --moment N --name NAME --type N [--statements FILE]`
+-- `check --capture FILE --anchors FILE --moment N --name NAME --type N [--statements FILE] [--keys FILE]
+-- [--macs FILE]`
 abbrev pub check_app : App
-check_app = with_rule (with_rule (with_rule (with_rule (with_rule (with_rule (new_app (codes "check"))
-    capture_rule) anchors_rule) moment_rule) name_rule) type_rule) statements_rule
+check_app = with_rule (with_rule (with_rule (with_rule (with_rule (with_rule (with_rule (with_rule
+    (new_app (codes "check")) capture_rule) anchors_rule) moment_rule) name_rule) type_rule) statements_rule)
+    keys_rule) macs_rule
 
 -- the program, which wants one of its subcommands
 abbrev pub bare_app : App

@@ -6,7 +6,7 @@ use Rattle.dnssec_check.specs.declared.run.Inputs.{Inputs}
 use Rattle.dnssec_check.specs.declared.status.Fault.{Fault}
 use Rattle.dnssec_check.specs.declared.status.Fault.TheVariants as fault
 use Rattle.dnssec_check.specs.declared.status.InputFile.{InputFile}
-use Rattle.dnssec_check.specs.declared.status.InputFile.TheVariants.{Anchors, Capture, Statements}
+use Rattle.dnssec_check.specs.declared.status.InputFile.TheVariants.{Anchors, Capture, Keys, Macs, Statements}
 use Rattle.dnssec_check.specs.declared.status.Place.{Place}
 use Rattle.dnssec_check.specs.declared.status.Refusal.{Refusal}
 use Rattle.dnssec_check.specs.Files.{Files, AreTold, given_failures}
@@ -54,5 +54,7 @@ pub record TellsFaults {R T : Type 0} (IsFirst : Files → Fault → Type 0) (re
   pub capture : TellsFailedReads Capture (failures_of before.capture) (failures_of after.capture) result
   pub anchors : TellsFailedReads Anchors (given_failures before.anchors) (given_failures after.anchors) result
   pub statements : TellsFailedReads Statements (given_failures before.statements) (given_failures after.statements) result
+  pub keys : TellsFailedReads Keys (given_failures before.keys) (given_failures after.keys) result
+  pub macs : TellsFailedReads Macs (given_failures before.macs) (given_failures after.macs) result
   -- a file that is open can't fail to open
   pub opened : IfErr result (λ told. (file : InputFile) → told ≡ fault.OpenFailed file → ⊥)

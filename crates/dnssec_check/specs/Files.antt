@@ -10,6 +10,8 @@ pub record Files : Type 0 where
   pub capture : List ℕ
   pub anchors : Option (List ℕ)
   pub statements : Option (List ℕ)
+  pub keys : Option (List ℕ)
+  pub macs : Option (List ℕ)
 
 -- the octets of a file, or none where it isn't given
 abbrev pub octets_or_none : Option (List ℕ) → List ℕ
@@ -29,3 +31,5 @@ pub record AreTold {R : Type 0} (remaining : R → Option (List ℕ)) (inputs : 
   pub capture : remaining (inner_of inputs.capture) ≡ Some files.capture
   pub anchors : IsToldBy remaining inputs.anchors files.anchors
   pub statements : IsToldBy remaining inputs.statements files.statements
+  pub keys : IsToldBy remaining inputs.keys files.keys
+  pub macs : IsToldBy remaining inputs.macs files.macs

@@ -2,6 +2,8 @@ pub mod AnchorsFile
 pub mod CaptureFile
 pub mod Checking
 pub mod Commands
+pub mod Envelope
+pub mod EnvelopeFiles
 pub mod FileFaults
 pub mod Files
 pub mod HexText

@@ -41,13 +41,15 @@ Asks name rows (request.List capture moment statements all) = (name ≡ codes "l
     × (option_and_then (number_said last_moment) (first_of (codes "moment") rows) ≡ Some moment)
     × (first_of (codes "statements") rows ≡ option_map string_bytes statements)
     × (flag_said (one_of (codes "all") rows) ≡ all)
-Asks name rows (request.Check capture anchors moment asked rtype statements) = (name ≡ codes "check")
+Asks name rows (request.Check capture anchors moment asked rtype statements keys macs) = (name ≡ codes "check")
     × (first_of (codes "capture") rows ≡ Some (string_bytes capture))
     × (first_of (codes "anchors") rows ≡ Some (string_bytes anchors))
     × (option_and_then (number_said last_moment) (first_of (codes "moment") rows) ≡ Some moment)
     × (first_of (codes "name") rows ≡ Some (string_bytes asked))
     × (option_and_then (number_said 65535) (first_of (codes "type") rows) ≡ Some rtype.0)
     × (first_of (codes "statements") rows ≡ option_map string_bytes statements)
+    × (first_of (codes "keys") rows ≡ option_map string_bytes keys)
+    × (first_of (codes "macs") rows ≡ option_map string_bytes macs)
 
 -- the program takes the words, and their subcommand and its values ask for the request
 abbrev pub IsAccepted : List Text → Request → Type 0

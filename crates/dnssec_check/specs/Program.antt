@@ -8,13 +8,13 @@ use Rattle.dnssec_check.specs.declared.request.Request.{Request}
 use Rattle.dnssec_check.specs.declared.line.LineError.{LineError}
 use Rattle.dnssec_check.specs.declared.status.Fault.TheVariants as fault
 use Rattle.dnssec_check.specs.declared.status.InputFile.{InputFile}
-use Rattle.dnssec_check.specs.declared.status.InputFile.TheVariants.{Anchors, Capture, Statements}
+use Rattle.dnssec_check.specs.declared.status.InputFile.TheVariants.{Anchors, Capture, Keys, Macs, Statements}
 use Rattle.dnssec_check.specs.declared.status.Status.{Status}
 use Rattle.dnssec_check.specs.declared.status.Place.{Place}
 use Rattle.dnssec_check.specs.declared.status.Refusal.{Refusal}
 use Rattle.dnssec_check.specs.Files.{Files}
 use Rattle.dnssec_check.specs.Line.{IsAccepted, IsRefused, line_code}
-use Rattle.dnssec_check.specs.Request.{anchors_of, capture_of, statements_of}
+use Rattle.dnssec_check.specs.Request.{anchors_of, capture_of, keys_of, macs_of, statements_of}
 use Rattle.dnssec_check.specs.Run.{IsTextOf, IsFirstFault}
 use Rattle.dnssec_check.specs.Status.{status_code}
 
@@ -25,6 +25,8 @@ pub record AreFilesAt (octets_at : List ℕ → Option (List ℕ)) (request : Re
   pub capture : octets_at (capture_of request) ≡ Some files.capture
   pub anchors : option_map octets_at (anchors_of request) ≡ option_map (λ octets. Some octets) files.anchors
   pub statements : option_map octets_at (statements_of request) ≡ option_map (λ octets. Some octets) files.statements
+  pub keys : option_map octets_at (keys_of request) ≡ option_map (λ octets. Some octets) files.keys
+  pub macs : option_map octets_at (macs_of request) ≡ option_map (λ octets. Some octets) files.macs
 
 -- a file with its path, where one is given, before others
 abbrev pub given_path : InputFile → Option (List ℕ) → List (InputFile × List ℕ) → List (InputFile × List ℕ)
@@ -34,7 +36,8 @@ given_path file (Some path) others = (file, path) ∷ others
 -- the files of a request with their paths, in the order in which they are opened
 abbrev pub paths_of : Request → List (InputFile × List ℕ)
 paths_of request = (Capture, capture_of request)
-    ∷ given_path Anchors (anchors_of request) (given_path Statements (statements_of request) [])
+    ∷ given_path Anchors (anchors_of request) (given_path Statements (statements_of request)
+    (given_path Keys (keys_of request) (given_path Macs (macs_of request) [])))
 
 -- the first of the files that doesn't open
 abbrev pub first_unopened : (List ℕ → Bool) → List (InputFile × List ℕ) → Option InputFile

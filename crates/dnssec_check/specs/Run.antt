@@ -4,6 +4,8 @@ use Rattle.dnsv_names.specs.Name.{Labels}
 use Rattle.dnsv_message.specs.Message.{Contents}
 use Rattle.dnsv_canonical.specs.Rrsets.{IsQuestion}
 use Rattle.dnsv_chain.specs.declared.anchor.Anchor.{Anchor}
+use Rattle.dnssec_check.specs.declared.envelope.Envelope.{Envelope}
+use Rattle.dnssec_check.specs.declared.envelope.Envelope.TheVariants.{Bare}
 use Rattle.dnssec_check.specs.declared.request.Request.{Request}
 use Rattle.dnssec_check.specs.declared.request.Request.TheVariants as request
 use Rattle.dnssec_check.specs.declared.status.Fault.{Fault}
@@ -13,6 +15,7 @@ use Rattle.dnssec_check.specs.declared.status.Status.TheVariants.{Done}
 use Rattle.dnssec_check.specs.AnchorsFile.{HasAnchors, IsFaultOfAnchors}
 use Rattle.dnssec_check.specs.CaptureFile.{AnyMessage, NewEvidence, Holds, IsFaultOfCapture}
 use Rattle.dnssec_check.specs.Checking.{IsCheck}
+use Rattle.dnssec_check.specs.EnvelopeFiles.{IsEnvelopeOf, IsFaultOfEnvelope}
 use Rattle.dnssec_check.specs.Files.{Files, octets_or_none}
 use Rattle.dnssec_check.specs.Listing.{IsListing}
 use Rattle.dnssec_check.specs.Question.{IsQuestionRefused, Spells}
@@ -32,20 +35,20 @@ abbrev pub IsTextOf : Request → Files → Status → List ℕ → Type 0
 IsTextOf (request.Show capture) files end text = (end ≡ Done) × IsShowing files.capture text
 IsTextOf (request.List capture moment statements true) files end text = (end ≡ Done) × IsListing files.capture text
 IsTextOf (request.List capture moment statements false) files end text = (end ≡ Done) × IsTodo moment files text
-IsTextOf (request.Check capture anchors moment asked rtype statements) files end text =
+IsTextOf (request.Check capture anchors moment asked rtype statements keys macs) files end text =
     IsAnswered (string_bytes asked) rtype.0 moment files end text
 
 -- ---- the first fault
 
--- the file holds messages, each of them evidence besides those before it
-abbrev pub HasEvidence : List ℕ → Type 0
-HasEvidence file = (messages : List Contents) × Holds NewEvidence file messages
+-- the file holds messages in such frames, each of them evidence besides those before it
+abbrev pub HasEvidence : Envelope → List ℕ → Type 0
+HasEvidence envelope file = (messages : List Contents) × Holds NewEvidence envelope file messages
 
 -- the file of captured messages has this fault; or it has none, and the file of statements has it
 abbrev pub IsFirstFaultOfTodo : Files → Fault → Type 0
 IsFirstFaultOfTodo files fault =
-    IsFaultOfCapture NewEvidence files.capture fault
-    ⊎ (HasEvidence files.capture × IsFaultOfStatements (octets_or_none files.statements) fault)
+    IsFaultOfCapture NewEvidence Bare files.capture fault
+    ⊎ (HasEvidence Bare files.capture × IsFaultOfStatements (octets_or_none files.statements) fault)
 
 -- behind the file of captured messages, the first fault is in the trust anchors, and then in the statements
 abbrev pub IsFirstFaultBehind : Files → Fault → Type 0
@@ -54,10 +57,18 @@ IsFirstFaultBehind files fault =
     ⊎ (((anchors : List Anchor) × HasAnchors (octets_or_none files.anchors) anchors)
     × IsFaultOfStatements (octets_or_none files.statements) fault)
 
-abbrev pub IsFirstFaultOfFiles : Files → Fault → Type 0
-IsFirstFaultOfFiles files fault =
-    IsFaultOfCapture NewEvidence files.capture fault
-    ⊎ (HasEvidence files.capture × IsFirstFaultBehind files fault)
+-- where frames are opened so, the first fault is in the file of captured messages, and then in those behind it
+abbrev pub IsFirstFaultOfEvidence : Envelope → Files → Fault → Type 0
+IsFirstFaultOfEvidence envelope files fault =
+    IsFaultOfCapture NewEvidence envelope files.capture fault
+    ⊎ (HasEvidence envelope files.capture × IsFirstFaultBehind files fault)
+
+-- the first fault is in the files of keys and MACs, and then in the others
+abbrev pub IsFirstFaultOfFiles : ℕ → Files → Fault → Type 0
+IsFirstFaultOfFiles moment files fault =
+    IsFaultOfEnvelope files.keys files.macs fault
+    ⊎ ((envelope : Envelope) × IsEnvelopeOf files.keys files.macs moment envelope
+    × IsFirstFaultOfEvidence envelope files fault)
 
 -- the question is refused so
 abbrev pub IsFaultOfQuestion : List ℕ → ℕ → Fault → Type 0
@@ -65,16 +76,16 @@ IsFaultOfQuestion asked rtype (fault.Refused why place) = IsQuestionRefused aske
 IsFaultOfQuestion asked rtype _ = ⊥
 
 -- the question is refused, and else the first of the files that is at fault has this fault
-abbrev pub IsFirstFaultOfCheck : List ℕ → ℕ → Files → Fault → Type 0
-IsFirstFaultOfCheck asked rtype files fault =
+abbrev pub IsFirstFaultOfCheck : List ℕ → ℕ → ℕ → Files → Fault → Type 0
+IsFirstFaultOfCheck asked rtype moment files fault =
     IsFaultOfQuestion asked rtype fault
-    ⊎ (((name : Labels) × Spells asked name × IsQuestion name rtype) × IsFirstFaultOfFiles files fault)
+    ⊎ (((name : Labels) × Spells asked name × IsQuestion name rtype) × IsFirstFaultOfFiles moment files fault)
 
 -- the first fault, in the order of the work
 abbrev pub IsFirstFault : Request → Files → Fault → Type 0
-IsFirstFault (request.Show capture) files fault = IsFaultOfCapture AnyMessage files.capture fault
+IsFirstFault (request.Show capture) files fault = IsFaultOfCapture AnyMessage Bare files.capture fault
 IsFirstFault (request.List capture moment statements true) files fault =
-    IsFaultOfCapture NewEvidence files.capture fault
+    IsFaultOfCapture NewEvidence Bare files.capture fault
 IsFirstFault (request.List capture moment statements false) files fault = IsFirstFaultOfTodo files fault
-IsFirstFault (request.Check capture anchors moment asked rtype statements) files fault =
-    IsFirstFaultOfCheck (string_bytes asked) rtype.0 files fault
+IsFirstFault (request.Check capture anchors moment asked rtype statements keys macs) files fault =
+    IsFirstFaultOfCheck (string_bytes asked) rtype.0 moment files fault

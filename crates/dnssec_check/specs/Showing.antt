@@ -9,6 +9,7 @@ use Rattle.dnsv_names.specs.Text.{text_of}
 use Rattle.dnsv_message.specs.declared.record.Question.{Question}
 use Rattle.dnsv_message.specs.declared.record.Record.{Record}
 use Rattle.dnsv_message.specs.Message.{Contents, records_of}
+use Rattle.dnssec_check.specs.declared.envelope.Envelope.TheVariants.{Bare}
 use Rattle.dnssec_check.specs.CaptureFile.{Holds, AnyMessage}
 use Rattle.dnssec_check.specs.HexText.{hex_text}
 
@@ -53,4 +54,4 @@ message_text number message =
 -- the file holds messages, whatever they are, and the text has the lines of each
 abbrev pub IsShowing : List ℕ → List ℕ → Type 0
 IsShowing file text =
-    (messages : List Contents) × Holds AnyMessage file messages × (text ≡ texts_from message_text 1 messages)
+    (messages : List Contents) × Holds AnyMessage Bare file messages × (text ≡ texts_from message_text 1 messages)

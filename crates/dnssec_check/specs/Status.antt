@@ -7,6 +7,8 @@ use Rattle.dnsv_message.specs.declared.errors.DecodeError.{DecodeError}
 use Rattle.dnsv_message.specs.declared.errors.DecodeError.TheVariants as decode
 use Rattle.dnsv_canonical.specs.declared.capture.CaptureError.{CaptureError}
 use Rattle.dnsv_canonical.specs.declared.capture.CaptureError.TheVariants as capture
+use Rattle.dnsv_tsig.specs.declared.error.TsigError.{TsigError}
+use Rattle.dnsv_tsig.specs.declared.error.TsigError.TheVariants as tsig
 use Rattle.dnssec_check.specs.declared.status.Status.{Status}
 use Rattle.dnssec_check.specs.declared.status.Status.TheVariants.{Done, Insecure, Pending, Bogus, Indeterminate}
 use Rattle.dnssec_check.specs.declared.status.InputFile.{InputFile}
@@ -101,6 +103,18 @@ TellsCaptureError capture.NotAResponse why number = (why ≡ refusal.NotARespons
 TellsCaptureError capture.Truncated why number = (why ≡ refusal.Truncated) × (number ≡ None)
 TellsCaptureError (capture.BadRdata k) why number = (why ≡ refusal.BadRdata) × (number ≡ Some k)
 TellsCaptureError capture.Limit why number = (why ≡ refusal.Limit) × (number ≡ None)
+
+-- why a frame isn't opened is told as this refusal, with the number of the record at fault
+abbrev pub TellsTsigError : TsigError → Refusal → Option ℕ → Type 0
+TellsTsigError tsig.OutOfMemory why number = ⊥
+TellsTsigError (tsig.Unreadable error) why number = TellsMessageError error why number
+TellsTsigError tsig.NoTsig why number = (why ≡ refusal.NoTsig) × (number ≡ None)
+TellsTsigError tsig.Form why number = (why ≡ refusal.TsigForm) × (number ≡ None)
+TellsTsigError tsig.BadKey why number = (why ≡ refusal.BadKey) × (number ≡ None)
+TellsTsigError tsig.BadMac why number = (why ≡ refusal.BadMac) × (number ≡ None)
+TellsTsigError tsig.BadTime why number = (why ≡ refusal.BadTime) × (number ≡ None)
+TellsTsigError tsig.TruncatedMac why number = (why ≡ refusal.TruncatedMac) × (number ≡ None)
+TellsTsigError tsig.PeerError why number = (why ≡ refusal.PeerError) × (number ≡ None)
 
 -- ---- the line that tells a fault
 

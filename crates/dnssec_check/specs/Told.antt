@@ -1,5 +1,5 @@
 -- How the faults of the layers below are told. No public clause cites this module.
-use Rattle.std.specs.Prelude.{◌≡◌, ⊤, ℕ, List, Option, Some, None}
+use Rattle.std.specs.Prelude.{◌≡◌, ⊤, ℕ, List, Option, Some, None, Err}
 use Rattle.dnsv_message.specs.declared.errors.DecodeError.{DecodeError}
 use Rattle.dnsv_message.specs.declared.errors.DecodeError.TheVariants as decode
 use Rattle.dnsv_message.specs.declared.errors.ReadError.{ReadError}
@@ -14,17 +14,23 @@ use Rattle.dnssec_check.specs.declared.status.Refusal.TheVariants as refusal
 use Rattle.dnsv_canonical.specs.declared.capture.CaptureError.{CaptureError}
 use Rattle.dnsv_canonical.specs.declared.capture.CaptureError.TheVariants as capture
 use Rattle.dnsv_canonical.specs.Evidence.{Evidence}
-use Rattle.dnssec_check.specs.CaptureFile.{Demand, MessageRefused}
+use Rattle.dnssec_check.specs.declared.envelope.Envelope.{Envelope}
+use Rattle.dnssec_check.specs.CaptureFile.{Demand, FrameRefused}
 use Rattle.dnsv_verifier.specs.declared.statements.StatementsError.{StatementsError}
 use Rattle.dnsv_verifier.specs.declared.statements.StatementsError.TheVariants as statements
 use Rattle.dnsv_chain.specs.declared.anchors.AnchorsError.{AnchorsError}
 use Rattle.dnsv_chain.specs.declared.anchors.AnchorsError.TheVariants as anchors
 use Rattle.dnssec_check.specs.AnchorsFile.{TellsAnchorsError}
-use Rattle.dnssec_check.specs.KeysFile.{TellsKeysError}
+use Rattle.dnsv_tsig.specs.declared.error.TsigError.{TsigError}
+use Rattle.dnsv_tsig.specs.declared.error.TsigError.TheVariants as tsig
+use Rattle.dnsv_tsig.specs.Answer.{tsig_answer_of}
+use Rattle.dnsv_tsig.specs.Key.{SharedKey}
+use Rattle.dnssec_check.specs.Envelope.{HoldsNoMessage, IsUnreadable}
 use Rattle.dnssec_check.specs.StatementsFile.{TellsStatementsError}
+use Rattle.dnssec_check.specs.Status.{TellsMessageError, TellsCaptureError, TellsTsigError}
+use Rattle.dnssec_check.specs.KeysFile.{TellsKeysError}
 use Rattle.dnsv_tsig.specs.declared.error.KeyFileError.{KeyFileError}
 use Rattle.dnsv_tsig.specs.declared.error.KeyFileError.TheVariants as key_file
-use Rattle.dnssec_check.specs.Status.{TellsMessageError, TellsCaptureError}
 
 abbrev pub nowhere : Place
 nowhere = record { message = None; «record» = None; line = None }
@@ -77,10 +83,27 @@ IsFaultOf Holds (fault.TooLong file) = ⊥
 IsFaultOf Holds (fault.OpenFailed file) = ⊥
 IsFaultOf Holds fault.WriteFailed = ⊥
 
--- besides the evidence that is held, the message with this number is refused, at this place
-abbrev pub IsRefusedAt : Demand → Evidence → List ℕ → ℕ → Refusal → Place → Type 0
-IsRefusedAt demand held octets number why place =
-    MessageRefused demand held octets why place.«record» × (place.message ≡ Some number) × (place.line ≡ None)
+-- besides the evidence that is held, the frame with this number is refused, at this place
+abbrev pub IsRefusedAt : Demand → Envelope → Evidence → List ℕ → ℕ → Refusal → Place → Type 0
+IsRefusedAt demand envelope held frame number why place =
+    FrameRefused demand envelope held number frame why place.«record» × (place.message ≡ Some number)
+    × (place.line ≡ None)
+
+-- the octets of the message with this number are none, and are refused at this place
+abbrev pub IsUnreadableAt : List ℕ → ℕ → Refusal → Place → Type 0
+IsUnreadableAt octets number why place =
+    IsUnreadable octets why place.«record» × (place.message ≡ Some number) × (place.line ≡ None)
+
+-- the frame with this number isn't opened, and is refused at this place
+abbrev pub IsUnopenedAt : List SharedKey → ℕ → Option (List ℕ) → List ℕ → ℕ → Refusal → Place → Type 0
+IsUnopenedAt keys moment request frame number why place =
+    ((error : TsigError) × tsig_answer_of frame keys moment request (Err error)
+    × TellsTsigError error why place.«record») × (place.message ≡ Some number) × (place.line ≡ None)
+
+-- the frame with this number holds no message, and is refused at this place
+abbrev pub IsNoMessageAt : Envelope → List ℕ → ℕ → Refusal → Place → Type 0
+IsNoMessageAt envelope frame number why place =
+    HoldsNoMessage envelope number frame why place.«record» × (place.message ≡ Some number) × (place.line ≡ None)
 
 -- the fault tells the error of the message with this number
 abbrev pub IsDecodeFault : DecodeError → ℕ → Fault → Type 0
@@ -88,6 +111,14 @@ IsDecodeFault decode.OutOfMemory number told = told ≡ fault.OutOfMemory
 IsDecodeFault error number (fault.Refused why place) =
     TellsMessageError error why place.«record» × (place.message ≡ Some number) × (place.line ≡ None)
 IsDecodeFault error number _ = ⊥
+
+-- the fault tells why the frame with this number isn't opened
+abbrev pub IsTsigFault : TsigError → ℕ → Fault → Type 0
+IsTsigFault tsig.OutOfMemory number told = told ≡ fault.OutOfMemory
+IsTsigFault (tsig.Unreadable error) number told = IsDecodeFault error number told
+IsTsigFault error number (fault.Refused why place) =
+    TellsTsigError error why place.«record» × (place.message ≡ Some number) × (place.line ≡ None)
+IsTsigFault error number _ = ⊥
 
 -- the fault tells why a capture doesn't take the message with this number
 abbrev pub IsCaptureFault : CaptureError → ℕ → Fault → Type 0

@@ -97,6 +97,8 @@ fn printed(alloc: Global, request: Request, file: &[u8]) -> Result<Vec<u8>, Fail
         capture: Counted::new(file),
         anchors: None,
         statements: None,
+        keys: None,
+        macs: None,
     };
     let mut output = Counted::new(Vec::new(alloc));
     if run(alloc, &request, &mut inputs, &mut output)? != Status::Done {

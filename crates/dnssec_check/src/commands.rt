@@ -2,7 +2,7 @@
 ghost use Rattle.std.specs.Prelude.{◌≡◌, false, IfOk};
 ghost use Rattle.clap.specs.Words.{app_of, rule_of};
 ghost use Rattle.clap.specs.declared.Command.TheViews.{out-Command as fields_of};
-ghost use Rattle.dnssec_check.specs.Commands.{all_rule, capture_rule, moment_rule, statements_rule};
+ghost use Rattle.dnssec_check.specs.Commands.{all_rule, capture_rule, keys_rule, macs_rule, moment_rule, statements_rule};
 ghost use Rattle.dnssec_check.specs.Commands.{anchors_rule, name_rule, type_rule};
 ghost use Rattle.dnssec_check.specs.Commands.{check_app, list_app, program_app, show_app};
 
@@ -69,7 +69,9 @@ fn check<'a>(alloc: Global) -> Result<Command<'a>, AllocError>
         .arg(moment_option(alloc))?
         .arg(name_option(alloc))?
         .arg(type_option(alloc))?
-        .arg(statements_option(alloc))
+        .arg(statements_option(alloc))?
+        .arg(keys_option(alloc))?
+        .arg(macs_option(alloc))
 }
 
 /// `--capture FILE`
@@ -145,6 +147,26 @@ fn statements_option<'a>(alloc: Global) -> Arg<'a>
         .long("statements")
         .value_name("FILE")
         .help("What was checked: lines `good ALG KEY DATA SIG` or `bad ALG KEY DATA SIG`, in hex")
+}
+
+/// `--keys FILE`
+fn keys_option<'a>(alloc: Global) -> Arg<'a>
+    ensures rule { rule_of result ≡ keys_rule }
+    ensures local { result.global ≡ false }
+{
+    Arg::new(alloc, "keys").long("keys").value_name("FILE").help(
+        "The keys by which every message was signed (TSIG): lines `NAME BASE64`",
+    )
+}
+
+/// `--macs FILE`
+fn macs_option<'a>(alloc: Global) -> Arg<'a>
+    ensures rule { rule_of result ≡ macs_rule }
+    ensures local { result.global ≡ false }
+{
+    Arg::new(alloc, "macs").long("macs").value_name("FILE").help(
+        "With keys, the MAC of each message's request: lines of 64 hex digits, or `-` for none",
+    )
 }
 
 /// `--all`

@@ -3,6 +3,7 @@ ghost use Rattle.std.specs.Prelude.{◌≡◌, ◌⊎◌, List, ℕ};
 ghost use Rattle.dnsv_names.specs.Octets.{AreOctets};
 ghost use Rattle.dnsv_message.specs.Frames.{IsTooLong};
 ghost use Rattle.dnssec_check.specs.CaptureFile.{AnyMessage, IsRefusal, NewEvidence};
+ghost use Rattle.dnssec_check.specs.declared.envelope.Envelope.TheVariants.{Bare};
 ghost use Rattle.dnssec_check.specs.Listing.{IsListing};
 ghost use Rattle.dnssec_check.specs.Showing.{IsShowing};
 ghost use Rattle.dnssec_check.specs.Files.{Files};
@@ -70,7 +71,7 @@ pub fn one_first_fault()
 /// A file of octets is shown, or refused, or has an octet too many.
 pub fn every_file_is_shown_or_refused()
     ensures { (file : List ℕ) → AreOctets file → ((text : List ℕ) × IsShowing file text)
-        ⊎ (((why : Refusal) × (place : Place) × IsRefusal AnyMessage file why place) ⊎ IsTooLong file) }
+        ⊎ (((why : Refusal) × (place : Place) × IsRefusal AnyMessage Bare file why place) ⊎ IsTooLong file) }
 {
     one_answer();
     message_or_fault();
@@ -80,7 +81,7 @@ pub fn every_file_is_shown_or_refused()
 /// A file of octets is listed, or refused, or has an octet too many.
 pub fn every_file_is_listed_or_refused()
     ensures { (file : List ℕ) → AreOctets file → ((text : List ℕ) × IsListing file text)
-        ⊎ (((why : Refusal) × (place : Place) × IsRefusal NewEvidence file why place) ⊎ IsTooLong file) }
+        ⊎ (((why : Refusal) × (place : Place) × IsRefusal NewEvidence Bare file why place) ⊎ IsTooLong file) }
 {
     one_answer();
     message_or_fault();

@@ -84,8 +84,8 @@ impl From<clap::Error> for LineError {
 ///
 /// Whatever `clap` takes for the commands `show --capture FILE`,
 /// `list --capture FILE --moment N [--statements FILE] [--all]` and
-/// `check --capture FILE --anchors FILE --moment N --name NAME --type N [--statements FILE]` is a request, and each
-/// error is one that `clap` gives there, or the want of memory.
+/// `check --capture FILE --anchors FILE --moment N --name NAME --type N [--statements FILE] [--keys FILE] [--macs FILE]`
+/// is a request, and each error is one that `clap` gives there, or the want of memory.
 pub fn read_line<S: AsStr>(alloc: Global, words: &[S]) -> Result<Request, LineError>
     ensures accepted { IfOk result (λ request. IsAccepted (map S.text words.now) request) }
     ensures refused { IfErr result (λ error. IsRefused (map S.text words.now) error) }
@@ -138,6 +138,8 @@ fn check_request(alloc: Global, check: &ArgMatches<'_>) -> Result<Request, Alloc
     let name = value(alloc, check, "name")?;
     let rtype = RecordType(number(check, "type", 65_535) as u16);
     let statements = given_value(alloc, check, "statements")?;
+    let keys = given_value(alloc, check, "keys")?;
+    let macs = given_value(alloc, check, "macs")?;
     Ok(Request::Check {
         capture,
         anchors,
@@ -145,6 +147,8 @@ fn check_request(alloc: Global, check: &ArgMatches<'_>) -> Result<Request, Alloc
         name,
         rtype,
         statements,
+        keys,
+        macs,
     })
 }
 

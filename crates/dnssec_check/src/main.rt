@@ -7,6 +7,7 @@ mod capture_file;
 mod captures;
 mod checking;
 mod commands;
+mod envelope;
 mod hex_text;
 mod keys_file;
 mod laws;

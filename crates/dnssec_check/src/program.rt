@@ -108,7 +108,8 @@ fn answer<M: Machine, W: Write>(
     run(machine.alloc(), request, &mut inputs, output)
 }
 
-/// Opens the files of the request: the captured messages, the trust anchors, and then the statements.
+/// Opens the files of the request: the captured messages, the trust anchors, the statements, the keys, and then the
+/// MACs of requests.
 fn open_all<M: Machine>(machine: &M, request: &Request) -> Result<Inputs<M::File>, Fault>
     ensures files { (files : Files) → AreFilesAt (M.octets_at machine.now) request.now files
         → IfOk result (λ inputs. AreTold M.File.remaining inputs files) }
@@ -121,10 +122,14 @@ fn open_all<M: Machine>(machine: &M, request: &Request) -> Result<Inputs<M::File
     let capture = open(machine, InputFile::Capture, request.capture())?;
     let anchors = open_given(machine, InputFile::Anchors, request.anchors())?;
     let statements = open_given(machine, InputFile::Statements, request.statements())?;
+    let keys = open_given(machine, InputFile::Keys, request.keys())?;
+    let macs = open_given(machine, InputFile::Macs, request.macs())?;
     Ok(Inputs {
         capture,
         anchors,
         statements,
+        keys,
+        macs,
     })
 }
 

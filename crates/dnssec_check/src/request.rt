@@ -1,7 +1,7 @@
 //! What the program is asked to do.
 ghost use Rattle.std.specs.Prelude.{◌≡◌};
 ghost use Rattle.std.specs.Option.{option_map};
-ghost use Rattle.dnssec_check.specs.Request.{anchors_of, capture_of, statements_of};
+ghost use Rattle.dnssec_check.specs.Request.{anchors_of, capture_of, keys_of, macs_of, statements_of};
 
 use crate::moment::Moment;
 use dnsv_names::RecordType;
@@ -37,6 +37,10 @@ pub enum Request {
         rtype: RecordType,
         /// The path of the file of statements.
         statements: Option<String>,
+        /// The path of the file of keys, by which the messages were signed.
+        keys: Option<String>,
+        /// The path of the file of the MACs of requests. It is read where keys are.
+        macs: Option<String>,
     },
 }
 
@@ -74,6 +78,33 @@ impl Request {
             }
             | Request::Check {
                 statements: Some(path),
+                ..
+            } => Some(path.as_str()),
+            _ => None,
+        }
+    }
+
+    /// The path of the file of keys, where one is read.
+    pub fn keys(&self) -> Option<&str>
+        ensures { option_map (λ path. path.now) result ≡ keys_of self.now }
+    {
+        match self {
+            Request::Check {
+                keys: Some(path),
+                ..
+            } => Some(path.as_str()),
+            _ => None,
+        }
+    }
+
+    /// The path of the file of the MACs of requests, where one is read: never without keys.
+    pub fn macs(&self) -> Option<&str>
+        ensures { option_map (λ path. path.now) result ≡ macs_of self.now }
+    {
+        match self {
+            Request::Check {
+                keys: Some(_),
+                macs: Some(path),
                 ..
             } => Some(path.as_str()),
             _ => None,

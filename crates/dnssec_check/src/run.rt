@@ -4,6 +4,7 @@ ghost use Rattle.std.specs.Io.KnownBytes.{Appends};
 ghost use Rattle.dnsv_canonical.specs.Rrsets.{IsQuestion};
 ghost use Rattle.dnsv_message.specs.Counted.{inner_of, failures_of, AppendsBeginning};
 ghost use Rattle.dnssec_check.specs.CaptureFile.{AnyMessage, NewEvidence, IsFaultOfCapture};
+ghost use Rattle.dnssec_check.specs.declared.envelope.Envelope.TheVariants.{Bare};
 ghost use Rattle.dnssec_check.specs.FileFaults.{TellsFaults};
 ghost use Rattle.dnssec_check.specs.Files.{AreTold, Files};
 ghost use Rattle.dnssec_check.specs.Listing.{IsListing};
@@ -16,6 +17,7 @@ ghost use Rattle.dnssec_check.specs.Todo.{IsTodo};
 use crate::anchors_file::anchors_in;
 use crate::capture_file::{evidence_in, messages_in};
 use crate::checking::{Outcome, judged};
+use crate::envelope::{Envelope, envelope_in};
 use crate::listing::listing;
 use crate::moment::Moment;
 use crate::question::question_name;
@@ -38,13 +40,17 @@ pub struct Inputs<R> {
     pub anchors: Option<Counted<R>>,
     /// The statements, where they are given.
     pub statements: Option<Counted<R>>,
+    /// The keys by which the messages were signed, where they are given.
+    pub keys: Option<Counted<R>>,
+    /// The MACs of the requests, where they are given. They are read where keys are.
+    pub macs: Option<Counted<R>>,
 }
 
 /// Makes the whole text that the request asks for, and then writes it.
 ///
 /// The answer is a status where the output got the whole text, and else the first fault in the order of the
-/// work: the question's name and type, reading the file of captured messages, its framing, each message in turn, the
-/// trust anchors, and then the statements. A write that fails is not tried again; the output then has a beginning of
+/// work: the question's name and type, the keys, the MACs of requests, reading the file of captured messages, its
+/// framing, the number of the MACs, each message in turn, the trust anchors, and then the statements. A write that fails is not tried again; the output then has a beginning of
 /// the text.
 pub fn run<R: Read, W: Write>(
     alloc: Global,
@@ -117,7 +123,7 @@ fn done(text: String) -> Outcome
 fn shown<R: Read>(alloc: Global, inputs: &mut Inputs<R>) -> Result<String, Fault>
     ensures text { (files : Files) → AreTold R.remaining inputs.old files
         → IfOk result (λ text. IsShowing files.capture (string_bytes text)) }
-    ensures faults { TellsFaults (λ files. IsFaultOfCapture AnyMessage files.capture) R.remaining
+    ensures faults { TellsFaults (λ files. IsFaultOfCapture AnyMessage Bare files.capture) R.remaining
         inputs.old inputs.new result }
     ensures unwritten { IfErr result (λ fault. fault ≡ Fault.WriteFailed → ⊥) }
 {
@@ -129,11 +135,11 @@ fn shown<R: Read>(alloc: Global, inputs: &mut Inputs<R>) -> Result<String, Fault
 fn listed<R: Read>(alloc: Global, inputs: &mut Inputs<R>) -> Result<String, Fault>
     ensures text { (files : Files) → AreTold R.remaining inputs.old files
         → IfOk result (λ text. IsListing files.capture (string_bytes text)) }
-    ensures faults { TellsFaults (λ files. IsFaultOfCapture NewEvidence files.capture) R.remaining
+    ensures faults { TellsFaults (λ files. IsFaultOfCapture NewEvidence Bare files.capture) R.remaining
         inputs.old inputs.new result }
     ensures unwritten { IfErr result (λ fault. fault ≡ Fault.WriteFailed → ⊥) }
 {
-    let held = evidence_in(alloc, &mut inputs.capture)?;
+    let held = evidence_in(alloc, &Envelope::Bare, &mut inputs.capture)?;
     Ok(listing(alloc, &held)?)
 }
 
@@ -144,7 +150,7 @@ fn todo<R: Read>(alloc: Global, moment: Moment, inputs: &mut Inputs<R>) -> Resul
     ensures faults { TellsFaults IsFirstFaultOfTodo R.remaining inputs.old inputs.new result }
     ensures unwritten { IfErr result (λ fault. fault ≡ Fault.WriteFailed → ⊥) }
 {
-    let held = evidence_in(alloc, &mut inputs.capture)?;
+    let held = evidence_in(alloc, &Envelope::Bare, &mut inputs.capture)?;
     let statements = statements_in(alloc, &mut inputs.statements)?;
     Ok(still_to_check(alloc, &held, moment, &statements)?)
 }
@@ -159,7 +165,7 @@ fn answered<R: Read>(
 ) -> Result<Outcome, Fault>
     ensures text { (files : Files) → AreTold R.remaining inputs.old files → IfOk result (λ outcome.
         IsAnswered asked.now rtype.0 moment files outcome.status (string_bytes outcome.text)) }
-    ensures faults { TellsFaults (IsFirstFaultOfCheck asked.now rtype.0) R.remaining inputs.old inputs.new result }
+    ensures faults { TellsFaults (IsFirstFaultOfCheck asked.now rtype.0 moment) R.remaining inputs.old inputs.new result }
     ensures unwritten { IfErr result (λ fault. fault ≡ Fault.WriteFailed → ⊥) }
 {
     let name = question_name(asked, rtype)?;
@@ -177,10 +183,11 @@ fn checked<R: Read>(
     requires { IsQuestion name.now rtype.0 }
     ensures text { (files : Files) → AreTold R.remaining inputs.old files → IfOk result (λ outcome.
         IsCheck name.now rtype.0 moment files outcome.status (string_bytes outcome.text)) }
-    ensures faults { TellsFaults IsFirstFaultOfFiles R.remaining inputs.old inputs.new result }
+    ensures faults { TellsFaults (IsFirstFaultOfFiles moment) R.remaining inputs.old inputs.new result }
     ensures unwritten { IfErr result (λ fault. fault ≡ Fault.WriteFailed → ⊥) }
 {
-    let held = evidence_in(alloc, &mut inputs.capture)?;
+    let envelope = envelope_in(alloc, moment, &mut inputs.keys, &mut inputs.macs)?;
+    let held = evidence_in(alloc, &envelope, &mut inputs.capture)?;
     let anchors = anchors_in(alloc, &mut inputs.anchors)?;
     let statements = statements_in(alloc, &mut inputs.statements)?;
     judged(alloc, &held, &anchors, moment, &statements, name, rtype)

@@ -37,11 +37,15 @@ fn asked<'a>(
         name: String::from_str(alloc, name)?,
         rtype: RecordType(rtype),
         statements: None,
+        keys: None,
+        macs: None,
     };
     let mut inputs = Inputs {
         capture: Counted::new(capture),
         anchors: Some(Counted::new(anchors)),
         statements: statements.map(|text| Counted::new(text)),
+        keys: None,
+        macs: None,
     };
     let mut output = Counted::new(Vec::new(alloc));
     let answer = run(alloc, &request, &mut inputs, &mut output);

@@ -67,6 +67,31 @@ fn reads_a_request_to_list(rt: HostRuntime) -> Result<(), Fail> {
 }
 
 #[test]
+fn reads_a_request_to_check(rt: HostRuntime) -> Result<(), Fail> {
+    let required = "dnssec_check check --capture a --anchors b --moment 1 --name c. --type 65535";
+    for (options, statements, keys, macs) in [
+        ("--keys d", None, Some("d"), None),
+        (
+            "--macs e --statements f --keys d",
+            Some("f"),
+            Some("d"),
+            Some("e"),
+        ),
+        ("--statements f --macs e", Some("f"), None, None),
+    ] {
+        let line = format!(in rt.alloc(); "{required} {options}")?;
+        let request = read(rt.alloc(), line.as_str())?;
+        assert_eq!(rt; request.capture(), "a", "{line}");
+        assert_eq!(rt; request.anchors(), Some("b"), "{line}");
+        assert_eq!(rt; request.statements(), statements, "{line}");
+        assert_eq!(rt; request.keys(), keys, "{line}");
+        assert_eq!(rt; request.macs(), macs, "{line}");
+        assert!(rt; matches!(&request, Request::Check { .. }), "{line}");
+    }
+    Ok(())
+}
+
+#[test]
 fn refuses_other_words(rt: HostRuntime) {
     let lines = [
         "",
@@ -93,6 +118,9 @@ fn refuses_other_words(rt: HostRuntime) {
         "dnssec_check show --capture a --statements b",
         "dnssec_check list --capture a --capture a --moment 1 --all",
         "dnssec_check list --capture a --moment 1 --all b",
+        "dnssec_check list --capture a --moment 1 --keys b",
+        "dnssec_check check --capture a --anchors b --moment 1 --name c. --type 1 --keys",
+        "dnssec_check check --capture a --anchors b --moment 1 --name c. --type 65536",
     ];
     for line in lines {
         let refused = matches!(read(rt.alloc(), line), Err(LineError::Misused(_)));
@@ -112,6 +140,8 @@ fn shows_help(rt: HostRuntime) -> Result<(), Fail> {
         ("dnssec_check list --help", "--statements <FILE>"),
         ("dnssec_check check --help", "--anchors <FILE>"),
         ("dnssec_check check --help", "6 for Indeterminate"),
+        ("dnssec_check check --help", "--keys <FILE>"),
+        ("dnssec_check check --help", "--macs <FILE>"),
         (
             "dnssec_check list --help",
             "Lists the signatures that a verifier still has to check",

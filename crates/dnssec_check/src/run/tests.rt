@@ -52,6 +52,8 @@ fn listed(alloc: Global, octets: &[u8]) -> Result<(Result<Status, Fault>, Vec<u8
         capture: Counted::new(octets),
         anchors: None,
         statements: None,
+        keys: None,
+        macs: None,
     };
     let mut output = Counted::new(Vec::new(alloc));
     let answer = run(alloc, &request(alloc)?, &mut inputs, &mut output);
@@ -213,6 +215,8 @@ fn tells_the_stream_that_failed(rt: HostRuntime) -> Result<(), Fail> {
             capture: Counted::new(Failing(HOST)),
             anchors: None,
             statements: None,
+            keys: None,
+            macs: None,
         };
         let mut output = Counted::new(Vec::new(rt.alloc()));
         let answer = run(rt.alloc(), request, &mut inputs, &mut output);
@@ -223,6 +227,8 @@ fn tells_the_stream_that_failed(rt: HostRuntime) -> Result<(), Fail> {
             capture: Counted::new(HOST.as_slice()),
             anchors: None,
             statements: None,
+            keys: None,
+            macs: None,
         };
         let mut output = Counted::new(Broken);
         let answer = run(rt.alloc(), request, &mut inputs, &mut output);

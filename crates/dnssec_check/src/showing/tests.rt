@@ -15,6 +15,8 @@ fn shown(alloc: Global, octets: &[u8]) -> Result<(Result<Status, Fault>, Vec<u8>
         capture: Counted::new(octets),
         anchors: None,
         statements: None,
+        keys: None,
+        macs: None,
     };
     let mut output = Counted::new(Vec::new(alloc));
     let answer = run(alloc, &request, &mut inputs, &mut output);

@@ -38,6 +38,8 @@ fn listed<'a>(
         } else {
             Some(Counted::new(said))
         },
+        keys: None,
+        macs: None,
     };
     let mut output = Counted::new(Vec::new(alloc));
     let answer = run(alloc, &request(alloc, seconds)?, &mut inputs, &mut output);

@@ -1,6 +1,4 @@
-use Rattle.dnsv_canonical.specs.Evidence.{evidence_of}
-use Rattle.dnssec_check.specs.CaptureFile.{AnyMessage}
-use Rattle.dnssec_check.proofs.CaptureFileLemmas.{IsFaultOf-weaker, MessagesSoFar-next, MessagesSoFar-refused, frame_here}
+use Rattle.dnssec_check.proofs.CaptureFileLemmas.{IsFaultOf-weaker, MessagesSoFar-next, MessagesSoFar-no_message, frame_here}
 use Rattle.std.proofs.lemmas.Result.{err_from_is_err_and}
 use Rattle.dnssec_check.proofs.capture_file.messages_of_frames.Goals as goal
 
@@ -13,4 +11,4 @@ pub returns-in_err-message_of-clause-refused : goal.returns-in_err-message_of-cl
 returns-in_err-message_of-clause-refused c =
     let p = err_from_is_err_and c.from_residual.result c.from_residual.ensures.1 in
     let here = frame_here c.args.frames.now c.loop-index.index c.index-frames-index.result _ c.loop-index-test.true c.index-frames-index.is c.deref.ensures.value in
-    rw (p.1, p.2) (IsFaultOf-weaker _ _ c.in_err-message_of.field-0.0 (MessagesSoFar-refused c.loop-index.invariant _ here.0 here.1) (c.in_err-message_of.ensures.refused AnyMessage (evidence_of c.loop-index.messages.items)))
+    rw (p.1, p.2) (IsFaultOf-weaker _ _ c.in_err-message_of.field-0.0 (MessagesSoFar-no_message c.loop-index.invariant _ here.0 here.1) c.in_err-message_of.ensures.refused)

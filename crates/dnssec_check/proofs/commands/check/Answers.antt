@@ -4,7 +4,7 @@ use Rattle.std.proofs.lemmas.Result.{IfOk-weaker}
 use Rattle.clap.specs.Words.{app_of, new_app, with_rule}
 use Rattle.clap.specs.declared.Command.TheViews.{out-Command as fields_of}
 use Rattle.clap.specs.Simple.{app_of_fields}
-use Rattle.dnssec_check.specs.Commands.{anchors_rule, capture_rule, moment_rule, name_rule, type_rule}
+use Rattle.dnssec_check.specs.Commands.{anchors_rule, capture_rule, keys_rule, moment_rule, name_rule, statements_rule, type_rule}
 use Rattle.dnssec_check.proofs.commands.check.Goals as goal
 
 pub returns : goal.returns
@@ -33,7 +33,15 @@ returns c =
     c.in_ok-arg-5.ensures.shape c.type_option.ensures.local ∙ ap₂ with_rule with_name c.type_option.ensures.rule in
     let after_type : (fields_of c.in_ok-arg-5.field-0).has_globals ≡ false =
     c.in_ok-arg-5.ensures.globals ∙ ap₂ ◌||◌ after_name c.type_option.ensures.local in
-    IfOk-weaker c.arg-6.result _ _ (λ command adds. (
-      adds.shape c.statements_option.ensures.local ∙ ap₂ with_rule with_type c.statements_option.ensures.rule,
-      adds.globals ∙ ap₂ ◌||◌ after_type c.statements_option.ensures.local,
-    )) c.arg-6.ensures
+    let with_statements : app_of c.in_ok-arg-6.field-0 ≡ with_rule (with_rule (with_rule (with_rule (with_rule (with_rule (new_app (codes "check")) capture_rule) anchors_rule) moment_rule) name_rule) type_rule) statements_rule =
+    c.in_ok-arg-6.ensures.shape c.statements_option.ensures.local ∙ ap₂ with_rule with_type c.statements_option.ensures.rule in
+    let after_statements : (fields_of c.in_ok-arg-6.field-0).has_globals ≡ false =
+    c.in_ok-arg-6.ensures.globals ∙ ap₂ ◌||◌ after_type c.statements_option.ensures.local in
+    let with_keys : app_of c.in_ok-arg-7.field-0 ≡ with_rule (with_rule (with_rule (with_rule (with_rule (with_rule (with_rule (new_app (codes "check")) capture_rule) anchors_rule) moment_rule) name_rule) type_rule) statements_rule) keys_rule =
+    c.in_ok-arg-7.ensures.shape c.keys_option.ensures.local ∙ ap₂ with_rule with_statements c.keys_option.ensures.rule in
+    let after_keys : (fields_of c.in_ok-arg-7.field-0).has_globals ≡ false =
+    c.in_ok-arg-7.ensures.globals ∙ ap₂ ◌||◌ after_statements c.keys_option.ensures.local in
+    IfOk-weaker c.arg-8.result _ _ (λ command adds. (
+      adds.shape c.macs_option.ensures.local ∙ ap₂ with_rule with_keys c.macs_option.ensures.rule,
+      adds.globals ∙ ap₂ ◌||◌ after_keys c.macs_option.ensures.local,
+    )) c.arg-8.ensures

@@ -5,5 +5,5 @@ use Rattle.dnssec_check.proofs.run.answered.Goals as goal
 
 pub returns-clause-faults : goal.returns-clause-faults
 returns-clause-faults g c =
-    TellsFaults-weaker IsFirstFaultOfFiles (IsFirstFaultOfCheck c.args.asked.now c.args.rtype.0) c.checked.result
+    TellsFaults-weaker (IsFirstFaultOfFiles c.args.moment) (IsFirstFaultOfCheck c.args.asked.now c.args.rtype.0 c.args.moment) c.checked.result
     (λ files fault holds. inr ((c.in_ok-name.name, c.in_ok-name.ensures.name, c.in_ok-name.ensures.question), holds)) c.checked.ensures.faults

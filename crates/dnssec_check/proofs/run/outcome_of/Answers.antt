@@ -5,6 +5,6 @@ use Rattle.dnssec_check.proofs.run.outcome_of.Goals as goal
 
 pub returns-in-Check-clause-faults : goal.returns-in-Check-clause-faults
 returns-in-Check-clause-faults g c =
-    TellsFaults-weaker (IsFirstFaultOfCheck c.as_bytes.result.now c.in-Check.rtype.0) (IsFirstFault c.args.request.now) c.answered.result
-    (λ files fault holds. rw c.in-Check.is (subst (λ asked. IsFirstFaultOfCheck asked c.in-Check.rtype.0 files fault) c.as_bytes.ensures.value holds))
+    TellsFaults-weaker (IsFirstFaultOfCheck c.as_bytes.result.now c.in-Check.rtype.0 c.in-Check.moment) (IsFirstFault c.args.request.now) c.answered.result
+    (λ files fault holds. rw c.in-Check.is (subst (λ asked. IsFirstFaultOfCheck asked c.in-Check.rtype.0 c.in-Check.moment files fault) c.as_bytes.ensures.value holds))
     c.answered.ensures.faults

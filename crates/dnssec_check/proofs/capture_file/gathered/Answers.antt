@@ -1,6 +1,6 @@
 use Rattle.dnssec_check.proofs.CaptureFileLemmas.{IsFaultOf-weaker, EvidenceSoFar-next, EvidenceSoFar-refused, frame_here}
 use Rattle.std.proofs.lemmas.Result.{err_from_is_err_and}
-use Rattle.dnssec_check.proofs.capture_file.evidence_of_frames.Goals as goal
+use Rattle.dnssec_check.proofs.capture_file.gathered.Goals as goal
 
 pub loop-index-preserved : goal.loop-index-preserved
 loop-index-preserved c =

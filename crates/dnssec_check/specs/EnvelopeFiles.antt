@@ -1,0 +1,22 @@
+-- What the files of keys and of the MACs of requests open the frames of a capture by, and what they are refused for.
+use Rattle.std.specs.Prelude.{◌≡◌, ◌⊎◌, ℕ, List, Option, Some, None}
+use Rattle.dnsv_tsig.specs.Key.{SharedKey}
+use Rattle.dnssec_check.specs.declared.envelope.Envelope.{Envelope}
+use Rattle.dnssec_check.specs.declared.envelope.Envelope.TheVariants.{Bare, Signed}
+use Rattle.dnssec_check.specs.declared.status.Fault.{Fault}
+use Rattle.dnssec_check.specs.Files.{octets_or_none}
+use Rattle.dnssec_check.specs.KeysFile.{IsFaultOfKeys, MayHaveKeys}
+use Rattle.dnssec_check.specs.MacsFile.{IsFaultOfMacs, MayHaveMacs}
+
+-- by these files of keys and MACs frames are opened so at the moment: as they are where no keys are given, whatever
+-- the other file holds
+abbrev pub IsEnvelopeOf : Option (List ℕ) → Option (List ℕ) → ℕ → Envelope → Type 0
+IsEnvelopeOf keys_file macs_file moment Bare = MayHaveKeys keys_file None
+IsEnvelopeOf keys_file macs_file moment (Signed keys at macs) =
+    MayHaveKeys keys_file (Some keys) × (at ≡ moment) × MayHaveMacs macs_file macs
+
+-- the first fault is in the keys, and then, where keys are given, in the MACs
+abbrev pub IsFaultOfEnvelope : Option (List ℕ) → Option (List ℕ) → Fault → Type 0
+IsFaultOfEnvelope keys_file macs_file fault =
+    IsFaultOfKeys (octets_or_none keys_file) fault
+    ⊎ (((keys : List SharedKey) × MayHaveKeys keys_file (Some keys)) × IsFaultOfMacs (octets_or_none macs_file) fault)
