@@ -277,3 +277,11 @@ fn opts_out(rt: HostRuntime) -> Result<(), Fail> {
     }
     Ok(())
 }
+
+mod by_nsec;
+mod by_nsec3;
+mod every_question;
+mod evidence;
+mod rfc5155;
+mod unsigned;
+mod zone;
