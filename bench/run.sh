@@ -11,10 +11,10 @@ trap 'rm -rf "$room"' EXIT
 measure() { # CAPTURE WORD..
   local capture=$1 instructions peak read written
   shift
-  # A capture of many pairs is refused, with status 7.
-  /usr/bin/time -q -f %M -o "$room/peak" "$program" "$@" > "$room/text" 2> /dev/null || test $? = 7
+  # A capture of many pairs is refused, with status 7, and a question may have the status 5.
+  /usr/bin/time -q -f %M -o "$room/peak" "$program" "$@" > "$room/text" 2> /dev/null || test $? = 7 -o $? = 5
   valgrind --tool=callgrind --callgrind-out-file="$room/callgrind" "$program" "$@" 2> "$room/log" > "$room/again" \
-    || test $? = 7
+    || test $? = 7 -o $? = 5
   cmp "$room/text" "$room/again"
   instructions=$(sed -n 's/.*refs: *//p' "$room/log")
   peak=$(cat "$room/peak")
@@ -47,6 +47,18 @@ report_check() { # KIND MESSAGES RECORDS NAME
     --statements "$room/statements"
 }
 
+report_denial() { # KIND RECORDS
+  local name
+  name=$(printf 'a.%.0s' $(seq 127))
+  ./make_denials.py "$@" > "$room/capture"
+  ./make_denials.py anchors > "$room/anchors"
+  "$program" list --capture "$room/capture" --moment 1500 | sed 's/^todo/good/' > "$room/statements"
+  echo "$1: $2 records, a question of 127 labels"
+  measure "$room/capture" check --capture "$room/capture" --anchors "$room/anchors" --moment 1500 --name "$name" --type 1 \
+    --statements "$room/statements"
+  callgrind_annotate --inclusive=yes "$room/callgrind" | grep -E 'nsec3_hash ' | head -1 | cut -c1-60 || true
+}
+
 echo "transfer: 63 messages"
 measure transfer.cap list --capture transfer.cap --moment 1795348800
 measure transfer.cap list --capture transfer.cap --moment 1795348800 --all
@@ -61,3 +73,5 @@ report_check tree 16 64 z127.z15.z1.bench.example.
 report_check tree 64 64 z511.z63.z7.bench.example.
 report_check chain 60 8 "$(printf 'z.%.0s' {1..59})bench.example."
 for messages in 4 16; do report_check collide "$messages" 64 sub.bench.example.; done
+for kind in near far hashed; do for records in 1024 4096; do report_denial $kind $records; done; done
+report_denial hashed 18
