@@ -12,6 +12,7 @@ Each message is a response with RECORDS records in its answer section, of one of
   pairs   NSEC3 records each with a salt of its own, which is refused
   keyed   as signed, and the first message begins with a DNSKEY record, whose key each signature names
   tagged  as keyed, with 16 DNSKEY records of one tag, each of which may have made each signature
+  vouched as tagged, and the DNSKEY RRset has 16 signatures of its own, by which it can be trusted
   tree    zones of eight records each: a DS RRset that the zone above signs, the two keys, which both sign their RRset,
           and an address; each zone has eight zones below it
   chain   the same, and each zone has one zone below it
@@ -70,11 +71,13 @@ def records_of(draw, count, kind, is_first):
     pointer = struct.pack("!H", 0xC000 + 12)  # the question's name
     if kind == "pairs":
         return [record(pointer, 50, nsec3(number)) for number in range(count)]
-    signatures = 16 if kind in ("signed", "keyed", "tagged") else 0
-    keys = {"keyed": 1, "tagged": 16}.get(kind, 0)
+    signatures = 16 if kind in ("signed", "keyed", "tagged", "vouched") else 0
+    keys = {"keyed": 1, "tagged": 16, "vouched": 16}.get(kind, 0)
     records = []
     if is_first:
         records += [record(pointer, 48, dnskey(number)) for number in range(keys)]
+    if is_first and kind == "vouched":
+        records += [record(pointer, 46, signature(draw, 48, 2, key_tag(dnskey(0)))) for _ in range(signatures)]
     for number in range(count):
         if len(records) >= count:
             break
