@@ -12,6 +12,7 @@ mod alg5_alias_a;
 mod bind_srv;
 mod ed_nosuch;
 mod ldns_wild_a;
+mod trust;
 
 /// The answer with the DNSKEY records of the root, in hex.
 const ROOT_KEYS: &str =
