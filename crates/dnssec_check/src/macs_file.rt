@@ -93,3 +93,6 @@ fn is_word(line: &[u8], word: &[u8]) -> bool
 {
     line == word
 }
+
+#[cfg(test)]
+mod tests;

@@ -1,0 +1,55 @@
+use crate::macs_file::macs_in;
+use dnsv_message::Counted;
+use std::test::Fail;
+
+/// The octets 0 to 31 in hex digits of both cases.
+const DIGITS: &str = "000102030405060708090a0B0c0D0e0F101112131415161718191A1b1C1d1E1f";
+
+#[test]
+fn reads_a_mac_or_none_from_each_line(rt: HostRuntime) -> Result<(), Fail> {
+    let text = format!(in rt.alloc(); "# what was asked\n{DIGITS}\n\n-\n{DIGITS}")?;
+    let mut file = Some(Counted::new(text.as_bytes()));
+    let macs = macs_in(rt.alloc(), &mut file)?.ok_or("a list")?;
+    assert_eq!(rt; macs.len(), 3);
+    assert_eq!(rt; macs[1], None);
+    for place in [0, 2] {
+        let mac = macs[place].ok_or("a MAC")?;
+        for (octet, index) in mac.octets().iter().zip(0u8..32) {
+            assert_eq!(rt; *octet, index);
+        }
+    }
+    Ok(())
+}
+
+#[test]
+fn refuses_a_line_that_is_neither(rt: HostRuntime) -> Result<(), Fail> {
+    let shorter = &DIGITS[1..];
+    let longer = format!(in rt.alloc(); "{DIGITS}00")?;
+    let spaced = format!(in rt.alloc(); "{DIGITS} ")?;
+    let letters = format!(in rt.alloc(); "g{shorter}")?;
+    for line in [
+        shorter,
+        longer.as_str(),
+        spaced.as_str(),
+        letters.as_str(),
+        "--",
+        " -",
+        "-\r",
+        "00",
+    ] {
+        let text = format!(in rt.alloc(); "-\n# \n{line}\n{line}\n")?;
+        let mut file = Some(Counted::new(text.as_bytes()));
+        let told = macs_in(rt.alloc(), &mut file).err().ok_or("a fault")?;
+        assert_eq!(rt; told.to_string(rt.alloc())?.as_str(), "refused 801 line 3");
+    }
+    Ok(())
+}
+
+#[test]
+fn reads_no_list_where_no_file_is_given(rt: HostRuntime) -> Result<(), Fail> {
+    let mut none: Option<Counted<&[u8]>> = None;
+    assert!(rt; macs_in(rt.alloc(), &mut none)?.is_none());
+    let mut empty = Some(Counted::new(b"".as_slice()));
+    assert_eq!(rt; macs_in(rt.alloc(), &mut empty)?.ok_or("a list")?.len(), 0);
+    Ok(())
+}
