@@ -12,3 +12,9 @@ pub mod AnswerLemmas
 pub mod ListedLemmas
 pub mod StatementsFileLemmas
 pub mod MacsFileLemmas
+pub mod TextFaultLemmas
+pub mod AnchorsFileLemmas
+pub mod KeysFileLemmas
+pub mod EnvelopeLemmas
+pub mod OneCapture
+pub mod OneFault

@@ -1,9 +1,6 @@
 -- A text of statements says one thing of each entry, or has one fault.
-use Rattle.std.proofs.Common.{◌≡◌, ◌<◌, ◌≤◌, ℕ, List, None, Some, refl, sym, subst, ◌∙◌, arith}
-use Rattle.std.specs.List.{Contains}
-use Rattle.std.specs.Prelude.{length, Option}
-use Rattle.dnsv_message.specs.Frames.{file_limit}
-use Rattle.dnsv_verifier.specs.Statements.{Agree, AreStatementsOf, IsFaultOf, IsSaid}
+use Rattle.std.proofs.Common.{◌≡◌, ℕ, List, refl, subst}
+use Rattle.dnsv_verifier.specs.Statements.{Agree, IsFaultOf, IsSaid}
 use Rattle.dnsv_verifier.specs.StatementsLaws.{AreStatementsOf-no_fault, AreStatementsOf-only, IsFaultOf-only}
 use Rattle.dnsv_verifier.specs.declared.answer.Answer.{Answer}
 use Rattle.dnsv_verifier.specs.declared.answer.Answer.TheVariants.{Valid, Invalid, Unknown}
@@ -14,15 +11,12 @@ use Rattle.dnsv_verifier.specs.declared.statements.StatementsError.{StatementsEr
 use Rattle.dnsv_verifier.specs.declared.statements.StatementsError.TheVariants as statements
 use Rattle.dnssec_check.specs.declared.status.Fault.{Fault}
 use Rattle.dnssec_check.specs.declared.status.Fault.TheVariants as fault
-use Rattle.dnssec_check.specs.declared.status.InputFile.{InputFile}
 use Rattle.dnssec_check.specs.declared.status.InputFile.TheVariants.{Statements}
 use Rattle.dnssec_check.specs.declared.status.Place.{Place}
 use Rattle.dnssec_check.specs.declared.status.Refusal.{Refusal}
-use Rattle.dnssec_check.specs.FileFaults.{IsTextFault, OfOctets}
-use Rattle.dnssec_check.specs.StatementsFile.{AreStatementsRefused, IsAtLine, IsFaultOfStatements, IsMeaningOf, TellsStatementsError}
-
-pub too_many : (size limit : ℕ) → size ≤ limit → limit < size → ⊥
-too_many size limit within past = omega (arith, within, past)
+use Rattle.dnssec_check.proofs.TextFaultLemmas.{no_text_fault, one_at_line, one_text_fault, told_by_one}
+use Rattle.dnssec_check.specs.declared.status.Refusal.TheVariants as refusal
+use Rattle.dnssec_check.specs.StatementsFile.{AreStatementsRefused, IsFaultOfStatements, IsMeaningOf, TellsStatementsError}
 
 -- ---- what is said
 
@@ -45,40 +39,19 @@ one_meaning text a b x y =
 
 -- ---- faults
 
-one_place : (number : ℕ) (p q : Place) → IsAtLine number p → IsAtLine number q → p ≡ q
-one_place number p q x y = λ i. record { message = (x.0 ∙ sym y.0) i; «record» = (x.1 ∙ sym y.1) i; line = (x.2 ∙ sym y.2) i }
-
 one_telling : (error : StatementsError) (a b : Refusal) (p q : Place) → TellsStatementsError error a p → TellsStatementsError error b q → fault.Refused a p ≡ fault.Refused b q
 one_telling statements.OutOfMemory a b p q x y = absurd x
-one_telling (statements.Syntax number) a b p q x y = λ i. fault.Refused ((x.0 ∙ sym y.0) i) (one_place number p q x.1 y.1 i)
-one_telling (statements.Contradiction number) a b p q x y = λ i. fault.Refused ((x.0 ∙ sym y.0) i) (one_place number p q x.1 y.1 i)
-
-one_refusal : (text : List ℕ) (a b : Refusal) (p q : Place) → AreStatementsRefused text a p → AreStatementsRefused text b q → fault.Refused a p ≡ fault.Refused b q
-one_refusal text a b p q x y =
-    let same = IsFaultOf-only text x.0 y.0 x.1 y.1 in
-    one_telling y.0 a b p q (subst (λ error. TellsStatementsError error a p) same x.2) y.2
+one_telling (statements.Syntax number) a b p q x y = one_at_line number refusal.StatementSyntax a b p q x.0 x.1 y.0 y.1
+one_telling (statements.Contradiction number) a b p q x y = one_at_line number refusal.Contradiction a b p q x.0 x.1 y.0 y.1
 
 -- a text that has a meaning has no fault
 pub no_statements_fault : (text : List ℕ) (meaning : Entry → Answer) (told : Fault) → IsMeaningOf text meaning → IsFaultOfStatements text told → ⊥
-no_statements_fault text meaning (fault.Refused why place) said fault =
-    AreStatementsOf-no_fault text said.statements fault.1.0 said.are fault.1.1
-no_statements_fault text meaning (fault.TooLong file) said long = too_many (length text) file_limit said.within long.1
-no_statements_fault text meaning fault.OutOfMemory said fault = fault
-no_statements_fault text meaning (fault.ReadFailed file) said fault = fault
-no_statements_fault text meaning (fault.OpenFailed file) said fault = fault
-no_statements_fault text meaning fault.WriteFailed said fault = fault
+no_statements_fault text meaning told said =
+    no_text_fault Statements AreStatementsRefused text said.within
+    (λ why place bad. AreStatementsOf-no_fault text said.statements bad.0 said.are bad.1) told
 
 -- a text has one fault
 pub one_statements_fault : (text : List ℕ) (a b : Fault) → IsFaultOfStatements text a → IsFaultOfStatements text b → a ≡ b
-one_statements_fault text (fault.Refused a p) (fault.Refused b q) x y = one_refusal text a b p q x.1 y.1
-one_statements_fault text (fault.Refused a p) (fault.TooLong file) x y = absurd (too_many (length text) file_limit x.0 y.1)
-one_statements_fault text (fault.TooLong file) (fault.Refused b q) x y = absurd (too_many (length text) file_limit y.0 x.1)
-one_statements_fault text (fault.TooLong file) (fault.TooLong other) x y = λ i. fault.TooLong ((x.0 ∙ sym y.0) i)
-one_statements_fault text fault.OutOfMemory b x y = absurd x
-one_statements_fault text (fault.ReadFailed file) b x y = absurd x
-one_statements_fault text (fault.OpenFailed file) b x y = absurd x
-one_statements_fault text fault.WriteFailed b x y = absurd x
-one_statements_fault text a fault.OutOfMemory x y = absurd y
-one_statements_fault text a (fault.ReadFailed file) x y = absurd y
-one_statements_fault text a (fault.OpenFailed file) x y = absurd y
-one_statements_fault text a fault.WriteFailed x y = absurd y
+one_statements_fault text =
+    one_text_fault Statements AreStatementsRefused text
+    (told_by_one (IsFaultOf text) TellsStatementsError (IsFaultOf-only text) one_telling)

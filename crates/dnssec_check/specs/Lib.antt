@@ -8,6 +8,7 @@ pub mod FileFaults
 pub mod Files
 pub mod HexText
 pub mod KeysFile
+pub mod Layers
 pub mod Line
 pub mod Listing
 pub mod MacsFile

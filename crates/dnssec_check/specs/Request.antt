@@ -1,5 +1,5 @@
 -- The files that a request names.
-use Rattle.std.specs.Prelude.{⊤, ℕ, true, false, List, Option, Some, None, string_bytes}
+use Rattle.std.specs.Prelude.{ℕ, true, false, List, Option, Some, None, string_bytes}
 use Rattle.std.specs.Option.{option_map}
 use Rattle.dnssec_check.specs.declared.request.Request.{Request}
 use Rattle.dnssec_check.specs.declared.request.Request.TheVariants as request
@@ -35,9 +35,3 @@ macs_of (request.Show capture) = None
 macs_of (request.List capture moment statements all) = None
 macs_of (request.Check capture anchors moment name rtype statements None macs) = None
 macs_of (request.Check capture anchors moment name rtype statements (Some keys) macs) = option_map string_bytes macs
-
--- the request is to show messages or to list what they have
-abbrev pub IsForMessages : Request → Type 0
-IsForMessages (request.Show capture) = ⊤
-IsForMessages (request.List capture moment statements all) = ⊤
-IsForMessages (request.Check capture anchors moment name rtype statements keys macs) = ⊥

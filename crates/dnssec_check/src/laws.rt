@@ -1,5 +1,5 @@
 //! What the definitions of a request's text and of its first fault say of each other, for files of octets.
-ghost use Rattle.std.specs.Prelude.{◌≡◌, ◌⊎◌, List, ℕ};
+ghost use Rattle.std.specs.Prelude.{◌≡◌, ◌⊎◌, List, Option, ℕ};
 ghost use Rattle.dnsv_names.specs.Octets.{AreOctets};
 ghost use Rattle.dnsv_message.specs.Frames.{IsTooLong};
 ghost use Rattle.dnssec_check.specs.CaptureFile.{AnyMessage, IsRefusal, NewEvidence};
@@ -7,7 +7,8 @@ ghost use Rattle.dnssec_check.specs.declared.envelope.Envelope.TheVariants.{Bare
 ghost use Rattle.dnssec_check.specs.Listing.{IsListing};
 ghost use Rattle.dnssec_check.specs.Showing.{IsShowing};
 ghost use Rattle.dnssec_check.specs.Files.{Files};
-ghost use Rattle.dnssec_check.specs.Request.{IsForMessages};
+ghost use Rattle.dnssec_check.specs.Layers.{LayerLaws};
+ghost use Rattle.dnssec_check.specs.MacsFile.{HasMacs, IsFaultOfMacs};
 ghost use Rattle.dnssec_check.specs.Run.{IsTextOf, IsFirstFault};
 ghost use Rattle.dnssec_check.specs.declared.status.Status.{Status};
 ghost use Rattle.dnssec_check.specs.declared.status.Fault.{Fault};
@@ -16,56 +17,70 @@ ghost use Rattle.dnssec_check.specs.declared.status.Place.{Place};
 ghost use Rattle.dnssec_check.specs.declared.status.Refusal.{Refusal};
 
 use dnsv_canonical::{evidence_or_one_refusal, one_signed_data, rrsets_are_well_formed};
+use dnsv_chain::a_text_is_one_list_of_anchors;
 use dnsv_message::{
     message_or_fault, no_fault_of_a_message, no_fault_of_memory, one_answer, one_fault, one_message,
 };
+use dnsv_names::{a_text_has_one_list_of_lines, a_text_has_one_reading};
 use dnsv_records::record_laws;
+use dnsv_tsig::{one_answer as one_opening, one_ring_or_fault};
+use dnsv_verdict::a_question_has_one_verdict;
 use dnsv_verifier::a_table_is_its_verifier;
 
-/// A request to show or to list has at most one text for its files.
-pub fn one_text()
-    ensures { (asked : Request) (files : Files) → IsForMessages asked → AreOctets files.capture
-        → (s t : Status) (a b : List ℕ) → IsTextOf asked files s a → IsTextOf asked files t b → (s ≡ t) × (a ≡ b) }
+/// What the layers below say of all that the program reads: it is read in one way.
+fn layers()
+    ensures { LayerLaws }
 {
+    a_text_has_one_reading();
     one_message();
     no_fault_of_a_message();
     one_fault();
     one_answer();
+    one_opening();
+    one_ring_or_fault();
     record_laws();
     one_signed_data();
     evidence_or_one_refusal();
     a_table_is_its_verifier();
+    a_text_is_one_list_of_anchors();
+    a_question_has_one_verdict();
 }
 
-/// Files for which such a request has a text have no fault.
+/// A request has at most one text for its files, and one end.
+pub fn one_text()
+    ensures { (asked : Request) (files : Files) → AreOctets files.capture
+        → (s t : Status) (a b : List ℕ) → IsTextOf asked files s a → IsTextOf asked files t b → (s ≡ t) × (a ≡ b) }
+{
+    layers();
+}
+
+/// Files for which a request has a text have no fault.
 pub fn no_fault_of_a_text()
-    ensures { (asked : Request) (files : Files) → IsForMessages asked → AreOctets files.capture
+    ensures { (asked : Request) (files : Files) → AreOctets files.capture
         → (end : Status) (text : List ℕ) (fault : Fault)
         → IsTextOf asked files end text → IsFirstFault asked files fault → ⊥ }
 {
-    one_message();
-    no_fault_of_a_message();
-    one_fault();
-    one_answer();
-    record_laws();
-    one_signed_data();
-    evidence_or_one_refusal();
-    a_table_is_its_verifier();
+    layers();
 }
 
-/// For such a request files have at most one first fault.
+/// For a request files have at most one first fault.
 pub fn one_first_fault()
-    ensures { (asked : Request) (files : Files) → IsForMessages asked → AreOctets files.capture → (a b : Fault)
+    ensures { (asked : Request) (files : Files) → AreOctets files.capture → (a b : Fault)
         → IsFirstFault asked files a → IsFirstFault asked files b → a ≡ b }
 {
-    one_message();
-    no_fault_of_a_message();
-    one_fault();
-    one_answer();
-    record_laws();
-    one_signed_data();
-    evidence_or_one_refusal();
-    a_table_is_its_verifier();
+    layers();
+}
+
+/// A text is one list of the MACs of requests, or has one fault, and never both.
+pub fn one_list_of_macs_or_fault()
+    ensures some { (text : List ℕ) → ((macs : List (Option (List ℕ))) × HasMacs text macs)
+        ⊎ ((fault : Fault) × IsFaultOfMacs text fault) }
+    ensures macs { (text : List ℕ) (a b : List (Option (List ℕ))) → HasMacs text a → HasMacs text b → a ≡ b }
+    ensures fault { (text : List ℕ) (a b : Fault) → IsFaultOfMacs text a → IsFaultOfMacs text b → a ≡ b }
+    ensures apart { (text : List ℕ) (macs : List (Option (List ℕ))) (fault : Fault) → HasMacs text macs
+        → IsFaultOfMacs text fault → ⊥ }
+{
+    a_text_has_one_list_of_lines();
 }
 
 /// A file of octets is shown, or refused, or has an octet too many.
