@@ -6,9 +6,26 @@ def name_octets(text):
     return b"".join(bytes([len(label)]) + label.encode() for label in text.split(".") if label) + b"\x00"
 
 
-def message(identifier=1, name="www.example.", flags=0x8400, more=b""):
+def message(identifier=1, name="www.example.", flags=0x8400, more=b"", additional=0):
     """A message of one question of type A, with `more` behind it."""
-    return struct.pack("!6H", identifier, flags, 1, 0, 0, 0) + name_octets(name) + b"\x00\x01\x00\x01" + more
+    header = struct.pack("!6H", identifier, flags, 1, 0, 0, additional)
+    return header + name_octets(name) + b"\x00\x01\x00\x01" + more
+
+
+def record(kind, data, owner=b"\x00"):
+    """A record of class ANY with TTL 0."""
+    return owner + struct.pack("!2HIH", kind, 255, 0, len(data)) + data
+
+
+def tsig(mac, identifier, algorithm="hmac-sha256."):
+    """A TSIG record (RFC 8945 4.2), signed at 1000 with a fudge of 300."""
+    front = name_octets(algorithm) + struct.pack("!HI2H", 0, 1000, 300, len(mac))
+    return record(250, front + mac + struct.pack("!3H", identifier, 0, 0), name_octets("key."))
+
+
+def signed(mac, identifier=1, name="www.example.", flags=0x8400, original=None):
+    """A message with a TSIG record alone, which tells `original` where that is given."""
+    return message(identifier, name, flags, tsig(mac, identifier if original is None else original), 1)
 
 
 def framed(*messages):

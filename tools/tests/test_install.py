@@ -6,9 +6,8 @@ import subprocess
 import tempfile
 import unittest
 
-from tool import DATA, TOOLS, run_program
+from tool import DATA, PROGRAM, TOOLS, run_program
 
-PROGRAM = TOOLS.parent / "crates" / "dnssec_check" / "out" / "dnssec_check"
 MANUAL = TOOLS.parent / "docs" / "dnssec_check.1"
 
 

@@ -5,8 +5,8 @@ import unittest
 
 from tool import TOOLS
 
-NAMES = ("verify", "capture", "packets.py")
-PACKAGES = {"verify": {"cryptography"}, "capture": {"packets"}}
+NAMES = ("verify", "capture", "messages.py", "packets.py")
+PACKAGES = {"verify": {"cryptography"}, "capture": {"messages", "packets"}, "messages.py": {"packets"}}
 
 
 def imported(tree):

@@ -11,6 +11,7 @@ from unittest import mock
 sys.dont_write_bytecode = True
 TOOLS = pathlib.Path(__file__).resolve().parent.parent
 DATA = TOOLS / "tests" / "data"
+PROGRAM = TOOLS.parent / "crates" / "dnssec_check" / "out" / "dnssec_check"
 sys.path.insert(0, str(TOOLS))
 
 
