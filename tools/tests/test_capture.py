@@ -67,7 +67,7 @@ class Selection(Case):
         self.refuses(framed(QUERY, *many, ONE), "message 66 of - is message 65", "one. type 1")
 
     def test_no_answer_is_refused(self):
-        self.refuses(b"", "no answer was left")
+        self.refuses(b"", "no answer was left\n")
         self.refuses(framed(QUERY), "a query", "no answer was left")
 
     def test_files_come_in_the_order_of_the_command_line(self):
