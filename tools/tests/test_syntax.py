@@ -5,8 +5,9 @@ import unittest
 
 from tool import TOOLS
 
-NAMES = ("verify", "capture", "messages.py", "packets.py")
-PACKAGES = {"verify": {"cryptography"}, "capture": {"messages", "packets"}, "messages.py": {"packets"}}
+NAMES = ("verify", "capture", "command.py", "messages.py", "packets.py")
+PACKAGES = {"verify": {"command", "cryptography"}, "capture": {"command", "messages", "packets"},
+            "messages.py": {"packets"}}
 
 
 def imported(tree):
