@@ -1,5 +1,5 @@
 # Needs the kit's command `rt` on the path, and nothing else.
-.PHONY: all test demo examples wrong-bodies test-tools install
+.PHONY: all test demo examples wrong-bodies test-tools pages install
 
 program = crates/dnssec_check/out/dnssec_check
 PREFIX = /usr/local
@@ -27,6 +27,13 @@ wrong-bodies:
 # The tests of the tools around the program; they need python3 with its package cryptography, and nothing of the kit.
 test-tools:
 	python3 -m unittest discover -s tools/tests
+
+# The commands of the pages, against what the pages show. CAPTURING.md needs root, and the packages that it names.
+pages: all
+	tools/pages docs/CAPTURING.md
+	tools/pages docs/AUDITING.md
+	tools/pages examples/README.md
+	HOME=$$(mktemp -d) tools/pages README.md Set-up "From a capture to a verdict"
 
 # The program, its manual page, and the tools as dnssec_check-capture and dnssec_check-verify, below PREFIX.
 install: | $(program)

@@ -5,9 +5,9 @@ import unittest
 
 from tool import TOOLS
 
-NAMES = ("verify", "capture", "command.py", "messages.py", "packets.py")
+NAMES = ("verify", "capture", "pages", "command.py", "messages.py", "packets.py")
 PACKAGES = {"verify": {"command", "cryptography"}, "capture": {"command", "messages", "packets"},
-            "messages.py": {"packets"}}
+            "pages": {"command"}, "messages.py": {"packets"}}
 
 
 def imported(tree):
