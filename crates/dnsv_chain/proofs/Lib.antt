@@ -6,6 +6,7 @@ pub mod ChainLemmas
 pub mod DerivationLemmas
 pub mod FieldLemmas
 pub mod KeptLemmas
+pub mod MatchingLemmas
 pub mod SigningLemmas
 pub mod StepLemmas
 pub mod TrustedLemmas

@@ -2,6 +2,7 @@
 use Rattle.std.specs.Prelude.{◌≡◌, ℕ, List, Option, Some, None, Contains, IsTrue}
 use Rattle.dnsv_names.specs.Name.{Labels}
 use Rattle.dnsv_records.specs.Algorithm.{is_supported}
+use Rattle.dnsv_records.specs.KeyTag.{key_tag_of}
 use Rattle.dnsv_records.specs.declared.ds.Ds.{Ds}
 use Rattle.dnsv_records.specs.declared.number.DigestType.{DigestType}
 use Rattle.dnsv_verifier.specs.Admissible.{DnskeyRecord}
@@ -38,3 +39,23 @@ pub record HasLeadingMatch (owner : Labels) (records : List Ds) (number : ℕ) (
   pub among : Contains records ds
   pub is : ds.digest_type.0 ≡ number
   pub matching : IsMatch owner ds key
+
+-- the record has the key's algorithm and tag
+pub record NamesKey (ds : Ds) (key : DnskeyRecord) : Type 0 where
+  pub algorithm : ds.algorithm.0 ≡ key.dnskey.algorithm.0
+  pub key_tag : ds.key_tag.0 ≡ key_tag_of key.rdata
+
+-- one of the records has the digest type, and the key's algorithm and tag
+pub record HasNamed (records : List Ds) (number : ℕ) (key : DnskeyRecord) : Type 0 where
+  pub ds : Ds
+  pub among : Contains records ds
+  pub is : ds.digest_type.0 ≡ number
+  pub names : NamesKey ds key
+
+-- such a record has the digest
+pub record HasNamedDigest (records : List Ds) (number : ℕ) (key : DnskeyRecord) (digest : List ℕ) : Type 0 where
+  pub ds : Ds
+  pub among : Contains records ds
+  pub is : ds.digest_type.0 ≡ number
+  pub names : NamesKey ds key
+  pub digest_is : ds.digest ≡ digest
