@@ -1,12 +1,15 @@
 -- What is kept of trust says what trust is.
-use Rattle.std.proofs.Common.{◌≡◌, ◌<◌, ◌≤◌, ◌-◌, ◌==◌, ℕ, Bool, true, false, cond, Some, Bor, Vec, List, [], ◌∷◌, ◌++◌, length, get_or, map, if◌then◌else◌, suc, zero, sym, ap, ◌∙◌, subst, arith, ⊎_elim, append_assoc, append-nil}
+use Rattle.std.proofs.Common.{◌≡◌, ◌<◌, ◌≤◌, ◌-◌, ◌==◌, ℕ, Bool, true, false, cond, Some, Vec, List, [], ◌∷◌, ◌++◌, length, get_or, map, nat_eq, if◌then◌else◌, suc, zero, refl, sym, ap, ◌∙◌, subst, arith, ⊎_elim, append_assoc, append-nil}
 use Rattle.std.proofs.lemmas.Bool.{cases_lt}
 use Rattle.std.proofs.lemmas.Bool.Decides.{nat_tests}
 use Rattle.std.proofs.lemmas.List.{get_or-map, length-map, get_or_past}
-use Rattle.std.proofs.lemmas.List.Elements.{Contains-get_or}
+use Rattle.std.proofs.lemmas.List.Elements.{Contains-get_or, Contains-append_left, Contains-append_right, Contains-push}
+use Rattle.std.proofs.lemmas.List.Kept.{Contains-from_dedup}
+use Rattle.std.proofs.lemmas.List.Sorted.{Contains-permutation, IsPermutation-sym}
 use Rattle.std.proofs.lemmas.Option.{slice_get_within, slice_get-get_or, get_or_from_slice_get}
-use Rattle.std.specs.List.{AllZip, Contains, slice_get}
-use Rattle.std.specs.List.Sorted.{IsStrictlySortedBy}
+use Rattle.std.specs.Cmp.Lexicographic.{pointwise}
+use Rattle.std.specs.List.{AllZip, Contains, dedup, slice_get}
+use Rattle.std.specs.List.Sorted.{IsPermutation, IsSorted, IsStrictlySortedBy}
 use Rattle.std.specs.Map.{lookup}
 use Rattle.std.specs.Option.{option_map_or}
 use Rattle.dnsv_names.specs.Name.{Labels, SameName, same_name}
@@ -14,32 +17,47 @@ use Rattle.dnsv_names.specs.declared.by_wire.ByWire.{ByWire}
 use Rattle.dnsv_records.specs.Dnskey.{IsDnskey}
 use Rattle.dnsv_records.specs.declared.dnskey.Dnskey.{Dnskey}
 use Rattle.dnsv_message.specs.declared.record.Section.TheVariants as section
+use Rattle.dnsv_canonical.proofs.CanonicalLemmas.{IsCanonical-sorted}
+use Rattle.dnsv_canonical.specs.Canonical.{IsCanonical, rdata_cmp}
 use Rattle.dnsv_canonical.specs.Rrsets.{ReceivedRrset}
 use Rattle.dnsv_verifier.specs.Admissible.{DnskeyRecord}
 use Rattle.dnsv_verifier.specs.declared.answer.Answer.{Answer}
 use Rattle.dnsv_verifier.specs.declared.entry.Entry.{Entry}
 use Rattle.dnsv_chain.specs.Trust.{AreSecured, AreTrustedKeys, IsTrustOf, KeptTrust, keys_among, keys_of}
 use Rattle.dnsv_chain.specs.Trusted.{IsNumbered, IsSecured}
-use Rattle.dnsv_chain.specs.Walk.{AreGoodNumbers, AreKeysByOwner, AreKeysOf, AreSigned, AreZonesBefore, IsGoodNumber, IsKept, IsZoneOf}
+use Rattle.dnsv_chain.specs.Walk.{AreDistinct, AreGoodNumbers, AreKeysByOwner, AreKeysOf, AreSigned, AreZonesBefore, IsGoodNumber, IsKept, IsZoneOf}
 use Rattle.dnsv_chain.specs.declared.anchor.Anchor.{Anchor}
 use Rattle.dnsv_chain.proofs.WalkLemmas.{same_rdata_good}
 use Rattle.dnsv_chain.proofs.ZipLemmas.{zip_at, zip_length, zip_push}
 
 -- ---- the keys of each zone
 
-zip_map : {A B C : Type 0} (f : A → B) (R : B → C → Type 0) (xs : List A) (ys : List C) → AllZip (λ x y. R (f x) y) xs ys → AllZip R (map f xs) ys
-zip_map f R [] [] each = tt
-zip_map f R [] (y ∷ ys) each = absurd each
-zip_map f R (x ∷ xs) [] each = absurd each
-zip_map f R (x ∷ xs) (y ∷ ys) each = (each.0, zip_map f R xs ys each.1)
-
-pub keys_read_of : (octets : List (Bor (List ℕ))) (keys : List Dnskey) → AllZip (λ (r : Bor (List ℕ)) (key : Dnskey). IsDnskey r.now key) octets keys
-    → AllZip IsDnskey (map (λ r. r.now) octets) keys
-keys_read_of octets keys each = zip_map (λ (r : Bor (List ℕ)). r.now) IsDnskey octets keys each
+-- what a sort by RDATA and a `dedup` leave
+pub are_distinct : (records : List DnskeyRecord) (received sorted kept : List (List ℕ × Dnskey)) → received ≡ map (λ key. (key.rdata, key.dnskey)) records
+    → IsPermutation received sorted → IsSorted (λ a b. rdata_cmp a.0 b.0) sorted → kept ≡ dedup (λ a b. pointwise nat_eq a.0 b.0) sorted
+    → AreDistinct records kept
+are_distinct records received sorted kept is moved ordered left =
+    let octets : List ℕ × Dnskey → List ℕ = λ each. each.0 in
+    let canonical : IsCanonical (map octets received) (map octets kept) = IsCanonical-sorted octets received sorted kept moved ordered left in
+    record {
+      among = λ each among.
+          let there : Contains sorted each =
+          Contains-from_dedup (λ a b. pointwise nat_eq a.0 b.0) sorted each (subst (λ (list : List (List ℕ × Dnskey)). Contains list each) left among) in
+          subst (λ (list : List (List ℕ × Dnskey)). Contains list each) is (Contains-permutation sorted received each (IsPermutation-sym received sorted moved) there);
+      canonical = subst (λ (rdata : List (List ℕ)). IsCanonical rdata (map octets kept)) (ap (map octets) is ∙ firsts records) canonical;
+    }
+  where
+    firsts : (records : List DnskeyRecord) → map (λ (each : List ℕ × Dnskey). each.0) (map (λ key. (key.rdata, key.dnskey)) records) ≡ map (λ key. key.rdata) records
+    firsts [] = refl
+    firsts (r ∷ records) = ap (λ rest. r.rdata ∷ rest) (firsts records)
 
 no_keys : AreKeysOf [] []
 unfolding IsStrictlySortedBy
-no_keys = record { rdata = []; read = tt; canonical = record { rising = tt; members = λ x. (λ among. among, λ among. among) } }
+no_keys = record {
+  distinct = [];
+  are = record { among = λ each among. among; canonical = record { rising = tt; members = λ x. (λ among. among, λ among. among) } };
+  keys_are = refl;
+}
 
 module _ {Y : Type 0} where
   -- one owner more
@@ -85,24 +103,47 @@ with_rdata keys key among =
     let within : k < length keys = among.1 in
     (k, omega (arith, within, size), get_or-map (λ (key : DnskeyRecord). key.rdata) keys k key key.rdata within ∙ ap (λ (x : DnskeyRecord). x.rdata) among.2)
 
+-- RDATA and what it is read as, from a record
+key_said : (keys : List DnskeyRecord) (each : List ℕ × Dnskey) → Contains (map (λ key. (key.rdata, key.dnskey)) keys) each
+    → (key : DnskeyRecord) × Contains keys key × ((key.rdata, key.dnskey) ≡ each)
+key_said keys each among =
+    let k : ℕ = among.0 in
+    let said : DnskeyRecord → List ℕ × Dnskey = λ key. (key.rdata, key.dnskey) in
+    let size : length (map said keys) ≡ length keys = length-map keys said in
+    let below : k < length (map said keys) = among.1 in
+    let within : k < length keys = omega (arith, below, size) in
+    let d : DnskeyRecord = record { owner = []; rdata = each.0; dnskey = each.1 } in
+    (get_or keys k d, Contains-get_or keys k d within, sym (get_or-map said keys k d each within) ∙ among.2)
+
+each_read : (xs : List (List ℕ × Dnskey)) → ((each : List ℕ × Dnskey) → Contains xs each → IsDnskey each.0 each.1)
+    → AllZip IsDnskey (map (λ each. each.0) xs) (map (λ each. each.1) xs)
+each_read [] read = tt
+each_read (x ∷ xs) read = (
+  read x (Contains-append_left (x ∷ []) xs x (Contains-push [] x)),
+  each_read xs (λ each among. read each (Contains-append_right (x ∷ []) xs each among)),
+)
+
 never_zero : (k : ℕ) → (suc k == 0) ≡ false
 never_zero k = grind (arith, nat_tests)
 
 module _ (m : Entry → Answer) (t : ℕ) (rs : List ReceivedRrset) (anchors : List Anchor) (keys : Labels → List DnskeyRecord) (are : AreKeysByOwner m t rs anchors keys) where
   trusted_keys_of : (zone : Labels) (list : List Dnskey) → AreKeysOf (keys zone) list → AreTrustedKeys m t rs anchors zone list
   trusted_keys_of zone list kept = record {
-    rdata = kept.rdata;
-    read = kept.read;
-    rising = kept.canonical.rising;
+    rdata = map (λ each. each.0) kept.distinct;
+    read = subst (λ (dnskeys : List Dnskey). AllZip IsDnskey (map (λ each. each.0) kept.distinct) dnskeys) (sym kept.keys_are)
+        (each_read kept.distinct (λ each among.
+        let key = key_said (keys zone) each (kept.are.among each among) in
+        subst (λ (said : List ℕ × Dnskey). IsDnskey said.0 said.1) key.2 (are.are zone key.0 key.1).stands.is));
+    rising = kept.are.canonical.rising;
     members = λ octets. (
       λ among.
-          let key = key_with (keys zone) octets ((kept.canonical.members octets).0 among) in
+          let key = key_with (keys zone) octets ((kept.are.canonical.members octets).0 among) in
           let trusted = are.are zone key.0 key.1 in
           record { set = trusted.set; trusted = trusted.trusted; owner = trusted.owner; among = subst (λ (rdata : List ℕ). Contains trusted.set.rdata rdata) key.2 trusted.stands.among },
       λ trusted.
           let has = are.all trusted.set trusted.trusted octets trusted.among in
           let there : Contains (keys zone) has.0 = subst (λ (records : List DnskeyRecord). Contains records has.0) (are.same trusted.set.owner zone trusted.owner) has.1 in
-          (kept.canonical.members octets).1 (subst (λ (rdata : List ℕ). Contains (map (λ key. key.rdata) (keys zone)) rdata) has.2 (with_rdata (keys zone) has.0 there)),
+          (kept.are.canonical.members octets).1 (subst (λ (rdata : List ℕ). Contains (map (λ key. key.rdata) (keys zone)) rdata) has.2 (with_rdata (keys zone) has.0 there)),
     );
   }
 

@@ -7,7 +7,6 @@ use Rattle.std.specs.Ordering.{nat_cmp, ordering_then}
 use Rattle.std.specs.declared.cmp.Ordering.{Ordering}
 use Rattle.dnsv_names.specs.Name.{Labels, SameName}
 use Rattle.dnsv_names.specs.declared.by_wire.ByWire.{ByWire}
-use Rattle.dnsv_records.specs.Dnskey.{IsDnskey}
 use Rattle.dnsv_records.specs.Rrsig.{IsRrsig}
 use Rattle.dnsv_records.specs.declared.dnskey.Dnskey.{Dnskey}
 use Rattle.dnsv_records.specs.declared.rrsig.Rrsig.{Rrsig}
@@ -239,11 +238,17 @@ pub record AreKeysByOwner
 
 -- ---- what is kept in the end
 
+-- RDATA and what it is read as, from these records: each RDATA once, in order
+pub record AreDistinct (records : List DnskeyRecord) (distinct : List (List ℕ × Dnskey)) : Type 0 where
+  pub among : (each : List ℕ × Dnskey) → Contains distinct each
+      → Contains (map (λ key. (key.rdata, key.dnskey)) records) each
+  pub canonical : IsCanonical (map (λ key. key.rdata) records) (map (λ each. each.0) distinct)
+
 -- the keys of these records, each once, in the order of their RDATA
 pub record AreKeysOf (records : List DnskeyRecord) (keys : List Dnskey) : Type 0 where
-  pub rdata : List (List ℕ)
-  pub read : AllZip IsDnskey rdata keys
-  pub canonical : IsCanonical (map (λ key. key.rdata) records) rdata
+  pub distinct : List (List ℕ × Dnskey)
+  pub are : AreDistinct records distinct
+  pub keys_are : keys ≡ map (λ each. each.1) distinct
 
 -- the zone has the keys that are kept for the owner
 abbrev pub IsZoneOf : {Y : Type 0} → ByWire × Vec DnskeyRecord Y → Labels × List Dnskey → Type 0

@@ -20,6 +20,7 @@ mod anchor_line;
 mod anchors;
 mod base64_field;
 mod by_owner;
+mod by_rdata;
 mod chain;
 mod laws;
 mod matching;

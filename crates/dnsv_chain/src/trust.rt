@@ -1,13 +1,11 @@
 //! What is kept of trust.
 ghost use Rattle.std.specs.Prelude.{◌≡◌, IfOk, map};
-ghost use Rattle.std.specs.List.{AllZip};
-ghost use Rattle.dnsv_records.specs.Dnskey.{IsDnskey};
-ghost use Rattle.dnsv_canonical.specs.Canonical.{IsCanonical};
 ghost use Rattle.dnsv_verifier.specs.Table.{table_answer};
 ghost use Rattle.dnsv_chain.specs.ByOwner.{values_at};
 ghost use Rattle.dnsv_chain.specs.Trust.{keys_among, keys_of, signed_of};
-ghost use Rattle.dnsv_chain.specs.Walk.{AreKeysOf, AreSigned, AreZones, IsKept};
+ghost use Rattle.dnsv_chain.specs.Walk.{AreDistinct, AreKeysOf, AreSigned, AreZones, IsKept};
 
+use crate::by_rdata::ByRdata;
 use crate::signing::{TrustedKeys, good_numbers};
 use dnsv_canonical::Rrset;
 use dnsv_names::Name;
@@ -111,46 +109,35 @@ fn zones(alloc: Global, keys: &TrustedKeys<'_>) -> Result<Vec<ZoneKeys>, AllocEr
 fn distinct_keys(alloc: Global, records: &[KeyRecord<'_>]) -> Result<Vec<Dnskey>, AllocError>
     ensures { IfOk result (λ keys. AreKeysOf records.now keys.items) }
 {
-    let octets = distinct_rdata(alloc, records)?;
-    Ok(read_keys(alloc, octets.as_slice())?)
+    let distinct = distinct_records(alloc, records)?;
+    Ok(copies(alloc, distinct.as_slice())?)
 }
 
-/// The RDATA of the records, each once, in order.
-fn distinct_rdata<'a>(
+/// The records, of each RDATA one, in the order of RDATA.
+fn distinct_records<'a>(
     alloc: Global,
     records: &'a [KeyRecord<'_>],
-) -> Result<Vec<&'a [u8]>, AllocError>
-    ensures { IfOk result (λ octets. IsCanonical (map (λ key. key.rdata) records.now) (map (λ r. r.now) octets.items)) }
+) -> Result<Vec<ByRdata<'a>>, AllocError>
+    ensures { IfOk result (λ distinct. AreDistinct records.now distinct.items) }
 {
-    let mut octets = Vec::new(alloc);
+    let mut distinct = Vec::new(alloc);
     for record in records {
-        octets.push(record.rdata())?;
+        distinct.push(ByRdata::of(record))?;
     }
-    octets.sort_unstable();
-    octets.dedup();
-    Ok(octets)
+    distinct.sort_unstable();
+    distinct.dedup();
+    Ok(distinct)
 }
 
-/// The keys that these RDATA say, one each.
-fn read_keys(alloc: Global, octets: &[&[u8]]) -> Result<Vec<Dnskey>, AllocError>
-    ensures { IfOk result (λ keys. AllZip IsDnskey (map (λ r. r.now) octets.now) keys.items) }
+/// The keys in memory of their own.
+fn copies(alloc: Global, keys: &[ByRdata<'_>]) -> Result<Vec<Dnskey>, AllocError>
+    ensures { IfOk result (λ copies. copies.items ≡ map (λ key. key.1) keys.now) }
 {
-    let mut keys = Vec::new(alloc);
-    for rdata in octets {
-        keys.push(read_key(alloc, rdata)?)?;
+    let mut copies = Vec::new(alloc);
+    for key in keys {
+        copies.push(key.to_dnskey(alloc)?)?;
     }
-    Ok(keys)
-}
-
-/// The key that the RDATA says.
-fn read_key(alloc: Global, rdata: &[u8]) -> Result<Dnskey, AllocError>
-    ensures { IfOk result (IsDnskey rdata.now) }
-{
-    // The RDATA of a key is read again, so that nothing but memory is wanting.
-    let Ok(key) = Dnskey::read(alloc, rdata) else {
-        return Err(AllocError);
-    };
-    Ok(key)
+    Ok(copies)
 }
 
 /// For each RRset the numbers of its good signatures.
