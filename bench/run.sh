@@ -68,6 +68,16 @@ report_verdict() { # CAPTURE MOMENT ANCHOR NAME TYPE
   head -n 1 "$room/text"
 }
 
+report_signed() { # CAPTURE MOMENT ANCHOR NAME TYPE
+  "$program" list --capture "$1" --moment "$2" | sed 's/^todo/good/' > "$room/statements"
+  echo "$3" > "$room/anchors"
+  ./make_signed.py "$2" "$room/keys" "$room/macs" < "$1" > "$room/signed"
+  cat "$room/signed" "$room/statements" "$room/keys" "$room/macs" > "$room/files"
+  measure "$room/files" check --capture "$room/signed" --anchors "$room/anchors" --moment "$2" --name "$4" --type "$5" \
+    --statements "$room/statements" --keys "$room/keys" --macs "$room/macs"
+  head -n 1 "$room/text"
+}
+
 echo "transfer: 63 messages"
 measure transfer.cap list --capture transfer.cap --moment 1795348800
 measure transfer.cap list --capture transfer.cap --moment 1795348800 --all
@@ -89,6 +99,8 @@ bench_key="KEY bench.example. 257 3 13 AAAD6AABAgMEBQYHCAkKCwwNDg8QERITFBUWFxgZG
 root_key="DS . 36374 8 2 bff03ea84f03157df9e68034cc09e1c5af266002a79a6b553de579542aa33f96"
 echo "verdicts on names of transfer.cap"
 for name in host-0500 nosuch; do report_verdict transfer.cap 1795348800 "$root_key" "$name.big.test." 1; done
+echo "the same, each message signed for its receiver"
+report_signed transfer.cap 1795348800 "$root_key" host-0500.big.test. 1
 for kind in keyed tagged vouched; do
   for messages in 16 64; do
     ./make_capture.py "$kind" "$messages" 64 > "$room/capture"
