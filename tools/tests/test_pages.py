@@ -32,7 +32,8 @@ class Pages(unittest.TestCase):
         self.passes("Text:\n\n    echo one\n    # one\n", 1)
         self.passes("Text:\n\n    echo one >&2; echo two\n    # one\n    # two\n\nMore.\n\n    true\n", 2)
         for printed in ("two", "one; echo two", "one one", "' one'"):
-            self.fails(f"    echo {printed}\n    # one\n    echo two\n    # two\n", 1, "page.md:1: shown:\none\nprinted:")
+            text = f"    echo {printed}\n    # one\n    echo two\n    # two\n"
+            self.fails(text, 1, "page.md:1: shown:\none\nprinted:")
         self.fails("    true\n    # one\n", 0, "shown:\none\nprinted:\n")
         self.fails("    echo one; echo two\n    # one\n", 0, "printed:\none\ntwo")
 
@@ -44,19 +45,21 @@ class Pages(unittest.TestCase):
 
     def test_what_is_not_shown_may_be_printed(self):
         self.passes("    echo one\n\n    echo two\n    # ..\n    # two\n", 1)
+        self.passes("    echo one\n\nText.\n\n    # two\n    echo three\n", 2)
 
-    def test_each_command_has_to_end_with_0(self):
+    def test_each_step_has_to_end_with_0(self):
         self.fails("Text.\n\n    true\n    false\n\nText.\n\n    true\n", 1, "page.md:3: status 1")
         self.fails("    true\n\nText.\n\n    exit 0\n", 1, "page.md:5: status unknown")
 
     def test_all_run_in_one_shell(self):
-        self.passes("    word=one\n\nText.\n\n    cat <<END\n    $word\n\n      two\n    END\n    # one\n    # \n    #   two\n", 2)
-        self.passes("    sleep 60 > log &\n\nText.\n\n    kill $!\n".replace("log", str(self.page) + ".log"), 2)
+        here_document = "    cat <<END\n    $word\n\n      two\n    END\n    # one\n    # \n    #   two\n"
+        self.passes("    word=one\n\nText.\n\n" + here_document, 2)
+        self.passes("    sleep 60 &\n\nText.\n\n    kill $!\n", 2)
 
     def test_sections_are_run_by_their_titles(self):
         text = "# One\n\n    false\n\n## Two\n\n    echo a\n    # a\n\n### Three\n\n    false\n"
         self.passes(text, 1, "Two")
-        self.assertEqual(self.run_page(text)[:2][0], 1)
+        self.assertEqual(self.run_page(text)[0], 1)
         self.assertEqual(self.run_page(text, "Four")[:2], (2, ""))
 
     def test_the_pages_have_commands(self):
