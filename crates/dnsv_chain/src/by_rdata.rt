@@ -32,12 +32,12 @@ impl<'a> Model for ByRdata<'a> {
 
 impl<'a> ByRdata<'a> {
     /// The key of the record.
-    pub fn of(record: &'a KeyRecord<'_>) -> ByRdata<'a>
-        ensures { result ≡ (record.now.rdata, record.now.dnskey) }
+    pub fn of(key: &'a KeyRecord<'_>) -> ByRdata<'a>
+        ensures { result ≡ (key.now.rdata, key.now.dnskey) }
     {
         ByRdata {
-            rdata: record.rdata(),
-            dnskey: record.dnskey(),
+            rdata: key.rdata(),
+            dnskey: key.dnskey(),
         }
     }
 
