@@ -4,6 +4,7 @@ use Rattle.std.specs.List.{AllByRecursion}
 use Rattle.std.specs.declared.cmp.Ordering.TheVariants.{Less}
 use Rattle.dnsv_names.specs.Name.{Labels, rightmost}
 use Rattle.dnsv_canonical.specs.Rrsets.{ReceivedRrset}
+use Rattle.dnsv_chain.specs.Trust.{KeptTrust}
 use Rattle.dnsv_denial.specs.Any.{Any}
 use Rattle.dnsv_denial.specs.ChainOf.{IsProofBy}
 use Rattle.dnsv_denial.specs.Denials.{DenialForm}
@@ -15,6 +16,7 @@ use Rattle.dnsv_denial.specs.Gathered.{AreNsecsOf, AreNsec3sOf}
 use Rattle.dnsv_denial.specs.HashedNames.{sha1_hash, AreHashes}
 use Rattle.dnsv_denial.specs.Nsec3Chain.{Nsec3Record, Parameters}
 use Rattle.dnsv_denial.specs.Record.{parameters_of}
+use Rattle.dnsv_denial.specs.Viewed.{SecuredIn}
 use Rattle.dnsv_denial.specs.declared.denial.Denial.{Denial}
 use Rattle.dnsv_denial.specs.declared.number.RecordNumber.{RecordNumber}
 use Rattle.dnsv_denial.specs.declared.zone_records.ParameterSet.{ParameterSet}
@@ -51,7 +53,8 @@ pub record IsViewOf
     (Secured : ℕ → ℕ → Type 0) (rrsets : List ReceivedRrset) (name : Labels) (sets : List ParameterSet)
     (zones : List ZoneRecords) : Type 0 where
   pub hashed : AllByRecursion (IsSetOf name) sets
-  pub are_sets : AreSets Secured rrsets sets
+  -- whatever is secured
+  pub are_sets : (trust : KeptTrust) → AreSets (SecuredIn trust) rrsets sets
   pub are_zones : AreZones Secured rrsets name zones
 
 -- ---- what is found

@@ -93,6 +93,21 @@ impl<'a> View<'a> {
         })
     }
 
+    /// The view that another trust in the same capture gives. The hashes are kept, since none depends on the trust.
+    pub fn with_trust(self, alloc: Global, trust: &'a Trust) -> Result<View<'a>, AllocError>
+        ensures { IfOk result (λ view. view
+            ≡ record { rrsets = self.entry.rrsets; trust = trust.now; name = self.entry.name }) }
+    {
+        let zones = zones_of(alloc, self.capture, trust, self.name)?;
+        Ok(View {
+            capture: self.capture,
+            trust,
+            name: self.name,
+            sets: self.sets,
+            zones,
+        })
+    }
+
     /// The first proof that there is no such name (RFC 4035 5.4, RFC 5155 8.4); `None` where the evidence has none.
     pub fn no_name(&self) -> Option<Proof>
         ensures first { MatchOption result
