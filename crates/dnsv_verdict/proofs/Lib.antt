@@ -2,6 +2,7 @@ mod CaseLemmas
 mod EvidenceLemmas
 mod FiniteLemmas
 mod FormLemmas
+mod HashedLemmas
 mod LowestLemmas
 mod OneProof
 mod PendingLemmas

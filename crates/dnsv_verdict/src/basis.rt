@@ -1,14 +1,16 @@
 //! What questions are judged by, and the verdict on one.
-ghost use Rattle.std.specs.Prelude.{◌≡◌, ◌↔◌, ℕ, IfOk, IfSome, IsTrue, MatchOption};
+ghost use Rattle.std.specs.Prelude.{◌≡◌, ◌↔◌, ℕ, List, IfOk, IsTrue};
 ghost use Rattle.std.specs.List.Sorted.{IsStrictlySortedBy};
+ghost use Rattle.dnsv_names.specs.Count.{counted};
+ghost use Rattle.dnsv_records.specs.declared.nsec3.Nsec3Parameters.{Nsec3Parameters};
+ghost use Rattle.dnsv_canonical.specs.Evidence.{AreParameters, nsec3_rdata};
 ghost use Rattle.dnsv_chain.specs.Trust.{IsTrustOf};
-ghost use Rattle.dnsv_denial.specs.Viewed.{SecuredIn};
+ghost use Rattle.dnsv_denial.specs.HashedNames.{hashes_for};
 ghost use Rattle.dnsv_verifier.specs.Entry.{entry_cmp};
 ghost use Rattle.dnsv_verifier.specs.Table.{IsTableOf, table_answer, unknown_entries};
 ghost use Rattle.dnsv_verifier.specs.declared.answer.Answer.{Answer};
 ghost use Rattle.dnsv_verifier.specs.declared.entry.Entry.{Entry};
 ghost use Rattle.dnsv_verdict.specs.Meaning.{IsTrueOfZones};
-ghost use Rattle.dnsv_verdict.specs.Settled.{IsSettled, IsSettledAs};
 ghost use Rattle.dnsv_verdict.specs.Verdict.{HasAnchor, IsVerdictAt, MaySettle, Settles, anchor_owner};
 
 use crate::entries::Entries;
@@ -50,15 +52,18 @@ pub fn verdict_at(
           meaning = meaning;
         }) name.now rtype.0) }
     ensures meaning { IfOk result (IsTrueOfZones basis.now.capture.now.rrsets name.now rtype.0) }
+    ensures hashed { IfOk result (λ verdict. (all : List Nsec3Parameters)
+        → AreParameters (nsec3_rdata basis.now.capture.now.rrsets) all
+        → hashed.new ≡ counted hashed.old (hashes_for name.now all)) }
 {
     a_table_is_its_verifier();
     trust_depends_on_what_is_asked();
-    let found = settled_by(alloc, basis.capture, trust, name, rtype, hashed)?;
-    if let Some(verdict) = found {
+    let view = View::new(alloc, basis.capture, trust, name, hashed)?;
+    if let Some(verdict) = settled(basis.capture, trust, name, rtype, &view) {
         return Ok(verdict);
     }
     let unknown = basis.table.unknown(alloc)?;
-    if may_settle(alloc, basis, &unknown, name, rtype, hashed)? {
+    if may_settle(alloc, basis, view, &unknown, name, rtype)? {
         return Ok(Verdict::Pending(Entries::from_vec(unknown)));
     }
     if has_anchor(basis.anchors, name) {
@@ -67,34 +72,19 @@ pub fn verdict_at(
     Ok(Verdict::Indeterminate)
 }
 
-/// What the evidence settles about the question with this trust, if it settles it.
-fn settled_by(
-    alloc: Global,
-    capture: &Capture,
-    trust: &Trust,
-    name: &Name,
-    rtype: RecordType,
-    hashed: &mut Count,
-) -> Result<Option<Verdict>, AllocError>
-    ensures value { IfOk result (λ found. MatchOption found
-        (¬ IsSettled (SecuredIn trust.now) capture.now.rrsets name.now rtype.0)
-        (IsSettledAs (SecuredIn trust.now) capture.now.rrsets name.now rtype.0)) }
-    ensures meaning { IfOk result (λ found. IfSome found (IsTrueOfZones capture.now.rrsets name.now rtype.0)) }
-{
-    let view = View::new(alloc, capture, trust, name, hashed)?;
-    Ok(settled(capture, trust, name, rtype, &view))
-}
-
 /// Whether the evidence, which doesn't settle the question, would if each of the entries that the verifier doesn't know
-/// were valid. Where there are none, nothing is worked out again.
+/// were valid. Where there are none, nothing is worked out again. `view` is one for the name with any trust: its hashes
+/// serve again.
 fn may_settle(
     alloc: Global,
     basis: &Basis<'_>,
+    view: View<'_>,
     unknown: &[Entry],
     name: &Name,
     rtype: RecordType,
-    hashed: &mut Count,
 ) -> Result<bool, AllocError>
+    requires rrsets { view.rrsets ≡ basis.now.capture.now.rrsets }
+    requires name { view.name ≡ name.now }
     requires entries { unknown.now ≡ unknown_entries basis.now.table.now }
     requires rising { IsStrictlySortedBy entry_cmp unknown.now }
     ensures { (meaning : Entry → Answer) (moment : ℕ)
@@ -120,7 +110,8 @@ fn may_settle(
     }
     let hopeful = basis.table.hopeful(alloc)?;
     let trust = trusted(alloc, basis.capture, basis.anchors, &hopeful)?;
-    let Some(_found) = settled_by(alloc, basis.capture, &trust, name, rtype, hashed)? else {
+    let view = view.with_trust(alloc, &trust)?;
+    let Some(_found) = settled(basis.capture, &trust, name, rtype, &view) else {
         return Ok(false);
     };
     Ok(true)

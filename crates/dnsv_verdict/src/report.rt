@@ -1,9 +1,12 @@
 //! The verdict on a question, and what it took.
-ghost use Rattle.std.specs.Prelude.{◌≡◌, IfOk, IsErrOf, length};
+ghost use Rattle.std.specs.Prelude.{◌≡◌, List, IfOk, IsErrOf, length};
 ghost use Rattle.dnsv_names.specs.Count.{counted};
+ghost use Rattle.dnsv_records.specs.declared.nsec3.Nsec3Parameters.{Nsec3Parameters};
+ghost use Rattle.dnsv_canonical.specs.Evidence.{AreParameters, nsec3_rdata};
 ghost use Rattle.dnsv_canonical.specs.Rrsets.{IsQuestion};
+ghost use Rattle.dnsv_denial.specs.HashedNames.{hashes_for};
 ghost use Rattle.dnsv_verdict.specs.Meaning.{IsTrueOfZones};
-ghost use Rattle.dnsv_verdict.specs.Verdict.{IsNumberAsked, IsVerdictAt};
+ghost use Rattle.dnsv_verdict.specs.Verdict.{IsFewHashed, IsNumberAsked, IsNumberHashed, IsVerdictAt};
 
 use crate::basis::{Basis, verdict_at};
 use crate::error::VerdictError;
@@ -29,7 +32,7 @@ pub struct Report {
 /// the moment, in seconds since 1970, under the verifier's answers (RFC 4035 4.3, 5).
 ///
 /// `BadQuestion` where the type can't be asked at the name. The verifier is asked once for each distinct entry that may
-/// be verified at the moment, and not again.
+/// be verified at the moment, and not again; names are hashed once with each iterations and salt, whatever the verdict.
 pub fn validate<V: Verifier>(
     alloc: Global,
     capture: &Capture,
@@ -48,6 +51,8 @@ pub fn validate<V: Verifier>(
     // In each zone that has the records of a denial in its chain, looking the name up gives what is denied.
     ensures meaning { IfOk result (λ report. IsTrueOfZones capture.now.rrsets name.now rtype.0 report.verdict) }
     ensures asked { IfOk result (λ report. IsNumberAsked moment capture.now.rrsets report.asked) }
+    ensures hashed { IfOk result (λ report. IsNumberHashed capture.now.rrsets name.now report.hashed) }
+    ensures few { IfOk result (λ report. IsFewHashed capture.now.rrsets name.now report.hashed) }
     // A type that can't be asked is refused, and nothing else is.
     ensures refused { ¬ IsQuestion name.now rtype.0 → IsErrOf result VerdictError.BadQuestion }
     ensures question { IsErrOf result VerdictError.BadQuestion → ¬ IsQuestion name.now rtype.0 }
@@ -68,7 +73,7 @@ pub fn validate<V: Verifier>(
     Ok(Report {
         verdict,
         asked: exact(&asked, &table),
-        hashed: hashed.value(),
+        hashed: exact_hashed(&hashed, capture, name),
     })
 }
 
@@ -79,6 +84,20 @@ fn exact(asked: &Count, table: &Table) -> u64
 {
     let _entries = table.len();
     asked.value()
+}
+
+/// The count of the digests that hash names: a capture has so few iterations and salts, and a name so few labels, that
+/// their number is below the greatest value of a count.
+fn exact_hashed(hashed: &Count, capture: &Capture, name: &Name) -> u64
+    requires { (all : List Nsec3Parameters) → AreParameters (nsec3_rdata capture.now.rrsets) all
+        → hashed.now ≡ counted 0 (hashes_for name.now all) }
+    ensures exact { IsNumberHashed capture.now.rrsets name.now result }
+    ensures few { IsFewHashed capture.now.rrsets name.now result }
+{
+    let _limits = capture.rrsets();
+    let _parameters = capture.nsec3_parameters();
+    let _labels = name.labels();
+    hashed.value()
 }
 
 #[cfg(test)]
