@@ -90,12 +90,13 @@ class Requests:
         self.macs = {}
 
     def places(self, message):
-        """Where the MAC of a request is kept: by what its answer repeats of it (RFC 5452 9.1).
+        """Where the MAC of a request is kept: by what its answer repeats of it (RFC 5452 9.1), names in lower case.
 
         A forwarder may have changed the identifier; the TSIG record has the one before (RFC 8945 4.2).
         """
         identifiers = number_at(message.octets, 0, 2), tsig_of(message.octets).identifier
-        return [(message.connection, questions_of(message.octets), *each) for each in enumerate(identifiers)]
+        questions = questions_of(message.octets).lower()
+        return [(message.connection, questions, *each) for each in enumerate(identifiers)]
 
     def keep(self, message):
         mac = tsig_of(message.octets).mac

@@ -90,6 +90,7 @@ class Requests(Case):
         requests = query(name="one."), query(OTHER_MAC, name="two.")
         self.gives([*requests, signed(ANSWER_MAC, name="two."), signed(ANSWER_MAC, name="one.")],
                    OTHER_MAC.hex(), MAC.hex())
+        self.gives([query(name="WWW.example."), ANSWER], MAC.hex())
         of_type_28 = ANSWER.replace(b"\x00\x00\x01\x00\x01", b"\x00\x00\x1c\x00\x01", 1)
         self.gives([query(), signed(ANSWER_MAC, name="one."), of_type_28, ANSWER], MAC.hex(), dropped=2)
 
