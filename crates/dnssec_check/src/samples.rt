@@ -1,4 +1,6 @@
 //! What the tests read, and what is to come of it.
+use std::io;
+use std::io::Read;
 
 /// One message behind its length: two equal A records of `Host.Example.` and their signature.
 pub const HOST: &[u8; 105] =
@@ -48,3 +50,21 @@ pub const SIGNED_HOST: &[u8; 179] =
     \x6d\x61\x63\x2d\x73\x68\x61\x32\x35\x36\x00\x00\x00\x00\x00\x05\xdc\x01\x2c\x00\
     \x20\x43\x38\x42\x07\x59\xf9\xc5\xe9\xf1\x9b\xdb\x29\xa4\x27\xa9\xe4\x8b\xad\x3d\
     \x2b\xaa\xc8\x39\x72\x99\x2e\x7e\x25\x10\xcd\x8c\xb1\x00\x02\x00\x00\x00\x00";
+
+/// A reader that gives its octets one by one, and fails behind the last.
+#[derive(Drop)]
+pub struct Failing<'a>(pub &'a [u8]);
+
+impl Read for Failing<'_> {
+    fn read(&mut self, buf: &mut [u8]) -> io::Result<usize> {
+        let Some((first, rest)) = self.0.split_first() else {
+            return Err(io::Error::new(io::ErrorKind::Other, "the reader fails"));
+        };
+        if buf.is_empty() {
+            return Ok(0);
+        }
+        buf[0] = *first;
+        self.0 = rest;
+        Ok(1)
+    }
+}

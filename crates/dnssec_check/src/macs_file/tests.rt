@@ -1,4 +1,6 @@
 use crate::macs_file::macs_in;
+use crate::samples::Failing;
+use crate::status::{Fault, InputFile};
 use dnsv_message::Counted;
 use std::test::Fail;
 
@@ -47,5 +49,31 @@ fn reads_no_list_where_no_file_is_given(rt: HostRuntime) -> Result<(), Fail> {
     assert!(rt; macs_in(rt.alloc(), &mut none)?.is_none());
     let mut empty = Some(Counted::new(b"".as_slice()));
     assert_eq!(rt; macs_in(rt.alloc(), &mut empty)?.ok_or("a list")?.len(), 0);
+    Ok(())
+}
+
+#[test]
+fn reads_a_file_of_several_pieces(rt: HostRuntime) -> Result<(), Fail> {
+    let mut text = Vec::new(rt.alloc());
+    for _ in 0..1100 {
+        text.extend_from_slice(DIGITS.as_bytes())?;
+        text.extend_from_slice(b"\n-\n")?;
+    }
+    let mut file = Some(Counted::new(text.as_slice()));
+    let macs = macs_in(rt.alloc(), &mut file)?.ok_or("a list")?;
+    assert_eq!(rt; macs.len(), 2200);
+    assert!(rt; macs[2198].is_some());
+    assert!(rt; macs[2199].is_none());
+    Ok(())
+}
+
+#[test]
+fn tells_a_failed_read_and_reads_no_more(rt: HostRuntime) -> Result<(), Fail> {
+    for octets in [DIGITS.as_bytes(), b"x\n", b""] {
+        let mut file = Some(Counted::new(Failing(octets)));
+        let fault = macs_in(rt.alloc(), &mut file).err();
+        assert_eq!(rt; fault, Some(Fault::ReadFailed(InputFile::Macs)));
+        assert_eq!(rt; file.as_ref().ok_or("a file")?.failures(), 1);
+    }
     Ok(())
 }

@@ -1,6 +1,6 @@
 use super::*;
 use crate::moment::Moment;
-use crate::samples::{HOST, HOST_DATA, KEYS, KEYS_DATA};
+use crate::samples::{Failing, HOST, HOST_DATA, KEYS, KEYS_DATA};
 use crate::status::{InputFile, Place, Refusal};
 use std::io;
 use std::test::Fail;
@@ -16,24 +16,6 @@ impl Write for Broken {
 
     fn flush(&mut self) -> io::Result<()> {
         Ok(())
-    }
-}
-
-// A reader that gives its octets one by one, and fails behind the last.
-#[derive(Drop)]
-struct Failing<'a>(&'a [u8]);
-
-impl Read for Failing<'_> {
-    fn read(&mut self, buf: &mut [u8]) -> io::Result<usize> {
-        let Some((first, rest)) = self.0.split_first() else {
-            return Err(io::Error::new(io::ErrorKind::Other, "the reader fails"));
-        };
-        if buf.is_empty() {
-            return Ok(0);
-        }
-        buf[0] = *first;
-        self.0 = rest;
-        Ok(1)
     }
 }
 
