@@ -1,6 +1,7 @@
 pub mod AdmissibleLemmas
 pub mod AskLemmas
 pub mod EntryLemmas
+pub mod HexFieldLemmas
 pub mod KeyLemmas
 pub mod NamedLemmas
 pub mod PanelLemmas

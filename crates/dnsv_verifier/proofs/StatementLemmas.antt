@@ -1,13 +1,14 @@
 -- What a line states, by its fields.
-use Rattle.std.proofs.Common.{◌≡◌, ℕ, ◌<◌, ◌^◌, List, [], ◌∷◌, length, refl, ap, ◌∙◌, Bool, true, false, cond, Some, None, codes}
+use Rattle.std.proofs.Common.{◌≡◌, ℕ, ◌<◌, ◌^◌, List, [], ◌∷◌, length, refl, sym, ap, ◌∙◌, Ok, arith, Bool, true, false, cond, Some, None, codes}
 use Rattle.std.proofs.lemmas.Slice.Eq.{bytes_eq-Decides}
 use Rattle.std.specs.Fmt.{decimal}
 use Rattle.std.specs.Str.{bytes_eq}
+use Rattle.hex.specs.Hex.{decode_of}
 use Rattle.dnsv_names.specs.Lines.{AreFields}
 use Rattle.dnsv_names.specs.LineLaws.{AreFields-only}
-use Rattle.dnsv_verifier.specs.HexField.{hex_value}
+use Rattle.dnsv_verifier.specs.HexField.{AreDigitsOf, hex_value}
 use Rattle.dnsv_verifier.specs.Statements.{States, word_text}
-use Rattle.dnsv_verifier.specs.StatementsReading.{word_of}
+use Rattle.dnsv_verifier.specs.StatementsReading.{IsStatement, word_of}
 use Rattle.dnsv_verifier.specs.declared.entry.Entry.{Entry}
 use Rattle.dnsv_verifier.specs.declared.statement.Word.{Word}
 use Rattle.dnsv_verifier.specs.declared.statement.Word.TheVariants.{Good, Bad}
@@ -51,6 +52,11 @@ word_by first false false word is_good is_bad e = cc
 pub word_text-word_of : (first : List ℕ) (word : Word) → word_of first ≡ Some word → first ≡ word_text word
 word_text-word_of first word e = word_by first (bytes_eq first (codes "good")) (bytes_eq first (codes "bad")) word refl refl e
 
+-- the field says what its digits do
+value_of : (field digits octets : List ℕ) → AreDigitsOf field digits → decode_of digits ≡ Ok octets → hex_value field ≡ Some octets
+value_of field digits octets are e =
+    let same : are.octets ≡ octets = (let first = are.decoded in cc) in are.value ∙ ap Some same
+
 pub no_five : (line : List ℕ) → ((fields : List (List ℕ)) → AreFields line fields → length fields ≡ 5 → ⊥) → (entry : Entry) (word : Word) → States line entry word → ⊥
 no_five line none entry word states = none _ states.fields refl
 
@@ -84,7 +90,7 @@ module _ (line first second third fourth fifth : List ℕ) (are : AreFields line
       let found = values.signature_is in
       cc
 
-  pub all_stated : (entry : Entry) (word : Word) → HaveValues first second third fourth fifth entry word → States line entry word
+  all_stated : (entry : Entry) (word : Word) → HaveValues first second third fourth fifth entry word → States line entry word
   all_stated entry word values =
       record {
         key = third;
@@ -96,3 +102,25 @@ module _ (line first second third fourth fifth : List ℕ) (are : AreFields line
         signed_data_is = values.signed_data_is;
         signature_is = values.signature_is;
       }
+
+  module _ (word : Word) (word_is : first ≡ word_text word) (algorithm : ℕ) (fits : algorithm < 256) (algorithm_is : second ≡ decimal algorithm) {key signed_data signature : List ℕ} (its_key : AreDigitsOf third key) (its_data : AreDigitsOf fourth signed_data) (its_signature : AreDigitsOf fifth signature) where
+    pub is_statement : IsStatement line
+    is_statement =
+        let entry : Entry = record { algorithm = record { 0 = algorithm }; key = its_key.octets; signed_data = its_data.octets; signature = its_signature.octets } in
+        record {
+          entry = entry;
+          word = word;
+          states = all_stated entry word record { word_is = word_is; algorithm_is = algorithm_is; algorithm_fits = fits; key_is = its_key.value; signed_data_is = its_data.value; signature_is = its_signature.value };
+        }
+
+    pub states : (entry : Entry) → (entry.algorithm.0 ≡ algorithm) × (decode_of key ≡ Ok entry.key) × (decode_of signed_data ≡ Ok entry.signed_data) × (decode_of signature ≡ Ok entry.signature) → States line entry word
+    states entry its =
+        all_stated entry word
+        record {
+          word_is = word_is;
+          algorithm_is = algorithm_is ∙ ap decimal (sym its.0);
+          algorithm_fits = (let same = its.0 in omega (arith, fits, same));
+          key_is = value_of third key entry.key its_key its.1;
+          signed_data_is = value_of fourth signed_data entry.signed_data its_data its.2;
+          signature_is = value_of fifth signature entry.signature its_signature its.3;
+        }

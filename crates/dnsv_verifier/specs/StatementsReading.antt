@@ -17,6 +17,12 @@ abbrev pub word_of : List ℕ → Option Word
 word_of field =
     if bytes_eq field (codes "good") then Some Good else (if bytes_eq field (codes "bad") then Some Bad else None)
 
+-- the line is a statement
+pub record IsStatement (line : List ℕ) : Type 0 where
+  pub entry : Entry
+  pub word : Word
+  pub states : States line entry word
+
 -- what a tree says of an entry
 abbrev pub said_in : BTreeMap Entry Word → Entry → Option Word
 said_in said entry = get entry_cmp said entry
@@ -30,9 +36,22 @@ pub record AddsStatement (line : List ℕ) (old new : BTreeMap Entry Word) : Typ
   pub updates : (each : Entry)
       → said_in new each ≡ (if is_eq (entry_cmp entry each) then Some word else said_in old each)
 
--- what is wrong with a line behind what was said
+-- an entry is listed by its word, and was not by the other one
+pub record Lists (entry : Entry) (word : Word) (old new : BTreeMap Entry Word) : Type 0 where
+  pub free : said_in old entry ≢ Some (other_word word)
+  pub updates : (each : Entry)
+      → said_in new each ≡ (if is_eq (entry_cmp entry each) then Some word else said_in old each)
+
+-- why an entry of the line of this number isn't listed by a word: want of memory alone, or the other word
+abbrev pub RefusesEntry : StatementsError → ℕ → Entry → Word → BTreeMap Entry Word → Type 0
+RefusesEntry OutOfMemory line entry word said = said_in said entry ≢ Some (other_word word)
+RefusesEntry (Syntax number) line entry word said = ⊥
+RefusesEntry (Contradiction number) line entry word said =
+    (number ≡ line) × (said_in said entry ≡ Some (other_word word))
+
+-- what is wrong with a line behind what was said; memory is wanting only for a statement
 abbrev pub RefusesLine : StatementsError → NumberedLine → BTreeMap Entry Word → Type 0
-RefusesLine OutOfMemory line said = Unit {0}
+RefusesLine OutOfMemory line said = IsStatement line.octets
 RefusesLine (Syntax number) line said =
     (number ≡ line.number) × ((entry : Entry) (word : Word) → States line.octets entry word → ⊥)
 RefusesLine (Contradiction number) line said =

@@ -1,33 +1,66 @@
 //! Octets as a field of a text file.
-ghost use Rattle.std.specs.Prelude.{◌≡◌, IfOk};
-ghost use Rattle.std.specs.Result.{result_ok};
-ghost use Rattle.hex.specs.Hex.{decode_of};
-ghost use Rattle.dnsv_verifier.specs.HexField.{hex_value};
+ghost use Rattle.std.specs.Prelude.{◌≡◌, ◌↔◌, Ok, IfOk, IsOk, IsSome, IsTrue, MatchOption, OnErr};
+ghost use Rattle.std.specs.List.{AllPass};
+ghost use Rattle.hex.specs.Hex.{decode_of, is_hex_digit};
+ghost use Rattle.dnsv_verifier.specs.HexField.{AreDigitsOf, hex_value};
 
 use dnsv_records::Octets;
-use hex::FromHexError;
 use std::alloc::{AllocError, Global};
 
 /// The octets that a field of a text file says: two hex digits for each, in either case, or `-` for no
-/// octets. `None` where it says none.
+/// octets. `None` where it says none. Memory is asked for only where it says octets.
 pub fn hex_octets(alloc: Global, field: &[u8]) -> Result<Option<Octets>, AllocError>
-    ensures { IfOk result (λ octets. octets ≡ hex_value field.now) }
+    ensures value { IfOk result (λ octets. octets ≡ hex_value field.now) }
+    ensures refused { OnErr result (IsSome (hex_value field.now)) }
+{
+    let Some(digits) = digits_of(field) else {
+        return Ok(None);
+    };
+    Ok(Some(decoded(alloc, digits)?))
+}
+
+/// The digits of the octets that a field says, `None` where it says none.
+#[tactic(auto, using(crate::proofs::HexFieldLemmas::dash_says_none))]
+pub(crate) fn digits_of(field: &[u8]) -> Option<&[u8]>
+    ensures { MatchOption result (hex_value field.now ≡ None) (λ digits. AreDigitsOf field.now digits.now) }
 {
     match field {
-        [] => Ok(None),
-        [b'-'] => Ok(Some(Octets::from_vec(Vec::new(alloc)))),
-        [_] => Ok(None),
-        digits => decoded(alloc, digits),
+        [] => None,
+        [b'-'] => Some(&[]),
+        digits if are_pairs(digits) => Some(digits),
+        _ => None,
     }
 }
 
-/// The octets of hex digits, `None` where these aren't such.
-fn decoded(alloc: Global, digits: &[u8]) -> Result<Option<Octets>, AllocError>
-    ensures { IfOk result (λ octets. octets ≡ result_ok (decode_of digits.now)) }
+/// Whether the octets are pairs of hex digits.
+#[tactic(auto, using(crate::proofs::HexFieldLemmas::even_decodes))]
+fn are_pairs(octets: &[u8]) -> bool
+    ensures { IsTrue result ↔ IsOk (decode_of octets.now) }
+{
+    octets.len() % 2 == 0 && are_digits(octets)
+}
+
+/// Whether the octets are hex digits, in either case.
+fn are_digits(octets: &[u8]) -> bool
+    ensures { IsTrue result ↔ AllPass is_hex_digit octets.now }
+{
+    octets.iter().all(|octet| is_digit(*octet))
+}
+
+/// Whether the octet is a hex digit, in either case.
+fn is_digit(octet: u8) -> bool
+    ensures { IsTrue result ↔ IsTrue (is_hex_digit octet) }
+{
+    octet.is_ascii_hexdigit()
+}
+
+/// The octets of pairs of hex digits.
+pub(crate) fn decoded(alloc: Global, digits: &[u8]) -> Result<Octets, AllocError>
+    requires { IsOk (decode_of digits.now) }
+    ensures { IfOk result (λ octets. decode_of digits.now ≡ Ok octets) }
 {
     match hex::decode(alloc, digits) {
-        Ok(octets) => Ok(Some(Octets::from_vec(octets))),
-        Err(FromHexError::OutOfMemory) => Err(AllocError),
-        Err(_) => Ok(None),
+        Ok(octets) => Ok(Octets::from_vec(octets)),
+        Err(_) => Err(AllocError),
     }
 }

@@ -1,7 +1,7 @@
 //! Files of statements.
 ghost use Rattle.std.specs.Prelude.{◌≡◌, ◌⊎◌, ℕ, List, Vec, IfOk, IfErr, OnOk};
 ghost use Rattle.dnsv_verifier.specs.Statements.{AreStatementsOf, IsFaultOf, IsSaid, listed_answer};
-ghost use Rattle.dnsv_verifier.specs.StatementsReading.{AddsStatement, RefusesLine};
+ghost use Rattle.dnsv_verifier.specs.StatementsReading.{AddsStatement, Lists, RefusesEntry, RefusesLine};
 ghost use Rattle.dnsv_verifier.specs.declared.entry.Entry.{Entry};
 ghost use Rattle.dnsv_verifier.specs.declared.statement.Word.{Word};
 ghost use Rattle.dnsv_verifier.specs.declared.statements.StatementsError.{StatementsError};
@@ -155,8 +155,22 @@ fn add(alloc: Global, said: &mut BTreeMap<Entry, Word>, line: &Line) -> Result<(
     let Some((entry, word)) = statement_of(alloc, line)? else {
         return Err(StatementsError::Syntax(line.number()));
     };
+    list(said, entry, word, line.number())
+}
+
+/// Lists an entry of the line of this number by its word, unless it is listed by the other one. Memory is asked for
+/// only where it isn't.
+fn list(
+    said: &mut BTreeMap<Entry, Word>,
+    entry: Entry,
+    word: Word,
+    number: usize,
+) -> Result<(), StatementsError>
+    ensures lists { OnOk result (Lists entry word said.old said.new) }
+    ensures refuses { IfErr result (λ error. RefusesEntry error number entry word said.old) }
+{
     if said.get(&entry) == Some(&word.other()) {
-        return Err(StatementsError::Contradiction(line.number()));
+        return Err(StatementsError::Contradiction(number));
     }
     said.insert(entry, word)?;
     Ok(())
