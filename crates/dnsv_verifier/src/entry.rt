@@ -3,6 +3,7 @@ ghost use Rattle.std.specs.Prelude.{◌≡◌, refl};
 ghost use Rattle.std.specs.Cmp.{partial_equiv_from_equiv, partial_order_from_agreeing_total};
 ghost use Rattle.std.specs.Ordering.{as_partial_cmp, eq_by_cmp};
 ghost use Rattle.std.proofs.lemmas.Cmp.{eq_by_cmp_equiv};
+ghost use Rattle.dnsv_verifier.specs.Entry.{entry_cmp};
 
 use dnsv_records::{Algorithm, Octets};
 use std::cmp::Ordering;
@@ -21,9 +22,36 @@ pub struct Entry {
     pub signature: Octets,
 }
 
-impl Entry {
-    ghost use Rattle.dnsv_verifier.specs.Entry.{entry_cmp};
+/// The four values of an entry, wherever they lie: algorithm, key, signed data and signature.
+pub(crate) type Values<'a> = (Algorithm, &'a [u8], &'a [u8], &'a [u8]);
 
+/// How the entry of these values stands to that of the others.
+pub(crate) fn order_of<'a, 'b>(own: Values<'a>, other: Values<'b>) -> Ordering
+    ensures { result ≡ entry_cmp
+        (record {
+          algorithm = own.entry.0;
+          key = own.entry.1.now;
+          signed_data = own.entry.2.now;
+          signature = own.entry.3.now;
+        })
+        (record {
+          algorithm = other.entry.0;
+          key = other.entry.1.now;
+          signed_data = other.entry.2.now;
+          signature = other.entry.3.now;
+        }) }
+{
+    let (algorithm, key, signed_data, signature) = own;
+    let (other_algorithm, other_key, other_data, other_signature) = other;
+    algorithm
+        .0
+        .cmp(&other_algorithm.0)
+        .then_with(|| key.cmp(other_key))
+        .then_with(|| signed_data.cmp(other_data))
+        .then_with(|| signature.cmp(other_signature))
+}
+
+impl Entry {
     /// How this entry stands to the entry of these four values.
     pub(crate) fn compared(
         &self,
@@ -39,12 +67,15 @@ impl Entry {
           signature = signature.now;
         }) }
     {
-        self.algorithm
-            .0
-            .cmp(&algorithm.0)
-            .then_with(|| self.key.as_slice().cmp(key))
-            .then_with(|| self.signed_data.as_slice().cmp(signed_data))
-            .then_with(|| self.signature.as_slice().cmp(signature))
+        order_of(
+            (
+                self.algorithm,
+                self.key.as_slice(),
+                self.signed_data.as_slice(),
+                self.signature.as_slice(),
+            ),
+            (algorithm, key, signed_data, signature),
+        )
     }
 }
 
@@ -61,12 +92,12 @@ impl Ord for Entry {
     ghost matches_eq = { λ a b. refl };
 
     fn cmp(&self, other: &Entry) -> Ordering {
-        self.algorithm
-            .0
-            .cmp(&other.algorithm.0)
-            .then_with(|| self.key.cmp(&other.key))
-            .then_with(|| self.signed_data.cmp(&other.signed_data))
-            .then_with(|| self.signature.cmp(&other.signature))
+        self.compared(
+            other.algorithm,
+            other.key.as_slice(),
+            other.signed_data.as_slice(),
+            other.signature.as_slice(),
+        )
     }
 }
 

@@ -6,7 +6,7 @@ ghost use Rattle.std.proofs.lemmas.Cmp.{eq_by_cmp_equiv};
 ghost use Rattle.dnsv_verifier.specs.Entry.{entry_cmp};
 
 use crate::answer::Answer;
-use crate::entry::Entry;
+use crate::entry::{Entry, order_of};
 use crate::verifier::Verifier;
 use dnsv_records::{Algorithm, Octets};
 use std::alloc::{AllocError, Global};
@@ -104,13 +104,15 @@ impl SharedEntry {
           signature = signature.now;
         }) }
     {
-        self.part
-            .algorithm
-            .0
-            .cmp(&algorithm.0)
-            .then_with(|| self.key.as_slice().cmp(key))
-            .then_with(|| self.part.signed_data.as_slice().cmp(signed_data))
-            .then_with(|| self.part.signature.as_slice().cmp(signature))
+        order_of(
+            (
+                self.part.algorithm,
+                self.key.as_slice(),
+                self.part.signed_data.as_slice(),
+                self.part.signature.as_slice(),
+            ),
+            (algorithm, key, signed_data, signature),
+        )
     }
 }
 
