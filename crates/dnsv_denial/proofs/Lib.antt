@@ -13,13 +13,16 @@ mod EndLimitLemmas
 mod EvidenceLemmas
 mod Example
 mod FindingLemmas
+mod FirstAmongLemmas
 mod FirstLemmas
 mod FirstProofLemmas
 mod GatherLemmas
 mod GatherZoneLemmas
 mod Gathering
 mod HashCountLemmas
+mod HashIndexLemmas
 mod HashLemmas
+mod HashPlaceLemmas
 mod IndexLemmas
 mod LookupLemmas
 mod LooseLemmas

@@ -27,7 +27,7 @@ use Rattle.dnsv_denial.specs.declared.zone_records.ZoneRecords.{ZoneRecords}
 -- the records are those of the zone among the evidence
 pub record IsZoneOf (Secured : ℕ → ℕ → Type 0) (rrsets : List ReceivedRrset) (kept : ZoneRecords) : Type 0 where
   pub nsecs : AreNsecsOf Secured rrsets kept.zone kept.nsecs.items
-  pub nsec3s : AreNsec3sOf Secured rrsets kept.zone kept.nsec3s.items
+  pub nsec3s : AreNsec3sOf Secured rrsets kept.zone kept.nsec3s
 
 -- the hashes are those of the names that a question of the name asks for
 abbrev pub IsSetOf : Labels → ParameterSet → Type 0

@@ -16,6 +16,7 @@ pub mod Findings
 pub mod FirstProof
 pub mod Forms
 pub mod Gathered
+pub mod HashIndex
 pub mod HashWords
 pub mod HashedNames
 pub mod Kept

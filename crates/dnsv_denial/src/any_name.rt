@@ -21,7 +21,7 @@ pub fn has_records(records: &ChainRecords<'_>) -> bool
 {
     match records {
         ChainRecords::Nsec(entries) => entries.len() > 0,
-        ChainRecords::Nsec3(hashed) => hashed.entries.len() > 0,
+        ChainRecords::Nsec3(hashed) => hashed.entries.as_slice().len() > 0,
     }
 }
 
@@ -32,7 +32,9 @@ pub fn has_unsigned_delegation(records: &ChainRecords<'_>) -> bool
 {
     match records {
         ChainRecords::Nsec(entries) => first_to_say(&NsecDelegation, entries).is_some(),
-        ChainRecords::Nsec3(hashed) => first_to_say(&Nsec3Delegation, hashed.entries).is_some(),
+        ChainRecords::Nsec3(hashed) => {
+            first_to_say(&Nsec3Delegation, hashed.entries.as_slice()).is_some()
+        },
     }
 }
 
@@ -43,7 +45,7 @@ pub fn has_opt_out(records: &ChainRecords<'_>) -> bool
 {
     match records {
         ChainRecords::Nsec(_) => false,
-        ChainRecords::Nsec3(hashed) => first_to_say(&OptOut, hashed.entries).is_some(),
+        ChainRecords::Nsec3(hashed) => first_to_say(&OptOut, hashed.entries.as_slice()).is_some(),
     }
 }
 

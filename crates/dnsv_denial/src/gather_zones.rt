@@ -13,6 +13,7 @@ ghost use Rattle.dnsv_denial.specs.Viewed.{SecuredIn};
 use crate::gather::nsecs_of;
 use crate::gather_nsec3::nsec3s_of;
 use crate::hashing::hash_names;
+use crate::nsec3_entries::Nsec3Entries;
 use crate::zone_records::{ParameterSet, ZoneRecords};
 use dnsv_canonical::Capture;
 use dnsv_chain::Trust;
@@ -33,7 +34,8 @@ pub fn zones_of<'a>(
     for labels in 0..name.labels() + 1 {
         let zone = name.suffix(labels);
         let nsecs = nsecs_of(alloc, capture, trust, &zone)?;
-        let nsec3s = nsec3s_of(alloc, capture, trust, &zone)?;
+        let records = nsec3s_of(alloc, capture, trust, &zone)?;
+        let nsec3s = Nsec3Entries::new(alloc, records)?;
         zones.push(ZoneRecords {
             zone,
             nsecs,

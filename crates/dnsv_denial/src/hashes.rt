@@ -2,15 +2,15 @@
 ghost use Rattle.std.specs.Prelude.{◌≡◌};
 
 use crate::asked::AskedName;
-use crate::entry::Nsec3Entry;
+use crate::nsec3_entries::Nsec3Entries;
 use dnsv_names::{Hash20, Name};
 use dnsv_records::Nsec3Parameters;
 
 /// NSEC3 records, and the hashes with their parameters of the names that a question asks for (RFC 5155 8).
 #[derive(Clone, Copy, Debug)]
 pub struct Nsec3Records<'a> {
-    /// The records, in the order of their numbers.
-    pub entries: &'a [Nsec3Entry<'a>],
+    /// The records.
+    pub entries: &'a Nsec3Entries<'a>,
     /// The question's name.
     pub name: &'a Name,
     /// What the hashes are made with.

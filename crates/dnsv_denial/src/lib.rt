@@ -42,6 +42,7 @@ pub use nsec3_complete::{
     an_nsec3_chain_tells_of_each_unsigned_delegation,
     an_nsec3_chain_without_opt_out_proves_each_denial,
 };
+pub use nsec3_entries::Nsec3Entries;
 pub use nsec3_meaning::{
     no_closer_by_nsec3_is_held_at_the_wildcard, no_data_by_nsec3_is_no_data,
     no_name_by_nsec3_is_no_name, opted_out_nodes_are_unsigned_ends,
@@ -72,11 +73,13 @@ mod end_limits;
 mod ends;
 mod entry;
 mod findings;
+mod first_among;
 mod first_cut;
 mod first_proof;
 mod gather;
 mod gather_nsec3;
 mod gather_zones;
+mod hash_places;
 mod hashes;
 mod hashing;
 mod kept_cuts;
@@ -86,6 +89,7 @@ mod more;
 mod nsec;
 mod nsec3;
 mod nsec3_complete;
+mod nsec3_entries;
 mod nsec3_meaning;
 mod nsec3_words;
 mod nsec_complete;

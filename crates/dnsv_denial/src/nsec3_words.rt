@@ -11,8 +11,9 @@ ghost use Rattle.dnsv_denial.specs.Record.{read_nsec3, parameters_of, flags_of};
 
 use crate::asked::{AskedName, AskedTypes};
 use crate::entry::Nsec3Entry;
+use crate::first_among::{earlier, first_among};
 use crate::hashes::Nsec3Records;
-use crate::search::{Word, first_to_say};
+use crate::search::Word;
 use dnsv_names::{Hash20, covers};
 use dnsv_records::Nsec3Parameters;
 
@@ -93,7 +94,8 @@ pub fn first_match(records: &Nsec3Records<'_>, asked: AskedName, types: AskedTyp
         parameters,
         types,
     };
-    first_to_say(&word, records.entries)
+    let entries = records.entries;
+    first_among(&word, entries.as_slice(), entries.at(&hash))
 }
 
 /// The place of the first record, with the Opt-Out flag or without, that covers the hash of the asked name.
@@ -111,5 +113,8 @@ pub fn first_cover(records: &Nsec3Records<'_>, asked: AskedName, is_opt_out: boo
         parameters,
         is_opt_out,
     };
-    first_to_say(&word, records.entries)
+    let entries = records.entries;
+    let around = first_among(&word, entries.as_slice(), entries.around(&hash));
+    let wrapping = first_among(&word, entries.as_slice(), entries.wrapping());
+    earlier(around, wrapping)
 }

@@ -33,7 +33,7 @@ pub fn record_number(place: usize, records: &ChainRecords<'_>) -> RecordNumber
 {
     match records {
         ChainRecords::Nsec(entries) => nsec_number(place, entries),
-        ChainRecords::Nsec3(hashed) => nsec3_number(place, hashed.entries),
+        ChainRecords::Nsec3(hashed) => nsec3_number(place, hashed.entries.as_slice()),
     }
 }
 

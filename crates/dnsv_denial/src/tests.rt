@@ -163,7 +163,7 @@ impl HashedChain {
         &'a self,
         alloc: Global,
         owner: &'a Name,
-    ) -> Result<Vec<Nsec3Entry<'a>>, AllocError> {
+    ) -> Result<Nsec3Entries<'a>, AllocError> {
         let mut entries = Vec::new(alloc);
         for (place, (hash, denial)) in self.hashes.iter().zip(self.denials.iter()).enumerate() {
             let Some(usable) = denial.usable() else {
@@ -185,7 +185,7 @@ impl HashedChain {
                 return Err(AllocError);
             };
         }
-        Ok(entries)
+        Nsec3Entries::new(alloc, entries)
     }
 }
 

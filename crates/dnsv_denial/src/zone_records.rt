@@ -14,9 +14,10 @@ ghost use Rattle.dnsv_denial.specs.Viewed.{SecuredIn};
 
 use crate::chain_proof::chain_proof;
 use crate::denial::Denial;
-use crate::entry::{Nsec3Entry, NsecEntry};
+use crate::entry::NsecEntry;
 use crate::hashes::Nsec3Records;
 use crate::hashing::HashedNames;
+use crate::nsec3_entries::Nsec3Entries;
 use crate::proof::Proof;
 use crate::records::ChainRecords;
 use dnsv_names::Name;
@@ -38,8 +39,8 @@ pub struct ZoneRecords<'a> {
     pub zone: Name,
     /// Its NSEC records, in the order of their numbers.
     pub nsecs: Vec<NsecEntry<'a>>,
-    /// Its NSEC3 records, in the order of their numbers, whatever their parameters.
-    pub nsec3s: Vec<Nsec3Entry<'a>>,
+    /// Its NSEC3 records, whatever their parameters.
+    pub nsec3s: Nsec3Entries<'a>,
 }
 
 /// The first proof of the denial by the zone's records, or `None` where they prove none: NSEC before NSEC3, and NSEC3

@@ -12,5 +12,5 @@ returns-in-Nsec c = λ apex name some.
 
 pub returns-in-Nsec3 : goal.returns-in-Nsec3
 returns-in-Nsec3 c = λ apex name some.
-    nsec3_delegation apex name c.first_to_say-in-Nsec3.result c.is_some-in-Nsec3.result c.is_some-in-Nsec3.ensures c.in-Nsec3.hashed.now c.first_to_say-in-Nsec3.ensures
+    nsec3_delegation apex name c.first_to_say-in-Nsec3.result c.is_some-in-Nsec3.result c.is_some-in-Nsec3.ensures c.in-Nsec3.hashed.now (rw c.as_slice.ensures at c.first_to_say-in-Nsec3.ensures)
     (subst (λ records. (words (chain_said apex records)).TypesAt name IsUnsignedDelegation) c.in-Nsec3.is some)

@@ -9,7 +9,7 @@ loop-labels-init c = rw c.new-zones.ensures.items (no_zones (SecuredIn c.args.tr
 pub loop-labels-preserved : goal.loop-labels-preserved
 loop-labels-preserved c = rw c.in_ok-push.ensures.items
     (zone_more (SecuredIn c.args.trust.now) c.args.capture.now.rrsets c.args.name.now c.loop-labels.labels c.loop-labels.zones.items _ c.suffix-zone.ensures.labels
-    (record { nsecs = c.in_ok-nsecs.ensures; nsec3s = c.in_ok-nsec3s.ensures }) c.loop-labels.invariant)
+    (record { nsecs = c.in_ok-nsecs.ensures; nsec3s = rw c.in_ok-nsec3s.ensures c.in_ok-records.ensures }) c.loop-labels.invariant)
 
 pub returns : goal.returns
 returns c = record {

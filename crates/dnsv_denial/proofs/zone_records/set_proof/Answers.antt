@@ -5,4 +5,4 @@ use Rattle.dnsv_denial.proofs.zone_records.set_proof.Goals as goal
 
 pub returns : goal.returns
 returns c = λ trust rrsets is.
-    c.chain_proof.ensures trust rrsets (ByNsec3 (parameters_of c.args.set.now.parameters.now)) (rw c.deref.ensures.value is.nsec3s, refl)
+    c.chain_proof.ensures trust rrsets (ByNsec3 (parameters_of c.args.set.now.parameters.now)) (is.nsec3s, refl)
