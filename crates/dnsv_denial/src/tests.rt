@@ -132,6 +132,10 @@ const NODES: [(&[u8], &[u8]); 7] = [
     (b"sub.example.", b"\x00\x01\x20"),
 ];
 
+/// Whether there is no such name, whether there is no data, the labels of the highest delegation without DS, and those
+/// of the closest encloser where Opt-Out may leave one out.
+type Said = (bool, bool, Option<usize>, Option<usize>);
+
 /// A hashed chain: each node's hash with its record.
 #[derive(Drop)]
 struct HashedChain {
@@ -187,6 +191,27 @@ impl HashedChain {
         }
         Nsec3Entries::new(alloc, entries)
     }
+
+    /// What the chain says of a question.
+    fn said(&self, alloc: Global, text: &[u8], rtype: u16) -> Result<Said, Fail> {
+        let apex = Name::parse(b"example.")?;
+        let entries = self.entries(alloc, &apex)?;
+        let parameters = parameters(alloc)?;
+        let name = Name::parse(text)?;
+        let hashed = hash_names(alloc, &name, &parameters, &mut Count::new())?;
+        let set = Nsec3Records {
+            entries: &entries,
+            name: &name,
+            parameters: &parameters,
+            above: &hashed.above,
+            wildcards: &hashed.wildcards,
+        };
+        let records = ChainRecords::Nsec3(&set);
+        let no_name = no_name(&apex, &name, &records).is_some();
+        let no_data = no_data(&apex, &name, RecordType(rtype), &records).is_some();
+        let cut = unsigned_delegation(&apex, &name, &records);
+        Ok((no_name, no_data, cut, opt_out(&apex, &name, &records)))
+    }
 }
 
 fn parameters(alloc: Global) -> Result<Nsec3Parameters, Fail> {
@@ -210,70 +235,41 @@ fn successor(hashes: &[Hash20], owner: &Hash20) -> Hash20 {
 #[test]
 fn proves_by_nsec3(rt: HostRuntime) -> Result<(), Fail> {
     let chain = HashedChain::new(rt.alloc(), &NODES, 0)?;
-    let apex = Name::parse(b"example.")?;
-    let entries = chain.entries(rt.alloc(), &apex)?;
-    let parameters = parameters(rt.alloc())?;
-    let mut count = Count::new();
     for (text, rtype, missing_name, missing_type, cut) in ROWS {
-        let name = Name::parse(text)?;
-        let hashed = hash_names(rt.alloc(), &name, &parameters, &mut count)?;
-        let set = Nsec3Records {
-            entries: &entries,
-            name: &name,
-            parameters: &parameters,
-            above: &hashed.above,
-            wildcards: &hashed.wildcards,
-        };
-        let records = ChainRecords::Nsec3(&set);
-        assert_eq!(rt;
-            no_name(&apex, &name, &records).is_some(),
-            !missing_name.is_empty()
-        );
-        let proof = no_data(&apex, &name, RecordType(rtype), &records);
-        assert_eq!(rt; proof.is_some(), !missing_type.is_empty());
-        assert_eq!(rt; unsigned_delegation(&apex, &name, &records), cut);
-        assert_eq!(rt; opt_out(&apex, &name, &records), None);
+        let (no_name, no_data, highest, left_out) = chain.said(rt.alloc(), text, rtype)?;
+        assert_eq!(rt; no_name, !missing_name.is_empty());
+        assert_eq!(rt; no_data, !missing_type.is_empty());
+        assert_eq!(rt; highest, cut);
+        assert_eq!(rt; left_out, None);
     }
     Ok(())
 }
+
+/// Where the nodes but the delegation, with the Opt-Out flag in each record, leave one out for each of the questions.
+const LEFT_OUT: [Option<usize>; 11] = [
+    None,
+    None,
+    None,
+    None,
+    Some(2),
+    Some(2),
+    Some(1),
+    Some(2),
+    Some(1),
+    Some(1),
+    Some(1),
+];
 
 // Without the delegation, and with the Opt-Out flag in each record: nothing is proved to be missing below.
 #[test]
 fn opts_out(rt: HostRuntime) -> Result<(), Fail> {
     let chain = HashedChain::new(rt.alloc(), &NODES[..6], 1)?;
-    let apex = Name::parse(b"example.")?;
-    let entries = chain.entries(rt.alloc(), &apex)?;
-    let parameters = parameters(rt.alloc())?;
-    let mut count = Count::new();
-    let left_out: [Option<usize>; 11] = [
-        None,
-        None,
-        None,
-        None,
-        Some(2),
-        Some(2),
-        Some(1),
-        Some(2),
-        Some(1),
-        Some(1),
-        Some(1),
-    ];
     for (place, (text, rtype, _, _, _)) in ROWS.iter().enumerate() {
-        let name = Name::parse(text)?;
-        let hashed = hash_names(rt.alloc(), &name, &parameters, &mut count)?;
-        let set = Nsec3Records {
-            entries: &entries,
-            name: &name,
-            parameters: &parameters,
-            above: &hashed.above,
-            wildcards: &hashed.wildcards,
-        };
-        let records = ChainRecords::Nsec3(&set);
-        assert!(rt; no_name(&apex, &name, &records).is_none());
-        let proof = no_data(&apex, &name, RecordType(*rtype), &records);
-        assert_eq!(rt; proof.is_some(), place < 4);
-        assert_eq!(rt; unsigned_delegation(&apex, &name, &records), None);
-        assert_eq!(rt; opt_out(&apex, &name, &records), left_out[place]);
+        let (no_name, no_data, highest, left_out) = chain.said(rt.alloc(), text, *rtype)?;
+        assert!(rt; !no_name);
+        assert_eq!(rt; no_data, place < 4);
+        assert_eq!(rt; highest, None);
+        assert_eq!(rt; left_out, LEFT_OUT[place]);
     }
     Ok(())
 }

@@ -51,27 +51,27 @@ fn chain(alloc: Global, count: usize) -> Result<Evidence, Fail> {
 fn a_whole_chain_proves_what_its_zone_lacks(rt: HostRuntime) -> Result<(), Fail> {
     let alloc = rt.alloc();
     let whole = chain(alloc, 5)?;
-    whole.expect(alloc, b"example.", 1, "none, example. 2.1, none")?;
-    whole.expect(alloc, b"a.example.", 16, "none, example. 3.1, none")?;
-    whole.expect(alloc, b"w.example.", 1, "none, example. 4.1, none")?;
-    whole.expect(alloc, b"y.example.", 1, "none, example. 5.1, none")?;
-    whole.expect(alloc, b"q.w.example.", 1, "none, example. 4.1 5.1, none")?;
-    whole.expect(alloc, b"q.w.example.", 16, "none, none, none")?;
-    whole.expect(alloc, b"z.example.", 1, "example. 2.1 6.1, none, none")?;
-    whole.expect(alloc, b"a.a.example.", 1, "example. 2.1 3.1, none, none")?;
-    whole.expect(
+    whole.expect_each(
         alloc,
-        b"sub.example.",
-        43,
-        "none, example. 4.1, sub.example.",
+        &[
+            (b"example.", 1, "none, example. 2.1, none"),
+            (b"a.example.", 16, "none, example. 3.1, none"),
+            (b"w.example.", 1, "none, example. 4.1, none"),
+            (b"y.example.", 1, "none, example. 5.1, none"),
+            (b"q.w.example.", 1, "none, example. 4.1 5.1, none"),
+            (b"q.w.example.", 16, "none, none, none"),
+            (b"z.example.", 1, "example. 2.1 6.1, none, none"),
+            (b"a.a.example.", 1, "example. 2.1 3.1, none, none"),
+            (b"sub.example.", 43, "none, example. 4.1, sub.example."),
+            (b"sub.example.", 1, "none, none, sub.example."),
+            (b"b.sub.example.", 1, "none, none, sub.example."),
+            // A name outside of the zone, and one that is spelled otherwise.
+            (b"z.", 1, "none, none, none"),
+            (b"Z.EXAMPLE.", 1, "EXAMPLE. 2.1 6.1, none, none"),
+            // The DS of the zone's name is for the zone above to say.
+            (b"example.", 43, "none, none, none"),
+        ],
     )?;
-    whole.expect(alloc, b"sub.example.", 1, "none, none, sub.example.")?;
-    whole.expect(alloc, b"b.sub.example.", 1, "none, none, sub.example.")?;
-    // A name outside of the zone, and one that is spelled otherwise.
-    whole.expect(alloc, b"z.", 1, "none, none, none")?;
-    whole.expect(alloc, b"Z.EXAMPLE.", 1, "EXAMPLE. 2.1 6.1, none, none")?;
-    // The DS of the zone's name is for the zone above to say.
-    whole.expect(alloc, b"example.", 43, "none, none, none")?;
     Ok(())
 }
 
@@ -79,13 +79,18 @@ fn a_whole_chain_proves_what_its_zone_lacks(rt: HostRuntime) -> Result<(), Fail>
 fn no_closer_name_is_shown_for_the_labels_that_are_asked(rt: HostRuntime) -> Result<(), Fail> {
     let alloc = rt.alloc();
     let whole = chain(alloc, 5)?;
-    whole.expect_closer(alloc, b"q.w.example.", 2, "example. 5.1, none")?;
-    // `w.example.` is there, and no labels are above the name, or outside of the zone.
-    whole.expect_closer(alloc, b"q.w.example.", 1, "none, none")?;
-    whole.expect_closer(alloc, b"q.w.example.", 3, "none, none")?;
-    whole.expect_closer(alloc, b"q.w.example.", 0, "none, none")?;
-    whole.expect_closer(alloc, b"q.w.example.", 9, "none, none")?;
-    whole.expect_closer(alloc, b"z.", 0, "none, none")?;
+    whole.expect_closers(
+        alloc,
+        &[
+            (b"q.w.example.", 2, "example. 5.1, none"),
+            // `w.example.` is there, and no labels are above the name, or outside of the zone.
+            (b"q.w.example.", 1, "none, none"),
+            (b"q.w.example.", 3, "none, none"),
+            (b"q.w.example.", 0, "none, none"),
+            (b"q.w.example.", 9, "none, none"),
+            (b"z.", 0, "none, none"),
+        ],
+    )?;
     Ok(())
 }
 
@@ -93,8 +98,13 @@ fn no_closer_name_is_shown_for_the_labels_that_are_asked(rt: HostRuntime) -> Res
 fn what_is_not_shown_is_not_proved(rt: HostRuntime) -> Result<(), Fail> {
     let alloc = rt.alloc();
     let without_the_last = chain(alloc, 4)?;
-    without_the_last.expect(alloc, b"z.example.", 1, "none, none, none")?;
-    without_the_last.expect(alloc, b"a.a.example.", 1, "example. 2.1 3.1, none, none")?;
+    without_the_last.expect_each(
+        alloc,
+        &[
+            (b"z.example.", 1, "none, none, none"),
+            (b"a.a.example.", 1, "example. 2.1 3.1, none, none"),
+        ],
+    )?;
     let nothing = chain(alloc, 0)?;
     nothing.expect(alloc, b"z.example.", 1, "none, none, none")?;
     nothing.expect_closer(alloc, b"z.example.", 1, "none, none")?;
@@ -111,9 +121,14 @@ fn the_last_record_of_the_circle_covers_both_ends(rt: HostRuntime) -> Result<(),
     // A circle of one covers all else, and shows alone that neither the name nor the wildcard is there.
     let circle = b"\x07example\x00\x00\x07\x22\x00\x00\x00\x00\x03\x80";
     let alone = Evidence::of(alloc, &[by_example(b"example.", 47, circle, 1)])?;
-    alone.expect(alloc, b"a.example.", 1, "example. 2.1, none, none")?;
-    alone.expect(alloc, b"b.a.example.", 1, "example. 2.1, none, none")?;
-    alone.expect(alloc, b"example.", 16, "none, example. 2.1, none")?;
+    alone.expect_each(
+        alloc,
+        &[
+            (b"a.example.", 1, "example. 2.1, none, none"),
+            (b"b.a.example.", 1, "example. 2.1, none, none"),
+            (b"example.", 16, "none, example. 2.1, none"),
+        ],
+    )?;
     Ok(())
 }
 
@@ -122,9 +137,14 @@ fn a_name_with_names_below_it_has_no_data(rt: HostRuntime) -> Result<(), Fail> {
     let alloc = rt.alloc();
     let inner = b"\x01x\x01b\x07example\x00\x00\x06\x40\x00\x00\x00\x00\x03";
     let evidence = Evidence::of(alloc, &[by_example(b"a.example.", 47, inner, 2)])?;
-    evidence.expect(alloc, b"b.example.", 1, "none, example. 2.1, none")?;
-    // `a.b.example.` lies between the two as well. Nothing speaks of the wildcard there but the same record.
-    evidence.expect(alloc, b"a.b.example.", 1, "example. 2.1, none, none")?;
+    evidence.expect_each(
+        alloc,
+        &[
+            (b"b.example.", 1, "none, example. 2.1, none"),
+            // `a.b.example.` lies between the two as well. Nothing speaks of the wildcard there but the same record.
+            (b"a.b.example.", 1, "example. 2.1, none, none"),
+        ],
+    )?;
     evidence.expect_closer(alloc, b"a.b.example.", 1, "none, none")?;
     Ok(())
 }
@@ -133,21 +153,31 @@ fn a_name_with_names_below_it_has_no_data(rt: HostRuntime) -> Result<(), Fail> {
 fn a_delegation_speaks_of_its_ds_alone(rt: HostRuntime) -> Result<(), Fail> {
     let alloc = rt.alloc();
     let with_ds = Evidence::of(alloc, &[by_example(b"sub.example.", 47, SIGNED, 2)])?;
-    with_ds.expect(alloc, b"x.sub.example.", 1, "none, none, none")?;
-    with_ds.expect(alloc, b"sub.example.", 43, "none, none, none")?;
-    with_ds.expect(alloc, b"sub.example.", 1, "none, none, none")?;
-    let without = Evidence::of(alloc, &[by_example(b"sub.example.", 47, UNSIGNED, 2)])?;
-    without.expect(alloc, b"x.sub.example.", 1, "none, none, sub.example.")?;
-    without.expect(
+    with_ds.expect_each(
         alloc,
-        b"sub.example.",
-        43,
-        "none, example. 2.1, sub.example.",
+        &[
+            (b"x.sub.example.", 1, "none, none, none"),
+            (b"sub.example.", 43, "none, none, none"),
+            (b"sub.example.", 1, "none, none, none"),
+        ],
     )?;
-    without.expect(alloc, b"sub.example.", 1, "none, none, sub.example.")?;
+    let without = Evidence::of(alloc, &[by_example(b"sub.example.", 47, UNSIGNED, 2)])?;
+    without.expect_each(
+        alloc,
+        &[
+            (b"x.sub.example.", 1, "none, none, sub.example."),
+            (b"sub.example.", 43, "none, example. 2.1, sub.example."),
+            (b"sub.example.", 1, "none, none, sub.example."),
+        ],
+    )?;
     // What lies below the delegation isn't denied by its record, and what is beside it is covered.
-    without.expect_closer(alloc, b"x.sub.example.", 2, "none, none")?;
-    without.expect_closer(alloc, b"suc.example.", 1, "example. 2.1, none")?;
+    without.expect_closers(
+        alloc,
+        &[
+            (b"x.sub.example.", 2, "none, none"),
+            (b"suc.example.", 1, "example. 2.1, none"),
+        ],
+    )?;
     Ok(())
 }
 
@@ -158,12 +188,22 @@ fn a_dname_and_a_cname_stand_against_denials(rt: HostRuntime) -> Result<(), Fail
     let dname = b"\x01t\x07example\x00\x00\x06\x00\x00\x00\x00\x01\x03";
     let cname = b"\x01t\x07example\x00\x00\x06\x04\x00\x00\x00\x00\x03";
     let below = Evidence::of(alloc, &[by_example(b"d.example.", 47, dname, 2)])?;
-    below.expect(alloc, b"x.d.example.", 1, "none, none, none")?;
-    below.expect(alloc, b"d.example.", 1, "none, example. 2.1, none")?;
+    below.expect_each(
+        alloc,
+        &[
+            (b"x.d.example.", 1, "none, none, none"),
+            (b"d.example.", 1, "none, example. 2.1, none"),
+        ],
+    )?;
     below.expect_closer(alloc, b"x.d.example.", 2, "none, none")?;
     let alias = Evidence::of(alloc, &[by_example(b"d.example.", 47, cname, 2)])?;
-    alias.expect(alloc, b"d.example.", 1, "none, none, none")?;
-    alias.expect(alloc, b"x.d.example.", 1, "example. 2.1, none, none")?;
+    alias.expect_each(
+        alloc,
+        &[
+            (b"d.example.", 1, "none, none, none"),
+            (b"x.d.example.", 1, "example. 2.1, none, none"),
+        ],
+    )?;
     Ok(())
 }
 
@@ -182,10 +222,15 @@ fn expanded_records_and_those_of_other_signers_deny_nothing(rt: HostRuntime) -> 
         ..key_of_sub()
     };
     let evidence = Evidence::of(alloc, &[key_of_sub(), child])?;
-    evidence.expect(alloc, b"zz.example.", 1, "none, none, none")?;
-    evidence.expect(alloc, b"a.sub.example.", 1, "sub.example. 3.1, none, none")?;
-    evidence.expect(alloc, b"sub.example.", 16, "none, sub.example. 3.1, none")?;
-    evidence.expect(alloc, b"sub.example.", 43, "none, none, none")?;
+    evidence.expect_each(
+        alloc,
+        &[
+            (b"zz.example.", 1, "none, none, none"),
+            (b"a.sub.example.", 1, "sub.example. 3.1, none, none"),
+            (b"sub.example.", 16, "none, sub.example. 3.1, none"),
+            (b"sub.example.", 43, "none, none, none"),
+        ],
+    )?;
     evidence.expect_closer(alloc, b"a.sub.example.", 1, "none, none")?;
     Ok(())
 }
@@ -203,12 +248,16 @@ fn the_zone_with_most_labels_goes_first(rt: HostRuntime) -> Result<(), Fail> {
         ..key_of_sub()
     };
     let evidence = Evidence::of(alloc, &[parent, parent_last, key_of_sub(), child])?;
-    evidence.expect(alloc, b"a.sub.example.", 1, "sub.example. 5.1, none, none")?;
-    evidence.expect(
+    evidence.expect_each(
         alloc,
-        b"sub.example.",
-        1,
-        "example. 2.1 3.1, sub.example. 5.1, none",
+        &[
+            (b"a.sub.example.", 1, "sub.example. 5.1, none, none"),
+            (
+                b"sub.example.",
+                1,
+                "example. 2.1 3.1, sub.example. 5.1, none",
+            ),
+        ],
     )?;
     Ok(())
 }
@@ -226,7 +275,12 @@ fn records_are_numbered_by_rrset_and_canonical_order(rt: HostRuntime) -> Result<
     );
     let last = by_example(b"z.example.", 47, LAST, 2);
     let evidence = Evidence::of(alloc, &[to_ns, last, to_a])?;
-    evidence.expect(alloc, b"b.example.", 1, "example. 2.1 2.2, none, none")?;
-    evidence.expect(alloc, b"zz.example.", 1, "example. 2.1 3.1, none, none")?;
+    evidence.expect_each(
+        alloc,
+        &[
+            (b"b.example.", 1, "example. 2.1 2.2, none, none"),
+            (b"zz.example.", 1, "example. 2.1 3.1, none, none"),
+        ],
+    )?;
     Ok(())
 }

@@ -28,29 +28,29 @@ fn a_whole_chain_proves_what_its_zone_lacks(rt: HostRuntime) -> Result<(), Fail>
     let alloc = rt.alloc();
     // The RRsets 2 to 8 are those of the nodes in their order. By their hashes they go 2, 3, 7, 4, 5, 6, 8.
     let whole = by_nsec3(alloc, &NODES, &FIRM)?;
-    whole.expect(alloc, b"example.", 1, "none, example. 2.1, none")?;
-    whole.expect(alloc, b"a.example.", 16, "none, example. 3.1, none")?;
-    whole.expect(alloc, b"w.example.", 1, "none, example. 4.1, none")?;
-    whole.expect(alloc, b"y.example.", 1, "none, example. 6.1, none")?;
-    whole.expect(
+    whole.expect_each(
         alloc,
-        b"q.w.example.",
-        1,
-        "none, example. 4.1 5.1 8.1, none",
+        &[
+            (b"example.", 1, "none, example. 2.1, none"),
+            (b"a.example.", 16, "none, example. 3.1, none"),
+            (b"w.example.", 1, "none, example. 4.1, none"),
+            (b"y.example.", 1, "none, example. 6.1, none"),
+            (b"q.w.example.", 1, "none, example. 4.1 5.1 8.1, none"),
+            (b"q.w.example.", 16, "none, none, none"),
+            (b"z.example.", 1, "example. 2.1 7.1, none, none"),
+            (b"a.a.example.", 1, "example. 3.1 7.1, none, none"),
+            (b"sub.example.", 43, "none, example. 8.1, sub.example."),
+            (b"sub.example.", 1, "none, none, sub.example."),
+            (b"b.sub.example.", 1, "none, none, sub.example."),
+        ],
     )?;
-    whole.expect(alloc, b"q.w.example.", 16, "none, none, none")?;
-    whole.expect(alloc, b"z.example.", 1, "example. 2.1 7.1, none, none")?;
-    whole.expect(alloc, b"a.a.example.", 1, "example. 3.1 7.1, none, none")?;
-    whole.expect(
+    whole.expect_closers(
         alloc,
-        b"sub.example.",
-        43,
-        "none, example. 8.1, sub.example.",
+        &[
+            (b"q.w.example.", 2, "example. 8.1, none"),
+            (b"q.w.example.", 1, "none, none"),
+        ],
     )?;
-    whole.expect(alloc, b"sub.example.", 1, "none, none, sub.example.")?;
-    whole.expect(alloc, b"b.sub.example.", 1, "none, none, sub.example.")?;
-    whole.expect_closer(alloc, b"q.w.example.", 2, "example. 8.1, none")?;
-    whole.expect_closer(alloc, b"q.w.example.", 1, "none, none")?;
     Ok(())
 }
 
@@ -58,22 +58,32 @@ fn a_whole_chain_proves_what_its_zone_lacks(rt: HostRuntime) -> Result<(), Fail>
 fn opt_out_leaves_unsigned_delegations_open(rt: HostRuntime) -> Result<(), Fail> {
     let alloc = rt.alloc();
     let open = by_nsec3(alloc, &NODES[..6], &OPT_OUT)?;
-    open.expect(alloc, b"example.", 1, "none, example. 2.1, none")?;
-    open.expect(alloc, b"a.example.", 16, "none, example. 3.1, none")?;
-    open.expect(alloc, b"w.example.", 1, "none, example. 4.1, none")?;
-    open.expect(alloc, b"y.example.", 1, "none, example. 6.1, none")?;
-    open.expect(alloc, b"q.w.example.", 1, "none, none, q.w.example.")?;
-    open.expect(alloc, b"q.w.example.", 16, "none, none, q.w.example.")?;
-    open.expect(alloc, b"z.example.", 1, "none, none, z.example.")?;
-    open.expect(alloc, b"a.a.example.", 1, "none, none, a.a.example.")?;
-    open.expect(alloc, b"sub.example.", 43, "none, none, sub.example.")?;
-    open.expect(alloc, b"sub.example.", 1, "none, none, sub.example.")?;
-    open.expect(alloc, b"b.sub.example.", 1, "none, none, sub.example.")?;
+    open.expect_each(
+        alloc,
+        &[
+            (b"example.", 1, "none, example. 2.1, none"),
+            (b"a.example.", 16, "none, example. 3.1, none"),
+            (b"w.example.", 1, "none, example. 4.1, none"),
+            (b"y.example.", 1, "none, example. 6.1, none"),
+            (b"q.w.example.", 1, "none, none, q.w.example."),
+            (b"q.w.example.", 16, "none, none, q.w.example."),
+            (b"z.example.", 1, "none, none, z.example."),
+            (b"a.a.example.", 1, "none, none, a.a.example."),
+            (b"sub.example.", 43, "none, none, sub.example."),
+            (b"sub.example.", 1, "none, none, sub.example."),
+            (b"b.sub.example.", 1, "none, none, sub.example."),
+        ],
+    )?;
     // The answer from the wildcard may have an unsigned delegation against it.
-    open.expect_closer(alloc, b"q.w.example.", 2, "none, q.w.example.")?;
-    open.expect_closer(alloc, b"q.w.example.", 1, "none, none")?;
-    open.expect_closer(alloc, b"q.w.example.", 0, "none, none")?;
-    open.expect_closer(alloc, b"q.w.example.", 3, "none, none")?;
+    open.expect_closers(
+        alloc,
+        &[
+            (b"q.w.example.", 2, "none, q.w.example."),
+            (b"q.w.example.", 1, "none, none"),
+            (b"q.w.example.", 0, "none, none"),
+            (b"q.w.example.", 3, "none, none"),
+        ],
+    )?;
     Ok(())
 }
 
@@ -98,18 +108,33 @@ const TWELVE: &[u8] = b"\x01\x00\x00\x0c\x04\xaa\xbb\xcc\xdd";
 fn a_circle_of_one_covers_all_else(rt: HostRuntime) -> Result<(), Fail> {
     let alloc = rt.alloc();
     let firm = circle(alloc, OWNER, TWELVE, 2)?;
-    firm.expect(alloc, b"example.", 16, "none, example. 2.1, none")?;
-    firm.expect(alloc, b"EXAMPLE.", 16, "none, EXAMPLE. 2.1, none")?;
-    firm.expect(alloc, b"a.example.", 1, "example. 2.1, none, none")?;
-    firm.expect(alloc, b"b.a.example.", 1, "example. 2.1, none, none")?;
+    firm.expect_each(
+        alloc,
+        &[
+            (b"example.", 16, "none, example. 2.1, none"),
+            (b"EXAMPLE.", 16, "none, EXAMPLE. 2.1, none"),
+            (b"a.example.", 1, "example. 2.1, none, none"),
+            (b"b.a.example.", 1, "example. 2.1, none, none"),
+        ],
+    )?;
     firm.expect_closer(alloc, b"b.a.example.", 1, "example. 2.1, none")?;
     // The DS of the zone's name is for the zone above to say, and DNSKEY is there.
-    firm.expect(alloc, b"example.", 43, "none, none, none")?;
-    firm.expect(alloc, b"example.", 48, "none, none, none")?;
+    firm.expect_each(
+        alloc,
+        &[
+            (b"example.", 43, "none, none, none"),
+            (b"example.", 48, "none, none, none"),
+        ],
+    )?;
     let open = circle(alloc, OWNER, b"\x01\x01\x00\x0c\x04\xaa\xbb\xcc\xdd", 2)?;
-    open.expect(alloc, b"a.example.", 1, "none, none, a.example.")?;
-    open.expect(alloc, b"b.a.example.", 1, "none, none, a.example.")?;
-    open.expect(alloc, b"example.", 16, "none, example. 2.1, none")?;
+    open.expect_each(
+        alloc,
+        &[
+            (b"a.example.", 1, "none, none, a.example."),
+            (b"b.a.example.", 1, "none, none, a.example."),
+            (b"example.", 16, "none, example. 2.1, none"),
+        ],
+    )?;
     open.expect_closer(alloc, b"b.a.example.", 1, "none, a.example.")?;
     Ok(())
 }
@@ -163,8 +188,13 @@ fn one_proof_is_of_one_set_of_parameters(rt: HostRuntime) -> Result<(), Fail> {
     let narrow = by_example(PLAIN_OWNER, 50, NARROW, 2);
     let covering = by_example(ZEROES, 50, COVERING, 2);
     let apart = Evidence::of(alloc, &[covering, narrow])?;
-    apart.expect(alloc, b"a.example.", 1, "none, none, none")?;
-    apart.expect(alloc, b"example.", 16, "none, example. 3.1, none")?;
+    apart.expect_each(
+        alloc,
+        &[
+            (b"a.example.", 1, "none, none, none"),
+            (b"example.", 16, "none, example. 3.1, none"),
+        ],
+    )?;
     apart.expect_closer(alloc, b"a.example.", 1, "example. 2.1, none")?;
     let alone = Evidence::of(alloc, &[covering])?;
     alone.expect(alloc, b"a.example.", 1, "none, none, none")?;
@@ -182,11 +212,21 @@ fn nsec_goes_before_nsec3_and_fewer_iterations_before_more(rt: HostRuntime) -> R
     let circle = b"\x07example\x00\x00\x07\x22\x00\x00\x00\x00\x03\x80";
     let nsec = by_example(b"example.", 47, circle, 1);
     let two = Evidence::of(alloc, &[twelve, plain])?;
-    two.expect(alloc, b"a.example.", 1, "example. 3.1, none, none")?;
-    two.expect(alloc, b"example.", 16, "none, example. 3.1, none")?;
+    two.expect_each(
+        alloc,
+        &[
+            (b"a.example.", 1, "example. 3.1, none, none"),
+            (b"example.", 16, "none, example. 3.1, none"),
+        ],
+    )?;
     let both = Evidence::of(alloc, &[twelve, plain, nsec])?;
-    both.expect(alloc, b"a.example.", 1, "example. 4.1, none, none")?;
-    both.expect(alloc, b"example.", 16, "none, example. 4.1, none")?;
+    both.expect_each(
+        alloc,
+        &[
+            (b"a.example.", 1, "example. 4.1, none, none"),
+            (b"example.", 16, "none, example. 4.1, none"),
+        ],
+    )?;
     both.expect_closer(alloc, b"a.example.", 1, "example. 4.1, none")?;
     Ok(())
 }

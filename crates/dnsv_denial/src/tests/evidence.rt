@@ -100,6 +100,12 @@ fn add(alloc: Global, capture: &mut Capture, sets: &[Signed<'_>]) -> Result<(), 
     Ok(())
 }
 
+/// A question with what is said of it.
+pub type Row = (&'static [u8], u16, &'static str);
+
+/// A name and so many of its labels, with what is said of closer names.
+pub type CloserRow = (&'static [u8], usize, &'static str);
+
 /// A capture with its trust at 1500.
 #[derive(Drop)]
 pub struct Evidence {
@@ -156,6 +162,14 @@ impl Evidence {
         Ok(())
     }
 
+    /// Expects each of these in turn: a name, a type and what is said.
+    pub fn expect_each(&self, alloc: Global, rows: &[Row]) -> Result<(), Fail> {
+        for (name, rtype, wanted) in rows {
+            self.expect(alloc, name, *rtype, wanted)?;
+        }
+        Ok(())
+    }
+
     /// Fails where the proof that the zone has no closer name than so many labels, and the next closer name that may
     /// be left out, are others than these.
     pub fn expect_closer(
@@ -173,6 +187,14 @@ impl Evidence {
         let said = format!(in alloc; "{no_closer}, {loose_closer}")?;
         if said.as_str() != wanted {
             return Err(wanted.into());
+        }
+        Ok(())
+    }
+
+    /// Expects each of these in turn: a name, so many labels of it and what is said.
+    pub fn expect_closers(&self, alloc: Global, rows: &[CloserRow]) -> Result<(), Fail> {
+        for (name, labels, wanted) in rows {
+            self.expect_closer(alloc, name, *labels, wanted)?;
         }
         Ok(())
     }

@@ -31,11 +31,16 @@ fn ds_records_that_cannot_be_used_are_a_cut(rt: HostRuntime) -> Result<(), Fail>
     let alloc = rt.alloc();
     for rdata in [BY_GOST, OF_GOST] {
         let evidence = Evidence::of(alloc, &[ds(rdata)])?;
-        evidence.expect(alloc, b"www.sub.example.", 1, "none, none, sub.example.")?;
-        evidence.expect(alloc, b"WWW.Sub.Example.", 1, "none, none, Sub.Example.")?;
-        evidence.expect(alloc, b"sub.example.", 1, "none, none, sub.example.")?;
-        evidence.expect(alloc, b"example.", 1, "none, none, none")?;
-        evidence.expect(alloc, b"www.suc.example.", 1, "none, none, none")?;
+        evidence.expect_each(
+            alloc,
+            &[
+                (b"www.sub.example.", 1, "none, none, sub.example."),
+                (b"WWW.Sub.Example.", 1, "none, none, Sub.Example."),
+                (b"sub.example.", 1, "none, none, sub.example."),
+                (b"example.", 1, "none, none, none"),
+                (b"www.suc.example.", 1, "none, none, none"),
+            ],
+        )?;
     }
     let neither = Evidence::of(alloc, &[ds(BY_GOST), ds(OF_GOST)])?;
     neither.expect(alloc, b"www.sub.example.", 1, "none, none, sub.example.")?;
@@ -95,8 +100,13 @@ fn the_highest_of_them_goes_first(rt: HostRuntime) -> Result<(), Fail> {
         evidence.expect(alloc, b"b.a.sub.example.", 1, "none, none, sub.example.")?;
     }
     let usable_above = Evidence::of(alloc, &[ds(BY_SHA256), below])?;
-    usable_above.expect(alloc, b"b.a.sub.example.", 1, "none, none, a.sub.example.")?;
-    usable_above.expect(alloc, b"b.b.sub.example.", 1, "none, none, none")?;
+    usable_above.expect_each(
+        alloc,
+        &[
+            (b"b.a.sub.example.", 1, "none, none, a.sub.example."),
+            (b"b.b.sub.example.", 1, "none, none, none"),
+        ],
+    )?;
     Ok(())
 }
 
@@ -107,8 +117,13 @@ fn a_delegation_without_ds_goes_before_unusable_ones(rt: HostRuntime) -> Result<
     let higher = by_example(b"s.example.", 43, BY_GOST, 2);
     let lower = by_example(b"sub.s.example.", 47, UNSIGNED, 3);
     let both = Evidence::of(alloc, &[higher, lower])?;
-    both.expect(alloc, b"x.sub.s.example.", 1, "none, none, sub.s.example.")?;
-    both.expect(alloc, b"x.s.example.", 1, "none, none, s.example.")?;
+    both.expect_each(
+        alloc,
+        &[
+            (b"x.sub.s.example.", 1, "none, none, sub.s.example."),
+            (b"x.s.example.", 1, "none, none, s.example."),
+        ],
+    )?;
     // DS records of a zone's own name that the zone itself signs aren't secured.
     let own = Evidence::of(alloc, &[by_example(b"example.", 43, BY_GOST, 1)])?;
     own.expect(alloc, b"x.example.", 1, "none, none, none")?;
@@ -132,8 +147,13 @@ fn opt_out_goes_last(rt: HostRuntime) -> Result<(), Fail> {
     let open = by_example(b"3msev9usmd4br9s97v51r2tdvmr9iqo1.example.", 50, circle, 2);
     let unusable = by_example(b"a.sub.example.", 43, BY_GOST, 3);
     let both = Evidence::of(alloc, &[open, unusable])?;
-    both.expect(alloc, b"b.a.sub.example.", 1, "none, none, a.sub.example.")?;
-    both.expect(alloc, b"b.b.sub.example.", 1, "none, none, sub.example.")?;
+    both.expect_each(
+        alloc,
+        &[
+            (b"b.a.sub.example.", 1, "none, none, a.sub.example."),
+            (b"b.b.sub.example.", 1, "none, none, sub.example."),
+        ],
+    )?;
     let lower = by_example(b"b.a.sub.example.", 47, UNSIGNED, 4);
     let all = Evidence::of(alloc, &[open, unusable, lower])?;
     all.expect(
