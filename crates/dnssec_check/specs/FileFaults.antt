@@ -53,7 +53,8 @@ pub record TellsFaults {R T : Type 0} (IsFirst : Files → Fault → Type 0) (re
   pub first : (files : Files) → AreTold remaining before files → IfErr result (OfOctets (IsFirst files))
   pub capture : TellsFailedReads Capture (failures_of before.capture) (failures_of after.capture) result
   pub anchors : TellsFailedReads Anchors (given_failures before.anchors) (given_failures after.anchors) result
-  pub statements : TellsFailedReads Statements (given_failures before.statements) (given_failures after.statements) result
+  pub statements : TellsFailedReads Statements (given_failures before.statements) (given_failures after.statements)
+      result
   pub keys : TellsFailedReads Keys (given_failures before.keys) (given_failures after.keys) result
   pub macs : TellsFailedReads Macs (given_failures before.macs) (given_failures after.macs) result
   -- a file that is open can't fail to open

@@ -21,7 +21,8 @@ abbrev pub statements_of : Request → Option (List ℕ)
 statements_of (request.Show capture) = None
 statements_of (request.List capture moment statements true) = None
 statements_of (request.List capture moment statements false) = option_map string_bytes statements
-statements_of (request.Check capture anchors moment name rtype statements keys macs) = option_map string_bytes statements
+statements_of (request.Check capture anchors moment name rtype statements keys macs) =
+    option_map string_bytes statements
 
 -- the path of the file of keys, where one is read
 abbrev pub keys_of : Request → Option (List ℕ)

@@ -38,8 +38,8 @@ use std::io::Read;
 pub fn messages_in<R: Read>(alloc: Global, capture: &mut Counted<R>) -> Result<Vec<Message>, Fault>
     ensures messages { IfOk result (λ messages. IfSome (R.remaining (inner_of capture.old)) (λ file.
         Holds AnyMessage Bare file messages.items)) }
-    ensures faults { TellsFileFaults InputFile.Capture (IsFaultOfCapture AnyMessage Bare) (R.remaining (inner_of capture.old))
-        (failures_of capture.old) (failures_of capture.new) result }
+    ensures faults { TellsFileFaults InputFile.Capture (IsFaultOfCapture AnyMessage Bare)
+        (R.remaining (inner_of capture.old)) (failures_of capture.old) (failures_of capture.new) result }
 {
     let frames = frames(alloc, capture)?;
     messages_of_frames(alloc, &frames)
@@ -95,7 +95,8 @@ fn read_fault(error: ReadError) -> Fault
 fn messages_of_frames(alloc: Global, frames: &[Vec<u8>]) -> Result<Vec<Message>, Fault>
     ensures taken { IfOk result (λ messages.
         AllTaken AnyMessage Bare no_evidence 1 (octets_of_each frames.now) messages.items) }
-    ensures refused { IfErr result (IsFaultOf (FirstRefused AnyMessage Bare no_evidence 1 (octets_of_each frames.now))) }
+    ensures refused { IfErr result
+        (IsFaultOf (FirstRefused AnyMessage Bare no_evidence 1 (octets_of_each frames.now))) }
 {
     let mut messages = Vec::new(alloc);
     for (index, frame) in frames.iter().enumerate() {

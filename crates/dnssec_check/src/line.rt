@@ -84,8 +84,8 @@ impl From<clap::Error> for LineError {
 ///
 /// Whatever `clap` takes for the commands `show --capture FILE`,
 /// `list --capture FILE --moment N [--statements FILE] [--all]` and
-/// `check --capture FILE --anchors FILE --moment N --name NAME --type N [--statements FILE] [--keys FILE] [--macs FILE]`
-/// is a request, and each error is one that `clap` gives there, or the want of memory.
+/// `check --capture FILE --anchors FILE --moment N --name NAME --type N` with `[--statements FILE]`, `[--keys FILE]` and
+/// `[--macs FILE]` is a request, and each error is one that `clap` gives there, or the want of memory.
 pub fn read_line<S: AsStr>(alloc: Global, words: &[S]) -> Result<Request, LineError>
     ensures accepted { IfOk result (λ request. IsAccepted (map S.text words.now) request) }
     ensures refused { IfErr result (λ error. IsRefused (map S.text words.now) error) }
@@ -176,7 +176,8 @@ fn given_value(
     matches: &ArgMatches<'_>,
     option: &str,
 ) -> Result<Option<String>, AllocError>
-    ensures { IfOk result (λ text. first_of option.now (rows_of (found_of matches.now)) ≡ option_map string_bytes text) }
+    ensures { IfOk result (λ text. first_of option.now (rows_of (found_of matches.now))
+        ≡ option_map string_bytes text) }
 {
     match matches.get_str(option) {
         Some(text) => Ok(Some(String::from_str(alloc, text)?)),

@@ -140,7 +140,8 @@ fn open_given<M: Machine>(
     path: Option<&str>,
 ) -> Result<Option<Counted<M::File>>, Fault>
     ensures octets { (octets : Option (List ℕ))
-        → option_map (M.octets_at machine.now) (option_map (λ path. path.now) path.entry) ≡ option_map (λ each. Some each) octets
+        → option_map (M.octets_at machine.now) (option_map (λ path. path.now) path.entry)
+        ≡ option_map (λ each. Some each) octets
         → IfOk result (λ opened. IsToldBy M.File.remaining opened octets) }
     ensures opened { (opens : List ℕ → Bool) → ((path : List ℕ) → M.opens machine.now path ≡ Some (opens path))
         → (others : List (InputFile × List ℕ)) → OnOk result (first_unopened opens

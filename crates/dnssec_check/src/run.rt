@@ -50,8 +50,8 @@ pub struct Inputs<R> {
 ///
 /// The answer is a status where the output got the whole text, and else the first fault in the order of the
 /// work: the question's name and type, the keys, the MACs of requests, reading the file of captured messages, its
-/// framing, the number of the MACs, each message in turn, the trust anchors, and then the statements. A write that fails is not tried again; the output then has a beginning of
-/// the text.
+/// framing, the number of the MACs, each message in turn, the trust anchors, and then the statements. A write that
+/// fails is not tried again; the output then has a beginning of the text.
 pub fn run<R: Read, W: Write>(
     alloc: Global,
     request: &Request,
@@ -165,7 +165,8 @@ fn answered<R: Read>(
 ) -> Result<Outcome, Fault>
     ensures text { (files : Files) → AreTold R.remaining inputs.old files → IfOk result (λ outcome.
         IsAnswered asked.now rtype.0 moment files outcome.status (string_bytes outcome.text)) }
-    ensures faults { TellsFaults (IsFirstFaultOfCheck asked.now rtype.0 moment) R.remaining inputs.old inputs.new result }
+    ensures faults { TellsFaults (IsFirstFaultOfCheck asked.now rtype.0 moment) R.remaining inputs.old inputs.new
+        result }
     ensures unwritten { IfErr result (λ fault. fault ≡ Fault.WriteFailed → ⊥) }
 {
     let name = question_name(asked, rtype)?;

@@ -202,7 +202,8 @@ pub record AddsTrusted
   pub kept : (zone : Labels) (key : DnskeyRecord) → Contains (old zone) key → Contains (new zone) key
   pub cases : (zone : Labels) (key : DnskeyRecord) → Contains (new zone) key
       → Contains (old zone) key
-      ⊎ (IsSignedByVouched meaning moment anchors (delegations set.owner) set × SameName set.owner zone × IsKeyOf set key)
+      ⊎ (IsSignedByVouched meaning moment anchors (delegations set.owner) set × SameName set.owner zone
+      × IsKeyOf set key)
 
 -- the DS RRset is added where a signature of it is good under a key of its signer
 pub record AddsDelegation

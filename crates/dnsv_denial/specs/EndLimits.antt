@@ -20,8 +20,10 @@ ShowsNoMore name shown entry =
 
 -- the record shows none of the name's ancestors with fewer labels than so many to be no node
 abbrev pub DeniesNoFewer : Labels → ℕ → NsecEntry → Type 0
-DeniesNoFewer name absent entry = (labels : ℕ) → labels < absent → ¬ IsAbsentBy (read_entry entry) (rightmost name labels)
+DeniesNoFewer name absent entry =
+    (labels : ℕ) → labels < absent → ¬ IsAbsentBy (read_entry entry) (rightmost name labels)
 
 -- it is so of the first entries
 abbrev pub HoldsOfFirst : (NsecEntry → Type 0) → List NsecEntry → ℕ → Type 0
-HoldsOfFirst Holds entries count = (k : ℕ) (entry : NsecEntry) → k < count → slice_get entries k ≡ Some entry → Holds entry
+HoldsOfFirst Holds entries count =
+    (k : ℕ) (entry : NsecEntry) → k < count → slice_get entries k ≡ Some entry → Holds entry

@@ -18,16 +18,16 @@ pub fn a_question_has_one_verdict()
 {}
 
 /// A question has a verdict: it can't be that no verdict is the one. With the law above it has exactly one. Some of the
-/// cases ask whether records prove something, which their definitions don't decide; so the law says that none fails, and
-/// not which one it is.
+/// cases ask whether records prove something, which their definitions don't decide; so the law says that none fails,
+/// and not which one it is.
 pub fn a_question_has_a_verdict()
     ensures { (basis : Basis) (name : Labels) (t : ℕ)
         → ¬ ((verdict : Verdict) → ¬ IsVerdictAt basis name t verdict) }
 {}
 
 /// Where a verdict depends on entries, a verifier that says Valid of these, and of each other entry what was said,
-/// leads to a verdict that depends on none: a secure one, or that the name may be unsigned. So a verdict never depends on
-/// an empty list.
+/// leads to a verdict that depends on none: a secure one, or that the name may be unsigned. So a verdict never depends
+/// on an empty list.
 pub fn valid_answers_settle_what_depends_on_them()
     ensures settles { (basis : Basis) (name : Labels) (t : ℕ) (entries : List Entry) (later : Entry → Answer)
         → IsVerdictAt basis name t (Verdict.Pending entries)

@@ -52,7 +52,8 @@ named_by rrsig = record { tag = rrsig.key_tag.0; algorithm = rrsig.algorithm.0; 
 -- by tag, algorithm and owner
 abbrev pub key_name_cmp : KeyName → KeyName → Ordering
 key_name_cmp a b =
-    ordering_then (ordering_then (nat_cmp a.tag b.tag) (nat_cmp a.algorithm b.algorithm)) (canonical_cmp a.owner b.owner)
+    ordering_then (ordering_then (nat_cmp a.tag b.tag) (nat_cmp a.algorithm b.algorithm))
+    (canonical_cmp a.owner b.owner)
 
 -- what the signature of the RRset gives to its entries
 pub record IsPartOf (rrset : ReceivedRrset) (rrsig : Rrsig) (part : SignaturePart) : Type 0 where

@@ -128,7 +128,8 @@ fn add_signature(
     rrsig: &Rrsig,
     entries: &mut Vec<SharedEntry>,
 ) -> Result<(), AllocError>
-    ensures { OnOk result (AddsJust (IsAskedOf moment keys.now rrset.now rrsig.now) entries.old.items entries.new.items) }
+    ensures { OnOk result
+        (AddsJust (IsAskedOf moment keys.now rrset.now rrsig.now) entries.old.items entries.new.items) }
 {
     if !is_verifiable(moment, rrset, rrsig) {
         return Ok(());

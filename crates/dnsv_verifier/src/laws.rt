@@ -64,8 +64,8 @@ pub fn a_table_is_its_verifier()
         → IsTableOf meaning moment rrsets a → IsTableOf meaning moment rrsets b → a ≡ b }
 {}
 
-/// A verifier that says Valid of each Unknown entry of a table, and of each other asked entry what the table's does, has
-/// the hopeful table.
+/// A verifier that says Valid of each Unknown entry of a table, and of each other asked entry what the table's does,
+/// has the hopeful table.
 pub fn unknown_entries_may_turn_out_valid()
     ensures hopeful { (meaning later : Entry → Answer) (moment : ℕ) (rrsets : List ReceivedRrset)
         (contents : TableContents) → IsTableOf meaning moment rrsets contents
