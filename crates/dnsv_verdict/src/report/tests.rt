@@ -141,25 +141,22 @@ fn proved(alloc: Global, word: &str, proof: &Proof) -> Result<String, Fail> {
     Ok(text)
 }
 
-/// The verdict at 1500 from the anchor, where all signatures are good.
-fn judged(alloc: Global, sets: &[Signed<'_>], name: &[u8], rtype: u16) -> Result<String, Fail> {
-    let capture = evidence(alloc, sets)?;
-    let anchors = Anchors::parse(alloc, ANCHOR)?;
+/// The report at 1500 by the anchors.
+fn asked<V: Verifier>(
+    alloc: Global,
+    capture: &Capture,
+    anchors: &[u8],
+    verifier: &V,
+    name: &[u8],
+    rtype: u16,
+) -> Result<Report, Fail> {
+    let anchors = Anchors::parse(alloc, anchors)?;
     let name = Name::parse(name)?;
-    let all_good = Always(Answer::Valid);
-    let report = validate(
-        alloc,
-        &capture,
-        &anchors,
-        1500,
-        &all_good,
-        &name,
-        RecordType(rtype),
-    )?;
-    told(alloc, &report.verdict)
+    let rtype = RecordType(rtype);
+    Ok(validate(alloc, capture, &anchors, 1500, verifier, &name, rtype)?)
 }
 
-/// Fails where that verdict is another one.
+/// Fails where the verdict on these RRsets, whose signatures are all good, is another one.
 fn expect(
     alloc: Global,
     sets: &[Signed<'_>],
@@ -167,7 +164,10 @@ fn expect(
     rtype: u16,
     wanted: &'static str,
 ) -> Result<(), Fail> {
-    if judged(alloc, sets, name, rtype)?.as_str() != wanted {
+    let capture = evidence(alloc, sets)?;
+    let all_good = Always(Answer::Valid);
+    let report = asked(alloc, &capture, ANCHOR, &all_good, name, rtype)?;
+    if told(alloc, &report.verdict)?.as_str() != wanted {
         return Err(wanted.into());
     }
     Ok(())
@@ -177,29 +177,11 @@ fn expect(
 fn anchors_tell_bogus_from_indeterminate(rt: HostRuntime) -> Result<(), Fail> {
     let alloc = rt.alloc();
     let capture = Capture::new(alloc);
-    let name = Name::parse(b"a.example.")?;
     let all_good = Always(Answer::Valid);
-    let root = Anchors::parse(alloc, b"KEY . 256 3 13 AQID\n")?;
-    let report = validate(
-        alloc,
-        &capture,
-        &root,
-        1500,
-        &all_good,
-        &name,
-        RecordType::A,
-    )?;
+    let root = b"KEY . 256 3 13 AQID\n";
+    let report = asked(alloc, &capture, root, &all_good, b"a.example.", 1)?;
     assert_eq!(rt; told(alloc, &report.verdict)?.as_str(), "bogus");
-    let none = Anchors::parse(alloc, b"")?;
-    let report = validate(
-        alloc,
-        &capture,
-        &none,
-        1500,
-        &all_good,
-        &name,
-        RecordType::A,
-    )?;
+    let report = asked(alloc, &capture, b"", &all_good, b"a.example.", 1)?;
     assert_eq!(rt; told(alloc, &report.verdict)?.as_str(), "indeterminate");
     assert_eq!(rt; report.asked, 0);
     assert_eq!(rt; report.hashed, 0);
@@ -340,17 +322,8 @@ fn a_stronger_ds_beside_another_counts(rt: HostRuntime) -> Result<(), Fail> {
     capture.add(&Message::decode(alloc, octets.as_slice())?)?;
     add(alloc, &mut capture, &child)?;
     add(alloc, &mut capture, &address)?;
-    let anchors = Anchors::parse(alloc, ANCHOR)?;
     let all_good = Always(Answer::Valid);
-    let report = validate(
-        alloc,
-        &capture,
-        &anchors,
-        1500,
-        &all_good,
-        &sub,
-        RecordType::A,
-    )?;
+    let report = asked(alloc, &capture, ANCHOR, &all_good, b"sub.example.", 1)?;
     assert_eq!(rt; told(alloc, &report.verdict)?.as_str(), "bogus");
     Ok(())
 }

@@ -36,17 +36,7 @@ fn report_by<V: Verifier>(alloc: Global, messages: &[&[u8]], verifier: &V) -> Re
     for octets in messages {
         capture.add(&Message::decode(alloc, octets)?)?;
     }
-    let anchors = Anchors::parse(alloc, ANCHOR)?;
-    let name = Name::parse(b"host.example.")?;
-    Ok(validate(
-        alloc,
-        &capture,
-        &anchors,
-        1500,
-        verifier,
-        &name,
-        RecordType::A,
-    )?)
+    asked(alloc, &capture, ANCHOR, verifier, b"host.example.", 1)
 }
 
 /// A file of statements that calls each of these entries good or bad.
