@@ -196,22 +196,33 @@ impl HashedChain {
     fn said(&self, alloc: Global, text: &[u8], rtype: u16) -> Result<Said, Fail> {
         let apex = Name::parse(b"example.")?;
         let entries = self.entries(alloc, &apex)?;
-        let parameters = parameters(alloc)?;
-        let name = Name::parse(text)?;
-        let hashed = hash_names(alloc, &name, &parameters, &mut Count::new())?;
-        let set = Nsec3Records {
-            entries: &entries,
-            name: &name,
-            parameters: &parameters,
-            above: &hashed.above,
-            wildcards: &hashed.wildcards,
-        };
-        let records = ChainRecords::Nsec3(&set);
-        let no_name = no_name(&apex, &name, &records).is_some();
-        let no_data = no_data(&apex, &name, RecordType(rtype), &records).is_some();
-        let cut = unsigned_delegation(&apex, &name, &records);
-        Ok((no_name, no_data, cut, opt_out(&apex, &name, &records)))
+        said_by(alloc, &apex, &entries, text, rtype)
     }
+}
+
+/// What the zone's records say of a question.
+fn said_by(
+    alloc: Global,
+    apex: &Name,
+    entries: &Nsec3Entries<'_>,
+    text: &[u8],
+    rtype: u16,
+) -> Result<Said, Fail> {
+    let parameters = parameters(alloc)?;
+    let name = Name::parse(text)?;
+    let hashed = hash_names(alloc, &name, &parameters, &mut Count::new())?;
+    let set = Nsec3Records {
+        entries,
+        name: &name,
+        parameters: &parameters,
+        above: &hashed.above,
+        wildcards: &hashed.wildcards,
+    };
+    let records = ChainRecords::Nsec3(&set);
+    let no_name = no_name(apex, &name, &records).is_some();
+    let no_data = no_data(apex, &name, RecordType(rtype), &records).is_some();
+    let cut = unsigned_delegation(apex, &name, &records);
+    Ok((no_name, no_data, cut, opt_out(apex, &name, &records)))
 }
 
 fn parameters(alloc: Global) -> Result<Nsec3Parameters, Fail> {
