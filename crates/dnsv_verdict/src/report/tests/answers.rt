@@ -1,5 +1,6 @@
 //! Verdicts that depend on what a verifier says.
 use super::*;
+use std::cell::Cell;
 
 // The DNSKEY RRset of `example.` and its signature, and two equal A records of `Host.Example.` and theirs.
 const KEYS: &[u8] =
@@ -37,6 +38,28 @@ fn report_by<V: Verifier>(alloc: Global, messages: &[&[u8]], verifier: &V) -> Re
         capture.add(&Message::decode(alloc, octets)?)?;
     }
     asked(alloc, &capture, ANCHOR, verifier, b"host.example.", 1)
+}
+
+/// Says the same of every entry, and counts how often it is asked.
+#[derive(Drop)]
+struct Counting {
+    said: Answer,
+    calls: Cell<u64>,
+}
+
+impl Verifier for Counting {
+    ghost meaning = { λ counting entry. counting.said };
+
+    fn answer(
+        &self,
+        _algorithm: Algorithm,
+        _key: &[u8],
+        _signed_data: &[u8],
+        _signature: &[u8],
+    ) -> Answer {
+        self.calls.set(self.calls.get().saturating_add(1));
+        self.said
+    }
 }
 
 /// A file of statements that calls each of these entries good or bad.
@@ -83,9 +106,15 @@ fn a_panel_makes_an_answer_secure(rt: HostRuntime) -> Result<(), Fail> {
 #[test]
 fn what_isnt_known_is_pending(rt: HostRuntime) -> Result<(), Fail> {
     let alloc = rt.alloc();
-    let report = report_by(alloc, &[KEYS, HOST], &Always(Answer::Unknown))?;
+    let unknown = Counting {
+        said: Answer::Unknown,
+        calls: Cell::new(0),
+    };
+    let report = report_by(alloc, &[KEYS, HOST], &unknown)?;
     assert_eq!(rt; told(alloc, &report.verdict)?.as_str(), "pending 2");
     assert_eq!(rt; report.asked, 2);
+    // What depends on them is judged without asking again.
+    assert_eq!(rt; unknown.calls.get(), 2);
 
     let host = statements(alloc, &[("good", HOST_DATA, "aabb")])?;
     let report = report_by(alloc, &[KEYS, HOST], &host)?;
