@@ -66,7 +66,7 @@ class Edit:
 def function_at(folder, path, text):
     """The function in whose body the text stands; `None` where it stands in none."""
     lines = (folder / path).read_text().split("\n")
-    place = next(number for number, line in enumerate(lines) if text in line)
+    place = next((number for number, line in enumerate(lines) if text in line), -1)
     heads = [number for number in range(place + 1) if FUNCTION.match(lines[number])]
     if not heads:
         return None

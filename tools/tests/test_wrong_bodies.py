@@ -1,5 +1,5 @@
-"""Tests of tools/wrong-bodies: that each body is tried once, in the crate that it is of, and what is counted. A program
-that stands in for the kit's `rt` refuses the edits that say so."""
+"""Tests of tools/wrong-bodies: which function a wrong body is of, what a check tells of it, and what is counted. A
+program that stands in for the kit's `rt` proves each function with the body `right`."""
 import os
 import pathlib
 import shutil
@@ -9,76 +9,172 @@ from unittest import mock
 
 from tool import TOOLS, load, run_program
 
-RT = """#!/bin/sh
-if [ "$1" = check ]; then ! [ -e unproved ]; exit; fi
-cd "crates/$2/must-fail"
-for edit in *; do echo "must-fail $2/$edit: $(cat "$edit")"; done
+RT = r"""#!/usr/bin/env python3
+import pathlib, re, sys
+SAID = {"right": "proved", "fine": "proved", "wrong": "no proof: `search` did not prove `returns`; it calls `f`",
+        "stuck": "no proof", "blocked": "no proof: it calls `f`, which is not proved"}
+if sys.argv[1:] == ["check"]:
+    sys.exit(pathlib.Path("unproved").exists())
+if sys.argv[1] == "must-fail":
+    for edit in pathlib.Path("crates", sys.argv[2], "must-fail").iterdir():
+        told = "NOT REFUSED" if "new: fine" in edit.read_text() else "refused, as it must be: a goal"
+        print(f"must-fail {sys.argv[2]}/{edit.name}: {told}")
+    sys.exit()
+bodies = re.findall(r"fn (\w+)\(\) \{\n +(\w+)", pathlib.Path("src/one.rt").read_text())
+for name, body in bodies:
+    alone = body == "blocked" and all(other == "right" for one, other in bodies if one != name)
+    print(f"fn {pathlib.Path.cwd().name}::one::{name}: {SAID['wrong' if alone else body]}")
 """
-REFUSED = "refused, as it must be: a goal"
-PROVED = "NOT REFUSED: the crate is still proved with this edit"
+
+SOURCE = """//! Names.
+const LIMIT: usize = 3;
+
+impl<'a> Ord for Owner<'a> {
+    /// Says what comes first.
+    fn cmp(&self, other: &Self) -> Ordering
+        ensures { result ≡ self }
+    {
+        self.0
+    }
+}
+
+pub fn first() -> usize {
+    LIMIT
+}
+"""
 
 
-class WrongBodies(unittest.TestCase):
+class Room(unittest.TestCase):
     def setUp(self):
         room = tempfile.TemporaryDirectory()
         self.addCleanup(room.cleanup)
-        self.tree = pathlib.Path(room.name)
-        (self.tree / "tools").mkdir()
-        self.tool = shutil.copy(TOOLS / "wrong-bodies", self.tree / "tools")
-        rt = self.tree / "rt"
-        rt.write_text(RT)
-        rt.chmod(0o755)
-        (self.tree / "HANDLES").write_text("Handles allowed: none.\n")
-        (self.tree / "crates.txt").write_text("# Lowest first.\nlower: thiserror\nupper: lower\n")
-        patch = mock.patch.dict(os.environ, PATH=f"{self.tree}:{os.environ['PATH']}", LANES="2")
+        self.room = pathlib.Path(room.name)
+
+
+class Bodies(Room):
+    def setUp(self):
+        super().setUp()
+        (self.room / "src").mkdir()
+        (self.room / "src/names.rt").write_text(SOURCE)
+        self.bodies = load("bodies.py")
+
+    def edit(self, *pairs):
+        texts = [f"old: {old}\nnew: {new}\n" for old, new in pairs]
+        (self.room / "one.edit").write_text("file: src/names.rt\n" + "".join(texts))
+        return self.bodies.Edit.read(self.room, self.room / "one.edit")
+
+    def test_the_function_is_the_one_around_the_text(self):
+        method = self.bodies.Function("names", "Owner", "cmp")
+        self.assertEqual(self.edit(("self.0", "other.0")).function, method)
+        self.assertEqual(self.edit(("    LIMIT", "    LIMIT + 1")).function, self.bodies.Function("names", "", "first"))
+        self.assertTrue(method.is_told_as("names::OwnerOrd::cmp"))
+        for path in ("names::cmp", "owners::OwnerOrd::cmp", "names::OwnerOrd::partial_cmp", "names::LastOwner::cmp"):
+            self.assertFalse(method.is_told_as(path))
+
+    def test_what_is_in_no_body_has_no_function(self):
+        for pair in (("usize = 3", "usize = 4"), ("result ≡ self", "result ≡ other"), ("pub fn first", "pub fn last")):
+            self.assertIsNone(self.edit(pair).function)
+        self.assertIsNone(self.edit(("self.0", "other.0"), ("    LIMIT", "    0")).function)
+
+    def test_a_text_has_to_stand_once(self):
+        source = self.room / "src/names.rt"
+        self.assertTrue(self.edit(("self.0", "other.0"), ("    LIMIT", "    0")).apply(self.room))
+        self.assertEqual(source.read_text(), SOURCE.replace("self.0", "other.0").replace("    LIMIT", "    0"))
+        for old in ("usize", "u16"):
+            self.assertFalse(self.edit(("other.0", "self.0"), (old, "u8")).apply(self.room))
+        self.assertEqual(source.read_text(), SOURCE.replace("self.0", "other.0").replace("    LIMIT", "    0"))
+        self.assertIsNone(self.edit(("u16", "u8")).function)
+
+    def reason(self, said, *errors):
+        edit = self.edit(("    LIMIT", "    LIMIT + 1"))
+        told = "".join(f"./proofs/names/{error}\n" for error in errors) + f"fn upper::names::first: {said}\n"
+        return self.bodies.judged("upper", [edit], told).get(edit)
+
+    def test_only_goals_of_its_own_refuse_it(self):
+        own, other = (f"not proved; it stands on `Rattle.upper.proofs.names.{name}.Answers.returns`, which antt refuses"
+                      for name in ("first", "last"))
+        differs, taken = "first/Answers.antt:7:3: error: `returns`: 3 and 4", "first/Answers.antt:7:3: error: has no field `deref`"
+        self.assertEqual(self.reason("no proof: `search` did not prove `returns`; it calls `f`"), "`search` did not prove `returns`")
+        self.assertEqual(self.reason(own, taken, differs), "`returns`: 3 and 4")
+        self.assertIn("only because a proof file names", self.reason(own, taken))
+        for said in ("no holes", "proved", "not proved", "no proof: it calls `f`, which is not proved", other):
+            self.assertIsNone(self.reason(said, differs.replace("first", "last")))
+
+    def test_batches_have_one_of_a_function(self):
+        edits = [self.edit(("self.0", "other.0")), self.edit(("self.0", "0")), self.edit(("    LIMIT", "    0"))]
+        self.assertEqual([len(batch) for batch in self.bodies.batches_of(edits, 2)], [2, 1])
+        self.assertEqual([len(batch) for batch in self.bodies.batches_of(edits, 1)], [1, 1, 1])
+
+    def test_each_stands_in_its_crate(self):
+        tool = load("wrong-bodies")
+        for crate in tool.order():
+            for edit in tool.edits_of(crate):
+                for path in {path for path, _, _ in edit.pairs}:
+                    (self.room / path).parent.mkdir(parents=True, exist_ok=True)
+                    shutil.copy(TOOLS.parent / "crates" / crate / path, self.room / path)
+                self.assertTrue(edit.apply(self.room), edit.file)
+
+
+class WrongBodies(Room):
+    def setUp(self):
+        super().setUp()
+        (self.room / "tools").mkdir()
+        for name in ("wrong-bodies", "bodies.py"):
+            shutil.copy(TOOLS / name, self.room / "tools")
+        (self.room / "rt").write_text(RT)
+        (self.room / "rt").chmod(0o755)
+        (self.room / "HANDLES").write_text("Handles allowed: none.\n")
+        (self.room / "crates.txt").write_text("# Lowest first.\nlower: thiserror\nupper: lower\n")
+        for crate in ("lower", "upper"):
+            (self.room / "crates" / crate / "src").mkdir(parents=True)
+        patch = mock.patch.dict(os.environ, PATH=f"{self.room}:{os.environ['PATH']}", LANES="2")
         patch.start()
         self.addCleanup(patch.stop)
 
-    def add(self, place, count, told=REFUSED):
-        """Adds so many edits with that answer to the folder."""
-        folder = self.tree / "crates" / place
-        folder.mkdir(parents=True)
-        for number in range(count):
-            (folder / f"{folder.name}_{number}.edit").write_text(told)
+    def add(self, crate, part, *bodies):
+        """Adds a function for each body, and the edit that gives it that body."""
+        folder = self.room / "crates" / crate / part
+        folder.mkdir()
+        with open(self.room / "crates" / crate / "src/one.rt", "a") as source:
+            for number, body in enumerate(bodies):
+                name = f"{part.replace('-', '_')}_{number}"
+                source.write(f"fn {name}() {{\n    right // {name}\n}}\n")
+                (folder / f"{name}.edit").write_text(f"file: src/one.rt\nold: right // {name}\nnew: {body} // {name}\n")
 
     def told(self, *names):
-        status, output, errors = run_program(self.tool, *names)
+        status, output, errors = run_program(self.room / "tools/wrong-bodies", *names)
         return status, output.decode().splitlines(), errors
 
-    def test_each_body_is_tried_once(self):
-        counts = {"lower/must-fail": 3, "lower/wrong-bodies": 70, "upper/wrong-bodies": 2}
-        for place, count in counts.items():
-            self.add(place, count)
+    def test_each_body_is_tried_until_something_is_told(self):
+        self.add("lower", "must-fail", *["wrong"] * 60)
+        self.add("lower", "wrong-bodies", "stuck", "blocked", "blocked", "wrong")
+        self.add("upper", "wrong-bodies", "blocked")
+        before = (self.room / "crates/lower/src/one.rt").read_text()
         status, lines, _ = self.told()
-        bodies = [f"{place}_{number}" for place, count in counts.items() for number in range(count)]
-        self.assertEqual((status, lines[-1]), (0, "75 passed, 0 failed"))
-        self.assertEqual(sorted(lines[:-1]), sorted(f"must-fail {body}.edit: {REFUSED}" for body in bodies))
-        self.assertEqual(len(list((self.tree / "crates/lower/wrong-bodies").iterdir())), 70)
+        self.assertEqual((status, lines[-1], len(lines)), (0, "65 passed, 0 failed", 66))
+        self.assertIn("lower/wrong_bodies_3: refused: `search` did not prove `returns`", lines)
+        self.assertIn("must-fail lower/wrong_bodies_0.edit: refused, as it must be: a goal", lines)
+        self.assertEqual((self.room / "crates/lower/src/one.rt").read_text(), before)
 
     def test_those_of_named_crates_alone(self):
-        self.add("lower/must-fail", 1)
-        self.add("upper/must-fail", 2)
+        self.add("lower", "must-fail", "wrong")
+        self.add("upper", "must-fail", "wrong", "wrong")
         self.assertEqual(self.told("upper")[1][-1], "2 passed, 0 failed")
         self.assertEqual(self.told("lower")[1][-1], "1 passed, 0 failed")
 
     def test_what_is_not_refused_fails(self):
-        self.add("lower/must-fail", 1)
-        self.add("upper/must-fail", 1, PROVED)
+        self.add("lower", "must-fail", "wrong", "fine")
         status, lines, _ = self.told()
         self.assertEqual((status, lines[-1]), (1, "1 passed, 1 failed"))
+        self.assertIn("must-fail lower/must_fail_1.edit: NOT REFUSED", lines)
 
     def test_the_crate_itself_has_to_be_proved(self):
-        self.add("upper/must-fail", 1)
-        (self.tree / "crates/upper/unproved").touch()
+        self.add("upper", "must-fail", "wrong")
+        (self.room / "crates/upper/unproved").touch()
         self.assertEqual(self.told(), (1, [], "upper isn't proved as it is\n"))
 
     def test_a_crate_that_is_not_there(self):
         self.assertEqual(self.told("middle"), (2, [], "there is no crate middle\n"))
-
-    def test_shares_are_of_like_size(self):
-        for name in load("wrong-bodies").order():
-            sizes = [len(share.edits) for share in load("wrong-bodies").shares_of(name)]
-            self.assertLessEqual(max(sizes) - min(sizes), 1)
 
 
 if __name__ == "__main__":
