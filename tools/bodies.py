@@ -12,17 +12,15 @@ NAMES = re.compile(r"has no field|is not in scope|has no `|was not admitted")
 
 @dataclass(frozen=True)
 class Function:
-    """A function of a crate: its module's path, the type that it is of, or "", and its name."""
+    """A function of a crate: its module's path, the block that it is of, or "", and its name."""
 
     module: str
     of: str
     name: str
 
-    def is_told_as(self, path):
-        """Whether a check tells it by this path. A trait's method is told with the type and the trait in one word."""
-        head, _, name = path.rpartition("::")
-        module, _, of = head.rpartition("::") if self.of else (head, "", "")
-        return (module, name) == (self.module, self.name) and of.startswith(self.of)
+    @property
+    def path(self):
+        return "::".join(part for part in (self.module, self.of, self.name) if part)
 
 
 @dataclass(frozen=True)
@@ -75,7 +73,7 @@ def function_at(folder, path, text):
     ends = [number for number in range(heads[-1], len(lines)) if lines[number] == indent + "}"]
     if not bodies or not ends or not bodies[0] < place < ends[0]:
         return None
-    return Function(module_of(path), type_at(lines, heads[-1]) if indent else "", name)
+    return Function(module_of(path), block_at(lines, heads[-1]) if indent else "", name)
 
 
 def module_of(path):
@@ -83,12 +81,14 @@ def module_of(path):
     return "::".join(part for part in parts if part not in ("lib", "main"))
 
 
-def type_at(lines, place):
-    """The type of the `impl` block around the line, or the trait of the `trait` block."""
+def block_at(lines, place):
+    """How a check tells the `impl` block around the line: its type, the trait, and what the trait is of, in one word."""
     head = next(line for line in reversed(lines[:place]) if re.match(r"(?:pub )?(?:impl|trait)\b", line))
-    after = head.partition(" for ")[2] or re.sub(r"^(?:pub )?(?:impl|trait)(?:<[^<>]*(?:<[^<>]*>[^<>]*)*>)? *", "", head)
-    found = re.match(r"(?:\w+::)*(\w+)", after)
-    return found[1] if found else "?"
+    head = re.sub(r"^(?:pub )?(?:impl|trait)(?:<[^<>]*(?:<[^<>]*>[^<>]*)*>)? *", "", head)
+    trait, _, owner = head.rpartition(" for ")
+    name, rest = (re.match(r"(?:\w+::)*(\w*)(.*)", text) for text in (owner, trait))
+    words = re.findall(r"(?<!')\b[A-Za-z]\w+", rest[2])
+    return name[1] + rest[1] + "".join(word[0].upper() + word[1:] for word in words)
 
 
 def batches_of(edits, size):
@@ -110,8 +110,8 @@ def judged(crate, batch, told):
     errors = re.findall(r"(?m)^\./(proofs/\S+):\d+:\d+: error: (.*)$", told)
     reasons = {}
     for edit in batch:
-        paths = [path for path in said if edit.function.is_told_as(path)]
-        reason = reason_of(crate, paths[0], said[paths[0]], errors) if len(paths) == 1 else None
+        path = edit.function.path
+        reason = reason_of(crate, path, said[path], errors) if path in said else None
         if reason:
             reasons[edit] = reason
     return reasons

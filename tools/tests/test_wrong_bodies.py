@@ -64,12 +64,16 @@ class Bodies(Room):
         return self.bodies.Edit.read(self.room, self.room / "one.edit")
 
     def test_the_function_is_the_one_around_the_text(self):
-        method = self.bodies.Function("names", "Owner", "cmp")
-        self.assertEqual(self.edit(("self.0", "other.0")).function, method)
+        self.assertEqual(self.edit(("self.0", "other.0")).function.path, "names::OwnerOrd::cmp")
         self.assertEqual(self.edit(("    LIMIT", "    LIMIT + 1")).function, self.bodies.Function("names", "", "first"))
-        self.assertTrue(method.is_told_as("names::OwnerOrd::cmp"))
-        for path in ("names::cmp", "owners::OwnerOrd::cmp", "names::OwnerOrd::partial_cmp", "names::LastOwner::cmp"):
-            self.assertFalse(method.is_told_as(path))
+
+    def test_a_block_is_told_by_its_type_and_trait(self):
+        heads = {"impl<'a> View<'a> {": "View", "impl fmt::Display for Fault {": "FaultDisplay",
+                 "impl Word<NsecEntry<'_>> for Owner<'_> {": "OwnerWordNsecEntry", "pub trait Word<Entry> {": "Word",
+                 "impl From<clap::Error> for LineError {": "LineErrorFromClapError",
+                 "impl<T: Drop> From<AllocFailed<T>> for Fault {": "FaultFromAllocFailed"}
+        for head, told in heads.items():
+            self.assertEqual(self.bodies.block_at([head, "    fn f() {"], 1), told)
 
     def test_what_is_in_no_body_has_no_function(self):
         for pair in (("usize = 3", "usize = 4"), ("result ≡ self", "result ≡ other"), ("pub fn first", "pub fn last")):
