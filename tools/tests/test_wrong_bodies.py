@@ -95,14 +95,14 @@ class Bodies(Room):
         return self.bodies.judged("upper", [edit], told).get(edit)
 
     def test_only_goals_of_its_own_refuse_it(self):
-        own, other = (f"not proved; it stands on `Rattle.upper.proofs.names.{name}.Answers.returns`, which antt refuses"
-                      for name in ("first", "last"))
-        differs, taken = "first/Answers.antt:7:3: error: `returns`: 3 and 4", "first/Answers.antt:7:3: error: has no field `deref`"
-        self.assertEqual(self.reason("no proof: `search` did not prove `returns`; it calls `f`"), "`search` did not prove `returns`")
-        self.assertEqual(self.reason(own, taken, differs), "`returns`: 3 and 4")
-        self.assertIn("only because a proof file names", self.reason(own, taken))
-        for said in ("no holes", "proved", "not proved", "no proof: it calls `f`, which is not proved", other):
+        calls, unproved = "not proved; it calls `f`", "no proof: `search` did not prove `returns`; it calls `f`"
+        differs, taken = (f"first/Answers.antt:7:3: error: {error}" for error in ("`returns`: 3 and 4", "has no field `deref`"))
+        self.assertEqual(self.reason(unproved), "`search` did not prove `returns`")
+        self.assertEqual(self.reason(calls, taken, differs), "`returns`: 3 and 4")
+        self.assertIn("only because a proof file names", self.reason("not proved", taken))
+        for said in ("no holes", "proved", "not proved", calls):
             self.assertIsNone(self.reason(said, differs.replace("first", "last")))
+        self.assertIsNone(self.reason("no holes", differs))
 
     def test_batches_have_one_of_a_function(self):
         edits = [self.edit(("self.0", "other.0")), self.edit(("self.0", "0")), self.edit(("    LIMIT", "    0"))]
