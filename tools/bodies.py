@@ -105,30 +105,30 @@ def batches_of(edits, size):
 
 
 def judged(crate, batch, told):
-    """The wrong bodies that the check refuses for goals of their own functions, each with what it tells."""
+    """The wrong bodies that the check refuses for goals of their own functions, each with what it tells. None, where it
+    tells such a goal of a function that has none: then a proof that several share is at fault."""
     said = dict(re.findall(rf"(?m)^fn {crate}::(\S+): (.*)$", told))
     errors = re.findall(r"(?m)^\./(proofs/\S+):\d+:\d+: error: (.*)$", told)
-    reasons = {}
-    for edit in batch:
-        path = edit.function.path
-        reason = reason_of(path, said[path], errors) if path in said else None
-        if reason:
-            reasons[edit] = reason
-    return reasons
+    reasons = {path: reason_of(path, text, errors, len(batch) == 1) for path, text in said.items()}
+    edits = {edit.function.path: edit for edit in batch}
+    if len(batch) > 1 and any(reason and path not in edits for path, reason in reasons.items()):
+        return {}
+    return {edit: reasons[path] for path, edit in edits.items() if reasons.get(path)}
 
 
-def reason_of(path, said, errors):
+def reason_of(path, said, errors, alone):
     """Why the function isn't proved by its own goals; `None` where the check doesn't say so."""
     unproved = re.search(r"`search` did not prove [^;]*", said)
     if unproved:
         return unproved[0]
     folder = f"proofs/{path.replace('::', '/')}/"
     own = [error for file, error in errors if file.startswith(folder)]
-    if not own or not said.startswith(("no proof", "not proved")):
+    if not said.startswith(("no proof", "not proved")):
         return None
-    telling = [error for error in own if not NAMES.search(error)]
-    if telling:
-        return telling[0]
+    telling = next((error for error in own if not NAMES.search(error)), None)
+    # A name may be missing for what another wrong body took away.
+    if telling or not own or not alone:
+        return telling
     return f"only because a proof file names what it takes away, so this says little of the contract: {own[0]}"
 
 

@@ -104,6 +104,16 @@ class Bodies(Room):
             self.assertIsNone(self.reason(said, differs.replace("first", "last")))
         self.assertIsNone(self.reason("no holes", differs))
 
+    def test_a_check_of_many_is_passed_over_where_others_fail_too(self):
+        edits = [self.edit(("    LIMIT", "    0")), self.edit(("self.0", "other.0"))]
+        unproved = "no proof: `search` did not prove `returns`"
+        told = [f"fn upper::names::{name}: {unproved}\n" for name in ("first", "OwnerOrd::cmp", "last")]
+        self.assertEqual(set(self.bodies.judged("upper", edits, "".join(told[:2]))), set(edits))
+        self.assertEqual(self.bodies.judged("upper", edits, "".join(told)), {})
+        self.assertEqual(set(self.bodies.judged("upper", edits[:1], "".join(told))), set(edits[:1]))
+        taken = "./proofs/names/first/Answers.antt:7:3: error: has no field `deref`\nfn upper::names::first: not proved\n"
+        self.assertEqual(set(self.bodies.judged("upper", edits, taken + told[1])), set(edits[1:]))
+
     def test_batches_have_one_of_a_function(self):
         edits = [self.edit(("self.0", "other.0")), self.edit(("self.0", "0")), self.edit(("    LIMIT", "    0"))]
         self.assertEqual([len(batch) for batch in self.bodies.batches_of(edits, 2)], [2, 1])
