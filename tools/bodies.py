@@ -22,6 +22,11 @@ class Function:
     def path(self):
         return "::".join(part for part in (self.module, self.of, self.name) if part)
 
+    def path_in(self, paths):
+        """Which of the paths it is told by: a method of a type by the type's module, wherever its block stands."""
+        others = [path for path in paths if self.of and path.endswith(f"::{self.of}::{self.name}")]
+        return others[0] if self.path not in paths and len(others) == 1 else self.path
+
 
 @dataclass(frozen=True)
 class Edit:
@@ -110,7 +115,7 @@ def judged(crate, batch, told):
     said = dict(re.findall(rf"(?m)^fn {crate}::(\S+): (.*)$", told))
     errors = re.findall(r"(?m)^\./(proofs/\S+):\d+:\d+: error: (.*)$", told)
     reasons = {path: reason_of(path, text, errors, len(batch) == 1) for path, text in said.items()}
-    edits = {edit.function.path: edit for edit in batch}
+    edits = {edit.function.path_in(said): edit for edit in batch}
     if len(batch) > 1 and any(reason and path not in edits for path, reason in reasons.items()):
         return {}
     return {edit: reasons[path] for path, edit in edits.items() if reasons.get(path)}

@@ -111,6 +111,8 @@ class Bodies(Room):
         self.assertEqual(set(self.bodies.judged("upper", edits, "".join(told[:2]))), set(edits))
         self.assertEqual(self.bodies.judged("upper", edits, "".join(told)), {})
         self.assertEqual(set(self.bodies.judged("upper", edits[:1], "".join(told))), set(edits[:1]))
+        elsewhere = told[1].replace("names::", "owners::")
+        self.assertEqual(set(self.bodies.judged("upper", edits, told[0] + elsewhere)), set(edits))
         taken = "./proofs/names/first/Answers.antt:7:3: error: has no field `deref`\nfn upper::names::first: not proved\n"
         self.assertEqual(set(self.bodies.judged("upper", edits, taken + told[1])), set(edits[1:]))
 
