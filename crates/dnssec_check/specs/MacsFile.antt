@@ -11,7 +11,7 @@ use Rattle.dnssec_check.specs.declared.status.Refusal.TheVariants as refusal
 use Rattle.dnssec_check.specs.FileFaults.{IsTextFault}
 use Rattle.dnssec_check.specs.StatementsFile.{IsAtLine}
 
--- a line is the MAC of a request (RFC 8945 5.3.1), 32 octets in 64 hex digits of either case, or `-` where the request
+-- a line is the MAC of a request (RFC 8945 4.3.1), 32 octets in 64 hex digits of either case, or `-` where the request
 -- had none
 abbrev pub IsMacLine : List ℕ → Option (List ℕ) → Type 0
 IsMacLine line None = line ≡ codes "-"

@@ -112,7 +112,7 @@ pub enum Refusal {
     BadMac,
     /// The moment is too far from a message's time of signing (RFC 8945 5.2.3).
     BadTime,
-    /// A message's MAC is only a beginning of the right one (RFC 8945 5.2.2.1).
+    /// A message's MAC is only a beginning of the right one (RFC 8945 5.2.4).
     TruncatedMac,
     /// A message's signer tells an error (RFC 8945 5.4).
     PeerError,

@@ -65,7 +65,7 @@ pub record NoCloserForm (words : Words) (apex name : Labels) (labels : ℕ) : Ty
   pub above : IsAbove apex name labels
   pub next_closer : words.Absent (rightmost name (labels + 1))
 
--- the name is at or below a delegation without DS (RFC 4035 5.2, RFC 5155 8.9)
+-- the name is at or below a delegation without DS (RFC 4035 5.2, RFC 5155 8.9, RFC 6840 4.4)
 pub record UnsignedCutForm (words : Words) (apex name cut : Labels) : Type 0 where
   pub at_or_above : IsAtOrBelow name cut
   pub below_apex : IsBelow cut apex

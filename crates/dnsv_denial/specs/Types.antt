@@ -11,7 +11,7 @@ pub record IsDelegation (has : ℕ → Type 0) : Type 0 where
 abbrev pub IsClosed : (ℕ → Type 0) → Type 0
 IsClosed has = IsDelegation has ⊎ has dname
 
--- a delegation to a zone that isn't signed from here: no DS (RFC 4035 2.4)
+-- a delegation to a zone that isn't signed from here: NS, and no DS (RFC 4035 2.4, RFC 6840 4.4)
 pub record IsUnsignedDelegation (has : ℕ → Type 0) : Type 0 where
   pub delegation : IsDelegation has
   pub no_ds : ¬ has ds

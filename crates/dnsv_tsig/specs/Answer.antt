@@ -52,7 +52,7 @@ begins_mac mac right = bytes_eq mac (take (length mac) right)
 abbrev pub is_in_time : ℕ → ℕ → ℕ → Bool
 is_in_time now time_signed fudge = nat_le now (time_signed + fudge) && nat_le time_signed (now + fudge)
 
--- the first that fails of the tests of the MAC and of what it protects (RFC 8945 5.2.2, 5.2.3, 5.2.2.1, 5.2.4)
+-- the first that fails of the tests of the MAC and of what it protects (RFC 8945 5.2.2, 5.2.3, 5.2.4, 5.4)
 abbrev pub failed_test : TsigFields → List ℕ → ℕ → Option TsigError
 failed_test tsig right now =
     if not (begins_mac tsig.mac right) then Some BadMac

@@ -1,4 +1,4 @@
--- The message that a TSIG record signs, and its MAC (RFC 8945 4.3.3, 5.2, 5.3.1).
+-- The message that a TSIG record signs, and its MAC (RFC 8945 4.3, 5.2).
 use Rattle.std.specs.Prelude.{ℕ, ◌-◌, List, [], ◌∷◌, ◌++◌, length, Option, Some, None, drop}
 use Rattle.std.specs.Int.{w16, w64, to_be_bytes}
 use Rattle.dnsv_names.specs.Name.{Labels, wire, lower_case}
@@ -8,13 +8,13 @@ use Rattle.dnsv_digest.specs.Hmac.{hmac_sha256_of}
 use Rattle.dnsv_tsig.specs.Tsig.{TsigFields}
 
 -- the message without its last record, which begins at the place: one record less is counted in the additional
--- section, and the identifier is the original one (RFC 8945 4.3.3)
+-- section, and the identifier is the original one (RFC 8945 4.3.2)
 abbrev pub stripped : List ℕ → ℕ → ℕ → List ℕ
 stripped octets place original_id =
     to_be_bytes w16 original_id ++ part_of octets 2 8 ++ to_be_bytes w16 (number_at octets 10 2 - 1)
     ++ part_of octets 12 (place - 12)
 
--- the MAC of the request behind its length, where there was a request (RFC 8945 5.3.1)
+-- the MAC of the request behind its length, where there was a request (RFC 8945 4.3.1)
 abbrev pub request_part : Option (List ℕ) → List ℕ
 request_part None = []
 request_part (Some mac) = to_be_bytes w16 (length mac) ++ mac

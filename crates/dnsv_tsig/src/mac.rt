@@ -1,4 +1,4 @@
-//! MACs of messages (RFC 8945 4.3.3, 5.3.1), and the messages inside of signed ones.
+//! MACs of messages (RFC 8945 4.3), and the messages inside of signed ones.
 ghost use Rattle.std.specs.Prelude.{◌≡◌, ◌≤◌, ◌-◌, length, IfOk};
 ghost use Rattle.std.specs.Option.{option_copied};
 ghost use Rattle.std.specs.Int.{w16, to_be_bytes};
