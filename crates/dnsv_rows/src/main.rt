@@ -8,6 +8,7 @@ mod denial;
 mod digest;
 mod message;
 mod names;
+mod printed;
 mod records;
 mod row;
 mod tsig;

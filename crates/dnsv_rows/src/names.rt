@@ -1,35 +1,29 @@
 //! Calls of `dnsv_names`.
 
+mod lines;
+mod order;
+mod spelling;
+mod tree;
+
 use crate::row::{Row, RowError};
-use dnsv_names::{Name, NameError, covers};
-use std::alloc::Global;
+use dnsv_names::NameError;
+use std::alloc::{AllocError, Global};
 
 /// What the library answers, where it has the call.
 pub fn answer(row: &Row) -> Result<Option<String>, RowError> {
-    if row.calls("parse") {
-        return Ok(Some(parse(row)?));
+    if let Some(text) = spelling::answer(row)? {
+        return Ok(Some(text));
     }
-    if row.calls("covers") {
-        return Ok(Some(covers_name(row)?));
+    if let Some(text) = tree::answer(row)? {
+        return Ok(Some(text));
     }
-    Ok(None)
+    if let Some(text) = order::answer(row)? {
+        return Ok(Some(text));
+    }
+    lines::answer(row)
 }
 
-/// `parse OCTETS`: the name's wire form in hex, or its refusal.
-fn parse(row: &Row) -> Result<String, RowError> {
-    match Name::parse(row.octets(0)?.as_slice()) {
-        Ok(name) => Ok(hex::encode(row.alloc(), name.wire())?),
-        Err(error) => refused(row.alloc(), &error),
-    }
-}
-
-fn refused(alloc: Global, error: &NameError) -> Result<String, RowError> {
+fn refused(alloc: Global, error: &NameError) -> Result<String, AllocError> {
     let code = error.code();
-    Ok(format!(in alloc; "refused {code}")?)
-}
-
-/// `covers OWNER NEXT NAME`: whether the name lies between the two.
-fn covers_name(row: &Row) -> Result<String, RowError> {
-    let is_covered = covers(&row.name(0)?, &row.name(1)?, &row.name(2)?);
-    Ok(format!(in row.alloc(); "{is_covered}")?)
+    format!(in alloc; "refused {code}")
 }
