@@ -83,6 +83,3 @@ pub fn the_owner_is_below_each_member_above()
         → IsSuccessor canonical_cmp members owner next → IsMember canonical_cmp members member
         → Gap canonical_cmp owner next name → IsAtOrBelow name member → IsAtOrBelow owner member }
 {}
-
-#[cfg(test)]
-mod tests;

@@ -66,8 +66,8 @@ mod tests {
         let mut count = Count::default();
         count.add(u64::MAX - 1);
         count.add(1);
-        assert_eq!(rt; count.value(), u64::MAX);
+        assert!(rt; count.value() == u64::MAX);
         count.add(7);
-        assert_eq!(rt; count.value(), u64::MAX);
+        assert!(rt; count.value() == u64::MAX);
     }
 }

@@ -33,30 +33,3 @@ pub fn decimal_u8(text: &[u8]) -> Option<u8>
 {
     u8::try_from(decimal_u16(text)?).ok()
 }
-
-#[cfg(test)]
-mod tests {
-    use super::*;
-
-    #[test]
-    fn numbers_have_no_sign_and_no_zero_in_front(rt: HostRuntime) {
-        assert_eq!(rt; decimal_u8(b"0"), Some(0));
-        assert_eq!(rt; decimal_u8(b"255"), Some(255));
-        assert_eq!(rt; decimal_u16(b"65535"), Some(65535));
-        assert_eq!(rt; decimal_u8(b"+1"), None);
-        assert_eq!(rt; decimal_u8(b"-1"), None);
-        assert_eq!(rt; decimal_u8(b"01"), None);
-        assert_eq!(rt; decimal_u8(b"00"), None);
-        assert_eq!(rt; decimal_u8(b""), None);
-        assert_eq!(rt; decimal_u8(b"1a"), None);
-        assert_eq!(rt; decimal_u8(b"\xb9"), None);
-    }
-
-    #[test]
-    fn numbers_fit_their_field(rt: HostRuntime) {
-        assert_eq!(rt; decimal_u8(b"256"), None);
-        assert_eq!(rt; decimal_u16(b"256"), Some(256));
-        assert_eq!(rt; decimal_u16(b"65536"), None);
-        assert_eq!(rt; decimal_u16(b"99999999999999999999999999"), None);
-    }
-}

@@ -181,6 +181,3 @@ fn first_piece(text: &[u8]) -> (&[u8], Option<&[u8]>)
         None => (text, None),
     }
 }
-
-#[cfg(test)]
-mod tests;

@@ -132,6 +132,3 @@ impl Clone for Name {
         Ok(self.suffix(self.labels()))
     }
 }
-
-#[cfg(test)]
-mod tests;

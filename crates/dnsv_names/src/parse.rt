@@ -152,6 +152,3 @@ fn decimal_of(text: &[u8]) -> Option<(u8, &[u8])>
     let octet = u8::try_from(value).ok()?;
     Some((octet, rest))
 }
-
-#[cfg(test)]
-mod tests;

@@ -73,6 +73,3 @@ fn push_octet(text: &mut ArrayString<TEXT_LIMIT>, octet: u8)
         }
     }
 }
-
-#[cfg(test)]
-mod tests;

@@ -77,6 +77,3 @@ impl Name {
         }
     }
 }
-
-#[cfg(test)]
-mod tests;
