@@ -85,6 +85,22 @@ turns Greater Less o_p a b c = inl (inr refl)
 turns Greater Greater Less a b c = inl (inl refl)
 turns Greater Greater Greater a b c = inr (inl refl)
 
+-- of two values that aren't equal, seen from a third that not both equal, one lies between the third and the other
+before_other : (o_n o_m n_m : Ordering) → n_m ≢ Equal → (o_n ≡ Equal → o_m ≡ Equal → ⊥)
+    → between o_m o_n n_m ⊎ between o_n o_m (ordering_reverse n_m)
+before_other o_n o_m Equal differ apart = absurd (differ refl)
+before_other Equal Equal n_m differ apart = absurd (apart refl refl)
+before_other Equal Less n_m differ apart = inr (λ tied. cc)
+before_other Equal Greater n_m differ apart = inr (λ tied. cc)
+before_other Less Equal n_m differ apart = inl (λ tied. cc)
+before_other Greater Equal n_m differ apart = inl (λ tied. cc)
+before_other Less Less Less differ apart = inl (refl, refl)
+before_other Less Less Greater differ apart = inr (refl, refl)
+before_other Less Greater n_m differ apart = inl (inl refl)
+before_other Greater Less n_m differ apart = inr (inl refl)
+before_other Greater Greater Less differ apart = inl (inr refl)
+before_other Greater Greater Greater differ apart = inr (inr refl)
+
 module _ {K : Type 0} {cmp : K → K → Ordering} (total : IsTotalOrder cmp) where
   back : (x y : K) → cmp x y ≡ Greater → cmp y x ≡ Less
   back x y p = total.antisymm y x ∙ ap ordering_reverse p
@@ -346,3 +362,14 @@ module _ {K : Type 0} {cmp : K → K → Ordering} (total : IsTotalOrder cmp) wh
       (λ (tied : cmp n m ≡ Equal). (alike_right total n m x tied ∙ first, λ less. let other = tied_back total n m tied in cc))
       (λ (inside : (cmp x n ≡ Less) × (cmp n m ≡ Less)). (inside.0, λ less. let other = total.trans n m n inside.1 less in let itself = tied_itself total n in cc))
       (next_between o n x m (successor.none_between m member) gap first)
+
+  -- A value has one successor.
+  pub one_successor : {members : List K} {o : K} (n m : K) → IsSuccessor cmp members o n
+      → IsSuccessor cmp members o m → cmp n m ≡ Equal
+  one_successor {members} {o} n m first second =
+      ⊎_elim (λ (tied : cmp n m ≡ Equal). tied)
+      (λ (differ : cmp n m ≢ Equal). absurd (⊎_elim
+      (λ (inside : between (cmp o m) (cmp o n) (cmp n m)). second.none_between n first.member (record { lies = inside }))
+      (λ (inside : between (cmp o n) (cmp o m) (ordering_reverse (cmp n m))). first.none_between m second.member (record { lies = rw (total.antisymm m n) inside }))
+      (before_other (cmp o n) (cmp o m) (cmp n m) differ (λ o_n o_m. differ (sym (total.congr o n m o_n) ∙ o_m)))))
+      (tied_or_not (cmp n m))

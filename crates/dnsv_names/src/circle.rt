@@ -37,6 +37,12 @@ pub fn each_value_has_a_successor<T: Circle>()
         → (next : T) × IsSuccessor T.cmp members owner next }
 {}
 
+/// A law of circles: a value has one successor.
+pub fn a_value_has_one_successor<T: Circle>()
+    ensures { (members : List T) (owner next other : T) → IsSuccessor T.cmp members owner next
+        → IsSuccessor T.cmp members owner other → T.cmp next other ≡ Ordering.Equal }
+{}
+
 /// A law of circles: what equals no member lies in the gap of one of them, whichever successor that one is given.
 pub fn all_else_lies_in_a_gap<T: Circle>()
     ensures { (members : List T) (some x : T) → IsMember T.cmp members some → ¬ IsMember T.cmp members x

@@ -4,9 +4,9 @@
 
 pub use by_wire::ByWire;
 pub use circle::{
-    Circle, all_else_lies_in_a_gap, all_else_lies_in_one_gap, covers, each_value_has_a_successor,
-    the_next_is_behind, the_next_is_below_what_has_a_member_below, the_owner_is_before,
-    the_owner_is_below_each_member_above,
+    Circle, a_value_has_one_successor, all_else_lies_in_a_gap, all_else_lies_in_one_gap, covers,
+    each_value_has_a_successor, the_next_is_behind, the_next_is_below_what_has_a_member_below,
+    the_owner_is_before, the_owner_is_below_each_member_above,
 };
 pub use count::{Count, counts_add_up};
 pub use decimal::{decimal_u8, decimal_u16};
