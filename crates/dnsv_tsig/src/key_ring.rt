@@ -9,10 +9,11 @@ use base64::DecodeAllocError;
 use base64::engine::general_purpose::STANDARD;
 use dnsv_names::{Line, Lines, Name};
 use std::alloc::{AllocError, Global};
+use std::fmt;
 use std::marker::Model;
 
 /// A key and its name (RFC 8945 5.2.1).
-#[derive(Debug, Drop)]
+#[derive(Drop)]
 pub struct Key {
     name: Name,
     secret: Vec<u8>,
@@ -24,6 +25,15 @@ impl Model for Key {
     ghost Value = { SharedKey };
 
     ghost view = { λ key. record { name = key.name; secret = key.secret.items } };
+}
+
+/// The name alone: whoever prints a ring for a report of a fault doesn't tell what is shared.
+impl fmt::Debug for Key {
+    fn fmt<W: fmt::Write>(&self, f: &mut fmt::Formatter<W>) -> fmt::Result {
+        f.debug_struct("Key")
+            .field("name", &self.name)
+            .finish_non_exhaustive()
+    }
 }
 
 impl Key {
