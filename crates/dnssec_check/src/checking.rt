@@ -200,6 +200,3 @@ fn push_record(text: &mut String, rrset: &Rrset) -> Result<(), AllocError>
     writeln!(text, "record {owner} {rtype}")?;
     Ok(())
 }
-
-#[cfg(test)]
-mod tests;

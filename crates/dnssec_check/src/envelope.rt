@@ -140,6 +140,3 @@ fn request_macs_in<R: Read>(
         None => Ok(None),
     }
 }
-
-#[cfg(test)]
-mod tests;

@@ -56,6 +56,3 @@ fn keys_fault(error: KeyFileError) -> Fault
         KeyFileError::DuplicateKey(line) => refused_line(Refusal::DuplicateKey, line),
     }
 }
-
-#[cfg(test)]
-mod tests;

@@ -184,6 +184,3 @@ fn given_value(
         None => Ok(None),
     }
 }
-
-#[cfg(test)]
-mod tests;

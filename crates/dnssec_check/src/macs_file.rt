@@ -93,6 +93,3 @@ fn is_word(line: &[u8], word: &[u8]) -> bool
 {
     line == word
 }
-
-#[cfg(test)]
-mod tests;

@@ -3,8 +3,6 @@
 
 mod anchors_file;
 mod capture_file;
-#[cfg(test)]
-mod captures;
 mod checking;
 mod commands;
 mod envelope;
@@ -25,6 +23,8 @@ mod samples;
 mod showing;
 mod statements_file;
 mod status;
+#[cfg(test)]
+mod tests;
 mod text_file;
 mod todo;
 

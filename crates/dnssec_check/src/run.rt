@@ -193,6 +193,3 @@ fn checked<R: Read>(
     let statements = statements_in(alloc, &mut inputs.statements)?;
     judged(alloc, &held, &anchors, moment, &statements, name, rtype)
 }
-
-#[cfg(test)]
-mod tests;

@@ -128,6 +128,3 @@ fn push_record(
     writeln!(text, " {ttl} {rdata}")?;
     Ok(())
 }
-
-#[cfg(test)]
-mod tests;

@@ -301,6 +301,3 @@ impl<T: Drop> From<AllocFailed<T>> for Fault {
         Fault::OutOfMemory
     }
 }
-
-#[cfg(test)]
-mod tests;

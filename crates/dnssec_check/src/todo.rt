@@ -51,6 +51,3 @@ fn push_entry(alloc: Global, text: &mut String, entry: &Entry) -> Result<(), All
     writeln!(text, " {signed_data} {signature}")?;
     Ok(())
 }
-
-#[cfg(test)]
-mod tests;

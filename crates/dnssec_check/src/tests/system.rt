@@ -1,4 +1,4 @@
-//! A system in memory: the words of a command line, one file, and what was printed.
+//! A system in memory: the words of a command line, files, and what was printed.
 ghost use Rattle.std.specs.Prelude.{IsErr};
 
 use std::alloc::{Allocator, Global};
@@ -7,7 +7,7 @@ use std::env::FillError;
 use std::fmt::Display;
 use std::fs::{Metadata, OpenFile, OpenOptions};
 use std::io;
-use std::io::{ErrorKind, Read, Seek, SeekFrom, Write};
+use std::io::{Cursor, ErrorKind, Read, Seek, SeekFrom, Write};
 use std::rt::{Env, Files};
 use std::test::Fail;
 
@@ -29,8 +29,8 @@ impl Page {
     }
 
     /// What was printed.
-    pub fn into_text(self) -> Vec<u8> {
-        self.text.into_inner()
+    pub fn into_text(self) -> Result<String, Fail> {
+        Ok(String::from_utf8(self.text.into_inner())?)
     }
 }
 
@@ -56,23 +56,42 @@ impl Print for Page {
     }
 }
 
-/// The file, of which each read may fail.
+/// A file, of which each read behind its octets may fail.
 #[derive(Drop)]
-pub struct Tape<'a> {
-    octets: &'a [u8],
+pub struct File {
+    path: String,
+    octets: Vec<u8>,
     fails: bool,
 }
 
-impl Read for Tape<'_> {
-    fn read(&mut self, buf: &mut [u8]) -> io::Result<usize> {
-        if self.fails {
-            return Err(io::Error::other("the file fails"));
-        }
-        self.octets.read(buf)
+impl File {
+    pub fn new(alloc: Global, path: &str, octets: Vec<u8>, fails: bool) -> Result<File, Fail> {
+        Ok(File {
+            path: String::from_str(alloc, path)?,
+            octets,
+            fails,
+        })
     }
 }
 
-impl Write for Tape<'_> {
+/// An open file.
+#[derive(Drop)]
+pub struct Tape {
+    octets: Cursor<Vec<u8>>,
+    fails: bool,
+}
+
+impl Read for Tape {
+    fn read(&mut self, buf: &mut [u8]) -> io::Result<usize> {
+        let count = self.octets.read(buf)?;
+        if self.fails && count == 0 {
+            return Err(io::Error::other("the file fails"));
+        }
+        Ok(count)
+    }
+}
+
+impl Write for Tape {
     fn write(&mut self, _buf: &[u8]) -> io::Result<usize> {
         unsupported()
     }
@@ -82,13 +101,13 @@ impl Write for Tape<'_> {
     }
 }
 
-impl Seek for Tape<'_> {
+impl Seek for Tape {
     fn seek(&mut self, _to: SeekFrom) -> io::Result<u64> {
         unsupported()
     }
 }
 
-impl OpenFile for Tape<'_> {
+impl OpenFile for Tape {
     fn metadata(&self) -> io::Result<Metadata> {
         unsupported()
     }
@@ -112,16 +131,26 @@ fn unsupported<T>() -> io::Result<T>
     Err(io::Error::from(ErrorKind::Unsupported))
 }
 
-/// The words, the file `host.cap`, and the output.
+/// The words, the files, and the output.
 #[derive(Drop)]
-pub struct System<'a> {
-    pub words: &'a [&'a str],
-    pub octets: &'a [u8],
-    pub reads_fail: bool,
+pub struct System {
+    pub words: Vec<String>,
+    pub files: Vec<File>,
     pub output: Page,
 }
 
-impl Alloc for System<'_> {
+impl System {
+    /// A system without words and files, whose output may take nothing.
+    pub fn new(alloc: Global, is_full: bool) -> System {
+        System {
+            words: Vec::new(alloc),
+            files: Vec::new(alloc),
+            output: Page::new(alloc, is_full),
+        }
+    }
+}
+
+impl Alloc for System {
     type A = Global;
 
     fn alloc(&self) -> Global {
@@ -129,7 +158,7 @@ impl Alloc for System<'_> {
     }
 }
 
-impl Print for System<'_> {
+impl Print for System {
     fn print<D: Display + Drop>(&self, value: D) -> io::Result<()> {
         self.output.print(value)
     }
@@ -143,7 +172,7 @@ impl Print for System<'_> {
     }
 }
 
-impl Env for System<'_> {
+impl Env for System {
     fn arg(&self, i: usize, buf: &mut [u8]) -> Result<usize, FillError> {
         let Some(word) = self.words.get(i) else {
             return Err(FillError::NotPresent);
@@ -165,22 +194,22 @@ impl Env for System<'_> {
     }
 }
 
-impl<'a> Files for System<'a> {
-    type File = Tape<'a>;
+impl Files for System {
+    type File = Tape;
 
-    type Dir = Tape<'a>;
+    type Dir = Tape;
 
-    fn open_file(&self, _how: &OpenOptions, path: &str) -> io::Result<Tape<'a>> {
-        if path != "host.cap" {
+    fn open_file(&self, _how: &OpenOptions, path: &str) -> io::Result<Tape> {
+        let Some(file) = self.files.iter().find(|file| file.path.as_str() == path) else {
             return Err(io::Error::from(ErrorKind::NotFound));
-        }
+        };
         Ok(Tape {
-            octets: self.octets,
-            fails: self.reads_fail,
+            octets: Cursor::new(Vec::from_slice(self.output.alloc, file.octets.as_slice())?),
+            fails: file.fails,
         })
     }
 
-    fn open_dir(&self, _path: &str) -> io::Result<Tape<'a>> {
+    fn open_dir(&self, _path: &str) -> io::Result<Tape> {
         unsupported()
     }
 

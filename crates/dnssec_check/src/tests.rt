@@ -1,0 +1,138 @@
+//! The program on a machine in memory, by rows of text.
+//!
+//! Rows are parted by an empty line. Lines `PATH < HEX..` and `PATH = TEXT` are the machine's files: octets in hex, by a
+//! name of `samples` or with `^N` behind them N times; or a text, in which `;` ends a line. With `!` behind the octets
+//! each read behind the last one fails, and `full` says that no write is taken. The line `$ WORDS` is the command line.
+//! Behind it stands how the program has to end: `=> STATUS`, and then what it prints, on the standard error behind `! `;
+//! or lines `~ TEXT`, which have to stand somewhere in what is printed.
+use crate::program::exit_status_on;
+use crate::samples::hex_named;
+use std::alloc::Global;
+use std::process::Abort;
+use std::test::Fail;
+
+mod captures;
+mod checking;
+mod command_line;
+mod key_files;
+mod listing;
+mod showing;
+mod signed;
+mod system;
+
+use system::{File, Page, System};
+
+#[test]
+fn lists_as_the_rows_say(rt: HostRuntime) -> Result<(), Fail> {
+    meets(&rt, listing::ROWS)
+}
+
+#[test]
+fn shows_as_the_rows_say(rt: HostRuntime) -> Result<(), Fail> {
+    meets(&rt, showing::ROWS)
+}
+
+#[test]
+fn checks_as_the_rows_say(rt: HostRuntime) -> Result<(), Fail> {
+    meets(&rt, checking::ROWS)
+}
+
+#[test]
+fn opens_messages_as_the_rows_say(rt: HostRuntime) -> Result<(), Fail> {
+    meets(&rt, signed::ROWS)
+}
+
+#[test]
+fn reads_key_files_as_the_rows_say(rt: HostRuntime) -> Result<(), Fail> {
+    meets(&rt, key_files::ROWS)
+}
+
+#[test]
+fn reads_command_lines_as_the_rows_say(rt: HostRuntime) -> Result<(), Fail> {
+    meets(&rt, command_line::ROWS)
+}
+
+#[test]
+fn prints_what_others_print_of_real_answers(rt: HostRuntime) -> Result<(), Fail> {
+    meets(&rt, captures::ROWS)
+}
+
+/// Runs the program as each row says, and compares how it ends.
+fn meets<R: Abort + AllocGlobal>(rt: &R, rows: &str) -> Result<(), Fail> {
+    for row in rows.split("\n\n") {
+        let (machine, wanted) = row.split_once("\n=> ").ok_or("a row without an end")?;
+        let told = outcome(rt.alloc(), machine)?;
+        assert!(rt; is_met(wanted, told.as_str()), "{row}\ntold: {told}");
+    }
+    Ok(())
+}
+
+/// Whether the program has ended as it has to.
+fn is_met(wanted: &str, told: &str) -> bool {
+    match wanted.split_once("\n~ ") {
+        Some((code, texts)) => {
+            let mut parts = texts.split("\n~ ");
+            told.starts_with(code) && parts.all(|text| told.contains(text))
+        }
+        None => told == wanted,
+    }
+}
+
+/// The exit status of the program on the machine, and what stands on its output and then on its errors.
+fn outcome(alloc: Global, machine: &str) -> Result<String, Fail> {
+    let system = system_of(alloc, machine)?;
+    let errors = Page::new(alloc, false);
+    let code = exit_status_on(&system, &errors);
+    let printed = system.output.into_text()?;
+    let told = errors.into_text()?;
+    let mark = if told.is_empty() { "" } else { "! " };
+    let text = format!(in alloc; "{code}\n{printed}{mark}{told}")?;
+    Ok(String::from_str(alloc, text.as_str().trim_end())?)
+}
+
+/// The machine that the lines describe.
+fn system_of(alloc: Global, lines: &str) -> Result<System, Fail> {
+    let is_full = lines.lines().any(|line| line == "full");
+    let mut system = System::new(alloc, is_full);
+    for line in lines.lines() {
+        add(alloc, &mut system, line)?;
+    }
+    Ok(system)
+}
+
+/// Adds what the line says of the machine.
+fn add(alloc: Global, system: &mut System, line: &str) -> Result<(), Fail> {
+    if let Some(words) = line.strip_prefix("$ ") {
+        for word in words.split(' ') {
+            system.words.push(String::from_str(alloc, word)?)?;
+        }
+    } else if let Some((path, text)) = line.split_once(" = ") {
+        let text = text.replace(alloc, ";", "\n")?;
+        let octets = Vec::from_slice(alloc, text.as_bytes())?;
+        system.files.push(File::new(alloc, path, octets, false)?)?;
+    } else if let Some((path, parts)) = line.split_once(" < ") {
+        let (parts, fails) = match parts.split_once(" !") {
+            Some((parts, _)) => (parts, true),
+            None => (parts, false),
+        };
+        let octets = octets_of(alloc, parts)?;
+        system.files.push(File::new(alloc, path, octets, fails)?)?;
+    }
+    Ok(())
+}
+
+/// The octets of parts that are parted by blanks.
+fn octets_of(alloc: Global, parts: &str) -> Result<Vec<u8>, Fail> {
+    let mut octets = Vec::new(alloc);
+    for part in parts.split(' ') {
+        let (hex, times) = match part.split_once('^') {
+            Some((hex, times)) => (hex, times.parse::<u32>()?),
+            None => (part, 1),
+        };
+        let once = hex::decode(alloc, hex_named(hex))?;
+        for _ in 0..times {
+            octets.extend_from_slice(once.as_slice())?;
+        }
+    }
+    Ok(octets)
+}

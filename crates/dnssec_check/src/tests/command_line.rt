@@ -1,0 +1,258 @@
+//! Command lines.
+
+pub const ROWS: &str = "\
+# Options in any order, joined to their values or not; a value may look like an option, and a number may have a sign.
+--all < HOST
+b = 
+$ ./check list --all --moment=+281474976710655 --capture=--all --statements b
+=> 0
+data 1 1 00010d0200000e10000007d0000003e8080f076578616d706c650004686f7374076578616d706c65000001000100000e100004c0000201
+
+a < HOST
+$ dnssec_check list --moment 0 --capture a
+=> 0
+
+--moment < HOST
+$ ./check show --capture=--moment
+=> 0
+message 1 0002 8400 1 3 0 0
+question Host.Example. 1 1
+record 1 Host.Example. 1 1 5 c0000201
+record 2 Host.Example. 1 1 5 c0000201
+record 3 Host.Example. 46 1 5 00010d0200000e10000007d0000003e8080f074578616d706c6500aabb
+
+a < KEYS HOST
+said = good 13 010203 00010d0200000e10000007d0000003e8080f076578616d706c650004686f7374076578616d706c65000001000100000e100004c0000201 aabb
+$ dnssec_check list --statements said --capture a --moment 1000
+=> 0
+todo 13 010203 00300d0100000e10000007d0000003e8080f076578616d706c6500076578616d706c65000030000100000e1000070100030d010203 cc
+
+a = 
+b = 
+$ dnssec_check check --capture a --anchors b --moment 1 --name c. --type 65535
+=> 6
+Indeterminate c. 65535
+
+a = 
+b = 
+d = 
+e = 
+f = 
+$ dnssec_check check --macs e --statements f --keys d --type 65535 --name c. --moment 1 --anchors b --capture a
+=> 6
+Indeterminate c. 65535
+
+# Words that are no command: status 2, nothing on the output, a text on the errors.
+$ 
+=> 2
+! 
+~ help
+
+a < HOST
+b = 
+$ dnssec_check
+=> 2
+! 
+~ help
+
+a < HOST
+b = 
+$ dnssec_check list
+=> 2
+! 
+~ help
+
+a < HOST
+b = 
+$ dnssec_check show
+=> 2
+! 
+~ help
+
+a < HOST
+b = 
+$ dnssec_check show --capture
+=> 2
+! 
+~ help
+
+a < HOST
+b = 
+$ dnssec_check show --moment 1
+=> 2
+! 
+~ help
+
+a < HOST
+b = 
+$ dnssec_check show --capture a --moment 1
+=> 2
+! 
+~ help
+
+a < HOST
+b = 
+$ dnssec_check show --capture a --all
+=> 2
+! 
+~ help
+
+a < HOST
+b = 
+$ dnssec_check show --capture a --capture a
+=> 2
+! 
+~ help
+
+a < HOST
+b = 
+$ dnssec_check show --capture a b
+=> 2
+! 
+~ help
+
+a < HOST
+b = 
+$ dnssec_check help
+=> 2
+! 
+~ help
+
+a < HOST
+b = 
+$ dnssec_check list --capture a --all
+=> 2
+! 
+~ help
+
+a < HOST
+b = 
+$ dnssec_check list --moment 1 --all
+=> 2
+! 
+~ help
+
+a < HOST
+b = 
+$ dnssec_check list --capture --moment 1 --all
+=> 2
+! 
+~ help
+
+a < HOST
+b = 
+$ dnssec_check list --capture a --moment 281474976710656 --all
+=> 2
+! 
+~ help
+
+a < HOST
+b = 
+$ dnssec_check list --capture a --moment -1 --all
+=> 2
+! 
+~ help
+
+a < HOST
+b = 
+$ dnssec_check list --capture a --moment= --all
+=> 2
+! 
+~ help
+
+a < HOST
+b = 
+$ dnssec_check list --capture a --moment 1 --statements
+=> 2
+! 
+~ help
+
+a < HOST
+b = 
+$ dnssec_check list --capture a --moment 1 --statements b --statements b
+=> 2
+! 
+~ help
+
+a < HOST
+b = 
+$ dnssec_check list --capture a --moment 1 --all=true
+=> 2
+! 
+~ help
+
+a < HOST
+b = 
+$ dnssec_check list --capture a --moment 1 --all --all
+=> 2
+! 
+~ help
+
+a < HOST
+b = 
+$ dnssec_check show --capture a --statements b
+=> 2
+! 
+~ help
+
+a < HOST
+b = 
+$ dnssec_check list --capture a --capture a --moment 1 --all
+=> 2
+! 
+~ help
+
+a < HOST
+b = 
+$ dnssec_check list --capture a --moment 1 --all b
+=> 2
+! 
+~ help
+
+a < HOST
+b = 
+$ dnssec_check list --capture a --moment 1 --keys b
+=> 2
+! 
+~ help
+
+a < HOST
+b = 
+$ dnssec_check check --capture a --anchors b --moment 1 --name c. --type 1 --keys
+=> 2
+! 
+~ help
+
+a < HOST
+b = 
+$ dnssec_check check --capture a --anchors b --moment 1 --name c. --type 65536
+=> 2
+! 
+~ help
+
+# Help: status 0, on the output.
+$ dnssec_check --help
+=> 0
+~ Says what captured DNS messages prove
+~ list
+~ show
+~ check
+
+$ dnssec_check show --help
+=> 0
+~ --capture <FILE>
+
+$ dnssec_check list --help
+=> 0
+~ Lists the signatures that a verifier still has to check
+~ --capture <FILE>
+~ --moment <N>
+~ --all
+~ --statements <FILE>
+
+$ dnssec_check check --help
+=> 0
+~ --anchors <FILE>
+~ 6 for Indeterminate
+~ --keys <FILE>
+~ --macs <FILE>";
