@@ -1,21 +1,33 @@
 -- Trust and lists of links say the same.
-use Rattle.std.proofs.Common.{◌≡◌, ◌<◌, ℕ, List, [], ◌∷◌, ◌++◌, length, refl, sym, ap, ◌∙◌, arith, subst}
-use Rattle.dnsv_names.specs.Name.{Labels}
-use Rattle.dnsv_names.specs.TreeLaws.{same_labels}
+use Rattle.std.proofs.Common.{◌≡◌, ℕ, List, [], ◌∷◌, ◌++◌, length, refl, sym, ap, ◌∙◌, subst}
+use Rattle.dnsv_names.specs.Name.{Labels, SameName}
+use Rattle.dnsv_names.specs.Order.{IsBelow}
+use Rattle.dnsv_names.specs.TreeLaws.{below_respects, key_of_same, same_labels, same_of_key}
 use Rattle.dnsv_canonical.specs.Rrsets.{ReceivedRrset}
 use Rattle.dnsv_verifier.specs.Admissible.{DnskeyRecord}
 use Rattle.dnsv_verifier.specs.declared.answer.Answer.{Answer}
 use Rattle.dnsv_verifier.specs.declared.entry.Entry.{Entry}
 use Rattle.dnsv_chain.specs.Derivation.{IsLink, LeadsTo, HasDerivation}
-use Rattle.dnsv_chain.specs.Trusted.{IsKeyOf, DelegatesTo, IsTrusted, anchored, delegated}
+use Rattle.dnsv_chain.specs.Trusted.{IsKeyOf, IsSignedUnder, DelegatesTo, IsTrusted, anchored, delegated}
 use Rattle.dnsv_chain.specs.declared.anchor.Anchor.{Anchor}
-use Rattle.dnsv_chain.proofs.TrustedLemmas.{fewer_labels}
 
 -- the DS RRset has the owner of the set whose key it matches
 pub same_owner_labels : (ds set : ReceivedRrset) (key : DnskeyRecord) → DelegatesTo ds key → IsKeyOf set key
     → length ds.owner ≡ length set.owner
 same_owner_labels ds set key delegates stands =
     same_labels ds.owner key.owner delegates.usable.matching.same_owner ∙ ap (λ (name : Labels). length name) stands.owner
+
+-- a DS RRset that is good under a key of a set has an owner below the set's, and so has the set whose key it matches
+pub goes_down : {m : Entry → Answer} {t : ℕ} {parent ds set : ReceivedRrset} {above key : DnskeyRecord}
+    → IsKeyOf parent above → IsSignedUnder m t ds above → DelegatesTo ds key → IsKeyOf set key
+    → IsBelow set.owner parent.owner
+goes_down {parent = parent} {ds = ds} {set = set} {above = above} {key = key} stands signed delegates is_key =
+    let signer : Labels = signed.rrsig.signer in
+    let zone : SameName signer above.owner =
+    same_of_key signer above.owner (sym (key_of_same above.owner signer signed.good.admissible.zone_key.owner)) in
+    let below : IsBelow key.owner above.owner =
+    below_respects ds.owner key.owner signer above.owner delegates.usable.matching.same_owner zone (signed.good.admissible.signer.ds delegates.rtype) in
+    subst (λ (owner : Labels). IsBelow owner parent.owner) is_key.owner (subst (λ (owner : Labels). IsBelow key.owner owner) stands.owner below)
 
 module _ (m : Entry → Answer) (t : ℕ) (rs : List ReceivedRrset) (anchors : List Anchor) where
   one_more : (first : ReceivedRrset) (sets : List ReceivedRrset) (parent set : ReceivedRrset)
@@ -33,8 +45,6 @@ module _ (m : Entry → Answer) (t : ℕ) (rs : List ReceivedRrset) (anchors : L
   }
   derivation_of (delegated {parent = parent} {ds = ds} {set = set} {above = above} {key = key} trusted stands among signed delegates set_among signs) =
       let before : HasDerivation m t rs anchors parent = derivation_of trusted in
-      let fewer : length parent.owner < length ds.owner = fewer_labels delegates.rtype stands signed in
-      let same : length ds.owner ≡ length set.owner = same_owner_labels ds set key delegates signs.stands in
       let link : IsLink m t rs parent set = record {
         signer = above;
         stands = stands;
@@ -45,7 +55,7 @@ module _ (m : Entry → Answer) (t : ℕ) (rs : List ReceivedRrset) (anchors : L
         delegated = delegates;
         among = set_among;
         signs = signs;
-        more_labels = omega arith;
+        goes_down = goes_down stands signed delegates signs.stands;
       } in
       record {
         first = before.first;

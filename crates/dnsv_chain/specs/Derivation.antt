@@ -1,5 +1,6 @@
 -- Trust as a list of links, from an anchor down (RFC 4035 5).
-use Rattle.std.specs.Prelude.{◌≡◌, ◌<◌, ℕ, List, [], ◌∷◌, Contains, length}
+use Rattle.std.specs.Prelude.{◌≡◌, ℕ, List, [], ◌∷◌, Contains}
+use Rattle.dnsv_names.specs.Order.{IsBelow}
 use Rattle.dnsv_canonical.specs.Rrsets.{ReceivedRrset}
 use Rattle.dnsv_verifier.specs.Admissible.{DnskeyRecord}
 use Rattle.dnsv_verifier.specs.declared.answer.Answer.{Answer}
@@ -18,7 +19,7 @@ pub record IsAnchored
   pub anchored : HasAnchorMatch anchors key
 
 -- A link: a key of the DNSKEY RRset above signs a DS RRset, a usable record of that matches a key of the DNSKEY RRset
--- below, and this key signs the RRset that it stands in. The owner below has more labels.
+-- below, and this key signs the RRset that it stands in. The owner below is below the one above.
 pub record IsLink (meaning : Entry → Answer) (moment : ℕ) (rrsets : List ReceivedRrset) (above below : ReceivedRrset)
     : Type 0 where
   pub signer : DnskeyRecord
@@ -30,7 +31,7 @@ pub record IsLink (meaning : Entry → Answer) (moment : ℕ) (rrsets : List Rec
   pub delegated : DelegatesTo ds key
   pub among : Contains rrsets below
   pub signs : SignsItsSet meaning moment below key
-  pub more_labels : length above.owner < length below.owner
+  pub goes_down : IsBelow below.owner above.owner
 
 -- from the first of the sets, links lead down over these to the last
 abbrev pub LeadsTo

@@ -2,12 +2,13 @@
 //!
 //! Each is a function that does nothing and ensures the law, which its caller learns.
 ghost use Rattle.std.specs.Prelude.{◌≡◌, ◌↔◌, ℕ, List, Contains};
+ghost use Rattle.dnsv_verifier.specs.Panel.{joint_answer};
 ghost use Rattle.dnsv_records.specs.declared.rrsig.Rrsig.{Rrsig};
 ghost use Rattle.dnsv_canonical.specs.Rrsets.{ReceivedRrset};
 ghost use Rattle.dnsv_verifier.specs.Admissible.{DnskeyRecord, IsAdmissible, IsAsked, IsEntryOf, IsGood, IsGoodAmong, IsKeyAmong, IsSignatureOf, IsVerifiable, MayHaveMade};
 ghost use Rattle.dnsv_verifier.specs.Table.{IsTableOf, TableContents, hoped_answer, hopeful, table_answer, unknown_entries};
 ghost use Rattle.dnsv_verifier.specs.declared.answer.Answer.{Answer};
-ghost use Rattle.dnsv_verifier.specs.declared.answer.Answer.TheVariants.{Valid, Unknown};
+ghost use Rattle.dnsv_verifier.specs.declared.answer.Answer.TheVariants.{Valid, Invalid, Unknown};
 ghost use Rattle.dnsv_verifier.specs.declared.entry.Entry.{Entry};
 
 use dnsv_canonical::one_signed_data;
@@ -76,4 +77,12 @@ pub fn unknown_entries_may_turn_out_valid()
     ensures hoped { (meaning : Entry → Answer) (moment : ℕ) (rrsets : List ReceivedRrset) (contents : TableContents)
         → IsTableOf meaning moment rrsets contents
         → IsTableOf (λ entry. hoped_answer (meaning entry)) moment rrsets (hopeful contents) }
+{}
+
+/// Several verifiers say Invalid together exactly where one of them does, and Valid exactly where one does and none says
+/// Invalid.
+pub fn several_verifiers_say_what_one_does()
+    ensures invalid { (answers : List Answer) → (joint_answer answers ≡ Invalid) ↔ Contains answers Invalid }
+    ensures valid { (answers : List Answer) → (joint_answer answers ≡ Valid)
+        ↔ (Contains answers Valid × ¬ Contains answers Invalid) }
 {}

@@ -9,7 +9,8 @@ pub use hex_field::hex_octets;
 pub use key::KeyRecord;
 pub use laws::{
     a_pair_has_one_entry, a_table_is_its_verifier, admissible_is_verifiable_and_made,
-    good_depends_on_what_is_asked, more_rrsets_ask_for_no_less, unknown_entries_may_turn_out_valid,
+    good_depends_on_what_is_asked, more_rrsets_ask_for_no_less,
+    several_verifiers_say_what_one_does, unknown_entries_may_turn_out_valid,
 };
 pub use panel::Panel;
 pub use statement::Word;
