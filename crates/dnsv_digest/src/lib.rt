@@ -11,5 +11,3 @@ mod digest;
 mod digest_type;
 mod hmac;
 mod nsec3;
-#[cfg(test)]
-mod tests;

@@ -95,6 +95,30 @@ impl Row {
         written::number_of(self.text(place)?)
     }
 
+    /// The same of a number below 2^8.
+    pub fn number8(&self, place: usize) -> Result<u8, RowError> {
+        match u8::try_from(self.number(place)?) {
+            Ok(number) => Ok(number),
+            Err(_) => Err(RowError::Malformed),
+        }
+    }
+
+    /// The same of a number below 2^16.
+    pub fn number16(&self, place: usize) -> Result<u16, RowError> {
+        match u16::try_from(self.number(place)?) {
+            Ok(number) => Ok(number),
+            Err(_) => Err(RowError::Malformed),
+        }
+    }
+
+    /// The same of a number below 2^32.
+    pub fn number32(&self, place: usize) -> Result<u32, RowError> {
+        match u32::try_from(self.number(place)?) {
+            Ok(number) => Ok(number),
+            Err(_) => Err(RowError::Malformed),
+        }
+    }
+
     /// The name that the argument is.
     pub fn name(&self, place: usize) -> Result<Name, RowError> {
         match Name::parse(self.text(place)?.as_bytes()) {
