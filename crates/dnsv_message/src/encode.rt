@@ -48,6 +48,3 @@ fn push_record(octets: &mut Vec<u8>, resource: &Record) -> Result<(), AllocError
     octets.extend_from_slice(rdata)?;
     Ok(())
 }
-
-#[cfg(test)]
-mod tests;

@@ -110,6 +110,3 @@ pub fn any_cutting()
     ensures first { (stream : List ℕ) (messages all : List (List ℕ)) (rest : List ℕ) →
         BeginsWith stream messages → Frames stream all rest → (others : List (List ℕ)) × (all ≡ messages ++ others) }
 {}
-
-#[cfg(test)]
-mod tests;

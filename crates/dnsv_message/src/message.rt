@@ -203,6 +203,3 @@ impl Message {
         Ok(octets)
     }
 }
-
-#[cfg(test)]
-mod tests;

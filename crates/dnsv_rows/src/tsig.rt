@@ -1,8 +1,113 @@
 //! Calls of `dnsv_tsig`.
 
 use crate::row::{Row, RowError};
+use dnsv_message::DecodeError;
+use dnsv_names::Name;
+use dnsv_tsig::{KeyFileError, KeyRing, Opened, TsigError, open};
+use std::alloc::{AllocError, Global};
 
 /// What the library answers, where it has the call.
-pub fn answer(_row: &Row) -> Result<Option<String>, RowError> {
+pub fn answer(row: &Row) -> Result<Option<String>, RowError> {
+    if row.calls("open") {
+        return Ok(Some(open_message(row)?));
+    }
+    if row.calls("opened") {
+        return Ok(Some(opened(row)?));
+    }
+    if row.calls("keys") {
+        return Ok(Some(keys(row)?));
+    }
     Ok(None)
+}
+
+/// `open MESSAGE KEYS NOW MAC`: the name of the key that signed the message, and the octets of the message inside. The
+/// last is the MAC of the request, or `-`.
+fn open_message(row: &Row) -> Result<String, RowError> {
+    let alloc = row.alloc();
+    match answer_to(row)? {
+        Ok(opened) => {
+            let octets = hex::encode(alloc, opened.message())?;
+            Ok(format!(in alloc; "{} {octets}", opened.key())?)
+        }
+        Err(error) => refused(alloc, &error),
+    }
+}
+
+/// `opened MESSAGE KEYS NOW MAC INSIDE`: the same, but whether the octets of the message inside are these.
+fn opened(row: &Row) -> Result<String, RowError> {
+    let inside = row.octets(4)?;
+    match answer_to(row)? {
+        Ok(opened) => {
+            let is_so = opened.message() == inside.as_slice();
+            Ok(format!(in row.alloc(); "{} {is_so}", opened.key())?)
+        }
+        Err(error) => refused(row.alloc(), &error),
+    }
+}
+
+/// What `open` answers to the row's message.
+fn answer_to(row: &Row) -> Result<Result<Opened, TsigError>, RowError> {
+    let octets = row.octets(0)?;
+    let Ok(keys) = KeyRing::parse(row.alloc(), &row.octets(1)?) else {
+        return Err(RowError::Malformed);
+    };
+    let now = row.number(2)?;
+    let request_mac = row.octets(3)?;
+    if request_mac.is_empty() {
+        return Ok(open(row.alloc(), &octets, &keys, now, None));
+    }
+    let mac = mac_of(&request_mac)?;
+    Ok(open(row.alloc(), &octets, &keys, now, Some(&mac)))
+}
+
+fn mac_of(octets: &[u8]) -> Result<[u8; 32], RowError> {
+    if octets.len() != 32 {
+        return Err(RowError::Malformed);
+    }
+    let mut mac = [0; 32];
+    mac.copy_from_slice(octets);
+    Ok(mac)
+}
+
+fn refused(alloc: Global, error: &TsigError) -> Result<String, RowError> {
+    let code = error.code();
+    match error {
+        TsigError::Unreadable(DecodeError::BadRdata(number)) => {
+            Ok(format!(in alloc; "refused {code} record {number}")?)
+        }
+        _ => Ok(format!(in alloc; "refused {code}")?),
+    }
+}
+
+/// `keys TEXT NAME ..`: the file's key of each of the names, as the file spells it, or `-`.
+fn keys(row: &Row) -> Result<String, RowError> {
+    match KeyRing::parse(row.alloc(), &row.octets(0)?) {
+        Ok(ring) => names_in(row, &ring),
+        Err(error) => Ok(refused_file(row.alloc(), &error)?),
+    }
+}
+
+fn names_in(row: &Row, ring: &KeyRing) -> Result<String, RowError> {
+    let mut text = String::from_str(row.alloc(), "ok")?;
+    for place in 1..row.count() {
+        push_name(&mut text, ring, &row.name(place)?)?;
+    }
+    Ok(text)
+}
+
+fn push_name(text: &mut String, ring: &KeyRing, name: &Name) -> Result<(), AllocError> {
+    match ring.key_named(name) {
+        Some(key) => write!(text, " {}", key.name()),
+        None => text.push_str(" -"),
+    }
+}
+
+fn refused_file(alloc: Global, error: &KeyFileError) -> Result<String, AllocError> {
+    let code = error.code();
+    match error {
+        KeyFileError::Syntax(line) | KeyFileError::DuplicateKey(line) => {
+            Ok(format!(in alloc; "refused {code} line {line}")?)
+        }
+        KeyFileError::OutOfMemory => Ok(format!(in alloc; "refused {code}")?),
+    }
 }

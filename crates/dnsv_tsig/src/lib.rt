@@ -11,9 +11,5 @@ mod key_ring;
 mod laws;
 mod mac;
 mod opened;
-#[cfg(test)]
-mod samples;
 mod signature;
-#[cfg(test)]
-mod tests;
 mod tsig;

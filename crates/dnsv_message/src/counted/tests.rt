@@ -1,4 +1,5 @@
 use super::*;
+use std::alloc::Global;
 use std::test::Fail;
 
 // Takes so many octets, and then none.
@@ -17,21 +18,24 @@ impl Write for Full {
     }
 }
 
+// Whether the writer takes so many of the octets, after which so many calls have failed.
+fn takes(writer: &mut Counted<Full>, octets: &[u8], count: usize, failures: u64) -> bool {
+    match writer.write(octets) {
+        Ok(taken) => taken == count && writer.failures() == failures,
+        Err(_) => false,
+    }
+}
+
 #[test]
-fn counts_failed_writes(rt: HostRuntime) -> Result<(), Fail> {
+fn counts_failed_writes(rt: HostRuntime) {
     let mut writer = Counted::new(Full(3));
-    assert_eq!(rt; writer.write(b"ab")?, 2);
-    assert_eq!(rt; writer.write(b"cd")?, 1);
-    assert_eq!(rt; writer.failures(), 0, "one octet was taken");
-    assert_eq!(rt; writer.write(b"")?, 0);
-    assert_eq!(rt; writer.failures(), 0, "there was none to take");
-    assert_eq!(rt; writer.write(b"d")?, 0);
-    assert_eq!(rt; writer.failures(), 1);
+    assert!(rt; takes(&mut writer, b"ab", 2, 0));
+    assert!(rt; takes(&mut writer, b"cd", 1, 0), "one octet was taken");
+    assert!(rt; takes(&mut writer, b"", 0, 0), "there was none to take");
+    assert!(rt; takes(&mut writer, b"d", 0, 1));
     assert!(rt; writer.write_all(b"d").is_err());
     assert!(rt; writer.flush().is_err());
-    assert_eq!(rt; writer.failures(), 3);
-    assert_eq!(rt; writer.get_ref().0, 0);
-    Ok(())
+    assert!(rt; writer.failures() == 3);
 }
 
 // Counts its calls, the first of which fails.
@@ -65,40 +69,53 @@ impl Write for FailsOnce {
     }
 }
 
-#[test]
-fn tries_no_failed_call_again(rt: HostRuntime) -> Result<(), Fail> {
-    let mut octet = [0u8; 1];
-    let mut once = Counted::new(FailsOnce(0));
-    assert!(rt; once.read(&mut octet).is_err());
-    assert_eq!(rt; (once.get_ref().0, once.failures()), (1, 1), "read");
-    let mut once = Counted::new(FailsOnce(0));
-    assert!(rt; once.read_exact(&mut octet).is_err());
-    assert_eq!(rt; (once.get_ref().0, once.failures()), (1, 1), "read_exact");
-    let mut once = Counted::new(FailsOnce(0));
-    assert!(rt; once.write(&octet).is_err());
-    assert_eq!(rt; (once.get_ref().0, once.failures()), (1, 1), "write");
-    let mut once = Counted::new(FailsOnce(0));
-    assert!(rt; once.write_all(&octet).is_err());
-    assert_eq!(rt; (once.get_ref().0, once.failures()), (1, 1), "write_all");
-    let mut once = Counted::new(FailsOnce(0));
-    assert!(rt; once.flush().is_err());
-    assert_eq!(rt; (once.get_ref().0, once.failures()), (1, 1), "flush");
-    Ok(())
+#[derive(Clone, Copy)]
+enum Call {
+    Read,
+    ReadExact,
+    Write,
+    WriteAll,
+    Flush,
 }
 
-// Takes two octets at most of each write, and five in all.
-#[derive(Drop)]
-struct Slow {
-    taken: Vec<u8>,
+fn fails(once: &mut Counted<FailsOnce>, call: Call) -> bool {
+    let mut octet = [0u8; 1];
+    match call {
+        Call::Read => once.read(&mut octet).is_err(),
+        Call::ReadExact => once.read_exact(&mut octet).is_err(),
+        Call::Write => once.write(&octet).is_err(),
+        Call::WriteAll => once.write_all(&octet).is_err(),
+        Call::Flush => once.flush().is_err(),
+    }
 }
+
+// Whether the call fails with the first that it makes, makes no other, and is counted once.
+fn is_tried_once(call: Call) -> bool {
+    let mut once = Counted::new(FailsOnce(0));
+    fails(&mut once, call) && once.get_ref().0 == 1 && once.failures() == 1
+}
+
+#[test]
+fn tries_no_failed_call_again(rt: HostRuntime) {
+    assert!(rt; is_tried_once(Call::Read));
+    assert!(rt; is_tried_once(Call::ReadExact));
+    assert!(rt; is_tried_once(Call::Write));
+    assert!(rt; is_tried_once(Call::WriteAll));
+    assert!(rt; is_tried_once(Call::Flush));
+}
+
+// Takes the octets that it waits for, two at most of each write, and then none.
+#[derive(Drop)]
+struct Slow(&'static [u8]);
 
 impl Write for Slow {
     fn write(&mut self, buf: &[u8]) -> io::Result<usize> {
-        let count = buf
-            .len()
-            .min(2)
-            .min(5usize.saturating_sub(self.taken.len()));
-        self.taken.extend_from_slice(&buf[..count])?;
+        let awaited = self.0;
+        let count = awaited.len().min(buf.len()).min(2);
+        if buf[..count] != awaited[..count] {
+            return Err(io::Error::other("these are other octets"));
+        }
+        self.0 = &awaited[count..];
         Ok(count)
     }
 
@@ -107,33 +124,39 @@ impl Write for Slow {
     }
 }
 
+// Whether all octets are written, or not, after which so many calls have failed and so many octets are awaited.
+fn ends(writer: &mut Counted<Slow>, octets: &[u8], failures: u64, awaited: usize) -> bool {
+    let is_counted = writer.write_all(octets).is_err() == (failures > 0);
+    is_counted && writer.failures() == failures && writer.get_ref().0.len() == awaited
+}
+
 #[test]
-fn writes_in_turn_until_a_write_fails(rt: HostRuntime) -> Result<(), Fail> {
-    let mut writer = Counted::new(Slow {
-        taken: Vec::new(rt.alloc()),
-    });
-    writer.write_all(b"abc")?;
-    assert_eq!(rt; writer.failures(), 0);
-    assert!(rt; writer.write_all(b"defg").is_err());
-    assert_eq!(rt; writer.failures(), 1, "the call failed once");
-    assert_eq!(rt; writer.get_ref().taken.as_slice(), b"abcde".as_slice());
-    Ok(())
+fn writes_in_turn_until_a_write_fails(rt: HostRuntime) {
+    let mut writer = Counted::new(Slow(b"abcde"));
+    assert!(rt; ends(&mut writer, b"abc", 0, 2));
+    assert!(rt; ends(&mut writer, b"defg", 1, 0), "the call failed once");
+}
+
+// Whether a writer gets the octets as they are.
+fn is_written(alloc: Global, octets: &[u8]) -> io::Result<bool> {
+    let mut writer = Counted::new(Vec::new(alloc));
+    writer.write_all(octets)?;
+    writer.flush()?;
+    Ok(writer.failures() == 0 && writer.into_inner().as_slice() == octets)
+}
+
+// Whether two of the three octets are read, and then no two.
+fn are_two_read(octets: &[u8; 3]) -> io::Result<bool> {
+    let mut reader = Counted::new(octets.as_slice());
+    let mut two = [0u8; 2];
+    reader.read_exact(&mut two)?;
+    let are_read = two.as_slice() == &octets[..2];
+    Ok(are_read && reader.read_exact(&mut two).is_err() && reader.failures() == 1)
 }
 
 #[test]
 fn passes_octets_on(rt: HostRuntime) -> Result<(), Fail> {
-    let mut writer = Counted::new(Vec::new(rt.alloc()));
-    writer.write_all(b"abc")?;
-    writer.flush()?;
-    assert_eq!(rt; writer.failures(), 0);
-    assert_eq!(rt; writer.into_inner().as_slice(), b"abc".as_slice());
-
-    let octets: &[u8] = b"abc";
-    let mut reader = Counted::new(octets);
-    let mut two = [0u8; 2];
-    reader.read_exact(&mut two)?;
-    assert_eq!(rt; two.as_slice(), b"ab".as_slice());
-    assert!(rt; reader.read_exact(&mut two).is_err());
-    assert_eq!(rt; reader.failures(), 1);
+    assert!(rt; is_written(rt.alloc(), b"abc")?);
+    assert!(rt; are_two_read(b"abc")?);
     Ok(())
 }

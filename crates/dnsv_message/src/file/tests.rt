@@ -1,50 +1,42 @@
 use super::*;
-use crate::samples::{Pieces, capture, long_capture};
+use crate::samples::{LONG_STREAM, Pieces, STREAM};
 use std::io::ErrorKind;
-use std::process::Abort;
 use std::test::Fail;
 
-#[test]
-fn gives_the_octets_in_any_pieces(rt: HostRuntime) -> Result<(), Fail> {
-    let file = capture(rt.alloc())?;
-    for size in [1, 7, 191, 192] {
-        let mut reader = Counted::new(Pieces::of(file.as_slice(), size));
-        let octets = read_all(rt.alloc(), &mut reader)?;
-        assert_eq!(rt; octets.as_slice(), file.as_slice());
-        assert_eq!(rt; reader.failures(), 0);
-    }
-    let nothing: &[u8] = b"";
-    assert!(rt; read_all(rt.alloc(), &mut Counted::new(nothing))?.is_empty());
-    Ok(())
+// Whether the file is read where it comes in pieces of so many octets, by so many reads.
+fn is_read(alloc: Global, file: &[u8], size: usize, reads: usize) -> bool {
+    let mut reader = Counted::new(Pieces::of(file, size));
+    let Ok(octets) = read_all(alloc, &mut reader) else {
+        return false;
+    };
+    octets.as_slice() == file && reader.failures() == 0 && reader.get_ref().reads == reads
 }
 
 #[test]
-fn reads_a_file_of_several_pieces_and_no_more_often(rt: HostRuntime) -> Result<(), Fail> {
-    let file = long_capture(rt.alloc())?;
-    let mut reader = Counted::new(Pieces::of(file.as_slice(), file.len()));
-    let octets = read_all(rt.alloc(), &mut reader)?;
-    assert_eq!(rt; octets.as_slice(), file.as_slice());
-    assert_eq!(rt; reader.failures(), 0);
-    assert_eq!(rt; reader.get_ref().reads, 5, "four pieces and the end");
+fn gives_the_octets_in_any_pieces_and_reads_no_more_often(rt: HostRuntime) -> Result<(), Fail> {
+    let alloc = rt.alloc();
+    assert!(rt; is_read(alloc, b"", 1, 1));
+    assert!(rt; is_read(alloc, STREAM, 1, 192));
+    assert!(rt; is_read(alloc, STREAM, 7, 29));
+    assert!(rt; is_read(alloc, STREAM, 191, 2));
+    assert!(rt; is_read(alloc, STREAM, 192, 2));
+    let long = vec![in alloc; 1; LONG_STREAM]?;
+    assert!(rt;
+        is_read(alloc, &long, LONG_STREAM, 5),
+        "four pieces and the end"
+    );
     Ok(())
 }
 
+// Whether a read that fails so is the answer, and nothing is read after it.
+fn is_refused(alloc: Global, kind: ErrorKind) -> bool {
+    let mut reader = Counted::new(Pieces::failing(kind));
+    let answer = read_all(alloc, &mut reader);
+    answer.err() == Some(ReadError::Read) && reader.failures() == 1 && reader.get_ref().reads == 2
+}
+
 #[test]
-fn a_failed_read_is_no_end(rt: HostRuntime) -> Result<(), Fail> {
-    let file = capture(rt.alloc())?;
-    for kind in [ErrorKind::Other, ErrorKind::Interrupted] {
-        let mut pieces = Pieces::of(file.as_slice(), 86);
-        pieces.fails_at = 2;
-        pieces.kind = kind;
-        let mut reader = Counted::new(pieces);
-        let answer = read_all(rt.alloc(), &mut reader);
-        assert_eq!(rt; answer.err(), Some(ReadError::Read));
-        assert_eq!(rt; reader.failures(), 1);
-        assert_eq!(rt;
-            reader.into_inner().reads,
-            2,
-            "nothing is read after a fault"
-        );
-    }
-    Ok(())
+fn a_failed_read_is_no_end(rt: HostRuntime) {
+    assert!(rt; is_refused(rt.alloc(), ErrorKind::Other));
+    assert!(rt; is_refused(rt.alloc(), ErrorKind::Interrupted));
 }
