@@ -13,6 +13,7 @@ mod row;
 mod tsig;
 mod verdict;
 mod verifier;
+mod verifying;
 mod written;
 
 use row::Row;
