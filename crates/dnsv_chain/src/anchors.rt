@@ -149,6 +149,3 @@ pub fn a_text_is_one_list_of_anchors()
 {
     a_text_has_one_reading();
 }
-
-#[cfg(test)]
-mod tests;

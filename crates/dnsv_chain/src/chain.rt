@@ -185,6 +185,3 @@ fn has_rdata(keys: &[KeyRecord<'_>], rdata: &[u8]) -> bool
 {
     keys.iter().any(|key| key.rdata() == rdata)
 }
-
-#[cfg(test)]
-mod tests;

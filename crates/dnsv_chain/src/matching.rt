@@ -108,6 +108,3 @@ fn has_named_digest(
             && ds.digest.as_slice() == digest.octets()
     })
 }
-
-#[cfg(test)]
-mod tests;

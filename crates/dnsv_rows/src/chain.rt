@@ -1,8 +1,19 @@
 //! Calls of `dnsv_chain`.
 
 use crate::row::{Row, RowError};
+pub use anchors::trust_anchors;
+
+mod anchors;
+mod ds;
+mod trust;
 
 /// What the library answers, where it has the call.
-pub fn answer(_row: &Row) -> Result<Option<String>, RowError> {
-    Ok(None)
+pub fn answer(row: &Row) -> Result<Option<String>, RowError> {
+    if let Some(text) = anchors::answer(row)? {
+        return Ok(Some(text));
+    }
+    if let Some(text) = ds::answer(row)? {
+        return Ok(Some(text));
+    }
+    trust::answer(row)
 }

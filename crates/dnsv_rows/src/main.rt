@@ -6,6 +6,7 @@ mod canonical;
 mod chain;
 mod denial;
 mod digest;
+mod evidence;
 mod message;
 mod names;
 mod printed;
@@ -14,6 +15,7 @@ mod row;
 mod tsig;
 mod verdict;
 mod verifier;
+mod verifying;
 mod written;
 
 use row::Row;

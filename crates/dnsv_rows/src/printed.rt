@@ -1,5 +1,6 @@
 //! How answers are printed.
 
+use crate::row::RowError;
 use std::alloc::{AllocError, Global};
 
 /// What is printed where there is no value.
@@ -18,4 +19,26 @@ pub fn octets(alloc: Global, octets: &[u8]) -> Result<String, AllocError> {
         return String::from_str(alloc, "-");
     }
     hex::encode(alloc, octets)
+}
+
+/// The texts parted by blanks, `none` for none.
+pub fn list(alloc: Global, texts: &[String]) -> Result<String, RowError> {
+    let Some((first, others)) = texts.split_first() else {
+        return Ok(none(alloc)?);
+    };
+    let mut listed = String::from_str(alloc, first.as_str())?;
+    for text in others {
+        listed.push_str(" ")?;
+        listed.push_str(text.as_str())?;
+    }
+    Ok(listed)
+}
+
+/// Lists of octets in hex, parted by blanks.
+pub fn octets_list(alloc: Global, all: &[Vec<u8>]) -> Result<String, RowError> {
+    let mut texts = Vec::new(alloc);
+    for each in all {
+        texts.push(octets(alloc, each.as_slice())?)?;
+    }
+    list(alloc, texts.as_slice())
 }

@@ -1,0 +1,87 @@
+//! Which DS records of an RRset count, and the keys that they match.
+
+use super::anchors::dnskey_of;
+use crate::printed;
+use crate::row::{Row, RowError};
+use dnsv_chain::{has_usable, has_usable_match, is_match, is_usable};
+use dnsv_records::{Ds, RecordError};
+use dnsv_verifier::KeyRecord;
+use std::alloc::Global;
+
+/// What the library answers, where it has the call.
+pub fn answer(row: &Row) -> Result<Option<String>, RowError> {
+    if row.calls("usable-ds") {
+        return Ok(Some(usable(row)?));
+    }
+    if row.calls("has-usable-ds") {
+        return Ok(Some(is_some_usable(row)?));
+    }
+    if row.calls("ds-match") {
+        return Ok(Some(matched(row)?));
+    }
+    if row.calls("has-usable-match") {
+        return Ok(Some(is_some_matched(row)?));
+    }
+    Ok(None)
+}
+
+/// `usable-ds RDATA..`: which records of the DS RRset count, by their numbers from 1 on.
+fn usable(row: &Row) -> Result<String, RowError> {
+    let alloc = row.alloc();
+    let records = ds_records(row, 0)?;
+    let mut numbers = Vec::new(alloc);
+    for (before, ds) in records.iter().enumerate() {
+        if is_usable(records.as_slice(), ds) {
+            let number = before.saturating_add(1);
+            numbers.push(format!(in alloc; "{number}")?)?;
+        }
+    }
+    printed::list(alloc, numbers.as_slice())
+}
+
+/// `has-usable-ds RDATA..`: whether some record of the DS RRset counts.
+fn is_some_usable(row: &Row) -> Result<String, RowError> {
+    let found = has_usable(ds_records(row, 0)?.as_slice());
+    Ok(format!(in row.alloc(); "{found}")?)
+}
+
+/// `ds-match OWNER KEY RDATA..`: of each DS record of the owner, whether it matches the owner's DNSKEY record.
+fn matched(row: &Row) -> Result<String, RowError> {
+    let alloc = row.alloc();
+    let (owner, rdata) = (row.name(0)?, row.octets(1)?);
+    let dnskey = dnskey_of(alloc, rdata.as_slice())?;
+    let key = KeyRecord::new(&owner, rdata.as_slice(), &dnskey);
+    let mut texts = Vec::new(alloc);
+    for ds in &ds_records(row, 2)? {
+        let is_matched = is_match(&owner, ds, &key);
+        texts.push(format!(in alloc; "{is_matched}")?)?;
+    }
+    printed::list(alloc, texts.as_slice())
+}
+
+/// `has-usable-match OWNER KEY RDATA..`: whether a record of the owner's DS RRset that counts matches the owner's
+/// DNSKEY record.
+fn is_some_matched(row: &Row) -> Result<String, RowError> {
+    let (owner, rdata) = (row.name(0)?, row.octets(1)?);
+    let dnskey = dnskey_of(row.alloc(), rdata.as_slice())?;
+    let key = KeyRecord::new(&owner, rdata.as_slice(), &dnskey);
+    let found = has_usable_match(&owner, ds_records(row, 2)?.as_slice(), &key);
+    Ok(format!(in row.alloc(); "{found}")?)
+}
+
+/// The DS records whose RDATA the arguments from a place on are.
+fn ds_records(row: &Row, place: usize) -> Result<Vec<Ds>, RowError> {
+    let mut records = Vec::new(row.alloc());
+    for each in place..row.count() {
+        records.push(ds_of(row.alloc(), row.octets(each)?.as_slice())?)?;
+    }
+    Ok(records)
+}
+
+fn ds_of(alloc: Global, rdata: &[u8]) -> Result<Ds, RowError> {
+    match Ds::read(alloc, rdata) {
+        Ok(ds) => Ok(ds),
+        Err(RecordError::OutOfMemory) => Err(RowError::OutOfMemory),
+        Err(_) => Err(RowError::Malformed),
+    }
+}

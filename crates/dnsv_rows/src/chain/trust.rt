@@ -1,0 +1,82 @@
+//! What is trusted in a capture, where `ByFirstOctet` verifies.
+
+use super::anchors::trust_anchors;
+use crate::row::{Row, RowError};
+use crate::verifying::ByFirstOctet;
+use crate::{evidence, printed};
+use dnsv_canonical::Capture;
+use dnsv_chain::{Trust, trusted};
+use dnsv_names::Count;
+use dnsv_verifier::ask_all;
+use std::alloc::Global;
+
+/// What the library answers, where it has the call.
+pub fn answer(row: &Row) -> Result<Option<String>, RowError> {
+    if row.calls("trusted") {
+        return Ok(Some(good_signatures(row)?));
+    }
+    if row.calls("trusted-rrset") {
+        return Ok(Some(good_signatures_of(row)?));
+    }
+    if row.calls("trusted-keys") {
+        return Ok(Some(keys(row)?));
+    }
+    Ok(None)
+}
+
+/// `trusted CAPTURE ANCHORS MOMENT`: of each RRset the numbers of its good signatures, parted by `,`.
+fn good_signatures(row: &Row) -> Result<String, RowError> {
+    let alloc = row.alloc();
+    let capture = evidence::capture(row, 0)?;
+    let trust = trust_in(row, &capture)?;
+    let mut texts = Vec::new(alloc);
+    for before in 0..capture.rrsets().len() {
+        texts.push(numbers(alloc, trust.signed(before.saturating_add(1)))?)?;
+    }
+    printed::list(alloc, texts.as_slice())
+}
+
+/// `trusted-rrset CAPTURE ANCHORS MOMENT RRSET`: the same of the RRset with the number alone.
+fn good_signatures_of(row: &Row) -> Result<String, RowError> {
+    let capture = evidence::capture(row, 0)?;
+    let trust = trust_in(row, &capture)?;
+    match usize::try_from(row.number(3)?) {
+        Ok(rrset) => numbers(row.alloc(), trust.signed(rrset)),
+        Err(_) => Err(RowError::Malformed),
+    }
+}
+
+/// `trusted-keys CAPTURE ANCHORS MOMENT ZONE`: the trusted keys of the zone, `FLAGS:PROTOCOL:ALGORITHM:KEY`.
+fn keys(row: &Row) -> Result<String, RowError> {
+    let alloc = row.alloc();
+    let capture = evidence::capture(row, 0)?;
+    let trust = trust_in(row, &capture)?;
+    let mut texts = Vec::new(alloc);
+    for key in trust.keys(&row.name(3)?) {
+        let (flags, protocol, algorithm) = (key.flags.0, key.protocol, key.algorithm.0);
+        let octets = printed::octets(alloc, key.key.as_slice())?;
+        texts.push(format!(in alloc; "{flags}:{protocol}:{algorithm}:{octets}")?)?;
+    }
+    printed::list(alloc, texts.as_slice())
+}
+
+/// The trust in the capture by the anchors and at the moment that the second and third argument are.
+fn trust_in(row: &Row, capture: &Capture) -> Result<Trust, RowError> {
+    let alloc = row.alloc();
+    let anchors = trust_anchors(row, 1)?;
+    let moment = row.number(2)?;
+    let table = ask_all(alloc, capture, moment, &ByFirstOctet, &mut Count::new())?;
+    Ok(trusted(alloc, capture, &anchors, &table)?)
+}
+
+/// The numbers parted by `,`, `-` for none.
+fn numbers(alloc: Global, numbers: &[usize]) -> Result<String, RowError> {
+    let Some((first, others)) = numbers.split_first() else {
+        return Ok(String::from_str(alloc, "-")?);
+    };
+    let mut text = format!(in alloc; "{first}")?;
+    for number in others {
+        text = format!(in alloc; "{text},{number}")?;
+    }
+    Ok(text)
+}
