@@ -1,5 +1,6 @@
 //! Calls of `dnsv_tsig`.
 
+use crate::printed;
 use crate::row::{Row, RowError};
 use dnsv_message::DecodeError;
 use dnsv_names::Name;
@@ -16,6 +17,9 @@ pub fn answer(row: &Row) -> Result<Option<String>, RowError> {
     }
     if row.calls("keys") {
         return Ok(Some(keys(row)?));
+    }
+    if row.calls("debug_has") {
+        return Ok(Some(debug_has(row)?));
     }
     Ok(None)
 }
@@ -110,4 +114,16 @@ fn refused_file(alloc: Global, error: &KeyFileError) -> Result<String, AllocErro
         }
         KeyFileError::OutOfMemory => Ok(format!(in alloc; "refused {code}")?),
     }
+}
+
+/// `debug_has TEXT PART`: whether what is printed of the file's ring for a report of a fault has the part in it.
+fn debug_has(row: &Row) -> Result<String, RowError> {
+    let Ok(ring) = KeyRing::parse(row.alloc(), &row.octets(0)?) else {
+        return Err(RowError::Malformed);
+    };
+    let Ok(part) = String::from_utf8(row.octets(1)?) else {
+        return Err(RowError::Malformed);
+    };
+    let text = format!(in row.alloc(); "{ring:?}")?;
+    Ok(printed::truth(row.alloc(), text.as_str().contains(part.as_str()))?)
 }
