@@ -28,6 +28,4 @@ mod number;
 mod octets;
 mod rrsig;
 mod tag;
-#[cfg(test)]
-mod tests;
 mod time;
