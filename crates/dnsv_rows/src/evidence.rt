@@ -1,0 +1,88 @@
+//! Captures that rows write: messages, each behind its length in two octets (RFC 1035 4.2.2).
+
+use crate::row::{Row, RowError};
+use dnsv_canonical::{Capture, CaptureError, Rrset};
+use dnsv_message::{Framer, Message};
+use dnsv_records::Rrsig;
+use std::alloc::Global;
+
+/// A message that isn't added to a capture: its number, from 1 on, and why.
+#[derive(Drop)]
+pub struct Refusal {
+    pub message: usize,
+    pub error: CaptureError,
+}
+
+/// The capture that the argument writes, of which no message is refused.
+pub fn capture(row: &Row, place: usize) -> Result<Capture, RowError> {
+    match capture_of(row.alloc(), messages(row, place)?.as_slice()) {
+        Ok(capture) => Ok(capture),
+        Err(_) => Err(RowError::Malformed),
+    }
+}
+
+/// The capture of the messages, or the first that is refused.
+pub fn capture_of(alloc: Global, messages: &[Message]) -> Result<Capture, Refusal> {
+    let mut capture = Capture::new(alloc);
+    for (place, message) in messages.iter().enumerate() {
+        if let Err(error) = capture.add(message) {
+            let message = place.saturating_add(1);
+            return Err(Refusal { message, error });
+        }
+    }
+    Ok(capture)
+}
+
+/// The messages that the argument writes.
+pub fn messages(row: &Row, place: usize) -> Result<Vec<Message>, RowError> {
+    let mut messages = Vec::new(row.alloc());
+    for octets in &frames(row, place)? {
+        messages.push(message_of(row.alloc(), octets.as_slice())?)?;
+    }
+    Ok(messages)
+}
+
+/// The RRset of the capture whose number, from 1 on, the argument is.
+pub fn rrset<'a>(row: &Row, place: usize, capture: &'a Capture) -> Result<&'a Rrset, RowError> {
+    let number = row.number(place)?.saturating_sub(1);
+    let Ok(index) = usize::try_from(number) else {
+        return Err(RowError::Malformed);
+    };
+    match capture.rrsets().get(index) {
+        Some(rrset) => Ok(rrset),
+        None => Err(RowError::Malformed),
+    }
+}
+
+/// The signature of the RRset whose number, from 1 on, the argument is.
+pub fn signature<'a>(row: &Row, place: usize, rrset: &'a Rrset) -> Result<&'a Rrsig, RowError> {
+    let number = row.number(place)?.saturating_sub(1);
+    let Ok(index) = usize::try_from(number) else {
+        return Err(RowError::Malformed);
+    };
+    match rrset.signatures().get(index) {
+        Some(rrsig) => Ok(rrsig),
+        None => Err(RowError::Malformed),
+    }
+}
+
+fn message_of(alloc: Global, octets: &[u8]) -> Result<Message, RowError> {
+    match Message::decode(alloc, octets) {
+        Ok(message) => Ok(message),
+        Err(_) => Err(RowError::Malformed),
+    }
+}
+
+/// The octets of the messages that the argument writes.
+fn frames(row: &Row, place: usize) -> Result<Vec<Vec<u8>>, RowError> {
+    let octets = row.octets(place)?;
+    let mut frames = Vec::new(row.alloc());
+    let mut framer = Framer::new(row.alloc());
+    let Ok(()) = framer.feed(octets.as_slice(), &mut frames) else {
+        return Err(RowError::Malformed);
+    };
+    match framer.finish() {
+        Ok(()) => Ok(frames),
+        Err(_) => Err(RowError::Malformed),
+    }
+}
