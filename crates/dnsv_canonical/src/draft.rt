@@ -150,6 +150,3 @@ fn add_section<'a>(
     }
     Ok(())
 }
-
-#[cfg(test)]
-mod tests;

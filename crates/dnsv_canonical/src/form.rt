@@ -103,6 +103,3 @@ fn names_lowered(
     form.extend_from_slice(end)?;
     Ok(form)
 }
-
-#[cfg(test)]
-mod tests;

@@ -134,6 +134,3 @@ fn length_octets(rdata: &[u8]) -> [u8; 2]
 {
     (rdata.len() as u16).to_be_bytes()
 }
-
-#[cfg(test)]
-mod tests;

@@ -1,8 +1,56 @@
 //! Calls of `dnsv_canonical`.
 
+use crate::printed;
 use crate::row::{Row, RowError};
+use dnsv_canonical::{forms_rrsets, is_question, signed_label_count};
+use dnsv_names::RecordType;
+
+mod records;
+mod rrsets;
+mod signing;
 
 /// What the library answers, where it has the call.
-pub fn answer(_row: &Row) -> Result<Option<String>, RowError> {
-    Ok(None)
+pub fn answer(row: &Row) -> Result<Option<String>, RowError> {
+    if row.calls("label-count") {
+        return Ok(Some(label_count(row)?));
+    }
+    if row.calls("forms-rrsets") {
+        return Ok(Some(forms(row)?));
+    }
+    if row.calls("is-question") {
+        return Ok(Some(question(row)?));
+    }
+    if let Some(text) = rrsets::answer(row)? {
+        return Ok(Some(text));
+    }
+    if let Some(text) = records::answer(row)? {
+        return Ok(Some(text));
+    }
+    signing::answer(row)
+}
+
+/// `label-count NAME`: how many labels of the name a signature counts.
+fn label_count(row: &Row) -> Result<String, RowError> {
+    let count = signed_label_count(&row.name(0)?);
+    Ok(format!(in row.alloc(); "{count}")?)
+}
+
+/// `forms-rrsets TYPE`: whether records of the type form RRsets.
+fn forms(row: &Row) -> Result<String, RowError> {
+    let forms = forms_rrsets(record_type(row, 0)?);
+    Ok(printed::truth(row.alloc(), forms)?)
+}
+
+/// `is-question NAME TYPE`: whether the type can be asked at the name.
+fn question(row: &Row) -> Result<String, RowError> {
+    let asked = is_question(&row.name(0)?, record_type(row, 1)?);
+    Ok(printed::truth(row.alloc(), asked)?)
+}
+
+/// The type whose number the argument is.
+fn record_type(row: &Row, place: usize) -> Result<RecordType, RowError> {
+    match u16::try_from(row.number(place)?) {
+        Ok(number) => Ok(RecordType(number)),
+        Err(_) => Err(RowError::Malformed),
+    }
 }

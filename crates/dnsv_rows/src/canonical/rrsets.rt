@@ -1,0 +1,80 @@
+//! Which RRsets captures have, and what they refuse.
+
+use crate::evidence::{Refusal, capture, capture_of, messages};
+use crate::printed;
+use crate::row::{Row, RowError};
+use dnsv_canonical::{Capture, CaptureError, Rrset};
+use dnsv_message::Section;
+use std::alloc::Global;
+
+/// What the library answers, where it has the call.
+pub fn answer(row: &Row) -> Result<Option<String>, RowError> {
+    if row.calls("rrsets") {
+        return Ok(Some(rrsets(row)?));
+    }
+    if row.calls("rrsets-of-the-rest") {
+        return Ok(Some(rrsets_of_the_rest(row)?));
+    }
+    if row.calls("totals") {
+        return Ok(Some(totals(row)?));
+    }
+    Ok(None)
+}
+
+/// `rrsets CAPTURE`: of each RRset `MESSAGE:SECTION:OWNER:TYPE:RECORDS:SIGNATURES`, the last two in number; or why a
+/// message is refused.
+fn rrsets(row: &Row) -> Result<String, RowError> {
+    match capture_of(row.alloc(), messages(row, 0)?.as_slice()) {
+        Ok(capture) => list(row.alloc(), &capture),
+        Err(refusal) => refused(row.alloc(), &refusal),
+    }
+}
+
+/// `rrsets-of-the-rest CAPTURE`: the same, where each message that is refused is passed over.
+fn rrsets_of_the_rest(row: &Row) -> Result<String, RowError> {
+    let mut capture = Capture::new(row.alloc());
+    for message in &messages(row, 0)? {
+        let _ = capture.add(message);
+    }
+    list(row.alloc(), &capture)
+}
+
+/// `totals CAPTURE`: how many RRsets, records of RRsets, signatures, and parameters of NSEC3 the capture has.
+fn totals(row: &Row) -> Result<String, RowError> {
+    let capture = capture(row, 0)?;
+    let (mut records, mut signatures) = (0usize, 0usize);
+    for rrset in capture.rrsets() {
+        records = records.saturating_add(rrset.len());
+        signatures = signatures.saturating_add(rrset.signatures().len());
+    }
+    let (rrsets, parameters) = (capture.rrsets().len(), capture.nsec3_parameters().len());
+    Ok(format!(in row.alloc(); "{rrsets} {records} {signatures} {parameters}")?)
+}
+
+fn list(alloc: Global, capture: &Capture) -> Result<String, RowError> {
+    let mut texts = Vec::new(alloc);
+    for rrset in capture.rrsets() {
+        texts.push(text_of(alloc, rrset)?)?;
+    }
+    printed::list(alloc, texts.as_slice())
+}
+
+fn text_of(alloc: Global, rrset: &Rrset) -> Result<String, RowError> {
+    let (message, owner, rtype) = (rrset.message(), rrset.owner(), rrset.rtype().0);
+    let section = match rrset.section() {
+        Section::Answer => "answer",
+        Section::Authority => "authority",
+        Section::Additional => "additional",
+    };
+    let (records, signatures) = (rrset.len(), rrset.signatures().len());
+    Ok(format!(in alloc; "{message}:{section}:{owner}:{rtype}:{records}:{signatures}")?)
+}
+
+fn refused(alloc: Global, refusal: &Refusal) -> Result<String, RowError> {
+    let (code, message) = (refusal.error.code(), refusal.message);
+    let text = format!(in alloc; "refused {code} message {message}")?;
+    match refusal.error {
+        CaptureError::BadRdata(record) => Ok(format!(in alloc; "{text} record {record}")?),
+        _ => Ok(text),
+    }
+}
