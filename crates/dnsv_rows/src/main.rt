@@ -6,6 +6,7 @@ mod canonical;
 mod chain;
 mod denial;
 mod digest;
+mod evidence;
 mod message;
 mod names;
 mod records;
@@ -13,6 +14,7 @@ mod row;
 mod tsig;
 mod verdict;
 mod verifier;
+mod verifying;
 mod written;
 
 use row::Row;
