@@ -103,8 +103,6 @@ mod said;
 mod search;
 mod secured;
 mod shown_cuts;
-#[cfg(test)]
-mod tests;
 mod types;
 mod unusable_ds;
 mod view;

@@ -2,6 +2,7 @@
 
 use crate::row::{Row, RowError};
 pub use anchors::trust_anchors;
+pub use trust::trust_in;
 
 mod anchors;
 mod ds;

@@ -1,8 +1,161 @@
 //! Calls of `dnsv_denial`.
 
+mod each;
+mod evidence;
+mod places;
+
+use crate::chain::trust_in;
+use evidence::{Evidence, evidence_of};
 use crate::row::{Row, RowError};
+use dnsv_denial::{Proof, View};
+use dnsv_names::{Count, Name, RecordType};
+use std::alloc::Global;
 
 /// What the library answers, where it has the call.
-pub fn answer(_row: &Row) -> Result<Option<String>, RowError> {
-    Ok(None)
+pub fn answer(row: &Row) -> Result<Option<String>, RowError> {
+    if row.calls("deny") {
+        return Ok(Some(deny(row)?));
+    }
+    if row.calls("retrust") {
+        return Ok(Some(retrust(row)?));
+    }
+    if row.calls("closer") {
+        return Ok(Some(closer(row)?));
+    }
+    if row.calls("hashes") {
+        return Ok(Some(hashes(row)?));
+    }
+    if row.calls("lacks") {
+        return Ok(Some(each::lacks(row)?));
+    }
+    if row.calls("closers") {
+        return Ok(Some(each::closers(row)?));
+    }
+    places::answer(row)
+}
+
+/// `deny CAPTURE ANCHORS MOMENT NAME TYPE`: the zone and the records of the proof that there is no such name, those of
+/// the proof that the type isn't there, and the unsigned cut.
+fn deny(row: &Row) -> Result<String, RowError> {
+    let evidence = match evidence_of(row)? {
+        Ok(evidence) => evidence,
+        Err(refusal) => return Ok(refusal),
+    };
+    let name = row.name(3)?;
+    let view = view_of(row.alloc(), &evidence, &name)?;
+    denials(row.alloc(), &view, rtype_of(row.text(4)?)?)
+}
+
+/// `retrust CAPTURE ANCHORS MOMENT NAME TYPE BEFORE`: what `deny` prints, by a view that was made under the anchors
+/// BEFORE.
+fn retrust(row: &Row) -> Result<String, RowError> {
+    let evidence = match evidence_of(row)? {
+        Ok(evidence) => evidence,
+        Err(refusal) => return Ok(refusal),
+    };
+    let before = trust_in(row, &evidence.capture, 5)?;
+    let name = row.name(3)?;
+    let view = View::new(
+        row.alloc(),
+        &evidence.capture,
+        &before,
+        &name,
+        &mut Count::new(),
+    )?;
+    let view = view.with_trust(row.alloc(), &evidence.trust)?;
+    denials(row.alloc(), &view, rtype_of(row.text(4)?)?)
+}
+
+/// `closer CAPTURE ANCHORS MOMENT NAME ZONE LABELS`: the zone and the record of the proof that the zone has no closer
+/// name than so many labels, and the next closer name that may be left out.
+fn closer(row: &Row) -> Result<String, RowError> {
+    let evidence = match evidence_of(row)? {
+        Ok(evidence) => evidence,
+        Err(refusal) => return Ok(refusal),
+    };
+    let name = row.name(3)?;
+    let view = view_of(row.alloc(), &evidence, &name)?;
+    closer_names(row, &view)
+}
+
+fn closer_names(row: &Row, view: &View<'_>) -> Result<String, RowError> {
+    let alloc = row.alloc();
+    let zone = row.name(4)?;
+    let Ok(labels) = usize::try_from(row.number(5)?) else {
+        return Err(RowError::Malformed);
+    };
+    let no_closer = told(alloc, view.no_closer(&zone, labels))?;
+    let loose_closer = named(alloc, view.loose_closer(&zone, labels))?;
+    Ok(format!(in alloc; "{no_closer}, {loose_closer}")?)
+}
+
+/// `hashes CAPTURE ANCHORS MOMENT NAME`: how many hashes a view for the name makes.
+fn hashes(row: &Row) -> Result<String, RowError> {
+    let evidence = match evidence_of(row)? {
+        Ok(evidence) => evidence,
+        Err(refusal) => return Ok(refusal),
+    };
+    let mut count = Count::new();
+    let name = row.name(3)?;
+    View::new(
+        row.alloc(),
+        &evidence.capture,
+        &evidence.trust,
+        &name,
+        &mut count,
+    )?;
+    let value = count.value();
+    Ok(format!(in row.alloc(); "{value}")?)
+}
+
+/// The view of the evidence for the name.
+fn view_of<'a>(
+    alloc: Global,
+    evidence: &'a Evidence,
+    name: &'a Name,
+) -> Result<View<'a>, RowError> {
+    Ok(View::new(
+        alloc,
+        &evidence.capture,
+        &evidence.trust,
+        name,
+        &mut Count::new(),
+    )?)
+}
+
+/// The type with the number that a text is.
+fn rtype_of(text: &str) -> Result<RecordType, RowError> {
+    match text.parse::<u16>() {
+        Ok(number) => Ok(RecordType(number)),
+        Err(_) => Err(RowError::Malformed),
+    }
+}
+
+fn denials(alloc: Global, view: &View<'_>, rtype: RecordType) -> Result<String, RowError> {
+    let no_name = told(alloc, view.no_name())?;
+    let no_data = told(alloc, view.no_data(rtype))?;
+    let cut = named(alloc, view.unsigned_cut())?;
+    Ok(format!(in alloc; "{no_name}, {no_data}, {cut}")?)
+}
+
+/// The zone of a proof, and its records as `RRSET.PLACE`.
+fn told(alloc: Global, proof: Option<Proof>) -> Result<String, RowError> {
+    let Some(proof) = proof else {
+        return Ok(String::from_str(alloc, "none")?);
+    };
+    let zone = proof.zone();
+    let mut text = format!(in alloc; "{zone}")?;
+    for number in proof.records() {
+        let (rrset, place) = (number.rrset, number.place);
+        text = format!(in alloc; "{text} {rrset}.{place}")?;
+    }
+    Ok(text)
+}
+
+/// The name, if there is one.
+fn named(alloc: Global, name: Option<Name>) -> Result<String, RowError> {
+    match name {
+        Some(name) => Ok(format!(in alloc; "{name}")?),
+        None => Ok(String::from_str(alloc, "none")?),
+    }
 }

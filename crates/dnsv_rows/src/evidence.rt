@@ -13,6 +13,26 @@ pub struct Refusal {
     pub error: CaptureError,
 }
 
+impl Refusal {
+    /// How it is printed.
+    pub fn text(&self, alloc: Global) -> Result<String, RowError> {
+        let (code, message) = (self.error.code(), self.message);
+        let text = format!(in alloc; "refused {code} message {message}")?;
+        match self.error {
+            CaptureError::BadRdata(record) => Ok(format!(in alloc; "{text} record {record}")?),
+            _ => Ok(text),
+        }
+    }
+}
+
+/// The capture that the argument writes, or the text of the refusal of a message.
+pub fn capture_or_refusal(row: &Row, place: usize) -> Result<Result<Capture, String>, RowError> {
+    match capture_of(row.alloc(), messages(row, place)?.as_slice()) {
+        Ok(capture) => Ok(Ok(capture)),
+        Err(refusal) => Ok(Err(refusal.text(row.alloc())?)),
+    }
+}
+
 /// The capture that the argument writes, of which no message is refused.
 pub fn capture(row: &Row, place: usize) -> Result<Capture, RowError> {
     match capture_of(row.alloc(), messages(row, place)?.as_slice()) {

@@ -1,6 +1,6 @@
 //! Which RRsets captures have, and what they refuse.
 
-use crate::evidence::{Refusal, capture, capture_of, messages};
+use crate::evidence::{capture, capture_or_refusal, messages};
 use crate::printed;
 use crate::row::{Row, RowError};
 use dnsv_canonical::{Capture, CaptureError, Rrset};
@@ -24,9 +24,9 @@ pub fn answer(row: &Row) -> Result<Option<String>, RowError> {
 /// `rrsets CAPTURE`: of each RRset `MESSAGE:SECTION:OWNER:TYPE:RECORDS:SIGNATURES`, the last two in number; or why a
 /// message is refused.
 fn rrsets(row: &Row) -> Result<String, RowError> {
-    match capture_of(row.alloc(), messages(row, 0)?.as_slice()) {
+    match capture_or_refusal(row, 0)? {
         Ok(capture) => list(row.alloc(), &capture),
-        Err(refusal) => refused(row.alloc(), &refusal),
+        Err(refusal) => Ok(refusal),
     }
 }
 
@@ -68,13 +68,4 @@ fn text_of(alloc: Global, rrset: &Rrset) -> Result<String, RowError> {
     };
     let (records, signatures) = (rrset.len(), rrset.signatures().len());
     Ok(format!(in alloc; "{message}:{section}:{owner}:{rtype}:{records}:{signatures}")?)
-}
-
-fn refused(alloc: Global, refusal: &Refusal) -> Result<String, RowError> {
-    let (code, message) = (refusal.error.code(), refusal.message);
-    let text = format!(in alloc; "refused {code} message {message}")?;
-    match refusal.error {
-        CaptureError::BadRdata(record) => Ok(format!(in alloc; "{text} record {record}")?),
-        _ => Ok(text),
-    }
 }

@@ -28,7 +28,7 @@ pub fn answer(row: &Row) -> Result<Option<String>, RowError> {
 fn good_signatures(row: &Row) -> Result<String, RowError> {
     let alloc = row.alloc();
     let capture = evidence::capture(row, 0)?;
-    let trust = trust_in(row, &capture)?;
+    let trust = trust_in(row, &capture, 1)?;
     let mut texts = Vec::new(alloc);
     for before in 0..capture.rrsets().len() {
         texts.push(numbers(alloc, trust.signed(before.saturating_add(1)))?)?;
@@ -39,7 +39,7 @@ fn good_signatures(row: &Row) -> Result<String, RowError> {
 /// `trusted-rrset CAPTURE ANCHORS MOMENT RRSET`: the same of the RRset with the number alone.
 fn good_signatures_of(row: &Row) -> Result<String, RowError> {
     let capture = evidence::capture(row, 0)?;
-    let trust = trust_in(row, &capture)?;
+    let trust = trust_in(row, &capture, 1)?;
     match usize::try_from(row.number(3)?) {
         Ok(rrset) => numbers(row.alloc(), trust.signed(rrset)),
         Err(_) => Err(RowError::Malformed),
@@ -50,7 +50,7 @@ fn good_signatures_of(row: &Row) -> Result<String, RowError> {
 fn keys(row: &Row) -> Result<String, RowError> {
     let alloc = row.alloc();
     let capture = evidence::capture(row, 0)?;
-    let trust = trust_in(row, &capture)?;
+    let trust = trust_in(row, &capture, 1)?;
     let mut texts = Vec::new(alloc);
     for key in trust.keys(&row.name(3)?) {
         let (flags, protocol, algorithm) = (key.flags.0, key.protocol, key.algorithm.0);
@@ -60,10 +60,10 @@ fn keys(row: &Row) -> Result<String, RowError> {
     printed::list(alloc, texts.as_slice())
 }
 
-/// The trust in the capture by the anchors and at the moment that the second and third argument are.
-fn trust_in(row: &Row, capture: &Capture) -> Result<Trust, RowError> {
+/// The trust in the capture by the anchors of the argument with so many before it, at the moment that the third one is.
+pub fn trust_in(row: &Row, capture: &Capture, anchors: usize) -> Result<Trust, RowError> {
     let alloc = row.alloc();
-    let anchors = trust_anchors(row, 1)?;
+    let anchors = trust_anchors(row, anchors)?;
     let moment = row.number(2)?;
     let table = ask_all(alloc, capture, moment, &ByFirstOctet, &mut Count::new())?;
     Ok(trusted(alloc, capture, &anchors, &table)?)

@@ -1,0 +1,25 @@
+//! Evidence that rows give: captured messages, with trust anchors and a moment.
+
+use crate::chain::trust_in;
+use crate::evidence::capture_or_refusal;
+use crate::row::{Row, RowError};
+use dnsv_canonical::Capture;
+use dnsv_chain::Trust;
+
+/// A capture and what is trusted in it.
+#[derive(Drop)]
+pub struct Evidence {
+    pub capture: Capture,
+    pub trust: Trust,
+}
+
+/// The evidence of a row whose arguments begin with a capture, trust anchors and a moment, or the text of the refusal of
+/// a message.
+pub fn evidence_of(row: &Row) -> Result<Result<Evidence, String>, RowError> {
+    let capture = match capture_or_refusal(row, 0)? {
+        Ok(capture) => capture,
+        Err(refusal) => return Ok(Err(refusal)),
+    };
+    let trust = trust_in(row, &capture, 1)?;
+    Ok(Ok(Evidence { capture, trust }))
+}

@@ -1,0 +1,31 @@
+#!/usr/bin/env python3
+"""Prints what the rows of dnsv_denial need besides those that are written by hand.
+
+usage: denial.py evidence    the rows that name messages of evidence
+       denial.py questions   rows that ask of every name of small zones to a depth of three labels
+       denial.py answers     what has to come for these, by looking the names up
+       denial.py limits      what has to come for the hand-written rows of the largest evidence
+"""
+import sys
+
+import denial_evidence
+import denial_limits
+import denial_questions
+
+PARTS = {
+    "evidence": [denial_evidence.lines, denial_limits.lines],
+    "questions": [denial_questions.rows],
+    "answers": [denial_questions.answers],
+    "limits": [denial_limits.answers],
+}
+
+
+def main():
+    if len(sys.argv) != 2 or sys.argv[1] not in PARTS:
+        sys.exit(__doc__.strip())
+    for lines in PARTS[sys.argv[1]]:
+        for line in lines():
+            print(line)
+
+
+main()

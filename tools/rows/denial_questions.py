@@ -1,0 +1,81 @@
+"""Questions of every name of small zones to a depth of three labels, and what looking it up gives."""
+from denial_zones import MIXED, SMALL
+from messages import TYPES, labels_of
+from zones import Hashing, child, is_at_or_below, is_between, key_of, successors, suffix
+
+LABELS = ["a", "sub", "w", "*", "x", "y", "q"]
+ASKED = ["A", "NS", "CNAME", "SOA", "TXT", "DS"]
+ZONES = {"small": SMALL, "mixed": MIXED}
+
+
+def families():
+    """The zone's name, and then the names right below each name of fewer than four labels."""
+    yield ["example."]
+    above = ["example."]
+    for _ in range(3):
+        below = [[child(label, each) for label in LABELS] for each in above]
+        yield from below
+        above = [each for family in below for each in family]
+
+
+def rows():
+    types = ",".join(str(TYPES[each]) for each in ASKED)
+    for name in ZONES:
+        for kind in ["nsec", "nsec3"]:
+            for family in families():
+                yield f"lacks $key,${name}:{kind} $anchors 1500 {types} {' '.join(family)}"
+            for family in families():
+                yield f"closers $key,${name}:{kind} $anchors 1500 example. {' '.join(family)}"
+
+
+def answers():
+    for zone in ZONES.values():
+        for is_absent in [absence_by_nsec(zone), absence_by_nsec3(zone)]:
+            for family in families():
+                yield " ".join(lacked(zone, each) for each in family)
+            for family in families():
+                yield " ".join(closers(zone, is_absent, each) for each in family)
+
+
+def lacked(zone, owner):
+    """As `lacks` writes it."""
+    no_name = "+" if zone.lacks_name(owner) else "-"
+    types = ",".join(str(TYPES[each]) for each in ASKED if zone.lacks_data(owner, each)) or "-"
+    cut = zone.unsigned_cut(owner)
+    return f"{no_name}/{types}/{len(labels_of(cut)) if cut else '-'}"
+
+
+def absence_by_nsec(zone):
+    """Whether a record of the chain shows that a name isn't there: it lies in the gap, has no name below it at the gap's
+    end, and isn't below the gap's owner where that is a delegation or has a DNAME record."""
+    following = successors([key_of(owner) for owner in zone.types])
+    ends = [key_of(owner) for owner in zone.types if zone.is_delegation(owner) or zone.has(owner, "DNAME")]
+
+    def is_absent(name):
+        key = key_of(name)
+        return any(is_between(owner, end, key) and end[:len(key)] != key
+                   and not (owner in ends and key[:len(owner)] == owner) for owner, end in following.items())
+    return is_absent
+
+
+def absence_by_nsec3(zone):
+    """Whether a record of the chain covers the hash of a name."""
+    hashing = Hashing(1, "ab")
+    following = successors([hashing.hash_of(node) for node in zone.nodes()])
+    return lambda name: any(is_between(owner, end, hashing.hash_of(name)) for owner, end in following.items())
+
+
+def closers(zone, is_absent, owner):
+    """As `closers` writes it, of a zone whose chain leaves nothing out."""
+    return "".join(closer(zone, is_absent, owner, labels) for labels in range(len(labels_of(owner))))
+
+
+def closer(zone, is_absent, owner, labels):
+    next_closer = suffix(owner, labels + 1)
+    if not is_at_or_below(suffix(owner, labels), zone.apex):
+        return "-"
+    is_shown = is_absent(next_closer)
+    # Where the zone is to be asked, that is just where no such node is in it.
+    assert zone.is_elsewhere(owner, "DS") or is_shown != zone.is_node(next_closer)
+    assert not (is_shown and zone.is_node(next_closer))
+    return "+" if is_shown else "-"

@@ -1,0 +1,137 @@
+"""Zones: what looking a name up in one gives, and their chains of NSEC and NSEC3 records."""
+import base64
+import hashlib
+import struct
+
+from messages import bitmap, labels_of, name
+
+
+def wire_in_lower_case(text):
+    return name(text.lower())
+
+
+def key_of(text):
+    """What names are put in canonical order by (RFC 4034 6.1)."""
+    return tuple(label.lower() for label in reversed(labels_of(text)))
+
+
+def suffix(text, labels):
+    """The name's so many rightmost labels."""
+    parts = text.split(".")[:-1] if text != "." else []
+    return ".".join(parts[len(parts) - labels:]) + "."
+
+
+def child(label, above):
+    return label + "." + above.lstrip(".")
+
+
+def is_at_or_below(text, above):
+    return key_of(text)[:len(key_of(above))] == key_of(above)
+
+
+class Zone:
+    """A zone by its names with their types, and the look-up of RFC 1034 4.3.2 and RFC 4592 3.3.1 in it."""
+
+    def __init__(self, apex, names):
+        self.apex = apex
+        self.types = {owner: types.split() for owner, types in names}
+
+    def has(self, owner, rtype):
+        return rtype in self.types.get(owner, [])
+
+    def is_node(self, owner):
+        return any(is_at_or_below(each, owner) for each in self.types)
+
+    def is_delegation(self, owner):
+        return self.has(owner, "NS") and not self.has(owner, "SOA")
+
+    def ancestors(self, owner):
+        """Those above the name, from the root on."""
+        return [suffix(owner, labels) for labels in range(len(labels_of(owner)))]
+
+    def is_elsewhere(self, owner, rtype):
+        """Whether another zone is to be asked, or the name lies below a DNAME record."""
+        if any(self.is_delegation(each) or self.has(each, "DNAME") for each in self.ancestors(owner)):
+            return True
+        return self.has(owner, "SOA") if rtype == "DS" else self.is_delegation(owner)
+
+    def wildcard(self, owner):
+        """The wildcard right below the closest encloser."""
+        return child("*", [each for each in self.ancestors(owner) if self.is_node(each)][-1])
+
+    def lacks_name(self, owner):
+        if self.is_elsewhere(owner, "A") or self.is_node(owner):
+            return False
+        return not self.is_node(self.wildcard(owner))
+
+    def lacks_data(self, owner, rtype):
+        if self.is_elsewhere(owner, rtype):
+            return False
+        source = owner if self.is_node(owner) else self.wildcard(owner)
+        return self.is_node(source) and not self.has(source, rtype) and not self.has(source, "CNAME")
+
+    def unsigned_cut(self, owner):
+        """The highest delegation without DS at or above the name."""
+        cuts = [each for each in self.ancestors(owner) + [owner]
+                if self.is_delegation(each) and not self.has(each, "DS")]
+        return cuts[0] if cuts else None
+
+    def nodes(self):
+        """All names, the empty non-terminals too, in canonical order."""
+        found = {each for owner in self.types for each in self.ancestors(owner) + [owner]
+                 if is_at_or_below(each, self.apex)}
+        return sorted(found, key=key_of)
+
+
+def is_between(owner, following, each):
+    """Whether it lies in the gap of a circle (RFC 4034 4.1.1, RFC 5155 3.1.7)."""
+    if owner < following:
+        return owner < each < following
+    return each > owner or each < following
+
+
+def successors(keys):
+    """Of each, which is next in the circle."""
+    ordered = sorted(keys)
+    return {key: ordered[(place + 1) % len(ordered)] for place, key in enumerate(ordered)}
+
+
+def nsec(following, types):
+    """RFC 4034 4.1."""
+    return name(following) + bitmap(types)
+
+
+def nsec_chain(zone):
+    """The owner and RDATA of each record of the zone's NSEC chain, in canonical order."""
+    owners = sorted(zone.types, key=key_of)
+    return [(owner, nsec(owners[(place + 1) % len(owners)], " ".join(zone.types[owner] + ["RRSIG", "NSEC"])))
+            for place, owner in enumerate(owners)]
+
+
+class Hashing:
+    """How a chain is hashed, and the flags of its records (RFC 5155 3.1, 5)."""
+
+    def __init__(self, iterations=0, salt="", flags=0):
+        self.iterations, self.salt, self.flags = iterations, bytes.fromhex(salt), flags
+
+    def hash_of(self, owner):
+        octets = hashlib.sha1(wire_in_lower_case(owner) + self.salt).digest()
+        for _ in range(self.iterations):
+            octets = hashlib.sha1(octets + self.salt).digest()
+        return octets
+
+    def nsec3(self, following, types, algorithm=1):
+        front = struct.pack("!BBHB", algorithm, self.flags, self.iterations, len(self.salt))
+        return front + self.salt + bytes([len(following)]) + following + bitmap(types)
+
+
+def hash_text(octets):
+    return base64.b32hexencode(octets).decode().lower()
+
+
+def nsec3_chain(nodes, hashing):
+    """The label and RDATA of the NSEC3 record of each node, in the order that they come in."""
+    hashes = [hashing.hash_of(owner) for owner, _ in nodes]
+    following = successors(hashes)
+    return [(hash_text(octets), hashing.nsec3(following[octets], types))
+            for octets, (_, types) in zip(hashes, nodes)]
