@@ -3,6 +3,7 @@
 use crate::row::{Row, RowError};
 use dnsv_canonical::{Capture, CaptureError, Rrset};
 use dnsv_message::{Framer, Message};
+use dnsv_records::Rrsig;
 use std::alloc::Global;
 
 /// A message that isn't added to a capture: its number, from 1 on, and why.
@@ -49,6 +50,18 @@ pub fn rrset<'a>(row: &Row, place: usize, capture: &'a Capture) -> Result<&'a Rr
     };
     match capture.rrsets().get(index) {
         Some(rrset) => Ok(rrset),
+        None => Err(RowError::Malformed),
+    }
+}
+
+/// The signature of the RRset whose number, from 1 on, the argument is.
+pub fn signature<'a>(row: &Row, place: usize, rrset: &'a Rrset) -> Result<&'a Rrsig, RowError> {
+    let number = row.number(place)?.saturating_sub(1);
+    let Ok(index) = usize::try_from(number) else {
+        return Err(RowError::Malformed);
+    };
+    match rrset.signatures().get(index) {
+        Some(rrsig) => Ok(rrsig),
         None => Err(RowError::Malformed),
     }
 }

@@ -1,20 +1,30 @@
-//! How answers print octets and lists.
+//! How answers are printed.
 
 use crate::row::RowError;
-use std::alloc::Global;
+use std::alloc::{AllocError, Global};
 
-/// The octets in hex, `-` for none.
-pub fn octets(alloc: Global, octets: &[u8]) -> Result<String, RowError> {
+/// What is printed where there is no value.
+pub fn none(alloc: Global) -> Result<String, AllocError> {
+    String::from_str(alloc, "none")
+}
+
+/// `true` or `false`.
+pub fn truth(alloc: Global, holds: bool) -> Result<String, AllocError> {
+    format!(in alloc; "{holds}")
+}
+
+/// Octets in hex, `-` where there are none.
+pub fn octets(alloc: Global, octets: &[u8]) -> Result<String, AllocError> {
     if octets.is_empty() {
-        return Ok(String::from_str(alloc, "-")?);
+        return String::from_str(alloc, "-");
     }
-    Ok(hex::encode(alloc, octets)?)
+    hex::encode(alloc, octets)
 }
 
 /// The texts parted by blanks, `none` for none.
 pub fn list(alloc: Global, texts: &[String]) -> Result<String, RowError> {
     let Some((first, others)) = texts.split_first() else {
-        return Ok(String::from_str(alloc, "none")?);
+        return Ok(none(alloc)?);
     };
     let mut listed = String::from_str(alloc, first.as_str())?;
     for text in others {
