@@ -1,8 +1,111 @@
 //! Calls of `dnsv_verdict`.
 
+use crate::chain::trust_anchors;
 use crate::row::{Row, RowError};
+use crate::verifying::ByFirstOctet;
+use crate::{evidence, printed};
+use dnsv_denial::Proof;
+use dnsv_names::RecordType;
+use dnsv_verdict::{Entries, Report, Verdict, VerdictError, validate};
+use dnsv_verifier::{Panel, Statements, StatementsError, Verifier};
+use std::alloc::Global;
 
 /// What the library answers, where it has the call.
-pub fn answer(_row: &Row) -> Result<Option<String>, RowError> {
+pub fn answer(row: &Row) -> Result<Option<String>, RowError> {
+    if row.calls("validate") {
+        return Ok(Some(validated(row, &ByFirstOctet)?));
+    }
+    if row.calls("validate-by") {
+        return Ok(Some(validated(row, &panel(row, 5)?)?));
+    }
     Ok(None)
+}
+
+/// `validate CAPTURE ANCHORS MOMENT NAME TYPE`: the verdict and what it rests on, how many entries were asked for and
+/// how many digests were worked out; or the refusal. An RRset stands before its signature or a record of it, `2.1`, and
+/// what is pending by the signatures. `ByFirstOctet` verifies.
+///
+/// `validate-by CAPTURE ANCHORS MOMENT NAME TYPE STATEMENTS..`: the same, where the files of statements verify together.
+fn validated<V: Verifier>(row: &Row, verifier: &V) -> Result<String, RowError> {
+    let alloc = row.alloc();
+    let capture = evidence::capture(row, 0)?;
+    let anchors = trust_anchors(row, 1)?;
+    let (moment, name) = (row.number(2)?, row.name(3)?);
+    let rtype = record_type(row, 4)?;
+    match validate(alloc, &capture, &anchors, moment, verifier, &name, rtype) {
+        Ok(report) => told(alloc, &report),
+        Err(VerdictError::OutOfMemory) => Err(RowError::OutOfMemory),
+        Err(error) => {
+            let code = error.code();
+            Ok(format!(in alloc; "refused {code}")?)
+        }
+    }
+}
+
+fn told(alloc: Global, report: &Report) -> Result<String, RowError> {
+    let verdict = verdict_text(alloc, &report.verdict)?;
+    let (asked, hashed) = (report.asked, report.hashed);
+    Ok(format!(in alloc; "{verdict} asked {asked} hashed {hashed}")?)
+}
+
+fn verdict_text(alloc: Global, verdict: &Verdict) -> Result<String, RowError> {
+    Ok(match verdict {
+        Verdict::SecureAnswer(rrset, signature) => {
+            format!(in alloc; "SecureAnswer {rrset}.{signature}")?
+        }
+        Verdict::SecureAlias(rrset, signature) => {
+            format!(in alloc; "SecureAlias {rrset}.{signature}")?
+        }
+        Verdict::SecureNoName(proof) => with_records(alloc, "SecureNoName", proof)?,
+        Verdict::SecureNoData(proof) => with_records(alloc, "SecureNoData", proof)?,
+        Verdict::Insecure(cut) => format!(in alloc; "Insecure {cut}")?,
+        Verdict::Pending(entries) => with_signatures(alloc, entries)?,
+        Verdict::Bogus => format!(in alloc; "Bogus")?,
+        Verdict::Indeterminate => format!(in alloc; "Indeterminate")?,
+    })
+}
+
+/// The word and the numbers of the proof's records.
+fn with_records(alloc: Global, word: &str, proof: &Proof) -> Result<String, RowError> {
+    let mut text = String::from_str(alloc, word)?;
+    for number in proof.records() {
+        let (rrset, place) = (number.rrset, number.place);
+        text = format!(in alloc; "{text} {rrset}.{place}")?;
+    }
+    Ok(text)
+}
+
+/// What is pending by the signatures of the entries.
+fn with_signatures(alloc: Global, entries: &Entries) -> Result<String, RowError> {
+    let mut text = String::from_str(alloc, "Pending")?;
+    for entry in entries.as_slice() {
+        let signature = printed::octets(alloc, entry.signature.as_slice())?;
+        text = format!(in alloc; "{text} {signature}")?;
+    }
+    Ok(text)
+}
+
+/// The files of statements that the arguments from a place on are.
+fn panel(row: &Row, place: usize) -> Result<Panel, RowError> {
+    let mut members: Vec<Box<dyn Verifier>> = Vec::new(row.alloc());
+    for each in place..row.count() {
+        members.push(Box::new(row.alloc(), statements(row, each)?)?)?;
+    }
+    Ok(Panel::new(members))
+}
+
+fn statements(row: &Row, place: usize) -> Result<Statements, RowError> {
+    match Statements::parse(row.alloc(), row.octets(place)?.as_slice()) {
+        Ok(statements) => Ok(statements),
+        Err(StatementsError::OutOfMemory) => Err(RowError::OutOfMemory),
+        Err(_) => Err(RowError::Malformed),
+    }
+}
+
+/// The type whose number the argument is.
+fn record_type(row: &Row, place: usize) -> Result<RecordType, RowError> {
+    match u16::try_from(row.number(place)?) {
+        Ok(number) => Ok(RecordType(number)),
+        Err(_) => Err(RowError::Malformed),
+    }
 }
