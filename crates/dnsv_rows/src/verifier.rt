@@ -1,8 +1,178 @@
 //! Calls of `dnsv_verifier`.
 
+use crate::evidence::capture;
 use crate::row::{Row, RowError};
+use crate::{evidence, printed};
+use dnsv_canonical::Rrset;
+use dnsv_names::Count;
+use dnsv_records::{Algorithm, Octets};
+use dnsv_verifier::{
+    Answer, Entry, KeyRecord, Panel, Statements, StatementsError, Table, Verifier, ask_all,
+    is_admissible, is_verifiable, may_have_made,
+};
+use std::alloc::Global;
 
 /// What the library answers, where it has the call.
-pub fn answer(_row: &Row) -> Result<Option<String>, RowError> {
+pub fn answer(row: &Row) -> Result<Option<String>, RowError> {
+    if row.calls("statements") {
+        return Ok(Some(statements(row)?));
+    }
+    if row.calls("panel") {
+        return Ok(Some(panel(row)?));
+    }
+    if row.calls("asked") {
+        return Ok(Some(asked(row)?));
+    }
+    if row.calls("table") {
+        return Ok(Some(table(row)?));
+    }
+    if row.calls("hopeful") {
+        return Ok(Some(hopeful(row)?));
+    }
+    if row.calls("admissible") {
+        return Ok(Some(admissible(row)?));
+    }
     Ok(None)
+}
+
+/// `statements TEXT ALGORITHM KEY DATA SIGNATURE`: what the file of statements says, or its refusal.
+fn statements(row: &Row) -> Result<String, RowError> {
+    match Statements::parse(row.alloc(), row.octets(0)?.as_slice()) {
+        Ok(statements) => {
+            let said = said_by(&statements, &entry(row, 1)?);
+            Ok(format!(in row.alloc(); "{said:?}")?)
+        }
+        Err(error) => refused(row.alloc(), &error),
+    }
+}
+
+fn refused(alloc: Global, error: &StatementsError) -> Result<String, RowError> {
+    let code = error.code();
+    match error {
+        StatementsError::Syntax(line) | StatementsError::Contradiction(line) => {
+            Ok(format!(in alloc; "refused {code} line {line}")?)
+        }
+        StatementsError::OutOfMemory => Ok(format!(in alloc; "refused {code}")?),
+    }
+}
+
+/// `panel ALGORITHM KEY DATA SIGNATURE TEXT ..`: what the files of statements say together.
+fn panel(row: &Row) -> Result<String, RowError> {
+    let mut members: Vec<Box<dyn Verifier>> = Vec::new(row.alloc());
+    for place in 4..row.count() {
+        members.push(Box::new(row.alloc(), statements_of(row, place)?)?)?;
+    }
+    let said = said_by(&Panel::new(members), &entry(row, 0)?);
+    Ok(format!(in row.alloc(); "{said:?}")?)
+}
+
+/// `asked CAPTURE MOMENT STATEMENTS`: how many entries are asked of the statements and are counted, and how many
+/// they know nothing of.
+fn asked(row: &Row) -> Result<String, RowError> {
+    let mut count = Count::new();
+    let table = table_of(row, &mut count)?;
+    let (asked, counted, unknown) = (
+        table.len(),
+        count.value(),
+        table.unknown(row.alloc())?.len(),
+    );
+    Ok(format!(in row.alloc(); "{asked} {counted} {unknown}")?)
+}
+
+/// `table CAPTURE MOMENT STATEMENTS`: the entries that are still to be verified, as `ALGORITHM:KEY:DATA:SIGNATURE`.
+fn table(row: &Row) -> Result<String, RowError> {
+    let alloc = row.alloc();
+    let table = table_of(row, &mut Count::new())?;
+    let mut texts = Vec::new(alloc);
+    for entry in &table.unknown(alloc)? {
+        texts.push(text_of(alloc, entry)?)?;
+    }
+    printed::list(alloc, texts.as_slice())
+}
+
+fn text_of(alloc: Global, entry: &Entry) -> Result<String, RowError> {
+    let algorithm = entry.algorithm.0;
+    let key = printed::octets(alloc, entry.key.as_slice())?;
+    let signed_data = printed::octets(alloc, entry.signed_data.as_slice())?;
+    let signature = printed::octets(alloc, entry.signature.as_slice())?;
+    Ok(format!(in alloc; "{algorithm}:{key}:{signed_data}:{signature}")?)
+}
+
+/// `hopeful CAPTURE MOMENT STATEMENTS ALGORITHM KEY DATA SIGNATURE`: what the table says of the entry, and the hopeful
+/// one, and the moment, entries and unknown entries of the latter.
+fn hopeful(row: &Row) -> Result<String, RowError> {
+    let table = table_of(row, &mut Count::new())?;
+    let hopeful = table.hopeful(row.alloc())?;
+    let entry = entry(row, 3)?;
+    let (said, hoped) = (said_by(&table, &entry), said_by(&hopeful, &entry));
+    let (moment, entries) = (hopeful.moment(), hopeful.len());
+    let unknown = hopeful.unknown(row.alloc())?.len();
+    Ok(format!(in row.alloc(); "{said:?} {hoped:?} {moment} {entries} {unknown}")?)
+}
+
+/// `admissible CAPTURE MOMENT RRSET SIGNATURE KEYRRSET KEY`: whether the key may be used to verify the signature, and
+/// what is asked of it: whether some key may, and whether the key may have made it.
+fn admissible(row: &Row) -> Result<String, RowError> {
+    let (capture, moment) = (capture(row, 0)?, row.number(1)?);
+    let rrset = evidence::rrset(row, 2, &capture)?;
+    let rrsig = evidence::signature(row, 3, rrset)?;
+    let key = key(row, 5, evidence::rrset(row, 4, &capture)?)?;
+    let admissible = is_admissible(moment, rrset, rrsig, &key);
+    let (verifiable, made) = (
+        is_verifiable(moment, rrset, rrsig),
+        may_have_made(&key, rrsig),
+    );
+    Ok(format!(in row.alloc(); "{admissible} {verifiable} {made}")?)
+}
+
+/// The key of the RRset whose number, from 1 on, the argument is.
+fn key<'a>(row: &Row, place: usize, rrset: &'a Rrset) -> Result<KeyRecord<'a>, RowError> {
+    let number = row.number(place)?.saturating_sub(1);
+    let Ok(index) = usize::try_from(number) else {
+        return Err(RowError::Malformed);
+    };
+    match rrset.dnskeys().get(index) {
+        Some(dnskey) if index < rrset.len() => {
+            Ok(KeyRecord::new(rrset.owner(), rrset.rdata(index), dnskey))
+        }
+        _ => Err(RowError::Malformed),
+    }
+}
+
+/// What the statements of the row say of its capture at its moment.
+fn table_of(row: &Row, count: &mut Count) -> Result<Table, RowError> {
+    let (capture, moment) = (capture(row, 0)?, row.number(1)?);
+    let statements = statements_of(row, 2)?;
+    Ok(ask_all(row.alloc(), &capture, moment, &statements, count)?)
+}
+
+/// The statements of the file that the argument writes.
+fn statements_of(row: &Row, place: usize) -> Result<Statements, RowError> {
+    match Statements::parse(row.alloc(), row.octets(place)?.as_slice()) {
+        Ok(statements) => Ok(statements),
+        Err(_) => Err(RowError::Malformed),
+    }
+}
+
+/// The entry that four arguments write, from the place on.
+fn entry(row: &Row, place: usize) -> Result<Entry, RowError> {
+    let Ok(algorithm) = u8::try_from(row.number(place)?) else {
+        return Err(RowError::Malformed);
+    };
+    Ok(Entry {
+        algorithm: Algorithm(algorithm),
+        key: Octets::from_vec(row.octets(place.saturating_add(1))?),
+        signed_data: Octets::from_vec(row.octets(place.saturating_add(2))?),
+        signature: Octets::from_vec(row.octets(place.saturating_add(3))?),
+    })
+}
+
+/// What the verifier says of the entry.
+fn said_by<V: Verifier>(verifier: &V, entry: &Entry) -> Answer {
+    verifier.answer(
+        entry.algorithm,
+        entry.key.as_slice(),
+        entry.signed_data.as_slice(),
+        entry.signature.as_slice(),
+    )
 }

@@ -88,6 +88,3 @@ fn names(rrsig: &Rrsig, key: &KeyRecord<'_>) -> bool
         && key.dnskey().algorithm.0 == rrsig.algorithm.0
         && rrsig.algorithm.is_supported()
 }
-
-#[cfg(test)]
-mod tests;

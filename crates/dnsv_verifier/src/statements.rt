@@ -175,6 +175,3 @@ fn list(
     said.insert(entry, word)?;
     Ok(())
 }
-
-#[cfg(test)]
-mod tests;
