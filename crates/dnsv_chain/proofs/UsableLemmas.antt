@@ -12,7 +12,7 @@ use Rattle.dnsv_records.specs.declared.ds.Ds.{Ds}
 use Rattle.dnsv_records.specs.declared.number.DigestType.{DigestType}
 use Rattle.dnsv_digest.specs.DigestType.{IsStronger, digest_type_of}
 use Rattle.dnsv_digest.specs.declared.digest_type.DigestType.{DigestType as Supported}
-use Rattle.dnsv_digest.specs.declared.digest_type.DigestType.TheVariants.{Sha1, Sha256}
+use Rattle.dnsv_digest.specs.declared.digest_type.DigestType.TheVariants.{Sha1, Sha256, Sha384}
 use Rattle.dnsv_chain.specs.Ds.{GoesBefore, HasUsable, HasUsableMatch, IsSupported, IsUsable}
 use Rattle.dnsv_chain.specs.DsReading.{HasLeadingMatch, HasSupported, IsLeading, Leads, TakesOver}
 
@@ -88,27 +88,41 @@ next_lead records i ds leading new below ds_is new_is is =
 number_of : Supported → ℕ
 number_of Sha1 = 1
 number_of Sha256 = 2
+number_of Sha384 = 4
 
-number_by : (number : ℕ) (first second : Bool) (supported : Supported) → (number == 1) ≡ first → (number == 2) ≡ second
-    → cond first (Some Sha1) (cond second (Some Sha256) None) ≡ Some supported → number ≡ number_of supported
+number_by : (number : ℕ) (first second third : Bool) (supported : Supported) → (number == 1) ≡ first
+    → (number == 2) ≡ second → (number == 4) ≡ third
+    → cond first (Some Sha1) (cond second (Some Sha256) (cond third (Some Sha384) None)) ≡ Some supported
+    → number ≡ number_of supported
 unfolding number_of
-number_by number true second Sha1 one two e = grind (arith, nat_tests)
-number_by number true second Sha256 one two e = cc
-number_by number false true Sha1 one two e = cc
-number_by number false true Sha256 one two e = grind (arith, nat_tests)
-number_by number false false supported one two e = cc
+number_by number true second third Sha1 one two four e = grind (arith, nat_tests)
+number_by number true second third Sha256 one two four e = cc
+number_by number true second third Sha384 one two four e = cc
+number_by number false true third Sha1 one two four e = cc
+number_by number false true third Sha256 one two four e = grind (arith, nat_tests)
+number_by number false true third Sha384 one two four e = cc
+number_by number false false true Sha1 one two four e = cc
+number_by number false false true Sha256 one two four e = cc
+number_by number false false true Sha384 one two four e = grind (arith, nat_tests)
+number_by number false false false supported one two four e = cc
 
 -- numbers of one digest type are equal
 one_number : (a b : ℕ) (supported : Supported) → digest_type_of a ≡ Some supported → digest_type_of b ≡ Some supported → a ≡ b
 one_number a b supported p q =
-    number_by a (a == 1) (a == 2) supported refl refl p ∙ sym (number_by b (b == 1) (b == 2) supported refl refl q)
+    number_by a (a == 1) (a == 2) (a == 4) supported refl refl refl p
+    ∙ sym (number_by b (b == 1) (b == 2) (b == 4) supported refl refl refl q)
 
 -- two digest types are one, or one is stronger
 compared : (s t : Supported) → IsStronger s t ⊎ (IsStronger t s ⊎ (s ≡ t))
 compared Sha1 Sha1 = inr (inr refl)
 compared Sha1 Sha256 = inr (inl (omega arith))
+compared Sha1 Sha384 = inr (inl (omega arith))
 compared Sha256 Sha1 = inl (omega arith)
 compared Sha256 Sha256 = inr (inr refl)
+compared Sha256 Sha384 = inr (inl (omega arith))
+compared Sha384 Sha1 = inl (omega arith)
+compared Sha384 Sha256 = inl (omega arith)
+compared Sha384 Sha384 = inr (inr refl)
 
 -- a record with the digest type that leads is usable where its algorithm is supported
 pub usable_leader : (records : List Ds) (leading : ℕ) (ds : Ds) → Leads records leading → ds.digest_type.0 ≡ leading

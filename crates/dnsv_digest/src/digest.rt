@@ -61,7 +61,7 @@ impl Digest {
         Digest { octets: digest }
     }
 
-    /// The octets: 20 of SHA-1, 32 of SHA-256.
+    /// The octets: 20 of SHA-1, 32 of SHA-256, 48 of SHA-384.
     pub fn octets(&self) -> &[u8]
         ensures { result.now ≡ self.now }
     {

@@ -1,10 +1,10 @@
 //! Which digest types of DS records are supported.
 ghost use Rattle.std.specs.Prelude.{◌≡◌, ◌++◌, ◌↔◌, IsTrue};
-ghost use Rattle.dnsv_digest.specs.DigestType.{IsStronger, digest_type_of, hash_of};
+ghost use Rattle.dnsv_digest.specs.DigestType.{IsStronger, digest_type_of, hash_of, strength_of};
 
 use crate::digest::Digest;
 use sha1::Sha1;
-use sha2::{Digest as Hasher, Sha256};
+use sha2::{Digest as Hasher, Sha256, Sha384};
 
 /// A digest type of DS records that is supported. Any other is a number without a value here.
 #[derive(Clone, Copy, Debug, PartialEq, Eq)]
@@ -13,10 +13,12 @@ pub enum DigestType {
     Sha1,
     /// SHA-256, with the number 2 (RFC 4509 5).
     Sha256,
+    /// SHA-384, with the number 4 (RFC 6605 2).
+    Sha384,
 }
 
 /// How many octets a digest has at most.
-pub const DIGEST_LIMIT: usize = 32;
+pub const DIGEST_LIMIT: usize = 48;
 
 impl DigestType {
     /// The digest type with this number; `None` where it isn't supported.
@@ -26,6 +28,7 @@ impl DigestType {
         match number {
             1 => Some(DigestType::Sha1),
             2 => Some(DigestType::Sha256),
+            4 => Some(DigestType::Sha384),
             _ => None,
         }
     }
@@ -34,7 +37,18 @@ impl DigestType {
     pub fn is_stronger_than(self, other: DigestType) -> bool
         ensures { IsTrue result ↔ IsStronger self other }
     {
-        matches!((self, other), (DigestType::Sha256, DigestType::Sha1))
+        self.strength() > other.strength()
+    }
+
+    /// How strong the digest type is beside the others, which their numbers don't tell by themselves.
+    fn strength(self) -> u8
+        ensures { result ≡ strength_of self }
+    {
+        match self {
+            DigestType::Sha1 => 1,
+            DigestType::Sha256 => 2,
+            DigestType::Sha384 => 3,
+        }
     }
 
     /// The hash of a message that comes in two pieces.
@@ -50,6 +64,12 @@ impl DigestType {
             }
             DigestType::Sha256 => {
                 let mut hasher = Sha256::new();
+                hasher.update(first);
+                hasher.update(second);
+                Digest::new(&hasher.finalize())
+            }
+            DigestType::Sha384 => {
+                let mut hasher = Sha384::new();
                 hasher.update(first);
                 hasher.update(second);
                 Digest::new(&hasher.finalize())
