@@ -5,10 +5,10 @@ mod evidence;
 mod places;
 
 use crate::chain::trust_in;
-use evidence::{Evidence, evidence_of};
 use crate::row::{Row, RowError};
 use dnsv_denial::{Proof, View};
 use dnsv_names::{Count, Name, RecordType};
+use evidence::{Evidence, evidence_of};
 use std::alloc::Global;
 
 /// What the library answers, where it has the call.

@@ -1,7 +1,7 @@
 //! Questions of many names of a zone in one row.
 
-use crate::denial::{rtype_of, view_of};
 use super::evidence::evidence_of;
+use crate::denial::{rtype_of, view_of};
 use crate::row::{Row, RowError};
 use dnsv_denial::View;
 use dnsv_names::Name;
