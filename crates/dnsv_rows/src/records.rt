@@ -8,6 +8,7 @@ use crate::printed;
 use crate::row::{Row, RowError};
 use dnsv_names::Hash20;
 use dnsv_records::{Expiration, Inception, base32hex_read, base32hex_write, key_tag, time_valid};
+use std::str;
 
 /// What the library answers, where it has the call.
 pub fn answer(row: &Row) -> Result<Option<String>, RowError> {
@@ -59,11 +60,13 @@ fn hash_read(row: &Row) -> Result<String, RowError> {
     }
 }
 
-/// `base32hex_write OCTETS`: the text of a hash of 20 octets, in hex.
+/// `base32hex_write OCTETS`: the text of a hash of 20 octets.
 fn hash_written(row: &Row) -> Result<String, RowError> {
     let Ok(octets) = <[u8; 20]>::try_from(row.octets(0)?.as_slice()) else {
         return Err(RowError::Malformed);
     };
-    let text = base32hex_write(&Hash20::new(octets));
-    Ok(hex::encode(row.alloc(), text.as_slice())?)
+    match str::from_utf8(base32hex_write(&Hash20::new(octets)).as_slice()) {
+        Ok(text) => Ok(String::from_str(row.alloc(), text)?),
+        Err(_) => Err(RowError::Malformed),
+    }
 }
