@@ -29,16 +29,16 @@ fn is_read(alloc: Global, stream: &[u8], size: usize, reads: usize) -> bool {
 }
 
 #[test]
-fn reads_the_same_in_any_pieces_and_no_more_often(rt: HostRuntime) -> Result<(), Fail> {
-    let alloc = rt.alloc();
-    assert!(rt; is_read(alloc, STREAM, 1, 192));
-    assert!(rt; is_read(alloc, STREAM, 3, 65));
-    assert!(rt; is_read(alloc, STREAM, 191, 2));
-    let long = vec![in alloc; 1; LONG_STREAM]?;
-    assert!(rt;
-        is_read(alloc, &long, LONG_STREAM, 5),
-        "four pieces and the end"
-    );
+fn reads_the_same_in_any_pieces(rt: HostRuntime) {
+    assert!(rt; is_read(rt.alloc(), STREAM, 1, 192));
+    assert!(rt; is_read(rt.alloc(), STREAM, 3, 65));
+    assert!(rt; is_read(rt.alloc(), STREAM, 191, 2));
+}
+
+#[test]
+fn reads_four_pieces_and_the_end(rt: HostRuntime) -> Result<(), Fail> {
+    let stream = vec![in rt.alloc(); 1; LONG_STREAM]?;
+    assert!(rt; is_read(rt.alloc(), &stream, LONG_STREAM, 5));
     Ok(())
 }
 

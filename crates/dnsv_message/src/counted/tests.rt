@@ -1,6 +1,4 @@
 use super::*;
-use std::alloc::Global;
-use std::test::Fail;
 
 // Takes so many octets, and then none.
 #[derive(Drop)]
@@ -20,10 +18,8 @@ impl Write for Full {
 
 // Whether the writer takes so many of the octets, after which so many calls have failed.
 fn takes(writer: &mut Counted<Full>, octets: &[u8], count: usize, failures: u64) -> bool {
-    match writer.write(octets) {
-        Ok(taken) => taken == count && writer.failures() == failures,
-        Err(_) => false,
-    }
+    let taken = writer.write(octets).ok();
+    taken == Some(count) && writer.failures() == failures
 }
 
 #[test]
@@ -137,26 +133,31 @@ fn writes_in_turn_until_a_write_fails(rt: HostRuntime) {
     assert!(rt; ends(&mut writer, b"defg", 1, 0), "the call failed once");
 }
 
-// Whether a writer gets the octets as they are.
-fn is_written(alloc: Global, octets: &[u8]) -> io::Result<bool> {
-    let mut writer = Counted::new(Vec::new(alloc));
-    writer.write_all(octets)?;
-    writer.flush()?;
-    Ok(writer.failures() == 0 && writer.into_inner().as_slice() == octets)
-}
-
-// Whether two of the three octets are read, and then no two.
-fn are_two_read(octets: &[u8; 3]) -> io::Result<bool> {
-    let mut reader = Counted::new(octets.as_slice());
-    let mut two = [0u8; 2];
-    reader.read_exact(&mut two)?;
-    let are_read = two.as_slice() == &octets[..2];
-    Ok(are_read && reader.read_exact(&mut two).is_err() && reader.failures() == 1)
+// Whether the writer gets the octets as they are.
+fn gets(writer: &mut Counted<Vec<u8>>, octets: &[u8]) -> bool {
+    writer.write_all(octets).is_ok()
+        && writer.flush().is_ok()
+        && writer.get_ref().as_slice() == octets
 }
 
 #[test]
-fn passes_octets_on(rt: HostRuntime) -> Result<(), Fail> {
-    assert!(rt; is_written(rt.alloc(), b"abc")?);
-    assert!(rt; are_two_read(b"abc")?);
-    Ok(())
+fn passes_written_octets_on(rt: HostRuntime) {
+    let mut writer = Counted::new(Vec::new(rt.alloc()));
+    assert!(rt; gets(&mut writer, b"abc"));
+    assert!(rt; writer.failures() == 0);
+}
+
+// Whether the reader has two octets, and they are these.
+fn gives(reader: &mut Counted<&[u8]>, octets: [u8; 2]) -> bool {
+    let mut two = [0u8; 2];
+    reader.read_exact(&mut two).is_ok() && two == octets
+}
+
+#[test]
+fn passes_read_octets_on(rt: HostRuntime) {
+    let octets: &[u8] = b"abc";
+    let mut reader = Counted::new(octets);
+    assert!(rt; gives(&mut reader, *b"ab"));
+    assert!(rt; !gives(&mut reader, *b"c\0"));
+    assert!(rt; reader.failures() == 1);
 }

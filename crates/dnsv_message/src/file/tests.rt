@@ -13,18 +13,18 @@ fn is_read(alloc: Global, file: &[u8], size: usize, reads: usize) -> bool {
 }
 
 #[test]
-fn gives_the_octets_in_any_pieces_and_reads_no_more_often(rt: HostRuntime) -> Result<(), Fail> {
-    let alloc = rt.alloc();
-    assert!(rt; is_read(alloc, b"", 1, 1));
-    assert!(rt; is_read(alloc, STREAM, 1, 192));
-    assert!(rt; is_read(alloc, STREAM, 7, 29));
-    assert!(rt; is_read(alloc, STREAM, 191, 2));
-    assert!(rt; is_read(alloc, STREAM, 192, 2));
-    let long = vec![in alloc; 1; LONG_STREAM]?;
-    assert!(rt;
-        is_read(alloc, &long, LONG_STREAM, 5),
-        "four pieces and the end"
-    );
+fn gives_the_octets_in_any_pieces(rt: HostRuntime) {
+    assert!(rt; is_read(rt.alloc(), b"", 1, 1));
+    assert!(rt; is_read(rt.alloc(), STREAM, 1, 192));
+    assert!(rt; is_read(rt.alloc(), STREAM, 7, 29));
+    assert!(rt; is_read(rt.alloc(), STREAM, 191, 2));
+    assert!(rt; is_read(rt.alloc(), STREAM, 192, 2));
+}
+
+#[test]
+fn reads_four_pieces_and_the_end(rt: HostRuntime) -> Result<(), Fail> {
+    let file = vec![in rt.alloc(); 1; LONG_STREAM]?;
+    assert!(rt; is_read(rt.alloc(), &file, LONG_STREAM, 5));
     Ok(())
 }
 
