@@ -1,5 +1,6 @@
 """The command line of a tool, and the files that it names; `-` is the standard input or output."""
 import argparse
+import os
 import sys
 
 
@@ -8,6 +9,19 @@ def parser_of(text):
     front, details = text.split("\n", 1)
     return argparse.ArgumentParser(
         description=front, epilog=details, formatter_class=argparse.RawDescriptionHelpFormatter, allow_abbrev=False)
+
+
+def run(main):
+    """Runs a tool; an interrupt and a closed pipe end it with a line at most."""
+    name = os.path.basename(sys.argv[0])
+    try:
+        sys.exit(main(sys.argv[1:]))
+    except KeyboardInterrupt:
+        print(f"{name}: interrupted", file=sys.stderr)
+        sys.exit(130)
+    except BrokenPipeError:
+        sys.stdout = None
+        sys.exit(1)
 
 
 def read(path):
