@@ -37,7 +37,8 @@ def notes_of(messages):
             zones.take(octets)
         except Incomplete:
             pass
-    notes = [f"no answer has the DNSKEY records of {name_text(zone)}, a zone on the way" for zone in zones.without_keys()]
+    missing = [name_text(zone) for zone in zones.without_keys()]
+    notes = [f"no answer has the DNSKEY records of {zone}, a zone on the way" for zone in missing]
     if not zones.signers:
         notes.append("no answer has a signature (RRSIG): were they asked without the flag DO?")
     return notes

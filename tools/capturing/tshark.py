@@ -7,8 +7,8 @@ from command import read
 from .entries import Message, Omission, Refusal
 from .packets import Datagram, Segment
 
-# ICMP quotes packets, and quotes them cut.
-FILTER = "dns && !icmp && !icmpv6"
+# ICMP quotes packets, and quotes them cut. Behind a segment that is lost tshark finds nothing more.
+FILTER = "dns && !icmp && !icmpv6 || tcp.analysis.lost_segment"
 LAYERS = "frame ip ipv6 udp tcp dns"
 PREFERENCES = ("ip.defragment", "ipv6.defragment", "tcp.desegment_tcp_streams", "tcp.reassemble_out_of_order",
                "dns.desegment_dns_messages")
@@ -60,17 +60,31 @@ class Reader:
             self.ends, self.kind = [*zip(self.addresses, numbers)], Segment if name == "tcp" else Datagram
         elif name == "dns_raw":
             self.raw = value[0]
-        elif name == "dns" and self.ports & {number for _, number in self.ends}:
+        elif name == "dns" and self.is_asked_for():
             return [self.message(dict(value))]
         return []
 
+    def is_asked_for(self):
+        return bool(self.ports & {number for _, number in self.ends})
+
+    def place(self):
+        return f"packet {self.frame.get('frame.number')} of {self.path}"
+
     def message(self, layer):
         """A message over TCP stands behind its length."""
-        place = f"packet {self.frame.get('frame.number')} of {self.path}"
         if self.frame.get("frame.cap_len") != self.frame.get("frame.len"):
-            return Omission(place, "it was cut when it was captured")
+            return Omission(self.place(), "it was cut when it was captured")
         octets = bytes.fromhex(self.raw)[2 if "dns.length" in layer else 0:]
-        return Message(octets, place, (self.kind, frozenset(self.ends)))
+        return Message(octets, self.place(), (self.kind, frozenset(self.ends)))
+
+
+def entries_of_packet(layers, path, ports):
+    """The messages of a packet; one without any that is there is of a stream with a gap."""
+    reader = Reader(path, ports)
+    entries = [entry for layer in layers for entry in reader.take(*layer)]
+    if not entries and reader.is_asked_for():
+        return [Omission(f"the TCP stream at {reader.place()}", "a segment before it isn't in the packet capture")]
+    return entries
 
 
 def entries_of_tshark(path, ports):
@@ -78,8 +92,12 @@ def entries_of_tshark(path, ports):
     entries = []
     try:
         for layers in layers_of(text):
-            reader = Reader(path, ports)
-            entries += [entry for layer in layers for entry in reader.take(*layer)]
+            entries += entries_of_packet(layers, path, ports)
     except (ValueError, KeyError, TypeError, IndexError, RecursionError) as fault:
         raise Refusal(f"{path}: tshark: {complaint or 'what it prints is no JSON of packets'}") from fault
-    return entries + ([Omission(f"the end of {path}", f"tshark: {complaint}")] if complaint else [])
+    if complaint:
+        entries.append(Omission(f"the end of {path}", f"tshark: {complaint}"))
+    if not entries:
+        numbers = ", ".join(map(str, sorted(ports)))
+        entries.append(Omission(path, f"tshark finds no message of DNS at {numbers} (--port)"))
+    return entries

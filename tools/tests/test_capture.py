@@ -178,8 +178,8 @@ class Names(Case):
     def test_files_named_alone_stand_in_the_order_of_the_command_line(self):
         other = self.room / "other"
         other.write_text(TWO.hex())
-        for words in ([self.input, "--hex", other], ["--stream", self.input, other], [self.input, "--port", "53", other],
-                      [self.input, f"--hex={other}"], ["--port", "53", "--", self.input, other]):
+        for words in ([self.input, "--hex", other], ["--stream", self.input, other], [self.input, f"--hex={other}"],
+                      [self.input, "--port", "53", other], ["--port", "53", "--", self.input, other]):
             self.assertEqual(run("capture", *words)[:2], (0, framed(ONE, TWO)))
         self.assertEqual(run("capture", other, "--stream", self.input)[:2], (0, framed(TWO, ONE)))
 
@@ -211,8 +211,9 @@ class Packed(Case):
     def test_what_is_packed_and_torn_gives_what_is_there(self):
         file = pcap([ethernet(ipv4(udp(each))) for each in (ONE, TWO)])
         stored = gzip.compress(file, 0)
-        self.takes(stored[:-20], [ONE], "what is behind packet 1 of -", "the end of -: it is packed, and torn", kind="--pcap")
-        self.takes(stored[:-4], [ONE, TWO], "the end of -: it is packed, and torn", kind="--pcap")
+        told = "the end of -: it is packed, and torn"
+        self.takes(stored[:-20], [ONE], "what is behind packet 1 of -", told, kind="--pcap")
+        self.takes(stored[:-4], [ONE, TWO], told, kind="--pcap")
 
     def test_what_is_packed_and_spoilt_is_refused(self):
         packed = bytearray(gzip.compress(pcap([ethernet(ipv4(udp(ONE)))])))

@@ -15,9 +15,9 @@ MUTATIONS = 10000
 RECORDS = b"".join(build.record(kind, bytes(18) + b"\x03www\xc0\x0c", b"\xc0\x0c")
                    for kind in (TYPE_RRSIG, TYPE_DNSKEY, TYPE_DS))
 ANSWER = message(2, more=RECORDS, additional=3)
-TAGGED = ethernet(ipv4(udp(ANSWER)), b"\x81\x00\x00\x07")
 PACKETS = [
-    ethernet(ipv4(udp(signed(bytes(32), flags=0x0100), CLIENT, SERVER))), ethernet(ipv4(udp(signed(bytes(32))))), TAGGED,
+    ethernet(ipv4(udp(signed(bytes(32), flags=0x0100), CLIENT, SERVER))), ethernet(ipv4(udp(signed(bytes(32))))),
+    ethernet(ipv4(udp(ANSWER)), b"\x81\x00\x00\x07"),
     ethernet(ipv6(udp(ANSWER, SERVER_6, CLIENT_6), [(0, bytes(7)), (44, b"\x00\x00\x01" + bytes(4))])),
     *(ethernet(ipv4(each)) for each in (tcp(b"", 1000, syn=True), tcp(framed(ANSWER)[:50], 1001),
                                         tcp(framed(ANSWER)[50:], 1051), tcp(framed(message(3)), 1900, fin=True)))]

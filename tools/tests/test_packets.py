@@ -4,19 +4,9 @@ import unittest
 import build
 from build import CLIENT, CLIENT_6, SERVER, SERVER_6, ethernet, framed, ipv4, ipv6, pcap, tcp, udp
 from cases import ONE, QUERY, THREE, TWO, PacketCase
-from tool import DATA, run
 
 
 class Packets(PacketCase):
-    def test_what_tcpdump_and_tshark_wrote_gives_the_messages_that_tshark_finds(self):
-        for name in ("loopback.pcap", "cooked.pcapng"):
-            with self.subTest(name):
-                file = DATA / "packets" / name
-                wanted = [bytes.fromhex(line) for line in file.with_suffix(".hex").read_text().splitlines()]
-                status, output, errors = run("capture", "--pcap", file, "--port", "5300")
-                self.assertEqual((status, output), (0, framed(*wanted)))
-                self.assertEqual(errors.count("a query"), len(wanted))
-
     def test_datagrams_of_other_ports_are_passed_over(self):
         other = udp(TWO, (SERVER[0], 5353))
         passed = "passed over packets of -: 1 of other ports than"
