@@ -40,7 +40,7 @@ install: | $(program)
 	install -d $(DESTDIR)$(PREFIX)/bin $(DESTDIR)$(PREFIX)/lib/dnssec_check $(DESTDIR)$(PREFIX)/share/man/man1
 	install -m 755 $(program) $(DESTDIR)$(PREFIX)/bin
 	install -m 755 tools/capture tools/verify $(DESTDIR)$(PREFIX)/lib/dnssec_check
-	install -m 644 tools/command.py tools/messages.py tools/packets.py $(DESTDIR)$(PREFIX)/lib/dnssec_check
+	install -m 644 tools/command.py tools/curves.py tools/messages.py tools/packets.py $(DESTDIR)$(PREFIX)/lib/dnssec_check
 	ln -sf ../lib/dnssec_check/capture $(DESTDIR)$(PREFIX)/bin/dnssec_check-capture
 	ln -sf ../lib/dnssec_check/verify $(DESTDIR)$(PREFIX)/bin/dnssec_check-verify
 	install -m 644 docs/dnssec_check.1 $(DESTDIR)$(PREFIX)/share/man/man1

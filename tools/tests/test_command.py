@@ -70,6 +70,7 @@ class Ends(unittest.TestCase):
 
     def test_an_interrupt(self):
         self.assertEqual(interrupted(VERIFY), (130, b"", "verify: interrupted\n"))
+        self.assertEqual(interrupted(VERIFY, DATA / "todo"), (130, b"", "verify: interrupted\n"))
 
     def test_an_output_that_nobody_reads(self):
         for words in ([DATA / "todo"], ["--help"]):

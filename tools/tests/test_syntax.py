@@ -5,9 +5,12 @@ import unittest
 
 from tool import TOOLS
 
-NAMES = ("verify", "capture", "pages", "command.py", "messages.py", "packets.py")
-PACKAGES = {"verify": {"command", "cryptography"}, "capture": {"command", "messages", "packets"},
-            "pages": {"command"}, "messages.py": {"packets"}}
+NAMES = ("verify", "capture", "pages", "command.py", "curves.py", "messages.py", "packets.py")
+PACKAGES = {
+    "verify": {"command", "curves"}, "curves.py": {"cryptography"},
+    "capture": {"command", "messages", "packets"}, "messages.py": {"packets"},
+    "pages": {"command"},
+}
 
 
 def imported(tree):

@@ -1,5 +1,11 @@
 """Tests of tools/verify: the vectors of the RFCs, lines of real zones, and what is malformed or refused."""
+import pathlib
+import sys
+import tempfile
 import unittest
+from unittest import mock
+
+from cryptography.exceptions import UnsupportedAlgorithm
 
 from tool import DATA, TOOLS, load, run, run_program
 
@@ -116,11 +122,85 @@ class CurveKeys(unittest.TestCase):
             self.assertFalse(VERIFY.is_good(algorithm, key, data, signature[:32] + half))
 
 
+class Files(unittest.TestCase):
+    def setUp(self):
+        room = tempfile.TemporaryDirectory()
+        self.addCleanup(room.cleanup)
+        self.room = pathlib.Path(room.name)
+
+    def file(self, name, octets):
+        path = self.room / name
+        path.write_bytes(octets)
+        return path
+
+    def test_several_files_give_the_statements_of_each_in_turn(self):
+        todo, statements = ((DATA / name).read_bytes() for name in ("todo", "statements"))
+        front, back = self.file("front", b"todo 13 01 02 03\n"), self.file("back", b"todo 8 01 02 03")
+        wanted = b"bad 13 01 02 03\n" + statements + b"bad 8 01 02 03\n"
+        self.assertEqual(run("verify", front, "-", back, given=todo), (0, wanted, ""))
+        self.assertEqual(run("verify", "--from-check", front, DATA / "todo", back), (0, wanted, ""))
+
+    def test_a_line_that_is_refused_has_its_file_and_nothing_is_written(self):
+        bad = self.file("bad;name", b"todo 13 01 02 03\nx\n")
+        told = f"verify: line 2 of {bad}: no line `todo ALG KEY DATA SIG`\n"
+        self.assertEqual(run("verify", DATA / "todo", bad), (1, b"", told))
+
+    def test_a_file_that_is_not_there(self):
+        status, output, errors = run("verify", DATA / "todo", DATA / "no-such-file")
+        self.assertEqual((status, output, errors.count("\n")), (1, b"", 1))
+        self.assertIn("no-such-file", errors)
+
+    def test_a_name_that_is_no_text_is_told_in_one_line(self):
+        for name in ("a\nb", "a\x1b[2Jb", "a\udcffb"):
+            with self.subTest(name):
+                status, output, errors = run("verify", self.file(name, b"x\n"))
+                self.assertEqual((status, output, errors.count("\n")), (1, b"", 1))
+                self.assertNotIn("\x1b", errors)
+
+
+class Lacking(unittest.TestCase):
+    """Where the package, or the library below it, lacks an algorithm, the other lines are written all the same."""
+
+    GIVEN = b"todo 16 01 02 03\n" + (DATA / "todo").read_bytes() + b"todo 16 01 02 04\n"
+
+    def left_out(self, lines):
+        status, output, errors = run("verify", given=self.GIVEN)
+        wanted = [line for number, line in enumerate(self.answered(), 1) if number not in lines]
+        self.assertEqual((status, output), (1, b"".join(wanted)))
+        told = errors.splitlines()
+        self.assertEqual(len(told), len(lines))
+        for number, text in zip(lines, told):
+            self.assertIn(f"left out line {number} of -: the package cryptography lacks algorithm 1", text)
+
+    def answered(self):
+        statements = (DATA / "statements").read_bytes()
+        return (b"bad 16 01 02 03\n" + statements + b"bad 16 01 02 04\n").splitlines(keepends=True)
+
+    def test_what_the_library_lacks_is_left_out(self):
+        class Ed448:
+            """As the package has the class where its library was built without this curve."""
+
+            @staticmethod
+            def from_public_bytes(_):
+                raise UnsupportedAlgorithm("ed448 is not supported by this version of OpenSSL.")
+
+        lines = self.GIVEN.decode().splitlines()
+        with mock.patch.dict(VERIFY.curves().EDDSA, {"Ed448": Ed448}):
+            self.left_out([number for number, line in enumerate(lines, 1) if line.startswith("todo 16 ")])
+
+    def test_without_the_package_rsa_is_verified(self):
+        lines = self.GIVEN.decode().splitlines()
+        with mock.patch.dict(sys.modules, {"curves": None}):
+            self.left_out([number for number, line in enumerate(lines, 1) if line.startswith("todo 1")
+                           and not line.startswith("todo 10 ")])
+
+
 class Lines(unittest.TestCase):
     def refused(self, given, line, *words):
         status, output, errors = run("verify", *words, given=given)
         self.assertEqual((status, output), (1, b""))
-        self.assertIn(f"line {line}:", errors)
+        self.assertEqual(errors.count("\n"), 1)
+        self.assertIn(f"line {line} of -: ", errors)
 
     def test_what_is_no_line_to_verify_is_refused_by_its_number(self):
         for text in (b"", b"# note", b"Pending a. 1", b"todo", b"todo 13 01 02", b"todo 13 01 02 03 04",
@@ -151,11 +231,6 @@ class Lines(unittest.TestCase):
 
     def test_nothing_gives_nothing(self):
         self.assertEqual(run("verify", given=b""), (0, b"", ""))
-
-    def test_a_file_that_is_not_there(self):
-        status, output, errors = run("verify", DATA / "no-such-file")
-        self.assertEqual((status, output), (1, b""))
-        self.assertIn("no-such-file", errors)
 
     def test_help(self):
         status, output, _ = run("verify", "--help")
