@@ -6,8 +6,9 @@ import unittest
 from tool import TOOLS
 
 CAPTURING = [str(path.relative_to(TOOLS)) for path in sorted((TOOLS / "capturing").glob("*.py"))]
-NAMES = ("verify", "capture", "pages", "command.py", *CAPTURING)
-PACKAGES = {"verify": {"command", "cryptography"}, "capture": {"command", "capturing"}, "pages": {"command"}}
+NAMES = ("verify", "capture", "pages", "command.py", "curves.py", *CAPTURING)
+PACKAGES = {"verify": {"command", "curves"}, "curves.py": {"cryptography"}, "capture": {"command", "capturing"},
+            "pages": {"command"}}
 
 
 def imported(tree):
