@@ -1,7 +1,7 @@
 """What the files that are named have in them: their kind, and the messages of each kind."""
 from collections import Counter
 
-from command import read
+from command import read, shown
 
 from .dnsviz import entries_of_dnsviz
 from .entries import Message, Omission, PassedOver, Refusal
@@ -82,13 +82,14 @@ def kind_of(octets):
 
 def entries_of(kind, path, ports):
     """The entries of a file of this kind, None where that has to be found out."""
+    name = shown(path)
     if kind == "tshark":
-        return entries_of_tshark(path, ports)
+        return entries_of_tshark(path, name, ports)
     octets = read(path)
     if kind == "stream":
-        return entries_of_stream(octets, path)
-    octets, torn = unpacked(octets, path)
+        return entries_of_stream(octets, name)
+    octets, torn = unpacked(octets, name)
     kind = kind or kind_of(octets)
     if kind == "pcap":
-        return entries_of_pcap(octets, path, ports) + torn
-    return {"stream": entries_of_stream, "hex": entries_of_hex, "dnsviz": entries_of_dnsviz}[kind](octets, path) + torn
+        return entries_of_pcap(octets, name, ports) + torn
+    return {"stream": entries_of_stream, "hex": entries_of_hex, "dnsviz": entries_of_dnsviz}[kind](octets, name) + torn

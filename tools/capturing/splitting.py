@@ -3,7 +3,7 @@ import os
 from collections import Counter, defaultdict, namedtuple
 from urllib.parse import quote
 
-from command import write
+from command import shown, tell, write
 
 from .entries import Refusal
 from .messages import (AA, ADDITIONAL, ANSWER, AUTHORITY, TYPE_DNSKEY, TYPE_DS, TYPE_NS, Question, flags_of, lower,
@@ -89,10 +89,10 @@ def file_name(number, question):
 def new_folder(path):
     os.makedirs(path, exist_ok=True)
     if os.listdir(path):
-        raise Refusal(f"{path}: the folder isn't empty")
+        raise Refusal(f"{shown(path)}: the folder isn't empty")
 
 
-def write_captures(folder, messages, tell):
+def write_captures(folder, messages):
     """Writes them, and the list of their questions; answers how many they are."""
     new_folder(folder)
     lines, number = [], 0

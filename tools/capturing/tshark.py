@@ -87,17 +87,18 @@ def entries_of_packet(layers, path, ports):
     return entries
 
 
-def entries_of_tshark(path, ports):
+def entries_of_tshark(path, name, ports):
+    """What tshark finds in the file; `name` is how the path is told."""
     text, complaint = run_tshark(path, ports)
     entries = []
     try:
         for layers in layers_of(text):
-            entries += entries_of_packet(layers, path, ports)
+            entries += entries_of_packet(layers, name, ports)
     except (ValueError, KeyError, TypeError, IndexError, RecursionError) as fault:
-        raise Refusal(f"{path}: tshark: {complaint or 'what it prints is no JSON of packets'}") from fault
+        raise Refusal(f"{name}: tshark: {complaint or 'what it prints is no JSON of packets'}") from fault
     if complaint:
-        entries.append(Omission(f"the end of {path}", f"tshark: {complaint}"))
+        entries.append(Omission(f"the end of {name}", f"tshark: {complaint}"))
     if not entries:
         numbers = ", ".join(map(str, sorted(ports)))
-        entries.append(Omission(path, f"tshark finds no message of DNS at {numbers} (--port)"))
+        entries.append(Omission(name, f"tshark finds no message of DNS at {numbers} (--port)"))
     return entries

@@ -7,9 +7,10 @@ import tempfile
 import unittest
 from unittest import mock
 
-from build import CLIENT, SERVER, ethernet, framed, ipv4, pcap, tcp, udp
-from cases import ONE, QUERY, THREE, TWO
 from tool import DATA, run
+
+from .build import CLIENT, SERVER, ethernet, framed, ipv4, pcap, tcp, udp
+from .cases import ONE, QUERY, THREE, TWO
 
 PACKETS = DATA / "packets"
 GAP, CUT = "aren't in the packet capture", "it was cut when it was captured"
@@ -134,7 +135,3 @@ class WithoutTshark(unittest.TestCase):
                 status, output, errors = run("capture", "--tshark", "file")
                 self.assertEqual((status, output, errors.count("\n")), (1, b"", 1))
                 self.assertIn("refused: file: tshark: what it prints is no JSON of packets", errors)
-
-
-if __name__ == "__main__":
-    unittest.main()

@@ -3,9 +3,10 @@ import pathlib
 import tempfile
 import unittest
 
-from build import framed, message, name_octets, record
-from cases import QUERY
 from tool import PROGRAM, DATA, run, run_program
+
+from .build import framed, message, name_octets, record
+from .cases import QUERY
 
 TYPES = {"A": 1, "NS": 2, "SOA": 6, "TXT": 16, "DS": 43, "RRSIG": 46, "DNSKEY": 48}
 
@@ -142,7 +143,3 @@ class Notes(unittest.TestCase):
         self.assertEqual(self.told(signed, key("Z.test.")), [])
         self.assertEqual(self.told(ds("z.test."), plain("www.z.test."), key("test.")), [lacks.format("z.test.")])
         self.assertEqual(self.told(ds("z.test."), plain("www.test."), key("test.")), [])
-
-
-if __name__ == "__main__":
-    unittest.main()

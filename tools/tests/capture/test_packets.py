@@ -1,9 +1,9 @@
 """Tests of tools/capture: what is taken of packets, and what is told of the others."""
 import unittest
 
-import build
-from build import CLIENT, CLIENT_6, SERVER, SERVER_6, ethernet, framed, ipv4, ipv6, pcap, tcp, udp
-from cases import ONE, QUERY, THREE, TWO, PacketCase
+from . import build
+from .build import CLIENT, CLIENT_6, SERVER, SERVER_6, ethernet, framed, ipv4, ipv6, pcap, tcp, udp
+from .cases import ONE, QUERY, THREE, TWO, PacketCase
 
 
 class Packets(PacketCase):
@@ -144,7 +144,3 @@ class Packets(PacketCase):
     def test_another_file_is_refused(self):
         for octets in (b"", b"\xa1", framed(ONE)):
             self.refuses(octets, "-: it is neither a pcap nor a pcapng")
-
-
-if __name__ == "__main__":
-    unittest.main()

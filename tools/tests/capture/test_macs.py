@@ -3,9 +3,10 @@ import pathlib
 import tempfile
 import unittest
 
-import build
-from build import CLIENT, SERVER, ethernet, framed, ipv4, message, pcap, signed, tcp, udp
 from tool import DATA, PROGRAM, run, run_program
+
+from . import build
+from .build import CLIENT, SERVER, ethernet, framed, ipv4, message, pcap, signed, tcp, udp
 
 QUERY_FLAGS = 0x0100
 MAC, OTHER_MAC, ANSWER_MAC = (bytes([octet]) * 32 for octet in b"\x0a\x0b\x0c")
@@ -200,7 +201,3 @@ class CommandLine(Room):
         output = run("capture", "--help")[1]
         for word in (b"--macs", b"MAC of the request", b"RFC 8945"):
             self.assertIn(word, output)
-
-
-if __name__ == "__main__":
-    unittest.main()

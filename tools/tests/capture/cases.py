@@ -1,8 +1,9 @@
 """What tools/capture makes of one input, and says of it."""
 import unittest
 
-from build import ethernet, framed, ipv4, message, pcap
 from tool import run
+
+from .build import ethernet, framed, ipv4, message, pcap
 
 QUERY = message(flags=0x0100)
 ONE, TWO, THREE = message(1, "one."), message(2, "two."), message(3, "three.", more=b"\xff" * 700)

@@ -1,25 +1,17 @@
 """Tests of tools/capture: what is taken of streams and of lists in hex, and its command line."""
 import gzip
-import os
 import pathlib
-import signal
-import subprocess
 import tempfile
-import time
 import unittest
 from unittest import mock
 
-import build
-from build import ethernet, framed, ipv4, message, pcap, udp
-from cases import ONE, QUERY, THREE, TWO, Case
 from capturing.packed import zstd_library
+from test_command import interrupted, with_closed_pipe
 from tool import DATA, TOOLS, run, run_program
 
-
-def wait_until_asleep(process):
-    """Until the process waits for its input."""
-    while "\nState:\tS" not in pathlib.Path(f"/proc/{process}/status").read_text():
-        time.sleep(0.01)
+from . import build
+from .build import ethernet, framed, ipv4, message, pcap, udp
+from .cases import ONE, QUERY, THREE, TWO, Case
 
 
 class Selection(Case):
@@ -130,21 +122,16 @@ class CommandLine(Case):
         self.assertEqual(run("capture", "--stream", "-", "--output", "/dev/full", given=framed(ONE))[0], 1)
 
     def test_a_pipe_that_is_closed(self):
-        reader, writer = os.pipe()
-        os.close(reader)
-        with open(writer, "wb") as closed:
-            status, errors = run_program(TOOLS / "capture", "--stream", "-", given=framed(ONE), output=closed)[::2]
-        self.assertEqual((status, errors.count("refused:"), errors.count("Traceback")), (1, 1, 0))
+        with tempfile.TemporaryDirectory() as room:
+            path, result = DATA / "dnsviz" / "probe.json", pathlib.Path(room) / "result"
+            status, errors = with_closed_pipe("stdout", TOOLS / "capture", path)
+            self.assertEqual((status, errors.count("refused:"), errors.count("\n")), (1, 1, 2))
+            self.assertEqual(with_closed_pipe("stderr", TOOLS / "capture", path, "--output", result), (0, ""))
+            self.assertTrue(result.exists())
 
     def test_an_interrupt(self):
-        reader, writer = os.pipe()
-        with open(reader, "rb") as given, open(writer, "wb"):
-            tool = subprocess.Popen([TOOLS / "capture", "-"], stdin=given, stderr=subprocess.PIPE)
-            self.addCleanup(tool.kill)
-            wait_until_asleep(tool.pid)
-            tool.send_signal(signal.SIGINT)
-            self.assertEqual(tool.communicate(timeout=30)[1], b"capture: interrupted\n")
-        self.assertEqual(tool.returncode, 130)
+        for words in ([], ["--pcap"], ["--hex"]):
+            self.assertEqual(interrupted(TOOLS / "capture", *words), (130, b"", "capture: interrupted\n"))
 
     def test_a_file_that_is_not_there(self):
         for words in (["--stream"], ["--pcap"], ["--hex"], ["--dnsviz"], []):
@@ -236,7 +223,3 @@ class Packed(Case):
         wanted = run("capture", "--port", "5300", DATA / "packets" / "loopback.pcap")[1]
         self.assertEqual(run("capture", "--port", "5300", "-", given=octets)[:2], (0, wanted))
         self.refuses(octets[:20] + octets[30:], "-: it can't be unpacked", kind="--pcap")
-
-
-if __name__ == "__main__":
-    unittest.main()

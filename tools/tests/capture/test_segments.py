@@ -2,10 +2,11 @@
 import time
 import unittest
 
-from build import CLIENT, SERVER, framed, message, tcp, udp
-from cases import ONE, QUERY, THREE, TWO, PacketCase
 from capturing.packets import segment_of
 from capturing.streams import Streams
+
+from .build import CLIENT, SERVER, framed, message, tcp, udp
+from .cases import ONE, QUERY, THREE, TWO, PacketCase
 
 FOUR, FIVE = message(4, "four."), message(5, "five.")
 
@@ -134,7 +135,3 @@ class Segments(PacketCase):
         packets = [tcp(framed(QUERY), 501, CLIENT, SERVER), tcp(framed(ONE)[:9], 1001),
                    tcp(framed(TWO), 71, SERVER, other), tcp(framed(ONE)[9:], 1010)]
         self.takes_of(begins + packets, [THREE, TWO, ONE], "packet 7 of -: a query")
-
-
-if __name__ == "__main__":
-    unittest.main()

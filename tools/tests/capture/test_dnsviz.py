@@ -3,9 +3,10 @@ import base64
 import json
 import unittest
 
-from build import framed, message
-from cases import ONE, QUERY, TWO
 from tool import DATA, run
+
+from .build import framed, message
+from .cases import ONE, QUERY, TWO
 
 PROBE = DATA / "dnsviz" / "probe.json"
 TRUNCATED, FAILED, REFUSED = (message(7, "one.", flags) for flags in (0x8600, 0x8402, 0x8005))
@@ -73,7 +74,3 @@ class Probe(unittest.TestCase):
             with self.subTest(text[:60]):
                 status, output, errors = run("capture", "--dnsviz", "-", given=text)
                 self.assertEqual((status, output, errors), (1, b"", "capture: refused: -: no output of dnsviz probe\n"))
-
-
-if __name__ == "__main__":
-    unittest.main()
