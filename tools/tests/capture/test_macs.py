@@ -127,6 +127,11 @@ class Requests(Case):
         self.gives([query(identifier=7), query(OTHER_MAC, identifier=5, original=7), signed(ANSWER_MAC, 9, original=7)],
                    OTHER_MAC.hex())
 
+    def test_the_last_of_the_requests_that_only_records_tell_counts(self):
+        requests = query(identifier=5, original=9), query(OTHER_MAC, identifier=7)
+        self.gives([*requests, signed(ANSWER_MAC, 9, original=7)], OTHER_MAC.hex())
+        self.gives([*reversed(requests), signed(ANSWER_MAC, 9, original=7)], MAC.hex())
+
     def test_either_identifier_of_the_one_may_be_either_of_the_other(self):
         self.gives([query(identifier=7, original=5), signed(ANSWER_MAC, 9, original=7)], MAC.hex())
         self.gives([query(identifier=5, original=9), signed(ANSWER_MAC, 9, original=7)], MAC.hex())

@@ -5,7 +5,7 @@ import unittest
 from capturing.packets import segment_of
 from capturing.streams import Streams
 
-from .build import CLIENT, SERVER, framed, message, tcp, udp
+from .build import CLIENT, SERVER, framed, message, record, tcp, udp
 from .cases import ONE, QUERY, THREE, TWO, PacketCase
 
 FOUR, FIVE = message(4, "four."), message(5, "five.")
@@ -82,7 +82,9 @@ class Segments(PacketCase):
 
     def test_what_only_looks_like_a_message_behind_a_gap_is_dropped(self):
         told = "octets before its end aren't in the packet capture"
-        for octets in (framed(TWO + b"\0"), framed(TWO[:-1]), framed(bytes(12)), framed(TWO)[:-1], b"\0", b"\0\0",
+        longer = (len(TWO) + 1).to_bytes(2, "big") + TWO
+        without_questions = message()[:4] + b"\xff\xff\0\1" + bytes(4) + record(1, b"")
+        for octets in (longer, framed(without_questions), framed(TWO + b"\0"), framed(TWO[:-1]), framed(bytes(12)), framed(TWO)[:-1], b"\0", b"\0\0",
                        framed(TWO[:5] + b"\2" + TWO[6:]), framed(TWO[:7] + b"\1" + TWO[8:])):
             self.takes_of([*self.stream(framed(ONE)), tcp(octets, self.START + 500)], [ONE], told)
 

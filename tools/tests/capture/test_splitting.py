@@ -89,6 +89,13 @@ class Split(Room):
         self.assertEqual(captures["0001-www.test.-16.cap"], framed(*many[:62], key("test."), ds("test.")))
         self.assertIn("0001-www.test.-16.cap has 64 answers, and there are 18 more", errors)
 
+    def test_the_answers_to_the_question_go_before_those_that_lead_to_it(self):
+        above = [key("a." * count) for count in range(1, 71)]
+        own = plain("a." * 71)
+        _, captures, errors = self.split(*above, own)
+        self.assertEqual(captures[f"0001-{'a.' * 71}-1.cap"], framed(*above[:63], own))
+        self.assertIn("has 64 answers, and there are 7 more", errors)
+
     def test_the_names_of_files(self):
         odd = plain("*.a/b\\ c.test.")
         long = plain(".".join(["x" * 60] * 3 + ["test."]))
