@@ -157,6 +157,8 @@ class Names(Case):
         given = [pcap([packet], order=order, magic=magic) for order in "<>" for magic in (0xA1B2C3D4, 0xA1B23C4D)]
         given += [front + build.enhanced(0, packet), ONE.hex().encode(), b"# \xe9\n" + ONE.hex(":").encode(),
                   framed(ONE), gzip.compress(pcap([packet])), gzip.compress(framed(ONE))]
+        self.input.write_bytes(framed(THREE))
+        self.assertEqual(run("capture", self.input)[:2], (0, framed(THREE)))
         for octets in given:
             self.input.write_bytes(octets)
             self.assertEqual(run("capture", self.input)[:2], (0, framed(ONE)))
@@ -174,7 +176,7 @@ class Names(Case):
         link, hard = self.room / "link", self.room / "hard"
         link.symlink_to(self.input)
         hard.hardlink_to(self.input)
-        for path in (self.input, link, hard, self.room / "." / "input"):
+        for path in (self.input, link, hard, f"{self.room}/./input"):
             for option in ("--output", "--macs"):
                 status, output, errors = run("capture", "--stream", self.input, option, path)
                 self.assertEqual((status, output, self.input.read_bytes()), (2, b"", framed(ONE)))
@@ -183,7 +185,7 @@ class Names(Case):
 
     def test_a_file_is_not_written_twice(self):
         path = self.room / "new"
-        for other in (path, self.room / "." / "new"):
+        for other in (path, f"{self.room}/./new"):
             status, output, _ = run("capture", self.input, "--output", path, "--macs", other)
             self.assertEqual((status, output, path.exists()), (2, b"", False))
 

@@ -86,6 +86,11 @@ class ByTshark(Files):
                 status, output, errors = run("capture", "--tshark", "-", given=pcap([frame]))
                 self.assertEqual((status, output), (0, framed(ONE)), errors)
 
+    def test_what_icmp_quotes_is_no_answer(self):
+        unreachable = ethernet(ipv4((1, CLIENT, SERVER, b"\x03\x03" + bytes(6) + ipv4(udp(TWO)))))
+        done = run("capture", "--tshark", "-", given=pcap([unreachable, ethernet(ipv4(udp(ONE)))]))
+        self.assertEqual(done[:2], (0, framed(ONE)), done[2])
+
     def test_segments_are_joined_and_parted(self):
         octets = framed(QUERY, ONE, THREE, TWO)
         segments = tcp(b"", 1000, syn=True), tcp(octets[:50], 1001), tcp(octets[70:], 1071), tcp(octets[50:70], 1051)
