@@ -224,4 +224,7 @@ class Packed(Case):
         octets = (DATA / "packets" / "loopback.pcap.zst").read_bytes()
         wanted = run("capture", "--port", "5300", DATA / "packets" / "loopback.pcap")[1]
         self.assertEqual(run("capture", "--port", "5300", "-", given=octets)[:2], (0, wanted))
-        self.refuses(octets[:20] + octets[30:], "-: it can't be unpacked", kind="--pcap")
+        self.assertEqual(run("capture", "--port", "5300", "-", given=octets + octets)[:2], (0, wanted))
+        status, output, errors = run("capture", "--port", "5300", "-", given=octets[:-20])
+        self.assertIn("the end of -: it is packed, and torn", errors)
+        self.refuses(octets[:4] + b"\xff" * 200, "-: it can't be unpacked", kind="--pcap")

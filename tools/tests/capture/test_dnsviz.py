@@ -21,7 +21,7 @@ def probe(*queries):
     asked = [{"qname": name, "qclass": "IN", "qtype": "A", "options": {"flags": 0}, "responses": {
         f"192.0.2.{number}": {"192.0.2.99": answer if isinstance(answer, dict) else response(answer)}
         for number, answer in enumerate(answers, 1)}} for name, *answers in queries]
-    return json.dumps({"one.": {"type": "authoritative", "queries": asked}, "_meta._dnsviz.": {"version": 1.2}}).encode()
+    return json.dumps({"one.": {"type": "stub", "queries": asked}, "_meta._dnsviz.": {"version": 1.2}}).encode()
 
 
 class Probe(unittest.TestCase):

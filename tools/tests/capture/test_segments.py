@@ -84,8 +84,9 @@ class Segments(PacketCase):
         told = "octets before its end aren't in the packet capture"
         longer = (len(TWO) + 1).to_bytes(2, "big") + TWO
         without_questions = message()[:4] + b"\xff\xff\0\1" + bytes(4) + record(1, b"")
-        for octets in (longer, framed(without_questions), framed(TWO + b"\0"), framed(TWO[:-1]), framed(bytes(12)), framed(TWO)[:-1], b"\0", b"\0\0",
-                       framed(TWO[:5] + b"\2" + TWO[6:]), framed(TWO[:7] + b"\1" + TWO[8:])):
+        for octets in (longer, framed(without_questions), framed(TWO + b"\0"), framed(TWO[:-1]), framed(bytes(12)),
+                       framed(TWO)[:-1], b"\0", b"\0\0", framed(TWO[:5] + b"\2" + TWO[6:]),
+                       framed(TWO[:7] + b"\1" + TWO[8:])):
             self.takes_of([*self.stream(framed(ONE)), tcp(octets, self.START + 500)], [ONE], told)
 
     def test_of_a_stream_without_its_beginning_whole_messages_are_kept(self):

@@ -16,11 +16,12 @@ def answer(name, kind, *records, flags=0x8400, identifier=1, counts=None):
     octets = message(identifier, name, flags).replace(b"\x00\x01\x00\x01", TYPES[kind].to_bytes(2, "big") + b"\x00\x01")
     counts = counts or (len(records), 0, 0)
     header = octets[:6] + b"".join(count.to_bytes(2, "big") for count in counts)
-    return header + octets[12:] + b"".join(record(TYPES[kind], data, name_octets(owner)) for owner, kind, data in records)
+    return header + octets[12:] + b"".join(record(TYPES[of], data, name_octets(owner)) for owner, of, data in records)
 
 
 def key(name, **more):
-    return answer(name, "DNSKEY", (name, "DNSKEY", b"\x01\x01\x03\x0d"), (name, "RRSIG", bytes(18) + name_octets(name)), **more)
+    signature = name, "RRSIG", bytes(18) + name_octets(name)
+    return answer(name, "DNSKEY", (name, "DNSKEY", b"\x01\x01\x03\x0d"), signature, **more)
 
 
 def ds(name, **more):
@@ -50,8 +51,9 @@ class Split(Room):
     def test_each_question_gets_a_capture_with_what_leads_to_it(self):
         root, top, zone, other = key("."), key("test."), key("zone.test."), key("other.test.")
         root_ds, zone_ds, other_ds = ds("test."), ds("zone.test."), ds("other.test.")
-        first, second, again = plain("www.zone.test."), plain("other.test.", "TXT"), plain("WWW.zone.test.", identifier=7)
-        listed, captures, errors = self.split(first, root, QUERY, zone_ds, top, other, root_ds, second, zone, other_ds, again)
+        first, again, second = plain("www.zone.test."), plain("WWW.zone.test."), plain("other.test.", "TXT")
+        listed, captures, errors = self.split(first, root, QUERY, zone_ds, top, other, root_ds, second, zone, other_ds,
+                                              again)
         self.assertEqual(captures, {
             "0001-www.zone.test.-1.cap": framed(first, root, zone_ds, top, root_ds, zone, again),
             "0002-other.test.-16.cap": framed(root, top, other, root_ds, second, other_ds)})
