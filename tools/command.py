@@ -1,6 +1,41 @@
-"""The command line of a tool, and the files that it names; `-` is the standard input or output."""
+"""The command line of a tool, the files that it names, and how it ends; `-` is the standard input or output."""
 import argparse
+import os
 import sys
+
+INTERRUPTED = 130
+
+
+def run(main):
+    """Ends with the status of `main`; an interrupt, or a fault of a file that `main` lets through, has one line."""
+    try:
+        try:
+            status = main(sys.argv[1:])
+        finally:
+            if sys.stdout:
+                sys.stdout.flush()
+    except KeyboardInterrupt:
+        status = INTERRUPTED
+        tell("interrupted")
+    except OSError as fault:
+        status, sys.stdout = 1, None
+        tell(fault)
+    sys.exit(status)
+
+
+def tell(text):
+    """A line on the standard error, behind the tool's name; where that is closed, nobody is left to be told."""
+    if sys.stderr is None:
+        return
+    try:
+        print(f"{os.path.basename(sys.argv[0])}: {text}", file=sys.stderr)
+    except OSError:
+        sys.stderr = None
+
+
+def shown(path):
+    """A path as a line may have it."""
+    return path if path.isprintable() else ascii(path)
 
 
 def parser_of(text):
@@ -11,10 +46,12 @@ def parser_of(text):
 
 
 def read(path):
-    if path == "-":
-        return sys.stdin.buffer.read()
-    with open(path, "rb") as file:
-        return file.read()
+    if path != "-":
+        with open(path, "rb") as file:
+            return file.read()
+    if sys.stdin is None:
+        raise OSError("the standard input is closed")
+    return sys.stdin.buffer.read()
 
 
 def write(path, octets):
@@ -23,6 +60,8 @@ def write(path, octets):
         with open(path, "wb") as file:
             file.write(octets)
         return
+    if sys.stdout is None:
+        raise OSError("the standard output is closed")
     try:
         sys.stdout.buffer.write(octets)
         sys.stdout.buffer.flush()

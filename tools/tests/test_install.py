@@ -29,7 +29,7 @@ class Install(unittest.TestCase):
             self.assertEqual({path.name for path in tools.iterdir()}, wanted)
             self.assertEqual((place / "share/man/man1/dnssec_check.1").read_bytes(), MANUAL.read_bytes())
             capture = place / "capture"
-            words = ("--pcap", DATA / "loopback.pcap", "--port", "5300", "--output", capture)
+            words = ("--pcap", DATA / "packets" / "loopback.pcap", "--port", "5300", "--output", capture)
             self.assertEqual(run_program(tools / "dnssec_check-capture", *words)[:2], (0, b""))
             shown = run_program(tools / "dnssec_check", "show", "--capture", capture)
             self.assertEqual((shown[0], shown[1].count(b"message "), shown[2]), (0, 5, ""))

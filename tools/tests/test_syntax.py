@@ -5,15 +5,16 @@ import unittest
 
 from tool import TOOLS
 
-NAMES = ("verify", "capture", "pages", "command.py", "messages.py", "packets.py")
-PACKAGES = {"verify": {"command", "cryptography"}, "capture": {"command", "messages", "packets"},
-            "pages": {"command"}, "messages.py": {"packets"}}
+CAPTURING = [str(path.relative_to(TOOLS)) for path in sorted((TOOLS / "capturing").glob("*.py"))]
+NAMES = ("verify", "capture", "pages", "command.py", "curves.py", *CAPTURING)
+PACKAGES = {"verify": {"command", "curves"}, "curves.py": {"cryptography"}, "capture": {"command", "capturing"},
+            "pages": {"command"}}
 
 
 def imported(tree):
-    """The packages that a module imports."""
+    """The packages that a module imports, but for its own."""
     names = [alias.name for node in ast.walk(tree) if isinstance(node, ast.Import) for alias in node.names]
-    names += [node.module for node in ast.walk(tree) if isinstance(node, ast.ImportFrom)]
+    names += [node.module for node in ast.walk(tree) if isinstance(node, ast.ImportFrom) and not node.level]
     return {name.split(".")[0] for name in names}
 
 
@@ -28,7 +29,7 @@ class Syntax(unittest.TestCase):
         for name in NAMES:
             with self.subTest(name):
                 others = imported(ast.parse((TOOLS / name).read_text())) - sys.stdlib_module_names
-                self.assertEqual(others, PACKAGES.get(name, set()))
+                self.assertLessEqual(others, PACKAGES.get(name, {"command"}))
 
 
 if __name__ == "__main__":

@@ -1,9 +1,11 @@
 """Tests of tools/verify: the vectors of the RFCs, lines of real zones, and what is malformed or refused."""
-import hashlib
+import pathlib
+import sys
+import tempfile
 import unittest
+from unittest import mock
 
-from cryptography.hazmat.primitives import hashes
-from cryptography.hazmat.primitives.asymmetric import padding, rsa
+from cryptography.exceptions import UnsupportedAlgorithm
 
 from tool import DATA, TOOLS, load, run, run_program
 
@@ -27,25 +29,6 @@ def with_bit_changed(octets, place):
     changed = bytearray(octets)
     changed[place] ^= 1
     return bytes(changed)
-
-
-def octets_of_number(number):
-    return number.to_bytes((number.bit_length() + 7) // 8, "big")
-
-
-def key_field(modulus, exponent):
-    """RFC 3110 2."""
-    e = octets_of_number(exponent)
-    front = bytes([len(e)]) if len(e) < 256 else b"\x00" + len(e).to_bytes(2, "big")
-    return front + e + octets_of_number(modulus)
-
-
-def prime_from(number):
-    """A number from `number` on that the test of Fermat takes for a prime."""
-    number |= 1
-    while pow(2, number - 1, number) != 1:
-        number += 2
-    return number
 
 
 class Vectors(unittest.TestCase):
@@ -115,114 +98,6 @@ class Examples(unittest.TestCase):
         self.assertGreater(len(checks), 30)
 
 
-class RsaKeys(unittest.TestCase):
-    """Keys that the package makes, and numbers that a key or a signature may not have."""
-
-    @classmethod
-    def setUpClass(cls):
-        cls.private = rsa.generate_private_key(65537, 2050)
-        numbers = cls.private.private_numbers()
-        cls.modulus, cls.phi = numbers.public_numbers.n, (numbers.p - 1) * (numbers.q - 1)
-        cls.size = (cls.modulus.bit_length() + 7) // 8
-
-    def signed(self, message, exponent=65537):
-        """What the private key makes of the padded message."""
-        secret = pow(exponent, -1, self.phi)
-        return pow(int.from_bytes(message, "big"), secret, self.modulus).to_bytes(self.size, "big")
-
-    def padded(self, info, digest, behind=b"", octets=None):
-        end = b"\x00" + info + digest + behind
-        count = self.size - 2 - len(end) if octets is None else octets
-        return (b"\x00\x01" + b"\xff" * count + end).ljust(self.size, b"\x00")
-
-    def is_good(self, signature, exponent=65537, key=None, algorithm=8):
-        return VERIFY.is_good(algorithm, key or key_field(self.modulus, exponent), b"data", signature)
-
-    def test_what_the_package_signs_is_good(self):
-        kinds = {5: hashes.SHA1(), 7: hashes.SHA1(), 8: hashes.SHA256(), 10: hashes.SHA512()}
-        for algorithm, kind in kinds.items():
-            with self.subTest(algorithm):
-                signature = self.private.sign(b"data", padding.PKCS1v15(), kind)
-                self.assertTrue(self.is_good(signature, algorithm=algorithm))
-
-    def test_an_exponent_of_more_than_255_octets(self):
-        exponent = self.phi - 1
-        self.assertGreater(len(octets_of_number(exponent)), 255)
-        message = self.padded(VERIFY.DIGEST_INFO["sha256"], hashlib.sha256(b"data").digest())
-        self.assertTrue(self.is_good(self.signed(message, exponent), exponent))
-
-    def test_other_padding_is_bad(self):
-        info, digest = VERIFY.DIGEST_INFO["sha256"], hashlib.sha256(b"data").digest()
-        without_null = bytes.fromhex("302f300b0609608648016503040201") + bytes.fromhex("0420")
-        good = self.padded(info, digest)
-        self.assertTrue(self.is_good(self.signed(good)))
-        others = {
-            "octets behind the hash": self.padded(info, digest, behind=b"\x00" * 40),
-            "eight octets of padding": self.padded(info, digest, octets=8),
-            "no parameters of the hash": self.padded(without_null, digest),
-            "block type 2": b"\x00\x02" + good[2:],
-            "another hash's name": self.padded(VERIFY.DIGEST_INFO["sha1"], digest),
-        }
-        for name, message in others.items():
-            with self.subTest(name):
-                self.assertFalse(self.is_good(self.signed(message)))
-
-    def test_malformed_keys_are_bad(self):
-        signature = self.private.sign(b"data", padding.PKCS1v15(), hashes.SHA256())
-        n, e = octets_of_number(self.modulus), b"\x01\x00\x01"
-        self.assertTrue(self.is_good(signature, key=b"\x03" + e + n))
-        keys = {
-            "the exponent begins with 0": b"\x04\x00" + e + n,
-            "the modulus begins with 0": b"\x03" + e + b"\x00" + n,
-            "a short length in two octets": b"\x00\x00\x03" + e + n,
-            "no modulus": b"\x03" + e,
-            "an exponent that isn't whole": b"\xff" + e + n,
-            "a length that isn't whole": b"\x00\x01",
-        }
-        for name, key in keys.items():
-            with self.subTest(name):
-                self.assertFalse(self.is_good(signature, key=key))
-
-    def test_numbers_that_no_key_has_are_bad(self):
-        """Each of these would make the padded message its own signature, or let anyone sign."""
-        message = self.padded(VERIFY.DIGEST_INFO["sha256"], hashlib.sha256(b"data").digest())
-        self.assertFalse(self.is_good(message, exponent=1))
-        self.assertFalse(self.is_good(self.signed(message), exponent=65537 + 2 * self.phi))
-        self.assertFalse(self.is_good(message, key=key_field(self.modulus + 1, 65537)))
-
-    def test_a_number_of_more_than_4096_bits_is_bad(self):
-        long_modulus = (1 << 4097) + 1
-        self.assertFalse(self.is_good(bytes(513), key=key_field(long_modulus, 3)))
-        with self.assertRaises(VERIFY.Malformed):
-            VERIFY.rsa_key(key_field(long_modulus, 3))
-        self.assertEqual(VERIFY.rsa_key(key_field((1 << 4095) + 1, 3)), ((1 << 4095) + 1, 3))
-
-    def test_a_signature_has_the_length_of_the_modulus_and_is_below_it(self):
-        signature = self.private.sign(b"data", padding.PKCS1v15(), hashes.SHA256())
-        higher = int.from_bytes(signature, "big") + self.modulus
-        self.assertFalse(self.is_good(b"\x00" + signature))
-        self.assertFalse(self.is_good(signature[:-1]))
-        self.assertFalse(self.is_good(b""))
-        self.assertFalse(self.is_good(higher.to_bytes(self.size, "big")))
-
-    def test_the_padding_has_eight_octets_at_least(self):
-        """Keys of 488 and 496 bits, the second one the shortest that can sign with SHA-256."""
-        end = b"\x00" + VERIFY.DIGEST_INFO["sha256"] + hashlib.sha256(b"data").digest()
-        for bits, is_good in ((488, False), (496, True)):
-            p, q = prime_from(1 << (bits // 2 - 1)), prime_from(3 << (bits // 2 - 2) + 1)
-            size = ((p * q).bit_length() + 7) // 8
-            message = b"\x00\x01".ljust(size - len(end), b"\xff") + end
-            secret = pow(65537, -1, (p - 1) * (q - 1))
-            signature = pow(int.from_bytes(message, "big"), secret, p * q).to_bytes(size, "big")
-            with self.subTest(size=size):
-                self.assertEqual(VERIFY.is_good(8, key_field(p * q, 65537), b"data", signature), is_good)
-
-    def test_even_numbers_are_malformed(self):
-        for modulus, exponent in ((self.modulus + 1, 65537), (self.modulus, 65536)):
-            with self.assertRaises(VERIFY.Malformed):
-                VERIFY.rsa_key(key_field(modulus, exponent))
-
-
 class CurveKeys(unittest.TestCase):
     def test_keys_and_signatures_of_another_length_are_bad(self):
         for name, line in vectors():
@@ -247,11 +122,85 @@ class CurveKeys(unittest.TestCase):
             self.assertFalse(VERIFY.is_good(algorithm, key, data, signature[:32] + half))
 
 
+class Files(unittest.TestCase):
+    def setUp(self):
+        room = tempfile.TemporaryDirectory()
+        self.addCleanup(room.cleanup)
+        self.room = pathlib.Path(room.name)
+
+    def file(self, name, octets):
+        path = self.room / name
+        path.write_bytes(octets)
+        return path
+
+    def test_several_files_give_the_statements_of_each_in_turn(self):
+        todo, statements = ((DATA / name).read_bytes() for name in ("todo", "statements"))
+        front, back = self.file("front", b"todo 13 01 02 03\n"), self.file("back", b"todo 8 01 02 03")
+        wanted = b"bad 13 01 02 03\n" + statements + b"bad 8 01 02 03\n"
+        self.assertEqual(run("verify", front, "-", back, given=todo), (0, wanted, ""))
+        self.assertEqual(run("verify", "--from-check", front, DATA / "todo", back), (0, wanted, ""))
+
+    def test_a_line_that_is_refused_has_its_file_and_nothing_is_written(self):
+        bad = self.file("bad;name", b"todo 13 01 02 03\nx\n")
+        told = f"verify: line 2 of {bad}: no line `todo ALG KEY DATA SIG`\n"
+        self.assertEqual(run("verify", DATA / "todo", bad), (1, b"", told))
+
+    def test_a_file_that_is_not_there(self):
+        status, output, errors = run("verify", DATA / "todo", DATA / "no-such-file")
+        self.assertEqual((status, output, errors.count("\n")), (1, b"", 1))
+        self.assertIn("no-such-file", errors)
+
+    def test_a_name_that_is_no_text_is_told_in_one_line(self):
+        for name in ("a\nb", "a\x1b[2Jb", "a\udcffb"):
+            with self.subTest(name):
+                status, output, errors = run("verify", self.file(name, b"x\n"))
+                self.assertEqual((status, output, errors.count("\n")), (1, b"", 1))
+                self.assertNotIn("\x1b", errors)
+
+
+class Lacking(unittest.TestCase):
+    """Where the package, or the library below it, lacks an algorithm, the other lines are written all the same."""
+
+    GIVEN = b"todo 16 01 02 03\n" + (DATA / "todo").read_bytes() + b"todo 16 01 02 04\n"
+
+    def left_out(self, lines):
+        status, output, errors = run("verify", given=self.GIVEN)
+        wanted = [line for number, line in enumerate(self.answered(), 1) if number not in lines]
+        self.assertEqual((status, output), (1, b"".join(wanted)))
+        told = errors.splitlines()
+        self.assertEqual(len(told), len(lines))
+        for number, text in zip(lines, told):
+            self.assertIn(f"left out line {number} of -: the package cryptography lacks algorithm 1", text)
+
+    def answered(self):
+        statements = (DATA / "statements").read_bytes()
+        return (b"bad 16 01 02 03\n" + statements + b"bad 16 01 02 04\n").splitlines(keepends=True)
+
+    def test_what_the_library_lacks_is_left_out(self):
+        class Ed448:
+            """As the package has the class where its library was built without this curve."""
+
+            @staticmethod
+            def from_public_bytes(_):
+                raise UnsupportedAlgorithm("ed448 is not supported by this version of OpenSSL.")
+
+        lines = self.GIVEN.decode().splitlines()
+        with mock.patch.dict(VERIFY.curves().EDDSA, {"Ed448": Ed448}):
+            self.left_out([number for number, line in enumerate(lines, 1) if line.startswith("todo 16 ")])
+
+    def test_without_the_package_rsa_is_verified(self):
+        lines = self.GIVEN.decode().splitlines()
+        with mock.patch.dict(sys.modules, {"curves": None}):
+            self.left_out([number for number, line in enumerate(lines, 1) if line.startswith("todo 1")
+                           and not line.startswith("todo 10 ")])
+
+
 class Lines(unittest.TestCase):
     def refused(self, given, line, *words):
         status, output, errors = run("verify", *words, given=given)
         self.assertEqual((status, output), (1, b""))
-        self.assertIn(f"line {line}:", errors)
+        self.assertEqual(errors.count("\n"), 1)
+        self.assertIn(f"line {line} of -: ", errors)
 
     def test_what_is_no_line_to_verify_is_refused_by_its_number(self):
         for text in (b"", b"# note", b"Pending a. 1", b"todo", b"todo 13 01 02", b"todo 13 01 02 03 04",
@@ -282,11 +231,6 @@ class Lines(unittest.TestCase):
 
     def test_nothing_gives_nothing(self):
         self.assertEqual(run("verify", given=b""), (0, b"", ""))
-
-    def test_a_file_that_is_not_there(self):
-        status, output, errors = run("verify", DATA / "no-such-file")
-        self.assertEqual((status, output), (1, b""))
-        self.assertIn("no-such-file", errors)
 
     def test_help(self):
         status, output, _ = run("verify", "--help")

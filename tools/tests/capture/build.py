@@ -43,8 +43,9 @@ def udp(octets, source=SERVER, target=CLIENT):
     return 17, source, target, struct.pack("!4H", source[1], target[1], 8 + len(octets), 0) + octets
 
 
-def tcp(octets, sequence, source=SERVER, target=CLIENT, syn=False):
-    header = struct.pack("!2H2I2B3H", source[1], target[1], sequence, 0, 6 << 4, 2 if syn else 16, 0, 0, 0)
+def tcp(octets, sequence, source=SERVER, target=CLIENT, syn=False, fin=False):
+    flags = 2 if syn else 17 if fin else 16
+    header = struct.pack("!2H2I2B3H", source[1], target[1], sequence, 0, 6 << 4, flags, 0, 0, 0)
     return 6, source, target, header + b"\x01\x01\x01\x00" + octets
 
 

@@ -3,9 +3,10 @@ import pathlib
 import tempfile
 import unittest
 
-import build
-from build import CLIENT, SERVER, ethernet, framed, ipv4, message, pcap, signed, tcp, udp
 from tool import DATA, PROGRAM, run, run_program
+
+from . import build
+from .build import CLIENT, SERVER, ethernet, framed, ipv4, message, pcap, signed, tcp, udp
 
 QUERY_FLAGS = 0x0100
 MAC, OTHER_MAC, ANSWER_MAC = (bytes([octet]) * 32 for octet in b"\x0a\x0b\x0c")
@@ -110,6 +111,33 @@ class Requests(Case):
         self.gives([query(identifier=9, original=7), signed(ANSWER_MAC, 9)], MAC.hex())
         self.gives([query(identifier=9, original=7), signed(ANSWER_MAC, 7)], MAC.hex())
 
+    def test_types_are_compared_as_numbers(self):
+        def of_type(octets, kind):
+            return octets.replace(b"\x00\x01\x00\x01", bytes([0, kind, 0, 1]), 1)
+
+        requests = of_type(query(), 65), of_type(query(OTHER_MAC), 97)
+        self.gives([*requests, of_type(ANSWER, 65), of_type(ANSWER, 97)], MAC.hex(), OTHER_MAC.hex())
+        self.gives([of_type(query(), 65), of_type(query(name="WWW.EXAMPLE."), 65), of_type(ANSWER, 65)], MAC.hex())
+
+    def test_the_last_request_counts_whatever_identifier_its_record_tells(self):
+        for original in (1, 7, 9):
+            requests = query(), query(OTHER_MAC, original=original)
+            for answer in (ANSWER, signed(ANSWER_MAC, original=5), message()):
+                self.gives([*requests, answer], OTHER_MAC.hex())
+        self.gives([query(identifier=7), query(OTHER_MAC, identifier=5, original=7), signed(ANSWER_MAC, 9, original=7)],
+                   OTHER_MAC.hex())
+
+    def test_the_last_of_the_requests_that_only_records_tell_counts(self):
+        requests = query(identifier=5, original=9), query(OTHER_MAC, identifier=7)
+        self.gives([*requests, signed(ANSWER_MAC, 9, original=7)], OTHER_MAC.hex())
+        self.gives([*reversed(requests), signed(ANSWER_MAC, 9, original=7)], MAC.hex())
+
+    def test_either_identifier_of_the_one_may_be_either_of_the_other(self):
+        self.gives([query(identifier=7, original=5), signed(ANSWER_MAC, 9, original=7)], MAC.hex())
+        self.gives([query(identifier=5, original=9), signed(ANSWER_MAC, 9, original=7)], MAC.hex())
+        self.gives([query(identifier=7, original=8), query(identifier=9, original=3), signed(ANSWER_MAC, 5, original=4),
+                    signed(ANSWER_MAC, 3, original=4)], MAC.hex(), dropped=1)
+
     def test_the_identifier_of_the_message_goes_before_that_of_its_record(self):
         for original in (7, 9):
             requests = query(identifier=9), query(OTHER_MAC, identifier=5, original=original)
@@ -178,7 +206,3 @@ class CommandLine(Room):
         output = run("capture", "--help")[1]
         for word in (b"--macs", b"MAC of the request", b"RFC 8945"):
             self.assertIn(word, output)
-
-
-if __name__ == "__main__":
-    unittest.main()

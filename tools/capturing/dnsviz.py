@@ -1,0 +1,57 @@
+"""The answers of a `dnsviz probe`, which its JSON has in base64."""
+import base64
+import json
+from collections import Counter
+
+from .entries import Message, Omission, PassedOver, Refusal
+from .messages import flags_of, is_message, is_query, is_truncated
+
+NO_ERROR, NO_SUCH_NAME = 0, 3
+
+
+def queries_of(octets, path):
+    """Each question that was asked, as text, and for each server that was asked what it answered."""
+    try:
+        for asked in json.loads(octets).values():
+            for query in asked.get("queries", ()):
+                text = f"{query['qname']} {query['qtype']}"
+                yield text, [(server, dict(response)) for server, clients in query["responses"].items()
+                             for response in clients.values()]
+    except (ValueError, KeyError, TypeError, AttributeError, RecursionError) as fault:
+        raise Refusal(f"{path}: no output of dnsviz probe") from fault
+
+
+def answer_of(text, server, response, path):
+    place = f"the answer of {server} to {text} of {path}"
+    if not isinstance(response.get("message"), str):
+        return Omission(place, f"there is none: {response.get('error', 'unknown')}")
+    try:
+        return Message(base64.b64decode(response["message"], validate=True), place)
+    except ValueError:
+        return Omission(place, "it isn't base64")
+
+
+def rank_of(entry):
+    """An answer that is whole goes before what is none, and among those one without an error of the server."""
+    if not isinstance(entry, Message) or not is_message(entry.octets):
+        return 2
+    if is_query(entry.octets) or is_truncated(entry.octets):
+        return 2
+    return int(flags_of(entry.octets) & 15 not in (NO_ERROR, NO_SUCH_NAME))
+
+
+def entries_of_dnsviz(octets, path):
+    """Of all answers to a question the first whole one."""
+    questions = {}
+    for text, responses in queries_of(octets, path):
+        answers = questions.setdefault(text.lower(), [])
+        answers += [answer_of(text, server, response, path) for server, response in responses]
+    entries, others = [], Counter()
+    for answers in questions.values():
+        best = min(answers, key=rank_of, default=None)
+        if best is None or rank_of(best) == 2:
+            entries += answers
+        else:
+            entries.append(best)
+            others["questions that have one"] += len(answers) - 1
+    return entries + ([PassedOver(f"answers of {path}", others)] if sum(others.values()) else [])

@@ -1,0 +1,126 @@
+"""What the tools read of DNS messages (RFC 1035 4.1): names, questions and records."""
+from collections import namedtuple
+
+from .octets import Incomplete, number_at
+
+HEADER_SIZE = 12
+NAME_PARTS_MOST = 255  # of 127 labels, each behind a pointer, and the root
+QR, AA, TC = 0x8000, 0x0400, 0x0200
+TYPE_NS, TYPE_DS, TYPE_RRSIG, TYPE_DNSKEY, TYPE_TSIG = 2, 43, 46, 48, 250
+ANSWER, AUTHORITY, ADDITIONAL = range(3)
+
+Question = namedtuple("Question", "name kind group")
+Record = namedtuple("Record", "section name kind front end")
+
+
+def flags_of(octets):
+    return number_at(octets, 2, 2)
+
+
+def is_query(octets):
+    return not flags_of(octets) & QR
+
+
+def is_truncated(octets):
+    return bool(flags_of(octets) & TC)
+
+
+# Names
+
+
+def label_text(label):
+    """As dnssec_check writes it."""
+    return "".join("\\" + chr(octet) if octet in b".\\" else chr(octet) if 0x21 <= octet <= 0x7E else f"\\{octet:03}"
+                   for octet in label)
+
+
+def name_text(labels):
+    return "".join(label_text(label) + "." for label in labels) or "."
+
+
+def name_at(octets, place):
+    """The labels of a name as they are spelled, through its pointers (RFC 1035 4.1.4)."""
+    labels = []
+    for _ in range(NAME_PARTS_MOST):
+        length = number_at(octets, place, 1)
+        if length == 0:
+            return tuple(labels)
+        if length < 64:
+            labels.append(bytes(octets[place + 1:place + 1 + length]))
+            place += 1 + length
+        elif length >= 0xC0:
+            place = number_at(octets, place, 2) & 0x3FFF
+        else:
+            break
+    raise Incomplete("a name isn't there")
+
+
+def end_of_name(octets, place):
+    """The place behind a name, whose last part may be a pointer."""
+    length = number_at(octets, place, 1)
+    while 0 < length < 64:
+        place += 1 + length
+        length = number_at(octets, place, 1)
+    return place + (2 if length >= 0xC0 else 1)
+
+
+def lower(labels):
+    return tuple(label.lower() for label in labels)
+
+
+def is_at_or_above(labels, others):
+    return labels == others[len(others) - len(labels):]
+
+
+# Questions and records
+
+
+def question_text(octets):
+    """The first question's name and type, for people to know the message by."""
+    try:
+        labels = name_at(octets, HEADER_SIZE)
+        return f"{name_text(labels)} type {number_at(octets, end_of_name(octets, HEADER_SIZE), 2)}"
+    except Incomplete:
+        return "no question"
+
+
+def questions_of(octets):
+    """The questions, names in lower case, and the place behind them; none where one isn't whole."""
+    place, questions = HEADER_SIZE, []
+    try:
+        for _ in range(number_at(octets, 4, 2)):
+            end = end_of_name(octets, place)
+            kind, group = number_at(octets, end, 2), number_at(octets, end + 2, 2)
+            questions.append(Question(lower(name_at(octets, place)), kind, group))
+            place = end + 4
+    except Incomplete:
+        return (), HEADER_SIZE
+    return tuple(questions), place
+
+
+def question_of(octets):
+    """The first question, None where there is none."""
+    questions = questions_of(octets)[0]
+    return questions[0] if questions else None
+
+
+def records_of(octets):
+    """The records, with where their owner's name and their RDATA begin and end."""
+    place = questions_of(octets)[1]
+    for section, count in enumerate(number_at(octets, at, 2) for at in (6, 8, 10)):
+        for _ in range(count):
+            front = end_of_name(octets, place)
+            end = front + 10 + number_at(octets, front + 8, 2)
+            yield Record(section, place, number_at(octets, front, 2), front + 10, end)
+            place = end
+
+
+def is_message(octets):
+    """Whether the octets are a message as a whole, with a question or a record."""
+    try:
+        questions, end = questions_of(octets)
+        for record in records_of(octets):
+            end = record.end
+        return len(questions) == number_at(octets, 4, 2) and HEADER_SIZE < end == len(octets)
+    except Incomplete:
+        return False

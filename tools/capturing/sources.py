@@ -1,0 +1,95 @@
+"""What the files that are named have in them: their kind, and the messages of each kind."""
+from collections import Counter
+
+from command import read, shown
+
+from .dnsviz import entries_of_dnsviz
+from .entries import Message, Omission, PassedOver, Refusal
+from .octets import Incomplete
+from .packed import unpacked
+from .packets import BadPacket, Datagram, Other, Segment, payload_of
+from .pcap import TornFile, is_packet_capture, packets_of
+from .streams import Streams, frames_of
+from .tshark import entries_of_tshark
+
+# Streams of one file, and lists in hex
+
+
+def entries_of_stream(octets, path):
+    messages, end = frames_of(octets)
+    if octets[end:end + 2] == b"\x00\x00":
+        raise Refusal(f"{path}: a message of length 0 at octet {end}")
+    if end < len(octets):
+        raise Refusal(f"{path}: it ends within the message at octet {end}")
+    return [Message(message, f"message {number} of {path}") for number, message in enumerate(messages, 1)]
+
+
+def octets_of_line(line, place):
+    try:
+        return bytes.fromhex(line.replace(":", " "))
+    except ValueError as fault:
+        raise Refusal(f"{place}: no message in hex") from fault
+
+
+def entries_of_hex(octets, path):
+    lines = enumerate(octets.decode("ascii", "replace").split("\n"), 1)
+    places = [(f"line {number} of {path}", line.strip()) for number, line in lines]
+    return [Message(octets_of_line(line, place), place) for place, line in places if line and line[0] not in "#;"]
+
+
+# Packets
+
+
+def entries_of_packet(packet, place, ports, streams, others):
+    """What a packet brings; one that carries something else is counted in `others`."""
+    try:
+        payload = payload_of(packet, ports)
+    except (BadPacket, Incomplete) as fault:
+        return [Omission(place, str(fault))]
+    except Other as other:
+        others[str(other)] += 1
+        return []
+    if isinstance(payload, Segment):
+        return streams.take(payload, place)
+    return [Message(payload.octets, place, (Datagram, frozenset(payload[:2])))]
+
+
+def entries_of_pcap(octets, path, ports):
+    if not is_packet_capture(octets):
+        raise Refusal(f"{path}: it is neither a pcap nor a pcapng")
+    streams, entries, others, number = Streams(path), [], Counter(), 0
+    try:
+        for packet in packets_of(octets):
+            number = packet.number
+            entries += entries_of_packet(packet, f"packet {number} of {path}", ports, streams, others)
+    except TornFile as fault:
+        entries.append(Omission(f"what is behind packet {number} of {path}", str(fault)))
+    passed_over = [PassedOver(f"packets of {path}", others)] if others else []
+    return entries + streams.rest() + passed_over
+
+
+# All kinds
+
+
+def kind_of(octets):
+    """The kind of a file that is named alone. Text has no octet 0, and each message has some."""
+    if is_packet_capture(octets):
+        return "pcap"
+    if b"\x00" in octets:
+        return "stream"
+    return "dnsviz" if octets.lstrip()[:1] == b"{" else "hex"
+
+
+def entries_of(kind, path, ports):
+    """The entries of a file of this kind, None where that has to be found out."""
+    name = shown(path)
+    if kind == "tshark":
+        return entries_of_tshark(path, name, ports)
+    octets = read(path)
+    if kind == "stream":
+        return entries_of_stream(octets, name)
+    octets, torn = unpacked(octets, name)
+    kind = kind or kind_of(octets)
+    if kind == "pcap":
+        return entries_of_pcap(octets, name, ports) + torn
+    return {"stream": entries_of_stream, "hex": entries_of_hex, "dnsviz": entries_of_dnsviz}[kind](octets, name) + torn

@@ -1,0 +1,107 @@
+"""Captures by question: the answers to each, with what leads to their names from above."""
+import os
+from collections import Counter, defaultdict, namedtuple
+from urllib.parse import quote
+
+from command import shown, tell, write
+
+from .entries import Refusal
+from .messages import (AA, ADDITIONAL, ANSWER, AUTHORITY, TYPE_DNSKEY, TYPE_DS, TYPE_NS, Question, flags_of, lower,
+                       name_at, name_text, question_of, records_of)
+from .octets import Incomplete
+from .streams import framed
+
+MESSAGES_MOST = 64
+NAME_SIZE_MOST = 150
+CLASS_IN = 1
+OF_CHAIN = (TYPE_DNSKEY, TYPE_DS)
+NO_QUESTION = Question((), 0, 0)
+
+Part = namedtuple("Part", "octets question names leads_down")
+
+
+def part_of(octets):
+    """A message with the names that it is about, and whether it leads to names below that of its question."""
+    question = question_of(octets) or NO_QUESTION
+    names, kinds = {question.name}, set()
+    try:
+        for record in records_of(octets):
+            kinds.add((record.section, record.kind))
+            if record.section != ADDITIONAL:
+                names.add(lower(name_at(octets, record.name)))
+    except Incomplete:
+        pass
+    is_referral = not flags_of(octets) & AA and (AUTHORITY, TYPE_NS) in kinds and ANSWER not in dict(kinds)
+    has_chain = any(kind in OF_CHAIN for _, kind in kinds)
+    return Part(octets, question, names, question.kind in OF_CHAIN or has_chain or is_referral)
+
+
+def names_above(names):
+    """The names and all above them."""
+    return {name[place:] for name in names for place in range(len(name) + 1)}
+
+
+class Parts:
+    """The answers, by their questions and by the names that they lead down from."""
+
+    def __init__(self, messages):
+        self.parts = [part_of(octets) for octets in messages]
+        self.by_question, self.by_name = defaultdict(list), defaultdict(list)
+        for number, part in enumerate(self.parts):
+            self.by_question[part.question].append(number)
+            if part.leads_down:
+                self.by_name[part.question.name].append(number)
+
+    def needed(self, question):
+        """The answers to the question and those that lead to its names, in their order."""
+        own = self.by_question[question]
+        names = names_above({name for number in own for name in self.parts[number].names})
+        return sorted({*own, *(number for name in names for number in self.by_name.get(name, ()))})
+
+    def chosen(self, question, needed):
+        """As many as a capture takes: one for each question before the others, those of this question first."""
+        seen, ranked = Counter(), []
+        for number in needed:
+            asked = self.parts[number].question
+            ranked.append((seen[asked], asked != question, number))
+            seen[asked] += 1
+        return sorted(number for _, _, number in sorted(ranked)[:MESSAGES_MOST])
+
+    def captures(self):
+        """A question and its answers for each capture; what leads down has none of its own where it is in another."""
+        used = set()
+        for question in sorted(self.by_question, key=lambda question: question.kind in OF_CHAIN):
+            if question.kind in OF_CHAIN and used.issuperset(self.by_question[question]):
+                continue
+            needed = self.needed(question)
+            chosen = self.chosen(question, needed)
+            used.update(chosen)
+            yield question, [self.parts[number].octets for number in chosen], len(needed) - len(chosen)
+
+
+def file_name(number, question):
+    """The question as part of a file's name: what may not stand there, as octets in hex."""
+    labels = [quote(label, safe="").replace(".", "%2E") + "." for label in question.name]
+    name = "".join(labels) or "."
+    return f"{number:04}-{name if len(name) <= NAME_SIZE_MOST else name[:NAME_SIZE_MOST] + '..'}-{question.kind}"
+
+
+def new_folder(path):
+    os.makedirs(path, exist_ok=True)
+    if os.listdir(path):
+        raise Refusal(f"{shown(path)}: the folder isn't empty")
+
+
+def write_captures(folder, messages):
+    """Writes them, and the list of their questions; answers how many they are."""
+    new_folder(folder)
+    lines, number = [], 0
+    for number, (question, answers, left_out) in enumerate(Parts(messages).captures(), 1):
+        name = file_name(number, question)
+        write(os.path.join(folder, name + ".cap"), framed(answers))
+        if question.group == CLASS_IN:
+            lines.append(f"{name} {name_text(question.name)} {question.kind}\n")
+        if left_out:
+            tell(f"{name}.cap has {len(answers)} answers, and there are {left_out} more")
+    write(os.path.join(folder, "questions"), "".join(lines).encode())
+    return number

@@ -1,0 +1,154 @@
+"""Messages out of streams of TCP, each behind its length (RFC 1035 4.2.2), and streams out of segments."""
+import bisect
+import heapq
+
+from .entries import Message, Omission
+from .messages import is_message
+from .octets import number_at
+from .packets import Segment
+
+WINDOW = 2**30  # more than this no receiver takes ahead (RFC 7323 2.3)
+TRIES = 128  # segments behind a gap in which a message has to begin
+
+
+def frames_of(octets):
+    """The messages of a stream, and the place behind the last: the end, a torn message, or one of length 0."""
+    messages, place = [], 0
+    while place + 2 <= len(octets):
+        end = place + 2 + number_at(octets, place, 2)
+        if end == place + 2 or end > len(octets):
+            break
+        messages.append(bytes(octets[place + 2:end]))
+        place = end
+    return messages, place
+
+
+def framed(messages):
+    return b"".join(len(octets).to_bytes(2, "big") + octets for octets in messages)
+
+
+def frame_at(octets, place):
+    """The message there where it is one as a whole, else None."""
+    front, size = place + 2, int.from_bytes(octets[place:place + 2], "big")
+    message = bytes(octets[front:front + size])
+    return message if len(message) == size and is_message(message) else None
+
+
+class Run:
+    """Octets behind a gap that stand without one, and where the segments begin that brought them."""
+
+    def __init__(self):
+        self.octets, self.starts, self.places = bytearray(), [], []
+
+    def add(self, octets, place):
+        self.starts.append(len(self.octets))
+        self.places.append(place)
+        self.octets += octets
+
+    def messages(self):
+        """Whole messages, from a segment on that begins with one, with where they end; and whether they are all."""
+        found, end, tries = [], 0, 0
+        for start in self.starts:
+            if start < end or tries == TRIES:
+                continue
+            message, tries = frame_at(self.octets, start), tries + 1
+            while message:
+                end, tries = start + 2 + len(message), 0
+                found.append((message, self.places[bisect.bisect_left(self.starts, end) - 1]))
+                start, message = end, frame_at(self.octets, end)
+        return found, sum(2 + len(message) for message, _ in found) == len(self.octets)
+
+
+class Stream:
+    """One direction of a TCP connection; its octets are numbered on from the first segment's, past 2**32."""
+
+    def __init__(self, segment, path):
+        self.name = f"the TCP stream of {path} from {segment.source} to {segment.target}"
+        self.ends = frozenset((segment.source, segment.target))
+        self.has_beginning, self.is_closed = segment.is_syn, False
+        self.first = self.next = segment.sequence + segment.is_syn
+        self.buffer, self.waiting, self.order = bytearray(), {}, []
+
+    def number_of(self, sequence):
+        return self.next + (sequence - self.next + 2**31) % 2**32 - 2**31
+
+    def is_of(self, segment):
+        """Whether it may be a segment of this connection; else the ports were taken for another one."""
+        number = self.number_of(segment.sequence + segment.is_syn)
+        if segment.is_syn:
+            return self.has_beginning and not self.is_closed and number == self.first
+        first = self.first - 1 if self.has_beginning else self.next - WINDOW
+        return not segment.octets or first <= number < self.next + WINDOW
+
+    def take(self, segment, place):
+        """Keeps a segment's octets, and answers the messages that became whole; the longer one of a place counts."""
+        number = self.number_of(segment.sequence + segment.is_syn)
+        self.is_closed |= segment.is_fin or segment.is_reset
+        if number not in self.waiting and (segment.octets or segment.is_fin):
+            heapq.heappush(self.order, number)
+            self.waiting[number] = b"", place
+        if segment.octets and len(segment.octets) > len(self.waiting[number][0]):
+            self.waiting[number] = segment.octets, place
+        if not self.has_beginning:
+            return []
+        while self.order and self.order[0] <= self.next:
+            self.buffer += self.take_first()[0]
+        messages, end = frames_of(self.buffer)
+        del self.buffer[:end]
+        return [Message(octets, place, (Segment, self.ends)) for octets in messages]
+
+    def take_first(self):
+        """The octets of the first segment that waits but for those taken before, and where it came from."""
+        number = heapq.heappop(self.order)
+        octets, place = self.waiting.pop(number)
+        octets = octets[max(0, self.next - number):]
+        self.next = max(self.next, number) + len(octets)
+        return octets, place
+
+    def runs(self):
+        """What still waits, parted at the gaps."""
+        runs = []
+        while self.order:
+            if not runs or self.order[0] > self.next:
+                self.next = self.order[0]
+                runs.append(Run())
+            runs[-1].add(*self.take_first())
+        return runs
+
+    def rest(self):
+        """What is whole behind the gaps of a stream, and what is dropped of it at its end."""
+        why = None
+        if self.order:
+            why = "octets before its end aren't in the packet capture"
+        elif self.buffer[:2] == b"\x00\x00":
+            why = "what begins with a message of length 0"
+        elif self.buffer:
+            why = "it ends within a message"
+        found = [run.messages() for run in self.runs()]
+        if not self.has_beginning:
+            is_read = all(is_whole for _, is_whole in found)
+            why = None if is_read else "its beginning isn't in the packet capture"
+        messages = [Message(*each, (Segment, self.ends)) for each_run, _ in found for each in each_run]
+        return messages + ([Omission(self.name, why)] if why else [])
+
+
+class Streams:
+    """The streams of a packet capture that are open."""
+
+    def __init__(self, path):
+        self.path, self.streams = path, {}
+
+    def take(self, segment, place):
+        """What a segment makes whole, and what is left of a stream that it ends."""
+        entries, ends = [], (segment.source, segment.target)
+        stream = self.streams.get(ends)
+        if stream and not stream.is_of(segment):
+            entries, stream = stream.rest(), None
+        if stream is None:
+            if not segment.is_syn and not segment.octets:
+                return entries
+            stream = self.streams[ends] = Stream(segment, self.path)
+        return entries + stream.take(segment, place)
+
+    def rest(self):
+        return [entry for stream in self.streams.values() for entry in stream.rest()]

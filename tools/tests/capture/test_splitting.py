@@ -1,0 +1,154 @@
+"""Tests of tools/capture --split, and of what is told that a capture lacks."""
+import pathlib
+import tempfile
+import unittest
+
+from tool import PROGRAM, DATA, run, run_program
+
+from .build import framed, message, name_octets, record
+from .cases import QUERY
+
+TYPES = {"A": 1, "NS": 2, "SOA": 6, "TXT": 16, "DS": 43, "RRSIG": 46, "DNSKEY": 48}
+
+
+def answer(name, kind, *records, flags=0x8400, identifier=1, counts=None):
+    """An answer to a question of this type, with records of an owner, a type and RDATA, all in its answer section."""
+    octets = message(identifier, name, flags).replace(b"\x00\x01\x00\x01", TYPES[kind].to_bytes(2, "big") + b"\x00\x01")
+    counts = counts or (len(records), 0, 0)
+    header = octets[:6] + b"".join(count.to_bytes(2, "big") for count in counts)
+    return header + octets[12:] + b"".join(record(TYPES[of], data, name_octets(owner)) for owner, of, data in records)
+
+
+def key(name, **more):
+    signature = name, "RRSIG", bytes(18) + name_octets(name)
+    return answer(name, "DNSKEY", (name, "DNSKEY", b"\x01\x01\x03\x0d"), signature, **more)
+
+
+def ds(name, **more):
+    return answer(name, "DS", (name, "DS", b"\x00\x01\x0d\x02"), **more)
+
+
+def plain(name, kind="A", *others, **more):
+    return answer(name, kind, (name, kind, b"\x7f\x00\x00\x01"), *others, **more)
+
+
+class Room(unittest.TestCase):
+    def setUp(self):
+        room = tempfile.TemporaryDirectory()
+        self.addCleanup(room.cleanup)
+        self.room = pathlib.Path(room.name)
+        self.folder = self.room / "new" / "folder"
+
+    def split(self, *messages):
+        """The captures by their names, and what was told."""
+        status, output, errors = run("capture", "--stream", "-", "--split", self.folder, given=framed(*messages))
+        self.assertEqual((status, output), (0, b""), errors)
+        captures = {path.name: path.read_bytes() for path in self.folder.iterdir()}
+        return captures.pop("questions").decode(), captures, errors
+
+
+class Split(Room):
+    def test_each_question_gets_a_capture_with_what_leads_to_it(self):
+        root, top, zone, other = key("."), key("test."), key("zone.test."), key("other.test.")
+        root_ds, zone_ds, other_ds = ds("test."), ds("zone.test."), ds("other.test.")
+        first, again, second = plain("www.zone.test."), plain("WWW.zone.test."), plain("other.test.", "TXT")
+        listed, captures, errors = self.split(first, root, QUERY, zone_ds, top, other, root_ds, second, zone, other_ds,
+                                              again)
+        self.assertEqual(captures, {
+            "0001-www.zone.test.-1.cap": framed(first, root, zone_ds, top, root_ds, zone, again),
+            "0002-other.test.-16.cap": framed(root, top, other, root_ds, second, other_ds)})
+        self.assertEqual(listed, "0001-www.zone.test.-1 www.zone.test. 1\n0002-other.test.-16 other.test. 16\n")
+        self.assertIn("a query", errors)
+        self.assertIn("capture: kept 10 of 11, in 2 captures\n", errors)
+
+    def test_more_than_64_messages_are_split(self):
+        many = [plain(f"n{number}.test.") for number in range(100)]
+        listed, captures, _ = self.split(key("test."), *many)
+        self.assertEqual((len(captures), len(listed.splitlines())), (100, 100))
+        self.assertEqual(captures["0100-n99.test.-1.cap"], framed(key("test."), many[99]))
+
+    def test_no_answer_is_lost(self):
+        lone = key("lone.test.")
+        _, captures, _ = self.split(plain("www.zone.test."), lone, ds("lone.test."))
+        self.assertEqual(captures, {"0001-www.zone.test.-1.cap": framed(plain("www.zone.test.")),
+                                    "0002-lone.test.-48.cap": framed(lone, ds("lone.test."))})
+
+    def test_the_names_of_an_answer_are_those_of_its_records_too(self):
+        alias = plain("alias.one.test.", "A", ("www.two.test.", "A", b"\x7f\x00\x00\x01"))
+        keys = [key(name) for name in ("one.test.", "two.test.", "www.two.test.", "three.test.")]
+        self.assertEqual(self.split(alias, *keys)[1]["0001-alias.one.test.-1.cap"], framed(alias, *keys[:3]))
+
+    def test_a_referral_leads_down(self):
+        referral = answer("zone.test.", "A", ("zone.test.", "NS", b"\x01n\x00"), flags=0x8000, counts=(0, 1, 0))
+        with_ds = answer("zone.test.", "NS", ("zone.test.", "DS", b"\x00\x01"), flags=0x8000, counts=(0, 1, 0))
+        other = plain("zone.test.", "TXT")
+        _, captures, _ = self.split(referral, with_ds, other, plain("www.zone.test."))
+        self.assertEqual(captures["0004-www.zone.test.-1.cap"], framed(referral, with_ds, plain("www.zone.test.")))
+
+    def test_a_capture_has_at_most_64_messages_and_one_of_each_question_first(self):
+        many = [plain("www.test.", "TXT", ("x.", "A", bytes([number]))) for number in range(80)]
+        listed, captures, errors = self.split(*many, key("test."), ds("test."))
+        self.assertEqual(captures["0001-www.test.-16.cap"], framed(*many[:62], key("test."), ds("test.")))
+        self.assertIn("0001-www.test.-16.cap has 64 answers, and there are 18 more", errors)
+
+    def test_the_answers_to_the_question_go_before_those_that_lead_to_it(self):
+        above = [key("a." * count) for count in range(1, 71)]
+        own = plain("a." * 71)
+        _, captures, errors = self.split(*above, own)
+        self.assertEqual(captures[f"0001-{'a.' * 71}-1.cap"], framed(*above[:63], own))
+        self.assertIn("has 64 answers, and there are 7 more", errors)
+
+    def test_the_names_of_files(self):
+        odd = plain("*.a/b\\ c.test.")
+        long = plain(".".join(["x" * 60] * 3 + ["test."]))
+        listed, captures, _ = self.split(odd, plain("."), long, message()[:4] + bytes(8))
+        self.assertEqual(sorted(captures), ["0001-%2A.a%2Fb%5C%20c.test.-1.cap", "0002-.-1.cap",
+                                            f"0003-{'x' * 60}.{'x' * 60}.{'x' * 28}..-1.cap", "0004-.-0.cap"])
+        self.assertEqual(listed.splitlines()[0], r"0001-%2A.a%2Fb%5C%20c.test.-1 *.a/b\\\032c.test. 1")
+        self.assertEqual(len(listed.splitlines()), 3)
+
+    def test_a_folder_that_is_not_empty_is_refused(self):
+        (self.folder / "x").mkdir(parents=True)
+        done = run("capture", "--stream", "-", "--split", self.folder, given=framed(plain("www.test.")))
+        self.assertEqual(done[:2], (1, b""))
+        self.assertIn(f"refused: {self.folder}: the folder isn't empty", done[2])
+        self.assertEqual([path.name for path in self.folder.iterdir()], ["x"])
+
+    def test_it_goes_without_output_and_macs(self):
+        for option in ("--output", "--macs"):
+            words = "--stream", "-", "--split", self.folder, option, self.room / "x"
+            self.assertEqual(run("capture", *words, given=framed(plain("www.test.")))[:2], (2, b""))
+            self.assertFalse(self.folder.exists())
+
+    @unittest.skipUnless(PROGRAM.exists(), "needs the built program")
+    def test_each_capture_of_a_real_probe_has_its_chain(self):
+        words = "--dnsviz", DATA / "dnsviz" / "probe.json", "--split", self.folder
+        self.assertEqual(run("capture", *words)[0], 0)
+        shown = run_program(PROGRAM, "show", "--capture", self.folder / "0003-www.sub.example.test.-1.cap")[1].decode()
+        questions = [line for line in shown.splitlines() if line.startswith("question ")]
+        self.assertEqual(questions, ["question example.test. 48 1", "question sub.example.test. 43 1",
+                                     "question sub.example.test. 48 1", "question www.sub.example.test. 1 1"])
+
+
+class Notes(unittest.TestCase):
+    def told(self, *messages):
+        """What is noted of an input of these messages."""
+        status, _, errors = run("capture", "--stream", "-", given=framed(*messages))
+        self.assertEqual(status, 0)
+        return [line.removeprefix("capture: note: ") for line in errors.splitlines() if "note:" in line]
+
+    def test_answers_without_signatures(self):
+        unsigned = "no answer has a signature (RRSIG): were they asked without the flag DO?"
+        self.assertEqual(self.told(plain("www.test.")), [unsigned])
+        self.assertEqual(self.told(plain("www.test."), key("test.")), [])
+        query = answer("www.test.", "A", ("www.test.", "RRSIG", bytes(18) + b"\x00"), flags=0x0100)
+        self.assertEqual(self.told(query, plain("www.test.")), [unsigned])
+
+    def test_a_zone_on_the_way_without_its_keys(self):
+        signed = plain("www.test.", "A", ("www.test.", "RRSIG", bytes(18) + b"\x01z\x04TEST\x00"))
+        lacks = "no answer has the DNSKEY records of {}, a zone on the way"
+        self.assertEqual(self.told(signed), [lacks.format("z.test.")])
+        self.assertEqual(self.told(signed, key("test.")), [lacks.format("z.test.")])
+        self.assertEqual(self.told(signed, key("Z.test.")), [])
+        self.assertEqual(self.told(ds("z.test."), plain("www.z.test."), key("test.")), [lacks.format("z.test.")])
+        self.assertEqual(self.told(ds("z.test."), plain("www.test."), key("test.")), [])

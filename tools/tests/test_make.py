@@ -1,0 +1,85 @@
+"""Which targets of the Makefile need the kit's command `rt`, and what `make try` hands to it."""
+import os
+import pathlib
+import shlex
+import shutil
+import subprocess
+import tempfile
+import unittest
+
+from tool import TOOLS, load
+
+TOP = TOOLS.parent
+PROGRAM = "crates/dnssec_check/out/dnssec_check"
+SAYS = '#!/bin/sh\nprintf "%s\\n" "$(basename "$0")" "$@"\n'
+NEED_NO_RT = ("demo", "examples", "pages", "install")
+
+
+@unittest.skipUnless(shutil.which("make"), "needs make")
+class Targets(unittest.TestCase):
+    """In a copy of the Makefile's folder with an `rt`, and where it's asked a program, that print their words."""
+
+    def setUp(self):
+        room = tempfile.TemporaryDirectory()
+        self.addCleanup(room.cleanup)
+        self.room = pathlib.Path(room.name)
+        shutil.copy(TOP / "Makefile", self.room)
+        for name in ("examples", "tools"):
+            (self.room / name).symlink_to(TOP / name)
+        (self.room / "crates" / "dnssec_check").mkdir(parents=True)
+        self.command("bin/rt")
+
+    def command(self, name):
+        path = self.room / name
+        path.parent.mkdir(exist_ok=True)
+        path.write_text(SAYS)
+        path.chmod(0o755)
+
+    def make(self, *words):
+        environment = {"PATH": f"{self.room}/bin:{os.environ['PATH']}"}
+        done = subprocess.run(["make", "--silent", *words], cwd=self.room, env=environment, check=False,
+                              capture_output=True, text=True)
+        self.assertEqual((done.returncode, done.stderr), (0, ""))
+        return done.stdout.splitlines()
+
+    def test_the_program_that_is_built_is_run_without_rt(self):
+        self.command(PROGRAM)
+        self.assertEqual(self.make("demo")[:2], ["dnssec_check", "list"])
+        for target in NEED_NO_RT:
+            with self.subTest(target):
+                self.assertEqual([line for line in self.make("--dry-run", target) if "rt run" in line], [])
+
+    def test_the_program_is_built_where_there_is_none(self):
+        for target in NEED_NO_RT:
+            with self.subTest(target):
+                self.assertIn("cd crates/dnssec_check && rt run -- --help", self.make("--dry-run", target))
+
+    def test_of_the_page_what_needs_no_rt_is_run(self):
+        self.command(PROGRAM)
+        line, = [line for line in self.make("--dry-run", "pages") if "README.md" in line and "examples" not in line]
+        _, titles = line.split(" README.md ")
+        steps = load("pages").steps_of((TOP / "README.md").read_text(), shlex.split(titles))
+        commands = [command.split("#")[0].strip() for step in steps for command in step.commands]
+        needing = [command for command in commands if command.split(" ")[0] in ("make", "rt")]
+        self.assertEqual(needing, ["make install PREFIX=$HOME/.local"])
+
+    def test_a_first_verdict_is_that_of_the_example(self):
+        words = self.make("try")
+        self.assertEqual(words[:2], ["rt", "try"])
+        end = words.index("--")
+        files = dict(word.split("=") for word in words[2:end] if word != "--data")
+        wanted = (TOP / "examples/bind-www-a-check/words").read_text().splitlines()
+        here, there = TOP / "crates/dnssec_check", TOP / "examples/bind-www-a-check"
+        given = [(here / files[word]).resolve() if word in files and before.startswith("--") else word
+                 for before, word in zip(words[end:], words[end + 1:])]
+        asked = [(there / word).resolve() if (there / word).is_file() else word for word in wanted]
+        self.assertEqual(pairs_of(given), pairs_of(asked))
+
+
+def pairs_of(words):
+    """The subcommand and the options with their values."""
+    return words[0], dict(zip(words[1::2], words[2::2]))
+
+
+if __name__ == "__main__":
+    unittest.main()
