@@ -1,4 +1,4 @@
-"""Wrong bodies: what their files say, which of them one check can try, and what it tells of each."""
+"""Wrong bodies: what their files say, and which of them one check can try."""
 
 import re
 from dataclasses import dataclass
@@ -6,8 +6,8 @@ from pathlib import Path
 from typing import Optional
 
 FUNCTION = re.compile(r"^( *)(?:pub(?:\([a-z]+\))? )?(?:const )?fn (\w+)")
-# What a check says of a proof that names what the wrong body takes away, as `rt must-fail` has it.
-NAMES = re.compile(r"has no field|is not in scope|has no `|was not admitted")
+# How the text shows the steps of a body that proofs name otherwise.
+SIGNS = {"if": r"\bif\b", "from_residual": r"\?", "branch": r"\?", "index": r"\[", "deref": r"\w\(", "deref_mut": r"\w\("}
 
 
 @dataclass(frozen=True)
@@ -54,6 +54,12 @@ class Edit:
         functions = {function_at(folder, path, old) for path, old, _ in pairs}
         return Edit(file, tuple(pairs), functions.pop() if len(functions) == 1 else None)
 
+    def recounts(self, step):
+        """Whether the wrong body has more or fewer of such steps, as calls of one name: the others may have new numbers."""
+        sign = SIGNS.get(step, rf"\b{re.escape(step)}(?:::<[^(]*>)?\(")
+        old, new = ("\n".join(pair[place] for pair in self.pairs) for place in (1, 2))
+        return len(re.findall(sign, old)) != len(re.findall(sign, new))
+
     def apply(self, folder):
         """Changes the crate, if each text stands there once; returns whether."""
         texts = {path: (folder / path).read_text() for path, _, _ in self.pairs}
@@ -96,47 +102,29 @@ def block_at(lines, place):
     return name[1] + rest[1] + "".join(word[0].upper() + word[1:] for word in words)
 
 
-def batches_of(edits, size):
-    """Cuts the edits into batches of at most so many, no two of one function."""
+def without_bodies(text):
+    """The text without the functions' bodies and without comments: what it states."""
+    kept, indent, end = [], None, None
+    for line in text.split("\n"):
+        if end is not None:
+            end = None if line == end else end
+            continue
+        head = FUNCTION.match(line)
+        indent = head[1] if head else indent
+        if indent is not None and re.fullmatch(rf"{indent}(\S.*)?\{{", line):
+            indent, end = None, indent + "}"
+        kept.append(line)
+    return [line for line in kept if not line.lstrip().startswith("//")]
+
+
+def batches_of(trials, size):
+    """Cuts what is to be tried into batches of at most so many, no two of one function."""
     batches = []
-    for edit in edits:
-        fits = (batch for batch in batches if len(batch) < size and all(edit.function != other.function for other in batch))
+    for trial in trials:
+        fits = (batch for batch in batches if len(batch) < size and all(trial.function != other.function for other in batch))
         batch = next(fits, None)
         if batch is None:
-            batches.append([edit])
+            batches.append([trial])
         else:
-            batch.append(edit)
+            batch.append(trial)
     return batches
-
-
-def judged(crate, batch, told):
-    """The wrong bodies that the check refuses for goals of their own functions, each with what it tells. None, where it
-    tells such a goal of a function that has none: then a proof that several share is at fault."""
-    said = dict(re.findall(rf"(?m)^fn {crate}::(\S+): (.*)$", told))
-    errors = re.findall(r"(?m)^\./(proofs/\S+):\d+:\d+: error: (.*)$", told)
-    reasons = {path: reason_of(path, text, errors, len(batch) == 1) for path, text in said.items()}
-    edits = {edit.function.path_in(said): edit for edit in batch}
-    if len(batch) > 1 and any(reason and path not in edits for path, reason in reasons.items()):
-        return {}
-    return {edit: reasons[path] for path, edit in edits.items() if reasons.get(path)}
-
-
-def reason_of(path, said, errors, alone):
-    """Why the function isn't proved by its own goals; `None` where the check doesn't say so."""
-    unproved = re.search(r"`search` did not prove [^;]*", said)
-    if unproved:
-        return unproved[0]
-    folder = f"proofs/{path.replace('::', '/')}/"
-    own = [error for file, error in errors if file.startswith(folder)]
-    if not said.startswith(("no proof", "not proved")):
-        return None
-    telling = next((error for error in own if not NAMES.search(error)), None)
-    # A name may be missing for what another wrong body took away.
-    if telling or not own or not alone:
-        return telling
-    return f"only because a proof file names what it takes away, so this says little of the contract: {own[0]}"
-
-
-def refused_alone(told):
-    """How many `rt must-fail` tells as refused."""
-    return len(re.findall(r": refused, as it must be", told))

@@ -1,0 +1,76 @@
+"""The answers of a proof file: where each stands, which lean on it, and the file without some of them."""
+
+import re
+from dataclasses import dataclass
+
+HEAD = re.compile(r"(?:abbrev )?(?:pub )?(?!use )(\S+) :(?:\s|$)")
+SECTION = re.compile(r"module _\b")
+ANSWER = re.compile(r"(?:abbrev )?(?:pub )?\S+ :\s+goal\.")
+INNER = re.compile(r"\s+(?:abbrev )?(?:pub )?([^\s(){}]+) :(?:\s|$)")
+STEP = re.compile(r"\bc\.([A-Za-z]\w*)")
+
+
+@dataclass(frozen=True)
+class Part:
+    """A declaration, or a section of some: the names that it declares, its lines, and the number of the first."""
+
+    names: frozenset
+    first: int
+    lines: tuple
+
+    @property
+    def text(self):
+        return "\n".join(self.lines)
+
+    def mentions(self, names):
+        return any(re.search(rf"(?<![\w-]){re.escape(name)}(?![\w-])", self.text) for name in names)
+
+
+def parts_of(text):
+    """The declarations of a file, from its first line; what stands before them, as its `use` lines, is in none."""
+    lines = text.split("\n")
+    heads = [number for number, line in enumerate(lines) if HEAD.match(line) or SECTION.match(line)]
+    return [part_of(lines, head, end) for head, end in zip(heads, heads[1:] + [len(lines)])]
+
+
+def part_of(lines, head, end):
+    own = tuple(lines[head:end])
+    name = HEAD.match(own[0])
+    inner = [] if name else [INNER.match(line) for line in own[1:]]
+    names = [name[1]] if name else [found[1] for found in inner if found]
+    return Part(frozenset(names), head + 1, own)
+
+
+def standing_at(text, line):
+    """The names that the declaration at the line declares; none where the line stands in none."""
+    return next((part.names for part in parts_of(text) if part.first <= line < part.first + len(part.lines)), frozenset())
+
+
+def leaning_on(text, names):
+    """The names with those of all declarations that mention them, directly or not."""
+    parts, all_names = parts_of(text), set(names)
+    while True:
+        more = {name for part in parts if part.mentions(all_names) for name in part.names} - all_names
+        if not more:
+            return all_names
+        all_names |= more
+
+
+def without(text, names):
+    """The file without these declarations; "" where no answer is left."""
+    parts = parts_of(text)
+    start = parts[0].first - 1 if parts else 0
+    kept = [part for part in parts if not part.names & set(names)]
+    if not any(ANSWER.match(part.text) for part in kept):
+        return ""
+    return "\n".join(text.split("\n")[:start] + [line for part in kept for line in part.lines])
+
+
+def steps_of(text, name):
+    """The steps of the body, as its calls, that the answer cites or that its goal is named by, without their numbers."""
+    cited = {step for part in parts_of(text) if name in part.names for step in STEP.findall(part.text)}
+    return cited | set(name.split("-"))
+
+
+def has_answer(text, name):
+    return any(name in part.names for part in parts_of(text))

@@ -1,0 +1,62 @@
+"""Which crates' wrong bodies a change can concern."""
+
+import subprocess
+
+from bodies import without_bodies
+
+
+class Unknown(Exception):
+    """There is no such commit."""
+
+
+def changed_since(tree, commit, below):
+    """The crates to be tried again since the commit: those that changed, and those above one whose statements changed.
+    A proof sees of another crate what it states, and never its bodies."""
+    files = files_since(tree, commit)
+    changed = {name for name in below if any(concerns_bodies(file) for file in of_crate(files, name))}
+    restated = {name for name in below if any(restates(tree, commit, name, file) for file in of_crate(files, name))}
+    for name, others in below.items():
+        if restated & set(others):
+            restated.add(name)
+    return changed | restated
+
+
+def files_since(tree, commit):
+    return told(tree, "diff", "--name-only", commit, "--", "crates") + told(tree, "ls-files", "--others", "--exclude-standard", "crates")
+
+
+def told(tree, *words):
+    ran = subprocess.run(["git", *words], cwd=tree, stdout=subprocess.PIPE, stderr=subprocess.PIPE, text=True)
+    if ran.returncode:
+        raise Unknown(ran.stderr.strip().split("\n")[0])
+    return ran.stdout.splitlines()
+
+
+def of_crate(files, name):
+    """The files of the crate, by their paths in it."""
+    top = f"crates/{name}/"
+    return [file.removeprefix(top) for file in files if file.startswith(top)]
+
+
+def concerns_bodies(file):
+    return file.startswith(("src/", "specs/", "proofs/", "must-fail/", "wrong-bodies/")) and not is_test(file)
+
+
+def is_test(file):
+    return file.endswith("/tests.rt") or "/tests/" in file
+
+
+def restates(tree, commit, name, file):
+    """Whether the change of the file can concern the crates above."""
+    if file.startswith("specs/"):
+        return True
+    if not file.startswith("src/") or is_test(file):
+        return False
+    path = f"crates/{name}/{file}"
+    now = (tree / path).read_text() if (tree / path).is_file() else ""
+    return without_bodies(text_at(tree, commit, path)) != without_bodies(now)
+
+
+def text_at(tree, commit, path):
+    ran = subprocess.run(["git", "show", f"{commit}:{path}"], cwd=tree, stdout=subprocess.PIPE, stderr=subprocess.DEVNULL, text=True)
+    return "" if ran.returncode else ran.stdout
