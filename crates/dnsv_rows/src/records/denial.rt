@@ -117,19 +117,20 @@ fn usable_told(row: &Row, usable: &UsableNsec3<'_>) -> Result<String, RowError> 
 
 /// `nsec3_parameters OCTETS OCTETS`: how the parameters of two records compare.
 fn parameters_compared(row: &Row) -> Result<String, RowError> {
-    let alloc = row.alloc();
-    let one = row.octets(0)?;
-    let other = row.octets(1)?;
-    let (Ok(one), Ok(other)) = (
-        Nsec3::read(alloc, one.as_slice()),
-        Nsec3::read(alloc, other.as_slice()),
-    ) else {
-        return Err(RowError::Malformed);
-    };
+    let one = nsec3_of(row, 0)?;
+    let other = nsec3_of(row, 1)?;
     let order = match one.parameters.cmp(&other.parameters) {
         Ordering::Less => "<",
         Ordering::Equal => "=",
         Ordering::Greater => ">",
     };
-    Ok(String::from_str(alloc, order)?)
+    Ok(String::from_str(row.alloc(), order)?)
+}
+
+/// The record whose RDATA the argument is.
+fn nsec3_of(row: &Row, place: usize) -> Result<Nsec3, RowError> {
+    match Nsec3::read(row.alloc(), row.octets(place)?.as_slice()) {
+        Ok(nsec3) => Ok(nsec3),
+        Err(_) => Err(RowError::Malformed),
+    }
 }
