@@ -61,18 +61,28 @@ fn nsec3_entries<'a>(alloc: Global, capture: &'a Capture) -> Result<Vec<Nsec3Ent
     let mut entries = Vec::new(alloc);
     for (before, rrset) in capture.rrsets().iter().enumerate() {
         if let Some(entry) = nsec3_entry(first_of(before), rrset) {
-            entries.push(entry)?;
+            let Ok(()) = entries.push(entry) else {
+                return Err(RowError::OutOfMemory);
+            };
         }
     }
     Ok(entries)
 }
 
 fn nsec3_entry<'a>(number: RecordNumber, rrset: &'a Rrset) -> Option<Nsec3Entry<'a>> {
-    let usable = rrset.nsec3s().first()?.usable()?;
+    let Some(nsec3) = rrset.nsec3s().first() else {
+        return None;
+    };
+    let Some(usable) = nsec3.usable() else {
+        return None;
+    };
+    let Some(hash) = hash_of(rrset.owner()) else {
+        return None;
+    };
     Some(Nsec3Entry {
         number,
         owner: rrset.owner(),
-        hash: hash_of(rrset.owner())?,
+        hash,
         is_opt_out: usable.is_opt_out,
         parameters: usable.parameters,
         next_hash: usable.next_hash,
