@@ -2,12 +2,13 @@
 
 use crate::chain::trust_anchors;
 use crate::row::{Row, RowError};
+use crate::verifier::statements_of;
 use crate::verifying::ByFirstOctet;
 use crate::{evidence, printed};
 use dnsv_denial::Proof;
 use dnsv_names::RecordType;
 use dnsv_verdict::{Entries, Report, Verdict, VerdictError, validate};
-use dnsv_verifier::{Panel, Statements, StatementsError, Verifier};
+use dnsv_verifier::{Panel, Verifier};
 use std::alloc::Global;
 
 /// What the library answers, where it has the call.
@@ -16,7 +17,7 @@ pub fn answer(row: &Row) -> Result<Option<String>, RowError> {
         return Ok(Some(validated(row, &ByFirstOctet)?));
     }
     if row.calls("validate-by") {
-        return Ok(Some(validated(row, &panel(row, 5)?)?));
+        return Ok(Some(validated_together(row)?));
     }
     Ok(None)
 }
@@ -24,8 +25,6 @@ pub fn answer(row: &Row) -> Result<Option<String>, RowError> {
 /// `validate CAPTURE ANCHORS MOMENT NAME TYPE`: the verdict and what it rests on, how many entries were asked for and
 /// how many digests were worked out; or the refusal. An RRset stands before its signature or a record of it, `2.1`, and
 /// what is pending by the signatures. `ByFirstOctet` verifies.
-///
-/// `validate-by CAPTURE ANCHORS MOMENT NAME TYPE STATEMENTS..`: the same, where the files of statements verify together.
 fn validated<V: Verifier>(row: &Row, verifier: &V) -> Result<String, RowError> {
     let alloc = row.alloc();
     let capture = evidence::capture(row, 0)?;
@@ -40,6 +39,15 @@ fn validated<V: Verifier>(row: &Row, verifier: &V) -> Result<String, RowError> {
             Ok(format!(in alloc; "refused {code}")?)
         }
     }
+}
+
+/// `validate-by CAPTURE ANCHORS MOMENT NAME TYPE STATEMENTS..`: the same, where the files of statements verify together.
+fn validated_together(row: &Row) -> Result<String, RowError> {
+    let mut members: Vec<Box<dyn Verifier>> = Vec::new(row.alloc());
+    for place in 5..row.count() {
+        members.push(Box::new(row.alloc(), statements_of(row, place)?)?)?;
+    }
+    validated(row, &Panel::new(members))
 }
 
 fn told(alloc: Global, report: &Report) -> Result<String, RowError> {
@@ -83,23 +91,6 @@ fn with_signatures(alloc: Global, entries: &Entries) -> Result<String, RowError>
         text = format!(in alloc; "{text} {signature}")?;
     }
     Ok(text)
-}
-
-/// The files of statements that the arguments from a place on are.
-fn panel(row: &Row, place: usize) -> Result<Panel, RowError> {
-    let mut members: Vec<Box<dyn Verifier>> = Vec::new(row.alloc());
-    for each in place..row.count() {
-        members.push(Box::new(row.alloc(), statements(row, each)?)?)?;
-    }
-    Ok(Panel::new(members))
-}
-
-fn statements(row: &Row, place: usize) -> Result<Statements, RowError> {
-    match Statements::parse(row.alloc(), row.octets(place)?.as_slice()) {
-        Ok(statements) => Ok(statements),
-        Err(StatementsError::OutOfMemory) => Err(RowError::OutOfMemory),
-        Err(_) => Err(RowError::Malformed),
-    }
 }
 
 /// The type whose number the argument is.

@@ -147,7 +147,7 @@ fn table_of(row: &Row, count: &mut Count) -> Result<Table, RowError> {
 }
 
 /// The statements of the file that the argument writes.
-fn statements_of(row: &Row, place: usize) -> Result<Statements, RowError> {
+pub fn statements_of(row: &Row, place: usize) -> Result<Statements, RowError> {
     match Statements::parse(row.alloc(), row.octets(place)?.as_slice()) {
         Ok(statements) => Ok(statements),
         Err(_) => Err(RowError::Malformed),
