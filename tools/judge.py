@@ -21,7 +21,7 @@ FAILS = re.compile(r"the two types|but this has type|found no proof|no proof of|
 # The shape of a term is wrong for its goal, or what it names isn't there.
 UNFIT = re.compile(r"has no field|is not in scope|has no `|was not admitted|nearest: |Goals`|is checked against")
 # What says that the body didn't reach the prover, or met a limit of the prover's own.
-NO_VERDICT = re.compile(r"\berror\[[\w-]+\]|ran out of|memory limit|step limit")
+NO_VERDICT = re.compile(r"\berror\[[\w-]+\]|ran out of|memory limit|step limit|could not tell")
 OPEN = re.compile(r"`search` did not prove ((?:`[^`]*`(?:, )?)+)")
 
 
