@@ -29,7 +29,8 @@ demo: | $(program)
 examples: | $(program)
 	tools/examples
 
-# Every wrong body, those that the gate leaves out too, of all crates or of those named, as CRATES="dnsv_names".
+# Every wrong body, those that the gate leaves out too, of all crates or of those named, as CRATES="dnsv_names"; with
+# SINCE=COMMIT, of those that a change since that commit concerns.
 wrong-bodies:
 	tools/wrong-bodies $(CRATES)
 

@@ -17,14 +17,11 @@ from answers import has_answer, leaning_on, standing_at, steps_of
 from bodies import Edit
 
 # How antt says that a term or a tactic meets its goal and fails.
-FAILS = re.compile(r"types (?:first )?differ|found no proof|is false at|does not hold")
+FAILS = re.compile(r"the two types|but this has type|found no proof|no proof of|the goal does not follow")
 # The shape of a term is wrong for its goal, or what it names isn't there.
-UNFIT = re.compile(
-    r"has no field|is not in scope|has no `|was not admitted|nearest: |Goals`|(?:is|it is) checked against|"
-    r"is not a |names no |number of patterns|too many|too few|binders"
-)
+UNFIT = re.compile(r"has no field|is not in scope|has no `|was not admitted|nearest: |Goals`|is checked against")
 # What says that the body didn't reach the prover, or met a limit of the prover's own.
-NO_VERDICT = re.compile(r"\berror\[[\w-]+\]|ran out of|memory limit|step limit")
+NO_VERDICT = re.compile(r"\berror\[[\w-]+\]|ran out of|memory limit|step limit|could not tell")
 OPEN = re.compile(r"`search` did not prove ((?:`[^`]*`(?:, )?)+)")
 
 
@@ -177,5 +174,5 @@ def of_open_goals(trial, opened):
         name, why = failed[0]
         return Verdict(Kind.REFUSED, f"`search` did not prove `{name}`, and its answer fails: {why.reason}")
     name, why = reasons[0]
-    unfit = why or next(iter(trial.taken.values()))
-    return Verdict(Kind.UNSETTLED, f"`{name}` is open, and an answer was taken out that doesn't fit: {unfit.reason}")
+    why = why or next(iter(trial.taken.values()), None)
+    return Verdict(Kind.UNSETTLED, f"`{name}` is open, and " + (f"an answer doesn't fit: {why.reason}" if why else "has an answer"))

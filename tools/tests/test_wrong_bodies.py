@@ -55,40 +55,41 @@ class WrongBodies(Room):
         folder.mkdir()
         with open(self.room / "crates" / crate / "src/one.rt", "a") as source:
             for number, body in enumerate(bodies):
-                name = f"{part.replace('-', '_')}_{number}"
+                name = f"{part.replace('-', '_')}_{number:02}"
                 source.write(f"fn {name}() {{\n    right // {name}\n}}\n")
                 (folder / f"{name}.edit").write_text(f"file: src/one.rt\nold: right // {name}\nnew: {body} // {name}\n")
-                self.write(f"crates/{crate}/proofs/one/{name}/Answers.antt", ANSWERS)
+                if body in ("unfit", "fails", "trivial"):
+                    self.write(f"crates/{crate}/proofs/one/{name}/Answers.antt", ANSWERS)
 
     def told(self, *names):
         status, output, errors = run_program(self.room / "tools/wrong-bodies", *names)
         return status, output.decode().splitlines(), errors
 
     def test_each_body_is_tried_until_it_is_settled(self):
-        self.add("lower", "must-fail", *["wrong"] * 60)
+        self.add("lower", "must-fail", *["wrong"] * 32)
         self.add("lower", "wrong-bodies", "fails", "blocked", "blocked", "wrong")
         self.add("upper", "wrong-bodies", "blocked")
         before = (self.room / "crates/lower/src/one.rt").read_text()
         status, lines, _ = self.told()
-        self.assertEqual((status, lines[-2:], len(lines)), (0, ["65 refused, 0 proved, 0 unsettled, 0 no verdict", "65 passed, 0 failed"], 67))
-        self.assertIn("lower/wrong_bodies_3: refused: `search` did not prove `returns`", lines)
+        self.assertEqual((status, lines[-2:], len(lines)), (0, ["37 refused, 0 proved, 0 unsettled, 0 no verdict", "37 passed, 0 failed"], 39))
+        self.assertIn("lower/wrong_bodies_03: refused: `search` did not prove `returns`", lines)
         self.assertEqual((self.room / "crates/lower/src/one.rt").read_text(), before)
 
     def test_each_is_told_by_its_kind(self):
         rows = {"wrong": "refused: `search` did not prove `returns`", "fine": "proved: the crate is proved with it",
                 "trivial": "proved: the crate is proved with it",
                 "fails": "refused: `search` did not prove `returns`, and its answer fails: `returns`: the two types differ only where one has `3`",
-                "unfit": "unsettled: `returns` is open, and an answer was taken out that doesn't fit: `returns`: `c.gone` has no field `ensures`",
-                "stuck": "no verdict: fn lower::one::must_fail_5: could not tell", "garbled": "no verdict: error[E0001]: this is no body"}
+                "unfit": "unsettled: `returns` is open, and an answer doesn't fit: `returns`: `c.gone` has no field `ensures`",
+                "stuck": "no verdict: fn lower::one::must_fail_05: could not tell", "garbled": "no verdict: error[E0001]: this is no body"}
         self.add("lower", "must-fail", *rows)
         status, lines, _ = self.told()
         self.assertEqual((status, lines[-1]), (1, "2 passed, 5 failed"))
-        self.assertEqual(sorted(lines[:-2]), [f"lower/must_fail_{number}: {told}" for number, told in enumerate(rows.values())])
+        self.assertEqual(sorted(lines[:-2]), [f"lower/must_fail_{number:02}: {told}" for number, told in enumerate(rows.values())])
 
     def test_a_text_that_is_not_there(self):
         self.add("lower", "must-fail", "wrong")
-        (self.room / "crates/lower/must-fail/must_fail_0.edit").write_text("file: src/one.rt\nold: left\nnew: wrong\n")
-        self.assertEqual(self.told()[1][0], "lower/must_fail_0: no verdict: its texts don't stand once each")
+        (self.room / "crates/lower/must-fail/must_fail_00.edit").write_text("file: src/one.rt\nold: left\nnew: wrong\n")
+        self.assertEqual(self.told()[1][0], "lower/must_fail_00: no verdict: its texts don't stand once each")
 
     def test_those_of_crates_that_changed_alone(self):
         self.add("lower", "must-fail", "wrong")

@@ -1,0 +1,108 @@
+"""Tests of tools/judge.py: what a check tells of a wrong body, in the prover's own words, and what has to come of it."""
+import unittest
+from pathlib import Path
+
+from tool import load
+
+OPEN = "no proof: expected answers in ./proofs/names/first/Answers.antt; `search` did not prove `returns`"
+STANDS = "not proved; it stands on `Rattle.upper.proofs.names.first.Answers.returns`, which antt refuses"
+CALLS = "no proof: it calls `upper::names::last`, which is not proved"
+ANSWERS = "use Rattle.upper.proofs.names.first.Goals as goal\n\npub returns : goal.returns\nreturns c = c.one.ensures.0\n"
+
+# What antt says of an answer that meets its goal and fails, and of one that doesn't fit.
+FAILS = (
+    "as printed, the two types differ only where one has `c.args.x` (expected), right after `mathlib.Core.Path.◌≡◌ (Prim.Native.Nat.◌+◌ c.args.x 1)`\n"
+    "  and the other has `(Prim.Native.Nat.◌+◌ c.args.x 1)` (found)",
+    "as printed, the two types first differ where one has `20` (expected), right after `sha1 (take`, and the other has `(20 + c.min-beside.result)`",
+    "expected type `mathlib.Core.Path.◌≡◌ (Prim.Native.Nat.◌+◌ c.args.x 1) y`, but this has type `mathlib.Core.Path.◌≡◌ c.args.x y`",
+    "`grind` found no proof. It did not look into whether `mathlib.Core.List.◌++◌ c.copy_from_slice.new.self` is false",
+    "`grind`: the goal does not follow. The hypotheses hold, and the goal fails at `c.args.x` = `0`.",
+    "`omega`: the goal does not follow from what it read. All of that holds, and the goal fails, at `c.args.x` = 0.",
+    "`search`: no proof of `mathlib.Core.Path.◌≡◌ (Prim.Native.Nat.◌+◌ c.args.x 1) c.args.x` was found. `grind`",
+)
+DOES_NOT_FIT = (
+    "this λ is checked against `Unit {0}`, which is not a function or extension (path) type",
+    "a tuple is checked against `mathlib.Core.Path.◌≡◌ c.args.x c.args.x`, which is not a `×` type",
+    "record `Rattle.upper.proofs.names.first.Lts.Start` has no field `gone`\n  the fields that can be named here are `args`",
+    "record `Rattle.upper.proofs.names.first.Lts.Start` (nearest: `one-2`)",
+    "`c.one` is not in scope: not a local variable, nor a definition admitted earlier",
+    "`goal.returns`: module `Rattle.upper.proofs.names.first.Goals` has no `returns` that can be named from here",
+)
+
+
+class Judge(unittest.TestCase):
+    judge, bodies = load("judge.py"), load("bodies.py")
+
+    def trial(self, old="LIMIT", new="0"):
+        file = Path("upper/must-fail/one.edit")
+        return self.judge.Trial(self.bodies.Edit(file, (("src/names.rt", old, new),), self.bodies.Function("names", "", "first")))
+
+    def judged(self, trial, said, *errors, file="Answers.antt", is_alone=False, others=""):
+        told = "".join(f"./proofs/names/first/{file}:4:13: error: `returns`: {error}\n" for error in errors)
+        told = self.judge.Told("upper", f"{told}fn upper::names::first: {said}\n{others}")
+        taken = {name for names in (trial.names_in(file) for file in trial.files) for name in names}
+        return self.judge.judged(trial, told, lambda file: ANSWERS if "/first/" in file and not taken else "", is_alone)
+
+    def kind_of(self, trial, said, error):
+        """What comes of a body whose answer is refused so, where the next check says that."""
+        self.assertEqual(self.judged(trial, STANDS, error), self.judge.AGAIN)
+        self.assertEqual(trial.names_in("proofs/names/first/Answers.antt"), {"returns"})
+        return getattr(self.judged(trial, said, is_alone=True), "kind", None)
+
+    def test_an_open_goal_without_an_answer_refuses_it(self):
+        said = OPEN.replace("`returns`", "`returns-clause-one`, `bounds-place`")
+        verdict = self.judged(self.trial(), said + "; it calls `f`")
+        self.assertEqual(verdict, self.judge.Verdict(self.judge.Kind.REFUSED, "`search` did not prove `returns-clause-one`"))
+        self.assertEqual(self.judged(self.trial(), said, FAILS[0]).kind, self.judge.Kind.REFUSED)
+
+    def test_an_answer_that_fails_refuses_it_where_search_fails_too(self):
+        for error in FAILS:
+            with self.subTest(error):
+                self.assertEqual(self.kind_of(self.trial(), OPEN, error), self.judge.Kind.REFUSED)
+                self.assertEqual(self.kind_of(self.trial(), "proved", error), self.judge.Kind.PROVED)
+
+    def test_an_answer_that_does_not_fit_settles_nothing(self):
+        for error in DOES_NOT_FIT:
+            with self.subTest(error):
+                self.assertEqual(self.kind_of(self.trial(), OPEN, error), self.judge.Kind.UNSETTLED)
+                self.assertEqual(self.kind_of(self.trial(), "proved", error), self.judge.Kind.PROVED)
+
+    def test_nor_does_one_whose_calls_have_other_numbers(self):
+        error = "as printed, the two types differ only where one has `c.one-b.result` (expected) and the other has `c.one.result` (found)"
+        for old, new, kind in (("one(x)", "one(one(x))", self.judge.Kind.UNSETTLED), ("one(x)", "one(y)", self.judge.Kind.REFUSED)):
+            self.assertEqual(self.kind_of(self.trial(old, new), OPEN, error), kind)
+
+    def test_a_goal_that_is_new_where_an_answer_is_left_over_settles_nothing(self):
+        said = OPEN.replace("`returns`", "`returns-in-Some`")
+        trial = self.trial()
+        self.assertEqual(self.judged(trial, said, DOES_NOT_FIT[-1]), self.judge.AGAIN)
+        self.assertEqual(self.judged(trial, said).kind, self.judge.Kind.UNSETTLED)
+
+    def test_an_invariant_that_does_not_fit_settles_nothing(self):
+        error = ("`goal.invariant-loop-piece`: module `Rattle.upper.proofs.names.first.Given` has no `invariant-loop-piece` that can be "
+                 "named from here (names in it that begin alike: `invariant-loop-part`)")
+        verdict = self.judged(self.trial(), OPEN.replace("`returns`", "`bounds`"), error, file="Invariants.antt")
+        self.assertEqual(verdict.kind, self.judge.Kind.UNSETTLED)
+        self.assertIn("Invariants.antt:4: `returns`: `goal.invariant-loop-piece`", verdict.reason)
+
+    def test_errors_of_other_functions_are_not_its_own(self):
+        other = "./proofs/names/last/Answers.antt:4:13: error: `returns`: " + FAILS[0] + "\n"
+        for said in ("proved", "no holes", CALLS, "could not tell"):
+            self.assertEqual(self.judged(self.trial(), said, others=other), self.judge.UNTOLD)
+
+    def test_alone_it_is_judged_by_the_goals_of_all(self):
+        other = "fn upper::names::last: no proof; `search` did not prove `returns`\n"
+        self.assertEqual(self.judged(self.trial(), CALLS, others=other), self.judge.UNTOLD)
+        self.assertEqual(self.judged(self.trial(), CALLS, others=other, is_alone=True).kind, self.judge.Kind.REFUSED)
+
+    def test_a_check_of_many_says_nothing_where_others_fail_too(self):
+        other = "fn upper::names::last: no proof; `search` did not prove `returns`\n"
+        told = self.judge.Told("upper", f"fn upper::names::first: {OPEN}\n{other}")
+        self.assertTrue(told.blames_others([self.trial()]))
+        self.assertFalse(self.judge.Told("upper", f"fn upper::names::first: {OPEN}\n").blames_others([self.trial()]))
+
+    def test_a_method_is_told_by_the_module_of_its_type(self):
+        trial = self.trial()
+        trial.edit = self.bodies.Edit(trial.edit.file, trial.edit.pairs, self.bodies.Function("names", "OwnerOrd", "cmp"))
+        told = self.judge.Told("upper", f"fn upper::owners::OwnerOrd::cmp: {OPEN}\n")
+        self.assertEqual(self.judge.judged(trial, told, lambda file: "", False).kind, self.judge.Kind.REFUSED)
