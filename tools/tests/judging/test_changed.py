@@ -1,6 +1,6 @@
 """Tests of tools/changed.py: which crates a change concerns."""
 from tool import load
-from trees import Room
+from .trees import Room
 
 BELOW = {"lower": ["thiserror"], "beside": [], "middle": ["lower"], "upper": ["middle"]}
 FUNCTION = "/// One.\npub fn one() -> u8\n    ensures { result ≡ 1 }\n{\n    1\n}\n"

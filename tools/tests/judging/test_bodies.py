@@ -2,7 +2,7 @@
 import shutil
 
 from tool import TOOLS, load
-from trees import Room
+from .trees import Room
 
 SOURCE = """//! Names.
 const LIMIT: usize = 3;

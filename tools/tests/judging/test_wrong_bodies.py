@@ -6,7 +6,7 @@ import unittest
 from unittest import mock
 
 from tool import TOOLS, run_program
-from trees import Room
+from .trees import Room
 
 RT = r"""#!/usr/bin/env python3
 import pathlib, re, sys

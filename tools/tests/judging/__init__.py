@@ -1,0 +1,2 @@
+"""Tests of tools/wrong-bodies, and of how it judges."""
+import tool  # noqa: F401
