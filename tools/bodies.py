@@ -6,8 +6,17 @@ from pathlib import Path
 from typing import Optional
 
 FUNCTION = re.compile(r"^( *)(?:pub(?:\([a-z]+\))? )?(?:const )?fn (\w+)")
-# How the text shows the steps of a body that proofs name otherwise.
-SIGNS = {"if": r"\bif\b", "from_residual": r"\?", "branch": r"\?", "index": r"\[", "deref": r"\w\(", "deref_mut": r"\w\("}
+# How the text shows the steps of a body that proofs name otherwise than it does.
+SIGNS = {
+    "if": r"\bif\b",
+    **dict.fromkeys(("from_residual", "branch"), r"\?"),
+    **dict.fromkeys(("index", "bounds", "slice_bounds"), r"\["),
+    **dict.fromkeys(("deref", "deref_mut"), r"\w\("),
+    "overflow_add": r"\+",
+    "overflow_sub": r" -",
+    "overflow_mul": r" \* ",
+    "overflow_cast": r"\bas\b",
+}
 
 
 @dataclass(frozen=True)

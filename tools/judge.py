@@ -6,7 +6,8 @@ trivial or gone. Either way it is taken out, and the goal is left to `search`. S
 
 refused    `search` didn't prove a goal that had no answer, or one whose answer had failed for what the goal says
 proved     every goal is proved: the contract lets this body through
-unsettled  a goal is open, and its answer was taken out because it didn't fit: a person has to look
+unsettled  a goal is open whose answer was taken out because it didn't fit, or that asks only whether a new step is safe: a
+           person has to look
 """
 
 import re
@@ -160,11 +161,19 @@ def taken_by(trial, errors, text_of):
 
 
 def plainly_open(trial, fresh, opened, errors, text_of):
-    """The goals that are open and never had an answer; none where an answer is left over, which may be one of theirs."""
+    """The goals that are open and needed no answer in the right body; none where an answer is left over, which may be one
+    of theirs."""
     taken = {**trial.taken, **fresh}
     if any("Goals`" in why.reason for why in taken.values()) or any(error.file.endswith("/Invariants.antt") for error in errors):
         return []
-    return [name for file, name in opened if (file, name) not in taken and not has_answer(text_of(file), name)]
+    plain = [name for file, name in opened if (file, name) not in taken and not has_answer(text_of(file), name)]
+    return [name for name in plain if not is_of_new_step(trial, name)]
+
+
+def is_of_new_step(trial, name):
+    """Whether the goal asks that a step is safe which the right body may not have: then nobody had to answer it."""
+    is_of_contract = name.startswith(("returns", "loop", "invariant"))
+    return not is_of_contract and any(trial.edit.recounts(step) for step in name.split("-"))
 
 
 def of_open_goals(trial, opened):
@@ -175,4 +184,5 @@ def of_open_goals(trial, opened):
         return Verdict(Kind.REFUSED, f"`search` did not prove `{name}`, and its answer fails: {why.reason}")
     name, why = reasons[0]
     why = why or next(iter(trial.taken.values()), None)
-    return Verdict(Kind.UNSETTLED, f"`{name}` is open, and " + (f"an answer doesn't fit: {why.reason}" if why else "has an answer"))
+    cause = f"an answer doesn't fit: {why.reason}" if why else "nothing answers it, as the right body may not have its step"
+    return Verdict(Kind.UNSETTLED, f"`{name}` is open, and {cause}")

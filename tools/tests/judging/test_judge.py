@@ -78,6 +78,16 @@ class Judge(unittest.TestCase):
         self.assertEqual(self.judged(trial, said, DOES_NOT_FIT[-1]), self.judge.AGAIN)
         self.assertEqual(self.judged(trial, said).kind, self.judge.Kind.UNSETTLED)
 
+    def test_nor_does_a_goal_of_a_step_that_the_body_adds(self):
+        rows = (("copy(a)", "copy(a); copy(b)", "slice_bounds-copy-end-in-loop-3", self.judge.Kind.UNSETTLED),
+                ("copy(a)", "copy(b)", "slice_bounds-copy-end-in-loop-3", self.judge.Kind.REFUSED),
+                ("octets.get(0)", "octets[0]", "bounds-octets", self.judge.Kind.UNSETTLED),
+                ("place", "place + 1", "overflow_add-place", self.judge.Kind.UNSETTLED),
+                ("copy(a)", "copy(a); copy(b)", "returns-clause-copy", self.judge.Kind.REFUSED))
+        for old, new, goal, kind in rows:
+            with self.subTest(goal, new=new):
+                self.assertEqual(self.judged(self.trial(old, new), OPEN.replace("`returns`", f"`{goal}`")).kind, kind)
+
     def test_an_invariant_that_does_not_fit_settles_nothing(self):
         error = ("`goal.invariant-loop-piece`: module `Rattle.upper.proofs.names.first.Given` has no `invariant-loop-piece` that can be "
                  "named from here (names in it that begin alike: `invariant-loop-part`)")
