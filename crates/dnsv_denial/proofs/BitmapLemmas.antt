@@ -6,7 +6,7 @@ use Rattle.dnsv_names.specs.TreeLaws.{below_trans_at}
 use Rattle.dnsv_names.specs.AncestorLaws.{wildcard_below}
 use Rattle.dnsv_denial.specs.TypeNumbers.{ns, cname, soa, dname, ds, rrsig, nsec}
 use Rattle.dnsv_denial.specs.Types.{IsDelegation, IsClosed, Denies}
-use Rattle.dnsv_denial.specs.Zone.{Zone, Holds, IsClosedAt, IsWellFormed}
+use Rattle.dnsv_denial.specs.Zone.{Zone, Holds, IsClosedAt, IsWellFormed, HasNoWildcardDelegation}
 use Rattle.dnsv_denial.specs.Lookup.{IsElsewhere}
 use Rattle.dnsv_denial.specs.Lookup.IsElsewhere.{at_delegation, at_apex}
 use Rattle.dnsv_denial.specs.NsecChain.{IsInBitmap, IsBitmapOf}
@@ -74,10 +74,10 @@ may_deny_here zone name t well here no_type no_alias = record {
   no_apex = λ is_ds holds. here (at_apex (well.no_other_apex name holds) is_ds);
 }
 
-pub may_deny_wildcard : (zone : Zone) (parent : Labels) (t : ℕ) → IsWellFormed zone → IsAtOrBelow parent zone.apex → ¬ Holds zone (wildcard_of parent) t → ¬ Holds zone (wildcard_of parent) cname → MayDeny zone (wildcard_of parent) t
-may_deny_wildcard zone parent t well within no_type no_alias = record {
+pub may_deny_wildcard : (zone : Zone) (parent : Labels) (t : ℕ) → IsWellFormed zone → HasNoWildcardDelegation zone → IsAtOrBelow parent zone.apex → ¬ Holds zone (wildcard_of parent) t → ¬ Holds zone (wildcard_of parent) cname → MayDeny zone (wildcard_of parent) t
+may_deny_wildcard zone parent t well wildcards within no_type no_alias = record {
   no_type = no_type;
   no_alias = no_alias;
-  no_cut = λ not_ds delegation. well.wildcards parent (inl delegation);
+  no_cut = λ not_ds delegation. wildcards parent delegation;
   no_apex = λ is_ds holds. (below_trans_at (wildcard_of parent) parent zone.apex (wildcard_below parent) within).1 (well.no_other_apex (wildcard_of parent) holds);
 }

@@ -11,7 +11,7 @@ use Rattle.dnsv_names.specs.TreeLaws.{same_at_or_below, at_or_below_trans, at_or
 use Rattle.dnsv_names.specs.AncestorLaws.{rightmost_above, rightmost_same, rightmost_in_line}
 use Rattle.dnsv_denial.specs.TypeNumbers.{soa}
 use Rattle.dnsv_denial.specs.Any.{Any}
-use Rattle.dnsv_denial.specs.Zone.{Entry, Zone, IsOwner, IsNode, IsWellFormed}
+use Rattle.dnsv_denial.specs.Zone.{Entry, Zone, IsOwner, IsNode, IsWellFormed, HasNoWildcardDelegation}
 use Rattle.dnsv_denial.specs.NsecChain.{NsecRecord, IsBitmapOf, owners, IsInNsecChain, IsNsecChainOf}
 use Rattle.dnsv_denial.specs.Nsec3Chain.{Nsec3Record, NameHash, IsChained, AreChainNames, IsInNsec3Chain, IsNsec3ChainOf}
 use Rattle.dnsv_denial.proofs.AnyLemmas.{any_map}
@@ -79,9 +79,9 @@ module _ (zone : Zone) (well : IsWellFormed zone) where
   nsec_of : Entry → NsecRecord
   nsec_of each = record { owner = each.owner; next = (next_owner each.owner).0; types = types_of zone each.owner }
 
-  pub nsec_chain : (records : List NsecRecord) × IsNsecChainOf zone zone.apex records
+  pub nsec_chain : HasNoWildcardDelegation zone → (records : List NsecRecord) × IsNsecChainOf zone zone.apex records
   unfolding nsec_of
-  nsec_chain = (
+  nsec_chain wildcards = (
     map nsec_of zone.entries,
     record {
       has_records = record {
@@ -94,6 +94,7 @@ module _ (zone : Zone) (well : IsWellFormed zone) where
         });
       };
       each_owner = λ name owner. any_of_map nsec_of (λ r. SameName r.owner name) zone.entries owner.entry;
+      wildcards = wildcards;
     },
   )
 
@@ -196,9 +197,9 @@ module _ (zone : Zone) (well : IsWellFormed zone) where
     parameters = hash.parameters;
   }
 
-  pub nsec3_chain : (hash : NameHash) → (records : List Nsec3Record) × IsNsec3ChainOf zone zone.apex hash records × AllByRecursion (λ r. r.flags ≡ 0) records
+  pub nsec3_chain : (hash : NameHash) → HasNoWildcardDelegation zone → (records : List Nsec3Record) × IsNsec3ChainOf zone zone.apex hash records × AllByRecursion (λ r. r.flags ≡ 0) records
   unfolding nsec3_of
-  nsec3_chain hash = (
+  nsec3_chain hash wildcards = (
     map (nsec3_of hash) names,
     record {
       has_records = record {
@@ -219,6 +220,7 @@ module _ (zone : Zone) (well : IsWellFormed zone) where
       };
       each_name = λ name chained. any_of_map (nsec3_of hash) (λ r. r.hash ≡ hash.of name) names
           (any_map (λ each. SameName each name) (λ each. hash.of each ≡ hash.of name) names (λ each same. hash.respects_case each name same) chained.entry);
+      wildcards = wildcards;
     },
     all_of_map (nsec3_of hash) (λ r. r.flags ≡ 0) names (λ name there. refl),
   )

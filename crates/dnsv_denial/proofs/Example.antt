@@ -13,7 +13,7 @@ use Rattle.dnsv_names.specs.CircleLaws.{gap_respects}
 use Rattle.dnsv_names.specs.TreeLaws.{at_or_below_respects, below_length, same_labels, is_at_or_below_Decides}
 use Rattle.dnsv_denial.specs.TypeNumbers.{dname}
 use Rattle.dnsv_denial.specs.Types.{IsDelegation}
-use Rattle.dnsv_denial.specs.Zone.{IsOwner, Holds, IsClosedAt, IsWellFormed}
+use Rattle.dnsv_denial.specs.Zone.{IsOwner, Holds, IsClosedAt, IsWellFormed, HasNoWildcardDelegation}
 use Rattle.dnsv_denial.specs.NsecChain.{IsBitmapOf, owners, HasNsecRecords}
 use Rattle.dnsv_denial.specs.Nsec.{nsec_words}
 use Rattle.dnsv_denial.specs.Example.{e_name, a_name, b_name, s_name, apex_types, address_types, cut_types, zone, records}
@@ -74,8 +74,11 @@ well_formed = record {
   within = within;
   ends = λ cut name closed owner below.
       absurd (omega (arith, below_length name cut below, same_labels s_name cut (the_cut cut closed), short name owner));
-  wildcards = λ parent closed. let same = the_cut (wildcard_of parent) closed in let test = (same_name_Decides s_name (wildcard_of parent)).1 same in cc;
 }
+
+pub no_wildcard_delegation : HasNoWildcardDelegation zone
+no_wildcard_delegation = λ parent delegation.
+    let same = the_cut (wildcard_of parent) (inl delegation) in let test = (same_name_Decides s_name (wildcard_of parent)).1 same in cc
 
 -- no member lies in a gap where each of the list doesn't
 none_inside : (o n : Labels) (members : List Labels) → AllByRecursion (λ m. ¬ Gap canonical_cmp o n m) members → (x : Labels) → has canonical_cmp members x → ¬ Gap canonical_cmp o n x

@@ -270,7 +270,7 @@ module _ (zone : Zone) (apex : Labels) (hash : NameHash) (records : List Nsec3Re
           labels = labels;
           ends = ends;
           types = types_at star (λ has. Denies has t) (asked_star labels some.above.proper) chained
-              (λ types bitmap. denies_bits zone star types t other another bitmap (may_deny_wildcard zone (rightmost name labels) t (chain.has_records.well_formed) some.node.within no_type no_alias));
+              (λ types bitmap. denies_bits zone star types t other another bitmap (may_deny_wildcard zone (rightmost name labels) t chain.has_records.well_formed chain.wildcards some.node.within no_type no_alias));
         })))))
         (λ (cover : HasCover zone hash chain.has_records.names records star).
         ⊎_elim (λ (firm : (nsec3_words hash records).Absent star × ¬ IsNode zone star). absurd (firm.1 node))

@@ -131,7 +131,7 @@ module _ (zone : Zone) (apex : Labels) (records : List NsecRecord) (chain : IsNs
         labels = labels;
         ends = ends_at name labels t here encloser;
         types = types_at (wildcard_of ce) (λ has. Denies has t) owner
-            (λ types bitmap. denies_bits zone (wildcard_of ce) types t other another bitmap (may_deny_wildcard zone ce t well encloser.node.within no_type no_alias));
+            (λ types bitmap. denies_bits zone (wildcard_of ce) types t other another bitmap (may_deny_wildcard zone ce t well chain.wildcards encloser.node.within no_type no_alias));
       }))))
       (λ (none : ¬ IsOwner zone (wildcard_of ce)). inr (inr (inr (record {
         labels = labels;

@@ -7,7 +7,7 @@ use Rattle.dnsv_names.specs.Tree.{wildcard_of}
 use Rattle.dnsv_names.specs.Circle.{Gap, IsSuccessor}
 use Rattle.dnsv_denial.specs.Any.{Any}
 use Rattle.dnsv_denial.specs.Types.{IsUnsignedDelegation}
-use Rattle.dnsv_denial.specs.Zone.{Zone, IsOwner, Holds, IsNode, IsWellFormed}
+use Rattle.dnsv_denial.specs.Zone.{Zone, IsOwner, Holds, IsNode, IsWellFormed, HasNoWildcardDelegation}
 use Rattle.dnsv_denial.specs.NsecChain.{IsBitmapOf}
 
 -- what a hash is made with besides the name (RFC 5155 3.1.3, 3.1.5)
@@ -70,11 +70,12 @@ pub record HasNsec3Records (zone : Zone) (apex : Labels) (hash : NameHash) (reco
   pub chain_names : AreChainNames zone names
   pub in_chain : AllByRecursion (IsInNsec3Chain zone hash names) records
 
--- The records are one whole chain of the zone.
+-- The records are one whole chain of the zone, which has no delegation at a wildcard.
 pub record IsNsec3ChainOf (zone : Zone) (apex : Labels) (hash : NameHash) (records : List Nsec3Record) : Type 0 where
   pub has_records : HasNsec3Records zone apex hash records
   pub each_name : (name : Labels) → IsChained has_records.names name
       → Any (λ nsec3. nsec3.hash ≡ hash.of name) records
+  pub wildcards : HasNoWildcardDelegation zone
 
 -- Names whose hashes a proof asks for: the question's name, its ancestors, and the wildcards right below these.
 pub data IsAsked (name : Labels) : Labels → Type 0 where

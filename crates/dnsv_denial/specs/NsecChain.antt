@@ -6,7 +6,7 @@ use Rattle.dnsv_names.specs.Order.{canonical_cmp}
 use Rattle.dnsv_names.specs.Circle.{IsSuccessor}
 use Rattle.dnsv_denial.specs.TypeNumbers.{rrsig, nsec}
 use Rattle.dnsv_denial.specs.Any.{Any}
-use Rattle.dnsv_denial.specs.Zone.{Zone, IsOwner, Holds, IsWellFormed}
+use Rattle.dnsv_denial.specs.Zone.{Zone, IsOwner, Holds, IsWellFormed, HasNoWildcardDelegation}
 
 -- an NSEC record: its owner, the next owner's name and a test of the types in its bitmap (RFC 4034 4.1)
 pub record NsecRecord : Type 0 where
@@ -41,7 +41,8 @@ pub record HasNsecRecords (zone : Zone) (apex : Labels) (records : List NsecReco
   pub same_apex : SameName apex zone.apex
   pub in_chain : AllByRecursion (IsInNsecChain zone) records
 
--- The records are the zone's whole chain.
+-- The records are the whole chain of the zone, which has no delegation at a wildcard.
 pub record IsNsecChainOf (zone : Zone) (apex : Labels) (records : List NsecRecord) : Type 0 where
   pub has_records : HasNsecRecords zone apex records
   pub each_owner : (name : Labels) → IsOwner zone name → Any (λ nsec. SameName nsec.owner name) records
+  pub wildcards : HasNoWildcardDelegation zone

@@ -5,7 +5,7 @@ use Rattle.dnsv_names.specs.Order.{IsBelow}
 use Rattle.dnsv_names.specs.Tree.{wildcard_of}
 use Rattle.dnsv_denial.specs.TypeNumbers.{soa}
 use Rattle.dnsv_denial.specs.Any.{Any}
-use Rattle.dnsv_denial.specs.Types.{IsClosed}
+use Rattle.dnsv_denial.specs.Types.{IsClosed, IsDelegation}
 
 -- an owner and a test of its types. An owner without types is an owner.
 pub record Entry : Type 0 where
@@ -34,11 +34,14 @@ abbrev pub IsClosedAt : Zone → Labels → Type 0
 IsClosedAt zone name = IsClosed (Holds zone name)
 
 -- What a zone has to be: its apex has the one SOA (RFC 1035 5.2), nothing is outside of it, and nothing below
--- a delegation or a DNAME (RFC 6672 2.4). No wildcard has NS (RFC 4592 4.2) or DNAME (RFC 4592 4.4): the RFCs warn
--- of these, and here they are left out.
+-- a delegation or a DNAME (RFC 6672 2.4).
 pub record IsWellFormed (zone : Zone) : Type 0 where
   pub apex : Holds zone zone.apex soa
   pub no_other_apex : (name : Labels) → Holds zone name soa → SameName name zone.apex
   pub within : (name : Labels) → IsOwner zone name → IsAtOrBelow name zone.apex
   pub ends : (cut name : Labels) → IsClosedAt zone cut → IsOwner zone name → ¬ IsBelow name cut
-  pub wildcards : (parent : Labels) → ¬ IsClosedAt zone (wildcard_of parent)
+
+-- No wildcard is a delegation, of which RFC 4592 4.2 warns: its record says nothing of types but DS, so that not each
+-- missing type has a proof.
+abbrev pub HasNoWildcardDelegation : Zone → Type 0
+HasNoWildcardDelegation zone = (parent : Labels) → ¬ IsDelegation (Holds zone (wildcard_of parent))
