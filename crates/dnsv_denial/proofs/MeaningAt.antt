@@ -19,7 +19,7 @@ use Rattle.dnsv_denial.specs.NsecChain.{NsecRecord, IsInBitmap}
 use Rattle.dnsv_denial.specs.Nsec3Chain.{Nsec3Record}
 use Rattle.dnsv_denial.specs.Parts.{AreNoNameParts, AreNoDataParts, IsNoCloserPart}
 use Rattle.dnsv_denial.specs.Record.{read_entry, read_nsec3}
-use Rattle.dnsv_denial.specs.RecordsAt.{listed, at_places, HasRecordsAt}
+use Rattle.dnsv_denial.specs.RecordsAt.{listed, at_places, HasRecordsAt, HasNoCollisionBy}
 use Rattle.dnsv_denial.specs.SaidAt.{IsSaidAt}
 use Rattle.dnsv_denial.specs.Types.{IsClosed}
 use Rattle.dnsv_denial.specs.Zone.{Zone, Holds}
@@ -72,35 +72,35 @@ say_at apex (Nsec3 hashed) places = record {
 }
 
 pub no_name_at : (apex name : Labels) (records : ChainRecords) (parts : List ℕ) → AreNoNameParts nat_cmp (chain_said apex records) apex name parts
-    → (zone : Zone) (t : ℕ) → HasRecordsAt zone apex name records parts → IsLookup zone name t NoName
-no_name_at apex name (Nsec entries) parts are zone t has =
+    → (zone : Zone) (t : ℕ) → HasRecordsAt zone apex records parts → HasNoCollisionBy zone name records → IsLookup zone name t NoName
+no_name_at apex name (Nsec entries) parts are zone t has apart =
     let few = map read_entry (at_places entries.now parts) in
     no_name zone (nsec_words apex few) apex name has.well_formed has.same_apex
     (nsec_true zone apex name few has.well_formed has.same_apex has.in_chain) t
     (no_name_by nat_cmp (chain_said apex (Nsec entries)) parts (nsec_words apex few) (say_at apex (Nsec entries) parts) apex name parts are (λ i there. there))
-no_name_at apex name (Nsec3 hashed) parts are zone t has =
+no_name_at apex name (Nsec3 hashed) parts are zone t has apart =
     let few = map read_nsec3 (at_places hashed.now.entries.now parts) in
-    no_name zone (nsec3_words (hash_of hashed.now) few) apex name has.0.well_formed has.0.same_apex
-    (nsec3_true zone (hash_of hashed.now) has.0.names few name has.0.well_formed has.0.chain_names has.1 has.0.in_chain) t
+    no_name zone (nsec3_words (hash_of hashed.now) few) apex name has.well_formed has.same_apex
+    (nsec3_true zone (hash_of hashed.now) has.names few name has.well_formed has.chain_names apart has.in_chain) t
     (no_name_by nat_cmp (chain_said apex (Nsec3 hashed)) parts (nsec3_words (hash_of hashed.now) few) (say_at apex (Nsec3 hashed) parts) apex name parts are (λ i there. there))
 
 pub no_data_at : (apex name : Labels) (t : ℕ) (records : ChainRecords) (parts : List ℕ)
     → AreNoDataParts nat_cmp (chain_said apex records) apex name t parts
-    → (zone : Zone) → HasRecordsAt zone apex name records parts → (source : Labels) × IsLookup zone name t (NoData source)
-no_data_at apex name t (Nsec entries) parts are zone has =
+    → (zone : Zone) → HasRecordsAt zone apex records parts → HasNoCollisionBy zone name records → (source : Labels) × IsLookup zone name t (NoData source)
+no_data_at apex name t (Nsec entries) parts are zone has apart =
     let few = map read_entry (at_places entries.now parts) in
     any_no_data zone (nsec_words apex few) apex name has.well_formed has.same_apex
     (nsec_true zone apex name few has.well_formed has.same_apex has.in_chain) t
     (no_data_by nat_cmp (chain_said apex (Nsec entries)) parts (nsec_words apex few) (say_at apex (Nsec entries) parts) apex name t parts are (λ i there. there))
-no_data_at apex name t (Nsec3 hashed) parts are zone has =
+no_data_at apex name t (Nsec3 hashed) parts are zone has apart =
     let few = map read_nsec3 (at_places hashed.now.entries.now parts) in
-    any_no_data zone (nsec3_words (hash_of hashed.now) few) apex name has.0.well_formed has.0.same_apex
-    (nsec3_true zone (hash_of hashed.now) has.0.names few name has.0.well_formed has.0.chain_names has.1 has.0.in_chain) t
+    any_no_data zone (nsec3_words (hash_of hashed.now) few) apex name has.well_formed has.same_apex
+    (nsec3_true zone (hash_of hashed.now) has.names few name has.well_formed has.chain_names apart has.in_chain) t
     (no_data_by nat_cmp (chain_said apex (Nsec3 hashed)) parts (nsec3_words (hash_of hashed.now) few) (say_at apex (Nsec3 hashed) parts) apex name t parts are (λ i there. there))
 
 pub no_closer_at : (apex name : Labels) (labels : ℕ) (records : ChainRecords) (part : ℕ)
     → IsNoCloserPart nat_cmp (chain_said apex records) apex name labels part
-    → (zone : Zone) (t : ℕ) → HasRecordsAt zone apex name records (part ∷ []) → Holds zone (wildcard_of (rightmost name labels)) t
+    → (zone : Zone) (t : ℕ) → HasRecordsAt zone apex records (part ∷ []) → Holds zone (wildcard_of (rightmost name labels)) t
     → IsLookup zone name t (Held (wildcard_of (rightmost name labels)))
 no_closer_at apex name labels (Nsec entries) part is zone t has =
     let few = map read_entry (at_places entries.now (part ∷ [])) in
@@ -109,6 +109,6 @@ no_closer_at apex name labels (Nsec entries) part is zone t has =
     (no_closer_by nat_cmp (chain_said apex (Nsec entries)) (part ∷ []) (nsec_words apex few) (say_at apex (Nsec entries) (part ∷ [])) apex name labels part is (inl refl))
 no_closer_at apex name labels (Nsec3 hashed) part is zone t has =
     let few = map read_nsec3 (at_places hashed.now.entries.now (part ∷ [])) in
-    held_at_wildcard zone (nsec3_words (hash_of hashed.now) few) apex name labels t has.0.well_formed has.0.same_apex
-    (absent3 zone (hash_of hashed.now) has.0.names few has.0.in_chain)
+    held_at_wildcard zone (nsec3_words (hash_of hashed.now) few) apex name labels t has.well_formed has.same_apex
+    (absent3 zone (hash_of hashed.now) has.names few has.in_chain)
     (no_closer_by nat_cmp (chain_said apex (Nsec3 hashed)) (part ∷ []) (nsec3_words (hash_of hashed.now) few) (say_at apex (Nsec3 hashed) (part ∷ [])) apex name labels part is (inl refl))

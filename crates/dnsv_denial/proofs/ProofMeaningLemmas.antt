@@ -19,9 +19,9 @@ use Rattle.dnsv_denial.specs.Lookup.{IsLookup}
 use Rattle.dnsv_denial.specs.Lookup.Answer.{NoName, NoData, Held}
 use Rattle.dnsv_denial.specs.Nsec.{IsAbsentBy, IsInnerBy, IsNodeBy, nsec_words}
 use Rattle.dnsv_denial.specs.Nsec3.{Matches, Covers, nsec3_words}
-use Rattle.dnsv_denial.specs.NsecChain.{NsecRecord, IsInBitmap, HasNsecRecords}
-use Rattle.dnsv_denial.specs.Nsec3Chain.{Nsec3Record, Parameters, NameHash, IsInNsec3Chain, HasNsec3Records, HasNoCollision}
-use Rattle.dnsv_denial.specs.ProofMeaning.{HasProofRecords}
+use Rattle.dnsv_denial.specs.NsecChain.{NsecRecord, IsInBitmap}
+use Rattle.dnsv_denial.specs.Nsec3Chain.{Nsec3Record, Parameters, NameHash, IsInNsec3Chain}
+use Rattle.dnsv_denial.specs.ProofMeaning.{HasProofRecords, IsWithoutCollision, HasProofWithoutCollision}
 use Rattle.dnsv_denial.specs.ProofMeaning.HasProofRecords.{by_nsec, by_nsec3}
 use Rattle.dnsv_denial.specs.RecordWords.{RecordWords}
 use Rattle.dnsv_denial.specs.Types.{IsClosed}
@@ -136,23 +136,23 @@ none_by_no_words apex name t P (inr (inr (inr form))) = absurd form.inner
 
 module _ (Secured : ℕ → ℕ → Type 0) (rrsets : List ReceivedRrset) (name : Labels) (zone : Zone) where
   no_name_of : (proof : ProofRecords) (chain : Chain) (t : ℕ) (parts : List RecordNumber) → AreNoNameParts number_cmp (evidence_said Secured rrsets proof.zone chain) proof.zone name parts
-      → AreRecordsOf parts proof.records → HasProofRecords rrsets name proof zone → IsLookup zone name t NoName
-  no_name_of proof ByNsec t parts chosen are (by_nsec records all has) =
+      → AreRecordsOf parts proof.records → (has : HasProofRecords rrsets proof zone) → IsWithoutCollision name has → IsLookup zone name t NoName
+  no_name_of proof ByNsec t parts chosen are (by_nsec records all has) apart =
       let form : NoNameForm (nsec_words proof.zone records) proof.zone name =
       no_name_by number_cmp (nsec_said Secured rrsets proof.zone) proof.records (nsec_words proof.zone records) (nsec_say Secured rrsets proof.zone proof.records records all)
       proof.zone name parts chosen (among parts proof.records are) in
       no_name zone (nsec_words proof.zone records) proof.zone name has.well_formed has.same_apex (nsec_true zone proof.zone name records has.well_formed has.same_apex has.in_chain) t form
-  no_name_of proof (ByNsec3 parameters) t parts chosen are (by_nsec records all has) =
+  no_name_of proof (ByNsec3 parameters) t parts chosen are (by_nsec records all has) apart =
       let form : NoNameForm no_words proof.zone name =
       no_name_by number_cmp (nsec3_said Secured rrsets proof.zone parameters) proof.records no_words (nsec_no_nsec3 Secured rrsets proof.zone proof.records records all parameters)
       proof.zone name parts chosen (among parts proof.records are) in
       absurd form.wildcard
-  no_name_of proof ByNsec t parts chosen are (by_nsec3 others records all has apart) =
+  no_name_of proof ByNsec t parts chosen are (by_nsec3 others records all has) apart =
       let form : NoNameForm no_words proof.zone name =
       no_name_by number_cmp (nsec_said Secured rrsets proof.zone) proof.records no_words (nsec3_no_nsec Secured rrsets proof.zone proof.records proof.zone records all)
       proof.zone name parts chosen (among parts proof.records are) in
       absurd form.wildcard
-  no_name_of proof (ByNsec3 parameters) t parts chosen are (by_nsec3 others records all has apart) =
+  no_name_of proof (ByNsec3 parameters) t parts chosen are (by_nsec3 others records all has) apart =
       let hash = sha1_hash others in
       let form : NoNameForm (nsec3_words hash records) proof.zone name =
       no_name_by number_cmp (nsec3_said Secured rrsets proof.zone parameters) proof.records (nsec3_words hash records)
@@ -160,25 +160,25 @@ module _ (Secured : ℕ → ℕ → Type 0) (rrsets : List ReceivedRrset) (name 
       proof.zone name parts chosen (among parts proof.records are) in
       no_name zone (nsec3_words hash records) proof.zone name has.well_formed has.same_apex (nsec3_true zone hash has.names records name has.well_formed has.chain_names apart has.in_chain) t form
 
-  pub first_no_name_means : (proof : ProofRecords) (t : ℕ) → IsFirstNoName Secured rrsets name proof → HasProofRecords rrsets name proof zone → IsLookup zone name t NoName
-  first_no_name_means proof t first has = no_name_of proof first.chain t first.parts first.chosen first.records has
+  pub first_no_name_means : (proof : ProofRecords) (t : ℕ) → IsFirstNoName Secured rrsets name proof → HasProofWithoutCollision rrsets name proof zone → IsLookup zone name t NoName
+  first_no_name_means proof t first both = no_name_of proof first.chain t first.parts first.chosen first.records both.has both.apart
 
   no_data_of : (proof : ProofRecords) (chain : Chain) (t : ℕ) (parts : List RecordNumber) → AreNoDataParts number_cmp (evidence_said Secured rrsets proof.zone chain) proof.zone name t parts
-      → AreRecordsOf parts proof.records → HasProofRecords rrsets name proof zone → (source : Labels) × IsLookup zone name t (NoData source)
-  no_data_of proof ByNsec t parts chosen are (by_nsec records all has) =
+      → AreRecordsOf parts proof.records → (has : HasProofRecords rrsets proof zone) → IsWithoutCollision name has → (source : Labels) × IsLookup zone name t (NoData source)
+  no_data_of proof ByNsec t parts chosen are (by_nsec records all has) apart =
       let form : NoDataForms (nsec_words proof.zone records) proof.zone name t =
       no_data_by number_cmp (nsec_said Secured rrsets proof.zone) proof.records (nsec_words proof.zone records) (nsec_say Secured rrsets proof.zone proof.records records all)
       proof.zone name t parts chosen (among parts proof.records are) in
       any_no_data zone (nsec_words proof.zone records) proof.zone name has.well_formed has.same_apex (nsec_true zone proof.zone name records has.well_formed has.same_apex has.in_chain) t form
-  no_data_of proof (ByNsec3 parameters) t parts chosen are (by_nsec records all has) =
+  no_data_of proof (ByNsec3 parameters) t parts chosen are (by_nsec records all has) apart =
       none_by_no_words proof.zone name t ((source : Labels) × IsLookup zone name t (NoData source))
       (no_data_by number_cmp (nsec3_said Secured rrsets proof.zone parameters) proof.records no_words (nsec_no_nsec3 Secured rrsets proof.zone proof.records records all parameters)
       proof.zone name t parts chosen (among parts proof.records are))
-  no_data_of proof ByNsec t parts chosen are (by_nsec3 others records all has apart) =
+  no_data_of proof ByNsec t parts chosen are (by_nsec3 others records all has) apart =
       none_by_no_words proof.zone name t ((source : Labels) × IsLookup zone name t (NoData source))
       (no_data_by number_cmp (nsec_said Secured rrsets proof.zone) proof.records no_words (nsec3_no_nsec Secured rrsets proof.zone proof.records proof.zone records all)
       proof.zone name t parts chosen (among parts proof.records are))
-  no_data_of proof (ByNsec3 parameters) t parts chosen are (by_nsec3 others records all has apart) =
+  no_data_of proof (ByNsec3 parameters) t parts chosen are (by_nsec3 others records all has) apart =
       let hash = sha1_hash others in
       let form : NoDataForms (nsec3_words hash records) proof.zone name t =
       no_data_by number_cmp (nsec3_said Secured rrsets proof.zone parameters) proof.records (nsec3_words hash records)
@@ -186,12 +186,12 @@ module _ (Secured : ℕ → ℕ → Type 0) (rrsets : List ReceivedRrset) (name 
       proof.zone name t parts chosen (among parts proof.records are) in
       any_no_data zone (nsec3_words hash records) proof.zone name has.well_formed has.same_apex (nsec3_true zone hash has.names records name has.well_formed has.chain_names apart has.in_chain) t form
 
-  pub first_no_data_means : (proof : ProofRecords) (t : ℕ) → IsFirstNoData Secured rrsets name t proof → HasProofRecords rrsets name proof zone → (source : Labels) × IsLookup zone name t (NoData source)
-  first_no_data_means proof t first has = no_data_of proof first.chain t first.parts first.chosen first.records has
+  pub first_no_data_means : (proof : ProofRecords) (t : ℕ) → IsFirstNoData Secured rrsets name t proof → HasProofWithoutCollision rrsets name proof zone → (source : Labels) × IsLookup zone name t (NoData source)
+  first_no_data_means proof t first both = no_data_of proof first.chain t first.parts first.chosen first.records both.has both.apart
 
   no_closer_of : (proof : ProofRecords) (apex : Labels) (chain : Chain) (labels t : ℕ) (part : RecordNumber) → SameName apex proof.zone
       → IsNoCloserPart number_cmp (evidence_said Secured rrsets apex chain) apex name labels part → IsMember part proof.records
-      → HasProofRecords rrsets name proof zone → Holds zone (wildcard_of (rightmost name labels)) t → IsLookup zone name t (Held (wildcard_of (rightmost name labels)))
+      → HasProofRecords rrsets proof zone → Holds zone (wildcard_of (rightmost name labels)) t → IsLookup zone name t (Held (wildcard_of (rightmost name labels)))
   no_closer_of proof apex ByNsec labels t part same chosen there (by_nsec records all has) holds =
       let its_apex : SameName apex zone.apex = same ∙ has.same_apex in
       let form : NoCloserForm (nsec_words apex records) apex name labels =
@@ -201,18 +201,18 @@ module _ (Secured : ℕ → ℕ → Type 0) (rrsets : List ReceivedRrset) (name 
       let form : NoCloserForm no_words apex name labels =
       no_closer_by number_cmp (nsec3_said Secured rrsets apex parameters) proof.records no_words (nsec_no_nsec3 Secured rrsets apex proof.records records all parameters) apex name labels part chosen there in
       absurd form.next_closer
-  no_closer_of proof apex ByNsec labels t part same chosen there (by_nsec3 others records all has apart) holds =
+  no_closer_of proof apex ByNsec labels t part same chosen there (by_nsec3 others records all has) holds =
       let form : NoCloserForm no_words apex name labels =
       no_closer_by number_cmp (nsec_said Secured rrsets apex) proof.records no_words (nsec3_no_nsec Secured rrsets apex proof.records proof.zone records all) apex name labels part chosen there in
       absurd form.next_closer
-  no_closer_of proof apex (ByNsec3 parameters) labels t part same chosen there (by_nsec3 others records all has apart) holds =
+  no_closer_of proof apex (ByNsec3 parameters) labels t part same chosen there (by_nsec3 others records all has) holds =
       let hash = sha1_hash others in
       let form : NoCloserForm (nsec3_words hash records) apex name labels =
       no_closer_by number_cmp (nsec3_said Secured rrsets apex parameters) proof.records (nsec3_words hash records)
       (nsec3_say Secured rrsets apex proof.records proof.zone records all parameters others (with_parameters zone hash has.names records has.in_chain)) apex name labels part chosen there in
       held_at_wildcard zone (nsec3_words hash records) apex name labels t has.well_formed (same ∙ has.same_apex) (absent_by_nsec3 zone hash has.names records has.in_chain) form holds
 
-  pub first_no_closer_means : (proof : ProofRecords) (apex : Labels) (labels t : ℕ) → IsFirstNoCloser Secured rrsets name labels apex proof → HasProofRecords rrsets name proof zone
+  pub first_no_closer_means : (proof : ProofRecords) (apex : Labels) (labels t : ℕ) → IsFirstNoCloser Secured rrsets name labels apex proof → HasProofRecords rrsets proof zone
       → Holds zone (wildcard_of (rightmost name labels)) t → IsLookup zone name t (Held (wildcard_of (rightmost name labels)))
   first_no_closer_means proof apex labels t first =
       let under : IsAtOrBelow name apex = at_or_below_trans name (rightmost name labels) apex (rightmost_above name labels) first.chosen.above.within in

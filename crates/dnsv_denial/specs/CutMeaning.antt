@@ -7,16 +7,24 @@ use Rattle.dnsv_canonical.specs.Rrsets.{ReceivedRrset}
 use Rattle.dnsv_denial.specs.Cuts.{IsUnsignedDelegationCut, IsUnusableDsCut}
 use Rattle.dnsv_denial.specs.EvidenceWords.{Chain, evidence_said}
 use Rattle.dnsv_denial.specs.Nsec3Chain.{IsUnsignedEnd}
-use Rattle.dnsv_denial.specs.ProofMeaning.{HasProofRecords}
+use Rattle.dnsv_denial.specs.FirstProof.{ProofRecords}
+use Rattle.dnsv_denial.specs.ProofMeaning.{HasProofRecords, HasProofWithoutCollision}
 use Rattle.dnsv_denial.specs.RecordWords.{RecordWords}
 use Rattle.dnsv_denial.specs.Types.{IsUnsignedDelegation}
 use Rattle.dnsv_denial.specs.Zone.{Zone, Holds, IsNode}
 use Rattle.dnsv_denial.specs.declared.number.RecordNumber.{RecordNumber}
 
+-- the record alone
+abbrev pub alone : Labels → RecordNumber → ProofRecords
+alone apex number = record { zone = apex; records = number ∷ [] }
+
 -- the zone has this name, and this record in its chain
-abbrev pub HasRecord : List ReceivedRrset → Labels → Labels → RecordNumber → Zone → Type 0
-HasRecord rrsets name apex number zone =
-    HasProofRecords rrsets name (record { zone = apex; records = number ∷ [] }) zone
+abbrev pub HasRecord : List ReceivedRrset → Labels → RecordNumber → Zone → Type 0
+HasRecord rrsets apex number zone = HasProofRecords rrsets (alone apex number) zone
+
+-- the same, and for NSEC3 no node of the zone has the hash of another name that a question of the name asks for
+abbrev pub HasRecordWithoutCollision : List ReceivedRrset → Labels → Labels → RecordNumber → Zone → Type 0
+HasRecordWithoutCollision rrsets name apex number zone = HasProofWithoutCollision rrsets name (alone apex number) zone
 
 -- ---- a delegation without DS
 
@@ -28,19 +36,19 @@ pub record IsShownUnsigned (Secured : ℕ → ℕ → Type 0) (rrsets : List Rec
   pub chain : Chain
   pub number : RecordNumber
   pub shown : (evidence_said Secured rrsets apex chain).TypesAt cut IsUnsignedDelegation number
-  pub meaning : (zone : Zone) → HasRecord rrsets name apex number zone → IsUnsignedDelegation (Holds zone cut)
+  pub meaning : (zone : Zone) → HasRecordWithoutCollision rrsets name apex number zone
+      → IsUnsignedDelegation (Holds zone cut)
 
 -- ---- Opt-Out
 
 -- A record that says so covers the name, which is an unsigned end, if it is a node at all, in each zone that has the
 -- record in its chain.
 pub record IsCoveredEnd
-    (rrsets : List ReceivedRrset) (name apex : Labels) (Says : Labels → RecordNumber → Type 0) (covered : Labels)
+    (rrsets : List ReceivedRrset) (apex : Labels) (Says : Labels → RecordNumber → Type 0) (covered : Labels)
     : Type 0 where
   pub number : RecordNumber
   pub said : Says covered number
-  pub meaning : (zone : Zone) → HasRecord rrsets name apex number zone → IsNode zone covered
-      → IsUnsignedEnd zone covered
+  pub meaning : (zone : Zone) → HasRecord rrsets apex number zone → IsNode zone covered → IsUnsignedEnd zone covered
 
 -- the record says that the name is absent, or has the Opt-Out flag and covers it
 abbrev pub IsCover : RecordWords RecordNumber → Labels → RecordNumber → Type 0
@@ -51,11 +59,11 @@ pub record MayLeaveOut (Secured : ℕ → ℕ → Type 0) (rrsets : List Receive
     : Type 0 where
   pub apex : Labels
   pub chain : Chain
-  pub next_closer : IsCoveredEnd rrsets name apex (IsCover (evidence_said Secured rrsets apex chain))
+  pub next_closer : IsCoveredEnd rrsets apex (IsCover (evidence_said Secured rrsets apex chain))
       (rightmost name (labels + 1))
-  pub opted_out : IsCoveredEnd rrsets name apex ((evidence_said Secured rrsets apex chain).OptedOut)
+  pub opted_out : IsCoveredEnd rrsets apex ((evidence_said Secured rrsets apex chain).OptedOut)
       (rightmost name (labels + 1))
-      ⊎ IsCoveredEnd rrsets name apex ((evidence_said Secured rrsets apex chain).OptedOut)
+      ⊎ IsCoveredEnd rrsets apex ((evidence_said Secured rrsets apex chain).OptedOut)
       (wildcard_of (rightmost name labels))
 
 -- ---- the cut

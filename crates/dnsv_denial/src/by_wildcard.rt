@@ -10,7 +10,7 @@ ghost use Rattle.dnsv_denial.specs.Lookup.{IsLookup};
 ghost use Rattle.dnsv_denial.specs.Lookup.Answer.{NoName};
 ghost use Rattle.dnsv_denial.specs.Parts.{AreNoNameParts, AreWildcardParts};
 ghost use Rattle.dnsv_denial.specs.RecordWords.{words};
-ghost use Rattle.dnsv_denial.specs.RecordsAt.{HasRecordsAt};
+ghost use Rattle.dnsv_denial.specs.RecordsAt.{HasRecordsAt, HasNoCollisionBy};
 ghost use Rattle.dnsv_denial.specs.SaidAt.{IsFirstPlace};
 ghost use Rattle.dnsv_denial.specs.Zone.{Zone};
 
@@ -30,7 +30,8 @@ pub fn no_name(apex: &Name, name: &Name, records: &ChainRecords<'_>) -> Option<P
         (λ places. AreNoNameParts nat_cmp (chain_said apex.now records.now) apex.now name.now places.items) }
     // In each zone that has the records in its chain there is no such name, whatever type is asked.
     ensures meaning { IfSome result (λ places. (zone : Zone) (t : ℕ)
-        → HasRecordsAt zone apex.now name.now records.now places.items → IsLookup zone name.now t NoName) }
+        → HasRecordsAt zone apex.now records.now places.items → HasNoCollisionBy zone name.now records.now
+        → IsLookup zone name.now t NoName) }
 {
     by_wildcard(apex, name, AskedWildcard::Absent, records)
 }

@@ -33,7 +33,7 @@ pub fn no_closer(
         (IsNoCloserPart nat_cmp (chain_said apex.now records.now) apex.now name.now labels) }
     // In each zone that has the record in its chain, the answer to a type that the wildcard has is the wildcard's.
     ensures meaning { IfSome result (λ place. (zone : Zone) (t : ℕ)
-        → HasRecordsAt zone apex.now name.now records.now (place ∷ [])
+        → HasRecordsAt zone apex.now records.now (place ∷ [])
         → Holds zone (wildcard_of (rightmost name.now labels)) t
         → IsLookup zone name.now t (Held (wildcard_of (rightmost name.now labels)))) }
 {

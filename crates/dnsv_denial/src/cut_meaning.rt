@@ -4,7 +4,7 @@ ghost use Rattle.dnsv_names.specs.Name.{Labels, IsAtOrBelow};
 ghost use Rattle.dnsv_names.specs.Order.{IsBelow};
 ghost use Rattle.dnsv_canonical.specs.Rrsets.{ReceivedRrset};
 ghost use Rattle.dnsv_chain.specs.Trust.{KeptTrust};
-ghost use Rattle.dnsv_denial.specs.CutMeaning.{HasRecord};
+ghost use Rattle.dnsv_denial.specs.CutMeaning.{HasRecord, HasRecordWithoutCollision};
 ghost use Rattle.dnsv_denial.specs.EvidenceWords.{Chain, evidence_said};
 ghost use Rattle.dnsv_denial.specs.Nsec3Chain.{IsUnsignedEnd};
 ghost use Rattle.dnsv_denial.specs.Types.{IsUnsignedDelegation};
@@ -18,15 +18,16 @@ pub fn a_shown_unsigned_delegation_is_one_of_the_zone()
     ensures { (trust : KeptTrust) (rrsets : List ReceivedRrset) (name apex cut : Labels) (chain : Chain)
         (number : RecordNumber) (zone : Zone) → IsAtOrBelow name cut → IsBelow cut apex
         → (evidence_said (SecuredIn trust) rrsets apex chain).TypesAt cut IsUnsignedDelegation number
-        → HasRecord rrsets name apex number zone → IsUnsignedDelegation (Holds zone cut) }
+        → HasRecordWithoutCollision rrsets name apex number zone → IsUnsignedDelegation (Holds zone cut) }
 {}
 
 /// What a record of the evidence with the Opt-Out flag means for a name that it covers: in each zone that has the
 /// record in its chain the name is no node, or a delegation without DS, or an empty non-terminal that exists through
-/// such alone (RFC 5155 6, 8.6, 8.8, 9.2).
+/// such alone (RFC 5155 6, 8.6, 8.8, 9.2), whatever hashes
+/// collide.
 pub fn an_opted_out_name_is_no_node_or_an_unsigned_end()
-    ensures { (trust : KeptTrust) (rrsets : List ReceivedRrset) (name apex covered : Labels) (chain : Chain)
+    ensures { (trust : KeptTrust) (rrsets : List ReceivedRrset) (apex covered : Labels) (chain : Chain)
         (number : RecordNumber) (zone : Zone)
         → (evidence_said (SecuredIn trust) rrsets apex chain).OptedOut covered number
-        → HasRecord rrsets name apex number zone → IsNode zone covered → IsUnsignedEnd zone covered }
+        → HasRecord rrsets apex number zone → IsNode zone covered → IsUnsignedEnd zone covered }
 {}

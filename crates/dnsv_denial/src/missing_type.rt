@@ -7,7 +7,7 @@ ghost use Rattle.dnsv_denial.specs.Forms.{NoDataForms};
 ghost use Rattle.dnsv_denial.specs.Lookup.{IsLookup};
 ghost use Rattle.dnsv_denial.specs.Lookup.Answer.{NoData};
 ghost use Rattle.dnsv_denial.specs.Parts.{AreNoDataParts};
-ghost use Rattle.dnsv_denial.specs.RecordsAt.{HasRecordsAt};
+ghost use Rattle.dnsv_denial.specs.RecordsAt.{HasRecordsAt, HasNoCollisionBy};
 ghost use Rattle.dnsv_denial.specs.RecordWords.{words};
 ghost use Rattle.dnsv_denial.specs.Zone.{Zone};
 
@@ -35,7 +35,7 @@ pub fn no_data(
         (λ places. AreNoDataParts nat_cmp (chain_said apex.now records.now) apex.now name.now rtype.0 places.items) }
     // In each zone that has the records in its chain, the name, or a wildcard for it, is there without the type.
     ensures meaning { IfSome result (λ places. (zone : Zone)
-        → HasRecordsAt zone apex.now name.now records.now places.items
+        → HasRecordsAt zone apex.now records.now places.items → HasNoCollisionBy zone name.now records.now
         → (source : Labels) × IsLookup zone name.now rtype.0 (NoData source)) }
 {
     if !name.is_at_or_below(apex) {

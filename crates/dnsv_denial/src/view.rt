@@ -19,7 +19,7 @@ ghost use Rattle.dnsv_denial.specs.FirstProof.{
 ghost use Rattle.dnsv_denial.specs.HashedNames.{hashes_for};
 ghost use Rattle.dnsv_denial.specs.Lookup.{IsLookup};
 ghost use Rattle.dnsv_denial.specs.Lookup.Answer.{Held, NoData, NoName};
-ghost use Rattle.dnsv_denial.specs.ProofMeaning.{HasProofRecords};
+ghost use Rattle.dnsv_denial.specs.ProofMeaning.{HasProofRecords, HasProofWithoutCollision};
 ghost use Rattle.dnsv_denial.specs.Viewed.{SecuredIn};
 ghost use Rattle.dnsv_denial.specs.Zone.{Zone, Holds};
 
@@ -113,9 +113,11 @@ impl<'a> View<'a> {
         ensures first { MatchOption result
             (¬ CanProveNoName (SecuredIn self.now.trust) self.now.rrsets self.now.name)
             (IsFirstNoName (SecuredIn self.now.trust) self.now.rrsets self.now.name) }
-        // Each zone that has the records in its chain has no such name, whatever type is asked.
+        // Each zone that has the records in its chain, for NSEC3 without a collision of hashes, has no such name,
+        // whatever type is asked.
         ensures meaning { IfSome result (λ proof. (zone : Zone) (t : ℕ)
-            → HasProofRecords self.now.rrsets self.now.name proof zone → IsLookup zone self.now.name t NoName) }
+            → HasProofWithoutCollision self.now.rrsets self.now.name proof zone
+            → IsLookup zone self.now.name t NoName) }
     {
         first_proof(Denial::NoName, self.name, &self.zones, &self.sets)
     }
@@ -126,9 +128,10 @@ impl<'a> View<'a> {
         ensures first { MatchOption result
             (¬ CanProveNoData (SecuredIn self.now.trust) self.now.rrsets self.now.name rtype.0)
             (IsFirstNoData (SecuredIn self.now.trust) self.now.rrsets self.now.name rtype.0) }
-        // Each zone that has the records in its chain answers that there is no data of the type.
+        // Each zone that has the records in its chain, for NSEC3 without a collision of hashes, answers that there is
+        // no data of the type.
         ensures meaning { IfSome result (λ proof. (zone : Zone)
-            → HasProofRecords self.now.rrsets self.now.name proof zone
+            → HasProofWithoutCollision self.now.rrsets self.now.name proof zone
             → (source : Labels) × IsLookup zone self.now.name rtype.0 (NoData source)) }
     {
         first_proof(Denial::NoData(rtype), self.name, &self.zones, &self.sets)
@@ -141,9 +144,10 @@ impl<'a> View<'a> {
         ensures first { MatchOption result
             (¬ CanProveNoCloser (SecuredIn self.now.trust) self.now.rrsets self.now.name labels zone.now)
             (IsFirstNoCloser (SecuredIn self.now.trust) self.now.rrsets self.now.name labels zone.now) }
-        // In each zone that has the records in its chain, the answer to a type that the wildcard has is the wildcard's.
+        // In each zone that has the records in its chain, the answer to a type that the wildcard has is the wildcard's,
+        // whatever hashes collide.
         ensures meaning { IfSome result (λ proof. (signer : Zone) (t : ℕ)
-            → HasProofRecords self.now.rrsets self.now.name proof signer
+            → HasProofRecords self.now.rrsets proof signer
             → Holds signer (wildcard_of (rightmost self.now.name labels)) t
             → IsLookup signer self.now.name t (Held (wildcard_of (rightmost self.now.name labels)))) }
     {
@@ -174,7 +178,7 @@ impl<'a> View<'a> {
             × (closer ≡ rightmost self.now.name (labels + 1))) }
         // In each zone that has the record in its chain, the name is no node, or a delegation without DS, or exists
         // through such alone.
-        ensures meaning { IfSome result (λ closer. (chain : Chain) × IsCoveredEnd self.now.rrsets self.now.name
+        ensures meaning { IfSome result (λ closer. (chain : Chain) × IsCoveredEnd self.now.rrsets
             zone.now ((evidence_said (SecuredIn self.now.trust) self.now.rrsets zone.now chain).OptedOut) closer) }
     {
         loose_next_closer(self.name, zone, labels, &self.zones, &self.sets)

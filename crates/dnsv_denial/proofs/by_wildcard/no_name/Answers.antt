@@ -5,7 +5,7 @@ use Rattle.dnsv_denial.specs.Forms.{NoNameForm}
 use Rattle.dnsv_denial.specs.Lookup.{IsLookup}
 use Rattle.dnsv_denial.specs.Lookup.Answer.{NoName}
 use Rattle.dnsv_denial.specs.Parts.{AreNoNameParts}
-use Rattle.dnsv_denial.specs.RecordsAt.{HasRecordsAt}
+use Rattle.dnsv_denial.specs.RecordsAt.{HasRecordsAt, HasNoCollisionBy}
 use Rattle.dnsv_denial.specs.RecordWords.{words}
 use Rattle.dnsv_denial.specs.Zone.{Zone}
 use Rattle.dnsv_denial.proofs.FirstLemmas.{if_some}
@@ -22,6 +22,6 @@ pub returns-clause-meaning : goal.returns-clause-meaning
 returns-clause-meaning c =
     if_some (¬ NoNameForm (words (chain_said c.args.apex.now c.args.records.now)) c.args.apex.now c.args.name.now)
     (λ places. AreNoNameParts nat_cmp (chain_said c.args.apex.now c.args.records.now) c.args.apex.now c.args.name.now places.items)
-    (λ places. (zone : Zone) (t : ℕ) → HasRecordsAt zone c.args.apex.now c.args.name.now c.args.records.now places.items → IsLookup zone c.args.name.now t NoName)
+    (λ places. (zone : Zone) (t : ℕ) → HasRecordsAt zone c.args.apex.now c.args.records.now places.items → HasNoCollisionBy zone c.args.name.now c.args.records.now → IsLookup zone c.args.name.now t NoName)
     c.by_wildcard.result
     (λ places. no_name_at c.args.apex.now c.args.name.now c.args.records.now places.items) (returns-clause-first c)

@@ -24,7 +24,7 @@ pub returns-clause-meaning : goal.returns-clause-meaning
 returns-clause-meaning c =
     if_some (¬ NoCloserForm (words (chain_said c.args.apex.now c.args.records.now)) c.args.apex.now c.args.name.now c.args.labels)
     (IsNoCloserPart nat_cmp (chain_said c.args.apex.now c.args.records.now) c.args.apex.now c.args.name.now c.args.labels)
-    (λ place. (zone : Zone) (t : ℕ) → HasRecordsAt zone c.args.apex.now c.args.name.now c.args.records.now (place ∷ [])
+    (λ place. (zone : Zone) (t : ℕ) → HasRecordsAt zone c.args.apex.now c.args.records.now (place ∷ [])
     → Holds zone (wildcard_of (rightmost c.args.name.now c.args.labels)) t
     → IsLookup zone c.args.name.now t (Held (wildcard_of (rightmost c.args.name.now c.args.labels))))
     c.absent.result

@@ -9,7 +9,7 @@ use Rattle.dnsv_denial.specs.Lookup.{IsLookup}
 use Rattle.dnsv_denial.specs.Lookup.Answer.{NoData}
 use Rattle.dnsv_denial.specs.Parts.{IsLowest, AreNoDataParts}
 use Rattle.dnsv_denial.specs.Parts.AreNoDataParts.{at_name, empty}
-use Rattle.dnsv_denial.specs.RecordsAt.{HasRecordsAt}
+use Rattle.dnsv_denial.specs.RecordsAt.{HasRecordsAt, HasNoCollisionBy}
 use Rattle.dnsv_denial.specs.RecordWords.{words}
 use Rattle.dnsv_denial.specs.Types.{Denies}
 use Rattle.dnsv_denial.specs.Zone.{Zone}
@@ -81,7 +81,7 @@ pub returns-clause-meaning : goal.returns-clause-meaning
 returns-clause-meaning c =
     if_some (¬ NoDataForms (words (chain_said c.args.apex.now c.args.records.now)) c.args.apex.now c.args.name.now c.args.rtype.0)
     (λ places. AreNoDataParts nat_cmp (chain_said c.args.apex.now c.args.records.now) c.args.apex.now c.args.name.now c.args.rtype.0 places.items)
-    (λ places. (zone : Zone) → HasRecordsAt zone c.args.apex.now c.args.name.now c.args.records.now places.items
+    (λ places. (zone : Zone) → HasRecordsAt zone c.args.apex.now c.args.records.now places.items → HasNoCollisionBy zone c.args.name.now c.args.records.now
     → (source : Labels) × IsLookup zone c.args.name.now c.args.rtype.0 (NoData source))
     c.by_wildcard-2.result
     (λ places. no_data_at c.args.apex.now c.args.name.now c.args.rtype.0 c.args.records.now places.items) (returns-clause-first c)

@@ -5,7 +5,7 @@ use Rattle.dnsv_denial.specs.Cuts.{HasUnsignedCut, IsUnsignedCut}
 use Rattle.dnsv_denial.specs.FirstProof.{CanProveNoData, CanProveNoName, IsFirstNoData, IsFirstNoName}
 use Rattle.dnsv_denial.specs.Lookup.{IsLookup}
 use Rattle.dnsv_denial.specs.Lookup.Answer.{NoName, NoData}
-use Rattle.dnsv_denial.specs.ProofMeaning.{HasProofRecords}
+use Rattle.dnsv_denial.specs.ProofMeaning.{HasProofWithoutCollision}
 use Rattle.dnsv_denial.specs.Viewed.{SecuredIn}
 use Rattle.dnsv_denial.specs.Zone.{Zone}
 use Rattle.dnsv_verdict.proofs.CaseLemmas.{nothing_settled}
@@ -24,7 +24,7 @@ returns-in-Some-no_name-clause-value c = (
 
 pub returns-in-Some-no_name-clause-meaning : goal.returns-in-Some-no_name-clause-meaning
 returns-in-Some-no_name-clause-meaning c =
-    subst (λ view. (zone : Zone) (any : ℕ) → HasProofRecords view.rrsets view.name c.in-Some-no_name.proof zone → IsLookup zone view.name any NoName)
+    subst (λ view. (zone : Zone) (any : ℕ) → HasProofWithoutCollision view.rrsets view.name c.in-Some-no_name.proof zone → IsLookup zone view.name any NoName)
     c.requires c.in-Some-no_name.ensures.meaning
 
 pub returns-in-Some-no_data-clause-value : goal.returns-in-Some-no_data-clause-value
@@ -37,7 +37,7 @@ returns-in-Some-no_data-clause-value c = (
 
 pub returns-in-Some-no_data-clause-meaning : goal.returns-in-Some-no_data-clause-meaning
 returns-in-Some-no_data-clause-meaning c =
-    subst (λ view. (zone : Zone) → HasProofRecords view.rrsets view.name c.in-Some-no_data.proof zone
+    subst (λ view. (zone : Zone) → HasProofWithoutCollision view.rrsets view.name c.in-Some-no_data.proof zone
     → (source : Labels) × IsLookup zone view.name c.args.rtype.0 (NoData source)) c.requires c.in-Some-no_data.ensures.meaning
 
 pub returns-in-Some-unsigned_cut-clause-value : goal.returns-in-Some-unsigned_cut-clause-value
