@@ -5,27 +5,27 @@ use Rattle.dnsv_names.specs.Name.{Labels, IsAtOrBelow, rightmost}
 use Rattle.dnsv_names.specs.Order.{IsBelow}
 use Rattle.dnsv_names.specs.Tree.{wildcard_of}
 use Rattle.dnsv_canonical.specs.Rrsets.{ReceivedRrset}
-use Rattle.dnsv_denial.specs.Any.{Any}
-use Rattle.dnsv_denial.specs.CutMeaning.{HasRecord, HasRecordWithoutCollision, IsCover, IsCoveredEnd, IsShownUnsigned, MayLeaveOut, MeansCut}
+use Rattle.dnsv_denial.specs.CutMeaning.{HasRecord, HasRecordWithoutCollision, IsCover, IsCoveredEnd, IsShownEncloser, IsShownUnsigned, MayLeaveOut, MeansCut}
 use Rattle.dnsv_denial.specs.CutMeaning.MeansCut.{no_ds as means_no_ds_cut, no_usable_ds as means_no_usable_ds, opt_out as means_by_opt_out}
 use Rattle.dnsv_denial.specs.Cuts.IsUnsignedCut.{no_ds, no_usable_ds, opt_out}
 use Rattle.dnsv_denial.specs.Cuts.{HasLooseCloser, IsOptOutCut, IsUnsignedCut, IsUnsignedDelegationCut}
-use Rattle.dnsv_denial.specs.EvidenceWords.{Chain, evidence_said}
+use Rattle.dnsv_denial.specs.EvidenceWords.{Chain, evidence_said, nsec3_said}
 use Rattle.dnsv_denial.specs.EvidenceWords.Chain.{ByNsec, ByNsec3}
-use Rattle.dnsv_denial.specs.Forms.{UnsignedCutForm}
 use Rattle.dnsv_denial.specs.HashedNames.{sha1_hash}
 use Rattle.dnsv_denial.specs.Nsec.{nsec_words}
-use Rattle.dnsv_denial.specs.Nsec3.{Covers, nsec3_words}
-use Rattle.dnsv_denial.specs.Nsec3Chain.{Nsec3Record, IsUnsignedEnd}
+use Rattle.dnsv_denial.specs.NsecChain.{IsInBitmap}
+use Rattle.dnsv_denial.specs.Nsec3.{Matches, Covers, nsec3_words}
+use Rattle.dnsv_denial.specs.Nsec3Chain.{Parameters, IsUnsignedEnd}
+use Rattle.dnsv_denial.specs.Nsec3Chain.IsAsked.{itself as asked_above}
 use Rattle.dnsv_denial.specs.ProofMeaning.{IsWithoutCollision}
 use Rattle.dnsv_denial.specs.ProofMeaning.HasProofRecords.{by_nsec, by_nsec3}
-use Rattle.dnsv_denial.specs.Types.{IsUnsignedDelegation}
-use Rattle.dnsv_denial.specs.Zone.{Zone, Holds, IsNode}
+use Rattle.dnsv_denial.specs.Types.{IsClosed, IsUnsignedDelegation}
+use Rattle.dnsv_denial.specs.Zone.{Zone, Holds, IsNode, IsClosedAt}
 use Rattle.dnsv_denial.specs.declared.number.RecordNumber.{RecordNumber}
 use Rattle.dnsv_denial.proofs.AnyLemmas.{any_map}
 use Rattle.dnsv_denial.proofs.MeaningLemmas.{unsigned_cut}
 use Rattle.dnsv_denial.proofs.NsecTruth.{nsec_true, absent as absent_by_nsec}
-use Rattle.dnsv_denial.proofs.Nsec3Truth.{nsec3_true, absent as absent_by_nsec3, covered_end}
+use Rattle.dnsv_denial.proofs.Nsec3Truth.{nsec3_true, open_node, absent as absent_by_nsec3, covered_end}
 use Rattle.dnsv_denial.proofs.ProofMeaningLemmas.{no_nsec3, nsec_say, nsec_no_nsec3, nsec3_no_nsec, nsec3_say, said_with, with_parameters}
 
 module _ (Secured : ℕ → ℕ → Type 0) (rrsets : List ReceivedRrset) (name apex : Labels) (n : RecordNumber) (zone : Zone) where
@@ -52,6 +52,20 @@ module _ (Secured : ℕ → ℕ → Type 0) (rrsets : List ReceivedRrset) (name 
   pub shown_unsigned : (cut : Labels) (chain : Chain) → IsAtOrBelow name cut → IsBelow cut apex → (evidence_said Secured rrsets apex chain).TypesAt cut IsUnsignedDelegation n
       → HasRecordWithoutCollision rrsets name apex n zone → IsUnsignedDelegation (Holds zone cut)
   shown_unsigned cut chain above below said both = unsigned_by cut chain above below said both.has both.apart
+
+  encloser_by : (x : Labels) (parameters : Parameters) → IsAtOrBelow name x → (nsec3_said Secured rrsets apex parameters).Encloser x n
+      → (has : HasRecord rrsets apex n zone) → IsWithoutCollision name has → IsNode zone x × ¬ IsClosedAt zone x
+  encloser_by x parameters above said (by_nsec records all has) apart =
+      absurd (no_nsec3 Secured rrsets apex (n ∷ []) records all (λ r. Matches (sha1_hash parameters) r x × ¬ IsClosed (IsInBitmap r.types)) n (inl refl) said)
+  encloser_by x parameters above said (by_nsec3 others records all has) apart =
+      let hash = sha1_hash others in
+      open_node zone hash has.names records name has.well_formed has.chain_names apart has.in_chain x (asked_above x above)
+      ((nsec3_say Secured rrsets apex (n ∷ []) apex records all parameters others (with_parameters zone hash has.names records has.in_chain)).encloser x n (inl refl) said)
+
+  -- what a record shows to be a closest encloser is a node of the zone, with no delegation and no DNAME
+  pub shown_encloser : (x : Labels) (parameters : Parameters) → IsAtOrBelow name x → (nsec3_said Secured rrsets apex parameters).Encloser x n
+      → HasRecordWithoutCollision rrsets name apex n zone → IsNode zone x × ¬ IsClosedAt zone x
+  shown_encloser x parameters above said both = encloser_by x parameters above said both.has both.apart
 
 module _ (Secured : ℕ → ℕ → Type 0) (rrsets : List ReceivedRrset) (apex : Labels) (n : RecordNumber) (zone : Zone) where
   -- what a record covers is no node of the zone, or an unsigned end
@@ -96,6 +110,7 @@ module _ (Secured : ℕ → ℕ → Type 0) (rrsets : List ReceivedRrset) (name 
   means_no_ds : (labels : ℕ) → IsUnsignedDelegationCut Secured rrsets name labels → IsShownUnsigned Secured rrsets name (rightmost name labels)
   means_no_ds labels (fits, apex, within, chain, form) = record {
     apex = rightmost name apex;
+    at_or_above = form.at_or_above;
     below_apex = form.below_apex;
     chain = chain;
     number = form.types.0;
@@ -103,15 +118,31 @@ module _ (Secured : ℕ → ℕ → Type 0) (rrsets : List ReceivedRrset) (name 
     meaning = λ zone. shown_unsigned Secured rrsets name (rightmost name apex) form.types.0 zone (rightmost name labels) chain form.at_or_above form.below_apex form.types.1;
   }
 
+  encloser_means : (apex : Labels) (labels : ℕ) (parameters : Parameters) (n : RecordNumber) → (nsec3_said Secured rrsets apex parameters).Encloser (rightmost name labels) n
+      → IsShownEncloser rrsets name apex ((nsec3_said Secured rrsets apex parameters).Encloser) (rightmost name labels)
+  encloser_means apex labels parameters n said = record {
+    number = n;
+    said = said;
+    node = λ zone both. (shown_encloser Secured rrsets name apex n zone (rightmost name labels) parameters (rightmost_above name labels) said both).0;
+    not_closed = λ zone both. (shown_encloser Secured rrsets name apex n zone (rightmost name labels) parameters (rightmost_above name labels) said both).1;
+  }
+
+  -- NSEC records have no Opt-Out
   means_opt_out : (labels : ℕ) → IsOptOutCut Secured rrsets name labels → MayLeaveOut Secured rrsets name labels
-  means_opt_out labels (apex, within, chain, out) =
+  means_opt_out labels (apex, within, ByNsec, out) =
+      ⊎_elim (λ (next : (n : RecordNumber) × ⊥). absurd next.1) (λ (star : (n : RecordNumber) × ⊥). absurd star.1) out.opted_out
+  means_opt_out labels (apex, within, ByNsec3 parameters, out) =
       let zone = rightmost name apex in
-      let said = evidence_said Secured rrsets zone chain in
+      let chain = ByNsec3 parameters in
+      let said = nsec3_said Secured rrsets zone parameters in
       let closer = rightmost name (labels + 1) in
       let star = wildcard_of (rightmost name labels) in
       record {
         apex = zone;
+        above = out.above;
         chain = chain;
+        encloser = ⊎_elim (λ (none : ⊥). absurd none)
+            (λ (shown : (n : RecordNumber) × said.Encloser (rightmost name labels) n). encloser_means zone labels parameters shown.0 shown.1) out.encloser;
         next_closer = ⊎_elim (λ (absent : (n : RecordNumber) × said.Absent closer n). cover_means Secured rrsets zone closer chain absent.0 (inl absent.1))
             (λ (out : (n : RecordNumber) × said.OptedOut closer n). cover_means Secured rrsets zone closer chain out.0 (inr out.1)) out.next_closer;
         opted_out = ⊎_elim (λ (out : (n : RecordNumber) × said.OptedOut closer n). inl (opted_out_means Secured rrsets zone closer chain out.0 out.1))

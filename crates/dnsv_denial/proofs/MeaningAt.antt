@@ -15,8 +15,7 @@ use Rattle.dnsv_denial.specs.Lookup.{IsLookup}
 use Rattle.dnsv_denial.specs.Lookup.Answer.{NoName, NoData, Held}
 use Rattle.dnsv_denial.specs.Nsec.{IsAbsentBy, IsInnerBy, IsNodeBy, nsec_words}
 use Rattle.dnsv_denial.specs.Nsec3.{Covers, Matches, nsec3_words}
-use Rattle.dnsv_denial.specs.NsecChain.{NsecRecord, IsInBitmap}
-use Rattle.dnsv_denial.specs.Nsec3Chain.{Nsec3Record}
+use Rattle.dnsv_denial.specs.NsecChain.{IsInBitmap}
 use Rattle.dnsv_denial.specs.Parts.{AreNoNameParts, AreNoDataParts, IsNoCloserPart}
 use Rattle.dnsv_denial.specs.Record.{read_entry, read_nsec3}
 use Rattle.dnsv_denial.specs.RecordsAt.{listed, at_places, HasRecordsAt, HasNoCollisionBy}

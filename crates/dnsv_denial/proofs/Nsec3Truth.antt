@@ -89,16 +89,22 @@ module _ (zone : Zone) (hash : NameHash) (names : List Labels) (records : List N
       let match = matched zone hash names chain by.member by.kind name x apart asked by.holds.0 in
       record { node = match.node; types = by.member.types; bitmap = match.types; said = by.holds.1 }
 
+  -- what matches as a closest encloser is a node with no delegation and no DNAME
+  pub open_node : (x : Labels) → IsAsked name x → Any (λ r. Matches hash r x × ¬ IsClosed (IsInBitmap r.types)) records → IsNode zone x × ¬ IsClosedAt zone x
+  open_node x asked told =
+      let by = found_of (λ (r : Nsec3Record). Matches hash r x × ¬ IsClosed (IsInBitmap r.types)) (IsInNsec3Chain zone hash names) records all told in (
+        (matched zone hash names chain by.member by.kind name x apart asked by.holds.0).node,
+        encloser_open zone hash names chain by.member by.kind name x apart asked by.holds.0 by.holds.1,
+      )
+
   open_above : (labels : ℕ) → IsClosestEncloser zone name labels → Any (λ r. Matches hash r (rightmost name labels) × ¬ IsClosed (IsInBitmap r.types)) records → (cut : Labels) → IsBelow name cut → ¬ IsClosedAt zone cut
   open_above labels ce told =
       let x = rightmost name labels in
-      let by = found_of (λ (r : Nsec3Record). Matches hash r x × ¬ IsClosed (IsInBitmap r.types)) (IsInNsec3Chain zone hash names) records all told in
-      nothing_closed zone name labels well ce
-      (inl (encloser_open zone hash names chain by.member by.kind name x apart (asked_above x (rightmost_above name labels)) by.holds.0 by.holds.1))
+      nothing_closed zone name labels well ce (inl (open_node x (asked_above x (rightmost_above name labels)) told).1)
 
   pub nsec3_true : AreTrue zone (nsec3_words hash records) name
   nsec3_true = record {
-    encloser = λ x asked within told. (types x (λ has. ¬ IsClosed has) asked told).node;
+    encloser = λ x asked within told. (open_node x asked told).0;
     absent = absent zone hash names records all;
     inner = λ x within told. absurd told;
     types = types;

@@ -1,5 +1,5 @@
 -- What the first proof of each kind means for each zone whose chain has its records.
-use Rattle.std.proofs.Common.{◌≡◌, ◌≢◌, ℕ, ◌+◌, ◌≤◌, List, [], ◌∷◌, length, refl, sym, ap, ◌∙◌, subst, inl, inr, ⊎_elim}
+use Rattle.std.proofs.Common.{◌≡◌, ℕ, List, [], ◌∷◌, refl, sym, ap, ◌∙◌, subst, inl, inr, ⊎_elim}
 use Rattle.std.specs.List.{AllByRecursion, AllZip}
 use Rattle.dnsv_names.specs.AncestorLaws.{rightmost_above, rightmost_same}
 use Rattle.dnsv_names.specs.Name.{Labels, SameName, IsAtOrBelow, rightmost}
@@ -23,7 +23,6 @@ use Rattle.dnsv_denial.specs.NsecChain.{NsecRecord, IsInBitmap}
 use Rattle.dnsv_denial.specs.Nsec3Chain.{Nsec3Record, Parameters, NameHash, IsInNsec3Chain}
 use Rattle.dnsv_denial.specs.ProofMeaning.{HasProofRecords, IsWithoutCollision, HasProofWithoutCollision}
 use Rattle.dnsv_denial.specs.ProofMeaning.HasProofRecords.{by_nsec, by_nsec3}
-use Rattle.dnsv_denial.specs.RecordWords.{RecordWords}
 use Rattle.dnsv_denial.specs.Types.{IsClosed}
 use Rattle.dnsv_denial.specs.Zone.{Zone, Holds}
 use Rattle.dnsv_denial.specs.declared.number.RecordNumber.{RecordNumber}

@@ -1,17 +1,18 @@
 -- What it means for zones that names may be unsigned from a name on (RFC 4035 5.2, RFC 5155 8.6, 8.8, 8.9, 9.2).
 use Rattle.std.specs.Prelude.{◌⊎◌, ◌+◌, ℕ, List, [], ◌∷◌}
-use Rattle.dnsv_names.specs.Name.{Labels, rightmost}
+use Rattle.dnsv_names.specs.Name.{Labels, IsAtOrBelow, rightmost}
 use Rattle.dnsv_names.specs.Order.{IsBelow}
 use Rattle.dnsv_names.specs.Tree.{wildcard_of}
 use Rattle.dnsv_canonical.specs.Rrsets.{ReceivedRrset}
 use Rattle.dnsv_denial.specs.Cuts.{IsUnsignedDelegationCut, IsUnusableDsCut}
 use Rattle.dnsv_denial.specs.EvidenceWords.{Chain, evidence_said}
-use Rattle.dnsv_denial.specs.Nsec3Chain.{IsUnsignedEnd}
 use Rattle.dnsv_denial.specs.FirstProof.{ProofRecords}
+use Rattle.dnsv_denial.specs.Forms.{IsAbove}
+use Rattle.dnsv_denial.specs.Nsec3Chain.{IsUnsignedEnd}
 use Rattle.dnsv_denial.specs.ProofMeaning.{HasProofRecords, HasProofWithoutCollision}
 use Rattle.dnsv_denial.specs.RecordWords.{RecordWords}
 use Rattle.dnsv_denial.specs.Types.{IsUnsignedDelegation}
-use Rattle.dnsv_denial.specs.Zone.{Zone, Holds, IsNode}
+use Rattle.dnsv_denial.specs.Zone.{Zone, Holds, IsNode, IsClosedAt}
 use Rattle.dnsv_denial.specs.declared.number.RecordNumber.{RecordNumber}
 
 -- the record alone
@@ -32,6 +33,7 @@ HasRecordWithoutCollision rrsets name apex number zone = HasProofWithoutCollisio
 pub record IsShownUnsigned (Secured : ℕ → ℕ → Type 0) (rrsets : List ReceivedRrset) (name cut : Labels)
     : Type 0 where
   pub apex : Labels
+  pub at_or_above : IsAtOrBelow name cut
   pub below_apex : IsBelow cut apex
   pub chain : Chain
   pub number : RecordNumber
@@ -54,11 +56,25 @@ pub record IsCoveredEnd
 abbrev pub IsCover : RecordWords RecordNumber → Labels → RecordNumber → Type 0
 IsCover said name number = said.Absent name number ⊎ said.OptedOut name number
 
--- The next closer name to so many labels is covered, and it or the wildcard by a record with the Opt-Out flag.
+-- A record that says so shows the name to be a node, with no delegation and no DNAME, which it is in each zone that has
+-- the record in its chain.
+pub record IsShownEncloser
+    (rrsets : List ReceivedRrset) (name apex : Labels) (Says : Labels → RecordNumber → Type 0) (encloser : Labels)
+    : Type 0 where
+  pub number : RecordNumber
+  pub said : Says encloser number
+  pub node : (zone : Zone) → HasRecordWithoutCollision rrsets name apex number zone → IsNode zone encloser
+  pub not_closed : (zone : Zone) → HasRecordWithoutCollision rrsets name apex number zone → ¬ IsClosedAt zone encloser
+
+-- By a chain of a zone at or above the name, the name's so many labels are shown to be a node, the next closer name is
+-- covered, and it or the wildcard is so by a record with the Opt-Out flag.
 pub record MayLeaveOut (Secured : ℕ → ℕ → Type 0) (rrsets : List ReceivedRrset) (name : Labels) (labels : ℕ)
     : Type 0 where
   pub apex : Labels
+  pub above : IsAbove apex name labels
   pub chain : Chain
+  pub encloser : IsShownEncloser rrsets name apex ((evidence_said Secured rrsets apex chain).Encloser)
+      (rightmost name labels)
   pub next_closer : IsCoveredEnd rrsets apex (IsCover (evidence_said Secured rrsets apex chain))
       (rightmost name (labels + 1))
   pub opted_out : IsCoveredEnd rrsets apex ((evidence_said Secured rrsets apex chain).OptedOut)

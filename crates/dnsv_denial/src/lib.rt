@@ -9,7 +9,8 @@ pub use by_wildcard::no_name;
 pub use chain::each_zone_has_a_chain;
 pub use closer::{loose_closer, no_closer};
 pub use cut_meaning::{
-    a_shown_unsigned_delegation_is_one_of_the_zone, an_opted_out_name_is_no_node_or_an_unsigned_end,
+    a_shown_encloser_is_an_open_node_of_the_zone, a_shown_unsigned_delegation_is_one_of_the_zone,
+    an_opted_out_name_is_no_node_or_an_unsigned_end,
 };
 pub use cuts::{opt_out, unsigned_delegation};
 pub use ends::{EndPlaces, Places};
