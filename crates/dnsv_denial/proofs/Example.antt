@@ -2,9 +2,10 @@
 use Rattle.std.proofs.Common.{◌≡◌, ◌≤◌, ◌⊎◌, true, false, IsTrue, List, [], ◌∷◌, length, refl, sym, inl, inr, ⊎_elim, arith}
 use Rattle.std.specs.List.{AllByRecursion}
 use Rattle.std.proofs.lemmas.Cmp.{tied_itself}
+use Rattle.std.specs.Cmp.{IsTotalOrder}
+use Rattle.std.specs.declared.cmp.Ordering.{Ordering}
 use Rattle.std.specs.declared.cmp.Ordering.TheVariants.{Equal}
 use Rattle.dnsv_names.specs.Name.{Labels, SameName, same_name, IsAtOrBelow}
-use Rattle.dnsv_names.specs.Order.{canonical_cmp}
 use Rattle.dnsv_names.specs.OrderLaws.{canonical_cmp_total, same_name_Decides}
 use Rattle.dnsv_names.specs.Tree.{wildcard_of}
 use Rattle.dnsv_names.specs.Keys.{is_at_or_below}
@@ -19,7 +20,7 @@ use Rattle.dnsv_denial.specs.Nsec.{nsec_words}
 use Rattle.dnsv_denial.specs.Example.{e_name, a_name, b_name, s_name, apex_types, address_types, cut_types, zone, records}
 use Rattle.dnsv_denial.specs.Forms.{NoNameForm}
 
-differ : (a b : Labels) → same_name a b ≡ false → ¬ SameName a b
+pub differ : (a b : Labels) → same_name a b ≡ false → ¬ SameName a b
 differ a b test same = let yes = (same_name_Decides a b).1 same in cc
 
 -- the name has an owner of two labels or one
@@ -81,14 +82,13 @@ no_wildcard_delegation = λ parent delegation.
     let same = the_cut (wildcard_of parent) (inl delegation) in let test = (same_name_Decides s_name (wildcard_of parent)).1 same in cc
 
 -- no member lies in a gap where each of the list doesn't
-none_inside : (o n : Labels) (members : List Labels) → AllByRecursion (λ m. ¬ Gap canonical_cmp o n m) members → (x : Labels) → has canonical_cmp members x → ¬ Gap canonical_cmp o n x
-none_inside o n [] outside x none gap = none
-none_inside o n (m ∷ members) outside x some gap =
-    ⊎_elim (λ (tied : canonical_cmp x m ≡ Equal).
-    outside.0 (gap_respects canonical_cmp_total o n m (tied_itself canonical_cmp_total o) (tied_itself canonical_cmp_total n) tied gap))
-    (λ (rest : has canonical_cmp members x). none_inside o n members outside.1 x rest gap) some
+pub none_inside : {K : Type 0} {cmp : K → K → Ordering} → IsTotalOrder cmp → (o n : K) (members : List K) → AllByRecursion (λ m. ¬ Gap cmp o n m) members → (x : K) → has cmp members x → ¬ Gap cmp o n x
+none_inside {K} {cmp} total o n [] outside x none gap = none
+none_inside {K} {cmp} total o n (m ∷ members) outside x some gap =
+    ⊎_elim (λ (tied : cmp x m ≡ Equal). outside.0 (gap_respects total o n m (tied_itself total o) (tied_itself total n) tied gap))
+    (λ (rest : has cmp members x). none_inside total o n members outside.1 x rest gap) some
 
-apex_bitmap : IsBitmapOf zone e_name apex_types
+pub apex_bitmap : IsBitmapOf zone e_name apex_types
 apex_bitmap = record {
   all = λ t holds.
       ⊎_elim (λ (here : SameName e_name e_name × IsTrue (apex_types t)). here.1)
@@ -101,7 +101,7 @@ apex_bitmap = record {
   no_more = λ t bit. inl (record { entry = inl (refl, bit) });
 }
 
-a_bitmap : IsBitmapOf zone a_name address_types
+pub a_bitmap : IsBitmapOf zone a_name address_types
 a_bitmap = record {
   all = λ t holds.
       ⊎_elim (λ (other : SameName e_name a_name × IsTrue (apex_types t)). absurd (differ e_name a_name refl other.0))
@@ -124,7 +124,7 @@ has_records = record {
       owner = record { entry = inl refl };
       next = record {
         member = record { there = inr (inl refl) };
-        none_between = λ x member. none_inside e_name a_name (owners zone) (
+        none_between = λ x member. none_inside canonical_cmp_total e_name a_name (owners zone) (
           (λ gap. let less = gap.lies.0 in cc),
           ((λ gap. let less = gap.lies.1 in cc), ((λ gap. let less = gap.lies.1 in cc), tt)),
         ) x member.there;
@@ -136,7 +136,7 @@ has_records = record {
         owner = record { entry = inr (inl refl) };
         next = record {
           member = record { there = inr (inr (inl refl)) };
-          none_between = λ x member. none_inside a_name s_name (owners zone) (
+          none_between = λ x member. none_inside canonical_cmp_total a_name s_name (owners zone) (
             (λ gap. let less = gap.lies.0 in cc),
             ((λ gap. let less = gap.lies.0 in cc), ((λ gap. let less = gap.lies.1 in cc), tt)),
           ) x member.there;

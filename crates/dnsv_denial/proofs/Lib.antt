@@ -39,6 +39,7 @@ mod NsecLemmas
 mod NsecTruth
 mod NumberLemmas
 mod NumberedLemmas
+mod OptOutExample
 mod ParameterSetLemmas
 mod PartsForm
 mod PlaceLemmas

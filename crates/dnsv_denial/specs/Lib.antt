@@ -26,6 +26,7 @@ pub mod Nsec3
 pub mod Nsec3Chain
 pub mod NsecChain
 pub mod Numbers
+pub mod OptOutExample
 pub mod Parts
 pub mod ProofMeaning
 pub mod Record

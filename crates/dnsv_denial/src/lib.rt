@@ -45,8 +45,8 @@ pub use nsec3_complete::{
 };
 pub use nsec3_entries::Nsec3Entries;
 pub use nsec3_meaning::{
-    no_closer_by_nsec3_is_held_at_the_wildcard, no_data_by_nsec3_is_no_data,
-    no_name_by_nsec3_is_no_name, opted_out_nodes_are_unsigned_ends,
+    a_small_zone_leaves_out_an_unsigned_delegation, no_closer_by_nsec3_is_held_at_the_wildcard,
+    no_data_by_nsec3_is_no_data, no_name_by_nsec3_is_no_name, opted_out_nodes_are_unsigned_ends,
     unsigned_cut_by_nsec3_is_an_unsigned_delegation,
 };
 pub use number::RecordNumber;

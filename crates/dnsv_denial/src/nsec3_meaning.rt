@@ -1,8 +1,9 @@
 //! What a proof by NSEC3 means for each zone whose chain has its records, where no two names of the proof's
 //! have one hash.
-ghost use Rattle.std.specs.Prelude.{◌⊎◌, ◌+◌, ℕ, List};
+ghost use Rattle.std.specs.Prelude.{◌≡◌, ◌⊎◌, ◌+◌, ℕ, List};
 ghost use Rattle.dnsv_names.specs.Name.{Labels, rightmost};
 ghost use Rattle.dnsv_names.specs.Tree.{wildcard_of};
+ghost use Rattle.dnsv_denial.specs.Any.{Any};
 ghost use Rattle.dnsv_denial.specs.Types.{IsUnsignedDelegation};
 ghost use Rattle.dnsv_denial.specs.Zone.{Zone, Holds, IsNode};
 ghost use Rattle.dnsv_denial.specs.Lookup.{IsLookup};
@@ -12,9 +13,12 @@ ghost use Rattle.dnsv_denial.specs.Nsec3Chain.{
   NameHash,
   IsUnsignedEnd,
   HasNsec3Records,
+  IsNsec3ChainOf,
   HasNoCollision,
 };
 ghost use Rattle.dnsv_denial.specs.Nsec3.{nsec3_words, IsCovered, OptOutForm, LooseCloserForm};
+ghost use Rattle.dnsv_denial.specs.Example.{zone as example_zone, e_name, s_name};
+ghost use Rattle.dnsv_denial.specs.OptOutExample.{wire_hash, opt_out_records};
 ghost use Rattle.dnsv_denial.specs.Forms.{NoNameForm, NoDataForm, NoWildcardDataForm, NoCloserForm, UnsignedCutForm};
 
 /// What a proof of no such name means: the zone has no such name, whatever type is asked.
@@ -67,4 +71,14 @@ pub fn opted_out_nodes_are_unsigned_ends()
         (records : List Nsec3Record) → HasNsec3Records zone apex hash records
         → OptOutForm hash records apex name labels ⊎ LooseCloserForm hash records apex name labels
         → IsNode zone (rightmost name (labels + 1)) → IsUnsignedEnd zone (rightmost name (labels + 1)) }
+{}
+
+/// The premises can be met under Opt-Out: a small zone has a whole chain that leaves out its delegation without DS, no
+/// hashes collide, and the records say that an unsigned delegation can be there.
+pub fn a_small_zone_leaves_out_an_unsigned_delegation()
+    ensures chain { IsNsec3ChainOf example_zone e_name wire_hash opt_out_records }
+    ensures apart { (name : Labels) → HasNoCollision example_zone wire_hash name }
+    ensures unsigned { IsUnsignedDelegation (Holds example_zone s_name) }
+    ensures left_out { ¬ Any (λ nsec3. nsec3.hash ≡ wire_hash.of s_name) opt_out_records }
+    ensures form { OptOutForm wire_hash opt_out_records e_name s_name 1 }
 {}
