@@ -37,7 +37,7 @@ nothing_settled S rrsets name t a b c d e f (inr (inr (inr (inr (inl x))))) = e 
 nothing_settled S rrsets name t a b c d e f (inr (inr (inr (inr (inr x))))) = f x.0 x.1 x.2
 
 -- a name at which an unsigned zone may begin
-unsigned_stands : (S : ℕ → ℕ → Type 0) (rrsets : List ReceivedRrset) (name : Labels) (t : ℕ) (cut : Labels)
+pub unsigned_stands : (S : ℕ → ℕ → Type 0) (rrsets : List ReceivedRrset) (name : Labels) (t : ℕ) (cut : Labels)
     → IsUnsignedFrom S rrsets name t cut → IsUnsigned S rrsets name t
 unsigned_stands S rrsets name t cut (inl is) = inl (cut_stands S rrsets name cut is)
 unsigned_stands S rrsets name t cut (inr loose) = inr (loose.1.k, loose.1.s, loose.1.lowest.such)

@@ -4,6 +4,7 @@ mod FiniteLemmas
 mod FormLemmas
 mod HashedLemmas
 mod LowestLemmas
+mod NoLessLemmas
 mod OneProof
 mod PendingLemmas
 mod SearchLemmas

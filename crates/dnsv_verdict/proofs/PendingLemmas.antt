@@ -39,7 +39,7 @@ module _
       let hoped : Entry → Answer = λ entry. hoped_answer (basis.meaning entry) in
       settled_to (IsSecured hoped basis.moment basis.rrsets basis.anchors) (IsSecured later basis.moment basis.rrsets basis.anchors)
       (depends hoped later basis.moment basis.rrsets basis.anchors
-      (λ entry asked. as_hoped basis entries later unknown valid others entry asked (basis.meaning entry) refl)) basis.rrsets name t may
+      (λ entry asked. as_hoped basis entries later unknown valid others entry asked (basis.meaning entry) refl)) basis.rrsets basis.rrsets (λ k rrset is. is) name t may
 
   -- where nothing is unknown, hope changes nothing
   pub nothing_to_hope : (basis : Basis) (name : Labels) (t : ℕ) → AreUnknown basis [] → MaySettle basis name t → Settles basis name t

@@ -1,9 +1,10 @@
--- What is settled depends on which signatures are secured, and more of them settle no less.
+-- What is settled depends on which signatures are secured, and more of them settle no less, also among more RRsets.
 use Rattle.std.proofs.Common.{◌≡◌, ◌⊎◌, ℕ, List, inl, inr, ⊎_elim}
 use Rattle.dnsv_names.specs.Name.{Labels}
 use Rattle.dnsv_records.specs.declared.rrsig.Rrsig.{Rrsig}
 use Rattle.dnsv_canonical.specs.Rrsets.{ReceivedRrset}
 use Rattle.dnsv_canonical.specs.SignedData.{IsExpanded}
+use Rattle.dnsv_chain.specs.Trusted.{IsNumbered}
 use Rattle.dnsv_denial.specs.FirstProof.{CanProveNoCloser}
 use Rattle.dnsv_denial.specs.TypeNumbers.{cname}
 use Rattle.dnsv_verdict.proofs.EvidenceLemmas.{no_name_can_to, no_data_can_to, no_closer_can_to, has_cut_to, loose_closer_to, first_no_name_to, first_no_data_to, cut_is_to}
@@ -16,12 +17,14 @@ use Rattle.dnsv_verdict.specs.declared.verdict.Verdict.TheVariants.{SecureAnswer
 
 -- ---- more secured signatures settle no less
 
-module _ (S T : ℕ → ℕ → Type 0) (more : (k s : ℕ) → S k s → T k s) (rrsets : List ReceivedRrset) where
+module _
+    (S T : ℕ → ℕ → Type 0) (more : (k s : ℕ) → S k s → T k s) (rrsets rest : List ReceivedRrset)
+    (stay : (k : ℕ) (rrset : ReceivedRrset) → IsNumbered rrsets k rrset → IsNumbered rest k rrset) where
   abbrev secured_at_to : (name : Labels) (P Q : ReceivedRrset → Rrsig → Type 0) → ((rrset : ReceivedRrset) (rrsig : Rrsig) → P rrset rrsig → Q rrset rrsig)
-      → (k s : ℕ) → IsSecuredAt S rrsets name P k s → IsSecuredAt T rrsets name Q k s
+      → (k s : ℕ) → IsSecuredAt S rrsets name P k s → IsSecuredAt T rest name Q k s
   secured_at_to name P Q f k s at = record {
     rrset = at.rrset;
-    is_rrset = at.is_rrset;
+    is_rrset = stay k at.rrset at.is_rrset;
     owner = at.owner;
     rdata = at.rdata;
     is_signature = at.is_signature;
@@ -31,55 +34,59 @@ module _ (S T : ℕ → ℕ → Type 0) (more : (k s : ℕ) → S k s → T k s)
     such = f at.rrset at.rrsig at.such;
   }
 
-  holds_to : (name : Labels) (rrset : ReceivedRrset) (rrsig : Rrsig) → HoldsForName S rrsets name rrset rrsig → HoldsForName T rrsets name rrset rrsig
+  holds_to : (name : Labels) (rrset : ReceivedRrset) (rrsig : Rrsig) → HoldsForName S rrsets name rrset rrsig → HoldsForName T rest name rrset rrsig
   holds_to name rrset rrsig holds =
       ⊎_elim (λ (plain : ¬ IsExpanded rrset.owner rrsig). inl plain)
-      (λ (can : CanProveNoCloser S rrsets name rrsig.labels rrsig.signer). inr (no_closer_can_to S T more rrsets name rrsig.labels rrsig.signer can)) holds
+      (λ (can : CanProveNoCloser S rrsets name rrsig.labels rrsig.signer). inr (no_closer_can_to S T more rrsets rest stay name rrsig.labels rrsig.signer can)) holds
 
-  pub secure_set_to : (name : Labels) (t k s : ℕ) → IsSecureSet S rrsets name t k s → IsSecureSet T rrsets name t k s
+  pub secure_set_to : (name : Labels) (t k s : ℕ) → IsSecureSet S rrsets name t k s → IsSecureSet T rest name t k s
   secure_set_to name t =
       secured_at_to name (λ rrset rrsig. (rrset.rtype ≡ t) × HoldsForName S rrsets name rrset rrsig)
-      (λ rrset rrsig. (rrset.rtype ≡ t) × HoldsForName T rrsets name rrset rrsig)
+      (λ rrset rrsig. (rrset.rtype ≡ t) × HoldsForName T rest name rrset rrsig)
       (λ rrset rrsig such. (such.0, holds_to name rrset rrsig such.1))
 
-  abbrev pub loose_set_to : (name : Labels) (t k s : ℕ) → IsLooseSet S rrsets name t k s → IsLooseSet T rrsets name t k s
+  abbrev pub loose_set_to : (name : Labels) (t k s : ℕ) → IsLooseSet S rrsets name t k s → IsLooseSet T rest name t k s
   loose_set_to name t =
       secured_at_to name (λ rrset rrsig. ((rrset.rtype ≡ t) ⊎ (rrset.rtype ≡ cname)) × IsLoose S rrsets name rrset rrsig)
-      (λ rrset rrsig. ((rrset.rtype ≡ t) ⊎ (rrset.rtype ≡ cname)) × IsLoose T rrsets name rrset rrsig)
-      (λ rrset rrsig such. (such.0, (such.1.0, loose_closer_to S T more rrsets name rrsig.labels rrsig.signer such.1.1)))
+      (λ rrset rrsig. ((rrset.rtype ≡ t) ⊎ (rrset.rtype ≡ cname)) × IsLoose T rest name rrset rrsig)
+      (λ rrset rrsig such. (such.0, (such.1.0, loose_closer_to S T more rrsets rest stay name rrsig.labels rrsig.signer such.1.1)))
 
-  pub answer_to : (name : Labels) (t : ℕ) → HasAnswer S rrsets name t → HasAnswer T rrsets name t
+  pub answer_to : (name : Labels) (t : ℕ) → HasAnswer S rrsets name t → HasAnswer T rest name t
   answer_to name t has = (has.0, has.1, secure_set_to name t has.0 has.1 has.2)
 
-  pub alias_to : (name : Labels) (t : ℕ) → HasAlias S rrsets name t → HasAlias T rrsets name t
+  pub alias_to : (name : Labels) (t : ℕ) → HasAlias S rrsets name t → HasAlias T rest name t
   alias_to name t has = (has.0, answer_to name cname has.1)
 
-  pub unsigned_to : (name : Labels) (t : ℕ) → IsUnsigned S rrsets name t → IsUnsigned T rrsets name t
-  unsigned_to name t (inl cut) = inl (has_cut_to S T more rrsets name cut)
+  pub unsigned_to : (name : Labels) (t : ℕ) → IsUnsigned S rrsets name t → IsUnsigned T rest name t
+  unsigned_to name t (inl cut) = inl (has_cut_to S T more rrsets rest stay name cut)
   unsigned_to name t (inr loose) = inr (loose.0, loose.1, loose_set_to name t loose.0 loose.1 loose.2)
 
-  pub settled_to : (name : Labels) (t : ℕ) → IsSettled S rrsets name t → IsSettled T rrsets name t
+  pub settled_to : (name : Labels) (t : ℕ) → IsSettled S rrsets name t → IsSettled T rest name t
   settled_to name t (inl has) = inl (answer_to name t has)
   settled_to name t (inr (inl has)) = inr (inl (alias_to name t has))
-  settled_to name t (inr (inr (inl can))) = inr (inr (inl (no_name_can_to S T more rrsets name can)))
-  settled_to name t (inr (inr (inr (inl can)))) = inr (inr (inr (inl (no_data_can_to S T more rrsets name t can))))
+  settled_to name t (inr (inr (inl can))) = inr (inr (inl (no_name_can_to S T more rrsets rest stay name can)))
+  settled_to name t (inr (inr (inr (inl can)))) = inr (inr (inr (inl (no_data_can_to S T more rrsets rest stay name t can))))
   settled_to name t (inr (inr (inr (inr is)))) = inr (inr (inr (inr (unsigned_to name t is))))
 
 -- ---- as what it is settled depends on which are secured alone
 
 module _ (S T : ℕ → ℕ → Type 0) (to : (k s : ℕ) → S k s → T k s) (from : (k s : ℕ) → T k s → S k s) (rrsets : List ReceivedRrset) where
+  -- the numbers are those of the one list
+  same : (k : ℕ) (rrset : ReceivedRrset) → IsNumbered rrsets k rrset → IsNumbered rrsets k rrset
+  same k rrset is = is
+
   lowest_set_to : (name : Labels) (t k s : ℕ) → IsLowest (IsSecureSet S rrsets name t) k s → IsLowest (IsSecureSet T rrsets name t) k s
   lowest_set_to name t k s =
       lowest_respects (IsSecureSet S rrsets name t) (IsSecureSet T rrsets name t) k s
-      (λ j r. (secure_set_to S T to rrsets name t j r, secure_set_to T S from rrsets name t j r))
+      (λ j r. (secure_set_to S T to rrsets rrsets same name t j r, secure_set_to T S from rrsets rrsets same name t j r))
 
   loose_cut_to : (name : Labels) (t : ℕ) (cut : Labels) → IsLooseCut S rrsets name t cut → IsLooseCut T rrsets name t cut
   loose_cut_to name t cut loose = record {
     k = loose.k;
     s = loose.s;
     lowest = record {
-      such = loose_set_to S T to rrsets name t loose.k loose.s loose.lowest.such;
-      lowest = λ j r other. loose.lowest.lowest j r (loose_set_to T S from rrsets name t j r other);
+      such = loose_set_to S T to rrsets rrsets same name t loose.k loose.s loose.lowest.such;
+      lowest = λ j r other. loose.lowest.lowest j r (loose_set_to T S from rrsets rrsets same name t j r other);
     };
     next_closer = loose.next_closer;
   }
@@ -87,28 +94,28 @@ module _ (S T : ℕ → ℕ → Type 0) (to : (k s : ℕ) → S k s → T k s) (
   unsigned_from_to : (name : Labels) (t : ℕ) (cut : Labels) → IsUnsignedFrom S rrsets name t cut → IsUnsignedFrom T rrsets name t cut
   unsigned_from_to name t cut (inl is) = inl (cut_is_to S T to from rrsets name cut is)
   unsigned_from_to name t cut (inr loose) =
-      inr (λ has. loose.0 (has_cut_to T S from rrsets name has), loose_cut_to name t cut loose.1)
+      inr (λ has. loose.0 (has_cut_to T S from rrsets rrsets same name has), loose_cut_to name t cut loose.1)
 
   pub settled_as_to : (name : Labels) (t : ℕ) (verdict : Verdict) → IsSettledAs S rrsets name t verdict → IsSettledAs T rrsets name t verdict
   settled_as_to name t (SecureAnswer k s) is = lowest_set_to name t k s is
   settled_as_to name t (SecureAlias k s) is =
-      (λ has. is.0 (answer_to T S from rrsets name t has), is.1, lowest_set_to name cname k s is.2)
+      (λ has. is.0 (answer_to T S from rrsets rrsets same name t has), is.1, lowest_set_to name cname k s is.2)
   settled_as_to name t (SecureNoName proof) is = (
-    λ has. is.0 (answer_to T S from rrsets name t has),
-    λ has. is.1 (alias_to T S from rrsets name t has),
+    λ has. is.0 (answer_to T S from rrsets rrsets same name t has),
+    λ has. is.1 (alias_to T S from rrsets rrsets same name t has),
     first_no_name_to S T to from rrsets name proof is.2,
   )
   settled_as_to name t (SecureNoData proof) is = (
-    λ has. is.0 (answer_to T S from rrsets name t has),
-    λ has. is.1 (alias_to T S from rrsets name t has),
-    λ can. is.2 (no_name_can_to T S from rrsets name can),
+    λ has. is.0 (answer_to T S from rrsets rrsets same name t has),
+    λ has. is.1 (alias_to T S from rrsets rrsets same name t has),
+    λ can. is.2 (no_name_can_to T S from rrsets rrsets same name can),
     first_no_data_to S T to from rrsets name t proof is.3,
   )
   settled_as_to name t (Insecure cut) is = (
-    λ has. is.0 (answer_to T S from rrsets name t has),
-    λ has. is.1 (alias_to T S from rrsets name t has),
-    λ can. is.2 (no_name_can_to T S from rrsets name can),
-    λ can. is.3 (no_data_can_to T S from rrsets name t can),
+    λ has. is.0 (answer_to T S from rrsets rrsets same name t has),
+    λ has. is.1 (alias_to T S from rrsets rrsets same name t has),
+    λ can. is.2 (no_name_can_to T S from rrsets rrsets same name can),
+    λ can. is.3 (no_data_can_to T S from rrsets rrsets same name t can),
     unsigned_from_to name t cut is.4,
   )
   settled_as_to name t (Pending entries) is = is

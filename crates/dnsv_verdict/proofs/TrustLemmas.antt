@@ -35,10 +35,10 @@ module _ (meaning : Entry → Answer) (moment : ℕ) (rrsets : List ReceivedRrse
       (depends meaning (table_answer contents) moment rrsets anchors (λ entry asked. sym (says entry asked)) k s secured))
 
   pub settled_from_trust : (name : Labels) (t : ℕ) → IsSettled (SecuredIn trust) rrsets name t → IsSettled (IsSecured meaning moment rrsets anchors) rrsets name t
-  settled_from_trust name t = settled_to (SecuredIn trust) (IsSecured meaning moment rrsets anchors) secured_to rrsets name t
+  settled_from_trust name t = settled_to (SecuredIn trust) (IsSecured meaning moment rrsets anchors) secured_to rrsets rrsets (λ k rrset is. is) name t
 
   pub settled_by_trust : (name : Labels) (t : ℕ) → IsSettled (IsSecured meaning moment rrsets anchors) rrsets name t → IsSettled (SecuredIn trust) rrsets name t
-  settled_by_trust name t = settled_to (IsSecured meaning moment rrsets anchors) (SecuredIn trust) secured_from rrsets name t
+  settled_by_trust name t = settled_to (IsSecured meaning moment rrsets anchors) (SecuredIn trust) secured_from rrsets rrsets (λ k rrset is. is) name t
 
   pub unsettled_by_trust : (name : Labels) (t : ℕ) → ¬ IsSettled (SecuredIn trust) rrsets name t → ¬ IsSettled (IsSecured meaning moment rrsets anchors) rrsets name t
   unsettled_by_trust name t none settles = none (settled_by_trust name t settles)

@@ -1,5 +1,6 @@
 pub mod Insecure
 pub mod Meaning
+pub mod NoLess
 pub mod Search
 pub mod Secure
 pub mod Settled

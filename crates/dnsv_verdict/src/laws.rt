@@ -1,15 +1,19 @@
 //! Laws of verdicts.
 //!
 //! Each is a function that does nothing and ensures the law, which its caller learns.
-ghost use Rattle.std.specs.Prelude.{◌≡◌, ℕ, List, [], Contains};
+ghost use Rattle.std.specs.Prelude.{◌≡◌, ◌≤◌, ◌++◌, ℕ, List, [], Contains};
+ghost use Rattle.dnsv_message.specs.Message.{Contents};
 ghost use Rattle.dnsv_names.specs.Name.{Labels};
 ghost use Rattle.dnsv_verifier.specs.declared.answer.Answer.{Answer};
 ghost use Rattle.dnsv_verifier.specs.declared.answer.Answer.TheVariants.{Valid};
 ghost use Rattle.dnsv_verifier.specs.declared.entry.Entry.{Entry};
+ghost use Rattle.dnsv_chain.specs.declared.anchor.Anchor.{Anchor};
+ghost use Rattle.dnsv_verdict.specs.NoLess.{AnswersNoLess, IsNoLess, basis_of, case_of};
 ghost use Rattle.dnsv_verdict.specs.Verdict.{Basis, IsConclusive, IsVerdictAt, Settles, with_meaning};
 
 use crate::verdict::Verdict;
-use dnsv_chain::trust_depends_on_what_is_asked;
+use dnsv_canonical::earlier_rrsets_keep_their_numbers;
+use dnsv_chain::{more_evidence_takes_no_trust_away, trust_depends_on_what_is_asked};
 
 /// A question has at most one verdict, so none can be given in place of another.
 pub fn a_question_has_one_verdict()
@@ -42,4 +46,24 @@ pub fn valid_answers_settle_what_depends_on_them()
     ensures some { (basis : Basis) (name : Labels) (t : ℕ) → ¬ IsVerdictAt basis name t (Verdict.Pending []) }
 {
     trust_depends_on_what_is_asked();
+}
+
+/// More evidence makes no verdict worse. With RRsets behind those that were there, more anchors, the same moment, and a
+/// verifier that says Valid wherever it was said and Invalid nowhere that it was Unknown, the case of the verdict is
+/// none behind the one before. So it is of a capture and each with more messages behind the same ones. What a verdict
+/// names may change: a lower signature may have become good.
+pub fn more_evidence_makes_no_verdict_worse()
+    ensures bases { (before after : Basis) (name : Labels) (t : ℕ) (first second : Verdict)
+        → IsNoLess before after
+        → IsVerdictAt before name t first → IsVerdictAt after name t second → case_of second ≤ case_of first }
+    ensures captures { (earlier later : List Contents) (anchors others : List Anchor) (moment : ℕ)
+        (meaning better : Entry → Answer) (name : Labels) (t : ℕ) (first second : Verdict)
+        → ((anchor : Anchor) → Contains anchors anchor → Contains others anchor)
+        → AnswersNoLess meaning better
+        → IsVerdictAt (basis_of earlier anchors moment meaning) name t first
+        → IsVerdictAt (basis_of (earlier ++ later) others moment better) name t second
+        → case_of second ≤ case_of first }
+{
+    more_evidence_takes_no_trust_away();
+    earlier_rrsets_keep_their_numbers();
 }
