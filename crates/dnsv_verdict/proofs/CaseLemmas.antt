@@ -20,7 +20,7 @@ use Rattle.dnsv_verdict.specs.Verdict.{AreUnknown, Basis, HasAnchor, IsVerdictAt
 use Rattle.dnsv_verdict.specs.declared.verdict.Verdict.{Verdict}
 use Rattle.dnsv_verdict.specs.declared.verdict.Verdict.TheVariants.{SecureAnswer, SecureAlias, SecureNoName, SecureNoData, Insecure, Pending, Bogus, Indeterminate}
 
-some_is_one : {X : Type 0} {x y : X} → Some x ≡ Some y → x ≡ y
+pub some_is_one : {X : Type 0} {x y : X} → Some x ≡ Some y → x ≡ y
 some_is_one e = cc
 
 -- ---- what is settled

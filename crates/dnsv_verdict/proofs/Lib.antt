@@ -1,3 +1,4 @@
+mod AnchorLemmas
 mod CaseLemmas
 mod EvidenceLemmas
 mod FiniteLemmas

@@ -1,7 +1,7 @@
 //! Laws of verdicts.
 //!
 //! Each is a function that does nothing and ensures the law, which its caller learns.
-ghost use Rattle.std.specs.Prelude.{◌≡◌, ◌≤◌, ◌++◌, ℕ, List, [], Contains};
+ghost use Rattle.std.specs.Prelude.{◌≡◌, ◌↔◌, ◌≤◌, ◌++◌, ℕ, List, [], Contains};
 ghost use Rattle.dnsv_message.specs.Message.{Contents};
 ghost use Rattle.dnsv_names.specs.Name.{Labels};
 ghost use Rattle.dnsv_verifier.specs.declared.answer.Answer.{Answer};
@@ -9,7 +9,7 @@ ghost use Rattle.dnsv_verifier.specs.declared.answer.Answer.TheVariants.{Valid};
 ghost use Rattle.dnsv_verifier.specs.declared.entry.Entry.{Entry};
 ghost use Rattle.dnsv_chain.specs.declared.anchor.Anchor.{Anchor};
 ghost use Rattle.dnsv_verdict.specs.NoLess.{AnswersNoLess, IsNoLess, basis_of, case_of};
-ghost use Rattle.dnsv_verdict.specs.Verdict.{Basis, IsConclusive, IsVerdictAt, Settles, with_meaning};
+ghost use Rattle.dnsv_verdict.specs.Verdict.{Basis, HasAnchor, IsConclusive, IsVerdictAt, Settles, with_meaning};
 
 use crate::verdict::Verdict;
 use dnsv_canonical::earlier_rrsets_keep_their_numbers;
@@ -27,6 +27,13 @@ pub fn a_question_has_one_verdict()
 pub fn a_question_has_a_verdict()
     ensures { (basis : Basis) (name : Labels) (t : ℕ)
         → ¬ ((verdict : Verdict) → ¬ IsVerdictAt basis name t verdict) }
+{}
+
+/// A question is Indeterminate just where no trust anchor is at or above its name: an anchor below the name, or beside
+/// it, makes nothing good that could settle the question, whatever the evidence and the verifier.
+pub fn a_question_is_indeterminate_without_an_anchor_above()
+    ensures { (basis : Basis) (name : Labels) (t : ℕ)
+        → IsVerdictAt basis name t Verdict.Indeterminate ↔ (¬ HasAnchor basis.anchors name) }
 {}
 
 /// Where a verdict depends on entries, a verifier that says Valid of these, and of each other entry what was said,

@@ -5,7 +5,8 @@
 pub use entries::Entries;
 pub use error::VerdictError;
 pub use laws::{
-    a_question_has_a_verdict, a_question_has_one_verdict, more_evidence_makes_no_verdict_worse,
+    a_question_has_a_verdict, a_question_has_one_verdict,
+    a_question_is_indeterminate_without_an_anchor_above, more_evidence_makes_no_verdict_worse,
     valid_answers_settle_what_depends_on_them,
 };
 pub use report::{Report, validate};
