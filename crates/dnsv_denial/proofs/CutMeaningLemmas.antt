@@ -81,7 +81,8 @@ module _ (Secured : ℕ → ℕ → Type 0) (rrsets : List ReceivedRrset) (apex 
       (said_with Secured rrsets apex (n ∷ []) apex records all parameters others (with_parameters zone hash has.names records has.in_chain)
       (λ h r. Covers h r covered × (r.flags ≢ 0)) (λ r is. is.0.same_parameters) n (inl refl) said))
 
-  absent_end : (covered : Labels) (chain : Chain) → (evidence_said Secured rrsets apex chain).Absent covered n → HasRecord rrsets apex n zone → ¬ IsNode zone covered
+  -- what a record denies is no node of the zone
+  pub absent_end : (covered : Labels) (chain : Chain) → (evidence_said Secured rrsets apex chain).Absent covered n → HasRecord rrsets apex n zone → ¬ IsNode zone covered
   absent_end covered ByNsec said (by_nsec records all has) =
       absent_by_nsec zone apex covered records has.well_formed has.same_apex has.in_chain covered ((nsec_say Secured rrsets apex (n ∷ []) records all).absent covered n (inl refl) said)
   absent_end covered (ByNsec3 parameters) said (by_nsec records all has) = absurd ((nsec_no_nsec3 Secured rrsets apex (n ∷ []) records all parameters).absent covered n (inl refl) said)

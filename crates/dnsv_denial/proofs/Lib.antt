@@ -7,8 +7,9 @@ mod ChainLemmas
 mod ChainProofLemmas
 mod CloserLemmas
 mod CutLemmas
-mod CutMeaningLemmas
+pub mod CutMeaningLemmas
 mod DenialLemmas
+pub mod DeniedMeaning
 mod EndLimitLemmas
 mod EvidenceLemmas
 mod Example
@@ -43,7 +44,7 @@ mod OptOutExample
 mod ParameterSetLemmas
 mod PartsForm
 mod PlaceLemmas
-mod ProofMeaningLemmas
+pub mod ProofMeaningLemmas
 mod ShownLemmas
 mod WildcardLemmas
 mod ZoneLemmas
