@@ -5,6 +5,7 @@ mod FiniteLemmas
 mod FormLemmas
 mod HashedLemmas
 mod LowestLemmas
+mod MeaningLemmas
 mod NoLessLemmas
 mod OneProof
 mod PendingLemmas

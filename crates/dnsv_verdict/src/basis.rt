@@ -10,7 +10,6 @@ ghost use Rattle.dnsv_verifier.specs.Entry.{entry_cmp};
 ghost use Rattle.dnsv_verifier.specs.Table.{IsTableOf, table_answer, unknown_entries};
 ghost use Rattle.dnsv_verifier.specs.declared.answer.Answer.{Answer};
 ghost use Rattle.dnsv_verifier.specs.declared.entry.Entry.{Entry};
-ghost use Rattle.dnsv_verdict.specs.Meaning.{IsTrueOfZones};
 ghost use Rattle.dnsv_verdict.specs.Verdict.{HasAnchor, IsVerdictAt, MaySettle, Settles, anchor_owner};
 
 use crate::entries::Entries;
@@ -51,7 +50,6 @@ pub fn verdict_at(
           moment = moment;
           meaning = meaning;
         }) name.now rtype.0) }
-    ensures meaning { IfOk result (IsTrueOfZones basis.now.capture.now.rrsets name.now rtype.0) }
     ensures hashed { IfOk result (λ verdict. (all : List Nsec3Parameters)
         → AreParameters (nsec3_rdata basis.now.capture.now.rrsets) all
         → hashed.new ≡ counted hashed.old (hashes_for name.now all)) }

@@ -4,6 +4,7 @@ ghost use Rattle.dnsv_names.specs.Count.{counted};
 ghost use Rattle.dnsv_records.specs.declared.nsec3.Nsec3Parameters.{Nsec3Parameters};
 ghost use Rattle.dnsv_canonical.specs.Evidence.{AreParameters, nsec3_rdata};
 ghost use Rattle.dnsv_canonical.specs.Rrsets.{IsQuestion};
+ghost use Rattle.dnsv_chain.specs.Trusted.{IsSecured};
 ghost use Rattle.dnsv_denial.specs.HashedNames.{hashes_for};
 ghost use Rattle.dnsv_verdict.specs.Meaning.{IsTrueOfZones};
 ghost use Rattle.dnsv_verdict.specs.Verdict.{IsFewHashed, IsNumberAsked, IsNumberHashed, IsVerdictAt};
@@ -48,8 +49,11 @@ pub fn validate<V: Verifier>(
       moment = moment;
       meaning = V.meaning verifier.now;
     }) name.now rtype.0 report.verdict) }
-    // In each zone that has the records of a denial in its chain, looking the name up gives what is denied.
-    ensures meaning { IfOk result (λ report. IsTrueOfZones capture.now.rrsets name.now rtype.0 report.verdict) }
+    // In each zone that has the records of the verdict in its chain, looking the name up gives what is denied, or what
+    // the wildcard has; and the cut is a delegation without DS, or a name that Opt-Out may leave out.
+    ensures meaning { IfOk result (λ report. IsTrueOfZones
+        (IsSecured (V.meaning verifier.now) moment capture.now.rrsets anchors.now) capture.now.rrsets name.now rtype.0
+        report.verdict) }
     ensures asked { IfOk result (λ report. IsNumberAsked moment capture.now.rrsets report.asked) }
     ensures hashed { IfOk result (λ report. IsNumberHashed capture.now.rrsets name.now report.hashed) }
     ensures few { IfOk result (λ report. IsFewHashed capture.now.rrsets name.now report.hashed) }

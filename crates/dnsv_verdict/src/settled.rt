@@ -1,9 +1,8 @@
 //! What the evidence settles about a question, if it settles it.
-ghost use Rattle.std.specs.Prelude.{◌≡◌, ◌≢◌, ℕ, IfSome, MatchOption};
+ghost use Rattle.std.specs.Prelude.{◌≡◌, ◌≢◌, ℕ, MatchOption};
 ghost use Rattle.dnsv_denial.specs.TypeNumbers.{cname};
 ghost use Rattle.dnsv_denial.specs.Viewed.{SecuredIn};
 ghost use Rattle.dnsv_verdict.specs.Insecure.{IsLooseCut, IsLooseSet};
-ghost use Rattle.dnsv_verdict.specs.Meaning.{IsTrueOfZones};
 ghost use Rattle.dnsv_verdict.specs.Secure.{IsLowest, IsSecureSet};
 ghost use Rattle.dnsv_verdict.specs.Settled.{HasAlias, IsSettled, IsSettledAs};
 
@@ -25,9 +24,8 @@ pub fn settled(
     view: &View<'_>,
 ) -> Option<Verdict>
     requires { view.now ≡ record { rrsets = capture.now.rrsets; trust = trust.now; name = name.now } }
-    ensures value { MatchOption result (¬ IsSettled (SecuredIn trust.now) capture.now.rrsets name.now rtype.0)
+    ensures { MatchOption result (¬ IsSettled (SecuredIn trust.now) capture.now.rrsets name.now rtype.0)
         (IsSettledAs (SecuredIn trust.now) capture.now.rrsets name.now rtype.0) }
-    ensures meaning { IfSome result (IsTrueOfZones capture.now.rrsets name.now rtype.0) }
 {
     if let Some(found) = secure_set(capture, trust, name, rtype, view) {
         return Some(Verdict::SecureAnswer(found.rrset, found.signature));

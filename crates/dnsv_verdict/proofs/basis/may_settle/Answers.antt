@@ -34,7 +34,7 @@ returns c = λ meaning moment table unsettled.
           (c.a_table_is_its_verifier.ensures.answer hoped moment basis.capture.now.rrsets contents is)
           c.trust_depends_on_what_is_asked.ensures.numbers c.in_ok-trust.ensures c.args.name.now c.args.rtype.0
           (settled_stands (SecuredIn c.in_ok-trust.trust) basis.capture.now.rrsets c.args.name.now c.args.rtype.0 c.in-Some._found
-          (MatchOption-at_some _ _ c.in-Some._found c.in-Some.is c.settled.ensures.value)),
+          (MatchOption-at_some _ _ c.in-Some._found c.in-Some.is c.settled.ensures)),
       λ _. refl,
     )
 
@@ -47,7 +47,7 @@ returns-in_default c = λ meaning moment table unsettled.
     subst (λ each. IsTableOf hoped moment basis.capture.now.rrsets each) (sym c.in_ok-hopeful.ensures)
     (c.unknown_entries_may_turn_out_valid.ensures.hoped meaning moment basis.capture.now.rrsets basis.table.now table) in (
       λ never. cc,
-      λ may. absurd (MatchOption-at_none _ _ c.in_default.is c.settled.ensures.value
+      λ may. absurd (MatchOption-at_none _ _ c.in_default.is c.settled.ensures
           (settled_by_trust hoped moment basis.capture.now.rrsets basis.anchors.now contents c.in_ok-trust.trust is.of_moment
           (c.a_table_is_its_verifier.ensures.answer hoped moment basis.capture.now.rrsets contents is)
           c.trust_depends_on_what_is_asked.ensures.numbers c.in_ok-trust.ensures c.args.name.now c.args.rtype.0 may)),

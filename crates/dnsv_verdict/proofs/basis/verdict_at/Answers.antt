@@ -14,7 +14,7 @@ returns-in-Some-clause-value c = λ meaning moment table.
     (settled_as_by_trust meaning moment basis.capture.now.rrsets basis.anchors.now basis.table.now c.args.trust.now table.of_moment
     (c.a_table_is_its_verifier.ensures.answer meaning moment basis.capture.now.rrsets basis.table.now table)
     c.trust_depends_on_what_is_asked.ensures.numbers c.requires c.args.name.now c.args.rtype.0 c.in-Some.verdict
-    (MatchOption-at_some _ _ c.in-Some.verdict c.in-Some.is c.settled.ensures.value))
+    (MatchOption-at_some _ _ c.in-Some.verdict c.in-Some.is c.settled.ensures))
 
 pub returns-then-branch-clause-value : goal.returns-then-branch-clause-value
 returns-then-branch-clause-value c = λ meaning moment table.
@@ -23,7 +23,7 @@ returns-then-branch-clause-value c = λ meaning moment table.
     let never = unsettled_by_trust meaning moment basis.capture.now.rrsets basis.anchors.now basis.table.now c.args.trust.now table.of_moment
     (c.a_table_is_its_verifier.ensures.answer meaning moment basis.capture.now.rrsets basis.table.now table)
     c.trust_depends_on_what_is_asked.ensures.numbers c.requires c.args.name.now c.args.rtype.0
-    (MatchOption-at_none _ _ c.in_default.is c.settled.ensures.value) in (
+    (MatchOption-at_none _ _ c.in_default.is c.settled.ensures) in (
       never,
       (c.in_ok-may_settle.ensures meaning moment table never).0 c.if-branch.true,
       subst (λ entries. AreUnknown judged entries) (sym c.from_vec.ensures)
@@ -36,7 +36,7 @@ returns-then-has_anchor-clause-value c = λ meaning moment table.
     let never = unsettled_by_trust meaning moment basis.capture.now.rrsets basis.anchors.now basis.table.now c.args.trust.now table.of_moment
     (c.a_table_is_its_verifier.ensures.answer meaning moment basis.capture.now.rrsets basis.table.now table)
     c.trust_depends_on_what_is_asked.ensures.numbers c.requires c.args.name.now c.args.rtype.0
-    (MatchOption-at_none _ _ c.in_default.is c.settled.ensures.value) in (
+    (MatchOption-at_none _ _ c.in_default.is c.settled.ensures) in (
       never,
       λ may. (let holds = (c.in_ok-may_settle.ensures meaning moment table never).1 may in let fails = c.if-branch.false in cc),
       c.has_anchor.ensures.0 c.if-has_anchor.true,
@@ -48,7 +48,7 @@ returns-clause-value c = λ meaning moment table.
     let never = unsettled_by_trust meaning moment basis.capture.now.rrsets basis.anchors.now basis.table.now c.args.trust.now table.of_moment
     (c.a_table_is_its_verifier.ensures.answer meaning moment basis.capture.now.rrsets basis.table.now table)
     c.trust_depends_on_what_is_asked.ensures.numbers c.requires c.args.name.now c.args.rtype.0
-    (MatchOption-at_none _ _ c.in_default.is c.settled.ensures.value) in (
+    (MatchOption-at_none _ _ c.in_default.is c.settled.ensures) in (
       never,
       λ may. (let holds = (c.in_ok-may_settle.ensures meaning moment table never).1 may in let fails = c.if-branch.false in cc),
       λ has. (let holds = c.has_anchor.ensures.1 has in let fails = c.if-has_anchor.false in cc),

@@ -1,0 +1,77 @@
+-- What verdicts mean for each zone that has the records which they rest on in its chain.
+use Rattle.std.proofs.Common.{◌≡◌, ◌⊎◌, ◌+◌, ℕ, List, inl, inr, ⊎_elim}
+use Rattle.dnsv_names.specs.Name.{Labels, rightmost}
+use Rattle.dnsv_records.specs.declared.rrsig.Rrsig.{Rrsig}
+use Rattle.dnsv_canonical.specs.Rrsets.{ReceivedRrset}
+use Rattle.dnsv_canonical.specs.SignedData.{IsExpanded}
+use Rattle.dnsv_chain.specs.Trusted.{IsSecured}
+use Rattle.dnsv_denial.proofs.CutMeaningLemmas.{closer_means, cut_means}
+use Rattle.dnsv_denial.proofs.DeniedMeaning.{denied_means}
+use Rattle.dnsv_denial.proofs.ProofMeaningLemmas.{first_no_data_means, first_no_name_means}
+use Rattle.dnsv_denial.specs.Cuts.{HasUnsignedCut, IsUnsignedCut}
+use Rattle.dnsv_denial.specs.EvidenceWords.{Chain, evidence_said}
+use Rattle.dnsv_denial.specs.FirstProof.{CanProveNoCloser}
+use Rattle.dnsv_denial.specs.Forms.{NoCloserForm}
+use Rattle.dnsv_denial.specs.RecordWords.{words}
+use Rattle.dnsv_denial.specs.TypeNumbers.{cname}
+use Rattle.dnsv_verdict.specs.Insecure.{IsLooseCut}
+use Rattle.dnsv_verdict.specs.Meaning.{IsOwnOrFromWildcard, IsShownFromWildcard, IsTrueOfZones, MeansLooseCut}
+use Rattle.dnsv_verdict.specs.Secure.{IsSecureSet}
+use Rattle.dnsv_verdict.specs.Settled.{IsSettledAs}
+use Rattle.dnsv_verdict.specs.Verdict.{Basis, IsVerdictAt}
+use Rattle.dnsv_verdict.specs.declared.verdict.Verdict.{Verdict}
+use Rattle.dnsv_verdict.specs.declared.verdict.Verdict.TheVariants.{SecureAnswer, SecureAlias, SecureNoName, SecureNoData, Insecure, Pending, Bogus, Indeterminate}
+
+module _ (S : ℕ → ℕ → Type 0) (rrsets : List ReceivedRrset) (name : Labels) where
+  from_wildcard : (rrsig : Rrsig) → CanProveNoCloser S rrsets name rrsig.labels rrsig.signer → IsShownFromWildcard S rrsets name rrsig
+  from_wildcard rrsig can =
+      let form : NoCloserForm (words (evidence_said S rrsets rrsig.signer can.0)) rrsig.signer name rrsig.labels = can.1 in record {
+        chain = can.0;
+        number = form.next_closer.0;
+        shown = form.next_closer.1;
+        meaning = λ zone any. denied_means S rrsets name rrsig.signer rrsig.labels can.0 form.next_closer.0 form.above form.next_closer.1 zone any;
+      }
+
+  answer_means : (t k s : ℕ) → IsSecureSet S rrsets name t k s → IsOwnOrFromWildcard S rrsets name k s
+  answer_means t k s at = record {
+    rrset = at.rrset;
+    is_rrset = at.is_rrset;
+    owner = at.owner;
+    rdata = at.rdata;
+    is_signature = at.is_signature;
+    rrsig = at.rrsig;
+    read = at.read;
+    secured = at.secured;
+    such = ⊎_elim (λ (own : ¬ IsExpanded at.rrset.owner at.rrsig). inl own)
+        (λ (can : CanProveNoCloser S rrsets name at.rrsig.labels at.rrsig.signer). inr (from_wildcard at.rrsig can)) at.such.1;
+  }
+
+  loose_means : (t : ℕ) (cut : Labels) → IsLooseCut S rrsets name t cut → MeansLooseCut S rrsets name t cut
+  loose_means t cut is =
+      let such = is.lowest.such in
+      let covered = closer_means S rrsets name such.rrsig.labels such.rrsig.signer cut (such.such.1.1, is.next_closer) in
+      record { loose = is; chain = covered.0; covered = covered.1 }
+
+  settled_means : (t : ℕ) (verdict : Verdict) → IsSettledAs S rrsets name t verdict → IsTrueOfZones S rrsets name t verdict
+  settled_means t (SecureAnswer k s) is = answer_means t k s is.such
+  settled_means t (SecureAlias k s) is = answer_means cname k s is.2.such
+  settled_means t (SecureNoName proof) is = λ zone any has. first_no_name_means S rrsets name zone proof any is.2 has
+  settled_means t (SecureNoData proof) is = λ zone has. first_no_data_means S rrsets name zone proof t is.3 has
+  settled_means t (Insecure cut) is =
+      ⊎_elim (λ (above : IsUnsignedCut S rrsets name cut). inl (cut_means S rrsets name cut above))
+      (λ (loose : (¬ HasUnsignedCut S rrsets name) × IsLooseCut S rrsets name t cut). inr (loose_means t cut loose.1)) is.4
+  settled_means t (Pending entries) is = absurd is
+  settled_means t Bogus is = absurd is
+  settled_means t Indeterminate is = absurd is
+
+-- what a verdict says is so of zones
+pub verdict_means : (basis : Basis) (name : Labels) (t : ℕ) (verdict : Verdict) → IsVerdictAt basis name t verdict
+    → IsTrueOfZones (IsSecured basis.meaning basis.moment basis.rrsets basis.anchors) basis.rrsets name t verdict
+verdict_means basis name t (SecureAnswer k s) is = settled_means _ basis.rrsets name t (SecureAnswer k s) is
+verdict_means basis name t (SecureAlias k s) is = settled_means _ basis.rrsets name t (SecureAlias k s) is
+verdict_means basis name t (SecureNoName proof) is = settled_means _ basis.rrsets name t (SecureNoName proof) is
+verdict_means basis name t (SecureNoData proof) is = settled_means _ basis.rrsets name t (SecureNoData proof) is
+verdict_means basis name t (Insecure cut) is = settled_means _ basis.rrsets name t (Insecure cut) is
+verdict_means basis name t (Pending entries) is = tt
+verdict_means basis name t Bogus is = tt
+verdict_means basis name t Indeterminate is = tt
