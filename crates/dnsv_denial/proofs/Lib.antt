@@ -25,7 +25,8 @@ mod HashIndexLemmas
 mod HashLemmas
 mod HashPlaceLemmas
 mod IndexLemmas
-mod LookupLemmas
+pub mod JustChainProofs
+pub mod LookupLemmas
 mod LooseLemmas
 mod MeaningAt
 mod MeaningLemmas
@@ -46,6 +47,8 @@ mod PartsForm
 mod PlaceLemmas
 pub mod ProofMeaningLemmas
 mod ShownLemmas
+mod WholeChainLemmas
+pub mod WholeChainProofs
 mod WildcardLemmas
 mod ZoneLemmas
 mod ZoneProofLemmas

@@ -37,4 +37,5 @@ pub mod ShownCuts
 pub mod TypeNumbers
 pub mod Types
 pub mod Viewed
+pub mod WholeChain
 pub mod Zone

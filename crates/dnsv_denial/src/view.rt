@@ -1,7 +1,7 @@
 //! What the evidence says of one question: that there is no such name or type, or that it is unsigned.
-ghost use Rattle.std.specs.Prelude.{◌≡◌, ◌+◌, ℕ, IfOk, IfSome, List, MatchOption};
+ghost use Rattle.std.specs.Prelude.{◌≡◌, ◌≢◌, ◌⊎◌, ◌↔◌, ◌+◌, ℕ, IfOk, IfSome, IsSome, List, MatchOption};
 ghost use Rattle.dnsv_names.specs.Count.{counted};
-ghost use Rattle.dnsv_names.specs.Name.{Labels, rightmost};
+ghost use Rattle.dnsv_names.specs.Name.{Labels, IsAtOrBelow, rightmost};
 ghost use Rattle.dnsv_names.specs.Tree.{wildcard_of};
 ghost use Rattle.dnsv_records.specs.declared.nsec3.Nsec3Parameters.{Nsec3Parameters};
 ghost use Rattle.dnsv_canonical.specs.Evidence.{AreParameters, nsec3_rdata};
@@ -20,7 +20,10 @@ ghost use Rattle.dnsv_denial.specs.HashedNames.{hashes_for};
 ghost use Rattle.dnsv_denial.specs.Lookup.{IsLookup};
 ghost use Rattle.dnsv_denial.specs.Lookup.Answer.{Held, NoData, NoName};
 ghost use Rattle.dnsv_denial.specs.ProofMeaning.{HasProofRecords, HasProofWithoutCollision};
+ghost use Rattle.dnsv_denial.specs.TypeNumbers.{rrsig, nsec};
+ghost use Rattle.dnsv_denial.specs.Types.{IsUnsignedDelegation};
 ghost use Rattle.dnsv_denial.specs.Viewed.{SecuredIn};
+ghost use Rattle.dnsv_denial.specs.WholeChain.{HasFirmChain, HasWholeChain, HasWholeNsec3Chain, IsJustFirmChain};
 ghost use Rattle.dnsv_denial.specs.Zone.{Zone, Holds};
 
 use crate::denial::Denial;
@@ -118,6 +121,15 @@ impl<'a> View<'a> {
         ensures meaning { IfSome result (λ proof. (zone : Zone) (t : ℕ)
             → HasProofWithoutCollision self.now.rrsets self.now.name proof zone
             → IsLookup zone self.now.name t NoName) }
+        // Where the evidence has just a zone's whole chain without Opt-Out, there is a proof exactly where the zone has
+        // no such name.
+        ensures exactly { (zone : Zone) (t : ℕ)
+            → IsJustFirmChain (SecuredIn self.now.trust) self.now.rrsets self.now.name zone
+            → IsSome result ↔ IsLookup zone self.now.name t NoName }
+        // Whatever else the evidence has, such a chain proves what the zone denies.
+        ensures whole { (zone : Zone) (t : ℕ)
+            → HasFirmChain (SecuredIn self.now.trust) self.now.rrsets self.now.name zone
+            → IsLookup zone self.now.name t NoName → IsSome result }
     {
         first_proof(Denial::NoName, self.name, &self.zones, &self.sets)
     }
@@ -133,6 +145,15 @@ impl<'a> View<'a> {
         ensures meaning { IfSome result (λ proof. (zone : Zone)
             → HasProofWithoutCollision self.now.rrsets self.now.name proof zone
             → (source : Labels) × IsLookup zone self.now.name rtype.0 (NoData source)) }
+        // Where the evidence has just a zone's whole chain without Opt-Out, there is a proof exactly where the zone has
+        // no data of the type. The types that come with a chain are left out.
+        ensures exactly { (zone : Zone) → rtype.0 ≢ rrsig → rtype.0 ≢ nsec
+            → IsJustFirmChain (SecuredIn self.now.trust) self.now.rrsets self.now.name zone
+            → IsSome result ↔ ((source : Labels) × IsLookup zone self.now.name rtype.0 (NoData source)) }
+        // Whatever else the evidence has, such a chain proves what the zone denies.
+        ensures whole { (zone : Zone) (source : Labels) → rtype.0 ≢ rrsig → rtype.0 ≢ nsec
+            → HasFirmChain (SecuredIn self.now.trust) self.now.rrsets self.now.name zone
+            → IsLookup zone self.now.name rtype.0 (NoData source) → IsSome result }
     {
         first_proof(Denial::NoData(rtype), self.name, &self.zones, &self.sets)
     }
@@ -164,6 +185,20 @@ impl<'a> View<'a> {
         // Each zone that has the record in its chain has that delegation; and a name that Opt-Out may leave out is no
         // node of it, or a delegation without DS, or exists through such alone.
         ensures meaning { IfSome result (MeansCut (SecuredIn self.now.trust) self.now.rrsets self.now.name) }
+        // Where the evidence has a zone's whole chain, with Opt-Out or without, it shows one for each name at or below
+        // a delegation of the zone without DS.
+        ensures delegation { (zone : Zone) (cut : Labels)
+            → HasWholeChain (SecuredIn self.now.trust) self.now.rrsets self.now.name zone
+            → IsAtOrBelow self.now.name cut → IsUnsignedDelegation (Holds zone cut) → IsSome result }
+        // With Opt-Out it shows one where the zone denies what the evidence doesn't prove.
+        ensures missing_name { (zone : Zone) (t : ℕ)
+            → HasWholeNsec3Chain (SecuredIn self.now.trust) self.now.rrsets self.now.name zone
+            → IsLookup zone self.now.name t NoName
+            → CanProveNoName (SecuredIn self.now.trust) self.now.rrsets self.now.name ⊎ IsSome result }
+        ensures missing_type { (zone : Zone) (source : Labels) (t : ℕ) → t ≢ rrsig → t ≢ nsec
+            → HasWholeNsec3Chain (SecuredIn self.now.trust) self.now.rrsets self.now.name zone
+            → IsLookup zone self.now.name t (NoData source)
+            → CanProveNoData (SecuredIn self.now.trust) self.now.rrsets self.now.name t ⊎ IsSome result }
     {
         unsigned_cut(self.capture, self.trust, self.name, &self.zones, &self.sets)
     }

@@ -1,7 +1,12 @@
+use Rattle.dnsv_names.specs.Name.{Labels}
 use Rattle.dnsv_denial.specs.FirstProof.{CanProveNoData, IsFirstNoData}
+use Rattle.dnsv_denial.specs.Lookup.{IsLookup}
+use Rattle.dnsv_denial.specs.Lookup.Answer.{NoData}
 use Rattle.dnsv_denial.specs.Viewed.{SecuredIn}
 use Rattle.dnsv_denial.proofs.FirstLemmas.{if_some}
 use Rattle.dnsv_denial.proofs.ProofMeaningLemmas.{first_no_data_means}
+use Rattle.dnsv_denial.proofs.JustChainProofs.{can_be, exactly_where, just_no_data, some_where}
+use Rattle.dnsv_denial.proofs.WholeChainProofs.{firm_no_data}
 use Rattle.dnsv_denial.proofs.view.View.no_data.Goals as goal
 
 pub returns-clause-first : goal.returns-clause-first
@@ -14,3 +19,16 @@ returns-clause-meaning c =
     _ c.first_proof.result
     (λ proof first. λ zone has. first_no_data_means (SecuredIn c.args.self.now.trust) c.args.self.now.rrsets c.args.self.now.name zone proof c.args.rtype.0 first has)
     (returns-clause-first c)
+
+pub returns-clause-exactly : goal.returns-clause-exactly
+returns-clause-exactly c = λ zone other another just.
+    exactly_where (CanProveNoData (SecuredIn c.args.self.now.trust) c.args.self.now.rrsets c.args.self.now.name c.args.rtype.0)
+    ((source : Labels) × IsLookup zone c.args.self.now.name c.args.rtype.0 (NoData source))
+    (IsFirstNoData (SecuredIn c.args.self.now.trust) c.args.self.now.rrsets c.args.self.now.name c.args.rtype.0)
+    c.first_proof.result (λ proof first. can_be (SecuredIn c.args.self.now.trust) c.args.self.now.rrsets c.args.self.now.name _ _ proof first) (returns-clause-first c)
+    (just_no_data (SecuredIn c.args.self.now.trust) c.args.self.now.rrsets c.args.self.now.name zone c.args.rtype.0 other another just)
+
+pub returns-clause-whole : goal.returns-clause-whole
+returns-clause-whole c = λ zone source other another whole lookup.
+    some_where (CanProveNoData (SecuredIn c.args.self.now.trust) c.args.self.now.rrsets c.args.self.now.name c.args.rtype.0) (IsFirstNoData (SecuredIn c.args.self.now.trust) c.args.self.now.rrsets c.args.self.now.name c.args.rtype.0)
+    c.first_proof.result (returns-clause-first c) (firm_no_data (SecuredIn c.args.self.now.trust) c.args.self.now.rrsets c.args.self.now.name zone c.args.rtype.0 source other another whole lookup)

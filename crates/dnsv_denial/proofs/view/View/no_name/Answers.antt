@@ -1,7 +1,11 @@
 use Rattle.dnsv_denial.specs.FirstProof.{CanProveNoName, IsFirstNoName}
+use Rattle.dnsv_denial.specs.Lookup.{IsLookup}
+use Rattle.dnsv_denial.specs.Lookup.Answer.{NoName}
 use Rattle.dnsv_denial.specs.Viewed.{SecuredIn}
 use Rattle.dnsv_denial.proofs.FirstLemmas.{if_some}
 use Rattle.dnsv_denial.proofs.ProofMeaningLemmas.{first_no_name_means}
+use Rattle.dnsv_denial.proofs.JustChainProofs.{can_be, exactly_where, just_no_name, some_where}
+use Rattle.dnsv_denial.proofs.WholeChainProofs.{firm_no_name}
 use Rattle.dnsv_denial.proofs.view.View.no_name.Goals as goal
 
 pub returns-clause-first : goal.returns-clause-first
@@ -14,3 +18,14 @@ returns-clause-meaning c =
     _ c.first_proof.result
     (λ proof first. λ zone t has. first_no_name_means (SecuredIn c.args.self.now.trust) c.args.self.now.rrsets c.args.self.now.name zone proof t first has)
     (returns-clause-first c)
+
+pub returns-clause-exactly : goal.returns-clause-exactly
+returns-clause-exactly c = λ zone t just.
+    exactly_where (CanProveNoName (SecuredIn c.args.self.now.trust) c.args.self.now.rrsets c.args.self.now.name) (IsLookup zone c.args.self.now.name t NoName) (IsFirstNoName (SecuredIn c.args.self.now.trust) c.args.self.now.rrsets c.args.self.now.name)
+    c.first_proof.result (λ proof first. can_be (SecuredIn c.args.self.now.trust) c.args.self.now.rrsets c.args.self.now.name _ _ proof first) (returns-clause-first c)
+    (just_no_name (SecuredIn c.args.self.now.trust) c.args.self.now.rrsets c.args.self.now.name zone t just)
+
+pub returns-clause-whole : goal.returns-clause-whole
+returns-clause-whole c = λ zone t whole lookup.
+    some_where (CanProveNoName (SecuredIn c.args.self.now.trust) c.args.self.now.rrsets c.args.self.now.name) (IsFirstNoName (SecuredIn c.args.self.now.trust) c.args.self.now.rrsets c.args.self.now.name)
+    c.first_proof.result (returns-clause-first c) (firm_no_name (SecuredIn c.args.self.now.trust) c.args.self.now.rrsets c.args.self.now.name zone t whole lookup)
