@@ -1,5 +1,6 @@
 mod AnchorLemmas
 mod CaseLemmas
+mod CompleteLemmas
 mod EvidenceLemmas
 mod FiniteLemmas
 mod FormLemmas

@@ -1,3 +1,4 @@
+pub mod Complete
 pub mod Insecure
 pub mod Meaning
 pub mod NoLess

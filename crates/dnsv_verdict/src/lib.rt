@@ -2,6 +2,7 @@
 //! (RFC 4035 4.3, 5).
 #![tactic(auto)]
 
+pub use complete::a_whole_chain_is_told_by_the_verdict;
 pub use entries::Entries;
 pub use error::VerdictError;
 pub use laws::{
@@ -13,6 +14,7 @@ pub use report::{Report, validate};
 pub use verdict::Verdict;
 
 mod basis;
+mod complete;
 mod entries;
 mod error;
 mod laws;

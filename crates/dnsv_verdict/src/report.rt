@@ -6,10 +6,12 @@ ghost use Rattle.dnsv_canonical.specs.Evidence.{AreParameters, nsec3_rdata};
 ghost use Rattle.dnsv_canonical.specs.Rrsets.{IsQuestion};
 ghost use Rattle.dnsv_chain.specs.Trusted.{IsSecured};
 ghost use Rattle.dnsv_denial.specs.HashedNames.{hashes_for};
+ghost use Rattle.dnsv_verdict.specs.Complete.{TellsWholeChains};
 ghost use Rattle.dnsv_verdict.specs.Meaning.{IsTrueOfZones};
 ghost use Rattle.dnsv_verdict.specs.Verdict.{IsFewHashed, IsNumberAsked, IsNumberHashed, IsVerdictAt};
 
 use crate::basis::{Basis, verdict_at};
+use crate::complete::a_whole_chain_is_told_by_the_verdict;
 use crate::error::VerdictError;
 use crate::verdict::Verdict;
 use dnsv_canonical::{Capture, is_question};
@@ -54,6 +56,13 @@ pub fn validate<V: Verifier>(
     ensures meaning { IfOk result (λ report. IsTrueOfZones
         (IsSecured (V.meaning verifier.now) moment capture.now.rrsets anchors.now) capture.now.rrsets name.now rtype.0
         report.verdict) }
+    // Where nothing answers, what the zone of a whole chain denies is told.
+    ensures whole_chains { IfOk result (λ report. TellsWholeChains (record {
+      rrsets = capture.now.rrsets;
+      anchors = anchors.now;
+      moment = moment;
+      meaning = V.meaning verifier.now;
+    }) name.now rtype.0 report.verdict) }
     ensures asked { IfOk result (λ report. IsNumberAsked moment capture.now.rrsets report.asked) }
     ensures hashed { IfOk result (λ report. IsNumberHashed capture.now.rrsets name.now report.hashed) }
     ensures few { IfOk result (λ report. IsFewHashed capture.now.rrsets name.now report.hashed) }
@@ -74,6 +83,7 @@ pub fn validate<V: Verifier>(
     };
     let mut hashed = Count::new();
     let verdict = verdict_at(alloc, &basis, &trust, name, rtype, &mut hashed)?;
+    a_whole_chain_is_told_by_the_verdict();
     Ok(Report {
         verdict,
         asked: exact(&asked, &table),
