@@ -1,17 +1,17 @@
 -- A text is at most one list of anchors, or has one first fault.
-use Rattle.std.proofs.Common.{◌≡◌, ◌<◌, ◌≤◌, ◌^◌, ℕ, List, [], ◌∷◌, ◌++◌, length, get_or, refl, sym, ap, ◌∙◌, arith, subst, rules, Some, Ok, inl, inr, ⊎_elim, append_assoc, append-nil, length-append}
+use Rattle.std.proofs.Common.{◌≡◌, ◌<◌, ◌≤◌, ◌^◌, ℕ, List, [], ◌∷◌, ◌++◌, length, drop, refl, sym, ap, ◌∙◌, arith, subst, Some, inl, inr, ⊎_elim, append_assoc, append-nil, length-append}
 use Rattle.std.proofs.lemmas.Bool.{cases_lt}
 use Rattle.std.proofs.lemmas.Fmt.{decimal_injective}
 use Rattle.std.proofs.lemmas.Slice.Zip.{AllZip-long}
-use Rattle.std.specs.Int.{w16, to_be_bytes}
-use Rattle.base64.specs.Engines.{standard}
-use Rattle.base64.specs.GeneralPurpose.{IsConsistent, decode_of, encode_of}
-use Rattle.base64.proofs.EngineFacts.{decode_of-encode_of}
 use Rattle.dnsv_names.specs.Name.{Labels, IsName}
 use Rattle.dnsv_names.specs.Text.{IsTextOf}
 use Rattle.dnsv_names.specs.Lines.{HasLines, NumberedLine, kept_from}
 use Rattle.dnsv_names.specs.LineLaws.{AreFields-only, HasLines-only, HasLines-read}
 use Rattle.dnsv_names.specs.LineReading.{lines_in}
+use Rattle.dnsv_names.specs.Octets.{AreOctets}
+use Rattle.dnsv_records.specs.Dnskey.{IsDnskey}
+use Rattle.dnsv_records.specs.OctetLaws.{recursion-drop}
+use Rattle.dnsv_records.specs.declared.dnskey.Dnskey.{Dnskey}
 use Rattle.dnsv_records.specs.declared.ds.Ds.{Ds}
 use Rattle.dnsv_verifier.specs.HexField.{hex_value}
 use Rattle.dnsv_verifier.specs.StatementsLaws.{Places, places}
@@ -22,7 +22,7 @@ use Rattle.dnsv_chain.specs.declared.anchors.AnchorsError.{AnchorsError}
 use Rattle.dnsv_chain.specs.declared.anchors.AnchorsError.TheVariants.{OutOfMemory, Syntax, TooMany}
 use Rattle.dnsv_chain.proofs.AnchorFileLemmas.{are_more}
 use Rattle.dnsv_chain.proofs.AnchorLineLemmas.{DS-KEY}
-use Rattle.dnsv_chain.proofs.FieldLemmas.{octet_at_place}
+use Rattle.dnsv_chain.proofs.Base64Lemmas.{decoded}
 
 -- a text is the digits of one number
 one_number : (text : List ℕ) (m n limit : ℕ) → limit ≤ 2 ^ 64 → IsNumber text m limit → IsNumber text n limit → m ≡ n
@@ -47,24 +47,29 @@ one_ds key_tag algorithm digest_type digest x y p q = λ i. record {
   digest = one_digest digest x.digest y.digest p.digest_is q.digest_is i;
 }
 
--- octets have one text in base64, of which they are the only ones
-decoded : (octets coded : List ℕ) → ((i : ℕ) → get_or octets i 0 < 256) → coded ≡ encode_of standard octets → decode_of standard coded ≡ Ok octets
-decoded octets coded bytes is =
-    let consistent : IsConsistent standard = search rules in
-    ap (decode_of standard) is ∙ decode_of-encode_of standard octets consistent bytes
+-- the key of RDATA
+key_octets : (rdata key : List ℕ) → AreOctets rdata → key ≡ drop 4 rdata → AreOctets key
+key_octets rdata key are is = subst AreOctets (sym is) (recursion-drop (λ octet. octet < 256) 4 rdata are)
 
-one_dnskey : (flags protocol algorithm key x y : List ℕ) → IsDnskeyText flags protocol algorithm key x
-    → IsDnskeyText flags protocol algorithm key y → x ≡ y
-one_dnskey flags protocol algorithm key x y p q =
+one_key : (flags protocol algorithm key x y : List ℕ) (p : IsDnskeyText flags protocol algorithm key x)
+    (q : IsDnskeyText flags protocol algorithm key y) → p.dnskey ≡ q.dnskey
+one_key flags protocol algorithm key x y p q =
     let flags_are = one_number flags p.dnskey.flags.0 q.dnskey.flags.0 65536 large p.flags_are q.flags_are in
     let protocol_is = one_number protocol p.dnskey.protocol q.dnskey.protocol 256 small p.protocol_is q.protocol_is in
     let algorithm_is = one_number algorithm p.dnskey.algorithm.0 q.dnskey.algorithm.0 256 small p.algorithm_is q.algorithm_is in
-    let first = decoded p.dnskey.key key (octet_at_place p.dnskey.key p.octets) p.key_is in
-    let second = decoded q.dnskey.key key (octet_at_place q.dnskey.key q.octets) q.key_is in
+    let first = decoded p.dnskey.key key (key_octets x p.dnskey.key p.octets p.is.key) p.key_is in
+    let second = decoded q.dnskey.key key (key_octets y q.dnskey.key q.octets q.is.key) q.key_is in
     let keys : p.dnskey.key ≡ q.dnskey.key = cc in
-    p.rdata_is ∙ (λ i. to_be_bytes w16 (flags_are i) ++ protocol_is i ∷ algorithm_is i ∷ keys i) ∙ sym q.rdata_is
+    λ i. record { flags = record { 0 = flags_are i }; protocol = protocol_is i; algorithm = record { 0 = algorithm_is i }; key = keys i }
 
-module _ (one_name : (text : List ℕ) (a b : Labels) → IsName a → IsName b → IsTextOf text a → IsTextOf text b → a ≡ b) where
+module _ (one_name : (text : List ℕ) (a b : Labels) → IsName a → IsName b → IsTextOf text a → IsTextOf text b → a ≡ b)
+    (one_rdata : (a b : List ℕ) (dnskey : Dnskey) → AreOctets a → AreOctets b → IsDnskey a dnskey → IsDnskey b dnskey → a ≡ b) where
+  one_dnskey : (flags protocol algorithm key x y : List ℕ) → IsDnskeyText flags protocol algorithm key x
+      → IsDnskeyText flags protocol algorithm key y → x ≡ y
+  one_dnskey flags protocol algorithm key x y p q =
+      let same = one_key flags protocol algorithm key x y p q in
+      one_rdata x y q.dnskey p.octets q.octets (subst (λ (dnskey : Dnskey). IsDnskey x dnskey) same p.is) q.is
+
   one_said : (fields : List (List ℕ)) (x y : Anchor) → SaysAnchor fields x → SaysAnchor fields y → x ≡ y
   one_said [] x y p q = absurd p
   one_said (a ∷ []) x y p q = absurd p

@@ -1,10 +1,10 @@
 pub mod AnchorFileLemmas
 pub mod AnchorLaws
 pub mod AnchorLineLemmas
+pub mod Base64Lemmas
 pub mod ByOwnerLemmas
 pub mod ChainLemmas
 pub mod DerivationLemmas
-pub mod FieldLemmas
 pub mod KeptLemmas
 pub mod MatchingLemmas
 pub mod SigningLemmas

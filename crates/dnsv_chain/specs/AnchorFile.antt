@@ -1,7 +1,6 @@
 -- Files of trust anchors: which anchors a text says, and what it is refused for.
 use Rattle.std.specs.Prelude.{◌≡◌, ◌<◌, ◌≤◌, ◌++◌, ℕ, List, [], ◌∷◌, Some, codes, length}
 use Rattle.std.specs.Fmt.{decimal}
-use Rattle.std.specs.Int.{w16, to_be_bytes}
 use Rattle.std.specs.List.{AllZip}
 use Rattle.base64.specs.Engines.{standard}
 use Rattle.base64.specs.GeneralPurpose.{encode_of}
@@ -9,6 +8,7 @@ use Rattle.dnsv_names.specs.Name.{Labels, IsName}
 use Rattle.dnsv_names.specs.Octets.{AreOctets}
 use Rattle.dnsv_names.specs.Text.{IsTextOf}
 use Rattle.dnsv_names.specs.Lines.{AreFields, HasLines, NumberedLine}
+use Rattle.dnsv_records.specs.Dnskey.{IsDnskey}
 use Rattle.dnsv_records.specs.declared.dnskey.Dnskey.{Dnskey}
 use Rattle.dnsv_records.specs.declared.ds.Ds.{Ds}
 use Rattle.dnsv_verifier.specs.HexField.{hex_value}
@@ -34,16 +34,16 @@ pub record IsDsText (key_tag algorithm digest_type digest : List ℕ) (ds : Ds) 
   pub digest_type_is : IsNumber digest_type ds.digest_type.0 256
   pub digest_is : hex_value digest ≡ Some ds.digest
 
--- The RDATA of a DNSKEY record as text: its flags, protocol and algorithm, and its key in base64 with padding
--- (RFC 4034 2.1, 2.2; RFC 4648 4).
+-- the RDATA of a DNSKEY record as text: its flags, protocol and algorithm, and its key in base64 with padding
+-- (RFC 4034 2.2, RFC 4648 4)
 pub record IsDnskeyText (flags protocol algorithm key : List ℕ) (rdata : List ℕ) : Type 0 where
+  pub octets : AreOctets rdata
   pub dnskey : Dnskey
+  pub is : IsDnskey rdata dnskey
   pub flags_are : IsNumber flags dnskey.flags.0 65536
   pub protocol_is : IsNumber protocol dnskey.protocol 256
   pub algorithm_is : IsNumber algorithm dnskey.algorithm.0 256
-  pub octets : AreOctets dnskey.key
   pub key_is : key ≡ encode_of standard dnskey.key
-  pub rdata_is : rdata ≡ to_be_bytes w16 dnskey.flags.0 ++ dnskey.protocol ∷ dnskey.algorithm.0 ∷ dnskey.key
 
 -- Six fields say an anchor: `DS` or `KEY`, the owner, and the four of the record. A field has at least one octet, and
 -- so has a key.
@@ -70,6 +70,14 @@ pub record AreAnchorsOf (text : List ℕ) (anchors : List Anchor) : Type 0 where
   pub has : HasLines text lines
   pub each : AreAnchors lines anchors
   pub few : length anchors ≤ 64
+
+-- the first line of a text file says an anchor, so that memory is needed before any fault is found
+pub record BeginsWithAnchor (text : List ℕ) : Type 0 where
+  pub line : NumberedLine
+  pub behind : List NumberedLine
+  pub has : HasLines text (line ∷ behind)
+  pub anchor : Anchor
+  pub says : IsAnchorLine line.octets anchor
 
 -- what is wrong with a line behind anchors
 abbrev pub IsFaultOfLine : AnchorsError → NumberedLine → List Anchor → Type 0

@@ -1,5 +1,5 @@
 //! One line of a file of trust anchors.
-ghost use Rattle.std.specs.Prelude.{◌≡◌, ◌↔◌, ◌++◌, ◌∷◌, [], List, ℕ, length, IfOk, IsTrue, MatchOption};
+ghost use Rattle.std.specs.Prelude.{◌≡◌, ◌↔◌, ◌++◌, ◌∷◌, [], List, ℕ, length, IfOk, IsTrue, MatchOption, OnErr};
 ghost use Rattle.std.specs.Int.{w16, to_be_bytes};
 ghost use Rattle.dnsv_names.specs.Lines.{AreFields};
 ghost use Rattle.dnsv_records.specs.declared.ds.Ds.{Ds};
@@ -15,10 +15,11 @@ use std::alloc::{AllocError, Global};
 
 type SixFields<'a> = (&'a [u8], &'a [u8], &'a [u8], &'a [u8], &'a [u8], &'a [u8]);
 
-/// The anchor that a line says, `None` where it says none.
+/// The anchor that a line says, `None` where it says none. Memory is asked for only where it says one.
 pub(crate) fn anchor_of(alloc: Global, line: &Line) -> Result<Option<Anchor>, AllocError>
-    ensures { IfOk result (λ found. MatchOption found
+    ensures found { IfOk result (λ found. MatchOption found
         ((anchor : Anchor) → IsAnchorLine line.now.octets anchor → ⊥) (IsAnchorLine line.now.octets)) }
+    ensures refused { OnErr result ((anchor : Anchor) × IsAnchorLine line.now.octets anchor) }
 {
     let Some((word, name, first, second, third, last)) = six_fields(line) else {
         return Ok(None);
@@ -62,7 +63,7 @@ fn is_word(field: &[u8], word: &[u8]) -> bool
     field == word
 }
 
-/// The DS record of these fields, `None` where they are none.
+/// The DS record of these fields, `None` where they are none. Memory is asked for only where they are one.
 fn ds_of(
     alloc: Global,
     key_tag: &[u8],
@@ -70,9 +71,10 @@ fn ds_of(
     digest_type: &[u8],
     digest: &[u8],
 ) -> Result<Option<Ds>, AllocError>
-    ensures { IfOk result (λ found. MatchOption found
+    ensures found { IfOk result (λ found. MatchOption found
         ((ds : Ds) → IsDsText key_tag.now algorithm.now digest_type.now digest.now ds → ⊥)
         (IsDsText key_tag.now algorithm.now digest_type.now digest.now)) }
+    ensures refused { OnErr result ((ds : Ds) × IsDsText key_tag.now algorithm.now digest_type.now digest.now ds) }
 {
     let Some(key_tag) = decimal_u16(key_tag) else {
         return Ok(None);
@@ -94,7 +96,8 @@ fn ds_of(
     }))
 }
 
-/// The RDATA of the DNSKEY record of these fields, `None` where they are none.
+/// The RDATA of the DNSKEY record of these fields, `None` where they are none. Memory is asked for only where they are
+/// one.
 fn dnskey_of(
     alloc: Global,
     flags: &[u8],
@@ -102,9 +105,11 @@ fn dnskey_of(
     algorithm: &[u8],
     key: &[u8],
 ) -> Result<Option<Octets>, AllocError>
-    ensures { IfOk result (λ found. MatchOption found
+    ensures found { IfOk result (λ found. MatchOption found
         ((rdata : List ℕ) → IsDnskeyText flags.now protocol.now algorithm.now key.now rdata → ⊥)
         (IsDnskeyText flags.now protocol.now algorithm.now key.now)) }
+    ensures refused { OnErr result
+        ((rdata : List ℕ) × IsDnskeyText flags.now protocol.now algorithm.now key.now rdata) }
 {
     let Some(flags) = decimal_u16(flags) else {
         return Ok(None);

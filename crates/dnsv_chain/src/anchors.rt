@@ -1,12 +1,13 @@
 //! Files of trust anchors.
-ghost use Rattle.std.specs.Prelude.{◌≡◌, ◌<◌, ◌≤◌, ◌⊎◌, ◌↔◌, ◌++◌, ◌∷◌, [], List, ℕ, length, IsTrue, IfOk, IfErr, OnOk};
-ghost use Rattle.dnsv_chain.specs.AnchorFile.{AreAnchorsOf, IsAnchorLine, IsFaultOf, IsFaultOfLine};
+ghost use Rattle.std.specs.Prelude.{◌≡◌, ◌<◌, ◌≤◌, ◌⊎◌, ◌↔◌, ◌++◌, ◌∷◌, [], Err, List, ℕ, length, IsTrue, IfOk, IfErr, OnOk};
+ghost use Rattle.dnsv_chain.specs.AnchorFile.{AreAnchorsOf, BeginsWithAnchor, IsAnchorLine, IsFaultOf, IsFaultOfLine};
 ghost use Rattle.dnsv_chain.specs.declared.anchor.Anchor.{Anchor};
 ghost use Rattle.dnsv_chain.specs.declared.anchors.AnchorsError.{AnchorsError};
 
 use crate::anchor::Anchor;
 use crate::anchor_line::anchor_of;
 use dnsv_names::{Line, Lines, a_text_has_one_reading};
+use dnsv_records::record_laws;
 use dnsv_verifier::KeyRecord;
 use std::alloc::{AllocError, AllocFailed, Global};
 use std::marker::Model;
@@ -94,6 +95,9 @@ impl Anchors {
         ensures anchors { IfOk result (AreAnchorsOf text.now) }
         // A refusal is the first fault, unless memory was refused.
         ensures fault { IfErr result (λ error. (error ≡ AnchorsError.OutOfMemory) ⊎ IsFaultOf text.now error) }
+        // A fault is told, unless memory was refused to an anchor before it.
+        ensures every_fault { (fault : AnchorsError) → IsFaultOf text.now fault → (result ≡ Err fault)
+            ⊎ ((result ≡ Err AnchorsError.OutOfMemory) × BeginsWithAnchor text.now) }
     {
         let mut anchors = Anchors {
             anchors: Vec::new(alloc),
@@ -104,20 +108,22 @@ impl Anchors {
         Ok(anchors)
     }
 
-    /// Adds the anchor of a line, behind at most 64.
+    /// Adds the anchor of a line, behind at most 64. Where memory is refused, the line says an anchor, and there is
+    /// room for it.
     fn add(&mut self, alloc: Global, line: &Line) -> Result<(), AnchorsError>
         requires { length self.old ≤ 64 }
         ensures added { OnOk result ((anchor : Anchor) × IsAnchorLine line.now.octets anchor
             × (length self.old < 64) × (self.new ≡ self.old ++ anchor ∷ [])) }
-        ensures fault { IfErr result (λ error. (error ≡ AnchorsError.OutOfMemory)
+        ensures fault { IfErr result (λ error. ((error ≡ AnchorsError.OutOfMemory) × (length self.old < 64)
+            × ((anchor : Anchor) × IsAnchorLine line.now.octets anchor))
             ⊎ IsFaultOfLine error line.now self.old) }
     {
+        if self.anchors.len() >= ANCHOR_LIMIT {
+            return Err(refused_at_limit(alloc, line));
+        }
         let Some(anchor) = anchor_of(alloc, line)? else {
             return Err(AnchorsError::Syntax(line.number()));
         };
-        if self.anchors.len() >= ANCHOR_LIMIT {
-            return Err(AnchorsError::TooMany(line.number()));
-        }
         self.anchors.push(anchor)?;
         Ok(())
     }
@@ -137,6 +143,16 @@ impl Anchors {
     }
 }
 
+/// What a line behind 64 anchors is refused for, whether or not there is memory for an anchor.
+fn refused_at_limit(alloc: Global, line: &Line) -> AnchorsError
+    ensures { (before : List Anchor) → length before ≡ 64 → IsFaultOfLine result line.now before }
+{
+    match anchor_of(alloc, line) {
+        Ok(None) => AnchorsError::Syntax(line.number()),
+        Ok(Some(_)) | Err(_) => AnchorsError::TooMany(line.number()),
+    }
+}
+
 /// A law of files of trust anchors: a text is one list of anchors or has one first fault, never both, and no text has
 /// neither.
 pub fn a_text_is_one_list_of_anchors()
@@ -148,4 +164,5 @@ pub fn a_text_is_one_list_of_anchors()
         → ((fault : AnchorsError) → IsFaultOf text fault → ⊥) → ⊥ }
 {
     a_text_has_one_reading();
+    record_laws();
 }

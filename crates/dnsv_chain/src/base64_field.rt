@@ -1,23 +1,66 @@
 //! Octets in base64 as a field of a text file.
-ghost use Rattle.std.specs.Prelude.{◌≡◌, List, ℕ, IfOk, MatchOption};
+ghost use Rattle.std.specs.Prelude.{◌≡◌, ◌≤◌, ◌↔◌, List, ℕ, Some, length, IfOk, IfSome, IsTrue, MatchOption, OnErr};
 ghost use Rattle.base64.specs.Engines.{standard};
 ghost use Rattle.base64.specs.GeneralPurpose.{encode_of};
 ghost use Rattle.dnsv_names.specs.Octets.{AreOctets};
+ghost use Rattle.dnsv_chain.specs.Base64Field.{IsBase64, SaysOctets};
 
-use base64::DecodeAllocError;
 use base64::engine::general_purpose::STANDARD;
 use dnsv_records::Octets;
 use std::alloc::{AllocError, Global};
 
-/// The octets that a field says in base64 with padding (RFC 4648 4), `None` where it says none.
+/// The octets that a field says in base64 with padding (RFC 4648 4), `None` where it says none. Memory is asked for
+/// only where it says octets.
 pub(crate) fn base64_octets(alloc: Global, field: &[u8]) -> Result<Option<Octets>, AllocError>
-    ensures { IfOk result (λ found. MatchOption found
+    ensures octets { IfOk result (λ found. MatchOption found
         ((octets : List ℕ) → AreOctets octets → field.now ≡ encode_of standard octets → ⊥)
         (λ octets. AreOctets octets × (field.now ≡ encode_of standard octets))) }
+    ensures refused { OnErr result (IsBase64 field.now) }
 {
+    if !is_base64(field) {
+        return Ok(None);
+    }
     match STANDARD.decode(alloc, field) {
         Ok(octets) => Ok(Some(Octets::from_vec(octets))),
-        Err(DecodeAllocError::OutOfMemory) => Err(AllocError),
-        Err(DecodeAllocError::DecodeError(_)) => Ok(None),
+        Err(_) => Err(AllocError),
+    }
+}
+
+/// Whether a field is octets in base64 with padding. Groups of four symbols are looked at one by one, since the
+/// decoder asks for memory before it reads.
+fn is_base64(field: &[u8]) -> bool
+    ensures { IsTrue result ↔ IsBase64 field.now }
+{
+    let mut rest = field;
+    while rest.len() > 4 {
+        let (group, behind) = rest.split_at(4);
+        if !says_three(group) {
+            return false;
+        }
+        rest = behind;
+    }
+    octets_said(rest).is_some()
+}
+
+/// Whether a group says three octets, as each group but the last has to.
+fn says_three(group: &[u8]) -> bool
+    requires { length group.now ≤ 4 }
+    ensures { IsTrue result ↔ SaysOctets group.now 3 }
+{
+    match octets_said(group) {
+        Some(count) => count == 3,
+        None => false,
+    }
+}
+
+/// How many octets a group of at most four symbols says, `None` where it says none.
+fn octets_said(group: &[u8]) -> Option<usize>
+    requires { length group.now ≤ 4 }
+    ensures said { IfSome result (SaysOctets group.now) }
+    ensures every { (count : ℕ) → SaysOctets group.now count → result ≡ Some count }
+{
+    match STANDARD.decode_slice(group, &mut [0; 3]) {
+        Ok(count) => Some(count),
+        Err(_) => None,
     }
 }

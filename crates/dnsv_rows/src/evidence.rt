@@ -1,9 +1,11 @@
 //! Captures that rows write: messages, each behind its length in two octets (RFC 1035 4.2.2).
+ghost use Rattle.std.specs.Prelude.{IfOk};
+ghost use Rattle.dnsv_records.specs.Dnskey.{IsDnskey};
 
 use crate::row::{Row, RowError};
 use dnsv_canonical::{Capture, CaptureError, Rrset};
 use dnsv_message::{Framer, Message};
-use dnsv_records::Rrsig;
+use dnsv_records::{Dnskey, RecordError, Rrsig};
 use std::alloc::Global;
 
 /// A message that isn't added to a capture: its number, from 1 on, and why.
@@ -103,6 +105,17 @@ fn frames(row: &Row, place: usize) -> Result<Vec<Vec<u8>>, RowError> {
     };
     match framer.finish() {
         Ok(()) => Ok(frames),
+        Err(_) => Err(RowError::Malformed),
+    }
+}
+
+/// What the RDATA of a DNSKEY record says.
+pub fn dnskey_of(alloc: Global, rdata: &[u8]) -> Result<Dnskey, RowError>
+    ensures { IfOk result (IsDnskey rdata.now) }
+{
+    match Dnskey::read(alloc, rdata) {
+        Ok(dnskey) => Ok(dnskey),
+        Err(RecordError::OutOfMemory) => Err(RowError::OutOfMemory),
         Err(_) => Err(RowError::Malformed),
     }
 }

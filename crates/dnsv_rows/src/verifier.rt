@@ -116,7 +116,10 @@ fn admissible(row: &Row) -> Result<String, RowError> {
     let (capture, moment) = (capture(row, 0)?, row.number(1)?);
     let rrset = evidence::rrset(row, 2, &capture)?;
     let rrsig = evidence::signature(row, 3, rrset)?;
-    let key = key(row, 5, evidence::rrset(row, 4, &capture)?)?;
+    let set = evidence::rrset(row, 4, &capture)?;
+    let rdata = key_rdata(row, 5, set)?;
+    let dnskey = evidence::dnskey_of(row.alloc(), rdata)?;
+    let key = KeyRecord::new(set.owner(), rdata, &dnskey);
     let admissible = is_admissible(moment, rrset, rrsig, &key);
     let (verifiable, made) = (
         is_verifiable(moment, rrset, rrsig),
@@ -125,18 +128,16 @@ fn admissible(row: &Row) -> Result<String, RowError> {
     Ok(format!(in row.alloc(); "{admissible} {verifiable} {made}")?)
 }
 
-/// The key of the RRset whose number, from 1 on, the argument is.
-fn key<'a>(row: &Row, place: usize, rrset: &'a Rrset) -> Result<KeyRecord<'a>, RowError> {
+/// The RDATA of the key of the RRset whose number, from 1 on, the argument is.
+fn key_rdata<'a>(row: &Row, place: usize, rrset: &'a Rrset) -> Result<&'a [u8], RowError> {
     let number = row.number(place)?.saturating_sub(1);
     let Ok(index) = usize::try_from(number) else {
         return Err(RowError::Malformed);
     };
-    match rrset.dnskeys().get(index) {
-        Some(dnskey) if index < rrset.len() => {
-            Ok(KeyRecord::new(rrset.owner(), rrset.rdata(index), dnskey))
-        }
-        _ => Err(RowError::Malformed),
+    if index >= rrset.dnskeys().len() || index >= rrset.len() {
+        return Err(RowError::Malformed);
     }
+    Ok(rrset.rdata(index))
 }
 
 /// What the statements of the row say of its capture at its moment.

@@ -1,5 +1,6 @@
 -- What is answered to signed octets, test by test.
 use Rattle.std.proofs.Common.{◌≡◌, ◌⊎◌, ℕ, ◌+◌, ◌<◌, List, [], ◌∷◌, true, false, Option, Some, None, Result, Ok, Err, inl, inr, refl, ap, ◌∙◌, suc, zero, take, get_or, length, arith, nat_eq, ◌&&◌, add-one}
+use Rattle.std.specs.Result.{IsOk}
 use Rattle.std.specs.Str.{bytes_eq}
 use Rattle.dnsv_names.specs.Name.{Labels, same_name}
 use Rattle.dnsv_message.specs.declared.errors.DecodeError.{DecodeError}
@@ -52,6 +53,12 @@ module _ (now : ℕ) (request : Option (List ℕ)) (octets : List ℕ) (place : 
   passed found key right some known mac failed =
       rw (some, known, ← mac, failed) refl
 
+  -- so a message that passes all tests is accepted
+  pub accepted : (found : Option SharedKey) (key : SharedKey) (right : List ℕ) → found ≡ Some key → same_name tsig.algorithm hmac_sha256_name ≡ true
+      → right ≡ tsig_mac_of key.secret request octets place owner tsig → failed_test tsig right now ≡ None
+      → IsOk (answer_by found now request octets place owner tsig)
+  accepted found key right some known mac failed = rw (some, known, ← mac, failed) refl
+
 -- a fault is told, unless it is want of memory
 pub told_fault : (octets : List ℕ) (keys : List SharedKey) (now : ℕ) (request : Option (List ℕ)) (fault : DecodeError) (told : TsigError)
     → told ≡ unreadable_as fault → (fault ≡ decode.OutOfMemory) ⊎ FaultOf octets fault
@@ -70,7 +77,7 @@ told_lacking octets message keys now request told at (inr wrong) = rw wrong.0 (r
 -- a message that is signed is answered by its signature
 pub told_signed : (octets : List ℕ) (message : Contents) (keys : List SharedKey) (now : ℕ) (request : Option (List ℕ)) (owner : Labels) (tsig : TsigFields) (place : ℕ) (result : Result OpenedMessage TsigError)
     → MessageOf octets message → IsSigned message owner tsig → TailAt octets message place
-    → (result ≡ Err OutOfMemory) ⊎ (result ≡ answer_by (key_named owner keys) now request octets place owner tsig)
+    → ((result ≡ Err OutOfMemory) × IsOk (answer_by (key_named owner keys) now request octets place owner tsig)) ⊎ (result ≡ answer_by (key_named owner keys) now request octets place owner tsig)
     → (result ≡ Err OutOfMemory) ⊎ tsig_answer_of octets keys now request result
-told_signed octets message keys now request owner tsig place result at is tail (inl out) = inl out
+told_signed octets message keys now request owner tsig place result at is tail (inl out) = inl out.0
 told_signed octets message keys now request owner tsig place result at is tail (inr same) = inr (rw same (readable at (signed is tail)))

@@ -6,10 +6,12 @@ use Rattle.base64.proofs.EngineFacts.{decode_of-encode_of}
 use Rattle.dnsv_names.specs.Name.{Labels, IsName}
 use Rattle.dnsv_names.specs.Text.{IsTextOf}
 use Rattle.dnsv_names.specs.Lines.{NumberedLine, AreFields}
+use Rattle.dnsv_names.specs.LineLaws.{AreFields-only, HasLines-only}
+use Rattle.dnsv_names.proofs.OneReading.{one_name}
 use Rattle.dnsv_tsig.specs.declared.error.KeyFileError.{KeyFileError}
 use Rattle.dnsv_tsig.specs.Key.{SharedKey, key_named}
-use Rattle.dnsv_tsig.specs.KeyFile.{IsKeyLine, GivesRing, IsRefused}
-use Rattle.dnsv_tsig.proofs.KeyLemmas.{octet_at_place}
+use Rattle.dnsv_tsig.specs.KeyFile.{IsKeyFault, IsKeyLine, IsRingOf, GivesRing, IsRefused}
+use Rattle.dnsv_tsig.proofs.Base64Lemmas.{octet_at_place}
 
 -- octets have one text in base64, of which they are the only ones
 decoded : (secret coded : List ℕ) → ((i : ℕ) → get_or secret i 0 < 256) → coded ≡ encode_of standard secret → decode_of standard coded ≡ Ok secret
@@ -18,14 +20,14 @@ decoded secret coded bytes is =
     ap (decode_of standard) is ∙ decode_of-encode_of standard secret consistent bytes
 
 module _ (one_fields : (line : List ℕ) (a b : List (List ℕ)) → AreFields line a → AreFields line b → a ≡ b)
-    (one_name : (text : List ℕ) (a b : Labels) → IsName a → IsName b → IsTextOf text a → IsTextOf text b → a ≡ b) where
+    (a_name : (text : List ℕ) (a b : Labels) → IsName a → IsName b → IsTextOf text a → IsTextOf text b → a ≡ b) where
   one_key : (line : List ℕ) (key other : SharedKey) → IsKeyLine line key → IsKeyLine line other → key ≡ other
   one_key line key other p q =
       let fields : p.text ∷ p.coded ∷ [] ≡ q.text ∷ q.coded ∷ [] = one_fields line (p.text ∷ p.coded ∷ []) (q.text ∷ q.coded ∷ []) p.fields q.fields in
       let texts : p.text ≡ q.text = cc in
       let codes : p.coded ≡ q.coded = cc in
       let Spells : List ℕ → Type 0 = λ text. IsTextOf text key.name in
-      let names = one_name q.text key.name other.name p.is_name q.is_name (subst Spells texts p.name) q.name in
+      let names = a_name q.text key.name other.name p.is_name q.is_name (subst Spells texts p.name) q.name in
       let first : decode_of standard q.coded ≡ Ok key.secret = sym (ap (decode_of standard) codes) ∙ decoded key.secret p.coded (octet_at_place key.secret p.octets) p.secret in
       let second = decoded other.secret q.coded (octet_at_place other.secret q.octets) q.secret in
       let secrets : key.secret ≡ other.secret = cc in
@@ -62,3 +64,15 @@ module _ (one_fields : (line : List ℕ) (a b : List (List ℕ)) → AreFields l
   one_refusal (line ∷ lines) earlier error other (inr (key, is, inr p)) (inr (key', is', inr q)) =
       let Refuses : SharedKey → Type 0 = λ each. IsRefused (earlier ++ each ∷ []) lines error in
       one_refusal lines (earlier ++ key' ∷ []) error other (subst Refuses (one_key line.octets key key' is is') p.1) q.1
+
+-- ---- of texts
+
+pub IsKeyFault-only : (text : List ℕ) (a b : KeyFileError) → IsKeyFault text a → IsKeyFault text b → a ≡ b
+IsKeyFault-only text a b p q =
+    let Refuses : List NumberedLine → Type 0 = λ lines. IsRefused [] lines a in
+    one_refusal AreFields-only one_name q.0 [] a b (subst Refuses (HasLines-only text p.0 q.0 p.1 q.1) p.2) q.2
+
+pub IsRingOf-no_fault : (text : List ℕ) (ring : List SharedKey) (error : KeyFileError) → IsRingOf text ring → IsKeyFault text error → ⊥
+IsRingOf-no_fault text ring error p q =
+    let Gives : List NumberedLine → Type 0 = λ lines. GivesRing [] lines ring in
+    no_fault_of_a_ring AreFields-only one_name q.0 [] ring error (subst Gives (HasLines-only text p.0 q.0 p.1 q.1) p.2) q.2

@@ -1,5 +1,6 @@
 pub mod AnswerLaws
 pub mod AnswerLemmas
+pub mod Base64Lemmas
 pub mod Decisions
 pub mod KeyLaws
 pub mod KeyLemmas

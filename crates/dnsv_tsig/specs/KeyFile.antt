@@ -44,3 +44,11 @@ IsRingOf text ring = (lines : List NumberedLine) × HasLines text lines × Gives
 -- what a text file is refused for
 abbrev pub IsKeyFault : List ℕ → KeyFileError → Type 0
 IsKeyFault text error = (lines : List NumberedLine) × HasLines text lines × IsRefused [] lines error
+
+-- the first line of a text file is a key's, so that memory is needed before any fault is found
+pub record BeginsWithKey (text : List ℕ) : Type 0 where
+  pub line : NumberedLine
+  pub behind : List NumberedLine
+  pub has : HasLines text (line ∷ behind)
+  pub key : SharedKey
+  pub is : IsKeyLine line.octets key

@@ -1,11 +1,16 @@
 //! Keys that are shared with those who sign.
-ghost use Rattle.std.specs.Prelude.{◌≡◌, ◌⊎◌, ◌++◌, [], ◌∷◌, List, ℕ, None, IfOk, IfErr, OnOk, MatchOption};
+ghost use Rattle.std.specs.Prelude.{◌≡◌, ◌⊎◌, ◌++◌, [], ◌∷◌, Err, List, ℕ, None, IfOk, IfErr, OnOk, MatchOption};
 ghost use Rattle.std.specs.Option.{option_copied};
+ghost use Rattle.base64.specs.Engines.{standard};
+ghost use Rattle.base64.specs.GeneralPurpose.{encode_of};
 ghost use Rattle.dnsv_names.specs.Lines.{AreFields};
-ghost use Rattle.dnsv_tsig.specs.Key.{key_named};
+ghost use Rattle.dnsv_names.specs.Octets.{AreOctets};
+ghost use Rattle.dnsv_tsig.specs.Key.{SharedKey, key_named};
+ghost use Rattle.dnsv_tsig.specs.KeyFile.{IsKeyLine};
+ghost use Rattle.dnsv_tsig.specs.KeyReading.{IsBase64, IsKeyText};
 
+use crate::base64_field::is_base64;
 use crate::error::KeyFileError;
-use base64::DecodeAllocError;
 use base64::engine::general_purpose::STANDARD;
 use dnsv_names::{Line, Lines, Name};
 use std::alloc::{AllocError, Global};
@@ -37,9 +42,6 @@ impl fmt::Debug for Key {
 }
 
 impl Key {
-    ghost use Rattle.dnsv_tsig.specs.Key.{SharedKey};
-    ghost use Rattle.dnsv_tsig.specs.KeyFile.{IsKeyLine};
-
     /// The key's name, as its file spells it.
     pub fn name(&self) -> &Name
         ensures { result.now ≡ self.now.name }
@@ -54,21 +56,15 @@ impl Key {
         &self.secret
     }
 
-    /// The key of a line; `None` where the line is no key's.
-    fn read(alloc: Global, line: &Line) -> Result<Option<Key>, AllocError>
-        ensures { IfOk result (λ found. MatchOption found
-            ((key : SharedKey) → IsKeyLine line.now.octets key → ⊥) (IsKeyLine line.now.octets)) }
+    /// The key of this name, whose octets the field has in base64.
+    fn of(alloc: Global, name: Name, coded: &[u8]) -> Result<Key, AllocError>
+        requires { IsBase64 coded.now }
+        ensures { IfOk result (λ key. (key.name ≡ name) × AreOctets key.secret
+            × (coded.now ≡ encode_of standard key.secret)) }
     {
-        let Some((text, coded)) = two_fields(line) else {
-            return Ok(None);
-        };
-        let Ok(name) = Name::parse(text) else {
-            return Ok(None);
-        };
         match STANDARD.decode(alloc, coded) {
-            Ok(secret) => Ok(Some(Key { name, secret })),
-            Err(DecodeAllocError::OutOfMemory) => Err(AllocError),
-            Err(DecodeAllocError::DecodeError(_)) => Ok(None),
+            Ok(secret) => Ok(Key { name, secret }),
+            Err(_) => Err(AllocError),
         }
     }
 }
@@ -89,8 +85,7 @@ impl Model for KeyRing {
 }
 
 impl KeyRing {
-    ghost use Rattle.dnsv_tsig.specs.Key.{SharedKey};
-    ghost use Rattle.dnsv_tsig.specs.KeyFile.{IsKeyLine, IsRefused, IsRingOf, IsKeyFault};
+    ghost use Rattle.dnsv_tsig.specs.KeyFile.{BeginsWithKey, IsKeyFault, IsRefused, IsRingOf};
 
     /// Reads a file of keys: a line each, the name and then the key in base64 with padding, with one space
     /// between them. Empty lines and lines that begin with `#` are passed over, but counted.
@@ -100,6 +95,9 @@ impl KeyRing {
     pub fn parse(alloc: Global, text: &[u8]) -> Result<KeyRing, KeyFileError>
         ensures ring { IfOk result (IsRingOf text.now) }
         ensures fault { IfErr result (λ error. (error ≡ KeyFileError.OutOfMemory) ⊎ IsKeyFault text.now error) }
+        // A fault is told, unless memory was refused to a key before it.
+        ensures every_fault { (fault : KeyFileError) → IsKeyFault text.now fault → (result ≡ Err fault)
+            ⊎ ((result ≡ Err KeyFileError.OutOfMemory) × BeginsWithKey text.now) }
     {
         let mut ring = KeyRing {
             keys: Vec::new(alloc),
@@ -110,19 +108,22 @@ impl KeyRing {
         Ok(ring)
     }
 
-    /// Adds the key of a line.
+    /// Adds the key of a line. Where memory is refused, the line is that of a key with a new name.
+    #[tactic(auto, using(crate::proofs::KeyLemmas::key_line, crate::proofs::KeyLemmas::new_key, crate::proofs::KeyLemmas::named_again))]
     fn add(&mut self, alloc: Global, line: &Line) -> Result<(), KeyFileError>
         ensures added { OnOk result ((key : SharedKey) × IsKeyLine line.now.octets key
             × (key_named key.name self.old ≡ None) × (self.new ≡ self.old ++ key ∷ [])) }
-        ensures fault { IfErr result (λ error. (error ≡ KeyFileError.OutOfMemory)
+        ensures fault { IfErr result (λ error. ((error ≡ KeyFileError.OutOfMemory)
+            × ((key : SharedKey) × IsKeyLine line.now.octets key × (key_named key.name self.old ≡ None)))
             ⊎ IsRefused self.old (line.now ∷ []) error) }
     {
-        let Some(key) = Key::read(alloc, line)? else {
+        let Some((name, coded)) = key_text(line) else {
             return Err(KeyFileError::Syntax(line.number()));
         };
-        if self.key_named(&key.name).is_some() {
+        if self.key_named(&name).is_some() {
             return Err(KeyFileError::DuplicateKey(line.number()));
         }
+        let key = Key::of(alloc, name, coded)?;
         self.keys.push(key)?;
         Ok(())
     }
@@ -133,6 +134,23 @@ impl KeyRing {
     {
         self.keys.iter().find(|key| key.name == *name)
     }
+}
+
+/// The name of the key that a line is, and its octets in base64; `None` where the line is no key's. It takes no memory.
+fn key_text<'a>(line: &Line<'a>) -> Option<(Name, &'a [u8])>
+    ensures { MatchOption result ((key : SharedKey) → IsKeyLine line.now.octets key → ⊥)
+        (λ found. IsKeyText line.now.octets found.0 found.1.now) }
+{
+    let Some((text, coded)) = two_fields(line) else {
+        return None;
+    };
+    let Ok(name) = Name::parse(text) else {
+        return None;
+    };
+    if !is_base64(coded) {
+        return None;
+    }
+    Some((name, coded))
 }
 
 /// The fields of a line that has two.

@@ -1,5 +1,5 @@
 //! What is inside of a signed message.
-ghost use Rattle.std.specs.Prelude.{◌≡◌, ◌≤◌, ◌⊎◌, Err, length};
+ghost use Rattle.std.specs.Prelude.{◌≡◌, ◌≤◌, ◌⊎◌, Err, IsOk, length};
 ghost use Rattle.std.specs.Option.{option_copied};
 ghost use Rattle.dnsv_names.specs.Name.{same_name};
 ghost use Rattle.dnsv_tsig.specs.Key.{key_named};
@@ -77,7 +77,9 @@ pub fn open(
     answer(alloc, octets, place, &signature, keys, now, request_mac)
 }
 
-/// What is answered to octets by their signature, whose record begins at the place.
+/// What is answered to octets by their signature, whose record begins at the place. Where memory is refused, the message
+/// passes all tests.
+#[tactic(auto, using(crate::proofs::AnswerLemmas::accepted))]
 fn answer(
     alloc: Global,
     octets: &[u8],
@@ -90,7 +92,8 @@ fn answer(
     requires header { 12 ≤ place }
     requires within { place ≤ length octets.now }
     requires mac { length signature.now.tsig.mac ≤ 32 }
-    ensures { (result ≡ Err TsigError.OutOfMemory)
+    ensures { ((result ≡ Err TsigError.OutOfMemory) × IsOk (answer_by (key_named signature.now.owner.now keys.now) now
+        (option_copied request_mac.entry) octets.now place signature.now.owner.now signature.now.tsig))
         ⊎ (result ≡ answer_by (key_named signature.now.owner.now keys.now) now (option_copied request_mac.entry)
         octets.now place signature.now.owner.now signature.now.tsig) }
 {

@@ -37,6 +37,14 @@ module _ (rrset : ReceivedRrset) (dnskeys : List Dnskey) (are : AllZip IsDnskey 
       let count = zip_length IsDnskey rrset.rdata dnskeys read.1 in
       omega arith
 
+  -- what is read of a record
+  pub reads_as : (n : ℕ) (dnskey : Dnskey) (rdata : List ℕ) → n < length dnskeys → dnskey ≡ get_or dnskeys n dnskey
+      → ((other : List ℕ) → get_or rrset.rdata n other ≡ rdata) → IsDnskey rdata dnskey
+  reads_as n dnskey rdata below at there =
+      let read = read_of rrset dnskeys (rrset.rtype == 48) refl are n below in
+      subst (λ (d : Dnskey). IsDnskey rdata d) (sym at)
+      (subst (λ (r : List ℕ). IsDnskey r (get_or dnskeys n dnskey)) (there []) (zip_at IsDnskey rrset.rdata dnskeys n [] dnskey read.1 (within_rdata n below)))
+
   pub keys_none : (a : List DnskeyRecord) → AddsJust (IsKeyBefore rrset 0) a a
   keys_none a = adds_nothing (IsKeyBefore rrset 0) a (λ key before. absurd (omega (arith, before.below)))
 
@@ -48,8 +56,7 @@ module _ (rrset : ReceivedRrset) (dnskeys : List Dnskey) (are : AllZip IsDnskey 
   keys_more n dnskey key a b below at owner rdata reads so_far =
       let read = read_of rrset dnskeys (rrset.rtype == 48) refl are n below in
       let inside : n < length rrset.rdata = within_rdata n below in
-      let here : IsDnskey key.rdata key.dnskey =
-      subst (λ (d : Dnskey). IsDnskey key.rdata d) (sym at ∙ sym reads) (subst (λ (r : List ℕ). IsDnskey r (get_or dnskeys n dnskey)) (rdata []) (zip_at IsDnskey rrset.rdata dnskeys n [] dnskey read.1 inside)) in
+      let here : IsDnskey key.rdata key.dnskey = subst (λ (d : Dnskey). IsDnskey key.rdata d) (sym reads) (reads_as n dnskey key.rdata below at rdata) in
       let new : IsKeyBefore rrset (n + 1) key =
       record { place = n; below = omega arith; within = inside; at = rdata key.rdata; rtype = read.0; owner = owner; is = here } in
       let one : (other : DnskeyRecord) (before : IsKeyBefore rrset (n + 1) other) → before.place ≡ n → other ≡ key =

@@ -1,5 +1,5 @@
 -- Reading a file of statements, line by line.
-use Rattle.std.proofs.Common.{◌≡◌, ℕ, List, [], ◌∷◌, ◌++◌, refl, sym, ap, ◌∙◌, subst, append_assoc, arith, Bool, true, false, cond, Option, Some, None, ◌⊎◌, inl, inr}
+use Rattle.std.proofs.Common.{◌≡◌, ℕ, Result, Err, List, [], ◌∷◌, ◌++◌, refl, sym, ap, ◌∙◌, subst, append_assoc, arith, Bool, true, false, cond, Option, Some, None, ◌⊎◌, inl, inr, ⊎_elim}
 use Rattle.std.proofs.lemmas.Cmp.{tied_itself}
 use Rattle.std.proofs.lemmas.List.{append-nil}
 use Rattle.std.proofs.lemmas.List.Elements.{Contains-push, Contains-push_cases, Contains-append_left}
@@ -12,8 +12,9 @@ use Rattle.std.specs.declared.cmp.Ordering.TheVariants.{Less, Equal, Greater}
 use Rattle.dnsv_names.specs.Lines.{HasLines, NumberedLine}
 use Rattle.dnsv_verifier.specs.Entry.{entry_cmp}
 use Rattle.dnsv_verifier.specs.EntryLaws.{entry_cmp_total, entry_Equal}
-use Rattle.dnsv_verifier.specs.Statements.{States, AreStatements, Agree, AreStatementsOf, IsFaultOf, IsSaid, answer_by, listed_answer, other_word}
-use Rattle.dnsv_verifier.specs.StatementsReading.{AddsStatement, RefusesLine, said_in}
+use Rattle.dnsv_verifier.specs.Statements.{States, AreStatements, Agree, AreStatementsOf, BeginsWithStatement, IsFaultOf, IsSaid, answer_by, listed_answer, other_word}
+use Rattle.dnsv_verifier.specs.StatementsLaws.{AreStatementsOf-no_fault, IsFaultOf-only}
+use Rattle.dnsv_verifier.specs.StatementsReading.{AddsStatement, IsStatement, RefusesLine, said_in}
 use Rattle.dnsv_verifier.specs.declared.answer.Answer.{Answer}
 use Rattle.dnsv_verifier.specs.declared.entry.Entry.{Entry}
 use Rattle.dnsv_verifier.specs.declared.statement.Word.{Word}
@@ -112,6 +113,39 @@ fault_of text before line after said (Syntax number) has so_far refuses =
     inr record { before = before; line = line; after = after; has = has; statements = so_far.statements; each = so_far.each; agree = says_agree so_far; there = refuses }
 fault_of text before line after said (Contradiction number) has so_far refuses =
     inr record { before = before; line = line; after = after; has = has; statements = so_far.statements; each = so_far.each; agree = says_agree so_far; there = (refuses.0, (refuses.1.0, refuses.1.1, refuses.1.2, so_far.found refuses.1.0 (other_word refuses.1.1) refuses.1.3)) }
+
+-- the first of lines that are statements is one
+begins_before : (text : List ℕ) (line : NumberedLine) (lines behind : List NumberedLine) (statements : List (Entry × Word))
+    → HasLines text (line ∷ behind) → AreStatements (line ∷ lines) statements → BeginsWithStatement text
+begins_before text line lines behind [] has each = absurd each
+begins_before text line lines behind (s ∷ statements) has each =
+    record { line = line; behind = behind; has = has; statement = s; states = each.0 }
+
+begins : (text : List ℕ) (before : List NumberedLine) (line : NumberedLine) (after : List NumberedLine) (statements : List (Entry × Word))
+    → HasLines text (before ++ line ∷ after) → AreStatements before statements → IsStatement line.octets → BeginsWithStatement text
+begins text [] line after statements has each is =
+    record { line = line; behind = after; has = has; statement = (is.entry, is.word); states = is.states }
+begins text (l ∷ before) line after statements has each is = begins_before text l before (before ++ line ∷ after) statements has each
+
+-- the fault of a text is told where a line is refused, unless memory was
+pub fault_told : {T : Type 0} (text : List ℕ) (before : List NumberedLine) (line : NumberedLine) (after : List NumberedLine) (said : BTreeMap Entry Word) (error : StatementsError)
+    → HasLines text (before ++ line ∷ after) → SaysSoFar before said → RefusesLine error line said
+    → (fault : StatementsError) → IsFaultOf text fault
+    → (◌≡◌ {A = Result T StatementsError} (Err error) (Err fault)) ⊎ ((◌≡◌ {A = Result T StatementsError} (Err error) (Err OutOfMemory)) × BeginsWithStatement text)
+fault_told text before line after said OutOfMemory has so_far refuses fault is =
+    inr (refl, begins text before line after so_far.statements has so_far.each refuses)
+fault_told text before line after said (Syntax number) has so_far refuses fault is =
+    ⊎_elim (λ (out : Syntax number ≡ OutOfMemory). absurd (cc)) (λ (first : IsFaultOf text (Syntax number)). inl (ap Err (IsFaultOf-only text (Syntax number) fault first is)))
+    (fault_of text before line after said (Syntax number) has so_far refuses)
+fault_told text before line after said (Contradiction number) has so_far refuses fault is =
+    ⊎_elim (λ (out : Contradiction number ≡ OutOfMemory). absurd (cc)) (λ (first : IsFaultOf text (Contradiction number)). inl (ap Err (IsFaultOf-only text (Contradiction number) fault first is)))
+    (fault_of text before line after said (Contradiction number) has so_far refuses)
+
+-- a text whose lines were all read has no fault
+pub none_at_fault : (text : List ℕ) (lines : List NumberedLine) (said : BTreeMap Entry Word) → HasLines text lines
+    → SaysSoFar lines said → (fault : StatementsError) → IsFaultOf text fault → ⊥
+none_at_fault text lines said has so_far fault is =
+    AreStatementsOf-no_fault text so_far.statements fault (record { lines = lines; has = has; each = so_far.each; agree = says_agree so_far }) is
 
 said_by : (lines : List NumberedLine) (said : BTreeMap Entry Word) (so_far : SaysSoFar lines said) (entry : Entry) (found : Option Word) → said_in said entry ≡ found → IsSaid so_far.statements entry (answer_by found)
 said_by lines said so_far entry None e = λ word contains. let was = so_far.kept entry word contains in absurd (cc)

@@ -54,6 +54,14 @@ pub record AreStatementsOf (text : List ℕ) (statements : List (Entry × Word))
   pub each : AreStatements lines statements
   pub agree : Agree statements
 
+-- the first line of a file is a statement, so that memory is needed before any fault is found
+pub record BeginsWithStatement (text : List ℕ) : Type 0 where
+  pub line : NumberedLine
+  pub behind : List NumberedLine
+  pub has : HasLines text (line ∷ behind)
+  pub statement : Entry × Word
+  pub states : States line.octets statement.0 statement.1
+
 -- what is wrong with a line behind statements
 abbrev pub IsFaultOfLine : StatementsError → NumberedLine → List (Entry × Word) → Type 0
 IsFaultOfLine OutOfMemory line before = ⊥

@@ -1,5 +1,6 @@
 //! DNSKEY records with what is asked of them.
 ghost use Rattle.std.specs.Prelude.{◌≡◌};
+ghost use Rattle.dnsv_records.specs.Dnskey.{IsDnskey};
 ghost use Rattle.dnsv_records.specs.KeyTag.{key_tag_of};
 
 use dnsv_names::Name;
@@ -19,6 +20,7 @@ pub struct KeyRecord<'a> {
 impl<'a> Model for KeyRecord<'a> {
     ghost use Rattle.std.specs.Prelude.{◌≡◌};
     ghost use Rattle.dnsv_verifier.specs.Admissible.{DnskeyRecord};
+    ghost use Rattle.dnsv_records.specs.Dnskey.{IsDnskey};
     ghost use Rattle.dnsv_records.specs.KeyTag.{key_tag_of};
 
     ghost Value = { DnskeyRecord };
@@ -29,12 +31,13 @@ impl<'a> Model for KeyRecord<'a> {
       dnskey = key.dnskey.now;
     } };
 
-    ghost invariant = { λ key. key.key_tag.0 ≡ key_tag_of key.rdata.now };
+    ghost invariant = { λ key. (key.key_tag.0 ≡ key_tag_of key.rdata.now) × IsDnskey key.rdata.now key.dnskey.now };
 }
 
 impl<'a> KeyRecord<'a> {
-    /// The record of this owner and RDATA, which is read as `dnskey`.
+    /// The record of this owner and RDATA. `dnskey` has to be what was read of that RDATA.
     pub fn new(owner: &'a Name, rdata: &'a [u8], dnskey: &'a Dnskey) -> KeyRecord<'a>
+        requires { IsDnskey rdata.now dnskey.now }
         ensures { result ≡ record { owner = owner.now; rdata = rdata.now; dnskey = dnskey.now } }
     {
         KeyRecord {

@@ -1,5 +1,6 @@
 //! Keys that entries share.
 ghost use Rattle.std.specs.Prelude.{◌≡◌, ◌↔◌, IfOk, IsTrue};
+ghost use Rattle.dnsv_records.specs.Dnskey.{IsDnskey};
 ghost use Rattle.dnsv_verifier.specs.Admissible.{MayHaveMade};
 ghost use Rattle.dnsv_verifier.specs.Asking.{entry_with, key_name_cmp, name_of_key};
 
@@ -32,13 +33,14 @@ impl<'a> Model for SharedKey<'a> {
 }
 
 impl<'a> SharedKey<'a> {
-    /// The record of this owner and RDATA, which is read as `dnskey`.
+    /// The record of this owner and RDATA. `dnskey` has to be what was read of that RDATA.
     pub(crate) fn new(
         alloc: Global,
         owner: &'a Name,
         rdata: &'a [u8],
         dnskey: &'a Dnskey,
     ) -> Result<SharedKey<'a>, AllocError>
+        requires { IsDnskey rdata.now dnskey.now }
         ensures { IfOk result (λ key. key ≡ record { owner = owner.now; rdata = rdata.now; dnskey = dnskey.now }) }
     {
         let key = Octets::copy_of(alloc, dnskey.key.as_slice())?;

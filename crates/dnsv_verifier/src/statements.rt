@@ -1,6 +1,6 @@
 //! Files of statements.
-ghost use Rattle.std.specs.Prelude.{◌≡◌, ◌⊎◌, ℕ, List, Vec, IfOk, IfErr, OnOk};
-ghost use Rattle.dnsv_verifier.specs.Statements.{AreStatementsOf, IsFaultOf, IsSaid, listed_answer};
+ghost use Rattle.std.specs.Prelude.{◌≡◌, ◌⊎◌, ℕ, Err, List, Vec, IfOk, IfErr, OnOk};
+ghost use Rattle.dnsv_verifier.specs.Statements.{AreStatementsOf, BeginsWithStatement, IsFaultOf, IsSaid, listed_answer};
 ghost use Rattle.dnsv_verifier.specs.StatementsReading.{AddsStatement, Lists, RefusesEntry, RefusesLine};
 ghost use Rattle.dnsv_verifier.specs.declared.entry.Entry.{Entry};
 ghost use Rattle.dnsv_verifier.specs.declared.statement.Word.{Word};
@@ -103,6 +103,9 @@ impl Statements {
         // A refusal is the first fault, unless memory was refused.
         ensures fault { IfErr result (λ error. (error ≡ StatementsError.OutOfMemory)
             ⊎ IsFaultOf text.now error) }
+        // A fault is told, unless memory was refused to a statement before it.
+        ensures every_fault { (fault : StatementsError) → IsFaultOf text.now fault → (result ≡ Err fault)
+            ⊎ ((result ≡ Err StatementsError.OutOfMemory) × BeginsWithStatement text.now) }
     {
         let mut said = BTreeMap::new(alloc);
         for line in Lines::new(text) {

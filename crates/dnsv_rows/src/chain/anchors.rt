@@ -1,10 +1,10 @@
 //! Files of trust anchors, and the keys that they match.
 
+use crate::evidence::dnskey_of;
 use crate::printed;
 use crate::row::{Row, RowError};
 use dnsv_chain::{Anchor, Anchors, AnchorsError};
 use dnsv_names::Name;
-use dnsv_records::{Dnskey, RecordError};
 use dnsv_verifier::KeyRecord;
 use std::alloc::Global;
 
@@ -80,15 +80,6 @@ pub fn trust_anchors(row: &Row, place: usize) -> Result<Anchors, RowError> {
     match Anchors::parse(row.alloc(), row.octets(place)?.as_slice()) {
         Ok(anchors) => Ok(anchors),
         Err(AnchorsError::OutOfMemory) => Err(RowError::OutOfMemory),
-        Err(_) => Err(RowError::Malformed),
-    }
-}
-
-/// What the RDATA of a DNSKEY record says.
-pub fn dnskey_of(alloc: Global, rdata: &[u8]) -> Result<Dnskey, RowError> {
-    match Dnskey::read(alloc, rdata) {
-        Ok(dnskey) => Ok(dnskey),
-        Err(RecordError::OutOfMemory) => Err(RowError::OutOfMemory),
         Err(_) => Err(RowError::Malformed),
     }
 }

@@ -1,6 +1,6 @@
 //! Which DS records of an RRset count, and the keys that they match.
 
-use super::anchors::dnskey_of;
+use crate::evidence::dnskey_of;
 use crate::printed;
 use crate::row::{Row, RowError};
 use dnsv_chain::{has_usable, has_usable_match, is_match, is_usable};

@@ -1,5 +1,6 @@
 use Rattle.std.proofs.Common.{◌≡◌, ◌++◌, ◌∷◌, [], List, ℕ, if◌then◌else◌, sym, ap, ◌∙◌, subst}
 use Rattle.dnsv_names.specs.Name.{Labels, same_name}
+use Rattle.dnsv_verifier.proofs.KeyLemmas.{reads_as}
 use Rattle.dnsv_verifier.specs.Admissible.{DnskeyRecord}
 use Rattle.dnsv_chain.specs.ByOwner.{values_at}
 use Rattle.dnsv_chain.specs.Walk.{HasRdata}
@@ -10,6 +11,10 @@ use Rattle.dnsv_chain.proofs.chain.add_keys.Goals.{then-not-has_rdata+in_ok-add,
 pub rdata-rdata-requires : goal.rdata-rdata-requires
 rdata-rdata-requires c =
     place_within c.args.set.now c.dnskeys-dnskey-items.result.now c.loop-place.place c.requires c.dnskeys-dnskey-items.ensures c.loop-place-test.true
+
+pub new-requires : goal.new-requires
+new-requires c =
+    reads_as c.args.set.now c.dnskeys-dnskey-items.result.now c.dnskeys-dnskey-items.ensures c.loop-place.place c.dnskey-item.result c.rdata-rdata.result.now c.loop-place-test.true c.dnskey-item.is c.rdata-rdata.ensures.value
 
 pub loop-place-preserved : goal.loop-place-preserved
 loop-place-preserved c =

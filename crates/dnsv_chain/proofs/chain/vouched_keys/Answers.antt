@@ -1,6 +1,7 @@
 use Rattle.std.proofs.Common.{◌≡◌, ◌+◌, Bor, List, ℕ, map, sym, ap, ◌∙◌, subst}
 use Rattle.std.proofs.lemmas.Bool.{false≢true}
 use Rattle.dnsv_canonical.specs.Rrsets.{ReceivedRrset}
+use Rattle.dnsv_verifier.proofs.KeyLemmas.{reads_as}
 use Rattle.dnsv_verifier.specs.Admissible.{DnskeyRecord}
 use Rattle.dnsv_chain.specs.Walk.{AreVouchedTo}
 use Rattle.dnsv_chain.proofs.ChainLemmas.{place_within, all_places, key_stands, vouched_more, vouched_skip, all_vouched}
@@ -10,6 +11,10 @@ use Rattle.dnsv_chain.proofs.chain.vouched_keys.Goals.{then-is_vouched_for+in_ok
 pub rdata-requires : goal.rdata-requires
 rdata-requires c =
     place_within c.args.set.now c.dnskeys-dnskey-items.result.now c.loop-place.place c.requires c.dnskeys-dnskey-items.ensures c.loop-place-test.true
+
+pub new-key-requires : goal.new-key-requires
+new-key-requires c =
+    reads_as c.args.set.now c.dnskeys-dnskey-items.result.now c.dnskeys-dnskey-items.ensures c.loop-place.place c.dnskey-item.result c.rdata.result.now c.loop-place-test.true c.dnskey-item.is c.rdata.ensures.value
 
 pub loop-place-preserved : goal.loop-place-preserved
 loop-place-preserved c =

@@ -1,6 +1,6 @@
 use Rattle.std.proofs.Common.{◌≡◌, rules}
 use Rattle.std.proofs.lemmas.Result.{err_from_is_err_and}
-use Rattle.dnsv_verifier.proofs.StatementsLemmas.{says_none, says_more, has_more, has_next, has_all, fault_of, all_said}
+use Rattle.dnsv_verifier.proofs.StatementsLemmas.{says_none, says_more, has_more, has_next, has_all, fault_of, fault_told, none_at_fault, all_said}
 use Rattle.dnsv_verifier.proofs.statements.Statements.parse.Goals as goal
 
 pub loop-line-init : goal.loop-line-init
@@ -19,6 +19,20 @@ returns-in_err-add-clause-fault c =
     let p = err_from_is_err_and c.from_residual.result c.from_residual.ensures.1 in
     rw (p.1, p.2)
     (fault_of c.args.text.now c.loop-line.yielded c.in-Some.line c.next.new.self c.loop-line.said _ (has_next c.args.text.now c.loop-line.yielded _ _ c.in-Some.line c.in-Some.ensures.steps c.loop-line.invariant.has) c.loop-line.invariant.says c.in_err-add.ensures.refuses)
+
+pub returns-in_err-add-clause-every_fault : goal.returns-in_err-add-clause-every_fault
+returns-in_err-add-clause-every_fault c = λ fault is.
+    let p = err_from_is_err_and c.from_residual.result c.from_residual.ensures.1 in
+    rw (p.1, p.2)
+    (fault_told c.args.text.now c.loop-line.yielded c.in-Some.line c.next.new.self c.loop-line.said _ (has_next c.args.text.now c.loop-line.yielded _ _ c.in-Some.line c.in-Some.ensures.steps c.loop-line.invariant.has) c.loop-line.invariant.says c.in_err-add.ensures.refuses fault is)
+
+pub returns-in_err-collect-clause-every_fault : goal.returns-in_err-collect-clause-every_fault
+returns-in_err-collect-clause-every_fault c = λ fault is.
+    absurd (none_at_fault c.args.text.now c.loop-line.yielded c.loop-line.said (has_all c.args.text.now c.loop-line.yielded _ c.in-None.ensures.steps.0 c.loop-line.invariant.has) c.loop-line.invariant.says fault is)
+
+pub returns-clause-every_fault : goal.returns-clause-every_fault
+returns-clause-every_fault c = λ fault is.
+    absurd (none_at_fault c.args.text.now c.loop-line.yielded c.loop-line.said (has_all c.args.text.now c.loop-line.yielded _ c.in-None.ensures.steps.0 c.loop-line.invariant.has) c.loop-line.invariant.says fault is)
 
 pub returns-clause-found : goal.returns-clause-found
 returns-clause-found c =
