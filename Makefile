@@ -34,7 +34,8 @@ examples: | $(program)
 wrong-bodies:
 	tools/wrong-bodies $(CRATES)
 
-# The tests of the tools around the program; they need python3 with its package cryptography, and nothing of the kit.
+# The tests of the tools around the program, and of the program where it is built; they need python3 with its package
+# cryptography, and nothing of the kit.
 test-tools:
 	python3 -m unittest discover -s tools/tests
 

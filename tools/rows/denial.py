@@ -14,8 +14,8 @@ import denial_questions
 
 PARTS = {
     "evidence": [denial_evidence.lines, denial_limits.lines],
-    "questions": [denial_questions.rows],
-    "answers": [denial_questions.answers],
+    "questions": [denial_questions.rows, denial_questions.open_rows],
+    "answers": [denial_questions.answers, denial_questions.open_answers],
     "limits": [denial_limits.answers],
 }
 

@@ -1,5 +1,5 @@
 """The messages of evidence of the rows of dnsv_denial, each of one RRset but where a whole chain is in one."""
-from denial_zones import DS, MIXED, NODES, NSECS, RFC5155, SMALL
+from denial_zones import DS, LOOSE, MIXED, NODES, NSECS, RFC5155, SMALL
 from messages import DNSKEY, key_message, message, signed
 from zones import Hashing, nsec, nsec3_chain, nsec_chain
 
@@ -103,5 +103,10 @@ def chains():
     yield let("hashed:open", *hashed(NODES[:6], Hashing(12, "aabbccdd", flags=1)))
     for name, zone in [("small", SMALL), ("mixed", MIXED)]:
         yield let(f"{name}:nsec", *(signed(owner, "NSEC", rdata) for owner, rdata in nsec_chain(zone)))
-        nodes = [(node, " ".join(zone.types.get(node, []))) for node in zone.nodes()]
-        yield let(f"{name}:nsec3", *hashed(nodes, Hashing(1, "ab")))
+        yield let(f"{name}:nsec3", *hashed(typed(zone, zone.nodes()), Hashing(1, "ab")))
+    for name, zone in [("small", SMALL), ("loose", LOOSE)]:
+        yield let(f"{name}:open", *hashed(typed(zone, zone.signed_nodes()), Hashing(1, "ab", flags=1)))
+
+
+def typed(zone, nodes):
+    return [(node, " ".join(zone.types.get(node, []))) for node in nodes]

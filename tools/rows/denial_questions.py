@@ -1,11 +1,13 @@
 """Questions of every name of small zones to a depth of three labels, and what looking it up gives."""
-from denial_zones import MIXED, SMALL
+from denial_zones import LOOSE, MIXED, SMALL
 from messages import TYPES, labels_of
 from zones import Hashing, child, is_at_or_below, is_between, key_of, successors, suffix
 
 LABELS = ["a", "sub", "w", "*", "x", "y", "q"]
 ASKED = ["A", "NS", "CNAME", "SOA", "TXT", "DS"]
 ZONES = {"small": SMALL, "mixed": MIXED}
+# Those by a chain with Opt-Out.
+OPEN_ZONES = {"small": SMALL, "loose": LOOSE}
 
 
 def families():
@@ -19,13 +21,22 @@ def families():
 
 
 def rows():
-    types = ",".join(str(TYPES[each]) for each in ASKED)
     for name in ZONES:
         for kind in ["nsec", "nsec3"]:
-            for family in families():
-                yield f"lacks $key,${name}:{kind} $anchors 1500 {types} {' '.join(family)}"
-            for family in families():
-                yield f"closers $key,${name}:{kind} $anchors 1500 example. {' '.join(family)}"
+            yield from rows_of(f"{name}:{kind}")
+
+
+def open_rows():
+    for name in OPEN_ZONES:
+        yield from rows_of(f"{name}:open")
+
+
+def rows_of(chain):
+    types = ",".join(str(TYPES[each]) for each in ASKED)
+    for family in families():
+        yield f"lacks $key,${chain} $anchors 1500 {types} {' '.join(family)}"
+    for family in families():
+        yield f"closers $key,${chain} $anchors 1500 example. {' '.join(family)}"
 
 
 def answers():
@@ -35,6 +46,14 @@ def answers():
                 yield " ".join(lacked(zone, each) for each in family)
             for family in families():
                 yield " ".join(closers(zone, is_absent, each) for each in family)
+
+
+def open_answers():
+    for zone in OPEN_ZONES.values():
+        for family in families():
+            yield " ".join(open_lacked(zone, each) for each in family)
+        for family in families():
+            yield " ".join(open_closers(zone, each) for each in family)
 
 
 def lacked(zone, owner):
@@ -79,3 +98,25 @@ def closer(zone, is_absent, owner, labels):
     assert zone.is_elsewhere(owner, "DS") or is_shown != zone.is_node(next_closer)
     assert not (is_shown and zone.is_node(next_closer))
     return "+" if is_shown else "-"
+
+
+def open_lacked(zone, owner):
+    """As `lacks` writes it by a chain with Opt-Out: what has no record of its own is never denied."""
+    is_signed = owner in zone.signed_nodes()
+    types = ",".join(str(TYPES[each]) for each in ASKED if is_signed and zone.lacks_data(owner, each)) or "-"
+    cut = zone.open_closer(owner)
+    # Wherever looking the name up gives nothing, that is told or the name may be unsigned, and so below a delegation.
+    assert is_signed or cut or not zone.lacks_name(owner)
+    assert is_signed or cut or not zone.lacks_data(owner, "A")
+    assert cut or not zone.unsigned_cut(owner)
+    return f"-/{types}/{len(labels_of(cut)) if cut else '-'}"
+
+
+def open_closers(zone, owner):
+    """As `closers` writes it by such a chain."""
+    return "".join(open_closer(zone, owner, labels) for labels in range(len(labels_of(owner))))
+
+
+def open_closer(zone, owner, labels):
+    is_above = is_at_or_below(suffix(owner, labels), zone.apex)
+    return "~" if is_above and suffix(owner, labels + 1) not in zone.signed_nodes() else "-"

@@ -11,6 +11,12 @@ MIXED = Zone("example.", [
     ("example.", "NS SOA"), ("*.example.", "CNAME"), ("a.example.", "A DNAME"), ("sub.example.", "NS DS"),
     ("*.x.w.example.", "TXT"), ("y.example.", "NS")])
 
+# Delegations without DS, one below an empty non-terminal that has nothing else, one below another; a delegation with DS,
+# and a wildcard.
+LOOSE = Zone("example.", [
+    ("example.", "NS SOA"), ("a.example.", "A"), ("sub.example.", "NS DS"), ("y.w.example.", "NS"),
+    ("*.x.example.", "TXT"), ("a.y.example.", "A"), ("q.y.example.", "NS")])
+
 APEX = "NS SOA RRSIG NSEC DNSKEY"
 
 # NSEC records of `example.` by their names: the owner, the next name and the types.

@@ -78,9 +78,27 @@ class Zone:
 
     def nodes(self):
         """All names, the empty non-terminals too, in canonical order."""
-        found = {each for owner in self.types for each in self.ancestors(owner) + [owner]
+        return self.nodes_of(self.types)
+
+    def signed_nodes(self):
+        """Those that a chain with Opt-Out has (RFC 5155 7.1): none for delegations without DS, and for what is there
+        through these alone."""
+        return self.nodes_of(each for each in self.types if not self.is_delegation(each) or self.has(each, "DS"))
+
+    def nodes_of(self, owners):
+        found = {each for owner in owners for each in self.ancestors(owner) + [owner]
                  if is_at_or_below(each, self.apex)}
         return sorted(found, key=key_of)
+
+    def open_closer(self, owner):
+        """The next closer name by a chain with Opt-Out, which may be there without a record (RFC 5155 6)."""
+        signed = self.signed_nodes()
+        if owner in signed:
+            return None
+        encloser = [each for each in self.ancestors(owner) if each in signed][-1]
+        if self.is_delegation(encloser) or self.has(encloser, "DNAME"):
+            return None
+        return suffix(owner, len(labels_of(encloser)) + 1)
 
 
 def is_between(owner, following, each):
