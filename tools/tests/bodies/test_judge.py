@@ -31,7 +31,6 @@ DOES_NOT_FIT = (
 
 
 class Judge(unittest.TestCase):
-
     def trial(self, old="LIMIT", new="0"):
         file = Path("upper/must-fail/one.edit")
         return judge.Trial(bodies.Edit(file, (("src/names.rt", old, new),), bodies.Function("names", "", "first")))
