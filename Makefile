@@ -45,13 +45,15 @@ pages: | $(program)
 	tools/pages examples/README.md
 	HOME=$$(mktemp -d) tools/pages README.md "To install it" "From a capture to a verdict"
 
-# The program, its manual page, and the tools as dnssec_check-capture and dnssec_check-verify, below PREFIX.
+# The program, its manual page, and the tools as dnssec_check-capture and -verify, below PREFIX.
 install: | $(program)
-	install -d $(DESTDIR)$(PREFIX)/bin $(DESTDIR)$(PREFIX)/lib/dnssec_check/capturing $(DESTDIR)$(PREFIX)/share/man/man1
+	install -d $(DESTDIR)$(PREFIX)/bin $(DESTDIR)$(PREFIX)/share/man/man1
+	install -d $(patsubst %,$(DESTDIR)$(PREFIX)/lib/dnssec_check/%,capturing verifying)
 	install -m 755 $(program) $(DESTDIR)$(PREFIX)/bin
 	install -m 755 tools/capture tools/verify $(DESTDIR)$(PREFIX)/lib/dnssec_check
-	install -m 644 tools/command.py tools/curves.py $(DESTDIR)$(PREFIX)/lib/dnssec_check
+	install -m 644 tools/command.py $(DESTDIR)$(PREFIX)/lib/dnssec_check
 	install -m 644 tools/capturing/*.py $(DESTDIR)$(PREFIX)/lib/dnssec_check/capturing
+	install -m 644 tools/verifying/*.py $(DESTDIR)$(PREFIX)/lib/dnssec_check/verifying
 	ln -sf ../lib/dnssec_check/capture $(DESTDIR)$(PREFIX)/bin/dnssec_check-capture
 	ln -sf ../lib/dnssec_check/verify $(DESTDIR)$(PREFIX)/bin/dnssec_check-verify
 	install -m 644 docs/dnssec_check.1 $(DESTDIR)$(PREFIX)/share/man/man1

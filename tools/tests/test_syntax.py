@@ -5,10 +5,11 @@ import unittest
 
 from tool import TOOLS
 
-CAPTURING = [str(path.relative_to(TOOLS)) for path in sorted((TOOLS / "capturing").glob("*.py"))]
-NAMES = ("verify", "capture", "pages", "command.py", "curves.py", *CAPTURING)
-PACKAGES = {"verify": {"command", "curves"}, "curves.py": {"cryptography"}, "capture": {"command", "capturing"},
-            "pages": {"command"}}
+FOLDERS = ("capturing", "verifying")
+NAMES = ["verify", "capture", "pages", "command.py"]
+NAMES += [str(path.relative_to(TOOLS)) for folder in FOLDERS for path in sorted((TOOLS / folder).glob("*.py"))]
+PACKAGES = {"verify": {"command", "verifying"}, "verifying/entries.py": {"verifying"},
+            "verifying/curves.py": {"cryptography"}, "capture": {"command", "capturing"}, "pages": {"command"}}
 
 
 def imported(tree):
