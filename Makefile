@@ -45,17 +45,19 @@ pages: | $(program)
 	tools/pages examples/README.md
 	HOME=$$(mktemp -d) tools/pages README.md "To install it" "From a capture to a verdict"
 
-# The program, its manual page, and the tools as dnssec_check-capture and -verify, below PREFIX.
+# The program, its manual page, and the tools as dnssec_check-capture, -verify and -judge, below PREFIX.
 install: | $(program)
 	install -d $(DESTDIR)$(PREFIX)/bin $(DESTDIR)$(PREFIX)/share/man/man1
-	install -d $(patsubst %,$(DESTDIR)$(PREFIX)/lib/dnssec_check/%,capturing verifying)
+	install -d $(patsubst %,$(DESTDIR)$(PREFIX)/lib/dnssec_check/%,capturing verifying judging)
 	install -m 755 $(program) $(DESTDIR)$(PREFIX)/bin
-	install -m 755 tools/capture tools/verify $(DESTDIR)$(PREFIX)/lib/dnssec_check
+	install -m 755 tools/capture tools/verify tools/judge $(DESTDIR)$(PREFIX)/lib/dnssec_check
 	install -m 644 tools/command.py $(DESTDIR)$(PREFIX)/lib/dnssec_check
 	install -m 644 tools/capturing/*.py $(DESTDIR)$(PREFIX)/lib/dnssec_check/capturing
 	install -m 644 tools/verifying/*.py $(DESTDIR)$(PREFIX)/lib/dnssec_check/verifying
+	install -m 644 tools/judging/*.py tools/judging/numbers.tsv $(DESTDIR)$(PREFIX)/lib/dnssec_check/judging
 	ln -sf ../lib/dnssec_check/capture $(DESTDIR)$(PREFIX)/bin/dnssec_check-capture
 	ln -sf ../lib/dnssec_check/verify $(DESTDIR)$(PREFIX)/bin/dnssec_check-verify
+	ln -sf ../lib/dnssec_check/judge $(DESTDIR)$(PREFIX)/bin/dnssec_check-judge
 	install -m 644 docs/dnssec_check.1 $(DESTDIR)$(PREFIX)/share/man/man1
 
 $(program):

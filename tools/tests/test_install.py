@@ -25,7 +25,7 @@ class Install(unittest.TestCase):
             subprocess.run(words, cwd=TOOLS.parent, check=True, capture_output=True)
             place = pathlib.Path(room) / "opt" / "x"
             tools = place / "bin"
-            wanted = {"dnssec_check", "dnssec_check-capture", "dnssec_check-verify"}
+            wanted = {"dnssec_check", "dnssec_check-capture", "dnssec_check-verify", "dnssec_check-judge"}
             self.assertEqual({path.name for path in tools.iterdir()}, wanted)
             self.assertEqual((place / "share/man/man1/dnssec_check.1").read_bytes(), MANUAL.read_bytes())
             capture = place / "capture"
