@@ -39,7 +39,7 @@ test-tools:
 	python3 -m unittest discover -s tools/tests
 
 # The commands of the pages, against what the pages show, with the program and the tools as they are installed.
-# CAPTURING.md needs root, and the packages that it names; AUDITING.md needs parallel.
+# CAPTURING.md needs root, and the packages that it names; AUDITING.md needs parallel and python3-distributed.
 installed = $(CURDIR)/out/installed
 pages: export PATH := $(installed)/bin:$(PATH)
 pages: | $(program)
@@ -47,11 +47,11 @@ pages: | $(program)
 	tools/pages docs/CAPTURING.md
 	tools/pages docs/AUDITING.md
 	tools/pages examples/README.md
-	HOME=$$(mktemp -d) tools/pages README.md dnssec_check "To install it"
+	HOME=$$(mktemp -d) tools/pages README.md dnssec_check "To install it" "The program by itself"
 
-# The program, the tools as dnssec_check-capture and -verify, their manual pages and bash's completions.
-tools = capture verify
-modules = capturing verifying
+# The program, the tools as dnssec_check-capture, -verify and -judge, their manual pages and bash's completions.
+tools = capture verify judge
+modules = capturing verifying judging
 lib = $(DESTDIR)$(PREFIX)/lib/dnssec_check
 man = $(DESTDIR)$(PREFIX)/share/man/man1
 completions = $(DESTDIR)$(PREFIX)/share/bash-completion/completions
@@ -61,6 +61,7 @@ install: | $(program)
 	install -m 755 $(tools:%=tools/%) $(lib)
 	install -m 644 tools/command.py $(lib)
 	for folder in $(modules); do install -m 644 tools/$$folder/*.py $(lib)/$$folder; done
+	install -m 644 tools/judging/numbers.tsv $(lib)/judging
 	install -m 644 docs/dnssec_check.1 $(tools:%=docs/dnssec_check-%.1) $(man)
 	install -m 644 tools/completion/dnssec_check $(completions)
 	for tool in $(tools); do \

@@ -54,15 +54,16 @@ class Completion(unittest.TestCase):
     def test_moments(self):
         moment, = offered("dnssec_check", "list", "--moment", "")
         self.assertRegex(moment, r"^\d{10,}$")
+        self.assertEqual(offered("dnssec_check-judge", "--at", "n"), ["now"])
 
     def test_files_and_names_are_left_to_bash(self):
         for words in (["dnssec_check", "show", "--capture", ""], ["dnssec_check", "check", "--name", ""],
-                      ["dnssec_check-capture", ""], ["dnssec_check-verify", "to"]):
+                      ["dnssec_check-capture", ""], ["dnssec_check-verify", "to"], ["dnssec_check-judge", "www"]):
             with self.subTest(words):
                 self.assertEqual(offered(*words), [])
 
     def test_every_option_of_the_tools_is_offered(self):
-        for name in ("capture", "verify"):
+        for name in ("capture", "verify", "judge"):
             with self.subTest(name):
                 self.assertEqual(set(offered(f"dnssec_check-{name}", "--")), options_of(TOOLS / name))
 

@@ -11,7 +11,7 @@ from command import VERSION
 TOP = TOOLS.parent
 EXAMPLES = TOP / "examples"
 APT = ("apt-get", "-o", "DPkg::Lock::Timeout=300", "--quiet", "--yes")
-COMMANDS = ("dnssec_check", "dnssec_check-capture", "dnssec_check-verify")
+COMMANDS = ("dnssec_check", "dnssec_check-capture", "dnssec_check-judge", "dnssec_check-verify")
 
 
 def lacking():
@@ -77,10 +77,10 @@ class Package(unittest.TestCase):
 
     def use(self):
         """A verdict by the installed commands, from anywhere."""
-        capture, folder = EXAMPLES / "bind-www-a-list" / "capture", EXAMPLES / "bind-www-a-check"
-        words = ("--capture", capture, "--anchors", folder / "anchors", "--statements", folder / "statements",
-                 "--moment", 1795348800, "--name", "www.bind.test.", "--type", 1)
-        self.assertEqual(done("/usr/bin/dnssec_check", "check", *words), (folder / "stdout").read_text())
+        capture = EXAMPLES / "bind-www-a-list" / "capture"
+        words = (capture, "www.bind.test/A", "--at", "2026-11-22T12:00:00Z",
+                 "--anchors", EXAMPLES / "bind-www-a-check" / "anchors")
+        self.assertIn("SecureAnswer", done("/usr/bin/dnssec_check-judge", *words))
         self.assertEqual(done("/usr/bin/dnssec_check-verify", DATA / "todo"), (DATA / "statements").read_text())
         shown = done("/usr/bin/dnssec_check", "show", "--capture", capture)
         self.assertEqual(shown.count("message "), 6)

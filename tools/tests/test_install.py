@@ -11,7 +11,7 @@ from command import VERSION
 
 DOCS = TOOLS.parent / "docs"
 MANUAL = DOCS / "dnssec_check.1"
-COMMANDS = ("dnssec_check", "dnssec_check-capture", "dnssec_check-verify")
+COMMANDS = ("dnssec_check", "dnssec_check-capture", "dnssec_check-judge", "dnssec_check-verify")
 OF_THE_MACHINE = ("outdated mandoc.db", "referenced manual not found")  # which other pages a machine has
 
 
@@ -47,8 +47,8 @@ class Install(unittest.TestCase):
         self.assertEqual((shown[0], shown[1].count(b"message "), shown[2]), (0, 5, ""))
         verified = run_program(tools / "dnssec_check-verify", DATA / "todo")
         self.assertEqual(verified, (0, (DATA / "statements").read_bytes(), ""))
-        told = run_program(tools / "dnssec_check-verify", "--version")
-        self.assertEqual(told, (0, f"dnssec_check-verify {VERSION}\n".encode(), ""))
+        told = run_program(tools / "dnssec_check-judge", "--version")
+        self.assertEqual(told, (0, f"dnssec_check-judge {VERSION}\n".encode(), ""))
 
 
 class Manual(unittest.TestCase):
@@ -60,7 +60,7 @@ class Manual(unittest.TestCase):
             self.assertEqual(told, [])
 
     def test_the_manual_page_of_each_tool_has_its_options(self):
-        for name in ("capture", "verify"):
+        for name in ("capture", "verify", "judge"):
             with self.subTest(name):
                 page = (DOCS / f"dnssec_check-{name}.1").read_text()
                 told = set(re.findall(r"^\.It Fl -([a-z-]+)", page, re.MULTILINE))
