@@ -75,6 +75,13 @@ class Manual(unittest.TestCase):
         told = {int(item) for item in re.findall(r"^\.It (\d+)$", MANUAL.read_text(), re.MULTILINE)}
         self.assertEqual(numbers - told, set())
 
+    def test_the_manual_page_says_of_each_number_what_the_table_says(self):
+        rows = (TOOLS / "judging" / "numbers.tsv").read_text().splitlines()[1:]
+        for number, _, what, remedy in (row.split("\t") for row in rows):
+            with self.subTest(number):
+                entry = re.search(rf"^\.It {number}\n(.*?)^\.", MANUAL.read_text(), re.MULTILINE | re.DOTALL)[1]
+                self.assertEqual(" ".join(entry.split()), f"{what} {remedy}")
+
     @unittest.skipUnless(PROGRAM.exists(), "needs the built program")
     def test_the_manual_page_has_each_option_of_the_program(self):
         told = set(re.findall(r"\.(?:It|Op) Fl -([a-z]+)", MANUAL.read_text()))
