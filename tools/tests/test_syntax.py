@@ -5,10 +5,14 @@ import unittest
 
 from tool import TOOLS
 
-CAPTURING = [str(path.relative_to(TOOLS)) for path in sorted((TOOLS / "capturing").glob("*.py"))]
-NAMES = ("verify", "capture", "pages", "command.py", "curves.py", *CAPTURING)
-PACKAGES = {"verify": {"command", "curves"}, "curves.py": {"cryptography"}, "capture": {"command", "capturing"},
-            "pages": {"command"}}
+FOLDERS = ("capturing", "verifying", "judging")
+NAMES = ["verify", "capture", "judge", "pages", "command.py"]
+NAMES += [str(path.relative_to(TOOLS)) for folder in FOLDERS for path in sorted((TOOLS / folder).glob("*.py"))]
+PACKAGES = {"verify": {"command", "verifying"}, "verifying/entries.py": {"verifying"},
+            "verifying/curves.py": {"cryptography"}, "judge": {"command", "judging"}, "judging/cluster.py": {"distributed"},
+            "judging/progress.py": {"rich"}, "judging/work.py": {"verifying"}, "capture": {"command", "capturing"}, "pages": {"command"}}
+
+JUDGING = {"command", "capturing", "dns"}  # dnspython is imported where it's needed
 
 
 def imported(tree):
@@ -29,7 +33,7 @@ class Syntax(unittest.TestCase):
         for name in NAMES:
             with self.subTest(name):
                 others = imported(ast.parse((TOOLS / name).read_text())) - sys.stdlib_module_names
-                self.assertLessEqual(others, PACKAGES.get(name, {"command"}))
+                self.assertLessEqual(others, PACKAGES.get(name, {"command"}) | (JUDGING if name.startswith("judging/") else set()))
 
 
 if __name__ == "__main__":

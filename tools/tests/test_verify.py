@@ -7,9 +7,9 @@ from unittest import mock
 
 from cryptography.exceptions import UnsupportedAlgorithm
 
-from tool import DATA, TOOLS, load, run, run_program
+from tool import DATA, TOOLS, run, run_program
+from verifying import entries
 
-VERIFY = load("verify")
 P256_ORDER = 0xFFFFFFFF00000000FFFFFFFFFFFFFFFFBCE6FAADA7179E84F3B9CAC2FC632551
 
 
@@ -22,7 +22,7 @@ def vectors():
 def parts_of(line):
     """The algorithm, the key, the signed octets and the signature of a line."""
     _, algorithm, *fields = line.split(" ")
-    return (int(algorithm), *map(VERIFY.octets_of, fields))
+    return (int(algorithm), *map(entries.octets_of, fields))
 
 
 def with_bit_changed(octets, place):
@@ -35,7 +35,7 @@ class Vectors(unittest.TestCase):
     def test_each_vector_is_good(self):
         for name, line in vectors():
             with self.subTest(name):
-                self.assertTrue(VERIFY.is_good(*parts_of(line)))
+                self.assertTrue(entries.is_good(*parts_of(line)))
 
     def test_no_vector_is_good_with_a_bit_changed(self):
         for name, line in vectors():
@@ -44,7 +44,7 @@ class Vectors(unittest.TestCase):
                 with self.subTest(name, field=field, place=place):
                     changed = list(fields)
                     changed[field] = with_bit_changed(fields[field], place)
-                    self.assertFalse(VERIFY.is_good(algorithm, *changed))
+                    self.assertFalse(entries.is_good(algorithm, *changed))
 
     def test_every_algorithm_has_a_vector_or_a_real_line(self):
         lines = [line for _, line in vectors()] + (DATA / "todo").read_text().splitlines()
@@ -53,9 +53,9 @@ class Vectors(unittest.TestCase):
     def test_no_vector_is_good_by_another_algorithm(self):
         for name, line in vectors():
             algorithm, *fields = parts_of(line)
-            for other in set(VERIFY.VERIFIERS) - {algorithm} - ({5, 7} if algorithm in (5, 7) else set()):
+            for other in set(entries.VERIFIERS) - {algorithm} - ({5, 7} if algorithm in (5, 7) else set()):
                 with self.subTest(name, other=other):
-                    self.assertFalse(VERIFY.is_good(other, *fields))
+                    self.assertFalse(entries.is_good(other, *fields))
 
 
 class RealLines(unittest.TestCase):
@@ -109,17 +109,17 @@ class CurveKeys(unittest.TestCase):
                                            (key, b""), (key, signature[1:]), (key, signature + b"\x00"),
                                            (key, signature[:size] + b"\x00" + signature[size:])):
                 with self.subTest(name, key=len(bad_key), signature=len(bad_signature)):
-                    self.assertFalse(VERIFY.is_good(algorithm, bad_key, data, bad_signature))
+                    self.assertFalse(entries.is_good(algorithm, bad_key, data, bad_signature))
 
     def test_a_point_off_the_curve_is_bad(self):
-        self.assertFalse(VERIFY.is_good(13, bytes(64), b"data", bytes(63) + b"\x01"))
+        self.assertFalse(entries.is_good(13, bytes(64), b"data", bytes(63) + b"\x01"))
 
     def test_numbers_of_ecdsa_out_of_range_are_bad(self):
         line = next(line for name, line in vectors() if "P-256" in name)
         algorithm, key, data, signature = parts_of(line)
         for half in (bytes(32), P256_ORDER.to_bytes(32, "big"), b"\xff" * 32):
-            self.assertFalse(VERIFY.is_good(algorithm, key, data, half + signature[32:]))
-            self.assertFalse(VERIFY.is_good(algorithm, key, data, signature[:32] + half))
+            self.assertFalse(entries.is_good(algorithm, key, data, half + signature[32:]))
+            self.assertFalse(entries.is_good(algorithm, key, data, signature[:32] + half))
 
 
 class Files(unittest.TestCase):
@@ -185,12 +185,12 @@ class Lacking(unittest.TestCase):
                 raise UnsupportedAlgorithm("ed448 is not supported by this version of OpenSSL.")
 
         lines = self.GIVEN.decode().splitlines()
-        with mock.patch.dict(VERIFY.curves().EDDSA, {"Ed448": Ed448}):
+        with mock.patch.dict(entries.curves().EDDSA, {"Ed448": Ed448}):
             self.left_out([number for number, line in enumerate(lines, 1) if line.startswith("todo 16 ")])
 
     def test_without_the_package_rsa_is_verified(self):
         lines = self.GIVEN.decode().splitlines()
-        with mock.patch.dict(sys.modules, {"curves": None}):
+        with mock.patch.dict(sys.modules, {"verifying.curves": None}):
             self.left_out([number for number, line in enumerate(lines, 1) if line.startswith("todo 1")
                            and not line.startswith("todo 10 ")])
 

@@ -5,9 +5,9 @@ import unittest
 from cryptography.hazmat.primitives import hashes
 from cryptography.hazmat.primitives.asymmetric import padding, rsa
 
-from tool import load
+import tool  # noqa: F401
+from verifying import entries, rsa as keys
 
-VERIFY = load("verify")
 HASHES = {5: "sha1", 7: "sha1", 8: "sha256", 10: "sha512"}
 SIZES = [(5, 511, False), (5, 512, True), (7, 511, False), (7, 512, True), (8, 504, False), (8, 511, False),
          (8, 512, True), (10, 1016, False), (10, 1023, False), (10, 1024, True)]
@@ -37,7 +37,7 @@ def small_key_and_signature(algorithm, bits):
     half = bits // 2
     p, q = prime_from(3 << (half - 2)), prime_from(13 << (bits - half - 4))
     name = HASHES[algorithm]
-    end = b"\x00" + VERIFY.DIGEST_INFO[name] + hashlib.new(name, b"data").digest()
+    end = b"\x00" + keys.DIGEST_INFO[name] + hashlib.new(name, b"data").digest()
     size = (bits + 7) // 8
     message = b"\x00\x01".ljust(size - len(end), b"\xff") + end
     secret = pow(65537, -1, (p - 1) * (q - 1))
@@ -67,7 +67,7 @@ class Keys(unittest.TestCase):
         return (b"\x00\x01" + b"\xff" * count + end).ljust(self.size, b"\x00")
 
     def is_good(self, signature, exponent=65537, key=None, algorithm=8):
-        return VERIFY.is_good(algorithm, key or key_field(self.modulus, exponent), b"data", signature)
+        return entries.is_good(algorithm, key or key_field(self.modulus, exponent), b"data", signature)
 
     def test_what_the_package_signs_is_good(self):
         kinds = {5: hashes.SHA1(), 7: hashes.SHA1(), 8: hashes.SHA256(), 10: hashes.SHA512()}
@@ -79,11 +79,11 @@ class Keys(unittest.TestCase):
     def test_an_exponent_of_more_than_255_octets(self):
         exponent = self.phi - 1
         self.assertGreater(len(octets_of_number(exponent)), 255)
-        message = self.padded(VERIFY.DIGEST_INFO["sha256"], hashlib.sha256(b"data").digest())
+        message = self.padded(keys.DIGEST_INFO["sha256"], hashlib.sha256(b"data").digest())
         self.assertTrue(self.is_good(self.signed(message, exponent), exponent))
 
     def test_other_padding_is_bad(self):
-        info, digest = VERIFY.DIGEST_INFO["sha256"], hashlib.sha256(b"data").digest()
+        info, digest = keys.DIGEST_INFO["sha256"], hashlib.sha256(b"data").digest()
         without_null = bytes.fromhex("302f300b0609608648016503040201") + bytes.fromhex("0420")
         good = self.padded(info, digest)
         self.assertTrue(self.is_good(self.signed(good)))
@@ -92,7 +92,7 @@ class Keys(unittest.TestCase):
             "eight octets of padding": self.padded(info, digest, octets=8),
             "no parameters of the hash": self.padded(without_null, digest),
             "block type 2": b"\x00\x02" + good[2:],
-            "another hash's name": self.padded(VERIFY.DIGEST_INFO["sha1"], digest),
+            "another hash's name": self.padded(keys.DIGEST_INFO["sha1"], digest),
         }
         for name, message in others.items():
             with self.subTest(name):
@@ -116,7 +116,7 @@ class Keys(unittest.TestCase):
 
     def test_numbers_that_no_key_has_are_bad(self):
         """Each of these would make the padded message its own signature, or let anyone sign."""
-        message = self.padded(VERIFY.DIGEST_INFO["sha256"], hashlib.sha256(b"data").digest())
+        message = self.padded(keys.DIGEST_INFO["sha256"], hashlib.sha256(b"data").digest())
         self.assertFalse(self.is_good(message, exponent=1))
         self.assertFalse(self.is_good(self.signed(message), exponent=65537 + 2 * self.phi))
         self.assertFalse(self.is_good(message, key=key_field(self.modulus + 1, 65537)))
@@ -124,9 +124,9 @@ class Keys(unittest.TestCase):
     def test_a_number_of_more_than_4096_bits_is_bad(self):
         long_modulus = (1 << 4097) + 1
         self.assertFalse(self.is_good(bytes(513), key=key_field(long_modulus, 3)))
-        with self.assertRaises(VERIFY.Malformed):
-            VERIFY.rsa_key(key_field(long_modulus, 3), 512)
-        self.assertEqual(VERIFY.rsa_key(key_field((1 << 4095) + 1, 3), 512), ((1 << 4095) + 1, 3))
+        with self.assertRaises(keys.Malformed):
+            keys.rsa_key(key_field(long_modulus, 3), 512)
+        self.assertEqual(keys.rsa_key(key_field((1 << 4095) + 1, 3), 512), ((1 << 4095) + 1, 3))
 
     def test_a_signature_has_the_length_of_the_modulus_and_is_below_it(self):
         signature = self.private.sign(b"data", padding.PKCS1v15(), hashes.SHA256())
@@ -141,12 +141,12 @@ class Keys(unittest.TestCase):
         for algorithm, bits, is_good in SIZES:
             with self.subTest(algorithm, bits=bits):
                 key, signature = small_key_and_signature(algorithm, bits)
-                self.assertEqual(VERIFY.is_good(algorithm, key, b"data", signature), is_good)
+                self.assertEqual(entries.is_good(algorithm, key, b"data", signature), is_good)
 
     def test_even_numbers_are_malformed(self):
         for modulus, exponent in ((self.modulus + 1, 65537), (self.modulus, 65536)):
-            with self.assertRaises(VERIFY.Malformed):
-                VERIFY.rsa_key(key_field(modulus, exponent), 512)
+            with self.assertRaises(keys.Malformed):
+                keys.rsa_key(key_field(modulus, exponent), 512)
 
 
 if __name__ == "__main__":

@@ -1,7 +1,7 @@
-"""Tests of tools/answers.py: where the answers of a proof file stand, and the file without some of them."""
+"""Tests of tools/wrong_bodies/answers.py: where the answers of a proof file stand, and the file without some of them."""
 import unittest
 
-from tool import load
+from wrong_bodies import answers
 
 FILE = """use Rattle.std.proofs.Common.{ap}
 use Rattle.names.proofs.first.Goals as goal
@@ -24,25 +24,23 @@ loop-place-init c = c.get-2.ensures
 
 
 class Answers(unittest.TestCase):
-    answers = load("answers.py")
-
     def test_a_line_stands_in_a_declaration_or_a_section(self):
         rows = ((1, []), (3, []), (6, ["same"]), (9, ["returns-clause-some"]), (12, ["returns-clause-some"]), (17, ["loop-place-init"]))
         for line, names in rows:
-            self.assertEqual(self.answers.standing_at(FILE, line), set(names), line)
+            self.assertEqual(answers.standing_at(FILE, line), set(names), line)
 
     def test_what_mentions_a_name_leans_on_it(self):
-        self.assertEqual(self.answers.leaning_on(FILE, {"same"}), {"same", "returns-clause-some"})
-        self.assertEqual(self.answers.leaning_on(FILE, {"loop-place"}), {"loop-place"})
+        self.assertEqual(answers.leaning_on(FILE, {"same"}), {"same", "returns-clause-some"})
+        self.assertEqual(answers.leaning_on(FILE, {"loop-place"}), {"loop-place"})
 
     def test_taken_out_with_all_their_lines(self):
         head = FILE[: FILE.index("module")]
-        left = self.answers.without(FILE, {"same", "returns-clause-some"})
+        left = answers.without(FILE, {"same", "returns-clause-some"})
         self.assertEqual(left, head + FILE[FILE.index("pub loop") :])
-        self.assertEqual(self.answers.without(FILE, ()), FILE)
-        self.assertEqual(self.answers.without(FILE, {"returns-clause-some", "loop-place-init"}), "")
+        self.assertEqual(answers.without(FILE, ()), FILE)
+        self.assertEqual(answers.without(FILE, {"returns-clause-some", "loop-place-init"}), "")
 
     def test_an_answer_has_the_steps_that_it_cites_and_those_of_its_goal(self):
-        self.assertEqual(self.answers.steps_of(FILE, "loop-place-init"), {"get", "loop", "place", "init"})
-        self.assertTrue(self.answers.has_answer(FILE, "loop-place-init"))
-        self.assertFalse(self.answers.has_answer(FILE, "loop-place"))
+        self.assertEqual(answers.steps_of(FILE, "loop-place-init"), {"get", "loop", "place", "init"})
+        self.assertTrue(answers.has_answer(FILE, "loop-place-init"))
+        self.assertFalse(answers.has_answer(FILE, "loop-place"))

@@ -1,8 +1,8 @@
-"""Tests of tools/judge.py: what a check tells of a wrong body, in the prover's own words, and what has to come of it."""
+"""Tests of tools/wrong_bodies/judge.py: what a check tells of a wrong body, in the prover's own words, and what has to come of it."""
 import unittest
 from pathlib import Path
 
-from tool import load
+from wrong_bodies import bodies, judge
 
 OPEN = "no proof: expected answers in ./proofs/names/first/Answers.antt; `search` did not prove `returns`"
 STANDS = "not proved; it stands on `Rattle.upper.proofs.names.first.Answers.returns`, which antt refuses"
@@ -31,59 +31,57 @@ DOES_NOT_FIT = (
 
 
 class Judge(unittest.TestCase):
-    judge, bodies = load("judge.py"), load("bodies.py")
-
     def trial(self, old="LIMIT", new="0"):
         file = Path("upper/must-fail/one.edit")
-        return self.judge.Trial(self.bodies.Edit(file, (("src/names.rt", old, new),), self.bodies.Function("names", "", "first")))
+        return judge.Trial(bodies.Edit(file, (("src/names.rt", old, new),), bodies.Function("names", "", "first")))
 
     def judged(self, trial, said, *errors, file="Answers.antt", is_alone=False, others=""):
         told = "".join(f"./proofs/names/first/{file}:4:13: error: `returns`: {error}\n" for error in errors)
-        told = self.judge.Told("upper", f"{told}fn upper::names::first: {said}\n{others}")
+        told = judge.Told("upper", f"{told}fn upper::names::first: {said}\n{others}")
         taken = {name for names in (trial.names_in(file) for file in trial.files) for name in names}
-        return self.judge.judged(trial, told, lambda file: ANSWERS if "/first/" in file and not taken else "", is_alone)
+        return judge.judged(trial, told, lambda file: ANSWERS if "/first/" in file and not taken else "", is_alone)
 
     def kind_of(self, trial, said, error):
         """What comes of a body whose answer is refused so, where the next check says that."""
-        self.assertEqual(self.judged(trial, STANDS, error), self.judge.AGAIN)
+        self.assertEqual(self.judged(trial, STANDS, error), judge.AGAIN)
         self.assertEqual(trial.names_in("proofs/names/first/Answers.antt"), {"returns"})
         return getattr(self.judged(trial, said, is_alone=True), "kind", None)
 
     def test_an_open_goal_without_an_answer_refuses_it(self):
         said = OPEN.replace("`returns`", "`returns-clause-one`, `bounds-place`")
         verdict = self.judged(self.trial(), said + "; it calls `f`")
-        self.assertEqual(verdict, self.judge.Verdict(self.judge.Kind.REFUSED, "`search` did not prove `returns-clause-one`"))
-        self.assertEqual(self.judged(self.trial(), said, FAILS[0]).kind, self.judge.Kind.REFUSED)
+        self.assertEqual(verdict, judge.Verdict(judge.Kind.REFUSED, "`search` did not prove `returns-clause-one`"))
+        self.assertEqual(self.judged(self.trial(), said, FAILS[0]).kind, judge.Kind.REFUSED)
 
     def test_an_answer_that_fails_refuses_it_where_search_fails_too(self):
         for error in FAILS:
             with self.subTest(error):
-                self.assertEqual(self.kind_of(self.trial(), OPEN, error), self.judge.Kind.REFUSED)
-                self.assertEqual(self.kind_of(self.trial(), "proved", error), self.judge.Kind.PROVED)
+                self.assertEqual(self.kind_of(self.trial(), OPEN, error), judge.Kind.REFUSED)
+                self.assertEqual(self.kind_of(self.trial(), "proved", error), judge.Kind.PROVED)
 
     def test_an_answer_that_does_not_fit_settles_nothing(self):
         for error in DOES_NOT_FIT:
             with self.subTest(error):
-                self.assertEqual(self.kind_of(self.trial(), OPEN, error), self.judge.Kind.UNSETTLED)
-                self.assertEqual(self.kind_of(self.trial(), "proved", error), self.judge.Kind.PROVED)
+                self.assertEqual(self.kind_of(self.trial(), OPEN, error), judge.Kind.UNSETTLED)
+                self.assertEqual(self.kind_of(self.trial(), "proved", error), judge.Kind.PROVED)
 
     def test_nor_does_one_whose_calls_have_other_numbers(self):
         error = "as printed, the two types differ only where one has `c.one-b.result` (expected) and the other has `c.one.result` (found)"
-        for old, new, kind in (("one(x)", "one(one(x))", self.judge.Kind.UNSETTLED), ("one(x)", "one(y)", self.judge.Kind.REFUSED)):
+        for old, new, kind in (("one(x)", "one(one(x))", judge.Kind.UNSETTLED), ("one(x)", "one(y)", judge.Kind.REFUSED)):
             self.assertEqual(self.kind_of(self.trial(old, new), OPEN, error), kind)
 
     def test_a_goal_that_is_new_where_an_answer_is_left_over_settles_nothing(self):
         said = OPEN.replace("`returns`", "`returns-in-Some`")
         trial = self.trial()
-        self.assertEqual(self.judged(trial, said, DOES_NOT_FIT[-1]), self.judge.AGAIN)
-        self.assertEqual(self.judged(trial, said).kind, self.judge.Kind.UNSETTLED)
+        self.assertEqual(self.judged(trial, said, DOES_NOT_FIT[-1]), judge.AGAIN)
+        self.assertEqual(self.judged(trial, said).kind, judge.Kind.UNSETTLED)
 
     def test_nor_does_a_goal_of_a_step_that_the_body_adds(self):
-        rows = (("copy(a)", "copy(a); copy(b)", "slice_bounds-copy-end-in-loop-3", self.judge.Kind.UNSETTLED),
-                ("copy(a)", "copy(b)", "slice_bounds-copy-end-in-loop-3", self.judge.Kind.REFUSED),
-                ("octets.get(0)", "octets[0]", "bounds-octets", self.judge.Kind.UNSETTLED),
-                ("place", "place + 1", "overflow_add-place", self.judge.Kind.UNSETTLED),
-                ("copy(a)", "copy(a); copy(b)", "returns-clause-copy", self.judge.Kind.REFUSED))
+        rows = (("copy(a)", "copy(a); copy(b)", "slice_bounds-copy-end-in-loop-3", judge.Kind.UNSETTLED),
+                ("copy(a)", "copy(b)", "slice_bounds-copy-end-in-loop-3", judge.Kind.REFUSED),
+                ("octets.get(0)", "octets[0]", "bounds-octets", judge.Kind.UNSETTLED),
+                ("place", "place + 1", "overflow_add-place", judge.Kind.UNSETTLED),
+                ("copy(a)", "copy(a); copy(b)", "returns-clause-copy", judge.Kind.REFUSED))
         for old, new, goal, kind in rows:
             with self.subTest(goal, new=new):
                 self.assertEqual(self.judged(self.trial(old, new), OPEN.replace("`returns`", f"`{goal}`")).kind, kind)
@@ -92,27 +90,27 @@ class Judge(unittest.TestCase):
         error = ("`goal.invariant-loop-piece`: module `Rattle.upper.proofs.names.first.Given` has no `invariant-loop-piece` that can be "
                  "named from here (names in it that begin alike: `invariant-loop-part`)")
         verdict = self.judged(self.trial(), OPEN.replace("`returns`", "`bounds`"), error, file="Invariants.antt")
-        self.assertEqual(verdict.kind, self.judge.Kind.UNSETTLED)
+        self.assertEqual(verdict.kind, judge.Kind.UNSETTLED)
         self.assertIn("Invariants.antt:4: `returns`: `goal.invariant-loop-piece`", verdict.reason)
 
     def test_errors_of_other_functions_are_not_its_own(self):
         other = "./proofs/names/last/Answers.antt:4:13: error: `returns`: " + FAILS[0] + "\n"
         for said in ("proved", "no holes", CALLS, "could not tell"):
-            self.assertEqual(self.judged(self.trial(), said, others=other), self.judge.UNTOLD)
+            self.assertEqual(self.judged(self.trial(), said, others=other), judge.UNTOLD)
 
     def test_alone_it_is_judged_by_the_goals_of_all(self):
         other = "fn upper::names::last: no proof; `search` did not prove `returns`\n"
-        self.assertEqual(self.judged(self.trial(), CALLS, others=other), self.judge.UNTOLD)
-        self.assertEqual(self.judged(self.trial(), CALLS, others=other, is_alone=True).kind, self.judge.Kind.REFUSED)
+        self.assertEqual(self.judged(self.trial(), CALLS, others=other), judge.UNTOLD)
+        self.assertEqual(self.judged(self.trial(), CALLS, others=other, is_alone=True).kind, judge.Kind.REFUSED)
 
     def test_a_check_of_many_says_nothing_where_others_fail_too(self):
         other = "fn upper::names::last: no proof; `search` did not prove `returns`\n"
-        told = self.judge.Told("upper", f"fn upper::names::first: {OPEN}\n{other}")
+        told = judge.Told("upper", f"fn upper::names::first: {OPEN}\n{other}")
         self.assertTrue(told.blames_others([self.trial()]))
-        self.assertFalse(self.judge.Told("upper", f"fn upper::names::first: {OPEN}\n").blames_others([self.trial()]))
+        self.assertFalse(judge.Told("upper", f"fn upper::names::first: {OPEN}\n").blames_others([self.trial()]))
 
     def test_a_method_is_told_by_the_module_of_its_type(self):
         trial = self.trial()
-        trial.edit = self.bodies.Edit(trial.edit.file, trial.edit.pairs, self.bodies.Function("names", "OwnerOrd", "cmp"))
-        told = self.judge.Told("upper", f"fn upper::owners::OwnerOrd::cmp: {OPEN}\n")
-        self.assertEqual(self.judge.judged(trial, told, lambda file: "", False).kind, self.judge.Kind.REFUSED)
+        trial.edit = bodies.Edit(trial.edit.file, trial.edit.pairs, bodies.Function("names", "OwnerOrd", "cmp"))
+        told = judge.Told("upper", f"fn upper::owners::OwnerOrd::cmp: {OPEN}\n")
+        self.assertEqual(judge.judged(trial, told, lambda file: "", False).kind, judge.Kind.REFUSED)

@@ -37,8 +37,8 @@ class WrongBodies(Room):
     def setUp(self):
         super().setUp()
         (self.room / "tools").mkdir()
-        for name in ("wrong-bodies", "answers.py", "bodies.py", "changed.py", "judge.py"):
-            shutil.copy(TOOLS / name, self.room / "tools")
+        shutil.copy(TOOLS / "wrong-bodies", self.room / "tools")
+        shutil.copytree(TOOLS / "wrong_bodies", self.room / "tools/wrong_bodies")
         (self.room / "rt").write_text(RT)
         (self.room / "rt").chmod(0o755)
         (self.room / "HANDLES").write_text("Handles allowed: none.\n")

@@ -2,7 +2,7 @@
 
 import subprocess
 
-from bodies import without_bodies
+from .bodies import without_bodies
 
 
 class Unknown(Exception):

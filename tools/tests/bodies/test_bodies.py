@@ -1,7 +1,9 @@
-"""Tests of tools/bodies.py: which function a wrong body is of, and what one check can try."""
+"""Tests of tools/wrong_bodies/bodies.py: which function a wrong body is of, and what one check can try."""
 import shutil
 
 from tool import TOOLS, load
+from wrong_bodies import bodies
+
 from .trees import Room
 
 SOURCE = """//! Names.
@@ -27,16 +29,15 @@ class Bodies(Room):
         super().setUp()
         (self.room / "src").mkdir()
         (self.room / "src/names.rt").write_text(SOURCE)
-        self.bodies = load("bodies.py")
 
     def edit(self, *pairs):
         texts = [f"old: {old}\nnew: {new}\n" for old, new in pairs]
         (self.room / "one.edit").write_text("file: src/names.rt\n" + "".join(texts))
-        return self.bodies.Edit.read(self.room, self.room / "one.edit")
+        return bodies.Edit.read(self.room, self.room / "one.edit")
 
     def test_the_function_is_the_one_around_the_text(self):
         self.assertEqual(self.edit(("self.0", "other.0")).function.path, "names::OwnerOrd::cmp")
-        self.assertEqual(self.edit(("    LIMIT", "    LIMIT + 1")).function, self.bodies.Function("names", "", "first"))
+        self.assertEqual(self.edit(("    LIMIT", "    LIMIT + 1")).function, bodies.Function("names", "", "first"))
 
     def test_a_block_is_told_by_its_type_and_trait(self):
         heads = {"impl<'a> View<'a> {": "View", "impl fmt::Display for Fault {": "FaultDisplay",
@@ -44,7 +45,7 @@ class Bodies(Room):
                  "impl From<clap::Error> for LineError {": "LineErrorFromClapError",
                  "impl<T: Drop> From<AllocFailed<T>> for Fault {": "FaultFromAllocFailed"}
         for head, told in heads.items():
-            self.assertEqual(self.bodies.block_at([head, "    fn f() {"], 1), told)
+            self.assertEqual(bodies.block_at([head, "    fn f() {"], 1), told)
 
     def test_what_is_in_no_body_has_no_function(self):
         for pair in (("usize = 3", "usize = 4"), ("result ≡ self", "result ≡ other"), ("pub fn first", "pub fn last")):
@@ -68,16 +69,16 @@ class Bodies(Room):
             self.assertEqual(self.edit((old, new)).recounts(step), recounts, (old, new, step))
 
     def test_what_is_stated_is_all_but_bodies_and_comments(self):
-        stated = self.bodies.without_bodies(SOURCE)
+        stated = bodies.without_bodies(SOURCE)
         for body in ("self.0", "other.0 // of all"):
-            self.assertEqual(self.bodies.without_bodies(SOURCE.replace("self.0", body).replace("//! Names", "//! All")), stated)
+            self.assertEqual(bodies.without_bodies(SOURCE.replace("self.0", body).replace("//! Names", "//! All")), stated)
         for part in ("usize = 3", "result ≡ self", "pub fn first"):
-            self.assertNotEqual(self.bodies.without_bodies(SOURCE.replace(part, "u8")), stated)
+            self.assertNotEqual(bodies.without_bodies(SOURCE.replace(part, "u8")), stated)
 
     def test_batches_have_one_of_a_function(self):
         edits = [self.edit(("self.0", "other.0")), self.edit(("self.0", "0")), self.edit(("    LIMIT", "    0"))]
-        self.assertEqual([len(batch) for batch in self.bodies.batches_of(edits, 2)], [2, 1])
-        self.assertEqual([len(batch) for batch in self.bodies.batches_of(edits, 1)], [1, 1, 1])
+        self.assertEqual([len(batch) for batch in bodies.batches_of(edits, 2)], [2, 1])
+        self.assertEqual([len(batch) for batch in bodies.batches_of(edits, 1)], [1, 1, 1])
 
     def test_each_stands_in_its_crate(self):
         tool = load("wrong-bodies")

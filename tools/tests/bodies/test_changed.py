@@ -1,5 +1,6 @@
-"""Tests of tools/changed.py: which crates a change concerns."""
-from tool import load
+"""Tests of tools/wrong_bodies/changed.py: which crates a change concerns."""
+from wrong_bodies import changed
+
 from .trees import Room
 
 BELOW = {"lower": ["thiserror"], "beside": [], "middle": ["lower"], "upper": ["middle"]}
@@ -10,7 +11,6 @@ ALL_ABOVE = {"lower", "middle", "upper"}
 class Changed(Room):
     def setUp(self):
         super().setUp()
-        self.changed = load("changed.py")
         self.git("init", "-q")
         for crate in BELOW:
             self.write(f"crates/{crate}/src/lib.rt", FUNCTION)
@@ -18,7 +18,7 @@ class Changed(Room):
         self.git("commit", "-qm", "All")
 
     def since(self, commit="HEAD"):
-        return self.changed.changed_since(self.room, commit, BELOW)
+        return changed.changed_since(self.room, commit, BELOW)
 
     def test_a_change_concerns_its_crate_and_a_statement_those_above(self):
         rows = (("src/lib.rt", FUNCTION.replace("    1", "    2 - 1"), {"lower"}),
@@ -43,5 +43,5 @@ class Changed(Room):
         self.assertEqual(self.since(), {"middle", "upper"})
 
     def test_a_commit_that_is_not_there(self):
-        with self.assertRaisesRegex(self.changed.Unknown, "^fatal: .*none"):
+        with self.assertRaisesRegex(changed.Unknown, "^fatal: .*none"):
             self.since("none")

@@ -14,8 +14,8 @@ import re
 from dataclasses import dataclass, field
 from enum import Enum
 
-from answers import has_answer, leaning_on, standing_at, steps_of
-from bodies import Edit
+from .answers import has_answer, leaning_on, standing_at, steps_of
+from .bodies import Edit
 
 # How antt says that a term or a tactic meets its goal and fails.
 FAILS = re.compile(r"the two types|but this has type|found no proof|no proof of|the goal does not follow")

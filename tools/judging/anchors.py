@@ -1,0 +1,65 @@
+"""Trust anchors in the program's form, out of that or out of records as a zone file has them."""
+import base64
+import os
+
+from command import read, shown
+
+from .faults import Failure, Refusal, lacking
+
+ROOT = "/usr/share/dns/root.ds"
+OWN_WORDS = (b"DS", b"KEY")
+
+
+def anchors_of(path):
+    """The octets of the anchors, which are the system's of the root where no file is named."""
+    if path is None and not os.path.exists(ROOT):
+        raise Failure(f"no anchors: {ROOT} isn't there (Debian: dns-root-data); name a file by --anchors")
+    octets = read(path or ROOT)
+    if is_own_form(octets):
+        return octets
+    return "".join(line + "\n" for line in lines_of_zone(octets, shown(path or ROOT))).encode()
+
+
+def is_own_form(octets):
+    """Whether each line that says something begins as the program's do; so does a file that says nothing."""
+    fields = [line.split() for line in octets.split(b"\n") if line.strip() and not line.lstrip().startswith((b"#", b";"))]
+    if not fields:
+        return True
+    return all(each[0] in OWN_WORDS for each in fields)
+
+
+def lines_of_zone(octets, path):
+    """The anchors that the DS and DNSKEY records of a zone file are."""
+    try:
+        from dns import exception, rdataclass, rdatatype, zonefile
+    except ImportError as fault:
+        raise lacking("dnspython", "a zone file of anchors", fault) from fault
+    # A comment of the program's form is none of a zone file.
+    text = "\n".join("" if line.startswith("#") else line for line in octets.decode("utf-8", "replace").split("\n"))
+    try:
+        rrsets = zonefile.read_rrsets(text, rdclass=None, default_ttl=0, origin=".", relativize=False)
+    except (exception.DNSException, ValueError, NotImplementedError) as fault:
+        raise Refusal(f"the anchors {path}: neither lines `DS ..` and `KEY ..` nor DS and DNSKEY records: {fault}") from fault
+    lines = []
+    for rrset in rrsets:
+        for record in rrset:
+            if record.rdclass != rdataclass.IN or record.rdtype not in (rdatatype.DS, rdatatype.DNSKEY):
+                raise Refusal(f"the anchors {path}: a record of {rrset.name} is of class "
+                              f"{rdataclass.to_text(record.rdclass)} and type {rdatatype.to_text(record.rdtype)}, and "
+                              "anchors are DS and DNSKEY records of class IN")
+            lines.append(anchor_line(rrset.name, record, record.rdtype == rdatatype.DS))
+    return lines
+
+
+def anchor_line(owner, record, is_ds):
+    name = wire_text(owner)
+    if is_ds:
+        return f"DS {name} {record.key_tag} {int(record.algorithm)} {int(record.digest_type)} {record.digest.hex()}"
+    key = base64.b64encode(record.key).decode()
+    return f"KEY {name} {int(record.flags)} {record.protocol} {int(record.algorithm)} {key}"
+
+
+def wire_text(name):
+    """The name as the program reads it."""
+    from capturing.messages import name_text
+    return name_text(name.labels[:-1])

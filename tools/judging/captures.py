@@ -1,0 +1,77 @@
+"""The captures and questions that the words of a command line name."""
+import os
+from collections import namedtuple
+
+from command import read
+
+from .faults import Refusal, WrongLine, escaped
+from .questions import question_of_word, questions_of_file, questions_of_split, wrong_word
+
+SIZE_MOST = 1 << 30  # octets of a file that the program takes
+
+# A capture with the questions that are its own, where its folder lists some.
+Capture = namedtuple("Capture", "path own")
+
+
+def told_apart(words):
+    """The paths of captures, and the questions, in their order."""
+    paths, questions = [], []
+    for word in words:
+        question = question_of_word(word)
+        if question is not None:
+            questions.append(question)
+        elif word == "-" or os.path.lexists(word):
+            paths.append(word)
+        else:
+            raise wrong_word(word)
+    if paths.count("-") > 1:
+        raise WrongLine("the standard input is named twice")
+    return paths, questions
+
+
+def is_capture(name):
+    return name == "capture" or name.endswith(".cap")
+
+
+def captures_of_folder(folder):
+    """Its captures and those of the folders in it, by name; what they may be asked is listed beside them."""
+    found = []
+    for place, folders, names in os.walk(folder):
+        folders.sort()
+        chosen = [name for name in sorted(names) if is_capture(name)]
+        own = questions_of_split(place) if chosen else {}
+        found += [Capture(os.path.join(place, name), own.get(name, [])) for name in chosen]
+    if not found:
+        raise Refusal(f"{escaped(folder)}: no capture is in this folder; captures are called `capture` or `..cap`")
+    return found
+
+
+def captures_of(paths):
+    captures = []
+    for path in paths:
+        captures += captures_of_folder(path) if os.path.isdir(path) else [Capture(path, [])]
+    return captures
+
+
+def all_of(words, question_files):
+    """The captures, each with its questions."""
+    paths, questions = told_apart(words)
+    for path in question_files:
+        questions += questions_of_file(path)
+    if not paths:
+        raise WrongLine("no capture is named")
+    captures = captures_of(paths)
+    if questions or question_files:
+        return [(capture.path, questions) for capture in captures]
+    asked = [(capture.path, capture.own) for capture in captures if capture.own]
+    if not asked:
+        raise WrongLine("no question is asked; write NAME/TYPE, as www.example.com/AAAA, or name a file by --questions")
+    return asked
+
+
+def octets_of(path):
+    """What the file has, or as much of it as shows that it's too long."""
+    if path == "-":
+        return read(path)
+    with open(path, "rb") as file:
+        return file.read(SIZE_MOST + 1)

@@ -1,0 +1,149 @@
+"""The RRsets of a capture with their signatures, numbered as the program does, and what else its records tell."""
+from collections import namedtuple
+
+from capturing.messages import TYPE_DNSKEY, TYPE_RRSIG, lower, name_at, name_text, records_of
+from capturing.octets import Incomplete, number_at
+from capturing.streams import frames_of
+
+CLASS_IN = 1
+TYPE_CNAME = 5
+# The types below 128 that form no RRset: 0, the legacy ones, OPT and RRSIG; those of 128 to 255 don't either.
+UNGROUPED = {0, 3, 4, 7, 8, 9, 14, 17, 18, 21, 24, 26, 30, 35, 36, 38, 41, 46}
+SIGNER = 18  # where the signer's name stands in the RDATA of an RRSIG record (RFC 4034 3.1)
+
+Signature = namedtuple("Signature", "algorithm expires begins tag signer")
+# A record with the number of its RRset, and that of its signature where it is one; None where it has none.
+Placed = namedtuple("Placed", "record number rrset signature")
+
+
+class Rrset:
+    def __init__(self, number, owner, kind):
+        self.number, self.owner, self.kind = number, owner, kind
+        self.signatures, self.targets, self.tags = [], [], []
+
+
+def forms_rrsets(kind):
+    return kind not in UNGROUPED and not 128 <= kind <= 255
+
+
+def group_of(octets, record):
+    return number_at(octets, record.front - 8, 2)
+
+
+def owner_of(octets, record):
+    return lower(name_at(octets, record.name))
+
+
+def target_of(octets, record):
+    try:
+        return name_text(lower(name_at(octets, record.front)))
+    except Incomplete:
+        return None
+
+
+def signature_of(octets, record):
+    front = record.front
+    numbers = [number_at(octets, front + at, size) for at, size in ((2, 1), (8, 4), (12, 4), (16, 2))]
+    return Signature(*numbers, lower(name_at(octets, front + SIGNER)))
+
+
+def rdata_of_signature(octets, record):
+    """The RDATA by which signatures are told apart, its name written out."""
+    front, place = record.front, record.front + SIGNER
+    labels = name_at(octets, place)
+    while 0 < octets[place] < 64:
+        place += 1 + octets[place]
+    behind = place + (2 if octets[place] >= 0xC0 else 1)
+    return bytes(octets[front:front + SIGNER]), labels, bytes(octets[behind:record.end])
+
+
+def tag_of(rdata):
+    """The key tag of a DNSKEY record (RFC 4034 B)."""
+    total = sum(octet << 8 if place % 2 == 0 else octet for place, octet in enumerate(rdata))
+    return (total + (total >> 16)) & 0xFFFF
+
+
+def readable_records(octets):
+    """The records up to the first whose owner or RDATA isn't whole."""
+    records = []
+    try:
+        for record in records_of(octets):
+            name_at(octets, record.name)
+            if record.end > len(octets):
+                break
+            records.append(record)
+    except Incomplete:
+        pass
+    return records
+
+
+class Evidence:
+    """The RRsets of all messages, by message, section and first appearance."""
+
+    def __init__(self, octets):
+        self.messages = frames_of(octets)[0]
+        self.rrsets = []
+        self.placed = [self.place(message) for message in self.messages]
+
+    def place(self, octets):
+        """The records of a message, as far as they can be read, each with what it belongs to."""
+        records, found, seen = readable_records(octets), {}, {}
+        for record in records:
+            if group_of(octets, record) == CLASS_IN and forms_rrsets(record.kind):
+                self.keep(octets, record, found)
+        return [self.placed_of(octets, record, number, found, seen) for number, record in enumerate(records, 1)]
+
+    def keep(self, octets, record, found):
+        key = record.section, owner_of(octets, record), record.kind
+        if key not in found:
+            found[key] = Rrset(len(self.rrsets) + 1, *key[1:])
+            self.rrsets.append(found[key])
+        if record.kind == TYPE_CNAME:
+            found[key].targets.append(target_of(octets, record))
+        if record.kind == TYPE_DNSKEY:
+            found[key].tags.append(tag_of(octets[record.front:record.end]))
+
+    @staticmethod
+    def placed_of(octets, record, number, found, seen):
+        """The record with its RRset, or with the RRset that it signs; `seen` has the signatures that are numbered."""
+        unplaced = Placed(record, number, None, None)
+        if group_of(octets, record) != CLASS_IN:
+            return unplaced
+        owner = owner_of(octets, record)
+        if record.kind != TYPE_RRSIG:
+            return unplaced._replace(rrset=found.get((record.section, owner, record.kind)))
+        try:
+            rrset = found.get((record.section, owner, number_at(octets, record.front, 2)))
+            if rrset is None:
+                return unplaced
+            key = rrset.number, rdata_of_signature(octets, record)
+            if key not in seen:
+                rrset.signatures.append(signature_of(octets, record))
+                seen[key] = len(rrset.signatures)
+            return Placed(record, number, rrset, seen[key])
+        except (Incomplete, IndexError):
+            return unplaced
+
+    def signature(self, rrset, signature):
+        """The signer's name and the key tag; None where the capture has no such signature."""
+        try:
+            found = self.rrsets[rrset - 1].signatures[signature - 1]
+        except IndexError:
+            return None
+        return name_text(found.signer), found.tag
+
+    def target(self, rrset):
+        targets = self.rrsets[rrset - 1].targets if rrset <= len(self.rrsets) else []
+        return targets[0] if targets else None
+
+    def keys(self):
+        """Each zone with the tags of its keys."""
+        tags = {}
+        for rrset in self.rrsets:
+            if rrset.kind == TYPE_DNSKEY:
+                tags.setdefault(rrset.owner, set()).update(rrset.tags)
+        return tags
+
+    def signatures(self):
+        """Each signature with its RRset."""
+        return [(rrset, each) for rrset in self.rrsets for each in rrset.signatures]

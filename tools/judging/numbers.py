@@ -1,0 +1,42 @@
+"""The numbers of what is refused or fails, with what is wrong and what to do: the one table of them."""
+import functools
+import pkgutil
+from collections import namedtuple
+
+Number = namedtuple("Number", "number where what remedy")
+# The words of a refusal that tell a place, as they are shown.
+PLACES = ("message", "record", "line")
+
+
+@functools.lru_cache(None)
+def numbers():
+    """The table by number."""
+    lines = pkgutil.get_data(__name__, "numbers.tsv").decode().splitlines()[1:]
+    rows = (line.split("\t") for line in lines)
+    return {int(number): Number(int(number), *texts) for number, *texts in rows}
+
+
+def lowered(sentence):
+    """A sentence as it stands within another: without its capital and its full stop."""
+    is_word = sentence[:2].isupper() and sentence[:2].isalpha()
+    front = sentence[0] if is_word or " " not in sentence else sentence[0].lower()
+    return front + sentence[1:].rstrip(".").rstrip()
+
+
+def fault_text(evidence, paths):
+    """What is wrong, where, and what to do; `paths` has those of the caller by the names of the options."""
+    row = numbers().get(evidence.get("number"))
+    if row is None:
+        return evidence.get("said") or str(evidence.get("number"))
+    where = evidence.get("file", row.where)
+    place = " ".join(f"{name} {evidence[name]}" for name in PLACES if name in evidence)
+    path = paths.get(where)
+    of = f"the {where}" + (f" {path}" if path else "")
+    words = {"-": [place], "name": ["the name"], "type": ["the type"]}.get(where, [place, "of" if place else "", of])
+    text = " ".join(word for word in [str(row.number), *words] if word)
+    return f"{text}: {lowered(row.what)}; {lowered(row.remedy)}"
+
+
+def manual_text():
+    """The entries of the manual page."""
+    return "".join(f".It {row.number}\n{row.what}\n{row.remedy}\n" for row in numbers().values())

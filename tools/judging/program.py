@@ -1,0 +1,60 @@
+"""The program `dnssec_check`: where it is, how it's run, and what it says."""
+import os
+import shutil
+import subprocess
+from collections import namedtuple
+
+from .faults import Failure
+
+NAME = "dnssec_check"
+BUILT = os.path.join("crates", NAME, "out", NAME)
+SECURE, INSECURE, PENDING, BOGUS, INDETERMINATE, REFUSED, FAILED, WRONG = 0, 3, 4, 5, 6, 7, 1, 2
+
+# What a run of `check` says: its status, the verdict's word (`refused` or `fault` where there is none), and the lines
+# below it, or the words behind `refused` and `fault`.
+Told = namedtuple("Told", "status word lines")
+
+
+def program_of(given, tool):
+    """The path of the program: the one that is named, else on the path, beside the tool as installed, or as built."""
+    if given is not None:
+        path = shutil.which(given)
+        if path is None:
+            raise Failure(f"{given}: there is no such program")
+        return os.path.abspath(path)
+    folder = os.path.dirname(os.path.realpath(tool))
+    beside = (os.path.join(folder, "..", "..", "bin", NAME), os.path.join(folder, "..", BUILT))
+    path = shutil.which(NAME) or next((path for path in beside if os.access(path, os.X_OK)), None)
+    if path is None:
+        raise Failure(f"{NAME} isn't on the path, and not where the tool was installed; name it by --program")
+    return os.path.abspath(path)
+
+
+def run(program, words, folder):
+    """The exit status, and the output and errors as text, of the program in the folder with its files."""
+    try:
+        done = subprocess.run([program, *words], cwd=folder, stdin=subprocess.DEVNULL, capture_output=True, check=False)
+    except OSError as fault:
+        raise Failure(f"{program}: {fault.strerror}") from fault
+    return done.returncode, done.stdout.decode(), done.stderr.decode("utf-8", "replace")
+
+
+def todo_lines(program, folder, moment):
+    """The lines that a verifier has to answer at the moment; none where the capture is refused."""
+    status, output, _ = run(program, ["list", "--capture=capture", f"--moment={moment}"], folder)
+    return output.splitlines() if status == 0 else []
+
+
+def told_of(program, folder, files, moment, question):
+    """What `check` says of the question; the folder has these files by the names of the options."""
+    words = ["check", *(f"--{name}={name}" for name in files), f"--moment={moment}", f"--name={question.name}",
+             f"--type={question.kind}"]
+    status, output, errors = run(program, words, folder)
+    if status in (SECURE, INSECURE, PENDING, BOGUS, INDETERMINATE) and output:
+        first, *lines = output.splitlines()
+        return Told(status, first.split(" ")[0], lines)
+    first = (errors.splitlines() or [f"status {status}"])[0]
+    word, _, rest = first.partition(" ")
+    if word in ("refused", "fault") and status in (REFUSED, FAILED):
+        return Told(status, word, [rest])
+    return Told(FAILED, "fault", [f"- {first}"])

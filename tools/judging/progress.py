@@ -1,0 +1,29 @@
+"""A bar of progress, on a terminal alone."""
+import contextlib
+import sys
+
+
+@contextlib.contextmanager
+def progress(total):
+    """What to call for each capture that is done. Where lines go to the terminal themselves, there is no bar."""
+    bar = bar_of() if total > 1 and is_terminal(sys.stderr) and not is_terminal(sys.stdout) else None
+    if bar is None:
+        yield lambda: None
+        return
+    with bar:
+        task = bar.add_task("captures", total=total)
+        yield lambda: bar.advance(task)
+
+
+def is_terminal(stream):
+    return stream is not None and stream.isatty()
+
+
+def bar_of():
+    """None where the package rich isn't there."""
+    try:
+        from rich import console, progress as parts
+    except ImportError:
+        return None
+    columns = (parts.BarColumn(), parts.MofNCompleteColumn(), parts.TimeElapsedColumn(), parts.TimeRemainingColumn())
+    return parts.Progress(*columns, console=console.Console(stderr=True), redirect_stdout=False, transient=True)

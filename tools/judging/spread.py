@@ -1,0 +1,54 @@
+"""Captures judged one after the other, or several at once on this machine."""
+import signal
+from collections import namedtuple
+from concurrent.futures import FIRST_COMPLETED, BrokenExecutor, ProcessPoolExecutor, wait
+
+from .faults import Failure
+from .program import FAILED
+from .work import Judged, Row, judged
+
+# A capture by its place among all, with its octets, or the fault of reading it, and its questions.
+Task = namedtuple("Task", "number octets fault questions")
+AHEAD = 4  # captures that are read ahead of each that is judged
+
+OPEN_FAILED, READ_FAILED = 811, 210
+
+
+def of_unread(task, common):
+    """The verdicts of a capture that can't be read."""
+    number = READ_FAILED if isinstance(task.fault, IsADirectoryError) else OPEN_FAILED
+    evidence = {"number": number, "file": "capture"}
+    return Judged([Row(moment, question, FAILED, "fault", evidence, []) for moment in common.moments
+                   for question in task.questions], [])
+
+
+def one_by_one(tasks, common, program):
+    """Each capture's number with its verdicts."""
+    for task in tasks:
+        yield task.number, judged(task.octets, task.questions, common, program)
+
+
+def ignore_interrupts():
+    """An interrupt is the parent's to tell."""
+    signal.signal(signal.SIGINT, signal.SIG_IGN)
+
+
+def in_processes(tasks, common, program, jobs):
+    """The same, several at once, as they are done."""
+    pool, waiting = ProcessPoolExecutor(jobs, initializer=ignore_interrupts), {}
+    try:
+        for task in tasks:
+            while len(waiting) >= AHEAD * jobs:
+                yield from done_of(waiting)
+            waiting[pool.submit(judged, task.octets, task.questions, common, program)] = task.number
+        while waiting:
+            yield from done_of(waiting)
+    except BrokenExecutor as fault:
+        raise Failure(f"a process that judges was ended: {fault}") from fault
+    finally:
+        pool.shutdown(cancel_futures=True)
+
+
+def done_of(waiting):
+    for future in wait(waiting, return_when=FIRST_COMPLETED).done:
+        yield waiting.pop(future), future.result()

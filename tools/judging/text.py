@@ -1,0 +1,82 @@
+"""Verdicts in words, a line each, and as the rows of tables."""
+import json
+
+from .faults import escaped
+from .kinds import mnemonic_of
+from .advice import UNKNOWN
+from .moments import moment_text
+from .numbers import fault_text
+
+COLUMNS = ("capture", "moment", "name", "type", "status", "verdict", "evidence")
+NOT_VERIFIED = "Pending on {count} signature{s} that could not be verified here"
+NO_ANCHOR = "Indeterminate; no anchor is at or above the name: give one by --anchors"
+PLACES = ("message", "record", "line", "file")
+
+
+def fields_of(capture, row):
+    """The values of a row, by column."""
+    evidence = {} if row.word in ("Bogus", "Indeterminate") else row.evidence
+    values = (capture, row.moment, row.question.name, mnemonic_of(row.question.kind), row.status, row.word, evidence)
+    return dict(zip(COLUMNS, values))
+
+
+def json_line(capture, row):
+    return json.dumps(fields_of(capture, row))
+
+
+def tsv_line(capture, row):
+    fields = fields_of(capture, row)
+    return "\t".join(escaped(str(value)) for value in [*list(fields.values())[:-1], evidence_words(row.evidence)])
+
+
+def tsv_head():
+    return "\t".join(COLUMNS)
+
+
+def evidence_words(evidence):
+    """The evidence as the program words it."""
+    if "records" in evidence:
+        return "; ".join(f"record {owner} {kind}" for owner, kind in evidence["records"])
+    if "number" in evidence:
+        places = [f"{name} {evidence[name]}" for name in PLACES[:-1] if name in evidence]
+        return " ".join([str(evidence["number"]), *places, *([evidence["file"]] if "file" in evidence else [])])
+    return " ".join(f"{name} {value}" for name, value in evidence.items())
+
+
+class Lines:
+    """Lines for people; what is the same in all of them is left out."""
+
+    def __init__(self, has_captures, has_moments, paths):
+        self.has_captures, self.has_moments, self.paths = has_captures, has_moments, paths
+
+    def line(self, capture, row):
+        front = f"{capture}: " if self.has_captures else ""
+        at = f" at {moment_text(row.moment)}" if self.has_moments else ""
+        question = f"{row.question.name} {mnemonic_of(row.question.kind)}"
+        return escaped(f"{front}{question}{at}: {self.said(capture, row)}")
+
+    def said(self, capture, row):
+        evidence = row.evidence
+        if row.word in ("refused", "fault"):
+            return f"{row.word} " + fault_text(evidence, {**self.paths, "capture": capture})
+        if row.word == "Bogus":
+            return "Bogus; " + ("; ".join(row.advice) or UNKNOWN)
+        if row.word == "Indeterminate":
+            return NO_ANCHOR
+        if row.word == "Pending":
+            return NOT_VERIFIED.format(count=evidence["todo"], s="" if evidence["todo"] == 1 else "s")
+        if row.word == "Insecure":
+            return f"Insecure from {evidence['cut']} on"
+        if "records" in evidence:
+            return f"{row.word} by " + " and ".join(f"{kind} of {owner}" for owner, kind in evidence["records"])
+        return by_rrset(row)
+
+
+def by_rrset(row):
+    evidence = row.evidence
+    signed = f", signed by {evidence['signer']} key {evidence['key']}" if "signer" in evidence else ""
+    text = f"by RRset {evidence['rrset']}{signed}"
+    if "target" not in evidence:
+        return f"{row.word} {text}"
+    kind = mnemonic_of(row.question.kind)
+    return f"{row.word} to {evidence['target']} {text}; it isn't followed: ask {evidence['target']}/{kind} too"

@@ -1,0 +1,104 @@
+"""A capture judged: verified once, and asked each question at each moment. All that it reads is octets."""
+import os
+import tempfile
+from collections import namedtuple
+
+from verifying.entries import Lacking, Refusal, entry_of, statement_of
+
+from .advice import advice_for
+from .evidence import Evidence
+from .program import todo_lines, told_of
+
+# What is the same for all captures; `keys` and `macs` are octets or None.
+Common = namedtuple("Common", "anchors keys macs moments")
+# A verdict: `told` is its word, `evidence` what carries it by name, `advice` what to look at.
+Row = namedtuple("Row", "moment question status word evidence advice")
+# The verdicts of a capture, and why signatures could not be verified.
+Judged = namedtuple("Judged", "rows notes")
+
+SECURE_BY_RRSET, SECURE_BY_RECORDS = ("SecureAnswer", "SecureAlias"), ("SecureNoName", "SecureNoData")
+
+
+def write_files(folder, files):
+    for name, octets in files.items():
+        with open(os.path.join(folder, name), "wb") as file:
+            file.write(octets)
+
+
+def statements_of(lines):
+    """The statements that answer the lines, and why the others can't be answered here."""
+    statements, notes = [], {}
+    for line in lines:
+        try:
+            statements.append(statement_of(entry_of(line, "a signature")))
+        except (Lacking, Refusal) as why:
+            notes[str(why)] = notes.get(str(why), 0) + 1
+    return statements, [f"{count} signatures aren't verified: {why}" for why, count in notes.items()]
+
+
+def judged(octets, questions, common, program):
+    """The verdicts on the questions, by moment."""
+    with tempfile.TemporaryDirectory(prefix="dnssec_check-") as folder:
+        given = {"capture": octets, "anchors": common.anchors, "keys": common.keys, "macs": common.macs}
+        files = {name: content for name, content in given.items() if content is not None}
+        write_files(folder, files)
+        todo = dict.fromkeys(line for moment in common.moments for line in todo_lines(program, folder, moment))
+        statements, notes = statements_of(todo)
+        files["statements"] = "".join(statements).encode()
+        write_files(folder, {"statements": files["statements"]})
+        view = View(octets, common.anchors, sum(line.startswith("bad ") for line in statements))
+        rows = [view.row(moment, question, told_of(program, folder, files, moment, question))
+                for moment in common.moments for question in questions]
+    return Judged(rows, notes)
+
+
+class View:
+    """What the records of a capture say of verdicts."""
+
+    def __init__(self, octets, anchors, bad_count):
+        self.octets, self.anchors, self.bad_count, self.kept = octets, anchors, bad_count, None
+
+    @property
+    def evidence(self):
+        """Read where a verdict needs it."""
+        if self.kept is None:
+            self.kept = Evidence(self.octets)
+        return self.kept
+
+    def row(self, moment, question, told):
+        advice = []
+        if told.word == "Bogus":
+            advice = advice_for(question, moment, self.evidence, self.anchors, self.bad_count)
+        return Row(moment, question, told.status, told.word, self.evidence_of(told), advice)
+
+    def evidence_of(self, told):
+        if told.word in SECURE_BY_RRSET:
+            return self.of_rrset(told)
+        if told.word in SECURE_BY_RECORDS:
+            fields = [line.split(" ") for line in told.lines]
+            return {"records": [[owner, {"47": "NSEC", "50": "NSEC3"}.get(kind, kind)] for _, owner, kind in fields]}
+        if told.word == "Insecure":
+            return {"cut": told.lines[0].split(" ")[1]}
+        if told.word == "Pending":
+            return {"todo": len(told.lines)}
+        return of_fault(told.lines[0]) if told.word in ("refused", "fault") else {}
+
+    def of_rrset(self, told):
+        _, rrset, _, signature = told.lines[0].split(" ")
+        found = {"rrset": int(rrset), "signature": int(signature)}
+        signed = self.evidence.signature(found["rrset"], found["signature"])
+        if signed:
+            found["signer"], found["key"] = signed
+        target = self.evidence.target(found["rrset"]) if told.word == "SecureAlias" else None
+        return {**found, "target": target} if target else found
+
+
+def of_fault(line):
+    """The number of what is refused or failed, and where: `message`, `record`, `line` or `file`."""
+    number, *words = line.split(" ")
+    if not number.isdigit():
+        return {"said": line.lstrip("- ")}
+    found = {"number": int(number)}
+    if len(words) == 1:
+        return {**found, "file": words[0]}
+    return {**found, **{name: int(value) if value.isdigit() else value for name, value in zip(words[::2], words[1::2])}}
