@@ -4,6 +4,7 @@ pub mod WalkLemmas
 pub mod CaptureFileLemmas
 pub mod CheckLemmas
 pub mod FileFaultLemmas
+pub mod ReachedLemmas
 pub mod ListingLemmas
 pub mod ShowingLemmas
 pub mod ProgramLemmas
