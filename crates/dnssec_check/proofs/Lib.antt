@@ -8,6 +8,7 @@ pub mod ReachedLemmas
 pub mod ListingLemmas
 pub mod ShowingLemmas
 pub mod ProgramLemmas
+pub mod WordsLemmas
 pub mod OneText
 pub mod AnswerLemmas
 pub mod ListedLemmas
