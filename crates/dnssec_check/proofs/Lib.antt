@@ -4,9 +4,11 @@ pub mod WalkLemmas
 pub mod CaptureFileLemmas
 pub mod CheckLemmas
 pub mod FileFaultLemmas
+pub mod ReachedLemmas
 pub mod ListingLemmas
 pub mod ShowingLemmas
 pub mod ProgramLemmas
+pub mod WordsLemmas
 pub mod OneText
 pub mod AnswerLemmas
 pub mod ListedLemmas

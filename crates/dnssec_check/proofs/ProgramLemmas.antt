@@ -121,11 +121,6 @@ ended_failed (Err (fault.OpenFailed file)) is_1 untouched begun = inl (untouched
 ended_failed (Err fault.WriteFailed) is_1 untouched begun = inr (begun refl)
 ended_failed (Err (fault.Refused why place)) is_1 untouched begun = absurd (omega (arith, is_1, refusal_ends_with_7 why))
 
--- what doesn't end with 0 left the output as it was
-pub left_alone : {Same : Type 0} (code : ℕ) → code ≡ 1 → (code ≡ 0) ⊎ Same → Same
-left_alone code is_1 (inl is_0) = absurd (omega (arith, is_0, is_1))
-left_alone code is_1 (inr same) = same
-
 pub began : (given : Option (List (List ℕ))) (octets_at : List ℕ → Option (List ℕ)) (old new : Option (List ℕ)) (request : Request)
     → IfSome given (λ words. IsAccepted words request)
     → ((files : Files) → AreFilesAt octets_at request files → (status : Status) × (text : List ℕ) × IsTextOf request files status text × AppendsBeginning old new text)

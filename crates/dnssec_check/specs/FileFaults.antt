@@ -17,6 +17,11 @@ OfOctets Holds (fault.Refused why place) = Holds (fault.Refused why place)
 OfOctets Holds (fault.TooLong file) = Holds (fault.TooLong file)
 OfOctets Holds _ = ⊤
 
+-- where a failed read is told, this is so of its file
+abbrev pub OfFailedRead : (InputFile → Type 0) → Fault → Type 0
+OfFailedRead Holds (fault.ReadFailed file) = Holds file
+OfFailedRead Holds _ = ⊤
+
 -- the fault is in what the file holds or in reading it, or is the want of memory
 abbrev pub IsAbout : InputFile → Fault → Type 0
 IsAbout file fault.OutOfMemory = ⊤

@@ -1,5 +1,5 @@
 -- What a request asks of its files, and what is their first fault.
-use Rattle.std.specs.Prelude.{◌≡◌, ◌⊎◌, ℕ, true, false, List, string_bytes}
+use Rattle.std.specs.Prelude.{◌≡◌, ◌⊎◌, ⊤, ℕ, true, false, List, string_bytes}
 use Rattle.dnsv_names.specs.Name.{Labels}
 use Rattle.dnsv_message.specs.Message.{Contents}
 use Rattle.dnsv_canonical.specs.Rrsets.{IsQuestion}
@@ -10,12 +10,14 @@ use Rattle.dnssec_check.specs.declared.request.Request.{Request}
 use Rattle.dnssec_check.specs.declared.request.Request.TheVariants as request
 use Rattle.dnssec_check.specs.declared.status.Fault.{Fault}
 use Rattle.dnssec_check.specs.declared.status.Fault.TheVariants as fault
+use Rattle.dnssec_check.specs.declared.status.InputFile.{InputFile}
+use Rattle.dnssec_check.specs.declared.status.InputFile.TheVariants.{Anchors, Capture, Keys, Macs, Statements}
 use Rattle.dnssec_check.specs.declared.status.Status.{Status}
 use Rattle.dnssec_check.specs.declared.status.Status.TheVariants.{Done}
 use Rattle.dnssec_check.specs.AnchorsFile.{HasAnchors, IsFaultOfAnchors}
 use Rattle.dnssec_check.specs.CaptureFile.{AnyMessage, NewEvidence, Holds, IsFaultOfCapture}
 use Rattle.dnssec_check.specs.Checking.{IsCheck}
-use Rattle.dnssec_check.specs.EnvelopeFiles.{IsEnvelopeOf, IsFaultOfEnvelope}
+use Rattle.dnssec_check.specs.EnvelopeFiles.{IsEnvelopeOf, IsEnvelopeReached, IsFaultOfEnvelope}
 use Rattle.dnssec_check.specs.Files.{Files, octets_or_none}
 use Rattle.dnssec_check.specs.Listing.{IsListing}
 use Rattle.dnssec_check.specs.Question.{IsQuestionRefused, Spells}
@@ -89,3 +91,41 @@ IsFirstFault (request.List capture moment statements true) files fault =
 IsFirstFault (request.List capture moment statements false) files fault = IsFirstFaultOfTodo files fault
 IsFirstFault (request.Check capture anchors moment asked rtype statements keys macs) files fault =
     IsFirstFaultOfCheck (string_bytes asked) rtype.0 moment files fault
+
+-- ---- what a failed read comes behind
+
+-- only the file of captured messages is read
+abbrev pub IsCaptureReached : InputFile → Type 0
+IsCaptureReached Capture = ⊤
+IsCaptureReached _ = ⊥
+
+-- the statements are read behind evidence
+abbrev pub IsReachedByTodo : Files → InputFile → Type 0
+IsReachedByTodo files Capture = ⊤
+IsReachedByTodo files Statements = HasEvidence Bare files.capture
+IsReachedByTodo files _ = ⊥
+
+-- the file of captured messages is read behind the keys and MACs, the anchors behind evidence, and the statements
+-- behind the anchors
+abbrev pub IsReachedOfFiles : ℕ → Files → InputFile → Type 0
+IsReachedOfFiles moment files Keys = ⊤
+IsReachedOfFiles moment files Macs = IsEnvelopeReached files.keys Macs
+IsReachedOfFiles moment files Capture = (envelope : Envelope) × IsEnvelopeOf files.keys files.macs moment envelope
+IsReachedOfFiles moment files Anchors =
+    (envelope : Envelope) × IsEnvelopeOf files.keys files.macs moment envelope × HasEvidence envelope files.capture
+IsReachedOfFiles moment files Statements =
+    (envelope : Envelope) × IsEnvelopeOf files.keys files.macs moment envelope × HasEvidence envelope files.capture
+    × ((anchors : List Anchor) × HasAnchors (octets_or_none files.anchors) anchors)
+
+-- the question can be asked, and the files before this one are in order
+abbrev pub IsReachedByCheck : List ℕ → ℕ → ℕ → Files → InputFile → Type 0
+IsReachedByCheck asked rtype moment files file =
+    ((name : Labels) × Spells asked name × IsQuestion name rtype) × IsReachedOfFiles moment files file
+
+-- The request reads the file, and what comes before it in the order of the work is in order.
+abbrev pub IsReached : Request → Files → InputFile → Type 0
+IsReached (request.Show capture) files file = IsCaptureReached file
+IsReached (request.List capture moment statements true) files file = IsCaptureReached file
+IsReached (request.List capture moment statements false) files file = IsReachedByTodo files file
+IsReached (request.Check capture anchors moment asked rtype statements keys macs) files file =
+    IsReachedByCheck (string_bytes asked) rtype.0 moment files file

@@ -10,15 +10,45 @@ use crate::moment::Moment;
 use clap::{Arg, ArgAction, Command, value_parser};
 use std::alloc::{AllocError, Global};
 
-/// How `check` ends, and a command line of it.
+/// The subcommands in the order in which they are used.
+const AFTER_PROGRAM: &str = "\
+From captured messages to a verdict:
+  dnssec_check list --capture www.cap --moment 1795348800 > todo
+  dnssec_check-verify todo > statements
+  dnssec_check check --capture www.cap --anchors root.anchors --statements statements \
+--moment 1795348800 --name www.example. --type 1
+dnssec_check-judge does all three";
+
+/// How `show` ends, and what comes next.
+const AFTER_SHOW: &str = "\
+Exit status: 0 where every message is shown, 7 where the file or a message is refused,
+2 for words that are no command, 1 where memory, the file or the output failed
+
+Next:
+  dnssec_check list --capture www.cap --moment 1795348800";
+
+/// How `list` ends, and what comes next.
+const AFTER_LIST: &str = "\
+Exit status: 0 where the list is whole, also where it is empty, 7 where a file is refused,
+2 for words that are no command, 1 where memory, a file or the output failed
+
+Next, where the list was written to the file todo:
+  dnssec_check-verify todo > statements
+  dnssec_check check --capture www.cap --anchors root.anchors --statements statements \
+--moment 1795348800 --name www.example. --type 1";
+
+/// How `check` ends, a command line of it, and what comes next.
 const AFTER_CHECK: &str = "\
 Exit status: 0 for SecureAnswer, SecureAlias, SecureNoName and SecureNoData, 3 for Insecure,
 4 for Pending, 5 for Bogus, 6 for Indeterminate, 7 where the question or a file is refused,
 2 for words that are no command, 1 where memory, a file or the output failed
 
 Example:
-  dnssec_check check --capture www.cap --anchors root.anchors --moment 1795348800 \
---name www.example. --type 1";
+  dnssec_check check --capture www.cap --anchors root.anchors --statements statements \
+--moment 1795348800 --name www.example. --type 1
+
+Next, where the verdict is Pending and the output was written to the file pending:
+  dnssec_check-verify --from-check pending >> statements";
 
 /// The program with its subcommands.
 pub fn program<'a>(alloc: Global) -> Result<Command<'a>, AllocError>
@@ -26,6 +56,7 @@ pub fn program<'a>(alloc: Global) -> Result<Command<'a>, AllocError>
 {
     Command::new(alloc, "dnssec_check")
         .about("Says what captured DNS messages prove")
+        .after_help(AFTER_PROGRAM)
         .disable_help_subcommand(true)
         .subcommand_required(true)
         .subcommand(show(alloc)?)?
@@ -40,6 +71,7 @@ fn show<'a>(alloc: Global) -> Result<Command<'a>, AllocError>
 {
     Command::new(alloc, "show")
         .about("Shows the captured messages with their questions and records")
+        .after_help(AFTER_SHOW)
         .arg(capture_option(alloc))
 }
 
@@ -50,6 +82,7 @@ fn list<'a>(alloc: Global) -> Result<Command<'a>, AllocError>
 {
     Command::new(alloc, "list")
         .about("Lists the signatures that a verifier still has to check")
+        .after_help(AFTER_LIST)
         .arg(capture_option(alloc))?
         .arg(moment_option(alloc))?
         .arg(statements_option(alloc))?

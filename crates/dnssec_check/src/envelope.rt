@@ -3,8 +3,8 @@ ghost use Rattle.std.specs.Prelude.{◌≡◌, ◌⊎◌, Decides, IfErr, IfOk, 
 ghost use Rattle.std.specs.Option.{option_copied};
 ghost use Rattle.dnsv_message.specs.Frames.{octets_of_each};
 ghost use Rattle.dnssec_check.specs.Envelope.{HasItsMacs, request_mac};
-ghost use Rattle.dnssec_check.specs.EnvelopeFiles.{IsEnvelopeOf, IsFaultOfEnvelope};
-ghost use Rattle.dnssec_check.specs.FileFaults.{IsAbout, OfOctets, TellsFailedReads};
+ghost use Rattle.dnssec_check.specs.EnvelopeFiles.{IsEnvelopeOf, IsEnvelopeReached, IsFaultOfEnvelope};
+ghost use Rattle.dnssec_check.specs.FileFaults.{IsAbout, OfFailedRead, OfOctets, TellsFailedReads};
 ghost use Rattle.dnssec_check.specs.Files.{IsToldBy, given_failures, octets_or_none};
 ghost use Rattle.dnssec_check.specs.MacsFile.{IsFaultOfMacs, MayHaveMacs};
 
@@ -112,6 +112,8 @@ pub fn envelope_in<R: Read>(
     ensures faults { (keys_octets macs_octets : Option (List ℕ)) → IsToldBy R.remaining keys.old keys_octets
         → IsToldBy R.remaining macs.old macs_octets
         → IfErr result (OfOctets (IsFaultOfEnvelope keys_octets macs_octets)) }
+    ensures reached { (keys_octets : Option (List ℕ)) → IsToldBy R.remaining keys.old keys_octets
+        → IfErr result (OfFailedRead (IsEnvelopeReached keys_octets)) }
     ensures keys_reads { TellsFailedReads InputFile.Keys (given_failures keys.old) (given_failures keys.new) result }
     ensures macs_reads { TellsFailedReads InputFile.Macs (given_failures macs.old) (given_failures macs.new) result }
     ensures about { IfErr result (λ told. IsAbout InputFile.Keys told ⊎ IsAbout InputFile.Macs told) }

@@ -22,15 +22,15 @@ use crate::request::Request;
 use crate::run::{Inputs, run};
 use crate::status::{Fault, InputFile, Status};
 use dnsv_message::Counted;
+use std::alloc::Global;
 use std::io;
 use std::io::Write;
 use std::rt::{Env, Files};
 
 /// Does what the command line asks for, on the system and its two outputs. The answer is the exit status.
-pub fn exit_status_on<R: Env + Files + AllocGlobal + Print, E: Print>(
-    system: &R,
-    errors: &E,
-) -> u8 {
+pub fn exit_status_on<R: Env + Files + AllocGlobal + Print, E: Print>(system: &R, errors: &E) -> u8
+    ensures { result ≤ 7 }
+{
     exit_status(
         &Host::new(system),
         &mut Counted::new(io::writer(system)),
@@ -54,11 +54,12 @@ pub fn exit_status<M: Machine, W: Write, E: Write>(
     ensures misused { result ≡ 2 → IfSome (M.given_words machine.now) (λ words. RefusedWords words 2) }
     ensures untouched { (result ≡ 2) ⊎ (result ≡ 7) → output.new ≡ output.old }
 
-    // Where the machine failed, nothing was written, or a write failed and a beginning of the text stands there.
+    // Where the machine failed, nothing was written, or a write failed: of the text, of which a beginning stands
+    // there, or of help.
     ensures failed { result ≡ 1 → (output.new ≡ output.old) ⊎
         ((failures_of output.old < u64.MAX → failures_of output.old < failures_of output.new)
         × IfSome (M.given_words machine.now) (λ words. BeganText words (M.octets_at machine.now)
-        (W.contents (inner_of output.old)) (W.contents (inner_of output.new)))) }
+        (W.contents (inner_of output.old)) (W.contents (inner_of output.new)) ⊎ RefusedWords words 0)) }
     ensures codes { result ≤ 7 }
 {
     match request(machine) {
@@ -66,7 +67,7 @@ pub fn exit_status<M: Machine, W: Write, E: Write>(
             let outcome = answer(machine, &request, output);
             finish(errors, outcome)
         }
-        Err(error) => refuse(output, errors, error),
+        Err(error) => refuse(machine.alloc(), output, errors, error),
     }
 }
 
@@ -171,19 +172,45 @@ fn open<M: Machine>(machine: &M, file: InputFile, path: &str) -> Result<Counted<
 }
 
 /// Tells why the command line gives no request: help on the output, and anything else on the errors. The answer
-/// is the exit status.
-fn refuse<W: Write, E: Write>(output: &mut Counted<W>, errors: &mut E, error: LineError) -> u8
-    ensures code { result ≡ line_code error }
-    ensures untouched { (result ≡ 0) ⊎ (output.new ≡ output.old) }
+/// is the exit status, which is 1 where help can't be written.
+fn refuse<W: Write, E: Write>(
+    alloc: Global,
+    output: &mut Counted<W>,
+    errors: &mut E,
+    error: LineError,
+) -> u8
+    ensures code { (result ≡ line_code error) ⊎ ((line_code error ≡ 0) × (result ≡ 1)) }
+    ensures untouched { (result ≡ 0) ⊎ (output.new ≡ output.old) ⊎ ((line_code error ≡ 0) × (result ≡ 1)
+        × (failures_of output.old < u64.MAX → failures_of output.old < failures_of output.new)) }
 {
-    let code = error.code();
-    // Nothing is left to tell where the text itself can't be written.
-    let _ = match error {
-        LineError::OutOfMemory => errors.writeln(Fault::OutOfMemory),
-        LineError::Help(_) => output.write_fmt(error),
-        LineError::NotText | LineError::Misused(_) => errors.write_fmt(error),
-    };
-    code
+    match error {
+        LineError::OutOfMemory => finish(errors, Err(Fault::OutOfMemory)),
+        LineError::Help(_) => finish(errors, tell_help(alloc, error, output)),
+        LineError::NotText | LineError::Misused(_) => {
+            let code = error.code();
+            // Nothing is left to tell where the text itself can't be written.
+            let _ = errors.write_fmt(error);
+            code
+        }
+    }
+}
+
+/// Writes the help that was asked for.
+fn tell_help<W: Write>(
+    alloc: Global,
+    help: LineError,
+    output: &mut Counted<W>,
+) -> Result<Status, Fault>
+    ensures done { IfOk result (λ status. status ≡ Status.Done) }
+    ensures failed { IfErr result (λ fault. ((fault ≡ Fault.OutOfMemory) × (output.new ≡ output.old))
+        ⊎ ((fault ≡ Fault.WriteFailed)
+        × (failures_of output.old < u64.MAX → failures_of output.old < failures_of output.new))) }
+{
+    let text = help.to_string(alloc)?;
+    match output.write_all(text.as_bytes()) {
+        Ok(()) => Ok(Status::Done),
+        Err(_) => Err(Fault::WriteFailed),
+    }
 }
 
 /// Tells a fault on the errors, in a line. The answer is the exit status.

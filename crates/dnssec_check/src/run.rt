@@ -5,12 +5,13 @@ ghost use Rattle.dnsv_canonical.specs.Rrsets.{IsQuestion};
 ghost use Rattle.dnsv_message.specs.Counted.{inner_of, failures_of, AppendsBeginning};
 ghost use Rattle.dnssec_check.specs.CaptureFile.{AnyMessage, NewEvidence, IsFaultOfCapture};
 ghost use Rattle.dnssec_check.specs.declared.envelope.Envelope.TheVariants.{Bare};
-ghost use Rattle.dnssec_check.specs.FileFaults.{TellsFaults};
+ghost use Rattle.dnssec_check.specs.FileFaults.{OfFailedRead, TellsFaults};
 ghost use Rattle.dnssec_check.specs.Files.{AreTold, Files};
 ghost use Rattle.dnssec_check.specs.Listing.{IsListing};
 ghost use Rattle.dnssec_check.specs.Checking.{IsCheck};
 ghost use Rattle.dnssec_check.specs.Run.{IsAnswered, IsTextOf, IsFirstFault, IsFirstFaultOfCheck};
 ghost use Rattle.dnssec_check.specs.Run.{IsFirstFaultOfFiles, IsFirstFaultOfTodo};
+ghost use Rattle.dnssec_check.specs.Run.{IsCaptureReached, IsReached, IsReachedByCheck, IsReachedByTodo, IsReachedOfFiles};
 ghost use Rattle.dnssec_check.specs.Showing.{IsShowing};
 ghost use Rattle.dnssec_check.specs.Todo.{IsTodo};
 
@@ -66,6 +67,10 @@ pub fn run<R: Read, W: Write>(
     // The fault is the first that the files have.
     ensures faults { TellsFaults (IsFirstFault request.now) R.remaining inputs.old inputs.new result }
 
+    // A failed read is told of a file that the request reads, and what comes before that file is in order.
+    ensures reached { (files : Files) → AreTold R.remaining inputs.old files
+        → IfErr result (OfFailedRead (IsReached request.now files)) }
+
     // Only where the output failed in this call, by the count, unless that began at its greatest value.
     ensures write { result ≡ Err Fault.WriteFailed
         → failures_of output.old < u64.MAX → failures_of output.old < failures_of output.new }
@@ -94,6 +99,8 @@ fn outcome_of<R: Read>(
     ensures text { (files : Files) → AreTold R.remaining inputs.old files
         → IfOk result (λ outcome. IsTextOf request.now files outcome.status (string_bytes outcome.text)) }
     ensures faults { TellsFaults (IsFirstFault request.now) R.remaining inputs.old inputs.new result }
+    ensures reached { (files : Files) → AreTold R.remaining inputs.old files
+        → IfErr result (OfFailedRead (IsReached request.now files)) }
     ensures unwritten { IfErr result (λ fault. fault ≡ Fault.WriteFailed → ⊥) }
 {
     match request {
@@ -125,6 +132,8 @@ fn shown<R: Read>(alloc: Global, inputs: &mut Inputs<R>) -> Result<String, Fault
         → IfOk result (λ text. IsShowing files.capture (string_bytes text)) }
     ensures faults { TellsFaults (λ files. IsFaultOfCapture AnyMessage Bare files.capture) R.remaining
         inputs.old inputs.new result }
+    ensures reached { (files : Files) → AreTold R.remaining inputs.old files
+        → IfErr result (OfFailedRead (IsCaptureReached)) }
     ensures unwritten { IfErr result (λ fault. fault ≡ Fault.WriteFailed → ⊥) }
 {
     let messages = messages_in(alloc, &mut inputs.capture)?;
@@ -137,6 +146,8 @@ fn listed<R: Read>(alloc: Global, inputs: &mut Inputs<R>) -> Result<String, Faul
         → IfOk result (λ text. IsListing files.capture (string_bytes text)) }
     ensures faults { TellsFaults (λ files. IsFaultOfCapture NewEvidence Bare files.capture) R.remaining
         inputs.old inputs.new result }
+    ensures reached { (files : Files) → AreTold R.remaining inputs.old files
+        → IfErr result (OfFailedRead (IsCaptureReached)) }
     ensures unwritten { IfErr result (λ fault. fault ≡ Fault.WriteFailed → ⊥) }
 {
     let held = evidence_in(alloc, &Envelope::Bare, &mut inputs.capture)?;
@@ -148,6 +159,8 @@ fn todo<R: Read>(alloc: Global, moment: Moment, inputs: &mut Inputs<R>) -> Resul
     ensures text { (files : Files) → AreTold R.remaining inputs.old files
         → IfOk result (λ text. IsTodo moment files (string_bytes text)) }
     ensures faults { TellsFaults IsFirstFaultOfTodo R.remaining inputs.old inputs.new result }
+    ensures reached { (files : Files) → AreTold R.remaining inputs.old files
+        → IfErr result (OfFailedRead (IsReachedByTodo files)) }
     ensures unwritten { IfErr result (λ fault. fault ≡ Fault.WriteFailed → ⊥) }
 {
     let held = evidence_in(alloc, &Envelope::Bare, &mut inputs.capture)?;
@@ -167,6 +180,8 @@ fn answered<R: Read>(
         IsAnswered asked.now rtype.0 moment files outcome.status (string_bytes outcome.text)) }
     ensures faults { TellsFaults (IsFirstFaultOfCheck asked.now rtype.0 moment) R.remaining inputs.old inputs.new
         result }
+    ensures reached { (files : Files) → AreTold R.remaining inputs.old files
+        → IfErr result (OfFailedRead (IsReachedByCheck asked.now rtype.0 moment files)) }
     ensures unwritten { IfErr result (λ fault. fault ≡ Fault.WriteFailed → ⊥) }
 {
     let name = question_name(asked, rtype)?;
@@ -185,6 +200,8 @@ fn checked<R: Read>(
     ensures text { (files : Files) → AreTold R.remaining inputs.old files → IfOk result (λ outcome.
         IsCheck name.now rtype.0 moment files outcome.status (string_bytes outcome.text)) }
     ensures faults { TellsFaults (IsFirstFaultOfFiles moment) R.remaining inputs.old inputs.new result }
+    ensures reached { (files : Files) → AreTold R.remaining inputs.old files
+        → IfErr result (OfFailedRead (IsReachedOfFiles moment files)) }
     ensures unwritten { IfErr result (λ fault. fault ≡ Fault.WriteFailed → ⊥) }
 {
     let envelope = envelope_in(alloc, moment, &mut inputs.keys, &mut inputs.macs)?;

@@ -2,7 +2,8 @@
 //!
 //! Rows are parted by an empty line. Lines `PATH < HEX..` and `PATH = TEXT` are the machine's files: octets in hex, by a
 //! name of `samples` or with `^N` behind them N times; or a text, in which `;` ends a line. With `!` behind the octets
-//! each read behind the last one fails, and `full` says that no write is taken. The line `$ WORDS` is the command line.
+//! each read behind the last one fails, and `full` says that no write is taken. The line `$ WORDS` is the command line,
+//! or `octets HEX..`, a word each.
 //! Behind it stands how the program has to end: `=> STATUS`, and then what it prints, on the standard error behind `! `;
 //! or lines `~ TEXT`, which have to stand somewhere in what is printed.
 use crate::program::exit_status_on;
@@ -104,7 +105,11 @@ fn system_of(alloc: Global, lines: &str) -> Result<System, Fail> {
 fn add(alloc: Global, system: &mut System, line: &str) -> Result<(), Fail> {
     if let Some(words) = line.strip_prefix("$ ") {
         for word in words.split(' ') {
-            system.words.push(String::from_str(alloc, word)?)?;
+            system.words.push(Vec::from_slice(alloc, word.as_bytes())?)?;
+        }
+    } else if let Some(words) = line.strip_prefix("octets ") {
+        for word in words.split(' ') {
+            system.words.push(hex::decode(alloc, word)?)?;
         }
     } else if let Some((path, text)) = line.split_once(" = ") {
         let text = text.replace(alloc, ";", "\n")?;

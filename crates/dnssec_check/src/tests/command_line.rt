@@ -230,17 +230,50 @@ $ dnssec_check check --capture a --anchors b --moment 1 --name c. --type 65536
 ! 
 ~ help
 
-# Help: status 0, on the output.
+# Words that are all taken are 18; one more has no place.
+a = 
+$ dnssec_check check --capture a --anchors a --moment 1 --name c. --type 1 --statements a --keys a --macs a
+=> 6
+Indeterminate c. 1
+
+a = 
+$ dnssec_check check --capture a --anchors a --moment 1 --name c. --type 1 --statements a --keys a --macs a a
+=> 2
+! 
+~ help
+
+# A path is taken as it is, with a blank at its end too.
+a  < HOST
+octets 64 73686f77 2d2d63617074757265 6120
+=> 0
+~ record 3 Host.Example. 46 1 5 
+
+a < HOST
+octets 64 73686f77 2d2d63617074757265 6120
+=> 1
+! fault 811 capture
+
+# A word that is no UTF-8.
+a < HOST
+octets 64 73686f77 2d2d63617074757265 61ff
+=> 2
+! error: a word of the command line is not UTF-8
+
+# Help: status 0, on the output; each subcommand's tells its statuses and what comes next.
 $ dnssec_check --help
 => 0
 ~ Says what captured DNS messages prove
 ~ list
 ~ show
 ~ check
+~ dnssec_check-judge does all three
 
 $ dnssec_check show --help
 => 0
 ~ --capture <FILE>
+~ Exit status: 0 where every message is shown, 7 where the file or a message is refused,
+~ 2 for words that are no command, 1 where memory, the file or the output failed
+~ dnssec_check list --capture
 
 $ dnssec_check list --help
 => 0
@@ -249,10 +282,27 @@ $ dnssec_check list --help
 ~ --moment <N>
 ~ --all
 ~ --statements <FILE>
+~ Exit status: 0 where the list is whole, also where it is empty, 7 where a file is refused,
+~ 2 for words that are no command, 1 where memory, a file or the output failed
+~ dnssec_check-verify todo > statements
 
 $ dnssec_check check --help
 => 0
 ~ --anchors <FILE>
-~ 6 for Indeterminate
+~ Exit status: 0 for SecureAnswer, SecureAlias, SecureNoName and SecureNoData, 3 for Insecure,
+~ 4 for Pending, 5 for Bogus, 6 for Indeterminate, 7 where the question or a file is refused,
+~ 2 for words that are no command, 1 where memory, a file or the output failed
 ~ --keys <FILE>
-~ --macs <FILE>";
+~ --macs <FILE>
+~ dnssec_check-verify --from-check pending >> statements
+
+# Help that can't be written is a fault as a text's is.
+full
+$ dnssec_check --help
+=> 1
+! fault 812
+
+full
+$ dnssec_check check --help
+=> 1
+! fault 812";

@@ -134,7 +134,7 @@ fn unsupported<T>() -> io::Result<T>
 /// The words, the files, and the output.
 #[derive(Drop)]
 pub struct System {
-    pub words: Vec<String>,
+    pub words: Vec<Vec<u8>>,
     pub files: Vec<File>,
     pub output: Page,
 }
@@ -177,7 +177,7 @@ impl Env for System {
         let Some(word) = self.words.get(i) else {
             return Err(FillError::NotPresent);
         };
-        let word = word.as_bytes();
+        let word = word.as_slice();
         if buf.len() < word.len() {
             return Err(FillError::TooLong);
         }

@@ -1,5 +1,6 @@
 use Rattle.std.proofs.Common.{◌∙◌, inl, sym}
-use Rattle.dnssec_check.proofs.ProgramLemmas.{began, ended_failed, ended_well, ended_refused, left_alone, wrote, refused}
+use Rattle.dnssec_check.proofs.ProgramLemmas.{began, ended_failed, ended_well, ended_refused, wrote, refused}
+use Rattle.dnssec_check.proofs.WordsLemmas.{at_most_7, began_so, words_done, words_failed, words_misused, words_refused, words_untouched}
 use Rattle.dnssec_check.proofs.program.exit_status.Goals as goal
 
 pub returns-in-Ok-clause-done : goal.returns-in-Ok-clause-done
@@ -14,7 +15,22 @@ returns-in-Ok-clause-refused g c = λ is_7.
 pub returns-in-Ok-clause-failed : goal.returns-in-Ok-clause-failed
 returns-in-Ok-clause-failed g c = λ is_1.
     ended_failed _ (sym c.finish.ensures ∙ is_1) c.answer-outcome.ensures.untouched (λ failed.
-    (c.answer-outcome.ensures.write failed, began _ _ _ _ _ c.in-Ok.ensures.accepted (λ files are. c.answer-outcome.ensures.begun files are failed)))
+    (c.answer-outcome.ensures.write failed, began_so _ _ _ _ (began _ _ _ _ _ c.in-Ok.ensures.accepted (λ files are. c.answer-outcome.ensures.begun files are failed))))
+
+pub returns-in-Err-clause-done : goal.returns-in-Err-clause-done
+returns-in-Err-clause-done g c = words_done _ c.in-Err.error _ _ _ _ c.in-Err.ensures.refused c.refuse.ensures.code
+
+pub returns-in-Err-clause-refused : goal.returns-in-Err-clause-refused
+returns-in-Err-clause-refused g c = words_refused _ c.in-Err.error _ _ c.refuse.ensures.code
+
+pub returns-in-Err-clause-misused : goal.returns-in-Err-clause-misused
+returns-in-Err-clause-misused g c = words_misused _ c.in-Err.error _ c.in-Err.ensures.refused c.refuse.ensures.code
+
+pub returns-in-Err-clause-untouched : goal.returns-in-Err-clause-untouched
+returns-in-Err-clause-untouched g c = words_untouched c.in-Err.error _ c.refuse.ensures.untouched
 
 pub returns-in-Err-clause-failed : goal.returns-in-Err-clause-failed
-returns-in-Err-clause-failed g c = λ is_1. inl (left_alone _ is_1 c.refuse.ensures.untouched)
+returns-in-Err-clause-failed g c = words_failed _ c.in-Err.error _ _ _ _ c.in-Err.ensures.refused c.refuse.ensures.untouched
+
+pub returns-in-Err-clause-codes : goal.returns-in-Err-clause-codes
+returns-in-Err-clause-codes g c = at_most_7 c.in-Err.error _ c.refuse.ensures.code

@@ -1,9 +1,11 @@
 use Rattle.std.proofs.Common.{inl, inr, refl}
 use Rattle.std.proofs.lemmas.Result.{err_from_is_err_and}
 use Rattle.dnsv_verifier.specs.Statements.{listed_answer}
-use Rattle.dnssec_check.specs.Run.{IsFirstFaultOfFiles}
+use Rattle.dnssec_check.specs.declared.status.InputFile.TheVariants.{Anchors, Capture, Statements}
+use Rattle.dnssec_check.specs.Run.{IsFirstFaultOfFiles, IsReachedOfFiles}
 use Rattle.dnssec_check.proofs.CheckLemmas.{all_checked}
 use Rattle.dnssec_check.proofs.FileFaultLemmas.{all_taken, anchored, captured, has_evidence, reads_then, stated, unsealed}
+use Rattle.dnssec_check.proofs.ReachedLemmas.{no_read, reached_by, reached_sealed}
 use Rattle.dnssec_check.proofs.run.checked.Goals as goal
 
 pub returns-in_err-envelope-clause-faults : goal.returns-in_err-envelope-clause-faults
@@ -54,3 +56,36 @@ returns-clause-text g c = λ files are.
     (listed_answer c.in_ok-statements.statements) c.judged.result are.capture c.in_ok-held.ensures.evidence
     (c.in_ok-anchors.ensures.anchors files.anchors are.anchors)
     (c.in_ok-statements.ensures.statements files.statements are.statements) c.judged.ensures.verdict
+
+pub returns-in_err-envelope-clause-reached : goal.returns-in_err-envelope-clause-reached
+returns-in_err-envelope-clause-reached g c = λ files are.
+    let p = err_from_is_err_and c.from_residual.result c.from_residual.ensures.1 in
+    rw (p.1, p.2) (reached_sealed c.args.moment files c.in_err-envelope.field-0.0 (c.in_err-envelope.ensures.reached files.keys are.keys))
+
+pub returns-in_err-held-clause-reached : goal.returns-in_err-held-clause-reached
+returns-in_err-held-clause-reached g c = λ files are.
+    let p = err_from_is_err_and c.from_residual-in_err-held.result c.from_residual-in_err-held.ensures.1 in
+    rw (p.1, p.2) (reached_by (IsReachedOfFiles c.args.moment files) Capture c.in_err-held.field-0.0 c.in_err-held.ensures.faults.about
+    (c.in_ok-envelope.envelope, c.in_ok-envelope.ensures.envelope files.keys files.macs are.keys are.macs))
+
+pub returns-in_err-anchors-clause-reached : goal.returns-in_err-anchors-clause-reached
+returns-in_err-anchors-clause-reached g c = λ files are.
+    let p = err_from_is_err_and c.from_residual-in_err-anchors.result c.from_residual-in_err-anchors.ensures.1 in
+    rw (p.1, p.2) (reached_by (IsReachedOfFiles c.args.moment files) Anchors c.in_err-anchors.field-0.0 c.in_err-anchors.ensures.about (
+      c.in_ok-envelope.envelope,
+      c.in_ok-envelope.ensures.envelope files.keys files.macs are.keys are.macs,
+      has_evidence c.in_ok-envelope.envelope _ c.in_ok-held.held c.in_ok-held.ensures.evidence files.capture are.capture,
+    ))
+
+pub returns-in_err-statements-clause-reached : goal.returns-in_err-statements-clause-reached
+returns-in_err-statements-clause-reached g c = λ files are.
+    let p = err_from_is_err_and c.from_residual-in_err-statements.result c.from_residual-in_err-statements.ensures.1 in
+    rw (p.1, p.2) (reached_by (IsReachedOfFiles c.args.moment files) Statements c.in_err-statements.field-0.0 c.in_err-statements.ensures.about (
+      c.in_ok-envelope.envelope,
+      c.in_ok-envelope.ensures.envelope files.keys files.macs are.keys are.macs,
+      has_evidence c.in_ok-envelope.envelope _ c.in_ok-held.held c.in_ok-held.ensures.evidence files.capture are.capture,
+      (c.in_ok-anchors.anchors, c.in_ok-anchors.ensures.anchors files.anchors are.anchors),
+    ))
+
+pub returns-clause-reached : goal.returns-clause-reached
+returns-clause-reached g c = λ files are. no_read (IsReachedOfFiles c.args.moment files) c.judged.result c.judged.ensures.only

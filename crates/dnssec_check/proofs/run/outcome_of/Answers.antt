@@ -1,6 +1,7 @@
 use Rattle.std.proofs.Common.{subst}
-use Rattle.dnssec_check.specs.Run.{IsFirstFault, IsFirstFaultOfCheck}
+use Rattle.dnssec_check.specs.Run.{IsFirstFault, IsFirstFaultOfCheck, IsReached, IsReachedByCheck}
 use Rattle.dnssec_check.proofs.FileFaultLemmas.{TellsFaults-weaker}
+use Rattle.dnssec_check.proofs.ReachedLemmas.{reached_in}
 use Rattle.dnssec_check.proofs.run.outcome_of.Goals as goal
 
 pub returns-in-Check-clause-faults : goal.returns-in-Check-clause-faults
@@ -8,3 +9,9 @@ returns-in-Check-clause-faults g c =
     TellsFaults-weaker (IsFirstFaultOfCheck c.as_bytes.result.now c.in-Check.rtype.0 c.in-Check.moment) (IsFirstFault c.args.request.now) c.answered.result
     (λ files fault holds. rw c.in-Check.is (subst (λ asked. IsFirstFaultOfCheck asked c.in-Check.rtype.0 c.in-Check.moment files fault) c.as_bytes.ensures.value holds))
     c.answered.ensures.faults
+
+pub returns-in-Check-clause-reached : goal.returns-in-Check-clause-reached
+returns-in-Check-clause-reached g c = λ files are.
+    reached_in (IsReachedByCheck c.as_bytes.result.now c.in-Check.rtype.0 c.in-Check.moment files) (IsReached c.args.request.now files) c.answered.result
+    (λ file holds. rw c.in-Check.is (subst (λ asked. IsReachedByCheck asked c.in-Check.rtype.0 c.in-Check.moment files file) c.as_bytes.ensures.value holds))
+    (c.answered.ensures.reached files are)
