@@ -40,7 +40,7 @@ test-tools:
 	python3 -m unittest discover -s tools/tests
 
 # The commands of the pages, against what the pages show, with the program and the tools as they are installed.
-# CAPTURING.md needs root, and the packages that it names; AUDITING.md needs parallel and python3-distributed.
+# CAPTURING.md needs root, and the packages that it names; AUDITING.md needs parallel.
 installed = $(CURDIR)/out/installed
 pages: export PATH := $(installed)/bin:$(PATH)
 pages: | $(program)
