@@ -1,6 +1,6 @@
 # `all`, `try`, `test` and `wrong-bodies` need the kit's command `rt` on the path, and nothing else; `demo`, `examples`,
-# `pages` and `install` take the program that is built, and build it where there is none.
-.PHONY: all try test demo examples wrong-bodies test-tools pages install
+# `pages`, `install` and `deb` take the program that is built, and build it where there is none.
+.PHONY: all try test demo examples wrong-bodies test-tools pages install deb
 
 program = crates/dnssec_check/out/dnssec_check
 PREFIX = /usr/local
@@ -38,27 +38,40 @@ wrong-bodies:
 test-tools:
 	python3 -m unittest discover -s tools/tests
 
-# The commands of the pages, against what the pages show. CAPTURING.md needs root, and the packages that it names.
+# The commands of the pages, against what the pages show, with the program and the tools as they are installed.
+# CAPTURING.md needs root, and the packages that it names; AUDITING.md needs parallel.
+installed = $(CURDIR)/out/installed
+pages: export PATH := $(installed)/bin:$(PATH)
 pages: | $(program)
+	$(MAKE) --silent install PREFIX=$(installed) DESTDIR=
 	tools/pages docs/CAPTURING.md
 	tools/pages docs/AUDITING.md
 	tools/pages examples/README.md
-	HOME=$$(mktemp -d) tools/pages README.md "To install it" "From a capture to a verdict"
+	HOME=$$(mktemp -d) tools/pages README.md dnssec_check "To install it" "The program by itself"
 
-# The program, its manual page, and the tools as dnssec_check-capture, -verify and -judge, below PREFIX.
+# The program, the tools as dnssec_check-capture, -verify and -judge, their manual pages and bash's completions.
+tools = capture verify judge
+modules = capturing verifying judging
+lib = $(DESTDIR)$(PREFIX)/lib/dnssec_check
+man = $(DESTDIR)$(PREFIX)/share/man/man1
+completions = $(DESTDIR)$(PREFIX)/share/bash-completion/completions
 install: | $(program)
-	install -d $(DESTDIR)$(PREFIX)/bin $(DESTDIR)$(PREFIX)/share/man/man1
-	install -d $(patsubst %,$(DESTDIR)$(PREFIX)/lib/dnssec_check/%,capturing verifying judging)
+	install -d $(DESTDIR)$(PREFIX)/bin $(lib) $(modules:%=$(lib)/%) $(man) $(completions)
 	install -m 755 $(program) $(DESTDIR)$(PREFIX)/bin
-	install -m 755 tools/capture tools/verify tools/judge $(DESTDIR)$(PREFIX)/lib/dnssec_check
-	install -m 644 tools/command.py $(DESTDIR)$(PREFIX)/lib/dnssec_check
-	install -m 644 tools/capturing/*.py $(DESTDIR)$(PREFIX)/lib/dnssec_check/capturing
-	install -m 644 tools/verifying/*.py $(DESTDIR)$(PREFIX)/lib/dnssec_check/verifying
-	install -m 644 tools/judging/*.py tools/judging/numbers.tsv $(DESTDIR)$(PREFIX)/lib/dnssec_check/judging
-	ln -sf ../lib/dnssec_check/capture $(DESTDIR)$(PREFIX)/bin/dnssec_check-capture
-	ln -sf ../lib/dnssec_check/verify $(DESTDIR)$(PREFIX)/bin/dnssec_check-verify
-	ln -sf ../lib/dnssec_check/judge $(DESTDIR)$(PREFIX)/bin/dnssec_check-judge
-	install -m 644 docs/dnssec_check.1 $(DESTDIR)$(PREFIX)/share/man/man1
+	install -m 755 $(tools:%=tools/%) $(lib)
+	install -m 644 tools/command.py $(lib)
+	for folder in $(modules); do install -m 644 tools/$$folder/*.py $(lib)/$$folder; done
+	install -m 644 tools/judging/numbers.tsv $(lib)/judging
+	install -m 644 docs/dnssec_check.1 $(tools:%=docs/dnssec_check-%.1) $(man)
+	install -m 644 tools/completion/dnssec_check $(completions)
+	for tool in $(tools); do \
+		ln -sf ../lib/dnssec_check/$$tool $(DESTDIR)$(PREFIX)/bin/dnssec_check-$$tool; \
+		ln -sf dnssec_check $(completions)/dnssec_check-$$tool; \
+	done
+
+# The same as a Debian package, out/dnssec-check_VERSION_amd64.deb; needs the packages debhelper, dh-python and dpkg-dev.
+deb: | $(program)
+	tools/deb
 
 $(program):
 	$(MAKE) all

@@ -3,6 +3,7 @@ import argparse
 import os
 import sys
 
+VERSION = "0.9"  # of the tools, and of the Debian package
 INTERRUPTED = 130
 
 
@@ -41,8 +42,10 @@ def shown(path):
 def parser_of(text):
     """A parser whose help is the tool's own description: its first line, the options, and the rest."""
     front, details = text.split("\n", 1)
-    return argparse.ArgumentParser(
+    parser = argparse.ArgumentParser(
         description=front, epilog=details, formatter_class=argparse.RawDescriptionHelpFormatter, allow_abbrev=False)
+    parser.add_argument("--version", action="version", version=f"%(prog)s {VERSION}")
+    return parser
 
 
 def read(path):

@@ -46,7 +46,7 @@ def in_processes(tasks, common, program, jobs):
     except BrokenExecutor as fault:
         raise Failure(f"a process that judges was ended: {fault}") from fault
     finally:
-        pool.shutdown(wait=False, cancel_futures=True)
+        pool.shutdown(cancel_futures=True)
 
 
 def done_of(waiting):

@@ -9,6 +9,7 @@ import unittest
 from unittest import mock
 
 from tool import DATA, TOOLS, run_program
+from command import VERSION
 
 VERIFY = TOOLS / "verify"
 
@@ -95,6 +96,13 @@ class Ends(unittest.TestCase):
             status, _, errors = run_program(VERIFY, "--help", output=full)
         self.assertEqual(status, 1)
         self.has_one_line(errors)
+
+    def test_each_tool_tells_its_name_and_the_one_version(self):
+        for name in ("capture", "verify"):
+            with self.subTest(name):
+                wanted = f"{name} {VERSION}\n".encode()
+                self.assertEqual(run_program(TOOLS / name, "--version"), (0, wanted, ""))
+        self.assertEqual(run_program(TOOLS / "capture", "--version", "no-such-file")[0], 0)
 
     def test_a_file_that_is_not_there_or_is_a_folder(self):
         for path in (DATA / "no-such-file", DATA, pathlib.Path("no-such-file")):

@@ -7,8 +7,12 @@ import tempfile
 import unittest
 
 from tool import DATA, PROGRAM, TOOLS, run_program
+from command import VERSION
 
-MANUAL = TOOLS.parent / "docs" / "dnssec_check.1"
+DOCS = TOOLS.parent / "docs"
+MANUAL = DOCS / "dnssec_check.1"
+COMMANDS = ("dnssec_check", "dnssec_check-capture", "dnssec_check-judge", "dnssec_check-verify")
+OF_THE_MACHINE = ("outdated mandoc.db", "referenced manual not found")  # which other pages a machine has
 
 
 def numbers_of(row):
@@ -24,25 +28,44 @@ class Install(unittest.TestCase):
             words = ["make", "--silent", "install", "PREFIX=/opt/x", f"DESTDIR={room}"]
             subprocess.run(words, cwd=TOOLS.parent, check=True, capture_output=True)
             place = pathlib.Path(room) / "opt" / "x"
-            tools = place / "bin"
-            wanted = {"dnssec_check", "dnssec_check-capture", "dnssec_check-verify", "dnssec_check-judge"}
-            self.assertEqual({path.name for path in tools.iterdir()}, wanted)
-            self.assertEqual((place / "share/man/man1/dnssec_check.1").read_bytes(), MANUAL.read_bytes())
-            capture = place / "capture"
-            words = ("--pcap", DATA / "packets" / "loopback.pcap", "--port", "5300", "--output", capture)
-            self.assertEqual(run_program(tools / "dnssec_check-capture", *words)[:2], (0, b""))
-            shown = run_program(tools / "dnssec_check", "show", "--capture", capture)
-            self.assertEqual((shown[0], shown[1].count(b"message "), shown[2]), (0, 5, ""))
-            verified = run_program(tools / "dnssec_check-verify", DATA / "todo")
-            self.assertEqual(verified, (0, (DATA / "statements").read_bytes(), ""))
+            self.has_its_pages(place / "share")
+            self.runs(place / "bin", place / "capture")
+
+    def has_its_pages(self, share):
+        """The manual page of each command as it is in docs/, and a completion that bash finds by the command's name."""
+        for name in COMMANDS:
+            page = f"{name}.1"
+            self.assertEqual((share / "man/man1" / page).read_bytes(), (DOCS / page).read_bytes())
+            completion = share / "bash-completion/completions" / name
+            self.assertEqual(completion.read_bytes(), (TOOLS / "completion/dnssec_check").read_bytes())
+
+    def runs(self, tools, capture):
+        self.assertEqual({path.name for path in tools.iterdir()}, set(COMMANDS))
+        words = ("--pcap", DATA / "packets" / "loopback.pcap", "--port", "5300", "--output", capture)
+        self.assertEqual(run_program(tools / "dnssec_check-capture", *words)[:2], (0, b""))
+        shown = run_program(tools / "dnssec_check", "show", "--capture", capture)
+        self.assertEqual((shown[0], shown[1].count(b"message "), shown[2]), (0, 5, ""))
+        verified = run_program(tools / "dnssec_check-verify", DATA / "todo")
+        self.assertEqual(verified, (0, (DATA / "statements").read_bytes(), ""))
+        told = run_program(tools / "dnssec_check-judge", "--version")
+        self.assertEqual(told, (0, f"dnssec_check-judge {VERSION}\n".encode(), ""))
 
 
 class Manual(unittest.TestCase):
     @unittest.skipUnless(shutil.which("mandoc"), "needs mandoc")
-    def test_the_manual_page_is_well_formed(self):
-        done = subprocess.run(["mandoc", "-T", "lint", "-W", "style", MANUAL], capture_output=True, text=True)
-        told = [line for line in done.stdout.splitlines() if "outdated mandoc.db" not in line]
-        self.assertEqual(told, [])
+    def test_each_manual_page_is_well_formed(self):
+        for page in DOCS.glob("*.1"):
+            done = subprocess.run(["mandoc", "-T", "lint", "-W", "style", page], capture_output=True, text=True)
+            told = [line for line in done.stdout.splitlines() if not any(text in line for text in OF_THE_MACHINE)]
+            self.assertEqual(told, [])
+
+    def test_the_manual_page_of_each_tool_has_its_options(self):
+        for name in ("capture", "verify", "judge"):
+            with self.subTest(name):
+                page = (DOCS / f"dnssec_check-{name}.1").read_text()
+                told = set(re.findall(r"^\.It Fl -([a-z-]+)", page, re.MULTILINE))
+                helped = run_program(TOOLS / name, "--help")[1].decode()
+                self.assertEqual(told, set(re.findall(r"^ +(?:-\w, )?--([a-z-]+)", helped, re.MULTILINE)))
 
     def test_the_manual_page_has_each_number_of_the_program(self):
         text = (TOOLS.parent / "docs" / "GUARANTEES.md").read_text().split("### Numbers of the program")[1]
@@ -51,6 +74,13 @@ class Manual(unittest.TestCase):
         self.assertGreater(len(numbers), 15)
         told = {int(item) for item in re.findall(r"^\.It (\d+)$", MANUAL.read_text(), re.MULTILINE)}
         self.assertEqual(numbers - told, set())
+
+    def test_the_manual_page_says_of_each_number_what_the_table_says(self):
+        rows = (TOOLS / "judging" / "numbers.tsv").read_text().splitlines()[1:]
+        for number, _, what, remedy in (row.split("\t") for row in rows):
+            with self.subTest(number):
+                entry = re.search(rf"^\.It {number}\n(.*?)^\.", MANUAL.read_text(), re.MULTILINE | re.DOTALL)[1]
+                self.assertEqual(" ".join(entry.split()), f"{what} {remedy}")
 
     @unittest.skipUnless(PROGRAM.exists(), "needs the built program")
     def test_the_manual_page_has_each_option_of_the_program(self):
