@@ -99,16 +99,15 @@ class Words(Judging):
         questions = self.room / "list"
         asked = [name for name in BAD_NAMES if "\n" not in name]
         questions.write_bytes(b"".join(os.fsencode(f"{name}.test/A\n") for name in asked))
-        status, lines, errors = self.noon("--tsv", self.room, "--questions", questions)
-        self.assertEqual((status in (5, 7), errors, len(lines)), (True, "", 1 + len(BAD_NAMES) * len(asked)))
-        self.assertTrue(all(line.isprintable() for line in (field for line in lines for field in line.split("\t"))))
-        self.assertTrue(all(line.count("\t") == 6 for line in lines))
+        for words, count in (((WWW, "--questions", questions), len(asked)), ((self.room, "www.bind.test/A"), len(BAD_NAMES))):
+            status, lines, errors = self.noon("--tsv", *words)
+            self.assertEqual((status in (0, 5, 7), errors, len(lines)), (True, "", 1 + count))
+            self.assertTrue(all(line.count("\t") == 6 and line.replace("\t", "").isprintable() for line in lines))
         told = {os.fsencode(json.loads(line)["capture"]) for line in self.noon("--jsonl", self.room, "www.bind.test/A")[1]}
         self.assertEqual(told, {os.fsencode(self.room / f"{name}.cap") for name in BAD_NAMES})
         self.assertFalse((self.room / "X").exists() or os.path.exists("X"))
-        for name in BAD_NAMES:
-            status, lines, errors = self.noon(WWW, "--", f"{name}.test/A")
-            self.assertEqual((errors, len(lines), status in (5, 7)), ("", 1, True), name)
+        status, lines, errors = self.noon(WWW, "--", *(f"{name}.test/A" for name in BAD_NAMES))
+        self.assertEqual((errors, len(lines), status in (5, 7)), ("", len(BAD_NAMES), True))
 
 
 @needs_dns

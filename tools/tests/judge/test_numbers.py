@@ -32,8 +32,7 @@ class Numbers(unittest.TestCase):
         entries = dict(re.findall(r"(?ms)^\.It (\d+)\n(.*?)(?=^\.(?:It|El))", page))
         for row in numbers().values():
             with self.subTest(row.number):
-                told = plain(entries[str(row.number)])
-                self.assertTrue(told.startswith(plain(row.what).rstrip(".")), told)
+                self.assertEqual(plain(entries[str(row.number)]), plain(f"{row.what} {row.remedy}"))
 
     def test_readme_names_no_other_number(self):
         lines = (TOOLS.parent / "README.md").read_text().splitlines()
