@@ -10,7 +10,7 @@ from tool import TOOLS, run_program
 from .helper import ANCHORS, DEBIAN, NOON, Judging, capture_of, has_package, needs, needs_dns
 
 COUNT = 60
-START = "import sys; from distributed.cli.dask_{0} import {1}; sys.exit({1}())"
+START = "import sys; from distributed.cli.dask_{0} import main; sys.exit(main())"
 
 
 def free_port():
@@ -24,8 +24,7 @@ def free_port():
 class Cluster(Judging):
     def start(self, name, *words):
         environment = {**os.environ, "PATH": f"{self.room}/path:{os.environ['PATH']}"}
-        entry = {"scheduler": "main", "worker": "main"}[name]
-        process = subprocess.Popen([DEBIAN, "-c", START.format(name, entry), *words], cwd=self.room, env=environment,
+        process = subprocess.Popen([DEBIAN, "-c", START.format(name), *words], cwd=self.room, env=environment,
                                    stdout=subprocess.DEVNULL, stderr=subprocess.DEVNULL)
         self.addCleanup(process.wait)
         self.addCleanup(process.kill)
@@ -53,7 +52,7 @@ class Cluster(Judging):
         wanted = self.judge(*words)
         lost, kept = self.worker(), self.worker()
         judge = subprocess.Popen([str(word) for word in (TOOLS / "judge", "--scheduler", self.address, *words)],
-                                 stdout=subprocess.PIPE, stderr=subprocess.PIPE)
+                                 stdout=subprocess.PIPE, stderr=subprocess.PIPE, bufsize=0)
         first = judge.stdout.readline() + judge.stdout.readline()
         lost.kill()
         output, errors = judge.communicate(timeout=300)
