@@ -7,11 +7,12 @@ import tempfile
 import uuid
 import zipfile
 
-from .faults import Failure, lacking
+from asking.faults import Failure, lacking
+
 from .program import NAME
 from .work import judged
 
-FOLDERS = ("judging", "verifying", "capturing")
+FOLDERS = ("judging", "asking", "verifying", "capturing")
 MODULES = "dnssec_check_tools.zip"
 AHEAD = 8         # captures sent ahead for each thread of the workers
 LOST_MOST = 3     # how often a capture is handed out anew whose workers were lost again and again

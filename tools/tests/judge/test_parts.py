@@ -4,7 +4,8 @@ import tempfile
 import unittest
 from unittest import mock
 
-from judging import advice, anchors, evidence, faults, kinds, moments, questions
+from asking import anchors, faults, kinds, moments, questions
+from judging import advice, evidence
 
 from .helper import EXAMPLES, examples, has_package
 
