@@ -52,7 +52,7 @@ pages: | $(program)
 
 # The program, the tools as dnssec_check-capture, -verify and -judge, their manual pages and bash's completions.
 tools = capture verify judge
-modules = capturing verifying judging
+modules = capturing verifying asking judging
 lib = $(DESTDIR)$(PREFIX)/lib/dnssec_check
 man = $(DESTDIR)$(PREFIX)/share/man/man1
 completions = $(DESTDIR)$(PREFIX)/share/bash-completion/completions

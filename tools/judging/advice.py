@@ -2,10 +2,10 @@
 import base64
 import re
 
+from asking.moments import moment_text
 from capturing.messages import is_at_or_above, name_text
 
 from .evidence import tag_of
-from .moments import moment_text
 
 SHOWN_MOST = 3
 CYCLE = 1 << 32  # the times of signatures count seconds modulo this (RFC 4034 3.1.5)
@@ -45,9 +45,11 @@ def advice_for(question, moment, evidence, anchors, bad_count):
     labels = labels_of(question.name)
     above = [(rrset, each) for rrset, each in evidence.signatures() if is_at_or_above(each.signer, labels)]
     has_answer = any(rrset.owner == labels and rrset.kind in (question.kind, TYPE_CNAME) for rrset in evidence.rrsets)
-    return [*([] if has_answer else ["the capture has no such record, and no proof that there is none"]),
-            *of_anchors(labels, evidence.keys(), anchors), *of_zones(above, evidence.keys()), *of_times(above, moment),
-            *([f"{bad_count} of its signatures are bad, or not by the key that they were tried with"] if bad_count else [])]
+    found = [] if has_answer else ["the capture has no such record, and no proof that there is none"]
+    found += [*of_anchors(labels, evidence.keys(), anchors), *of_zones(above, evidence.keys()), *of_times(above, moment)]
+    if bad_count:
+        found.append(f"{bad_count} of its signatures are bad, or not by the key that they were tried with")
+    return found
 
 
 def of_anchors(labels, keys, anchors):

@@ -7,11 +7,12 @@ import tempfile
 import uuid
 import zipfile
 
-from .faults import Failure, lacking
+from asking.faults import Failure, lacking
+
 from .program import NAME
 from .work import judged
 
-FOLDERS = ("judging", "verifying", "capturing")
+FOLDERS = ("judging", "asking", "verifying", "capturing")
 MODULES = "dnssec_check_tools.zip"
 AHEAD = 8         # captures sent ahead for each thread of the workers
 LOST_MOST = 3     # how often a capture is handed out anew whose workers were lost again and again
@@ -32,6 +33,8 @@ def modules():
     tools, octets = pathlib.Path(__file__).resolve().parent.parent, io.BytesIO()
     files = [tools / "command.py", *(file for folder in FOLDERS for file in sorted((tools / folder).iterdir()))]
     with zipfile.ZipFile(octets, "w") as archive:
+        for folder in FOLDERS:
+            archive.writestr(f"{folder}/__init__.py", b"")  # from a file of modules no folder without one is imported
         for file in files:
             if file.suffix in (".py", ".tsv"):
                 archive.writestr(str(file.relative_to(tools)), file.read_bytes())
@@ -76,6 +79,8 @@ class Run:
                 raise Failure(f"each worker that had the capture was lost: {fault}") from fault
             again(self.submit(task, count + 1))
             return None
+        except Exception as fault:  # whatever a worker met: each would meet it
+            raise Failure(f"a worker failed: {type(fault).__name__}: {fault}") from fault
 
 
 def by_workers(tasks, common, address):
@@ -104,7 +109,7 @@ def taken(run, completed):
 def client_of(dask, address):
     """A client of the scheduler, which has a worker."""
     try:
-        client = dask.Client(address, timeout=WAIT_SECONDS, set_as_default=False)
+        client = dask.Client(address, timeout=WAIT_SECONDS)
     except (OSError, ValueError, TimeoutError) as fault:
         raise Failure(f"no scheduler answers at {address}: {fault}") from fault
     try:

@@ -4,7 +4,7 @@ import shutil
 import subprocess
 from collections import namedtuple
 
-from .faults import Failure
+from asking.faults import Failure
 
 NAME = "dnssec_check"
 BUILT = os.path.join("crates", NAME, "out", NAME)

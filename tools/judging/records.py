@@ -1,9 +1,9 @@
 """The records of a capture as people read them, with their numbers."""
+from asking.faults import escaped, lacking
 from capturing.messages import question_text
 from capturing.octets import Incomplete, number_at
 
 from .evidence import Evidence, tag_of
-from .faults import escaped, lacking
 
 SECTIONS = ("answer", "authority", "additional")
 TYPE_DNSKEY, TYPE_OPT = 48, 41
@@ -30,7 +30,8 @@ def lines_of(octets):
     for number, (message, placed) in enumerate(zip(evidence.messages, evidence.placed), 1):
         yield escaped(f"message {number}: {header_text(dns, message)}")
         for each in placed:
-            yield escaped(f"message {number} record {each.number} {place_text(each)}: {record_text(dns, message, each.record)}")
+            text = record_text(dns, message, each.record)
+            yield escaped(f"message {number} record {each.number} {place_text(each)}: {text}")
 
 
 def header_text(dns, octets):

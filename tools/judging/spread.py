@@ -3,7 +3,8 @@ import signal
 from collections import namedtuple
 from concurrent.futures import FIRST_COMPLETED, BrokenExecutor, ProcessPoolExecutor, wait
 
-from .faults import Failure
+from asking.faults import Failure
+
 from .program import FAILED
 from .work import Judged, Row, judged
 

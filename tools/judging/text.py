@@ -1,10 +1,11 @@
 """Verdicts in words, a line each, and as the rows of tables."""
 import json
 
-from .faults import escaped
-from .kinds import mnemonic_of
+from asking.faults import escaped
+from asking.kinds import mnemonic_of
+from asking.moments import moment_text
+
 from .advice import UNKNOWN
-from .moments import moment_text
 from .numbers import fault_text
 
 COLUMNS = ("capture", "moment", "name", "type", "status", "verdict", "evidence")

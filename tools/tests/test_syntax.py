@@ -5,14 +5,22 @@ import unittest
 
 from tool import TOOLS
 
-FOLDERS = ("capturing", "verifying", "judging")
+FOLDERS = ("capturing", "verifying", "asking", "judging")
 NAMES = ["verify", "capture", "judge", "pages", "command.py"]
 NAMES += [str(path.relative_to(TOOLS)) for folder in FOLDERS for path in sorted((TOOLS / folder).glob("*.py"))]
-PACKAGES = {"verify": {"command", "verifying"}, "verifying/entries.py": {"verifying"},
-            "verifying/curves.py": {"cryptography"}, "judge": {"command", "judging"}, "judging/cluster.py": {"distributed"},
-            "judging/progress.py": {"rich"}, "judging/work.py": {"verifying"}, "capture": {"command", "capturing"}, "pages": {"command"}}
-
-JUDGING = {"command", "capturing", "dns"}  # dnspython is imported where it's needed
+# What each imports besides; dnspython (`dns`), distributed and rich only where they're needed.
+PACKAGES = {
+    "verify": {"command", "verifying"},
+    "verifying/entries.py": {"verifying"},
+    "verifying/curves.py": {"cryptography"},
+    "capture": {"command", "capturing"},
+    "judge": {"command", "asking", "judging"},
+    "asking": {"command", "capturing", "dns"},
+    "judging": {"asking", "capturing", "verifying", "dns"},
+    "judging/cluster.py": {"asking", "distributed"},
+    "judging/progress.py": {"rich"},
+    "pages": {"command"},
+}
 
 
 def imported(tree):
@@ -33,7 +41,8 @@ class Syntax(unittest.TestCase):
         for name in NAMES:
             with self.subTest(name):
                 others = imported(ast.parse((TOOLS / name).read_text())) - sys.stdlib_module_names
-                self.assertLessEqual(others, PACKAGES.get(name, {"command"}) | (JUDGING if name.startswith("judging/") else set()))
+                allowed = PACKAGES.get(name) or PACKAGES.get(name.split("/")[0], {"command"})
+                self.assertLessEqual(others, allowed)
 
 
 if __name__ == "__main__":

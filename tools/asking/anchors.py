@@ -39,7 +39,8 @@ def lines_of_zone(octets, path):
     try:
         rrsets = zonefile.read_rrsets(text, rdclass=None, default_ttl=0, origin=".", relativize=False)
     except (exception.DNSException, ValueError, NotImplementedError) as fault:
-        raise Refusal(f"the anchors {path}: neither lines `DS ..` and `KEY ..` nor DS and DNSKEY records: {fault}") from fault
+        raise Refusal(f"the anchors {path}: neither lines `DS ..` and `KEY ..` nor DS and DNSKEY records: "
+                      f"{fault}") from fault
     lines = []
     for rrset in rrsets:
         for record in rrset:

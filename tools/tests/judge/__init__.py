@@ -1,0 +1,2 @@
+"""Tests of tools/judge."""
+import tool  # noqa: F401

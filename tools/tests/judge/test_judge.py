@@ -1,0 +1,144 @@
+"""Tests of tools/judge: what it prints, how it ends, and that no name does any harm."""
+import json
+import os
+import shutil
+
+from tool import TOOLS, run_program
+
+from .helper import ANCHORS, EXAMPLES, NOON, Judging, capture_of, needs_dns
+
+WWW, NOSUCH, CUT = map(capture_of, ("bind-www-a", "bind-nosuch", "bind-cut-www"))
+BAD_NAMES = ("a b", "it's", "*", "a;touch X", "$(touch X)", "`touch X`", "back\\slash", "two\nlines", "-x", "tab\tbed",
+             'quo"ted', "esc\x1b[2J", os.fsdecode(b"octet\xff"))
+
+
+@needs_dns
+class Lines(Judging):
+    def test_a_line_says_what_carries_the_verdict(self):
+        answer = "www.bind.test. A: SecureAnswer by RRset 6, signed by bind.test. key 11133"
+        self.assertEqual(self.noon(WWW, "www.bind.test/A"), (0, [answer], ""))
+        denied = "nosuch.bind.test. A: SecureNoName by NSEC of nodatalias.bind.test. and NSEC of bind.test."
+        self.assertEqual(self.noon("nosuch.bind.test./1", NOSUCH), (0, [denied], ""))
+        self.assertEqual(self.noon(CUT, "www.ins.bind.test/a"), (3, ["www.ins.bind.test. A: Insecure from ins.bind.test. on"], ""))
+
+    def test_an_alias_says_where_it_leads(self):
+        status, lines, _ = self.noon(capture_of("bind-alias-a"), "alias.bind.test/A")
+        self.assertEqual(status, 0)
+        self.assertRegex(lines[0], r"^alias\.bind\.test\. A: SecureAlias to www\.bind\.test\. by RRset \d+, signed by "
+                                   r"bind\.test\. key \d+; it isn't followed: ask www\.bind\.test\./A too$")
+
+    def test_what_is_bogus_says_what_to_look_at(self):
+        status, lines, _ = self.noon(capture_of("expired-www-a"), "www.expired.test/A")
+        told = "www.expired.test. A: Bogus; signatures of expired.test. were over at 2026-10-01T00:00:00Z"
+        self.assertEqual((status, lines), (5, [told]))
+        status, lines, _ = self.noon(WWW, "other.bind.test/A")
+        self.assertEqual((status, lines), (5, ["other.bind.test. A: Bogus; the capture has no such record, and no proof that there is none"]))
+
+    def test_a_refusal_says_which_file_and_what_to_do(self):
+        query = EXAMPLES / "refuses-a-query" / "capture"
+        if self.room not in self.program.parents:
+            status, lines, _ = self.noon(query, "a.test/A")
+            self.assertEqual(status, 7)
+            self.assertIn(f"a.test. A: refused 401 message 2 of the capture {query}: it is a query; ", lines[0])
+
+    def test_several_captures_and_moments_stand_in_their_lines(self):
+        status, lines, _ = self.judge("--at", "2026-11-22T12:00:00Z", "--at", "2026-11-22T13:00:00+01:00", "--anchors", ANCHORS,
+                                      WWW, CUT, "www.bind.test/A")
+        self.assertEqual(status, 5)
+        self.assertEqual(lines[0], f"{WWW}: www.bind.test. A: SecureAnswer by RRset 6, signed by bind.test. key 11133")
+        self.assertEqual(len(lines), 2)
+        _, lines, _ = self.judge("--at", "0", "--at", NOON, "--anchors", ANCHORS, WWW, "www.bind.test/A")
+        self.assertTrue(lines[0].startswith("www.bind.test. A at 1970-01-01T00:00:00Z: Bogus; "))
+        self.assertTrue(lines[1].startswith("www.bind.test. A at 2026-11-22T12:00:00Z: SecureAnswer "))
+
+    def test_tables(self):
+        status, lines, _ = self.noon("--tsv", NOSUCH, WWW, "nosuch.bind.test/A")
+        head = "capture\tmoment\tname\ttype\tstatus\tverdict\tevidence"
+        row = f"{NOSUCH}\t{NOON}\tnosuch.bind.test.\tA\t0\tSecureNoName\trecord nodatalias.bind.test. NSEC; record bind.test. NSEC"
+        self.assertEqual((status, lines), (5, [head, row, f"{WWW}\t{NOON}\tnosuch.bind.test.\tA\t5\tBogus\t"]))
+        _, lines, _ = self.noon("--jsonl", WWW, "www.bind.test/A")
+        carried = {"rrset": 6, "signature": 1, "signer": "bind.test.", "key": 11133}
+        self.assertEqual(json.loads(lines[0]), {"capture": str(WWW), "moment": int(NOON), "name": "www.bind.test.", "type": "A",
+                                                "status": 0, "verdict": "SecureAnswer", "evidence": carried})
+
+    def test_several_at_once_give_the_same(self):
+        for number in range(7):
+            shutil.copy((WWW, NOSUCH, CUT)[number % 3], self.room / f"{number}.cap")
+        words = ("--tsv", self.room, "www.bind.test/A", "nosuch.bind.test/A")
+        one, several = self.noon("--jobs", "1", *words), self.noon("--jobs", "3", *words)
+        self.assertEqual((one, len(one[1])), (several, 15))
+
+
+@needs_dns
+class Words(Judging):
+    def test_questions_come_from_files_too(self):
+        path = self.room / "questions"
+        path.write_text("# all\n\nwww.bind.test/A\n  www.bind.test.\t AAAA # both\nc/d.test A\n")
+        _, lines, _ = self.noon("--jsonl", WWW, "--questions", path)
+        asked = [(row["name"], row["type"]) for row in map(json.loads, lines)]
+        self.assertEqual(asked, [("www.bind.test.", "A"), ("www.bind.test.", "AAAA"), ("c/d.test.", "A")])
+        path.write_text("www.bind.test/A\nwww.bind.test\n")
+        self.assertEqual(self.noon(WWW, "--questions", path), (7, [], f"judge: refused: line 2 of {path} is no question: write NAME/TYPE or NAME TYPE\n"))
+
+    def test_a_split_folder_asks_its_own(self):
+        shutil.copy(WWW, self.room / "0001-www.bind.test.-1.cap")
+        shutil.copy(NOSUCH, self.room / "0002-nosuch.bind.test.-1.cap")
+        (self.room / "questions").write_text("0001-www.bind.test.-1 www.bind.test. 1\n0002-nosuch.bind.test.-1 nosuch.bind.test. 1\n")
+        status, lines, _ = self.noon(self.room)
+        self.assertEqual((status, len(lines)), (0, 2))
+        self.assertIn("www.bind.test. A: SecureAnswer", lines[0])
+        self.assertIn("nosuch.bind.test. A: SecureNoName", lines[1])
+
+    def test_the_standard_input_is_a_capture(self):
+        self.assertEqual(self.noon("-", "www.bind.test/A", given=WWW.read_bytes())[0], 0)
+
+    def test_names_do_no_harm(self):
+        """Captures and questions of such names each have their line, and nothing else happens."""
+        for name in BAD_NAMES:
+            shutil.copy(WWW, self.room / f"{name}.cap")
+        questions = self.room / "list"
+        asked = [name for name in BAD_NAMES if "\n" not in name]
+        questions.write_bytes(b"".join(os.fsencode(f"{name}.test/A\n") for name in asked))
+        for words, count in (((WWW, "--questions", questions), len(asked)), ((self.room, "www.bind.test/A"), len(BAD_NAMES))):
+            status, lines, errors = self.noon("--tsv", *words)
+            self.assertEqual((status in (0, 5, 7), errors, len(lines)), (True, "", 1 + count))
+            self.assertTrue(all(line.count("\t") == 6 and line.replace("\t", "").isprintable() for line in lines))
+        told = {os.fsencode(json.loads(line)["capture"]) for line in self.noon("--jsonl", self.room, "www.bind.test/A")[1]}
+        self.assertEqual(told, {os.fsencode(self.room / f"{name}.cap") for name in BAD_NAMES})
+        self.assertFalse((self.room / "X").exists() or os.path.exists("X"))
+        status, lines, errors = self.noon(WWW, "--", *(f"{name}.test/A" for name in BAD_NAMES))
+        self.assertEqual((errors, len(lines), status in (5, 7)), ("", len(BAD_NAMES), True))
+
+
+@needs_dns
+class Ends(Judging):
+    def wrong(self, *words):
+        status, lines, errors = self.judge(*words)
+        self.assertEqual((status, lines), (2, []))
+        return errors
+
+    def test_a_wrong_command_line(self):
+        self.assertIn("no such file; a question is written NAME/TYPE", self.wrong("nosuch.cap"))
+        self.assertIn("'AX' is no type", self.wrong(WWW, "a.test/AX"))
+        self.assertIn("no capture is named", self.wrong("a.test/A"))
+        self.assertIn("no question is asked", self.wrong(WWW))
+        self.assertIn("is no moment", self.wrong(WWW, "a.test/A", "--at", "2026-11-22"))
+        self.assertIn("given twice", self.wrong(WWW, "a.test/A", "--anchors", ANCHORS, "--anchors", ANCHORS))
+        self.assertIn("exclude each other", self.wrong(WWW, "a.test/A", "--tsv", "--jsonl"))
+        self.assertIn("--macs needs --keys", self.wrong(WWW, "a.test/A", "--macs", ANCHORS))
+
+    def test_a_capture_that_cannot_be_read(self):
+        path = self.room / "x.cap"
+        path.symlink_to(self.room / "nowhere")
+        status, lines, _ = self.noon("--tsv", path, WWW, "www.bind.test/A")
+        self.assertEqual((status, len(lines)), (1, 3))
+        self.assertEqual(lines[1], f"{path}\t{NOON}\twww.bind.test.\tA\t1\tfault\t811 capture")
+
+    def test_what_is_not_there(self):
+        words = ("--at", NOON, WWW, "www.bind.test/A")
+        status, lines, errors = self.judge("--anchors", self.room / "none", *words)
+        self.assertEqual((status, lines, errors.count("\n")), (1, [], 1))
+        status, output, errors = run_program(TOOLS / "judge", "--program", self.room / "none", "--anchors", ANCHORS, *words)
+        self.assertEqual((status, output, errors), (1, b"", f"judge: {self.room / 'none'}: there is no such program\n"))
+        (self.room / "empty").mkdir()
+        self.assertIn("no capture is in this folder", self.judge(self.room / "empty", "a.test/A")[2])

@@ -1,0 +1,112 @@
+"""Tests of tools/judging: names, types, moments, anchors, and the RRsets of captures."""
+import pathlib
+import tempfile
+import unittest
+from unittest import mock
+
+from asking import anchors, faults, kinds, moments, questions
+from judging import advice, evidence
+
+from .helper import EXAMPLES, examples, has_package
+
+HERE = has_package("dns") and __import__("importlib.util").util.find_spec("dns")
+
+
+class Names(unittest.TestCase):
+    def test_a_missing_dot_is_added(self):
+        rows = (("a.test", "a.test."), ("a.test.", "a.test."), (".", "."), ("a\\.", "a\\.."), ("a\\\\.", "a\\\\."), ("a\\\\\\.", "a\\\\\\.."),
+                ("a\0b.", "a\\000b."), ("a\udcff.", "a\\255."))
+        for text, name in rows:
+            self.assertEqual(questions.name_of(text), name)
+
+    def test_labels(self):
+        rows = ((".", ()), ("A.test.", (b"a", b"test")), ("e\\.dot.test.", (b"e.dot", b"test")), ("\\255\\\\.test.", (b"\xff\\", b"test")))
+        for text, labels in rows:
+            self.assertEqual(advice.labels_of(text), labels)
+
+    def test_what_cannot_be_shown_is_escaped(self):
+        self.assertEqual(faults.escaped("a\n\x1b\udcff b\u2028ü"), "a\\x0a\\x1b\\xff b\\u2028ü")
+
+
+class Moments(unittest.TestCase):
+    def test_dates_and_seconds(self):
+        for text in ("2026-11-22T12:00:00Z", "2026-11-22T13:00:00+01:00", "2026-11-22T06:30:00-0530", "1795348800", "2026-11-22 12:00Z",
+                     "2026-11-22T12:00:00.900Z"):
+            self.assertEqual(moments.seconds_of(text), 1795348800, text)
+        with mock.patch("time.time", lambda: 17.9):
+            self.assertEqual(moments.seconds_of("now"), 17)
+        self.assertEqual(moments.seconds_of("281474976710655"), 281474976710655)
+
+    def test_others_are_refused(self):
+        for text in ("", "2026-11-22", "2026-11-22T12:00:00", "2026-11-22Z", "2026-13-22T12:00:00Z", "-5", "281474976710656", "1969-12-31T23:59:59Z",
+                     "١", "yesterday", "9" * 30):
+            with self.subTest(text), self.assertRaises(faults.WrongLine):
+                moments.seconds_of(text)
+
+    def test_text(self):
+        self.assertEqual(moments.moment_text(1795348800), "2026-11-22T12:00:00Z")
+        self.assertEqual(moments.moment_text(281474976710655), "281474976710655")
+
+
+class Rrsets(unittest.TestCase):
+    def test_they_have_the_numbers_of_the_program(self):
+        """The lines `data R S HEX` were made by an independent program: HEX begins with the type covered, and has the tag at 16."""
+        told = [each for each in examples("list-all") if each.status == 0]
+        self.assertGreater(len(told), 15)
+        for example in told:
+            with self.subTest(example.name):
+                found = evidence.Evidence((EXAMPLES / example.name / "capture").read_bytes()) if "capture" not in example.options \
+                    else evidence.Evidence(example.options["capture"].read_bytes())
+                numbered = {(rrset.number, place): (rrset.kind, each.tag) for rrset in found.rrsets
+                            for place, each in enumerate(rrset.signatures, 1)}
+                lines = [line.split(" ") for line in example.output.splitlines()]
+                self.assertEqual(set(numbered), {(int(rrset), int(place)) for _, rrset, place, _ in lines})
+                for _, rrset, place, data in lines:
+                    if data != "-":
+                        wanted = int(data[:4], 16), int(data[32:36], 16)
+                        self.assertEqual(numbered[int(rrset), int(place)], wanted)
+
+    def test_torn_octets_do_no_harm(self):
+        octets = (EXAMPLES / "bind-www-a-list" / "capture").read_bytes()
+        for size in range(0, 700):
+            message = octets[2:size + 2]
+            evidence.Evidence(len(message).to_bytes(2, "big") + message)
+        for place in range(2, 700):
+            for value in (0, 0xC0, 0xFF):
+                evidence.Evidence(octets[:place] + bytes([value]) + octets[place + 1:])
+
+
+@unittest.skipUnless(HERE, "needs the Python package dnspython in this Python")
+class Types(unittest.TestCase):
+    def test_mnemonics_and_numbers(self):
+        for text, number in (("A", 1), ("aaaa", 28), ("DS", 43), ("28", 28), ("TYPE65280", 65280), ("https", 65), ("NSAP-PTR", 23), ("ANY", 255), ("0", 0)):
+            self.assertEqual(kinds.type_of(text), number)
+        for text in ("", "AX", "65536", "TYPE65536", "-1", "none", "A A", "A\n", "१"):
+            self.assertIsNone(kinds.type_of(text), text)
+        self.assertEqual([kinds.mnemonic_of(number) for number in (1, 65280, 23)], ["A", "TYPE65280", "NSAP-PTR"])
+
+
+@unittest.skipUnless(HERE, "needs the Python package dnspython in this Python")
+class Anchors(unittest.TestCase):
+    DS = "DS example. 10520 13 2 1ca1593db1dd5784d0fb6c3998b920daec3e4315dd30fce0313fb3a497b54c68\n"
+
+    def of(self, text):
+        with tempfile.TemporaryDirectory() as room:
+            path = pathlib.Path(room) / "anchors"
+            path.write_text(text)
+            return anchors.anchors_of(str(path)).decode()
+
+    def test_records_of_a_zone_file(self):
+        digest = self.DS.split(" ")[-1].upper()
+        for front in ("example. 3600 IN DS", "example. IN DS", "example. DS", "; note\n# note\nExample 3600 DS"):
+            self.assertEqual(self.of(f"{front} 10520 13 2 {digest}").lower(), self.DS.lower())
+        self.assertEqual(self.of("a\\.b. IN DNSKEY 257 3 13 ( AQ\n ID ) ; key"), "KEY a\\.b. 257 3 13 AQID\n")
+
+    def test_the_form_of_the_program_stays(self):
+        for text in (self.DS, f"# note\n\n{self.DS}KEY . 257 3 8 AQID", "", "DS bad\n"):
+            self.assertEqual(self.of(text), text)
+
+    def test_others_are_refused(self):
+        for text in ("example. IN A 192.0.2.1\n", "example. CH DS 1 13 2 00\n", "no anchor at all\n", "$INCLUDE /etc/passwd\n", "\xff\n"):
+            with self.subTest(text), self.assertRaises(faults.Refusal):
+                self.of(text)
