@@ -87,7 +87,7 @@ class Manual(unittest.TestCase):
         told = set(re.findall(r"\.(?:It|Op) Fl -([a-z]+)", MANUAL.read_text()))
         helps = [run_program(PROGRAM, *words)[1].decode() for words in (["--help"], ["show", "--help"],
                                                                        ["list", "--help"], ["check", "--help"])]
-        options = {option for text in helps for option in re.findall(r"--([a-z]+)", text)}
+        options = {option for text in helps for option in re.findall(r"^ +(?:-\w, )?--([a-z-]+)", text, re.MULTILINE)}
         self.assertLessEqual({"capture", "moment", "all", "help"}, options)
         self.assertEqual(options - told, set())
 
