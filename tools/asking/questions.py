@@ -76,6 +76,8 @@ def questions_of_split(folder):
 def wrong_word(word):
     """Why a word is neither a question nor a capture."""
     name, slash, kind = word.rpartition("/")
+    if word.startswith("/"):
+        return WrongLine(f"{shown(word)}: there is no such file")
     if slash and name:
         return WrongLine(f"{shown(word)}: there is no such file, and it's no question, since {kind!r} is no type")
     return WrongLine(f"{shown(word)}: there is no such file; a question is written NAME/TYPE, as www.example.com/AAAA")

@@ -120,6 +120,7 @@ class Ends(Judging):
     def test_a_wrong_command_line(self):
         self.assertIn("no such file; a question is written NAME/TYPE", self.wrong("nosuch.cap"))
         self.assertIn("'AX' is no type", self.wrong(WWW, "a.test/AX"))
+        self.assertIn("/nosuch/A: there is no such file\n", self.wrong(WWW, "/nosuch/A"))
         self.assertIn("no capture is named", self.wrong("a.test/A"))
         self.assertIn("no question is asked", self.wrong(WWW))
         self.assertIn("is no moment", self.wrong(WWW, "a.test/A", "--at", "2026-11-22"))
