@@ -14,6 +14,7 @@ use Rattle.std.proofs.lemmas.Map.Lookups.{exact_bytes}
 use Rattle.std.proofs.lemmas.List.Sorted.{IsPermutation-map, IsPermutation-sym, Contains-permutation}
 use Rattle.std.proofs.lemmas.List.Kept.{IsStrictlySortedBy-dedup, Contains-dedup, Contains-from_dedup}
 use Rattle.std.proofs.lemmas.Slice.Eq.{bytes_eq-Decides}
+use Rattle.dnsv_names.specs.RisingLaws.{map-dedup}
 use Rattle.dnsv_canonical.specs.Canonical.{rdata_cmp, IsCanonical}
 
 -- membership by cases
@@ -157,18 +158,6 @@ pub canonical_some : (received : List (List ℕ)) → (canonical : List (List �
 canonical_some received = (canonical_of received, canonical_of_is received)
 
 -- ---- sorting and dropping repeats, seen by what the elements are
-
-map-dedup_from : {X Y : Type 0} (f : X → Y) (same : Y → Y → Bool) (x : X) (xs : List X) → map f (dedup_from (λ a b. same (f a) (f b)) x xs) ≡ dedup_from same (f x) (map f xs)
-map-dedup_from f same x [] = refl
-map-dedup_from f same x (y ∷ ys) =
-    elim (same (f y) (f x)) as (λ b. map f (cond b (dedup_from (λ a c. same (f a) (f c)) x ys) (x ∷ dedup_from (λ a c. same (f a) (f c)) y ys)) ≡ cond b (dedup_from same (f x) (map f ys)) (f x ∷ dedup_from same (f y) (map f ys))) [
-      | true ↦ map-dedup_from f same x ys
-      | false ↦ ap (λ t. f x ∷ t) (map-dedup_from f same y ys)
-    ]
-
-map-dedup : {X Y : Type 0} (f : X → Y) (same : Y → Y → Bool) (xs : List X) → map f (dedup (λ a b. same (f a) (f b)) xs) ≡ dedup same (map f xs)
-map-dedup f same [] = refl
-map-dedup f same (x ∷ xs) = map-dedup_from f same x xs
 
 pub each_map : {X Y : Type 0} (f : X → Y) (P : Y → Type 0) (xs : List X) → AllByRecursion (λ x. P (f x)) xs → AllByRecursion P (map f xs)
 each_map f P [] each = tt

@@ -15,7 +15,7 @@ use Rattle.dnsv_message.specs.Grammar.{IsMessage, IsTail}
 use Rattle.dnsv_message.specs.Message.{Contents, records_of}
 use Rattle.dnsv_message.specs.Fits.{FitsMessage, FitsRecord}
 use Rattle.dnsv_message.specs.Parts.{AreParts, HasParts, head_size, rdata_of, tail_size}
-use Rattle.dnsv_records.specs.OctetLaws.{recursion-append}
+use Rattle.dnsv_names.specs.PartLaws.{recursion-append}
 use Rattle.dnsv_canonical.specs.Rrsets.{ReceivedRrset, is_grouped, same_rrset, rrset_of, message_rrsets, rrsets_from}
 use Rattle.dnsv_canonical.proofs.CanonicalLemmas.{each_map}
 use Rattle.dnsv_canonical.proofs.ListLemmas.{each_chosen}

@@ -14,7 +14,8 @@ use Rattle.std.proofs.lemmas.Slice.Eq.{bytes_eq-Decides}
 use Rattle.dnsv_names.specs.Name.{Labels, lower_case, wire}
 use Rattle.dnsv_names.specs.Octets.{AreOctets, number_at}
 use Rattle.dnsv_message.specs.Message.{Contents}
-use Rattle.dnsv_records.specs.OctetLaws.{recursion-drop, recursion-take, take_part, length_part}
+use Rattle.dnsv_names.specs.PartLaws.{recursion-drop, recursion-take}
+use Rattle.dnsv_records.specs.OctetLaws.{take_part, length_part}
 use Rattle.dnsv_records.specs.declared.rrsig.Rrsig.{Rrsig}
 use Rattle.dnsv_records.specs.Rrsig.{IsRrsig}
 use Rattle.dnsv_canonical.specs.CanonicalRdata.{canonical_form}

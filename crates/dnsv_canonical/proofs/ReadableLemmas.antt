@@ -12,7 +12,7 @@ use Rattle.dnsv_records.specs.declared.nsec3.Nsec3.{Nsec3}
 use Rattle.dnsv_records.specs.Nsec.{IsNsec}
 use Rattle.dnsv_records.specs.Nsec3.{IsNsec3}
 use Rattle.dnsv_records.specs.Reading.{Gives}
-use Rattle.dnsv_records.specs.OctetLaws.{recursion-append}
+use Rattle.dnsv_names.specs.PartLaws.{recursion-append}
 use Rattle.dnsv_canonical.specs.Evidence.{Evidence, IsWhole, IsReadable, IsFirstBad, IsReasonAgainst}
 use Rattle.dnsv_canonical.specs.Rdata.{IsLaidOut}
 use Rattle.dnsv_canonical.specs.Kept.{told, IsBadAfter}

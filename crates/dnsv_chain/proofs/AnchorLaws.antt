@@ -6,11 +6,12 @@ use Rattle.std.proofs.lemmas.Slice.Zip.{AllZip-long}
 use Rattle.dnsv_names.specs.Name.{Labels, IsName}
 use Rattle.dnsv_names.specs.Text.{IsTextOf}
 use Rattle.dnsv_names.specs.Lines.{HasLines, NumberedLine, kept_from}
+use Rattle.dnsv_names.proofs.Base64Lemmas.{decoded}
 use Rattle.dnsv_names.specs.LineLaws.{AreFields-only, HasLines-only, HasLines-read}
 use Rattle.dnsv_names.specs.LineReading.{lines_in}
 use Rattle.dnsv_names.specs.Octets.{AreOctets}
+use Rattle.dnsv_names.specs.PartLaws.{recursion-drop}
 use Rattle.dnsv_records.specs.Dnskey.{IsDnskey}
-use Rattle.dnsv_records.specs.OctetLaws.{recursion-drop}
 use Rattle.dnsv_records.specs.declared.dnskey.Dnskey.{Dnskey}
 use Rattle.dnsv_records.specs.declared.ds.Ds.{Ds}
 use Rattle.dnsv_verifier.specs.HexField.{hex_value}
@@ -22,7 +23,6 @@ use Rattle.dnsv_chain.specs.declared.anchors.AnchorsError.{AnchorsError}
 use Rattle.dnsv_chain.specs.declared.anchors.AnchorsError.TheVariants.{OutOfMemory, Syntax, TooMany}
 use Rattle.dnsv_chain.proofs.AnchorFileLemmas.{are_more}
 use Rattle.dnsv_chain.proofs.AnchorLineLemmas.{DS-KEY}
-use Rattle.dnsv_chain.proofs.Base64Lemmas.{decoded}
 
 -- a text is the digits of one number
 one_number : (text : List ℕ) (m n limit : ℕ) → limit ≤ 2 ^ 64 → IsNumber text m limit → IsNumber text n limit → m ≡ n

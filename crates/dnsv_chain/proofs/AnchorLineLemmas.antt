@@ -5,6 +5,7 @@ use Rattle.std.specs.Int.{w16, to_be_bytes}
 use Rattle.std.specs.Option.{IsSome}
 use Rattle.base64.specs.Engines.{standard}
 use Rattle.base64.specs.GeneralPurpose.{encode_of}
+use Rattle.dnsv_names.specs.Base64Field.{IsBase64}
 use Rattle.dnsv_names.specs.LineLaws.{AreFields-only}
 use Rattle.dnsv_names.specs.Lines.{AreFields}
 use Rattle.dnsv_names.specs.Name.{Labels, IsName}
@@ -13,7 +14,6 @@ use Rattle.dnsv_names.specs.Text.{IsTextOf}
 use Rattle.dnsv_records.specs.declared.ds.Ds.{Ds}
 use Rattle.dnsv_verifier.specs.HexField.{hex_value}
 use Rattle.dnsv_chain.specs.AnchorFile.{IsAnchorLine, IsDnskeyText, IsDsText, IsNumber, SaysAnchor}
-use Rattle.dnsv_chain.specs.Base64Field.{IsBase64}
 use Rattle.dnsv_chain.specs.declared.anchor.Anchor.{Anchor}
 use Rattle.dnsv_chain.specs.declared.anchor.Anchor.TheVariants as anchor
 

@@ -1,7 +1,6 @@
 pub mod AnchorFileLemmas
 pub mod AnchorLaws
 pub mod AnchorLineLemmas
-pub mod Base64Lemmas
 pub mod ByOwnerLemmas
 pub mod ChainLemmas
 pub mod DerivationLemmas

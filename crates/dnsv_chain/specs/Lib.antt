@@ -1,7 +1,6 @@
 pub mod Anchor
 pub mod AnchorFile
 pub mod AnchorsError
-pub mod Base64Field
 pub mod ByOwner
 pub mod Derivation
 pub mod Ds

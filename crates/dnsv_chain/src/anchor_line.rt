@@ -7,8 +7,7 @@ ghost use Rattle.dnsv_chain.specs.AnchorFile.{IsAnchorLine, IsDnskeyText, IsDsTe
 ghost use Rattle.dnsv_chain.specs.declared.anchor.Anchor.{Anchor};
 
 use crate::anchor::Anchor;
-use crate::base64_field::base64_octets;
-use dnsv_names::{Line, Name, decimal_u8, decimal_u16};
+use dnsv_names::{Line, Name, base64_octets, decimal_u8, decimal_u16, is_base64};
 use dnsv_records::{Algorithm, DigestType, Ds, KeyTag, Octets};
 use dnsv_verifier::hex_octets;
 use std::alloc::{AllocError, Global};
@@ -120,10 +119,11 @@ fn dnskey_of(
     let Some(algorithm) = decimal_u8(algorithm) else {
         return Ok(None);
     };
-    let Some(key) = base64_octets(alloc, key)? else {
+    if !is_base64(key) {
         return Ok(None);
-    };
-    Ok(Some(dnskey_rdata(alloc, flags, protocol, algorithm, key.as_slice())?))
+    }
+    let key = base64_octets(alloc, key)?;
+    Ok(Some(dnskey_rdata(alloc, flags, protocol, algorithm, &key)?))
 }
 
 /// The RDATA of a DNSKEY record (RFC 4034 2.1).

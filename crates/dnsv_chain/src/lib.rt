@@ -18,7 +18,6 @@ pub use usable::{goes_before, has_usable, is_usable};
 mod anchor;
 mod anchor_line;
 mod anchors;
-mod base64_field;
 mod by_owner;
 mod by_rdata;
 mod chain;

@@ -1,4 +1,5 @@
 pub mod AncestorLaws
+pub mod Base64Field
 pub mod ByWire
 pub mod ByWireLaws
 pub mod Circle
@@ -7,6 +8,8 @@ pub mod Count
 pub mod Ends
 pub mod KeyLaws
 pub mod Keys
+pub mod LineFile
+pub mod LineFileLaws
 pub mod LineLaws
 pub mod LineReading
 pub mod Lines
@@ -17,7 +20,9 @@ pub mod Octets
 pub mod OctetLaws
 pub mod Order
 pub mod OrderLaws
+pub mod PartLaws
 pub mod Reading
+pub mod RisingLaws
 pub mod Spelling
 pub mod Text
 pub mod Tree

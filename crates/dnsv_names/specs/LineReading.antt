@@ -1,5 +1,8 @@
--- How lines, fields and numbers are read. No public clause cites this module.
-use Rattle.std.specs.Prelude.{ℕ, ◌==◌, ◌||◌, Bool, false, if◌then◌else◌, List, [], ◌∷◌, Option, Some, None}
+-- How lines, fields, numbers and octets in base64 are read. No public clause cites this module.
+use Rattle.std.specs.Prelude.{◌≡◌, ℕ, ◌==◌, ◌||◌, Bool, false, if◌then◌else◌, List, [], ◌∷◌, length, Option, Some, None}
+use Rattle.base64.specs.Engines.{standard}
+use Rattle.base64.specs.GeneralPurpose.{encode_of}
+use Rattle.dnsv_names.specs.Octets.{AreOctets}
 
 -- an octet more in front of the first piece
 abbrev pub lengthened : ℕ → List (List ℕ) → List (List ℕ)
@@ -26,3 +29,10 @@ abbrev pub is_marked : List ℕ → Bool
 is_marked [] = false
 is_marked (octet ∷ []) = octet == 43
 is_marked (octet ∷ next ∷ octets) = octet == 43 || octet == 48
+
+-- the field is so many octets in base64
+pub record SaysOctets (field : List ℕ) (count : ℕ) : Type 0 where
+  pub octets : List ℕ
+  pub are : AreOctets octets
+  pub counted : length octets ≡ count
+  pub coded : field ≡ encode_of standard octets

@@ -2,6 +2,7 @@
 //! which order they stand.
 #![tactic(auto)]
 
+pub use base64_field::{base64_octets, is_base64};
 pub use by_wire::ByWire;
 pub use circle::{
     Circle, a_value_has_one_successor, all_else_lies_in_a_gap, all_else_lies_in_one_gap, covers,
@@ -31,6 +32,7 @@ pub use tree_laws::{
     wildcards_stand_right_below,
 };
 
+mod base64_field;
 mod by_wire;
 mod circle;
 mod count;

@@ -9,7 +9,8 @@ use Rattle.std.proofs.Math.Nat.{pow-le-pow_right, pow-suc, pow-zero, mul-one}
 use Rattle.std.proofs.lemmas.List.Elements.{All-get_or, All-from_recursion}
 use Rattle.std.specs.List.{range_with_len}
 use Rattle.std.specs.Int.Digits.{number_from_digits, number_from_digits_after, AllBelowBase}
-use Rattle.dnsv_records.specs.OctetLaws.{recursion-append, recursion-take, recursion-drop, map_part}
+use Rattle.dnsv_names.specs.PartLaws.{recursion-append, recursion-take, recursion-drop}
+use Rattle.dnsv_records.specs.OctetLaws.{map_part}
 use Rattle.dnsv_records.specs.Base32Hex.{alphabet, Base32Number, Base32Hex}
 
 -- the first ten characters are digits, the others letters

@@ -3,7 +3,7 @@ use Rattle.std.proofs.Common.{◌≡◌, ℕ, ◌+◌, ◌-◌, ◌<◌, ◌≤�
 use Rattle.std.proofs.lemmas.List.{take_at, drop_at, drop_more, length-take-le, take-append-drop, append_cancel_left, drop-drop, get_or-drop, get_or-take}
 use Rattle.std.proofs.lemmas.Bool.{cond-true, cond-false, eqb-true, eq-eqb, false_from_ne_true}
 use Rattle.std.specs.List.{AllByRecursion, flat_map}
-use Rattle.dnsv_records.specs.OctetLaws.{octets_fit, recursion-take, recursion-drop}
+use Rattle.dnsv_names.specs.PartLaws.{octets_fit, recursion-take, recursion-drop}
 use Rattle.dnsv_records.specs.Bitmap.{Block, block_octets, WindowsRise}
 use Rattle.dnsv_records.specs.Blocks.{blocks_after, blocks_of, bits_of, IsGoodBlock, AreBlocks, BlockAtFront}
 

@@ -4,7 +4,8 @@ use Rattle.std.proofs.lemmas.List.{take_at, drop_at, drop-drop, drop_more, take-
 use Rattle.std.specs.Int.Digits.{AllBelowBase}
 use Rattle.dnsv_names.specs.Name.{Labels, IsName, wire}
 use Rattle.dnsv_records.proofs.Base32Lemmas.{same_digits}
-use Rattle.dnsv_records.specs.OctetLaws.{recursion-take, recursion-drop, take_part, length_part}
+use Rattle.dnsv_names.specs.PartLaws.{recursion-take, recursion-drop}
+use Rattle.dnsv_records.specs.OctetLaws.{take_part, length_part}
 use Rattle.dnsv_records.specs.declared.error.Field.{Field}
 use Rattle.dnsv_records.specs.declared.error.Field.TheVariants.{Head, Name, Salt, Hash, Bitmap as BitmapField}
 use Rattle.dnsv_records.specs.declared.error.RecordError.{RecordError}

@@ -1,23 +1,16 @@
 -- A text is at most one ring, or has one fault.
 use Rattle.std.proofs.Common.{◌≡◌, ℕ, List, [], ◌∷◌, ◌++◌, None, Ok, inl, inr, sym, ap, subst, ◌∙◌, rules, get_or, ◌<◌}
 use Rattle.base64.specs.Engines.{standard}
-use Rattle.base64.specs.GeneralPurpose.{IsConsistent, decode_of, encode_of}
-use Rattle.base64.proofs.EngineFacts.{decode_of-encode_of}
+use Rattle.base64.specs.GeneralPurpose.{decode_of}
 use Rattle.dnsv_names.specs.Name.{Labels, IsName}
 use Rattle.dnsv_names.specs.Text.{IsTextOf}
 use Rattle.dnsv_names.specs.Lines.{NumberedLine, AreFields}
 use Rattle.dnsv_names.specs.LineLaws.{AreFields-only, HasLines-only}
+use Rattle.dnsv_names.proofs.Base64Lemmas.{decoded}
 use Rattle.dnsv_names.proofs.OneReading.{one_name}
 use Rattle.dnsv_tsig.specs.declared.error.KeyFileError.{KeyFileError}
 use Rattle.dnsv_tsig.specs.Key.{SharedKey, key_named}
 use Rattle.dnsv_tsig.specs.KeyFile.{IsKeyFault, IsKeyLine, IsRingOf, GivesRing, IsRefused}
-use Rattle.dnsv_tsig.proofs.Base64Lemmas.{octet_at_place}
-
--- octets have one text in base64, of which they are the only ones
-decoded : (secret coded : List ℕ) → ((i : ℕ) → get_or secret i 0 < 256) → coded ≡ encode_of standard secret → decode_of standard coded ≡ Ok secret
-decoded secret coded bytes is =
-    let consistent : IsConsistent standard = search rules in
-    ap (decode_of standard) is ∙ decode_of-encode_of standard secret consistent bytes
 
 module _ (one_fields : (line : List ℕ) (a b : List (List ℕ)) → AreFields line a → AreFields line b → a ≡ b)
     (a_name : (text : List ℕ) (a b : Labels) → IsName a → IsName b → IsTextOf text a → IsTextOf text b → a ≡ b) where
@@ -28,8 +21,8 @@ module _ (one_fields : (line : List ℕ) (a b : List (List ℕ)) → AreFields l
       let codes : p.coded ≡ q.coded = cc in
       let Spells : List ℕ → Type 0 = λ text. IsTextOf text key.name in
       let names = a_name q.text key.name other.name p.is_name q.is_name (subst Spells texts p.name) q.name in
-      let first : decode_of standard q.coded ≡ Ok key.secret = sym (ap (decode_of standard) codes) ∙ decoded key.secret p.coded (octet_at_place key.secret p.octets) p.secret in
-      let second = decoded other.secret q.coded (octet_at_place other.secret q.octets) q.secret in
+      let first : decode_of standard q.coded ≡ Ok key.secret = sym (ap (decode_of standard) codes) ∙ decoded key.secret p.coded p.octets p.secret in
+      let second = decoded other.secret q.coded q.octets q.secret in
       let secrets : key.secret ≡ other.secret = cc in
       λ i. record { name = names i; secret = secrets i }
 

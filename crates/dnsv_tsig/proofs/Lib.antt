@@ -1,6 +1,5 @@
 pub mod AnswerLaws
 pub mod AnswerLemmas
-pub mod Base64Lemmas
 pub mod Decisions
 pub mod KeyLaws
 pub mod KeyLemmas

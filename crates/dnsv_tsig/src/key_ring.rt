@@ -3,16 +3,15 @@ ghost use Rattle.std.specs.Prelude.{◌≡◌, ◌⊎◌, ◌++◌, [], ◌∷�
 ghost use Rattle.std.specs.Option.{option_copied};
 ghost use Rattle.base64.specs.Engines.{standard};
 ghost use Rattle.base64.specs.GeneralPurpose.{encode_of};
+ghost use Rattle.dnsv_names.specs.Base64Field.{IsBase64};
 ghost use Rattle.dnsv_names.specs.Lines.{AreFields};
 ghost use Rattle.dnsv_names.specs.Octets.{AreOctets};
 ghost use Rattle.dnsv_tsig.specs.Key.{SharedKey, key_named};
 ghost use Rattle.dnsv_tsig.specs.KeyFile.{IsKeyLine};
-ghost use Rattle.dnsv_tsig.specs.KeyReading.{IsBase64, IsKeyText};
+ghost use Rattle.dnsv_tsig.specs.KeyReading.{IsKeyText};
 
-use crate::base64_field::is_base64;
 use crate::error::KeyFileError;
-use base64::engine::general_purpose::STANDARD;
-use dnsv_names::{Line, Lines, Name};
+use dnsv_names::{Line, Lines, Name, base64_octets, is_base64};
 use std::alloc::{AllocError, Global};
 use std::fmt;
 use std::marker::Model;
@@ -62,10 +61,8 @@ impl Key {
         ensures { IfOk result (λ key. (key.name ≡ name) × AreOctets key.secret
             × (coded.now ≡ encode_of standard key.secret)) }
     {
-        match STANDARD.decode(alloc, coded) {
-            Ok(secret) => Ok(Key { name, secret }),
-            Err(_) => Err(AllocError),
-        }
+        let secret = base64_octets(alloc, coded)?;
+        Ok(Key { name, secret })
     }
 }
 

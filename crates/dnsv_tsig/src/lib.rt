@@ -6,7 +6,6 @@ pub use key_ring::{Key, KeyRing};
 pub use laws::{one_answer, one_ring_or_fault};
 pub use opened::{Opened, open};
 
-mod base64_field;
 mod error;
 mod key_ring;
 mod laws;

@@ -10,6 +10,7 @@ use Rattle.std.specs.List.Sorted.{IsNonDecreasingBy, IsPartitionedBy, IsPartitio
 use Rattle.std.specs.Ordering.{is_le, is_lt, nat_cmp, ordering_index}
 use Rattle.std.specs.declared.cmp.Ordering.{Ordering}
 use Rattle.std.specs.declared.cmp.Ordering.TheVariants.{Less, Equal, Greater}
+use Rattle.dnsv_names.specs.RisingLaws.{le_before, lt_before}
 use Rattle.dnsv_names.specs.OrderLaws.{SameName_Equal, canonical_cmp_total}
 use Rattle.dnsv_canonical.specs.Rrsets.{ReceivedRrset}
 use Rattle.dnsv_records.specs.KeyTag.{key_tag_of}
@@ -32,22 +33,6 @@ named_key rrsig key made =
     let algorithms = tied_numbers key.dnskey.algorithm.0 rrsig.algorithm.0 made.named.algorithm in
     let owners = SameName_Equal key.owner rrsig.signer made.zone_key.owner in
     rw (tags, algorithms, owners) refl
-
-lt_before : (a b : Ordering) → ordering_index a ≤ ordering_index b → is_lt b ≡ true → is_lt a ≡ true
-lt_before Less b rises lt = refl
-lt_before Equal Less rises lt = absurd (omega (arith, rises))
-lt_before Equal Equal rises lt = cc
-lt_before Equal Greater rises lt = cc
-lt_before Greater Less rises lt = absurd (omega (arith, rises))
-lt_before Greater Equal rises lt = cc
-lt_before Greater Greater rises lt = cc
-
-le_before : (a b : Ordering) → ordering_index a ≤ ordering_index b → is_le b ≡ true → is_le a ≡ true
-le_before Less b rises le = refl
-le_before Equal b rises le = refl
-le_before Greater Less rises le = absurd (omega (arith, rises))
-le_before Greater Equal rises le = absurd (omega (arith, rises))
-le_before Greater Greater rises le = cc
 
 pub all_moved : (rrsets : List ReceivedRrset) (keys sorted : List DnskeyRecord) → IsPermutation keys sorted
     → AreKeysOf rrsets keys → AreKeysOf rrsets sorted

@@ -5,7 +5,8 @@ use Rattle.std.specs.Int.Digits.{number_from_digits}
 use Rattle.dnsv_records.specs.Base32Hex.{Base32Hex, Base32Number}
 use Rattle.arrayvec.specs.ArrayVec.{array_vec_len}
 use Rattle.dnsv_records.proofs.Base32Lemmas.{Base32Hex-append, Base32Number-part, same_octets}
-use Rattle.dnsv_records.specs.OctetLaws.{take_part, map_part, length_part, recursion-append}
+use Rattle.dnsv_names.specs.PartLaws.{recursion-append}
+use Rattle.dnsv_records.specs.OctetLaws.{take_part, map_part, length_part}
 use Rattle.dnsv_records.proofs.base32hex.base32hex_read.Goals as goal
 
 pub loop-group-preserved : goal.loop-group-preserved

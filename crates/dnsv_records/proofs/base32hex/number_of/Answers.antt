@@ -1,6 +1,6 @@
 use Rattle.std.proofs.Common.{◌≤◌, ◌<◌, length, take, arith, length-take}
 use Rattle.dnsv_records.proofs.Base32Lemmas.{number_below}
-use Rattle.dnsv_records.specs.OctetLaws.{octets_fit, recursion-take}
+use Rattle.dnsv_names.specs.PartLaws.{octets_fit, recursion-take}
 use Rattle.dnsv_records.proofs.base32hex.number_of.Goals as goal
 
 pub overflow_mul-number : goal.overflow_mul-number

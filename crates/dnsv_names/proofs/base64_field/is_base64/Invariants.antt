@@ -1,6 +1,6 @@
 use Rattle.std.proofs.Common.{◌↔◌, length}
-use Rattle.dnsv_chain.specs.Base64Field.{IsBase64}
-use Rattle.dnsv_chain.proofs.base64_field.is_base64.Given as goal
+use Rattle.dnsv_names.specs.Base64Field.{IsBase64}
+use Rattle.dnsv_names.proofs.base64_field.is_base64.Given as goal
 
 -- the field is base64 where the rest is
 abbrev pub invariant-loop-rest : goal.invariant-loop-rest

@@ -1,7 +1,7 @@
 use Rattle.std.proofs.Common.{sym, ◌∙◌}
 use Rattle.std.proofs.lemmas.Bool.{false≢true}
-use Rattle.dnsv_chain.proofs.Base64Lemmas.{group_in_front, group_more, last_group}
-use Rattle.dnsv_chain.proofs.base64_field.is_base64.Goals as goal
+use Rattle.dnsv_names.proofs.Base64Lemmas.{group_in_front, group_more, last_group}
+use Rattle.dnsv_names.proofs.base64_field.is_base64.Goals as goal
 
 pub loop-rest-preserved : goal.loop-rest-preserved
 loop-rest-preserved c =

@@ -1,6 +1,6 @@
 use Rattle.std.proofs.Common.{sym, arith}
-use Rattle.dnsv_tsig.proofs.Base64Lemmas.{no_count, said_by, same_count, says}
-use Rattle.dnsv_tsig.proofs.base64_field.octets_said.Goals as goal
+use Rattle.dnsv_names.proofs.Base64Lemmas.{no_count, said_by, same_count, says}
+use Rattle.dnsv_names.proofs.base64_field.octets_said.Goals as goal
 
 pub returns-in-Ok-clause-said : goal.returns-in-Ok-clause-said
 returns-in-Ok-clause-said c =

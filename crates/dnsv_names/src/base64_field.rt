@@ -1,34 +1,17 @@
 //! Octets in base64 as a field of a text file.
-ghost use Rattle.std.specs.Prelude.{◌≡◌, ◌≤◌, ◌↔◌, List, ℕ, Some, length, IfOk, IfSome, IsTrue, MatchOption, OnErr};
+ghost use Rattle.std.specs.Prelude.{◌≡◌, ◌≤◌, ◌↔◌, ℕ, Some, length, IfOk, IfSome, IsTrue};
 ghost use Rattle.base64.specs.Engines.{standard};
 ghost use Rattle.base64.specs.GeneralPurpose.{encode_of};
+ghost use Rattle.dnsv_names.specs.Base64Field.{IsBase64};
+ghost use Rattle.dnsv_names.specs.LineReading.{SaysOctets};
 ghost use Rattle.dnsv_names.specs.Octets.{AreOctets};
-ghost use Rattle.dnsv_chain.specs.Base64Field.{IsBase64, SaysOctets};
 
 use base64::engine::general_purpose::STANDARD;
-use dnsv_records::Octets;
 use std::alloc::{AllocError, Global};
 
-/// The octets that a field says in base64 with padding (RFC 4648 4), `None` where it says none. Memory is asked for
-/// only where it says octets.
-pub(crate) fn base64_octets(alloc: Global, field: &[u8]) -> Result<Option<Octets>, AllocError>
-    ensures octets { IfOk result (λ found. MatchOption found
-        ((octets : List ℕ) → AreOctets octets → field.now ≡ encode_of standard octets → ⊥)
-        (λ octets. AreOctets octets × (field.now ≡ encode_of standard octets))) }
-    ensures refused { OnErr result (IsBase64 field.now) }
-{
-    if !is_base64(field) {
-        return Ok(None);
-    }
-    match STANDARD.decode(alloc, field) {
-        Ok(octets) => Ok(Some(Octets::from_vec(octets))),
-        Err(_) => Err(AllocError),
-    }
-}
-
-/// Whether a field is octets in base64 with padding. Groups of four symbols are looked at one by one, since the
-/// decoder asks for memory before it reads.
-fn is_base64(field: &[u8]) -> bool
+/// Whether a field is octets in base64 with padding (RFC 4648 4). It takes no memory: groups of four symbols are
+/// looked at one by one, since the decoder asks for memory before it reads.
+pub fn is_base64(field: &[u8]) -> bool
     ensures { IsTrue result ↔ IsBase64 field.now }
 {
     let mut rest = field;
@@ -40,6 +23,17 @@ fn is_base64(field: &[u8]) -> bool
         rest = behind;
     }
     octets_said(rest).is_some()
+}
+
+/// The octets that a field is in base64 with padding (RFC 4648 4). The error is that memory was refused.
+pub fn base64_octets(alloc: Global, field: &[u8]) -> Result<Vec<u8>, AllocError>
+    requires { IsBase64 field.now }
+    ensures { IfOk result (λ octets. AreOctets octets.items × (field.now ≡ encode_of standard octets.items)) }
+{
+    match STANDARD.decode(alloc, field) {
+        Ok(octets) => Ok(octets),
+        Err(_) => Err(AllocError),
+    }
 }
 
 /// Whether a group says three octets, as each group but the last has to.

@@ -1,5 +1,5 @@
-use Rattle.dnsv_chain.proofs.Base64Lemmas.{not_three, three}
-use Rattle.dnsv_chain.proofs.base64_field.says_three.Goals as goal
+use Rattle.dnsv_names.proofs.Base64Lemmas.{not_three, three}
+use Rattle.dnsv_names.proofs.base64_field.says_three.Goals as goal
 
 pub returns-in-Some : goal.returns-in-Some
 returns-in-Some c = three c.in-Some.count c.args.group.now c.in-Some.ensures.said c.in-Some.ensures.every

@@ -15,31 +15,22 @@ use Rattle.base64.specs.declared.engine.general_purpose.GeneralPurpose.{GeneralP
 use Rattle.base64.proofs.EngineFacts.{decode_of-encode_of, decode_of_strict, encode_of-append}
 use Rattle.base64.proofs.RoundTrip.{length-encode_symbols}
 use Rattle.dnsv_names.specs.Octets.{AreOctets}
-use Rattle.dnsv_tsig.specs.KeyReading.{IsBase64, SaysOctets}
+use Rattle.dnsv_names.specs.Base64Field.{IsBase64}
+use Rattle.dnsv_names.specs.LineReading.{SaysOctets}
+use Rattle.dnsv_names.specs.PartLaws.{octet_at_place, octets_fit, recursion-append, recursion-drop, recursion-take}
 
--- octets by their place
-pub octets_by_place : (xs : List ℕ) → ((i : ℕ) → get_or xs i 0 < 256) → AreOctets xs
-octets_by_place [] each = tt
-octets_by_place (x ∷ xs) each = (each 0, octets_by_place xs (λ i. each (suc i)))
+-- octets have one text in base64, of which they are the only ones
+pub decoded : (octets coded : List ℕ) → AreOctets octets → coded ≡ encode_of standard octets → decode_of standard coded ≡ Ok octets
+decoded octets coded are is =
+    let consistent : IsConsistent standard = search rules in
+    ap (decode_of standard) is ∙ decode_of-encode_of standard octets consistent (octet_at_place octets are)
 
-pub octet_at_place : (xs : List ℕ) → AreOctets xs → (i : ℕ) → get_or xs i 0 < 256
-octet_at_place [] are i = omega arith
-octet_at_place (x ∷ xs) are zero = are.0
-octet_at_place (x ∷ xs) are (suc i) = octet_at_place xs are.1 i
-
-octets-append : (xs ys : List ℕ) → AreOctets xs → AreOctets ys → AreOctets (xs ++ ys)
-octets-append [] ys p q = q
-octets-append (x ∷ xs) ys p q = (p.0, octets-append xs ys p.1 q)
-
-octets-take : (n : ℕ) (xs : List ℕ) → AreOctets xs → AreOctets (take n xs)
-octets-take zero xs p = tt
-octets-take (suc n) [] p = tt
-octets-take (suc n) (x ∷ xs) p = (p.0, octets-take n xs p.1)
-
-octets-drop : (n : ℕ) (xs : List ℕ) → AreOctets xs → AreOctets (drop n xs)
-octets-drop zero xs p = p
-octets-drop (suc n) [] p = tt
-octets-drop (suc n) (x ∷ xs) p = octets-drop n xs p.1
+-- what was decoded is said
+pub exact : (field octets : List ℕ) → ((i : ℕ) → get_or octets i 0 < 256) → (IsStrict standard → field ≡ encode_of standard octets)
+    → AreOctets octets × (field ≡ encode_of standard octets)
+exact field octets bytes coded =
+    let strict : IsStrict standard = search rules in
+    (octets_fit octets bytes, coded strict)
 
 fits_by : (b : Bool) (m n : ℕ) → ◌≡◌ {A = Result ℕ DecodeSliceError} (if b then Err OutputSliceTooSmall else Ok m) (Ok n) → m ≡ n
 fits_by true m n e = cc
@@ -113,7 +104,7 @@ pub said_by : (group : List ℕ) (n : ℕ) → length group ≤ 4 → IsBytes gr
     → decode_slice_of standard group 3 ≡ Ok n → SaysOctets group n
 said_by group n short bytes decoded said =
     let both = group_said standard is_strict is_consistent refl group n short bytes said in
-    record { octets = decoded_bytes_of standard group; are = octets_by_place (decoded_bytes_of standard group) decoded; counted = both.0; coded = both.1 }
+    record { octets = decoded_bytes_of standard group; are = octets_fit (decoded_bytes_of standard group) decoded; counted = both.0; coded = both.1 }
 
 pub says : (group : List ℕ) (n : ℕ) → length group ≤ 4 → SaysOctets group n → decode_slice_of standard group 3 ≡ Ok n
 says group n short is =
@@ -129,15 +120,15 @@ counted field is = record { octets = is.octets; are = is.are; counted = refl; co
 pub first_says : (text : List ℕ) → 4 < length text → IsBase64 text → SaysOctets (take 4 text) 3 × IsBase64 (drop 4 text)
 first_says text long is =
     let front = in_front standard is_strict is_consistent refl text is.octets long is.coded in (
-      record { octets = take 3 is.octets; are = octets-take 3 is.octets is.are; counted = front.2; coded = front.0 },
-      record { octets = drop 3 is.octets; are = octets-drop 3 is.octets is.are; coded = front.1 },
+      record { octets = take 3 is.octets; are = recursion-take (λ octet. octet < 256) 3 is.octets is.are; counted = front.2; coded = front.0 },
+      record { octets = drop 3 is.octets; are = recursion-drop (λ octet. octet < 256) 3 is.octets is.are; coded = front.1 },
     )
 
 pub first_more : (text : List ℕ) → SaysOctets (take 4 text) 3 → IsBase64 (drop 4 text) → IsBase64 text
 first_more text first rest =
     record {
       octets = first.octets ++ rest.octets;
-      are = octets-append first.octets rest.octets first.are rest.are;
+      are = recursion-append (λ octet. octet < 256) first.octets rest.octets first.are rest.are;
       coded = sym (take-append-drop 4 text) ∙ ap (λ (symbols : List ℕ). symbols ++ drop 4 text) first.coded
           ∙ ap (λ (symbols : List ℕ). encode_of standard first.octets ++ symbols) rest.coded
           ∙ sym (encode_of-append standard first.octets rest.octets (omega (arith, first.counted)));
