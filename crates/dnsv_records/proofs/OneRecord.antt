@@ -1,5 +1,6 @@
 -- RDATA is read in one way.
-use Rattle.std.proofs.Common.{◌≡◌, ℕ, List, drop, sym, subst, ◌∙◌}
+use Rattle.std.proofs.Common.{◌≡◌, ◌<◌, ◌≤◌, ℕ, List, length, drop, refl, sym, subst, ◌∙◌, arith}
+use Rattle.dnsv_names.specs.Octets.{AreOctets}
 use Rattle.dnsv_names.specs.WireLaws.{wire-front}
 use Rattle.dnsv_records.specs.declared.dnskey.Dnskey.{Dnskey}
 use Rattle.dnsv_records.specs.declared.ds.Ds.{Ds}
@@ -13,7 +14,7 @@ use Rattle.dnsv_records.specs.Nsec.{IsNsec}
 use Rattle.dnsv_records.specs.Nsec3.{IsNsec3}
 use Rattle.dnsv_records.specs.Rrsig.{IsRrsig}
 use Rattle.dnsv_records.proofs.BitmapLemmas.{same_types}
-use Rattle.dnsv_records.proofs.RecordLemmas.{same_counted}
+use Rattle.dnsv_records.proofs.RecordLemmas.{same_counted, same_field, same_front, same_whole}
 
 pub one_dnskey : (rdata : List ℕ) (a b : Dnskey) → IsDnskey rdata a → IsDnskey rdata b → a ≡ b
 one_dnskey rdata a b p q =
@@ -22,6 +23,16 @@ one_dnskey rdata a b p q =
     let algorithm : a.algorithm.0 ≡ b.algorithm.0 = p.algorithm ∙ sym q.algorithm in
     let key : a.key ≡ b.key = p.key ∙ sym q.key in
     λ i. record { flags = record { 0 = flags i }; protocol = protocol i; algorithm = record { 0 = algorithm i }; key = key i }
+
+-- a DNSKEY is the RDATA of one spelling
+pub one_dnskey_spelling : (a b : List ℕ) (dnskey : Dnskey) → AreOctets a → AreOctets b → IsDnskey a dnskey → IsDnskey b dnskey → a ≡ b
+one_dnskey_spelling a b dnskey low_a low_b p q =
+    let long_a = p.head in
+    let long_b = q.head in
+    let to_2 = same_front 0 2 2 a b refl refl (same_field 0 2 a b low_a low_b (omega (arith, long_a)) (omega (arith, long_b)) (sym p.flags ∙ q.flags)) in
+    let to_3 = same_front 2 1 3 a b refl to_2 (same_field 2 1 a b low_a low_b (omega (arith, long_a)) (omega (arith, long_b)) (sym p.protocol ∙ q.protocol)) in
+    let to_4 = same_front 3 1 4 a b refl to_3 (same_field 3 1 a b low_a low_b (omega (arith, long_a)) (omega (arith, long_b)) (sym p.algorithm ∙ q.algorithm)) in
+    same_whole 4 a b to_4 (sym p.key ∙ q.key)
 
 pub one_ds : (rdata : List ℕ) (a b : Ds) → IsDs rdata a → IsDs rdata b → a ≡ b
 one_ds rdata a b p q =

@@ -82,7 +82,7 @@ impl Model for KeyRing {
 }
 
 impl KeyRing {
-    ghost use Rattle.dnsv_tsig.specs.KeyFile.{BeginsWithKey, IsKeyFault, IsRefused, IsRingOf};
+    ghost use Rattle.dnsv_tsig.specs.KeyFile.{BeginsWithKey, IsFaultOfLine, IsKeyFault, IsRingOf};
 
     /// Reads a file of keys: a line each, the name and then the key in base64 with padding, with one space
     /// between them. Empty lines and lines that begin with `#` are passed over, but counted.
@@ -112,7 +112,7 @@ impl KeyRing {
             × (key_named key.name self.old ≡ None) × (self.new ≡ self.old ++ key ∷ [])) }
         ensures fault { IfErr result (λ error. ((error ≡ KeyFileError.OutOfMemory)
             × ((key : SharedKey) × IsKeyLine line.now.octets key × (key_named key.name self.old ≡ None)))
-            ⊎ IsRefused self.old (line.now ∷ []) error) }
+            ⊎ IsFaultOfLine error line.now self.old) }
     {
         let Some((name, coded)) = key_text(line) else {
             return Err(KeyFileError::Syntax(line.number()));

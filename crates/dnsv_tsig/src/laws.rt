@@ -10,9 +10,6 @@ ghost use Rattle.dnsv_tsig.specs.Opened.{OpenedMessage};
 
 use crate::error::{KeyFileError, TsigError};
 use dnsv_message::{message_or_fault, no_fault_of_a_message, one_fault, one_message, one_tail};
-use dnsv_names::{
-    a_line_has_one_list_of_fields, a_text_has_one_list_of_lines, a_text_has_one_reading,
-};
 
 /// Under a ring, at a moment and with a request's MAC, octets have exactly one answer.
 pub fn one_answer()
@@ -35,8 +32,4 @@ pub fn one_ring_or_fault()
     ensures fault { (text : List ℕ) (a b : KeyFileError) → IsKeyFault text a → IsKeyFault text b → a ≡ b }
     ensures apart { (text : List ℕ) (ring : List SharedKey) (error : KeyFileError) → IsRingOf text ring
         → IsKeyFault text error → ⊥ }
-{
-    a_text_has_one_reading();
-    a_text_has_one_list_of_lines();
-    a_line_has_one_list_of_fields();
-}
+{}

@@ -6,13 +6,7 @@ use Rattle.dnsv_records.proofs.OneRecord as one
 use Rattle.dnsv_records.proofs.laws.record_laws.Goals as goal
 
 pub returns-clause-dnskey : goal.returns-clause-dnskey
-returns-clause-dnskey c = λ a b dnskey low_a low_b p q.
-    let long_a = p.head in
-    let long_b = q.head in
-    let to_2 = same_front 0 2 2 a b refl refl (same_field 0 2 a b low_a low_b (omega arith) (omega arith) (sym p.flags ∙ q.flags)) in
-    let to_3 = same_front 2 1 3 a b refl to_2 (same_field 2 1 a b low_a low_b (omega arith) (omega arith) (sym p.protocol ∙ q.protocol)) in
-    let to_4 = same_front 3 1 4 a b refl to_3 (same_field 3 1 a b low_a low_b (omega arith) (omega arith) (sym p.algorithm ∙ q.algorithm)) in
-    same_whole 4 a b to_4 (sym p.key ∙ q.key)
+returns-clause-dnskey c = one.one_dnskey_spelling
 
 pub returns-clause-ds : goal.returns-clause-ds
 returns-clause-ds c = λ a b ds low_a low_b p q.

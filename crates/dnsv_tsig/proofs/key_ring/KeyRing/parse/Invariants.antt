@@ -1,6 +1,9 @@
-use Rattle.dnsv_tsig.proofs.KeyLemmas.{GoesOn}
+use Rattle.std.proofs.Common.{◌++◌}
+use Rattle.dnsv_names.proofs.LineFileLemmas.{SayTogether}
+use Rattle.dnsv_names.specs.Lines.{HasLines}
+use Rattle.dnsv_tsig.specs.KeyFile.{HaveOwnNames, IsKeyLine}
 use Rattle.dnsv_tsig.proofs.key_ring.KeyRing.parse.Given as goal
 
--- what the lines that are left say behind the keys so far is what all lines say
 abbrev pub invariant-loop-line : goal.invariant-loop-line
-invariant-loop-line l = GoesOn l.initial.line-iterator l.ring l.line-iterator
+invariant-loop-line l =
+    record { has : HasLines l.text (l.yielded ++ l.line-iterator); says : SayTogether IsKeyLine HaveOwnNames l.yielded l.ring }
