@@ -16,9 +16,12 @@ use std::marker::Model;
 /// do those of MD, MF, MB, MG, MR, MINFO, RP, AFSDB, RT, SIG, PX, NXT, NAPTR, KX and A6.
 #[derive(Drop)]
 pub struct Draft<'a> {
-    message: usize,
-    section: Section,
-    owner: &'a Name,
+    /// The number of its message, from 1 on.
+    pub message: usize,
+    /// The section that its records stand in.
+    pub section: Section,
+    /// The owner as its first record spells it.
+    pub owner: &'a Name,
     rtype: RecordType,
     rdata: Vec<&'a [u8]>,
     signatures: Vec<&'a [u8]>,
@@ -41,27 +44,6 @@ impl<'a> Model for Draft<'a> {
 }
 
 impl<'a> Draft<'a> {
-    /// The number of its message, from 1 on.
-    pub fn message(&self) -> usize
-        ensures { result ≡ self.now.message }
-    {
-        self.message
-    }
-
-    /// The section that its records stand in.
-    pub fn section(&self) -> Section
-        ensures { result ≡ self.now.section }
-    {
-        self.section
-    }
-
-    /// The owner as its first record spells it.
-    pub fn owner(&self) -> &Name
-        ensures { result.now ≡ self.now.owner }
-    {
-        self.owner
-    }
-
     /// The type of its records.
     pub fn rtype(&self) -> RecordType
         ensures { result.0 ≡ self.now.rtype }

@@ -74,9 +74,9 @@ impl Rrset {
         ensures { IfOk result (λ rrset. rrset ≡ draft.now) }
     {
         Ok(Rrset {
-            message: draft.message(),
-            section: draft.section(),
-            owner: draft.owner().clone()?,
+            message: draft.message,
+            section: draft.section,
+            owner: draft.owner.clone()?,
             rtype: draft.rtype(),
             rdata: copies(alloc, draft.rdata())?,
             records: read_records(alloc, draft.rtype(), draft.rdata())?,
