@@ -1,7 +1,6 @@
 -- Reading a file of statements, line by line.
-use Rattle.std.proofs.Common.{◌≡◌, ℕ, Result, Err, List, [], ◌∷◌, ◌++◌, refl, sym, ap, ◌∙◌, subst, append_assoc, arith, Bool, true, false, cond, Option, Some, None, ◌⊎◌, inl, inr, ⊎_elim}
+use Rattle.std.proofs.Common.{◌≡◌, ℕ, Result, Err, List, [], ◌∷◌, ◌++◌, refl, sym, ap, ◌∙◌, subst, arith, Bool, true, false, cond, Option, Some, None, ◌⊎◌, inl, inr, ⊎_elim}
 use Rattle.std.proofs.lemmas.Cmp.{tied_itself}
-use Rattle.std.proofs.lemmas.List.{append-nil}
 use Rattle.std.proofs.lemmas.List.Elements.{Contains-push, Contains-push_cases, Contains-append_left}
 use Rattle.std.specs.BTreeMap.{BTreeMap}
 use Rattle.std.specs.List.{Contains}
@@ -9,10 +8,12 @@ use Rattle.std.specs.Map.{lookup}
 use Rattle.std.specs.Ordering.{is_eq}
 use Rattle.std.specs.declared.cmp.Ordering.{Ordering}
 use Rattle.std.specs.declared.cmp.Ordering.TheVariants.{Less, Equal, Greater}
+use Rattle.dnsv_names.proofs.LineFileLemmas.{begins, each_more}
+use Rattle.dnsv_names.specs.LineFile.{SayEach}
 use Rattle.dnsv_names.specs.Lines.{HasLines, NumberedLine}
 use Rattle.dnsv_verifier.specs.Entry.{entry_cmp}
 use Rattle.dnsv_verifier.specs.EntryLaws.{entry_cmp_total, entry_Equal}
-use Rattle.dnsv_verifier.specs.Statements.{States, AreStatements, Agree, AreStatementsOf, BeginsWithStatement, IsFaultOf, IsSaid, answer_by, listed_answer, other_word}
+use Rattle.dnsv_verifier.specs.Statements.{Agree, AreStatementsOf, BeginsWithStatement, IsFaultOf, IsSaid, IsStatementOf, answer_by, listed_answer, other_word}
 use Rattle.dnsv_verifier.specs.StatementsLaws.{AreStatementsOf-no_fault, IsFaultOf-only}
 use Rattle.dnsv_verifier.specs.StatementsReading.{AddsStatement, IsStatement, RefusesLine, said_in}
 use Rattle.dnsv_verifier.specs.declared.answer.Answer.{Answer}
@@ -25,7 +26,7 @@ use Rattle.dnsv_verifier.specs.declared.statements.StatementsError.TheVariants.{
 -- lines were read as statements, and a tree says just what they do
 pub record SaysSoFar (lines : List NumberedLine) (said : BTreeMap Entry Word) : Type 0 where
   pub statements : List (Entry × Word)
-  pub each : AreStatements lines statements
+  pub each : SayEach IsStatementOf lines statements
   pub found : (entry : Entry) (word : Word) → said_in said entry ≡ Some word → Contains statements (entry, word)
   pub kept : (entry : Entry) (word : Word) → Contains statements (entry, word) → said_in said entry ≡ Some word
 
@@ -48,12 +49,6 @@ says_none said empty =
       found = λ entry word e. let nothing = none entry in absurd (cc);
       kept = λ entry word contains. absurd (omega (arith, contains.1));
     }
-
-are_more : (lines : List NumberedLine) (statements : List (Entry × Word)) (line : NumberedLine) (entry : Entry) (word : Word) → AreStatements lines statements → States line.octets entry word → AreStatements (lines ++ line ∷ []) (statements ++ (entry, word) ∷ [])
-are_more [] [] line entry word each states = (states, tt)
-are_more [] (s ∷ statements) line entry word each states = absurd each
-are_more (l ∷ lines) [] line entry word each states = absurd each
-are_more (l ∷ lines) (s ∷ statements) line entry word each states = (each.0, are_more lines statements line entry word each.1 states)
 
 is_eq_is : (o : Ordering) → is_eq o ≡ true → o ≡ Equal
 is_eq_is Equal e = refl
@@ -101,7 +96,7 @@ module _ {lines : List NumberedLine} {old new : BTreeMap Entry Word} (line : Num
   says_more =
       record {
         statements = so_far.statements ++ (adds.entry, adds.word) ∷ [];
-        each = are_more lines so_far.statements line adds.entry adds.word so_far.each adds.states;
+        each = each_more IsStatementOf lines so_far.statements line (adds.entry, adds.word) so_far.each adds.states;
         found = λ entry word e. found_by entry word (is_eq (entry_cmp adds.entry entry)) refl (sym (adds.updates entry) ∙ e);
         kept = λ entry word contains. adds.updates entry ∙ kept_by entry word (is_eq (entry_cmp adds.entry entry)) refl contains;
       }
@@ -110,22 +105,9 @@ module _ {lines : List NumberedLine} {old new : BTreeMap Entry Word} (line : Num
 pub fault_of : (text : List ℕ) (before : List NumberedLine) (line : NumberedLine) (after : List NumberedLine) (said : BTreeMap Entry Word) (error : StatementsError) → HasLines text (before ++ line ∷ after) → SaysSoFar before said → RefusesLine error line said → (error ≡ OutOfMemory) ⊎ IsFaultOf text error
 fault_of text before line after said OutOfMemory has so_far refuses = inl refl
 fault_of text before line after said (Syntax number) has so_far refuses =
-    inr record { before = before; line = line; after = after; has = has; statements = so_far.statements; each = so_far.each; agree = says_agree so_far; there = refuses }
+    inr record { before = before; line = line; after = after; has = has; values = so_far.statements; each = so_far.each; may_stand = says_agree so_far; there = refuses }
 fault_of text before line after said (Contradiction number) has so_far refuses =
-    inr record { before = before; line = line; after = after; has = has; statements = so_far.statements; each = so_far.each; agree = says_agree so_far; there = (refuses.0, (refuses.1.0, refuses.1.1, refuses.1.2, so_far.found refuses.1.0 (other_word refuses.1.1) refuses.1.3)) }
-
--- the first of lines that are statements is one
-begins_before : (text : List ℕ) (line : NumberedLine) (lines behind : List NumberedLine) (statements : List (Entry × Word))
-    → HasLines text (line ∷ behind) → AreStatements (line ∷ lines) statements → BeginsWithStatement text
-begins_before text line lines behind [] has each = absurd each
-begins_before text line lines behind (s ∷ statements) has each =
-    record { line = line; behind = behind; has = has; statement = s; states = each.0 }
-
-begins : (text : List ℕ) (before : List NumberedLine) (line : NumberedLine) (after : List NumberedLine) (statements : List (Entry × Word))
-    → HasLines text (before ++ line ∷ after) → AreStatements before statements → IsStatement line.octets → BeginsWithStatement text
-begins text [] line after statements has each is =
-    record { line = line; behind = after; has = has; statement = (is.entry, is.word); states = is.states }
-begins text (l ∷ before) line after statements has each is = begins_before text l before (before ++ line ∷ after) statements has each
+    inr record { before = before; line = line; after = after; has = has; values = so_far.statements; each = so_far.each; may_stand = says_agree so_far; there = (refuses.0, (refuses.1.0, refuses.1.1, refuses.1.2, so_far.found refuses.1.0 (other_word refuses.1.1) refuses.1.3)) }
 
 -- the fault of a text is told where a line is refused, unless memory was
 pub fault_told : {T : Type 0} (text : List ℕ) (before : List NumberedLine) (line : NumberedLine) (after : List NumberedLine) (said : BTreeMap Entry Word) (error : StatementsError)
@@ -133,7 +115,7 @@ pub fault_told : {T : Type 0} (text : List ℕ) (before : List NumberedLine) (li
     → (fault : StatementsError) → IsFaultOf text fault
     → (◌≡◌ {A = Result T StatementsError} (Err error) (Err fault)) ⊎ ((◌≡◌ {A = Result T StatementsError} (Err error) (Err OutOfMemory)) × BeginsWithStatement text)
 fault_told text before line after said OutOfMemory has so_far refuses fault is =
-    inr (refl, begins text before line after so_far.statements has so_far.each refuses)
+    inr (refl, begins IsStatementOf text before line after so_far.statements has so_far.each ((refuses.entry, refuses.word), refuses.states))
 fault_told text before line after said (Syntax number) has so_far refuses fault is =
     ⊎_elim (λ (out : Syntax number ≡ OutOfMemory). absurd (cc)) (λ (first : IsFaultOf text (Syntax number)). inl (ap Err (IsFaultOf-only text (Syntax number) fault first is)))
     (fault_of text before line after said (Syntax number) has so_far refuses)
@@ -145,7 +127,7 @@ fault_told text before line after said (Contradiction number) has so_far refuses
 pub none_at_fault : (text : List ℕ) (lines : List NumberedLine) (said : BTreeMap Entry Word) → HasLines text lines
     → SaysSoFar lines said → (fault : StatementsError) → IsFaultOf text fault → ⊥
 none_at_fault text lines said has so_far fault is =
-    AreStatementsOf-no_fault text so_far.statements fault (record { lines = lines; has = has; each = so_far.each; agree = says_agree so_far }) is
+    AreStatementsOf-no_fault text so_far.statements fault (record { lines = lines; has = has; each = so_far.each; may_stand = says_agree so_far }) is
 
 said_by : (lines : List NumberedLine) (said : BTreeMap Entry Word) (so_far : SaysSoFar lines said) (entry : Entry) (found : Option Word) → said_in said entry ≡ found → IsSaid so_far.statements entry (answer_by found)
 said_by lines said so_far entry None e = λ word contains. let was = so_far.kept entry word contains in absurd (cc)
@@ -156,25 +138,10 @@ said_by lines said so_far entry (Some Bad) e = so_far.found entry Bad e
 pub all_said : (text : List ℕ) (lines : List NumberedLine) (said : BTreeMap Entry Word) (listed : List (Entry × Word)) → HasLines text lines → SaysSoFar lines said → listed ≡ said.entries → (statements : List (Entry × Word)) × AreStatementsOf text statements × ((entry : Entry) → IsSaid statements entry (listed_answer listed entry))
 all_said text lines said listed has so_far same = (
   so_far.statements,
-  record { lines = lines; has = has; each = so_far.each; agree = says_agree so_far },
+  record { lines = lines; has = has; each = so_far.each; may_stand = says_agree so_far },
   λ entry.
       let moved : answer_by (said_in said entry) ≡ listed_answer listed entry =
       ap (λ (entries : List (Entry × Word)). listed_answer entries entry) (sym same) in
       let P : Answer → Type 0 = λ answer. IsSaid so_far.statements entry answer in
       subst P moved (said_by lines said so_far entry (said_in said entry) refl),
 )
-
-pub has_more : (text : List ℕ) (read left rest : List NumberedLine) (line : NumberedLine) → left ≡ line ∷ rest → HasLines text (read ++ left) → HasLines text ((read ++ line ∷ []) ++ rest)
-has_more text read left rest line next has =
-    let P : List NumberedLine → Type 0 = λ lines. HasLines text lines in
-    subst P (ap (λ lines. read ++ lines) next ∙ sym (append_assoc read (line ∷ []) rest)) has
-
-pub has_next : (text : List ℕ) (read left rest : List NumberedLine) (line : NumberedLine) → left ≡ line ∷ rest → HasLines text (read ++ left) → HasLines text (read ++ line ∷ rest)
-has_next text read left rest line next has =
-    let P : List NumberedLine → Type 0 = λ lines. HasLines text lines in
-    subst P (ap (λ lines. read ++ lines) next) has
-
-pub has_all : (text : List ℕ) (read left : List NumberedLine) → left ≡ [] → HasLines text (read ++ left) → HasLines text read
-has_all text read left none has =
-    let P : List NumberedLine → Type 0 = λ lines. HasLines text lines in
-    subst P (ap (λ lines. read ++ lines) none ∙ append-nil read) has

@@ -1,10 +1,11 @@
 -- Files of statements: lines that call entries good or bad.
-use Rattle.std.specs.Prelude.{◌≡◌, ◌<◌, ◌++◌, ℕ, List, [], ◌∷◌, Option, Some, None, codes}
+use Rattle.std.specs.Prelude.{◌≡◌, ◌<◌, ℕ, List, [], ◌∷◌, Option, Some, None, codes}
 use Rattle.std.specs.Fmt.{decimal}
 use Rattle.std.specs.List.{Contains}
 use Rattle.std.specs.Map.{lookup}
 use Rattle.std.specs.Ordering.{is_eq}
-use Rattle.dnsv_names.specs.Lines.{AreFields, HasLines, NumberedLine}
+use Rattle.dnsv_names.specs.LineFile.{BeginsWithValue, HasFirstFault, SaysValues}
+use Rattle.dnsv_names.specs.Lines.{AreFields, NumberedLine}
 use Rattle.dnsv_verifier.specs.Entry.{entry_cmp}
 use Rattle.dnsv_verifier.specs.HexField.{hex_value}
 use Rattle.dnsv_verifier.specs.declared.answer.Answer.{Answer}
@@ -35,32 +36,21 @@ pub record States (line : List ℕ) (entry : Entry) (word : Word) : Type 0 where
   pub signed_data_is : hex_value signed_data ≡ Some entry.signed_data
   pub signature_is : hex_value signature ≡ Some entry.signature
 
--- statements that lines make, one each
-abbrev pub AreStatements : List NumberedLine → List (Entry × Word) → Type 0
-AreStatements [] [] = Unit {0}
-AreStatements (line ∷ lines) (statement ∷ statements) =
-    States line.octets statement.0 statement.1 × AreStatements lines statements
-AreStatements [] (statement ∷ statements) = ⊥
-AreStatements (line ∷ lines) [] = ⊥
+-- what a line states: an entry and the word that it is called by
+abbrev pub IsStatementOf : List ℕ → Entry × Word → Type 0
+IsStatementOf line statement = States line statement.0 statement.1
 
 -- no entry is called both good and bad
 abbrev pub Agree : List (Entry × Word) → Type 0
 Agree statements = (entry : Entry) → Contains statements (entry, Good) → Contains statements (entry, Bad) → ⊥
 
 -- the statements of a file, in the order of its lines
-pub record AreStatementsOf (text : List ℕ) (statements : List (Entry × Word)) : Type 0 where
-  pub lines : List NumberedLine
-  pub has : HasLines text lines
-  pub each : AreStatements lines statements
-  pub agree : Agree statements
+abbrev pub AreStatementsOf : List ℕ → List (Entry × Word) → Type 0
+AreStatementsOf text statements = SaysValues IsStatementOf Agree text statements
 
 -- the first line of a file is a statement, so that memory is needed before any fault is found
-pub record BeginsWithStatement (text : List ℕ) : Type 0 where
-  pub line : NumberedLine
-  pub behind : List NumberedLine
-  pub has : HasLines text (line ∷ behind)
-  pub statement : Entry × Word
-  pub states : States line.octets statement.0 statement.1
+abbrev pub BeginsWithStatement : List ℕ → Type 0
+BeginsWithStatement text = BeginsWithValue IsStatementOf text
 
 -- what is wrong with a line behind statements
 abbrev pub IsFaultOfLine : StatementsError → NumberedLine → List (Entry × Word) → Type 0
@@ -73,16 +63,9 @@ IsFaultOfLine (Contradiction number) line before =
     (number ≡ line.number)
     × ((entry : Entry) × (word : Word) × States line.octets entry word × Contains before (entry, other_word word))
 
--- the first fault of a file: the lines before it are statements that agree
-pub record IsFaultOf (text : List ℕ) (fault : StatementsError) : Type 0 where
-  pub before : List NumberedLine
-  pub line : NumberedLine
-  pub after : List NumberedLine
-  pub has : HasLines text (before ++ line ∷ after)
-  pub statements : List (Entry × Word)
-  pub each : AreStatements before statements
-  pub agree : Agree statements
-  pub there : IsFaultOfLine fault line statements
+-- the first fault of a file
+abbrev pub IsFaultOf : List ℕ → StatementsError → Type 0
+IsFaultOf text fault = HasFirstFault IsStatementOf Agree IsFaultOfLine text fault
 
 -- what statements say of an entry
 abbrev pub IsSaid : List (Entry × Word) → Entry → Answer → Type 0

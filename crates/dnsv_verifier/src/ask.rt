@@ -12,9 +12,9 @@ ghost use Rattle.dnsv_verifier.specs.declared.entry.Entry.{Entry};
 
 use crate::admissible::is_verifiable;
 use crate::answer::Answer;
+use crate::entry_key::EntryKey;
 use crate::keys::Keys;
 use crate::shared_entry::{SharedEntry, SignaturePart};
-use crate::shared_key::SharedKey;
 use crate::table::Table;
 use crate::verifier::Verifier;
 use dnsv_canonical::{Capture, Rrset, signed_data};
@@ -113,7 +113,7 @@ fn add_rrset(
 }
 
 /// Whether one of the keys may have made the signature.
-fn is_made_by_some(keys: &[SharedKey<'_>], rrsig: &Rrsig) -> bool
+fn is_made_by_some(keys: &[EntryKey<'_>], rrsig: &Rrsig) -> bool
     ensures { IsTrue result ↔ ((key : DnskeyRecord) × Contains keys.now key × MayHaveMade key rrsig.now) }
 {
     keys.iter().any(|key| key.may_have_made(rrsig))
@@ -161,7 +161,7 @@ fn part_of(alloc: Global, rrset: &Rrset, rrsig: &Rrsig) -> Result<Option<Signatu
 
 /// Adds the entries of the part under the keys that may have made the signature.
 fn add_entries(
-    keys: &[SharedKey<'_>],
+    keys: &[EntryKey<'_>],
     rrsig: &Rrsig,
     part: &Rc<SignaturePart>,
     entries: &mut Vec<SharedEntry>,
@@ -177,7 +177,7 @@ fn add_entries(
 
 /// Adds the entry of the part under the key, if that may have made the signature.
 fn add_entry(
-    key: &SharedKey<'_>,
+    key: &EntryKey<'_>,
     rrsig: &Rrsig,
     part: &Rc<SignaturePart>,
     entries: &mut Vec<SharedEntry>,

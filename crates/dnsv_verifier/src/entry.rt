@@ -5,6 +5,7 @@ ghost use Rattle.std.specs.Ordering.{as_partial_cmp, eq_by_cmp};
 ghost use Rattle.std.proofs.lemmas.Cmp.{eq_by_cmp_equiv};
 ghost use Rattle.dnsv_verifier.specs.Entry.{entry_cmp};
 
+use crate::borrowed_entry::BorrowedEntry;
 use dnsv_records::{Algorithm, Octets};
 use std::cmp::Ordering;
 
@@ -22,60 +23,17 @@ pub struct Entry {
     pub signature: Octets,
 }
 
-/// The four values of an entry, wherever they lie: algorithm, key, signed data and signature.
-pub(crate) type Values<'a> = (Algorithm, &'a [u8], &'a [u8], &'a [u8]);
-
-/// How the entry of these values stands to that of the others.
-pub(crate) fn order_of<'a, 'b>(own: Values<'a>, other: Values<'b>) -> Ordering
-    ensures { result ≡ entry_cmp
-        (record {
-          algorithm = own.entry.0;
-          key = own.entry.1.now;
-          signed_data = own.entry.2.now;
-          signature = own.entry.3.now;
-        })
-        (record {
-          algorithm = other.entry.0;
-          key = other.entry.1.now;
-          signed_data = other.entry.2.now;
-          signature = other.entry.3.now;
-        }) }
-{
-    let (algorithm, key, signed_data, signature) = own;
-    let (other_algorithm, other_key, other_data, other_signature) = other;
-    algorithm
-        .0
-        .cmp(&other_algorithm.0)
-        .then_with(|| key.cmp(other_key))
-        .then_with(|| signed_data.cmp(other_data))
-        .then_with(|| signature.cmp(other_signature))
-}
-
 impl Entry {
-    /// How this entry stands to the entry of these four values.
-    pub(crate) fn compared(
-        &self,
-        algorithm: Algorithm,
-        key: &[u8],
-        signed_data: &[u8],
-        signature: &[u8],
-    ) -> Ordering
-        ensures { result ≡ entry_cmp self.now (record {
-          algorithm = algorithm;
-          key = key.now;
-          signed_data = signed_data.now;
-          signature = signature.now;
-        }) }
+    /// The same entry, without its octets.
+    pub(crate) fn borrowed(&self) -> BorrowedEntry<'_>
+        ensures { result ≡ self.now }
     {
-        order_of(
-            (
-                self.algorithm,
-                self.key.as_slice(),
-                self.signed_data.as_slice(),
-                self.signature.as_slice(),
-            ),
-            (algorithm, key, signed_data, signature),
-        )
+        BorrowedEntry {
+            algorithm: self.algorithm,
+            key: self.key.as_slice(),
+            signed_data: self.signed_data.as_slice(),
+            signature: self.signature.as_slice(),
+        }
     }
 }
 
@@ -92,12 +50,7 @@ impl Ord for Entry {
     ghost matches_eq = { λ a b. refl };
 
     fn cmp(&self, other: &Entry) -> Ordering {
-        self.compared(
-            other.algorithm,
-            other.key.as_slice(),
-            other.signed_data.as_slice(),
-            other.signature.as_slice(),
-        )
+        self.borrowed().stands_to(&other.borrowed())
     }
 }
 

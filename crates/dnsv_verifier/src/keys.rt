@@ -3,7 +3,7 @@ ghost use Rattle.std.specs.Prelude.{◌≡◌, Contains, IfOk, OnOk};
 ghost use Rattle.dnsv_verifier.specs.Admissible.{DnskeyRecord, MayHaveMade};
 ghost use Rattle.dnsv_verifier.specs.Asking.{AddsJust, AreKeysOf, IsKeyOf};
 
-use crate::shared_key::SharedKey;
+use crate::entry_key::EntryKey;
 use dnsv_canonical::Rrset;
 use dnsv_records::Rrsig;
 use std::alloc::{AllocError, Global};
@@ -12,7 +12,7 @@ use std::marker::Model;
 /// The keys of the evidence by tag, algorithm and owner, which signatures name them by.
 #[derive(Drop)]
 pub(crate) struct Keys<'a> {
-    keys: Vec<SharedKey<'a>>,
+    keys: Vec<EntryKey<'a>>,
 }
 
 impl<'a> Model for Keys<'a> {
@@ -39,7 +39,7 @@ impl<'a> Keys<'a> {
     }
 
     /// The keys that the signature names.
-    pub(crate) fn named_by(&self, rrsig: &Rrsig) -> &[SharedKey<'a>]
+    pub(crate) fn named_by(&self, rrsig: &Rrsig) -> &[EntryKey<'a>]
         ensures among { (key : DnskeyRecord) → Contains result.now key → Contains self.now key }
         ensures all { (key : DnskeyRecord) → Contains self.now key → MayHaveMade key rrsig.now
             → Contains result.now key }
@@ -59,7 +59,7 @@ impl<'a> Keys<'a> {
 }
 
 /// The keys of all RRsets, whatever message they came in.
-fn all_keys<'a>(alloc: Global, rrsets: &'a [Rrset]) -> Result<Vec<SharedKey<'a>>, AllocError>
+fn all_keys<'a>(alloc: Global, rrsets: &'a [Rrset]) -> Result<Vec<EntryKey<'a>>, AllocError>
     ensures { IfOk result (λ keys. AreKeysOf rrsets.now keys.items) }
 {
     let mut keys = Vec::new(alloc);
@@ -73,12 +73,12 @@ fn all_keys<'a>(alloc: Global, rrsets: &'a [Rrset]) -> Result<Vec<SharedKey<'a>>
 fn add_keys<'a>(
     alloc: Global,
     rrset: &'a Rrset,
-    keys: &mut Vec<SharedKey<'a>>,
+    keys: &mut Vec<EntryKey<'a>>,
 ) -> Result<(), AllocError>
     ensures { OnOk result (AddsJust (IsKeyOf rrset.now) keys.old.items keys.new.items) }
 {
     for (place, dnskey) in rrset.dnskeys().iter().enumerate() {
-        keys.push(SharedKey::new(alloc, rrset.owner(), rrset.rdata(place), dnskey)?)?;
+        keys.push(EntryKey::new(alloc, rrset.owner(), rrset.rdata(place), dnskey)?)?;
     }
     Ok(())
 }

@@ -6,7 +6,8 @@ ghost use Rattle.std.proofs.lemmas.Cmp.{eq_by_cmp_equiv};
 ghost use Rattle.dnsv_verifier.specs.Entry.{entry_cmp};
 
 use crate::answer::Answer;
-use crate::entry::{Entry, order_of};
+use crate::borrowed_entry::BorrowedEntry;
+use crate::entry::Entry;
 use crate::verifier::Verifier;
 use dnsv_records::{Algorithm, Octets};
 use std::alloc::{AllocError, Global};
@@ -89,30 +90,16 @@ impl SharedEntry {
         )
     }
 
-    /// How this entry stands to the entry of these four values.
-    pub(crate) fn compared(
-        &self,
-        algorithm: Algorithm,
-        key: &[u8],
-        signed_data: &[u8],
-        signature: &[u8],
-    ) -> Ordering
-        ensures { result ≡ entry_cmp self.now (record {
-          algorithm = algorithm;
-          key = key.now;
-          signed_data = signed_data.now;
-          signature = signature.now;
-        }) }
+    /// The same entry, without its octets.
+    pub(crate) fn borrowed(&self) -> BorrowedEntry<'_>
+        ensures { result ≡ self.now }
     {
-        order_of(
-            (
-                self.part.algorithm,
-                self.key.as_slice(),
-                self.part.signed_data.as_slice(),
-                self.part.signature.as_slice(),
-            ),
-            (algorithm, key, signed_data, signature),
-        )
+        BorrowedEntry {
+            algorithm: self.part.algorithm,
+            key: self.key.as_slice(),
+            signed_data: self.part.signed_data.as_slice(),
+            signature: self.part.signature.as_slice(),
+        }
     }
 }
 
@@ -128,12 +115,7 @@ impl Ord for SharedEntry {
     ghost matches_eq = { λ a b. refl };
 
     fn cmp(&self, other: &SharedEntry) -> Ordering {
-        self.compared(
-            other.part.algorithm,
-            other.key.as_slice(),
-            other.part.signed_data.as_slice(),
-            other.part.signature.as_slice(),
-        )
+        self.borrowed().stands_to(&other.borrowed())
     }
 }
 

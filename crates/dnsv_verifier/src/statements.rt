@@ -7,6 +7,7 @@ ghost use Rattle.dnsv_verifier.specs.declared.statement.Word.{Word};
 ghost use Rattle.dnsv_verifier.specs.declared.statements.StatementsError.{StatementsError};
 
 use crate::answer::Answer;
+use crate::borrowed_entry::BorrowedEntry;
 use crate::entry::Entry;
 use crate::statement::{Word, statement_of};
 use crate::verifier::Verifier;
@@ -129,9 +130,15 @@ impl Verifier for Statements {
         signed_data: &[u8],
         signature: &[u8],
     ) -> Answer {
-        let place = self.listed.binary_search_by(|(entry, _)| {
-            entry.compared(algorithm, key, signed_data, signature)
-        });
+        let asked = BorrowedEntry {
+            algorithm,
+            key,
+            signed_data,
+            signature,
+        };
+        let place = self
+            .listed
+            .binary_search_by(|(entry, _)| entry.borrowed().stands_to(&asked));
         match place {
             Ok(place) => self.listed[place].1.answer(),
             Err(_) => Answer::Unknown,

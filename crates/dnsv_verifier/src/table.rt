@@ -5,6 +5,7 @@ ghost use Rattle.dnsv_verifier.specs.Entry.{entry_cmp};
 ghost use Rattle.dnsv_verifier.specs.Table.{hopeful, unknown_entries};
 
 use crate::answer::Answer;
+use crate::borrowed_entry::BorrowedEntry;
 use crate::entry::Entry;
 use crate::shared_entry::SharedEntry;
 use crate::verifier::Verifier;
@@ -96,9 +97,15 @@ impl Verifier for Table {
         signed_data: &[u8],
         signature: &[u8],
     ) -> Answer {
-        let place = self.answers.binary_search_by(|(entry, _)| {
-            entry.compared(algorithm, key, signed_data, signature)
-        });
+        let asked = BorrowedEntry {
+            algorithm,
+            key,
+            signed_data,
+            signature,
+        };
+        let place = self
+            .answers
+            .binary_search_by(|(entry, _)| entry.borrowed().stands_to(&asked));
         match place {
             Ok(place) => self.answers[place].1,
             Err(_) => Answer::Unknown,

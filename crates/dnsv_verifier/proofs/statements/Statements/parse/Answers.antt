@@ -1,6 +1,7 @@
 use Rattle.std.proofs.Common.{◌≡◌, rules}
 use Rattle.std.proofs.lemmas.Result.{err_from_is_err_and}
-use Rattle.dnsv_verifier.proofs.StatementsLemmas.{says_none, says_more, has_more, has_next, has_all, fault_of, fault_told, none_at_fault, all_said}
+use Rattle.dnsv_names.proofs.LineFileLemmas.{has_all, has_more, has_next}
+use Rattle.dnsv_verifier.proofs.StatementsLemmas.{all_said, fault_of, fault_told, none_at_fault, says_more, says_none}
 use Rattle.dnsv_verifier.proofs.statements.Statements.parse.Goals as goal
 
 pub loop-line-init : goal.loop-line-init

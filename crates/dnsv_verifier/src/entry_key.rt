@@ -16,12 +16,12 @@ use std::rc::Rc;
 
 /// A DNSKEY record that lies elsewhere, with a copy of its key that entries share.
 #[derive(Drop)]
-pub(crate) struct SharedKey<'a> {
+pub(crate) struct EntryKey<'a> {
     record: KeyRecord<'a>,
     key: Rc<Octets>,
 }
 
-impl<'a> Model for SharedKey<'a> {
+impl<'a> Model for EntryKey<'a> {
     ghost use Rattle.std.specs.Prelude.{◌≡◌};
     ghost use Rattle.dnsv_verifier.specs.Admissible.{DnskeyRecord};
 
@@ -32,19 +32,19 @@ impl<'a> Model for SharedKey<'a> {
     ghost invariant = { λ shared. shared.key.value ≡ shared.record.dnskey.key };
 }
 
-impl<'a> SharedKey<'a> {
+impl<'a> EntryKey<'a> {
     /// The record of this owner and RDATA. `dnskey` has to be what was read of that RDATA.
     pub(crate) fn new(
         alloc: Global,
         owner: &'a Name,
         rdata: &'a [u8],
         dnskey: &'a Dnskey,
-    ) -> Result<SharedKey<'a>, AllocError>
+    ) -> Result<EntryKey<'a>, AllocError>
         requires { IsDnskey rdata.now dnskey.now }
         ensures { IfOk result (λ key. key ≡ record { owner = owner.now; rdata = rdata.now; dnskey = dnskey.now }) }
     {
         let key = Octets::copy_of(alloc, dnskey.key.as_slice())?;
-        Ok(SharedKey {
+        Ok(EntryKey {
             record: KeyRecord::new(owner, rdata, dnskey),
             key: Rc::new(alloc, key)?,
         })
@@ -76,7 +76,7 @@ impl<'a> SharedKey<'a> {
     }
 
     /// How the key stands to the other by tag, algorithm and owner.
-    pub(crate) fn stands_to(&self, other: &SharedKey<'_>) -> Ordering
+    pub(crate) fn stands_to(&self, other: &EntryKey<'_>) -> Ordering
         ensures { result ≡ key_name_cmp (name_of_key self.now) (name_of_key other.now) }
     {
         self.compared(

@@ -1,0 +1,46 @@
+//! Entries whose parts lie elsewhere, and their order.
+ghost use Rattle.std.specs.Prelude.{◌≡◌};
+ghost use Rattle.dnsv_verifier.specs.Entry.{entry_cmp};
+
+use dnsv_records::Algorithm;
+use std::cmp::Ordering;
+use std::marker::Model;
+
+/// An entry whose parts lie elsewhere. Entries, however they keep their parts, are ordered by this one.
+#[derive(Drop)]
+pub(crate) struct BorrowedEntry<'a> {
+    pub(crate) algorithm: Algorithm,
+    pub(crate) key: &'a [u8],
+    pub(crate) signed_data: &'a [u8],
+    pub(crate) signature: &'a [u8],
+}
+
+impl<'a> Model for BorrowedEntry<'a> {
+    ghost use Rattle.dnsv_verifier.specs.declared.entry.Entry.{Entry};
+
+    ghost Value = { Entry };
+
+    ghost view = { λ entry. record {
+      algorithm = entry.algorithm;
+      key = entry.key.now;
+      signed_data = entry.signed_data.now;
+      signature = entry.signature.now;
+    } };
+}
+
+impl<'a> BorrowedEntry<'a> {
+    /// How this entry stands to the other: by algorithm, key, signed data and signature.
+    pub(crate) fn stands_to(&self, other: &BorrowedEntry<'_>) -> Ordering
+        ensures { result ≡ entry_cmp self.now other.now }
+    {
+        let (key, other_key) = (self.key, other.key);
+        let (signed_data, other_data) = (self.signed_data, other.signed_data);
+        let (signature, other_signature) = (self.signature, other.signature);
+        self.algorithm
+            .0
+            .cmp(&other.algorithm.0)
+            .then_with(|| key.cmp(other_key))
+            .then_with(|| signed_data.cmp(other_data))
+            .then_with(|| signature.cmp(other_signature))
+    }
+}
