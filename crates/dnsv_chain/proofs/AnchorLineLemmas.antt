@@ -1,5 +1,5 @@
 -- What a line of a file of anchors says, by its fields.
-use Rattle.std.proofs.Common.{◌≡◌, ℕ, List, [], ◌∷◌, ◌++◌, length, refl, sym, ap, ◌∙◌, arith, subst, codes, Option, Some, None}
+use Rattle.std.proofs.Common.{◌≡◌, ◌<◌, ℕ, List, [], ◌∷◌, ◌++◌, length, drop, refl, sym, ap, ◌∙◌, arith, subst, codes, Option, Some, None}
 use Rattle.std.proofs.lemmas.Bool.{false≢true}
 use Rattle.std.specs.Int.{w16, to_be_bytes}
 use Rattle.std.specs.Option.{IsSome}
@@ -10,6 +10,7 @@ use Rattle.dnsv_names.specs.LineLaws.{AreFields-only}
 use Rattle.dnsv_names.specs.Lines.{AreFields}
 use Rattle.dnsv_names.specs.Name.{Labels, IsName}
 use Rattle.dnsv_names.specs.Octets.{AreOctets}
+use Rattle.dnsv_names.specs.PartLaws.{recursion-drop}
 use Rattle.dnsv_names.specs.Text.{IsTextOf}
 use Rattle.dnsv_records.specs.declared.ds.Ds.{Ds}
 use Rattle.dnsv_verifier.specs.HexField.{hex_value}
@@ -78,6 +79,16 @@ module _ (line word name first second third last : List ℕ) (are : AreFields li
   some_key owner is_key is_name spelling is = (anchor.Key owner is.0, key_said owner is.0 is_key is_name spelling is.1)
 
 -- ---- the fields of a DNSKEY record
+
+-- the key of RDATA
+pub key_octets : (rdata key : List ℕ) → AreOctets rdata → key ≡ drop 4 rdata → AreOctets key
+key_octets rdata key are is = subst AreOctets (sym is) (recursion-drop (λ octet. octet < 256) 4 rdata are)
+
+-- what is no base64 is no key
+pub no_base64 : (flags protocol algorithm key : List ℕ) → (IsBase64 key → ⊥) → (rdata : List ℕ)
+    → IsDnskeyText flags protocol algorithm key rdata → ⊥
+no_base64 flags protocol algorithm key none rdata is =
+    none (record { octets = is.dnskey.key; are = key_octets rdata is.dnskey.key is.octets is.is.key; coded = is.key_is })
 
 -- the RDATA of these numbers and this key
 pub dnskey_said : (flags protocol algorithm key : List ℕ) (f p a : ℕ) (octets rdata : List ℕ) → IsNumber flags f 65536

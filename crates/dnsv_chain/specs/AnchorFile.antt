@@ -1,13 +1,13 @@
 -- Files of trust anchors: which anchors a text says, and what it is refused for.
-use Rattle.std.specs.Prelude.{◌≡◌, ◌<◌, ◌≤◌, ◌++◌, ℕ, List, [], ◌∷◌, Some, codes, length}
+use Rattle.std.specs.Prelude.{◌≡◌, ◌<◌, ◌≤◌, ℕ, List, [], ◌∷◌, Some, codes, length}
 use Rattle.std.specs.Fmt.{decimal}
-use Rattle.std.specs.List.{AllZip}
 use Rattle.base64.specs.Engines.{standard}
 use Rattle.base64.specs.GeneralPurpose.{encode_of}
 use Rattle.dnsv_names.specs.Name.{Labels, IsName}
 use Rattle.dnsv_names.specs.Octets.{AreOctets}
 use Rattle.dnsv_names.specs.Text.{IsTextOf}
-use Rattle.dnsv_names.specs.Lines.{AreFields, HasLines, NumberedLine}
+use Rattle.dnsv_names.specs.LineFile.{BeginsWithValue, HasFirstFault, SaysValues}
+use Rattle.dnsv_names.specs.Lines.{AreFields, NumberedLine}
 use Rattle.dnsv_records.specs.Dnskey.{IsDnskey}
 use Rattle.dnsv_records.specs.declared.dnskey.Dnskey.{Dnskey}
 use Rattle.dnsv_records.specs.declared.ds.Ds.{Ds}
@@ -60,24 +60,17 @@ pub record IsAnchorLine (line : List ℕ) (anchor : Anchor) : Type 0 where
   pub parted : AreFields line fields
   pub says : SaysAnchor fields anchor
 
--- lines say anchors, one each
-abbrev pub AreAnchors : List NumberedLine → List Anchor → Type 0
-AreAnchors lines anchors = AllZip (λ line anchor. IsAnchorLine line.octets anchor) lines anchors
+-- a file has at most 64 anchors
+abbrev pub AreFew : List Anchor → Type 0
+AreFew anchors = length anchors ≤ 64
 
--- the anchors of a text file, in the order of its lines: at most 64
-pub record AreAnchorsOf (text : List ℕ) (anchors : List Anchor) : Type 0 where
-  pub lines : List NumberedLine
-  pub has : HasLines text lines
-  pub each : AreAnchors lines anchors
-  pub few : length anchors ≤ 64
+-- the anchors of a text file, in the order of its lines
+abbrev pub AreAnchorsOf : List ℕ → List Anchor → Type 0
+AreAnchorsOf text anchors = SaysValues IsAnchorLine AreFew text anchors
 
 -- the first line of a text file says an anchor, so that memory is needed before any fault is found
-pub record BeginsWithAnchor (text : List ℕ) : Type 0 where
-  pub line : NumberedLine
-  pub behind : List NumberedLine
-  pub has : HasLines text (line ∷ behind)
-  pub anchor : Anchor
-  pub says : IsAnchorLine line.octets anchor
+abbrev pub BeginsWithAnchor : List ℕ → Type 0
+BeginsWithAnchor text = BeginsWithValue IsAnchorLine text
 
 -- what is wrong with a line behind anchors
 abbrev pub IsFaultOfLine : AnchorsError → NumberedLine → List Anchor → Type 0
@@ -89,13 +82,6 @@ IsFaultOfLine (Syntax number) line before =
 IsFaultOfLine (TooMany number) line before =
     (number ≡ line.number) × ((anchor : Anchor) × IsAnchorLine line.octets anchor) × (length before ≡ 64)
 
--- the first fault of a text file: the lines before it say anchors, at most 64
-pub record IsFaultOf (text : List ℕ) (fault : AnchorsError) : Type 0 where
-  pub before : List NumberedLine
-  pub line : NumberedLine
-  pub after : List NumberedLine
-  pub has : HasLines text (before ++ line ∷ after)
-  pub anchors : List Anchor
-  pub each : AreAnchors before anchors
-  pub few : length anchors ≤ 64
-  pub there : IsFaultOfLine fault line anchors
+-- the first fault of a text file
+abbrev pub IsFaultOf : List ℕ → AnchorsError → Type 0
+IsFaultOf text fault = HasFirstFault IsAnchorLine AreFew IsFaultOfLine text fault

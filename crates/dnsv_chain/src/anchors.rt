@@ -6,8 +6,7 @@ ghost use Rattle.dnsv_chain.specs.declared.anchors.AnchorsError.{AnchorsError};
 
 use crate::anchor::Anchor;
 use crate::anchor_line::anchor_of;
-use dnsv_names::{Line, Lines, a_text_has_one_reading};
-use dnsv_records::record_laws;
+use dnsv_names::{Line, Lines};
 use dnsv_verifier::KeyRecord;
 use std::alloc::{AllocError, AllocFailed, Global};
 use std::marker::Model;
@@ -162,7 +161,4 @@ pub fn a_text_is_one_list_of_anchors()
         → IsFaultOf text fault → ⊥ }
     ensures either { (text : List ℕ) → ((anchors : List Anchor) → AreAnchorsOf text anchors → ⊥)
         → ((fault : AnchorsError) → IsFaultOf text fault → ⊥) → ⊥ }
-{
-    a_text_has_one_reading();
-    record_laws();
-}
+{}

@@ -2,7 +2,7 @@ use Rattle.dnsv_chain.proofs.AnchorLaws.{AreAnchorsOf-only, AreAnchorsOf-no_faul
 use Rattle.dnsv_chain.proofs.anchors.a_text_is_one_list_of_anchors.Goals as goal
 
 pub returns-clause-anchors : goal.returns-clause-anchors
-returns-clause-anchors c = AreAnchorsOf-only c.a_text_has_one_reading.ensures.name c.record_laws.ensures.dnskey
+returns-clause-anchors c = AreAnchorsOf-only
 
 pub returns-clause-fault : goal.returns-clause-fault
 returns-clause-fault c = IsFaultOf-only
