@@ -10,9 +10,9 @@ use Rattle.dnsv_verifier.specs.Admissible.{DnskeyRecord}
 use Rattle.dnsv_records.specs.Algorithm.{is_supported}
 use Rattle.dnsv_records.specs.declared.ds.Ds.{Ds}
 use Rattle.dnsv_records.specs.declared.number.DigestType.{DigestType}
-use Rattle.dnsv_digest.specs.DigestType.{IsStronger, digest_type_of}
-use Rattle.dnsv_digest.specs.declared.digest_type.DigestType.{DigestType as Supported}
-use Rattle.dnsv_digest.specs.declared.digest_type.DigestType.TheVariants.{Sha1, Sha256, Sha384}
+use Rattle.dnsv_digest.specs.DigestAlgorithm.{IsStronger, digest_algorithm_of}
+use Rattle.dnsv_digest.specs.declared.digest_algorithm.DigestAlgorithm.{DigestAlgorithm as Supported}
+use Rattle.dnsv_digest.specs.declared.digest_algorithm.DigestAlgorithm.TheVariants.{Sha1, Sha256, Sha384}
 use Rattle.dnsv_chain.specs.Ds.{GoesBefore, HasUsable, HasUsableMatch, IsSupported, IsUsable}
 use Rattle.dnsv_chain.specs.DsReading.{HasLeadingMatch, HasSupported, IsLeading, Leads, TakesOver}
 
@@ -107,7 +107,7 @@ number_by number false false true Sha384 one two four e = grind (arith, nat_test
 number_by number false false false supported one two four e = cc
 
 -- numbers of one digest type are equal
-one_number : (a b : ℕ) (supported : Supported) → digest_type_of a ≡ Some supported → digest_type_of b ≡ Some supported → a ≡ b
+one_number : (a b : ℕ) (supported : Supported) → digest_algorithm_of a ≡ Some supported → digest_algorithm_of b ≡ Some supported → a ≡ b
 one_number a b supported p q =
     number_by a (a == 1) (a == 2) (a == 4) supported refl refl refl p
     ∙ sym (number_by b (b == 1) (b == 2) (b == 4) supported refl refl refl q)
@@ -146,7 +146,7 @@ usable_leads records leading ds leads among usable =
     elim (compared type.0 lead.0) [
       | inl stronger ↦ absurd (leads.first ds among (type.0, lead.0, type.1, lead.1, stronger))
       | inr (inl weaker) ↦
-          absurd (usable.counts record { other = leads.ds; among = leads.among; before = (lead.0, type.0, ap digest_type_of leads.is ∙ lead.1, type.1, weaker) })
+          absurd (usable.counts record { other = leads.ds; among = leads.among; before = (lead.0, type.0, ap digest_algorithm_of leads.is ∙ lead.1, type.1, weaker) })
       | inr (inr same) ↦ one_number ds.digest_type.0 leading lead.0 (type.1 ∙ ap Some same) lead.1
     ]
 

@@ -5,19 +5,19 @@ use Rattle.dnsv_records.specs.Algorithm.{is_supported}
 use Rattle.dnsv_records.specs.KeyTag.{key_tag_of}
 use Rattle.dnsv_records.specs.declared.ds.Ds.{Ds}
 use Rattle.dnsv_digest.specs.Digest.{ds_digest_of}
-use Rattle.dnsv_digest.specs.DigestType.{IsStronger, digest_type_of}
-use Rattle.dnsv_digest.specs.declared.digest_type.DigestType.{DigestType}
+use Rattle.dnsv_digest.specs.DigestAlgorithm.{IsStronger, digest_algorithm_of}
+use Rattle.dnsv_digest.specs.declared.digest_algorithm.DigestAlgorithm.{DigestAlgorithm}
 use Rattle.dnsv_verifier.specs.Admissible.{DnskeyRecord}
 
 -- a digest type with the number is supported
 abbrev pub IsSupported : ℕ → Type 0
-IsSupported number = (supported : DigestType) × (digest_type_of number ≡ Some supported)
+IsSupported number = (supported : DigestAlgorithm) × (digest_algorithm_of number ≡ Some supported)
 
 -- the digest type with the number a goes before that with the number b; a number that isn't supported has no place
 abbrev pub GoesBefore : ℕ → ℕ → Type 0
 GoesBefore a b =
-    (stronger : DigestType) × (weaker : DigestType)
-    × (digest_type_of a ≡ Some stronger) × (digest_type_of b ≡ Some weaker) × IsStronger stronger weaker
+    (stronger : DigestAlgorithm) × (weaker : DigestAlgorithm)
+    × (digest_algorithm_of a ≡ Some stronger) × (digest_algorithm_of b ≡ Some weaker) × IsStronger stronger weaker
 
 -- A record of a DS RRset is ignored beside a record of the same RRset whose digest type goes before its own, whatever
 -- the algorithm of that one is (RFC 4509 3).

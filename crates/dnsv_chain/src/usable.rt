@@ -10,10 +10,10 @@ use dnsv_records::{DigestType, Ds};
 pub fn goes_before(first: DigestType, other: DigestType) -> bool
     ensures { IsTrue result ↔ GoesBefore first.0 other.0 }
 {
-    let Some(first) = dnsv_digest::DigestType::from_number(first.0) else {
+    let Some(first) = dnsv_digest::DigestAlgorithm::from_number(first.0) else {
         return false;
     };
-    let Some(other) = dnsv_digest::DigestType::from_number(other.0) else {
+    let Some(other) = dnsv_digest::DigestAlgorithm::from_number(other.0) else {
         return false;
     };
     first.is_stronger_than(other)
@@ -72,7 +72,7 @@ fn takes_over(digest_type: DigestType, leading: Option<DigestType>) -> bool
 fn is_supported(digest_type: DigestType) -> bool
     ensures { IsTrue result ↔ IsSupported digest_type.0 }
 {
-    dnsv_digest::DigestType::from_number(digest_type.0).is_some()
+    dnsv_digest::DigestAlgorithm::from_number(digest_type.0).is_some()
 }
 
 /// Whether the record is ignored beside another of the DS RRset.

@@ -1,4 +1,4 @@
 pub mod Digest
-pub mod DigestType
+pub mod DigestAlgorithm
 pub mod Hmac
 pub mod Nsec3Hash

@@ -5,7 +5,7 @@ ghost use Rattle.std.specs.Cmp.Lexicographic.{lists_equiv, pointwise};
 ghost use Rattle.std.proofs.lemmas.Cmp.{nat_eq_equiv};
 ghost use Rattle.dnsv_digest.specs.Digest.{ds_digest_of};
 
-use crate::digest_type::{DIGEST_LIMIT, DigestType};
+use crate::digest_algorithm::{DIGEST_LIMIT, DigestAlgorithm};
 use arrayvec::ArrayVec;
 use dnsv_names::Name;
 use std::alloc::AllocError;
@@ -74,7 +74,7 @@ impl Digest {
 pub fn ds_digest(digest_type: u8, owner: &Name, rdata: &[u8]) -> Option<Digest>
     ensures { result ≡ ds_digest_of digest_type owner.now rdata.now }
 {
-    let digest_type = DigestType::from_number(digest_type)?;
+    let digest_type = DigestAlgorithm::from_number(digest_type)?;
     let owner = owner.to_lower();
     Some(digest_type.digest(owner.wire(), rdata))
 }

@@ -3,11 +3,11 @@
 #![tactic(auto)]
 
 pub use digest::{Digest, ds_digest};
-pub use digest_type::DigestType;
+pub use digest_algorithm::DigestAlgorithm;
 pub use hmac::hmac_sha256;
 pub use nsec3::nsec3_hash;
 
 mod digest;
-mod digest_type;
+mod digest_algorithm;
 mod hmac;
 mod nsec3;
