@@ -2,7 +2,7 @@
 
 use crate::printed;
 use crate::row::{Row, RowError};
-use dnsv_digest::{Digest, DigestType, ds_digest, hmac_sha256, nsec3_hash};
+use dnsv_digest::{Digest, DigestAlgorithm, ds_digest, hmac_sha256, nsec3_hash};
 use dnsv_names::Count;
 
 /// What the library answers, where it has the call.
@@ -51,8 +51,8 @@ fn is_same_digest(row: &Row) -> Result<String, RowError> {
 /// `is_stronger_than TYPE TYPE`: whether the one digest type goes before the other.
 fn is_stronger_than(row: &Row) -> Result<String, RowError> {
     let (Some(one), Some(other)) = (
-        DigestType::from_number(row.number8(0)?),
-        DigestType::from_number(row.number8(1)?),
+        DigestAlgorithm::from_number(row.number8(0)?),
+        DigestAlgorithm::from_number(row.number8(1)?),
     ) else {
         return Ok(printed::none(row.alloc())?);
     };
