@@ -19,7 +19,8 @@ use Rattle.dnsv_verifier.specs.declared.answer.Answer.{Answer}
 use Rattle.dnsv_verifier.specs.declared.entry.Entry.{Entry}
 use Rattle.dnsv_chain.specs.Ds.{HasUsableMatch}
 use Rattle.dnsv_chain.specs.Trusted.{IsKeyOf, DelegatesTo}
-use Rattle.dnsv_chain.specs.Walk.{AddsDelegation, AddsKeys, AddsKeysTo, AddsTrusted, AreGoodNumbers, AreVouchedTo, HasRdata, IsDelegatedBySome, IsGoodNumber, IsSignedByVouched, IsSignedUnderSome, IsVouchedFor}
+use Rattle.dnsv_chain.specs.Chain.{AddsDelegation, AddsKeys, AddsKeysTo, AddsTrusted, AreVouchedTo, HasRdata, IsDelegatedBySome, IsSignedByVouched, IsVouchedFor}
+use Rattle.dnsv_chain.specs.Signing.{AreGoodNumbers, IsGoodNumber, IsSignedUnderSome}
 use Rattle.dnsv_chain.specs.declared.anchor.Anchor.{Anchor}
 use Rattle.dnsv_chain.proofs.ZipLemmas.{zip_at, zip_length}
 

@@ -25,7 +25,9 @@ use Rattle.dnsv_verifier.specs.declared.answer.Answer.{Answer}
 use Rattle.dnsv_verifier.specs.declared.entry.Entry.{Entry}
 use Rattle.dnsv_chain.specs.Trust.{AreSecured, AreTrustedKeys, IsTrustOf, KeptTrust, keys_among, keys_of}
 use Rattle.dnsv_chain.specs.Trusted.{IsNumbered, IsSecured}
-use Rattle.dnsv_chain.specs.Walk.{AreDistinct, AreGoodNumbers, AreKeysByOwner, AreKeysOf, AreSigned, AreZonesBefore, IsGoodNumber, IsKept, IsZoneOf}
+use Rattle.dnsv_chain.specs.Chain.{AreKeysByOwner}
+use Rattle.dnsv_chain.specs.Kept.{AreDistinct, AreKeysOf, AreSigned, AreZonesBefore, IsKept, IsZoneOf}
+use Rattle.dnsv_chain.specs.Signing.{AreGoodNumbers, IsGoodNumber}
 use Rattle.dnsv_chain.specs.declared.anchor.Anchor.{Anchor}
 use Rattle.dnsv_chain.proofs.WalkLemmas.{same_rdata_good}
 use Rattle.dnsv_chain.proofs.ZipLemmas.{zip_at, zip_length, zip_push}

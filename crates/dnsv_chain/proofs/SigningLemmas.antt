@@ -16,7 +16,7 @@ use Rattle.dnsv_verifier.specs.Admissible.{DnskeyRecord, IsEntryOf, IsGood, IsVe
 use Rattle.dnsv_verifier.specs.declared.answer.Answer.{Answer}
 use Rattle.dnsv_verifier.specs.declared.entry.Entry.{Entry}
 use Rattle.dnsv_chain.proofs.ZipLemmas.{zip_at, zip_length}
-use Rattle.dnsv_chain.specs.Walk.{MayHaveMadeOne, IsValidBySome, IsGoodUnderSome, IsSignedUnderSome, IsGoodNumber, AreGoodNumbers, AreGoodNumbersTo}
+use Rattle.dnsv_chain.specs.Signing.{AreGoodNumbers, AreGoodNumbersTo, IsGoodNumber, IsGoodUnderSome, IsSignedUnderSome, IsValidBySome, MayHaveMadeOne}
 
 module _ (meaning : Entry → Answer) (moment : ℕ) (rrset : ReceivedRrset) (rrsig : Rrsig) (keys : List DnskeyRecord) where
   -- what is good can be verified, under a key that may have made it

@@ -13,7 +13,7 @@ use Rattle.std.specs.Ordering.{is_lt, nat_cmp, ordering_then}
 use Rattle.std.specs.declared.cmp.Ordering.{Ordering}
 use Rattle.std.specs.declared.cmp.Ordering.TheVariants.{Less}
 use Rattle.dnsv_canonical.specs.Rrsets.{ReceivedRrset}
-use Rattle.dnsv_chain.specs.Walk.{step_cmp, IsStepOf, IsInChain, AreSteps, AreStepsTo}
+use Rattle.dnsv_chain.specs.Order.{AreSteps, AreStepsTo, IsInChain, IsStepOf, step_cmp}
 use Rattle.dnsv_chain.specs.declared.order.Step.{Step}
 
 -- ---- the order

@@ -13,7 +13,9 @@ use Rattle.dnsv_verifier.specs.Admissible.{DnskeyRecord, IsGood}
 use Rattle.dnsv_verifier.specs.declared.answer.Answer.{Answer}
 use Rattle.dnsv_verifier.specs.declared.entry.Entry.{Entry}
 use Rattle.dnsv_chain.specs.Trusted.{IsKeyOf, IsTrusted, anchored, delegated}
-use Rattle.dnsv_chain.specs.Walk.{AddsDelegation, AddsTrusted, AreKeysByOwner, AreSteps, HasKeys, HasRdata, IsDelegation, IsGoodNumber, IsSignedByVouched, IsStepOf, IsWalked}
+use Rattle.dnsv_chain.specs.Chain.{AddsDelegation, AddsTrusted, AreKeysByOwner, HasKeys, HasRdata, IsDelegation, IsSignedByVouched, IsWalked}
+use Rattle.dnsv_chain.specs.Order.{AreSteps, IsStepOf}
+use Rattle.dnsv_chain.specs.Signing.{IsGoodNumber}
 use Rattle.dnsv_chain.specs.declared.anchor.Anchor.{Anchor}
 use Rattle.dnsv_chain.specs.declared.order.Step.{Step}
 use Rattle.dnsv_chain.proofs.DerivationLemmas.{same_owner_labels}

@@ -2,9 +2,12 @@ pub mod Anchor
 pub mod AnchorFile
 pub mod AnchorsError
 pub mod ByOwner
+pub mod Chain
 pub mod Derivation
 pub mod Ds
 pub mod DsReading
+pub mod Kept
+pub mod Order
+pub mod Signing
 pub mod Trust
 pub mod Trusted
-pub mod Walk

@@ -6,7 +6,7 @@ ghost use Rattle.dnsv_verifier.specs.Table.{table_answer};
 ghost use Rattle.dnsv_chain.specs.ByOwner.{rrsets_at, values_at};
 ghost use Rattle.dnsv_chain.specs.Trust.{IsTrustOf};
 ghost use Rattle.dnsv_chain.specs.Trusted.{DelegatesTo, IsKeyOf};
-ghost use Rattle.dnsv_chain.specs.Walk.{AddsDelegation, AddsKeys, AddsTrusted, AreKeysByOwner, HasRdata, IsDelegatedBySome, IsVouchedFor};
+ghost use Rattle.dnsv_chain.specs.Chain.{AddsDelegation, AddsKeys, AddsTrusted, AreKeysByOwner, HasRdata, IsDelegatedBySome, IsVouchedFor};
 
 use crate::anchors::Anchors;
 use crate::by_owner::{ByOwner, add, at};

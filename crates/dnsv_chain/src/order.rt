@@ -1,6 +1,6 @@
 //! The order in which trust is worked out.
 ghost use Rattle.std.specs.Prelude.{◌↔◌, IfOk, IsTrue};
-ghost use Rattle.dnsv_chain.specs.Walk.{AreSteps, IsInChain};
+ghost use Rattle.dnsv_chain.specs.Order.{AreSteps, IsInChain};
 
 use dnsv_canonical::Rrset;
 use dnsv_names::RecordType;

@@ -2,7 +2,7 @@
 ghost use Rattle.std.specs.Prelude.{◌↔◌, ◌≡◌, IfOk, IsTrue};
 ghost use Rattle.dnsv_verifier.specs.Table.{table_answer};
 ghost use Rattle.dnsv_chain.specs.ByOwner.{values_at};
-ghost use Rattle.dnsv_chain.specs.Walk.{AreGoodNumbers, IsGoodUnderSome, IsSignedUnderSome, IsValidBy, IsValidBySome, MayHaveMadeOne};
+ghost use Rattle.dnsv_chain.specs.Signing.{AreGoodNumbers, IsGoodUnderSome, IsSignedUnderSome, IsValidBy, IsValidBySome, MayHaveMadeOne};
 
 use crate::by_owner::{ByOwner, at};
 use dnsv_canonical::{Rrset, signed_data};

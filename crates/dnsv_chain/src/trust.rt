@@ -3,7 +3,7 @@ ghost use Rattle.std.specs.Prelude.{◌≡◌, IfOk, map};
 ghost use Rattle.dnsv_verifier.specs.Table.{table_answer};
 ghost use Rattle.dnsv_chain.specs.ByOwner.{values_at};
 ghost use Rattle.dnsv_chain.specs.Trust.{keys_among, keys_of, signed_of};
-ghost use Rattle.dnsv_chain.specs.Walk.{AreDistinct, AreKeysOf, AreSigned, AreZones, IsKept};
+ghost use Rattle.dnsv_chain.specs.Kept.{AreDistinct, AreKeysOf, AreSigned, AreZones, IsKept};
 
 use crate::by_rdata::ByRdata;
 use crate::signing::{TrustedKeys, good_numbers};
@@ -53,8 +53,8 @@ impl Trust {
         ensures { IfOk result (IsKept (table_answer table.now) table.now.moment rrsets.now (values_at keys.now)) }
     {
         Ok(Trust {
-            zones: zones(alloc, keys)?,
-            signed: signed(alloc, table, rrsets, keys)?,
+            zones: keys_of_zones(alloc, keys)?,
+            signed: good_numbers_of_each(alloc, table, rrsets, keys)?,
         })
     }
 
@@ -92,7 +92,7 @@ fn keys_among<'a>(zones: &'a [ZoneKeys], zone: &Name) -> &'a [Dnskey]
 }
 
 /// The keys of each zone.
-fn zones(alloc: Global, keys: &TrustedKeys<'_>) -> Result<Vec<ZoneKeys>, AllocError>
+fn keys_of_zones(alloc: Global, keys: &TrustedKeys<'_>) -> Result<Vec<ZoneKeys>, AllocError>
     ensures { IfOk result (λ zones. AreZones keys.now (map (λ each. (each.zone, each.keys.items)) zones.items)) }
 {
     let mut zones = Vec::new(alloc);
@@ -141,7 +141,7 @@ fn copies(alloc: Global, keys: &[ByRdata<'_>]) -> Result<Vec<Dnskey>, AllocError
 }
 
 /// For each RRset the numbers of its good signatures.
-fn signed<'a>(
+fn good_numbers_of_each<'a>(
     alloc: Global,
     table: &Table,
     rrsets: &'a [Rrset],

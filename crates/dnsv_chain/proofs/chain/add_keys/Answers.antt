@@ -3,7 +3,7 @@ use Rattle.dnsv_names.specs.Name.{Labels, same_name}
 use Rattle.dnsv_verifier.proofs.KeyLemmas.{reads_as}
 use Rattle.dnsv_verifier.specs.Admissible.{DnskeyRecord}
 use Rattle.dnsv_chain.specs.ByOwner.{values_at}
-use Rattle.dnsv_chain.specs.Walk.{HasRdata}
+use Rattle.dnsv_chain.specs.Chain.{HasRdata}
 use Rattle.dnsv_chain.proofs.ChainLemmas.{place_within, all_places, key_stands, key_added, key_there, all_added}
 use Rattle.dnsv_chain.proofs.chain.add_keys.Goals as goal
 use Rattle.dnsv_chain.proofs.chain.add_keys.Goals.{then-not-has_rdata+in_ok-add, else-not-has_rdata}

@@ -1,5 +1,5 @@
 use Rattle.dnsv_chain.specs.ByOwner.{values_at}
-use Rattle.dnsv_chain.specs.Walk.{AddsKeysTo}
+use Rattle.dnsv_chain.specs.Chain.{AddsKeysTo}
 use Rattle.dnsv_chain.proofs.chain.add_keys.Given as goal
 
 abbrev pub invariant-loop-place : goal.invariant-loop-place

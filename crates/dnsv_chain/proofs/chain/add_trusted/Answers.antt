@@ -6,7 +6,7 @@ use Rattle.dnsv_verifier.specs.Admissible.{DnskeyRecord}
 use Rattle.dnsv_verifier.specs.Table.{table_answer}
 use Rattle.dnsv_chain.specs.ByOwner.{rrsets_at, values_at}
 use Rattle.dnsv_chain.specs.Trusted.{IsKeyOf}
-use Rattle.dnsv_chain.specs.Walk.{IsVouchedFor}
+use Rattle.dnsv_chain.specs.Chain.{IsVouchedFor}
 use Rattle.dnsv_chain.proofs.ChainLemmas.{trusted_added, trusted_skipped}
 use Rattle.dnsv_chain.proofs.chain.add_trusted.Goals as goal
 use Rattle.dnsv_chain.proofs.chain.add_trusted.Goals.{then-branch+in_ok-add_keys, else-branch}

@@ -6,7 +6,7 @@ use Rattle.dnsv_canonical.specs.Rrsets.{ReceivedRrset}
 use Rattle.dnsv_names.specs.Name.{Labels, SameName}
 use Rattle.dnsv_verifier.specs.Table.{table_answer}
 use Rattle.dnsv_chain.specs.ByOwner.{rrsets_at, values_at}
-use Rattle.dnsv_chain.specs.Walk.{AreSteps, IsInChain, IsStepOf}
+use Rattle.dnsv_chain.specs.Order.{AreSteps, IsInChain, IsStepOf}
 use Rattle.dnsv_chain.specs.declared.order.Step.{Step}
 use Rattle.dnsv_chain.proofs.ByOwnerLemmas.{values_same}
 use Rattle.dnsv_chain.proofs.WalkLemmas.{walked_delegation, walked_trusted, all_walked}

@@ -3,7 +3,7 @@ use Rattle.std.proofs.lemmas.Bool.{false≢true}
 use Rattle.dnsv_canonical.specs.Rrsets.{ReceivedRrset}
 use Rattle.dnsv_verifier.proofs.KeyLemmas.{reads_as}
 use Rattle.dnsv_verifier.specs.Admissible.{DnskeyRecord}
-use Rattle.dnsv_chain.specs.Walk.{AreVouchedTo}
+use Rattle.dnsv_chain.specs.Chain.{AreVouchedTo}
 use Rattle.dnsv_chain.proofs.ChainLemmas.{place_within, all_places, key_stands, vouched_more, vouched_skip, all_vouched}
 use Rattle.dnsv_chain.proofs.chain.vouched_keys.Goals as goal
 use Rattle.dnsv_chain.proofs.chain.vouched_keys.Goals.{then-is_vouched_for+in_ok-push, else-is_vouched_for}

@@ -1,5 +1,5 @@
 use Rattle.std.proofs.Common.{map}
-use Rattle.dnsv_chain.specs.Walk.{AreVouchedTo}
+use Rattle.dnsv_chain.specs.Chain.{AreVouchedTo}
 use Rattle.dnsv_chain.proofs.chain.vouched_keys.Given as goal
 
 abbrev pub invariant-loop-place : goal.invariant-loop-place

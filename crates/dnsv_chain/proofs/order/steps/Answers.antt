@@ -1,7 +1,7 @@
 use Rattle.std.proofs.Common.{List, ◌+◌, length, refl, sym, ap, ◌∙◌, subst}
 use Rattle.std.proofs.lemmas.Bool.{false≢true}
 use Rattle.dnsv_names.specs.Name.{Labels}
-use Rattle.dnsv_chain.specs.Walk.{AreStepsTo}
+use Rattle.dnsv_chain.specs.Order.{AreStepsTo}
 use Rattle.dnsv_chain.specs.declared.order.Step.{Step}
 use Rattle.dnsv_chain.proofs.StepLemmas.{step_more, step_skip, sorted_steps}
 use Rattle.dnsv_chain.proofs.order.steps.Goals as goal

@@ -1,4 +1,4 @@
-use Rattle.dnsv_chain.specs.Walk.{AreStepsTo}
+use Rattle.dnsv_chain.specs.Order.{AreStepsTo}
 use Rattle.dnsv_chain.proofs.order.steps.Given as goal
 
 abbrev pub invariant-loop-place : goal.invariant-loop-place

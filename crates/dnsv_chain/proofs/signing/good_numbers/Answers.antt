@@ -3,7 +3,7 @@ use Rattle.std.proofs.lemmas.Bool.{false≢true}
 use Rattle.dnsv_verifier.specs.Admissible.{DnskeyRecord}
 use Rattle.dnsv_verifier.specs.Table.{table_answer}
 use Rattle.dnsv_chain.specs.ByOwner.{values_at}
-use Rattle.dnsv_chain.specs.Walk.{AreGoodNumbersTo, IsGoodUnderSome}
+use Rattle.dnsv_chain.specs.Signing.{AreGoodNumbersTo, IsGoodUnderSome}
 use Rattle.dnsv_chain.proofs.SigningLemmas.{number_more, number_skip, all_numbers}
 use Rattle.dnsv_chain.proofs.signing.good_numbers.Goals as goal
 use Rattle.dnsv_chain.proofs.signing.good_numbers.Goals.{then-branch+in_ok-push, else-branch}

@@ -1,6 +1,6 @@
 use Rattle.dnsv_verifier.specs.Table.{table_answer}
 use Rattle.dnsv_chain.specs.ByOwner.{values_at}
-use Rattle.dnsv_chain.specs.Walk.{AreGoodNumbersTo}
+use Rattle.dnsv_chain.specs.Signing.{AreGoodNumbersTo}
 use Rattle.dnsv_chain.proofs.signing.good_numbers.Given as goal
 
 abbrev pub invariant-loop-place : goal.invariant-loop-place

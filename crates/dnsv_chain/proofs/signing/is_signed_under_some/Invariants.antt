@@ -1,7 +1,7 @@
 use Rattle.std.proofs.Common.{◌<◌, ℕ, get_or}
 use Rattle.dnsv_records.specs.declared.rrsig.Rrsig.{Rrsig}
 use Rattle.dnsv_verifier.specs.Table.{table_answer}
-use Rattle.dnsv_chain.specs.Walk.{IsGoodUnderSome}
+use Rattle.dnsv_chain.specs.Signing.{IsGoodUnderSome}
 use Rattle.dnsv_chain.proofs.signing.is_signed_under_some.Given as goal
 
 -- none of the signatures so far is good

@@ -5,9 +5,9 @@ use Rattle.std.specs.Map.Iter.{deref_pair}
 use Rattle.dnsv_names.specs.Name.{Labels}
 use Rattle.dnsv_records.specs.declared.dnskey.Dnskey.{Dnskey}
 use Rattle.dnsv_verifier.specs.Admissible.{DnskeyRecord}
-use Rattle.dnsv_chain.specs.Walk.{AreKeysOf, AreZonesBefore}
+use Rattle.dnsv_chain.specs.Kept.{AreKeysOf, AreZonesBefore}
 use Rattle.dnsv_chain.proofs.KeptLemmas.{zone_more}
-use Rattle.dnsv_chain.proofs.trust.zones.Goals as goal
+use Rattle.dnsv_chain.proofs.trust.keys_of_zones.Goals as goal
 
 pub loop-zone-preserved : goal.loop-zone-preserved
 loop-zone-preserved c =

@@ -3,9 +3,10 @@ use Rattle.std.proofs.lemmas.List.{map-append}
 use Rattle.dnsv_canonical.specs.Rrsets.{ReceivedRrset}
 use Rattle.dnsv_verifier.specs.Table.{table_answer}
 use Rattle.dnsv_chain.specs.ByOwner.{values_at}
-use Rattle.dnsv_chain.specs.Walk.{AreGoodNumbers, AreSigned}
+use Rattle.dnsv_chain.specs.Kept.{AreSigned}
+use Rattle.dnsv_chain.specs.Signing.{AreGoodNumbers}
 use Rattle.dnsv_chain.proofs.ZipLemmas.{zip_more}
-use Rattle.dnsv_chain.proofs.trust.signed.Goals as goal
+use Rattle.dnsv_chain.proofs.trust.good_numbers_of_each.Goals as goal
 
 pub loop-rrset-preserved : goal.loop-rrset-preserved
 loop-rrset-preserved c =

@@ -1,0 +1,130 @@
+-- How trust is worked out, a step at a time. No public clause cites this module.
+use Rattle.std.specs.Prelude.{◌≡◌, ◌<◌, ◌⊎◌, ℕ, List, Contains, length, slice_index_or}
+use Rattle.dnsv_names.specs.Name.{Labels, SameName}
+use Rattle.dnsv_canonical.specs.Rrsets.{ReceivedRrset}
+use Rattle.dnsv_verifier.specs.Admissible.{DnskeyRecord}
+use Rattle.dnsv_verifier.specs.declared.answer.Answer.{Answer}
+use Rattle.dnsv_verifier.specs.declared.entry.Entry.{Entry}
+use Rattle.dnsv_chain.specs.Anchor.{HasAnchorMatch}
+use Rattle.dnsv_chain.specs.Trusted.{IsKeyOf, IsSignedUnder, SignsItsSet, DelegatesTo, IsTrusted}
+use Rattle.dnsv_chain.specs.declared.anchor.Anchor.{Anchor}
+use Rattle.dnsv_chain.specs.declared.order.Step.{Step}
+use Rattle.dnsv_chain.specs.Order.{IsStepOf}
+use Rattle.dnsv_chain.specs.Signing.{IsGoodNumber}
+
+-- ---- DNSKEY RRsets
+
+-- one of the DS RRsets matches the key
+pub record IsDelegatedBySome (delegations : List ReceivedRrset) (key : DnskeyRecord) : Type 0 where
+  pub ds : ReceivedRrset
+  pub among : Contains delegations ds
+  pub delegates : DelegatesTo ds key
+
+-- an anchor or one of the DS RRsets matches the key
+abbrev pub IsVouchedFor : List Anchor → List ReceivedRrset → DnskeyRecord → Type 0
+IsVouchedFor anchors delegations key = HasAnchorMatch anchors key ⊎ IsDelegatedBySome delegations key
+
+-- just the keys among the first so many of the set that are vouched for
+pub record AreVouchedTo
+    (anchors : List Anchor) (delegations : List ReceivedRrset) (set : ReceivedRrset) (count : ℕ)
+    (keys : List DnskeyRecord) : Type 0 where
+  pub each : (key : DnskeyRecord) → Contains keys key → IsKeyOf set key × IsVouchedFor anchors delegations key
+  pub every : (place : ℕ) (key : DnskeyRecord) → place < count → place < length set.rdata
+      → slice_index_or set.rdata place key.rdata ≡ key.rdata → IsKeyOf set key
+      → IsVouchedFor anchors delegations key → Contains keys key
+
+-- a key of the set signs it, and an anchor or one of the DS RRsets matches the key
+pub record IsSignedByVouched
+    (meaning : Entry → Answer) (moment : ℕ) (anchors : List Anchor) (delegations : List ReceivedRrset)
+    (set : ReceivedRrset) : Type 0 where
+  pub key : DnskeyRecord
+  pub signs : SignsItsSet meaning moment set key
+  pub vouched : IsVouchedFor anchors delegations key
+
+-- one of the keys has the RDATA
+abbrev pub HasRdata : List DnskeyRecord → List ℕ → Type 0
+HasRdata keys rdata = (key : DnskeyRecord) × Contains keys key × (key.rdata ≡ rdata)
+
+-- each RDATA of the set is that of one of the keys
+abbrev pub HasKeys : ReceivedRrset → List DnskeyRecord → Type 0
+HasKeys set keys = (rdata : List ℕ) → Contains set.rdata rdata → HasRdata keys rdata
+
+-- the key is one of a trusted set at the zone
+pub record IsKeyOfTrusted
+    (meaning : Entry → Answer) (moment : ℕ) (rrsets : List ReceivedRrset) (anchors : List Anchor)
+    (zone : Labels) (key : DnskeyRecord) : Type 0 where
+  pub set : ReceivedRrset
+  pub trusted : IsTrusted meaning moment rrsets anchors set
+  pub owner : SameName set.owner zone
+  pub stands : IsKeyOf set key
+
+-- the DS RRset of the evidence has a signature that is good under a key of a trusted set
+pub record IsDelegation
+    (meaning : Entry → Answer) (moment : ℕ) (rrsets : List ReceivedRrset) (anchors : List Anchor)
+    (ds : ReceivedRrset) : Type 0 where
+  pub among : Contains rrsets ds
+  pub parent : ReceivedRrset
+  pub trusted : IsTrusted meaning moment rrsets anchors parent
+  pub above : DnskeyRecord
+  pub stands : IsKeyOf parent above
+  pub signed : IsSignedUnder meaning moment ds above
+
+-- ---- the walk
+
+-- Each RDATA of the set is there for its owner besides what was, and nothing else came.
+pub record AddsKeys (set : ReceivedRrset) (old new : Labels → List DnskeyRecord) : Type 0 where
+  pub cases : (zone : Labels) (key : DnskeyRecord) → Contains (new zone) key
+      → Contains (old zone) key ⊎ (SameName set.owner zone × IsKeyOf set key)
+  pub kept : (zone : Labels) (key : DnskeyRecord) → Contains (old zone) key → Contains (new zone) key
+  pub all : HasKeys set (new set.owner)
+
+-- the same of the first so many RDATA
+pub record AddsKeysTo (set : ReceivedRrset) (count : ℕ) (old new : Labels → List DnskeyRecord) : Type 0 where
+  pub cases : (zone : Labels) (key : DnskeyRecord) → Contains (new zone) key
+      → Contains (old zone) key ⊎ (SameName set.owner zone × IsKeyOf set key)
+  pub kept : (zone : Labels) (key : DnskeyRecord) → Contains (old zone) key → Contains (new zone) key
+  pub all : (place : ℕ) (rdata : List ℕ) → place < count → place < length set.rdata
+      → slice_index_or set.rdata place rdata ≡ rdata → HasRdata (new set.owner) rdata
+
+-- the keys of the set are added where a key that is vouched for signs it
+pub record AddsTrusted
+    (meaning : Entry → Answer) (moment : ℕ) (anchors : List Anchor) (delegations : Labels → List ReceivedRrset)
+    (set : ReceivedRrset) (old new : Labels → List DnskeyRecord) : Type 0 where
+  pub signed : IsSignedByVouched meaning moment anchors (delegations set.owner) set → AddsKeys set old new
+  pub kept : (zone : Labels) (key : DnskeyRecord) → Contains (old zone) key → Contains (new zone) key
+  pub cases : (zone : Labels) (key : DnskeyRecord) → Contains (new zone) key
+      → Contains (old zone) key
+      ⊎ (IsSignedByVouched meaning moment anchors (delegations set.owner) set × SameName set.owner zone
+      × IsKeyOf set key)
+
+-- the DS RRset is added where a signature of it is good under a key of its signer
+pub record AddsDelegation
+    (meaning : Entry → Answer) (moment : ℕ) (keys : Labels → List DnskeyRecord) (ds : ReceivedRrset)
+    (old new : Labels → List ReceivedRrset) : Type 0 where
+  pub good : (s : ℕ) → IsGoodNumber meaning moment ds keys s → Contains (new ds.owner) ds
+  pub kept : (zone : Labels) (each : ReceivedRrset) → Contains (old zone) each → Contains (new zone) each
+  pub cases : (zone : Labels) (each : ReceivedRrset) → Contains (new zone) each
+      → Contains (old zone) each ⊎ ((each ≡ ds) × ((s : ℕ) × IsGoodNumber meaning moment ds keys s))
+
+-- what is kept by owner has the keys of the trusted sets and the DS RRsets with a good signature, those of the steps
+-- that are done all
+pub record IsWalked
+    (meaning : Entry → Answer) (moment : ℕ) (rrsets : List ReceivedRrset) (anchors : List Anchor) (done : List Step)
+    (keys : Labels → List DnskeyRecord) (delegations : Labels → List ReceivedRrset) : Type 0 where
+  pub keys_are : (zone : Labels) (key : DnskeyRecord) → Contains (keys zone) key
+      → IsKeyOfTrusted meaning moment rrsets anchors zone key
+  pub keys_all : (step : Step) (set : ReceivedRrset) → Contains done step → IsStepOf rrsets step set
+      → IsTrusted meaning moment rrsets anchors set → HasKeys set (keys set.owner)
+  pub delegations_are : (zone : Labels) (ds : ReceivedRrset) → Contains (delegations zone) ds
+      → IsDelegation meaning moment rrsets anchors ds
+  pub delegations_all : (step : Step) (ds : ReceivedRrset) → Contains done step → IsStepOf rrsets step ds
+      → ds.rtype ≡ 43 → IsDelegation meaning moment rrsets anchors ds → Contains (delegations ds.owner) ds
+
+-- the keys of trusted sets, all of them
+pub record AreKeysByOwner
+    (meaning : Entry → Answer) (moment : ℕ) (rrsets : List ReceivedRrset) (anchors : List Anchor)
+    (keys : Labels → List DnskeyRecord) : Type 0 where
+  pub are : (zone : Labels) (key : DnskeyRecord) → Contains (keys zone) key
+      → IsKeyOfTrusted meaning moment rrsets anchors zone key
+  pub all : (set : ReceivedRrset) → IsTrusted meaning moment rrsets anchors set → HasKeys set (keys set.owner)
+  pub same : (a b : Labels) → SameName a b → keys a ≡ keys b
