@@ -9,10 +9,10 @@ use std::marker::Model;
 /// An entry whose parts lie elsewhere. Entries, however they keep their parts, are ordered by this one.
 #[derive(Drop)]
 pub(crate) struct BorrowedEntry<'a> {
-    pub(crate) algorithm: Algorithm,
-    pub(crate) key: &'a [u8],
-    pub(crate) signed_data: &'a [u8],
-    pub(crate) signature: &'a [u8],
+    algorithm: Algorithm,
+    key: &'a [u8],
+    signed_data: &'a [u8],
+    signature: &'a [u8],
 }
 
 impl<'a> Model for BorrowedEntry<'a> {
@@ -29,6 +29,28 @@ impl<'a> Model for BorrowedEntry<'a> {
 }
 
 impl<'a> BorrowedEntry<'a> {
+    /// The entry of these four values.
+    pub(crate) fn of(
+        algorithm: Algorithm,
+        key: &'a [u8],
+        signed_data: &'a [u8],
+        signature: &'a [u8],
+    ) -> BorrowedEntry<'a>
+        ensures { result ≡ record {
+          algorithm = algorithm;
+          key = key.now;
+          signed_data = signed_data.now;
+          signature = signature.now;
+        } }
+    {
+        BorrowedEntry {
+            algorithm,
+            key,
+            signed_data,
+            signature,
+        }
+    }
+
     /// How this entry stands to the other: by algorithm, key, signed data and signature.
     pub(crate) fn stands_to(&self, other: &BorrowedEntry<'_>) -> Ordering
         ensures { result ≡ entry_cmp self.now other.now }

@@ -28,12 +28,12 @@ impl Entry {
     pub(crate) fn borrowed(&self) -> BorrowedEntry<'_>
         ensures { result ≡ self.now }
     {
-        BorrowedEntry {
-            algorithm: self.algorithm,
-            key: self.key.as_slice(),
-            signed_data: self.signed_data.as_slice(),
-            signature: self.signature.as_slice(),
-        }
+        BorrowedEntry::of(
+            self.algorithm,
+            self.key.as_slice(),
+            self.signed_data.as_slice(),
+            self.signature.as_slice(),
+        )
     }
 }
 

@@ -94,12 +94,12 @@ impl SharedEntry {
     pub(crate) fn borrowed(&self) -> BorrowedEntry<'_>
         ensures { result ≡ self.now }
     {
-        BorrowedEntry {
-            algorithm: self.part.algorithm,
-            key: self.key.as_slice(),
-            signed_data: self.part.signed_data.as_slice(),
-            signature: self.part.signature.as_slice(),
-        }
+        BorrowedEntry::of(
+            self.part.algorithm,
+            self.key.as_slice(),
+            self.part.signed_data.as_slice(),
+            self.part.signature.as_slice(),
+        )
     }
 }
 

@@ -130,12 +130,7 @@ impl Verifier for Statements {
         signed_data: &[u8],
         signature: &[u8],
     ) -> Answer {
-        let asked = BorrowedEntry {
-            algorithm,
-            key,
-            signed_data,
-            signature,
-        };
+        let asked = BorrowedEntry::of(algorithm, key, signed_data, signature);
         let place = self
             .listed
             .binary_search_by(|(entry, _)| entry.borrowed().stands_to(&asked));

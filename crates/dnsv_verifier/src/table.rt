@@ -97,12 +97,7 @@ impl Verifier for Table {
         signed_data: &[u8],
         signature: &[u8],
     ) -> Answer {
-        let asked = BorrowedEntry {
-            algorithm,
-            key,
-            signed_data,
-            signature,
-        };
+        let asked = BorrowedEntry::of(algorithm, key, signed_data, signature);
         let place = self
             .answers
             .binary_search_by(|(entry, _)| entry.borrowed().stands_to(&asked));
