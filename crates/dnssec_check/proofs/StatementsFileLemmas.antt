@@ -35,7 +35,7 @@ one_answer said entry Unknown Unknown agree x y = refl
 pub one_meaning : (text : List ℕ) (a b : Entry → Answer) → IsMeaningOf text a → IsMeaningOf text b → a ≡ b
 one_meaning text a b x y =
     let same = AreStatementsOf-only text y.statements x.statements y.are x.are in
-    λ i entry. one_answer x.statements entry (a entry) (b entry) x.are.agree (x.says entry) (subst (λ said. IsSaid said entry (b entry)) same (y.says entry)) i
+    λ i entry. one_answer x.statements entry (a entry) (b entry) x.are.may_stand (x.says entry) (subst (λ said. IsSaid said entry (b entry)) same (y.says entry)) i
 
 -- ---- faults
 
