@@ -7,20 +7,21 @@ use Rattle.std.specs.List.{AllByRecursion}
 use Rattle.std.specs.List.Sorted.{IsStrictlySortedBy}
 use Rattle.std.specs.declared.cmp.Ordering.TheVariants.{Less, Greater}
 use Rattle.dnsv_names.specs.Name.{Labels, SameName}
+use Rattle.dnsv_zones.specs.Any.{Any}
+use Rattle.dnsv_zones.specs.forms.Nsec.{IsAbsentBy, IsInnerBy, IsNodeBy}
+use Rattle.dnsv_zones.specs.forms.Nsec3.{Covers, Matches}
+use Rattle.dnsv_zones.specs.chains.NsecChain.{NsecRecord, IsInBitmap}
+use Rattle.dnsv_zones.specs.chains.Nsec3Chain.{Nsec3Record, NameHash}
+use Rattle.dnsv_zones.specs.chains.Rdata.{parameters_of}
+use Rattle.dnsv_zones.specs.zones.Types.{IsClosed}
 use Rattle.dnsv_canonical.specs.Rrsets.{ReceivedRrset}
-use Rattle.dnsv_denial.specs.Any.{Any}
 use Rattle.dnsv_denial.specs.AskedHash.{hash_of}
 use Rattle.dnsv_denial.specs.ChainSaid.{chain_said}
 use Rattle.dnsv_denial.specs.Evidence.{IsNsecAt, IsNsec3At}
 use Rattle.dnsv_denial.specs.EvidenceWords.{number_cmp, nsec_said, nsec3_said}
 use Rattle.dnsv_denial.specs.Gathered.{AreAll, AreNsecsOf, AreNsec3sOf}
-use Rattle.dnsv_denial.specs.Nsec.{IsAbsentBy, IsInnerBy, IsNodeBy}
-use Rattle.dnsv_denial.specs.Nsec3.{Covers, Matches}
-use Rattle.dnsv_denial.specs.NsecChain.{NsecRecord, IsInBitmap}
-use Rattle.dnsv_denial.specs.Nsec3Chain.{Nsec3Record, NameHash}
-use Rattle.dnsv_denial.specs.Record.{read_entry, read_nsec3, parameters_of}
+use Rattle.dnsv_denial.specs.Record.{read_entry, read_nsec3}
 use Rattle.dnsv_denial.specs.SaidAt.{IsSaidAt}
-use Rattle.dnsv_denial.specs.Types.{IsClosed}
 use Rattle.dnsv_denial.specs.declared.entry.NsecEntry.{NsecEntry}
 use Rattle.dnsv_denial.specs.declared.entry.Nsec3Entry.{Nsec3Entry}
 use Rattle.dnsv_denial.specs.declared.hashes.Nsec3Records.{Nsec3Records}

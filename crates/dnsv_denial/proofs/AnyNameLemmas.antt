@@ -3,16 +3,16 @@ use Rattle.std.proofs.Common.{◌≡◌, ◌≢◌, ℕ, ◌+◌, ◌<◌, Bool,
 use Rattle.std.specs.Prelude.{IsTrue, is_some}
 use Rattle.dnsv_names.specs.Name.{Labels, SameName, rightmost}
 use Rattle.dnsv_names.specs.Tree.{wildcard_of}
+use Rattle.dnsv_zones.specs.chains.NsecChain.{IsInBitmap}
+use Rattle.dnsv_zones.specs.forms.Nsec3.{Matches, Covers}
+use Rattle.dnsv_zones.specs.forms.RecordWords.{words}
+use Rattle.dnsv_zones.specs.zones.Types.{Denies, IsUnsignedDelegation}
 use Rattle.dnsv_denial.specs.AskedHash.{hash_of}
 use Rattle.dnsv_denial.specs.ChainSaid.{chain_said}
 use Rattle.dnsv_denial.specs.Denials.{DenialForm}
-use Rattle.dnsv_denial.specs.NsecChain.{IsInBitmap}
-use Rattle.dnsv_denial.specs.Nsec3.{Matches, Covers}
 use Rattle.dnsv_denial.specs.Numbers.{record_count}
 use Rattle.dnsv_denial.specs.Record.{read_entry, read_nsec3, flags_of}
-use Rattle.dnsv_denial.specs.RecordWords.{words}
 use Rattle.dnsv_denial.specs.SaidAt.{IsSaidAt, IsFirstPlace}
-use Rattle.dnsv_denial.specs.Types.{Denies, IsUnsignedDelegation}
 use Rattle.dnsv_denial.specs.declared.denial.Denial.{Denial}
 use Rattle.dnsv_denial.specs.declared.denial.Denial.TheVariants.{NoName, NoData, NoCloser}
 use Rattle.dnsv_denial.specs.declared.entry.Nsec3Entry.{Nsec3Entry}

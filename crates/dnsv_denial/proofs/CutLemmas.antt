@@ -4,14 +4,14 @@ use Rattle.std.proofs.lemmas.Bool.{cases_lt}
 use Rattle.dnsv_names.specs.Name.{Labels, SameName, IsAtOrBelow, rightmost}
 use Rattle.dnsv_names.specs.TreeLaws.{ancestors_in_line, at_or_below_length, at_or_below_trans, below_by_length, below_length}
 use Rattle.dnsv_names.specs.AncestorLaws.{rightmost_above, rightmost_length, rightmost_same}
+use Rattle.dnsv_zones.specs.forms.Forms.{UnsignedCutForm}
+use Rattle.dnsv_zones.specs.forms.Parts.{IsHighestCut}
+use Rattle.dnsv_zones.specs.forms.RecordWords.{RecordWords, words}
+use Rattle.dnsv_zones.specs.zones.Types.{IsUnsignedDelegation}
 use Rattle.dnsv_denial.specs.declared.records.ChainRecords.{ChainRecords}
 use Rattle.dnsv_denial.specs.declared.records.ChainRecords.TheVariants.{Nsec, Nsec3}
 use Rattle.dnsv_denial.specs.AskedHash.{hash_of}
 use Rattle.dnsv_denial.specs.ChainSaid.{chain_said}
-use Rattle.dnsv_denial.specs.Forms.{UnsignedCutForm}
-use Rattle.dnsv_denial.specs.Parts.{IsHighestCut}
-use Rattle.dnsv_denial.specs.RecordWords.{RecordWords, words}
-use Rattle.dnsv_denial.specs.Types.{IsUnsignedDelegation}
 
 -- no record shows the name's so many labels to be a delegation without DS
 abbrev pub NoCut : RecordWords ℕ → Labels → ℕ → Type 0

@@ -4,6 +4,18 @@ use Rattle.dnsv_names.specs.AncestorLaws.{rightmost_above}
 use Rattle.dnsv_names.specs.Name.{Labels, IsAtOrBelow, rightmost}
 use Rattle.dnsv_names.specs.Order.{IsBelow}
 use Rattle.dnsv_names.specs.Tree.{wildcard_of}
+use Rattle.dnsv_zones.specs.chains.HashedNames.{sha1_hash}
+use Rattle.dnsv_zones.specs.forms.Nsec.{nsec_words}
+use Rattle.dnsv_zones.specs.chains.NsecChain.{IsInBitmap}
+use Rattle.dnsv_zones.specs.forms.Nsec3.{Matches, Covers, nsec3_words}
+use Rattle.dnsv_zones.specs.chains.Nsec3Chain.{Parameters, IsUnsignedEnd}
+use Rattle.dnsv_zones.specs.chains.Nsec3Chain.IsAsked.{itself as asked_above}
+use Rattle.dnsv_zones.specs.zones.Types.{IsClosed, IsUnsignedDelegation}
+use Rattle.dnsv_zones.specs.zones.Zone.{Zone, Holds, IsNode, IsClosedAt}
+use Rattle.dnsv_zones.proofs.AnyLemmas.{any_map}
+use Rattle.dnsv_zones.proofs.meaning.MeaningLemmas.{unsigned_cut}
+use Rattle.dnsv_zones.proofs.meaning.NsecTruth.{nsec_true, absent as absent_by_nsec}
+use Rattle.dnsv_zones.proofs.meaning.Nsec3Truth.{nsec3_true, open_node, absent as absent_by_nsec3, covered_end}
 use Rattle.dnsv_canonical.specs.Rrsets.{ReceivedRrset}
 use Rattle.dnsv_denial.specs.CutMeaning.{HasRecord, HasRecordWithoutCollision, IsCover, IsCoveredEnd, IsShownEncloser, IsShownUnsigned, MayLeaveOut, MeansCut}
 use Rattle.dnsv_denial.specs.CutMeaning.MeansCut.{no_ds as means_no_ds_cut, no_usable_ds as means_no_usable_ds, opt_out as means_by_opt_out}
@@ -11,21 +23,9 @@ use Rattle.dnsv_denial.specs.Cuts.IsUnsignedCut.{no_ds, no_usable_ds, opt_out}
 use Rattle.dnsv_denial.specs.Cuts.{HasLooseCloser, IsOptOutCut, IsUnsignedCut, IsUnsignedDelegationCut}
 use Rattle.dnsv_denial.specs.EvidenceWords.{Chain, evidence_said, nsec3_said}
 use Rattle.dnsv_denial.specs.EvidenceWords.Chain.{ByNsec, ByNsec3}
-use Rattle.dnsv_denial.specs.HashedNames.{sha1_hash}
-use Rattle.dnsv_denial.specs.Nsec.{nsec_words}
-use Rattle.dnsv_denial.specs.NsecChain.{IsInBitmap}
-use Rattle.dnsv_denial.specs.Nsec3.{Matches, Covers, nsec3_words}
-use Rattle.dnsv_denial.specs.Nsec3Chain.{Parameters, IsUnsignedEnd}
-use Rattle.dnsv_denial.specs.Nsec3Chain.IsAsked.{itself as asked_above}
 use Rattle.dnsv_denial.specs.ProofMeaning.{IsWithoutCollision}
 use Rattle.dnsv_denial.specs.ProofMeaning.HasProofRecords.{by_nsec, by_nsec3}
-use Rattle.dnsv_denial.specs.Types.{IsClosed, IsUnsignedDelegation}
-use Rattle.dnsv_denial.specs.Zone.{Zone, Holds, IsNode, IsClosedAt}
 use Rattle.dnsv_denial.specs.declared.number.RecordNumber.{RecordNumber}
-use Rattle.dnsv_denial.proofs.AnyLemmas.{any_map}
-use Rattle.dnsv_denial.proofs.MeaningLemmas.{unsigned_cut}
-use Rattle.dnsv_denial.proofs.NsecTruth.{nsec_true, absent as absent_by_nsec}
-use Rattle.dnsv_denial.proofs.Nsec3Truth.{nsec3_true, open_node, absent as absent_by_nsec3, covered_end}
 use Rattle.dnsv_denial.proofs.ProofMeaningLemmas.{no_nsec3, nsec_say, nsec_no_nsec3, nsec3_no_nsec, nsec3_say, said_with, with_parameters}
 
 module _ (Secured : ℕ → ℕ → Type 0) (rrsets : List ReceivedRrset) (name apex : Labels) (n : RecordNumber) (zone : Zone) where

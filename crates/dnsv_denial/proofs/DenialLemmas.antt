@@ -7,20 +7,20 @@ use Rattle.std.specs.declared.cmp.Ordering.{Ordering}
 use Rattle.dnsv_names.specs.Name.{Labels, rightmost}
 use Rattle.dnsv_names.specs.Tree.{wildcard_of}
 use Rattle.dnsv_records.specs.OctetLaws.{recursion-append}
+use Rattle.dnsv_zones.specs.forms.Forms.{Words, EndsAt}
+use Rattle.dnsv_zones.specs.forms.Parts.{IsLowest, IsEncloserPart, AreEndParts, AreWildcardParts, AreNoDataParts}
+use Rattle.dnsv_zones.specs.forms.Parts.IsEncloserPart.{no_record, a_record}
+use Rattle.dnsv_zones.specs.forms.Parts.AreNoDataParts.{at_name, empty, at_wildcard, empty_wildcard}
+use Rattle.dnsv_zones.specs.forms.RecordWords.{RecordWords, words}
+use Rattle.dnsv_zones.specs.zones.Types.{Denies}
+use Rattle.dnsv_zones.proofs.chains.MoreLemmas.{no_name_more, no_data_more, no_closer_more}
 use Rattle.dnsv_denial.specs.Denials.{AreParts, DenialForm}
 use Rattle.dnsv_denial.specs.EvidenceWords.{number_cmp}
-use Rattle.dnsv_denial.specs.Forms.{Words, EndsAt}
 use Rattle.dnsv_denial.specs.Numbers.{number_at}
-use Rattle.dnsv_denial.specs.Parts.{IsLowest, IsEncloserPart, AreEndParts, AreWildcardParts, AreNoDataParts}
-use Rattle.dnsv_denial.specs.Parts.IsEncloserPart.{no_record, a_record}
-use Rattle.dnsv_denial.specs.Parts.AreNoDataParts.{at_name, empty, at_wildcard, empty_wildcard}
-use Rattle.dnsv_denial.specs.RecordWords.{RecordWords, words}
-use Rattle.dnsv_denial.specs.Types.{Denies}
 use Rattle.dnsv_denial.specs.declared.denial.Denial.{Denial}
 use Rattle.dnsv_denial.specs.declared.denial.Denial.TheVariants.{NoName, NoData, NoCloser}
 use Rattle.dnsv_denial.specs.declared.number.RecordNumber.{RecordNumber}
 use Rattle.dnsv_denial.proofs.IndexLemmas.{AreInOrder, SaysAlike, SayAlike, words_from, no_name_parts, no_data_parts, no_closer_part}
-use Rattle.dnsv_denial.proofs.MoreLemmas.{no_name_more, no_data_more, no_closer_more}
 
 -- ---- the parts carry the form
 

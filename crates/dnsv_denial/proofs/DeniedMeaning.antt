@@ -2,17 +2,17 @@
 use Rattle.std.proofs.Common.{◌+◌, ℕ, List}
 use Rattle.dnsv_names.specs.Name.{Labels, SameName, rightmost}
 use Rattle.dnsv_names.specs.Tree.{wildcard_of}
+use Rattle.dnsv_zones.specs.forms.Forms.{IsAbove, Words}
+use Rattle.dnsv_zones.specs.zones.Lookup.{IsLookup}
+use Rattle.dnsv_zones.specs.zones.Lookup.Answer.{Held}
+use Rattle.dnsv_zones.specs.zones.Zone.{Zone, Holds, IsNode, IsWellFormed}
+use Rattle.dnsv_zones.proofs.meaning.MeaningLemmas.{held_at_wildcard}
 use Rattle.dnsv_canonical.specs.Rrsets.{ReceivedRrset}
 use Rattle.dnsv_denial.specs.CutMeaning.{HasRecord}
 use Rattle.dnsv_denial.specs.EvidenceWords.{Chain, evidence_said}
-use Rattle.dnsv_denial.specs.Forms.{IsAbove, Words}
-use Rattle.dnsv_denial.specs.Lookup.{IsLookup}
-use Rattle.dnsv_denial.specs.Lookup.Answer.{Held}
 use Rattle.dnsv_denial.specs.ProofMeaning.HasProofRecords.{by_nsec, by_nsec3}
-use Rattle.dnsv_denial.specs.Zone.{Zone, Holds, IsNode, IsWellFormed}
 use Rattle.dnsv_denial.specs.declared.number.RecordNumber.{RecordNumber}
 use Rattle.dnsv_denial.proofs.CutMeaningLemmas.{absent_end}
-use Rattle.dnsv_denial.proofs.MeaningLemmas.{held_at_wildcard}
 
 -- what is so of the zone's nodes
 abbrev absence_in : Zone → Words

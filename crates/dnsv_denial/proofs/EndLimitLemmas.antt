@@ -12,10 +12,10 @@ use Rattle.dnsv_names.specs.CircleLaws.{gap_cases, gap_without_owner}
 use Rattle.dnsv_names.specs.NameCircleLaws.{same_gap, next_at_or_below}
 use Rattle.dnsv_names.specs.TreeLaws.{at_or_below_cases, at_or_below_trans, either_above, same_labels}
 use Rattle.dnsv_names.specs.AncestorLaws.{rightmost_in_line, rightmost_length}
+use Rattle.dnsv_zones.specs.forms.Forms.{IsAbove}
+use Rattle.dnsv_zones.specs.forms.Nsec.{Covers, IsAbsentBy, IsFair, IsNodeBy}
+use Rattle.dnsv_zones.specs.chains.NsecChain.{NsecRecord}
 use Rattle.dnsv_denial.specs.EndLimits.{DeniesNoFewer, HoldsOfFirst, ShowsNoMore}
-use Rattle.dnsv_denial.specs.Forms.{IsAbove}
-use Rattle.dnsv_denial.specs.Nsec.{Covers, IsAbsentBy, IsFair, IsNodeBy}
-use Rattle.dnsv_denial.specs.NsecChain.{NsecRecord}
 use Rattle.dnsv_denial.specs.Record.{read_entry}
 use Rattle.dnsv_denial.specs.SaidAt.{IsSaidAt}
 use Rattle.dnsv_denial.specs.declared.entry.NsecEntry.{NsecEntry}

@@ -12,19 +12,19 @@ use Rattle.std.specs.declared.cmp.Ordering.TheVariants.{Less, Equal, Greater}
 use Rattle.dnsv_records.specs.Nsec.{IsNsec}
 use Rattle.dnsv_records.specs.OctetLaws.{recursion-append}
 use Rattle.dnsv_records.proofs.OneRecord.{one_nsec}
+use Rattle.dnsv_zones.specs.Any.{Any}
+use Rattle.dnsv_zones.specs.chains.NsecChain.{NsecRecord}
+use Rattle.dnsv_zones.specs.chains.Rdata.{nsec_record}
+use Rattle.dnsv_zones.proofs.AnyLemmas.{any_map}
 use Rattle.dnsv_canonical.specs.Canonical.{IsCanonical}
 use Rattle.dnsv_canonical.specs.CanonicalRdata.{canonical_form}
 use Rattle.dnsv_canonical.specs.Rrsets.{ReceivedRrset}
 use Rattle.dnsv_canonical.proofs.CanonicalLemmas.{canonical_unique}
 use Rattle.dnsv_chain.specs.Trusted.{IsNumbered}
-use Rattle.dnsv_denial.specs.Any.{Any}
 use Rattle.dnsv_denial.specs.Evidence.{IsRecordAt, IsNsecOf}
 use Rattle.dnsv_denial.specs.EvidenceWords.{number_cmp}
 use Rattle.dnsv_denial.specs.Gathered.{AreAll}
-use Rattle.dnsv_denial.specs.NsecChain.{NsecRecord}
-use Rattle.dnsv_denial.specs.Record.{nsec_record}
 use Rattle.dnsv_denial.specs.declared.number.RecordNumber.{RecordNumber}
-use Rattle.dnsv_denial.proofs.AnyLemmas.{any_map}
 use Rattle.dnsv_denial.proofs.GatherLemmas.{each_kept}
 
 -- ---- at most one record has a number

@@ -7,7 +7,7 @@ use Rattle.std.specs.Prelude.{Bool, IfSome, IsTrue, MatchOption, Some, is_some, 
 use Rattle.std.proofs.lemmas.Option.{slice_get_within}
 use Rattle.std.specs.Ordering.{nat_cmp}
 use Rattle.std.specs.declared.cmp.Ordering.TheVariants.{Less}
-use Rattle.dnsv_denial.specs.Parts.{IsLowest}
+use Rattle.dnsv_zones.specs.forms.Parts.{IsLowest}
 use Rattle.dnsv_denial.specs.SaidAt.{IsSaidAt, IsFirstPlace}
 
 less : (k n : ℕ) → k < n + 1 → k ≢ n → k < n

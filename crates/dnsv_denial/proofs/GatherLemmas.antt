@@ -5,6 +5,7 @@ use Rattle.std.proofs.lemmas.List.{map-append}
 use Rattle.std.proofs.lemmas.List.Elements.{Contains-get_or}
 use Rattle.std.proofs.lemmas.Option.{get_or_from_slice_get, slice_get_read}
 use Rattle.dnsv_records.specs.OctetLaws.{recursion-append}
+use Rattle.dnsv_zones.specs.Any.{Any}
 use Rattle.dnsv_canonical.specs.Canonical.{IsCanonical}
 use Rattle.dnsv_canonical.specs.Rdata.{rdata_of_type}
 use Rattle.std.specs.Prelude.{Contains, IsTrue, not, Some, None, slice_get}
@@ -16,7 +17,6 @@ use Rattle.dnsv_records.proofs.OneRecord.{one_rrsig}
 use Rattle.dnsv_canonical.specs.Rrsets.{ReceivedRrset}
 use Rattle.dnsv_canonical.specs.SignedData.{IsExpanded}
 use Rattle.dnsv_canonical.proofs.CanonicalLemmas.{IsMember, IsMember-from_contains, Contains-from_member, member_passes}
-use Rattle.dnsv_denial.specs.Any.{Any}
 use Rattle.dnsv_denial.specs.Evidence.{HasZoneSignature}
 
 pub each_member : {X : Type 0} (P : X → Type 0) (xs : List X) → ((x : X) → Contains xs x → P x) → AllByRecursion P xs

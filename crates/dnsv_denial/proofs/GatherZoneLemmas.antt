@@ -18,12 +18,12 @@ use Rattle.dnsv_names.specs.Name.{Labels, rightmost}
 use Rattle.dnsv_names.specs.Octets.{octets_cmp}
 use Rattle.dnsv_records.specs.OctetLaws.{recursion-append}
 use Rattle.dnsv_records.specs.declared.nsec3.Nsec3Parameters.{Nsec3Parameters}
+use Rattle.dnsv_zones.specs.chains.Nsec3Chain.{Parameters}
+use Rattle.dnsv_zones.specs.chains.Rdata.{parameters_of}
 use Rattle.dnsv_canonical.proofs.CanonicalLemmas.{each_map}
 use Rattle.dnsv_canonical.specs.Rrsets.{ReceivedRrset}
 use Rattle.dnsv_denial.specs.EvidenceWords.{parameters_cmp}
 use Rattle.dnsv_denial.specs.Kept.{IsSetOf, IsZoneOf}
-use Rattle.dnsv_denial.specs.Nsec3Chain.{Parameters}
-use Rattle.dnsv_denial.specs.Record.{parameters_of}
 use Rattle.dnsv_denial.specs.declared.zone_records.ParameterSet.{ParameterSet}
 use Rattle.dnsv_denial.specs.declared.zone_records.ZoneRecords.{ZoneRecords}
 use Rattle.dnsv_denial.proofs.ZoneProofLemmas.{parameters_total}

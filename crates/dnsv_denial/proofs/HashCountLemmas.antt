@@ -10,12 +10,12 @@ use Rattle.std.specs.declared.cmp.Ordering.TheVariants.{Less}
 use Rattle.dnsv_names.specs.Count.{count_limit, counted}
 use Rattle.dnsv_names.specs.Name.{Labels}
 use Rattle.dnsv_records.specs.declared.nsec3.Nsec3Parameters.{Nsec3Parameters}
+use Rattle.dnsv_zones.specs.chains.HashedNames.{hashes_for}
+use Rattle.dnsv_zones.specs.chains.Nsec3Chain.{Parameters}
+use Rattle.dnsv_zones.specs.chains.Rdata.{parameters_of}
 use Rattle.dnsv_canonical.proofs.CanonicalLemmas.{IsMember, IsMember-from_contains, Contains-from_member}
 use Rattle.dnsv_canonical.specs.Evidence.{AreParameters, AreParametersAmong, IsDistinct}
 use Rattle.dnsv_denial.specs.EvidenceWords.{parameters_cmp}
-use Rattle.dnsv_denial.specs.HashedNames.{hashes_for}
-use Rattle.dnsv_denial.specs.Nsec3Chain.{Parameters}
-use Rattle.dnsv_denial.specs.Record.{parameters_of}
 use Rattle.dnsv_denial.specs.declared.zone_records.ParameterSet.{ParameterSet}
 use Rattle.dnsv_denial.proofs.ZoneProofLemmas.{parameters_total}
 

@@ -1,7 +1,7 @@
 -- An index of NSEC3 records by hash leaves out none that can speak of a hash.
+use Rattle.dnsv_zones.specs.chains.Nsec3Chain.{Parameters}
 use Rattle.dnsv_denial.specs.HashIndex.{IsListed, AreWithin, IsIndexOf}
 use Rattle.dnsv_denial.specs.HashWords.{HasHash, CoversHash}
-use Rattle.dnsv_denial.specs.Nsec3Chain.{Parameters}
 use Rattle.dnsv_denial.specs.Record.{read_nsec3}
 use Rattle.dnsv_denial.specs.SaidAt.{IsSaidAt}
 use Rattle.dnsv_denial.specs.declared.entry.Nsec3Entry.{Nsec3Entry}

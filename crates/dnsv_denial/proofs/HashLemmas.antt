@@ -3,11 +3,11 @@ use Rattle.std.proofs.Common.{◌≡◌, ◌≢◌, ℕ, Bool, true, false, List
 use Rattle.dnsv_names.specs.Name.{Labels}
 use Rattle.dnsv_names.specs.Order.{label_cmp}
 use Rattle.dnsv_names.specs.Circle.{Gap}
+use Rattle.dnsv_zones.specs.chains.NsecChain.{IsInBitmap}
+use Rattle.dnsv_zones.specs.forms.Nsec3.{Matches, Covers}
+use Rattle.dnsv_zones.specs.chains.Nsec3Chain.{NameHash}
 use Rattle.dnsv_denial.specs.declared.entry.Nsec3Entry.{Nsec3Entry}
 use Rattle.dnsv_denial.specs.HashWords.{HasHash, CoversHash}
-use Rattle.dnsv_denial.specs.NsecChain.{IsInBitmap}
-use Rattle.dnsv_denial.specs.Nsec3.{Matches, Covers}
-use Rattle.dnsv_denial.specs.Nsec3Chain.{NameHash}
 use Rattle.dnsv_denial.specs.Record.{read_nsec3, flags_of}
 use Rattle.dnsv_denial.specs.SaidAt.{IsSaidAt, IsFirstPlace}
 use Rattle.dnsv_denial.proofs.FirstLemmas.{first_as}

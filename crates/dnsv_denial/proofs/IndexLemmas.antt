@@ -10,16 +10,16 @@ use Rattle.std.specs.declared.cmp.Ordering.{Ordering}
 use Rattle.std.specs.declared.cmp.Ordering.TheVariants.{Less, Equal, Greater}
 use Rattle.dnsv_names.specs.Name.{Labels, IsAtOrBelow, rightmost}
 use Rattle.dnsv_names.specs.Tree.{wildcard_of}
+use Rattle.dnsv_zones.specs.forms.Forms.{Words, EndsAt, NoNameForm, NoDataForm, EmptyForm, NoWildcardDataForm, EmptyWildcardForm, NoDataForms, NoCloserForm, UnsignedCutForm}
+use Rattle.dnsv_zones.specs.forms.Parts.{IsLowest, IsEncloserPart, AreEndParts, AreWildcardParts, AreNoNameParts, AreWildcardDataParts, AreEmptyWildcardParts, AreNoDataParts, IsNoCloserPart}
+use Rattle.dnsv_zones.specs.forms.Parts.IsEncloserPart.{no_record, a_record}
+use Rattle.dnsv_zones.specs.forms.Parts.AreNoDataParts.{at_name, empty, at_wildcard, empty_wildcard}
+use Rattle.dnsv_zones.specs.forms.RecordWords.{RecordWords, words}
+use Rattle.dnsv_zones.specs.zones.Types.{Denies}
+use Rattle.dnsv_zones.proofs.chains.MoreLemmas.{SayMore, no_name_more, no_data_more, no_closer_more, unsigned_cut_more}
 use Rattle.dnsv_denial.specs.EvidenceWords.{number_cmp}
-use Rattle.dnsv_denial.specs.Forms.{Words, EndsAt, NoNameForm, NoDataForm, EmptyForm, NoWildcardDataForm, EmptyWildcardForm, NoDataForms, NoCloserForm, UnsignedCutForm}
 use Rattle.dnsv_denial.specs.Numbers.{number_at}
-use Rattle.dnsv_denial.specs.Parts.{IsLowest, IsEncloserPart, AreEndParts, AreWildcardParts, AreNoNameParts, AreWildcardDataParts, AreEmptyWildcardParts, AreNoDataParts, IsNoCloserPart}
-use Rattle.dnsv_denial.specs.Parts.IsEncloserPart.{no_record, a_record}
-use Rattle.dnsv_denial.specs.Parts.AreNoDataParts.{at_name, empty, at_wildcard, empty_wildcard}
-use Rattle.dnsv_denial.specs.RecordWords.{RecordWords, words}
-use Rattle.dnsv_denial.specs.Types.{Denies}
 use Rattle.dnsv_denial.specs.declared.number.RecordNumber.{RecordNumber}
-use Rattle.dnsv_denial.proofs.MoreLemmas.{SayMore, no_name_more, no_data_more, no_closer_more, unsigned_cut_more}
 
 -- the places are those of the numbers
 pub record SaysAlike (numbers : List RecordNumber) (By : ℕ → Type 0) (Of : RecordNumber → Type 0) : Type 0 where

@@ -2,6 +2,20 @@
 use Rattle.std.proofs.Common.{◌≡◌, ◌≢◌, ℕ, ◌≤◌, List, length, refl, subst, inl, inr}
 use Rattle.std.specs.Prelude.{Option, Some, None, IsSome, MatchOption, ◌↔◌}
 use Rattle.dnsv_names.specs.Name.{Labels, rightmost}
+use Rattle.dnsv_zones.specs.forms.Forms.{Words, NoNameForm, NoDataForms}
+use Rattle.dnsv_zones.specs.chains.HashedNames.{sha1_hash}
+use Rattle.dnsv_zones.specs.zones.Lookup.{IsLookup}
+use Rattle.dnsv_zones.specs.zones.Lookup.Answer.{NoData, NoName}
+use Rattle.dnsv_zones.specs.forms.Nsec.{nsec_words}
+use Rattle.dnsv_zones.specs.forms.Nsec3.{nsec3_words}
+use Rattle.dnsv_zones.specs.chains.NsecChain.{NsecRecord}
+use Rattle.dnsv_zones.specs.chains.Nsec3Chain.{Nsec3Record, Parameters}
+use Rattle.dnsv_zones.specs.forms.RecordWords.{RecordWords, words}
+use Rattle.dnsv_zones.specs.zones.TypeNumbers.{rrsig, nsec}
+use Rattle.dnsv_zones.specs.zones.Zone.{Zone}
+use Rattle.dnsv_zones.proofs.chains.MoreLemmas.{no_name_more, no_data_more}
+use Rattle.dnsv_zones.proofs.completeness.NsecComplete as by_nsec_records
+use Rattle.dnsv_zones.proofs.completeness.Nsec3Complete as by_nsec3_records
 use Rattle.dnsv_canonical.specs.Rrsets.{ReceivedRrset}
 use Rattle.dnsv_canonical.proofs.CanonicalLemmas.{IsMember, IsMember-from_contains}
 use Rattle.dnsv_denial.specs.Cuts.{HasUnsignedCut, IsUnsignedCut}
@@ -10,24 +24,10 @@ use Rattle.dnsv_denial.specs.Evidence.{IsNsecAt, IsNsec3At}
 use Rattle.dnsv_denial.specs.EvidenceWords.{Chain, nsec_said, nsec3_said}
 use Rattle.dnsv_denial.specs.EvidenceWords.Chain.{ByNsec, ByNsec3}
 use Rattle.dnsv_denial.specs.FirstProof.{CanBeProved, CanProveNoData, CanProveNoName, IsFirstProof, ProofRecords, StandsBy}
-use Rattle.dnsv_denial.specs.Forms.{Words, NoNameForm, NoDataForms}
-use Rattle.dnsv_denial.specs.HashedNames.{sha1_hash}
-use Rattle.dnsv_denial.specs.Lookup.{IsLookup}
-use Rattle.dnsv_denial.specs.Lookup.Answer.{NoData, NoName}
-use Rattle.dnsv_denial.specs.Nsec.{nsec_words}
-use Rattle.dnsv_denial.specs.Nsec3.{nsec3_words}
-use Rattle.dnsv_denial.specs.NsecChain.{NsecRecord}
-use Rattle.dnsv_denial.specs.Nsec3Chain.{Nsec3Record, Parameters}
-use Rattle.dnsv_denial.specs.RecordWords.{RecordWords, words}
-use Rattle.dnsv_denial.specs.TypeNumbers.{rrsig, nsec}
 use Rattle.dnsv_denial.specs.WholeChain.{HasFirmChain, IsJustFirmChain, IsJustNsecChain, IsJustNsec3Chain}
 use Rattle.dnsv_denial.specs.WholeChain.HasFirmChain.{by_nsec as firm_by_nsec, by_nsec3 as firm_by_nsec3}
 use Rattle.dnsv_denial.specs.WholeChain.IsJustFirmChain.{by_nsec, by_nsec3}
-use Rattle.dnsv_denial.specs.Zone.{Zone}
 use Rattle.dnsv_denial.specs.declared.number.RecordNumber.{RecordNumber}
-use Rattle.dnsv_denial.proofs.MoreLemmas.{no_name_more, no_data_more}
-use Rattle.dnsv_denial.proofs.NsecComplete as by_nsec_records
-use Rattle.dnsv_denial.proofs.Nsec3Complete as by_nsec3_records
 use Rattle.dnsv_denial.proofs.ProofMeaningLemmas.{with_parameters}
 use Rattle.dnsv_denial.proofs.WholeChainLemmas.{nsec_to, nsec3_to, no_name_by_nsec, no_data_by_nsec, no_name_by_nsec3, no_data_by_nsec3}
 use Rattle.dnsv_denial.proofs.WholeChainProofs.{firm_no_name, firm_no_data}

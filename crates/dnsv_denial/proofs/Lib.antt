@@ -1,9 +1,5 @@
 mod AlikeLemmas
-mod AnswerLemmas
-mod AnyLemmas
 mod AnyNameLemmas
-mod BitmapLemmas
-mod ChainLemmas
 mod ChainProofLemmas
 mod CloserLemmas
 mod CutLemmas
@@ -12,7 +8,6 @@ mod DenialLemmas
 pub mod DeniedMeaning
 mod EndLimitLemmas
 mod EvidenceLemmas
-mod Example
 mod FindingLemmas
 mod FirstAmongLemmas
 mod FirstLemmas
@@ -26,22 +21,13 @@ mod HashLemmas
 mod HashPlaceLemmas
 mod IndexLemmas
 pub mod JustChainProofs
-pub mod LookupLemmas
 mod LooseLemmas
 mod MeaningAt
-mod MeaningLemmas
-mod MoreLemmas
 mod NoDataLemmas
-mod Nsec3Complete
 mod Nsec3Gather
-mod Nsec3Truth
-mod NsecComplete
 mod NsecGather
-mod NsecLemmas
-mod NsecTruth
 mod NumberLemmas
 mod NumberedLemmas
-mod OptOutExample
 mod ParameterSetLemmas
 mod PartsForm
 mod PlaceLemmas
@@ -50,5 +36,4 @@ mod ShownLemmas
 mod WholeChainLemmas
 pub mod WholeChainProofs
 mod WildcardLemmas
-mod ZoneLemmas
 mod ZoneProofLemmas

@@ -5,18 +5,18 @@ use Rattle.std.proofs.lemmas.Option.{slice_get_read}
 use Rattle.dnsv_names.specs.Name.{Labels, SameName, IsAtOrBelow, rightmost}
 use Rattle.dnsv_names.specs.AncestorLaws.{rightmost_above, rightmost_same}
 use Rattle.dnsv_names.specs.TreeLaws.{at_or_below_length, at_or_below_trans}
+use Rattle.dnsv_zones.specs.forms.Forms.{IsAbove}
+use Rattle.dnsv_zones.specs.forms.Parts.{LeavesCloser}
+use Rattle.dnsv_zones.specs.chains.Rdata.{parameters_of}
+use Rattle.dnsv_zones.specs.forms.RecordWords.{RecordWords}
 use Rattle.dnsv_canonical.specs.Rrsets.{ReceivedRrset}
 use Rattle.dnsv_denial.specs.ChainOf.{IsChainOf}
 use Rattle.dnsv_denial.specs.ChainSaid.{chain_said}
 use Rattle.dnsv_denial.specs.Cuts.{HasLooseCloser}
 use Rattle.dnsv_denial.specs.EvidenceWords.{Chain, evidence_said}
 use Rattle.dnsv_denial.specs.EvidenceWords.Chain.{ByNsec, ByNsec3}
-use Rattle.dnsv_denial.specs.Forms.{IsAbove}
 use Rattle.dnsv_denial.specs.Kept.{AreSets, AreZones, IsZoneOf}
 use Rattle.dnsv_denial.specs.Numbers.{numbers_of}
-use Rattle.dnsv_denial.specs.Parts.{LeavesCloser}
-use Rattle.dnsv_denial.specs.Record.{parameters_of}
-use Rattle.dnsv_denial.specs.RecordWords.{RecordWords}
 use Rattle.dnsv_denial.specs.ShownCuts.{LeavesCloserOf}
 use Rattle.dnsv_denial.specs.declared.number.RecordNumber.{RecordNumber}
 use Rattle.dnsv_denial.specs.declared.records.ChainRecords.{ChainRecords}

@@ -4,27 +4,27 @@ use Rattle.std.specs.Prelude.{Option, Some, None, map, slice_get}
 use Rattle.std.specs.Ordering.{nat_cmp}
 use Rattle.dnsv_names.specs.Name.{Labels, SameName, rightmost}
 use Rattle.dnsv_names.specs.Tree.{wildcard_of}
+use Rattle.dnsv_zones.specs.Any.{Any}
+use Rattle.dnsv_zones.specs.forms.Forms.{Words}
+use Rattle.dnsv_zones.specs.zones.Lookup.{IsLookup}
+use Rattle.dnsv_zones.specs.zones.Lookup.Answer.{NoName, NoData, Held}
+use Rattle.dnsv_zones.specs.forms.Nsec.{IsAbsentBy, IsInnerBy, IsNodeBy, nsec_words}
+use Rattle.dnsv_zones.specs.forms.Nsec3.{Covers, Matches, nsec3_words}
+use Rattle.dnsv_zones.specs.chains.NsecChain.{IsInBitmap}
+use Rattle.dnsv_zones.specs.forms.Parts.{AreNoNameParts, AreNoDataParts, IsNoCloserPart}
+use Rattle.dnsv_zones.specs.zones.Types.{IsClosed}
+use Rattle.dnsv_zones.specs.zones.Zone.{Zone, Holds}
+use Rattle.dnsv_zones.proofs.meaning.MeaningLemmas.{no_name, any_no_data, held_at_wildcard}
+use Rattle.dnsv_zones.proofs.meaning.NsecTruth.{nsec_true, absent}
+use Rattle.dnsv_zones.proofs.meaning.Nsec3Truth.{nsec3_true, absent as absent3}
 use Rattle.dnsv_canonical.proofs.CanonicalLemmas.{IsMember}
-use Rattle.dnsv_denial.specs.Any.{Any}
-use Rattle.dnsv_denial.specs.Forms.{Words}
 use Rattle.dnsv_denial.specs.declared.records.ChainRecords.{ChainRecords}
 use Rattle.dnsv_denial.specs.declared.records.ChainRecords.TheVariants.{Nsec, Nsec3}
 use Rattle.dnsv_denial.specs.AskedHash.{hash_of}
 use Rattle.dnsv_denial.specs.ChainSaid.{chain_said}
-use Rattle.dnsv_denial.specs.Lookup.{IsLookup}
-use Rattle.dnsv_denial.specs.Lookup.Answer.{NoName, NoData, Held}
-use Rattle.dnsv_denial.specs.Nsec.{IsAbsentBy, IsInnerBy, IsNodeBy, nsec_words}
-use Rattle.dnsv_denial.specs.Nsec3.{Covers, Matches, nsec3_words}
-use Rattle.dnsv_denial.specs.NsecChain.{IsInBitmap}
-use Rattle.dnsv_denial.specs.Parts.{AreNoNameParts, AreNoDataParts, IsNoCloserPart}
 use Rattle.dnsv_denial.specs.Record.{read_entry, read_nsec3}
 use Rattle.dnsv_denial.specs.RecordsAt.{listed, at_places, HasRecordsAt, HasNoCollisionBy}
 use Rattle.dnsv_denial.specs.SaidAt.{IsSaidAt}
-use Rattle.dnsv_denial.specs.Types.{IsClosed}
-use Rattle.dnsv_denial.specs.Zone.{Zone, Holds}
-use Rattle.dnsv_denial.proofs.MeaningLemmas.{no_name, any_no_data, held_at_wildcard}
-use Rattle.dnsv_denial.proofs.NsecTruth.{nsec_true, absent}
-use Rattle.dnsv_denial.proofs.Nsec3Truth.{nsec3_true, absent as absent3}
 use Rattle.dnsv_denial.proofs.PartsForm.{SayNoMore, no_name_by, no_data_by, no_closer_by}
 
 any_listed : {X R : Type 0} (read : X → R) (P : R → Type 0) (some : Option X) (rest : List X) → Any P (map read rest)

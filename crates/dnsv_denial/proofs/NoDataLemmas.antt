@@ -6,14 +6,14 @@ use Rattle.dnsv_names.specs.declared.number.RecordType.{RecordType}
 use Rattle.dnsv_names.specs.Name.{Labels, IsAtOrBelow, rightmost}
 use Rattle.dnsv_names.specs.TreeLaws.{at_or_below_trans}
 use Rattle.dnsv_names.specs.AncestorLaws.{rightmost_above}
+use Rattle.dnsv_zones.specs.forms.Forms.{Words, IsAbove, NoDataForm, EmptyForm, NoWildcardDataForm, EmptyWildcardForm, NoDataForms}
+use Rattle.dnsv_zones.specs.forms.Parts.{AreNoDataParts, AreWildcardDataParts, AreEmptyWildcardParts}
+use Rattle.dnsv_zones.specs.forms.Parts.AreNoDataParts.{at_wildcard, empty_wildcard}
+use Rattle.dnsv_zones.specs.forms.RecordWords.{RecordWords, words}
+use Rattle.dnsv_zones.specs.zones.Types.{Denies}
 use Rattle.dnsv_denial.specs.declared.asked.AskedWildcard.{AskedWildcard}
 use Rattle.dnsv_denial.specs.declared.asked.AskedWildcard.TheVariants.{Absent, Empty, Without}
 use Rattle.dnsv_denial.specs.ByWildcard.{StandsAt, AreMostParts}
-use Rattle.dnsv_denial.specs.Forms.{Words, IsAbove, NoDataForm, EmptyForm, NoWildcardDataForm, EmptyWildcardForm, NoDataForms}
-use Rattle.dnsv_denial.specs.Parts.{AreNoDataParts, AreWildcardDataParts, AreEmptyWildcardParts}
-use Rattle.dnsv_denial.specs.Parts.AreNoDataParts.{at_wildcard, empty_wildcard}
-use Rattle.dnsv_denial.specs.RecordWords.{RecordWords, words}
-use Rattle.dnsv_denial.specs.Types.{Denies}
 
 -- a name with an ancestor within the zone is within it
 pub within_by : (apex name : Labels) (labels : ℕ) → IsAbove apex name labels → IsAtOrBelow name apex

@@ -9,14 +9,15 @@ use Rattle.dnsv_records.specs.Nsec3.{IsNsec3, IsUsable}
 use Rattle.dnsv_records.specs.declared.nsec3.Nsec3.{Nsec3}
 use Rattle.dnsv_records.proofs.Base32Lemmas.{same_octets}
 use Rattle.dnsv_records.proofs.OneRecord.{one_nsec3}
+use Rattle.dnsv_zones.specs.chains.Nsec3Chain.{Nsec3Record}
+use Rattle.dnsv_zones.specs.chains.Rdata.{parameters_of}
 use Rattle.dnsv_canonical.specs.Canonical.{IsCanonical}
 use Rattle.dnsv_canonical.specs.CanonicalRdata.{canonical_form}
 use Rattle.dnsv_canonical.specs.Rrsets.{ReceivedRrset}
 use Rattle.dnsv_chain.specs.Trusted.{IsNumbered}
 use Rattle.dnsv_denial.specs.Evidence.{HasZoneSignature, IsHashedOwner, IsNsec3At, IsNsec3Of, IsRecordAt, IsSecuredBy}
 use Rattle.dnsv_denial.specs.Gathered.{AreAll, AreNsec3s, AreNsec3sOf, IsEntryOf, IsNsec3RrsetOf}
-use Rattle.dnsv_denial.specs.Nsec3Chain.{Nsec3Record}
-use Rattle.dnsv_denial.specs.Record.{flags_of, parameters_of, read_nsec3}
+use Rattle.dnsv_denial.specs.Record.{flags_of, read_nsec3}
 use Rattle.dnsv_denial.specs.declared.entry.Nsec3Entry.{Nsec3Entry}
 use Rattle.dnsv_denial.specs.declared.number.RecordNumber.{RecordNumber}
 use Rattle.dnsv_denial.proofs.EvidenceLemmas.{one_numbered, one_record, nsec3_forms}

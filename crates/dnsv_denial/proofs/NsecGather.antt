@@ -5,6 +5,8 @@ use Rattle.std.proofs.lemmas.Bool.{cases_lt}
 use Rattle.std.proofs.lemmas.Option.{slice_get_within}
 use Rattle.dnsv_names.specs.Name.{Labels}
 use Rattle.dnsv_records.specs.Nsec.{IsNsec}
+use Rattle.dnsv_zones.specs.chains.NsecChain.{NsecRecord}
+use Rattle.dnsv_zones.specs.chains.Rdata.{nsec_record}
 use Rattle.dnsv_canonical.specs.Canonical.{IsCanonical}
 use Rattle.dnsv_canonical.specs.CanonicalRdata.{canonical_form}
 use Rattle.dnsv_canonical.specs.Rrsets.{ReceivedRrset}
@@ -14,8 +16,7 @@ use Rattle.dnsv_denial.specs.Evidence.{HasZoneSignature, IsRecordAt, IsNsecAt, I
 use Rattle.std.specs.declared.cmp.Ordering.TheVariants.{Less}
 use Rattle.dnsv_denial.specs.EvidenceWords.{number_cmp}
 use Rattle.dnsv_denial.specs.Gathered.{AreAll, AreNsecs, AreNsecsOf}
-use Rattle.dnsv_denial.specs.NsecChain.{NsecRecord}
-use Rattle.dnsv_denial.specs.Record.{nsec_record, read_entry}
+use Rattle.dnsv_denial.specs.Record.{read_entry}
 use Rattle.dnsv_denial.specs.declared.entry.NsecEntry.{NsecEntry}
 use Rattle.dnsv_denial.specs.declared.number.RecordNumber.{RecordNumber}
 use Rattle.dnsv_denial.proofs.EvidenceLemmas.{one_numbered, one_nsec_of, nsec_forms, same_rrset_less, earlier_rrset_less, all_joined, all_none, all_single, all_said}

@@ -8,11 +8,11 @@ use Rattle.dnsv_records.proofs.OneRecord.{one_nsec3}
 use Rattle.dnsv_records.proofs.Base32Lemmas.{same_octets}
 use Rattle.std.specs.Char.{to_ascii_lowercase}
 use Rattle.dnsv_records.specs.Base32Hex.{Base32Hex}
+use Rattle.dnsv_zones.specs.chains.NsecChain.{NsecRecord}
+use Rattle.dnsv_zones.specs.chains.Nsec3Chain.{Nsec3Record}
+use Rattle.dnsv_zones.specs.chains.Rdata.{parameters_of}
 use Rattle.dnsv_canonical.specs.Rrsets.{ReceivedRrset}
 use Rattle.dnsv_denial.specs.Evidence.{IsNsecOf, IsNsec3Of, IsHashedOwner}
-use Rattle.dnsv_denial.specs.NsecChain.{NsecRecord}
-use Rattle.dnsv_denial.specs.Nsec3Chain.{Nsec3Record}
-use Rattle.dnsv_denial.specs.Record.{parameters_of}
 use Rattle.dnsv_denial.specs.declared.number.RecordNumber.{RecordNumber}
 use Rattle.dnsv_denial.proofs.EvidenceLemmas.{one_record}
 

@@ -9,16 +9,16 @@ use Rattle.std.specs.declared.cmp.Ordering.{Ordering}
 use Rattle.std.specs.declared.cmp.Ordering.TheVariants.{Less}
 use Rattle.dnsv_names.specs.Name.{Labels}
 use Rattle.dnsv_records.specs.declared.nsec3.Nsec3Parameters.{Nsec3Parameters}
+use Rattle.dnsv_zones.specs.Any.{Any}
+use Rattle.dnsv_zones.specs.chains.Nsec3Chain.{Nsec3Record, Parameters}
+use Rattle.dnsv_zones.specs.chains.Rdata.{parameters_of}
 use Rattle.dnsv_canonical.proofs.CanonicalLemmas.{IsMember, IsMember-from_contains, Contains-from_member}
 use Rattle.dnsv_canonical.specs.CanonicalRdata.{canonical_form}
 use Rattle.dnsv_canonical.specs.Evidence.{AreParameters, nsec3_rdata}
 use Rattle.dnsv_canonical.specs.Rrsets.{ReceivedRrset}
-use Rattle.dnsv_denial.specs.Any.{Any}
 use Rattle.dnsv_denial.specs.Evidence.{IsNsec3At}
 use Rattle.dnsv_denial.specs.EvidenceWords.{parameters_cmp}
 use Rattle.dnsv_denial.specs.Kept.{AreSets}
-use Rattle.dnsv_denial.specs.Nsec3Chain.{Nsec3Record, Parameters}
-use Rattle.dnsv_denial.specs.Record.{parameters_of}
 use Rattle.dnsv_denial.specs.declared.number.RecordNumber.{RecordNumber}
 use Rattle.dnsv_denial.specs.declared.zone_records.ParameterSet.{ParameterSet}
 use Rattle.dnsv_denial.proofs.EvidenceLemmas.{nsec3_forms}

@@ -3,13 +3,13 @@ use Rattle.std.proofs.Common.{◌≡◌, ℕ, ◌+◌, List, [], ◌∷◌, ◌+
 use Rattle.std.specs.declared.cmp.Ordering.{Ordering}
 use Rattle.dnsv_names.specs.Name.{Labels, rightmost}
 use Rattle.dnsv_names.specs.Tree.{wildcard_of}
+use Rattle.dnsv_zones.specs.forms.Forms.{Words, EndsAt, NoNameForm, NoDataForms, NoCloserForm}
+use Rattle.dnsv_zones.specs.forms.Parts.{IsEncloserPart, AreEndParts, AreWildcardParts, AreNoNameParts, AreNoDataParts, IsNoCloserPart}
+use Rattle.dnsv_zones.specs.forms.Parts.IsEncloserPart.{no_record, a_record}
+use Rattle.dnsv_zones.specs.forms.Parts.AreNoDataParts.{at_name, empty, at_wildcard, empty_wildcard}
+use Rattle.dnsv_zones.specs.forms.RecordWords.{RecordWords}
+use Rattle.dnsv_zones.specs.zones.Types.{Denies}
 use Rattle.dnsv_canonical.proofs.CanonicalLemmas.{IsMember}
-use Rattle.dnsv_denial.specs.Forms.{Words, EndsAt, NoNameForm, NoDataForms, NoCloserForm}
-use Rattle.dnsv_denial.specs.Parts.{IsEncloserPart, AreEndParts, AreWildcardParts, AreNoNameParts, AreNoDataParts, IsNoCloserPart}
-use Rattle.dnsv_denial.specs.Parts.IsEncloserPart.{no_record, a_record}
-use Rattle.dnsv_denial.specs.Parts.AreNoDataParts.{at_name, empty, at_wildcard, empty_wildcard}
-use Rattle.dnsv_denial.specs.RecordWords.{RecordWords}
-use Rattle.dnsv_denial.specs.Types.{Denies}
 
 -- what the records with these indices say is said by the words
 pub record SayNoMore {I : Type 0} (said : RecordWords I) (indices : List I) (words : Words) : Type 1 where

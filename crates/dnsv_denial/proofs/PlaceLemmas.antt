@@ -6,14 +6,14 @@ use Rattle.std.specs.Prelude.{Some, slice_get}
 use Rattle.dnsv_names.specs.Name.{Labels, rightmost}
 use Rattle.dnsv_names.specs.Tree.{wildcard_of}
 use Rattle.dnsv_records.specs.OctetLaws.{recursion-append}
+use Rattle.dnsv_zones.specs.forms.Parts.{IsEncloserPart, AreEndParts, AreWildcardParts, AreNoNameParts, AreNoDataParts, IsNoCloserPart}
+use Rattle.dnsv_zones.specs.forms.Parts.IsEncloserPart.{no_record, a_record}
+use Rattle.dnsv_zones.specs.forms.Parts.AreNoDataParts.{at_name, empty, at_wildcard, empty_wildcard}
+use Rattle.dnsv_zones.specs.forms.RecordWords.{RecordWords}
+use Rattle.dnsv_zones.specs.zones.Types.{Denies}
 use Rattle.dnsv_denial.specs.ChainSaid.{chain_said}
 use Rattle.dnsv_denial.specs.Numbers.{record_count}
-use Rattle.dnsv_denial.specs.Parts.{IsEncloserPart, AreEndParts, AreWildcardParts, AreNoNameParts, AreNoDataParts, IsNoCloserPart}
-use Rattle.dnsv_denial.specs.Parts.IsEncloserPart.{no_record, a_record}
-use Rattle.dnsv_denial.specs.Parts.AreNoDataParts.{at_name, empty, at_wildcard, empty_wildcard}
-use Rattle.dnsv_denial.specs.RecordWords.{RecordWords}
 use Rattle.dnsv_denial.specs.SaidAt.{IsSaidAt}
-use Rattle.dnsv_denial.specs.Types.{Denies}
 use Rattle.dnsv_denial.specs.declared.records.ChainRecords.{ChainRecords}
 use Rattle.dnsv_denial.specs.declared.records.ChainRecords.TheVariants.{Nsec, Nsec3}
 

@@ -5,31 +5,31 @@ use Rattle.dnsv_names.specs.AncestorLaws.{rightmost_above, rightmost_same}
 use Rattle.dnsv_names.specs.Name.{Labels, SameName, IsAtOrBelow, rightmost}
 use Rattle.dnsv_names.specs.Tree.{wildcard_of}
 use Rattle.dnsv_names.specs.TreeLaws.{at_or_below_trans}
+use Rattle.dnsv_zones.specs.Any.{Any}
+use Rattle.dnsv_zones.specs.forms.Forms.{Words, NoNameForm, NoDataForms, NoCloserForm}
+use Rattle.dnsv_zones.specs.forms.Parts.{AreNoNameParts, AreNoDataParts, IsNoCloserPart}
+use Rattle.dnsv_zones.specs.chains.HashedNames.{sha1_hash}
+use Rattle.dnsv_zones.specs.zones.Lookup.{IsLookup}
+use Rattle.dnsv_zones.specs.zones.Lookup.Answer.{NoName, NoData, Held}
+use Rattle.dnsv_zones.specs.forms.Nsec.{IsAbsentBy, IsInnerBy, IsNodeBy, nsec_words}
+use Rattle.dnsv_zones.specs.forms.Nsec3.{Matches, Covers, nsec3_words}
+use Rattle.dnsv_zones.specs.chains.NsecChain.{NsecRecord, IsInBitmap}
+use Rattle.dnsv_zones.specs.chains.Nsec3Chain.{Nsec3Record, Parameters, NameHash, IsInNsec3Chain}
+use Rattle.dnsv_zones.specs.zones.Types.{IsClosed}
+use Rattle.dnsv_zones.specs.zones.Zone.{Zone, Holds}
+use Rattle.dnsv_zones.proofs.AnyLemmas.{any_map, any_both, found}
+use Rattle.dnsv_zones.proofs.meaning.MeaningLemmas.{no_name, any_no_data, held_at_wildcard}
+use Rattle.dnsv_zones.proofs.meaning.NsecTruth.{nsec_true, absent as absent_by_nsec}
+use Rattle.dnsv_zones.proofs.meaning.Nsec3Truth.{nsec3_true, absent as absent_by_nsec3}
 use Rattle.dnsv_canonical.specs.Rrsets.{ReceivedRrset}
 use Rattle.dnsv_canonical.proofs.CanonicalLemmas.{IsMember, IsMember-from_contains, Contains-from_member}
-use Rattle.dnsv_denial.specs.Any.{Any}
 use Rattle.dnsv_denial.specs.Evidence.{IsNsecOf, IsNsec3Of}
 use Rattle.dnsv_denial.specs.EvidenceWords.{Chain, SaidByNsec, SaidByNsec3, nsec_said, nsec3_said, evidence_said, number_cmp}
 use Rattle.dnsv_denial.specs.EvidenceWords.Chain.{ByNsec, ByNsec3}
 use Rattle.dnsv_denial.specs.FirstProof.{ProofRecords, AreRecordsOf, IsFirstNoName, IsFirstNoData, IsFirstNoCloser}
-use Rattle.dnsv_denial.specs.Forms.{Words, NoNameForm, NoDataForms, NoCloserForm}
-use Rattle.dnsv_denial.specs.Parts.{AreNoNameParts, AreNoDataParts, IsNoCloserPart}
-use Rattle.dnsv_denial.specs.HashedNames.{sha1_hash}
-use Rattle.dnsv_denial.specs.Lookup.{IsLookup}
-use Rattle.dnsv_denial.specs.Lookup.Answer.{NoName, NoData, Held}
-use Rattle.dnsv_denial.specs.Nsec.{IsAbsentBy, IsInnerBy, IsNodeBy, nsec_words}
-use Rattle.dnsv_denial.specs.Nsec3.{Matches, Covers, nsec3_words}
-use Rattle.dnsv_denial.specs.NsecChain.{NsecRecord, IsInBitmap}
-use Rattle.dnsv_denial.specs.Nsec3Chain.{Nsec3Record, Parameters, NameHash, IsInNsec3Chain}
 use Rattle.dnsv_denial.specs.ProofMeaning.{HasProofRecords, IsWithoutCollision, HasProofWithoutCollision}
 use Rattle.dnsv_denial.specs.ProofMeaning.HasProofRecords.{by_nsec, by_nsec3}
-use Rattle.dnsv_denial.specs.Types.{IsClosed}
-use Rattle.dnsv_denial.specs.Zone.{Zone, Holds}
 use Rattle.dnsv_denial.specs.declared.number.RecordNumber.{RecordNumber}
-use Rattle.dnsv_denial.proofs.AnyLemmas.{any_map, any_both, found}
-use Rattle.dnsv_denial.proofs.MeaningLemmas.{no_name, any_no_data, held_at_wildcard}
-use Rattle.dnsv_denial.proofs.NsecTruth.{nsec_true, absent as absent_by_nsec}
-use Rattle.dnsv_denial.proofs.Nsec3Truth.{nsec3_true, absent as absent_by_nsec3}
 use Rattle.dnsv_denial.proofs.EvidenceLemmas.{one_nsec_of}
 use Rattle.dnsv_denial.proofs.NumberedLemmas.{one_nsec3_of, nsec_or_nsec3}
 use Rattle.dnsv_denial.proofs.PartsForm.{SayNoMore, no_name_by, no_data_by, no_closer_by}

@@ -5,6 +5,12 @@ use Rattle.std.proofs.lemmas.Bool.{cases_lt}
 use Rattle.std.proofs.lemmas.Option.{slice_get_cases, slice_get_within}
 use Rattle.dnsv_names.specs.Name.{Labels, rightmost}
 use Rattle.dnsv_names.specs.Tree.{wildcard_of}
+use Rattle.dnsv_zones.specs.forms.Forms.{UnsignedCutForm}
+use Rattle.dnsv_zones.specs.chains.Nsec3Chain.{Nsec3Record, Parameters}
+use Rattle.dnsv_zones.specs.forms.Parts.{IsHighestCut, IsLowestOptOut, OptsOut}
+use Rattle.dnsv_zones.specs.chains.Rdata.{parameters_of}
+use Rattle.dnsv_zones.specs.forms.RecordWords.{RecordWords, words}
+use Rattle.dnsv_zones.proofs.chains.MoreLemmas.{SayMore, unsigned_cut_more}
 use Rattle.dnsv_canonical.specs.Rrsets.{ReceivedRrset}
 use Rattle.dnsv_denial.specs.ChainOf.{IsChainOf}
 use Rattle.dnsv_denial.specs.ChainSaid.{chain_said}
@@ -13,13 +19,8 @@ use Rattle.dnsv_denial.specs.Evidence.{IsNsec3At}
 use Rattle.dnsv_denial.specs.EvidenceWords.{Chain, evidence_said, nsec3_said}
 use Rattle.dnsv_denial.specs.EvidenceWords.Chain.{ByNsec, ByNsec3}
 use Rattle.dnsv_denial.specs.Findings.{IsFewestFound, IsMostFound}
-use Rattle.dnsv_denial.specs.Forms.{UnsignedCutForm}
 use Rattle.dnsv_denial.specs.Kept.{AreSets, AreZones}
-use Rattle.dnsv_denial.specs.Nsec3Chain.{Nsec3Record, Parameters}
 use Rattle.dnsv_denial.specs.Numbers.{numbers_of}
-use Rattle.dnsv_denial.specs.Parts.{IsHighestCut, IsLowestOptOut, OptsOut}
-use Rattle.dnsv_denial.specs.Record.{parameters_of}
-use Rattle.dnsv_denial.specs.RecordWords.{RecordWords, words}
 use Rattle.dnsv_denial.specs.ShownCuts.{IsCutOf, IsOptOutOf, IsCutBySet, IsOptOutBySet, IsCutIn, IsOptOutIn, IsOfFirst, AreShown, AreBoth}
 use Rattle.dnsv_denial.specs.declared.number.RecordNumber.{RecordNumber}
 use Rattle.dnsv_denial.specs.declared.records.ChainRecords.{ChainRecords}
@@ -30,7 +31,6 @@ use Rattle.dnsv_denial.proofs.AlikeLemmas.{any_place}
 use Rattle.dnsv_denial.proofs.ChainProofLemmas.{chain_alike}
 use Rattle.dnsv_denial.proofs.FindingLemmas.{fewest_as, most_as, fewest_of_both, most_of_both}
 use Rattle.dnsv_denial.proofs.IndexLemmas.{SayAlike, words_to, words_from}
-use Rattle.dnsv_denial.proofs.MoreLemmas.{SayMore, unsigned_cut_more}
 
 -- ---- what is found of one and another
 

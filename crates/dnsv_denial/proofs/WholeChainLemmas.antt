@@ -7,22 +7,22 @@ use Rattle.std.specs.List.{AllByRecursion, AllZip}
 use Rattle.dnsv_names.specs.Name.{Labels, SameName, rightmost}
 use Rattle.dnsv_names.specs.Tree.{wildcard_of}
 use Rattle.dnsv_names.specs.TreeLaws.{decided}
+use Rattle.dnsv_zones.specs.Any.{Any}
+use Rattle.dnsv_zones.specs.forms.Forms.{Words, NoNameForm, NoDataForms}
+use Rattle.dnsv_zones.specs.chains.HashedNames.{sha1_hash}
+use Rattle.dnsv_zones.specs.forms.Nsec.{IsAbsentBy, IsInnerBy, IsNodeBy, nsec_words}
+use Rattle.dnsv_zones.specs.forms.Nsec3.{Matches, Covers, nsec3_words, IsCovered, IsOptedOut, OptOutForm}
+use Rattle.dnsv_zones.specs.chains.NsecChain.{NsecRecord, IsInBitmap}
+use Rattle.dnsv_zones.specs.chains.Nsec3Chain.{Nsec3Record, Parameters}
+use Rattle.dnsv_zones.specs.forms.Parts.{OptsOut}
+use Rattle.dnsv_zones.specs.forms.RecordWords.{RecordWords, words}
+use Rattle.dnsv_zones.specs.zones.Types.{IsClosed}
+use Rattle.dnsv_zones.proofs.chains.MoreLemmas.{SayMore}
 use Rattle.dnsv_canonical.specs.Rrsets.{ReceivedRrset}
 use Rattle.dnsv_canonical.proofs.CanonicalLemmas.{IsMember}
-use Rattle.dnsv_denial.specs.Any.{Any}
 use Rattle.dnsv_denial.specs.Evidence.{IsNsecAt, IsNsec3At, IsNsecOf, IsNsec3Of}
 use Rattle.dnsv_denial.specs.EvidenceWords.{nsec_said, nsec3_said}
-use Rattle.dnsv_denial.specs.Forms.{Words, NoNameForm, NoDataForms}
-use Rattle.dnsv_denial.specs.HashedNames.{sha1_hash}
-use Rattle.dnsv_denial.specs.Nsec.{IsAbsentBy, IsInnerBy, IsNodeBy, nsec_words}
-use Rattle.dnsv_denial.specs.Nsec3.{Matches, Covers, nsec3_words, IsCovered, IsOptedOut, OptOutForm}
-use Rattle.dnsv_denial.specs.NsecChain.{NsecRecord, IsInBitmap}
-use Rattle.dnsv_denial.specs.Nsec3Chain.{Nsec3Record, Parameters}
-use Rattle.dnsv_denial.specs.Parts.{OptsOut}
-use Rattle.dnsv_denial.specs.RecordWords.{RecordWords, words}
-use Rattle.dnsv_denial.specs.Types.{IsClosed}
 use Rattle.dnsv_denial.specs.declared.number.RecordNumber.{RecordNumber}
-use Rattle.dnsv_denial.proofs.MoreLemmas.{SayMore}
 use Rattle.dnsv_denial.proofs.PartsForm.{SayNoMore}
 use Rattle.dnsv_denial.proofs.ProofMeaningLemmas.{nsec_say, nsec3_say}
 

@@ -3,29 +3,29 @@ use Rattle.std.proofs.Common.{◌≡◌, ◌≢◌, ◌⊎◌, ℕ, ◌≤◌, l
 use Rattle.dnsv_names.specs.AncestorLaws.{rightmost_above, rightmost_same}
 use Rattle.dnsv_names.specs.Name.{Labels, SameName, IsAtOrBelow, rightmost}
 use Rattle.dnsv_names.specs.TreeLaws.{at_or_below_length}
+use Rattle.dnsv_zones.specs.forms.Forms.{NoNameForm, NoDataForms, UnsignedCutForm}
+use Rattle.dnsv_zones.specs.chains.HashedNames.{sha1_hash}
+use Rattle.dnsv_zones.specs.zones.Lookup.{IsLookup}
+use Rattle.dnsv_zones.specs.zones.Lookup.Answer.{NoData, NoName}
+use Rattle.dnsv_zones.specs.forms.Nsec.{nsec_words}
+use Rattle.dnsv_zones.specs.forms.Nsec3.{nsec3_words, OptOutForm}
+use Rattle.dnsv_zones.specs.forms.RecordWords.{words}
+use Rattle.dnsv_zones.specs.zones.TypeNumbers.{ns, soa, ds, rrsig, nsec}
+use Rattle.dnsv_zones.specs.zones.Types.{IsUnsignedDelegation}
+use Rattle.dnsv_zones.specs.zones.Zone.{Zone, Holds}
+use Rattle.dnsv_zones.proofs.chains.MoreLemmas.{SayMore, no_name_more, no_data_more, unsigned_cut_more}
+use Rattle.dnsv_zones.proofs.completeness.NsecComplete as by_nsec_records
+use Rattle.dnsv_zones.proofs.completeness.Nsec3Complete as by_nsec3_records
+use Rattle.dnsv_zones.proofs.zones.ZoneLemmas.{delegation_respects, holds_respects}
 use Rattle.dnsv_canonical.specs.Rrsets.{ReceivedRrset}
 use Rattle.dnsv_denial.specs.Cuts.{HasUnsignedCut}
 use Rattle.dnsv_denial.specs.EvidenceWords.{nsec_said, nsec3_said}
 use Rattle.dnsv_denial.specs.EvidenceWords.Chain.{ByNsec, ByNsec3}
 use Rattle.dnsv_denial.specs.FirstProof.{CanProveNoData, CanProveNoName}
-use Rattle.dnsv_denial.specs.Forms.{NoNameForm, NoDataForms, UnsignedCutForm}
-use Rattle.dnsv_denial.specs.HashedNames.{sha1_hash}
-use Rattle.dnsv_denial.specs.Lookup.{IsLookup}
-use Rattle.dnsv_denial.specs.Lookup.Answer.{NoData, NoName}
-use Rattle.dnsv_denial.specs.Nsec.{nsec_words}
-use Rattle.dnsv_denial.specs.Nsec3.{nsec3_words, OptOutForm}
-use Rattle.dnsv_denial.specs.RecordWords.{words}
-use Rattle.dnsv_denial.specs.TypeNumbers.{ns, soa, ds, rrsig, nsec}
-use Rattle.dnsv_denial.specs.Types.{IsUnsignedDelegation}
 use Rattle.dnsv_denial.specs.WholeChain.{HasFirmChain, HasWholeChain, HasWholeNsecChain, HasWholeNsec3Chain, IsFirm}
 use Rattle.dnsv_denial.specs.WholeChain.HasFirmChain.{by_nsec, by_nsec3}
 use Rattle.dnsv_denial.specs.WholeChain.HasWholeChain.{by_nsec as whole_by_nsec, by_nsec3 as whole_by_nsec3}
-use Rattle.dnsv_denial.specs.Zone.{Zone, Holds}
-use Rattle.dnsv_denial.proofs.MoreLemmas.{SayMore, no_name_more, no_data_more, unsigned_cut_more}
-use Rattle.dnsv_denial.proofs.NsecComplete as by_nsec_records
-use Rattle.dnsv_denial.proofs.Nsec3Complete as by_nsec3_records
 use Rattle.dnsv_denial.proofs.WholeChainLemmas.{nsec_from, nsec3_from, opts_out_from}
-use Rattle.dnsv_denial.proofs.ZoneLemmas.{delegation_respects, holds_respects}
 
 -- a delegation without DS is one however its name is spelled
 unsigned_respects : (zone : Zone) (a b : Labels) → SameName a b → IsUnsignedDelegation (Holds zone a) → IsUnsignedDelegation (Holds zone b)

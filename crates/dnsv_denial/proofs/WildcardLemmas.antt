@@ -7,12 +7,12 @@ use Rattle.dnsv_names.specs.Name.{Labels, rightmost}
 use Rattle.dnsv_names.specs.Tree.{wildcard_of}
 use Rattle.dnsv_names.specs.TreeLaws.{at_or_below_length}
 use Rattle.dnsv_names.specs.AncestorLaws.{rightmost_length}
+use Rattle.dnsv_zones.specs.forms.Forms.{IsAbove, NoNameForm, NoCloserForm}
+use Rattle.dnsv_zones.specs.forms.Parts.{AreNoNameParts, IsNoCloserPart}
+use Rattle.dnsv_zones.specs.forms.RecordWords.{RecordWords, words}
 use Rattle.dnsv_denial.specs.declared.asked.AskedWildcard.{AskedWildcard}
 use Rattle.dnsv_denial.specs.declared.asked.AskedWildcard.TheVariants.{Absent, Empty, Without}
 use Rattle.dnsv_denial.specs.ByWildcard.{StandsAt, AreMostParts}
-use Rattle.dnsv_denial.specs.Forms.{IsAbove, NoNameForm, NoCloserForm}
-use Rattle.dnsv_denial.specs.Parts.{AreNoNameParts, IsNoCloserPart}
-use Rattle.dnsv_denial.specs.RecordWords.{RecordWords, words}
 use Rattle.dnsv_denial.specs.SaidAt.{IsFirstPlace}
 
 -- what holds of fewer than n only, and not of the last before n

@@ -7,6 +7,10 @@ use Rattle.std.specs.Ordering.{ordering_reverse}
 use Rattle.std.specs.declared.cmp.Ordering.TheVariants.{Less, Greater}
 use Rattle.std.specs.Prelude.{Option, Some, None, MatchOption, slice_get}
 use Rattle.dnsv_names.specs.Name.{Labels, rightmost}
+use Rattle.dnsv_zones.specs.chains.Rdata.{parameters_of}
+use Rattle.dnsv_zones.specs.chains.Nsec3Chain.{Nsec3Record, Parameters}
+use Rattle.dnsv_zones.specs.forms.RecordWords.{words}
+use Rattle.dnsv_zones.specs.zones.Types.{Denies}
 use Rattle.dnsv_canonical.specs.Rrsets.{ReceivedRrset}
 use Rattle.dnsv_denial.specs.Denials.{DenialForm}
 use Rattle.dnsv_denial.specs.Evidence.{IsNsec3At}
@@ -16,13 +20,9 @@ use Rattle.dnsv_denial.specs.EvidenceWords.GoesBefore.{nsec_first, by_parameters
 use Rattle.dnsv_denial.specs.ChainOf.{IsProofBy}
 use Rattle.dnsv_denial.specs.FirstProof.{ProofRecords, StandsBy}
 use Rattle.dnsv_denial.specs.Kept.{AreSets, IsFirstSet, IsZoneProof}
-use Rattle.dnsv_denial.specs.Record.{parameters_of}
 use Rattle.dnsv_denial.specs.declared.zone_records.ParameterSet.{ParameterSet}
 use Rattle.dnsv_denial.proofs.AlikeLemmas.{any_place}
-use Rattle.dnsv_denial.specs.Nsec3Chain.{Nsec3Record, Parameters}
 use Rattle.dnsv_names.specs.Tree.{wildcard_of}
-use Rattle.dnsv_denial.specs.RecordWords.{words}
-use Rattle.dnsv_denial.specs.Types.{Denies}
 use Rattle.dnsv_denial.specs.declared.denial.Denial.{Denial}
 use Rattle.dnsv_denial.specs.declared.denial.Denial.TheVariants.{NoName, NoData, NoCloser}
 use Rattle.dnsv_denial.specs.declared.number.RecordNumber.{RecordNumber}

@@ -2,11 +2,11 @@
 use Rattle.std.specs.Prelude.{ℕ, ◌<◌, ◌≤◌, length}
 use Rattle.dnsv_names.specs.Name.{Labels, rightmost}
 use Rattle.dnsv_names.specs.Tree.{wildcard_of}
+use Rattle.dnsv_zones.specs.zones.Types.{IsClosed, Denies, IsUnsignedDelegation}
 use Rattle.dnsv_denial.specs.declared.asked.AskedName.{AskedName}
 use Rattle.dnsv_denial.specs.declared.asked.AskedName.TheVariants.{Above, Wildcard}
 use Rattle.dnsv_denial.specs.declared.asked.AskedTypes.{AskedTypes}
 use Rattle.dnsv_denial.specs.declared.asked.AskedTypes.TheVariants.{Open, Without, UnsignedDelegation}
-use Rattle.dnsv_denial.specs.Types.{IsClosed, Denies, IsUnsignedDelegation}
 
 -- the question's so many rightmost labels, or the wildcard right below them
 abbrev pub asked_name : Labels → AskedName → Labels

@@ -1,8 +1,8 @@
 -- The hashes that the code has of asked names.
+use Rattle.dnsv_zones.specs.chains.HashedNames.{sha1_hash, AreHashes}
+use Rattle.dnsv_zones.specs.chains.Nsec3Chain.{NameHash}
+use Rattle.dnsv_zones.specs.chains.Rdata.{parameters_of}
 use Rattle.dnsv_denial.specs.declared.hashes.Nsec3Records.{Nsec3Records}
-use Rattle.dnsv_denial.specs.HashedNames.{sha1_hash, AreHashes}
-use Rattle.dnsv_denial.specs.Nsec3Chain.{NameHash}
-use Rattle.dnsv_denial.specs.Record.{parameters_of}
 
 -- the hash that they are made with
 abbrev pub hash_of : Nsec3Records → NameHash

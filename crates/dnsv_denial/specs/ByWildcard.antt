@@ -3,12 +3,12 @@ use Rattle.std.specs.Prelude.{ℕ, ◌≤◌, List}
 use Rattle.std.specs.Ordering.{nat_cmp}
 use Rattle.dnsv_names.specs.Name.{Labels, rightmost}
 use Rattle.dnsv_names.specs.Tree.{wildcard_of}
+use Rattle.dnsv_zones.specs.forms.Forms.{EndsAt}
+use Rattle.dnsv_zones.specs.forms.Parts.{AreWildcardParts}
+use Rattle.dnsv_zones.specs.forms.RecordWords.{RecordWords, words}
+use Rattle.dnsv_zones.specs.zones.Types.{Denies}
 use Rattle.dnsv_denial.specs.declared.asked.AskedWildcard.{AskedWildcard}
 use Rattle.dnsv_denial.specs.declared.asked.AskedWildcard.TheVariants.{Absent, Empty, Without}
-use Rattle.dnsv_denial.specs.Forms.{EndsAt}
-use Rattle.dnsv_denial.specs.Parts.{AreWildcardParts}
-use Rattle.dnsv_denial.specs.RecordWords.{RecordWords, words}
-use Rattle.dnsv_denial.specs.Types.{Denies}
 
 -- the record at the place says it of the wildcard
 abbrev pub wildcard_said : AskedWildcard → RecordWords ℕ → Labels → ℕ → Type 0

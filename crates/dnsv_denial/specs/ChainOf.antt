@@ -2,13 +2,13 @@
 -- module.
 use Rattle.std.specs.Prelude.{◌≡◌, ℕ, List}
 use Rattle.dnsv_names.specs.Name.{Labels}
+use Rattle.dnsv_zones.specs.chains.Rdata.{parameters_of}
 use Rattle.dnsv_canonical.specs.Rrsets.{ReceivedRrset}
 use Rattle.dnsv_denial.specs.Denials.{AreParts}
 use Rattle.dnsv_denial.specs.EvidenceWords.{Chain, evidence_said, number_cmp}
 use Rattle.dnsv_denial.specs.EvidenceWords.Chain.{ByNsec, ByNsec3}
 use Rattle.dnsv_denial.specs.FirstProof.{AreRecordsOf, ProofRecords}
 use Rattle.dnsv_denial.specs.Gathered.{AreNsecsOf, AreNsec3sOf}
-use Rattle.dnsv_denial.specs.Record.{parameters_of}
 use Rattle.dnsv_denial.specs.declared.denial.Denial.{Denial}
 use Rattle.dnsv_denial.specs.declared.number.RecordNumber.{RecordNumber}
 use Rattle.dnsv_denial.specs.declared.records.ChainRecords.{ChainRecords}

@@ -1,16 +1,16 @@
 -- What the records of one chain say of names, each by its place among them.
 use Rattle.std.specs.Prelude.{⊤, ◌≡◌, ◌≢◌, ℕ}
 use Rattle.dnsv_names.specs.Name.{Labels, SameName}
+use Rattle.dnsv_zones.specs.forms.Nsec.{IsAbsentBy, IsInnerBy, IsNodeBy}
+use Rattle.dnsv_zones.specs.forms.Nsec3.{Covers, Matches}
+use Rattle.dnsv_zones.specs.chains.NsecChain.{IsInBitmap}
+use Rattle.dnsv_zones.specs.forms.RecordWords.{RecordWords}
+use Rattle.dnsv_zones.specs.zones.Types.{IsClosed}
 use Rattle.dnsv_denial.specs.declared.records.ChainRecords.{ChainRecords}
 use Rattle.dnsv_denial.specs.declared.records.ChainRecords.TheVariants.{Nsec, Nsec3}
 use Rattle.dnsv_denial.specs.AskedHash.{hash_of, HasHashesOf}
-use Rattle.dnsv_denial.specs.Nsec.{IsAbsentBy, IsInnerBy, IsNodeBy}
-use Rattle.dnsv_denial.specs.Nsec3.{Covers, Matches}
-use Rattle.dnsv_denial.specs.NsecChain.{IsInBitmap}
 use Rattle.dnsv_denial.specs.Record.{read_entry, read_nsec3}
-use Rattle.dnsv_denial.specs.RecordWords.{RecordWords}
 use Rattle.dnsv_denial.specs.SaidAt.{IsSaidAt}
-use Rattle.dnsv_denial.specs.Types.{IsClosed}
 
 -- what the records of a chain say; that the apex is there NSEC records needn't
 abbrev pub chain_said : Labels → ChainRecords → RecordWords ℕ

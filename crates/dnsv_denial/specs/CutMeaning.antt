@@ -3,16 +3,16 @@ use Rattle.std.specs.Prelude.{◌⊎◌, ◌+◌, ℕ, List, [], ◌∷◌}
 use Rattle.dnsv_names.specs.Name.{Labels, IsAtOrBelow, rightmost}
 use Rattle.dnsv_names.specs.Order.{IsBelow}
 use Rattle.dnsv_names.specs.Tree.{wildcard_of}
+use Rattle.dnsv_zones.specs.forms.Forms.{IsAbove}
+use Rattle.dnsv_zones.specs.chains.Nsec3Chain.{IsUnsignedEnd}
+use Rattle.dnsv_zones.specs.forms.RecordWords.{RecordWords}
+use Rattle.dnsv_zones.specs.zones.Types.{IsUnsignedDelegation}
+use Rattle.dnsv_zones.specs.zones.Zone.{Zone, Holds, IsNode, IsClosedAt}
 use Rattle.dnsv_canonical.specs.Rrsets.{ReceivedRrset}
 use Rattle.dnsv_denial.specs.Cuts.{IsUnsignedDelegationCut, IsUnusableDsCut}
 use Rattle.dnsv_denial.specs.EvidenceWords.{Chain, evidence_said}
 use Rattle.dnsv_denial.specs.FirstProof.{ProofRecords}
-use Rattle.dnsv_denial.specs.Forms.{IsAbove}
-use Rattle.dnsv_denial.specs.Nsec3Chain.{IsUnsignedEnd}
 use Rattle.dnsv_denial.specs.ProofMeaning.{HasProofRecords, HasProofWithoutCollision}
-use Rattle.dnsv_denial.specs.RecordWords.{RecordWords}
-use Rattle.dnsv_denial.specs.Types.{IsUnsignedDelegation}
-use Rattle.dnsv_denial.specs.Zone.{Zone, Holds, IsNode, IsClosedAt}
 use Rattle.dnsv_denial.specs.declared.number.RecordNumber.{RecordNumber}
 
 -- the record alone

@@ -4,13 +4,13 @@ use Rattle.std.specs.List.{AllZip}
 use Rattle.dnsv_names.specs.Name.{Labels, SameName, rightmost}
 use Rattle.dnsv_records.specs.Ds.{IsDs}
 use Rattle.dnsv_records.specs.declared.ds.Ds.{Ds}
+use Rattle.dnsv_zones.specs.forms.Forms.{IsAbove, UnsignedCutForm}
+use Rattle.dnsv_zones.specs.forms.Parts.{OptsOut}
+use Rattle.dnsv_zones.specs.forms.RecordWords.{words}
 use Rattle.dnsv_canonical.specs.Rrsets.{ReceivedRrset}
 use Rattle.dnsv_chain.specs.Ds.{HasUsable}
 use Rattle.dnsv_chain.specs.Trusted.{IsNumbered}
 use Rattle.dnsv_denial.specs.EvidenceWords.{Chain, evidence_said}
-use Rattle.dnsv_denial.specs.Forms.{IsAbove, UnsignedCutForm}
-use Rattle.dnsv_denial.specs.Parts.{OptsOut}
-use Rattle.dnsv_denial.specs.RecordWords.{words}
 use Rattle.dnsv_denial.specs.declared.number.RecordNumber.{RecordNumber}
 
 -- ---- a delegation without DS

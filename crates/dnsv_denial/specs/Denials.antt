@@ -2,9 +2,9 @@
 use Rattle.std.specs.Prelude.{◌≡◌, List, [], ◌∷◌}
 use Rattle.std.specs.declared.cmp.Ordering.{Ordering}
 use Rattle.dnsv_names.specs.Name.{Labels}
-use Rattle.dnsv_denial.specs.Forms.{Words, NoNameForm, NoDataForms, NoCloserForm}
-use Rattle.dnsv_denial.specs.Parts.{AreNoNameParts, AreNoDataParts, IsNoCloserPart}
-use Rattle.dnsv_denial.specs.RecordWords.{RecordWords}
+use Rattle.dnsv_zones.specs.forms.Forms.{Words, NoNameForm, NoDataForms, NoCloserForm}
+use Rattle.dnsv_zones.specs.forms.Parts.{AreNoNameParts, AreNoDataParts, IsNoCloserPart}
+use Rattle.dnsv_zones.specs.forms.RecordWords.{RecordWords}
 use Rattle.dnsv_denial.specs.declared.denial.Denial.{Denial}
 use Rattle.dnsv_denial.specs.declared.denial.Denial.TheVariants.{NoName, NoData, NoCloser}
 

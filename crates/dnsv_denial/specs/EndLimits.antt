@@ -1,10 +1,10 @@
 -- Between which numbers of labels the closest encloser of a name has its number. No public clause cites this module.
 use Rattle.std.specs.Prelude.{◌≡◌, ◌<◌, ◌≤◌, ℕ, List, Some, length, slice_get}
 use Rattle.dnsv_names.specs.Name.{Labels, rightmost}
-use Rattle.dnsv_denial.specs.Forms.{EndsAt}
-use Rattle.dnsv_denial.specs.Nsec.{IsAbsentBy, IsNodeBy}
+use Rattle.dnsv_zones.specs.forms.Forms.{EndsAt}
+use Rattle.dnsv_zones.specs.forms.Nsec.{IsAbsentBy, IsNodeBy}
+use Rattle.dnsv_zones.specs.forms.RecordWords.{RecordWords, words}
 use Rattle.dnsv_denial.specs.Record.{read_entry}
-use Rattle.dnsv_denial.specs.RecordWords.{RecordWords, words}
 use Rattle.dnsv_denial.specs.declared.end_limits.EndLimits.{EndLimits}
 use Rattle.dnsv_denial.specs.declared.entry.NsecEntry.{NsecEntry}
 

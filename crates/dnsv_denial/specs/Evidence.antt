@@ -12,14 +12,14 @@ use Rattle.dnsv_records.specs.Rrsig.{IsRrsig}
 use Rattle.dnsv_records.specs.declared.nsec.Nsec.{Nsec}
 use Rattle.dnsv_records.specs.declared.nsec3.Nsec3.{Nsec3}
 use Rattle.dnsv_records.specs.declared.rrsig.Rrsig.{Rrsig}
+use Rattle.dnsv_zones.specs.chains.NsecChain.{NsecRecord}
+use Rattle.dnsv_zones.specs.chains.Nsec3Chain.{Nsec3Record, Parameters}
+use Rattle.dnsv_zones.specs.chains.Rdata.{nsec_record, parameters_of}
 use Rattle.dnsv_canonical.specs.Canonical.{IsCanonical}
 use Rattle.dnsv_canonical.specs.CanonicalRdata.{canonical_form}
 use Rattle.dnsv_canonical.specs.Rrsets.{ReceivedRrset}
 use Rattle.dnsv_canonical.specs.SignedData.{IsExpanded}
 use Rattle.dnsv_chain.specs.Trusted.{IsNumbered}
-use Rattle.dnsv_denial.specs.NsecChain.{NsecRecord}
-use Rattle.dnsv_denial.specs.Nsec3Chain.{Nsec3Record, Parameters}
-use Rattle.dnsv_denial.specs.Record.{nsec_record, parameters_of}
 use Rattle.dnsv_denial.specs.declared.number.RecordNumber.{RecordNumber}
 
 -- ---- records by their numbers

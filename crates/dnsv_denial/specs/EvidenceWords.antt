@@ -5,15 +5,15 @@ use Rattle.std.specs.declared.cmp.Ordering.{Ordering}
 use Rattle.std.specs.declared.cmp.Ordering.TheVariants.{Less}
 use Rattle.dnsv_names.specs.Name.{Labels, SameName}
 use Rattle.dnsv_names.specs.Octets.{octets_cmp}
+use Rattle.dnsv_zones.specs.chains.HashedNames.{sha1_hash}
+use Rattle.dnsv_zones.specs.forms.Nsec.{IsAbsentBy, IsInnerBy, IsNodeBy}
+use Rattle.dnsv_zones.specs.forms.Nsec3.{Covers, Matches}
+use Rattle.dnsv_zones.specs.chains.NsecChain.{NsecRecord, IsInBitmap}
+use Rattle.dnsv_zones.specs.chains.Nsec3Chain.{Nsec3Record, Parameters}
+use Rattle.dnsv_zones.specs.forms.RecordWords.{RecordWords}
+use Rattle.dnsv_zones.specs.zones.Types.{IsClosed}
 use Rattle.dnsv_canonical.specs.Rrsets.{ReceivedRrset}
 use Rattle.dnsv_denial.specs.Evidence.{IsNsecAt, IsNsec3At}
-use Rattle.dnsv_denial.specs.HashedNames.{sha1_hash}
-use Rattle.dnsv_denial.specs.Nsec.{IsAbsentBy, IsInnerBy, IsNodeBy}
-use Rattle.dnsv_denial.specs.Nsec3.{Covers, Matches}
-use Rattle.dnsv_denial.specs.NsecChain.{NsecRecord, IsInBitmap}
-use Rattle.dnsv_denial.specs.Nsec3Chain.{Nsec3Record, Parameters}
-use Rattle.dnsv_denial.specs.RecordWords.{RecordWords}
-use Rattle.dnsv_denial.specs.Types.{IsClosed}
 use Rattle.dnsv_denial.specs.declared.number.RecordNumber.{RecordNumber}
 
 -- the NSEC record with the number says so

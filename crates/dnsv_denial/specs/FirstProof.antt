@@ -3,11 +3,11 @@
 use Rattle.std.specs.Prelude.{◌≡◌, ◌↔◌, ◌<◌, ◌≤◌, ℕ, List, [], ◌∷◌, length, Contains}
 use Rattle.std.specs.List.Sorted.{IsStrictlySortedBy}
 use Rattle.dnsv_names.specs.Name.{Labels, rightmost}
+use Rattle.dnsv_zones.specs.forms.Parts.{AreNoNameParts, AreNoDataParts, IsNoCloserPart}
+use Rattle.dnsv_zones.specs.forms.Forms.{Words, NoNameForm, NoDataForms, NoCloserForm}
+use Rattle.dnsv_zones.specs.forms.RecordWords.{RecordWords, words}
 use Rattle.dnsv_canonical.specs.Rrsets.{ReceivedRrset}
-use Rattle.dnsv_denial.specs.Parts.{AreNoNameParts, AreNoDataParts, IsNoCloserPart}
 use Rattle.dnsv_denial.specs.EvidenceWords.{Chain, GoesBefore, evidence_said, number_cmp}
-use Rattle.dnsv_denial.specs.Forms.{Words, NoNameForm, NoDataForms, NoCloserForm}
-use Rattle.dnsv_denial.specs.RecordWords.{RecordWords, words}
 use Rattle.dnsv_denial.specs.declared.number.RecordNumber.{RecordNumber}
 
 -- a proof as it is given: the zone, and its records by their numbers

@@ -5,8 +5,8 @@ use Rattle.std.specs.List.Sorted.{IsStrictlySortedBy}
 use Rattle.dnsv_names.specs.Name.{Labels}
 use Rattle.dnsv_records.specs.Nsec3.{IsUsable}
 use Rattle.dnsv_records.specs.declared.nsec3.Nsec3.{Nsec3}
+use Rattle.dnsv_zones.specs.Any.{Any}
 use Rattle.dnsv_canonical.specs.Rrsets.{ReceivedRrset}
-use Rattle.dnsv_denial.specs.Any.{Any}
 use Rattle.dnsv_denial.specs.Evidence.{HasZoneSignature, IsHashedOwner, IsNsecAt, IsNsecOf, IsNsec3At, IsNsec3Of}
 use Rattle.dnsv_denial.specs.EvidenceWords.{number_cmp}
 use Rattle.dnsv_denial.specs.Record.{read_entry, read_nsec3}

@@ -2,7 +2,7 @@
 use Rattle.std.specs.Prelude.{◌≡◌, ℕ, List}
 use Rattle.dnsv_names.specs.Order.{label_cmp}
 use Rattle.dnsv_names.specs.Circle.{Gap}
-use Rattle.dnsv_denial.specs.Nsec3Chain.{Nsec3Record, Parameters}
+use Rattle.dnsv_zones.specs.chains.Nsec3Chain.{Nsec3Record, Parameters}
 
 -- the record has the hash, made with these parameters
 abbrev pub HasHash : Parameters → List ℕ → Nsec3Record → Type 0

@@ -3,9 +3,12 @@ use Rattle.std.specs.Prelude.{◌≡◌, ◌+◌, ◌<◌, ℕ, List, Some, leng
 use Rattle.std.specs.List.{AllByRecursion}
 use Rattle.std.specs.declared.cmp.Ordering.TheVariants.{Less}
 use Rattle.dnsv_names.specs.Name.{Labels, rightmost}
+use Rattle.dnsv_zones.specs.Any.{Any}
+use Rattle.dnsv_zones.specs.chains.HashedNames.{sha1_hash, AreHashes}
+use Rattle.dnsv_zones.specs.chains.Nsec3Chain.{Nsec3Record, Parameters}
+use Rattle.dnsv_zones.specs.chains.Rdata.{parameters_of}
 use Rattle.dnsv_canonical.specs.Rrsets.{ReceivedRrset}
 use Rattle.dnsv_chain.specs.Trust.{KeptTrust}
-use Rattle.dnsv_denial.specs.Any.{Any}
 use Rattle.dnsv_denial.specs.ChainOf.{IsProofBy}
 use Rattle.dnsv_denial.specs.Denials.{DenialForm}
 use Rattle.dnsv_denial.specs.Evidence.{IsNsec3At}
@@ -13,9 +16,6 @@ use Rattle.dnsv_denial.specs.EvidenceWords.{Chain, parameters_cmp}
 use Rattle.dnsv_denial.specs.EvidenceWords.Chain.{ByNsec3}
 use Rattle.dnsv_denial.specs.FirstProof.{IsFirstOfZone, ProofRecords, StandsBy}
 use Rattle.dnsv_denial.specs.Gathered.{AreNsecsOf, AreNsec3sOf}
-use Rattle.dnsv_denial.specs.HashedNames.{sha1_hash, AreHashes}
-use Rattle.dnsv_denial.specs.Nsec3Chain.{Nsec3Record, Parameters}
-use Rattle.dnsv_denial.specs.Record.{parameters_of}
 use Rattle.dnsv_denial.specs.Viewed.{SecuredIn}
 use Rattle.dnsv_denial.specs.declared.denial.Denial.{Denial}
 use Rattle.dnsv_denial.specs.declared.number.RecordNumber.{RecordNumber}

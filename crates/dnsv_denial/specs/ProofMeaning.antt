@@ -2,13 +2,13 @@
 use Rattle.std.specs.Prelude.{⊤, List}
 use Rattle.std.specs.List.{AllZip}
 use Rattle.dnsv_names.specs.Name.{Labels}
+use Rattle.dnsv_zones.specs.chains.HashedNames.{sha1_hash}
+use Rattle.dnsv_zones.specs.chains.NsecChain.{NsecRecord, HasNsecRecords}
+use Rattle.dnsv_zones.specs.chains.Nsec3Chain.{Nsec3Record, Parameters, HasNsec3Records, HasNoCollision}
+use Rattle.dnsv_zones.specs.zones.Zone.{Zone}
 use Rattle.dnsv_canonical.specs.Rrsets.{ReceivedRrset}
 use Rattle.dnsv_denial.specs.Evidence.{IsNsecOf, IsNsec3Of}
 use Rattle.dnsv_denial.specs.FirstProof.{ProofRecords}
-use Rattle.dnsv_denial.specs.HashedNames.{sha1_hash}
-use Rattle.dnsv_denial.specs.NsecChain.{NsecRecord, HasNsecRecords}
-use Rattle.dnsv_denial.specs.Nsec3Chain.{Nsec3Record, Parameters, HasNsec3Records, HasNoCollision}
-use Rattle.dnsv_denial.specs.Zone.{Zone}
 
 -- The zone has the records of the proof in its chain of NSEC records, or in one of its chains of NSEC3 records.
 pub data HasProofRecords (rrsets : List ReceivedRrset) (proof : ProofRecords) (zone : Zone) : Type 0 where

@@ -1,24 +1,15 @@
 -- A record of the code, as the definitions of proofs read it.
 use Rattle.std.specs.FinSet as set
 use Rattle.std.specs.Prelude.{ℕ, Bool, true, false}
-use Rattle.dnsv_names.specs.Name.{Labels}
-use Rattle.dnsv_records.specs.declared.nsec.Nsec.{Nsec}
-use Rattle.dnsv_records.specs.declared.nsec3.Nsec3Parameters.{Nsec3Parameters}
+use Rattle.dnsv_zones.specs.chains.NsecChain.{NsecRecord}
+use Rattle.dnsv_zones.specs.chains.Nsec3Chain.{Nsec3Record}
+use Rattle.dnsv_zones.specs.chains.Rdata.{nsec_record, parameters_of}
 use Rattle.dnsv_denial.specs.declared.entry.NsecEntry.{NsecEntry}
 use Rattle.dnsv_denial.specs.declared.entry.Nsec3Entry.{Nsec3Entry}
-use Rattle.dnsv_denial.specs.NsecChain.{NsecRecord}
-use Rattle.dnsv_denial.specs.Nsec3Chain.{Nsec3Record, Parameters}
-
--- the NSEC record of an owner
-abbrev pub nsec_record : Labels → Nsec → NsecRecord
-nsec_record owner nsec = record { owner = owner; next = nsec.next; types = λ t. set.contains nsec.types t }
 
 -- the numbered record as one of its owner
 abbrev pub read_entry : NsecEntry → NsecRecord
 read_entry entry = nsec_record entry.owner.now entry.nsec.now
-
-abbrev pub parameters_of : Nsec3Parameters → Parameters
-parameters_of parameters = record { iterations = parameters.iterations.0; salt = parameters.salt }
 
 -- the flags of a usable record: Opt-Out, or none (RFC 5155 3.1.2, 8.2)
 abbrev pub flags_of : Bool → ℕ

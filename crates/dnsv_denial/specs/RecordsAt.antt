@@ -1,13 +1,13 @@
 -- Zones that have the records at some places of a chain's.
 use Rattle.std.specs.Prelude.{⊤, ℕ, List, [], ◌∷◌, ◌++◌, Option, Some, None, map, slice_get}
 use Rattle.dnsv_names.specs.Name.{Labels}
+use Rattle.dnsv_zones.specs.chains.NsecChain.{HasNsecRecords}
+use Rattle.dnsv_zones.specs.chains.Nsec3Chain.{HasNsec3Records, HasNoCollision}
+use Rattle.dnsv_zones.specs.zones.Zone.{Zone}
 use Rattle.dnsv_denial.specs.declared.records.ChainRecords.{ChainRecords}
 use Rattle.dnsv_denial.specs.declared.records.ChainRecords.TheVariants.{Nsec, Nsec3}
 use Rattle.dnsv_denial.specs.AskedHash.{hash_of}
-use Rattle.dnsv_denial.specs.NsecChain.{HasNsecRecords}
-use Rattle.dnsv_denial.specs.Nsec3Chain.{HasNsec3Records, HasNoCollision}
 use Rattle.dnsv_denial.specs.Record.{read_entry, read_nsec3}
-use Rattle.dnsv_denial.specs.Zone.{Zone}
 
 -- the one member, where there is one
 abbrev pub listed : {X : Type 0} → Option X → List X

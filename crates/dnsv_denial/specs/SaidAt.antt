@@ -1,7 +1,7 @@
 -- What the entry at a place of a list says.
 use Rattle.std.specs.Prelude.{◌≡◌, ℕ, List, Option, Some, MatchOption, slice_get}
 use Rattle.std.specs.Ordering.{nat_cmp}
-use Rattle.dnsv_denial.specs.Parts.{IsLowest}
+use Rattle.dnsv_zones.specs.forms.Parts.{IsLowest}
 
 -- the entry at the place is such
 pub record IsSaidAt {Entry : Type 0} (Says : Entry → Type 0) (entries : List Entry) (place : ℕ) : Type 0 where

@@ -1,14 +1,14 @@
 -- Which cuts the chains of kept zones show. No public clause cites this module.
 use Rattle.std.specs.Prelude.{◌≡◌, ◌<◌, ◌≤◌, ℕ, List, Some, length, slice_get}
 use Rattle.dnsv_names.specs.Name.{Labels, rightmost}
+use Rattle.dnsv_zones.specs.forms.Forms.{UnsignedCutForm}
+use Rattle.dnsv_zones.specs.forms.Parts.{LeavesCloser, OptsOut}
+use Rattle.dnsv_zones.specs.chains.Rdata.{parameters_of}
+use Rattle.dnsv_zones.specs.forms.RecordWords.{words}
 use Rattle.dnsv_canonical.specs.Rrsets.{ReceivedRrset}
 use Rattle.dnsv_denial.specs.EvidenceWords.{Chain, evidence_said}
 use Rattle.dnsv_denial.specs.EvidenceWords.Chain.{ByNsec3}
 use Rattle.dnsv_denial.specs.Findings.{IsFewestFound, IsGreater, IsLesser, IsMostFound}
-use Rattle.dnsv_denial.specs.Forms.{UnsignedCutForm}
-use Rattle.dnsv_denial.specs.Parts.{LeavesCloser, OptsOut}
-use Rattle.dnsv_denial.specs.Record.{parameters_of}
-use Rattle.dnsv_denial.specs.RecordWords.{words}
 use Rattle.dnsv_denial.specs.declared.shown_cuts.ShownCuts.{ShownCuts}
 use Rattle.dnsv_denial.specs.declared.zone_records.ParameterSet.{ParameterSet}
 

@@ -5,12 +5,12 @@
 use Rattle.std.specs.Prelude.{◌≡◌, ◌≤◌, ℕ, List, Contains, length}
 use Rattle.std.specs.List.{AllByRecursion, AllZip}
 use Rattle.dnsv_names.specs.Name.{Labels, rightmost}
+use Rattle.dnsv_zones.specs.chains.HashedNames.{sha1_hash}
+use Rattle.dnsv_zones.specs.chains.NsecChain.{NsecRecord, IsNsecChainOf}
+use Rattle.dnsv_zones.specs.chains.Nsec3Chain.{Nsec3Record, Parameters, IsNsec3ChainOf, HasNoCollision}
+use Rattle.dnsv_zones.specs.zones.Zone.{Zone}
 use Rattle.dnsv_canonical.specs.Rrsets.{ReceivedRrset}
 use Rattle.dnsv_denial.specs.Evidence.{IsNsecAt, IsNsec3At}
-use Rattle.dnsv_denial.specs.HashedNames.{sha1_hash}
-use Rattle.dnsv_denial.specs.NsecChain.{NsecRecord, IsNsecChainOf}
-use Rattle.dnsv_denial.specs.Nsec3Chain.{Nsec3Record, Parameters, IsNsec3ChainOf, HasNoCollision}
-use Rattle.dnsv_denial.specs.Zone.{Zone}
 use Rattle.dnsv_denial.specs.declared.number.RecordNumber.{RecordNumber}
 
 -- ---- the whole chain, whatever else is there

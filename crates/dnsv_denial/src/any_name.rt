@@ -1,19 +1,19 @@
 //! What the records of a chain say of any name at all. What none says isn't looked for at each of a question's names.
 ghost use Rattle.std.specs.Prelude.{ℕ, ◌↔◌, ◌<◌, IsTrue};
 ghost use Rattle.dnsv_names.specs.Name.{Labels};
+ghost use Rattle.dnsv_zones.specs.chains.NsecChain.{IsInBitmap};
+ghost use Rattle.dnsv_zones.specs.forms.RecordWords.{words};
+ghost use Rattle.dnsv_zones.specs.zones.Types.{IsUnsignedDelegation};
 ghost use Rattle.dnsv_denial.specs.ChainSaid.{chain_said};
-ghost use Rattle.dnsv_denial.specs.NsecChain.{IsInBitmap};
 ghost use Rattle.dnsv_denial.specs.Numbers.{record_count};
 ghost use Rattle.dnsv_denial.specs.Record.{read_entry, read_nsec3};
-ghost use Rattle.dnsv_denial.specs.RecordWords.{words};
-ghost use Rattle.dnsv_denial.specs.Types.{IsUnsignedDelegation};
 ghost use Rattle.dnsv_denial.specs.declared.entry.Nsec3Entry.{Nsec3Entry};
 ghost use Rattle.dnsv_denial.specs.declared.entry.NsecEntry.{NsecEntry};
 
 use crate::entry::{Nsec3Entry, NsecEntry};
 use crate::records::ChainRecords;
 use crate::search::{Word, first_to_say};
-use crate::types::is_unsigned_delegation;
+use dnsv_zones::is_unsigned_delegation;
 
 /// Whether the chain has records.
 pub fn has_records(records: &ChainRecords<'_>) -> bool

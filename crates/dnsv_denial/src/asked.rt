@@ -1,11 +1,11 @@
 //! What a proof asks of records: of which name, and what of its types.
 ghost use Rattle.std.specs.Prelude.{◌≡◌, ◌↔◌, IsTrue};
 ghost use Rattle.std.specs.FinSet as set;
-ghost use Rattle.dnsv_denial.specs.NsecChain.{IsInBitmap};
+ghost use Rattle.dnsv_zones.specs.chains.NsecChain.{IsInBitmap};
 
-use crate::types::{denies, is_closed, is_unsigned_delegation};
 use dnsv_names::{Name, RecordType};
 use dnsv_records::TypeBitmap;
+use dnsv_zones::{denies, is_closed, is_unsigned_delegation};
 
 /// A name that the proof of a denial asks for, by the question's name (RFC 5155 8).
 #[derive(Clone, Copy, Debug)]

@@ -3,14 +3,14 @@ ghost use Rattle.std.specs.Prelude.{ℕ, ◌↔◌, [], ◌∷◌, IfSome, IsTru
 ghost use Rattle.std.specs.Ordering.{nat_cmp};
 ghost use Rattle.dnsv_names.specs.Name.{rightmost};
 ghost use Rattle.dnsv_names.specs.Tree.{wildcard_of};
+ghost use Rattle.dnsv_zones.specs.forms.Forms.{NoCloserForm};
+ghost use Rattle.dnsv_zones.specs.zones.Lookup.{IsLookup};
+ghost use Rattle.dnsv_zones.specs.zones.Lookup.Answer.{Held};
+ghost use Rattle.dnsv_zones.specs.forms.Parts.{IsNoCloserPart, LeavesCloser};
+ghost use Rattle.dnsv_zones.specs.forms.RecordWords.{words};
+ghost use Rattle.dnsv_zones.specs.zones.Zone.{Zone, Holds};
 ghost use Rattle.dnsv_denial.specs.ChainSaid.{chain_said, HasHashes};
-ghost use Rattle.dnsv_denial.specs.Forms.{NoCloserForm};
-ghost use Rattle.dnsv_denial.specs.Lookup.{IsLookup};
-ghost use Rattle.dnsv_denial.specs.Lookup.Answer.{Held};
-ghost use Rattle.dnsv_denial.specs.Parts.{IsNoCloserPart, LeavesCloser};
 ghost use Rattle.dnsv_denial.specs.RecordsAt.{HasRecordsAt};
-ghost use Rattle.dnsv_denial.specs.RecordWords.{words};
-ghost use Rattle.dnsv_denial.specs.Zone.{Zone, Holds};
 
 use crate::asked::AskedName;
 use crate::ends::is_above;

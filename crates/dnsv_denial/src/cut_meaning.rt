@@ -2,14 +2,14 @@
 ghost use Rattle.std.specs.Prelude.{List};
 ghost use Rattle.dnsv_names.specs.Name.{Labels, IsAtOrBelow};
 ghost use Rattle.dnsv_names.specs.Order.{IsBelow};
+ghost use Rattle.dnsv_zones.specs.chains.Nsec3Chain.{Parameters, IsUnsignedEnd};
+ghost use Rattle.dnsv_zones.specs.zones.Types.{IsUnsignedDelegation};
+ghost use Rattle.dnsv_zones.specs.zones.Zone.{Zone, Holds, IsNode, IsClosedAt};
 ghost use Rattle.dnsv_canonical.specs.Rrsets.{ReceivedRrset};
 ghost use Rattle.dnsv_chain.specs.Trust.{KeptTrust};
 ghost use Rattle.dnsv_denial.specs.CutMeaning.{HasRecord, HasRecordWithoutCollision};
 ghost use Rattle.dnsv_denial.specs.EvidenceWords.{Chain, evidence_said, nsec3_said};
-ghost use Rattle.dnsv_denial.specs.Nsec3Chain.{Parameters, IsUnsignedEnd};
-ghost use Rattle.dnsv_denial.specs.Types.{IsUnsignedDelegation};
 ghost use Rattle.dnsv_denial.specs.Viewed.{SecuredIn};
-ghost use Rattle.dnsv_denial.specs.Zone.{Zone, Holds, IsNode, IsClosedAt};
 ghost use Rattle.dnsv_denial.specs.declared.number.RecordNumber.{RecordNumber};
 
 /// What a record of the evidence means that shows a delegation without DS at or above a question's name: each zone that

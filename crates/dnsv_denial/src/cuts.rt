@@ -1,10 +1,10 @@
 //! Where the records of a chain show that names may be unsigned (RFC 4035 5.2, RFC 5155 8.6, 8.9, 9.2).
 ghost use Rattle.std.specs.Prelude.{ℕ, ◌↔◌, ◌≤◌, IsTrue, MatchOption};
 ghost use Rattle.dnsv_names.specs.Name.{Labels};
+ghost use Rattle.dnsv_zones.specs.forms.Forms.{UnsignedCutForm};
+ghost use Rattle.dnsv_zones.specs.forms.Parts.{IsHighestCut, IsLowestOptOut, OptsOut};
+ghost use Rattle.dnsv_zones.specs.forms.RecordWords.{words};
 ghost use Rattle.dnsv_denial.specs.ChainSaid.{chain_said, HasHashes};
-ghost use Rattle.dnsv_denial.specs.Forms.{UnsignedCutForm};
-ghost use Rattle.dnsv_denial.specs.Parts.{IsHighestCut, IsLowestOptOut, OptsOut};
-ghost use Rattle.dnsv_denial.specs.RecordWords.{words};
 
 use crate::any_name::{has_opt_out, has_unsigned_delegation};
 use crate::asked::{AskedName, AskedTypes};

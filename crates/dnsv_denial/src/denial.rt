@@ -1,9 +1,9 @@
 //! The denials that are proved by the records of one chain.
 ghost use Rattle.std.specs.Prelude.{◌≡◌, [], ◌∷◌, MatchOption};
 ghost use Rattle.std.specs.Ordering.{nat_cmp};
+ghost use Rattle.dnsv_zones.specs.forms.RecordWords.{words};
 ghost use Rattle.dnsv_denial.specs.ChainSaid.{chain_said, HasHashes};
 ghost use Rattle.dnsv_denial.specs.Denials.{AreParts, DenialForm};
-ghost use Rattle.dnsv_denial.specs.RecordWords.{words};
 
 use crate::any_name::has_records;
 use crate::by_wildcard::no_name;

@@ -5,8 +5,8 @@ ghost use Rattle.dnsv_denial.specs.EndLimits.{AreEndLimits, DeniesNoFewer, Holds
 
 use crate::entry::NsecEntry;
 use crate::records::ChainRecords;
-use crate::words::{is_absent, is_node};
 use dnsv_names::Name;
+use dnsv_zones::{is_absent, is_node};
 
 /// Between which numbers of labels the closest encloser has its number.
 #[derive(Clone, Copy, Debug)]

@@ -1,11 +1,11 @@
 //! Where the search for a name ends: the closest encloser, and the next closer name that isn't there.
 ghost use Rattle.std.specs.Prelude.{◌≡◌, ◌↔◌, ◌++◌, ◌<◌, [], ◌∷◌, IsTrue, MatchOption};
 ghost use Rattle.std.specs.Ordering.{nat_cmp};
+ghost use Rattle.dnsv_zones.specs.forms.Forms.{IsAbove, EndsAt};
+ghost use Rattle.dnsv_zones.specs.forms.Parts.{AreEndParts};
+ghost use Rattle.dnsv_zones.specs.forms.RecordWords.{words};
 ghost use Rattle.dnsv_denial.specs.ChainSaid.{chain_said, HasHashes};
 ghost use Rattle.dnsv_denial.specs.EndPlace.{end_places};
-ghost use Rattle.dnsv_denial.specs.Forms.{IsAbove, EndsAt};
-ghost use Rattle.dnsv_denial.specs.Parts.{AreEndParts};
-ghost use Rattle.dnsv_denial.specs.RecordWords.{words};
 
 use crate::asked::AskedName;
 use crate::records::ChainRecords;

@@ -4,21 +4,21 @@ ghost use Rattle.std.specs.List.{AllByRecursion};
 ghost use Rattle.std.specs.List.Sorted.{IsStrictlySortedBy};
 ghost use Rattle.dnsv_names.specs.Count.{counted};
 ghost use Rattle.dnsv_records.specs.declared.nsec3.Nsec3Parameters.{Nsec3Parameters};
+ghost use Rattle.dnsv_zones.specs.chains.HashedNames.{hashes_for};
+ghost use Rattle.dnsv_zones.specs.chains.Rdata.{parameters_of};
 ghost use Rattle.dnsv_denial.specs.EvidenceWords.{parameters_cmp};
-ghost use Rattle.dnsv_denial.specs.HashedNames.{hashes_for};
 ghost use Rattle.dnsv_denial.specs.Kept.{AreZones, IsSetOf};
-ghost use Rattle.dnsv_denial.specs.Record.{parameters_of};
 ghost use Rattle.dnsv_denial.specs.Viewed.{SecuredIn};
 
 use crate::gather::nsecs_of;
 use crate::gather_nsec3::nsec3s_of;
-use crate::hashing::hash_names;
 use crate::nsec3_entries::Nsec3Entries;
 use crate::zone_records::{ParameterSet, ZoneRecords};
 use dnsv_canonical::Capture;
 use dnsv_chain::Trust;
 use dnsv_names::{Count, Name};
 use dnsv_records::Nsec3Parameters;
+use dnsv_zones::hash_names;
 use std::alloc::{AllocError, Global};
 
 /// The records of each zone at or above the name, from the root on.

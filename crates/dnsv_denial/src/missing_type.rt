@@ -2,14 +2,14 @@
 ghost use Rattle.std.specs.Prelude.{◌≡◌, [], ◌∷◌, IfSome, MatchOption};
 ghost use Rattle.std.specs.Ordering.{nat_cmp};
 ghost use Rattle.dnsv_names.specs.Name.{Labels};
+ghost use Rattle.dnsv_zones.specs.forms.Forms.{NoDataForms};
+ghost use Rattle.dnsv_zones.specs.zones.Lookup.{IsLookup};
+ghost use Rattle.dnsv_zones.specs.zones.Lookup.Answer.{NoData};
+ghost use Rattle.dnsv_zones.specs.forms.Parts.{AreNoDataParts};
+ghost use Rattle.dnsv_zones.specs.forms.RecordWords.{words};
+ghost use Rattle.dnsv_zones.specs.zones.Zone.{Zone};
 ghost use Rattle.dnsv_denial.specs.ChainSaid.{chain_said, HasHashes};
-ghost use Rattle.dnsv_denial.specs.Forms.{NoDataForms};
-ghost use Rattle.dnsv_denial.specs.Lookup.{IsLookup};
-ghost use Rattle.dnsv_denial.specs.Lookup.Answer.{NoData};
-ghost use Rattle.dnsv_denial.specs.Parts.{AreNoDataParts};
 ghost use Rattle.dnsv_denial.specs.RecordsAt.{HasRecordsAt, HasNoCollisionBy};
-ghost use Rattle.dnsv_denial.specs.RecordWords.{words};
-ghost use Rattle.dnsv_denial.specs.Zone.{Zone};
 
 use crate::asked::{AskedName, AskedTypes, AskedWildcard};
 use crate::by_wildcard::by_wildcard;

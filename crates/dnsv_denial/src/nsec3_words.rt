@@ -1,13 +1,14 @@
 //! What forms ask of NSEC3 records.
 ghost use Rattle.std.specs.Prelude.{◌≡◌, ◌↔◌, IsTrue};
+ghost use Rattle.dnsv_zones.specs.chains.NsecChain.{IsInBitmap};
+ghost use Rattle.dnsv_zones.specs.forms.Nsec3.{Matches, Covers};
+ghost use Rattle.dnsv_zones.specs.chains.Rdata.{parameters_of};
 ghost use Rattle.dnsv_denial.specs.Asked.{asked_name, said_types, IsWithin};
 ghost use Rattle.dnsv_denial.specs.AskedHash.{hash_of, HasHashesOf};
 ghost use Rattle.dnsv_denial.specs.HashWords.{HasHash, CoversHash};
-ghost use Rattle.dnsv_denial.specs.NsecChain.{IsInBitmap};
-ghost use Rattle.dnsv_denial.specs.Nsec3.{Matches, Covers};
 ghost use Rattle.dnsv_denial.specs.SaidAt.{IsSaidAt, IsFirstPlace};
 ghost use Rattle.dnsv_denial.specs.declared.entry.Nsec3Entry.{Nsec3Entry};
-ghost use Rattle.dnsv_denial.specs.Record.{read_nsec3, parameters_of, flags_of};
+ghost use Rattle.dnsv_denial.specs.Record.{read_nsec3, flags_of};
 
 use crate::asked::{AskedName, AskedTypes};
 use crate::entry::Nsec3Entry;

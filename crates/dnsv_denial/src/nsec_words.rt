@@ -1,17 +1,17 @@
 //! What forms ask of NSEC records.
 ghost use Rattle.std.specs.Prelude.{◌≡◌};
 ghost use Rattle.dnsv_names.specs.Name.{SameName};
+ghost use Rattle.dnsv_zones.specs.chains.NsecChain.{IsInBitmap};
+ghost use Rattle.dnsv_zones.specs.forms.Nsec.{IsAbsentBy, IsInnerBy, IsNodeBy};
 ghost use Rattle.dnsv_denial.specs.Asked.{said_types};
-ghost use Rattle.dnsv_denial.specs.NsecChain.{IsInBitmap};
-ghost use Rattle.dnsv_denial.specs.Nsec.{IsAbsentBy, IsInnerBy, IsNodeBy};
 ghost use Rattle.dnsv_denial.specs.declared.entry.NsecEntry.{NsecEntry};
 ghost use Rattle.dnsv_denial.specs.Record.{read_entry};
 
 use crate::asked::AskedTypes;
 use crate::entry::NsecEntry;
 use crate::search::Word;
-use crate::words::{is_absent, is_inner, is_node};
 use dnsv_names::Name;
+use dnsv_zones::{is_absent, is_inner, is_node};
 
 /// The word that a name is no node.
 #[derive(Debug, Drop)]

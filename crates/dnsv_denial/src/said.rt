@@ -1,9 +1,9 @@
 //! What the records of a chain say of the names that a question asks for: of each word, the first record.
 ghost use Rattle.std.specs.Prelude.{◌↔◌, ◌≤◌, ℕ, IsTrue, length};
 ghost use Rattle.dnsv_names.specs.Name.{Labels, rightmost};
+ghost use Rattle.dnsv_zones.specs.forms.RecordWords.{words};
 ghost use Rattle.dnsv_denial.specs.Asked.{asked_name, IsWithin, said_types};
 ghost use Rattle.dnsv_denial.specs.ChainSaid.{chain_said, HasHashes};
-ghost use Rattle.dnsv_denial.specs.RecordWords.{words};
 ghost use Rattle.dnsv_denial.specs.SaidAt.{IsFirstPlace};
 
 use crate::asked::{AskedName, AskedTypes};

@@ -1,6 +1,7 @@
 //! Where the records of kept zones show that names may be unsigned.
 ghost use Rattle.std.specs.Prelude.{List, length};
 ghost use Rattle.std.specs.List.{AllByRecursion};
+ghost use Rattle.dnsv_zones.specs.chains.Rdata.{parameters_of};
 ghost use Rattle.dnsv_canonical.specs.Rrsets.{ReceivedRrset};
 ghost use Rattle.dnsv_chain.specs.Trust.{KeptTrust};
 ghost use Rattle.dnsv_denial.specs.ChainOf.{IsChainOf};
@@ -9,7 +10,6 @@ ghost use Rattle.dnsv_denial.specs.Cuts.{IsOptOutCut, IsUnsignedDelegationCut};
 ghost use Rattle.dnsv_denial.specs.EvidenceWords.{Chain};
 ghost use Rattle.dnsv_denial.specs.EvidenceWords.Chain.{ByNsec3};
 ghost use Rattle.dnsv_denial.specs.Kept.{AreSets, AreZones, IsSetOf, IsZoneOf};
-ghost use Rattle.dnsv_denial.specs.Record.{parameters_of};
 ghost use Rattle.dnsv_denial.specs.ShownCuts.{
   AreBoth,
   AreShown,

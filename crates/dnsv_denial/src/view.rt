@@ -4,6 +4,12 @@ ghost use Rattle.dnsv_names.specs.Count.{counted};
 ghost use Rattle.dnsv_names.specs.Name.{Labels, IsAtOrBelow, rightmost};
 ghost use Rattle.dnsv_names.specs.Tree.{wildcard_of};
 ghost use Rattle.dnsv_records.specs.declared.nsec3.Nsec3Parameters.{Nsec3Parameters};
+ghost use Rattle.dnsv_zones.specs.chains.HashedNames.{hashes_for};
+ghost use Rattle.dnsv_zones.specs.zones.Lookup.{IsLookup};
+ghost use Rattle.dnsv_zones.specs.zones.Lookup.Answer.{Held, NoData, NoName};
+ghost use Rattle.dnsv_zones.specs.zones.TypeNumbers.{rrsig, nsec};
+ghost use Rattle.dnsv_zones.specs.zones.Types.{IsUnsignedDelegation};
+ghost use Rattle.dnsv_zones.specs.zones.Zone.{Zone, Holds};
 ghost use Rattle.dnsv_canonical.specs.Evidence.{AreParameters, nsec3_rdata};
 ghost use Rattle.dnsv_denial.specs.CutMeaning.{IsCoveredEnd, MeansCut};
 ghost use Rattle.dnsv_denial.specs.Cuts.{HasLooseCloser, HasUnsignedCut, IsUnsignedCut};
@@ -16,15 +22,9 @@ ghost use Rattle.dnsv_denial.specs.FirstProof.{
   IsFirstNoData,
   IsFirstNoName,
 };
-ghost use Rattle.dnsv_denial.specs.HashedNames.{hashes_for};
-ghost use Rattle.dnsv_denial.specs.Lookup.{IsLookup};
-ghost use Rattle.dnsv_denial.specs.Lookup.Answer.{Held, NoData, NoName};
 ghost use Rattle.dnsv_denial.specs.ProofMeaning.{HasProofRecords, HasProofWithoutCollision};
-ghost use Rattle.dnsv_denial.specs.TypeNumbers.{rrsig, nsec};
-ghost use Rattle.dnsv_denial.specs.Types.{IsUnsignedDelegation};
 ghost use Rattle.dnsv_denial.specs.Viewed.{SecuredIn};
 ghost use Rattle.dnsv_denial.specs.WholeChain.{HasFirmChain, HasWholeChain, HasWholeNsec3Chain, IsJustFirmChain};
-ghost use Rattle.dnsv_denial.specs.Zone.{Zone, Holds};
 
 use crate::denial::Denial;
 use crate::first_proof::{first_proof, no_closer};

@@ -1,6 +1,7 @@
 //! What the records of a kept zone say against an answer from a wildcard (RFC 5155 8.8).
 ghost use Rattle.std.specs.Prelude.{◌↔◌, IsTrue, List};
 ghost use Rattle.std.specs.List.{AllByRecursion};
+ghost use Rattle.dnsv_zones.specs.chains.Rdata.{parameters_of};
 ghost use Rattle.dnsv_canonical.specs.Rrsets.{ReceivedRrset};
 ghost use Rattle.dnsv_chain.specs.Trust.{KeptTrust};
 ghost use Rattle.dnsv_denial.specs.ChainOf.{IsChainOf};
@@ -9,7 +10,6 @@ ghost use Rattle.dnsv_denial.specs.Cuts.{HasLooseCloser};
 ghost use Rattle.dnsv_denial.specs.EvidenceWords.{Chain};
 ghost use Rattle.dnsv_denial.specs.EvidenceWords.Chain.{ByNsec3};
 ghost use Rattle.dnsv_denial.specs.Kept.{AreSets, IsSetOf, IsZoneOf};
-ghost use Rattle.dnsv_denial.specs.Record.{parameters_of};
 ghost use Rattle.dnsv_denial.specs.ShownCuts.{LeavesCloserOf};
 ghost use Rattle.dnsv_denial.specs.Viewed.{SecuredIn};
 

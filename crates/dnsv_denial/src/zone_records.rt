@@ -1,6 +1,7 @@
 //! The records of one zone, and the first proof of a denial by them.
 ghost use Rattle.std.specs.Prelude.{◌≡◌, ℕ, List, MatchOption, Some, slice_get};
 ghost use Rattle.std.specs.List.{AllByRecursion};
+ghost use Rattle.dnsv_zones.specs.chains.Rdata.{parameters_of};
 ghost use Rattle.dnsv_canonical.specs.Rrsets.{ReceivedRrset};
 ghost use Rattle.dnsv_chain.specs.Trust.{KeptTrust};
 ghost use Rattle.dnsv_denial.specs.ChainOf.{IsProofBy};
@@ -9,19 +10,18 @@ ghost use Rattle.dnsv_denial.specs.EvidenceWords.{Chain};
 ghost use Rattle.dnsv_denial.specs.EvidenceWords.Chain.{ByNsec3};
 ghost use Rattle.dnsv_denial.specs.FirstProof.{StandsBy};
 ghost use Rattle.dnsv_denial.specs.Kept.{AreSets, IsFirstSet, IsSetOf, IsZoneOf, IsZoneProof};
-ghost use Rattle.dnsv_denial.specs.Record.{parameters_of};
 ghost use Rattle.dnsv_denial.specs.Viewed.{SecuredIn};
 
 use crate::chain_proof::chain_proof;
 use crate::denial::Denial;
 use crate::entry::NsecEntry;
 use crate::hashes::Nsec3Records;
-use crate::hashing::HashedNames;
 use crate::nsec3_entries::Nsec3Entries;
 use crate::proof::Proof;
 use crate::records::ChainRecords;
 use dnsv_names::Name;
 use dnsv_records::Nsec3Parameters;
+use dnsv_zones::HashedNames;
 
 /// Parameters of NSEC3 records, and the hashes with them of the names that a question asks for.
 #[derive(Debug, Drop)]

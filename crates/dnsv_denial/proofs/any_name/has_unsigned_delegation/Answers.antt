@@ -1,7 +1,7 @@
 use Rattle.std.proofs.Common.{subst}
+use Rattle.dnsv_zones.specs.forms.RecordWords.{words}
+use Rattle.dnsv_zones.specs.zones.Types.{IsUnsignedDelegation}
 use Rattle.dnsv_denial.specs.ChainSaid.{chain_said}
-use Rattle.dnsv_denial.specs.RecordWords.{words}
-use Rattle.dnsv_denial.specs.Types.{IsUnsignedDelegation}
 use Rattle.dnsv_denial.proofs.AnyNameLemmas.{nsec_delegation, nsec3_delegation}
 use Rattle.dnsv_denial.proofs.any_name.has_unsigned_delegation.Goals as goal
 

@@ -1,13 +1,13 @@
 use Rattle.std.proofs.Common.{ℕ}
 use Rattle.std.specs.Ordering.{nat_cmp}
+use Rattle.dnsv_zones.specs.forms.Forms.{NoNameForm}
+use Rattle.dnsv_zones.specs.zones.Lookup.{IsLookup}
+use Rattle.dnsv_zones.specs.zones.Lookup.Answer.{NoName}
+use Rattle.dnsv_zones.specs.forms.Parts.{AreNoNameParts}
+use Rattle.dnsv_zones.specs.forms.RecordWords.{words}
+use Rattle.dnsv_zones.specs.zones.Zone.{Zone}
 use Rattle.dnsv_denial.specs.ChainSaid.{chain_said}
-use Rattle.dnsv_denial.specs.Forms.{NoNameForm}
-use Rattle.dnsv_denial.specs.Lookup.{IsLookup}
-use Rattle.dnsv_denial.specs.Lookup.Answer.{NoName}
-use Rattle.dnsv_denial.specs.Parts.{AreNoNameParts}
 use Rattle.dnsv_denial.specs.RecordsAt.{HasRecordsAt, HasNoCollisionBy}
-use Rattle.dnsv_denial.specs.RecordWords.{words}
-use Rattle.dnsv_denial.specs.Zone.{Zone}
 use Rattle.dnsv_denial.proofs.FirstLemmas.{if_some}
 use Rattle.dnsv_denial.proofs.MeaningAt.{no_name_at}
 use Rattle.dnsv_denial.proofs.WildcardLemmas.{no_name_found}

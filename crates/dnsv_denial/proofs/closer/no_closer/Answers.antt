@@ -2,14 +2,14 @@ use Rattle.std.proofs.Common.{ℕ, [], ◌∷◌}
 use Rattle.std.specs.Ordering.{nat_cmp}
 use Rattle.dnsv_names.specs.Name.{rightmost}
 use Rattle.dnsv_names.specs.Tree.{wildcard_of}
+use Rattle.dnsv_zones.specs.forms.Forms.{NoCloserForm}
+use Rattle.dnsv_zones.specs.zones.Lookup.{IsLookup}
+use Rattle.dnsv_zones.specs.zones.Lookup.Answer.{Held}
+use Rattle.dnsv_zones.specs.forms.Parts.{IsNoCloserPart}
+use Rattle.dnsv_zones.specs.forms.RecordWords.{words}
+use Rattle.dnsv_zones.specs.zones.Zone.{Zone, Holds}
 use Rattle.dnsv_denial.specs.ChainSaid.{chain_said}
-use Rattle.dnsv_denial.specs.Forms.{NoCloserForm}
-use Rattle.dnsv_denial.specs.Lookup.{IsLookup}
-use Rattle.dnsv_denial.specs.Lookup.Answer.{Held}
-use Rattle.dnsv_denial.specs.Parts.{IsNoCloserPart}
 use Rattle.dnsv_denial.specs.RecordsAt.{HasRecordsAt}
-use Rattle.dnsv_denial.specs.RecordWords.{words}
-use Rattle.dnsv_denial.specs.Zone.{Zone, Holds}
 use Rattle.dnsv_denial.proofs.FirstLemmas.{if_some}
 use Rattle.dnsv_denial.proofs.MeaningAt.{no_closer_at}
 use Rattle.dnsv_denial.proofs.WildcardLemmas.{no_closer_found}

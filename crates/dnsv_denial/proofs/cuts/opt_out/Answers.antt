@@ -1,8 +1,8 @@
 use Rattle.std.proofs.Common.{ℕ, ◌+◌, ◌-◌, ⊎_elim, arith}
 use Rattle.dnsv_names.specs.Name.{rightmost}
 use Rattle.dnsv_names.specs.Tree.{wildcard_of}
+use Rattle.dnsv_zones.specs.forms.Parts.{OptsOut}
 use Rattle.dnsv_denial.specs.ChainSaid.{chain_said}
-use Rattle.dnsv_denial.specs.Parts.{OptsOut}
 use Rattle.dnsv_denial.proofs.WildcardLemmas.{fewer_yet, no_fewer_labels}
 use Rattle.dnsv_denial.proofs.cuts.opt_out.Goals as goal
 

@@ -1,7 +1,7 @@
 -- nothing is left out below a closest encloser with so many labels
 use Rattle.std.proofs.Common.{ℕ, ◌<◌}
+use Rattle.dnsv_zones.specs.forms.Parts.{OptsOut}
 use Rattle.dnsv_denial.specs.ChainSaid.{chain_said}
-use Rattle.dnsv_denial.specs.Parts.{OptsOut}
 use Rattle.dnsv_denial.proofs.cuts.opt_out.Given as goal
 
 abbrev pub invariant-loop-labels : goal.invariant-loop-labels

@@ -1,8 +1,8 @@
 use Rattle.std.proofs.Common.{ℕ, ◌+◌, refl, inl, inr, ⊎_elim}
 use Rattle.dnsv_names.specs.Name.{rightmost}
 use Rattle.dnsv_names.specs.Tree.{wildcard_of}
+use Rattle.dnsv_zones.specs.forms.RecordWords.{words}
 use Rattle.dnsv_denial.specs.ChainSaid.{chain_said}
-use Rattle.dnsv_denial.specs.RecordWords.{words}
 use Rattle.dnsv_denial.proofs.cuts.opts_out.Goals as goal
 
 pub returns-then-is_opted_out : goal.returns-then-is_opted_out

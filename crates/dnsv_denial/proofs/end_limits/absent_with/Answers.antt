@@ -1,5 +1,5 @@
 use Rattle.std.proofs.Common.{arith, subst, sym}
-use Rattle.dnsv_denial.specs.Nsec.{IsAbsentBy}
+use Rattle.dnsv_zones.specs.forms.Nsec.{IsAbsentBy}
 use Rattle.dnsv_denial.specs.Record.{read_entry}
 use Rattle.dnsv_denial.proofs.EndLimitLemmas.{denies_no_fewer}
 use Rattle.dnsv_denial.proofs.end_limits.absent_with.Goals as goal

@@ -1,7 +1,7 @@
 use Rattle.std.proofs.Common.{◌≡◌, ◌+◌, ◌-◌, ◌≤◌, ◌<◌, length, min, max, arith, subst}
+use Rattle.dnsv_zones.specs.forms.Forms.{EndsAt}
+use Rattle.dnsv_zones.specs.forms.RecordWords.{words}
 use Rattle.dnsv_denial.specs.ChainSaid.{chain_said}
-use Rattle.dnsv_denial.specs.Forms.{EndsAt}
-use Rattle.dnsv_denial.specs.RecordWords.{words}
 use Rattle.dnsv_denial.proofs.EndLimitLemmas.{absent_within, shown_within}
 use Rattle.dnsv_denial.proofs.WildcardLemmas.{no_fewer_labels}
 use Rattle.dnsv_denial.proofs.end_limits.end_limits.Goals as goal

@@ -1,5 +1,5 @@
 use Rattle.std.proofs.Common.{subst, sym}
-use Rattle.dnsv_denial.specs.Nsec.{IsNodeBy}
+use Rattle.dnsv_zones.specs.forms.Nsec.{IsNodeBy}
 use Rattle.dnsv_denial.specs.Record.{read_entry}
 use Rattle.dnsv_denial.proofs.EndLimitLemmas.{shows_no_more}
 use Rattle.dnsv_denial.proofs.end_limits.shown_with.Goals as goal

@@ -1,5 +1,5 @@
 use Rattle.std.proofs.Common.{refl, [], ◌∷◌, arith}
-use Rattle.dnsv_denial.specs.Parts.IsEncloserPart.{no_record, a_record}
+use Rattle.dnsv_zones.specs.forms.Parts.IsEncloserPart.{no_record, a_record}
 use Rattle.dnsv_denial.proofs.ends.end_at.Goals as goal
 
 pub overflow_add-labels : goal.overflow_add-labels

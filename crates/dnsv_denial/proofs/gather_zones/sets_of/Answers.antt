@@ -1,8 +1,8 @@
 use Rattle.std.proofs.Common.{◌≡◌, ◌↔◌, map, refl, sym, ap, ◌∙◌, subst}
 use Rattle.std.specs.Prelude.{Contains}
 use Rattle.std.specs.List.Sorted.{IsStrictlySortedBy}
+use Rattle.dnsv_zones.specs.chains.Rdata.{parameters_of}
 use Rattle.dnsv_denial.specs.EvidenceWords.{parameters_cmp}
-use Rattle.dnsv_denial.specs.Record.{parameters_of}
 use Rattle.dnsv_denial.proofs.GatherZoneLemmas.{all_sets, no_sets, set_more}
 use Rattle.dnsv_denial.proofs.HashCountLemmas.{none_counted, one_counted}
 use Rattle.dnsv_denial.proofs.gather_zones.sets_of.Goals as goal

@@ -1,7 +1,7 @@
 -- the sets so far, and how many hashes were made for them
 use Rattle.std.proofs.Common.{◌≡◌, map}
 use Rattle.dnsv_names.specs.Count.{counted}
-use Rattle.dnsv_denial.specs.HashedNames.{hashes_for}
+use Rattle.dnsv_zones.specs.chains.HashedNames.{hashes_for}
 use Rattle.dnsv_denial.proofs.GatherZoneLemmas.{AreSetsTo}
 use Rattle.dnsv_denial.proofs.gather_zones.sets_of.Given as goal
 

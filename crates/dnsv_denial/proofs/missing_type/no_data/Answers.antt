@@ -3,16 +3,16 @@ use Rattle.std.proofs.Common.{◌≡◌, ℕ, [], ◌∷◌, length, subst, sym,
 use Rattle.std.specs.Ordering.{nat_cmp}
 use Rattle.dnsv_names.specs.Name.{Labels, rightmost}
 use Rattle.dnsv_names.specs.AncestorLaws.{rightmost_all}
+use Rattle.dnsv_zones.specs.forms.Forms.{NoDataForms}
+use Rattle.dnsv_zones.specs.zones.Lookup.{IsLookup}
+use Rattle.dnsv_zones.specs.zones.Lookup.Answer.{NoData}
+use Rattle.dnsv_zones.specs.forms.Parts.{IsLowest, AreNoDataParts}
+use Rattle.dnsv_zones.specs.forms.Parts.AreNoDataParts.{at_name, empty}
+use Rattle.dnsv_zones.specs.forms.RecordWords.{words}
+use Rattle.dnsv_zones.specs.zones.Types.{Denies}
+use Rattle.dnsv_zones.specs.zones.Zone.{Zone}
 use Rattle.dnsv_denial.specs.ChainSaid.{chain_said}
-use Rattle.dnsv_denial.specs.Forms.{NoDataForms}
-use Rattle.dnsv_denial.specs.Lookup.{IsLookup}
-use Rattle.dnsv_denial.specs.Lookup.Answer.{NoData}
-use Rattle.dnsv_denial.specs.Parts.{IsLowest, AreNoDataParts}
-use Rattle.dnsv_denial.specs.Parts.AreNoDataParts.{at_name, empty}
 use Rattle.dnsv_denial.specs.RecordsAt.{HasRecordsAt, HasNoCollisionBy}
-use Rattle.dnsv_denial.specs.RecordWords.{words}
-use Rattle.dnsv_denial.specs.Types.{Denies}
-use Rattle.dnsv_denial.specs.Zone.{Zone}
 use Rattle.dnsv_denial.proofs.FirstLemmas.{if_some}
 use Rattle.dnsv_denial.proofs.MeaningAt.{no_data_at}
 use Rattle.dnsv_denial.proofs.NoDataLemmas.{none_outside, none_at_name, none_empty, none_at_wildcard, by_wildcard_data, last_found}

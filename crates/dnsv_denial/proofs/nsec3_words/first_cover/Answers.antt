@@ -1,8 +1,9 @@
 use Rattle.std.proofs.Common.{◌≡◌}
+use Rattle.dnsv_zones.specs.chains.Rdata.{parameters_of}
 use Rattle.dnsv_denial.specs.Asked.{asked_name}
 use Rattle.dnsv_denial.specs.AskedHash.{hash_of}
 use Rattle.dnsv_denial.specs.HashWords.{CoversHash}
-use Rattle.dnsv_denial.specs.Record.{flags_of, parameters_of, read_nsec3}
+use Rattle.dnsv_denial.specs.Record.{flags_of, read_nsec3}
 use Rattle.dnsv_denial.proofs.FirstAmongLemmas.{first_of_parts}
 use Rattle.dnsv_denial.proofs.HashIndexLemmas.{cover_listed}
 use Rattle.dnsv_denial.proofs.HashLemmas.{cover_first}

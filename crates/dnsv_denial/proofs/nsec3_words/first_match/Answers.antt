@@ -1,8 +1,9 @@
+use Rattle.dnsv_zones.specs.chains.NsecChain.{IsInBitmap}
+use Rattle.dnsv_zones.specs.chains.Rdata.{parameters_of}
 use Rattle.dnsv_denial.specs.Asked.{asked_name, said_types}
 use Rattle.dnsv_denial.specs.AskedHash.{hash_of}
 use Rattle.dnsv_denial.specs.HashWords.{HasHash}
-use Rattle.dnsv_denial.specs.NsecChain.{IsInBitmap}
-use Rattle.dnsv_denial.specs.Record.{parameters_of, read_nsec3}
+use Rattle.dnsv_denial.specs.Record.{read_nsec3}
 use Rattle.dnsv_denial.proofs.FirstAmongLemmas.{first_listed}
 use Rattle.dnsv_denial.proofs.HashIndexLemmas.{match_listed}
 use Rattle.dnsv_denial.proofs.HashLemmas.{match_first}

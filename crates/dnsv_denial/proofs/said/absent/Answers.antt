@@ -1,9 +1,9 @@
 use Rattle.std.proofs.Common.{◌≡◌, subst, sym}
+use Rattle.dnsv_zones.specs.forms.Nsec.{IsAbsentBy}
+use Rattle.dnsv_zones.specs.forms.Nsec3.{Covers}
 use Rattle.dnsv_denial.specs.Asked.{asked_name}
 use Rattle.dnsv_denial.specs.AskedHash.{hash_of}
 use Rattle.dnsv_denial.specs.ChainSaid.{chain_said, HasHashes}
-use Rattle.dnsv_denial.specs.Nsec.{IsAbsentBy}
-use Rattle.dnsv_denial.specs.Nsec3.{Covers}
 use Rattle.dnsv_denial.specs.Record.{read_entry, read_nsec3}
 use Rattle.dnsv_denial.specs.SaidAt.{IsSaidAt, IsFirstPlace}
 use Rattle.dnsv_denial.proofs.said.absent.Goals as goal

@@ -1,7 +1,7 @@
 use Rattle.std.proofs.Common.{subst, sym}
+use Rattle.dnsv_zones.specs.forms.Nsec.{IsInnerBy}
 use Rattle.dnsv_denial.specs.Asked.{asked_name}
 use Rattle.dnsv_denial.specs.ChainSaid.{chain_said}
-use Rattle.dnsv_denial.specs.Nsec.{IsInnerBy}
 use Rattle.dnsv_denial.specs.Record.{read_entry}
 use Rattle.dnsv_denial.specs.SaidAt.{IsSaidAt, IsFirstPlace}
 use Rattle.dnsv_denial.proofs.said.inner.Goals as goal

@@ -1,8 +1,8 @@
 use Rattle.std.proofs.Common.{◌≡◌, ◌≢◌, subst, sym}
+use Rattle.dnsv_zones.specs.forms.Nsec3.{Covers}
 use Rattle.dnsv_denial.specs.Asked.{asked_name}
 use Rattle.dnsv_denial.specs.AskedHash.{hash_of}
 use Rattle.dnsv_denial.specs.ChainSaid.{chain_said, HasHashes}
-use Rattle.dnsv_denial.specs.Nsec3.{Covers}
 use Rattle.dnsv_denial.specs.Record.{read_nsec3, flags_of}
 use Rattle.dnsv_denial.specs.SaidAt.{IsSaidAt, IsFirstPlace}
 use Rattle.dnsv_denial.proofs.HashLemmas.{opted_out_first}

@@ -1,10 +1,10 @@
 use Rattle.std.proofs.Common.{subst, sym}
 use Rattle.dnsv_names.specs.Name.{SameName}
+use Rattle.dnsv_zones.specs.forms.Nsec3.{Matches}
+use Rattle.dnsv_zones.specs.chains.NsecChain.{IsInBitmap}
 use Rattle.dnsv_denial.specs.Asked.{asked_name, said_types}
 use Rattle.dnsv_denial.specs.AskedHash.{hash_of}
 use Rattle.dnsv_denial.specs.ChainSaid.{chain_said, HasHashes}
-use Rattle.dnsv_denial.specs.Nsec3.{Matches}
-use Rattle.dnsv_denial.specs.NsecChain.{IsInBitmap}
 use Rattle.dnsv_denial.specs.Record.{read_entry, read_nsec3}
 use Rattle.dnsv_denial.specs.SaidAt.{IsSaidAt, IsFirstPlace}
 use Rattle.dnsv_denial.proofs.said.types_at.Goals as goal

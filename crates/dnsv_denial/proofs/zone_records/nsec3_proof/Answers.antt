@@ -1,9 +1,9 @@
 use Rattle.std.proofs.Common.{ℕ, length, refl, arith}
 use Rattle.std.proofs.lemmas.Option.{slice_get_read, slice_get_within}
+use Rattle.dnsv_zones.specs.chains.Rdata.{parameters_of}
 use Rattle.dnsv_denial.specs.Denials.{DenialForm}
 use Rattle.dnsv_denial.specs.EvidenceWords.Chain.{ByNsec3}
 use Rattle.dnsv_denial.specs.FirstProof.{StandsBy}
-use Rattle.dnsv_denial.specs.Record.{parameters_of}
 use Rattle.dnsv_denial.specs.Viewed.{SecuredIn}
 use Rattle.dnsv_denial.proofs.FirstLemmas.{none_with}
 use Rattle.dnsv_denial.proofs.zone_records.nsec3_proof.Goals as goal

@@ -1,13 +1,13 @@
 -- none of the sets so far has a proof
 use Rattle.std.proofs.Common.{◌≡◌, ℕ, ◌<◌, List}
 use Rattle.std.specs.Prelude.{Some, slice_get}
+use Rattle.dnsv_zones.specs.chains.Rdata.{parameters_of}
 use Rattle.dnsv_canonical.specs.Rrsets.{ReceivedRrset}
 use Rattle.dnsv_chain.specs.Trust.{KeptTrust}
 use Rattle.dnsv_denial.specs.Denials.{DenialForm}
 use Rattle.dnsv_denial.specs.EvidenceWords.Chain.{ByNsec3}
 use Rattle.dnsv_denial.specs.FirstProof.{StandsBy}
 use Rattle.dnsv_denial.specs.Kept.{IsZoneOf}
-use Rattle.dnsv_denial.specs.Record.{parameters_of}
 use Rattle.dnsv_denial.specs.Viewed.{SecuredIn}
 use Rattle.dnsv_denial.specs.declared.zone_records.ParameterSet.{ParameterSet}
 use Rattle.dnsv_denial.proofs.zone_records.nsec3_proof.Given as goal

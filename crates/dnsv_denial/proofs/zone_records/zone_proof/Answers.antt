@@ -1,11 +1,11 @@
 use Rattle.std.proofs.Common.{◌≡◌, ℕ}
 use Rattle.std.specs.Prelude.{Some, slice_get}
+use Rattle.dnsv_zones.specs.chains.Rdata.{parameters_of}
 use Rattle.dnsv_denial.specs.Denials.{DenialForm}
 use Rattle.dnsv_denial.specs.EvidenceWords.{Chain}
 use Rattle.dnsv_denial.specs.EvidenceWords.Chain.{ByNsec, ByNsec3}
 use Rattle.dnsv_denial.specs.FirstProof.{StandsBy}
 use Rattle.dnsv_denial.specs.Kept.{IsFirstSet, IsZoneProof}
-use Rattle.dnsv_denial.specs.Record.{parameters_of}
 use Rattle.dnsv_denial.specs.Viewed.{SecuredIn}
 use Rattle.dnsv_denial.specs.declared.zone_records.ParameterSet.{ParameterSet}
 use Rattle.dnsv_denial.proofs.ZoneProofLemmas.{first_by_nsec, first_by_set, none_of_zone, option_leads}

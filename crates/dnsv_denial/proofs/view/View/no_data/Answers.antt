@@ -1,7 +1,7 @@
 use Rattle.dnsv_names.specs.Name.{Labels}
+use Rattle.dnsv_zones.specs.zones.Lookup.{IsLookup}
+use Rattle.dnsv_zones.specs.zones.Lookup.Answer.{NoData}
 use Rattle.dnsv_denial.specs.FirstProof.{CanProveNoData, IsFirstNoData}
-use Rattle.dnsv_denial.specs.Lookup.{IsLookup}
-use Rattle.dnsv_denial.specs.Lookup.Answer.{NoData}
 use Rattle.dnsv_denial.specs.Viewed.{SecuredIn}
 use Rattle.dnsv_denial.proofs.FirstLemmas.{if_some}
 use Rattle.dnsv_denial.proofs.ProofMeaningLemmas.{first_no_data_means}

@@ -1,0 +1,4 @@
+pub mod BitmapLemmas
+pub mod ChainLemmas
+pub mod MoreLemmas
+pub mod NsecLemmas

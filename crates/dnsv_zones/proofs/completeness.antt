@@ -1,0 +1,2 @@
+pub mod Nsec3Complete
+pub mod NsecComplete

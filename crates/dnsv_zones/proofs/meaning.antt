@@ -1,0 +1,3 @@
+pub mod MeaningLemmas
+pub mod Nsec3Truth
+pub mod NsecTruth

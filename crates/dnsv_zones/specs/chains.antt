@@ -1,0 +1,4 @@
+pub mod HashedNames
+pub mod Nsec3Chain
+pub mod NsecChain
+pub mod Rdata

@@ -1,0 +1,5 @@
+pub mod Forms
+pub mod Nsec
+pub mod Nsec3
+pub mod Parts
+pub mod RecordWords

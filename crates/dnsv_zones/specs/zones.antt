@@ -1,0 +1,4 @@
+pub mod Lookup
+pub mod TypeNumbers
+pub mod Types
+pub mod Zone
