@@ -18,8 +18,8 @@ use Rattle.dnsv_verifier.specs.EntryLaws.{entry_cmp_total, entry_Equal}
 use Rattle.dnsv_verifier.specs.declared.answer.Answer.TheVariants.{Unknown}
 use Rattle.dnsv_verifier.specs.declared.entry.Entry.{Entry}
 use Rattle.dnsv_chain.specs.Trusted.{IsSecured}
-use Rattle.dnsv_denial.specs.Cuts.{HasUnsignedCut}
-use Rattle.dnsv_denial.specs.FirstProof.{CanProveNoData, CanProveNoName}
+use Rattle.dnsv_denial.specs.proving.FirstProof.{CanProveNoData, CanProveNoName}
+use Rattle.dnsv_denial.specs.unsigned_cuts.Cuts.{HasUnsignedCut}
 use Rattle.dnsv_verdict.proofs.FiniteLemmas.{IsFinite, finite_each, finite_one, finite_within, some_sorted}
 use Rattle.dnsv_verdict.proofs.SomeProof.{some_cut, some_no_data, some_no_name}
 use Rattle.dnsv_verdict.proofs.SureLemmas.{Surely, surely, and_then, by_cases, some_lowest}

@@ -6,7 +6,7 @@ use Rattle.dnsv_zones.specs.zones.Lookup.Answer.{NoData, NoName}
 use Rattle.dnsv_zones.specs.zones.TypeNumbers.{cname}
 use Rattle.dnsv_zones.specs.zones.Zone.{Zone}
 use Rattle.dnsv_chain.specs.Trusted.{IsSecured}
-use Rattle.dnsv_denial.specs.WholeChain.{HasFirmChain, IsJustFirmChain, IsJustNsec3Chain}
+use Rattle.dnsv_denial.specs.proving.WholeChain.{HasFirmChain, IsJustFirmChain, IsJustNsec3Chain}
 use Rattle.dnsv_verdict.specs.Settled.{HasAnswer}
 use Rattle.dnsv_verdict.specs.Verdict.{Basis}
 use Rattle.dnsv_verdict.specs.declared.verdict.Verdict.{Verdict}

@@ -1,6 +1,6 @@
 //! Calls of the functions below a view, which are asked about the records of one chain: of each RRset of a capture they
 //! get the first record. Its place among these is counted from 0.
-ghost use Rattle.dnsv_denial.specs.ChainSaid.{HasHashes};
+ghost use Rattle.dnsv_denial.specs.words.ChainSaid.{HasHashes};
 
 use crate::denial::rtype_of;
 use crate::evidence::capture_or_refusal;

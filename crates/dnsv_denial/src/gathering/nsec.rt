@@ -1,0 +1,88 @@
+//! The records of a zone among the evidence.
+ghost use Rattle.std.specs.Prelude.{◌≡◌, ◌++◌, List, IfOk, OnOk, map};
+ghost use Rattle.std.specs.List.{AllByRecursion};
+ghost use Rattle.dnsv_records.specs.Nsec.{IsNsec};
+ghost use Rattle.dnsv_canonical.specs.Canonical.{IsCanonical};
+ghost use Rattle.dnsv_canonical.specs.Rrsets.{ReceivedRrset};
+ghost use Rattle.dnsv_chain.specs.Trusted.{IsNumbered};
+ghost use Rattle.dnsv_denial.specs.Viewed.{SecuredIn};
+ghost use Rattle.dnsv_denial.specs.gathering.Gathered.{AreNsecs, AreNsecsOf};
+
+use crate::gathering::canonical_order::{ReadRecord, put_in_order};
+use crate::gathering::secured::has_zone_signature;
+use crate::records::entry::NsecEntry;
+use crate::records::number::RecordNumber;
+use dnsv_canonical::{Capture, Rrset};
+use dnsv_chain::Trust;
+use dnsv_names::{Name, RecordType};
+use dnsv_records::Nsec;
+use std::alloc::{AllocError, Global};
+
+/// The NSEC records of the capture that the zone secured, in the order of their numbers.
+pub fn nsecs_of<'a>(
+    alloc: Global,
+    capture: &'a Capture,
+    trust: &Trust,
+    zone: &Name,
+) -> Result<Vec<NsecEntry<'a>>, AllocError>
+    ensures { IfOk result (λ entries. AreNsecsOf (SecuredIn trust.now) capture.now.rrsets zone.now entries.items) }
+{
+    let mut entries = Vec::new(alloc);
+    for (place, rrset) in capture.rrsets().iter().enumerate() {
+        let number = place + 1;
+        if rrset.rtype() == RecordType::NSEC
+            && has_zone_signature(rrset, trust.signed(number), zone)
+        {
+            push_nsecs(alloc, &mut entries, number, rrset)?;
+        }
+    }
+    Ok(entries)
+}
+
+/// Adds the records of the NSEC RRset with the number, in canonical order.
+fn push_nsecs<'a>(
+    alloc: Global,
+    entries: &mut Vec<NsecEntry<'a>>,
+    number: usize,
+    rrset: &'a Rrset,
+) -> Result<(), AllocError>
+    requires { rrset.now.rtype ≡ 47 }
+    ensures { (rrsets : List ReceivedRrset) → IsNumbered rrsets number rrset.now
+        → OnOk result ((more : List NsecEntry) × (entries.new.items ≡ entries.old.items ++ more)
+        × AreNsecs rrsets (λ each. each.rrset ≡ number) more) }
+{
+    let records = canonical_nsecs(alloc, rrset)?;
+    for (place, each) in records.iter().enumerate() {
+        entries.push(NsecEntry {
+            number: RecordNumber {
+                rrset: number,
+                place: place + 1,
+            },
+            owner: rrset.owner(),
+            nsec: each.record,
+        })?;
+    }
+    Ok(())
+}
+
+/// The records of an NSEC RRset in canonical order.
+fn canonical_nsecs<'a>(
+    alloc: Global,
+    rrset: &'a Rrset,
+) -> Result<Vec<ReadRecord<'a, Nsec>>, AllocError>
+    requires { rrset.now.rtype ≡ 47 }
+    ensures order { IfOk result (λ records. IsCanonical rrset.now.rdata
+        (map (λ each. each.rdata.now) records.items)) }
+    ensures read { IfOk result (λ records. AllByRecursion (λ each. IsNsec each.rdata.now each.record.now)
+        records.items) }
+{
+    let mut records = Vec::new(alloc);
+    for (place, nsec) in rrset.nsecs().iter().enumerate() {
+        records.push(ReadRecord {
+            rdata: rrset.rdata(place),
+            record: nsec,
+        })?;
+    }
+    put_in_order(&mut records);
+    Ok(records)
+}
