@@ -1,17 +1,15 @@
 -- What the records of a zone among the evidence say of names, each by its number.
-use Rattle.std.specs.Prelude.{◌≡◌, ◌≢◌, ℕ, List}
+use Rattle.std.specs.Prelude.{◌≡◌, ℕ, List}
 use Rattle.std.specs.Ordering.{nat_cmp, ordering_then}
 use Rattle.std.specs.declared.cmp.Ordering.{Ordering}
 use Rattle.std.specs.declared.cmp.Ordering.TheVariants.{Less}
-use Rattle.dnsv_names.specs.Name.{Labels, SameName}
+use Rattle.dnsv_names.specs.Name.{Labels}
 use Rattle.dnsv_names.specs.Octets.{octets_cmp}
 use Rattle.dnsv_zones.specs.chains.HashedNames.{sha1_hash}
 use Rattle.dnsv_zones.specs.chains.Nsec3Chain.{Nsec3Record, Parameters}
-use Rattle.dnsv_zones.specs.chains.NsecChain.{NsecRecord, IsInBitmap}
-use Rattle.dnsv_zones.specs.forms.Nsec.{IsAbsentBy, IsInnerBy, IsNodeBy}
-use Rattle.dnsv_zones.specs.forms.Nsec3.{Covers, Matches}
+use Rattle.dnsv_zones.specs.chains.NsecChain.{NsecRecord}
 use Rattle.dnsv_zones.specs.forms.RecordWords.{RecordWords}
-use Rattle.dnsv_zones.specs.zones.Types.{IsClosed}
+use Rattle.dnsv_zones.specs.forms.Said.{nsec_records_say, nsec3_records_say}
 use Rattle.dnsv_canonical.specs.Rrsets.{ReceivedRrset}
 use Rattle.dnsv_denial.specs.gathering.Evidence.{IsNsecAt, IsNsec3At}
 use Rattle.dnsv_denial.specs.declared.records.number.RecordNumber.{RecordNumber}
@@ -26,32 +24,14 @@ abbrev pub SaidByNsec3
 SaidByNsec3 Secured rrsets zone Says number =
     (nsec3 : Nsec3Record) × IsNsec3At Secured rrsets zone number nsec3 × Says nsec3
 
--- what NSEC records of the zone say; that the apex is there they needn't
+-- what NSEC records of the zone say
 abbrev pub nsec_said : (ℕ → ℕ → Type 0) → List ReceivedRrset → Labels → RecordWords RecordNumber
-nsec_said Secured rrsets zone = record {
-  NeedsNone = λ name. SameName name zone;
-  Encloser = λ name. SaidByNsec Secured rrsets zone (λ nsec. IsNodeBy nsec name);
-  Absent = λ name. SaidByNsec Secured rrsets zone (λ nsec. IsAbsentBy nsec name);
-  Inner = λ name. SaidByNsec Secured rrsets zone (λ nsec. IsInnerBy nsec name);
-  TypesAt = λ name Says. SaidByNsec Secured rrsets zone
-      (λ nsec. SameName nsec.owner name × Says (IsInBitmap nsec.types));
-  OptedOut = λ name number. ⊥;
-}
+nsec_said Secured rrsets zone = nsec_records_say zone (SaidByNsec Secured rrsets zone)
 
 -- what NSEC3 records of the zone with these parameters say
 abbrev pub nsec3_said : (ℕ → ℕ → Type 0) → List ReceivedRrset → Labels → Parameters → RecordWords RecordNumber
-nsec3_said Secured rrsets zone parameters = record {
-  NeedsNone = λ name. ⊥;
-  Encloser = λ name. SaidByNsec3 Secured rrsets zone
-      (λ nsec3. Matches (sha1_hash parameters) nsec3 name × ¬ IsClosed (IsInBitmap nsec3.types));
-  Absent = λ name. SaidByNsec3 Secured rrsets zone
-      (λ nsec3. Covers (sha1_hash parameters) nsec3 name × (nsec3.flags ≡ 0));
-  Inner = λ name number. ⊥;
-  TypesAt = λ name Says. SaidByNsec3 Secured rrsets zone
-      (λ nsec3. Matches (sha1_hash parameters) nsec3 name × Says (IsInBitmap nsec3.types));
-  OptedOut = λ name. SaidByNsec3 Secured rrsets zone
-      (λ nsec3. Covers (sha1_hash parameters) nsec3 name × (nsec3.flags ≢ 0));
-}
+nsec3_said Secured rrsets zone parameters =
+    nsec3_records_say (sha1_hash parameters) (SaidByNsec3 Secured rrsets zone)
 
 -- ---- chains
 
