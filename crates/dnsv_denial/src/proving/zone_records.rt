@@ -9,6 +9,7 @@ ghost use Rattle.dnsv_denial.specs.forms.Denials.{DenialForm};
 ghost use Rattle.dnsv_denial.specs.gathering.Kept.{AreSets, IsFirstSet, IsSetOf, IsZoneOf, IsZoneProof};
 ghost use Rattle.dnsv_denial.specs.proving.ChainOf.{IsProofBy};
 ghost use Rattle.dnsv_denial.specs.proving.FirstProof.{StandsBy};
+ghost use Rattle.dnsv_denial.specs.records.AskedHash.{HasHashesOf};
 ghost use Rattle.dnsv_denial.specs.words.EvidenceWords.{Chain};
 ghost use Rattle.dnsv_denial.specs.words.EvidenceWords.Chain.{ByNsec3};
 
@@ -103,12 +104,27 @@ fn set_proof(
         (IsProofBy (SecuredIn trust) rrsets denial name.now zone.now.zone
         (ByNsec3 (parameters_of set.now.parameters.now))) }
 {
-    let hashed = Nsec3Records {
+    let hashed = nsec3_records(name, zone, set);
+    chain_proof(denial, &zone.zone, name, &ChainRecords::Nsec3(&hashed))
+}
+
+/// The zone's NSEC3 records, with the set's hashes of the names that a question of the name asks for.
+pub fn nsec3_records<'a>(
+    name: &'a Name,
+    zone: &'a ZoneRecords<'a>,
+    set: &'a ParameterSet<'a>,
+) -> Nsec3Records<'a>
+    requires { IsSetOf name.now set.now }
+    ensures entries { result.entries.now ≡ zone.now.nsec3s }
+    ensures parameters { result.parameters.now ≡ set.now.parameters.now }
+    ensures name { result.name.now ≡ name.now }
+    ensures hashes { HasHashesOf result }
+{
+    Nsec3Records {
         entries: &zone.nsec3s,
         name,
         parameters: set.parameters,
         above: &set.hashed.above,
         wildcards: &set.hashed.wildcards,
-    };
-    chain_proof(denial, &zone.zone, name, &ChainRecords::Nsec3(&hashed))
+    }
 }

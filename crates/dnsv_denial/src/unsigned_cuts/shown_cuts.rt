@@ -24,9 +24,8 @@ ghost use Rattle.dnsv_denial.specs.words.EvidenceWords.{Chain};
 ghost use Rattle.dnsv_denial.specs.words.EvidenceWords.Chain.{ByNsec3};
 
 use crate::forms::cuts::{opt_out, unsigned_delegation};
-use crate::proving::zone_records::{ParameterSet, ZoneRecords};
+use crate::proving::zone_records::{ParameterSet, ZoneRecords, nsec3_records};
 use crate::records::chain_records::ChainRecords;
-use crate::records::hashes::Nsec3Records;
 use crate::unsigned_cuts::findings::{greater, lesser};
 use dnsv_names::Name;
 
@@ -96,13 +95,7 @@ fn set_cuts(zone: &ZoneRecords<'_>, name: &Name, set: &ParameterSet<'_>) -> Show
         → AreShown (IsCutBySet (SecuredIn trust) rrsets name.now zone.now.zone set.now)
         (IsOptOutBySet (SecuredIn trust) rrsets name.now zone.now.zone set.now) result }
 {
-    let hashed = Nsec3Records {
-        entries: &zone.nsec3s,
-        name,
-        parameters: set.parameters,
-        above: &set.hashed.above,
-        wildcards: &set.hashed.wildcards,
-    };
+    let hashed = nsec3_records(name, zone, set);
     chain_cuts(&zone.zone, name, &ChainRecords::Nsec3(&hashed))
 }
 

@@ -14,9 +14,8 @@ ghost use Rattle.dnsv_denial.specs.words.EvidenceWords.{Chain};
 ghost use Rattle.dnsv_denial.specs.words.EvidenceWords.Chain.{ByNsec3};
 
 use crate::forms::closer::loose_closer;
-use crate::proving::zone_records::{ParameterSet, ZoneRecords};
+use crate::proving::zone_records::{ParameterSet, ZoneRecords, nsec3_records};
 use crate::records::chain_records::ChainRecords;
-use crate::records::hashes::Nsec3Records;
 use dnsv_names::Name;
 
 /// Whether an unsigned delegation of the zone may stand against an answer from the wildcard below the name's so many
@@ -52,13 +51,7 @@ fn set_loose_closer(
         → IsTrue result ↔ LeavesCloserOf (SecuredIn trust) rrsets name.now labels zone.now.zone
         (ByNsec3 (parameters_of set.now.parameters.now)) }
 {
-    let hashed = Nsec3Records {
-        entries: &zone.nsec3s,
-        name,
-        parameters: set.parameters,
-        above: &set.hashed.above,
-        wildcards: &set.hashed.wildcards,
-    };
+    let hashed = nsec3_records(name, zone, set);
     chain_loose_closer(&zone.zone, name, labels, &ChainRecords::Nsec3(&hashed))
 }
 
