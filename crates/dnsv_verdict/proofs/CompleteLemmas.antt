@@ -6,7 +6,7 @@ use Rattle.dnsv_zones.specs.zones.Lookup.{IsLookup}
 use Rattle.dnsv_zones.specs.zones.Lookup.Answer.{NoData, NoName}
 use Rattle.dnsv_zones.specs.zones.TypeNumbers.{rrsig, nsec}
 use Rattle.dnsv_zones.specs.zones.Zone.{Zone}
-use Rattle.dnsv_zones.proofs.zones.LookupLemmas.{one_answer}
+use Rattle.dnsv_zones.proofs.lemmas.zones.LookupLemmas.{one_answer}
 use Rattle.dnsv_canonical.specs.Rrsets.{IsQuestion, forms_rrsets}
 use Rattle.dnsv_denial.specs.proving.FirstProof.{CanProveNoData, CanProveNoName}
 use Rattle.dnsv_denial.specs.proving.WholeChain.{HasFirmChain, IsJustFirmChain, IsJustNsec3Chain}

@@ -1,3 +1,4 @@
+-- What a zone is, and what it answers.
 pub mod Lookup
 pub mod TypeNumbers
 pub mod Types

@@ -12,10 +12,10 @@ use Rattle.dnsv_zones.specs.forms.Nsec.{nsec_words}
 use Rattle.dnsv_zones.specs.forms.Nsec3.{Matches, Covers, nsec3_words}
 use Rattle.dnsv_zones.specs.zones.Types.{IsClosed, IsUnsignedDelegation}
 use Rattle.dnsv_zones.specs.zones.Zone.{Zone, Holds, IsNode, IsClosedAt}
-use Rattle.dnsv_zones.proofs.AnyLemmas.{any_map}
-use Rattle.dnsv_zones.proofs.meaning.MeaningLemmas.{unsigned_cut}
-use Rattle.dnsv_zones.proofs.meaning.NsecTruth.{nsec_true, absent as absent_by_nsec}
-use Rattle.dnsv_zones.proofs.meaning.Nsec3Truth.{nsec3_true, open_node, absent as absent_by_nsec3, covered_end}
+use Rattle.dnsv_zones.proofs.lemmas.AnyLemmas.{any_map}
+use Rattle.dnsv_zones.proofs.lemmas.meaning.MeaningLemmas.{unsigned_cut}
+use Rattle.dnsv_zones.proofs.lemmas.meaning.NsecTruth.{nsec_true, absent as absent_by_nsec}
+use Rattle.dnsv_zones.proofs.lemmas.meaning.Nsec3Truth.{nsec3_true, open_node, absent as absent_by_nsec3, covered_end}
 use Rattle.dnsv_canonical.specs.Rrsets.{ReceivedRrset}
 use Rattle.dnsv_denial.specs.proving.ProofMeaning.{IsWithoutCollision}
 use Rattle.dnsv_denial.specs.proving.ProofMeaning.HasProofRecords.{by_nsec, by_nsec3}

@@ -6,7 +6,7 @@ use Rattle.dnsv_zones.specs.forms.Forms.{IsAbove, Words}
 use Rattle.dnsv_zones.specs.zones.Lookup.{IsLookup}
 use Rattle.dnsv_zones.specs.zones.Lookup.Answer.{Held}
 use Rattle.dnsv_zones.specs.zones.Zone.{Zone, Holds, IsNode, IsWellFormed}
-use Rattle.dnsv_zones.proofs.meaning.MeaningLemmas.{held_at_wildcard}
+use Rattle.dnsv_zones.proofs.lemmas.meaning.MeaningLemmas.{held_at_wildcard}
 use Rattle.dnsv_canonical.specs.Rrsets.{ReceivedRrset}
 use Rattle.dnsv_denial.specs.proving.ProofMeaning.HasProofRecords.{by_nsec, by_nsec3}
 use Rattle.dnsv_denial.specs.unsigned_cuts.CutMeaning.{HasRecord}

@@ -13,9 +13,9 @@ use Rattle.dnsv_zones.specs.zones.Lookup.{IsLookup}
 use Rattle.dnsv_zones.specs.zones.Lookup.Answer.{NoData, NoName}
 use Rattle.dnsv_zones.specs.zones.TypeNumbers.{rrsig, nsec}
 use Rattle.dnsv_zones.specs.zones.Zone.{Zone}
-use Rattle.dnsv_zones.proofs.chains.MoreLemmas.{no_name_more, no_data_more}
-use Rattle.dnsv_zones.proofs.completeness.NsecComplete as by_nsec_records
-use Rattle.dnsv_zones.proofs.completeness.Nsec3Complete as by_nsec3_records
+use Rattle.dnsv_zones.proofs.lemmas.chains.MoreLemmas.{no_name_more, no_data_more}
+use Rattle.dnsv_zones.proofs.lemmas.completeness.NsecComplete as by_nsec_records
+use Rattle.dnsv_zones.proofs.lemmas.completeness.Nsec3Complete as by_nsec3_records
 use Rattle.dnsv_canonical.specs.Rrsets.{ReceivedRrset}
 use Rattle.dnsv_canonical.proofs.CanonicalLemmas.{IsMember, IsMember-from_contains}
 use Rattle.dnsv_denial.specs.gathering.Evidence.{IsNsecAt, IsNsec3At}

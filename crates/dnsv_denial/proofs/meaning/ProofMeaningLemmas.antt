@@ -17,10 +17,10 @@ use Rattle.dnsv_zones.specs.zones.Lookup.{IsLookup}
 use Rattle.dnsv_zones.specs.zones.Lookup.Answer.{NoName, NoData, Held}
 use Rattle.dnsv_zones.specs.zones.Types.{IsClosed}
 use Rattle.dnsv_zones.specs.zones.Zone.{Zone, Holds}
-use Rattle.dnsv_zones.proofs.AnyLemmas.{any_map, any_both, found}
-use Rattle.dnsv_zones.proofs.meaning.MeaningLemmas.{no_name, any_no_data, held_at_wildcard}
-use Rattle.dnsv_zones.proofs.meaning.NsecTruth.{nsec_true, absent as absent_by_nsec}
-use Rattle.dnsv_zones.proofs.meaning.Nsec3Truth.{nsec3_true, absent as absent_by_nsec3}
+use Rattle.dnsv_zones.proofs.lemmas.AnyLemmas.{any_map, any_both, found}
+use Rattle.dnsv_zones.proofs.lemmas.meaning.MeaningLemmas.{no_name, any_no_data, held_at_wildcard}
+use Rattle.dnsv_zones.proofs.lemmas.meaning.NsecTruth.{nsec_true, absent as absent_by_nsec}
+use Rattle.dnsv_zones.proofs.lemmas.meaning.Nsec3Truth.{nsec3_true, absent as absent_by_nsec3}
 use Rattle.dnsv_canonical.specs.Rrsets.{ReceivedRrset}
 use Rattle.dnsv_canonical.proofs.CanonicalLemmas.{IsMember, IsMember-from_contains, Contains-from_member}
 use Rattle.dnsv_denial.specs.gathering.Evidence.{IsNsecOf, IsNsec3Of}

@@ -13,10 +13,10 @@ use Rattle.dnsv_zones.specs.zones.Lookup.Answer.{NoData, NoName}
 use Rattle.dnsv_zones.specs.zones.TypeNumbers.{ns, soa, ds, rrsig, nsec}
 use Rattle.dnsv_zones.specs.zones.Types.{IsUnsignedDelegation}
 use Rattle.dnsv_zones.specs.zones.Zone.{Zone, Holds}
-use Rattle.dnsv_zones.proofs.chains.MoreLemmas.{SayMore, no_name_more, no_data_more, unsigned_cut_more}
-use Rattle.dnsv_zones.proofs.completeness.NsecComplete as by_nsec_records
-use Rattle.dnsv_zones.proofs.completeness.Nsec3Complete as by_nsec3_records
-use Rattle.dnsv_zones.proofs.zones.ZoneLemmas.{delegation_respects, holds_respects}
+use Rattle.dnsv_zones.proofs.lemmas.chains.MoreLemmas.{SayMore, no_name_more, no_data_more, unsigned_cut_more}
+use Rattle.dnsv_zones.proofs.lemmas.completeness.NsecComplete as by_nsec_records
+use Rattle.dnsv_zones.proofs.lemmas.completeness.Nsec3Complete as by_nsec3_records
+use Rattle.dnsv_zones.proofs.lemmas.zones.ZoneLemmas.{delegation_respects, holds_respects}
 use Rattle.dnsv_canonical.specs.Rrsets.{ReceivedRrset}
 use Rattle.dnsv_denial.specs.proving.FirstProof.{CanProveNoData, CanProveNoName}
 use Rattle.dnsv_denial.specs.proving.WholeChain.{HasFirmChain, HasWholeChain, HasWholeNsecChain, HasWholeNsec3Chain, IsFirm}

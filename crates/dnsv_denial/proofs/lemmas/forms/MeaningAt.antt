@@ -14,9 +14,9 @@ use Rattle.dnsv_zones.specs.zones.Lookup.{IsLookup}
 use Rattle.dnsv_zones.specs.zones.Lookup.Answer.{NoName, NoData, Held}
 use Rattle.dnsv_zones.specs.zones.Types.{IsClosed}
 use Rattle.dnsv_zones.specs.zones.Zone.{Zone, Holds}
-use Rattle.dnsv_zones.proofs.meaning.MeaningLemmas.{no_name, any_no_data, held_at_wildcard}
-use Rattle.dnsv_zones.proofs.meaning.NsecTruth.{nsec_true, absent}
-use Rattle.dnsv_zones.proofs.meaning.Nsec3Truth.{nsec3_true, absent as absent3}
+use Rattle.dnsv_zones.proofs.lemmas.meaning.MeaningLemmas.{no_name, any_no_data, held_at_wildcard}
+use Rattle.dnsv_zones.proofs.lemmas.meaning.NsecTruth.{nsec_true, absent}
+use Rattle.dnsv_zones.proofs.lemmas.meaning.Nsec3Truth.{nsec3_true, absent as absent3}
 use Rattle.dnsv_canonical.proofs.CanonicalLemmas.{IsMember}
 use Rattle.dnsv_denial.specs.declared.records.chain_records.ChainRecords.{ChainRecords}
 use Rattle.dnsv_denial.specs.declared.records.chain_records.ChainRecords.TheVariants.{Nsec, Nsec3}

@@ -15,7 +15,7 @@ use Rattle.dnsv_records.proofs.OneRecord.{one_nsec}
 use Rattle.dnsv_zones.specs.Any.{Any}
 use Rattle.dnsv_zones.specs.chains.NsecChain.{NsecRecord}
 use Rattle.dnsv_zones.specs.chains.Rdata.{nsec_record}
-use Rattle.dnsv_zones.proofs.AnyLemmas.{any_map}
+use Rattle.dnsv_zones.proofs.lemmas.AnyLemmas.{any_map}
 use Rattle.dnsv_canonical.specs.Canonical.{IsCanonical}
 use Rattle.dnsv_canonical.specs.CanonicalRdata.{canonical_form}
 use Rattle.dnsv_canonical.specs.Rrsets.{ReceivedRrset}

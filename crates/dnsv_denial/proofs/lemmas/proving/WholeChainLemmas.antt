@@ -17,7 +17,7 @@ use Rattle.dnsv_zones.specs.forms.Nsec3.{Matches, Covers, nsec3_words, IsCovered
 use Rattle.dnsv_zones.specs.forms.Parts.{OptsOut}
 use Rattle.dnsv_zones.specs.forms.RecordWords.{RecordWords, words}
 use Rattle.dnsv_zones.specs.zones.Types.{IsClosed}
-use Rattle.dnsv_zones.proofs.chains.MoreLemmas.{SayMore}
+use Rattle.dnsv_zones.proofs.lemmas.chains.MoreLemmas.{SayMore}
 use Rattle.dnsv_canonical.specs.Rrsets.{ReceivedRrset}
 use Rattle.dnsv_canonical.proofs.CanonicalLemmas.{IsMember}
 use Rattle.dnsv_denial.specs.gathering.Evidence.{IsNsecAt, IsNsec3At, IsNsecOf, IsNsec3Of}

@@ -10,7 +10,7 @@ use Rattle.dnsv_zones.specs.chains.Rdata.{parameters_of}
 use Rattle.dnsv_zones.specs.forms.Forms.{UnsignedCutForm}
 use Rattle.dnsv_zones.specs.forms.Parts.{IsHighestCut, IsLowestOptOut, OptsOut}
 use Rattle.dnsv_zones.specs.forms.RecordWords.{RecordWords, words}
-use Rattle.dnsv_zones.proofs.chains.MoreLemmas.{SayMore, unsigned_cut_more}
+use Rattle.dnsv_zones.proofs.lemmas.chains.MoreLemmas.{SayMore, unsigned_cut_more}
 use Rattle.dnsv_canonical.specs.Rrsets.{ReceivedRrset}
 use Rattle.dnsv_denial.specs.gathering.Evidence.{IsNsec3At}
 use Rattle.dnsv_denial.specs.gathering.Kept.{AreSets, AreZones}

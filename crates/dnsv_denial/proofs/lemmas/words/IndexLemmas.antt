@@ -16,7 +16,7 @@ use Rattle.dnsv_zones.specs.forms.Parts.AreNoDataParts.{at_name, empty, at_wildc
 use Rattle.dnsv_zones.specs.forms.Parts.IsEncloserPart.{no_record, a_record}
 use Rattle.dnsv_zones.specs.forms.RecordWords.{RecordWords, words}
 use Rattle.dnsv_zones.specs.zones.Types.{Denies}
-use Rattle.dnsv_zones.proofs.chains.MoreLemmas.{SayMore, no_name_more, no_data_more, no_closer_more, unsigned_cut_more}
+use Rattle.dnsv_zones.proofs.lemmas.chains.MoreLemmas.{SayMore, no_name_more, no_data_more, no_closer_more, unsigned_cut_more}
 use Rattle.dnsv_denial.specs.proving.Numbers.{number_at}
 use Rattle.dnsv_denial.specs.words.EvidenceWords.{number_cmp}
 use Rattle.dnsv_denial.specs.declared.records.number.RecordNumber.{RecordNumber}

@@ -1,4 +1,4 @@
-use Rattle.dnsv_zones.proofs.chains.ChainLemmas.{nsec_chain, nsec3_chain}
+use Rattle.dnsv_zones.proofs.lemmas.chains.ChainLemmas.{nsec_chain, nsec3_chain}
 use Rattle.dnsv_zones.proofs.chain.each_zone_has_a_chain.Goals as goal
 
 pub returns-clause-nsec : goal.returns-clause-nsec

@@ -1,5 +1,5 @@
-use Rattle.dnsv_zones.proofs.zones.AnswerLemmas.{has_answer}
-use Rattle.dnsv_zones.proofs.zones.LookupLemmas.{one_answer}
+use Rattle.dnsv_zones.proofs.lemmas.zones.AnswerLemmas.{has_answer}
+use Rattle.dnsv_zones.proofs.lemmas.zones.LookupLemmas.{one_answer}
 use Rattle.dnsv_zones.proofs.lookup.a_question_has_one_answer.Goals as goal
 
 pub returns-clause-some : goal.returns-clause-some

@@ -1,5 +1,5 @@
 use Rattle.dnsv_zones.specs.forms.Nsec3.{nsec3_words}
-use Rattle.dnsv_zones.proofs.chains.MoreLemmas.{no_name_more, no_data_more, no_closer_more, unsigned_cut_more, nsec3_more, opt_out_more, loose_closer_more}
+use Rattle.dnsv_zones.proofs.lemmas.chains.MoreLemmas.{no_name_more, no_data_more, no_closer_more, unsigned_cut_more, nsec3_more, opt_out_more, loose_closer_more}
 use Rattle.dnsv_zones.proofs.more.more_nsec3_records_prove_no_less.Goals as goal
 
 pub returns-clause-no_name : goal.returns-clause-no_name

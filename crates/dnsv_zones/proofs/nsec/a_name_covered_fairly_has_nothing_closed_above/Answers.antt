@@ -1,4 +1,4 @@
-use Rattle.dnsv_zones.proofs.chains.NsecLemmas.{covered_no_owner, fair_open_above}
+use Rattle.dnsv_zones.proofs.lemmas.chains.NsecLemmas.{covered_no_owner, fair_open_above}
 use Rattle.dnsv_zones.proofs.nsec.a_name_covered_fairly_has_nothing_closed_above.Goals as goal
 
 pub returns-clause-owner : goal.returns-clause-owner

@@ -1,4 +1,4 @@
-use Rattle.dnsv_zones.proofs.chains.NsecLemmas.{inner_node, covered_no_owner}
+use Rattle.dnsv_zones.proofs.lemmas.chains.NsecLemmas.{inner_node, covered_no_owner}
 use Rattle.dnsv_zones.proofs.nsec.a_name_inner_by_nsec_is_an_empty_non_terminal.Goals as goal
 
 pub returns-clause-node : goal.returns-clause-node

@@ -1,4 +1,4 @@
-use Rattle.dnsv_zones.proofs.chains.NsecLemmas.{told_node}
+use Rattle.dnsv_zones.proofs.lemmas.chains.NsecLemmas.{told_node}
 use Rattle.dnsv_zones.proofs.nsec.nsec_records_show_nodes.Goals as goal
 
 pub returns : goal.returns

@@ -1,4 +1,4 @@
-use Rattle.dnsv_zones.proofs.meaning.Nsec3Truth.{covered_not_chained, firm_no_node}
+use Rattle.dnsv_zones.proofs.lemmas.meaning.Nsec3Truth.{covered_not_chained, firm_no_node}
 use Rattle.dnsv_zones.proofs.nsec3.a_name_covered_by_nsec3_is_none_of_the_chain.Goals as goal
 
 pub returns-clause-chained : goal.returns-clause-chained

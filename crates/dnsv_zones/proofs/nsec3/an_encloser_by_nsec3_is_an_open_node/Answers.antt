@@ -1,4 +1,4 @@
-use Rattle.dnsv_zones.proofs.meaning.Nsec3Truth.{matched, encloser_open}
+use Rattle.dnsv_zones.proofs.lemmas.meaning.Nsec3Truth.{matched, encloser_open}
 use Rattle.dnsv_zones.proofs.nsec3.an_encloser_by_nsec3_is_an_open_node.Goals as goal
 
 pub returns-clause-node : goal.returns-clause-node

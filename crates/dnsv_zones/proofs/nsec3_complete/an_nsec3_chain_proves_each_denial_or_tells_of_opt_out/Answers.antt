@@ -1,4 +1,4 @@
-use Rattle.dnsv_zones.proofs.completeness.Nsec3Complete.{no_name_proved, no_data_proved}
+use Rattle.dnsv_zones.proofs.lemmas.completeness.Nsec3Complete.{no_name_proved, no_data_proved}
 use Rattle.dnsv_zones.proofs.nsec3_complete.an_nsec3_chain_proves_each_denial_or_tells_of_opt_out.Goals as goal
 
 pub returns-clause-missing_name : goal.returns-clause-missing_name

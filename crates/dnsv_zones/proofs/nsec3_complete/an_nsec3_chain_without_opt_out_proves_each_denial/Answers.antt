@@ -1,7 +1,7 @@
 use Rattle.std.proofs.Common.{ℕ, ⊎_elim}
 use Rattle.dnsv_zones.specs.forms.Nsec3.{nsec3_words, OptOutForm}
 use Rattle.dnsv_zones.specs.forms.Forms.{NoNameForm, NoDataForms}
-use Rattle.dnsv_zones.proofs.completeness.Nsec3Complete.{no_name_proved, no_data_proved, no_opt_out, no_name_meant, no_data_meant}
+use Rattle.dnsv_zones.proofs.lemmas.completeness.Nsec3Complete.{no_name_proved, no_data_proved, no_opt_out, no_name_meant, no_data_meant}
 use Rattle.dnsv_zones.proofs.nsec3_complete.an_nsec3_chain_without_opt_out_proves_each_denial.Goals as goal
 
 pub returns-clause-missing_name : goal.returns-clause-missing_name

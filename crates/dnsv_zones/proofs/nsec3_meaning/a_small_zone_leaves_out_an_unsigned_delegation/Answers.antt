@@ -1,4 +1,4 @@
-use Rattle.dnsv_zones.proofs.examples.OptOutExample.{whole_chain, no_collision, unsigned, left_out, form}
+use Rattle.dnsv_zones.proofs.lemmas.examples.OptOutExample.{whole_chain, no_collision, unsigned, left_out, form}
 use Rattle.dnsv_zones.proofs.nsec3_meaning.a_small_zone_leaves_out_an_unsigned_delegation.Goals as goal
 
 pub returns-clause-chain : goal.returns-clause-chain

@@ -1,6 +1,6 @@
 use Rattle.dnsv_zones.specs.forms.Nsec3.{nsec3_words}
-use Rattle.dnsv_zones.proofs.meaning.MeaningLemmas.{no_name}
-use Rattle.dnsv_zones.proofs.meaning.Nsec3Truth.{nsec3_true}
+use Rattle.dnsv_zones.proofs.lemmas.meaning.MeaningLemmas.{no_name}
+use Rattle.dnsv_zones.proofs.lemmas.meaning.Nsec3Truth.{nsec3_true}
 use Rattle.dnsv_zones.proofs.nsec3_meaning.no_name_by_nsec3_is_no_name.Goals as goal
 
 pub returns : goal.returns

@@ -1,8 +1,8 @@
 use Rattle.std.proofs.Common.{◌≢◌, ◌+◌, ⊎_elim}
 use Rattle.dnsv_names.specs.Name.{rightmost}
 use Rattle.dnsv_zones.specs.forms.Nsec3.{Covers, OptOutForm, LooseCloserForm}
-use Rattle.dnsv_zones.proofs.AnyLemmas.{any_map}
-use Rattle.dnsv_zones.proofs.meaning.Nsec3Truth.{covered_end}
+use Rattle.dnsv_zones.proofs.lemmas.AnyLemmas.{any_map}
+use Rattle.dnsv_zones.proofs.lemmas.meaning.Nsec3Truth.{covered_end}
 use Rattle.dnsv_zones.proofs.nsec3_meaning.opted_out_nodes_are_unsigned_ends.Goals as goal
 
 pub returns-clause-covered : goal.returns-clause-covered

@@ -1,6 +1,6 @@
 use Rattle.dnsv_zones.specs.forms.Nsec3.{nsec3_words}
-use Rattle.dnsv_zones.proofs.meaning.MeaningLemmas.{unsigned_cut}
-use Rattle.dnsv_zones.proofs.meaning.Nsec3Truth.{nsec3_true}
+use Rattle.dnsv_zones.proofs.lemmas.meaning.MeaningLemmas.{unsigned_cut}
+use Rattle.dnsv_zones.proofs.lemmas.meaning.Nsec3Truth.{nsec3_true}
 use Rattle.dnsv_zones.proofs.nsec3_meaning.unsigned_cut_by_nsec3_is_an_unsigned_delegation.Goals as goal
 
 pub returns : goal.returns

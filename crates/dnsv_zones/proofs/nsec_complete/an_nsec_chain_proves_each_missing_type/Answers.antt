@@ -1,4 +1,4 @@
-use Rattle.dnsv_zones.proofs.completeness.NsecComplete.{no_data_proved, no_data_meant}
+use Rattle.dnsv_zones.proofs.lemmas.completeness.NsecComplete.{no_data_proved, no_data_meant}
 use Rattle.dnsv_zones.proofs.nsec_complete.an_nsec_chain_proves_each_missing_type.Goals as goal
 
 pub returns : goal.returns

@@ -1,6 +1,6 @@
 use Rattle.dnsv_zones.specs.forms.Nsec.{nsec_words}
-use Rattle.dnsv_zones.proofs.meaning.MeaningLemmas.{held_at_wildcard}
-use Rattle.dnsv_zones.proofs.meaning.NsecTruth.{absent}
+use Rattle.dnsv_zones.proofs.lemmas.meaning.MeaningLemmas.{held_at_wildcard}
+use Rattle.dnsv_zones.proofs.lemmas.meaning.NsecTruth.{absent}
 use Rattle.dnsv_zones.proofs.nsec_meaning.no_closer_by_nsec_is_held_at_the_wildcard.Goals as goal
 
 pub returns : goal.returns

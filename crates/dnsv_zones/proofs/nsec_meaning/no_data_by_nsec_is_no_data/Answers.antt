@@ -1,6 +1,6 @@
 use Rattle.dnsv_zones.specs.forms.Nsec.{nsec_words}
-use Rattle.dnsv_zones.proofs.meaning.MeaningLemmas.{no_data, empty, no_wildcard_data, empty_wildcard}
-use Rattle.dnsv_zones.proofs.meaning.NsecTruth.{nsec_true}
+use Rattle.dnsv_zones.proofs.lemmas.meaning.MeaningLemmas.{no_data, empty, no_wildcard_data, empty_wildcard}
+use Rattle.dnsv_zones.proofs.lemmas.meaning.NsecTruth.{nsec_true}
 use Rattle.dnsv_zones.proofs.nsec_meaning.no_data_by_nsec_is_no_data.Goals as goal
 
 pub returns-clause-at_name : goal.returns-clause-at_name

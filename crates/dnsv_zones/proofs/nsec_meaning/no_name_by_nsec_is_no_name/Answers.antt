@@ -1,6 +1,6 @@
 use Rattle.dnsv_zones.specs.forms.Nsec.{nsec_words}
-use Rattle.dnsv_zones.proofs.meaning.MeaningLemmas.{no_name}
-use Rattle.dnsv_zones.proofs.meaning.NsecTruth.{nsec_true}
+use Rattle.dnsv_zones.proofs.lemmas.meaning.MeaningLemmas.{no_name}
+use Rattle.dnsv_zones.proofs.lemmas.meaning.NsecTruth.{nsec_true}
 use Rattle.dnsv_zones.proofs.nsec_meaning.no_name_by_nsec_is_no_name.Goals as goal
 
 pub returns : goal.returns

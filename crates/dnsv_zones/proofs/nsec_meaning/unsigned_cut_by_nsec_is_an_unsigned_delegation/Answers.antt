@@ -1,6 +1,6 @@
 use Rattle.dnsv_zones.specs.forms.Nsec.{nsec_words}
-use Rattle.dnsv_zones.proofs.meaning.MeaningLemmas.{unsigned_cut}
-use Rattle.dnsv_zones.proofs.meaning.NsecTruth.{nsec_true}
+use Rattle.dnsv_zones.proofs.lemmas.meaning.MeaningLemmas.{unsigned_cut}
+use Rattle.dnsv_zones.proofs.lemmas.meaning.NsecTruth.{nsec_true}
 use Rattle.dnsv_zones.proofs.nsec_meaning.unsigned_cut_by_nsec_is_an_unsigned_delegation.Goals as goal
 
 pub returns : goal.returns

@@ -1,4 +1,4 @@
-use Rattle.dnsv_zones.proofs.zones.ZoneLemmas.{node_above}
+use Rattle.dnsv_zones.proofs.lemmas.zones.ZoneLemmas.{node_above}
 use Rattle.dnsv_zones.proofs.zone.what_is_above_a_node_is_a_node.Goals as goal
 
 pub returns-clause-above : goal.returns-clause-above

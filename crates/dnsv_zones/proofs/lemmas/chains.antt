@@ -1,3 +1,4 @@
+-- Of chains, and what their records say.
 pub mod BitmapLemmas
 pub mod ChainLemmas
 pub mod MoreLemmas

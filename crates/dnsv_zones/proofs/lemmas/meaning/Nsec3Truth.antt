@@ -14,10 +14,10 @@ use Rattle.dnsv_zones.specs.chains.Nsec3Chain.{Nsec3Record, NameHash, IsUnsigned
 use Rattle.dnsv_zones.specs.chains.Nsec3Chain.IsAsked.{itself as asked_above}
 use Rattle.dnsv_zones.specs.forms.Nsec3.{Matches, Covers, nsec3_words}
 use Rattle.dnsv_names.specs.AncestorLaws.{rightmost_above}
-use Rattle.dnsv_zones.proofs.AnyLemmas.{found_of}
-use Rattle.dnsv_zones.proofs.zones.ZoneLemmas.{node_respects, nothing_closed}
-use Rattle.dnsv_zones.proofs.meaning.MeaningLemmas.{Told, AreTrue}
-use Rattle.dnsv_zones.proofs.chains.BitmapLemmas.{closed_bits, bitmap_respects}
+use Rattle.dnsv_zones.proofs.lemmas.AnyLemmas.{found_of}
+use Rattle.dnsv_zones.proofs.lemmas.zones.ZoneLemmas.{node_respects, nothing_closed}
+use Rattle.dnsv_zones.proofs.lemmas.meaning.MeaningLemmas.{Told, AreTrue}
+use Rattle.dnsv_zones.proofs.lemmas.chains.BitmapLemmas.{closed_bits, bitmap_respects}
 
 -- the hash of a name of the chain is a member of the circle of hashes
 hash_by : (hash : NameHash) (names : List Labels) (name : Labels) → Any (λ each. SameName each name) names → has label_cmp (map hash.of names) (hash.of name)

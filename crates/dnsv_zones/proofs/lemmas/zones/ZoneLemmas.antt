@@ -9,7 +9,7 @@ use Rattle.dnsv_zones.specs.zones.TypeNumbers.{ns, soa, dname}
 use Rattle.dnsv_zones.specs.zones.Types.{IsDelegation}
 use Rattle.dnsv_zones.specs.zones.Zone.{Entry, Zone, IsOwner, Holds, IsNode, IsClosedAt, IsWellFormed}
 use Rattle.dnsv_zones.specs.zones.Lookup.{IsClosestEncloser}
-use Rattle.dnsv_zones.proofs.AnyLemmas.{any_map, found}
+use Rattle.dnsv_zones.proofs.lemmas.AnyLemmas.{any_map, found}
 
 pub holds_owner : (zone : Zone) (name : Labels) (t : ℕ) → Holds zone name t → IsOwner zone name
 holds_owner zone name t holds = record {

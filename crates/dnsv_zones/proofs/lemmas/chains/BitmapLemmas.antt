@@ -10,7 +10,7 @@ use Rattle.dnsv_zones.specs.zones.Zone.{Zone, Holds, IsClosedAt, IsWellFormed, H
 use Rattle.dnsv_zones.specs.zones.Lookup.{IsElsewhere}
 use Rattle.dnsv_zones.specs.zones.Lookup.IsElsewhere.{at_delegation, at_apex}
 use Rattle.dnsv_zones.specs.chains.NsecChain.{IsInBitmap, IsBitmapOf}
-use Rattle.dnsv_zones.proofs.zones.ZoneLemmas.{holds_respects}
+use Rattle.dnsv_zones.proofs.lemmas.zones.ZoneLemmas.{holds_respects}
 
 pub plain_type : (zone : Zone) (name : Labels) (types : ℕ → Bool) (t : ℕ) → t ≢ rrsig → t ≢ nsec → IsBitmapOf zone name types → IsInBitmap types t → Holds zone name t
 plain_type zone name types t other another bitmap bit =

@@ -19,14 +19,14 @@ use Rattle.dnsv_zones.specs.zones.Lookup.IsSource.{itself, wildcard}
 use Rattle.dnsv_zones.specs.chains.NsecChain.{NsecRecord, IsInBitmap, IsBitmapOf, owners, IsInNsecChain, IsNsecChainOf}
 use Rattle.dnsv_zones.specs.forms.Nsec.{Covers, IsFair, IsAbsentBy, IsInnerBy, IsNodeBy, nsec_words}
 use Rattle.dnsv_zones.specs.forms.Forms.{EndsAt, NoNameForm, NoDataForms, UnsignedCutForm}
-use Rattle.dnsv_zones.proofs.AnyLemmas.{any_map, any_both}
-use Rattle.dnsv_zones.proofs.zones.ZoneLemmas.{holds_owner, holds_respects, owner_under, owner_node, node_of_owner, node_not_below}
-use Rattle.dnsv_zones.proofs.zones.AnswerLemmas.{owner_decided}
-use Rattle.dnsv_zones.proofs.chains.NsecLemmas.{member_of_owner, owner_of_member}
-use Rattle.dnsv_zones.proofs.meaning.MeaningLemmas.{no_name, any_no_data}
-use Rattle.dnsv_zones.proofs.meaning.NsecTruth.{nsec_true}
-use Rattle.dnsv_zones.proofs.chains.BitmapLemmas.{plain_type, bits_closed, bitmap_respects, denies_bits, may_deny_here, may_deny_wildcard}
-use Rattle.dnsv_zones.proofs.zones.LookupLemmas.{open_above_here, open_above_wildcard}
+use Rattle.dnsv_zones.proofs.lemmas.AnyLemmas.{any_map, any_both}
+use Rattle.dnsv_zones.proofs.lemmas.zones.ZoneLemmas.{holds_owner, holds_respects, owner_under, owner_node, node_of_owner, node_not_below}
+use Rattle.dnsv_zones.proofs.lemmas.zones.AnswerLemmas.{owner_decided}
+use Rattle.dnsv_zones.proofs.lemmas.chains.NsecLemmas.{member_of_owner, owner_of_member}
+use Rattle.dnsv_zones.proofs.lemmas.meaning.MeaningLemmas.{no_name, any_no_data}
+use Rattle.dnsv_zones.proofs.lemmas.meaning.NsecTruth.{nsec_true}
+use Rattle.dnsv_zones.proofs.lemmas.chains.BitmapLemmas.{plain_type, bits_closed, bitmap_respects, denies_bits, may_deny_here, may_deny_wildcard}
+use Rattle.dnsv_zones.proofs.lemmas.zones.LookupLemmas.{open_above_here, open_above_wildcard}
 
 module _ (zone : Zone) (apex : Labels) (records : List NsecRecord) (chain : IsNsecChainOf zone apex records) where
   well : IsWellFormed zone

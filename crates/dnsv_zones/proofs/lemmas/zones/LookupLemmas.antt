@@ -12,7 +12,7 @@ use Rattle.dnsv_zones.specs.zones.Lookup.Answer.{Held, Alias, NoData, NoName, El
 use Rattle.dnsv_zones.specs.zones.Lookup.IsElsewhere.{outside, below_end, at_delegation, at_apex}
 use Rattle.dnsv_zones.specs.zones.Lookup.IsSource.{itself, wildcard}
 use Rattle.dnsv_names.specs.AncestorLaws.{rightmost_above, parent_at_or_below}
-use Rattle.dnsv_zones.proofs.zones.ZoneLemmas.{holds_owner, holds_respects, owner_node, apex_node, node_respects, node_not_below, name_no_node}
+use Rattle.dnsv_zones.proofs.lemmas.zones.ZoneLemmas.{holds_owner, holds_respects, owner_node, apex_node, node_respects, node_not_below, name_no_node}
 
 -- The name is no node, its closest encloser has so many labels, and the zone doesn't end above it.
 pub record IsMissing (zone : Zone) (name : Labels) (labels : ℕ) : Type 0 where

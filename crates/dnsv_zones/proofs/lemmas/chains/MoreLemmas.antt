@@ -9,7 +9,7 @@ use Rattle.dnsv_zones.specs.chains.Nsec3Chain.{Nsec3Record, NameHash}
 use Rattle.dnsv_zones.specs.forms.Nsec.{IsAbsentBy, IsInnerBy, IsNodeBy, nsec_words}
 use Rattle.dnsv_zones.specs.forms.Nsec3.{Matches, Covers, nsec3_words, IsOptedOut, OptOutForm, LooseCloserForm}
 use Rattle.dnsv_zones.specs.forms.Forms.{Words, EndsAt, NoNameForm, NoDataForms, NoCloserForm, UnsignedCutForm}
-use Rattle.dnsv_zones.proofs.AnyLemmas.{any_among}
+use Rattle.dnsv_zones.proofs.lemmas.AnyLemmas.{any_among}
 
 -- what the one words say the others say too
 pub record SayMore (words more : Words) : Type 1 where

@@ -10,11 +10,11 @@ use Rattle.dnsv_zones.specs.zones.Zone.{Zone, IsNode, IsClosedAt, IsWellFormed}
 use Rattle.dnsv_zones.specs.zones.Lookup.{IsClosestEncloser}
 use Rattle.dnsv_zones.specs.chains.NsecChain.{NsecRecord, IsInBitmap, IsInNsecChain}
 use Rattle.dnsv_zones.specs.forms.Nsec.{IsAbsentBy, IsInnerBy, IsNodeBy, nsec_words}
-use Rattle.dnsv_zones.proofs.AnyLemmas.{found_of}
-use Rattle.dnsv_zones.proofs.zones.ZoneLemmas.{owner_respects, apex_node, closed_node, encloser_below, node_respects, owner_node}
-use Rattle.dnsv_zones.proofs.chains.NsecLemmas.{covered_no_owner, fair_open_above, absent_no_node, inner_node, told_node}
-use Rattle.dnsv_zones.proofs.meaning.MeaningLemmas.{Told, IsInner, AreTrue}
-use Rattle.dnsv_zones.proofs.chains.BitmapLemmas.{bitmap_respects}
+use Rattle.dnsv_zones.proofs.lemmas.AnyLemmas.{found_of}
+use Rattle.dnsv_zones.proofs.lemmas.zones.ZoneLemmas.{owner_respects, apex_node, closed_node, encloser_below, node_respects, owner_node}
+use Rattle.dnsv_zones.proofs.lemmas.chains.NsecLemmas.{covered_no_owner, fair_open_above, absent_no_node, inner_node, told_node}
+use Rattle.dnsv_zones.proofs.lemmas.meaning.MeaningLemmas.{Told, IsInner, AreTrue}
+use Rattle.dnsv_zones.proofs.lemmas.chains.BitmapLemmas.{bitmap_respects}
 
 module _ (zone : Zone) (apex name : Labels) (records : List NsecRecord) (well : IsWellFormed zone) (same : SameName apex zone.apex) (all : AllByRecursion (IsInNsecChain zone) records) where
   pub absent : (x : Labels) → Any (λ r. IsAbsentBy r x) records → ¬ IsNode zone x

@@ -15,8 +15,8 @@ use Rattle.dnsv_zones.specs.zones.Lookup.{Answer, IsElsewhere, IsClosestEncloser
 use Rattle.dnsv_zones.specs.zones.Lookup.Answer.{Held, Alias, NoData, NoName, Elsewhere}
 use Rattle.dnsv_zones.specs.zones.Lookup.IsElsewhere.{outside, below_end, at_delegation, at_apex}
 use Rattle.dnsv_zones.specs.zones.Lookup.IsSource.{itself, wildcard}
-use Rattle.dnsv_zones.proofs.AnyLemmas.{any_map, found}
-use Rattle.dnsv_zones.proofs.zones.ZoneLemmas.{closed_respects, closed_owner, apex_node, node_respects}
+use Rattle.dnsv_zones.proofs.lemmas.AnyLemmas.{any_map, found}
+use Rattle.dnsv_zones.proofs.lemmas.zones.ZoneLemmas.{closed_respects, closed_owner, apex_node, node_respects}
 
 -- a fact or its opposite
 abbrev pub Decided : Type 0 → Type 0

@@ -28,13 +28,13 @@ use Rattle.dnsv_zones.specs.chains.Nsec3Chain.IsAsked.{itself as asked_above, wi
 use Rattle.dnsv_zones.specs.chains.Nsec3Chain.IsUnsignedEnd.{delegation, non_terminal}
 use Rattle.dnsv_zones.specs.forms.Nsec3.{Matches, Covers, nsec3_words, IsCovered, IsOptedOut, OptOutForm}
 use Rattle.dnsv_zones.specs.forms.Forms.{IsAbove, EndsAt, NoNameForm, NoDataForm, NoDataForms, UnsignedCutForm}
-use Rattle.dnsv_zones.proofs.AnyLemmas.{any_map, found, any_both}
-use Rattle.dnsv_zones.proofs.zones.ZoneLemmas.{holds_owner, holds_respects, owner_node, apex_node, node_above, node_not_below, node_respects, closest, name_no_node}
-use Rattle.dnsv_zones.proofs.zones.LookupLemmas.{one_encloser, open_above_here}
-use Rattle.dnsv_zones.proofs.zones.AnswerLemmas.{Decided, any_decided, Longest, longest_part}
-use Rattle.dnsv_zones.proofs.meaning.MeaningLemmas.{no_name, any_no_data}
-use Rattle.dnsv_zones.proofs.meaning.Nsec3Truth.{matched, firm_no_node, nsec3_true}
-use Rattle.dnsv_zones.proofs.chains.BitmapLemmas.{plain_type, bits_closed, denies_bits, may_deny_here, may_deny_wildcard}
+use Rattle.dnsv_zones.proofs.lemmas.AnyLemmas.{any_map, found, any_both}
+use Rattle.dnsv_zones.proofs.lemmas.zones.ZoneLemmas.{holds_owner, holds_respects, owner_node, apex_node, node_above, node_not_below, node_respects, closest, name_no_node}
+use Rattle.dnsv_zones.proofs.lemmas.zones.LookupLemmas.{one_encloser, open_above_here}
+use Rattle.dnsv_zones.proofs.lemmas.zones.AnswerLemmas.{Decided, any_decided, Longest, longest_part}
+use Rattle.dnsv_zones.proofs.lemmas.meaning.MeaningLemmas.{no_name, any_no_data}
+use Rattle.dnsv_zones.proofs.lemmas.meaning.Nsec3Truth.{matched, firm_no_node, nsec3_true}
+use Rattle.dnsv_zones.proofs.lemmas.chains.BitmapLemmas.{plain_type, bits_closed, denies_bits, may_deny_here, may_deny_wildcard}
 
 -- a name of the chain with this hash
 pub record Hashed (hash : NameHash) (names : List Labels) (value : List ℕ) : Type 0 where

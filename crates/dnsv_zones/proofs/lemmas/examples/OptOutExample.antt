@@ -16,8 +16,8 @@ use Rattle.dnsv_zones.specs.examples.OptOutExample.{wire_hash, opt_out_records}
 use Rattle.dnsv_zones.specs.zones.TypeNumbers.{ds}
 use Rattle.dnsv_zones.specs.zones.Types.{IsDelegation, IsUnsignedDelegation}
 use Rattle.dnsv_zones.specs.zones.Zone.{Holds, IsNode}
-use Rattle.dnsv_zones.proofs.examples.Example.{differ, none_inside, well_formed, no_wildcard_delegation, apex_bitmap, a_bitmap}
-use Rattle.dnsv_zones.proofs.zones.ZoneLemmas.{apex_node, delegation_respects, holds_respects, node_respects, owner_node}
+use Rattle.dnsv_zones.proofs.lemmas.examples.Example.{differ, none_inside, well_formed, no_wildcard_delegation, apex_bitmap, a_bitmap}
+use Rattle.dnsv_zones.proofs.lemmas.zones.ZoneLemmas.{apex_node, delegation_respects, holds_respects, node_respects, owner_node}
 
 -- ---- no two names have one hash
 

@@ -15,9 +15,9 @@ use Rattle.dnsv_zones.specs.chains.Nsec3Chain.{IsAsked}
 use Rattle.dnsv_zones.specs.chains.Nsec3Chain.IsAsked.{itself as asked_above, wildcard as asked_wildcard}
 use Rattle.dnsv_zones.specs.forms.Forms.{Words, IsAbove, EndsAt, NoNameForm, NoDataForm, EmptyForm, NoWildcardDataForm, EmptyWildcardForm, NoDataForms, NoCloserForm, UnsignedCutForm}
 use Rattle.dnsv_names.specs.AncestorLaws.{rightmost_above, rightmost_below, wildcard_below}
-use Rattle.dnsv_zones.proofs.zones.ZoneLemmas.{holds_owner, owner_node, node_above, closest, nothing_closed}
-use Rattle.dnsv_zones.proofs.zones.LookupLemmas.{IsMissing, node_here, missing_no_name, missing_no_data, missing_held}
-use Rattle.dnsv_zones.proofs.chains.BitmapLemmas.{plain_type, delegation_bits}
+use Rattle.dnsv_zones.proofs.lemmas.zones.ZoneLemmas.{holds_owner, owner_node, node_above, closest, nothing_closed}
+use Rattle.dnsv_zones.proofs.lemmas.zones.LookupLemmas.{IsMissing, node_here, missing_no_name, missing_no_data, missing_held}
+use Rattle.dnsv_zones.proofs.lemmas.chains.BitmapLemmas.{plain_type, delegation_bits}
 
 -- a node of the zone with these types, of which something is said
 pub record Told (zone : Zone) (name : Labels) (Says : (ℕ → Type 0) → Type 0) : Type 0 where

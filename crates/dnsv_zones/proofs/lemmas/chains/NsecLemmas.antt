@@ -11,8 +11,8 @@ use Rattle.dnsv_zones.specs.zones.Zone.{Entry, Zone, IsOwner, IsNode, IsClosedAt
 use Rattle.dnsv_zones.specs.chains.NsecChain.{NsecRecord, owners, IsInNsecChain}
 use Rattle.dnsv_zones.specs.forms.Nsec.{Covers, IsFair, IsAbsentBy, IsInnerBy, IsNodeBy}
 use Rattle.dnsv_names.specs.NameCircleLaws.{owner_at_or_below, next_at_or_below}
-use Rattle.dnsv_zones.proofs.zones.ZoneLemmas.{closed_respects, closed_owner, owner_under, node_of_owner}
-use Rattle.dnsv_zones.proofs.chains.BitmapLemmas.{closed_bits}
+use Rattle.dnsv_zones.proofs.lemmas.zones.ZoneLemmas.{closed_respects, closed_owner, owner_under, node_of_owner}
+use Rattle.dnsv_zones.proofs.lemmas.chains.BitmapLemmas.{closed_bits}
 
 -- owners are members of the circle
 member_by : (name : Labels) (entries : List Entry) → Any (λ each. SameName each.owner name) entries → has canonical_cmp (map (λ each. each.owner) entries) name

@@ -14,11 +14,11 @@ use Rattle.dnsv_zones.specs.Any.{Any}
 use Rattle.dnsv_zones.specs.zones.Zone.{Entry, Zone, IsOwner, IsNode, IsWellFormed, HasNoWildcardDelegation}
 use Rattle.dnsv_zones.specs.chains.NsecChain.{NsecRecord, IsBitmapOf, owners, IsInNsecChain, IsNsecChainOf}
 use Rattle.dnsv_zones.specs.chains.Nsec3Chain.{Nsec3Record, NameHash, IsChained, AreChainNames, IsInNsec3Chain, IsNsec3ChainOf}
-use Rattle.dnsv_zones.proofs.AnyLemmas.{any_map}
-use Rattle.dnsv_zones.proofs.zones.ZoneLemmas.{holds_owner, apex_node, node_of_owner, node_respects}
-use Rattle.dnsv_zones.proofs.zones.AnswerLemmas.{Decided, holds_decided}
-use Rattle.dnsv_zones.proofs.chains.NsecLemmas.{member_of_owner}
-use Rattle.dnsv_zones.proofs.meaning.Nsec3Truth.{hash_member}
+use Rattle.dnsv_zones.proofs.lemmas.AnyLemmas.{any_map}
+use Rattle.dnsv_zones.proofs.lemmas.zones.ZoneLemmas.{holds_owner, apex_node, node_of_owner, node_respects}
+use Rattle.dnsv_zones.proofs.lemmas.zones.AnswerLemmas.{Decided, holds_decided}
+use Rattle.dnsv_zones.proofs.lemmas.chains.NsecLemmas.{member_of_owner}
+use Rattle.dnsv_zones.proofs.lemmas.meaning.Nsec3Truth.{hash_member}
 
 -- lists made of lists
 all_of_map : {X Y : Type 0} (f : X → Y) (Q : Y → Type 0) (xs : List X) → ((x : X) → Any (λ each. each ≡ x) xs → Q (f x)) → AllByRecursion Q (map f xs)

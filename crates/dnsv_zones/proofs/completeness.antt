@@ -1,2 +1,0 @@
-pub mod Nsec3Complete
-pub mod NsecComplete
