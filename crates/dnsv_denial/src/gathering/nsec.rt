@@ -1,21 +1,17 @@
 //! The records of a zone among the evidence.
-ghost use Rattle.std.specs.Prelude.{◌≡◌, ◌++◌, List, IfOk, OnOk, map};
-ghost use Rattle.std.specs.List.{AllByRecursion};
-ghost use Rattle.dnsv_records.specs.Nsec.{IsNsec};
-ghost use Rattle.dnsv_canonical.specs.Canonical.{IsCanonical};
+ghost use Rattle.std.specs.Prelude.{◌≡◌, ◌++◌, List, IfOk, OnOk};
 ghost use Rattle.dnsv_canonical.specs.Rrsets.{ReceivedRrset};
 ghost use Rattle.dnsv_chain.specs.Trusted.{IsNumbered};
 ghost use Rattle.dnsv_denial.specs.Viewed.{SecuredIn};
 ghost use Rattle.dnsv_denial.specs.gathering.Gathered.{AreNsecs, AreNsecsOf};
 
-use crate::gathering::canonical_order::{ReadRecord, put_in_order};
+use crate::gathering::canonical_order::in_canonical_order;
 use crate::gathering::secured::has_zone_signature;
 use crate::records::entry::NsecEntry;
 use crate::records::number::RecordNumber;
 use dnsv_canonical::{Capture, Rrset};
 use dnsv_chain::Trust;
 use dnsv_names::{Name, RecordType};
-use dnsv_records::Nsec;
 use std::alloc::{AllocError, Global};
 
 /// The NSEC records of the capture that the zone secured, in the order of their numbers.
@@ -51,7 +47,7 @@ fn push_nsecs<'a>(
         → OnOk result ((more : List NsecEntry) × (entries.new.items ≡ entries.old.items ++ more)
         × AreNsecs rrsets (λ each. each.rrset ≡ number) more) }
 {
-    let records = canonical_nsecs(alloc, rrset)?;
+    let records = in_canonical_order(alloc, rrset, rrset.nsecs())?;
     for (place, each) in records.iter().enumerate() {
         entries.push(NsecEntry {
             number: RecordNumber {
@@ -63,26 +59,4 @@ fn push_nsecs<'a>(
         })?;
     }
     Ok(())
-}
-
-/// The records of an NSEC RRset in canonical order.
-fn canonical_nsecs<'a>(
-    alloc: Global,
-    rrset: &'a Rrset,
-) -> Result<Vec<ReadRecord<'a, Nsec>>, AllocError>
-    requires { rrset.now.rtype ≡ 47 }
-    ensures order { IfOk result (λ records. IsCanonical rrset.now.rdata
-        (map (λ each. each.rdata.now) records.items)) }
-    ensures read { IfOk result (λ records. AllByRecursion (λ each. IsNsec each.rdata.now each.record.now)
-        records.items) }
-{
-    let mut records = Vec::new(alloc);
-    for (place, nsec) in rrset.nsecs().iter().enumerate() {
-        records.push(ReadRecord {
-            rdata: rrset.rdata(place),
-            record: nsec,
-        })?;
-    }
-    put_in_order(&mut records);
-    Ok(records)
 }

@@ -1,15 +1,13 @@
 //! The NSEC3 records of a zone among the evidence.
-ghost use Rattle.std.specs.Prelude.{◌≡◌, ◌++◌, ℕ, Contains, List, IfOk, MatchOption, OnOk, map};
-ghost use Rattle.std.specs.List.{AllByRecursion};
-ghost use Rattle.dnsv_records.specs.Nsec3.{IsNsec3, IsUsable};
-ghost use Rattle.dnsv_canonical.specs.Canonical.{IsCanonical};
+ghost use Rattle.std.specs.Prelude.{◌≡◌, ◌++◌, ℕ, Contains, List, IfOk, MatchOption, OnOk};
+ghost use Rattle.dnsv_records.specs.Nsec3.{IsUsable};
 ghost use Rattle.dnsv_canonical.specs.Rrsets.{ReceivedRrset};
 ghost use Rattle.dnsv_chain.specs.Trusted.{IsNumbered};
 ghost use Rattle.dnsv_denial.specs.Viewed.{SecuredIn};
 ghost use Rattle.dnsv_denial.specs.gathering.Evidence.{IsHashedOwner};
 ghost use Rattle.dnsv_denial.specs.gathering.Gathered.{AreNsec3s, AreNsec3sOf, IsEntryOf, IsNsec3RrsetOf};
 
-use crate::gathering::canonical_order::{ReadRecord, put_in_order};
+use crate::gathering::canonical_order::in_canonical_order;
 use crate::gathering::secured::has_zone_signature;
 use crate::records::entry::Nsec3Entry;
 use crate::records::number::RecordNumber;
@@ -88,7 +86,7 @@ fn push_nsec3s<'a>(
         → OnOk result ((more : List Nsec3Entry) × (entries.new.items ≡ entries.old.items ++ more)
         × AreNsec3s rrsets zone.now (λ each. each.rrset ≡ number) more) }
 {
-    let records = canonical_nsec3s(alloc, rrset)?;
+    let records = in_canonical_order(alloc, rrset, rrset.nsec3s())?;
     for (place, each) in records.iter().enumerate() {
         let number = RecordNumber {
             rrset: number,
@@ -124,26 +122,4 @@ fn usable_entry<'a>(
         next_hash: used.next_hash,
         types: used.types,
     })
-}
-
-/// The records of an NSEC3 RRset in canonical order.
-fn canonical_nsec3s<'a>(
-    alloc: Global,
-    rrset: &'a Rrset,
-) -> Result<Vec<ReadRecord<'a, Nsec3>>, AllocError>
-    requires { rrset.now.rtype ≡ 50 }
-    ensures order { IfOk result (λ records. IsCanonical rrset.now.rdata
-        (map (λ each. each.rdata.now) records.items)) }
-    ensures read { IfOk result (λ records. AllByRecursion (λ each. IsNsec3 each.rdata.now each.record.now)
-        records.items) }
-{
-    let mut records = Vec::new(alloc);
-    for (place, nsec3) in rrset.nsec3s().iter().enumerate() {
-        records.push(ReadRecord {
-            rdata: rrset.rdata(place),
-            record: nsec3,
-        })?;
-    }
-    put_in_order(&mut records);
-    Ok(records)
 }
