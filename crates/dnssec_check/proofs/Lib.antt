@@ -9,6 +9,7 @@ pub mod ListingLemmas
 pub mod ShowingLemmas
 pub mod ProgramLemmas
 pub mod WordsLemmas
+pub mod ToldLemmas
 pub mod OneText
 pub mod AnswerLemmas
 pub mod ListedLemmas

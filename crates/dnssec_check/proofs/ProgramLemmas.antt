@@ -38,7 +38,7 @@ told_err P (Some told) words (Ok value) same holds = tt
 told_err P (Some told) words (Err error) same holds = subst (λ w. P w error) same holds
 
 -- a fault ends with 1 or 7
-no_end : (is_failure : Bool) (code : ℕ) → ◌≡◌ {A = ℕ} (if is_failure then 1 else 7) code → IsEnd code → ⊥
+pub no_end : (is_failure : Bool) (code : ℕ) → ◌≡◌ {A = ℕ} (if is_failure then 1 else 7) code → IsEnd code → ⊥
 no_end true code is (inl is_0) = omega (arith, is, is_0)
 no_end true code is (inr between) = omega (arith, is, between.0)
 no_end false code is (inl is_0) = omega (arith, is, is_0)
@@ -50,14 +50,14 @@ pub ended_well : {X : Status → Type 0} (outcome : Result Status Fault) (code :
 ended_well (Ok status) code is ends holds = (status, is, holds)
 ended_well (Err failed) code is ends holds = absurd (no_end (list_any (λ failure. failure == fault_number failed) failures) code is ends)
 
-no_7 : (status : Status) → status_code status ≡ 7 → ⊥
+pub no_7 : (status : Status) → status_code status ≡ 7 → ⊥
 no_7 Done is_7 = omega (arith, is_7)
 no_7 Insecure is_7 = omega (arith, is_7)
 no_7 Pending is_7 = omega (arith, is_7)
 no_7 Bogus is_7 = omega (arith, is_7)
 no_7 Indeterminate is_7 = omega (arith, is_7)
 
-no_1 : (status : Status) → status_code status ≡ 1 → ⊥
+pub no_1 : (status : Status) → status_code status ≡ 1 → ⊥
 no_1 Done is_1 = omega (arith, is_1)
 no_1 Insecure is_1 = omega (arith, is_1)
 no_1 Pending is_1 = omega (arith, is_1)

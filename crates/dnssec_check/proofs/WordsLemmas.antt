@@ -18,7 +18,7 @@ no_end_of_1 : (code : ℕ) → code ≡ 1 → IsEnd code → ⊥
 no_end_of_1 code is_1 (inl is_0) = omega (arith, is_1, is_0)
 no_end_of_1 code is_1 (inr between) = omega (arith, is_1, between.0)
 
-at_most_2 : (error : LineError) → line_code error ≤ 2
+pub at_most_2 : (error : LineError) → line_code error ≤ 2
 at_most_2 line.OutOfMemory = omega arith
 at_most_2 line.NotText = omega arith
 at_most_2 (line.Help refusal) = omega arith
@@ -28,7 +28,7 @@ pub at_most_7 : (error : LineError) (code : ℕ) → EndsSo error code → code 
 at_most_7 error code (inl is) = omega (arith, is, at_most_2 error)
 at_most_7 error code (inr (asked, is_1)) = omega (arith, is_1)
 
-no_7_of_words : (error : LineError) (code : ℕ) → EndsSo error code → code ≡ 7 → ⊥
+pub no_7_of_words : (error : LineError) (code : ℕ) → EndsSo error code → code ≡ 7 → ⊥
 no_7_of_words error code (inl is) is_7 = omega (arith, is, is_7, at_most_2 error)
 no_7_of_words error code (inr (asked, is_1)) is_7 = omega (arith, is_1, is_7)
 

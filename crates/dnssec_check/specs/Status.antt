@@ -150,3 +150,7 @@ fault_text (fault.OpenFailed file) =
     failure_text (fault.OpenFailed file) ++ codes " " ++ file_word file
 fault_text (fault.Refused why place) =
     codes "refused " ++ decimal (refusal_number why) ++ place_text place
+
+-- the line with its newline
+abbrev pub fault_line : Fault → List ℕ
+fault_line told = fault_text told ++ codes "\n"

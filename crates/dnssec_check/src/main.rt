@@ -6,6 +6,7 @@ mod capture_file;
 mod checking;
 mod commands;
 mod envelope;
+mod fault_line;
 mod hex_text;
 mod keys_file;
 mod laws;

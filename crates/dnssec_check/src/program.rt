@@ -3,12 +3,14 @@ ghost use Rattle.std.specs.Prelude.{◌≡◌, ◌<◌, ◌≤◌, ◌⊎◌, �
 ghost use Rattle.std.specs.Option.{option_map};
 ghost use Rattle.std.specs.Io.KnownBytes.{Appends};
 ghost use Rattle.dnsv_message.specs.Counted.{inner_of, failures_of, AppendsBeginning};
+ghost use Rattle.dnssec_check.specs.FileFaults.{OfFailedRead, OfOctets};
 ghost use Rattle.dnssec_check.specs.Files.{AreTold, Files, IsToldBy};
 ghost use Rattle.dnssec_check.specs.Line.{IsAccepted, IsRefused, line_code};
 ghost use Rattle.dnssec_check.specs.Program.{AreFilesAt, BeganText, IsEnd, RefusedFiles, RefusedWords, WroteText};
+ghost use Rattle.dnssec_check.specs.Program.{FailedRequest, FailedWords, HasToldIn, LeavesOutput};
 ghost use Rattle.dnssec_check.specs.Program.{first_unopened, given_path, paths_of};
-ghost use Rattle.dnssec_check.specs.Run.{IsTextOf, IsFirstFault};
-ghost use Rattle.dnssec_check.specs.Status.{outcome_code};
+ghost use Rattle.dnssec_check.specs.Run.{IsTextOf, IsFirstFault, IsReached};
+ghost use Rattle.dnssec_check.specs.Status.{fault_code, fault_number, outcome_code};
 ghost use Rattle.dnssec_check.specs.Told.{IsOpenFault, IsUnopened};
 ghost use Rattle.dnssec_check.specs.declared.status.Fault.TheVariants as Fault;
 ghost use Rattle.dnssec_check.specs.declared.status.InputFile.{InputFile};
@@ -34,7 +36,7 @@ pub fn exit_status_on<R: Env + Files + AllocGlobal + Print, E: Print>(system: &R
     exit_status(
         &Host::new(system),
         &mut Counted::new(io::writer(system)),
-        &mut io::writer(errors),
+        &mut Counted::new(io::writer(errors)),
     )
 }
 
@@ -44,7 +46,7 @@ pub fn exit_status_on<R: Env + Files + AllocGlobal + Print, E: Print>(system: &R
 pub fn exit_status<M: Machine, W: Write, E: Write>(
     machine: &M,
     output: &mut Counted<W>,
-    errors: &mut E,
+    errors: &mut Counted<E>,
 ) -> u8
     ensures done { IsEnd result → IfSome (M.given_words machine.now) (λ words. WroteText words
         (M.octets_at machine.now) (W.contents (inner_of output.old)) (W.contents (inner_of output.new)) result
@@ -60,6 +62,13 @@ pub fn exit_status<M: Machine, W: Write, E: Write>(
         ((failures_of output.old < u64.MAX → failures_of output.old < failures_of output.new)
         × IfSome (M.given_words machine.now) (λ words. BeganText words (M.octets_at machine.now)
         (W.contents (inner_of output.old)) (W.contents (inner_of output.new)) ⊎ RefusedWords words 0)) }
+
+    // The errors got the line of the first fault, or a beginning of it where a write failed.
+    ensures told { (result ≡ 1) ⊎ (result ≡ 7) → (fault : Fault) × (fault_code (fault_number fault) ≡ result)
+        × HasToldIn E.contents errors.old errors.new fault × LeavesOutput output.old output.new fault
+        × IfSome (M.given_words machine.now) (λ words. FailedRequest words (M.octets_at machine.now)
+        (M.opens machine.now) fault ⊎ FailedWords words fault) }
+    ensures quiet { IsEnd result → errors.new ≡ errors.old }
     ensures codes { result ≤ 7 }
 {
     match request(machine) {
@@ -92,6 +101,10 @@ fn answer<M: Machine, W: Write>(
     ensures refused { (files : Files) → AreFilesAt (M.octets_at machine.now) request.now files
         → (why : Refusal) (place : Place) → result ≡ Err (Fault.Refused why place)
         → IsFirstFault request.now files (Fault.Refused why place) }
+    ensures first { (files : Files) → AreFilesAt (M.octets_at machine.now) request.now files
+        → IfErr result (OfOctets (IsFirstFault request.now files)) }
+    ensures reached { (files : Files) → AreFilesAt (M.octets_at machine.now) request.now files
+        → IfErr result (OfFailedRead (IsReached request.now files)) }
 
     // The first file that doesn't open is the fault.
     ensures unopened { (opens : List ℕ → Bool) → ((path : List ℕ) → M.opens machine.now path ≡ Some (opens path))
@@ -176,12 +189,16 @@ fn open<M: Machine>(machine: &M, file: InputFile, path: &str) -> Result<Counted<
 fn refuse<W: Write, E: Write>(
     alloc: Global,
     output: &mut Counted<W>,
-    errors: &mut E,
+    errors: &mut Counted<E>,
     error: LineError,
 ) -> u8
     ensures code { (result ≡ line_code error) ⊎ ((line_code error ≡ 0) × (result ≡ 1)) }
     ensures untouched { (result ≡ 0) ⊎ (output.new ≡ output.old) ⊎ ((line_code error ≡ 0) × (result ≡ 1)
         × (failures_of output.old < u64.MAX → failures_of output.old < failures_of output.new)) }
+    ensures told { result ≡ 1 → (fault : Fault) × HasToldIn E.contents errors.old errors.new fault
+        × LeavesOutput output.old output.new fault
+        × ((fault ≡ Fault.OutOfMemory) ⊎ ((fault ≡ Fault.WriteFailed) × (line_code error ≡ 0))) }
+    ensures quiet { result ≡ 0 → errors.new ≡ errors.old }
 {
     match error {
         LineError::OutOfMemory => finish(errors, Err(Fault::OutOfMemory)),
@@ -214,16 +231,26 @@ fn tell_help<W: Write>(
 }
 
 /// Tells a fault on the errors, in a line. The answer is the exit status.
-fn finish<E: Write>(errors: &mut E, outcome: Result<Status, Fault>) -> u8
-    ensures { result ≡ outcome_code outcome }
+fn finish<E: Write>(errors: &mut Counted<E>, outcome: Result<Status, Fault>) -> u8
+    ensures code { result ≡ outcome_code outcome }
+    ensures told { IfErr outcome (HasToldIn E.contents errors.old errors.new) }
+    ensures quiet { OnOk outcome (errors.new ≡ errors.old) }
 {
     match outcome {
         Ok(status) => status.code(),
         Err(fault) => {
-            let _ = errors.writeln(fault);
+            tell(errors, &fault);
             fault.code()
         }
     }
+}
+
+/// Writes the line of a fault.
+fn tell<E: Write>(errors: &mut Counted<E>, fault: &Fault)
+    ensures { HasToldIn E.contents errors.old errors.new fault.now }
+{
+    // Nothing is left to tell where the line itself can't be written.
+    let _ = errors.write_all(fault.line().as_str().as_bytes());
 }
 
 #[cfg(test)]

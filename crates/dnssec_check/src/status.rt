@@ -1,11 +1,8 @@
 //! How a run ends: with its text written, or with a fault.
-ghost use Rattle.std.specs.Prelude.{◌≡◌, Some};
-ghost use Rattle.dnssec_check.specs.Status.{status_code, fault_code, fault_number, refusal_number};
-ghost use Rattle.dnssec_check.specs.Status.{fault_text, file_word, place_text};
+ghost use Rattle.std.specs.Prelude.{◌≡◌, ◌≤◌, length};
+ghost use Rattle.dnssec_check.specs.Status.{status_code, fault_code, fault_number, file_word, refusal_number};
 
 use std::alloc::{AllocError, AllocFailed};
-use std::error::Error;
-use std::fmt;
 
 /// How a run ended that wrote its whole text.
 #[derive(Clone, Copy, Debug, PartialEq, Eq)]
@@ -55,7 +52,8 @@ pub enum InputFile {
 impl InputFile {
     /// The word of the option that names the file, without its hyphens.
     pub fn option(&self) -> &'static str
-        ensures { result.now ≡ file_word self.now }
+        ensures word { result.now ≡ file_word self.now }
+        ensures short { length result.now ≤ 10 }
     {
         match self {
             InputFile::Capture => "capture",
@@ -202,24 +200,6 @@ impl Place {
     };
 }
 
-/// Each part that is known, as ` message M`, ` record K` and ` line L`.
-impl fmt::Display for Place {
-    ghost output = { λ place. Some (place_text place) };
-
-    fn fmt<W: fmt::Write>(&self, f: &mut fmt::Formatter<W>) -> fmt::Result {
-        if let Some(message) = self.message {
-            write!(f, " message {message}")?;
-        }
-        if let Some(record) = self.record {
-            write!(f, " record {record}")?;
-        }
-        if let Some(line) = self.line {
-            write!(f, " line {line}")?;
-        }
-        Ok(())
-    }
-}
-
 /// Why a run wrote no text, or not all of it.
 #[derive(Clone, Copy, Debug, PartialEq, Eq)]
 pub enum Fault {
@@ -262,25 +242,6 @@ impl Fault {
         }
     }
 }
-
-/// The line that tells the fault, without its newline: `fault N FILE` or `refused N` and the place.
-impl fmt::Display for Fault {
-    ghost output = { λ fault. Some (fault_text fault) };
-
-    fn fmt<W: fmt::Write>(&self, f: &mut fmt::Formatter<W>) -> fmt::Result {
-        let number = self.number();
-        match self {
-            Fault::Refused(_, place) => write!(f, "refused {number}{place}"),
-            Fault::ReadFailed(file) | Fault::TooLong(file) | Fault::OpenFailed(file) => {
-                let word = file.option();
-                write!(f, "fault {number} {word}")
-            }
-            Fault::OutOfMemory | Fault::WriteFailed => write!(f, "fault {number}"),
-        }
-    }
-}
-
-impl Error for Fault {}
 
 impl From<AllocError> for Fault {
     ghost use Rattle.dnssec_check.specs.declared.status.Fault.TheVariants.{OutOfMemory};
