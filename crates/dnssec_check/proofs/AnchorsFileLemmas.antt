@@ -15,8 +15,8 @@ use Rattle.dnssec_check.proofs.TextFaultLemmas.{no_text_fault, one_at_line, one_
 
 one_telling : (error : AnchorsError) (a b : Refusal) (p q : Place) → TellsAnchorsError error a p → TellsAnchorsError error b q → fault.Refused a p ≡ fault.Refused b q
 one_telling anchors.OutOfMemory a b p q x y = absurd x
-one_telling (anchors.Syntax number) a b p q x y = one_at_line number refusal.AnchorSyntax a b p q x.0 x.1 y.0 y.1
-one_telling (anchors.TooMany number) a b p q x y = one_at_line number refusal.TooManyAnchors a b p q x.0 x.1 y.0 y.1
+one_telling (anchors.Syntax number) a b p q x y = one_at_line number (refusal.AnchorLine (anchors.Syntax number)) a b p q x.0 x.1 y.0 y.1
+one_telling (anchors.TooMany number) a b p q x y = one_at_line number (refusal.AnchorLine (anchors.TooMany number)) a b p q x.0 x.1 y.0 y.1
 
 pub no_anchors_fault : (text : List ℕ) (said : List Anchor) (told : Fault)
     → ((error : AnchorsError) → AreAnchorsOf text said → IsFaultOf text error → ⊥)

@@ -16,8 +16,8 @@ use Rattle.dnssec_check.proofs.TextFaultLemmas.{no_text_fault, one_at_line, one_
 
 one_telling : (error : KeyFileError) (a b : Refusal) (p q : Place) → TellsKeysError error a p → TellsKeysError error b q → fault.Refused a p ≡ fault.Refused b q
 one_telling key_file.OutOfMemory a b p q x y = absurd x
-one_telling (key_file.Syntax number) a b p q x y = one_at_line number refusal.KeySyntax a b p q x.0 x.1 y.0 y.1
-one_telling (key_file.DuplicateKey number) a b p q x y = one_at_line number refusal.DuplicateKey a b p q x.0 x.1 y.0 y.1
+one_telling (key_file.Syntax number) a b p q x y = one_at_line number (refusal.KeyLine (key_file.Syntax number)) a b p q x.0 x.1 y.0 y.1
+one_telling (key_file.DuplicateKey number) a b p q x y = one_at_line number (refusal.KeyLine (key_file.DuplicateKey number)) a b p q x.0 x.1 y.0 y.1
 
 -- no text has no keys
 pub no_keys : HasKeys [] []

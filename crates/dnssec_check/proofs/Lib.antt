@@ -21,3 +21,4 @@ pub mod KeysFileLemmas
 pub mod EnvelopeLemmas
 pub mod OneCapture
 pub mod OneFault
+pub mod FrameFaultLemmas

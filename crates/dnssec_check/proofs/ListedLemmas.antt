@@ -25,10 +25,10 @@ use Rattle.dnssec_check.specs.Status.{TellsCaptureError}
 
 reason_told : (error : CaptureError) → (error ≡ capture.OutOfMemory → ⊥) → (why : Refusal) × (k : Option ℕ) × TellsCaptureError error why k
 reason_told capture.OutOfMemory other = absurd (other refl)
-reason_told capture.NotAResponse other = (refusal.NotAResponse, None, (refl, refl))
-reason_told capture.Truncated other = (refusal.Truncated, None, (refl, refl))
-reason_told (capture.BadRdata k) other = (refusal.BadRdata, Some k, (refl, refl))
-reason_told capture.Limit other = (refusal.Limit, None, (refl, refl))
+reason_told capture.NotAResponse other = (refusal.Evidence capture.NotAResponse, None, (refl, refl))
+reason_told capture.Truncated other = (refusal.Evidence capture.Truncated, None, (refl, refl))
+reason_told (capture.BadRdata k) other = (refusal.Evidence (capture.BadRdata k), Some k, (refl, refl))
+reason_told capture.Limit other = (refusal.Evidence capture.Limit, None, (refl, refl))
 
 reason_fails : (held : Evidence) (message : Contents) (error : CaptureError) → IsReasonAgainst held message error
     → (why : Refusal) × (k : Option ℕ) × TellsCaptureError error why k → (why : Refusal) × (k : Option ℕ) × Fails NewEvidence held message why k

@@ -3,6 +3,7 @@ use Rattle.std.proofs.Common.{◌≡◌, ℕ, List, Option, Some, None, refl, sy
 use Rattle.std.specs.Prelude.{string_bytes, true, false}
 use Rattle.dnsv_names.specs.Name.{Labels}
 use Rattle.dnsv_names.specs.Octets.{AreOctets}
+use Rattle.dnsv_names.specs.declared.error.NameError.{NameError}
 use Rattle.dnsv_message.specs.Message.{Contents}
 use Rattle.dnsv_canonical.specs.Rrsets.{IsQuestion}
 use Rattle.dnsv_tsig.specs.Key.{SharedKey}
@@ -15,6 +16,7 @@ use Rattle.dnssec_check.specs.declared.status.Fault.{Fault}
 use Rattle.dnssec_check.specs.declared.status.Fault.TheVariants as fault
 use Rattle.dnssec_check.specs.declared.status.Place.{Place}
 use Rattle.dnssec_check.specs.declared.status.Refusal.{Refusal}
+use Rattle.dnssec_check.specs.declared.status.Refusal.TheVariants as refusal
 use Rattle.dnssec_check.specs.declared.status.Status.{Status}
 use Rattle.dnssec_check.specs.AnchorsFile.{HasAnchors, IsFaultOfAnchors}
 use Rattle.dnssec_check.specs.CaptureFile.{AnyMessage, NewEvidence, Holds, IsFaultOfCapture}
@@ -23,7 +25,7 @@ use Rattle.dnssec_check.specs.EnvelopeFiles.{IsEnvelopeOf, IsFaultOfEnvelope}
 use Rattle.dnssec_check.specs.Files.{Files, octets_or_none}
 use Rattle.dnssec_check.specs.KeysFile.{IsFaultOfKeys, MayHaveKeys}
 use Rattle.dnssec_check.specs.Layers.{LayerLaws}
-use Rattle.dnssec_check.specs.Question.{IsNameRefused, IsQuestionRefused, Spells, name_refusal}
+use Rattle.dnssec_check.specs.Question.{IsNameRefused, IsQuestionRefused, Spells}
 use Rattle.dnssec_check.specs.Run.{IsAnswered, IsFaultOfQuestion, IsFirstFault, IsFirstFaultBehind, IsFirstFaultOfCheck, IsFirstFaultOfEvidence, IsFirstFaultOfFiles, IsFirstFaultOfTodo, IsTextOf}
 use Rattle.dnssec_check.specs.Todo.{IsTodo}
 use Rattle.dnssec_check.proofs.AnchorsFileLemmas.{no_anchors_fault, one_anchors_fault}
@@ -54,7 +56,7 @@ module _ (laws : LayerLaws) where
   refused_once : (asked : List ℕ) (rtype : ℕ) (a b : Refusal) (p q : Place) → IsQuestionRefused asked rtype a p → IsQuestionRefused asked rtype b q → fault.Refused a p ≡ fault.Refused b q
   refused_once asked rtype a b p q (inl x) (inl y) =
       let errors : x.0 ≡ y.0 = laws.names.one_fault asked x.0 y.0 x.1 y.1 in
-      λ i. fault.Refused ((x.2 ∙ ap name_refusal errors ∙ sym y.2) i) (same_nowhere p q x.3 y.3 i)
+      λ i. fault.Refused ((x.2 ∙ ap (λ (e : NameError). refusal.Name e) errors ∙ sym y.2) i) (same_nowhere p q x.3 y.3 i)
   refused_once asked rtype a b p q (inl x) (inr y) = absurd (spelled_stands asked y.0 a p y.1 x)
   refused_once asked rtype a b p q (inr x) (inl y) = absurd (spelled_stands asked x.0 b q x.1 y)
   refused_once asked rtype a b p q (inr x) (inr y) = λ i. fault.Refused ((x.2.1 ∙ sym y.2.1) i) (same_nowhere p q x.2.2 y.2.2 i)

@@ -41,8 +41,8 @@ one_meaning text a b x y =
 
 one_telling : (error : StatementsError) (a b : Refusal) (p q : Place) → TellsStatementsError error a p → TellsStatementsError error b q → fault.Refused a p ≡ fault.Refused b q
 one_telling statements.OutOfMemory a b p q x y = absurd x
-one_telling (statements.Syntax number) a b p q x y = one_at_line number refusal.StatementSyntax a b p q x.0 x.1 y.0 y.1
-one_telling (statements.Contradiction number) a b p q x y = one_at_line number refusal.Contradiction a b p q x.0 x.1 y.0 y.1
+one_telling (statements.Syntax number) a b p q x y = one_at_line number (refusal.StatementLine (statements.Syntax number)) a b p q x.0 x.1 y.0 y.1
+one_telling (statements.Contradiction number) a b p q x y = one_at_line number (refusal.StatementLine (statements.Contradiction number)) a b p q x.0 x.1 y.0 y.1
 
 -- a text that has a meaning has no fault
 pub no_statements_fault : (text : List ℕ) (meaning : Entry → Answer) (told : Fault) → IsMeaningOf text meaning → IsFaultOfStatements text told → ⊥

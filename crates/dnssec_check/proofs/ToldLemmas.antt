@@ -1,7 +1,6 @@
 -- The line on the errors, by how the program ends.
-use Rattle.std.proofs.Common.{◌≡◌, ◌<◌, ◌-◌, ◌^◌, ◌⊎◌, ◌↔◌, ◌==◌, ℕ, Bool, List, Option, Some, None, ap, refl, sym, ◌∙◌, inl, inr, arith}
+use Rattle.std.proofs.Common.{◌≡◌, ◌<◌, ◌-◌, ◌^◌, ◌⊎◌, ◌↔◌, ℕ, Bool, List, Option, Some, None, ap, refl, sym, ◌∙◌, inl, inr, arith}
 use Rattle.std.specs.Prelude.{Result, Ok, Err, IfErr, IfSome, OnOk, is_err}
-use Rattle.std.specs.List.{list_any}
 use Rattle.std.specs.Io.KnownBytes.{Appends}
 use Rattle.dnsv_message.specs.Counted.{AppendsBeginning, count_after, failures_of, inner_of}
 use Rattle.dnsv_message.specs.declared.counted.Counted.{Counted}
@@ -16,7 +15,7 @@ use Rattle.dnssec_check.specs.Files.{Files}
 use Rattle.dnssec_check.specs.Line.{IsAccepted, IsRefused, line_code}
 use Rattle.dnssec_check.specs.Program.{AreFilesAt, FailedRequest, FailedWords, HasToldIn, IsEnd, LeavesOutput, RefusedWords, first_unopened, paths_of}
 use Rattle.dnssec_check.specs.Run.{IsFirstFault, IsReached}
-use Rattle.dnssec_check.specs.Status.{failures, fault_code, fault_line, fault_number, outcome_code}
+use Rattle.dnssec_check.specs.Status.{fault_code, fault_line, outcome_code}
 use Rattle.dnssec_check.proofs.ProgramLemmas.{no_1, no_7, no_end}
 use Rattle.dnssec_check.proofs.WordsLemmas.{EndsSo, at_most_2, no_7_of_words}
 
@@ -76,7 +75,7 @@ module _ (octets_at : List ℕ → Option (List ℕ)) (opens_at : List ℕ → O
       → IfErr outcome (λ told. (told ≡ fault.WriteFailed → ⊥) → new ≡ old)
       → (outcome ≡ Err fault.WriteFailed → failures_of old < 2 ^ 64 - 1 → failures_of old < failures_of new)
       → IfErr outcome IsLine → (code ≡ 1) ⊎ (code ≡ 7)
-      → (told : Fault) × (fault_code (fault_number told) ≡ code) × IsLine told × LeavesOutput old new told
+      → (told : Fault) × (fault_code told ≡ code) × IsLine told × LeavesOutput old new told
       × IfSome given (λ words. FailedRequest words octets_at opens_at told ⊎ FailedWords words told)
   request_told given old new (Ok status) code is accepted first behind unopened untouched failed line ends = absurd (no_fault status code is ends)
   request_told given old new (Err told) code is accepted first behind unopened untouched failed line ends = (
@@ -89,7 +88,7 @@ module _ (octets_at : List ℕ → Option (List ℕ)) (opens_at : List ℕ → O
 
 pub quiet_at_end : {Same : Type 0} (outcome : Result Status Fault) (code : ℕ) → outcome_code outcome ≡ code → IsEnd code → OnOk outcome Same → Same
 quiet_at_end (Ok status) code is ends same = same
-quiet_at_end (Err told) code is ends same = absurd (no_end (list_any (λ failure. failure == fault_number told) failures) code is ends)
+quiet_at_end (Err told) code is ends same = absurd (no_end told code is ends)
 
 -- ---- where they ask for nothing
 
@@ -97,9 +96,9 @@ quiet_at_end (Err told) code is ends same = absurd (no_end (list_any (λ failure
 abbrev pub IsWordsFault : LineError → Fault → Type 0
 IsWordsFault error told = (told ≡ fault.OutOfMemory) ⊎ ((told ≡ fault.WriteFailed) × (line_code error ≡ 0))
 
-ends_with_1 : (error : LineError) (told : Fault) → IsWordsFault error told → fault_code (fault_number told) ≡ 1
-ends_with_1 error told (inl is) = ap (λ f. fault_code (fault_number f)) is
-ends_with_1 error told (inr (is, asked)) = ap (λ f. fault_code (fault_number f)) is
+ends_with_1 : (error : LineError) (told : Fault) → IsWordsFault error told → fault_code told ≡ 1
+ends_with_1 error told (inl is) = ap fault_code is
+ends_with_1 error told (inr (is, asked)) = ap fault_code is
 
 module _ (error : LineError) (code : ℕ) (ends : EndsSo error code) where
   failed_words : (words : List (List ℕ)) (told : Fault) → IsRefused words error → code ≡ 1 → EndsSo error code → IsWordsFault error told → FailedWords words told
@@ -117,7 +116,7 @@ module _ (error : LineError) (code : ℕ) (ends : EndsSo error code) where
       (old new : Counted W) → IfSome given (λ words. IsRefused words error)
       → (code ≡ 1 → (told : Fault) × IsLine told × LeavesOutput old new told × IsWordsFault error told)
       → (code ≡ 1) ⊎ (code ≡ 7)
-      → (told : Fault) × (fault_code (fault_number told) ≡ code) × IsLine told × LeavesOutput old new told
+      → (told : Fault) × (fault_code told ≡ code) × IsLine told × LeavesOutput old new told
       × IfSome given (λ words. FailedRequest words octets_at opens_at told ⊎ FailedWords words told)
   words_told octets_at opens_at given old new refused tells (inr is_7) = absurd (no_7_of_words error code ends is_7)
   words_told octets_at opens_at given old new refused tells (inl is_1) =

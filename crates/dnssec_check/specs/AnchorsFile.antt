@@ -21,8 +21,10 @@ pub record HasAnchors (text : List ℕ) (said : List Anchor) : Type 0 where
 -- a fault of trust anchors is told as this refusal, with the number of the line
 abbrev pub TellsAnchorsError : AnchorsError → Refusal → Place → Type 0
 TellsAnchorsError anchors.OutOfMemory why place = ⊥
-TellsAnchorsError (anchors.Syntax number) why place = (why ≡ refusal.AnchorSyntax) × IsAtLine number place
-TellsAnchorsError (anchors.TooMany number) why place = (why ≡ refusal.TooManyAnchors) × IsAtLine number place
+TellsAnchorsError (anchors.Syntax number) why place =
+    (why ≡ refusal.AnchorLine (anchors.Syntax number)) × IsAtLine number place
+TellsAnchorsError (anchors.TooMany number) why place =
+    (why ≡ refusal.AnchorLine (anchors.TooMany number)) × IsAtLine number place
 
 -- the text is refused for its first fault
 abbrev pub AreAnchorsRefused : List ℕ → Refusal → Place → Type 0

@@ -27,8 +27,10 @@ MayHaveKeys (Some text) (Some keys) = HasKeys text keys
 -- a fault of keys is told as this refusal, with the number of the line
 abbrev pub TellsKeysError : KeyFileError → Refusal → Place → Type 0
 TellsKeysError key_file.OutOfMemory why place = ⊥
-TellsKeysError (key_file.Syntax number) why place = (why ≡ refusal.KeySyntax) × IsAtLine number place
-TellsKeysError (key_file.DuplicateKey number) why place = (why ≡ refusal.DuplicateKey) × IsAtLine number place
+TellsKeysError (key_file.Syntax number) why place =
+    (why ≡ refusal.KeyLine (key_file.Syntax number)) × IsAtLine number place
+TellsKeysError (key_file.DuplicateKey number) why place =
+    (why ≡ refusal.KeyLine (key_file.DuplicateKey number)) × IsAtLine number place
 
 -- the text is refused for its first fault
 abbrev pub AreKeysRefused : List ℕ → Refusal → Place → Type 0

@@ -3,7 +3,6 @@ use Rattle.std.specs.Prelude.{◌≡◌, ◌⊎◌, ℕ, List}
 use Rattle.dnsv_names.specs.Name.{Labels, IsName}
 use Rattle.dnsv_names.specs.Text.{FirstFault, IsTextOf}
 use Rattle.dnsv_names.specs.declared.error.NameError.{NameError}
-use Rattle.dnsv_names.specs.declared.error.NameError.TheVariants as name_error
 use Rattle.dnsv_canonical.specs.Rrsets.{IsQuestion}
 use Rattle.dnssec_check.specs.declared.status.Place.{Place}
 use Rattle.dnssec_check.specs.declared.status.Refusal.{Refusal}
@@ -15,18 +14,10 @@ pub record Spells (text : List ℕ) (name : Labels) : Type 0 where
   pub is_name : IsName name
   pub spelling : IsTextOf text name
 
--- the refusal that tells why a text spells no name
-abbrev pub name_refusal : NameError → Refusal
-name_refusal name_error.BadEscape = refusal.BadEscape
-name_refusal name_error.EmptyLabel = refusal.EmptyLabel
-name_refusal name_error.LongLabel = refusal.LongLabel
-name_refusal name_error.LongName = refusal.LongQuestionName
-name_refusal name_error.NotAbsolute = refusal.NotAbsolute
-
 -- the name has a fault, which is the first from the left
 abbrev pub IsNameRefused : List ℕ → Refusal → Place → Type 0
 IsNameRefused text why place =
-    (error : NameError) × FirstFault text error × (why ≡ name_refusal error) × IsNowhere place
+    (error : NameError) × FirstFault text error × (why ≡ refusal.Name error) × IsNowhere place
 
 -- the type can't be asked for at the name
 abbrev pub IsTypeRefused : Labels → ℕ → Refusal → Place → Type 0

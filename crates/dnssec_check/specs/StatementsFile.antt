@@ -29,8 +29,10 @@ IsAtLine number place = (place.message ≡ None) × (place.«record» ≡ None) 
 -- a fault of statements is told as this refusal, with the number of the line
 abbrev pub TellsStatementsError : StatementsError → Refusal → Place → Type 0
 TellsStatementsError statements.OutOfMemory why place = ⊥
-TellsStatementsError (statements.Syntax number) why place = (why ≡ refusal.StatementSyntax) × IsAtLine number place
-TellsStatementsError (statements.Contradiction number) why place = (why ≡ refusal.Contradiction) × IsAtLine number place
+TellsStatementsError (statements.Syntax number) why place =
+    (why ≡ refusal.StatementLine (statements.Syntax number)) × IsAtLine number place
+TellsStatementsError (statements.Contradiction number) why place =
+    (why ≡ refusal.StatementLine (statements.Contradiction number)) × IsAtLine number place
 
 -- the text is refused for its first fault
 abbrev pub AreStatementsRefused : List ℕ → Refusal → Place → Type 0

@@ -1,9 +1,11 @@
 //! Files of trust anchors.
 ghost use Rattle.std.specs.Prelude.{◌≡◌, ◌≤◌, IfErr, IfOk, List, Option, ℕ, length};
 ghost use Rattle.dnsv_message.specs.Frames.{file_limit};
+ghost use Rattle.dnsv_chain.specs.AnchorsError.{anchors_error_code};
 ghost use Rattle.dnssec_check.specs.AnchorsFile.{AreAnchorsRefused, HasAnchors, IsFaultOfAnchors};
 ghost use Rattle.dnssec_check.specs.FileFaults.{IsAbout, OfOctets, TellsFailedReads};
 ghost use Rattle.dnssec_check.specs.Files.{IsToldBy, given_failures, octets_or_none};
+ghost use Rattle.dnssec_check.specs.Status.{fault_number};
 ghost use Rattle.dnssec_check.specs.Told.{IsAnchorsFault, IsFaultOf};
 
 use crate::status::{Fault, InputFile, Refusal};
@@ -41,11 +43,13 @@ fn anchors_of(alloc: Global, text: &[u8]) -> Result<Anchors, Fault>
 
 /// The fault of a text that is no trust anchors.
 fn anchors_fault(error: AnchorsError) -> Fault
-    ensures { IsAnchorsFault error result }
+    ensures told { IsAnchorsFault error result }
+    ensures number { fault_number result ≡ anchors_error_code error }
 {
     match error {
         AnchorsError::OutOfMemory => Fault::OutOfMemory,
-        AnchorsError::Syntax(line) => refused_line(Refusal::AnchorSyntax, line),
-        AnchorsError::TooMany(line) => refused_line(Refusal::TooManyAnchors, line),
+        AnchorsError::Syntax(line) | AnchorsError::TooMany(line) => {
+            refused_line(Refusal::AnchorLine(error), line)
+        }
     }
 }

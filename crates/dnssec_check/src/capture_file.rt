@@ -218,13 +218,8 @@ fn decode_fault(error: DecodeError, number: usize) -> Fault
 {
     match error {
         DecodeError::OutOfMemory => Fault::OutOfMemory,
-        DecodeError::Short => refused(Refusal::Short, number, None),
-        DecodeError::BadLabel => refused(Refusal::BadLabel, number, None),
-        DecodeError::BadPointer => refused(Refusal::BadPointer, number, None),
-        DecodeError::TooManyPointers => refused(Refusal::TooManyPointers, number, None),
-        DecodeError::LongName => refused(Refusal::LongName, number, None),
-        DecodeError::BadRdata(faulty) => refused(Refusal::BadRdata, number, Some(faulty)),
-        DecodeError::TrailingBytes => refused(Refusal::TrailingBytes, number, None),
+        DecodeError::BadRdata(faulty) => refused(Refusal::Message(error), number, Some(faulty)),
+        _ => refused(Refusal::Message(error), number, None),
     }
 }
 
@@ -236,13 +231,7 @@ fn tsig_fault(error: TsigError, number: usize) -> Fault
     match error {
         TsigError::OutOfMemory => Fault::OutOfMemory,
         TsigError::Unreadable(error) => decode_fault(error, number),
-        TsigError::NoTsig => refused(Refusal::NoTsig, number, None),
-        TsigError::Form => refused(Refusal::TsigForm, number, None),
-        TsigError::BadKey => refused(Refusal::BadKey, number, None),
-        TsigError::BadMac => refused(Refusal::BadMac, number, None),
-        TsigError::BadTime => refused(Refusal::BadTime, number, None),
-        TsigError::TruncatedMac => refused(Refusal::TruncatedMac, number, None),
-        TsigError::PeerError => refused(Refusal::PeerError, number, None),
+        _ => refused(Refusal::Tsig(error), number, None),
     }
 }
 
@@ -253,10 +242,8 @@ fn capture_fault(error: CaptureError, number: usize) -> Fault
 {
     match error {
         CaptureError::OutOfMemory => Fault::OutOfMemory,
-        CaptureError::NotAResponse => refused(Refusal::NotAResponse, number, None),
-        CaptureError::Truncated => refused(Refusal::Truncated, number, None),
-        CaptureError::BadRdata(faulty) => refused(Refusal::BadRdata, number, Some(faulty)),
-        CaptureError::Limit => refused(Refusal::Limit, number, None),
+        CaptureError::BadRdata(faulty) => refused(Refusal::Evidence(error), number, Some(faulty)),
+        _ => refused(Refusal::Evidence(error), number, None),
     }
 }
 

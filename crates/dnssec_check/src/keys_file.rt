@@ -1,9 +1,11 @@
 //! Files of keys.
 ghost use Rattle.std.specs.Prelude.{◌≡◌, ◌≤◌, IfErr, IfOk, List, Option, ℕ, length};
 ghost use Rattle.dnsv_message.specs.Frames.{file_limit};
+ghost use Rattle.dnsv_tsig.specs.Errors.{key_file_error_code};
 ghost use Rattle.dnssec_check.specs.FileFaults.{IsAbout, OfOctets, TellsFailedReads};
 ghost use Rattle.dnssec_check.specs.Files.{IsToldBy, given_failures, octets_or_none};
 ghost use Rattle.dnssec_check.specs.KeysFile.{AreKeysRefused, HasKeys, IsFaultOfKeys, MayHaveKeys};
+ghost use Rattle.dnssec_check.specs.Status.{fault_number};
 ghost use Rattle.dnssec_check.specs.Told.{IsFaultOf, IsKeysFault};
 
 use crate::status::{Fault, InputFile, Refusal};
@@ -48,11 +50,13 @@ fn keys_of(alloc: Global, text: &[u8]) -> Result<KeyRing, Fault>
 
 /// The fault of a text that is no keys.
 fn keys_fault(error: KeyFileError) -> Fault
-    ensures { IsKeysFault error result }
+    ensures told { IsKeysFault error result }
+    ensures number { fault_number result ≡ key_file_error_code error }
 {
     match error {
         KeyFileError::OutOfMemory => Fault::OutOfMemory,
-        KeyFileError::Syntax(line) => refused_line(Refusal::KeySyntax, line),
-        KeyFileError::DuplicateKey(line) => refused_line(Refusal::DuplicateKey, line),
+        KeyFileError::Syntax(line) | KeyFileError::DuplicateKey(line) => {
+            refused_line(Refusal::KeyLine(error), line)
+        }
     }
 }

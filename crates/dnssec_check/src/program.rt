@@ -10,7 +10,7 @@ ghost use Rattle.dnssec_check.specs.Program.{AreFilesAt, BeganText, IsEnd, Refus
 ghost use Rattle.dnssec_check.specs.Program.{FailedRequest, FailedWords, HasToldIn, LeavesOutput};
 ghost use Rattle.dnssec_check.specs.Program.{first_unopened, given_path, paths_of};
 ghost use Rattle.dnssec_check.specs.Run.{IsTextOf, IsFirstFault, IsReached};
-ghost use Rattle.dnssec_check.specs.Status.{fault_code, fault_number, outcome_code};
+ghost use Rattle.dnssec_check.specs.Status.{fault_code, outcome_code};
 ghost use Rattle.dnssec_check.specs.Told.{IsOpenFault, IsUnopened};
 ghost use Rattle.dnssec_check.specs.declared.status.Fault.TheVariants as Fault;
 ghost use Rattle.dnssec_check.specs.declared.status.InputFile.{InputFile};
@@ -64,7 +64,7 @@ pub fn exit_status<M: Machine, W: Write, E: Write>(
         (W.contents (inner_of output.old)) (W.contents (inner_of output.new)) ⊎ RefusedWords words 0)) }
 
     // The errors got the line of the first fault, or a beginning of it where a write failed.
-    ensures told { (result ≡ 1) ⊎ (result ≡ 7) → (fault : Fault) × (fault_code (fault_number fault) ≡ result)
+    ensures told { (result ≡ 1) ⊎ (result ≡ 7) → (fault : Fault) × (fault_code fault ≡ result)
         × HasToldIn E.contents errors.old errors.new fault × LeavesOutput output.old output.new fault
         × IfSome (M.given_words machine.now) (λ words. FailedRequest words (M.octets_at machine.now)
         (M.opens machine.now) fault ⊎ FailedWords words fault) }

@@ -1,12 +1,12 @@
 //! Questions on the command line.
-ghost use Rattle.std.specs.Prelude.{◌≡◌, IfErr, IfOk};
+ghost use Rattle.std.specs.Prelude.{IfErr, IfOk};
 ghost use Rattle.dnsv_canonical.specs.Rrsets.{IsQuestion};
-ghost use Rattle.dnssec_check.specs.Question.{IsQuestionRefused, Spells, name_refusal};
+ghost use Rattle.dnssec_check.specs.Question.{IsQuestionRefused, Spells};
 ghost use Rattle.dnssec_check.specs.Told.{IsFaultOf};
 
 use crate::status::{Fault, Place, Refusal};
 use dnsv_canonical::is_question;
-use dnsv_names::{Name, NameError, RecordType};
+use dnsv_names::{Name, RecordType};
 
 /// The name of a question, whose type can be asked for at it.
 ///
@@ -18,23 +18,10 @@ pub fn question_name(text: &[u8], rtype: RecordType) -> Result<Name, Fault>
 {
     let name = match Name::parse(text) {
         Ok(name) => name,
-        Err(error) => return Err(Fault::Refused(refusal(error), Place::NOWHERE)),
+        Err(error) => return Err(Fault::Refused(Refusal::Name(error), Place::NOWHERE)),
     };
     if !is_question(&name, rtype) {
         return Err(Fault::Refused(Refusal::BadQuestion, Place::NOWHERE));
     }
     Ok(name)
-}
-
-/// The refusal of a text that spells no name.
-fn refusal(error: NameError) -> Refusal
-    ensures { result ≡ name_refusal error }
-{
-    match error {
-        NameError::BadEscape => Refusal::BadEscape,
-        NameError::EmptyLabel => Refusal::EmptyLabel,
-        NameError::LongLabel => Refusal::LongLabel,
-        NameError::LongName => Refusal::LongQuestionName,
-        NameError::NotAbsolute => Refusal::NotAbsolute,
-    }
 }

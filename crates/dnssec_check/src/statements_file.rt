@@ -1,10 +1,12 @@
 //! Files of statements.
-ghost use Rattle.std.specs.Prelude.{◌≤◌, IfErr, IfOk, List, Option, ℕ, length};
+ghost use Rattle.std.specs.Prelude.{◌≡◌, ◌≤◌, IfErr, IfOk, List, Option, ℕ, length};
 ghost use Rattle.dnsv_message.specs.Frames.{file_limit};
 ghost use Rattle.dnsv_verifier.specs.Statements.{listed_answer};
+ghost use Rattle.dnsv_verifier.specs.StatementsError.{statements_error_code};
 ghost use Rattle.dnssec_check.specs.FileFaults.{IsAbout, OfOctets, TellsFailedReads};
 ghost use Rattle.dnssec_check.specs.Files.{IsToldBy, given_failures, octets_or_none};
 ghost use Rattle.dnssec_check.specs.StatementsFile.{AreStatementsRefused, IsFaultOfStatements, IsMeaningOf};
+ghost use Rattle.dnssec_check.specs.Status.{fault_number};
 ghost use Rattle.dnssec_check.specs.Told.{IsFaultOf, IsStatementsFault};
 
 use crate::status::{Fault, InputFile, Refusal};
@@ -46,11 +48,13 @@ fn statements_of(alloc: Global, text: &[u8]) -> Result<Statements, Fault>
 
 /// The fault of a text that is no statements.
 fn statements_fault(error: StatementsError) -> Fault
-    ensures { IsStatementsFault error result }
+    ensures told { IsStatementsFault error result }
+    ensures number { fault_number result ≡ statements_error_code error }
 {
     match error {
         StatementsError::OutOfMemory => Fault::OutOfMemory,
-        StatementsError::Syntax(line) => refused_line(Refusal::StatementSyntax, line),
-        StatementsError::Contradiction(line) => refused_line(Refusal::Contradiction, line),
+        StatementsError::Syntax(line) | StatementsError::Contradiction(line) => {
+            refused_line(Refusal::StatementLine(error), line)
+        }
     }
 }

@@ -1,10 +1,11 @@
 //! Text files, which may be left out.
 ghost use Rattle.std.specs.Prelude.{◌≡◌, ◌<◌, ◌≤◌, Err, IfErr, IfOk, List, Option, ℕ, length};
 ghost use Rattle.dnsv_message.specs.Frames.{file_limit};
-ghost use Rattle.dnsv_message.specs.ReadError.{IsFileError};
+ghost use Rattle.dnsv_message.specs.ReadError.{IsFileError, read_error_code};
 ghost use Rattle.dnssec_check.specs.FileFaults.{TellsFailedReads};
 ghost use Rattle.dnssec_check.specs.Files.{IsToldBy, given_failures, octets_or_none};
 ghost use Rattle.dnssec_check.specs.StatementsFile.{IsAtLine};
+ghost use Rattle.dnssec_check.specs.Status.{fault_number};
 ghost use Rattle.dnssec_check.specs.Told.{IsTextFault, IsTextReadFault};
 
 use crate::status::{Fault, InputFile, Place, Refusal};
@@ -37,7 +38,8 @@ pub fn octets_in<R: Read>(
 /// The fault of a file of any octets that wasn't read.
 fn read_fault(file: InputFile, error: ReadError) -> Fault
     requires { IsFileError error }
-    ensures { IsTextFault file error result }
+    ensures told { IsTextFault file error result }
+    ensures number { fault_number result ≡ read_error_code error }
 {
     match error {
         ReadError::OutOfMemory => Fault::OutOfMemory,
