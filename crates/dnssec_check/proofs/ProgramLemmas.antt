@@ -1,9 +1,11 @@
 -- How the program ends by what its parts answer.
+pub mod Told
+pub mod Words
 use Rattle.std.proofs.Common.{◌≡◌, ◌<◌, ◌≤◌, ◌⊎◌, ◌↔◌, ℕ, Bool, true, false, List, [], ◌∷◌, Option, Some, None, ap, refl, subst, sym, ◌∙◌, inl, inr, arith}
 use Rattle.std.specs.Prelude.{Result, Ok, Err, IfErr, IfOk, IfSome, OnOk}
 use Rattle.std.specs.Io.KnownBytes.{Appends}
 use Rattle.dnsv_message.specs.Counted.{AppendsBeginning}
-use Rattle.dnssec_check.specs.declared.request.Request.{Request}
+use Rattle.dnssec_check.specs.declared.command_line.request.Request.{Request}
 use Rattle.dnssec_check.specs.declared.status.Status.{Status}
 use Rattle.dnssec_check.specs.declared.status.Status.TheVariants.{Done, Insecure, Pending, Bogus, Indeterminate}
 use Rattle.dnssec_check.specs.declared.status.Fault.{Fault}
@@ -11,9 +13,9 @@ use Rattle.dnssec_check.specs.declared.status.Fault.TheVariants as fault
 use Rattle.dnssec_check.specs.declared.status.Place.{Place}
 use Rattle.dnssec_check.specs.declared.status.Refusal.{Refusal}
 use Rattle.dnssec_check.specs.Files.{Files}
-use Rattle.dnssec_check.specs.Line.{IsAccepted}
+use Rattle.dnssec_check.specs.CommandLine.{IsAccepted}
 use Rattle.dnssec_check.specs.Program.{AreFilesAt, BeganText, IsEnd, RefusedFiles, RefusedWords, WroteText, first_unopened, given_path, paths_of}
-use Rattle.dnssec_check.specs.Request.{anchors_of, capture_of, keys_of, macs_of, statements_of}
+use Rattle.dnssec_check.specs.CommandLine.Paths.{anchors_of, capture_of, keys_of, macs_of, statements_of}
 use Rattle.dnssec_check.specs.Told.{IsOpenFault, IsUnopened}
 use Rattle.dnssec_check.specs.declared.status.InputFile.{InputFile}
 use Rattle.dnssec_check.specs.declared.status.InputFile.TheVariants.{Anchors, Capture, Keys, Macs, Statements}

@@ -5,8 +5,8 @@ use Rattle.dnssec_check.specs.declared.status.Fault.{Fault}
 use Rattle.dnssec_check.specs.declared.status.Fault.TheVariants as fault
 use Rattle.dnssec_check.specs.declared.status.InputFile.{InputFile}
 use Rattle.dnssec_check.specs.declared.status.InputFile.TheVariants.{Anchors, Capture, Keys, Macs, Statements}
-use Rattle.dnssec_check.specs.EnvelopeFiles.{IsEnvelopeReached}
-use Rattle.dnssec_check.specs.FileFaults.{IsAbout, OfFailedRead}
+use Rattle.dnssec_check.specs.Opening.Given.{IsEnvelopeReached}
+use Rattle.dnssec_check.specs.Files.Faults.{IsAbout, OfFailedRead}
 use Rattle.dnssec_check.specs.Files.{Files}
 use Rattle.dnssec_check.specs.Run.{IsReachedOfFiles}
 

@@ -5,8 +5,8 @@ use Rattle.std.specs.Io.KnownBytes.{Appends}
 use Rattle.dnsv_message.specs.Counted.{AppendsBeginning, failures_of, inner_of}
 use Rattle.dnsv_message.specs.declared.counted.Counted.{Counted}
 use Rattle.clap.specs.Words.{Text}
-use Rattle.dnssec_check.specs.declared.request.Request.{Request}
-use Rattle.dnssec_check.specs.declared.line.LineError.{LineError}
+use Rattle.dnssec_check.specs.declared.command_line.request.Request.{Request}
+use Rattle.dnssec_check.specs.declared.command_line.LineError.{LineError}
 use Rattle.dnssec_check.specs.declared.status.Fault.{Fault}
 use Rattle.dnssec_check.specs.declared.status.Fault.TheVariants as fault
 use Rattle.dnssec_check.specs.declared.status.InputFile.{InputFile}
@@ -14,10 +14,10 @@ use Rattle.dnssec_check.specs.declared.status.InputFile.TheVariants.{Anchors, Ca
 use Rattle.dnssec_check.specs.declared.status.Status.{Status}
 use Rattle.dnssec_check.specs.declared.status.Place.{Place}
 use Rattle.dnssec_check.specs.declared.status.Refusal.{Refusal}
-use Rattle.dnssec_check.specs.FileFaults.{OfFailedRead, OfOctets}
+use Rattle.dnssec_check.specs.Files.Faults.{OfFailedRead, OfOctets}
 use Rattle.dnssec_check.specs.Files.{Files}
-use Rattle.dnssec_check.specs.Line.{IsAccepted, IsRefused, line_code}
-use Rattle.dnssec_check.specs.Request.{anchors_of, capture_of, keys_of, macs_of, statements_of}
+use Rattle.dnssec_check.specs.CommandLine.{IsAccepted, IsRefused, line_code}
+use Rattle.dnssec_check.specs.CommandLine.Paths.{anchors_of, capture_of, keys_of, macs_of, statements_of}
 use Rattle.dnssec_check.specs.Run.{IsTextOf, IsFirstFault, IsReached}
 use Rattle.dnssec_check.specs.Status.{fault_line, status_code}
 

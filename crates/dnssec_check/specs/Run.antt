@@ -4,26 +4,26 @@ use Rattle.dnsv_names.specs.Name.{Labels}
 use Rattle.dnsv_message.specs.Message.{Contents}
 use Rattle.dnsv_canonical.specs.Rrsets.{IsQuestion}
 use Rattle.dnsv_chain.specs.declared.anchor.Anchor.{Anchor}
-use Rattle.dnssec_check.specs.declared.envelope.Envelope.{Envelope}
-use Rattle.dnssec_check.specs.declared.envelope.Envelope.TheVariants.{Bare}
-use Rattle.dnssec_check.specs.declared.request.Request.{Request}
-use Rattle.dnssec_check.specs.declared.request.Request.TheVariants as request
+use Rattle.dnssec_check.specs.declared.opening.Envelope.{Envelope}
+use Rattle.dnssec_check.specs.declared.opening.Envelope.TheVariants.{Bare}
+use Rattle.dnssec_check.specs.declared.command_line.request.Request.{Request}
+use Rattle.dnssec_check.specs.declared.command_line.request.Request.TheVariants as request
 use Rattle.dnssec_check.specs.declared.status.Fault.{Fault}
 use Rattle.dnssec_check.specs.declared.status.Fault.TheVariants as fault
 use Rattle.dnssec_check.specs.declared.status.InputFile.{InputFile}
 use Rattle.dnssec_check.specs.declared.status.InputFile.TheVariants.{Anchors, Capture, Keys, Macs, Statements}
 use Rattle.dnssec_check.specs.declared.status.Status.{Status}
 use Rattle.dnssec_check.specs.declared.status.Status.TheVariants.{Done}
-use Rattle.dnssec_check.specs.AnchorsFile.{HasAnchors, IsFaultOfAnchors}
-use Rattle.dnssec_check.specs.CaptureFile.{AnyMessage, NewEvidence, Holds, IsFaultOfCapture}
-use Rattle.dnssec_check.specs.Checking.{IsCheck}
-use Rattle.dnssec_check.specs.EnvelopeFiles.{IsEnvelopeOf, IsEnvelopeReached, IsFaultOfEnvelope}
+use Rattle.dnssec_check.specs.Files.Anchors.{HasAnchors, IsFaultOfAnchors}
+use Rattle.dnssec_check.specs.Files.Capture.{AnyMessage, NewEvidence, Holds, IsFaultOfCapture}
+use Rattle.dnssec_check.specs.Texts.Checking.{IsCheck}
+use Rattle.dnssec_check.specs.Opening.Given.{IsEnvelopeOf, IsEnvelopeReached, IsFaultOfEnvelope}
 use Rattle.dnssec_check.specs.Files.{Files, octets_or_none}
-use Rattle.dnssec_check.specs.Listing.{IsListing}
-use Rattle.dnssec_check.specs.Question.{IsQuestionRefused, Spells}
-use Rattle.dnssec_check.specs.Showing.{IsShowing}
-use Rattle.dnssec_check.specs.StatementsFile.{IsFaultOfStatements}
-use Rattle.dnssec_check.specs.Todo.{IsTodo}
+use Rattle.dnssec_check.specs.Texts.Listing.{IsListing}
+use Rattle.dnssec_check.specs.CommandLine.Question.{IsQuestionRefused, Spells}
+use Rattle.dnssec_check.specs.Texts.Showing.{IsShowing}
+use Rattle.dnssec_check.specs.Files.Statements.{IsFaultOfStatements}
+use Rattle.dnssec_check.specs.Texts.Todo.{IsTodo}
 
 -- ---- the text
 

@@ -14,21 +14,21 @@ use Rattle.dnssec_check.specs.declared.status.Refusal.TheVariants as refusal
 use Rattle.dnsv_canonical.specs.declared.capture.CaptureError.{CaptureError}
 use Rattle.dnsv_canonical.specs.declared.capture.CaptureError.TheVariants as capture
 use Rattle.dnsv_canonical.specs.Evidence.{Evidence}
-use Rattle.dnssec_check.specs.declared.envelope.Envelope.{Envelope}
-use Rattle.dnssec_check.specs.CaptureFile.{Demand, FrameRefused}
+use Rattle.dnssec_check.specs.declared.opening.Envelope.{Envelope}
+use Rattle.dnssec_check.specs.Files.Capture.{Demand, FrameRefused}
 use Rattle.dnsv_verifier.specs.declared.statements.StatementsError.{StatementsError}
 use Rattle.dnsv_verifier.specs.declared.statements.StatementsError.TheVariants as statements
 use Rattle.dnsv_chain.specs.declared.anchors.AnchorsError.{AnchorsError}
 use Rattle.dnsv_chain.specs.declared.anchors.AnchorsError.TheVariants as anchors
-use Rattle.dnssec_check.specs.AnchorsFile.{TellsAnchorsError}
+use Rattle.dnssec_check.specs.Files.Anchors.{TellsAnchorsError}
 use Rattle.dnsv_tsig.specs.declared.error.TsigError.{TsigError}
 use Rattle.dnsv_tsig.specs.declared.error.TsigError.TheVariants as tsig
 use Rattle.dnsv_tsig.specs.Answer.{tsig_answer_of}
 use Rattle.dnsv_tsig.specs.Key.{SharedKey}
-use Rattle.dnssec_check.specs.Envelope.{HoldsNoMessage, IsUnreadable}
-use Rattle.dnssec_check.specs.StatementsFile.{TellsStatementsError}
+use Rattle.dnssec_check.specs.Opening.{HoldsNoMessage, IsUnreadable}
+use Rattle.dnssec_check.specs.Files.Statements.{TellsStatementsError}
 use Rattle.dnssec_check.specs.Status.{TellsMessageError, TellsCaptureError, TellsTsigError}
-use Rattle.dnssec_check.specs.KeysFile.{TellsKeysError}
+use Rattle.dnssec_check.specs.Opening.Keys.{TellsKeysError}
 use Rattle.dnsv_tsig.specs.declared.error.KeyFileError.{KeyFileError}
 use Rattle.dnsv_tsig.specs.declared.error.KeyFileError.TheVariants as key_file
 

@@ -2,17 +2,17 @@
 ghost use Rattle.std.specs.Prelude.{◌≡◌, ◌⊎◌, List, Option, ℕ};
 ghost use Rattle.dnsv_names.specs.Octets.{AreOctets};
 ghost use Rattle.dnsv_message.specs.Frames.{IsTooLong};
-ghost use Rattle.dnssec_check.specs.CaptureFile.{AnyMessage, IsRefusal, NewEvidence};
-ghost use Rattle.dnssec_check.specs.declared.envelope.Envelope.TheVariants.{Bare};
-ghost use Rattle.dnssec_check.specs.Listing.{IsListing};
-ghost use Rattle.dnssec_check.specs.Showing.{IsShowing};
+ghost use Rattle.dnssec_check.specs.Files.Capture.{AnyMessage, IsRefusal, NewEvidence};
+ghost use Rattle.dnssec_check.specs.declared.opening.Envelope.TheVariants.{Bare};
+ghost use Rattle.dnssec_check.specs.Texts.Listing.{IsListing};
+ghost use Rattle.dnssec_check.specs.Texts.Showing.{IsShowing};
 ghost use Rattle.dnssec_check.specs.Files.{Files};
 ghost use Rattle.dnssec_check.specs.Layers.{LayerLaws};
-ghost use Rattle.dnssec_check.specs.MacsFile.{HasMacs, IsFaultOfMacs};
+ghost use Rattle.dnssec_check.specs.Opening.Macs.{HasMacs, IsFaultOfMacs};
 ghost use Rattle.dnssec_check.specs.Run.{IsTextOf, IsFirstFault};
 ghost use Rattle.dnssec_check.specs.declared.status.Status.{Status};
 ghost use Rattle.dnssec_check.specs.declared.status.Fault.{Fault};
-ghost use Rattle.dnssec_check.specs.declared.request.Request.{Request};
+ghost use Rattle.dnssec_check.specs.declared.command_line.request.Request.{Request};
 ghost use Rattle.dnssec_check.specs.declared.status.Place.{Place};
 ghost use Rattle.dnssec_check.specs.declared.status.Refusal.{Refusal};
 

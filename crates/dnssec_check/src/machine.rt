@@ -1,10 +1,10 @@
 //! What the program has of the machine that runs it: the words of its command line, and files.
 ghost use Rattle.std.specs.Prelude.{◌≡◌, Bool, ℕ, List, Option, None, Some, map, string_bytes};
 ghost use Rattle.std.specs.Prelude.{IfErr, IfOk, IfSome, is_ok};
-ghost use Rattle.dnssec_check.specs.declared.line.LineError.{LineError};
-ghost use Rattle.dnssec_check.specs.declared.line.LineError.TheVariants.{OutOfMemory};
+ghost use Rattle.dnssec_check.specs.declared.command_line.LineError.{LineError};
+ghost use Rattle.dnssec_check.specs.declared.command_line.LineError.TheVariants.{OutOfMemory};
 
-use crate::line::LineError;
+use crate::command_line::LineError;
 use std::alloc::Global;
 use std::fs::File;
 use std::io::Read;

@@ -3,9 +3,9 @@ ghost use Rattle.std.specs.Prelude.{◌≡◌, ◌<◌, ◌≤◌, ◌⊎◌, �
 ghost use Rattle.std.specs.Option.{option_map};
 ghost use Rattle.std.specs.Io.KnownBytes.{Appends};
 ghost use Rattle.dnsv_message.specs.Counted.{inner_of, failures_of, AppendsBeginning};
-ghost use Rattle.dnssec_check.specs.FileFaults.{OfFailedRead, OfOctets};
+ghost use Rattle.dnssec_check.specs.Files.Faults.{OfFailedRead, OfOctets};
 ghost use Rattle.dnssec_check.specs.Files.{AreTold, Files, IsToldBy};
-ghost use Rattle.dnssec_check.specs.Line.{IsAccepted, IsRefused, line_code};
+ghost use Rattle.dnssec_check.specs.CommandLine.{IsAccepted, IsRefused, line_code};
 ghost use Rattle.dnssec_check.specs.Program.{AreFilesAt, BeganText, IsEnd, RefusedFiles, RefusedWords, WroteText};
 ghost use Rattle.dnssec_check.specs.Program.{FailedRequest, FailedWords, HasToldIn, LeavesOutput};
 ghost use Rattle.dnssec_check.specs.Program.{first_unopened, given_path, paths_of};
@@ -18,9 +18,9 @@ ghost use Rattle.dnssec_check.specs.declared.status.Place.{Place};
 ghost use Rattle.dnssec_check.specs.declared.status.Status.{Status};
 ghost use Rattle.dnssec_check.specs.declared.status.Refusal.{Refusal};
 
-use crate::line::{LineError, read_line};
+use crate::command_line::request::Request;
+use crate::command_line::{LineError, read_line};
 use crate::machine::{Host, Machine};
-use crate::request::Request;
 use crate::run::{Inputs, run};
 use crate::status::{Fault, InputFile, Status};
 use dnsv_message::Counted;

@@ -1,4 +1,4 @@
-use Rattle.dnssec_check.specs.Line.{IsAccepted, IsRefused}
+use Rattle.dnssec_check.specs.CommandLine.{IsAccepted, IsRefused}
 use Rattle.dnssec_check.proofs.ProgramLemmas.{told_ok, told_err}
 use Rattle.dnssec_check.proofs.program.request.Goals as goal
 

@@ -1,6 +1,6 @@
 use Rattle.std.proofs.Common.{inr}
 use Rattle.dnssec_check.specs.Run.{IsFirstFaultOfCheck, IsFirstFaultOfFiles, IsReachedByCheck, IsReachedOfFiles}
-use Rattle.dnssec_check.proofs.FileFaultLemmas.{TellsFaults-weaker}
+use Rattle.dnssec_check.proofs.FileLemmas.Faults.{TellsFaults-weaker}
 use Rattle.dnssec_check.proofs.ReachedLemmas.{reached_in}
 use Rattle.dnssec_check.proofs.run.answered.Goals as goal
 

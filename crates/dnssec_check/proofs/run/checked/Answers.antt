@@ -3,8 +3,8 @@ use Rattle.std.proofs.lemmas.Result.{err_from_is_err_and}
 use Rattle.dnsv_verifier.specs.Statements.{listed_answer}
 use Rattle.dnssec_check.specs.declared.status.InputFile.TheVariants.{Anchors, Capture, Statements}
 use Rattle.dnssec_check.specs.Run.{IsFirstFaultOfFiles, IsReachedOfFiles}
-use Rattle.dnssec_check.proofs.CheckLemmas.{all_checked}
-use Rattle.dnssec_check.proofs.FileFaultLemmas.{all_taken, anchored, captured, has_evidence, reads_then, stated, unsealed}
+use Rattle.dnssec_check.proofs.TextLemmas.Checking.{all_checked}
+use Rattle.dnssec_check.proofs.FileLemmas.Faults.{all_taken, anchored, captured, has_evidence, reads_then, stated, unsealed}
 use Rattle.dnssec_check.proofs.ReachedLemmas.{no_read, reached_by, reached_sealed}
 use Rattle.dnssec_check.proofs.run.checked.Goals as goal
 

@@ -1,6 +1,6 @@
 use Rattle.std.proofs.Common.{subst}
 use Rattle.dnssec_check.specs.Run.{IsFirstFault, IsFirstFaultOfCheck, IsReached, IsReachedByCheck}
-use Rattle.dnssec_check.proofs.FileFaultLemmas.{TellsFaults-weaker}
+use Rattle.dnssec_check.proofs.FileLemmas.Faults.{TellsFaults-weaker}
 use Rattle.dnssec_check.proofs.ReachedLemmas.{reached_in}
 use Rattle.dnssec_check.proofs.run.outcome_of.Goals as goal
 

@@ -1,9 +1,9 @@
 use Rattle.std.proofs.Common.{inl, refl}
 use Rattle.std.proofs.lemmas.Result.{err_from_is_err_and}
-use Rattle.dnssec_check.specs.declared.envelope.Envelope.TheVariants.{Bare}
+use Rattle.dnssec_check.specs.declared.opening.Envelope.TheVariants.{Bare}
 use Rattle.dnssec_check.specs.declared.status.InputFile.TheVariants.{Capture, Statements}
 use Rattle.dnssec_check.specs.Run.{IsFirstFaultOfTodo, IsReachedByTodo}
-use Rattle.dnssec_check.proofs.FileFaultLemmas.{captured, has_evidence, reads_untouched}
+use Rattle.dnssec_check.proofs.FileLemmas.Faults.{captured, has_evidence, reads_untouched}
 use Rattle.dnssec_check.proofs.ReachedLemmas.{reached_by}
 use Rattle.dnssec_check.proofs.run.todo.Goals as goal
 
