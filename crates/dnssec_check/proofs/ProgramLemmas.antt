@@ -1,8 +1,8 @@
 -- How the program ends by what its parts answer.
 pub mod Told
 pub mod Words
-use Rattle.std.proofs.Common.{◌≡◌, ◌<◌, ◌≤◌, ◌⊎◌, ◌↔◌, ℕ, Bool, true, false, List, [], ◌∷◌, Option, Some, None, ap, refl, subst, sym, ◌∙◌, inl, inr, arith}
-use Rattle.std.specs.Prelude.{Result, Ok, Err, IfErr, IfOk, IfSome, OnOk}
+use Rattle.std.proofs.Common.{◌≡◌, ◌⊎◌, ◌↔◌, ℕ, Bool, true, List, [], ◌∷◌, Option, Some, None, ap, refl, subst, sym, ◌∙◌, inl, inr, arith}
+use Rattle.std.specs.Prelude.{Result, Ok, Err, IfErr, IfOk, IfSome}
 use Rattle.std.specs.Io.KnownBytes.{Appends}
 use Rattle.dnsv_message.specs.Counted.{AppendsBeginning}
 use Rattle.dnssec_check.specs.declared.command_line.request.Request.{Request}
@@ -19,7 +19,7 @@ use Rattle.dnssec_check.specs.CommandLine.Paths.{anchors_of, capture_of, keys_of
 use Rattle.dnssec_check.specs.Told.{IsOpenFault, IsUnopened}
 use Rattle.dnssec_check.specs.declared.status.InputFile.{InputFile}
 use Rattle.dnssec_check.specs.declared.status.InputFile.TheVariants.{Anchors, Capture, Keys, Macs, Statements}
-use Rattle.dnssec_check.specs.Run.{IsTextOf, IsFirstFault}
+use Rattle.dnssec_check.specs.Run.{IsTextAskedFor, IsFirstFault}
 use Rattle.dnssec_check.specs.Status.{fault_code, outcome_code, status_code}
 
 -- what is said of the words that were handed out holds of those that the machine tells
@@ -99,7 +99,7 @@ ended_failed (Err (fault.Refused why place)) is_1 untouched begun = absurd (omeg
 
 pub began : (given : Option (List (List ℕ))) (octets_at : List ℕ → Option (List ℕ)) (old new : Option (List ℕ)) (request : Request)
     → IfSome given (λ words. IsAccepted words request)
-    → ((files : Files) → AreFilesAt octets_at request files → (status : Status) × (text : List ℕ) × IsTextOf request files status text × AppendsBeginning old new text)
+    → ((files : Files) → AreFilesAt octets_at request files → (status : Status) × (text : List ℕ) × IsTextAskedFor request files status text × AppendsBeginning old new text)
     → IfSome given (λ words. BeganText words octets_at old new)
 began None octets_at old new request accepted text = tt
 began (Some words) octets_at old new request accepted text = record { request = request; accepted = accepted; text = text }
@@ -107,7 +107,7 @@ began (Some words) octets_at old new request accepted text = record { request = 
 pub wrote : (given : Option (List (List ℕ))) (octets_at : List ℕ → Option (List ℕ)) (old new : Option (List ℕ)) (request : Request) (code : ℕ)
     → IfSome given (λ words. IsAccepted words request)
     → ((files : Files) → AreFilesAt octets_at request files
-    → (status : Status) × (status_code status ≡ code) × ((text : List ℕ) × IsTextOf request files status text × Appends old new text))
+    → (status : Status) × (status_code status ≡ code) × ((text : List ℕ) × IsTextAskedFor request files status text × Appends old new text))
     → IfSome given (λ words. WroteText words octets_at old new code ⊎ RefusedWords words code)
 wrote None octets_at old new request code accepted text = tt
 wrote (Some words) octets_at old new request code accepted text = inl (record {

@@ -20,8 +20,8 @@ use Rattle.dnssec_check.specs.CommandLine.Commands.{program_app}
 use Rattle.dnssec_check.specs.CommandLine.Moment.{last_moment}
 use Rattle.dnssec_check.specs.declared.command_line.request.Request.{Request}
 use Rattle.dnssec_check.specs.declared.command_line.request.Request.TheVariants as request
-use Rattle.dnssec_check.specs.declared.command_line.LineError.{LineError}
-use Rattle.dnssec_check.specs.declared.command_line.LineError.TheVariants as line
+use Rattle.dnssec_check.specs.declared.command_line.CommandLineError.{CommandLineError}
+use Rattle.dnssec_check.specs.declared.command_line.CommandLineError.TheVariants as line
 
 -- ---- what the words ask for
 
@@ -64,7 +64,7 @@ IsAccepted words asked = (fault_of program_app words ≡ [])
 -- ---- why they ask for nothing
 
 -- help was asked for, or the words have a mistake, of a kind that the program gives at them
-abbrev pub IsRefused : List Text → LineError → Type 0
+abbrev pub IsRefused : List Text → CommandLineError → Type 0
 IsRefused words line.OutOfMemory = ⊤
 IsRefused words line.NotText = ⊥
 IsRefused words (line.Help refusal) =
@@ -72,25 +72,25 @@ IsRefused words (line.Help refusal) =
 IsRefused words (line.Misused refusal) =
     (kind_of refusal ≢ kind.DisplayHelp) × IsAmong (kind_of refusal) (fault_of program_app words)
 
-abbrev pub error_of_kind : ErrorKind → Error → LineError
+abbrev pub error_of_kind : ErrorKind → Error → CommandLineError
 error_of_kind kind.OutOfMemory refusal = line.OutOfMemory
 error_of_kind kind.DisplayHelp refusal = line.Help refusal
 error_of_kind _ refusal = line.Misused refusal
 
-abbrev pub line_error : Error → LineError
-line_error refusal = error_of_kind (kind_of refusal) refusal
+abbrev pub command_line_error : Error → CommandLineError
+command_line_error refusal = error_of_kind (kind_of refusal) refusal
 
 -- what goes wrong where the words are handed out
-abbrev pub words_error : IoErrorKind → LineError
+abbrev pub words_error : IoErrorKind → CommandLineError
 words_error io.OutOfMemory = line.OutOfMemory
 words_error _ = line.NotText
 
 -- the exit status: 1 without memory, 0 after help, else 2
-abbrev pub line_code : LineError → ℕ
-line_code line.OutOfMemory = 1
-line_code line.NotText = 2
-line_code (line.Help refusal) = 0
-line_code (line.Misused refusal) = 2
+abbrev pub command_line_code : CommandLineError → ℕ
+command_line_code line.OutOfMemory = 1
+command_line_code line.NotText = 2
+command_line_code (line.Help refusal) = 0
+command_line_code (line.Misused refusal) = 2
 
 -- ---- what the subcommands need of their matches
 

@@ -10,8 +10,8 @@ use Rattle.dnsv_message.specs.Message.{Contents}
 use Rattle.dnsv_tsig.specs.declared.error.TsigError.{TsigError}
 use Rattle.dnsv_tsig.specs.Answer.{tsig_answer_of}
 use Rattle.dnsv_tsig.specs.Opened.{OpenedMessage}
-use Rattle.dnssec_check.specs.declared.opening.Envelope.{Envelope}
-use Rattle.dnssec_check.specs.declared.opening.Envelope.TheVariants.{Bare, Signed}
+use Rattle.dnssec_check.specs.declared.opening.Opening.{Opening}
+use Rattle.dnssec_check.specs.declared.opening.Opening.TheVariants.{Plain, Signed}
 use Rattle.dnssec_check.specs.declared.status.Refusal.{Refusal}
 use Rattle.dnssec_check.specs.Status.{TellsMessageError, TellsTsigError}
 
@@ -25,14 +25,14 @@ request_mac None number = None
 request_mac (Some macs) number = get_or macs (number - 1) None
 
 -- where MACs of requests are given, each frame has its own, and no other is there
-abbrev pub HasItsMacs : Envelope → List (List ℕ) → Type 0
-HasItsMacs Bare frames = ⊤
+abbrev pub HasItsMacs : Opening → List (List ℕ) → Type 0
+HasItsMacs Plain frames = ⊤
 HasItsMacs (Signed keys moment None) frames = ⊤
 HasItsMacs (Signed keys moment (Some macs)) frames = length macs ≡ length frames
 
 -- the frame with this number holds the message, as it is or in what it opens to
-abbrev pub IsInFrame : Envelope → ℕ → List ℕ → Contents → Type 0
-IsInFrame Bare number frame message = MessageOf frame message
+abbrev pub IsInFrame : Opening → ℕ → List ℕ → Contents → Type 0
+IsInFrame Plain number frame message = MessageOf frame message
 IsInFrame (Signed keys moment macs) number frame message =
     (opened : OpenedMessage) × tsig_answer_of frame keys moment (request_mac macs number) (Ok opened)
     × MessageOf opened.message message
@@ -43,8 +43,8 @@ IsUnreadable octets why record_number =
     (error : DecodeError) × FaultOf octets error × TellsMessageError error why record_number
 
 -- the frame with this number doesn't open, or opens to what is no message, and is refused as this
-abbrev pub HoldsNoMessage : Envelope → ℕ → List ℕ → Refusal → Option ℕ → Type 0
-HoldsNoMessage Bare number frame why record_number = IsUnreadable frame why record_number
+abbrev pub HoldsNoMessage : Opening → ℕ → List ℕ → Refusal → Option ℕ → Type 0
+HoldsNoMessage Plain number frame why record_number = IsUnreadable frame why record_number
 HoldsNoMessage (Signed keys moment macs) number frame why record_number =
     ((error : TsigError) × tsig_answer_of frame keys moment (request_mac macs number) (Err error)
     × TellsTsigError error why record_number)

@@ -1,12 +1,12 @@
 -- How the program ends, where its machine tells the words of the command line and the octets of files.
-use Rattle.std.specs.Prelude.{◌≡◌, ◌⊎◌, ◌↔◌, ◌<◌, ◌≤◌, ◌-◌, ◌^◌, ℕ, Bool, not, List, [], ◌∷◌, ◌++◌, Option, Some, None, find}
+use Rattle.std.specs.Prelude.{◌≡◌, ◌⊎◌, ◌↔◌, ◌<◌, ◌≤◌, ◌-◌, ◌^◌, ℕ, Bool, not, List, [], ◌∷◌, Option, Some, None, find}
 use Rattle.std.specs.Option.{option_map}
 use Rattle.std.specs.Io.KnownBytes.{Appends}
 use Rattle.dnsv_message.specs.Counted.{AppendsBeginning, failures_of, inner_of}
 use Rattle.dnsv_message.specs.declared.counted.Counted.{Counted}
 use Rattle.clap.specs.Words.{Text}
 use Rattle.dnssec_check.specs.declared.command_line.request.Request.{Request}
-use Rattle.dnssec_check.specs.declared.command_line.LineError.{LineError}
+use Rattle.dnssec_check.specs.declared.command_line.CommandLineError.{CommandLineError}
 use Rattle.dnssec_check.specs.declared.status.Fault.{Fault}
 use Rattle.dnssec_check.specs.declared.status.Fault.TheVariants as fault
 use Rattle.dnssec_check.specs.declared.status.InputFile.{InputFile}
@@ -16,9 +16,9 @@ use Rattle.dnssec_check.specs.declared.status.Place.{Place}
 use Rattle.dnssec_check.specs.declared.status.Refusal.{Refusal}
 use Rattle.dnssec_check.specs.Files.Faults.{OfFailedRead, OfOctets}
 use Rattle.dnssec_check.specs.Files.{Files}
-use Rattle.dnssec_check.specs.CommandLine.{IsAccepted, IsRefused, line_code}
+use Rattle.dnssec_check.specs.CommandLine.{IsAccepted, IsRefused, command_line_code}
 use Rattle.dnssec_check.specs.CommandLine.Paths.{anchors_of, capture_of, keys_of, macs_of, statements_of}
-use Rattle.dnssec_check.specs.Run.{IsTextOf, IsFirstFault, IsReached}
+use Rattle.dnssec_check.specs.Run.{IsTextAskedFor, IsFirstFault, IsReached}
 use Rattle.dnssec_check.specs.Status.{fault_line, status_code}
 
 -- ---- files
@@ -59,7 +59,7 @@ pub record WroteText (words : List Text) (octets_at : List ℕ → Option (List 
   pub request : Request
   pub accepted : IsAccepted words request
   pub text : (files : Files) → AreFilesAt octets_at request files
-      → (status : Status) × (text : List ℕ) × IsTextOf request files status text
+      → (status : Status) × (text : List ℕ) × IsTextAskedFor request files status text
       × (status_code status ≡ code) × Appends old new text
 
 -- the words ask for something, and the output got a beginning of what the files that they name have for it
@@ -68,7 +68,7 @@ pub record BeganText (words : List Text) (octets_at : List ℕ → Option (List 
   pub request : Request
   pub accepted : IsAccepted words request
   pub text : (files : Files) → AreFilesAt octets_at request files
-      → (status : Status) × (text : List ℕ) × IsTextOf request files status text × AppendsBeginning old new text
+      → (status : Status) × (text : List ℕ) × IsTextAskedFor request files status text × AppendsBeginning old new text
 
 -- the words ask for something, and the first fault of the files that they name is a refusal
 pub record RefusedFiles (words : List Text) (octets_at : List ℕ → Option (List ℕ)) : Type 0 where
@@ -79,9 +79,9 @@ pub record RefusedFiles (words : List Text) (octets_at : List ℕ → Option (Li
 
 -- the words ask for nothing, which the program ends with this exit status
 pub record RefusedWords (words : List Text) (code : ℕ) : Type 0 where
-  pub error : LineError
+  pub error : CommandLineError
   pub refused : IsRefused words error
-  pub code_told : line_code error ≡ code
+  pub code_told : command_line_code error ≡ code
 
 -- ---- the line that is told
 

@@ -4,8 +4,8 @@ ghost use Rattle.std.specs.IoError.{error_kind as io_error_kind};
 ghost use Rattle.std.specs.Option.{option_map};
 ghost use Rattle.clap.specs.Words.{first_of, found_of, rows_of};
 ghost use Rattle.dnssec_check.specs.CommandLine.{Asks, HasCapture, HasCheckValues, HasListValues, HasNumber, HasValue};
-ghost use Rattle.dnssec_check.specs.CommandLine.{IsAccepted, IsRefused, line_code, line_error, number_said, words_error};
-ghost use Rattle.dnssec_check.specs.declared.command_line.LineError.TheVariants.{OutOfMemory};
+ghost use Rattle.dnssec_check.specs.CommandLine.{IsAccepted, IsRefused, command_line_code, command_line_error, number_said, words_error};
+ghost use Rattle.dnssec_check.specs.declared.command_line.CommandLineError.TheVariants.{OutOfMemory};
 
 pub mod commands;
 pub mod moment;
@@ -25,7 +25,7 @@ use thiserror::Error;
 
 /// Why the command line gives no request. The text, for the user, ends with a newline.
 #[derive(Debug, Drop, Error)]
-pub enum LineError {
+pub enum CommandLineError {
     /// Memory ran out.
     #[error("out of memory\n")]
     OutOfMemory,
@@ -40,47 +40,47 @@ pub enum LineError {
     Misused(clap::Error),
 }
 
-impl LineError {
+impl CommandLineError {
     /// The exit status of the program: 1 without memory, 0 after help, else 2.
     pub fn code(&self) -> u8
-        ensures { result ≡ line_code self.now }
+        ensures { result ≡ command_line_code self.now }
     {
         match self {
-            LineError::OutOfMemory => 1,
-            LineError::Help(_) => 0,
-            LineError::NotText | LineError::Misused(_) => 2,
+            CommandLineError::OutOfMemory => 1,
+            CommandLineError::Help(_) => 0,
+            CommandLineError::NotText | CommandLineError::Misused(_) => 2,
         }
     }
 }
 
-impl From<AllocError> for LineError {
+impl From<AllocError> for CommandLineError {
     ghost from_gives = { λ _ error. error ≡ OutOfMemory };
 
-    fn from(_error: AllocError) -> LineError {
-        LineError::OutOfMemory
+    fn from(_error: AllocError) -> CommandLineError {
+        CommandLineError::OutOfMemory
     }
 }
 
 /// What handing out the words of the command line ran into.
-impl From<io::Error> for LineError {
+impl From<io::Error> for CommandLineError {
     ghost from_gives = { λ failure error. error ≡ words_error (io_error_kind failure) };
 
-    fn from(failure: io::Error) -> LineError {
+    fn from(failure: io::Error) -> CommandLineError {
         match failure.kind() {
-            io::ErrorKind::OutOfMemory => LineError::OutOfMemory,
-            _ => LineError::NotText,
+            io::ErrorKind::OutOfMemory => CommandLineError::OutOfMemory,
+            _ => CommandLineError::NotText,
         }
     }
 }
 
-impl From<clap::Error> for LineError {
-    ghost from_gives = { λ refusal error. error ≡ line_error refusal };
+impl From<clap::Error> for CommandLineError {
+    ghost from_gives = { λ refusal error. error ≡ command_line_error refusal };
 
-    fn from(refusal: clap::Error) -> LineError {
+    fn from(refusal: clap::Error) -> CommandLineError {
         match refusal.kind() {
-            ErrorKind::OutOfMemory => LineError::OutOfMemory,
-            ErrorKind::DisplayHelp => LineError::Help(refusal),
-            _ => LineError::Misused(refusal),
+            ErrorKind::OutOfMemory => CommandLineError::OutOfMemory,
+            ErrorKind::DisplayHelp => CommandLineError::Help(refusal),
+            _ => CommandLineError::Misused(refusal),
         }
     }
 }
@@ -91,7 +91,7 @@ impl From<clap::Error> for LineError {
 /// `list --capture FILE --moment N [--statements FILE] [--all]` and
 /// `check --capture FILE --anchors FILE --moment N --name NAME --type N` with `[--statements FILE]`, `[--keys FILE]` and
 /// `[--macs FILE]` is a request, and each error is one that `clap` gives there, or the want of memory.
-pub fn read_line<S: AsStr>(alloc: Global, words: &[S]) -> Result<Request, LineError>
+pub fn read_command_line<S: AsStr>(alloc: Global, words: &[S]) -> Result<Request, CommandLineError>
     ensures accepted { IfOk result (λ request. IsAccepted (map S.text words.now) request) }
     ensures refused { IfErr result (λ error. IsRefused (map S.text words.now) error) }
 {

@@ -3,7 +3,7 @@ ghost use Rattle.std.specs.Prelude.{◌≡◌, ◌⊎◌, Decides, IfErr, IfOk, 
 ghost use Rattle.std.specs.Option.{option_copied};
 ghost use Rattle.dnsv_message.specs.Frames.{octets_of_each};
 ghost use Rattle.dnssec_check.specs.Opening.{HasItsMacs, request_mac};
-ghost use Rattle.dnssec_check.specs.Opening.Given.{IsEnvelopeOf, IsEnvelopeReached, IsFaultOfEnvelope};
+ghost use Rattle.dnssec_check.specs.Opening.Given.{IsOpeningOf, IsOpeningReached, IsFaultOfOpening};
 ghost use Rattle.dnssec_check.specs.Files.Faults.{IsAbout, OfFailedRead, OfOctets, TellsFailedReads};
 ghost use Rattle.dnssec_check.specs.Files.{IsToldBy, given_failures, octets_or_none};
 ghost use Rattle.dnssec_check.specs.Opening.Macs.{IsFaultOfMacs, MayHaveMacs};
@@ -23,9 +23,9 @@ use std::marker::Model;
 
 /// What frames are opened by before their messages are read.
 #[derive(Debug, Drop)]
-pub enum Envelope {
+pub enum Opening {
     /// Nothing: a frame is a message.
-    Bare,
+    Plain,
     /// The keys by which the messages were signed (TSIG, RFC 8945).
     Signed {
         keys: KeyRing,
@@ -75,13 +75,13 @@ impl RequestMacs {
     }
 }
 
-impl Envelope {
+impl Opening {
     /// Whether each frame has its request's MAC, and no other is there, where MACs are given.
     pub fn has_its_macs(&self, frames: &[Vec<u8>]) -> bool
         ensures { Decides result (HasItsMacs self.now (octets_of_each frames.now)) }
     {
         match self {
-            Envelope::Signed {
+            Opening::Signed {
                 macs: Some(macs),
                 ..
             } => macs.len() == frames.len(),
@@ -104,28 +104,28 @@ pub fn request_mac_of(macs: &Option<RequestMacs>, number: usize) -> Option<&[u8;
 /// and the other file isn't read then.
 ///
 /// The fault is the first: that of the keys, and then that of the MACs.
-pub fn envelope_in<R: Read>(
+pub fn opening_in<R: Read>(
     alloc: Global,
     moment: Moment,
     keys: &mut Option<Counted<R>>,
     macs: &mut Option<Counted<R>>,
-) -> Result<Envelope, Fault>
-    ensures envelope { (keys_octets macs_octets : Option (List ℕ)) → IsToldBy R.remaining keys.old keys_octets
-        → IsToldBy R.remaining macs.old macs_octets → IfOk result (IsEnvelopeOf keys_octets macs_octets moment) }
+) -> Result<Opening, Fault>
+    ensures opening { (keys_octets macs_octets : Option (List ℕ)) → IsToldBy R.remaining keys.old keys_octets
+        → IsToldBy R.remaining macs.old macs_octets → IfOk result (IsOpeningOf keys_octets macs_octets moment) }
     ensures faults { (keys_octets macs_octets : Option (List ℕ)) → IsToldBy R.remaining keys.old keys_octets
         → IsToldBy R.remaining macs.old macs_octets
-        → IfErr result (OfOctets (IsFaultOfEnvelope keys_octets macs_octets)) }
+        → IfErr result (OfOctets (IsFaultOfOpening keys_octets macs_octets)) }
     ensures reached { (keys_octets : Option (List ℕ)) → IsToldBy R.remaining keys.old keys_octets
-        → IfErr result (OfFailedRead (IsEnvelopeReached keys_octets)) }
+        → IfErr result (OfFailedRead (IsOpeningReached keys_octets)) }
     ensures keys_reads { TellsFailedReads InputFile.Keys (given_failures keys.old) (given_failures keys.new) result }
     ensures macs_reads { TellsFailedReads InputFile.Macs (given_failures macs.old) (given_failures macs.new) result }
     ensures about { IfErr result (λ told. IsAbout InputFile.Keys told ⊎ IsAbout InputFile.Macs told) }
 {
     let Some(keys) = keys_in(alloc, keys)? else {
-        return Ok(Envelope::Bare);
+        return Ok(Opening::Plain);
     };
     let macs = request_macs_in(alloc, macs)?;
-    Ok(Envelope::Signed { keys, moment, macs })
+    Ok(Opening::Signed { keys, moment, macs })
 }
 
 /// The MACs of requests of the file; `None` where no file is given.

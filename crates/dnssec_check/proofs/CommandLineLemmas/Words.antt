@@ -23,13 +23,13 @@ use Rattle.clap.specs.declared.Error.{Error}
 use Rattle.clap.specs.declared.error.ErrorKind.{ErrorKind}
 use Rattle.clap.specs.declared.error.ErrorKind.TheVariants as kind
 use Rattle.clap.specs.declared.builder.ValueParser.TheVariants as parser
-use Rattle.dnssec_check.specs.declared.command_line.LineError.{LineError}
+use Rattle.dnssec_check.specs.declared.command_line.CommandLineError.{CommandLineError}
 use Rattle.dnssec_check.proofs.CommandLineLemmas.Rows.{AreRowsIn}
 use Rattle.dnssec_check.proofs.CommandLineLemmas.Values.{check_values, list_values, program_shape, show_values, sub_shapes}
 use Rattle.dnssec_check.proofs.CommandLineLemmas.Walks.{AllLeaveValues, level_in}
 use Rattle.clap.proofs.ValueTestLemmas.{accepts-Accepts}
 use Rattle.dnssec_check.specs.CommandLine.Commands.{program_app}
-use Rattle.dnssec_check.specs.CommandLine.{HasCapture, HasCheckValues, HasListValues, IsFlag, IsRefused, error_of_kind, flag_said, line_error, number_said}
+use Rattle.dnssec_check.specs.CommandLine.{HasCapture, HasCheckValues, HasListValues, IsFlag, IsRefused, error_of_kind, flag_said, command_line_error, number_said}
 use Rattle.std.specs.Option.{SomeIff}
 use Rattle.dnssec_check.specs.CommandLine.Moment.{IsMoment}
 
@@ -152,7 +152,7 @@ taken words none =
     of (inr (inr (inr none))) = absurd none
 
 -- an error of `clap` at the words, as the program tells it
-pub refused_as : (words : List Text) (e : Error) → HasKind (fault_of program_app words) e → IsRefused words (line_error e)
+pub refused_as : (words : List Text) (e : Error) → HasKind (fault_of program_app words) e → IsRefused words (command_line_error e)
 refused_as words e has = go (kind_of e) refl
   where
     among : (k : ErrorKind) → kind_of e ≡ k → (k ≡ kind.OutOfMemory → ⊥) → HasKind (fault_of program_app words) e → IsAmong (kind_of e) (fault_of program_app words)
@@ -165,8 +165,8 @@ refused_as words e has = go (kind_of e) refl
     go k is = ((λ help. let bad : k ≡ kind.DisplayHelp = sym is ∙ help in cc), among k is (λ bad. cc) has)
 
 -- `?` passes an error of `clap` up as the program tells it
-pub passed_up : {T : Type 0} (r : Result T LineError) (a : App) (words : List Text) (e : Error) → a ≡ program_app
-    → IsErrAnd r (λ error. error ≡ line_error e)
+pub passed_up : {T : Type 0} (r : Result T CommandLineError) (a : App) (words : List Text) (e : Error) → a ≡ program_app
+    → IsErrAnd r (λ error. error ≡ command_line_error e)
     → (is_simple_and_free a ≡ true → HasKind (fault_of a words) e) → IfErr r (IsRefused words)
 passed_up (Ok x) a words e is passed kinds = absurd passed
 passed_up (Err error) a words e is passed kinds =

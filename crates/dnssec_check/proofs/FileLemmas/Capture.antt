@@ -13,7 +13,7 @@ use Rattle.dnssec_check.specs.declared.status.Fault.{Fault}
 use Rattle.dnssec_check.specs.declared.status.Fault.TheVariants as fault
 use Rattle.dnssec_check.specs.declared.status.Place.{Place}
 use Rattle.dnssec_check.specs.declared.status.Refusal.{Refusal}
-use Rattle.dnssec_check.specs.declared.opening.Envelope.{Envelope}
+use Rattle.dnssec_check.specs.declared.opening.Opening.{Opening}
 use Rattle.dnssec_check.specs.Files.Capture.{Demand, NewEvidence, Meets, AllTaken, FirstRefused}
 use Rattle.dnssec_check.specs.Opening.{IsInFrame}
 use Rattle.dnssec_check.specs.Told.{IsFaultOf, IsNoMessageAt, IsRefusedAt, IsCaptureFault}
@@ -23,16 +23,16 @@ fold-push : (held : Evidence) (messages : List Contents) (message : Contents) �
 fold-push held [] message = refl
 fold-push held (m ∷ messages) message = fold-push (with_message held m) messages message
 
-AllTaken-push : (demand : Demand) (envelope : Envelope) (held : Evidence) (number at : ℕ) (xs : List (List ℕ)) (ys : List Contents) (x : List ℕ) (y : Contents)
-    → at ≡ number + length xs → AllTaken demand envelope held number xs ys
-    → IsInFrame envelope at x y × Meets demand (fold with_message held ys) y → AllTaken demand envelope held number (xs ++ x ∷ []) (ys ++ y ∷ [])
-AllTaken-push demand envelope held number at [] [] x y same all taken =
+AllTaken-push : (demand : Demand) (opening : Opening) (held : Evidence) (number at : ℕ) (xs : List (List ℕ)) (ys : List Contents) (x : List ℕ) (y : Contents)
+    → at ≡ number + length xs → AllTaken demand opening held number xs ys
+    → IsInFrame opening at x y × Meets demand (fold with_message held ys) y → AllTaken demand opening held number (xs ++ x ∷ []) (ys ++ y ∷ [])
+AllTaken-push demand opening held number at [] [] x y same all taken =
     let here : at ≡ number = omega (arith, same) in
-    ((subst (λ n. IsInFrame envelope n x y) here taken.0, taken.1), tt)
-AllTaken-push demand envelope held number at [] (y' ∷ ys) x y same all taken = absurd all
-AllTaken-push demand envelope held number at (x' ∷ xs) [] x y same all taken = absurd all
-AllTaken-push demand envelope held number at (x' ∷ xs) (y' ∷ ys) x y same all taken =
-    (all.0, AllTaken-push demand envelope (with_message held y') (suc number) at xs ys x y (omega (arith, same)) all.1 taken)
+    ((subst (λ n. IsInFrame opening n x y) here taken.0, taken.1), tt)
+AllTaken-push demand opening held number at [] (y' ∷ ys) x y same all taken = absurd all
+AllTaken-push demand opening held number at (x' ∷ xs) [] x y same all taken = absurd all
+AllTaken-push demand opening held number at (x' ∷ xs) (y' ∷ ys) x y same all taken =
+    (all.0, AllTaken-push demand opening (with_message held y') (suc number) at xs ys x y (omega (arith, same)) all.1 taken)
 
 -- a refusal that means another
 pub IsFaultOf-weaker : (P Q : Refusal → Place → Type 0) (told : Fault) → ((why : Refusal) (place : Place) → P why place → Q why place) → IsFaultOf P told → IsFaultOf Q told
@@ -52,9 +52,9 @@ told_alike told P refused why place is =
     refused why place (ap (λ (e : Fault). Err e) same)
 
 -- what a capture doesn't take is refused
-module _ (envelope : Envelope) (held : Evidence) (frame : List ℕ) (number : ℕ) (message : Contents) (is : IsInFrame envelope number frame message) where
-  pub capture_refused : (error : CaptureError) (told : Fault) → IsReasonAgainst held message error → IsCaptureFault error number told → IsFaultOf (IsRefusedAt NewEvidence envelope held frame number) told
-  capture_refused capture.OutOfMemory told refused tells = subst (IsFaultOf (IsRefusedAt NewEvidence envelope held frame number)) (sym tells) tt
+module _ (opening : Opening) (held : Evidence) (frame : List ℕ) (number : ℕ) (message : Contents) (is : IsInFrame opening number frame message) where
+  pub capture_refused : (error : CaptureError) (told : Fault) → IsReasonAgainst held message error → IsCaptureFault error number told → IsFaultOf (IsRefusedAt NewEvidence opening held frame number) told
+  capture_refused capture.OutOfMemory told refused tells = subst (IsFaultOf (IsRefusedAt NewEvidence opening held frame number)) (sym tells) tt
   capture_refused capture.NotAResponse (fault.Refused why place) refused tells = (inr (message, is, (capture.NotAResponse, refused, tells.0)), tells.1, tells.2)
   capture_refused capture.Truncated (fault.Refused why place) refused tells = (inr (message, is, (capture.Truncated, refused, tells.0)), tells.1, tells.2)
   capture_refused (capture.BadRdata k) (fault.Refused why place) refused tells = (inr (message, is, (capture.BadRdata k, refused, tells.0)), tells.1, tells.2)
@@ -81,14 +81,14 @@ module _ (envelope : Envelope) (held : Evidence) (frame : List ℕ) (number : �
   capture_refused capture.Limit fault.WriteFailed refused tells = absurd tells
 
 -- the messages before the place are taken, and what is refused from there on is the first that is
-pub record MessagesSoFar (demand : Demand) (envelope : Envelope) (frames : List (List ℕ)) (done : ℕ) (messages : List Contents) : Type 0 where
-  pub taken : AllTaken demand envelope no_evidence 1 (take done frames) messages
-  pub refused : (why : Refusal) (place : Place) → FirstRefused demand envelope (evidence_of messages) (done + 1) (drop done frames) why place → FirstRefused demand envelope no_evidence 1 frames why place
+pub record MessagesSoFar (demand : Demand) (opening : Opening) (frames : List (List ℕ)) (done : ℕ) (messages : List Contents) : Type 0 where
+  pub taken : AllTaken demand opening no_evidence 1 (take done frames) messages
+  pub refused : (why : Refusal) (place : Place) → FirstRefused demand opening (evidence_of messages) (done + 1) (drop done frames) why place → FirstRefused demand opening no_evidence 1 frames why place
 
-pub MessagesSoFar-start : (demand : Demand) (envelope : Envelope) (frames : List (List ℕ)) → MessagesSoFar demand envelope frames 0 []
-MessagesSoFar-start demand envelope frames = record { taken = tt; refused = λ why place refused. refused }
+pub MessagesSoFar-start : (demand : Demand) (opening : Opening) (frames : List (List ℕ)) → MessagesSoFar demand opening frames 0 []
+MessagesSoFar-start demand opening frames = record { taken = tt; refused = λ why place refused. refused }
 
-module _ {demand : Demand} {envelope : Envelope} {frames : List (List ℕ)} {done : ℕ} {messages : List Contents} (judged : MessagesSoFar demand envelope frames done messages) (octets : List ℕ) (within : done < length frames) (here : get_or frames done [] ≡ octets) where
+module _ {demand : Demand} {opening : Opening} {frames : List (List ℕ)} {done : ℕ} {messages : List Contents} (judged : MessagesSoFar demand opening frames done messages) (octets : List ℕ) (within : done < length frames) (here : get_or frames done [] ≡ octets) where
   next : drop done frames ≡ octets ∷ drop (done + 1) frames
   next = drop_more frames done [] within ∙ ap (λ xs. xs ∷ drop (done + 1) frames) here
 
@@ -97,55 +97,55 @@ module _ {demand : Demand} {envelope : Envelope} {frames : List (List ℕ)} {don
       let many : length (take done frames) ≡ done = length-take-le done frames (omega (arith, within)) in
       omega (arith, many)
 
-  pub MessagesSoFar-next : (message : Contents) → IsInFrame envelope (done + 1) octets message × Meets demand (evidence_of messages) message → MessagesSoFar demand envelope frames (done + 1) (messages ++ message ∷ [])
+  pub MessagesSoFar-next : (message : Contents) → IsInFrame opening (done + 1) octets message × Meets demand (evidence_of messages) message → MessagesSoFar demand opening frames (done + 1) (messages ++ message ∷ [])
   MessagesSoFar-next message taken = record {
-    taken = subst (λ xs. AllTaken demand envelope no_evidence 1 xs (messages ++ message ∷ []))
+    taken = subst (λ xs. AllTaken demand opening no_evidence 1 xs (messages ++ message ∷ []))
         (sym (take_more frames done [] within ∙ ap (λ xs. take done frames ++ xs ∷ []) here))
-        (AllTaken-push demand envelope no_evidence 1 (done + 1) (take done frames) messages octets message before judged.taken taken);
+        (AllTaken-push demand opening no_evidence 1 (done + 1) (take done frames) messages octets message before judged.taken taken);
     refused = λ why place refused. judged.refused why place
-        (subst (λ xs. FirstRefused demand envelope (evidence_of messages) (done + 1) xs why place) (sym next)
+        (subst (λ xs. FirstRefused demand opening (evidence_of messages) (done + 1) xs why place) (sym next)
         (inr (
           message,
           taken,
-          subst (λ n. FirstRefused demand envelope (with_message (evidence_of messages) message) n (drop (done + 1) frames) why place) (omega arith)
-              (subst (λ held. FirstRefused demand envelope held ((done + 1) + 1) (drop (done + 1) frames) why place) (fold-push no_evidence messages message) refused),
+          subst (λ n. FirstRefused demand opening (with_message (evidence_of messages) message) n (drop (done + 1) frames) why place) (omega arith)
+              (subst (λ held. FirstRefused demand opening held ((done + 1) + 1) (drop (done + 1) frames) why place) (fold-push no_evidence messages message) refused),
         )));
   }
 
-  pub MessagesSoFar-refused : (why : Refusal) (place : Place) → IsRefusedAt demand envelope (evidence_of messages) octets (done + 1) why place → FirstRefused demand envelope no_evidence 1 frames why place
-  MessagesSoFar-refused why place refused = judged.refused why place (subst (λ xs. FirstRefused demand envelope (evidence_of messages) (done + 1) xs why place) (sym next) (inl refused))
+  pub MessagesSoFar-refused : (why : Refusal) (place : Place) → IsRefusedAt demand opening (evidence_of messages) octets (done + 1) why place → FirstRefused demand opening no_evidence 1 frames why place
+  MessagesSoFar-refused why place refused = judged.refused why place (subst (λ xs. FirstRefused demand opening (evidence_of messages) (done + 1) xs why place) (sym next) (inl refused))
 
   -- a frame that holds no message is refused, whatever is asked of messages
-  pub MessagesSoFar-no_message : (why : Refusal) (place : Place) → IsNoMessageAt envelope octets (done + 1) why place → FirstRefused demand envelope no_evidence 1 frames why place
+  pub MessagesSoFar-no_message : (why : Refusal) (place : Place) → IsNoMessageAt opening octets (done + 1) why place → FirstRefused demand opening no_evidence 1 frames why place
   MessagesSoFar-no_message why place refused = MessagesSoFar-refused why place (inl refused.0, refused.1, refused.2)
 
-pub MessagesSoFar-all : (demand : Demand) (envelope : Envelope) (frames : List (List ℕ)) (done : ℕ) (messages : List Contents) → length frames ≤ done → MessagesSoFar demand envelope frames done messages → AllTaken demand envelope no_evidence 1 frames messages
-MessagesSoFar-all demand envelope frames done messages all judged = subst (λ xs. AllTaken demand envelope no_evidence 1 xs messages) (take_all done frames all) judged.taken
+pub MessagesSoFar-all : (demand : Demand) (opening : Opening) (frames : List (List ℕ)) (done : ℕ) (messages : List Contents) → length frames ≤ done → MessagesSoFar demand opening frames done messages → AllTaken demand opening no_evidence 1 frames messages
+MessagesSoFar-all demand opening frames done messages all judged = subst (λ xs. AllTaken demand opening no_evidence 1 xs messages) (take_all done frames all) judged.taken
 
 -- the evidence is that of the messages before the place
-pub record EvidenceSoFar (envelope : Envelope) (frames : List (List ℕ)) (done : ℕ) (held : Evidence) : Type 0 where
+pub record EvidenceSoFar (opening : Opening) (frames : List (List ℕ)) (done : ℕ) (held : Evidence) : Type 0 where
   pub messages : List Contents
-  pub judged : MessagesSoFar NewEvidence envelope frames done messages
+  pub judged : MessagesSoFar NewEvidence opening frames done messages
   pub same : held ≡ evidence_of messages
 
-pub EvidenceSoFar-start : (envelope : Envelope) (frames : List (List ℕ)) (held : Evidence) → held ≡ no_evidence → EvidenceSoFar envelope frames 0 held
-EvidenceSoFar-start envelope frames held none = record { messages = []; judged = MessagesSoFar-start NewEvidence envelope frames; same = none }
+pub EvidenceSoFar-start : (opening : Opening) (frames : List (List ℕ)) (held : Evidence) → held ≡ no_evidence → EvidenceSoFar opening frames 0 held
+EvidenceSoFar-start opening frames held none = record { messages = []; judged = MessagesSoFar-start NewEvidence opening frames; same = none }
 
-module _ {envelope : Envelope} {frames : List (List ℕ)} {done : ℕ} {held : Evidence} (gathered : EvidenceSoFar envelope frames done held) (octets : List ℕ) (within : done < length frames) (here : get_or frames done [] ≡ octets) where
-  pub EvidenceSoFar-next : (after : Evidence) → (message : Contents) × (IsInFrame envelope (done + 1) octets message × Meets NewEvidence held message) × (after ≡ with_message held message) → EvidenceSoFar envelope frames (done + 1) after
+module _ {opening : Opening} {frames : List (List ℕ)} {done : ℕ} {held : Evidence} (gathered : EvidenceSoFar opening frames done held) (octets : List ℕ) (within : done < length frames) (here : get_or frames done [] ≡ octets) where
+  pub EvidenceSoFar-next : (after : Evidence) → (message : Contents) × (IsInFrame opening (done + 1) octets message × Meets NewEvidence held message) × (after ≡ with_message held message) → EvidenceSoFar opening frames (done + 1) after
   EvidenceSoFar-next after taken = record {
     messages = gathered.messages ++ taken.0 ∷ [];
     judged = MessagesSoFar-next gathered.judged octets within here taken.0 (taken.1.0, subst (λ held. Meets NewEvidence held taken.0) gathered.same taken.1.1);
     same = taken.2 ∙ ap (λ held. with_message held taken.0) gathered.same ∙ sym (fold-push no_evidence gathered.messages taken.0);
   }
 
-  pub EvidenceSoFar-refused : (why : Refusal) (place : Place) → IsRefusedAt NewEvidence envelope held octets (done + 1) why place → FirstRefused NewEvidence envelope no_evidence 1 frames why place
+  pub EvidenceSoFar-refused : (why : Refusal) (place : Place) → IsRefusedAt NewEvidence opening held octets (done + 1) why place → FirstRefused NewEvidence opening no_evidence 1 frames why place
   EvidenceSoFar-refused why place refused =
-      MessagesSoFar-refused gathered.judged octets within here why place (subst (λ held. IsRefusedAt NewEvidence envelope held octets (done + 1) why place) gathered.same refused)
+      MessagesSoFar-refused gathered.judged octets within here why place (subst (λ held. IsRefusedAt NewEvidence opening held octets (done + 1) why place) gathered.same refused)
 
-pub EvidenceSoFar-all : (envelope : Envelope) (frames : List (List ℕ)) (done : ℕ) (held : Evidence) → length frames ≤ done → EvidenceSoFar envelope frames done held
-    → (messages : List Contents) × AllTaken NewEvidence envelope no_evidence 1 frames messages × (held ≡ evidence_of messages)
-EvidenceSoFar-all envelope frames done held all gathered = (gathered.messages, MessagesSoFar-all NewEvidence envelope frames done gathered.messages all gathered.judged, gathered.same)
+pub EvidenceSoFar-all : (opening : Opening) (frames : List (List ℕ)) (done : ℕ) (held : Evidence) → length frames ≤ done → EvidenceSoFar opening frames done held
+    → (messages : List Contents) × AllTaken NewEvidence opening no_evidence 1 frames messages × (held ≡ evidence_of messages)
+EvidenceSoFar-all opening frames done held all gathered = (gathered.messages, MessagesSoFar-all NewEvidence opening frames done gathered.messages all gathered.judged, gathered.same)
 
 -- the octets of the frame at a place
 pub frame_here : (frames : List (Vec ℕ Global)) (i : ℕ) (frame : Vec ℕ Global) (octets : List ℕ) → i < length frames → frame ≡ get_or frames i frame → octets ≡ frame.items → (i < length (octets_of_each frames)) × (get_or (octets_of_each frames) i [] ≡ octets)

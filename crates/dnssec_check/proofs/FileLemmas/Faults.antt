@@ -1,13 +1,13 @@
 -- Answers over files, from call to call.
-use Rattle.std.proofs.Common.{◌≡◌, ◌⊎◌, ◌<◌, ◌-◌, ◌^◌, ℕ, List, Option, Some, None, ap, subst, sym, ◌∙◌, inl, inr, arith}
+use Rattle.std.proofs.Common.{◌≡◌, ◌⊎◌, ◌-◌, ℕ, List, Option, Some, None, ap, subst, sym, ◌∙◌, inl, inr, arith}
 use Rattle.std.specs.Prelude.{Result, Ok, Err, IfErr, IfSome, ⊤}
 use Rattle.dnsv_message.specs.Frames.{IsCapture}
 use Rattle.dnsv_message.specs.Message.{Contents}
 use Rattle.dnsv_canonical.specs.Evidence.{Evidence, evidence_of}
 use Rattle.dnsv_message.specs.Counted.{inner_of, failures_of}
 use Rattle.dnssec_check.specs.Files.Capture.{AreFramesRefused, Demand, Holds, IsFaultOfCapture, IsRefusal, NewEvidence}
-use Rattle.dnssec_check.specs.declared.opening.Envelope.{Envelope}
-use Rattle.dnssec_check.specs.Opening.Given.{IsEnvelopeOf, IsFaultOfEnvelope}
+use Rattle.dnssec_check.specs.declared.opening.Opening.{Opening}
+use Rattle.dnssec_check.specs.Opening.Given.{IsOpeningOf, IsFaultOfOpening}
 use Rattle.dnssec_check.specs.declared.run.Inputs.{Inputs}
 use Rattle.dnssec_check.specs.declared.status.InputFile.TheVariants.{Anchors, Capture, Keys, Macs, Statements}
 use Rattle.dnssec_check.specs.Files.{Files, AreTold, IsToldBy, given_failures, octets_or_none}
@@ -91,10 +91,10 @@ module _ {file : InputFile} {IsFault : List ℕ → Fault → Type 0} {octets : 
 -- ---- the file of captured messages
 
 -- what the frames of a file are refused for, the file is refused for
-pub frames_refused : (demand : Demand) (envelope : Envelope) (octets : Option (List ℕ)) (frames : List (List ℕ)) → IfSome octets (λ file. IsCapture file frames)
-    → (why : Refusal) (place : Place) → AreFramesRefused demand envelope frames why place → IfSome octets (λ file. IsRefusal demand envelope file why place)
-frames_refused demand envelope None frames is why place refused = tt
-frames_refused demand envelope (Some file) frames is why place refused = inr (inr (frames, is, refused))
+pub frames_refused : (demand : Demand) (opening : Opening) (octets : Option (List ℕ)) (frames : List (List ℕ)) → IfSome octets (λ file. IsCapture file frames)
+    → (why : Refusal) (place : Place) → AreFramesRefused demand opening frames why place → IfSome octets (λ file. IsRefusal demand opening file why place)
+frames_refused demand opening None frames is why place refused = tt
+frames_refused demand opening (Some file) frames is why place refused = inr (inr (frames, is, refused))
 
 -- ---- the captured messages, and then the statements
 
@@ -136,9 +136,9 @@ either_opened told (inl about) = about_opened Keys told about
 either_opened told (inr about) = about_opened Macs told about
 
 -- what is told where the file of captured messages, opened so, was read
-abbrev pub CapturedBy : {R T : Type 0} → Envelope → (R → Option (List ℕ)) → Inputs R → Inputs R → Result T Fault → Type 0
-CapturedBy envelope remaining before after result =
-    TellsFileFaults Capture (IsFaultOfCapture NewEvidence envelope) (remaining (inner_of before.capture)) (failures_of before.capture) (failures_of after.capture) result
+abbrev pub CapturedBy : {R T : Type 0} → Opening → (R → Option (List ℕ)) → Inputs R → Inputs R → Result T Fault → Type 0
+CapturedBy opening remaining before after result =
+    TellsFileFaults Capture (IsFaultOfCapture NewEvidence opening) (remaining (inner_of before.capture)) (failures_of before.capture) (failures_of after.capture) result
 
 -- no failed read of the keys or the MACs is told, where the fault is another's
 abbrev pub NoneOfSeals : {R : Type 0} → (U : Type 0) → Inputs R → Inputs R → Fault → Type 0
@@ -150,14 +150,14 @@ module _ {R U : Type 0} {remaining : R → Option (List ℕ)} {before after : In
   -- the keys or the MACs are at fault
   pub unsealed : {T : Type 0} (moment : ℕ) (told : Fault) → after.capture ≡ before.capture → after.anchors ≡ before.anchors → after.statements ≡ before.statements
       → ((keys_octets macs_octets : Option (List ℕ)) → IsToldBy remaining before.keys keys_octets → IsToldBy remaining before.macs macs_octets
-      → OfOctets (IsFaultOfEnvelope keys_octets macs_octets) told)
+      → OfOctets (IsFaultOfOpening keys_octets macs_octets) told)
       → TellsFailedReads {T = T} Keys (given_failures before.keys) (given_failures after.keys) (Err told)
       → TellsFailedReads {T = T} Macs (given_failures before.macs) (given_failures after.macs) (Err told)
       → IsAbout Keys told ⊎ IsAbout Macs told
       → TellsFaults {T = U} (IsFirstFaultOfFiles moment) remaining before after (Err told)
   unsealed moment told capture_stays anchors_stay statements_stay faults keys_reads macs_reads about = record {
     first = λ files are.
-        OfOctets-weaker (IsFaultOfEnvelope files.keys files.macs) (IsFirstFaultOfFiles moment files) told (λ fault holds. inl holds)
+        OfOctets-weaker (IsFaultOfOpening files.keys files.macs) (IsFirstFaultOfFiles moment files) told (λ fault holds. inl holds)
         (faults files.keys files.macs are.keys are.macs);
     capture = reads_untouched (failures_of before.capture) (failures_of after.capture) (Err told) (ap failures_of capture_stays)
         (about_either told about (λ is. cc) (λ is. cc));
@@ -170,16 +170,16 @@ module _ {R U : Type 0} {remaining : R → Option (List ℕ)} {before after : In
     opened = either_opened told about;
   }
 
-  module _ (envelope : Envelope) where
+  module _ (opening : Opening) where
     -- the file of captured messages is at fault
     pub captured : {T : Type 0} (IsFirst : Files → Fault → Type 0) (told : Fault)
-        → ((files : Files) → AreTold remaining before files → (fault : Fault) → IsFaultOfCapture NewEvidence envelope files.capture fault → IsFirst files fault)
+        → ((files : Files) → AreTold remaining before files → (fault : Fault) → IsFaultOfCapture NewEvidence opening files.capture fault → IsFirst files fault)
         → after.anchors ≡ before.anchors → after.statements ≡ before.statements → NoneOfSeals U before after told
-        → CapturedBy {T = T} envelope remaining before after (Err told) → TellsFaults {T = U} IsFirst remaining before after (Err told)
+        → CapturedBy {T = T} opening remaining before after (Err told) → TellsFaults {T = U} IsFirst remaining before after (Err told)
     captured IsFirst told first anchors_stay statements_stay seals tells = record {
       first = λ files are.
-          OfOctets-weaker (IsFaultOfCapture NewEvidence envelope files.capture) (IsFirst files) told (first files are)
-          (of_told (λ octets. OfOctets (IsFaultOfCapture NewEvidence envelope octets) told) are.capture tells.told);
+          OfOctets-weaker (IsFaultOfCapture NewEvidence opening files.capture) (IsFirst files) told (first files are)
+          (of_told (λ octets. OfOctets (IsFaultOfCapture NewEvidence opening octets) told) are.capture tells.told);
       capture = reads_passed told tells.reads;
       anchors = reads_untouched (given_failures before.anchors) (given_failures after.anchors) (Err told) (ap given_failures anchors_stay)
           (about_another Anchors told tells.about (λ is. cc));
@@ -191,11 +191,11 @@ module _ {R U : Type 0} {remaining : R → Option (List ℕ)} {before after : In
     }
 
     module _ (moment : ℕ)
-        (opens : (files : Files) → AreTold remaining before files → IsEnvelopeOf files.keys files.macs moment envelope) where
+        (opens : (files : Files) → AreTold remaining before files → IsOpeningOf files.keys files.macs moment opening) where
       -- the file of captured messages is taken, and the trust anchors are at fault
       pub anchored : {T V : Type 0} (x : V) (told : Fault) → after.statements ≡ before.statements → NoneOfSeals U before after told
-          → CapturedBy {T = V} envelope remaining before after (Ok x)
-          → ((file : List ℕ) → remaining (inner_of before.capture) ≡ Some file → HasEvidence envelope file)
+          → CapturedBy {T = V} opening remaining before after (Ok x)
+          → ((file : List ℕ) → remaining (inner_of before.capture) ≡ Some file → HasEvidence opening file)
           → ((octets : Option (List ℕ)) → IsToldBy remaining before.anchors octets → OfOctets (IsFaultOfAnchors (octets_or_none octets)) told)
           → TellsFailedReads {T = T} Anchors (given_failures before.anchors) (given_failures after.anchors) (Err told)
           → IsAbout Anchors told
@@ -203,7 +203,7 @@ module _ {R U : Type 0} {remaining : R → Option (List ℕ)} {before after : In
       anchored x told statements_stay seals tells held faults reads about = record {
         first = λ files are.
             OfOctets-weaker (IsFaultOfAnchors (octets_or_none files.anchors)) (IsFirstFaultOfFiles moment files) told
-            (λ fault holds. inr (envelope, opens files are, inr (held files.capture are.capture, inl holds))) (faults files.anchors are.anchors);
+            (λ fault holds. inr (opening, opens files are, inr (held files.capture are.capture, inl holds))) (faults files.anchors are.anchors);
         capture = reads_then x (Err told) tells.reads (about_another Capture told about (λ is. cc));
         anchors = reads_passed told reads;
         statements = reads_untouched (given_failures before.statements) (given_failures after.statements) (Err told) (ap given_failures statements_stay)
@@ -215,8 +215,8 @@ module _ {R U : Type 0} {remaining : R → Option (List ℕ)} {before after : In
 
       -- those are taken too, and the statements are at fault
       pub stated : {T V W : Type 0} (x : V) (y : W) (told : Fault) → NoneOfSeals U before after told
-          → CapturedBy {T = V} envelope remaining before after (Ok x)
-          → ((file : List ℕ) → remaining (inner_of before.capture) ≡ Some file → HasEvidence envelope file)
+          → CapturedBy {T = V} opening remaining before after (Ok x)
+          → ((file : List ℕ) → remaining (inner_of before.capture) ≡ Some file → HasEvidence opening file)
           → ((octets : Option (List ℕ)) → IsToldBy remaining before.anchors octets → (anchors : List Anchor) × HasAnchors (octets_or_none octets) anchors)
           → TellsFailedReads {T = W} Anchors (given_failures before.anchors) (given_failures after.anchors) (Ok y)
           → ((octets : Option (List ℕ)) → IsToldBy remaining before.statements octets → OfOctets (IsFaultOfStatements (octets_or_none octets)) told)
@@ -226,7 +226,7 @@ module _ {R U : Type 0} {remaining : R → Option (List ℕ)} {before after : In
       stated x y told seals tells held trusted anchor_reads faults reads about = record {
         first = λ files are.
             OfOctets-weaker (IsFaultOfStatements (octets_or_none files.statements)) (IsFirstFaultOfFiles moment files) told
-            (λ fault holds. inr (envelope, opens files are, inr (held files.capture are.capture, inr (trusted files.anchors are.anchors, holds))))
+            (λ fault holds. inr (opening, opens files are, inr (held files.capture are.capture, inr (trusted files.anchors are.anchors, holds))))
             (faults files.statements are.statements);
         capture = reads_then x (Err told) tells.reads (about_another Capture told about (λ is. cc));
         anchors = reads_then y (Err told) anchor_reads (about_another Anchors told about (λ is. cc));
@@ -240,7 +240,7 @@ module _ {R U : Type 0} {remaining : R → Option (List ℕ)} {before after : In
     pub all_taken : {S V W X : Type 0} (moment : ℕ) (s : S) (x : V) (y : W) (z : X) (result : Result U Fault)
         → TellsFailedReads {T = S} Keys (given_failures before.keys) (given_failures after.keys) (Ok s)
         → TellsFailedReads {T = S} Macs (given_failures before.macs) (given_failures after.macs) (Ok s)
-        → CapturedBy {T = V} envelope remaining before after (Ok x)
+        → CapturedBy {T = V} opening remaining before after (Ok x)
         → TellsFailedReads {T = W} Anchors (given_failures before.anchors) (given_failures after.anchors) (Ok y)
         → TellsFailedReads {T = X} Statements (given_failures before.statements) (given_failures after.statements) (Ok z)
         → IfErr result (λ told. told ≡ fault.OutOfMemory)
@@ -279,9 +279,9 @@ TellsFaults-weaker P Q (Err told) weaker tells = record {
 }
 
 -- the messages of a capture that was taken
-pub has_evidence : (envelope : Envelope) (octets : Option (List ℕ)) (held : Evidence)
-    → IfSome octets (λ file. (messages : List Contents) × Holds NewEvidence envelope file messages × (held ≡ evidence_of messages))
-    → (file : List ℕ) → octets ≡ Some file → HasEvidence envelope file
-has_evidence envelope octets held taken file is =
-    let messages = of_told (λ file. (messages : List Contents) × Holds NewEvidence envelope file messages × (held ≡ evidence_of messages)) is taken in
+pub has_evidence : (opening : Opening) (octets : Option (List ℕ)) (held : Evidence)
+    → IfSome octets (λ file. (messages : List Contents) × Holds NewEvidence opening file messages × (held ≡ evidence_of messages))
+    → (file : List ℕ) → octets ≡ Some file → HasEvidence opening file
+has_evidence opening octets held taken file is =
+    let messages = of_told (λ file. (messages : List Contents) × Holds NewEvidence opening file messages × (held ≡ evidence_of messages)) is taken in
     (messages.0, messages.1)

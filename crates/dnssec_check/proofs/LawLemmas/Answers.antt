@@ -1,5 +1,5 @@
 -- Every file of octets has an answer: messages as a request asks for them, a refusal, or an octet too many.
-use Rattle.std.proofs.Common.{◌≡◌, ◌⊎◌, ◌+◌, ℕ, zero, suc, List, [], ◌∷◌, Option, Some, None, refl, inl, inr}
+use Rattle.std.proofs.Common.{◌⊎◌, ℕ, suc, List, [], ◌∷◌, Option, Some, None, refl, inl, inr}
 use Rattle.std.specs.List.{AllByRecursion}
 use Rattle.dnsv_names.specs.Octets.{AreOctets}
 use Rattle.dnsv_message.specs.declared.errors.DecodeError.{DecodeError}
@@ -11,7 +11,7 @@ use Rattle.dnsv_canonical.specs.Evidence.{Evidence, no_evidence, with_message}
 use Rattle.dnssec_check.specs.declared.status.Place.{Place}
 use Rattle.dnssec_check.specs.declared.status.Refusal.{Refusal}
 use Rattle.dnssec_check.specs.declared.status.Refusal.TheVariants as refusal
-use Rattle.dnssec_check.specs.declared.opening.Envelope.TheVariants.{Bare}
+use Rattle.dnssec_check.specs.declared.opening.Opening.TheVariants.{Plain}
 use Rattle.dnssec_check.specs.Files.Capture.{AnyMessage, Demand, Meets, Fails, AllTaken, FirstRefused, Holds, IsRefusal}
 use Rattle.dnssec_check.specs.Status.{TellsMessageError}
 use Rattle.dnssec_check.specs.Texts.Showing.{IsShowing, message_text, texts_from}
@@ -37,8 +37,8 @@ module _ (demand : Demand)
     → Meets demand held message ⊎ ((why : Refusal) × (k : Option ℕ) × Fails demand held message why k)) where
   -- the frames are messages as is asked, or the first that isn't is refused
   abbrev Answer : Evidence → ℕ → List (List ℕ) → Type 0
-  Answer held number frames = ((messages : List Contents) × AllTaken demand Bare held number frames messages)
-      ⊎ ((why : Refusal) × (place : Place) × FirstRefused demand Bare held number frames why place)
+  Answer held number frames = ((messages : List Contents) × AllTaken demand Plain held number frames messages)
+      ⊎ ((why : Refusal) × (place : Place) × FirstRefused demand Plain held number frames why place)
 
   abbrev at_message : ℕ → Option ℕ → Place
   at_message number k = record { message = Some number; «record» = k; line = None }
@@ -69,7 +69,7 @@ module _ (demand : Demand)
       joined held number octets frames each.0 (frames_answer frames each.1) (message_or_fault octets each.0)
 
   of_frames : (file : List ℕ) (frames : List (List ℕ)) → IsCapture file frames → Answer no_evidence 1 frames
-      → ((messages : List Contents) × Holds demand Bare file messages) ⊎ ((why : Refusal) × (place : Place) × IsRefusal demand Bare file why place)
+      → ((messages : List Contents) × Holds demand Plain file messages) ⊎ ((why : Refusal) × (place : Place) × IsRefusal demand Plain file why place)
   of_frames file frames is (inl taken) = inl (taken.0, record { frames = frames; framing = is; counted = tt; taken = taken.1 })
   of_frames file frames is (inr refused) = inr (refused.0, refused.1, inr (inr (frames, is, inr (tt, refused.2))))
 
@@ -81,15 +81,15 @@ module _ (demand : Demand)
   pub file_answer : (file : List ℕ)
       → ((frames : List (List ℕ)) × IsCapture file frames) ⊎ (HasZeroLength file ⊎ (EndsTorn file ⊎ IsTooLong file))
       → ((frames : List (List ℕ)) → IsCapture file frames → AllByRecursion AreOctets frames)
-      → ((messages : List Contents) × Holds demand Bare file messages)
-      ⊎ (((why : Refusal) × (place : Place) × IsRefusal demand Bare file why place) ⊎ IsTooLong file)
+      → ((messages : List Contents) × Holds demand Plain file messages)
+      ⊎ (((why : Refusal) × (place : Place) × IsRefusal demand Plain file why place) ⊎ IsTooLong file)
   file_answer file (inl found) are = either (of_frames file found.0 found.1 (frames_answer found.0 (are found.0 found.1) no_evidence 1))
   file_answer file (inr (inl zero_length)) are = inr (inl (refusal.ZeroLength, nowhere, inl (zero_length, refl, (refl, refl, refl))))
   file_answer file (inr (inr (inl torn))) are = inr (inl (refusal.TornFrame, nowhere, inr (inl (torn, refl, (refl, refl, refl)))))
   file_answer file (inr (inr (inr too_long))) are = inr (inr too_long)
 
 -- a file that holds messages has the text of show
-pub shown : (file : List ℕ) (Else : Type 0) → ((messages : List Contents) × Holds AnyMessage Bare file messages) ⊎ Else
+pub shown : (file : List ℕ) (Else : Type 0) → ((messages : List Contents) × Holds AnyMessage Plain file messages) ⊎ Else
     → ((text : List ℕ) × IsShowing file text) ⊎ Else
 shown file Else (inl held) = inl (texts_from message_text 1 held.0, (held.0, held.1, refl))
 shown file Else (inr otherwise) = inr otherwise

@@ -16,7 +16,7 @@ use Rattle.dnsv_canonical.specs.Rrsets.{ReceivedRrset, message_rrsets}
 use Rattle.dnsv_canonical.specs.SignedData.{IsSignedData, signed_label_count}
 use Rattle.dnssec_check.specs.declared.status.Refusal.{Refusal}
 use Rattle.dnssec_check.specs.declared.status.Refusal.TheVariants as refusal
-use Rattle.dnssec_check.specs.declared.opening.Envelope.TheVariants.{Bare}
+use Rattle.dnssec_check.specs.declared.opening.Opening.TheVariants.{Plain}
 use Rattle.dnssec_check.specs.Files.Capture.{AllTaken, Fails, Holds, Meets, NewEvidence}
 use Rattle.dnssec_check.specs.Texts.Listing.{IsListing, RrsetLines, SignatureLines, data_line}
 use Rattle.dnssec_check.specs.Status.{TellsCaptureError}
@@ -75,7 +75,7 @@ module _
   append_each (x ∷ xs) ys each others = (each.0, append_each xs ys each.1 others)
 
   all_formed : (held : Evidence) (number : ℕ) (frames : List (List ℕ)) (messages : List Contents) → AllByRecursion AreOctets frames
-      → AllTaken NewEvidence Bare held number frames messages → AllByRecursion IsWellFormed held.rrsets
+      → AllTaken NewEvidence Plain held number frames messages → AllByRecursion IsWellFormed held.rrsets
       → AllByRecursion IsWellFormed (fold with_message held messages).rrsets
   all_formed held number [] [] are taken each = each
   all_formed held number [] (message ∷ messages) are taken each = absurd taken
@@ -87,7 +87,7 @@ module _
 
   -- a file that holds evidence has the text of list
   pub listed : (file : List ℕ) (Else : Type 0) → ((frames : List (List ℕ)) → IsCapture file frames → AllByRecursion AreOctets frames)
-      → ((messages : List Contents) × Holds NewEvidence Bare file messages) ⊎ Else → ((text : List ℕ) × IsListing file text) ⊎ Else
+      → ((messages : List Contents) × Holds NewEvidence Plain file messages) ⊎ Else → ((text : List ℕ) × IsListing file text) ⊎ Else
   listed file Else are (inr otherwise) = inr otherwise
   listed file Else are (inl held) =
       let lines = rrset_lines 1 (evidence_of held.0).rrsets (all_formed no_evidence 1 held.1.frames held.0 (are held.1.frames held.1.framing) held.1.taken tt) in

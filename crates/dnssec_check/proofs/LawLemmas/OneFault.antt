@@ -8,8 +8,8 @@ use Rattle.dnsv_message.specs.Message.{Contents}
 use Rattle.dnsv_canonical.specs.Rrsets.{IsQuestion}
 use Rattle.dnsv_tsig.specs.Key.{SharedKey}
 use Rattle.dnsv_chain.specs.declared.anchor.Anchor.{Anchor}
-use Rattle.dnssec_check.specs.declared.opening.Envelope.{Envelope}
-use Rattle.dnssec_check.specs.declared.opening.Envelope.TheVariants.{Bare, Signed}
+use Rattle.dnssec_check.specs.declared.opening.Opening.{Opening}
+use Rattle.dnssec_check.specs.declared.opening.Opening.TheVariants.{Plain, Signed}
 use Rattle.dnssec_check.specs.declared.command_line.request.Request.{Request}
 use Rattle.dnssec_check.specs.declared.command_line.request.Request.TheVariants as request
 use Rattle.dnssec_check.specs.declared.status.Fault.{Fault}
@@ -21,18 +21,18 @@ use Rattle.dnssec_check.specs.declared.status.Status.{Status}
 use Rattle.dnssec_check.specs.Files.Anchors.{HasAnchors, IsFaultOfAnchors}
 use Rattle.dnssec_check.specs.Files.Capture.{AnyMessage, NewEvidence, Holds, IsFaultOfCapture}
 use Rattle.dnssec_check.specs.Texts.Checking.{IsCheck}
-use Rattle.dnssec_check.specs.Opening.Given.{IsEnvelopeOf, IsFaultOfEnvelope}
+use Rattle.dnssec_check.specs.Opening.Given.{IsOpeningOf, IsFaultOfOpening}
 use Rattle.dnssec_check.specs.Files.{Files, octets_or_none}
 use Rattle.dnssec_check.specs.Opening.Keys.{IsFaultOfKeys, MayHaveKeys}
 use Rattle.dnssec_check.specs.Layers.{LayerLaws}
 use Rattle.dnssec_check.specs.CommandLine.Question.{IsNameRefused, IsQuestionRefused, Spells}
-use Rattle.dnssec_check.specs.Run.{IsAnswered, IsFaultOfQuestion, IsFirstFault, IsFirstFaultBehind, IsFirstFaultOfCheck, IsFirstFaultOfEvidence, IsFirstFaultOfFiles, IsFirstFaultOfTodo, IsTextOf}
+use Rattle.dnssec_check.specs.Run.{IsAnswered, IsFaultOfQuestion, IsFirstFault, IsFirstFaultBehind, IsFirstFaultOfCheck, IsFirstFaultOfEvidence, IsFirstFaultOfFiles, IsFirstFaultOfTodo, IsTextAskedFor}
 use Rattle.dnssec_check.specs.Texts.Todo.{IsTodo}
 use Rattle.dnssec_check.proofs.FileLemmas.Anchors.{no_anchors_fault, one_anchors_fault}
 use Rattle.dnssec_check.proofs.OpeningLemmas.Keys.{no_keys_fault, one_keys_fault}
 use Rattle.dnssec_check.proofs.OpeningLemmas.Macs.{no_fault_of_macs, one_macs_fault}
 use Rattle.dnssec_check.proofs.LawLemmas.OneCapture.{no_capture_fault, one_capture_fault, same_nowhere}
-use Rattle.dnssec_check.proofs.LawLemmas.OneText.{one_envelope, one_question}
+use Rattle.dnssec_check.proofs.LawLemmas.OneText.{one_opening, one_question}
 use Rattle.dnssec_check.proofs.FileLemmas.Statements.{no_statements_fault, one_statements_fault}
 
 module _ (laws : LayerLaws) where
@@ -81,18 +81,18 @@ module _ (laws : LayerLaws) where
     keys_stand = no_keys_fault laws.tsig.one_ring laws.tsig.one_fault laws.tsig.apart keys_file
 
     -- what frames are opened by has no fault
-    envelope_stands : (moment : ℕ) (envelope : Envelope) (told : Fault) → IsEnvelopeOf keys_file macs_file moment envelope → IsFaultOfEnvelope keys_file macs_file told → ⊥
-    envelope_stands moment Bare told x (inl bad) = keys_stand None told x bad
-    envelope_stands moment Bare told x (inr bad) =
-        let same = one_envelope laws keys_file None moment Bare (Signed bad.0.0 moment None) x (bad.0.1, refl, refl) in cc
-    envelope_stands moment (Signed keys now macs) told x (inl bad) = keys_stand (Some keys) told x.0 bad
-    envelope_stands moment (Signed keys now macs) told x (inr bad) = no_fault_of_macs macs_file macs told x.2 bad.1
+    opening_stands : (moment : ℕ) (opening : Opening) (told : Fault) → IsOpeningOf keys_file macs_file moment opening → IsFaultOfOpening keys_file macs_file told → ⊥
+    opening_stands moment Plain told x (inl bad) = keys_stand None told x bad
+    opening_stands moment Plain told x (inr bad) =
+        let same = one_opening laws keys_file None moment Plain (Signed bad.0.0 moment None) x (bad.0.1, refl, refl) in cc
+    opening_stands moment (Signed keys now macs) told x (inl bad) = keys_stand (Some keys) told x.0 bad
+    opening_stands moment (Signed keys now macs) told x (inr bad) = no_fault_of_macs macs_file macs told x.2 bad.1
 
-    one_envelope_fault : (a b : Fault) → IsFaultOfEnvelope keys_file macs_file a → IsFaultOfEnvelope keys_file macs_file b → a ≡ b
-    one_envelope_fault a b (inl x) (inl y) = one_keys_fault laws.tsig.one_ring laws.tsig.one_fault laws.tsig.apart (octets_or_none keys_file) a b x y
-    one_envelope_fault a b (inl x) (inr y) = absurd (keys_stand (Some y.0.0) a y.0.1 x)
-    one_envelope_fault a b (inr x) (inl y) = absurd (keys_stand (Some x.0.0) b x.0.1 y)
-    one_envelope_fault a b (inr x) (inr y) = one_macs_fault (octets_or_none macs_file) a b x.1 y.1
+    one_opening_fault : (a b : Fault) → IsFaultOfOpening keys_file macs_file a → IsFaultOfOpening keys_file macs_file b → a ≡ b
+    one_opening_fault a b (inl x) (inl y) = one_keys_fault laws.tsig.one_ring laws.tsig.one_fault laws.tsig.apart (octets_or_none keys_file) a b x y
+    one_opening_fault a b (inl x) (inr y) = absurd (keys_stand (Some y.0.0) a y.0.1 x)
+    one_opening_fault a b (inr x) (inl y) = absurd (keys_stand (Some x.0.0) b x.0.1 y)
+    one_opening_fault a b (inr x) (inr y) = one_macs_fault (octets_or_none macs_file) a b x.1 y.1
 
   -- ---- the files
 
@@ -108,22 +108,22 @@ module _ (laws : LayerLaws) where
     one_fault_behind a b (inr x) (inl y) = absurd (anchors_stand x.0.0 b x.0.1 y)
     one_fault_behind a b (inr x) (inr y) = one_statements_fault (octets_or_none files.statements) a b x.1 y.1
 
-    holding_stands : (envelope : Envelope) (messages : List Contents) (told : Fault) → Holds NewEvidence envelope files.capture messages → IsFaultOfCapture NewEvidence envelope files.capture told → ⊥
-    holding_stands envelope = no_capture_fault laws NewEvidence envelope files.capture are
+    holding_stands : (opening : Opening) (messages : List Contents) (told : Fault) → Holds NewEvidence opening files.capture messages → IsFaultOfCapture NewEvidence opening files.capture told → ⊥
+    holding_stands opening = no_capture_fault laws NewEvidence opening files.capture are
 
-    one_fault_of_evidence : (envelope : Envelope) (a b : Fault) → IsFirstFaultOfEvidence envelope files a → IsFirstFaultOfEvidence envelope files b → a ≡ b
-    one_fault_of_evidence envelope a b (inl x) (inl y) = one_capture_fault laws NewEvidence envelope files.capture are a b x y
-    one_fault_of_evidence envelope a b (inl x) (inr y) = absurd (holding_stands envelope y.0.0 a y.0.1 x)
-    one_fault_of_evidence envelope a b (inr x) (inl y) = absurd (holding_stands envelope x.0.0 b x.0.1 y)
-    one_fault_of_evidence envelope a b (inr x) (inr y) = one_fault_behind a b x.1 y.1
+    one_fault_of_evidence : (opening : Opening) (a b : Fault) → IsFirstFaultOfEvidence opening files a → IsFirstFaultOfEvidence opening files b → a ≡ b
+    one_fault_of_evidence opening a b (inl x) (inl y) = one_capture_fault laws NewEvidence opening files.capture are a b x y
+    one_fault_of_evidence opening a b (inl x) (inr y) = absurd (holding_stands opening y.0.0 a y.0.1 x)
+    one_fault_of_evidence opening a b (inr x) (inl y) = absurd (holding_stands opening x.0.0 b x.0.1 y)
+    one_fault_of_evidence opening a b (inr x) (inr y) = one_fault_behind a b x.1 y.1
 
     one_fault_of_files : (moment : ℕ) (a b : Fault) → IsFirstFaultOfFiles moment files a → IsFirstFaultOfFiles moment files b → a ≡ b
-    one_fault_of_files moment a b (inl x) (inl y) = one_envelope_fault files.keys files.macs a b x y
-    one_fault_of_files moment a b (inl x) (inr y) = absurd (envelope_stands files.keys files.macs moment y.0 a y.1 x)
-    one_fault_of_files moment a b (inr x) (inl y) = absurd (envelope_stands files.keys files.macs moment x.0 b x.1 y)
+    one_fault_of_files moment a b (inl x) (inl y) = one_opening_fault files.keys files.macs a b x y
+    one_fault_of_files moment a b (inl x) (inr y) = absurd (opening_stands files.keys files.macs moment y.0 a y.1 x)
+    one_fault_of_files moment a b (inr x) (inl y) = absurd (opening_stands files.keys files.macs moment x.0 b x.1 y)
     one_fault_of_files moment a b (inr x) (inr y) =
         one_fault_of_evidence y.0 a b
-        (subst (λ (envelope : Envelope). IsFirstFaultOfEvidence envelope files a) (one_envelope laws files.keys files.macs moment x.0 y.0 x.1 y.1) x.2) y.2
+        (subst (λ (opening : Opening). IsFirstFaultOfEvidence opening files a) (one_opening laws files.keys files.macs moment x.0 y.0 x.1 y.1) x.2) y.2
 
     one_fault_of_check : (asked : List ℕ) (rtype moment : ℕ) (a b : Fault) → IsFirstFaultOfCheck asked rtype moment files a → IsFirstFaultOfCheck asked rtype moment files b → a ≡ b
     one_fault_of_check asked rtype moment a b (inl x) (inl y) = one_question_fault asked rtype a b x y
@@ -132,15 +132,15 @@ module _ (laws : LayerLaws) where
     one_fault_of_check asked rtype moment a b (inr x) (inr y) = one_fault_of_files moment a b x.1 y.1
 
     one_todo_fault : (a b : Fault) → IsFirstFaultOfTodo files a → IsFirstFaultOfTodo files b → a ≡ b
-    one_todo_fault a b (inl x) (inl y) = one_capture_fault laws NewEvidence Bare files.capture are a b x y
-    one_todo_fault a b (inl x) (inr y) = absurd (holding_stands Bare y.0.0 a y.0.1 x)
-    one_todo_fault a b (inr x) (inl y) = absurd (holding_stands Bare x.0.0 b x.0.1 y)
+    one_todo_fault a b (inl x) (inl y) = one_capture_fault laws NewEvidence Plain files.capture are a b x y
+    one_todo_fault a b (inl x) (inr y) = absurd (holding_stands Plain y.0.0 a y.0.1 x)
+    one_todo_fault a b (inr x) (inl y) = absurd (holding_stands Plain x.0.0 b x.0.1 y)
     one_todo_fault a b (inr x) (inr y) = one_statements_fault (octets_or_none files.statements) a b x.1 y.1
 
     -- ---- files with a text
 
     todo_stands : (moment : ℕ) (text : List ℕ) (told : Fault) → IsTodo moment files text → IsFirstFaultOfTodo files told → ⊥
-    todo_stands moment text told x (inl captured) = holding_stands Bare x.messages told x.holds captured
+    todo_stands moment text told x (inl captured) = holding_stands Plain x.messages told x.holds captured
     todo_stands moment text told x (inr stated) = no_statements_fault (octets_or_none files.statements) x.meaning told x.said stated.1
 
     module _ (name : Labels) (rtype moment : ℕ) (end : Status) (text : List ℕ) (x : IsCheck name rtype moment files end text) where
@@ -148,15 +148,15 @@ module _ (laws : LayerLaws) where
       behind_stands told (inl bad) = anchors_stand x.anchors told x.trusted bad
       behind_stands told (inr bad) = no_statements_fault (octets_or_none files.statements) x.meaning told x.said bad.1
 
-      evidence_stands : (told : Fault) → IsFirstFaultOfEvidence x.envelope files told → ⊥
-      evidence_stands told (inl bad) = holding_stands x.envelope x.messages told x.holds bad
+      evidence_stands : (told : Fault) → IsFirstFaultOfEvidence x.opening files told → ⊥
+      evidence_stands told (inl bad) = holding_stands x.opening x.messages told x.holds bad
       evidence_stands told (inr bad) = behind_stands told bad.1
 
       check_stands : (told : Fault) → IsFirstFaultOfFiles moment files told → ⊥
-      check_stands told (inl bad) = envelope_stands files.keys files.macs moment x.envelope told x.opens bad
+      check_stands told (inl bad) = opening_stands files.keys files.macs moment x.opening told x.opens bad
       check_stands told (inr bad) =
           evidence_stands told
-          (subst (λ (envelope : Envelope). IsFirstFaultOfEvidence envelope files told) (one_envelope laws files.keys files.macs moment bad.0 x.envelope bad.1 x.opens) bad.2)
+          (subst (λ (opening : Opening). IsFirstFaultOfEvidence opening files told) (one_opening laws files.keys files.macs moment bad.0 x.opening bad.1 x.opens) bad.2)
 
     answer_stands : (asked : List ℕ) (rtype moment : ℕ) (end : Status) (text : List ℕ) (told : Fault)
         → IsAnswered asked rtype moment files end text → IsFirstFaultOfCheck asked rtype moment files told → ⊥
@@ -167,17 +167,17 @@ module _ (laws : LayerLaws) where
 
   -- files that have a text have no fault
   pub text_stands : (asked : Request) (files : Files) → AreOctets files.capture → (end : Status) (text : List ℕ) (told : Fault)
-      → IsTextOf asked files end text → IsFirstFault asked files told → ⊥
-  text_stands (request.Show capture) files are end text told x bad = no_capture_fault laws AnyMessage Bare files.capture are x.1.0 told x.1.1 bad
-  text_stands (request.List capture moment statements true) files are end text told x bad = no_capture_fault laws NewEvidence Bare files.capture are x.1.0 told x.1.1 bad
+      → IsTextAskedFor asked files end text → IsFirstFault asked files told → ⊥
+  text_stands (request.Show capture) files are end text told x bad = no_capture_fault laws AnyMessage Plain files.capture are x.1.0 told x.1.1 bad
+  text_stands (request.List capture moment statements true) files are end text told x bad = no_capture_fault laws NewEvidence Plain files.capture are x.1.0 told x.1.1 bad
   text_stands (request.List capture moment statements false) files are end text told x bad = todo_stands files are moment text told x.1 bad
   text_stands (request.Check capture anchors moment asked rtype statements keys macs) files are end text told x bad =
       answer_stands files are (string_bytes asked) rtype.0 moment end text told x bad
 
   -- files have one first fault
   pub one_first_fault : (asked : Request) (files : Files) → AreOctets files.capture → (a b : Fault) → IsFirstFault asked files a → IsFirstFault asked files b → a ≡ b
-  one_first_fault (request.Show capture) files are a b x y = one_capture_fault laws AnyMessage Bare files.capture are a b x y
-  one_first_fault (request.List capture moment statements true) files are a b x y = one_capture_fault laws NewEvidence Bare files.capture are a b x y
+  one_first_fault (request.Show capture) files are a b x y = one_capture_fault laws AnyMessage Plain files.capture are a b x y
+  one_first_fault (request.List capture moment statements true) files are a b x y = one_capture_fault laws NewEvidence Plain files.capture are a b x y
   one_first_fault (request.List capture moment statements false) files are a b x y = one_todo_fault files are a b x y
   one_first_fault (request.Check capture anchors moment asked rtype statements keys macs) files are a b x y =
       one_fault_of_check files are (string_bytes asked) rtype.0 moment a b x y

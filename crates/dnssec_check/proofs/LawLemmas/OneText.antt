@@ -15,20 +15,20 @@ use Rattle.dnsv_verifier.specs.declared.answer.Answer.{Answer}
 use Rattle.dnsv_verifier.specs.declared.entry.Entry.{Entry}
 use Rattle.dnsv_chain.specs.declared.anchor.Anchor.{Anchor}
 use Rattle.dnsv_verdict.specs.Verdict.{Basis, IsVerdictAt}
-use Rattle.dnssec_check.specs.declared.opening.Envelope.{Envelope}
-use Rattle.dnssec_check.specs.declared.opening.Envelope.TheVariants.{Bare, Signed}
+use Rattle.dnssec_check.specs.declared.opening.Opening.{Opening}
+use Rattle.dnssec_check.specs.declared.opening.Opening.TheVariants.{Plain, Signed}
 use Rattle.dnssec_check.specs.declared.command_line.request.Request.{Request}
 use Rattle.dnssec_check.specs.declared.command_line.request.Request.TheVariants as request
 use Rattle.dnssec_check.specs.declared.status.Status.{Status}
 use Rattle.dnssec_check.specs.Files.Capture.{AnyMessage, NewEvidence, Holds}
 use Rattle.dnssec_check.specs.Texts.Checking.{IsCheck, verdict_status, verdict_text}
-use Rattle.dnssec_check.specs.Opening.Given.{IsEnvelopeOf}
+use Rattle.dnssec_check.specs.Opening.Given.{IsOpeningOf}
 use Rattle.dnssec_check.specs.Files.{Files, octets_or_none}
 use Rattle.dnssec_check.specs.Opening.Keys.{MayHaveKeys}
 use Rattle.dnssec_check.specs.Layers.{LayerLaws}
 use Rattle.dnssec_check.specs.Texts.Listing.{data_line, SignatureLines, RrsetLines}
 use Rattle.dnssec_check.specs.CommandLine.Question.{Spells}
-use Rattle.dnssec_check.specs.Run.{IsAnswered, IsTextOf}
+use Rattle.dnssec_check.specs.Run.{IsAnswered, IsTextAskedFor}
 use Rattle.dnssec_check.specs.Texts.Showing.{message_text, texts_from}
 use Rattle.dnssec_check.specs.Texts.Todo.{IsTodo, todo_line}
 use Rattle.dnssec_check.proofs.OpeningLemmas.Keys.{same_keys}
@@ -60,7 +60,7 @@ module _ (laws : LayerLaws) where
 
   one_todo : (moment : ℕ) (files : Files) → AreOctets files.capture → (a b : List ℕ) → IsTodo moment files a → IsTodo moment files b → a ≡ b
   one_todo moment files are a b x y =
-      let messages = one_holding laws NewEvidence Bare files.capture are x.messages y.messages x.holds y.holds in
+      let messages = one_holding laws NewEvidence Plain files.capture are x.messages y.messages x.holds y.holds in
       let meanings = one_meaning (octets_or_none files.statements) x.meaning y.meaning x.said y.said in
       let first = subst (λ (meaning : Entry → Answer). IsTableOf meaning moment (evidence_of x.messages).rrsets x.table) meanings x.is_table in
       let second = subst (λ messages. IsTableOf y.meaning moment (evidence_of messages).rrsets x.table) messages first in
@@ -72,11 +72,11 @@ module _ (laws : LayerLaws) where
   keys_alone = same_keys laws.tsig.one_ring laws.tsig.one_fault laws.tsig.apart
 
   -- files of keys and MACs open frames in one way
-  pub one_envelope : (keys_file macs_file : Option (List ℕ)) (moment : ℕ) (a b : Envelope) → IsEnvelopeOf keys_file macs_file moment a → IsEnvelopeOf keys_file macs_file moment b → a ≡ b
-  one_envelope keys_file macs_file moment Bare Bare x y = refl
-  one_envelope keys_file macs_file moment Bare (Signed keys now macs) x y = let same = keys_alone keys_file None (Some keys) x y.0 in cc
-  one_envelope keys_file macs_file moment (Signed keys now macs) Bare x y = let same = keys_alone keys_file (Some keys) None x.0 y in cc
-  one_envelope keys_file macs_file moment (Signed keys now macs) (Signed others at more) x y =
+  pub one_opening : (keys_file macs_file : Option (List ℕ)) (moment : ℕ) (a b : Opening) → IsOpeningOf keys_file macs_file moment a → IsOpeningOf keys_file macs_file moment b → a ≡ b
+  one_opening keys_file macs_file moment Plain Plain x y = refl
+  one_opening keys_file macs_file moment Plain (Signed keys now macs) x y = let same = keys_alone keys_file None (Some keys) x y.0 in cc
+  one_opening keys_file macs_file moment (Signed keys now macs) Plain x y = let same = keys_alone keys_file (Some keys) None x.0 y in cc
+  one_opening keys_file macs_file moment (Signed keys now macs) (Signed others at more) x y =
       let same = keys_alone keys_file (Some keys) (Some others) x.0 y.0 in
       let rings : keys ≡ others = cc in
       let lists = same_macs macs_file macs more x.2 y.2 in
@@ -91,15 +91,15 @@ module _ (laws : LayerLaws) where
   basis messages anchors moment meaning = record { rrsets = (evidence_of messages).rrsets; anchors = anchors; moment = moment; meaning = meaning }
 
   module _ (rtype moment : ℕ) (files : Files) (are : AreOctets files.capture) where
-    same_messages : (e f : Envelope) (a b : List Contents) → IsEnvelopeOf files.keys files.macs moment e → IsEnvelopeOf files.keys files.macs moment f
+    same_messages : (e f : Opening) (a b : List Contents) → IsOpeningOf files.keys files.macs moment e → IsOpeningOf files.keys files.macs moment f
         → Holds NewEvidence e files.capture a → Holds NewEvidence f files.capture b → a ≡ b
     same_messages e f a b x y holds also =
         one_holding laws NewEvidence f files.capture are a b
-        (subst (λ (envelope : Envelope). Holds NewEvidence envelope files.capture a) (one_envelope files.keys files.macs moment e f x y) holds) also
+        (subst (λ (opening : Opening). Holds NewEvidence opening files.capture a) (one_opening files.keys files.macs moment e f x y) holds) also
 
     one_check : (name : Labels) (s t : Status) (a b : List ℕ) → IsCheck name rtype moment files s a → IsCheck name rtype moment files t b → (s ≡ t) × (a ≡ b)
     one_check name s t a b x y =
-        let messages = same_messages x.envelope y.envelope x.messages y.messages x.opens y.opens x.holds y.holds in
+        let messages = same_messages x.opening y.opening x.messages y.messages x.opens y.opens x.holds y.holds in
         let anchors = laws.verdicts.one_list_of_anchors (octets_or_none files.anchors) x.anchors y.anchors x.trusted.are y.trusted.are in
         let meanings = one_meaning (octets_or_none files.statements) x.meaning y.meaning x.said y.said in
         let bases : basis x.messages x.anchors moment x.meaning ≡ basis y.messages y.anchors moment y.meaning = λ i. basis (messages i) (anchors i) moment (meanings i) in
@@ -118,13 +118,13 @@ module _ (laws : LayerLaws) where
 
   -- a request has one text for its files
   pub one_text : (asked : Request) (files : Files) → AreOctets files.capture → (s t : Status) (a b : List ℕ)
-      → IsTextOf asked files s a → IsTextOf asked files t b → (s ≡ t) × (a ≡ b)
+      → IsTextAskedFor asked files s a → IsTextAskedFor asked files t b → (s ≡ t) × (a ≡ b)
   one_text (request.Show capture) files are s t a b x y =
-      (x.0 ∙ sym y.0, x.1.2 ∙ ap (texts_from message_text 1) (one_holding laws AnyMessage Bare files.capture are x.1.0 y.1.0 x.1.1 y.1.1) ∙ sym y.1.2)
+      (x.0 ∙ sym y.0, x.1.2 ∙ ap (texts_from message_text 1) (one_holding laws AnyMessage Plain files.capture are x.1.0 y.1.0 x.1.1 y.1.1) ∙ sym y.1.2)
   one_text (request.List capture moment statements true) files are s t a b x y = (
     x.0 ∙ sym y.0,
     one_lines 1 (evidence_of x.1.0).rrsets a b x.1.2
-        (subst (λ messages. RrsetLines 1 (evidence_of messages).rrsets b) (one_holding laws NewEvidence Bare files.capture are y.1.0 x.1.0 y.1.1 x.1.1) y.1.2),
+        (subst (λ messages. RrsetLines 1 (evidence_of messages).rrsets b) (one_holding laws NewEvidence Plain files.capture are y.1.0 x.1.0 y.1.1 x.1.1) y.1.2),
   )
   one_text (request.List capture moment statements false) files are s t a b x y = (x.0 ∙ sym y.0, one_todo moment files are a b x.1 y.1)
   one_text (request.Check capture anchors moment asked rtype statements keys macs) files are s t a b x y =

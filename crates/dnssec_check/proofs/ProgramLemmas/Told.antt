@@ -4,7 +4,7 @@ use Rattle.std.specs.Prelude.{Result, Ok, Err, IfErr, IfSome, OnOk, is_err}
 use Rattle.std.specs.Io.KnownBytes.{Appends}
 use Rattle.dnsv_message.specs.Counted.{AppendsBeginning, count_after, failures_of, inner_of}
 use Rattle.dnsv_message.specs.declared.counted.Counted.{Counted}
-use Rattle.dnssec_check.specs.declared.command_line.LineError.{LineError}
+use Rattle.dnssec_check.specs.declared.command_line.CommandLineError.{CommandLineError}
 use Rattle.dnssec_check.specs.declared.command_line.request.Request.{Request}
 use Rattle.dnssec_check.specs.declared.status.Fault.{Fault}
 use Rattle.dnssec_check.specs.declared.status.Fault.TheVariants as fault
@@ -12,8 +12,8 @@ use Rattle.dnssec_check.specs.declared.status.InputFile.{InputFile}
 use Rattle.dnssec_check.specs.declared.status.Status.{Status}
 use Rattle.dnssec_check.specs.Files.Faults.{OfFailedRead, OfOctets}
 use Rattle.dnssec_check.specs.Files.{Files}
-use Rattle.dnssec_check.specs.CommandLine.{IsAccepted, IsRefused, line_code}
-use Rattle.dnssec_check.specs.Program.{AreFilesAt, FailedRequest, FailedWords, HasToldIn, IsEnd, LeavesOutput, RefusedWords, first_unopened, paths_of}
+use Rattle.dnssec_check.specs.CommandLine.{IsAccepted, IsRefused, command_line_code}
+use Rattle.dnssec_check.specs.Program.{AreFilesAt, FailedRequest, FailedWords, HasToldIn, IsEnd, LeavesOutput, first_unopened, paths_of}
 use Rattle.dnssec_check.specs.Run.{IsFirstFault, IsReached}
 use Rattle.dnssec_check.specs.Status.{fault_code, fault_line, outcome_code}
 use Rattle.dnssec_check.proofs.ProgramLemmas.{no_1, no_7, no_end}
@@ -93,14 +93,14 @@ quiet_at_end (Err told) code is ends same = absurd (no_end told code is ends)
 -- ---- where they ask for nothing
 
 -- what is told of the words, or of help
-abbrev pub IsWordsFault : LineError → Fault → Type 0
-IsWordsFault error told = (told ≡ fault.OutOfMemory) ⊎ ((told ≡ fault.WriteFailed) × (line_code error ≡ 0))
+abbrev pub IsWordsFault : CommandLineError → Fault → Type 0
+IsWordsFault error told = (told ≡ fault.OutOfMemory) ⊎ ((told ≡ fault.WriteFailed) × (command_line_code error ≡ 0))
 
-ends_with_1 : (error : LineError) (told : Fault) → IsWordsFault error told → fault_code told ≡ 1
+ends_with_1 : (error : CommandLineError) (told : Fault) → IsWordsFault error told → fault_code told ≡ 1
 ends_with_1 error told (inl is) = ap fault_code is
 ends_with_1 error told (inr (is, asked)) = ap fault_code is
 
-module _ (error : LineError) (code : ℕ) (ends : EndsSo error code) where
+module _ (error : CommandLineError) (code : ℕ) (ends : EndsSo error code) where
   failed_words : (words : List (List ℕ)) (told : Fault) → IsRefused words error → code ≡ 1 → EndsSo error code → IsWordsFault error told → FailedWords words told
   failed_words words told refused is_1 (inl is) (inl memory) = inl (memory, inr (record { error = error; refused = refused; code_told = sym is ∙ is_1 }))
   failed_words words told refused is_1 (inr (asked, _)) (inl memory) = inl (memory, inl (record { error = error; refused = refused; code_told = asked }))
@@ -137,8 +137,8 @@ apart : (told : Fault) → told ≡ fault.OutOfMemory → told ≡ fault.WriteFa
 apart told memory written = cc
 
 -- a fault of the help that was asked for
-pub help_told : {W : Type 0} {IsLine : Fault → Type 0} (error : LineError) (old new : Counted W) (outcome : Result Status Fault) (code : ℕ) → outcome_code outcome ≡ code
-    → line_code error ≡ 0
+pub help_told : {W : Type 0} {IsLine : Fault → Type 0} (error : CommandLineError) (old new : Counted W) (outcome : Result Status Fault) (code : ℕ) → outcome_code outcome ≡ code
+    → command_line_code error ≡ 0
     → IfErr outcome (λ told. ((told ≡ fault.OutOfMemory) × (new ≡ old))
     ⊎ ((told ≡ fault.WriteFailed) × (failures_of old < 2 ^ 64 - 1 → failures_of old < failures_of new)))
     → IfErr outcome IsLine → code ≡ 1

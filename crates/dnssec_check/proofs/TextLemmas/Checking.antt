@@ -7,12 +7,12 @@ use Rattle.dnsv_canonical.specs.Evidence.{Evidence, evidence_of}
 use Rattle.dnsv_verifier.specs.declared.answer.Answer.{Answer}
 use Rattle.dnsv_verifier.specs.declared.entry.Entry.{Entry}
 use Rattle.dnsv_chain.specs.declared.anchor.Anchor.{Anchor}
-use Rattle.dnsv_verdict.specs.Verdict.{Basis, IsVerdictAt}
+use Rattle.dnsv_verdict.specs.Verdict.{IsVerdictAt}
 use Rattle.dnsv_verdict.specs.declared.verdict.Verdict.{Verdict}
 use Rattle.dnssec_check.specs.Files.Anchors.{HasAnchors}
-use Rattle.dnssec_check.specs.declared.opening.Envelope.{Envelope}
+use Rattle.dnssec_check.specs.declared.opening.Opening.{Opening}
 use Rattle.dnssec_check.specs.Files.Capture.{Holds, NewEvidence}
-use Rattle.dnssec_check.specs.Opening.Given.{IsEnvelopeOf}
+use Rattle.dnssec_check.specs.Opening.Given.{IsOpeningOf}
 use Rattle.dnssec_check.specs.Texts.Checking.{IsCheck, verdict_status, verdict_text}
 use Rattle.dnssec_check.specs.Files.{Files, octets_or_none}
 use Rattle.dnssec_check.specs.Files.Statements.{IsMeaningOf}
@@ -27,17 +27,17 @@ IsOutcome anchors moment meaning name rtype outcome held =
     × (outcome.status ≡ verdict_status verdict)
     × (string_bytes outcome.text ≡ verdict_text name rtype held.rrsets verdict)
 
-module _ (name : Labels) (rtype moment : ℕ) (files : Files) (envelope : Envelope) (opens : IsEnvelopeOf files.keys files.macs moment envelope) (held : Evidence) (anchors : List Anchor) (meaning : Entry → Answer) where
+module _ (name : Labels) (rtype moment : ℕ) (files : Files) (opening : Opening) (opens : IsOpeningOf files.keys files.macs moment opening) (held : Evidence) (anchors : List Anchor) (meaning : Entry → Answer) where
   pub all_checked : (result : Result Outcome Fault) {octets : Option (List ℕ)} → octets ≡ Some files.capture
-      → IfSome octets (λ file. (messages : List Contents) × Holds NewEvidence envelope file messages × (held ≡ evidence_of messages))
+      → IfSome octets (λ file. (messages : List Contents) × Holds NewEvidence opening file messages × (held ≡ evidence_of messages))
       → HasAnchors (octets_or_none files.anchors) anchors → IsMeaningOf (octets_or_none files.statements) meaning
       → IfOk result (λ outcome. IsOutcome anchors moment meaning name rtype outcome held)
       → IfOk result (λ outcome. IsCheck name rtype moment files outcome.status (string_bytes outcome.text))
   all_checked (Err told) is taken trusted said judged = tt
   all_checked (Ok outcome) is taken trusted said judged =
-      let evidence = of_told (λ file. (messages : List Contents) × Holds NewEvidence envelope file messages × (held ≡ evidence_of messages)) is taken in
+      let evidence = of_told (λ file. (messages : List Contents) × Holds NewEvidence opening file messages × (held ≡ evidence_of messages)) is taken in
       let outcome_is = subst (IsOutcome anchors moment meaning name rtype outcome) evidence.2 judged in record {
-        envelope = envelope;
+        opening = opening;
         opens = opens;
         messages = evidence.0;
         holds = evidence.1;

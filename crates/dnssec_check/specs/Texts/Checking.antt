@@ -15,9 +15,9 @@ use Rattle.dnsv_verdict.specs.Verdict.{IsVerdictAt}
 use Rattle.dnsv_verdict.specs.declared.verdict.Verdict.{Verdict}
 use Rattle.dnsv_verdict.specs.declared.verdict.Verdict.TheVariants as verdict
 use Rattle.dnssec_check.specs.Files.Anchors.{HasAnchors}
-use Rattle.dnssec_check.specs.declared.opening.Envelope.{Envelope}
+use Rattle.dnssec_check.specs.declared.opening.Opening.{Opening}
 use Rattle.dnssec_check.specs.Files.Capture.{Holds, NewEvidence}
-use Rattle.dnssec_check.specs.Opening.Given.{IsEnvelopeOf}
+use Rattle.dnssec_check.specs.Opening.Given.{IsOpeningOf}
 use Rattle.dnssec_check.specs.Files.{Files, octets_or_none}
 use Rattle.dnssec_check.specs.Files.Statements.{IsMeaningOf}
 use Rattle.dnssec_check.specs.Texts.Todo.{todo_line}
@@ -55,13 +55,13 @@ abbrev pub cut_line : Labels → List ℕ
 cut_line cut = codes "cut " ++ lower_text cut ++ codes "\n"
 
 -- the owner and type of a record of the RRset
-abbrev pub record_line : Option ReceivedRrset → List ℕ
-record_line None = []
-record_line (Some rrset) = codes "record " ++ lower_text rrset.owner ++ codes " " ++ decimal rrset.rtype ++ codes "\n"
+abbrev pub proof_record_line : Option ReceivedRrset → List ℕ
+proof_record_line None = []
+proof_record_line (Some rrset) = codes "record " ++ lower_text rrset.owner ++ codes " " ++ decimal rrset.rtype ++ codes "\n"
 
 -- those of a record by its number
 abbrev pub proof_line : List ReceivedRrset → RecordNumber → List ℕ
-proof_line rrsets number = record_line (slice_get rrsets (number.rrset - 1))
+proof_line rrsets number = proof_record_line (slice_get rrsets (number.rrset - 1))
 
 -- what carries the verdict
 abbrev pub reason_lines : List ReceivedRrset → Verdict → List ℕ
@@ -91,10 +91,10 @@ verdict_status _ = status.Done
 -- besides those before it, and the end and the text are those of the verdict that they prove of the question, from the
 -- trust anchors, at the moment, under the statements.
 pub record IsCheck (name : Labels) (rtype moment : ℕ) (files : Files) (end : Status) (text : List ℕ) : Type 0 where
-  pub envelope : Envelope
-  pub opens : IsEnvelopeOf files.keys files.macs moment envelope
+  pub opening : Opening
+  pub opens : IsOpeningOf files.keys files.macs moment opening
   pub messages : List Contents
-  pub holds : Holds NewEvidence envelope files.capture messages
+  pub holds : Holds NewEvidence opening files.capture messages
   pub anchors : List Anchor
   pub trusted : HasAnchors (octets_or_none files.anchors) anchors
   pub meaning : Entry → Answer

@@ -8,7 +8,7 @@ use Rattle.dnsv_records.specs.Rrsig.{IsRrsig}
 use Rattle.dnsv_canonical.specs.Evidence.{evidence_of}
 use Rattle.dnsv_canonical.specs.Rrsets.{ReceivedRrset}
 use Rattle.dnsv_canonical.specs.SignedData.{IsSignedData}
-use Rattle.dnssec_check.specs.declared.opening.Envelope.TheVariants.{Bare}
+use Rattle.dnssec_check.specs.declared.opening.Opening.TheVariants.{Plain}
 use Rattle.dnssec_check.specs.Files.Capture.{Holds, NewEvidence}
 
 -- octets in lower case hex, and `-` for none
@@ -40,4 +40,4 @@ RrsetLines number (rrset ∷ rrsets) text =
 -- the file holds messages, each of them evidence besides those before it, and the text has the lines of their RRsets
 abbrev pub IsListing : List ℕ → List ℕ → Type 0
 IsListing file text =
-    (messages : List Contents) × Holds NewEvidence Bare file messages × RrsetLines 1 (evidence_of messages).rrsets text
+    (messages : List Contents) × Holds NewEvidence Plain file messages × RrsetLines 1 (evidence_of messages).rrsets text

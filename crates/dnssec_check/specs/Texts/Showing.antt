@@ -9,7 +9,7 @@ use Rattle.dnsv_names.specs.Text.{text_of}
 use Rattle.dnsv_message.specs.declared.record.Question.{Question}
 use Rattle.dnsv_message.specs.declared.record.Record.{Record}
 use Rattle.dnsv_message.specs.Message.{Contents, records_of}
-use Rattle.dnssec_check.specs.declared.opening.Envelope.TheVariants.{Bare}
+use Rattle.dnssec_check.specs.declared.opening.Opening.TheVariants.{Plain}
 use Rattle.dnssec_check.specs.Files.Capture.{Holds, AnyMessage}
 use Rattle.dnssec_check.specs.Texts.Hex.{hex_text}
 
@@ -54,4 +54,4 @@ message_text number message =
 -- the file holds messages, whatever they are, and the text has the lines of each
 abbrev pub IsShowing : List ℕ → List ℕ → Type 0
 IsShowing file text =
-    (messages : List Contents) × Holds AnyMessage Bare file messages × (text ≡ texts_from message_text 1 messages)
+    (messages : List Contents) × Holds AnyMessage Plain file messages × (text ≡ texts_from message_text 1 messages)

@@ -7,7 +7,7 @@ use Rattle.dnsv_canonical.specs.Evidence.{evidence_of}
 use Rattle.dnsv_verifier.specs.declared.answer.Answer.{Answer}
 use Rattle.dnsv_verifier.specs.declared.entry.Entry.{Entry}
 use Rattle.dnsv_verifier.specs.Table.{IsTableOf, TableContents, unknown_entries}
-use Rattle.dnssec_check.specs.declared.opening.Envelope.TheVariants.{Bare}
+use Rattle.dnssec_check.specs.declared.opening.Opening.TheVariants.{Plain}
 use Rattle.dnssec_check.specs.Files.Capture.{Holds, NewEvidence}
 use Rattle.dnssec_check.specs.Files.{Files, octets_or_none}
 use Rattle.dnssec_check.specs.Texts.Hex.{hex_text}
@@ -23,7 +23,7 @@ todo_line entry =
 -- signature that some key of theirs may be used to verify at the moment and of which the statements say nothing.
 pub record IsTodo (moment : ℕ) (files : Files) (text : List ℕ) : Type 0 where
   pub messages : List Contents
-  pub holds : Holds NewEvidence Bare files.capture messages
+  pub holds : Holds NewEvidence Plain files.capture messages
   pub meaning : Entry → Answer
   pub said : IsMeaningOf (octets_or_none files.statements) meaning
   pub table : TableContents

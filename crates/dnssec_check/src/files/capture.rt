@@ -18,12 +18,12 @@ ghost use Rattle.dnssec_check.specs.Files.Faults.{TellsFileFaults};
 ghost use Rattle.dnssec_check.specs.Status.{fault_number};
 ghost use Rattle.dnssec_check.specs.Told.{IsReadFault, IsDecodeFault, IsCaptureFault, IsFaultOf, IsRefusedAt};
 ghost use Rattle.dnssec_check.specs.Told.{IsNoMessageAt, IsTsigFault, IsUnopenedAt, IsUnreadableAt};
-ghost use Rattle.dnssec_check.specs.declared.opening.Envelope.{Envelope};
-ghost use Rattle.dnssec_check.specs.declared.opening.Envelope.TheVariants.{Bare};
+ghost use Rattle.dnssec_check.specs.declared.opening.Opening.{Opening};
+ghost use Rattle.dnssec_check.specs.declared.opening.Opening.TheVariants.{Plain};
 ghost use Rattle.dnssec_check.specs.declared.status.Place.{Place};
 ghost use Rattle.dnssec_check.specs.declared.status.Refusal.{Refusal};
 
-use crate::opening::{Envelope, request_mac_of};
+use crate::opening::{Opening, request_mac_of};
 use crate::status::{Fault, InputFile, Place, Refusal};
 use dnsv_canonical::{Capture, CaptureError};
 use dnsv_message::{Counted, DecodeError, Message, ReadError, read_capture};
@@ -37,8 +37,8 @@ use std::io::Read;
 /// turn.
 pub fn messages_in<R: Read>(alloc: Global, capture: &mut Counted<R>) -> Result<Vec<Message>, Fault>
     ensures messages { IfOk result (λ messages. IfSome (R.remaining (inner_of capture.old)) (λ file.
-        Holds AnyMessage Bare file messages.items)) }
-    ensures faults { TellsFileFaults InputFile.Capture (IsFaultOfCapture AnyMessage Bare)
+        Holds AnyMessage Plain file messages.items)) }
+    ensures faults { TellsFileFaults InputFile.Capture (IsFaultOfCapture AnyMessage Plain)
         (R.remaining (inner_of capture.old)) (failures_of capture.old) (failures_of capture.new) result }
 {
     let frames = frames(alloc, capture)?;
@@ -51,34 +51,34 @@ pub fn messages_in<R: Read>(alloc: Global, capture: &mut Counted<R>) -> Result<V
 /// and then each frame in turn, which is opened and read and then added to those before it.
 pub fn evidence_in<R: Read>(
     alloc: Global,
-    envelope: &Envelope,
+    opening: &Opening,
     capture: &mut Counted<R>,
 ) -> Result<Capture, Fault>
     ensures evidence { IfOk result (λ held. IfSome (R.remaining (inner_of capture.old)) (λ file.
-        (messages : List Contents) × Holds NewEvidence envelope.now file messages × (held ≡ evidence_of messages))) }
-    ensures faults { TellsFileFaults InputFile.Capture (IsFaultOfCapture NewEvidence envelope.now)
+        (messages : List Contents) × Holds NewEvidence opening.now file messages × (held ≡ evidence_of messages))) }
+    ensures faults { TellsFileFaults InputFile.Capture (IsFaultOfCapture NewEvidence opening.now)
         (R.remaining (inner_of capture.old)) (failures_of capture.old) (failures_of capture.new) result }
 {
     let frames = frames(alloc, capture)?;
-    evidence_of_frames(alloc, envelope, &frames)
+    evidence_of_frames(alloc, opening, &frames)
 }
 
 /// The octets of each frame of the file.
 fn frames<R: Read>(alloc: Global, capture: &mut Counted<R>) -> Result<Vec<Vec<u8>>, Fault>
     ensures frames { IfOk result (λ frames. IfSome (R.remaining (inner_of capture.old)) (λ file.
         IsCapture file (octets_of_each frames.items))) }
-    ensures faults { (demand : Demand) (envelope : Envelope)
-        → TellsFileFaults InputFile.Capture (IsFaultOfCapture demand envelope)
+    ensures faults { (demand : Demand) (opening : Opening)
+        → TellsFileFaults InputFile.Capture (IsFaultOfCapture demand opening)
         (R.remaining (inner_of capture.old)) (failures_of capture.old) (failures_of capture.new) result }
 {
     match read_capture(alloc, capture) {
         Ok(frames) => Ok(frames),
-        Err(error) => Err(read_fault(error)),
+        Err(error) => Err(capture_read_fault(error)),
     }
 }
 
 /// The fault of a file of captured messages that wasn't read.
-fn read_fault(error: ReadError) -> Fault
+fn capture_read_fault(error: ReadError) -> Fault
     ensures told { IsReadFault error result }
     ensures number { fault_number result ≡ read_error_code error }
 {
@@ -94,13 +94,13 @@ fn read_fault(error: ReadError) -> Fault
 /// The messages of the frames; the fault is that of the first that is none.
 fn messages_of_frames(alloc: Global, frames: &[Vec<u8>]) -> Result<Vec<Message>, Fault>
     ensures taken { IfOk result (λ messages.
-        AllTaken AnyMessage Bare no_evidence 1 (octets_of_each frames.now) messages.items) }
+        AllTaken AnyMessage Plain no_evidence 1 (octets_of_each frames.now) messages.items) }
     ensures refused { IfErr result
-        (IsFaultOf (FirstRefused AnyMessage Bare no_evidence 1 (octets_of_each frames.now))) }
+        (IsFaultOf (FirstRefused AnyMessage Plain no_evidence 1 (octets_of_each frames.now))) }
 {
     let mut messages = Vec::new(alloc);
     for (index, frame) in frames.iter().enumerate() {
-        messages.push(message_of(alloc, &Envelope::Bare, frame, index + 1)?)?;
+        messages.push(message_of(alloc, &Opening::Plain, frame, index + 1)?)?;
     }
     Ok(messages)
 }
@@ -109,33 +109,33 @@ fn messages_of_frames(alloc: Global, frames: &[Vec<u8>]) -> Result<Vec<Message>,
 /// isn't taken.
 fn evidence_of_frames(
     alloc: Global,
-    envelope: &Envelope,
+    opening: &Opening,
     frames: &[Vec<u8>],
 ) -> Result<Capture, Fault>
-    ensures counted { OnOk result (HasItsMacs envelope.now (octets_of_each frames.now)) }
+    ensures counted { OnOk result (HasItsMacs opening.now (octets_of_each frames.now)) }
     ensures taken { IfOk result (λ held. (messages : List Contents)
-        × AllTaken NewEvidence envelope.now no_evidence 1 (octets_of_each frames.now) messages
+        × AllTaken NewEvidence opening.now no_evidence 1 (octets_of_each frames.now) messages
         × (held ≡ evidence_of messages)) }
     ensures refused { IfErr result
-        (IsFaultOf (AreFramesRefused NewEvidence envelope.now (octets_of_each frames.now))) }
+        (IsFaultOf (AreFramesRefused NewEvidence opening.now (octets_of_each frames.now))) }
 {
-    if !envelope.has_its_macs(frames) {
+    if !opening.has_its_macs(frames) {
         return Err(Fault::Refused(Refusal::MacCount, Place::NOWHERE));
     }
-    gathered(alloc, envelope, frames)
+    gathered(alloc, opening, frames)
 }
 
 /// The evidence of the frames' messages; the fault is that of the first frame whose message isn't taken.
-fn gathered(alloc: Global, envelope: &Envelope, frames: &[Vec<u8>]) -> Result<Capture, Fault>
+fn gathered(alloc: Global, opening: &Opening, frames: &[Vec<u8>]) -> Result<Capture, Fault>
     ensures taken { IfOk result (λ held. (messages : List Contents)
-        × AllTaken NewEvidence envelope.now no_evidence 1 (octets_of_each frames.now) messages
+        × AllTaken NewEvidence opening.now no_evidence 1 (octets_of_each frames.now) messages
         × (held ≡ evidence_of messages)) }
     ensures refused { IfErr result
-        (IsFaultOf (FirstRefused NewEvidence envelope.now no_evidence 1 (octets_of_each frames.now))) }
+        (IsFaultOf (FirstRefused NewEvidence opening.now no_evidence 1 (octets_of_each frames.now))) }
 {
     let mut held = Capture::new(alloc);
     for (index, frame) in frames.iter().enumerate() {
-        add_frame(alloc, envelope, &mut held, frame, index + 1)?;
+        add_frame(alloc, opening, &mut held, frame, index + 1)?;
     }
     Ok(held)
 }
@@ -143,17 +143,17 @@ fn gathered(alloc: Global, envelope: &Envelope, frames: &[Vec<u8>]) -> Result<Ca
 /// Adds the message of the frame with this number to the evidence.
 fn add_frame(
     alloc: Global,
-    envelope: &Envelope,
+    opening: &Opening,
     held: &mut Capture,
     frame: &[u8],
     number: usize,
 ) -> Result<(), Fault>
     ensures taken { OnOk result ((message : Contents)
-        × (IsInFrame envelope.now number frame.now message × Meets NewEvidence held.old message)
+        × (IsInFrame opening.now number frame.now message × Meets NewEvidence held.old message)
         × (held.new ≡ with_message held.old message)) }
-    ensures refused { IfErr result (IsFaultOf (IsRefusedAt NewEvidence envelope.now held.old frame.now number)) }
+    ensures refused { IfErr result (IsFaultOf (IsRefusedAt NewEvidence opening.now held.old frame.now number)) }
 {
-    let message = message_of(alloc, envelope, frame, number)?;
+    let message = message_of(alloc, opening, frame, number)?;
     match held.add(&message) {
         Ok(()) => Ok(()),
         Err(error) => Err(capture_fault(error, number)),
@@ -163,16 +163,16 @@ fn add_frame(
 /// The message of the frame with this number.
 fn message_of(
     alloc: Global,
-    envelope: &Envelope,
+    opening: &Opening,
     frame: &[u8],
     number: usize,
 ) -> Result<Message, Fault>
-    ensures found { IfOk result (IsInFrame envelope.now number frame.now) }
-    ensures refused { IfErr result (IsFaultOf (IsNoMessageAt envelope.now frame.now number)) }
+    ensures found { IfOk result (IsInFrame opening.now number frame.now) }
+    ensures refused { IfErr result (IsFaultOf (IsNoMessageAt opening.now frame.now number)) }
 {
-    match envelope {
-        Envelope::Bare => decoded(alloc, frame, number),
-        Envelope::Signed { keys, moment, macs } => {
+    match opening {
+        Opening::Plain => decoded(alloc, frame, number),
+        Opening::Signed { keys, moment, macs } => {
             let request_mac = request_mac_of(macs, number);
             let opened = opened(alloc, keys, moment.seconds(), request_mac, frame, number)?;
             decoded(alloc, opened.message(), number)

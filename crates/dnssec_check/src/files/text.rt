@@ -6,7 +6,7 @@ ghost use Rattle.dnssec_check.specs.Files.Faults.{TellsFailedReads};
 ghost use Rattle.dnssec_check.specs.Files.{IsToldBy, given_failures, octets_or_none};
 ghost use Rattle.dnssec_check.specs.Files.Statements.{IsAtLine};
 ghost use Rattle.dnssec_check.specs.Status.{fault_number};
-ghost use Rattle.dnssec_check.specs.Told.{IsTextFault, IsTextReadFault};
+ghost use Rattle.dnssec_check.specs.Told.{TellsTextReadError, IsTextReadFault};
 
 use crate::status::{Fault, InputFile, Place, Refusal};
 use dnsv_message::{Counted, ReadError, read_all};
@@ -30,15 +30,15 @@ pub fn octets_in<R: Read>(
         None => Ok(Vec::new(alloc)),
         Some(reader) => match read_all(alloc, reader) {
             Ok(octets) => Ok(octets),
-            Err(error) => Err(read_fault(file, error)),
+            Err(error) => Err(text_read_fault(file, error)),
         },
     }
 }
 
 /// The fault of a file of any octets that wasn't read.
-fn read_fault(file: InputFile, error: ReadError) -> Fault
+fn text_read_fault(file: InputFile, error: ReadError) -> Fault
     requires { IsFileError error }
-    ensures told { IsTextFault file error result }
+    ensures told { TellsTextReadError file error result }
     ensures number { fault_number result ≡ read_error_code error }
 {
     match error {

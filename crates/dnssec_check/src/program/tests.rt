@@ -27,9 +27,9 @@ impl<'a> Machine for Desk<'a> {
         self.alloc
     }
 
-    fn words(&self) -> Result<Vec<String>, LineError> {
+    fn words(&self) -> Result<Vec<String>, CommandLineError> {
         if !self.has_room {
-            return Err(LineError::OutOfMemory);
+            return Err(CommandLineError::OutOfMemory);
         }
         Ok(words_of(self.alloc, self.words)?)
     }

@@ -24,7 +24,7 @@ pub struct Outcome {
 }
 
 /// The verdict on the question, and what carries it.
-pub fn judged<V: Verifier>(
+pub fn judge<V: Verifier>(
     alloc: Global,
     held: &Capture,
     anchors: &Anchors,
@@ -193,7 +193,7 @@ fn push_number(text: &mut String, rrsets: &[Rrset], number: &RecordNumber) -> Re
 
 /// Adds the owner and type of a record of the RRset.
 fn push_record(text: &mut String, rrset: &Rrset) -> Result<(), AllocError>
-    ensures { OnOk result (string_bytes text.new ≡ string_bytes text.old ++ specs.record_line (Some rrset.now)) }
+    ensures { OnOk result (string_bytes text.new ≡ string_bytes text.old ++ specs.proof_record_line (Some rrset.now)) }
 {
     let owner = rrset.owner().to_lower();
     let rtype = rrset.rtype().0;

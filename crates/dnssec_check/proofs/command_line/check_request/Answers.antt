@@ -1,5 +1,4 @@
-use Rattle.std.proofs.Common.{refl, ◌∙◌}
-use Rattle.dnssec_check.proofs.CommandLineLemmas.Words.{is_made, same_moment}
+use Rattle.dnssec_check.proofs.CommandLineLemmas.Words.{is_made}
 use Rattle.dnssec_check.proofs.command_line.check_request.Goals as goal
 
 pub unwrap-moment-requires : goal.unwrap-moment-requires

@@ -1,4 +1,4 @@
-use Rattle.std.proofs.Common.{ap, sym, ◌≡◌, ◌∙◌, ℕ, Option, Some}
+use Rattle.std.proofs.Common.{ap, ◌≡◌, ◌∙◌, ℕ, Some}
 use Rattle.std.specs.Prelude.{List, Result, is_some, option_and_then}
 use Rattle.std.specs.Str.Parse.{ParsesUnsigned, ExplainsUnsignedError, HasUnsignedDigitsIfOk}
 use Rattle.std.specs.declared.num.ParseIntError.{ParseIntError}

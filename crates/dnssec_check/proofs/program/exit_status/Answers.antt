@@ -1,4 +1,4 @@
-use Rattle.std.proofs.Common.{◌∙◌, inl, sym}
+use Rattle.std.proofs.Common.{◌∙◌, sym}
 use Rattle.dnssec_check.proofs.ProgramLemmas.{began, ended_failed, ended_well, ended_refused, wrote, refused}
 use Rattle.dnssec_check.proofs.ProgramLemmas.Told.{quiet_at_end, request_told, words_quiet, words_told}
 use Rattle.dnssec_check.proofs.ProgramLemmas.Words.{at_most_7, began_so, words_done, words_failed, words_misused, words_refused, words_untouched}

@@ -3,4 +3,4 @@ use Rattle.dnssec_check.proofs.FileLemmas.Capture.{EvidenceSoFar}
 use Rattle.dnssec_check.proofs.files.capture.gathered.Given as goal
 
 abbrev pub invariant-loop-index : goal.invariant-loop-index
-invariant-loop-index l = EvidenceSoFar l.envelope (octets_of_each l.frames) l.index l.held
+invariant-loop-index l = EvidenceSoFar l.opening (octets_of_each l.frames) l.index l.held

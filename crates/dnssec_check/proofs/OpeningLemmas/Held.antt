@@ -15,8 +15,8 @@ use Rattle.dnsv_tsig.specs.Key.{SharedKey, key_named}
 use Rattle.dnsv_tsig.specs.Mac.{stripped, tsig_mac_of}
 use Rattle.dnsv_tsig.specs.Opened.{OpenedMessage}
 use Rattle.dnsv_tsig.specs.Tsig.{TsigFields}
-use Rattle.dnssec_check.specs.declared.opening.Envelope.{Envelope}
-use Rattle.dnssec_check.specs.declared.opening.Envelope.TheVariants.{Bare, Signed}
+use Rattle.dnssec_check.specs.declared.opening.Opening.{Opening}
+use Rattle.dnssec_check.specs.declared.opening.Opening.TheVariants.{Plain, Signed}
 use Rattle.dnssec_check.specs.declared.status.Refusal.{Refusal}
 use Rattle.dnssec_check.specs.Opening.{HoldsNoMessage, IsInFrame, IsUnreadable, request_mac}
 use Rattle.dnssec_check.specs.Layers.{LayerLaws}
@@ -115,11 +115,11 @@ module _ (laws : LayerLaws) where
       told_once x.0 a b m n x.2 (subst (λ (error : DecodeError). TellsMessageError error b n) (laws.messages.one_fault octets are y.0 x.0 y.1 x.1) y.2)
 
   module _ (frame : List ℕ) (are : AreOctets frame) (keys : List SharedKey) (now : ℕ) (request : Option (List ℕ)) where
-    one_opening : (a b : OpenedMessage) → tsig_answer_of frame keys now request (Ok a) → tsig_answer_of frame keys now request (Ok b) → a ≡ b
-    one_opening a b x y = let same = laws.tsig.one_answer frame are keys now request (Ok a) (Ok b) x y in cc
+    one_opened : (a b : OpenedMessage) → tsig_answer_of frame keys now request (Ok a) → tsig_answer_of frame keys now request (Ok b) → a ≡ b
+    one_opened a b x y = let same = laws.tsig.one_answer frame are keys now request (Ok a) (Ok b) x y in cc
 
-    one_closing : (e f : TsigError) → tsig_answer_of frame keys now request (Err e) → tsig_answer_of frame keys now request (Err f) → e ≡ f
-    one_closing e f x y = let same = laws.tsig.one_answer frame are keys now request (Err e) (Err f) x y in cc
+    one_unopened : (e f : TsigError) → tsig_answer_of frame keys now request (Err e) → tsig_answer_of frame keys now request (Err f) → e ≡ f
+    one_unopened e f x y = let same = laws.tsig.one_answer frame are keys now request (Err e) (Err f) x y in cc
 
     opens_or_not : (a : OpenedMessage) (e : TsigError) → tsig_answer_of frame keys now request (Ok a) → tsig_answer_of frame keys now request (Err e) → ⊥
     opens_or_not a e x y = let same = laws.tsig.one_answer frame are keys now request (Ok a) (Err e) x y in cc
@@ -128,33 +128,33 @@ module _ (laws : LayerLaws) where
     octets_inside a x = opened_octets frame keys now request are (Ok a) a x refl
 
   module _ (number : ℕ) (frame : List ℕ) (are : AreOctets frame) where
-    pub one_in_frame : (envelope : Envelope) (m n : Contents) → IsInFrame envelope number frame m → IsInFrame envelope number frame n → m ≡ n
-    one_in_frame Bare m n x y = laws.messages.one_message frame are m n x y
+    pub one_in_frame : (opening : Opening) (m n : Contents) → IsInFrame opening number frame m → IsInFrame opening number frame n → m ≡ n
+    one_in_frame Plain m n x y = laws.messages.one_message frame are m n x y
     one_in_frame (Signed keys now macs) m n x y =
         let request = request_mac macs number in
-        let same : x.0 ≡ y.0 = one_opening frame are keys now request x.0 y.0 x.1 y.1 in
+        let same : x.0 ≡ y.0 = one_opened frame are keys now request x.0 y.0 x.1 y.1 in
         laws.messages.one_message y.0.message (octets_inside frame are keys now request y.0 y.1) m n
         (subst (λ (opened : OpenedMessage). MessageOf opened.message m) same x.2) y.2
 
     -- a frame that holds a message doesn't hold none
-    pub in_frame_stands : (envelope : Envelope) (m : Contents) (why : Refusal) (n : Option ℕ) → IsInFrame envelope number frame m → HoldsNoMessage envelope number frame why n → ⊥
-    in_frame_stands Bare m why n x bad = readable_stands frame are m why n x bad
+    pub in_frame_stands : (opening : Opening) (m : Contents) (why : Refusal) (n : Option ℕ) → IsInFrame opening number frame m → HoldsNoMessage opening number frame why n → ⊥
+    in_frame_stands Plain m why n x bad = readable_stands frame are m why n x bad
     in_frame_stands (Signed keys now macs) m why n x (inl closed) = opens_or_not frame are keys now (request_mac macs number) x.0 closed.0 x.1 closed.1
     in_frame_stands (Signed keys now macs) m why n x (inr bad) =
         let request = request_mac macs number in
-        let same : x.0 ≡ bad.0 = one_opening frame are keys now request x.0 bad.0 x.1 bad.1 in
+        let same : x.0 ≡ bad.0 = one_opened frame are keys now request x.0 bad.0 x.1 bad.1 in
         readable_stands bad.0.message (octets_inside frame are keys now request bad.0 bad.1) m why n
         (subst (λ (opened : OpenedMessage). MessageOf opened.message m) same x.2) bad.2
 
-    pub no_message_once : (envelope : Envelope) (a b : Refusal) (m n : Option ℕ) → HoldsNoMessage envelope number frame a m → HoldsNoMessage envelope number frame b n → (a ≡ b) × (m ≡ n)
-    no_message_once Bare a b m n x y = unreadable_once frame are a b m n x y
+    pub no_message_once : (opening : Opening) (a b : Refusal) (m n : Option ℕ) → HoldsNoMessage opening number frame a m → HoldsNoMessage opening number frame b n → (a ≡ b) × (m ≡ n)
+    no_message_once Plain a b m n x y = unreadable_once frame are a b m n x y
     no_message_once (Signed keys now macs) a b m n (inl x) (inl y) =
-        let same : x.0 ≡ y.0 = one_closing frame are keys now (request_mac macs number) x.0 y.0 x.1 y.1 in
+        let same : x.0 ≡ y.0 = one_unopened frame are keys now (request_mac macs number) x.0 y.0 x.1 y.1 in
         tsig_told_once y.0 a b m n (subst (λ (error : TsigError). TellsTsigError error a m) same x.2) y.2
     no_message_once (Signed keys now macs) a b m n (inl x) (inr y) = absurd (opens_or_not frame are keys now (request_mac macs number) y.0 x.0 y.1 x.1)
     no_message_once (Signed keys now macs) a b m n (inr x) (inl y) = absurd (opens_or_not frame are keys now (request_mac macs number) x.0 y.0 x.1 y.1)
     no_message_once (Signed keys now macs) a b m n (inr x) (inr y) =
         let request = request_mac macs number in
-        let same : x.0 ≡ y.0 = one_opening frame are keys now request x.0 y.0 x.1 y.1 in
+        let same : x.0 ≡ y.0 = one_opened frame are keys now request x.0 y.0 x.1 y.1 in
         unreadable_once y.0.message (octets_inside frame are keys now request y.0 y.1) a b m n
         (subst (λ (opened : OpenedMessage). IsUnreadable opened.message a m) same x.2) y.2

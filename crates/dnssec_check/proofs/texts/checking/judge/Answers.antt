@@ -1,4 +1,4 @@
-use Rattle.dnssec_check.proofs.texts.checking.judged.Goals as goal
+use Rattle.dnssec_check.proofs.texts.checking.judge.Goals as goal
 
 pub returns-in_ok-verdict_text-in-Ok-clause-verdict : goal.returns-in_ok-verdict_text-in-Ok-clause-verdict
 returns-in_ok-verdict_text-in-Ok-clause-verdict g c = (

@@ -1,9 +1,9 @@
-use Rattle.std.proofs.Common.{◌≡◌, ap, map, sym, ◌∙◌, codes, true, false, rules, Some}
+use Rattle.std.proofs.Common.{◌≡◌, ap, map, ◌∙◌, codes, true, false, rules, Some}
 use Rattle.std.proofs.lemmas.Slice.Eq.{bytes_eq-Decides}
 use Rattle.std.specs.Str.{bytes_eq}
 use Rattle.clap.specs.Words.{app_of, found_of, rows_of}
 use Rattle.dnssec_check.proofs.CommandLineLemmas.Words.{Sees, is_check, is_list, is_show, not_named, passed_up, sees}
-use Rattle.dnssec_check.proofs.command_line.read_line.Goals as goal
+use Rattle.dnssec_check.proofs.command_line.read_command_line.Goals as goal
 
 pub returns-in_err-matches-clause-refused : goal.returns-in_err-matches-clause-refused
 returns-in_err-matches-clause-refused g c =
