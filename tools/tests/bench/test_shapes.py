@@ -3,9 +3,9 @@ import hashlib
 import unittest
 from collections import namedtuple
 
+from capturing.frames import frames_of
 from capturing.messages import (TYPE_DNSKEY, TYPE_DS, TYPE_RRSIG, end_of_name, is_message, lower, name_at, name_text,
                                 records_of)
-from capturing.streams import frames_of
 from shapes import SHAPES, denials, files, keys, signatures
 from wire import key_tag
 
