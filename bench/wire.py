@@ -14,6 +14,14 @@ def label(octets):
     return bytes([len(octets)]) + octets
 
 
+def label_count(name):
+    """Of a name without a pointer, the root left out (RFC 4034 3.1.3)."""
+    count, place = 0, 0
+    while name[place]:
+        count, place = count + 1, place + 1 + name[place]
+    return count
+
+
 def pointer(place):
     """RFC 1035 4.1.4."""
     return struct.pack("!H", 0xC000 + place)
