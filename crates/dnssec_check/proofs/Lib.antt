@@ -1,5 +1,6 @@
 pub mod CommandLineLemmas
 pub mod FileLemmas
+mod JudgedLemmas
 pub mod LawLemmas
 pub mod OpeningLemmas
 pub mod ProgramLemmas

@@ -28,7 +28,10 @@ use Rattle.dnsv_verifier.specs.declared.entry.Entry.{Entry}
 use Rattle.dnsv_chain.specs.AnchorFile.{AreAnchorsOf, IsFaultOf}
 use Rattle.dnsv_chain.specs.declared.anchor.Anchor.{Anchor}
 use Rattle.dnsv_chain.specs.declared.anchors.AnchorsError.{AnchorsError}
-use Rattle.dnsv_verdict.specs.Verdict.{Basis, IsVerdictAt}
+use Rattle.dnsv_verdict.specs.Verdict.{Basis}
+use Rattle.dnsv_verdict.specs.Way.{IsRefusedFor, IsVerdictOf}
+use Rattle.dnsv_verdict.specs.declared.error.VerdictError.{VerdictError}
+use Rattle.dnsv_verdict.specs.declared.link.Link.{Link}
 use Rattle.dnsv_verdict.specs.declared.verdict.Verdict.{Verdict}
 
 -- names as text
@@ -82,8 +85,13 @@ pub record VerdictLaws : Type 0 where
   pub one_fault_of_anchors : (text : List ℕ) (a b : AnchorsError) → IsFaultOf text a → IsFaultOf text b → a ≡ b
   pub anchors_apart : (text : List ℕ) (anchors : List Anchor) (error : AnchorsError) → AreAnchorsOf text anchors
       → IsFaultOf text error → ⊥
-  pub one_verdict : (basis : Basis) (name : Labels) (t : ℕ) (a b : Verdict) → IsVerdictAt basis name t a
-      → IsVerdictAt basis name t b → a ≡ b
+  pub one_way : (basis : Basis) (name : Labels) (t : ℕ) (links others : List Link) (last end : Labels) (a b : Verdict)
+      → IsVerdictOf basis name t links last a → IsVerdictOf basis name t others end b
+      → (links ≡ others) × (last ≡ end) × (a ≡ b)
+  pub one_refusal : (basis : Basis) (name : Labels) (t : ℕ) (a b : VerdictError) → IsRefusedFor basis name t a
+      → IsRefusedFor basis name t b → a ≡ b
+  pub verdict_apart : (basis : Basis) (name : Labels) (t : ℕ) (links : List Link) (last : Labels) (verdict : Verdict)
+      (error : VerdictError) → IsVerdictOf basis name t links last verdict → IsRefusedFor basis name t error → ⊥
 
 pub record LayerLaws : Type 0 where
   pub names : NameLaws

@@ -16,7 +16,7 @@ use Rattle.dnssec_check.specs.declared.status.Status.{Status}
 use Rattle.dnssec_check.specs.declared.status.Status.TheVariants.{Done}
 use Rattle.dnssec_check.specs.Files.Anchors.{HasAnchors, IsFaultOfAnchors}
 use Rattle.dnssec_check.specs.Files.Capture.{AnyMessage, NewEvidence, Holds, IsFaultOfCapture}
-use Rattle.dnssec_check.specs.Texts.Checking.{IsCheck}
+use Rattle.dnssec_check.specs.Texts.Checking.{IsCheck, IsStopped}
 use Rattle.dnssec_check.specs.Opening.Given.{IsOpeningOf, IsOpeningReached, IsFaultOfOpening}
 use Rattle.dnssec_check.specs.Files.{Files, octets_or_none}
 use Rattle.dnssec_check.specs.Texts.Listing.{IsListing}
@@ -77,11 +77,16 @@ abbrev pub IsFaultOfQuestion : List ℕ → ℕ → Fault → Type 0
 IsFaultOfQuestion asked rtype (fault.Refused why place) = IsQuestionRefused asked rtype why place
 IsFaultOfQuestion asked rtype _ = ⊥
 
--- the question is refused, and else the first of the files that is at fault has this fault
+-- the first of the files that is at fault has this fault; or none is, and an alias can't be followed
+abbrev pub IsFirstFaultOfName : Labels → ℕ → ℕ → Files → Fault → Type 0
+IsFirstFaultOfName name rtype moment files fault =
+    IsFirstFaultOfFiles moment files fault ⊎ IsStopped name rtype moment files fault
+
+-- the question is refused, and else this is the first fault of the files and of the way from its name
 abbrev pub IsFirstFaultOfCheck : List ℕ → ℕ → ℕ → Files → Fault → Type 0
 IsFirstFaultOfCheck asked rtype moment files fault =
     IsFaultOfQuestion asked rtype fault
-    ⊎ (((name : Labels) × Spells asked name × IsQuestion name rtype) × IsFirstFaultOfFiles moment files fault)
+    ⊎ ((name : Labels) × Spells asked name × IsQuestion name rtype × IsFirstFaultOfName name rtype moment files fault)
 
 -- the first fault, in the order of the work
 abbrev pub IsFirstFault : Request → Files → Fault → Type 0

@@ -38,6 +38,9 @@ abbrev pub refusal_number : Refusal → ℕ
 refusal_number (refusal.Name error) = code_of error
 refusal_number refusal.BadQuestion = 701
 refusal_number (refusal.KeyLine error) = key_file_error_code error
+refusal_number refusal.AliasLoop = 702
+refusal_number refusal.TooManyLinks = 703
+refusal_number refusal.AliasTargets = 704
 refusal_number refusal.MacSyntax = 801
 refusal_number refusal.MacCount = 802
 refusal_number refusal.ZeroLength = 208

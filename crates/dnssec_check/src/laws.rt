@@ -24,7 +24,7 @@ use dnsv_message::{
 use dnsv_names::{a_text_has_one_list_of_lines, a_text_has_one_reading};
 use dnsv_records::record_laws;
 use dnsv_tsig::{one_answer as one_opened, one_ring_or_fault};
-use dnsv_verdict::a_question_has_one_verdict;
+use dnsv_verdict::a_question_leads_one_way;
 use dnsv_verifier::a_table_is_its_verifier;
 
 /// What the layers below say of all that the program reads: it is read in one way.
@@ -43,7 +43,7 @@ fn layers()
     evidence_or_one_refusal();
     a_table_is_its_verifier();
     a_text_is_one_list_of_anchors();
-    a_question_has_one_verdict();
+    a_question_leads_one_way();
 }
 
 /// A request has at most one text for its files, and one end.

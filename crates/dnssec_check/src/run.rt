@@ -10,7 +10,7 @@ ghost use Rattle.dnssec_check.specs.Files.{AreTold, Files};
 ghost use Rattle.dnssec_check.specs.Texts.Listing.{IsListing};
 ghost use Rattle.dnssec_check.specs.Texts.Checking.{IsCheck};
 ghost use Rattle.dnssec_check.specs.Run.{IsAnswered, IsTextAskedFor, IsFirstFault, IsFirstFaultOfCheck};
-ghost use Rattle.dnssec_check.specs.Run.{IsFirstFaultOfFiles, IsFirstFaultOfTodo};
+ghost use Rattle.dnssec_check.specs.Run.{IsFirstFaultOfName, IsFirstFaultOfTodo};
 ghost use Rattle.dnssec_check.specs.Run.{IsCaptureReached, IsReached, IsReachedByCheck, IsReachedByTodo, IsReachedOfFiles};
 ghost use Rattle.dnssec_check.specs.Texts.Showing.{IsShowing};
 ghost use Rattle.dnssec_check.specs.Texts.Todo.{IsTodo};
@@ -199,7 +199,8 @@ fn check_question<R: Read>(
     requires { IsQuestion name.now rtype.0 }
     ensures text { (files : Files) → AreTold R.remaining inputs.old files → IfOk result (λ outcome.
         IsCheck name.now rtype.0 moment files outcome.status (string_bytes outcome.text)) }
-    ensures faults { TellsFaults (IsFirstFaultOfFiles moment) R.remaining inputs.old inputs.new result }
+    ensures faults { TellsFaults (IsFirstFaultOfName name.now rtype.0 moment) R.remaining inputs.old inputs.new
+        result }
     ensures reached { (files : Files) → AreTold R.remaining inputs.old files
         → IfErr result (OfFailedRead (IsReachedOfFiles moment files)) }
     ensures unwritten { IfErr result (λ fault. fault ≡ Fault.WriteFailed → ⊥) }

@@ -77,10 +77,16 @@ impl InputFile {
 pub enum Refusal {
     /// The question's name is no text of a name (RFC 1035 5.1).
     Name(NameError),
-    /// The question's type can't be asked for at the name.
+    /// The question's type can't be asked for at the name, or at the target of an alias.
     BadQuestion,
     /// A line of the file of keys is at fault.
     KeyLine(KeyFileError),
+    /// An alias leads back to a name that led to it.
+    AliasLoop,
+    /// More than eight aliases lead on from the name.
+    TooManyLinks,
+    /// An alias has no one target.
+    AliasTargets,
     /// A line of the file of request MACs is neither a MAC nor `-`.
     MacSyntax,
     /// The file of request MACs has more or fewer than the capture has messages.
@@ -110,6 +116,9 @@ impl Refusal {
             Refusal::Name(error) => error.code(),
             Refusal::BadQuestion => 701,
             Refusal::KeyLine(error) => error.code(),
+            Refusal::AliasLoop => 702,
+            Refusal::TooManyLinks => 703,
+            Refusal::AliasTargets => 704,
             Refusal::MacSyntax => 801,
             Refusal::MacCount => 802,
             Refusal::ZeroLength => 208,

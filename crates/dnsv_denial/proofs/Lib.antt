@@ -1,2 +1,3 @@
 mod lemmas
 pub mod meaning
+mod QuestionHashLemmas

@@ -1,3 +1,5 @@
+pub mod KeptHashes
+pub mod QuestionHashes
 pub mod Viewed
 pub mod forms
 pub mod gathering

@@ -7,7 +7,7 @@ use crate::verifying::ByFirstOctet;
 use crate::{evidence, printed};
 use dnsv_denial::Proof;
 use dnsv_names::RecordType;
-use dnsv_verdict::{Entries, Report, Verdict, VerdictError, validate};
+use dnsv_verdict::{Entries, Link, Report, Verdict, VerdictError, validate};
 use dnsv_verifier::{Panel, Verifier};
 use std::alloc::Global;
 
@@ -22,9 +22,9 @@ pub fn answer(row: &Row) -> Result<Option<String>, RowError> {
     Ok(None)
 }
 
-/// `validate CAPTURE ANCHORS MOMENT NAME TYPE`: the verdict and what it rests on, how many entries were asked for and
-/// how many digests were worked out; or the refusal. An RRset stands before its signature or a record of it, `2.1`, and
-/// what is pending by the signatures. `ByFirstOctet` verifies.
+/// `validate CAPTURE ANCHORS MOMENT NAME TYPE`: the verdict and what it rests on, the aliases that lead there, how many
+/// entries were asked for and how many digests were worked out; or the refusal. An RRset stands before its signature or
+/// a record of it, `2.1`, and what is pending by the signatures. `ByFirstOctet` verifies.
 fn validated<V: Verifier>(row: &Row, verifier: &V) -> Result<String, RowError> {
     let alloc = row.alloc();
     let capture = evidence::capture(row, 0)?;
@@ -52,8 +52,19 @@ fn validated_together(row: &Row) -> Result<String, RowError> {
 
 fn told(alloc: Global, report: &Report) -> Result<String, RowError> {
     let verdict = verdict_text(alloc, &report.verdict)?;
+    let links = links_text(alloc, report.links.as_slice())?;
     let (asked, hashed) = (report.asked, report.hashed);
-    Ok(format!(in alloc; "{verdict} asked {asked} hashed {hashed}")?)
+    Ok(format!(in alloc; "{verdict}{links} asked {asked} hashed {hashed}")?)
+}
+
+/// The aliases that were followed, each by its name, RRset and signature.
+fn links_text(alloc: Global, links: &[Link]) -> Result<String, RowError> {
+    let mut text = String::new(alloc);
+    for link in links {
+        let (name, rrset, signature) = (&link.name, link.rrset, link.signature);
+        text = format!(in alloc; "{text} alias {name} {rrset}.{signature}")?;
+    }
+    Ok(text)
 }
 
 fn verdict_text(alloc: Global, verdict: &Verdict) -> Result<String, RowError> {

@@ -3,6 +3,7 @@ mod CaseLemmas
 mod CompleteLemmas
 mod EvidenceLemmas
 mod FiniteLemmas
+mod FollowLemmas
 mod FormLemmas
 mod HashedLemmas
 mod LowestLemmas
@@ -10,11 +11,14 @@ mod MeaningLemmas
 mod NoLessLemmas
 mod OneProof
 mod PendingLemmas
+mod RefusalLemmas
 mod SearchLemmas
 mod SettledLemmas
 mod SomeProof
 mod SomeVerdict
 mod SureLemmas
+mod TargetLemmas
 mod TrustLemmas
 mod UnknownLemmas
 mod ViewLemmas
+mod WayLemmas

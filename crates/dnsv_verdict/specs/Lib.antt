@@ -1,4 +1,5 @@
 pub mod Complete
+pub mod Hashed
 pub mod Insecure
 pub mod Meaning
 pub mod NoLess
@@ -7,3 +8,4 @@ pub mod Secure
 pub mod Settled
 pub mod Verdict
 pub mod VerdictError
+pub mod Way

@@ -1,10 +1,7 @@
 -- The verdict on a question: the first of eight cases that holds.
-use Rattle.std.specs.Prelude.{◌≡◌, ◌↔◌, ◌+◌, ◌*◌, ◌≤◌, ℕ, List, Contains, length}
+use Rattle.std.specs.Prelude.{◌≡◌, ◌↔◌, ℕ, List, Contains, length}
 use Rattle.std.specs.List.Sorted.{IsStrictlySortedBy}
 use Rattle.dnsv_names.specs.Name.{Labels, IsAtOrBelow}
-use Rattle.dnsv_records.specs.declared.nsec3.Nsec3Parameters.{Nsec3Parameters}
-use Rattle.dnsv_zones.specs.chains.HashedNames.{hashes_for}
-use Rattle.dnsv_canonical.specs.Evidence.{AreParameters, AreParametersAmong, nsec3_rdata}
 use Rattle.dnsv_canonical.specs.Rrsets.{ReceivedRrset}
 use Rattle.dnsv_verifier.specs.Admissible.{IsAsked}
 use Rattle.dnsv_verifier.specs.Entry.{entry_cmp}
@@ -77,19 +74,6 @@ pub record IsNumberAsked (moment : ℕ) (rrsets : List ReceivedRrset) (count : �
   pub rising : IsStrictlySortedBy entry_cmp entries
   pub members : (entry : Entry) → Contains entries entry ↔ IsAsked moment rrsets entry
   pub is : count ≡ length entries
-
--- So many SHA-1 digests hash names for NSEC3: for each iterations and salt of a usable NSEC3 record, those of the names
--- that a question of the name asks for (RFC 5155 5, 8).
-pub record IsNumberHashed (rrsets : List ReceivedRrset) (name : Labels) (count : ℕ) : Type 0 where
-  pub all : List Nsec3Parameters
-  pub are : AreParameters (nsec3_rdata rrsets) all
-  pub is : count ≡ hashes_for name all
-
--- at most 8 iterations and salts, each with at most so many iterations, and twice the labels and one more name
-abbrev pub IsFewHashed : List ReceivedRrset → Labels → ℕ → Type 0
-IsFewHashed rrsets name count =
-    (most : ℕ) → ((each : Nsec3Parameters) → AreParametersAmong (nsec3_rdata rrsets) each → each.iterations.0 ≤ most)
-    → count ≤ 8 * ((2 * length name + 1) * (most + 1))
 
 -- ---- the verdict
 

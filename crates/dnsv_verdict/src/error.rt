@@ -10,9 +10,18 @@ pub enum VerdictError {
     /// 90: memory was refused.
     #[error("memory was refused")]
     OutOfMemory,
-    /// 701: the type can't be asked at the name.
+    /// 701: the type can't be asked at the name, or at the target of an alias.
     #[error("the type can't be asked at the name")]
     BadQuestion,
+    /// 702: an alias leads back to a name that led to it.
+    #[error("an alias leads back to a name that led to it")]
+    AliasLoop,
+    /// 703: more than eight aliases lead on from the name.
+    #[error("more than eight aliases lead on from the name")]
+    TooManyLinks,
+    /// 704: an alias has no one target.
+    #[error("an alias has no one target")]
+    AliasTargets,
 }
 
 impl VerdictError {
@@ -25,6 +34,9 @@ impl VerdictError {
         match self {
             VerdictError::OutOfMemory => 90,
             VerdictError::BadQuestion => 701,
+            VerdictError::AliasLoop => 702,
+            VerdictError::TooManyLinks => 703,
+            VerdictError::AliasTargets => 704,
         }
     }
 }

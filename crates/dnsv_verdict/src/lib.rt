@@ -10,15 +10,21 @@ pub use laws::{
     a_question_is_indeterminate_without_an_anchor_above, more_evidence_makes_no_verdict_worse,
     valid_answers_settle_what_depends_on_them,
 };
+pub use link::{Link, Links};
 pub use report::{Report, validate};
 pub use verdict::Verdict;
+pub use ways::a_question_leads_one_way;
 
 mod basis;
 mod complete;
 mod entries;
 mod error;
 mod laws;
+mod link;
 mod report;
 mod search;
 mod settled;
+mod target;
 mod verdict;
+mod way;
+mod ways;

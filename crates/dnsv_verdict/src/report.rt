@@ -1,19 +1,27 @@
 //! The verdict on a question, and what it took.
-ghost use Rattle.std.specs.Prelude.{◌≡◌, List, IfOk, IsErrOf, length};
+ghost use Rattle.std.specs.Prelude.{◌≡◌, ◌⊎◌, List, IfErr, IfOk, IsErrOf, length};
+ghost use Rattle.std.specs.List.{AllByRecursion};
 ghost use Rattle.dnsv_names.specs.Count.{counted};
+ghost use Rattle.dnsv_names.specs.Name.{IsName};
 ghost use Rattle.dnsv_records.specs.declared.nsec3.Nsec3Parameters.{Nsec3Parameters};
 ghost use Rattle.dnsv_zones.specs.chains.HashedNames.{hashes_for};
 ghost use Rattle.dnsv_canonical.specs.Evidence.{AreParameters, nsec3_rdata};
 ghost use Rattle.dnsv_canonical.specs.Rrsets.{IsQuestion};
 ghost use Rattle.dnsv_chain.specs.Trusted.{IsSecured};
 ghost use Rattle.dnsv_verdict.specs.Complete.{TellsWholeChains};
+ghost use Rattle.dnsv_verdict.specs.Hashed.{IsFewHashedOn, IsNumberHashedOn, hashes_on};
 ghost use Rattle.dnsv_verdict.specs.Meaning.{IsTrueOfZones};
-ghost use Rattle.dnsv_verdict.specs.Verdict.{IsFewHashed, IsNumberAsked, IsNumberHashed, IsVerdictAt};
+ghost use Rattle.dnsv_verdict.specs.Verdict.{IsNumberAsked};
+ghost use Rattle.dnsv_verdict.specs.Way.{IsRefusal, IsVerdictOf, names_on};
+ghost use Rattle.dnsv_verdict.specs.declared.error.VerdictError.{VerdictError};
 
-use crate::basis::{Basis, verdict_at};
+use crate::basis::Basis;
 use crate::complete::a_whole_chain_is_told_by_the_verdict;
 use crate::error::VerdictError;
+use crate::link::Links;
 use crate::verdict::Verdict;
+use crate::way::{Way, follow};
+use crate::ways::a_question_leads_one_way;
 use dnsv_canonical::{Capture, is_question};
 use dnsv_chain::{Anchors, trusted};
 use dnsv_names::{Count, Name, RecordType};
@@ -23,7 +31,11 @@ use std::alloc::Global;
 /// The verdict on a question, and what it took.
 #[derive(Debug, Drop)]
 pub struct Report {
-    /// The verdict.
+    /// The secure aliases that lead from the name that was asked for to the last one.
+    pub links: Links,
+    /// The last name: the one that was asked for where there are no links, else the target of the last of them.
+    pub last: Name,
+    /// The verdict at the last name, which is no alias.
     pub verdict: Verdict,
     /// How much the verifier was asked.
     pub asked: u64,
@@ -32,10 +44,14 @@ pub struct Report {
 }
 
 /// The verdict on the question of a name and a type: what the evidence of the capture proves from the trust anchors, at
-/// the moment, in seconds since 1970, under the verifier's answers (RFC 4035 4.3, 5).
+/// the moment, in seconds since 1970, under the verifier's answers (RFC 4035 4.3, 5). It is that at the last name of the
+/// way over secure aliases (RFC 1034 3.6.2), which begins at the name.
 ///
-/// `BadQuestion` where the type can't be asked at the name. The verifier is asked once for each distinct entry that may
-/// be verified at the moment, and not again; names are hashed once with each iterations and salt, whatever the verdict.
+/// `BadQuestion` where the type can't be asked at the name, or at the target of an alias; `AliasTargets` where an alias
+/// has no one target, `AliasLoop` where its target is a name of the way, `TooManyLinks` where it would be the ninth
+/// link. Of these the first is told, in the order 704, 702, 703, 701 at each alias. The verifier is asked once for each
+/// distinct entry that may be verified at the moment, and not again; each name of the way is hashed once with each
+/// iterations and salt, whatever the verdict.
 pub fn validate<V: Verifier>(
     alloc: Global,
     capture: &Capture,
@@ -45,34 +61,53 @@ pub fn validate<V: Verifier>(
     name: &Name,
     rtype: RecordType,
 ) -> Result<Report, VerdictError>
-    ensures verdict { IfOk result (λ report. IsVerdictAt (record {
+    // The links lead to the last name, where the verdict is.
+    ensures verdict { IfOk result (λ report. IsVerdictOf (record {
       rrsets = capture.now.rrsets;
       anchors = anchors.now;
       moment = moment;
       meaning = V.meaning verifier.now;
-    }) name.now rtype.0 report.verdict) }
-    // In each zone that has the records of the verdict in its chain, looking the name up gives what is denied, or what
-    // the wildcard has; and the cut is a delegation without DS, or a name that Opt-Out may leave out.
+    }) name.now rtype.0 report.links report.last report.verdict) }
+    // In each zone that has the records of the verdict in its chain, looking the last name up gives what is denied, or
+    // what the wildcard has; and the cut is a delegation without DS, or a name that Opt-Out may leave out.
     ensures meaning { IfOk result (λ report. IsTrueOfZones
-        (IsSecured (V.meaning verifier.now) moment capture.now.rrsets anchors.now) capture.now.rrsets name.now rtype.0
-        report.verdict) }
+        (IsSecured (V.meaning verifier.now) moment capture.now.rrsets anchors.now) capture.now.rrsets report.last
+        rtype.0 report.verdict) }
     // Where nothing answers, what the zone of a whole chain denies is told.
     ensures whole_chains { IfOk result (λ report. TellsWholeChains (record {
       rrsets = capture.now.rrsets;
       anchors = anchors.now;
       moment = moment;
       meaning = V.meaning verifier.now;
-    }) name.now rtype.0 report.verdict) }
+    }) report.last rtype.0 report.verdict) }
     ensures asked { IfOk result (λ report. IsNumberAsked moment capture.now.rrsets report.asked) }
-    ensures hashed { IfOk result (λ report. IsNumberHashed capture.now.rrsets name.now report.hashed) }
-    ensures few { IfOk result (λ report. IsFewHashed capture.now.rrsets name.now report.hashed) }
-    // A type that can't be asked is refused, and nothing else is.
-    ensures refused { ¬ IsQuestion name.now rtype.0 → IsErrOf result VerdictError.BadQuestion }
-    ensures question { IsErrOf result VerdictError.BadQuestion → ¬ IsQuestion name.now rtype.0 }
+    ensures hashed { IfOk result (λ report. IsNumberHashedOn capture.now.rrsets (names_on report.links report.last)
+        report.hashed) }
+    ensures few { IfOk result (λ report. IsFewHashedOn capture.now.rrsets (names_on report.links report.last)
+        report.hashed) }
+    // A type that can't be asked at the name is refused.
+    ensures question { ¬ IsQuestion name.now rtype.0 → IsErrOf result VerdictError.BadQuestion }
+    // What is refused is so, unless memory runs out.
+    ensures told { IfErr result (λ error. (error ≡ VerdictError.OutOfMemory) ⊎ IsRefusal (record {
+      rrsets = capture.now.rrsets;
+      anchors = anchors.now;
+      moment = moment;
+      meaning = V.meaning verifier.now;
+    }) name.now rtype.0 error) }
+    // What is to be refused is, unless memory runs out.
+    ensures refused { (error : VerdictError) → IsRefusal (record {
+      rrsets = capture.now.rrsets;
+      anchors = anchors.now;
+      moment = moment;
+      meaning = V.meaning verifier.now;
+    }) name.now rtype.0 error
+        → IsErrOf result error ⊎ IsErrOf result VerdictError.OutOfMemory }
 {
     if !is_question(name, rtype) {
         return Err(VerdictError::BadQuestion);
     }
+    a_question_leads_one_way();
+    a_whole_chain_is_told_by_the_verdict();
     let mut asked = Count::new();
     let table = ask_all(alloc, capture, moment, verifier, &mut asked)?;
     let trust = trusted(alloc, capture, anchors, &table)?;
@@ -82,12 +117,14 @@ pub fn validate<V: Verifier>(
         table: &table,
     };
     let mut hashed = Count::new();
-    let verdict = verdict_at(alloc, &basis, &trust, name, rtype, &mut hashed)?;
-    a_whole_chain_is_told_by_the_verdict();
+    let followed = follow(alloc, &basis, &trust, name, rtype, &mut hashed)?;
+    let hashed = exact_hashed(&hashed, capture, &followed.way);
     Ok(Report {
-        verdict,
+        links: followed.way.links,
+        last: followed.way.last,
+        verdict: followed.verdict,
         asked: exact(&asked, &table),
-        hashed: exact_hashed(&hashed, capture, name),
+        hashed,
     })
 }
 
@@ -100,17 +137,18 @@ fn exact(asked: &Count, table: &Table) -> u64
     asked.value()
 }
 
-/// The count of the digests that hash names: a capture has so few iterations and salts, and a name so few labels, that
-/// their number is below the greatest value of a count.
-fn exact_hashed(hashed: &Count, capture: &Capture, name: &Name) -> u64
-    requires { (all : List Nsec3Parameters) → AreParameters (nsec3_rdata capture.now.rrsets) all
-        → hashed.now ≡ counted 0 (hashes_for name.now all) }
-    ensures exact { IsNumberHashed capture.now.rrsets name.now result }
-    ensures few { IsFewHashed capture.now.rrsets name.now result }
+/// The count of the digests that hash the names of the way: there are so few names, a capture has so few iterations and
+/// salts, and a name so few labels, that their number is below the greatest value of a count.
+fn exact_hashed(hashed: &Count, capture: &Capture, way: &Way) -> u64
+    requires hashed { (all : List Nsec3Parameters) → AreParameters (nsec3_rdata capture.now.rrsets) all
+        → hashed.now ≡ counted 0 (hashes_on (names_on way.now.links way.now.last) all) }
+    requires names { AllByRecursion IsName (names_on way.now.links way.now.last) }
+    ensures exact { IsNumberHashedOn capture.now.rrsets (names_on way.now.links way.now.last) result }
+    ensures few { IsFewHashedOn capture.now.rrsets (names_on way.now.links way.now.last) result }
 {
     let _limits = capture.rrsets();
     let _parameters = capture.nsec3_parameters();
-    let _labels = name.labels();
+    let _links = way.links.as_slice();
     hashed.value()
 }
 

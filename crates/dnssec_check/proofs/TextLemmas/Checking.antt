@@ -7,7 +7,8 @@ use Rattle.dnsv_canonical.specs.Evidence.{Evidence, evidence_of}
 use Rattle.dnsv_verifier.specs.declared.answer.Answer.{Answer}
 use Rattle.dnsv_verifier.specs.declared.entry.Entry.{Entry}
 use Rattle.dnsv_chain.specs.declared.anchor.Anchor.{Anchor}
-use Rattle.dnsv_verdict.specs.Verdict.{IsVerdictAt}
+use Rattle.dnsv_verdict.specs.Way.{IsVerdictOf}
+use Rattle.dnsv_verdict.specs.declared.link.Link.{Link}
 use Rattle.dnsv_verdict.specs.declared.verdict.Verdict.{Verdict}
 use Rattle.dnssec_check.specs.Files.Anchors.{HasAnchors}
 use Rattle.dnssec_check.specs.declared.opening.Opening.{Opening}
@@ -23,9 +24,10 @@ use Rattle.dnssec_check.proofs.FileLemmas.Faults.{of_told}
 -- the outcome is that of the verdict on this evidence
 abbrev pub IsOutcome : List Anchor → ℕ → (Entry → Answer) → Labels → ℕ → Outcome → Evidence → Type 0
 IsOutcome anchors moment meaning name rtype outcome held =
-    (verdict : Verdict) × IsVerdictAt (record { rrsets = held.rrsets; anchors = anchors; moment = moment; meaning = meaning }) name rtype verdict
+    (links : List Link) × (last : Labels) × (verdict : Verdict)
+    × IsVerdictOf (record { rrsets = held.rrsets; anchors = anchors; moment = moment; meaning = meaning }) name rtype links last verdict
     × (outcome.status ≡ verdict_status verdict)
-    × (string_bytes outcome.text ≡ verdict_text name rtype held.rrsets verdict)
+    × (string_bytes outcome.text ≡ verdict_text name rtype held.rrsets links verdict)
 
 module _ (name : Labels) (rtype moment : ℕ) (files : Files) (opening : Opening) (opens : IsOpeningOf files.keys files.macs moment opening) (held : Evidence) (anchors : List Anchor) (meaning : Entry → Answer) where
   pub all_checked : (result : Result Outcome Fault) {octets : Option (List ℕ)} → octets ≡ Some files.capture
@@ -45,8 +47,10 @@ module _ (name : Labels) (rtype moment : ℕ) (files : Files) (opening : Opening
         trusted = trusted;
         meaning = meaning;
         said = said;
-        verdict = outcome_is.0;
-        is_verdict = outcome_is.1;
-        ends = outcome_is.2;
-        lines = outcome_is.3;
+        links = outcome_is.0;
+        last = outcome_is.1;
+        verdict = outcome_is.2;
+        is_verdict = outcome_is.3;
+        ends = outcome_is.4;
+        lines = outcome_is.5;
       }

@@ -11,7 +11,10 @@ use Rattle.dnsv_verifier.specs.declared.answer.Answer.{Answer}
 use Rattle.dnsv_verifier.specs.declared.entry.Entry.{Entry}
 use Rattle.dnsv_chain.specs.declared.anchor.Anchor.{Anchor}
 use Rattle.dnsv_denial.specs.declared.records.number.RecordNumber.{RecordNumber}
-use Rattle.dnsv_verdict.specs.Verdict.{IsVerdictAt}
+use Rattle.dnsv_verdict.specs.Way.{IsRefusedFor, IsVerdictOf}
+use Rattle.dnsv_verdict.specs.declared.error.VerdictError.{VerdictError}
+use Rattle.dnsv_verdict.specs.declared.error.VerdictError.TheVariants as error
+use Rattle.dnsv_verdict.specs.declared.link.Link.{Link}
 use Rattle.dnsv_verdict.specs.declared.verdict.Verdict.{Verdict}
 use Rattle.dnsv_verdict.specs.declared.verdict.Verdict.TheVariants as verdict
 use Rattle.dnssec_check.specs.Files.Anchors.{HasAnchors}
@@ -21,6 +24,10 @@ use Rattle.dnssec_check.specs.Opening.Given.{IsOpeningOf}
 use Rattle.dnssec_check.specs.Files.{Files, octets_or_none}
 use Rattle.dnssec_check.specs.Files.Statements.{IsMeaningOf}
 use Rattle.dnssec_check.specs.Texts.Todo.{todo_line}
+use Rattle.dnssec_check.specs.Told.{nowhere}
+use Rattle.dnssec_check.specs.declared.status.Fault.{Fault}
+use Rattle.dnssec_check.specs.declared.status.Fault.TheVariants as fault
+use Rattle.dnssec_check.specs.declared.status.Refusal.TheVariants as refusal
 use Rattle.dnssec_check.specs.declared.status.Status.{Status}
 use Rattle.dnssec_check.specs.declared.status.Status.TheVariants as status
 
@@ -63,6 +70,10 @@ proof_record_line (Some rrset) = codes "record " ++ lower_text rrset.owner ++ co
 abbrev pub proof_line : List ReceivedRrset → RecordNumber → List ℕ
 proof_line rrsets number = proof_record_line (slice_get rrsets (number.rrset - 1))
 
+-- a name that is an alias, by an RRset and its signature
+abbrev pub alias_line : Link → List ℕ
+alias_line link = codes "alias " ++ lower_text link.name ++ codes " " ++ signature_line link.rrset link.signature
+
 -- what carries the verdict
 abbrev pub reason_lines : List ReceivedRrset → Verdict → List ℕ
 reason_lines rrsets (verdict.SecureAnswer k s) = signature_line k s
@@ -74,8 +85,10 @@ reason_lines rrsets (verdict.Pending entries) = flat_map todo_line entries
 reason_lines rrsets verdict.Bogus = []
 reason_lines rrsets verdict.Indeterminate = []
 
-abbrev pub verdict_text : Labels → ℕ → List ReceivedRrset → Verdict → List ℕ
-verdict_text name rtype rrsets verdict = verdict_line verdict name rtype ++ reason_lines rrsets verdict
+-- the verdict, the aliases that lead to the name where it stands, and what carries it
+abbrev pub verdict_text : Labels → ℕ → List ReceivedRrset → List Link → Verdict → List ℕ
+verdict_text name rtype rrsets links verdict =
+    verdict_line verdict name rtype ++ flat_map alias_line links ++ reason_lines rrsets verdict
 
 -- the end of a run by the verdict
 abbrev pub verdict_status : Verdict → Status
@@ -84,6 +97,14 @@ verdict_status (verdict.Pending entries) = status.Pending
 verdict_status verdict.Bogus = status.Bogus
 verdict_status verdict.Indeterminate = status.Indeterminate
 verdict_status _ = status.Done
+
+-- how a question is refused that has no verdict
+abbrev pub verdict_fault : VerdictError → Fault
+verdict_fault error.OutOfMemory = fault.OutOfMemory
+verdict_fault error.BadQuestion = fault.Refused refusal.BadQuestion nowhere
+verdict_fault error.AliasLoop = fault.Refused refusal.AliasLoop nowhere
+verdict_fault error.TooManyLinks = fault.Refused refusal.TooManyLinks nowhere
+verdict_fault error.AliasTargets = fault.Refused refusal.AliasTargets nowhere
 
 -- ---- the files
 
@@ -99,12 +120,34 @@ pub record IsCheck (name : Labels) (rtype moment : ℕ) (files : Files) (end : S
   pub trusted : HasAnchors (octets_or_none files.anchors) anchors
   pub meaning : Entry → Answer
   pub said : IsMeaningOf (octets_or_none files.statements) meaning
+  pub links : List Link
+  pub last : Labels
   pub verdict : Verdict
-  pub is_verdict : IsVerdictAt (record {
+  pub is_verdict : IsVerdictOf (record {
     rrsets = (evidence_of messages).rrsets;
     anchors = anchors;
     moment = moment;
     meaning = meaning;
-  }) name rtype verdict
+  }) name rtype links last verdict
   pub ends : end ≡ verdict_status verdict
-  pub lines : text ≡ verdict_text name rtype (evidence_of messages).rrsets verdict
+  pub lines : text ≡ verdict_text name rtype (evidence_of messages).rrsets links verdict
+
+-- The files are in order, as for a text, and the question is refused: a way over aliases from its name ends at one that
+-- can't be followed. The refusal has no place.
+pub record IsStopped (name : Labels) (rtype moment : ℕ) (files : Files) (told : Fault) : Type 0 where
+  pub opening : Opening
+  pub opens : IsOpeningOf files.keys files.macs moment opening
+  pub messages : List Contents
+  pub holds : Holds NewEvidence opening files.capture messages
+  pub anchors : List Anchor
+  pub trusted : HasAnchors (octets_or_none files.anchors) anchors
+  pub meaning : Entry → Answer
+  pub said : IsMeaningOf (octets_or_none files.statements) meaning
+  pub error : VerdictError
+  pub refused : IsRefusedFor (record {
+    rrsets = (evidence_of messages).rrsets;
+    anchors = anchors;
+    moment = moment;
+    meaning = meaning;
+  }) name rtype error
+  pub is : told ≡ verdict_fault error

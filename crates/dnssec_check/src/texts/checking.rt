@@ -1,18 +1,21 @@
 //! The text of `check`: a question's verdict, and what carries it.
-ghost use Rattle.std.specs.Prelude.{◌≡◌, ◌++◌, IfErr, IfOk, OnOk, Some, flat_map, string_bytes};
+ghost use Rattle.std.specs.Prelude.{◌≡◌, ◌⊎◌, ◌++◌, IfErr, IfOk, List, OnOk, Some, flat_map, string_bytes};
+ghost use Rattle.dnsv_names.specs.Name.{Labels};
 ghost use Rattle.dnsv_canonical.specs.Rrsets.{IsQuestion};
-ghost use Rattle.dnsv_verdict.specs.Verdict.{IsVerdictAt};
+ghost use Rattle.dnsv_verdict.specs.Way.{IsRefusedFor, IsVerdictOf};
+ghost use Rattle.dnsv_verdict.specs.declared.error.VerdictError.{VerdictError};
+ghost use Rattle.dnsv_verdict.specs.declared.link.Link.{Link};
 ghost use Rattle.dnsv_verdict.specs.declared.verdict.Verdict.{Verdict};
 ghost use Rattle.dnssec_check.specs.Texts.Checking as specs;
 
 use crate::command_line::moment::Moment;
-use crate::status::{Fault, Status};
+use crate::status::{Fault, Place, Refusal, Status};
 use crate::texts::todo::push_entries;
 use dnsv_canonical::{Capture, Rrset};
 use dnsv_chain::Anchors;
 use dnsv_denial::RecordNumber;
 use dnsv_names::{Name, RecordType};
-use dnsv_verdict::{Verdict, VerdictError, validate};
+use dnsv_verdict::{Link, Report, Verdict, VerdictError, validate};
 use dnsv_verifier::Verifier;
 use std::alloc::{AllocError, Global};
 
@@ -23,7 +26,9 @@ pub struct Outcome {
     pub text: String,
 }
 
-/// The verdict on the question, and what carries it.
+/// The verdict on the question, the aliases that lead to the name where it stands, and what carries it.
+///
+/// An alias that can't be followed is refused, without a place.
 pub fn judge<V: Verifier>(
     alloc: Global,
     held: &Capture,
@@ -34,15 +39,22 @@ pub fn judge<V: Verifier>(
     rtype: RecordType,
 ) -> Result<Outcome, Fault>
     requires { IsQuestion name.now rtype.0 }
-    ensures verdict { IfOk result (λ outcome. (verdict : Verdict) × IsVerdictAt (record {
-      rrsets = held.now.rrsets;
-      anchors = anchors.now;
-      moment = moment;
-      meaning = V.meaning verifier.now;
-    }) name.now rtype.0 verdict
+    ensures verdict { IfOk result (λ outcome. (links : List Link) × (last : Labels) × (verdict : Verdict)
+        × IsVerdictOf (record {
+          rrsets = held.now.rrsets;
+          anchors = anchors.now;
+          moment = moment;
+          meaning = V.meaning verifier.now;
+        }) name.now rtype.0 links last verdict
         × (outcome.status ≡ specs.verdict_status verdict)
-        × (string_bytes outcome.text ≡ specs.verdict_text name.now rtype.0 held.now.rrsets verdict)) }
-    ensures only { IfErr result (λ fault. fault ≡ Fault.OutOfMemory) }
+        × (string_bytes outcome.text ≡ specs.verdict_text name.now rtype.0 held.now.rrsets links verdict)) }
+    ensures only { IfErr result (λ told. (told ≡ Fault.OutOfMemory) ⊎ ((error : VerdictError)
+        × IsRefusedFor (record {
+          rrsets = held.now.rrsets;
+          anchors = anchors.now;
+          moment = moment;
+          meaning = V.meaning verifier.now;
+        }) name.now rtype.0 error × (told ≡ specs.verdict_fault error))) }
 {
     match validate(
         alloc,
@@ -55,11 +67,24 @@ pub fn judge<V: Verifier>(
     ) {
         Ok(report) => Ok(Outcome {
             status: status_of(&report.verdict),
-            text: verdict_text(alloc, name, rtype, held.rrsets(), &report.verdict)?,
+            text: verdict_text(alloc, name, rtype, held.rrsets(), &report)?,
         }),
-        Err(VerdictError::OutOfMemory) => Err(Fault::OutOfMemory),
-        Err(VerdictError::BadQuestion) => unreachable!(),
+        Err(error) => Err(verdict_fault(error)),
     }
+}
+
+/// The fault by which it is told that a question has no verdict. It has no place.
+fn verdict_fault(error: VerdictError) -> Fault
+    ensures { result ≡ specs.verdict_fault error }
+{
+    let refusal = match error {
+        VerdictError::OutOfMemory => return Fault::OutOfMemory,
+        VerdictError::BadQuestion => Refusal::BadQuestion,
+        VerdictError::AliasLoop => Refusal::AliasLoop,
+        VerdictError::TooManyLinks => Refusal::TooManyLinks,
+        VerdictError::AliasTargets => Refusal::AliasTargets,
+    };
+    Fault::Refused(refusal, Place::NOWHERE)
 }
 
 /// The end of a run by the verdict.
@@ -75,21 +100,41 @@ fn status_of(verdict: &Verdict) -> Status
     }
 }
 
-/// The verdict's line, and those of what carries it.
+/// The verdict's line, those of the aliases, and those of what carries it.
 fn verdict_text(
     alloc: Global,
     name: &Name,
     rtype: RecordType,
     rrsets: &[Rrset],
-    verdict: &Verdict,
+    report: &Report,
 ) -> Result<String, AllocError>
-    ensures { IfOk result (λ text.
-        string_bytes text ≡ specs.verdict_text name.now rtype.0 rrsets.now verdict.now) }
+    ensures { IfOk result (λ text. string_bytes text
+        ≡ specs.verdict_text name.now rtype.0 rrsets.now report.now.links report.now.verdict) }
 {
     let mut text = String::new(alloc);
-    push_verdict(&mut text, verdict, name, rtype)?;
-    push_reason(alloc, &mut text, rrsets, verdict)?;
+    push_verdict(&mut text, &report.verdict, name, rtype)?;
+    push_aliases(&mut text, report.links.as_slice())?;
+    push_reason(alloc, &mut text, rrsets, &report.verdict)?;
     Ok(text)
+}
+
+/// Adds a line for each alias.
+fn push_aliases(text: &mut String, links: &[Link]) -> Result<(), AllocError>
+    ensures { OnOk result (string_bytes text.new ≡ string_bytes text.old ++ flat_map specs.alias_line links.now) }
+{
+    for link in links {
+        push_alias(text, link)?;
+    }
+    Ok(())
+}
+
+/// Adds the name of an alias, and the numbers of its RRset and its signature.
+fn push_alias(text: &mut String, link: &Link) -> Result<(), AllocError>
+    ensures { OnOk result (string_bytes text.new ≡ string_bytes text.old ++ specs.alias_line link.now) }
+{
+    let name = link.name.to_lower();
+    write!(text, "alias {name} ")?;
+    push_signature(text, link.rrset, link.signature)
 }
 
 /// Adds the verdict's word, and the name and type that are asked for.

@@ -33,6 +33,8 @@ returns c = record {
     one_list_of_anchors = c.a_text_is_one_list_of_anchors.ensures.anchors;
     one_fault_of_anchors = c.a_text_is_one_list_of_anchors.ensures.fault;
     anchors_apart = c.a_text_is_one_list_of_anchors.ensures.apart;
-    one_verdict = c.a_question_has_one_verdict.ensures;
+    one_way = c.a_question_leads_one_way.ensures.verdict;
+    one_refusal = c.a_question_leads_one_way.ensures.refusal;
+    verdict_apart = c.a_question_leads_one_way.ensures.not_both;
   };
 }

@@ -2,52 +2,67 @@ use Rattle.std.proofs.Common.{inl, inr, refl}
 use Rattle.std.proofs.lemmas.Result.{err_from_is_err_and}
 use Rattle.dnsv_verifier.specs.Statements.{listed_answer}
 use Rattle.dnssec_check.specs.declared.status.InputFile.TheVariants.{Anchors, Capture, Statements}
-use Rattle.dnssec_check.specs.Run.{IsFirstFaultOfFiles, IsReachedOfFiles}
+use Rattle.dnsv_verdict.specs.Verdict.{Basis}
+use Rattle.dnsv_verdict.specs.Way.{IsRefusedFor}
+use Rattle.dnssec_check.specs.Run.{IsFirstFaultOfFiles, IsFirstFaultOfName, IsReachedOfFiles}
 use Rattle.dnssec_check.proofs.TextLemmas.Checking.{all_checked}
-use Rattle.dnssec_check.proofs.FileLemmas.Faults.{all_taken, anchored, captured, has_evidence, reads_then, stated, unsealed}
-use Rattle.dnssec_check.proofs.ReachedLemmas.{no_read, reached_by, reached_sealed}
+use Rattle.dnssec_check.proofs.FileLemmas.Faults.{TellsFaults-weaker, anchored, captured, has_evidence, reads_then, stated, unsealed}
+use Rattle.dnssec_check.proofs.JudgedLemmas.{all_judged, stopped_there, unjudged_read}
+use Rattle.dnssec_check.proofs.ReachedLemmas.{reached_by, reached_sealed}
 use Rattle.dnssec_check.proofs.run.check_question.Goals as goal
 
 pub returns-in_err-opening-clause-faults : goal.returns-in_err-opening-clause-faults
 returns-in_err-opening-clause-faults g c =
     let p = err_from_is_err_and c.from_residual.result c.from_residual.ensures.1 in
-    rw (p.1, p.2) (unsealed c.args.moment c.in_err-opening.field-0.0 refl refl refl c.in_err-opening.ensures.faults
-    c.in_err-opening.ensures.keys_reads c.in_err-opening.ensures.macs_reads c.in_err-opening.ensures.about)
+    rw (p.1, p.2) (TellsFaults-weaker (IsFirstFaultOfFiles c.args.moment) (IsFirstFaultOfName c.args.name.now c.args.rtype.0 c.args.moment) _ (λ files fault holds. inl holds)
+    (unsealed c.args.moment c.in_err-opening.field-0.0 refl refl refl c.in_err-opening.ensures.faults
+    c.in_err-opening.ensures.keys_reads c.in_err-opening.ensures.macs_reads c.in_err-opening.ensures.about))
 
 pub returns-in_err-held-clause-faults : goal.returns-in_err-held-clause-faults
 returns-in_err-held-clause-faults g c =
     let p = err_from_is_err_and c.from_residual-in_err-held.result c.from_residual-in_err-held.ensures.1 in
-    rw (p.1, p.2) (captured c.in_ok-opening.opening (IsFirstFaultOfFiles c.args.moment) c.in_err-held.field-0.0
+    rw (p.1, p.2) (TellsFaults-weaker (IsFirstFaultOfFiles c.args.moment) (IsFirstFaultOfName c.args.name.now c.args.rtype.0 c.args.moment) _ (λ files fault holds. inl holds)
+    (captured c.in_ok-opening.opening (IsFirstFaultOfFiles c.args.moment) c.in_err-held.field-0.0
     (λ files are fault holds. inr (c.in_ok-opening.opening, c.in_ok-opening.ensures.opening files.keys files.macs are.keys are.macs, inl holds)) refl refl
     (reads_then c.in_ok-opening.opening _ c.in_ok-opening.ensures.keys_reads, reads_then c.in_ok-opening.opening _ c.in_ok-opening.ensures.macs_reads)
-    c.in_err-held.ensures.faults)
+    c.in_err-held.ensures.faults))
 
 pub returns-in_err-anchors-clause-faults : goal.returns-in_err-anchors-clause-faults
 returns-in_err-anchors-clause-faults g c =
     let p = err_from_is_err_and c.from_residual-in_err-anchors.result c.from_residual-in_err-anchors.ensures.1 in
-    rw (p.1, p.2) (anchored c.in_ok-opening.opening c.args.moment
+    rw (p.1, p.2) (TellsFaults-weaker (IsFirstFaultOfFiles c.args.moment) (IsFirstFaultOfName c.args.name.now c.args.rtype.0 c.args.moment) _ (λ files fault holds. inl holds)
+    (anchored c.in_ok-opening.opening c.args.moment
     (λ files are. c.in_ok-opening.ensures.opening files.keys files.macs are.keys are.macs) c.in_ok-held.held c.in_err-anchors.field-0.0 refl
     (reads_then c.in_ok-opening.opening _ c.in_ok-opening.ensures.keys_reads, reads_then c.in_ok-opening.opening _ c.in_ok-opening.ensures.macs_reads)
     c.in_ok-held.ensures.faults
     (has_evidence c.in_ok-opening.opening _ c.in_ok-held.held c.in_ok-held.ensures.evidence)
-    c.in_err-anchors.ensures.faults c.in_err-anchors.ensures.reads c.in_err-anchors.ensures.about)
+    c.in_err-anchors.ensures.faults c.in_err-anchors.ensures.reads c.in_err-anchors.ensures.about))
 
 pub returns-in_err-statements-clause-faults : goal.returns-in_err-statements-clause-faults
 returns-in_err-statements-clause-faults g c =
     let p = err_from_is_err_and c.from_residual-in_err-statements.result c.from_residual-in_err-statements.ensures.1 in
-    rw (p.1, p.2) (stated c.in_ok-opening.opening c.args.moment
+    rw (p.1, p.2) (TellsFaults-weaker (IsFirstFaultOfFiles c.args.moment) (IsFirstFaultOfName c.args.name.now c.args.rtype.0 c.args.moment) _ (λ files fault holds. inl holds)
+    (stated c.in_ok-opening.opening c.args.moment
     (λ files are. c.in_ok-opening.ensures.opening files.keys files.macs are.keys are.macs) c.in_ok-held.held c.in_ok-anchors.anchors c.in_err-statements.field-0.0
     (reads_then c.in_ok-opening.opening _ c.in_ok-opening.ensures.keys_reads, reads_then c.in_ok-opening.opening _ c.in_ok-opening.ensures.macs_reads)
     c.in_ok-held.ensures.faults
     (has_evidence c.in_ok-opening.opening _ c.in_ok-held.held c.in_ok-held.ensures.evidence)
     (λ octets is. (c.in_ok-anchors.anchors, c.in_ok-anchors.ensures.anchors octets is)) c.in_ok-anchors.ensures.reads
-    c.in_err-statements.ensures.faults c.in_err-statements.ensures.reads c.in_err-statements.ensures.about)
+    c.in_err-statements.ensures.faults c.in_err-statements.ensures.reads c.in_err-statements.ensures.about))
 
 pub returns-clause-faults : goal.returns-clause-faults
 returns-clause-faults g c =
-    all_taken c.in_ok-opening.opening c.args.moment c.in_ok-opening.opening c.in_ok-held.held c.in_ok-anchors.anchors c.in_ok-statements.statements c.judge.result
+    let basis : Basis = record { rrsets = c.in_ok-held.held.rrsets; anchors = c.in_ok-anchors.anchors; moment = c.args.moment; meaning = listed_answer c.in_ok-statements.statements } in
+    all_judged c.in_ok-opening.opening c.args.name.now c.args.rtype.0 c.args.moment (λ error. IsRefusedFor basis c.args.name.now c.args.rtype.0 error)
+    c.in_ok-opening.opening c.in_ok-held.held c.in_ok-anchors.anchors c.in_ok-statements.statements c.judge.result
     c.in_ok-opening.ensures.keys_reads c.in_ok-opening.ensures.macs_reads c.in_ok-held.ensures.faults
-    c.in_ok-anchors.ensures.reads c.in_ok-statements.ensures.reads c.judge.ensures.only
+    c.in_ok-anchors.ensures.reads c.in_ok-statements.ensures.reads
+    (λ files error are refused. stopped_there c.args.name.now c.args.rtype.0 c.args.moment files c.in_ok-opening.opening
+    (c.in_ok-opening.ensures.opening files.keys files.macs are.keys are.macs) c.in_ok-held.held c.in_ok-anchors.anchors
+    (listed_answer c.in_ok-statements.statements) are.capture c.in_ok-held.ensures.evidence
+    (c.in_ok-anchors.ensures.anchors files.anchors are.anchors)
+    (c.in_ok-statements.ensures.statements files.statements are.statements) error refused)
+    c.judge.ensures.only
 
 pub returns-clause-text : goal.returns-clause-text
 returns-clause-text g c = λ files are.
@@ -88,4 +103,4 @@ returns-in_err-statements-clause-reached g c = λ files are.
     ))
 
 pub returns-clause-reached : goal.returns-clause-reached
-returns-clause-reached g c = λ files are. no_read (IsReachedOfFiles c.args.moment files) c.judge.result c.judge.ensures.only
+returns-clause-reached g c = λ files are. unjudged_read _ (IsReachedOfFiles c.args.moment files) c.judge.result c.judge.ensures.only

@@ -1,0 +1,118 @@
+-- What is kept of a way while it is followed.
+use Rattle.std.proofs.Common.{◌≡◌, ◌⊎◌, ◌+◌, ◌<◌, ℕ, List, [], ◌∷◌, ◌++◌, length, map, refl, sym, ap, ◌∙◌, inl, inr, subst}
+use Rattle.std.proofs.lemmas.List.{map-append}
+use Rattle.std.specs.List.{AllByRecursion}
+use Rattle.dnsv_names.specs.Count.{count_limit, counted}
+use Rattle.dnsv_names.specs.Name.{IsName, Labels}
+use Rattle.dnsv_records.specs.declared.nsec3.Nsec3Parameters.{Nsec3Parameters}
+use Rattle.dnsv_canonical.specs.Evidence.{AreParameters, nsec3_rdata}
+use Rattle.dnsv_canonical.specs.Rrsets.{IsQuestion, ReceivedRrset}
+use Rattle.dnsv_verifier.specs.Table.{IsTableOf, TableContents}
+use Rattle.dnsv_verifier.specs.declared.answer.Answer.{Answer}
+use Rattle.dnsv_verifier.specs.declared.entry.Entry.{Entry}
+use Rattle.dnsv_chain.specs.declared.anchor.Anchor.{Anchor}
+use Rattle.dnsv_zones.specs.chains.HashedNames.{hashes_for}
+use Rattle.dnsv_verdict.proofs.HashedLemmas.{hashes_more}
+use Rattle.dnsv_verdict.proofs.WayLemmas.{empty_way, names_behind, way_more}
+use Rattle.dnsv_verdict.specs.Hashed.{hashes_on}
+use Rattle.dnsv_verdict.specs.Verdict.{Basis, IsVerdictAt}
+use Rattle.dnsv_verdict.specs.Way.{IsAlias, IsAmong, IsRefusedFor, IsTarget, IsVerdictOf, IsWay, Stops, names_on}
+use Rattle.dnsv_verdict.specs.declared.error.VerdictError.{VerdictError}
+use Rattle.dnsv_verdict.specs.declared.error.VerdictError.TheVariants.{OutOfMemory}
+use Rattle.dnsv_verdict.specs.declared.link.Link.{Link}
+use Rattle.dnsv_verdict.specs.declared.verdict.Verdict.{Verdict}
+use Rattle.dnsv_verdict.specs.declared.verdict.Verdict.TheVariants.{SecureAlias}
+
+abbrev pub judged : List ReceivedRrset → List Anchor → ℕ → (Entry → Answer) → Basis
+judged rrsets anchors moment meaning = record { rrsets = rrsets; anchors = anchors; moment = moment; meaning = meaning }
+
+-- of each basis that the table is of
+abbrev pub OfTable : List ReceivedRrset → List Anchor → TableContents → (Basis → Type 0) → Type 0
+OfTable rrsets anchors table Holds =
+    (meaning : Entry → Answer) (moment : ℕ) → IsTableOf meaning moment rrsets table → Holds (judged rrsets anchors moment meaning)
+
+-- hashing each of the names, with each parameters, makes the count this one
+abbrev pub AreCounted : List ReceivedRrset → List Labels → ℕ → ℕ → Type 0
+AreCounted rrsets names before after =
+    (all : List Nsec3Parameters) → AreParameters (nsec3_rdata rrsets) all → after ≡ counted before (hashes_on names all)
+
+-- the names of the links are hashed, and the last one isn't yet
+pub record IsFollowed
+    (rrsets : List ReceivedRrset) (anchors : List Anchor) (table : TableContents) (t : ℕ) (name : Labels) (before after : ℕ)
+    (links : List Link) (last : Labels) : Type 0 where
+  pub way : OfTable rrsets anchors table (λ basis. IsWay basis t name links last)
+  pub names : AllByRecursion IsName (names_on links last)
+  pub counts : AreCounted rrsets (map (λ link. link.name) links) before after
+
+-- ---- the start
+
+pub followed_none : (rrsets : List ReceivedRrset) (anchors : List Anchor) (table : TableContents) (t : ℕ) (name last : Labels) (count : ℕ)
+    → last ≡ name → IsName name → counted count 0 ≡ count → IsFollowed rrsets anchors table t name count count [] last
+followed_none rrsets anchors table t name last count same is counts = record {
+  way = λ meaning moment of. subst (λ n. IsWay (judged rrsets anchors moment meaning) t name [] n) (sym same)
+      (empty_way (judged rrsets anchors moment meaning) t name);
+  names = (subst (λ n. IsName n) (sym same) is, tt);
+  counts = λ all are. sym counts;
+}
+
+-- ---- a name more
+
+-- the last name is hashed too
+pub counted_last : (rrsets : List ReceivedRrset) (links : List Link) (last : Labels) (before between after : ℕ)
+    → ((start a b : ℕ) → counted (counted start a) b ≡ counted start (a + b))
+    → AreCounted rrsets (map (λ link. link.name) links) before between
+    → ((all : List Nsec3Parameters) → AreParameters (nsec3_rdata rrsets) all → after ≡ counted between (hashes_for last all))
+    → AreCounted rrsets (names_on links last) before after
+counted_last rrsets links last before between after twice first second all are =
+    second all are ∙ ap (λ n. counted n (hashes_for last all)) (first all are)
+    ∙ twice before (hashes_on (map (λ (link : Link). link.name) links) all) (hashes_for last all)
+    ∙ ap (λ n. counted before n) (sym (hashes_more (map (λ (link : Link). link.name) links) last all))
+
+each_more : (names : List Labels) (name : Labels) → AllByRecursion IsName names → IsName name → AllByRecursion IsName (names ++ name ∷ [])
+each_more [] name each is = (is, tt)
+each_more (first ∷ names) name each is = (each.0, each_more names name each.1 is)
+
+pub followed_more : (rrsets : List ReceivedRrset) (anchors : List Anchor) (table : TableContents) (t : ℕ) (name : Labels)
+    (before between after : ℕ) (links : List Link) (last : Labels) (k s : ℕ) (target : Labels)
+    → IsFollowed rrsets anchors table t name before between links last
+    → OfTable rrsets anchors table (λ basis. IsVerdictAt basis last t (SecureAlias k s))
+    → AreCounted rrsets (names_on links last) before after
+    → IsTarget rrsets k target → ¬ IsAmong target (names_on links last) → length links < 8 → IsQuestion target t
+    → IsFollowed rrsets anchors table t name before after (links ++ (record { name = last; rrset = k; signature = s }) ∷ []) target
+followed_more rrsets anchors table t name before between after links last k s target so_far alias counts to new few asked =
+    let link : Link = record { name = last; rrset = k; signature = s } in
+    record {
+      way = λ meaning moment of. way_more (judged rrsets anchors moment meaning) t name links last k s target
+          (so_far.way meaning moment of) (alias meaning moment of) to new few asked;
+      names = subst (λ ns. AllByRecursion IsName ns) (sym (names_behind links link [] target)) (each_more (names_on links last) target so_far.names to.is_name);
+      counts = subst (λ ns. AreCounted rrsets ns before after) (sym (map-append (λ (each : Link). each.name) links (link ∷ []))) counts;
+    }
+
+-- ---- the end
+
+pub followed_to_end : (rrsets : List ReceivedRrset) (anchors : List Anchor) (table : TableContents) (t : ℕ) (name : Labels)
+    (before between : ℕ) (links : List Link) (last : Labels) (verdict : Verdict)
+    → IsFollowed rrsets anchors table t name before between links last
+    → OfTable rrsets anchors table (λ basis. IsVerdictAt basis last t verdict) → ¬ IsAlias verdict
+    → OfTable rrsets anchors table (λ basis. IsVerdictOf basis name t links last verdict)
+followed_to_end rrsets anchors table t name before between links last verdict so_far is none meaning moment of =
+    record { way = so_far.way meaning moment of; is_verdict = is meaning moment of; no_alias = none }
+
+-- what is refused at the last name is refused for the question
+pub refused_at_last : (rrsets : List ReceivedRrset) (anchors : List Anchor) (table : TableContents) (t : ℕ) (name : Labels)
+    (before between : ℕ) (links : List Link) (last : Labels) (k s : ℕ) (error : VerdictError)
+    → IsFollowed rrsets anchors table t name before between links last
+    → OfTable rrsets anchors table (λ basis. IsVerdictAt basis last t (SecureAlias k s))
+    → (error ≡ OutOfMemory) ⊎ Stops rrsets t (names_on links last) (length links) k error
+    → OfTable rrsets anchors table (λ basis. (error ≡ OutOfMemory) ⊎ IsRefusedFor basis name t error)
+refused_at_last rrsets anchors table t name before between links last k s error so_far alias (inl memory) meaning moment of = inl memory
+refused_at_last rrsets anchors table t name before between links last k s error so_far alias (inr stops) meaning moment of =
+    inr (record {
+      links = links;
+      last = last;
+      way = so_far.way meaning moment of;
+      k = k;
+      s = s;
+      is_alias = alias meaning moment of;
+      stops = stops;
+    })

@@ -1,0 +1,13 @@
+-- the way so far
+use Rattle.std.proofs.Common.{◌-◌, length}
+use Rattle.dnsv_verdict.proofs.FollowLemmas.{IsFollowed}
+use Rattle.dnsv_verdict.proofs.way.follow.Given as goal
+
+abbrev pub invariant-links : goal.invariant-links
+invariant-links l =
+    IsFollowed l.basis.capture.now.rrsets l.basis.anchors.now l.basis.table.now l.rtype.0 l.name l.initial.hashed l.hashed
+    l.way.links l.way.last
+
+-- each turn adds a link
+abbrev pub decreases-links : goal.decreases-links
+decreases-links l = 8 - length l.way.links

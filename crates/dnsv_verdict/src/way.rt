@@ -1,0 +1,169 @@
+//! The way over secure aliases from the name of a question to the last one.
+ghost use Rattle.std.specs.Prelude.{◌≡◌, ◌⊎◌, ◌↔◌, ◌<◌, ◌++◌, ℕ, List, [], ◌∷◌, Contains, IfErr, IfOk, IsTrue, MatchOption, length};
+ghost use Rattle.std.specs.List.{AllByRecursion};
+ghost use Rattle.dnsv_names.specs.Count.{counted};
+ghost use Rattle.dnsv_names.specs.Name.{IsName, SameName};
+ghost use Rattle.dnsv_records.specs.declared.nsec3.Nsec3Parameters.{Nsec3Parameters};
+ghost use Rattle.dnsv_canonical.specs.Evidence.{AreParameters, nsec3_rdata};
+ghost use Rattle.dnsv_canonical.specs.Rrsets.{IsQuestion};
+ghost use Rattle.dnsv_chain.specs.Trust.{IsTrustOf};
+ghost use Rattle.dnsv_verifier.specs.Table.{IsTableOf, table_answer};
+ghost use Rattle.dnsv_verifier.specs.declared.answer.Answer.{Answer};
+ghost use Rattle.dnsv_verifier.specs.declared.entry.Entry.{Entry};
+ghost use Rattle.dnsv_verdict.specs.Hashed.{hashes_on};
+ghost use Rattle.dnsv_verdict.specs.Way.{IsAlias, IsAmong, IsRefusedFor, IsTarget, IsVerdictOf, IsWay, Stops, names_on};
+ghost use Rattle.dnsv_verdict.specs.declared.error.VerdictError.TheVariants.{OutOfMemory};
+ghost use Rattle.dnsv_verdict.specs.declared.link.Link.{Link};
+ghost use Rattle.dnsv_verdict.specs.declared.verdict.Verdict.TheVariants.{SecureAlias};
+
+use crate::basis::{Basis, verdict_at};
+use crate::error::VerdictError;
+use crate::link::{LINK_LIMIT, Link, Links};
+use crate::target::target_of;
+use crate::verdict::Verdict;
+use dnsv_canonical::is_question;
+use dnsv_chain::Trust;
+use dnsv_names::{Count, Name, RecordType, counts_add_up};
+use std::alloc::Global;
+
+/// A way as far as it was followed.
+#[derive(Drop)]
+pub struct Way {
+    pub links: Links,
+    pub last: Name,
+}
+
+/// A way to its end, and the verdict there, which is that on the question.
+#[derive(Drop)]
+pub struct Followed {
+    pub way: Way,
+    pub verdict: Verdict,
+}
+
+/// Follows secure aliases from the name on, and gives the verdict at the last name, which is none. `trust` is that of
+/// the basis. `hashed` grows by the SHA-1 digests that are worked out, at each name.
+///
+/// An alias that can't be followed is refused: `AliasTargets` where it has no one target, `AliasLoop` where the target
+/// is a name of the way, `TooManyLinks` where it would be the ninth link, `BadQuestion` where the type can't be asked
+/// at the target; the first of these, in this order.
+pub fn follow(
+    alloc: Global,
+    basis: &Basis<'_>,
+    trust: &Trust,
+    name: &Name,
+    rtype: RecordType,
+    hashed: &mut Count,
+) -> Result<Followed, VerdictError>
+    requires { IsTrustOf (table_answer basis.now.table.now) basis.now.table.now.moment basis.now.capture.now.rrsets
+        basis.now.anchors.now trust.now }
+    ensures value { (meaning : Entry → Answer) (moment : ℕ)
+        → IsTableOf meaning moment basis.now.capture.now.rrsets basis.now.table.now
+        → IfOk result (λ followed. IsVerdictOf (record {
+          rrsets = basis.now.capture.now.rrsets;
+          anchors = basis.now.anchors.now;
+          moment = moment;
+          meaning = meaning;
+        }) name.now rtype.0 followed.way.links followed.way.last followed.verdict) }
+    ensures refused { (meaning : Entry → Answer) (moment : ℕ)
+        → IsTableOf meaning moment basis.now.capture.now.rrsets basis.now.table.now
+        → IfErr result (λ error. (error ≡ OutOfMemory) ⊎ IsRefusedFor (record {
+          rrsets = basis.now.capture.now.rrsets;
+          anchors = basis.now.anchors.now;
+          moment = moment;
+          meaning = meaning;
+        }) name.now rtype.0 error) }
+    ensures hashed { IfOk result (λ followed. (all : List Nsec3Parameters)
+        → AreParameters (nsec3_rdata basis.now.capture.now.rrsets) all
+        → hashed.new ≡ counted hashed.old (hashes_on (names_on followed.way.links followed.way.last) all)) }
+    ensures names { IfOk result (λ followed. AllByRecursion IsName
+        (names_on followed.way.links followed.way.last)) }
+{
+    counts_add_up();
+    let _ = hashed.value();
+    let _ = name.wire();
+    let mut way = Way {
+        links: Links::new(),
+        last: name.clone()?,
+    };
+    'links: loop {
+        let verdict = verdict_at(alloc, basis, trust, &way.last, rtype, hashed)?;
+        let Some((rrset, signature)) = alias_of(&verdict) else {
+            return Ok(Followed { way, verdict });
+        };
+        let target = next_name(alloc, basis, &way, rrset, rtype)?;
+        way = longer(way, rrset, signature, target);
+    }
+}
+
+/// The RRset and the signature of a secure alias.
+fn alias_of(verdict: &Verdict) -> Option<(usize, usize)>
+    ensures { MatchOption result (¬ IsAlias verdict.now) (λ found. verdict.now ≡ SecureAlias found.0 found.1) }
+{
+    match verdict {
+        Verdict::SecureAlias(rrset, signature) => Some((*rrset, *signature)),
+        _ => None,
+    }
+}
+
+/// The way with one link more, from its last name to the target.
+fn longer(way: Way, rrset: usize, signature: usize, target: Name) -> Way
+    requires { length way.links < 8 }
+    ensures links { result.links
+        ≡ way.links ++ (record { name = way.last; rrset = rrset; signature = signature }) ∷ [] }
+    ensures last { result.last ≡ target }
+{
+    let mut links = way.links;
+    links.push(Link {
+        name: way.last,
+        rrset,
+        signature,
+    });
+    Way {
+        links,
+        last: target,
+    }
+}
+
+/// The target of the alias at the way's last name, where the way can go on to it.
+fn next_name(
+    alloc: Global,
+    basis: &Basis<'_>,
+    way: &Way,
+    rrset: usize,
+    rtype: RecordType,
+) -> Result<Name, VerdictError>
+    ensures target { IfOk result (IsTarget basis.now.capture.now.rrsets rrset) }
+    ensures new { IfOk result (λ target. ¬ IsAmong target (names_on way.now.links way.now.last)) }
+    ensures few { IfOk result (λ target. length way.now.links < 8) }
+    ensures question { IfOk result (λ target. IsQuestion target rtype.0) }
+    ensures stops { IfErr result (λ error. (error ≡ OutOfMemory) ⊎ Stops basis.now.capture.now.rrsets rtype.0
+        (names_on way.now.links way.now.last) (length way.now.links) rrset error) }
+{
+    let Some(target) = target_of(alloc, basis.capture, rrset)? else {
+        return Err(VerdictError::AliasTargets);
+    };
+    if is_on(way, &target) {
+        return Err(VerdictError::AliasLoop);
+    }
+    if way.links.as_slice().len() >= LINK_LIMIT {
+        return Err(VerdictError::TooManyLinks);
+    }
+    if !is_question(&target, rtype) {
+        return Err(VerdictError::BadQuestion);
+    }
+    Ok(target)
+}
+
+/// Whether the name is the same as one of the way.
+fn is_on(way: &Way, name: &Name) -> bool
+    ensures { IsTrue result ↔ IsAmong name.now (names_on way.now.links way.now.last) }
+{
+    has_link_at(way.links.as_slice(), name) || *name == way.last
+}
+
+/// Whether the name is the same as that of one of the links.
+fn has_link_at(links: &[Link], name: &Name) -> bool
+    ensures { IsTrue result ↔ ((link : Link) × Contains links.now link × SameName name.now link.name) }
+{
+    links.iter().any(|link| *name == link.name)
+}

@@ -1,0 +1,30 @@
+//! A law of the ways over secure aliases.
+//!
+//! It is a function that does nothing and ensures the law, which its caller learns.
+ghost use Rattle.std.specs.Prelude.{◌≡◌, ℕ, List};
+ghost use Rattle.dnsv_names.specs.Name.{Labels};
+ghost use Rattle.dnsv_verdict.specs.Verdict.{Basis};
+ghost use Rattle.dnsv_verdict.specs.Way.{IsRefusedFor, IsVerdictOf};
+ghost use Rattle.dnsv_verdict.specs.declared.error.VerdictError.{VerdictError};
+ghost use Rattle.dnsv_verdict.specs.declared.link.Link.{Link};
+
+use crate::error::VerdictError;
+use crate::link::Link;
+use crate::verdict::Verdict;
+
+/// A question has one way to one verdict, or it is refused for one reason: never two of them, nor one of each, and it
+/// can't be that it has neither.
+pub fn a_question_leads_one_way()
+    ensures verdict { (basis : Basis) (name : Labels) (t : ℕ) (links others : List Link) (last end : Labels)
+        (a b : Verdict) → IsVerdictOf basis name t links last a → IsVerdictOf basis name t others end b
+        → (links ≡ others) × (last ≡ end) × (a ≡ b) }
+    ensures refusal { (basis : Basis) (name : Labels) (t : ℕ) (a b : VerdictError)
+        → IsRefusedFor basis name t a → IsRefusedFor basis name t b → a ≡ b }
+    ensures not_both { (basis : Basis) (name : Labels) (t : ℕ) (links : List Link) (last : Labels) (verdict : Verdict)
+        (error : VerdictError) → IsVerdictOf basis name t links last verdict → ¬ IsRefusedFor basis name t error }
+    // The cases ask whether records prove something, which their definitions don't decide; so the law says that it
+    // can't be that there is none, and not which one it is.
+    ensures some { (basis : Basis) (name : Labels) (t : ℕ)
+        → ((links : List Link) (last : Labels) (verdict : Verdict) → ¬ IsVerdictOf basis name t links last verdict)
+        → ((error : VerdictError) → ¬ IsRefusedFor basis name t error) → ⊥ }
+{}
