@@ -1,7 +1,7 @@
 -- What is told where all files were taken: the want of memory, or that the question is refused on its way.
 use Rattle.std.proofs.Common.{◌≡◌, ◌⊎◌, ◌∙◌, ℕ, List, Option, Some, inl, inr, refl, sym, subst}
 use Rattle.std.specs.Prelude.{Err, IfErr, IfSome, Ok, Result, ⊤}
-use Rattle.dnsv_message.specs.Counted.{failures_of}
+use Rattle.dnsv_message.specs.Streams.Counted.{failures_of}
 use Rattle.dnsv_message.specs.Message.{Contents}
 use Rattle.dnsv_names.specs.Name.{Labels}
 use Rattle.dnsv_canonical.specs.Evidence.{Evidence, evidence_of}

@@ -1,11 +1,11 @@
 -- Which hashes a question asks for, and where they are kept.
 use Rattle.std.proofs.Common.{◌≡◌, ◌⊎◌, ℕ, zero, suc, List, [], ◌∷◌, length, map, refl, sym, ap, ◌∙◌, subst, inl, inr, ⊎_elim, arith}
 use Rattle.std.specs.Prelude.{MatchOption, None, Option, Some, slice_get}
-use Rattle.dnsv_names.specs.AncestorLaws.{rightmost_same, wildcard_respects}
+use Rattle.dnsv_names.specs.Tree.AncestorLaws.{rightmost_same, wildcard_respects}
 use Rattle.dnsv_names.specs.Name.{IsAtOrBelow, Labels, rightmost}
 use Rattle.dnsv_names.specs.Order.{IsBelow}
 use Rattle.dnsv_names.specs.Tree.{wildcard_of}
-use Rattle.dnsv_names.specs.TreeLaws.{at_or_below_length, below_length}
+use Rattle.dnsv_names.specs.Tree.TreeLaws.{at_or_below_length, below_length}
 use Rattle.dnsv_records.specs.declared.nsec3.Nsec3Parameters.{Nsec3Parameters}
 use Rattle.dnsv_canonical.proofs.CanonicalLemmas.{Contains-from_member, IsMember, IsMember-from_contains}
 use Rattle.dnsv_canonical.specs.Rrsets.{ReceivedRrset}

@@ -6,7 +6,7 @@ use Rattle.std.specs.List.{AllByRecursion, sum_by}
 use Rattle.std.specs.Prelude.{min}
 use Rattle.dnsv_names.specs.Count.{count_limit, counted}
 use Rattle.dnsv_names.specs.Name.{IsName, Labels}
-use Rattle.dnsv_names.specs.WireLaws.{length-wire}
+use Rattle.dnsv_names.specs.Name.WireLaws.{length-wire}
 use Rattle.dnsv_records.specs.declared.nsec3.Nsec3Parameters.{Nsec3Parameters}
 use Rattle.dnsv_zones.specs.chains.HashedNames.{hashes_for}
 use Rattle.dnsv_canonical.proofs.CanonicalLemmas.{IsMember, Contains-from_member, member_passes}

@@ -3,7 +3,7 @@ use Rattle.std.proofs.Common.{◌≡◌, ◌⊎◌, ◌+◌, ◌<◌, ◌≤◌,
 use Rattle.dnsv_names.specs.Name.{Labels}
 use Rattle.dnsv_canonical.specs.Rrsets.{IsQuestion, ReceivedRrset}
 use Rattle.dnsv_verdict.proofs.CaseLemmas.{one_verdict}
-use Rattle.dnsv_verdict.proofs.SomeVerdict.{some_verdict}
+use Rattle.dnsv_verdict.proofs.SureLemmas.SomeVerdict.{some_verdict}
 use Rattle.dnsv_verdict.proofs.SureLemmas.{Surely, surely, and_then, by_cases}
 use Rattle.dnsv_verdict.proofs.WayLemmas.{GoesOn, alias_or, empty_way, ends, next, next_is_new, one_alias, one_target, way_more, ways_compared}
 use Rattle.dnsv_verdict.specs.Verdict.{Basis, IsVerdictAt}
