@@ -14,7 +14,7 @@ use Rattle.dnsv_denial.specs.KeptHashes.{AreKeptHashes}
 use Rattle.dnsv_zones.specs.chains.Nsec3Chain.{IsAsked, NameHash, Parameters}
 use Rattle.dnsv_zones.specs.chains.Nsec3Chain.IsAsked.{itself, wildcard}
 use Rattle.dnsv_denial.specs.QuestionHashes.{AreUsed}
-use Rattle.dnsv_denial.specs.records.Record.{parameters_of}
+use Rattle.dnsv_zones.specs.chains.Rdata.{parameters_of}
 use Rattle.dnsv_denial.specs.declared.proving.zone_records.ParameterSet.{ParameterSet}
 
 -- ---- names

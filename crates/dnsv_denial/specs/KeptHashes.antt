@@ -8,7 +8,7 @@ use Rattle.dnsv_canonical.specs.Evidence.{AreParametersAmong, nsec3_rdata}
 use Rattle.dnsv_canonical.specs.Rrsets.{ReceivedRrset}
 use Rattle.dnsv_denial.specs.words.EvidenceWords.{parameters_cmp}
 use Rattle.dnsv_denial.specs.gathering.Kept.{IsSetOf}
-use Rattle.dnsv_denial.specs.records.Record.{parameters_of}
+use Rattle.dnsv_zones.specs.chains.Rdata.{parameters_of}
 use Rattle.dnsv_denial.specs.declared.proving.zone_records.ParameterSet.{ParameterSet}
 
 -- the sets are of the name, in the order of their parameters, which are those of all usable NSEC3 records

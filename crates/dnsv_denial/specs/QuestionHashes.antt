@@ -5,7 +5,7 @@ use Rattle.dnsv_records.specs.declared.nsec3.Nsec3Parameters.{Nsec3Parameters}
 use Rattle.dnsv_canonical.specs.Evidence.{AreParametersAmong, nsec3_rdata}
 use Rattle.dnsv_canonical.specs.Rrsets.{ReceivedRrset}
 use Rattle.dnsv_zones.specs.chains.Nsec3Chain.{IsAsked, Parameters}
-use Rattle.dnsv_denial.specs.records.Record.{parameters_of}
+use Rattle.dnsv_zones.specs.chains.Rdata.{parameters_of}
 
 -- the RRsets of the evidence, and the question's name
 pub record HashedQuestion : Type 0 where

@@ -11,7 +11,7 @@ ghost use Rattle.dnsv_zones.specs.chains.HashedNames.{hashes_for, sha1_hash};
 ghost use Rattle.dnsv_denial.specs.gathering.Kept.{IsSetOf};
 ghost use Rattle.dnsv_zones.specs.chains.Nsec3Chain.{IsAsked};
 ghost use Rattle.dnsv_denial.specs.QuestionHashes.{IsAskedHash};
-ghost use Rattle.dnsv_denial.specs.records.Record.{parameters_of};
+ghost use Rattle.dnsv_zones.specs.chains.Rdata.{parameters_of};
 ghost use Rattle.dnsv_denial.specs.declared.proving.zone_records.ParameterSet.{ParameterSet};
 
 use crate::gathering::zones::sets_of;

@@ -4,7 +4,7 @@ use Rattle.std.proofs.lemmas.Option.{get_or_from_slice_get}
 use Rattle.dnsv_denial.proofs.QuestionHashLemmas.{asked_wildcard, hash_above, hash_of_wildcard, never_asked}
 use Rattle.dnsv_zones.specs.chains.HashedNames.{sha1_hash}
 use Rattle.dnsv_zones.specs.chains.Nsec3Chain.IsAsked.{itself}
-use Rattle.dnsv_denial.specs.records.Record.{parameters_of}
+use Rattle.dnsv_zones.specs.chains.Rdata.{parameters_of}
 use Rattle.dnsv_denial.proofs.question_hashes.asked_hash.Goals as goal
 
 pub returns-then-is_at_or_below : goal.returns-then-is_at_or_below

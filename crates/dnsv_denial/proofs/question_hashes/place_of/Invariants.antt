@@ -1,7 +1,7 @@
 -- none of the sets so far has the parameters
 use Rattle.std.proofs.Common.{◌≡◌, ◌<◌, ℕ}
 use Rattle.std.specs.Prelude.{Some, slice_get}
-use Rattle.dnsv_denial.specs.records.Record.{parameters_of}
+use Rattle.dnsv_zones.specs.chains.Rdata.{parameters_of}
 use Rattle.dnsv_denial.specs.declared.proving.zone_records.ParameterSet.{ParameterSet}
 use Rattle.dnsv_denial.proofs.question_hashes.place_of.Given as goal
 

@@ -8,7 +8,7 @@ use Rattle.dnsv_zones.specs.chains.HashedNames.{sha1_hash}
 use Rattle.dnsv_denial.specs.gathering.Kept.{IsSetOf}
 use Rattle.dnsv_zones.specs.chains.Nsec3Chain.{Parameters}
 use Rattle.dnsv_denial.specs.QuestionHashes.{AreUsed, HashedQuestion, IsAskedHash}
-use Rattle.dnsv_denial.specs.records.Record.{parameters_of}
+use Rattle.dnsv_zones.specs.chains.Rdata.{parameters_of}
 use Rattle.dnsv_denial.specs.declared.proving.zone_records.ParameterSet.{ParameterSet}
 use Rattle.dnsv_denial.proofs.question_hashes.Hashes.get.Goals as goal
 
