@@ -57,6 +57,13 @@ verdict_fault_read Of error.AliasLoop = tt
 verdict_fault_read Of error.TooManyLinks = tt
 verdict_fault_read Of error.AliasTargets = tt
 
+verdict_fault_writes : (error : VerdictError) → verdict_fault error ≡ fault.WriteFailed → ⊥
+verdict_fault_writes error.OutOfMemory = λ is. cc
+verdict_fault_writes error.BadQuestion = λ is. cc
+verdict_fault_writes error.AliasLoop = λ is. cc
+verdict_fault_writes error.TooManyLinks = λ is. cc
+verdict_fault_writes error.AliasTargets = λ is. cc
+
 -- the want of memory, or the refusal of a question that is such
 abbrev pub IsUnjudged : (VerdictError → Type 0) → Fault → Type 0
 IsUnjudged Refused told = (told ≡ fault.OutOfMemory) ⊎ ((error : VerdictError) × Refused error × (told ≡ verdict_fault error))
@@ -66,6 +73,12 @@ pub unjudged_read : {U : Type 0} (Refused : VerdictError → Type 0) (Of : Input
 unjudged_read Refused Of (Ok x) only = tt
 unjudged_read Refused Of (Err told) (inl memory) = subst (OfFailedRead Of) (sym memory) tt
 unjudged_read Refused Of (Err told) (inr refused) = subst (OfFailedRead Of) (sym refused.2) (verdict_fault_read Of refused.0)
+
+pub unjudged_writes : {U : Type 0} (Refused : VerdictError → Type 0) (result : Result U Fault)
+    → IfErr result (IsUnjudged Refused) → IfErr result (λ told. told ≡ fault.WriteFailed → ⊥)
+unjudged_writes Refused (Ok x) only = tt
+unjudged_writes Refused (Err told) (inl memory) = λ is. let same = sym memory ∙ is in cc
+unjudged_writes Refused (Err told) (inr refused) = λ is. verdict_fault_writes refused.0 (sym refused.2 ∙ is)
 
 module _ {R U : Type 0} {remaining : R → Option (List ℕ)} {before after : Inputs R} (opening : Opening) where
   -- all are taken, and the question is judge or refused

@@ -22,6 +22,8 @@ use Rattle.dnssec_check.specs.declared.command_line.request.Request.{Request}
 use Rattle.dnssec_check.specs.declared.command_line.request.Request.TheVariants as request
 use Rattle.dnssec_check.specs.declared.status.Status.{Status}
 use Rattle.dnssec_check.specs.Files.Capture.{AnyMessage, NewEvidence, Holds}
+use Rattle.dnssec_check.specs.Files.Anchors.{HasAnchors}
+use Rattle.dnssec_check.specs.Files.Statements.{IsMeaningOf}
 use Rattle.dnssec_check.specs.Texts.Checking.{IsCheck, verdict_status, verdict_text}
 use Rattle.dnssec_check.specs.Opening.Given.{IsOpeningOf}
 use Rattle.dnssec_check.specs.Files.{Files, octets_or_none}

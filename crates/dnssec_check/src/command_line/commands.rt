@@ -39,7 +39,7 @@ Next, where the list was written to the file todo:
 
 /// How `check` ends, a command line of it, and what comes next.
 const AFTER_CHECK: &str = "\
-Exit status: 0 for SecureAnswer, SecureAlias, SecureNoName and SecureNoData, 3 for Insecure,
+Exit status: 0 for SecureAnswer, SecureNoName and SecureNoData, 3 for Insecure,
 4 for Pending, 5 for Bogus, 6 for Indeterminate, 7 where the question or a file is refused,
 2 for words that are no command, 1 where memory, a file or the output failed
 

@@ -289,7 +289,7 @@ $ dnssec_check list --help
 $ dnssec_check check --help
 => 0
 ~ --anchors <FILE>
-~ Exit status: 0 for SecureAnswer, SecureAlias, SecureNoName and SecureNoData, 3 for Insecure,
+~ Exit status: 0 for SecureAnswer, SecureNoName and SecureNoData, 3 for Insecure,
 ~ 4 for Pending, 5 for Bogus, 6 for Indeterminate, 7 where the question or a file is refused,
 ~ 2 for words that are no command, 1 where memory, a file or the output failed
 ~ --keys <FILE>

@@ -7,7 +7,7 @@ use Rattle.dnsv_verdict.specs.Way.{IsRefusedFor}
 use Rattle.dnssec_check.specs.Run.{IsFirstFaultOfFiles, IsFirstFaultOfName, IsReachedOfFiles}
 use Rattle.dnssec_check.proofs.TextLemmas.Checking.{all_checked}
 use Rattle.dnssec_check.proofs.FileLemmas.Faults.{TellsFaults-weaker, anchored, captured, has_evidence, reads_then, stated, unsealed}
-use Rattle.dnssec_check.proofs.JudgedLemmas.{all_judged, stopped_there, unjudged_read}
+use Rattle.dnssec_check.proofs.JudgedLemmas.{all_judged, stopped_there, unjudged_read, unjudged_writes}
 use Rattle.dnssec_check.proofs.ReachedLemmas.{reached_by, reached_sealed}
 use Rattle.dnssec_check.proofs.run.check_question.Goals as goal
 
@@ -104,3 +104,6 @@ returns-in_err-statements-clause-reached g c = λ files are.
 
 pub returns-clause-reached : goal.returns-clause-reached
 returns-clause-reached g c = λ files are. unjudged_read _ (IsReachedOfFiles c.args.moment files) c.judge.result c.judge.ensures.only
+
+pub returns-clause-unwritten : goal.returns-clause-unwritten
+returns-clause-unwritten g c = unjudged_writes _ c.judge.result c.judge.ensures.only
