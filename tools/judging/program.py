@@ -10,8 +10,8 @@ NAME = "dnssec_check"
 BUILT = os.path.join("crates", NAME, "out", NAME)
 SECURE, INSECURE, PENDING, BOGUS, INDETERMINATE, REFUSED, FAILED, WRONG = 0, 3, 4, 5, 6, 7, 1, 2
 
-# What a run of `check` says: its status, the verdict's word (`refused` or `fault` where there is none), the aliases that
-# were followed, and the lines below theirs, or the words behind `refused` and `fault`.
+# What a run of `check` says: its status, the verdict's word (`refused` or `fault` where there is none), the aliases
+# that were followed, and the lines below theirs, or the words behind `refused` and `fault`.
 Told = namedtuple("Told", "status word aliases lines")
 # A name that is an alias, by an RRset and one of its signatures, each by its number.
 Alias = namedtuple("Alias", "name rrset signature")
