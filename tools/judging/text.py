@@ -88,6 +88,6 @@ def verdict_text(row):
 
 
 def aliases_texts(evidence):
-    """The aliases (CNAME) that were followed, as one text; none where none was."""
-    steps = [f"to {each.get('target', '?')} by RRset {each['rrset']}" for each in evidence.get("aliases", ())]
-    return [f"CNAME {', '.join(steps)}"] if steps else []
+    """The way over aliases (CNAME) to the name where the verdict is, as one text; none where none was followed."""
+    targets = [f"{each.get('target', '?')} (RRset {each['rrset']})" for each in evidence.get("aliases", ())]
+    return [f"by way of the alias{'' if len(targets) == 1 else 'es'} to {', '.join(targets)}"] if targets else []
