@@ -6,7 +6,7 @@ from .octets import Incomplete, number_at
 HEADER_SIZE = 12
 NAME_PARTS_MOST = 255  # of 127 labels, each behind a pointer, and the root
 QR, AA, TC = 0x8000, 0x0400, 0x0200
-TYPE_NS, TYPE_DS, TYPE_RRSIG, TYPE_DNSKEY, TYPE_TSIG = 2, 43, 46, 48, 250
+TYPE_NS, TYPE_CNAME, TYPE_DS, TYPE_RRSIG, TYPE_DNSKEY, TYPE_TSIG = 2, 5, 43, 46, 48, 250
 ANSWER, AUTHORITY, ADDITIONAL = range(3)
 
 Question = namedtuple("Question", "name kind group")

@@ -1,4 +1,4 @@
-"""Captures by question: the answers to each, with what leads to their names from above."""
+"""Captures by question: the answers to each and to what its aliases lead to, with what leads to their names."""
 import os
 from collections import Counter, defaultdict, namedtuple
 from urllib.parse import quote
@@ -7,8 +7,8 @@ from command import shown, tell, write
 
 from .entries import Refusal
 from .frames import framed
-from .messages import (AA, ADDITIONAL, ANSWER, AUTHORITY, TYPE_DNSKEY, TYPE_DS, TYPE_NS, Question, flags_of, lower,
-                       name_at, name_text, question_of, records_of)
+from .messages import (AA, ADDITIONAL, ANSWER, AUTHORITY, TYPE_CNAME, TYPE_DNSKEY, TYPE_DS, TYPE_NS, Question, flags_of,
+                       lower, name_at, name_text, question_of, records_of)
 from .octets import Incomplete
 
 MESSAGES_MOST = 64
@@ -17,23 +17,26 @@ CLASS_IN = 1
 OF_CHAIN = (TYPE_DNSKEY, TYPE_DS)
 NO_QUESTION = Question((), 0, 0)
 
-Part = namedtuple("Part", "octets question names leads_down")
+Part = namedtuple("Part", "octets question names targets leads_down")
 
 
 def part_of(octets):
-    """A message with the names that it is about, and whether it leads to names below that of its question."""
+    """A message with the names that it is about, those that its aliases lead to, and whether it leads to names below
+    that of its question."""
     question = question_of(octets) or NO_QUESTION
-    names, kinds = {question.name}, set()
+    names, targets, kinds = {question.name}, [], set()
     try:
         for record in records_of(octets):
             kinds.add((record.section, record.kind))
             if record.section != ADDITIONAL:
                 names.add(lower(name_at(octets, record.name)))
+            if record.kind == TYPE_CNAME:
+                targets.append(lower(name_at(octets, record.front)))
     except Incomplete:
         pass
     is_referral = not flags_of(octets) & AA and (AUTHORITY, TYPE_NS) in kinds and ANSWER not in dict(kinds)
     has_chain = any(kind in OF_CHAIN for _, kind in kinds)
-    return Part(octets, question, names, question.kind in OF_CHAIN or has_chain or is_referral)
+    return Part(octets, question, names, targets, question.kind in OF_CHAIN or has_chain or is_referral)
 
 
 def names_above(names):
@@ -52,9 +55,20 @@ class Parts:
             if part.leads_down:
                 self.by_name[part.question.name].append(number)
 
+    def followed(self, question):
+        """The question, and those of its type at the names that aliases lead to from it."""
+        questions, waiting = set(), [question]
+        while waiting:
+            asked = waiting.pop()
+            if asked not in questions:
+                questions.add(asked)
+                numbers = self.by_question.get(asked, ())
+                waiting += [asked._replace(name=target) for number in numbers for target in self.parts[number].targets]
+        return questions
+
     def needed(self, question):
-        """The answers to the question and those that lead to its names, in their order."""
-        own = self.by_question[question]
+        """The answers to the question and to those that it leads to, and what leads to their names, in their order."""
+        own = [number for asked in self.followed(question) for number in self.by_question.get(asked, ())]
         names = names_above({name for number in own for name in self.parts[number].names})
         return sorted({*own, *(number for name in names for number in self.by_name.get(name, ()))})
 

@@ -3,14 +3,13 @@ import base64
 import re
 
 from asking.moments import moment_text
-from capturing.messages import is_at_or_above, name_text
+from capturing.messages import TYPE_CNAME, is_at_or_above, name_text
 
 from .evidence import tag_of
 
 SHOWN_MOST = 3
 CYCLE = 1 << 32  # the times of signatures count seconds modulo this (RFC 4034 3.1.5)
 UNKNOWN = "see whether the capture has the whole chain, from the anchor down to the answer"
-TYPE_CNAME = 5
 OCTET = re.compile(r"\\(\d{3})|\\(.)|(.)", re.DOTALL)
 
 

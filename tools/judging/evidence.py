@@ -2,11 +2,10 @@
 from collections import namedtuple
 
 from capturing.frames import frames_of
-from capturing.messages import TYPE_DNSKEY, TYPE_RRSIG, lower, name_at, name_text, records_of
+from capturing.messages import TYPE_CNAME, TYPE_DNSKEY, TYPE_RRSIG, lower, name_at, name_text, records_of
 from capturing.octets import Incomplete, number_at
 
 CLASS_IN = 1
-TYPE_CNAME = 5
 # The types below 128 that form no RRset: 0, the legacy ones, OPT and RRSIG; those of 128 to 255 don't either.
 UNGROUPED = {0, 3, 4, 7, 8, 9, 14, 17, 18, 21, 24, 26, 30, 35, 36, 38, 41, 46}
 SIGNER = 18  # where the signer's name stands in the RDATA of an RRSIG record (RFC 4034 3.1)

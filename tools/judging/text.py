@@ -16,8 +16,8 @@ PLACES = ("message", "record", "line", "file")
 
 def fields_of(capture, row):
     """The values of a row, by column."""
-    evidence = {} if row.word in ("Bogus", "Indeterminate") else row.evidence
-    values = (capture, row.moment, row.question.name, mnemonic_of(row.question.kind), row.status, row.word, evidence)
+    kind = mnemonic_of(row.question.kind)
+    values = (capture, row.moment, row.question.name, kind, row.status, row.word, row.evidence)
     return dict(zip(COLUMNS, values))
 
 
@@ -36,6 +36,14 @@ def tsv_head():
 
 def evidence_words(evidence):
     """The evidence as the program words it."""
+    aliases = [f"alias {each['name']} rrset {each['rrset']} signature {each['signature']}"
+               for each in evidence.get("aliases", ())]
+    behind = {name: value for name, value in evidence.items() if name != "aliases"}
+    return "; ".join([*aliases, *([words_behind(behind)] if behind else [])])
+
+
+def words_behind(evidence):
+    """What stands behind the aliases."""
     if "records" in evidence:
         return "; ".join(f"record {owner} {kind}" for owner, kind in evidence["records"])
     if "number" in evidence:
@@ -57,27 +65,29 @@ class Lines:
         return escaped(f"{front}{question}{at}: {self.said(capture, row)}")
 
     def said(self, capture, row):
-        evidence = row.evidence
         if row.word in ("refused", "fault"):
-            return f"{row.word} " + fault_text(evidence, {**self.paths, "capture": capture})
-        if row.word == "Bogus":
-            return "Bogus; " + ("; ".join(row.advice) or UNKNOWN)
-        if row.word == "Indeterminate":
-            return NO_ANCHOR
-        if row.word == "Pending":
-            return NOT_VERIFIED.format(count=evidence["todo"], s="" if evidence["todo"] == 1 else "s")
-        if row.word == "Insecure":
-            return f"Insecure from {evidence['cut']} on"
-        if "records" in evidence:
-            return f"{row.word} by " + " and ".join(f"{kind} of {owner}" for owner, kind in evidence["records"])
-        return by_rrset(row)
+            return f"{row.word} " + fault_text(row.evidence, {**self.paths, "capture": capture})
+        return "; ".join([verdict_text(row), *aliases_texts(row.evidence)])
 
 
-def by_rrset(row):
+def verdict_text(row):
+    """The verdict at the last name, and what carries it."""
     evidence = row.evidence
+    if row.word == "Bogus":
+        return "Bogus; " + ("; ".join(row.advice) or UNKNOWN)
+    if row.word == "Indeterminate":
+        return NO_ANCHOR
+    if row.word == "Pending":
+        return NOT_VERIFIED.format(count=evidence["todo"], s="" if evidence["todo"] == 1 else "s")
+    if row.word == "Insecure":
+        return f"Insecure from {evidence['cut']} on"
+    if "records" in evidence:
+        return f"{row.word} by " + " and ".join(f"{kind} of {owner}" for owner, kind in evidence["records"])
     signed = f", signed by {evidence['signer']} key {evidence['key']}" if "signer" in evidence else ""
-    text = f"by RRset {evidence['rrset']}{signed}"
-    if "target" not in evidence:
-        return f"{row.word} {text}"
-    kind = mnemonic_of(row.question.kind)
-    return f"{row.word} to {evidence['target']} {text}; it isn't followed: ask {evidence['target']}/{kind} too"
+    return f"{row.word} by RRset {evidence['rrset']}{signed}"
+
+
+def aliases_texts(evidence):
+    """The way over aliases (CNAME) to the name where the verdict is, as one text; none where none was followed."""
+    targets = [f"{each.get('target', '?')} (RRset {each['rrset']})" for each in evidence.get("aliases", ())]
+    return [f"by way of the alias{'' if len(targets) == 1 else 'es'} to {', '.join(targets)}"] if targets else []

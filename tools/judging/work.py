@@ -16,7 +16,7 @@ Row = namedtuple("Row", "moment question status word evidence advice")
 # The verdicts of a capture, and why signatures could not be verified.
 Judged = namedtuple("Judged", "rows notes")
 
-SECURE_BY_RRSET, SECURE_BY_RECORDS = ("SecureAnswer", "SecureAlias"), ("SecureNoName", "SecureNoData")
+SECURE_BY_RECORDS = ("SecureNoName", "SecureNoData")
 
 
 def write_files(folder, files):
@@ -66,14 +66,18 @@ class View:
         return self.kept
 
     def row(self, moment, question, told):
-        advice = []
+        advice, evidence = [], self.evidence_of(told)
+        if told.aliases:
+            evidence = {"aliases": [self.of_alias(each) for each in told.aliases], **evidence}
         if told.word == "Bogus":
-            advice = advice_for(question, moment, self.evidence, self.anchors, self.bad_count)
-        return Row(moment, question, told.status, told.word, self.evidence_of(told), advice)
+            last = self.last_name(question, told.aliases)
+            advice = advice_for(question._replace(name=last), moment, self.evidence, self.anchors, self.bad_count)
+        return Row(moment, question, told.status, told.word, evidence, advice)
 
     def evidence_of(self, told):
-        if told.word in SECURE_BY_RRSET:
-            return self.of_rrset(told)
+        if told.word == "SecureAnswer":
+            _, rrset, _, signature = told.lines[0].split(" ")
+            return self.of_signature(int(rrset), int(signature))
         if told.word in SECURE_BY_RECORDS:
             fields = [line.split(" ") for line in told.lines]
             return {"records": [[owner, {"47": "NSEC", "50": "NSEC3"}.get(kind, kind)] for _, owner, kind in fields]}
@@ -83,14 +87,21 @@ class View:
             return {"todo": len(told.lines)}
         return of_fault(told.lines[0]) if told.word in ("refused", "fault") else {}
 
-    def of_rrset(self, told):
-        _, rrset, _, signature = told.lines[0].split(" ")
-        found = {"rrset": int(rrset), "signature": int(signature)}
-        signed = self.evidence.signature(found["rrset"], found["signature"])
-        if signed:
-            found["signer"], found["key"] = signed
-        target = self.evidence.target(found["rrset"]) if told.word == "SecureAlias" else None
+    def of_signature(self, rrset, signature):
+        """The numbers, and who signed."""
+        found, signed = {"rrset": rrset, "signature": signature}, self.evidence.signature(rrset, signature)
+        return {**found, "signer": signed[0], "key": signed[1]} if signed else found
+
+    def of_alias(self, alias):
+        """The same, between the name and its target."""
+        target = self.evidence.target(alias.rrset)
+        found = {"name": alias.name, **self.of_signature(alias.rrset, alias.signature)}
         return {**found, "target": target} if target else found
+
+    def last_name(self, question, aliases):
+        """The name that the verdict is at: the one that is asked for, or the one that the last alias leads to."""
+        target = self.evidence.target(aliases[-1].rrset) if aliases else None
+        return target or question.name
 
 
 def of_fault(line):

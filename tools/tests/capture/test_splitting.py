@@ -8,7 +8,7 @@ from tool import PROGRAM, DATA, run, run_program
 from .build import framed, message, name_octets, record
 from .cases import QUERY
 
-TYPES = {"A": 1, "NS": 2, "SOA": 6, "TXT": 16, "DS": 43, "RRSIG": 46, "DNSKEY": 48}
+TYPES = {"A": 1, "NS": 2, "CNAME": 5, "SOA": 6, "TXT": 16, "DS": 43, "RRSIG": 46, "DNSKEY": 48}
 
 
 def answer(name, kind, *records, flags=0x8400, identifier=1, counts=None):
@@ -77,6 +77,19 @@ class Split(Room):
         alias = plain("alias.one.test.", "A", ("www.two.test.", "A", b"\x7f\x00\x00\x01"))
         keys = [key(name) for name in ("one.test.", "two.test.", "www.two.test.", "three.test.")]
         self.assertEqual(self.split(alias, *keys)[1]["0001-alias.one.test.-1.cap"], framed(alias, *keys[:3]))
+
+    def test_aliases_are_followed_to_the_answers_that_they_lead_to(self):
+        def alias(name, target):
+            return answer(name, "A", (name, "CNAME", name_octets(target)))
+
+        first, second, last = alias("a.one.test.", "B.two.test."), alias("b.two.test.", "c.test."), plain("c.test.")
+        other, two = plain("c.test.", "TXT"), key("two.test.")
+        captures = self.split(last, first, other, two, second)[1]
+        self.assertEqual(captures["0002-a.one.test.-1.cap"], framed(last, first, two, second))
+        self.assertEqual(captures["0001-c.test.-1.cap"], framed(last))
+        circle = alias("x.test.", "y.test."), alias("y.test.", "x.test.")
+        self.folder = self.room / "circle"
+        self.assertEqual(self.split(*circle)[1]["0001-x.test.-1.cap"], framed(*circle))
 
     def test_a_referral_leads_down(self):
         referral = answer("zone.test.", "A", ("zone.test.", "NS", b"\x01n\x00"), flags=0x8000, counts=(0, 1, 0))

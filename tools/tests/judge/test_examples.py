@@ -8,6 +8,13 @@ NUMBERS = {"NSEC": "47", "NSEC3": "50"}
 
 def lines_of(row):
     """The program's lines below a verdict, or what it says on the standard error."""
+    aliases = [f"alias {each['name']} rrset {each['rrset']} signature {each['signature']}"
+               for each in row["evidence"].get("aliases", [])]
+    return aliases + lines_behind(row)
+
+
+def lines_behind(row):
+    """Those behind the aliases."""
     evidence = row["evidence"]
     if row["verdict"] in ("refused", "fault"):
         places = [f" {name} {evidence[name]}" for name in ("message", "record", "line") if name in evidence]

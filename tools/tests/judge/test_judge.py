@@ -21,12 +21,6 @@ class Lines(Judging):
         self.assertEqual(self.noon("nosuch.bind.test./1", NOSUCH), (0, [denied], ""))
         self.assertEqual(self.noon(CUT, "www.ins.bind.test/a"), (3, ["www.ins.bind.test. A: Insecure from ins.bind.test. on"], ""))
 
-    def test_an_alias_says_where_it_leads(self):
-        status, lines, _ = self.noon(capture_of("bind-alias-a"), "alias.bind.test/A")
-        self.assertEqual(status, 0)
-        self.assertRegex(lines[0], r"^alias\.bind\.test\. A: SecureAlias to www\.bind\.test\. by RRset \d+, signed by "
-                                   r"bind\.test\. key \d+; it isn't followed: ask www\.bind\.test\./A too$")
-
     def test_what_is_bogus_says_what_to_look_at(self):
         status, lines, _ = self.noon(capture_of("expired-www-a"), "www.expired.test/A")
         told = "www.expired.test. A: Bogus; signatures of expired.test. were over at 2026-10-01T00:00:00Z"
