@@ -14,5 +14,5 @@ SHAPES = {
     "statements": (files.statements, 250_000),
     "scattered": (files.scattered, 250_000),
     "frames": (files.frames, 5_000_000),
-    "zeros": (files.zeros, 2**26),
+    "zeros": (files.zeros, 2**24),
 }
