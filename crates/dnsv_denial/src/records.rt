@@ -1,12 +1,7 @@
 //! The records of one chain of a zone, as a proof is looked for among them.
-use crate::entry::NsecEntry;
-use crate::hashes::Nsec3Records;
-
-/// The records of one chain of a zone that evidence has, in the order of their numbers.
-#[derive(Clone, Copy, Debug)]
-pub enum ChainRecords<'a> {
-    /// NSEC records of the zone (RFC 4034 4).
-    Nsec(&'a [NsecEntry<'a>]),
-    /// NSEC3 records of the zone, and the hashes of the asked names with their parameters (RFC 5155 3).
-    Nsec3(&'a Nsec3Records<'a>),
-}
+pub mod chain_records;
+pub mod entry;
+pub mod hash_places;
+pub mod hashes;
+pub mod nsec3_entries;
+pub mod number;

@@ -4,11 +4,15 @@ ghost use Rattle.dnsv_names.specs.Count.{counted};
 ghost use Rattle.dnsv_names.specs.Name.{Labels, IsAtOrBelow, rightmost};
 ghost use Rattle.dnsv_names.specs.Tree.{wildcard_of};
 ghost use Rattle.dnsv_records.specs.declared.nsec3.Nsec3Parameters.{Nsec3Parameters};
+ghost use Rattle.dnsv_zones.specs.chains.HashedNames.{hashes_for};
+ghost use Rattle.dnsv_zones.specs.zones.Lookup.{IsLookup};
+ghost use Rattle.dnsv_zones.specs.zones.Lookup.Answer.{Held, NoData, NoName};
+ghost use Rattle.dnsv_zones.specs.zones.TypeNumbers.{rrsig, nsec};
+ghost use Rattle.dnsv_zones.specs.zones.Types.{IsUnsignedDelegation};
+ghost use Rattle.dnsv_zones.specs.zones.Zone.{Zone, Holds};
 ghost use Rattle.dnsv_canonical.specs.Evidence.{AreParameters, nsec3_rdata};
-ghost use Rattle.dnsv_denial.specs.CutMeaning.{IsCoveredEnd, MeansCut};
-ghost use Rattle.dnsv_denial.specs.Cuts.{HasLooseCloser, HasUnsignedCut, IsUnsignedCut};
-ghost use Rattle.dnsv_denial.specs.EvidenceWords.{Chain, evidence_said};
-ghost use Rattle.dnsv_denial.specs.FirstProof.{
+ghost use Rattle.dnsv_denial.specs.Viewed.{SecuredIn};
+ghost use Rattle.dnsv_denial.specs.proving.FirstProof.{
   CanProveNoCloser,
   CanProveNoData,
   CanProveNoName,
@@ -16,22 +20,18 @@ ghost use Rattle.dnsv_denial.specs.FirstProof.{
   IsFirstNoData,
   IsFirstNoName,
 };
-ghost use Rattle.dnsv_denial.specs.HashedNames.{hashes_for};
-ghost use Rattle.dnsv_denial.specs.Lookup.{IsLookup};
-ghost use Rattle.dnsv_denial.specs.Lookup.Answer.{Held, NoData, NoName};
-ghost use Rattle.dnsv_denial.specs.ProofMeaning.{HasProofRecords, HasProofWithoutCollision};
-ghost use Rattle.dnsv_denial.specs.TypeNumbers.{rrsig, nsec};
-ghost use Rattle.dnsv_denial.specs.Types.{IsUnsignedDelegation};
-ghost use Rattle.dnsv_denial.specs.Viewed.{SecuredIn};
-ghost use Rattle.dnsv_denial.specs.WholeChain.{HasFirmChain, HasWholeChain, HasWholeNsec3Chain, IsJustFirmChain};
-ghost use Rattle.dnsv_denial.specs.Zone.{Zone, Holds};
+ghost use Rattle.dnsv_denial.specs.proving.ProofMeaning.{HasProofRecords, HasProofWithoutCollision};
+ghost use Rattle.dnsv_denial.specs.proving.WholeChain.{HasFirmChain, HasWholeChain, HasWholeNsec3Chain, IsJustFirmChain};
+ghost use Rattle.dnsv_denial.specs.unsigned_cuts.CutMeaning.{IsCoveredEnd, MeansCut};
+ghost use Rattle.dnsv_denial.specs.unsigned_cuts.Cuts.{HasLooseCloser, HasUnsignedCut, IsUnsignedCut};
+ghost use Rattle.dnsv_denial.specs.words.EvidenceWords.{Chain, evidence_said};
 
-use crate::denial::Denial;
-use crate::first_proof::{first_proof, no_closer};
-use crate::gather_zones::{sets_of, zones_of};
-use crate::kept_cuts::{loose_next_closer, unsigned_cut};
-use crate::proof::Proof;
-use crate::zone_records::{ParameterSet, ZoneRecords};
+use crate::forms::denial::Denial;
+use crate::gathering::zones::{sets_of, zones_of};
+use crate::proving::first_proof::{first_proof, no_closer};
+use crate::proving::proof::Proof;
+use crate::proving::zone_records::{ParameterSet, ZoneRecords};
+use crate::unsigned_cuts::kept_cuts::{loose_next_closer, unsigned_cut};
 use dnsv_canonical::Capture;
 use dnsv_chain::Trust;
 use dnsv_names::{Count, Name, RecordType};
@@ -52,8 +52,8 @@ pub struct View<'a> {
 }
 
 impl<'a> Model for View<'a> {
-    ghost use Rattle.dnsv_denial.specs.Kept.{IsViewOf};
     ghost use Rattle.dnsv_denial.specs.Viewed.{SecuredIn, Viewed};
+    ghost use Rattle.dnsv_denial.specs.gathering.Kept.{IsViewOf};
 
     ghost Value = { Viewed };
 

@@ -8,6 +8,10 @@ use Rattle.dnsv_names.specs.TreeLaws.{at_or_below_trans, same_at_or_below}
 use Rattle.dnsv_records.proofs.OneRecord.{one_rrsig}
 use Rattle.dnsv_records.specs.Rrsig.{IsRrsig}
 use Rattle.dnsv_records.specs.declared.rrsig.Rrsig.{Rrsig}
+use Rattle.dnsv_zones.specs.forms.Forms.{NoNameForm, NoDataForms, UnsignedCutForm}
+use Rattle.dnsv_zones.specs.forms.Parts.{OptsOut}
+use Rattle.dnsv_zones.specs.forms.RecordWords.{words}
+use Rattle.dnsv_zones.specs.zones.Types.{Denies, IsUnsignedDelegation}
 use Rattle.dnsv_canonical.specs.Rrsets.{ReceivedRrset}
 use Rattle.dnsv_verifier.specs.Admissible.{DnskeyRecord}
 use Rattle.dnsv_verifier.specs.declared.answer.Answer.{Answer}
@@ -16,16 +20,12 @@ use Rattle.dnsv_chain.specs.Anchor.{IsAnchorMatch}
 use Rattle.dnsv_chain.specs.Trusted.{IsTrusted, anchored, delegated, IsGoodByTrust, IsKeyOf, IsNumbered, IsSecured}
 use Rattle.dnsv_chain.specs.declared.anchor.Anchor.{Anchor}
 use Rattle.dnsv_chain.specs.declared.anchor.Anchor.TheVariants.{Ds, Key}
-use Rattle.dnsv_denial.specs.Cuts.{HasUnsignedCut}
-use Rattle.dnsv_denial.specs.Evidence.{IsSecuredBy}
-use Rattle.dnsv_denial.specs.EvidenceWords.{Chain, evidence_said}
-use Rattle.dnsv_denial.specs.EvidenceWords.Chain.{ByNsec, ByNsec3}
-use Rattle.dnsv_denial.specs.FirstProof.{CanProveNoData, CanProveNoName}
-use Rattle.dnsv_denial.specs.Forms.{NoNameForm, NoDataForms, UnsignedCutForm}
-use Rattle.dnsv_denial.specs.Parts.{OptsOut}
-use Rattle.dnsv_denial.specs.RecordWords.{words}
-use Rattle.dnsv_denial.specs.Types.{Denies, IsUnsignedDelegation}
-use Rattle.dnsv_denial.specs.declared.number.RecordNumber.{RecordNumber}
+use Rattle.dnsv_denial.specs.gathering.Evidence.{IsSecuredBy}
+use Rattle.dnsv_denial.specs.proving.FirstProof.{CanProveNoData, CanProveNoName}
+use Rattle.dnsv_denial.specs.unsigned_cuts.Cuts.{HasUnsignedCut}
+use Rattle.dnsv_denial.specs.words.EvidenceWords.{Chain, evidence_said}
+use Rattle.dnsv_denial.specs.words.EvidenceWords.Chain.{ByNsec, ByNsec3}
+use Rattle.dnsv_denial.specs.declared.records.number.RecordNumber.{RecordNumber}
 use Rattle.dnsv_verdict.proofs.CaseLemmas.{some_is_one}
 use Rattle.dnsv_verdict.specs.Secure.{IsSecuredAt}
 use Rattle.dnsv_verdict.specs.Settled.{IsSettled}

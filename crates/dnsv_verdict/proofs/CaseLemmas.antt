@@ -5,11 +5,11 @@ use Rattle.dnsv_names.specs.Name.{Labels, rightmost}
 use Rattle.dnsv_records.proofs.OneRecord.{one_rrsig}
 use Rattle.dnsv_records.specs.Rrsig.{IsRrsig}
 use Rattle.dnsv_records.specs.declared.rrsig.Rrsig.{Rrsig}
+use Rattle.dnsv_zones.specs.zones.TypeNumbers.{cname}
 use Rattle.dnsv_canonical.specs.Rrsets.{ReceivedRrset}
 use Rattle.dnsv_verifier.specs.declared.entry.Entry.{Entry}
-use Rattle.dnsv_denial.specs.Cuts.{HasUnsignedCut}
-use Rattle.dnsv_denial.specs.FirstProof.{CanProveNoData, CanProveNoName, IsFirstNoData, IsFirstNoName, ProofRecords}
-use Rattle.dnsv_denial.specs.TypeNumbers.{cname}
+use Rattle.dnsv_denial.specs.proving.FirstProof.{CanProveNoData, CanProveNoName, IsFirstNoData, IsFirstNoName, ProofRecords}
+use Rattle.dnsv_denial.specs.unsigned_cuts.Cuts.{HasUnsignedCut}
 use Rattle.dnsv_verdict.proofs.LowestLemmas.{one_lowest}
 use Rattle.dnsv_verdict.proofs.OneProof.{can_be, one_cut, cut_stands, one_first_no_name, one_first_no_data}
 use Rattle.dnsv_verdict.proofs.UnknownLemmas.{one_unknown}

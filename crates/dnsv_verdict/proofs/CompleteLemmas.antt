@@ -2,17 +2,17 @@
 use Rattle.std.proofs.Common.{◌≡◌, ◌≢◌, ◌⊎◌, ℕ, inl, inr, ⊎_elim, subst}
 use Rattle.std.specs.Prelude.{IsTrue}
 use Rattle.dnsv_names.specs.Name.{Labels}
+use Rattle.dnsv_zones.specs.zones.Lookup.{IsLookup}
+use Rattle.dnsv_zones.specs.zones.Lookup.Answer.{NoData, NoName}
+use Rattle.dnsv_zones.specs.zones.TypeNumbers.{rrsig, nsec}
+use Rattle.dnsv_zones.specs.zones.Zone.{Zone}
+use Rattle.dnsv_zones.proofs.lemmas.zones.LookupLemmas.{one_answer}
 use Rattle.dnsv_canonical.specs.Rrsets.{IsQuestion, forms_rrsets}
-use Rattle.dnsv_denial.specs.Cuts.{HasUnsignedCut}
-use Rattle.dnsv_denial.specs.FirstProof.{CanProveNoData, CanProveNoName}
-use Rattle.dnsv_denial.specs.Lookup.{IsLookup}
-use Rattle.dnsv_denial.specs.Lookup.Answer.{NoData, NoName}
-use Rattle.dnsv_denial.specs.TypeNumbers.{rrsig, nsec}
-use Rattle.dnsv_denial.specs.WholeChain.{HasFirmChain, IsJustFirmChain, IsJustNsec3Chain}
-use Rattle.dnsv_denial.specs.Zone.{Zone}
-use Rattle.dnsv_denial.proofs.JustChainProofs.{can_be, just_no_name, just_no_data, just3_no_name, just3_no_data}
-use Rattle.dnsv_denial.proofs.LookupLemmas.{one_answer}
-use Rattle.dnsv_denial.proofs.WholeChainProofs.{firm_no_name, firm_no_data, no_name_or_cut, no_data_or_cut}
+use Rattle.dnsv_denial.specs.proving.FirstProof.{CanProveNoData, CanProveNoName}
+use Rattle.dnsv_denial.specs.proving.WholeChain.{HasFirmChain, IsJustFirmChain, IsJustNsec3Chain}
+use Rattle.dnsv_denial.specs.unsigned_cuts.Cuts.{HasUnsignedCut}
+use Rattle.dnsv_denial.proofs.meaning.JustChainProofs.{can_be, just_no_name, just_no_data, just3_no_name, just3_no_data}
+use Rattle.dnsv_denial.proofs.meaning.WholeChainProofs.{firm_no_name, firm_no_data, no_name_or_cut, no_data_or_cut}
 use Rattle.dnsv_verdict.specs.Complete.{SaysNoName, SaysNoData, SaysInsecure, IsDenied, IsDeniedOrUnsigned, IsDeniedSomehow, SecuredBy, HasNoAnswer, TellsWholeChains}
 use Rattle.dnsv_verdict.specs.Verdict.{Basis, IsVerdictAt, Settles}
 use Rattle.dnsv_verdict.specs.declared.verdict.Verdict.{Verdict}

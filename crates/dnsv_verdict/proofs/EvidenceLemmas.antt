@@ -1,18 +1,18 @@
 -- What evidence proves depends on which signatures are secured, and more of them prove no less, also among more RRsets.
 use Rattle.std.proofs.Common.{◌+◌, ℕ, List, inl, inr}
 use Rattle.dnsv_names.specs.Name.{Labels, rightmost}
+use Rattle.dnsv_zones.specs.chains.Nsec3Chain.{Nsec3Record}
+use Rattle.dnsv_zones.specs.chains.NsecChain.{NsecRecord}
+use Rattle.dnsv_zones.specs.forms.Forms.{Words}
+use Rattle.dnsv_zones.specs.forms.RecordWords.{RecordWords, words}
 use Rattle.dnsv_canonical.specs.Rrsets.{ReceivedRrset}
 use Rattle.dnsv_chain.specs.Trusted.{IsNumbered}
-use Rattle.dnsv_denial.specs.Cuts.{no_ds, no_usable_ds, opt_out, IsUnsignedDelegationCut, IsUnusableDsCut, IsOptOutCut, IsFewest, IsMost, IsUnsignedCut, HasUnsignedCut, HasLooseCloser}
-use Rattle.dnsv_denial.specs.Evidence.{IsNsecOf, IsNsec3Of, IsRecordAt, IsSecuredBy}
-use Rattle.dnsv_denial.specs.EvidenceWords.{Chain, SaidByNsec, SaidByNsec3, evidence_said, number_cmp}
-use Rattle.dnsv_denial.specs.EvidenceWords.Chain.{ByNsec, ByNsec3}
-use Rattle.dnsv_denial.specs.FirstProof.{CanProveNoCloser, CanProveNoData, CanProveNoName, IsFirstNoData, IsFirstNoName, IsFirstProof, ProofRecords}
-use Rattle.dnsv_denial.specs.Forms.{Words}
-use Rattle.dnsv_denial.specs.NsecChain.{NsecRecord}
-use Rattle.dnsv_denial.specs.Nsec3Chain.{Nsec3Record}
-use Rattle.dnsv_denial.specs.RecordWords.{RecordWords, words}
-use Rattle.dnsv_denial.specs.declared.number.RecordNumber.{RecordNumber}
+use Rattle.dnsv_denial.specs.gathering.Evidence.{IsNsecOf, IsNsec3Of, IsRecordAt, IsSecuredBy}
+use Rattle.dnsv_denial.specs.proving.FirstProof.{CanProveNoCloser, CanProveNoData, CanProveNoName, IsFirstNoData, IsFirstNoName, IsFirstProof, ProofRecords}
+use Rattle.dnsv_denial.specs.unsigned_cuts.Cuts.{no_ds, no_usable_ds, opt_out, IsUnsignedDelegationCut, IsUnusableDsCut, IsOptOutCut, IsFewest, IsMost, IsUnsignedCut, HasUnsignedCut, HasLooseCloser}
+use Rattle.dnsv_denial.specs.words.EvidenceWords.{Chain, SaidByNsec, SaidByNsec3, evidence_said, number_cmp}
+use Rattle.dnsv_denial.specs.words.EvidenceWords.Chain.{ByNsec, ByNsec3}
+use Rattle.dnsv_denial.specs.declared.records.number.RecordNumber.{RecordNumber}
 use Rattle.dnsv_verdict.proofs.FormLemmas.{SaysNoLess, no_name_to, no_data_to, no_closer_to, cut_to, opts_out_to, no_name_parts_to, no_data_parts_to}
 
 -- ---- more secured signatures prove no less

@@ -7,11 +7,11 @@ use Rattle.std.specs.Prelude.{min}
 use Rattle.dnsv_names.specs.Count.{count_limit, counted}
 use Rattle.dnsv_names.specs.Name.{Labels}
 use Rattle.dnsv_records.specs.declared.nsec3.Nsec3Parameters.{Nsec3Parameters}
+use Rattle.dnsv_zones.specs.chains.HashedNames.{hashes_for}
 use Rattle.dnsv_canonical.proofs.CanonicalLemmas.{IsMember, Contains-from_member}
 use Rattle.dnsv_canonical.proofs.LimitLemmas.{few_where_distinct}
 use Rattle.dnsv_canonical.specs.Evidence.{AreParameters, AreParametersAmong, AtMost, nsec3_rdata}
 use Rattle.dnsv_canonical.specs.Rrsets.{ReceivedRrset}
-use Rattle.dnsv_denial.specs.HashedNames.{hashes_for}
 use Rattle.dnsv_verdict.specs.Verdict.{IsFewHashed, IsNumberHashed}
 
 sum_at_most : {X : Type 0} (f : X → ℕ) (m : ℕ) (xs : List X) → ((x : X) → IsMember x xs → f x ≤ m) → sum_by f xs ≤ length xs * m

@@ -2,18 +2,18 @@
 use Rattle.std.proofs.Common.{◌≡◌, ◌⊎◌, ◌+◌, ℕ, List, inl, inr, ⊎_elim}
 use Rattle.dnsv_names.specs.Name.{Labels, rightmost}
 use Rattle.dnsv_records.specs.declared.rrsig.Rrsig.{Rrsig}
+use Rattle.dnsv_zones.specs.forms.Forms.{NoCloserForm}
+use Rattle.dnsv_zones.specs.forms.RecordWords.{words}
+use Rattle.dnsv_zones.specs.zones.TypeNumbers.{cname}
 use Rattle.dnsv_canonical.specs.Rrsets.{ReceivedRrset}
 use Rattle.dnsv_canonical.specs.SignedData.{IsExpanded}
 use Rattle.dnsv_chain.specs.Trusted.{IsSecured}
-use Rattle.dnsv_denial.proofs.CutMeaningLemmas.{closer_means, cut_means}
-use Rattle.dnsv_denial.proofs.DeniedMeaning.{denied_means}
-use Rattle.dnsv_denial.proofs.ProofMeaningLemmas.{first_no_data_means, first_no_name_means}
-use Rattle.dnsv_denial.specs.Cuts.{HasUnsignedCut, IsUnsignedCut}
-use Rattle.dnsv_denial.specs.EvidenceWords.{Chain, evidence_said}
-use Rattle.dnsv_denial.specs.FirstProof.{CanProveNoCloser}
-use Rattle.dnsv_denial.specs.Forms.{NoCloserForm}
-use Rattle.dnsv_denial.specs.RecordWords.{words}
-use Rattle.dnsv_denial.specs.TypeNumbers.{cname}
+use Rattle.dnsv_denial.proofs.meaning.CutMeaningLemmas.{closer_means, cut_means}
+use Rattle.dnsv_denial.proofs.meaning.DeniedMeaning.{denied_means}
+use Rattle.dnsv_denial.proofs.meaning.ProofMeaningLemmas.{first_no_data_means, first_no_name_means}
+use Rattle.dnsv_denial.specs.proving.FirstProof.{CanProveNoCloser}
+use Rattle.dnsv_denial.specs.unsigned_cuts.Cuts.{HasUnsignedCut, IsUnsignedCut}
+use Rattle.dnsv_denial.specs.words.EvidenceWords.{Chain, evidence_said}
 use Rattle.dnsv_verdict.specs.Insecure.{IsLooseCut}
 use Rattle.dnsv_verdict.specs.Meaning.{IsOwnOrFromWildcard, IsShownFromWildcard, IsTrueOfZones, MeansLooseCut}
 use Rattle.dnsv_verdict.specs.Secure.{IsSecureSet}

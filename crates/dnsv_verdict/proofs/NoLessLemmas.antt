@@ -10,7 +10,7 @@ use Rattle.dnsv_verifier.specs.declared.entry.Entry.{Entry}
 use Rattle.dnsv_chain.proofs.TrustedLemmas.{numbered_left}
 use Rattle.dnsv_chain.specs.Trusted.{IsNumbered, IsSecured}
 use Rattle.dnsv_chain.specs.declared.anchor.Anchor.{Anchor}
-use Rattle.dnsv_denial.specs.FirstProof.{CanProveNoData, CanProveNoName}
+use Rattle.dnsv_denial.specs.proving.FirstProof.{CanProveNoData, CanProveNoName}
 use Rattle.dnsv_verdict.proofs.CaseLemmas.{unsigned_stands}
 use Rattle.dnsv_verdict.proofs.EvidenceLemmas.{no_name_can_to, no_data_can_to}
 use Rattle.dnsv_verdict.proofs.OneProof.{can_be}

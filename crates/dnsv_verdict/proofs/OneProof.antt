@@ -9,18 +9,18 @@ use Rattle.std.specs.declared.cmp.Ordering.TheVariants.{Less, Equal, Greater}
 use Rattle.dnsv_names.specs.Name.{Labels, rightmost}
 use Rattle.dnsv_names.specs.Tree.{wildcard_of}
 use Rattle.dnsv_records.specs.DecisionLaws.{at_most_or}
+use Rattle.dnsv_zones.specs.chains.Nsec3Chain.{Parameters}
+use Rattle.dnsv_zones.specs.forms.Forms.{Words, EndsAt, NoNameForm, NoWildcardDataForm, EmptyWildcardForm}
+use Rattle.dnsv_zones.specs.forms.Parts.{IsLowest, IsEncloserPart, no_record, a_record, at_name, empty, at_wildcard, empty_wildcard, AreEndParts, AreWildcardParts, AreNoNameParts, AreWildcardDataParts, AreEmptyWildcardParts, AreNoDataParts}
+use Rattle.dnsv_zones.specs.forms.RecordWords.{RecordWords, words}
+use Rattle.dnsv_zones.specs.zones.Types.{Denies}
 use Rattle.dnsv_canonical.proofs.CanonicalLemmas.{rising_unique, IsMember, Contains-from_member, IsMember-from_contains}
 use Rattle.dnsv_canonical.specs.Rrsets.{ReceivedRrset}
-use Rattle.dnsv_denial.specs.Cuts.{no_ds, no_usable_ds, opt_out, IsUnsignedDelegationCut, IsUnusableDsCut, IsOptOutCut, IsFewest, IsMost, IsUnsignedCut, HasUnsignedCut}
-use Rattle.dnsv_denial.specs.EvidenceWords.{Chain, GoesBefore, nsec_first, by_parameters, evidence_said, number_cmp, parameters_cmp}
-use Rattle.dnsv_denial.specs.EvidenceWords.Chain.{ByNsec, ByNsec3}
-use Rattle.dnsv_denial.specs.FirstProof.{AreRecordsOf, CanBeProved, IsFirstNoData, IsFirstNoName, IsFirstProof, ProofRecords, StandsBy}
-use Rattle.dnsv_denial.specs.Forms.{Words, EndsAt, NoNameForm, NoWildcardDataForm, EmptyWildcardForm}
-use Rattle.dnsv_denial.specs.Nsec3Chain.{Parameters}
-use Rattle.dnsv_denial.specs.Parts.{IsLowest, IsEncloserPart, no_record, a_record, at_name, empty, at_wildcard, empty_wildcard, AreEndParts, AreWildcardParts, AreNoNameParts, AreWildcardDataParts, AreEmptyWildcardParts, AreNoDataParts}
-use Rattle.dnsv_denial.specs.RecordWords.{RecordWords, words}
-use Rattle.dnsv_denial.specs.Types.{Denies}
-use Rattle.dnsv_denial.specs.declared.number.RecordNumber.{RecordNumber}
+use Rattle.dnsv_denial.specs.proving.FirstProof.{AreRecordsOf, CanBeProved, IsFirstNoData, IsFirstNoName, IsFirstProof, ProofRecords, StandsBy}
+use Rattle.dnsv_denial.specs.unsigned_cuts.Cuts.{no_ds, no_usable_ds, opt_out, IsUnsignedDelegationCut, IsUnusableDsCut, IsOptOutCut, IsFewest, IsMost, IsUnsignedCut, HasUnsignedCut}
+use Rattle.dnsv_denial.specs.words.EvidenceWords.{Chain, GoesBefore, nsec_first, by_parameters, evidence_said, number_cmp, parameters_cmp}
+use Rattle.dnsv_denial.specs.words.EvidenceWords.Chain.{ByNsec, ByNsec3}
+use Rattle.dnsv_denial.specs.declared.records.number.RecordNumber.{RecordNumber}
 
 -- ---- orders
 

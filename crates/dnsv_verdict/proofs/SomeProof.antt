@@ -8,21 +8,21 @@ use Rattle.dnsv_names.specs.Tree.{wildcard_of}
 use Rattle.dnsv_records.specs.Nsec3.{IsNsec3}
 use Rattle.dnsv_records.specs.declared.nsec3.Nsec3.{Nsec3}
 use Rattle.dnsv_records.proofs.OneRecord.{one_nsec3}
+use Rattle.dnsv_zones.specs.chains.Nsec3Chain.{Nsec3Record, Parameters}
+use Rattle.dnsv_zones.specs.chains.Rdata.{parameters_of}
+use Rattle.dnsv_zones.specs.forms.Forms.{Words, EndsAt, NoNameForm, NoDataForm, EmptyForm, NoWildcardDataForm, EmptyWildcardForm, NoDataForms}
+use Rattle.dnsv_zones.specs.forms.Parts.{IsEncloserPart, no_record, a_record, at_name, empty, at_wildcard, empty_wildcard, AreEndParts, AreWildcardParts, AreNoNameParts, AreWildcardDataParts, AreEmptyWildcardParts, AreNoDataParts}
+use Rattle.dnsv_zones.specs.forms.RecordWords.{RecordWords, words}
+use Rattle.dnsv_zones.specs.zones.Types.{Denies}
 use Rattle.dnsv_canonical.proofs.CanonicalLemmas.{IsMember, Contains-from_member, IsMember-from_contains}
 use Rattle.dnsv_canonical.specs.CanonicalRdata.{canonical_form}
 use Rattle.dnsv_canonical.specs.Rrsets.{ReceivedRrset}
-use Rattle.dnsv_denial.specs.Cuts.{no_ds, no_usable_ds, opt_out, IsUnsignedDelegationCut, IsUnusableDsCut, IsOptOutCut, IsUnsignedCut, HasUnsignedCut}
-use Rattle.dnsv_denial.specs.Evidence.{IsNsec3Of}
-use Rattle.dnsv_denial.specs.EvidenceWords.{Chain, GoesBefore, nsec_first, by_parameters, evidence_said, nsec3_said, number_cmp, parameters_cmp}
-use Rattle.dnsv_denial.specs.EvidenceWords.Chain.{ByNsec, ByNsec3}
-use Rattle.dnsv_denial.specs.FirstProof.{AreRecordsOf, CanBeProved, CanProveNoData, CanProveNoName, IsFirstNoData, IsFirstNoName, IsFirstOfZone, IsFirstProof, ProofRecords, StandsBy}
-use Rattle.dnsv_denial.specs.Forms.{Words, EndsAt, NoNameForm, NoDataForm, EmptyForm, NoWildcardDataForm, EmptyWildcardForm, NoDataForms}
-use Rattle.dnsv_denial.specs.Nsec3Chain.{Nsec3Record, Parameters}
-use Rattle.dnsv_denial.specs.Parts.{IsEncloserPart, no_record, a_record, at_name, empty, at_wildcard, empty_wildcard, AreEndParts, AreWildcardParts, AreNoNameParts, AreWildcardDataParts, AreEmptyWildcardParts, AreNoDataParts}
-use Rattle.dnsv_denial.specs.Record.{parameters_of}
-use Rattle.dnsv_denial.specs.RecordWords.{RecordWords, words}
-use Rattle.dnsv_denial.specs.Types.{Denies}
-use Rattle.dnsv_denial.specs.declared.number.RecordNumber.{RecordNumber}
+use Rattle.dnsv_denial.specs.gathering.Evidence.{IsNsec3Of}
+use Rattle.dnsv_denial.specs.proving.FirstProof.{AreRecordsOf, CanBeProved, CanProveNoData, CanProveNoName, IsFirstNoData, IsFirstNoName, IsFirstOfZone, IsFirstProof, ProofRecords, StandsBy}
+use Rattle.dnsv_denial.specs.unsigned_cuts.Cuts.{no_ds, no_usable_ds, opt_out, IsUnsignedDelegationCut, IsUnusableDsCut, IsOptOutCut, IsUnsignedCut, HasUnsignedCut}
+use Rattle.dnsv_denial.specs.words.EvidenceWords.{Chain, GoesBefore, nsec_first, by_parameters, evidence_said, nsec3_said, number_cmp, parameters_cmp}
+use Rattle.dnsv_denial.specs.words.EvidenceWords.Chain.{ByNsec, ByNsec3}
+use Rattle.dnsv_denial.specs.declared.records.number.RecordNumber.{RecordNumber}
 use Rattle.dnsv_verdict.proofs.FiniteLemmas.{IsFinite, finite_each, finite_one, finite_within, some_first, some_sorted}
 use Rattle.dnsv_verdict.proofs.OneProof.{number_exact, number_total, parameters_exact, parameters_total}
 use Rattle.dnsv_verdict.proofs.SureLemmas.{Surely, surely, and_then, by_cases, some_fewest, some_most, some_record}

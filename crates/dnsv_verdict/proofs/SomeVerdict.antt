@@ -7,6 +7,7 @@ use Rattle.dnsv_records.specs.Dnskey.{IsDnskey}
 use Rattle.dnsv_records.specs.Rrsig.{IsRrsig}
 use Rattle.dnsv_records.specs.declared.dnskey.Dnskey.{Dnskey}
 use Rattle.dnsv_records.specs.declared.rrsig.Rrsig.{Rrsig}
+use Rattle.dnsv_zones.specs.zones.TypeNumbers.{cname}
 use Rattle.dnsv_canonical.proofs.CanonicalLemmas.{IsMember, Contains-from_member, IsMember-from_contains}
 use Rattle.dnsv_canonical.proofs.SignedLemmas.{signed_data_unique}
 use Rattle.dnsv_canonical.specs.Rrsets.{ReceivedRrset}
@@ -17,9 +18,8 @@ use Rattle.dnsv_verifier.specs.EntryLaws.{entry_cmp_total, entry_Equal}
 use Rattle.dnsv_verifier.specs.declared.answer.Answer.TheVariants.{Unknown}
 use Rattle.dnsv_verifier.specs.declared.entry.Entry.{Entry}
 use Rattle.dnsv_chain.specs.Trusted.{IsSecured}
-use Rattle.dnsv_denial.specs.Cuts.{HasUnsignedCut}
-use Rattle.dnsv_denial.specs.FirstProof.{CanProveNoData, CanProveNoName}
-use Rattle.dnsv_denial.specs.TypeNumbers.{cname}
+use Rattle.dnsv_denial.specs.proving.FirstProof.{CanProveNoData, CanProveNoName}
+use Rattle.dnsv_denial.specs.unsigned_cuts.Cuts.{HasUnsignedCut}
 use Rattle.dnsv_verdict.proofs.FiniteLemmas.{IsFinite, finite_each, finite_one, finite_within, some_sorted}
 use Rattle.dnsv_verdict.proofs.SomeProof.{some_cut, some_no_data, some_no_name}
 use Rattle.dnsv_verdict.proofs.SureLemmas.{Surely, surely, and_then, by_cases, some_lowest}

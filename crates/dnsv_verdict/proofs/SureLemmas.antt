@@ -4,10 +4,10 @@ use Rattle.std.proofs.lemmas.Bool.{cases_lt}
 use Rattle.std.specs.Cmp.{nat_cmp_is}
 use Rattle.std.specs.Ordering.{nat_cmp, ordering_then}
 use Rattle.std.specs.declared.cmp.Ordering.TheVariants.{Less, Equal, Greater}
-use Rattle.dnsv_denial.specs.Cuts.{IsFewest, IsMost}
-use Rattle.dnsv_denial.specs.EvidenceWords.{number_cmp}
-use Rattle.dnsv_denial.specs.Parts as parts
-use Rattle.dnsv_denial.specs.declared.number.RecordNumber.{RecordNumber}
+use Rattle.dnsv_zones.specs.forms.Parts as parts
+use Rattle.dnsv_denial.specs.unsigned_cuts.Cuts.{IsFewest, IsMost}
+use Rattle.dnsv_denial.specs.words.EvidenceWords.{number_cmp}
+use Rattle.dnsv_denial.specs.declared.records.number.RecordNumber.{RecordNumber}
 use Rattle.dnsv_verdict.specs.Secure.{IsLowest}
 
 abbrev pub Surely : Type 0 → Type 0

@@ -1,8 +1,8 @@
 -- What a search finds for a view is found for what the view is of.
 use Rattle.std.proofs.Common.{◌≡◌, ◌⊎◌, ℕ}
 use Rattle.dnsv_records.specs.declared.rrsig.Rrsig.{Rrsig}
+use Rattle.dnsv_zones.specs.zones.TypeNumbers.{cname}
 use Rattle.dnsv_canonical.specs.Rrsets.{ReceivedRrset}
-use Rattle.dnsv_denial.specs.TypeNumbers.{cname}
 use Rattle.dnsv_denial.specs.Viewed.{SecuredIn, Viewed}
 use Rattle.dnsv_verdict.specs.Insecure.{IsLoose}
 use Rattle.dnsv_verdict.specs.Secure.{HoldsForName, IsLowest, IsSecuredAt}

@@ -1,12 +1,12 @@
 -- What the verdict is where nothing answers and the evidence has the whole chain of a zone.
 use Rattle.std.specs.Prelude.{◌⊎◌, ◌↔◌, ℕ}
 use Rattle.dnsv_names.specs.Name.{Labels}
+use Rattle.dnsv_zones.specs.zones.Lookup.{IsLookup}
+use Rattle.dnsv_zones.specs.zones.Lookup.Answer.{NoData, NoName}
+use Rattle.dnsv_zones.specs.zones.TypeNumbers.{cname}
+use Rattle.dnsv_zones.specs.zones.Zone.{Zone}
 use Rattle.dnsv_chain.specs.Trusted.{IsSecured}
-use Rattle.dnsv_denial.specs.Lookup.{IsLookup}
-use Rattle.dnsv_denial.specs.Lookup.Answer.{NoData, NoName}
-use Rattle.dnsv_denial.specs.TypeNumbers.{cname}
-use Rattle.dnsv_denial.specs.WholeChain.{HasFirmChain, IsJustFirmChain, IsJustNsec3Chain}
-use Rattle.dnsv_denial.specs.Zone.{Zone}
+use Rattle.dnsv_denial.specs.proving.WholeChain.{HasFirmChain, IsJustFirmChain, IsJustNsec3Chain}
 use Rattle.dnsv_verdict.specs.Settled.{HasAnswer}
 use Rattle.dnsv_verdict.specs.Verdict.{Basis}
 use Rattle.dnsv_verdict.specs.declared.verdict.Verdict.{Verdict}

@@ -2,10 +2,10 @@
 use Rattle.std.specs.Prelude.{◌≡◌, ◌⊎◌, ◌+◌, ℕ, List}
 use Rattle.dnsv_names.specs.Name.{Labels, rightmost}
 use Rattle.dnsv_records.specs.declared.rrsig.Rrsig.{Rrsig}
+use Rattle.dnsv_zones.specs.zones.TypeNumbers.{cname}
 use Rattle.dnsv_canonical.specs.Rrsets.{ReceivedRrset}
 use Rattle.dnsv_canonical.specs.SignedData.{IsExpanded}
-use Rattle.dnsv_denial.specs.Cuts.{HasLooseCloser, HasUnsignedCut, IsUnsignedCut}
-use Rattle.dnsv_denial.specs.TypeNumbers.{cname}
+use Rattle.dnsv_denial.specs.unsigned_cuts.Cuts.{HasLooseCloser, HasUnsignedCut, IsUnsignedCut}
 use Rattle.dnsv_verdict.specs.Secure.{IsSecuredAt, IsLowest}
 
 -- A wildcard is behind the signature, and an NSEC3 record with the Opt-Out flag covers the next closer name: an

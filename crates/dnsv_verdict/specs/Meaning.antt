@@ -3,15 +3,15 @@ use Rattle.std.specs.Prelude.{◌⊎◌, ◌+◌, ℕ, List}
 use Rattle.dnsv_names.specs.Name.{Labels, rightmost}
 use Rattle.dnsv_names.specs.Tree.{wildcard_of}
 use Rattle.dnsv_records.specs.declared.rrsig.Rrsig.{Rrsig}
+use Rattle.dnsv_zones.specs.zones.Lookup.{IsLookup}
+use Rattle.dnsv_zones.specs.zones.Lookup.Answer.{Held, NoName, NoData}
+use Rattle.dnsv_zones.specs.zones.Zone.{Zone, Holds}
 use Rattle.dnsv_canonical.specs.Rrsets.{ReceivedRrset}
 use Rattle.dnsv_canonical.specs.SignedData.{IsExpanded}
-use Rattle.dnsv_denial.specs.CutMeaning.{HasRecord, IsCoveredEnd, MeansCut}
-use Rattle.dnsv_denial.specs.EvidenceWords.{Chain, evidence_said}
-use Rattle.dnsv_denial.specs.Lookup.{IsLookup}
-use Rattle.dnsv_denial.specs.Lookup.Answer.{Held, NoName, NoData}
-use Rattle.dnsv_denial.specs.ProofMeaning.{HasProofWithoutCollision}
-use Rattle.dnsv_denial.specs.Zone.{Zone, Holds}
-use Rattle.dnsv_denial.specs.declared.number.RecordNumber.{RecordNumber}
+use Rattle.dnsv_denial.specs.proving.ProofMeaning.{HasProofWithoutCollision}
+use Rattle.dnsv_denial.specs.unsigned_cuts.CutMeaning.{HasRecord, IsCoveredEnd, MeansCut}
+use Rattle.dnsv_denial.specs.words.EvidenceWords.{Chain, evidence_said}
+use Rattle.dnsv_denial.specs.declared.records.number.RecordNumber.{RecordNumber}
 use Rattle.dnsv_verdict.specs.Insecure.{IsLooseCut}
 use Rattle.dnsv_verdict.specs.Secure.{IsSecuredAt}
 use Rattle.dnsv_verdict.specs.declared.verdict.Verdict.{Verdict}

@@ -9,7 +9,7 @@ use Rattle.dnsv_records.specs.declared.rrsig.Rrsig.{Rrsig}
 use Rattle.dnsv_canonical.specs.Rrsets.{ReceivedRrset}
 use Rattle.dnsv_canonical.specs.SignedData.{IsExpanded}
 use Rattle.dnsv_chain.specs.Trusted.{IsNumbered}
-use Rattle.dnsv_denial.specs.FirstProof.{CanProveNoCloser}
+use Rattle.dnsv_denial.specs.proving.FirstProof.{CanProveNoCloser}
 
 -- RRset k has the name, its signature s is secured, and the two are such
 pub record IsSecuredAt

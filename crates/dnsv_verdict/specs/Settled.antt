@@ -1,9 +1,9 @@
 -- What the evidence can settle about a question, in five cases of which the first that holds counts.
 use Rattle.std.specs.Prelude.{◌≡◌, ◌≢◌, ◌⊎◌, ℕ, List}
 use Rattle.dnsv_names.specs.Name.{Labels}
+use Rattle.dnsv_zones.specs.zones.TypeNumbers.{cname}
 use Rattle.dnsv_canonical.specs.Rrsets.{ReceivedRrset}
-use Rattle.dnsv_denial.specs.FirstProof.{CanProveNoData, CanProveNoName, IsFirstNoData, IsFirstNoName}
-use Rattle.dnsv_denial.specs.TypeNumbers.{cname}
+use Rattle.dnsv_denial.specs.proving.FirstProof.{CanProveNoData, CanProveNoName, IsFirstNoData, IsFirstNoName}
 use Rattle.dnsv_verdict.specs.Insecure.{IsUnsigned, IsUnsignedFrom}
 use Rattle.dnsv_verdict.specs.Secure.{IsSecureSet, IsLowest}
 use Rattle.dnsv_verdict.specs.declared.verdict.Verdict.{Verdict}

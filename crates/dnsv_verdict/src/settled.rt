@@ -1,6 +1,6 @@
 //! What the evidence settles about a question, if it settles it.
 ghost use Rattle.std.specs.Prelude.{◌≡◌, ◌≢◌, ℕ, MatchOption};
-ghost use Rattle.dnsv_denial.specs.TypeNumbers.{cname};
+ghost use Rattle.dnsv_zones.specs.zones.TypeNumbers.{cname};
 ghost use Rattle.dnsv_denial.specs.Viewed.{SecuredIn};
 ghost use Rattle.dnsv_verdict.specs.Insecure.{IsLooseCut, IsLooseSet};
 ghost use Rattle.dnsv_verdict.specs.Secure.{IsLowest, IsSecureSet};
@@ -146,7 +146,7 @@ struct IsLoose<'a> {
 
 impl Test for IsLoose<'_> {
     ghost use Rattle.std.specs.Prelude.{◌≡◌, ◌⊎◌};
-    ghost use Rattle.dnsv_denial.specs.TypeNumbers.{cname};
+    ghost use Rattle.dnsv_zones.specs.zones.TypeNumbers.{cname};
     ghost use Rattle.dnsv_denial.specs.Viewed.{SecuredIn};
     ghost use Rattle.dnsv_verdict.specs.Insecure.{IsLoose};
 

@@ -1,6 +1,6 @@
 //! Calls of the functions below a view, which are asked about the records of one chain: of each RRset of a capture they
 //! get the first record. Its place among these is counted from 0.
-ghost use Rattle.dnsv_denial.specs.ChainSaid.{HasHashes};
+ghost use Rattle.dnsv_denial.specs.words.ChainSaid.{HasHashes};
 
 use crate::denial::rtype_of;
 use crate::evidence::capture_or_refusal;
@@ -8,10 +8,11 @@ use crate::row::{Row, RowError};
 use dnsv_canonical::{Capture, Rrset};
 use dnsv_denial::{
     ChainRecords, Nsec3Entries, Nsec3Entry, Nsec3Records, NsecEntry, Places, RecordNumber,
-    hash_names, loose_closer, no_closer, no_data, no_name, opt_out, unsigned_delegation,
+    loose_closer, no_closer, no_data, no_name, opt_out, unsigned_delegation,
 };
 use dnsv_names::{Count, Hash20, Name};
 use dnsv_records::base32hex_read;
+use dnsv_zones::hash_names;
 use std::alloc::Global;
 
 /// What these functions answer, where they have the call.

@@ -1,9 +1,9 @@
 use Rattle.std.proofs.Common.{◌≡◌, ◌+◌}
 use Rattle.dnsv_names.specs.Name.{rightmost}
-use Rattle.dnsv_denial.specs.Cuts.{HasLooseCloser}
 use Rattle.dnsv_denial.specs.Viewed.{SecuredIn}
-use Rattle.dnsv_denial.proofs.CutMeaningLemmas.{closer_means}
-use Rattle.dnsv_denial.proofs.FirstLemmas.{if_some}
+use Rattle.dnsv_denial.specs.unsigned_cuts.Cuts.{HasLooseCloser}
+use Rattle.dnsv_denial.proofs.meaning.CutMeaningLemmas.{closer_means}
+use Rattle.dnsv_denial.proofs.lemmas.words.FirstLemmas.{if_some}
 use Rattle.dnsv_denial.proofs.view.View.loose_closer.Goals as goal
 
 pub returns-clause-meaning : goal.returns-clause-meaning

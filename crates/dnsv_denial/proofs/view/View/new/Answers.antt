@@ -2,8 +2,8 @@ use Rattle.std.proofs.Common.{ap, ◌∙◌}
 use Rattle.dnsv_names.specs.Count.{counted}
 use Rattle.dnsv_canonical.specs.Evidence.{nsec3_rdata}
 use Rattle.dnsv_denial.specs.Viewed.{SecuredIn}
-use Rattle.dnsv_denial.proofs.HashCountLemmas.{hashes_in_any_order}
-use Rattle.dnsv_denial.proofs.ParameterSetLemmas.{are_sets}
+use Rattle.dnsv_denial.proofs.lemmas.gathering.HashCountLemmas.{hashes_in_any_order}
+use Rattle.dnsv_denial.proofs.lemmas.gathering.ParameterSetLemmas.{are_sets}
 use Rattle.dnsv_denial.proofs.view.View.new.Goals as goal
 
 pub invariant_of-result : goal.invariant_of-result

@@ -1,7 +1,7 @@
-use Rattle.dnsv_denial.specs.FirstProof.{CanProveNoCloser, IsFirstNoCloser}
 use Rattle.dnsv_denial.specs.Viewed.{SecuredIn}
-use Rattle.dnsv_denial.proofs.FirstLemmas.{if_some}
-use Rattle.dnsv_denial.proofs.ProofMeaningLemmas.{first_no_closer_means}
+use Rattle.dnsv_denial.specs.proving.FirstProof.{CanProveNoCloser, IsFirstNoCloser}
+use Rattle.dnsv_denial.proofs.lemmas.words.FirstLemmas.{if_some}
+use Rattle.dnsv_denial.proofs.meaning.ProofMeaningLemmas.{first_no_closer_means}
 use Rattle.dnsv_denial.proofs.view.View.no_closer.Goals as goal
 
 pub returns-clause-meaning : goal.returns-clause-meaning

@@ -1,12 +1,12 @@
 use Rattle.dnsv_names.specs.Name.{Labels}
-use Rattle.dnsv_denial.specs.FirstProof.{CanProveNoData, IsFirstNoData}
-use Rattle.dnsv_denial.specs.Lookup.{IsLookup}
-use Rattle.dnsv_denial.specs.Lookup.Answer.{NoData}
+use Rattle.dnsv_zones.specs.zones.Lookup.{IsLookup}
+use Rattle.dnsv_zones.specs.zones.Lookup.Answer.{NoData}
 use Rattle.dnsv_denial.specs.Viewed.{SecuredIn}
-use Rattle.dnsv_denial.proofs.FirstLemmas.{if_some}
-use Rattle.dnsv_denial.proofs.ProofMeaningLemmas.{first_no_data_means}
-use Rattle.dnsv_denial.proofs.JustChainProofs.{can_be, exactly_where, just_no_data, some_where}
-use Rattle.dnsv_denial.proofs.WholeChainProofs.{firm_no_data}
+use Rattle.dnsv_denial.specs.proving.FirstProof.{CanProveNoData, IsFirstNoData}
+use Rattle.dnsv_denial.proofs.lemmas.words.FirstLemmas.{if_some}
+use Rattle.dnsv_denial.proofs.meaning.ProofMeaningLemmas.{first_no_data_means}
+use Rattle.dnsv_denial.proofs.meaning.JustChainProofs.{can_be, exactly_where, just_no_data, some_where}
+use Rattle.dnsv_denial.proofs.meaning.WholeChainProofs.{firm_no_data}
 use Rattle.dnsv_denial.proofs.view.View.no_data.Goals as goal
 
 pub returns-clause-first : goal.returns-clause-first

@@ -1,11 +1,11 @@
-use Rattle.dnsv_denial.specs.FirstProof.{CanProveNoName, IsFirstNoName}
-use Rattle.dnsv_denial.specs.Lookup.{IsLookup}
-use Rattle.dnsv_denial.specs.Lookup.Answer.{NoName}
+use Rattle.dnsv_zones.specs.zones.Lookup.{IsLookup}
+use Rattle.dnsv_zones.specs.zones.Lookup.Answer.{NoName}
 use Rattle.dnsv_denial.specs.Viewed.{SecuredIn}
-use Rattle.dnsv_denial.proofs.FirstLemmas.{if_some}
-use Rattle.dnsv_denial.proofs.ProofMeaningLemmas.{first_no_name_means}
-use Rattle.dnsv_denial.proofs.JustChainProofs.{can_be, exactly_where, just_no_name, some_where}
-use Rattle.dnsv_denial.proofs.WholeChainProofs.{firm_no_name}
+use Rattle.dnsv_denial.specs.proving.FirstProof.{CanProveNoName, IsFirstNoName}
+use Rattle.dnsv_denial.proofs.lemmas.words.FirstLemmas.{if_some}
+use Rattle.dnsv_denial.proofs.meaning.ProofMeaningLemmas.{first_no_name_means}
+use Rattle.dnsv_denial.proofs.meaning.JustChainProofs.{can_be, exactly_where, just_no_name, some_where}
+use Rattle.dnsv_denial.proofs.meaning.WholeChainProofs.{firm_no_name}
 use Rattle.dnsv_denial.proofs.view.View.no_name.Goals as goal
 
 pub returns-clause-first : goal.returns-clause-first

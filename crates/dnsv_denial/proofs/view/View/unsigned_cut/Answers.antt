@@ -1,12 +1,12 @@
 use Rattle.std.proofs.Common.{inl, inr, ⊎_elim}
-use Rattle.dnsv_denial.specs.CutMeaning.{MeansCut}
-use Rattle.dnsv_denial.specs.Cuts.{HasUnsignedCut, IsUnsignedCut}
-use Rattle.dnsv_denial.specs.FirstProof.{CanProveNoData, CanProveNoName}
 use Rattle.dnsv_denial.specs.Viewed.{SecuredIn}
-use Rattle.dnsv_denial.proofs.CutMeaningLemmas.{cut_means}
-use Rattle.dnsv_denial.proofs.FirstLemmas.{if_some}
-use Rattle.dnsv_denial.proofs.JustChainProofs.{some_where}
-use Rattle.dnsv_denial.proofs.WholeChainProofs.{no_data_or_cut, no_name_or_cut, whole_cut}
+use Rattle.dnsv_denial.specs.proving.FirstProof.{CanProveNoData, CanProveNoName}
+use Rattle.dnsv_denial.specs.unsigned_cuts.CutMeaning.{MeansCut}
+use Rattle.dnsv_denial.specs.unsigned_cuts.Cuts.{HasUnsignedCut, IsUnsignedCut}
+use Rattle.dnsv_denial.proofs.meaning.CutMeaningLemmas.{cut_means}
+use Rattle.dnsv_denial.proofs.lemmas.words.FirstLemmas.{if_some}
+use Rattle.dnsv_denial.proofs.meaning.JustChainProofs.{some_where}
+use Rattle.dnsv_denial.proofs.meaning.WholeChainProofs.{no_data_or_cut, no_name_or_cut, whole_cut}
 use Rattle.dnsv_denial.proofs.view.View.unsigned_cut.Goals as goal
 
 pub returns-clause-first : goal.returns-clause-first

@@ -1,6 +1,0 @@
-use Rattle.dnsv_denial.specs.Viewed.{SecuredIn}
-use Rattle.dnsv_denial.proofs.CutMeaningLemmas.{shown_encloser}
-use Rattle.dnsv_denial.proofs.cut_meaning.a_shown_encloser_is_an_open_node_of_the_zone.Goals as goal
-
-pub returns : goal.returns
-returns c = λ trust rrsets name apex encloser parameters number zone. shown_encloser (SecuredIn trust) rrsets name apex number zone encloser parameters

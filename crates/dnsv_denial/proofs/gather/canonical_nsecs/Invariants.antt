@@ -1,9 +1,0 @@
--- the records so far are those of the RDATA so far
-use Rattle.std.proofs.Common.{ℕ}
-use Rattle.dnsv_denial.proofs.GatherLemmas.{GoTogether}
-use Rattle.dnsv_records.specs.Nsec.{IsNsec}
-use Rattle.dnsv_denial.proofs.gather.canonical_nsecs.Given as goal
-
-abbrev pub invariant-loop-place : goal.invariant-loop-place
-invariant-loop-place l =
-    GoTogether IsNsec (λ each. each.rdata.now) (λ each. each.record.now) l.rrset.rdata l.place l.records.items

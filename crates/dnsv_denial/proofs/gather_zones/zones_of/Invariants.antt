@@ -1,7 +1,0 @@
--- the zones so far
-use Rattle.dnsv_denial.specs.Viewed.{SecuredIn}
-use Rattle.dnsv_denial.proofs.GatherZoneLemmas.{AreZonesTo}
-use Rattle.dnsv_denial.proofs.gather_zones.zones_of.Given as goal
-
-abbrev pub invariant-loop-labels : goal.invariant-loop-labels
-invariant-loop-labels l = AreZonesTo (SecuredIn l.trust) l.capture.rrsets l.name l.labels l.zones.items

@@ -1,0 +1,14 @@
+-- the usable records so far are added
+use Rattle.std.proofs.Common.{◌≡◌, List, ℕ}
+use Rattle.std.specs.Prelude.{map}
+use Rattle.dnsv_canonical.specs.Rrsets.{ReceivedRrset}
+use Rattle.dnsv_chain.specs.Trusted.{IsNumbered}
+use Rattle.dnsv_denial.specs.gathering.Evidence.{IsNsec3Of}
+use Rattle.dnsv_denial.specs.records.Record.{read_nsec3}
+use Rattle.dnsv_denial.proofs.lemmas.gathering.Gathering.{Grown, UpTo}
+use Rattle.dnsv_denial.proofs.gathering.nsec3.push_nsec3s.Given as goal
+
+abbrev pub invariant-loop-place : goal.invariant-loop-place
+invariant-loop-place l =
+    (rrsets : List ReceivedRrset) → IsNumbered rrsets l.number l.rrset
+    → Grown (λ entry. entry.number) read_nsec3 (IsNsec3Of rrsets l.fn.zone) (UpTo l.number l.place) l.fn.entries.items l.entries.items

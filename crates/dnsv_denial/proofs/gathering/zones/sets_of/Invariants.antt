@@ -1,0 +1,11 @@
+-- the sets so far, and how many hashes were made for them
+use Rattle.std.proofs.Common.{◌≡◌, map}
+use Rattle.dnsv_names.specs.Count.{counted}
+use Rattle.dnsv_zones.specs.chains.HashedNames.{hashes_for}
+use Rattle.dnsv_denial.proofs.lemmas.gathering.GatherZoneLemmas.{AreSetsTo}
+use Rattle.dnsv_denial.proofs.gathering.zones.sets_of.Given as goal
+
+abbrev pub invariant-loop-parameters : goal.invariant-loop-parameters
+invariant-loop-parameters l =
+    AreSetsTo l.name l.parameters-items l.parameters-index l.sets.items
+    × (l.count ≡ counted l.initial.count (hashes_for l.name (map (λ set. set.parameters.now) l.sets.items)))

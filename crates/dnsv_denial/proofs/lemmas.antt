@@ -1,0 +1,7 @@
+-- Lemmas that no crate above cites.
+pub mod forms
+pub mod gathering
+pub mod proving
+pub mod records
+pub mod unsigned_cuts
+pub mod words

@@ -1,0 +1,52 @@
+-- The forms that ask something of the wildcard at the closest encloser, by its number of labels.
+use Rattle.std.proofs.Common.{◌≡◌, ℕ, ◌+◌, ◌-◌, ◌<◌, ◌≤◌, List, Option, length, subst, sym, arith, ⊎_elim}
+use Rattle.std.specs.Prelude.{Some, None, MatchOption}
+use Rattle.std.specs.Ordering.{nat_cmp}
+use Rattle.std.proofs.lemmas.Bool.{cases_lt}
+use Rattle.dnsv_names.specs.Name.{Labels, rightmost}
+use Rattle.dnsv_names.specs.Tree.{wildcard_of}
+use Rattle.dnsv_names.specs.TreeLaws.{at_or_below_length}
+use Rattle.dnsv_names.specs.AncestorLaws.{rightmost_length}
+use Rattle.dnsv_zones.specs.forms.Forms.{IsAbove, NoNameForm, NoCloserForm}
+use Rattle.dnsv_zones.specs.forms.Parts.{AreNoNameParts, IsNoCloserPart}
+use Rattle.dnsv_zones.specs.forms.RecordWords.{RecordWords, words}
+use Rattle.dnsv_denial.specs.declared.words.asked.AskedWildcard.{AskedWildcard}
+use Rattle.dnsv_denial.specs.declared.words.asked.AskedWildcard.TheVariants.{Absent, Empty, Without}
+use Rattle.dnsv_denial.specs.forms.ByWildcard.{StandsAt, AreMostParts}
+use Rattle.dnsv_denial.specs.words.SaidAt.{IsFirstPlace}
+
+-- what holds of fewer than n only, and not of the last before n
+pub fewer_yet : (P : ℕ → Type 0) (n : ℕ) → 0 < n → ((k : ℕ) → P k → k < n) → ¬ P (n - 1) → (k : ℕ) → P k → k < n - 1
+fewer_yet P n some fewer last k holds =
+    ⊎_elim (λ (less : k < n - 1). less)
+    (λ (not_less : n - 1 ≤ k). let same : k ≡ n - 1 = omega (arith, fewer k holds) in absurd (last (subst P same holds)))
+    (cases_lt k (n - 1))
+
+-- a closest encloser has no fewer labels than the apex
+pub no_fewer_labels : (apex name : Labels) (labels : ℕ) → IsAbove apex name labels → length apex ≤ labels
+no_fewer_labels apex name labels above =
+    omega (arith, at_or_below_length (rightmost name labels) apex above.within, rightmost_length name labels (omega (arith, above.proper)))
+
+module _ (said : RecordWords ℕ) (apex name : Labels) where
+  pub none_above_apex : (asked : AskedWildcard) (n : ℕ) → n ≤ length apex
+      → ((more : ℕ) → StandsAt asked said apex name more → more < n) → (labels : ℕ) → ¬ StandsAt asked said apex name labels
+  none_above_apex asked n few fewer labels stands =
+      omega (arith, fewer labels stands, no_fewer_labels apex name labels stands.ends.above)
+
+  no_name_stands : (form : NoNameForm (words said) apex name) → StandsAt Absent said apex name form.labels
+  no_name_stands form = record { ends = form.ends; wildcard = form.wildcard }
+
+  pub no_name_found : {P : Type 0} (items : P → List ℕ) (found : Option P)
+      → MatchOption found ((labels : ℕ) → ¬ StandsAt Absent said apex name labels) (λ places. AreMostParts Absent said apex name (items places))
+      → MatchOption found (¬ NoNameForm (words said) apex name) (λ places. AreNoNameParts nat_cmp said apex name (items places))
+  no_name_found items None none = λ form. none form.labels (no_name_stands form)
+  no_name_found items (Some places) parts = record {
+    labels = parts.labels;
+    are = parts.are;
+    most_labels = λ form. parts.most_labels form.labels (no_name_stands form);
+  }
+
+  pub no_closer_found : (labels : ℕ) (found : Option ℕ) → IsAbove apex name labels → IsFirstPlace (said.Absent (rightmost name (labels + 1))) found
+      → MatchOption found (¬ NoCloserForm (words said) apex name labels) (IsNoCloserPart nat_cmp said apex name labels)
+  no_closer_found labels None above none = λ form. none form.next_closer.0 form.next_closer.1
+  no_closer_found labels (Some place) above first = record { above = above; next_closer = first }

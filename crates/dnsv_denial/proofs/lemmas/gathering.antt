@@ -1,0 +1,10 @@
+-- Of the records that are gathered from the evidence.
+pub mod EvidenceLemmas
+pub mod GatherLemmas
+pub mod GatherZoneLemmas
+pub mod Gathering
+pub mod HashCountLemmas
+pub mod Nsec3Gather
+pub mod NsecGather
+pub mod NumberedLemmas
+pub mod ParameterSetLemmas

@@ -1,0 +1,139 @@
+-- Zones and parameters that are gathered one after another.
+use Rattle.std.proofs.Common.{◌≡◌, ◌↔◌, ◌&&◌, Bor, Bool, true, false, cond, ℕ, zero, suc, ◌+◌, ◌<◌, ◌≤◌, List, [], ◌∷◌, ◌++◌, length, get_or, map, take, refl, sym, ap, ◌∙◌, subst, inl, inr, ⊎_elim, arith, length-append}
+use Rattle.std.proofs.lemmas.Bool.{and_from, and_parts, eqb-true}
+use Rattle.std.proofs.lemmas.Cmp.{nat_eq_equiv, lists_equiv, on_total}
+use Rattle.std.proofs.lemmas.List.{map-append, take_all, take_more}
+use Rattle.std.proofs.lemmas.List.Kept.{IsStrictlySortedBy-dedup, Contains-dedup, Contains-from_dedup}
+use Rattle.std.proofs.lemmas.List.Sorted.{Contains-permutation, IsPermutation-map, IsPermutation-sym}
+use Rattle.std.specs.Cmp.{IsEquivalence, unsigned_ties}
+use Rattle.std.specs.Cmp.Derive.{on_tied, then_tied, tie}
+use Rattle.std.specs.Cmp.Lexicographic.{pointwise, texts_ties, bytes_decides}
+use Rattle.std.specs.List.{AllByRecursion, dedup, dedup_from}
+use Rattle.std.specs.List.Sorted.{IsPermutation, IsSorted, IsStrictlySortedBy}
+use Rattle.std.specs.Ordering.{nat_cmp, eq_by_cmp}
+use Rattle.std.specs.Prelude.{Contains, Some, nat_eq, slice_get}
+use Rattle.std.specs.declared.cmp.Ordering.{Ordering}
+use Rattle.std.specs.declared.cmp.Ordering.TheVariants.{Less}
+use Rattle.dnsv_names.specs.Name.{Labels, rightmost}
+use Rattle.dnsv_names.specs.Octets.{octets_cmp}
+use Rattle.dnsv_records.specs.OctetLaws.{recursion-append}
+use Rattle.dnsv_records.specs.declared.nsec3.Nsec3Parameters.{Nsec3Parameters}
+use Rattle.dnsv_zones.specs.chains.Nsec3Chain.{Parameters}
+use Rattle.dnsv_zones.specs.chains.Rdata.{parameters_of}
+use Rattle.dnsv_canonical.proofs.CanonicalLemmas.{each_map}
+use Rattle.dnsv_canonical.specs.Rrsets.{ReceivedRrset}
+use Rattle.dnsv_denial.specs.gathering.Kept.{IsSetOf, IsZoneOf}
+use Rattle.dnsv_denial.specs.words.EvidenceWords.{parameters_cmp}
+use Rattle.dnsv_denial.specs.declared.proving.zone_records.ParameterSet.{ParameterSet}
+use Rattle.dnsv_denial.specs.declared.proving.zone_records.ZoneRecords.{ZoneRecords}
+use Rattle.dnsv_denial.proofs.lemmas.proving.ZoneProofLemmas.{parameters_total}
+
+-- ---- zones
+
+each_push : {X : Type 0} (xs : List X) (x : X) (P : ℕ → X → Type 0) → ((k : ℕ) (y : X) → slice_get xs k ≡ Some y → P k y) → P (length xs) x
+    → (k : ℕ) (y : X) → slice_get (xs ++ x ∷ []) k ≡ Some y → P k y
+each_push [] x P before last zero y there = let is : x ≡ y = cc in subst (P 0) is last
+each_push [] x P before last (suc k) y there = cc
+each_push (z ∷ xs) x P before last zero y there = before zero y there
+each_push (z ∷ xs) x P before last (suc k) y there = each_push xs x (λ m. P (suc m)) (λ m w at. before (suc m) w at) last k y there
+
+module _ (Secured : ℕ → ℕ → Type 0) (rrsets : List ReceivedRrset) (name : Labels) where
+  -- the zones of so many numbers of labels
+  pub record AreZonesTo (n : ℕ) (zones : List ZoneRecords) : Type 0 where
+    pub count : length zones ≡ n
+    pub each : (k : ℕ) (kept : ZoneRecords) → slice_get zones k ≡ Some kept → (kept.zone ≡ rightmost name k) × IsZoneOf Secured rrsets kept
+
+  pub no_zones : AreZonesTo 0 []
+  no_zones = record { count = refl; each = λ k kept there. cc }
+
+  pub zone_more : (n : ℕ) (zones : List ZoneRecords) (kept : ZoneRecords) → kept.zone ≡ rightmost name n → IsZoneOf Secured rrsets kept
+      → AreZonesTo n zones → AreZonesTo (n + 1) (zones ++ kept ∷ [])
+  zone_more n zones kept is of so_far = record {
+    count = omega (arith, length-append zones (kept ∷ []), so_far.count);
+    each = each_push zones kept (λ k each. (each.zone ≡ rightmost name k) × IsZoneOf Secured rrsets each) so_far.each
+        (is ∙ ap (rightmost name) (sym so_far.count), of);
+  }
+
+-- ---- parameters
+
+abbrev parameters_eq : Nsec3Parameters → Nsec3Parameters → Bool
+parameters_eq a b = nat_eq a.iterations.0 b.iterations.0 && pointwise nat_eq a.salt b.salt
+
+same_parameters : (a b : Nsec3Parameters) → parameters_eq a b ≡ true → a ≡ b
+same_parameters a b same =
+    let parts = and_parts _ _ same in
+    let iterations : a.iterations.0 ≡ b.iterations.0 = eqb-true _ _ parts.0 in
+    let salt : a.salt ≡ b.salt = (bytes_decides a.salt b.salt).0 parts.1 in
+    λ i. record { iterations = record { 0 = iterations i }; salt = salt i }
+
+parameters_equiv : IsEquivalence parameters_eq
+parameters_equiv = record {
+  refl = λ a. and_from _ _ (nat_eq_equiv.refl a.iterations.0) ((lists_equiv nat_eq_equiv).refl a.salt);
+  symm = λ a b. ap (λ c. c && pointwise nat_eq a.salt b.salt) (nat_eq_equiv.symm a.iterations.0 b.iterations.0)
+      ∙ ap (λ c. nat_eq b.iterations.0 a.iterations.0 && c) ((lists_equiv nat_eq_equiv).symm a.salt b.salt);
+  congr = λ a b c same. ap (λ n. parameters_eq n c) (same_parameters a b same);
+}
+
+ties : (a b : Nsec3Parameters) → parameters_eq a b ≡ eq_by_cmp (λ x y. parameters_cmp (parameters_of x) (parameters_of y)) a b
+ties = (then_tied (on_tied (λ (n : Nsec3Parameters). n.iterations.0) (tie nat_cmp unsigned_ties)) (on_tied (λ (n : Nsec3Parameters). n.salt) (tie octets_cmp texts_ties))).ties
+
+rising_map : {X Y : Type 0} (f : X → Y) (R : Y → Y → Ordering) (xs : List X) → IsStrictlySortedBy (λ a b. R (f a) (f b)) xs → IsStrictlySortedBy R (map f xs)
+unfolding IsStrictlySortedBy
+rising_map f R [] rises = tt
+rising_map f R (x ∷ xs) rises = (each_map f (λ y. R (f x) y ≡ Less) xs rises.0, rising_map f R xs rises.1)
+
+map-dedup_from : {X Y : Type 0} (f : X → Y) (same : Y → Y → Bool) (x : X) (xs : List X) → map f (dedup_from (λ a b. same (f a) (f b)) x xs) ≡ dedup_from same (f x) (map f xs)
+map-dedup_from f same x [] = refl
+map-dedup_from f same x (y ∷ ys) =
+    elim (same (f y) (f x)) as (λ b. map f (cond b (dedup_from (λ a c. same (f a) (f c)) x ys) (x ∷ dedup_from (λ a c. same (f a) (f c)) y ys)) ≡ cond b (dedup_from same (f x) (map f ys)) (f x ∷ dedup_from same (f y) (map f ys))) [
+      | true ↦ map-dedup_from f same x ys
+      | false ↦ ap (λ t. f x ∷ t) (map-dedup_from f same y ys)
+    ]
+
+map-dedup : {X Y : Type 0} (f : X → Y) (same : Y → Y → Bool) (xs : List X) → map f (dedup (λ a b. same (f a) (f b)) xs) ≡ dedup same (map f xs)
+map-dedup f same [] = refl
+map-dedup f same (x ∷ xs) = map-dedup_from f same x xs
+
+-- what a sort and then a `dedup` leave of references to parameters
+module _ (given sorted kept : List (Bor Nsec3Parameters)) (ordered : IsSorted (λ (a b : Bor Nsec3Parameters). parameters_cmp (parameters_of a.now) (parameters_of b.now)) sorted) (is : kept ≡ dedup (λ (a b : Bor Nsec3Parameters). parameters_eq a.now b.now) sorted) where
+  pub put_in_order : IsStrictlySortedBy parameters_cmp (map parameters_of (map (λ each. each.now) kept))
+  put_in_order = rw is (rising_map parameters_of parameters_cmp _ (rising_map (λ (each : Bor Nsec3Parameters). each.now) (λ a b. parameters_cmp (parameters_of a) (parameters_of b)) _
+      (IsStrictlySortedBy-dedup (on_total (λ (each : Bor Nsec3Parameters). parameters_of each.now) parameters_total) (λ a b. ties a.now b.now) sorted ordered)))
+
+  pub members_in_order : IsPermutation given sorted → (x : Nsec3Parameters) → Contains (map (λ each. each.now) given) x ↔ Contains (map (λ each. each.now) kept) x
+  members_in_order moved x =
+      let mapped : IsPermutation (map (λ (b : Bor Nsec3Parameters). b.now) given) (map (λ (b : Bor Nsec3Parameters). b.now) sorted) = IsPermutation-map (λ b. b.now) given sorted moved in
+      let whole : map (λ (b : Bor Nsec3Parameters). b.now) kept ≡ dedup parameters_eq (map (λ b. b.now) sorted) = ap (map (λ b. b.now)) is ∙ map-dedup (λ (b : Bor Nsec3Parameters). b.now) parameters_eq sorted in (
+        λ found. rw whole (Contains-dedup parameters_equiv same_parameters (map (λ b. b.now) sorted) x
+            (Contains-permutation (map (λ b. b.now) given) (map (λ b. b.now) sorted) x mapped found)),
+        λ found. Contains-permutation (map (λ b. b.now) sorted) (map (λ b. b.now) given) x
+            (IsPermutation-sym (map (λ (b : Bor Nsec3Parameters). b.now) given) (map (λ b. b.now) sorted) mapped)
+            (Contains-from_dedup parameters_eq (map (λ b. b.now) sorted) x (subst (λ xs. Contains xs x) whole found)),
+      )
+
+-- ---- sets
+
+-- the sets of the parameters so far
+pub record AreSetsTo (name : Labels) (ordered : List (Bor Nsec3Parameters)) (i : ℕ) (sets : List ParameterSet) : Type 0 where
+  pub same : map (λ set. set.parameters.now) sets ≡ map (λ each. each.now) (take i ordered)
+  pub hashed : AllByRecursion (IsSetOf name) sets
+
+pub no_sets : (name : Labels) (ordered : List (Bor Nsec3Parameters)) → AreSetsTo name ordered 0 []
+no_sets name ordered = record { same = refl; hashed = tt }
+
+pub set_more : (name : Labels) (ordered : List (Bor Nsec3Parameters)) (i : ℕ) (sets : List ParameterSet) (set : ParameterSet) (each : Bor Nsec3Parameters)
+    → i < length ordered → each ≡ get_or ordered i each → set.parameters.now ≡ each.now → IsSetOf name set → AreSetsTo name ordered i sets
+    → AreSetsTo name ordered (i + 1) (sets ++ set ∷ [])
+set_more name ordered i sets set each within is its of so_far =
+    let next : take (i + 1) ordered ≡ take i ordered ++ each ∷ [] = take_more ordered i each within ∙ ap (λ e. take i ordered ++ e ∷ []) (sym is) in
+    record {
+      same = map-append (λ (s : ParameterSet). s.parameters.now) sets (set ∷ [])
+          ∙ ap (λ front. front ++ set.parameters.now ∷ []) so_far.same ∙ ap (λ e. map (λ (b : Bor Nsec3Parameters). b.now) (take i ordered) ++ e ∷ []) its
+          ∙ sym (map-append (λ (b : Bor Nsec3Parameters). b.now) (take i ordered) (each ∷ []))
+          ∙ sym (ap (map (λ (b : Bor Nsec3Parameters). b.now)) next);
+      hashed = recursion-append (IsSetOf name) sets (set ∷ []) so_far.hashed (of, tt);
+    }
+
+pub all_sets : (name : Labels) (ordered : List (Bor Nsec3Parameters)) (i : ℕ) (sets : List ParameterSet) → length ordered ≤ i → AreSetsTo name ordered i sets
+    → map (λ set. set.parameters.now) sets ≡ map (λ each. each.now) ordered
+all_sets name ordered i sets whole so_far = so_far.same ∙ ap (map (λ (b : Bor Nsec3Parameters). b.now)) (take_all i ordered whole)

@@ -1,0 +1,125 @@
+-- The NSEC3 records of a zone, gathered.
+use Rattle.std.specs.FinSet as set
+use Rattle.std.proofs.Common.{◌≡◌, ℕ, zero, suc, ◌++◌, ◌+◌, ◌-◌, ◌≤◌, List, [], ◌∷◌, length, map, refl, sym, ap, ◌∙◌, subst, arith, Bool, true, false}
+use Rattle.std.specs.Prelude.{Some, slice_get, IsTrue}
+use Rattle.std.proofs.lemmas.Option.{slice_get_within}
+use Rattle.dnsv_names.specs.Name.{Labels}
+use Rattle.dnsv_records.specs.Base32Hex.{IsHash, Spells}
+use Rattle.dnsv_records.specs.Nsec3.{IsNsec3, IsUsable}
+use Rattle.dnsv_records.specs.declared.nsec3.Nsec3.{Nsec3}
+use Rattle.dnsv_records.proofs.Base32Lemmas.{same_octets}
+use Rattle.dnsv_records.proofs.OneRecord.{one_nsec3}
+use Rattle.dnsv_zones.specs.chains.Nsec3Chain.{Nsec3Record}
+use Rattle.dnsv_zones.specs.chains.Rdata.{parameters_of}
+use Rattle.dnsv_canonical.specs.Canonical.{IsCanonical}
+use Rattle.dnsv_canonical.specs.CanonicalRdata.{canonical_form}
+use Rattle.dnsv_canonical.specs.Rrsets.{ReceivedRrset}
+use Rattle.dnsv_chain.specs.Trusted.{IsNumbered}
+use Rattle.dnsv_denial.specs.gathering.Evidence.{HasZoneSignature, IsHashedOwner, IsNsec3At, IsNsec3Of, IsRecordAt, IsSecuredBy}
+use Rattle.dnsv_denial.specs.gathering.Gathered.{AreAll, AreNsec3s, AreNsec3sOf, IsEntryOf, IsNsec3RrsetOf}
+use Rattle.dnsv_denial.specs.records.Record.{flags_of, read_nsec3}
+use Rattle.dnsv_denial.specs.declared.records.entry.Nsec3Entry.{Nsec3Entry}
+use Rattle.dnsv_denial.specs.declared.records.number.RecordNumber.{RecordNumber}
+use Rattle.dnsv_denial.proofs.lemmas.gathering.EvidenceLemmas.{one_numbered, one_record, nsec3_forms}
+use Rattle.dnsv_denial.proofs.lemmas.gathering.Gathering.{UpTo, Grown, grown_none, grown_one, grown_not, grown_all, none_yet, none_here, some_here, all_of_them}
+use Rattle.dnsv_denial.proofs.lemmas.gathering.NsecGather.{record_at, place_within}
+
+one_owner : (zone owner : Labels) (a b : List ℕ) → IsHashedOwner zone owner a → IsHashedOwner zone owner b → a ≡ b
+one_owner zone owner a b is_a is_b =
+    let parts_a = is_a.parts in let parts_b = is_b.parts in
+    let labels : is_a.label ≡ is_b.label = cc in
+    same_octets _ a b is_a.is_hash.eight_bits is_b.is_hash.eight_bits (subst (λ l. Spells l a) labels is_a.spelled) is_b.spelled
+
+pub one_nsec3_of : (rrsets : List ReceivedRrset) (zone : Labels) (n : RecordNumber) (a b : Nsec3Record) → IsNsec3Of rrsets zone n a → IsNsec3Of rrsets zone n b → a ≡ b
+one_nsec3_of rrsets zone n a b is_a is_b =
+    let one = one_record rrsets n is_a.rrset is_b.rrset is_a.rdata is_b.rdata is_a.at is_b.at in
+    let fields = one_nsec3 is_b.rdata is_a.fields is_b.fields (subst (λ x. IsNsec3 x is_a.fields) one.1 is_a.read) is_b.read in
+    let hash = one_owner zone is_b.rrset.owner a.hash b.hash (subst (λ (r : ReceivedRrset). IsHashedOwner zone r.owner a.hash) one.0 is_a.owner) is_b.owner in
+    let next : a.next ≡ b.next = is_a.next ∙ ap (λ (f : Nsec3). f.next_hash) fields ∙ sym is_b.next in
+    let flags : a.flags ≡ b.flags = is_a.flags ∙ ap (λ (f : Nsec3). f.flags.0) fields ∙ sym is_b.flags in
+    let types : a.types ≡ b.types = is_a.types ∙ ap (λ (f : Nsec3). λ t. set.contains f.types t) fields ∙ sym is_b.types in
+    let parameters : a.parameters ≡ b.parameters = is_a.parameters ∙ ap (λ (f : Nsec3). parameters_of f.parameters) fields ∙ sym is_b.parameters in
+    λ i. record { hash = hash i; next = next i; flags = flags i; types = types i; parameters = parameters i }
+
+flags_are : (loose : Bool) (flags : ℕ) → flags ≤ 1 → (IsTrue loose → flags ≡ 1) → (flags ≡ 1 → IsTrue loose) → flags_of loose ≡ flags
+flags_are true flags most to from = sym (to refl)
+flags_are false zero most to from = refl
+flags_are false (suc n) most to from = let one : suc n ≡ 1 = omega (arith, most) in let wrong = from one in cc
+
+forms_of : (rrset : ReceivedRrset) (canonical : List (List ℕ)) → rrset.rtype ≡ 50 → IsCanonical rrset.rdata canonical → IsCanonical (map (canonical_form rrset.rtype) rrset.rdata) canonical
+forms_of rrset canonical rtype is =
+    subst (λ t. IsCanonical (map (canonical_form t) rrset.rdata) canonical) (sym rtype) (subst (λ r. IsCanonical r canonical) (sym (nsec3_forms rrset.rdata)) is)
+
+module _ (rrsets : List ReceivedRrset) (zone : Labels) (k : ℕ) (rrset : ReceivedRrset) (canonical : List (List ℕ)) (numbered : IsNumbered rrsets k rrset) (rtype : rrset.rtype ≡ 50) (is : IsCanonical rrset.rdata canonical) where
+  abbrev pub GrownNsec3s : (RecordNumber → Type 0) → List Nsec3Entry → List Nsec3Entry → Type 0
+  GrownNsec3s Within before now = Grown (λ entry. entry.number) read_nsec3 (IsNsec3Of rrsets zone) Within before now
+
+  its_record : (place : ℕ) (rdata : List ℕ) → slice_get canonical place ≡ Some rdata → IsRecordAt rrsets (record { rrset = k; place = place + 1 }) rrset rdata
+  its_record place rdata there = record_at rrsets k place rrset canonical rdata numbered (forms_of rrset canonical rtype is) there
+
+  pub nsec3_added : (place : ℕ) (rdata hash : List ℕ) (nsec3 : Nsec3) (entry : Nsec3Entry) (before now next : List Nsec3Entry)
+      → slice_get canonical place ≡ Some rdata → IsNsec3 rdata nsec3 → IsHashedOwner zone rrset.owner hash → IsEntryOf (record { rrset = k; place = place + 1 }) rrset.owner hash nsec3 entry → next ≡ now ++ entry ∷ []
+      → GrownNsec3s (UpTo k place) before now → GrownNsec3s (UpTo k (place + 1)) before next
+  nsec3_added place rdata hash nsec3 entry before now next there read owner used pushed so_far =
+      let it : IsNsec3Of rrsets zone (record { rrset = k; place = place + 1 }) (read_nsec3 entry) = record {
+        rrset = rrset;
+        rdata = rdata;
+        at = its_record place rdata there;
+        rtype = rtype;
+        owner = subst (IsHashedOwner zone rrset.owner) (sym used.same_hash) owner;
+        fields = nsec3;
+        read = read;
+        usable = used.usable;
+        next = used.next_hash;
+        flags = flags_are entry.is_opt_out nsec3.flags.0 used.usable.flags used.opt_out.0 used.opt_out.1;
+        types = ap (λ types. λ t. set.contains types t) used.types;
+        parameters = ap parameters_of used.parameters;
+      } in
+      grown_one (λ each. each.number) read_nsec3 (IsNsec3Of rrsets zone) k place entry before now next used.same_number it (λ x its. one_nsec3_of rrsets zone (record { rrset = k; place = place + 1 }) (read_nsec3 entry) x it its) pushed so_far
+
+  pub nsec3_passed : (place : ℕ) (rdata : List ℕ) (nsec3 : Nsec3) (before now : List Nsec3Entry)
+      → slice_get canonical place ≡ Some rdata → IsNsec3 rdata nsec3 → ¬ IsUsable nsec3
+      → GrownNsec3s (UpTo k place) before now → GrownNsec3s (UpTo k (place + 1)) before now
+  nsec3_passed place rdata nsec3 before now there read unusable so_far =
+      grown_not (λ each. each.number) read_nsec3 (IsNsec3Of rrsets zone) k place before now
+      (λ x its. let one = one_record rrsets (record { rrset = k; place = place + 1 }) its.rrset rrset its.rdata rdata its.at (its_record place rdata there) in
+      let fields = one_nsec3 rdata its.fields nsec3 (subst (λ r. IsNsec3 r its.fields) one.1 its.read) read in unusable (subst IsUsable fields its.usable)) so_far
+
+  pub nsec3s_begin : (before : List Nsec3Entry) → GrownNsec3s (UpTo k 0) before before
+  nsec3s_begin before = grown_none (λ each. each.number) read_nsec3 (IsNsec3Of rrsets zone) k before (λ n x its. its.at.is_rdata.0)
+
+  pub nsec3s_end : (place : ℕ) (before now : List Nsec3Entry) → length canonical ≤ place → GrownNsec3s (UpTo k place) before now → GrownNsec3s (λ n. n.rrset ≡ k) before now
+  nsec3s_end place before now past so_far = grown_all (λ each. each.number) read_nsec3 (IsNsec3Of rrsets zone) k place before now
+      (λ n x same its. let bound = place_within rrsets k rrset its.rrset canonical its.rdata n numbered (forms_of rrset canonical rtype is) same its.at in omega (arith, bound, past)) so_far
+
+-- ---- RRset by RRset
+
+module _ (Secured : ℕ → ℕ → Type 0) (rrsets : List ReceivedRrset) (zone : Labels) where
+  abbrev pub GatheredNsec3s : ℕ → List Nsec3Entry → Type 0
+  GatheredNsec3s place entries = AreAll (λ entry. entry.number) read_nsec3 (IsNsec3At Secured rrsets zone) (λ n. n.rrset ≤ place) entries
+
+  pub gather3_begins : GatheredNsec3s 0 []
+  gather3_begins = none_yet (λ entry. entry.number) read_nsec3 (IsNsec3At Secured rrsets zone) (λ n x is. is.is.at.is_rrset.0)
+
+  pub gather3_passes : (place : ℕ) (rrset : ReceivedRrset) (entries : List Nsec3Entry) → IsNumbered rrsets (place + 1) rrset
+      → ((hash : List ℕ) → ¬ IsNsec3RrsetOf (Secured (place + 1)) rrset zone hash) → GatheredNsec3s place entries → GatheredNsec3s (place + 1) entries
+  gather3_passes place rrset entries numbered none so_far = none_here (λ entry. entry.number) read_nsec3 (IsNsec3At Secured rrsets zone) place entries
+      (λ n x same is. let moved = subst (IsSecuredBy Secured rrsets zone) same is.secured in
+      let one : is.is.rrset ≡ rrset = one_numbered rrsets (place + 1) is.is.rrset rrset (subst (λ m. IsNumbered rrsets m is.is.rrset) same is.is.at.is_rrset) numbered in
+      let its : moved.rrset ≡ rrset = one_numbered rrsets (place + 1) moved.rrset rrset moved.is_rrset numbered in
+      none x.hash (record {
+        rtype = ap (λ (r : ReceivedRrset). r.rtype) (sym one) ∙ is.is.rtype;
+        owner = subst (λ (r : ReceivedRrset). IsHashedOwner zone r.owner x.hash) one is.is.owner;
+        signed = subst (λ r. HasZoneSignature (Secured (place + 1)) r zone) its moved.signed;
+      })) so_far
+
+  pub gather3_adds : (place : ℕ) (rrset : ReceivedRrset) (entries more next : List Nsec3Entry) → IsNumbered rrsets (place + 1) rrset → HasZoneSignature (Secured (place + 1)) rrset zone
+      → AreNsec3s rrsets zone (λ n. n.rrset ≡ place + 1) more → next ≡ entries ++ more → GatheredNsec3s place entries → GatheredNsec3s (place + 1) next
+  gather3_adds place rrset entries more next numbered signed are grown so_far =
+      some_here (λ entry. entry.number) read_nsec3 (IsNsec3At Secured rrsets zone) (IsNsec3Of rrsets zone) place entries more next
+      (λ n x same is. record { is = is; secured = subst (IsSecuredBy Secured rrsets zone) (sym same) (record { rrset = rrset; is_rrset = numbered; signed = signed }) })
+      (λ n x is. is.is) are grown so_far
+
+  pub gather3_ends : (place : ℕ) (entries : List Nsec3Entry) → length rrsets ≤ place → GatheredNsec3s place entries → AreNsec3sOf Secured rrsets zone entries
+  gather3_ends place entries past so_far = all_of_them (λ entry. entry.number) read_nsec3 (IsNsec3At Secured rrsets zone) place entries
+      (λ n x is. let there = slice_get_within rrsets (n.rrset - 1) is.is.rrset is.is.at.is_rrset.1 in let from_one = is.is.at.is_rrset.0 in omega (arith, there, from_one, past)) so_far

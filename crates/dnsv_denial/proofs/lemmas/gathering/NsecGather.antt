@@ -1,0 +1,144 @@
+-- The NSEC records of an RRset, put behind those before it.
+use Rattle.std.proofs.Common.{◌≡◌, ℕ, zero, suc, ◌+◌, ◌-◌, ◌<◌, ◌≤◌, ◌⊎◌, List, [], ◌∷◌, ◌++◌, length, map, refl, sym, ap, ◌∙◌, subst, inl, inr, ⊎_elim, arith, append-nil, append_assoc}
+use Rattle.std.specs.Prelude.{⊤, Some, slice_get}
+use Rattle.std.proofs.lemmas.Bool.{cases_lt}
+use Rattle.std.proofs.lemmas.Option.{slice_get_within}
+use Rattle.dnsv_names.specs.Name.{Labels}
+use Rattle.dnsv_records.specs.Nsec.{IsNsec}
+use Rattle.dnsv_zones.specs.chains.NsecChain.{NsecRecord}
+use Rattle.dnsv_zones.specs.chains.Rdata.{nsec_record}
+use Rattle.dnsv_canonical.specs.Canonical.{IsCanonical}
+use Rattle.dnsv_canonical.specs.CanonicalRdata.{canonical_form}
+use Rattle.dnsv_canonical.specs.Rrsets.{ReceivedRrset}
+use Rattle.dnsv_canonical.proofs.CanonicalLemmas.{canonical_unique}
+use Rattle.dnsv_chain.specs.Trusted.{IsNumbered}
+use Rattle.dnsv_denial.specs.gathering.Evidence.{HasZoneSignature, IsRecordAt, IsNsecAt, IsNsecOf, IsSecuredBy}
+use Rattle.std.specs.declared.cmp.Ordering.TheVariants.{Less}
+use Rattle.dnsv_denial.specs.gathering.Gathered.{AreAll, AreNsecs, AreNsecsOf}
+use Rattle.dnsv_denial.specs.records.Record.{read_entry}
+use Rattle.dnsv_denial.specs.words.EvidenceWords.{number_cmp}
+use Rattle.dnsv_denial.specs.declared.records.entry.NsecEntry.{NsecEntry}
+use Rattle.dnsv_denial.specs.declared.records.number.RecordNumber.{RecordNumber}
+use Rattle.dnsv_denial.proofs.lemmas.gathering.EvidenceLemmas.{one_numbered, one_nsec_of, nsec_forms, same_rrset_less, earlier_rrset_less, all_joined, all_none, all_single, all_said}
+
+pub record GrownBy (rrsets : List ReceivedRrset) (Within : RecordNumber → Type 0) (before now : List NsecEntry) : Type 0 where
+  pub more : List NsecEntry
+  pub grown : now ≡ before ++ more
+  pub are : AreNsecs rrsets Within more
+
+-- the RDATA of an RRset at a place in canonical order
+pub record_at : (rrsets : List ReceivedRrset) (k place : ℕ) (rrset : ReceivedRrset) (canonical : List (List ℕ)) (rdata : List ℕ)
+    → IsNumbered rrsets k rrset → IsCanonical (map (canonical_form rrset.rtype) rrset.rdata) canonical → slice_get canonical place ≡ Some rdata
+    → IsRecordAt rrsets (record { rrset = k; place = place + 1 }) rrset rdata
+record_at rrsets k place rrset canonical rdata numbered is there =
+    let same : place ≡ place + 1 - 1 = omega arith in
+    record { is_rrset = numbered; canonical = canonical; is_canonical = is; is_rdata = (omega arith, subst (λ p. slice_get canonical p ≡ Some rdata) same there) }
+
+-- no place is behind the last
+pub place_within : (rrsets : List ReceivedRrset) (k : ℕ) (rrset other : ReceivedRrset) (canonical : List (List ℕ)) (rdata : List ℕ) (n : RecordNumber)
+    → IsNumbered rrsets k rrset → IsCanonical (map (canonical_form rrset.rtype) rrset.rdata) canonical → n.rrset ≡ k
+    → IsRecordAt rrsets n other rdata → n.place ≤ length canonical
+place_within rrsets k rrset other canonical rdata n numbered is same at =
+    let one : other ≡ rrset = one_numbered rrsets k other rrset (subst (λ m. IsNumbered rrsets m other) same at.is_rrset) numbered in
+    let moved : IsCanonical (map (canonical_form rrset.rtype) rrset.rdata) at.canonical =
+    subst (λ (each : ReceivedRrset). IsCanonical (map (canonical_form each.rtype) each.rdata) at.canonical) one at.is_canonical in
+    let lists : at.canonical ≡ canonical = canonical_unique (map (canonical_form rrset.rtype) rrset.rdata) at.canonical canonical moved is in
+    let within = slice_get_within canonical (n.place - 1) rdata (subst (λ c. slice_get c (n.place - 1) ≡ Some rdata) lists at.is_rdata.1) in
+    omega (arith, within, at.is_rdata.0)
+
+forms_of : (rrset : ReceivedRrset) (canonical : List (List ℕ)) → rrset.rtype ≡ 47 → IsCanonical rrset.rdata canonical → IsCanonical (map (canonical_form rrset.rtype) rrset.rdata) canonical
+forms_of rrset canonical rtype is =
+    subst (λ t. IsCanonical (map (canonical_form t) rrset.rdata) canonical) (sym rtype) (subst (λ r. IsCanonical r canonical) (sym (nsec_forms rrset.rdata)) is)
+
+abbrev pub UpTo : ℕ → ℕ → RecordNumber → Type 0
+UpTo k place n = (n.rrset ≡ k) × (n.place ≤ place)
+
+number_is : (n : RecordNumber) (k place : ℕ) → n.rrset ≡ k → n.place ≡ place → n ≡ record { rrset = k; place = place }
+number_is n k place rrset at = λ i. record { rrset = rrset i; place = at i }
+
+pub nsecs_begin : (rrsets : List ReceivedRrset) (k : ℕ) (before : List NsecEntry) → GrownBy rrsets (UpTo k 0) before before
+nsecs_begin rrsets k before = record {
+  more = [];
+  grown = sym (append-nil before);
+  are = all_none (λ entry. entry.number) read_entry (IsNsecOf rrsets) (UpTo k 0) (λ n x within is. let from_one = is.at.is_rdata.0 in omega (arith, from_one, within.1));
+}
+
+pub nsecs_more : (rrsets : List ReceivedRrset) (k place : ℕ) (rrset : ReceivedRrset) (canonical : List (List ℕ)) (rdata : List ℕ) (entry : NsecEntry) (before now next : List NsecEntry)
+    → IsNumbered rrsets k rrset → rrset.rtype ≡ 47 → IsCanonical rrset.rdata canonical → slice_get canonical place ≡ Some rdata
+    → entry.number ≡ record { rrset = k; place = place + 1 } → entry.owner.now ≡ rrset.owner → IsNsec rdata entry.nsec.now → next ≡ now ++ entry ∷ []
+    → GrownBy rrsets (UpTo k place) before now → GrownBy rrsets (UpTo k (place + 1)) before next
+nsecs_more rrsets k place rrset canonical rdata entry before now next numbered rtype is there number owner read pushed so_far =
+    let at = record_at rrsets k place rrset canonical rdata numbered (forms_of rrset canonical rtype is) there in
+    let b : RecordNumber = record { rrset = k; place = place + 1 } in
+    let it : IsNsecOf rrsets b (read_entry entry) = record { rrset = rrset; rdata = rdata; at = at; rtype = rtype; fields = entry.nsec.now; read = read; is = ap (λ o. nsec_record o entry.nsec.now) owner } in
+    record {
+      more = so_far.more ++ entry ∷ [];
+      grown = pushed ∙ ap (λ front. front ++ entry ∷ []) so_far.grown ∙ append_assoc before so_far.more (entry ∷ []);
+      are = all_joined (λ each. each.number) read_entry (IsNsecOf rrsets) (UpTo k place) (λ n. n ≡ b) (UpTo k (place + 1)) so_far.more (entry ∷ [])
+          (λ x y x_is y_is. subst (λ z. number_cmp x z ≡ Less) (sym y_is) (before_last x x_is))
+          (λ n within. (within.0, omega (arith, within.1)))
+          (λ n same. (ap (λ (m : RecordNumber). m.rrset) same, omega (arith, ap (λ (m : RecordNumber). m.place) same)))
+          (λ n x within its. ⊎_elim (λ (below : n.place < place + 1). inl (within.0, omega (arith, below))) (λ (above : place + 1 ≤ n.place). inr (number_is n k (place + 1) within.0 (omega (arith, above, within.1)))) (cases_lt n.place (place + 1)))
+          so_far.are
+          (all_single (λ each. each.number) read_entry (IsNsecOf rrsets) b entry number it (λ x its. one_nsec_of rrsets b (read_entry entry) x it its));
+    } where
+      before_last : (x : RecordNumber) → UpTo k place x → number_cmp x (record { rrset = k; place = place + 1 }) ≡ Less
+      before_last x within =
+          subst (λ z. number_cmp z (record { rrset = k; place = place + 1 }) ≡ Less) (sym (number_is x k x.place within.0 refl)) (same_rrset_less k x.place (place + 1) (omega (arith, within.1)))
+
+pub nsecs_end : (rrsets : List ReceivedRrset) (k place : ℕ) (rrset : ReceivedRrset) (canonical : List (List ℕ)) (before now : List NsecEntry)
+    → IsNumbered rrsets k rrset → rrset.rtype ≡ 47 → IsCanonical rrset.rdata canonical → length canonical ≤ place
+    → GrownBy rrsets (UpTo k place) before now → GrownBy rrsets (λ n. n.rrset ≡ k) before now
+nsecs_end rrsets k place rrset canonical before now numbered rtype is past so_far = record {
+  more = so_far.more;
+  grown = so_far.grown;
+  are = all_said (λ each. each.number) read_entry (IsNsecOf rrsets) (IsNsecOf rrsets) (UpTo k place) (λ n. n.rrset ≡ k) so_far.more
+      (λ n x within its. (within.0, its))
+      (λ n x same its. let bound = place_within rrsets k rrset its.rrset canonical its.rdata n numbered (forms_of rrset canonical rtype is) same its.at in ((same, omega (arith, bound, past)), its))
+      so_far.are;
+}
+
+-- ---- RRset by RRset
+
+module _ (Secured : ℕ → ℕ → Type 0) (rrsets : List ReceivedRrset) (zone : Labels) where
+  abbrev pub Gathered : ℕ → List NsecEntry → Type 0
+  Gathered place entries = AreAll (λ entry. entry.number) read_entry (IsNsecAt Secured rrsets zone) (λ n. n.rrset ≤ place) entries
+
+  pub gather_begins : Gathered 0 []
+  gather_begins = all_none (λ entry. entry.number) read_entry (IsNsecAt Secured rrsets zone) (λ n. n.rrset ≤ 0)
+      (λ n x within is. let from_one = is.is.at.is_rrset.0 in omega (arith, from_one, within))
+
+  pub gather_passes : (place : ℕ) (entries : List NsecEntry) → ((n : RecordNumber) (x : NsecRecord) → n.rrset ≡ place + 1 → IsNsecAt Secured rrsets zone n x → ⊥)
+      → Gathered place entries → Gathered (place + 1) entries
+  gather_passes place entries none so_far = all_said (λ entry. entry.number) read_entry (IsNsecAt Secured rrsets zone) (IsNsecAt Secured rrsets zone) (λ n. n.rrset ≤ place) (λ n. n.rrset ≤ place + 1) entries
+      (λ n x within is. (omega (arith, within), is))
+      (λ n x within is. ⊎_elim (λ (below : n.rrset < place + 1). (omega (arith, below), is)) (λ (above : place + 1 ≤ n.rrset). absurd (none n x (omega (arith, above, within)) is)) (cases_lt n.rrset (place + 1)))
+      so_far
+
+  pub gather_adds : (place : ℕ) (rrset : ReceivedRrset) (entries more next : List NsecEntry) → IsNumbered rrsets (place + 1) rrset → HasZoneSignature (Secured (place + 1)) rrset zone
+      → AreNsecs rrsets (λ n. n.rrset ≡ place + 1) more → next ≡ entries ++ more → Gathered place entries → Gathered (place + 1) next
+  gather_adds place rrset entries more next numbered signed are grown so_far = subst (Gathered (place + 1)) (sym grown)
+      (all_joined (λ entry. entry.number) read_entry (IsNsecAt Secured rrsets zone) (λ n. n.rrset ≤ place) (λ n. n.rrset ≡ place + 1) (λ n. n.rrset ≤ place + 1) entries more
+      (λ a b first second. earlier_rrset_less a b (omega (arith, first, second)))
+      (λ n within. omega (arith, within)) (λ n same. omega (arith, same))
+      (λ n x within is. ⊎_elim (λ (below : n.rrset < place + 1). inl (omega (arith, below))) (λ (above : place + 1 ≤ n.rrset). inr (omega (arith, above, within))) (cases_lt n.rrset (place + 1)))
+      so_far
+      (all_said (λ entry. entry.number) read_entry (IsNsecOf rrsets) (IsNsecAt Secured rrsets zone) (λ n. n.rrset ≡ place + 1) (λ n. n.rrset ≡ place + 1) more
+      (λ n x same is. (same, record { is = is; secured = subst (IsSecuredBy Secured rrsets zone) (sym same) (record { rrset = rrset; is_rrset = numbered; signed = signed }) }))
+      (λ n x same is. (same, is.is)) are))
+
+  pub gather_ends : (place : ℕ) (entries : List NsecEntry) → length rrsets ≤ place → Gathered place entries → AreNsecsOf Secured rrsets zone entries
+  gather_ends place entries past so_far = all_said (λ entry. entry.number) read_entry (IsNsecAt Secured rrsets zone) (IsNsecAt Secured rrsets zone) (λ n. n.rrset ≤ place) (λ n. ⊤) entries
+      (λ n x within is. (tt, is))
+      (λ n x within is. let there = slice_get_within rrsets (n.rrset - 1) is.is.rrset is.is.at.is_rrset.1 in let from_one = is.is.at.is_rrset.0 in (omega (arith, there, from_one, past), is)) so_far
+
+  pub not_nsec : (place : ℕ) (rrset : ReceivedRrset) → IsNumbered rrsets (place + 1) rrset → (rrset.rtype ≡ 47 → ⊥) → (n : RecordNumber) (x : NsecRecord) → n.rrset ≡ place + 1 → IsNsecAt Secured rrsets zone n x → ⊥
+  not_nsec place rrset numbered other n x same is =
+      let one : is.is.rrset ≡ rrset = one_numbered rrsets (place + 1) is.is.rrset rrset (subst (λ m. IsNumbered rrsets m is.is.rrset) same is.is.at.is_rrset) numbered in
+      other (ap (λ (r : ReceivedRrset). r.rtype) (sym one) ∙ is.is.rtype)
+
+  pub not_signed : (place : ℕ) (rrset : ReceivedRrset) → IsNumbered rrsets (place + 1) rrset → (HasZoneSignature (Secured (place + 1)) rrset zone → ⊥) → (n : RecordNumber) (x : NsecRecord) → n.rrset ≡ place + 1 → IsNsecAt Secured rrsets zone n x → ⊥
+  not_signed place rrset numbered none n x same is =
+      let moved = subst (IsSecuredBy Secured rrsets zone) same is.secured in
+      let one : moved.rrset ≡ rrset = one_numbered rrsets (place + 1) moved.rrset rrset moved.is_rrset numbered in
+      none (subst (λ r. HasZoneSignature (Secured (place + 1)) r zone) one moved.signed)

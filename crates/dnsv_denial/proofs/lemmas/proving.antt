@@ -1,0 +1,7 @@
+-- Of the first proof of a denial, by a chain, a zone and the evidence.
+pub mod ChainProofLemmas
+pub mod CloserLemmas
+pub mod FirstProofLemmas
+pub mod NumberLemmas
+pub mod WholeChainLemmas
+pub mod ZoneProofLemmas

@@ -1,0 +1,48 @@
+-- What a chain's records say by their places, the evidence says by their numbers.
+use Rattle.std.proofs.Common.{◌≡◌, ℕ, ◌-◌, ◌<◌, List, length, drop, refl, ap, subst, arith}
+use Rattle.std.proofs.lemmas.Option.{slice_get_within}
+use Rattle.dnsv_names.specs.Name.{Labels, rightmost}
+use Rattle.dnsv_canonical.specs.Rrsets.{ReceivedRrset}
+use Rattle.dnsv_denial.specs.proving.ChainOf.{IsChainOf}
+use Rattle.dnsv_denial.specs.proving.Numbers.{numbers_of, record_count}
+use Rattle.dnsv_denial.specs.words.ChainSaid.{chain_said}
+use Rattle.dnsv_denial.specs.words.EvidenceWords.{Chain, evidence_said}
+use Rattle.dnsv_denial.specs.words.EvidenceWords.Chain.{ByNsec, ByNsec3}
+use Rattle.dnsv_denial.specs.declared.records.chain_records.ChainRecords.{ChainRecords}
+use Rattle.dnsv_denial.specs.declared.records.chain_records.ChainRecords.TheVariants.{Nsec, Nsec3}
+use Rattle.dnsv_denial.proofs.lemmas.words.AlikeLemmas.{in_order, nsec_alike, nsec3_alike}
+use Rattle.dnsv_denial.proofs.lemmas.forms.DenialLemmas.{AreBound}
+use Rattle.dnsv_denial.proofs.lemmas.words.IndexLemmas.{AreInOrder, SayAlike}
+
+module _ (Secured : ℕ → ℕ → Type 0) (rrsets : List ReceivedRrset) (zone : Labels) where
+  pub chain_order : (chain : Chain) (records : ChainRecords) → IsChainOf Secured rrsets zone chain records → AreInOrder (numbers_of records)
+  chain_order ByNsec (Nsec entries) are = in_order (numbers_of (Nsec entries)) are.rising
+  chain_order ByNsec (Nsec3 hashed) are = absurd are
+  chain_order (ByNsec3 parameters) (Nsec entries) are = absurd are
+  chain_order (ByNsec3 parameters) (Nsec3 hashed) are = in_order (numbers_of (Nsec3 hashed)) are.0.rising
+
+  pub chain_alike : (chain : Chain) (records : ChainRecords) → IsChainOf Secured rrsets zone chain records
+      → SayAlike (numbers_of records) (chain_said zone records) (evidence_said Secured rrsets zone chain)
+  chain_alike ByNsec (Nsec entries) are = nsec_alike Secured rrsets zone entries.now are entries refl
+  chain_alike ByNsec (Nsec3 hashed) are = absurd are
+  chain_alike (ByNsec3 parameters) (Nsec entries) are = absurd are
+  chain_alike (ByNsec3 parameters) (Nsec3 hashed) are =
+      subst (λ p. SayAlike (numbers_of (Nsec3 hashed)) (chain_said zone (Nsec3 hashed)) (evidence_said Secured rrsets zone (ByNsec3 p))) are.1
+      (nsec3_alike Secured rrsets zone hashed.now.entries.now are.0 hashed refl)
+
+pub chain_bound : (apex : Labels) (records : ChainRecords) → AreBound (record_count records) (chain_said apex records)
+chain_bound apex (Nsec entries) = record {
+  encloser = λ name place said. slice_get_within entries.now place said.entry said.there;
+  absent = λ name place said. slice_get_within entries.now place said.entry said.there;
+  inner = λ name place said. slice_get_within entries.now place said.entry said.there;
+  types_at = λ name Says place said. slice_get_within entries.now place said.entry said.there;
+}
+chain_bound apex (Nsec3 hashed) = record {
+  encloser = λ name place said. slice_get_within hashed.now.entries.now place said.entry said.there;
+  absent = λ name place said. slice_get_within hashed.now.entries.now place said.entry said.there;
+  inner = λ name place none. absurd none;
+  types_at = λ name Says place said. slice_get_within hashed.now.entries.now place said.entry said.there;
+}
+
+pub all_labels : (zone : Labels) → rightmost zone (length zone) ≡ zone
+all_labels zone = let none : length zone - length zone ≡ 0 = omega arith in ap (λ n. drop n zone) none

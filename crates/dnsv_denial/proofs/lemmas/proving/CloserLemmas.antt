@@ -1,0 +1,136 @@
+-- What the records of a zone say is the same where the zone's name is spelled in another case.
+use Rattle.std.proofs.Common.{◌≡◌, ℕ, ◌+◌, List, [], ◌∷◌, length, refl, sym, ap, ◌∙◌, subst, inl, inr, ⊎_elim}
+use Rattle.std.specs.List.Sorted.{IsStrictlySortedBy}
+use Rattle.std.specs.Ordering.{ordering_reverse}
+use Rattle.std.specs.declared.cmp.Ordering.TheVariants.{Less, Greater}
+use Rattle.dnsv_names.specs.Name.{Labels, SameName, rightmost}
+use Rattle.dnsv_names.specs.TreeLaws.{at_or_below_respects}
+use Rattle.dnsv_zones.specs.chains.Nsec3Chain.{Nsec3Record}
+use Rattle.dnsv_zones.specs.chains.NsecChain.{NsecRecord}
+use Rattle.dnsv_zones.specs.forms.Forms.{IsAbove, NoCloserForm}
+use Rattle.dnsv_canonical.specs.Rrsets.{ReceivedRrset}
+use Rattle.dnsv_canonical.proofs.CanonicalLemmas.{IsMember, IsMember-from_contains, Contains-from_member}
+use Rattle.dnsv_denial.specs.gathering.Evidence.{IsNsecAt, IsNsec3At, IsSecuredBy}
+use Rattle.dnsv_denial.specs.gathering.Kept.{IsZoneProof}
+use Rattle.dnsv_denial.specs.proving.FirstProof.{AreRecordsOf, IsFirstNoCloser, ProofRecords, StandsBy}
+use Rattle.dnsv_denial.specs.words.EvidenceWords.{Chain, evidence_said, number_cmp}
+use Rattle.dnsv_denial.specs.words.EvidenceWords.Chain.{ByNsec, ByNsec3}
+use Rattle.dnsv_denial.specs.declared.forms.denial.Denial.TheVariants.{NoCloser}
+use Rattle.dnsv_denial.specs.declared.records.number.RecordNumber.{RecordNumber}
+use Rattle.dnsv_denial.proofs.lemmas.proving.NumberLemmas.{number_cmp_total}
+
+-- ---- one record alone
+
+not_itself : (a : RecordNumber) → number_cmp a a ≡ Less → ⊥
+not_itself a less = let turned : Less ≡ Greater = sym less ∙ number_cmp_total.antisymm a a ∙ ap ordering_reverse less in cc
+
+only : (part : RecordNumber) (records : List RecordNumber) → IsStrictlySortedBy number_cmp records
+    → ((n : RecordNumber) → IsMember n records → n ≡ part) → IsMember part records → records ≡ part ∷ []
+unfolding IsStrictlySortedBy
+only part [] rising are there = absurd there
+only part (x ∷ []) rising are there = ap (λ y. y ∷ []) (are x (inl refl))
+only part (x ∷ (y ∷ rest)) rising are there =
+    let first : x ≡ part = are x (inl refl) in
+    let second : y ≡ part = are y (inr (inl refl)) in
+    let less : number_cmp x y ≡ Less = rising.0.0 in
+    absurd (not_itself part (subst (λ z. number_cmp part z ≡ Less) second (subst (λ z. number_cmp z y ≡ Less) first less)))
+
+pub one_alone : (part : RecordNumber) (records : List RecordNumber) → AreRecordsOf (part ∷ []) records → records ≡ part ∷ []
+one_alone part records are =
+    only part records are.rising
+    (λ n there. ⊎_elim (λ (same : n ≡ part). same) (λ none. absurd none) (IsMember-from_contains (part ∷ []) n ((are.members n).0 (Contains-from_member records n there))))
+    (IsMember-from_contains records part ((are.members part).1 (Contains-from_member (part ∷ []) part (inl refl))))
+
+-- ---- another spelling
+
+module _ (Secured : ℕ → ℕ → Type 0) (rrsets : List ReceivedRrset) (name : Labels) (labels : ℕ) where
+  secured_as : (a b : Labels) → SameName a b → (k : ℕ) → IsSecuredBy Secured rrsets a k → IsSecuredBy Secured rrsets b k
+  secured_as a b same k is = record {
+    rrset = is.rrset;
+    is_rrset = is.is_rrset;
+    signed = record {
+      signature = is.signed.signature;
+      secured = is.signed.secured;
+      rdata = is.signed.rdata;
+      is_signature = is.signed.is_signature;
+      rrsig = is.signed.rrsig;
+      read = is.signed.read;
+      signer = is.signed.signer ∙ same;
+      unexpanded = is.signed.unexpanded;
+    };
+  }
+
+  nsec_as : (a b : Labels) → SameName a b → (n : RecordNumber) (nsec : NsecRecord) → IsNsecAt Secured rrsets a n nsec → IsNsecAt Secured rrsets b n nsec
+  nsec_as a b same n nsec at = record { is = at.is; secured = secured_as a b same n.rrset at.secured }
+
+  nsec3_as : (a b : Labels) → SameName a b → (n : RecordNumber) (nsec3 : Nsec3Record) → IsNsec3At Secured rrsets a n nsec3 → IsNsec3At Secured rrsets b n nsec3
+  nsec3_as a b same n nsec3 at = record {
+    is = record {
+      rrset = at.is.rrset;
+      rdata = at.is.rdata;
+      at = at.is.at;
+      rtype = at.is.rtype;
+      owner = record {
+        label = at.is.owner.label;
+        parent = at.is.owner.parent;
+        parts = at.is.owner.parts;
+        in_zone = at.is.owner.in_zone ∙ same;
+        is_hash = at.is.owner.is_hash;
+        spelled = at.is.owner.spelled;
+      };
+      fields = at.is.fields;
+      read = at.is.read;
+      usable = at.is.usable;
+      next = at.is.next;
+      flags = at.is.flags;
+      types = at.is.types;
+      parameters = at.is.parameters;
+    };
+    secured = secured_as a b same n.rrset at.secured;
+  }
+
+  absent_as : (a b : Labels) → SameName a b → (chain : Chain) (x : Labels) (n : RecordNumber)
+      → (evidence_said Secured rrsets a chain).Absent x n → (evidence_said Secured rrsets b chain).Absent x n
+  absent_as a b same ByNsec x n said = (said.0, nsec_as a b same n said.0 said.1, said.2)
+  absent_as a b same (ByNsec3 parameters) x n said = (said.0, nsec3_as a b same n said.0 said.1, said.2)
+
+  pub opted_out_as : (a b : Labels) → SameName a b → (chain : Chain) (x : Labels) (n : RecordNumber)
+      → (evidence_said Secured rrsets a chain).OptedOut x n → (evidence_said Secured rrsets b chain).OptedOut x n
+  opted_out_as a b same ByNsec x n said = said
+  opted_out_as a b same (ByNsec3 parameters) x n said = (said.0, nsec3_as a b same n said.0 said.1, said.2)
+
+  pub above_as : (a b : Labels) → SameName a b → IsAbove a name labels → IsAbove b name labels
+  above_as a b same above = record {
+    proper = above.proper;
+    within = at_or_below_respects (rightmost name labels) (rightmost name labels) a b refl same above.within;
+  }
+
+  pub closer_as : (a b : Labels) → SameName a b → (chain : Chain)
+      → StandsBy Secured rrsets (λ said each. NoCloserForm said each name labels) a chain
+      → StandsBy Secured rrsets (λ said each. NoCloserForm said each name labels) b chain
+  closer_as a b same chain form = record {
+    above = above_as a b same form.above;
+    next_closer = (form.next_closer.0, absent_as a b same chain (rightmost name (labels + 1)) form.next_closer.0 form.next_closer.1);
+  }
+
+  -- the first proof of the kept zone is that of the zone in the other spelling
+  pub first_closer : (a b : Labels) (proof : ProofRecords) → SameName a b → a ≡ rightmost name (length b)
+      → IsZoneProof Secured rrsets (NoCloser labels) name a proof → IsFirstNoCloser Secured rrsets name labels b proof
+  first_closer a b proof same is found =
+      let part = found.by_chain.chosen.0 in
+      let chosen = found.by_chain.chosen.2 in
+      record {
+        zone = found.by_chain.its_zone ∙ is;
+        chain = found.chain;
+        stands = closer_as a b same found.chain (record { above = chosen.above; next_closer = (part, chosen.next_closer.says) });
+        first = λ other before stands. found.first other before (closer_as b a (sym same) other stands);
+        part = part;
+        chosen = record {
+          above = above_as a b same chosen.above;
+          next_closer = record {
+            says = absent_as a b same found.chain (rightmost name (labels + 1)) part chosen.next_closer.says;
+            lowest = λ other said less. chosen.next_closer.lowest other (absent_as b a (sym same) found.chain (rightmost name (labels + 1)) other said) less;
+          };
+        };
+        records = one_alone part proof.records (subst (λ parts. AreRecordsOf parts proof.records) found.by_chain.chosen.1 found.by_chain.records);
+      }

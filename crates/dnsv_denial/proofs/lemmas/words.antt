@@ -1,0 +1,7 @@
+-- Of what records say by their places, and by their numbers.
+pub mod AlikeLemmas
+pub mod AnyNameLemmas
+pub mod FirstAmongLemmas
+pub mod FirstLemmas
+pub mod IndexLemmas
+pub mod PlaceLemmas

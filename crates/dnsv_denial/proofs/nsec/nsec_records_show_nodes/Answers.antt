@@ -1,5 +1,0 @@
-use Rattle.dnsv_denial.proofs.NsecLemmas.{told_node}
-use Rattle.dnsv_denial.proofs.nsec.nsec_records_show_nodes.Goals as goal
-
-pub returns : goal.returns
-returns c = λ zone nsec name there. told_node zone nsec there name

@@ -1,8 +1,0 @@
-use Rattle.dnsv_denial.proofs.Nsec3Truth.{covered_not_chained, firm_no_node}
-use Rattle.dnsv_denial.proofs.nsec3.a_name_covered_by_nsec3_is_none_of_the_chain.Goals as goal
-
-pub returns-clause-chained : goal.returns-clause-chained
-returns-clause-chained c = λ zone hash names nsec3 name there. covered_not_chained zone hash names nsec3 there name
-
-pub returns-clause-firm : goal.returns-clause-firm
-returns-clause-firm c = λ zone hash names nsec3 name there. firm_no_node zone hash names nsec3 there name

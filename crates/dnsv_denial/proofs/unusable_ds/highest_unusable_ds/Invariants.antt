@@ -1,9 +1,0 @@
--- the fewest labels by the RRsets so far are found
-use Rattle.dnsv_denial.specs.Findings.{IsFewestFound}
-use Rattle.dnsv_denial.specs.Viewed.{SecuredIn}
-use Rattle.dnsv_denial.proofs.FindingLemmas.{IsCutUpTo}
-use Rattle.dnsv_denial.proofs.unusable_ds.highest_unusable_ds.Given as goal
-
-abbrev pub invariant-loop-place : goal.invariant-loop-place
-invariant-loop-place l =
-    IsFewestFound (IsCutUpTo (SecuredIn l.trust) l.rrset-items l.name l.place) l.fewest

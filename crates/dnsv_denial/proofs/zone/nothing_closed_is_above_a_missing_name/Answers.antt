@@ -1,5 +1,0 @@
-use Rattle.dnsv_denial.proofs.ZoneLemmas.{nothing_closed}
-use Rattle.dnsv_denial.proofs.zone.nothing_closed_is_above_a_missing_name.Goals as goal
-
-pub returns : goal.returns
-returns c = nothing_closed

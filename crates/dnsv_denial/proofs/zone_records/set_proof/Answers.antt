@@ -1,8 +1,0 @@
-use Rattle.std.proofs.Common.{refl}
-use Rattle.dnsv_denial.specs.EvidenceWords.Chain.{ByNsec3}
-use Rattle.dnsv_denial.specs.Record.{parameters_of}
-use Rattle.dnsv_denial.proofs.zone_records.set_proof.Goals as goal
-
-pub returns : goal.returns
-returns c = λ trust rrsets is.
-    c.chain_proof.ensures trust rrsets (ByNsec3 (parameters_of c.args.set.now.parameters.now)) (is.nsec3s, refl)

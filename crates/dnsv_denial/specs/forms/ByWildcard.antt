@@ -1,0 +1,30 @@
+-- The forms that ask something of the wildcard at the closest encloser (RFC 4035 5.4, RFC 5155 8.4, 8.7).
+use Rattle.std.specs.Prelude.{ℕ, ◌≤◌, List}
+use Rattle.std.specs.Ordering.{nat_cmp}
+use Rattle.dnsv_names.specs.Name.{Labels, rightmost}
+use Rattle.dnsv_names.specs.Tree.{wildcard_of}
+use Rattle.dnsv_zones.specs.forms.Forms.{EndsAt}
+use Rattle.dnsv_zones.specs.forms.Parts.{AreWildcardParts}
+use Rattle.dnsv_zones.specs.forms.RecordWords.{RecordWords, words}
+use Rattle.dnsv_zones.specs.zones.Types.{Denies}
+use Rattle.dnsv_denial.specs.declared.words.asked.AskedWildcard.{AskedWildcard}
+use Rattle.dnsv_denial.specs.declared.words.asked.AskedWildcard.TheVariants.{Absent, Empty, Without}
+
+-- the record at the place says it of the wildcard
+abbrev pub wildcard_said : AskedWildcard → RecordWords ℕ → Labels → ℕ → Type 0
+wildcard_said Absent said wildcard = said.Absent wildcard
+wildcard_said Empty said wildcard = said.Inner wildcard
+wildcard_said (Without rtype) said wildcard = said.TypesAt wildcard (λ has. Denies has rtype.0)
+
+-- the form stands, by a closest encloser of so many labels
+pub record StandsAt (asked : AskedWildcard) (said : RecordWords ℕ) (apex name : Labels) (labels : ℕ) : Type 0 where
+  pub ends : EndsAt (words said) apex name labels
+  pub wildcard : (place : ℕ) × wildcard_said asked said (wildcard_of (rightmost name labels)) place
+
+-- these are its records, by the closest encloser with most labels
+pub record AreMostParts (asked : AskedWildcard) (said : RecordWords ℕ) (apex name : Labels) (parts : List ℕ)
+    : Type 0 where
+  pub labels : ℕ
+  pub are : AreWildcardParts nat_cmp said apex name labels
+      (wildcard_said asked said (wildcard_of (rightmost name labels))) parts
+  pub most_labels : (more : ℕ) → StandsAt asked said apex name more → more ≤ labels

@@ -1,0 +1,4 @@
+-- The records of the evidence, and how those of a zone are kept.
+pub mod Evidence
+pub mod Gathered
+pub mod Kept

@@ -1,0 +1,79 @@
+-- How a view keeps the records of zones, and what is found among them. No public clause cites this module.
+use Rattle.std.specs.Prelude.{◌≡◌, ◌+◌, ◌<◌, ℕ, List, Some, length, slice_get}
+use Rattle.std.specs.List.{AllByRecursion}
+use Rattle.std.specs.declared.cmp.Ordering.TheVariants.{Less}
+use Rattle.dnsv_names.specs.Name.{Labels, rightmost}
+use Rattle.dnsv_zones.specs.Any.{Any}
+use Rattle.dnsv_zones.specs.chains.HashedNames.{sha1_hash, AreHashes}
+use Rattle.dnsv_zones.specs.chains.Nsec3Chain.{Nsec3Record, Parameters}
+use Rattle.dnsv_zones.specs.chains.Rdata.{parameters_of}
+use Rattle.dnsv_canonical.specs.Rrsets.{ReceivedRrset}
+use Rattle.dnsv_chain.specs.Trust.{KeptTrust}
+use Rattle.dnsv_denial.specs.Viewed.{SecuredIn}
+use Rattle.dnsv_denial.specs.forms.Denials.{DenialForm}
+use Rattle.dnsv_denial.specs.gathering.Evidence.{IsNsec3At}
+use Rattle.dnsv_denial.specs.gathering.Gathered.{AreNsecsOf, AreNsec3sOf}
+use Rattle.dnsv_denial.specs.proving.ChainOf.{IsProofBy}
+use Rattle.dnsv_denial.specs.proving.FirstProof.{IsFirstOfZone, ProofRecords, StandsBy}
+use Rattle.dnsv_denial.specs.words.EvidenceWords.{Chain, parameters_cmp}
+use Rattle.dnsv_denial.specs.words.EvidenceWords.Chain.{ByNsec3}
+use Rattle.dnsv_denial.specs.declared.forms.denial.Denial.{Denial}
+use Rattle.dnsv_denial.specs.declared.records.number.RecordNumber.{RecordNumber}
+use Rattle.dnsv_denial.specs.declared.proving.zone_records.ParameterSet.{ParameterSet}
+use Rattle.dnsv_denial.specs.declared.proving.zone_records.ZoneRecords.{ZoneRecords}
+
+-- ---- what is kept
+
+-- the records are those of the zone among the evidence
+pub record IsZoneOf (Secured : ℕ → ℕ → Type 0) (rrsets : List ReceivedRrset) (kept : ZoneRecords) : Type 0 where
+  pub nsecs : AreNsecsOf Secured rrsets kept.zone kept.nsecs.items
+  pub nsec3s : AreNsec3sOf Secured rrsets kept.zone kept.nsec3s
+
+-- the hashes are those of the names that a question of the name asks for
+abbrev pub IsSetOf : Labels → ParameterSet → Type 0
+IsSetOf name set =
+    AreHashes (sha1_hash (parameters_of set.parameters.now)) name set.hashed.above.items set.hashed.wildcards.items
+
+-- the sets are in the order of their parameters, and every NSEC3 record of a zone has those of one
+pub record AreSets (Secured : ℕ → ℕ → Type 0) (rrsets : List ReceivedRrset) (sets : List ParameterSet) : Type 0 where
+  pub order : (i j : ℕ) (a b : ParameterSet) → slice_get sets i ≡ Some a → slice_get sets j ≡ Some b → i < j
+      → parameters_cmp (parameters_of a.parameters.now) (parameters_of b.parameters.now) ≡ Less
+  pub all : (zone : Labels) (n : RecordNumber) (nsec3 : Nsec3Record) → IsNsec3At Secured rrsets zone n nsec3
+      → Any (λ set. parameters_of set.parameters.now ≡ nsec3.parameters) sets
+
+-- zone n is that of the name's n rightmost labels, from the root to the whole name
+pub record AreZones (Secured : ℕ → ℕ → Type 0) (rrsets : List ReceivedRrset) (name : Labels) (zones : List ZoneRecords)
+    : Type 0 where
+  pub count : length zones ≡ length name + 1
+  pub each : (n : ℕ) (kept : ZoneRecords) → slice_get zones n ≡ Some kept
+      → (kept.zone ≡ rightmost name n) × IsZoneOf Secured rrsets kept
+
+-- what a view keeps for the name
+pub record IsViewOf
+    (Secured : ℕ → ℕ → Type 0) (rrsets : List ReceivedRrset) (name : Labels) (sets : List ParameterSet)
+    (zones : List ZoneRecords) : Type 0 where
+  pub hashed : AllByRecursion (IsSetOf name) sets
+  -- whatever is secured
+  pub are_sets : (trust : KeptTrust) → AreSets (SecuredIn trust) rrsets sets
+  pub are_zones : AreZones Secured rrsets name zones
+
+-- ---- what is found
+
+-- it is the first of the zone's
+pub record IsZoneProof
+    (Secured : ℕ → ℕ → Type 0) (rrsets : List ReceivedRrset) (denial : Denial) (name zone : Labels)
+    (proof : ProofRecords) : Type 0 where
+  pub chain : Chain
+  pub by_chain : IsProofBy Secured rrsets denial name zone chain proof
+  pub first : IsFirstOfZone Secured rrsets (DenialForm denial name) zone chain
+
+-- the place is that of the first set with which the records of the zone prove the denial
+pub record IsFirstSet
+    (Secured : ℕ → ℕ → Type 0) (rrsets : List ReceivedRrset) (denial : Denial) (name zone : Labels)
+    (sets : List ParameterSet) (proof : ProofRecords) : Type 0 where
+  pub place : ℕ
+  pub set : ParameterSet
+  pub there : slice_get sets place ≡ Some set
+  pub by_set : IsProofBy Secured rrsets denial name zone (ByNsec3 (parameters_of set.parameters.now)) proof
+  pub none_before : (k : ℕ) (earlier : ParameterSet) → k < place → slice_get sets k ≡ Some earlier
+      → ¬ StandsBy Secured rrsets (DenialForm denial name) zone (ByNsec3 (parameters_of earlier.parameters.now))

@@ -1,0 +1,25 @@
+-- What a proof asks of records: of which name, and what of its types.
+use Rattle.std.specs.Prelude.{ℕ, ◌<◌, ◌≤◌, length}
+use Rattle.dnsv_names.specs.Name.{Labels, rightmost}
+use Rattle.dnsv_names.specs.Tree.{wildcard_of}
+use Rattle.dnsv_zones.specs.zones.Types.{IsClosed, Denies, IsUnsignedDelegation}
+use Rattle.dnsv_denial.specs.declared.words.asked.AskedName.{AskedName}
+use Rattle.dnsv_denial.specs.declared.words.asked.AskedName.TheVariants.{Above, Wildcard}
+use Rattle.dnsv_denial.specs.declared.words.asked.AskedTypes.{AskedTypes}
+use Rattle.dnsv_denial.specs.declared.words.asked.AskedTypes.TheVariants.{Open, Without, UnsignedDelegation}
+
+-- the question's so many rightmost labels, or the wildcard right below them
+abbrev pub asked_name : Labels → AskedName → Labels
+asked_name name (Above labels) = rightmost name labels
+asked_name name (Wildcard labels) = wildcard_of (rightmost name labels)
+
+-- the question has so many labels, and more for a wildcard
+abbrev pub IsWithin : Labels → AskedName → Type 0
+IsWithin name (Above labels) = labels ≤ length name
+IsWithin name (Wildcard labels) = labels < length name
+
+-- the types are as asked for
+abbrev pub said_types : AskedTypes → (ℕ → Type 0) → Type 0
+said_types Open has = ¬ IsClosed has
+said_types (Without rtype) has = Denies has rtype.0
+said_types UnsignedDelegation has = IsUnsignedDelegation has

@@ -1,0 +1,62 @@
+//! The records of a zone among the evidence.
+ghost use Rattle.std.specs.Prelude.{◌≡◌, ◌++◌, List, IfOk, OnOk};
+ghost use Rattle.dnsv_canonical.specs.Rrsets.{ReceivedRrset};
+ghost use Rattle.dnsv_chain.specs.Trusted.{IsNumbered};
+ghost use Rattle.dnsv_denial.specs.Viewed.{SecuredIn};
+ghost use Rattle.dnsv_denial.specs.gathering.Gathered.{AreNsecs, AreNsecsOf};
+
+use crate::gathering::canonical_order::in_canonical_order;
+use crate::gathering::secured::has_zone_signature;
+use crate::records::entry::NsecEntry;
+use crate::records::number::RecordNumber;
+use dnsv_canonical::{Capture, Rrset};
+use dnsv_chain::Trust;
+use dnsv_names::{Name, RecordType};
+use std::alloc::{AllocError, Global};
+
+/// The NSEC records of the capture that the zone secured, in the order of their numbers.
+pub fn nsecs_of<'a>(
+    alloc: Global,
+    capture: &'a Capture,
+    trust: &Trust,
+    zone: &Name,
+) -> Result<Vec<NsecEntry<'a>>, AllocError>
+    ensures { IfOk result (λ entries. AreNsecsOf (SecuredIn trust.now) capture.now.rrsets zone.now entries.items) }
+{
+    let mut entries = Vec::new(alloc);
+    for (place, rrset) in capture.rrsets().iter().enumerate() {
+        let number = place + 1;
+        if rrset.rtype() == RecordType::NSEC
+            && has_zone_signature(rrset, trust.signed(number), zone)
+        {
+            push_nsecs(alloc, &mut entries, number, rrset)?;
+        }
+    }
+    Ok(entries)
+}
+
+/// Adds the records of the NSEC RRset with the number, in canonical order.
+fn push_nsecs<'a>(
+    alloc: Global,
+    entries: &mut Vec<NsecEntry<'a>>,
+    number: usize,
+    rrset: &'a Rrset,
+) -> Result<(), AllocError>
+    requires { rrset.now.rtype ≡ 47 }
+    ensures { (rrsets : List ReceivedRrset) → IsNumbered rrsets number rrset.now
+        → OnOk result ((more : List NsecEntry) × (entries.new.items ≡ entries.old.items ++ more)
+        × AreNsecs rrsets (λ each. each.rrset ≡ number) more) }
+{
+    let records = in_canonical_order(alloc, rrset, rrset.nsecs())?;
+    for (place, each) in records.iter().enumerate() {
+        entries.push(NsecEntry {
+            number: RecordNumber {
+                rrset: number,
+                place: place + 1,
+            },
+            owner: rrset.owner(),
+            nsec: each.record,
+        })?;
+    }
+    Ok(())
+}

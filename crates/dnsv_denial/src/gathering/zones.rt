@@ -1,0 +1,94 @@
+//! The records of the zones at or above a name, and the hashes that a question of it asks for.
+ghost use Rattle.std.specs.Prelude.{◌≡◌, ◌↔◌, IfOk, Contains, map};
+ghost use Rattle.std.specs.List.{AllByRecursion};
+ghost use Rattle.std.specs.List.Sorted.{IsStrictlySortedBy};
+ghost use Rattle.dnsv_names.specs.Count.{counted};
+ghost use Rattle.dnsv_records.specs.declared.nsec3.Nsec3Parameters.{Nsec3Parameters};
+ghost use Rattle.dnsv_zones.specs.chains.HashedNames.{hashes_for};
+ghost use Rattle.dnsv_zones.specs.chains.Rdata.{parameters_of};
+ghost use Rattle.dnsv_denial.specs.Viewed.{SecuredIn};
+ghost use Rattle.dnsv_denial.specs.gathering.Kept.{AreZones, IsSetOf};
+ghost use Rattle.dnsv_denial.specs.words.EvidenceWords.{parameters_cmp};
+
+use crate::gathering::nsec::nsecs_of;
+use crate::gathering::nsec3::nsec3s_of;
+use crate::proving::zone_records::{ParameterSet, ZoneRecords};
+use crate::records::nsec3_entries::Nsec3Entries;
+use dnsv_canonical::Capture;
+use dnsv_chain::Trust;
+use dnsv_names::{Count, Name};
+use dnsv_records::Nsec3Parameters;
+use dnsv_zones::hash_names;
+use std::alloc::{AllocError, Global};
+
+/// The records of each zone at or above the name, from the root on.
+pub fn zones_of<'a>(
+    alloc: Global,
+    capture: &'a Capture,
+    trust: &Trust,
+    name: &Name,
+) -> Result<Vec<ZoneRecords<'a>>, AllocError>
+    ensures { IfOk result (λ zones. AreZones (SecuredIn trust.now) capture.now.rrsets name.now zones.items) }
+{
+    let mut zones = Vec::new(alloc);
+    for labels in 0..name.labels() + 1 {
+        let zone = name.suffix(labels);
+        let nsecs = nsecs_of(alloc, capture, trust, &zone)?;
+        let records = nsec3s_of(alloc, capture, trust, &zone)?;
+        let nsec3s = Nsec3Entries::new(alloc, records)?;
+        zones.push(ZoneRecords {
+            zone,
+            nsecs,
+            nsec3s,
+        })?;
+    }
+    Ok(zones)
+}
+
+/// The hashes of the names that a question of the name asks for, for each of the parameters in their order, each once.
+/// `count` grows by how often something is hashed.
+pub fn sets_of<'a>(
+    alloc: Global,
+    all: &'a [Nsec3Parameters],
+    name: &Name,
+    count: &mut Count,
+) -> Result<Vec<ParameterSet<'a>>, AllocError>
+    ensures hashed { IfOk result (λ sets. AllByRecursion (IsSetOf name.now) sets.items) }
+    ensures order { IfOk result (λ sets. IsStrictlySortedBy parameters_cmp
+        (map parameters_of (map (λ set. set.parameters.now) sets.items))) }
+    ensures members { IfOk result (λ sets. (each : Nsec3Parameters) → Contains all.now each
+        ↔ Contains (map (λ set. set.parameters.now) sets.items) each) }
+    ensures count { IfOk result (λ sets. count.new
+        ≡ counted count.old (hashes_for name.now (map (λ set. set.parameters.now) sets.items))) }
+{
+    let _ = count.value();
+    let ordered = in_order(alloc, all)?;
+    let mut sets = Vec::new(alloc);
+    for parameters in ordered.iter() {
+        let hashed = hash_names(alloc, name, *parameters, count)?;
+        sets.push(ParameterSet {
+            parameters: *parameters,
+            hashed,
+        })?;
+    }
+    Ok(sets)
+}
+
+/// The parameters in their order, each once.
+fn in_order<'a>(
+    alloc: Global,
+    all: &'a [Nsec3Parameters],
+) -> Result<Vec<&'a Nsec3Parameters>, AllocError>
+    ensures order { IfOk result (λ ordered. IsStrictlySortedBy parameters_cmp
+        (map parameters_of (map (λ each. each.now) ordered.items))) }
+    ensures members { IfOk result (λ ordered. (each : Nsec3Parameters) → Contains all.now each
+        ↔ Contains (map (λ each. each.now) ordered.items) each) }
+{
+    let mut ordered = Vec::new(alloc);
+    for parameters in all {
+        ordered.push(parameters)?;
+    }
+    ordered.sort_unstable();
+    ordered.dedup();
+    Ok(ordered)
+}

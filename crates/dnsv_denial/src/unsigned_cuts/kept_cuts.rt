@@ -1,0 +1,62 @@
+//! From which name on a question's name may be unsigned, by what is kept for the name.
+ghost use Rattle.std.specs.Prelude.{◌≡◌, ◌+◌, List, MatchOption};
+ghost use Rattle.dnsv_names.specs.Name.{rightmost};
+ghost use Rattle.dnsv_canonical.specs.Rrsets.{ReceivedRrset};
+ghost use Rattle.dnsv_chain.specs.Trust.{KeptTrust};
+ghost use Rattle.dnsv_denial.specs.Viewed.{SecuredIn};
+ghost use Rattle.dnsv_denial.specs.gathering.Kept.{IsViewOf};
+ghost use Rattle.dnsv_denial.specs.unsigned_cuts.Cuts.{HasLooseCloser, HasUnsignedCut, IsUnsignedCut};
+
+use crate::proving::zone_records::{ParameterSet, ZoneRecords};
+use crate::unsigned_cuts::first_cut::{first_cut, next_closer};
+use crate::unsigned_cuts::shown_cuts::zones_cuts;
+use crate::unsigned_cuts::unusable_ds::highest_unusable_ds;
+use crate::unsigned_cuts::zone_closer::zone_loose_closer;
+use dnsv_canonical::Capture;
+use dnsv_chain::Trust;
+use dnsv_names::Name;
+
+/// The name from which on the name may be unsigned, or `None` where the evidence shows none (RFC 4035 5.2, RFC 5155
+/// 8.6, 8.9, 9.2).
+pub fn unsigned_cut(
+    capture: &Capture,
+    trust: &Trust,
+    name: &Name,
+    zones: &[ZoneRecords<'_>],
+    sets: &[ParameterSet<'_>],
+) -> Option<Name>
+    requires { IsViewOf (SecuredIn trust.now) capture.now.rrsets name.now sets.now zones.now }
+    ensures { MatchOption result (¬ HasUnsignedCut (SecuredIn trust.now) capture.now.rrsets name.now)
+        (IsUnsignedCut (SecuredIn trust.now) capture.now.rrsets name.now) }
+{
+    let shown = zones_cuts(zones, name, sets);
+    let no_usable_ds = highest_unusable_ds(capture, trust, name);
+    first_cut(name, shown.no_ds, no_usable_ds, shown.opt_out)
+}
+
+/// The next closer name to the name's so many labels, if an unsigned delegation of the zone may stand there against an
+/// answer from the wildcard (RFC 5155 8.8).
+pub fn loose_next_closer(
+    name: &Name,
+    zone: &Name,
+    labels: usize,
+    zones: &[ZoneRecords<'_>],
+    sets: &[ParameterSet<'_>],
+) -> Option<Name>
+    requires { (trust : KeptTrust) × (rrsets : List ReceivedRrset)
+        × IsViewOf (SecuredIn trust) rrsets name.now sets.now zones.now }
+    ensures { (trust : KeptTrust) (rrsets : List ReceivedRrset)
+        → IsViewOf (SecuredIn trust) rrsets name.now sets.now zones.now
+        → MatchOption result (¬ HasLooseCloser (SecuredIn trust) rrsets name.now labels zone.now)
+        (λ closer. HasLooseCloser (SecuredIn trust) rrsets name.now labels zone.now
+        × (closer ≡ rightmost name.now (labels + 1))) }
+{
+    if !name.is_at_or_below(zone) {
+        return None;
+    }
+    let kept = &zones[zone.labels()];
+    if !zone_loose_closer(kept, name, labels, sets) {
+        return None;
+    }
+    Some(next_closer(name, labels))
+}

@@ -1,0 +1,69 @@
+//! What a proof asks of records: of which name, and what of its types.
+ghost use Rattle.std.specs.Prelude.{◌≡◌, ◌↔◌, IsTrue};
+ghost use Rattle.std.specs.FinSet as set;
+ghost use Rattle.dnsv_zones.specs.chains.NsecChain.{IsInBitmap};
+
+use dnsv_names::{Name, RecordType};
+use dnsv_records::TypeBitmap;
+use dnsv_zones::{denies, is_closed, is_unsigned_delegation};
+
+/// A name that the proof of a denial asks for, by the question's name (RFC 5155 8).
+#[derive(Clone, Copy, Debug)]
+pub enum AskedName {
+    /// So many of the question's rightmost labels.
+    Above(usize),
+    /// The wildcard right below so many of the question's rightmost labels.
+    Wildcard(usize),
+}
+
+impl AskedName {
+    ghost use Rattle.dnsv_denial.specs.words.Asked.{asked_name, IsWithin};
+
+    /// The name, for a question of `name`.
+    pub fn of(self, name: &Name) -> Name
+        requires { IsWithin name.now self }
+        ensures { result ≡ asked_name name.now self }
+    {
+        match self {
+            AskedName::Above(labels) => name.suffix(labels),
+            AskedName::Wildcard(labels) => name.source_of_synthesis(labels),
+        }
+    }
+}
+
+/// What the proof of a denial asks of the types at a name.
+#[derive(Clone, Copy, Debug)]
+pub enum AskedTypes {
+    /// Neither a delegation nor a DNAME is there (RFC 5155 8.3).
+    Open,
+    /// The type isn't there (RFC 4035 5.4).
+    Without(RecordType),
+    /// A delegation without DS is there (RFC 4035 5.2).
+    UnsignedDelegation,
+}
+
+impl AskedTypes {
+    ghost use Rattle.dnsv_denial.specs.words.Asked.{said_types};
+
+    /// Whether the types are such.
+    pub fn are(self, types: &TypeBitmap) -> bool
+        ensures { IsTrue result ↔ said_types self (IsInBitmap (λ t. set.contains types.now t)) }
+    {
+        match self {
+            AskedTypes::Open => !is_closed(types),
+            AskedTypes::Without(rtype) => denies(types, rtype),
+            AskedTypes::UnsignedDelegation => is_unsigned_delegation(types),
+        }
+    }
+}
+
+/// What the proof of a denial asks of the wildcard at the closest encloser.
+#[derive(Clone, Copy, Debug)]
+pub enum AskedWildcard {
+    /// It is no node (RFC 4035 5.4, RFC 5155 8.4).
+    Absent,
+    /// It is an empty non-terminal (RFC 4592 2.2.2).
+    Empty,
+    /// It is there without the type (RFC 4035 3.1.3.4, RFC 5155 8.7).
+    Without(RecordType),
+}

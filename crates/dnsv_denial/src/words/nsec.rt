@@ -1,0 +1,71 @@
+//! What forms ask of NSEC records.
+ghost use Rattle.std.specs.Prelude.{◌≡◌};
+ghost use Rattle.dnsv_names.specs.Name.{SameName};
+ghost use Rattle.dnsv_zones.specs.chains.NsecChain.{IsInBitmap};
+ghost use Rattle.dnsv_zones.specs.forms.Nsec.{IsAbsentBy, IsInnerBy, IsNodeBy};
+ghost use Rattle.dnsv_denial.specs.records.Record.{read_entry};
+ghost use Rattle.dnsv_denial.specs.declared.records.entry.NsecEntry.{NsecEntry};
+ghost use Rattle.dnsv_denial.specs.words.Asked.{said_types};
+
+use crate::records::entry::NsecEntry;
+use crate::words::asked::AskedTypes;
+use crate::words::search::Word;
+use dnsv_names::Name;
+use dnsv_zones::{is_absent, is_inner, is_node};
+
+/// The word that a name is no node.
+#[derive(Debug, Drop)]
+pub struct Absent<'a>(pub &'a Name);
+
+impl Word<NsecEntry<'_>> for Absent<'_> {
+    ghost says = { λ word entry. IsAbsentBy (read_entry entry) word.0.now };
+
+    fn is_said_by(&self, entry: &NsecEntry<'_>) -> bool {
+        is_absent(entry.owner, entry.nsec, self.0)
+    }
+}
+
+/// The word that a name is an empty non-terminal.
+#[derive(Debug, Drop)]
+pub struct Inner<'a>(pub &'a Name);
+
+impl Word<NsecEntry<'_>> for Inner<'_> {
+    ghost says = { λ word entry. IsInnerBy (read_entry entry) word.0.now };
+
+    fn is_said_by(&self, entry: &NsecEntry<'_>) -> bool {
+        is_inner(entry.owner, entry.nsec, self.0)
+    }
+}
+
+/// The word that a name is a node.
+#[derive(Debug, Drop)]
+pub struct Node<'a>(pub &'a Name);
+
+impl Word<NsecEntry<'_>> for Node<'_> {
+    ghost says = { λ word entry. IsNodeBy (read_entry entry) word.0.now };
+
+    fn is_said_by(&self, entry: &NsecEntry<'_>) -> bool {
+        is_node(entry.owner, entry.nsec, self.0)
+    }
+}
+
+/// The word that a name is an owner, and its types are such.
+#[derive(Debug, Drop)]
+pub struct Owner<'a> {
+    /// The owner.
+    pub name: &'a Name,
+    /// What its types are to be.
+    pub types: AskedTypes,
+}
+
+impl Word<NsecEntry<'_>> for Owner<'_> {
+    ghost says = { λ word entry. SameName entry.owner.now word.name.now
+        × said_types word.types (IsInBitmap (read_entry entry).types) };
+
+    fn is_said_by(&self, entry: &NsecEntry<'_>) -> bool {
+        if *entry.owner == *self.name {
+            return self.types.are(&entry.nsec.types);
+        }
+        false
+    }
+}

@@ -1,0 +1,3 @@
+-- Of the examples.
+pub mod Example
+pub mod OptOutExample

@@ -1,0 +1,47 @@
+-- What NSEC3 records with the same parameters say of names (RFC 5155 8).
+use Rattle.std.specs.Prelude.{◌≡◌, ◌≢◌, ℕ, List}
+use Rattle.dnsv_names.specs.Name.{Labels}
+use Rattle.dnsv_names.specs.Order.{label_cmp}
+use Rattle.dnsv_names.specs.Circle.{Gap}
+use Rattle.dnsv_zones.specs.Any.{Any}
+use Rattle.dnsv_zones.specs.zones.Types.{IsClosed}
+use Rattle.dnsv_zones.specs.chains.NsecChain.{IsInBitmap}
+use Rattle.dnsv_zones.specs.chains.Nsec3Chain.{Nsec3Record, NameHash}
+use Rattle.dnsv_zones.specs.forms.Forms.{LooseCloser, OptOut, Words}
+
+-- the record has the name's hash (RFC 5155 1.3)
+pub record Matches (hash : NameHash) (nsec3 : Nsec3Record) (name : Labels) : Type 0 where
+  pub same_parameters : nsec3.parameters ≡ hash.parameters
+  pub same_hash : nsec3.hash ≡ hash.of name
+
+-- the name's hash lies between the record's and the next one (RFC 5155 1.3)
+pub record Covers (hash : NameHash) (nsec3 : Nsec3Record) (name : Labels) : Type 0 where
+  pub same_parameters : nsec3.parameters ≡ hash.parameters
+  pub gap : Gap label_cmp nsec3.hash nsec3.next (hash.of name)
+
+-- A cover without the Opt-Out flag is firm, and only such says that a name is absent (RFC 5155 6). The closest
+-- encloser is no delegation and has no DNAME (RFC 5155 8.3).
+abbrev pub nsec3_words : NameHash → List Nsec3Record → Words
+nsec3_words hash records = record {
+  Encloser = λ name. Any (λ nsec3. Matches hash nsec3 name × ¬ IsClosed (IsInBitmap nsec3.types)) records;
+  Absent = λ name. Any (λ nsec3. Covers hash nsec3 name × (nsec3.flags ≡ 0)) records;
+  Inner = λ name. ⊥;
+  TypesAt = λ name Says. Any (λ nsec3. Matches hash nsec3 name × Says (IsInBitmap nsec3.types)) records;
+}
+
+-- some record covers the name
+abbrev pub IsCovered : NameHash → List Nsec3Record → Labels → Type 0
+IsCovered hash records name = Any (λ nsec3. Covers hash nsec3 name) records
+
+-- some record with the Opt-Out flag covers the name
+abbrev pub IsOptedOut : NameHash → List Nsec3Record → Labels → Type 0
+IsOptedOut hash records name = Any (λ nsec3. Covers hash nsec3 name × (nsec3.flags ≢ 0)) records
+
+-- these records leave open that an unsigned delegation lies at or below the next closer name
+abbrev pub OptOutForm : NameHash → List Nsec3Record → Labels → Labels → ℕ → Type 0
+OptOutForm hash records =
+    OptOut (λ name. (nsec3_words hash records).Encloser name) (IsCovered hash records) (IsOptedOut hash records)
+
+-- they leave open that one stands against an answer from the wildcard
+abbrev pub LooseCloserForm : NameHash → List Nsec3Record → Labels → Labels → ℕ → Type 0
+LooseCloserForm hash records = LooseCloser (IsOptedOut hash records)
