@@ -11,7 +11,7 @@ BEGINS = re.compile(r"\bCount::(?:new|default)\(\)")
 NAMED = {
     "dnsv_names/src/count.rt": "the default of a count, and its test",
     "dnsv_verdict/src/report.rt": "the two numbers that a report tells",
-    "dnssec_check/src/todo.rt": "`list` asks a verifier, and prints no number",
+    "dnssec_check/src/texts/todo.rt": "`list` asks a verifier, and prints no number",
 }
 
 

@@ -1,26 +1,26 @@
 -- How the program ends by what its parts answer.
-use Rattle.std.proofs.Common.{◌≡◌, ◌<◌, ◌≤◌, ◌⊎◌, ◌↔◌, ◌==◌, ℕ, Bool, true, false, List, [], ◌∷◌, Option, Some, None, ap, refl, subst, sym, ◌∙◌, inl, inr, arith}
-use Rattle.std.specs.Prelude.{Result, Ok, Err, IfErr, IfOk, IfSome, OnOk, if◌then◌else◌}
-use Rattle.std.specs.List.{list_any}
+pub mod Told
+pub mod Words
+use Rattle.std.proofs.Common.{◌≡◌, ◌⊎◌, ◌↔◌, ℕ, Bool, true, List, [], ◌∷◌, Option, Some, None, ap, refl, subst, sym, ◌∙◌, inl, inr, arith}
+use Rattle.std.specs.Prelude.{Result, Ok, Err, IfErr, IfOk, IfSome}
 use Rattle.std.specs.Io.KnownBytes.{Appends}
 use Rattle.dnsv_message.specs.Counted.{AppendsBeginning}
-use Rattle.dnssec_check.specs.declared.request.Request.{Request}
+use Rattle.dnssec_check.specs.declared.command_line.request.Request.{Request}
 use Rattle.dnssec_check.specs.declared.status.Status.{Status}
 use Rattle.dnssec_check.specs.declared.status.Status.TheVariants.{Done, Insecure, Pending, Bogus, Indeterminate}
 use Rattle.dnssec_check.specs.declared.status.Fault.{Fault}
 use Rattle.dnssec_check.specs.declared.status.Fault.TheVariants as fault
 use Rattle.dnssec_check.specs.declared.status.Place.{Place}
 use Rattle.dnssec_check.specs.declared.status.Refusal.{Refusal}
-use Rattle.dnssec_check.specs.declared.status.Refusal.TheVariants as refusal
 use Rattle.dnssec_check.specs.Files.{Files}
-use Rattle.dnssec_check.specs.Line.{IsAccepted}
+use Rattle.dnssec_check.specs.CommandLine.{IsAccepted}
 use Rattle.dnssec_check.specs.Program.{AreFilesAt, BeganText, IsEnd, RefusedFiles, RefusedWords, WroteText, first_unopened, given_path, paths_of}
-use Rattle.dnssec_check.specs.Request.{anchors_of, capture_of, keys_of, macs_of, statements_of}
+use Rattle.dnssec_check.specs.CommandLine.Paths.{anchors_of, capture_of, keys_of, macs_of, statements_of}
 use Rattle.dnssec_check.specs.Told.{IsOpenFault, IsUnopened}
 use Rattle.dnssec_check.specs.declared.status.InputFile.{InputFile}
 use Rattle.dnssec_check.specs.declared.status.InputFile.TheVariants.{Anchors, Capture, Keys, Macs, Statements}
-use Rattle.dnssec_check.specs.Run.{IsTextOf, IsFirstFault}
-use Rattle.dnssec_check.specs.Status.{failures, fault_code, fault_number, outcome_code, refusal_number, status_code}
+use Rattle.dnssec_check.specs.Run.{IsTextAskedFor, IsFirstFault}
+use Rattle.dnssec_check.specs.Status.{fault_code, outcome_code, status_code}
 
 -- what is said of the words that were handed out holds of those that the machine tells
 pub told_ok : {A E : Type 0} (P : List (List ℕ) → A → Type 0) (given : Option (List (List ℕ))) (words : List (List ℕ)) (result : Result A E)
@@ -38,26 +38,37 @@ told_err P (Some told) words (Ok value) same holds = tt
 told_err P (Some told) words (Err error) same holds = subst (λ w. P w error) same holds
 
 -- a fault ends with 1 or 7
-no_end : (is_failure : Bool) (code : ℕ) → ◌≡◌ {A = ℕ} (if is_failure then 1 else 7) code → IsEnd code → ⊥
-no_end true code is (inl is_0) = omega (arith, is, is_0)
-no_end true code is (inr between) = omega (arith, is, between.0)
-no_end false code is (inl is_0) = omega (arith, is, is_0)
-no_end false code is (inr between) = omega (arith, is, between.1)
+one_of : (told : Fault) (code : ℕ) → fault_code told ≡ code → (code ≡ 1) ⊎ (code ≡ 7)
+one_of fault.OutOfMemory code is = inl (sym is)
+one_of (fault.ReadFailed file) code is = inl (sym is)
+one_of (fault.TooLong file) code is = inl (sym is)
+one_of (fault.OpenFailed file) code is = inl (sym is)
+one_of fault.WriteFailed code is = inl (sym is)
+one_of (fault.Refused why place) code is = inr (sym is)
+
+neither : (code : ℕ) → (code ≡ 1) ⊎ (code ≡ 7) → IsEnd code → ⊥
+neither code (inl is_1) (inl is_0) = omega (arith, is_1, is_0)
+neither code (inl is_1) (inr between) = omega (arith, is_1, between.0)
+neither code (inr is_7) (inl is_0) = omega (arith, is_7, is_0)
+neither code (inr is_7) (inr between) = omega (arith, is_7, between.1)
+
+pub no_end : (told : Fault) (code : ℕ) → fault_code told ≡ code → IsEnd code → ⊥
+no_end told code is ends = neither code (one_of told code is) ends
 
 -- such an exit status is no fault's
 pub ended_well : {X : Status → Type 0} (outcome : Result Status Fault) (code : ℕ) → outcome_code outcome ≡ code → IsEnd code → IfOk outcome X
     → (status : Status) × (status_code status ≡ code) × X status
 ended_well (Ok status) code is ends holds = (status, is, holds)
-ended_well (Err failed) code is ends holds = absurd (no_end (list_any (λ failure. failure == fault_number failed) failures) code is ends)
+ended_well (Err failed) code is ends holds = absurd (no_end failed code is ends)
 
-no_7 : (status : Status) → status_code status ≡ 7 → ⊥
+pub no_7 : (status : Status) → status_code status ≡ 7 → ⊥
 no_7 Done is_7 = omega (arith, is_7)
 no_7 Insecure is_7 = omega (arith, is_7)
 no_7 Pending is_7 = omega (arith, is_7)
 no_7 Bogus is_7 = omega (arith, is_7)
 no_7 Indeterminate is_7 = omega (arith, is_7)
 
-no_1 : (status : Status) → status_code status ≡ 1 → ⊥
+pub no_1 : (status : Status) → status_code status ≡ 1 → ⊥
 no_1 Done is_1 = omega (arith, is_1)
 no_1 Insecure is_1 = omega (arith, is_1)
 no_1 Pending is_1 = omega (arith, is_1)
@@ -75,41 +86,6 @@ ended_refused (Err (fault.OpenFailed file)) is_7 = absurd (omega (arith, is_7))
 ended_refused (Err fault.WriteFailed) is_7 = absurd (omega (arith, is_7))
 ended_refused (Err (fault.Refused why place)) is_7 = (why, place, refl)
 
-refusal_ends_with_7 : (why : Refusal) → fault_code (refusal_number why) ≡ 7
-refusal_ends_with_7 refusal.BadEscape = refl
-refusal_ends_with_7 refusal.EmptyLabel = refl
-refusal_ends_with_7 refusal.LongLabel = refl
-refusal_ends_with_7 refusal.LongQuestionName = refl
-refusal_ends_with_7 refusal.NotAbsolute = refl
-refusal_ends_with_7 refusal.AnchorSyntax = refl
-refusal_ends_with_7 refusal.TooManyAnchors = refl
-refusal_ends_with_7 refusal.BadQuestion = refl
-refusal_ends_with_7 refusal.KeySyntax = refl
-refusal_ends_with_7 refusal.DuplicateKey = refl
-refusal_ends_with_7 refusal.NoTsig = refl
-refusal_ends_with_7 refusal.TsigForm = refl
-refusal_ends_with_7 refusal.BadKey = refl
-refusal_ends_with_7 refusal.BadMac = refl
-refusal_ends_with_7 refusal.BadTime = refl
-refusal_ends_with_7 refusal.TruncatedMac = refl
-refusal_ends_with_7 refusal.PeerError = refl
-refusal_ends_with_7 refusal.MacSyntax = refl
-refusal_ends_with_7 refusal.MacCount = refl
-refusal_ends_with_7 refusal.Short = refl
-refusal_ends_with_7 refusal.BadLabel = refl
-refusal_ends_with_7 refusal.BadPointer = refl
-refusal_ends_with_7 refusal.TooManyPointers = refl
-refusal_ends_with_7 refusal.LongName = refl
-refusal_ends_with_7 refusal.BadRdata = refl
-refusal_ends_with_7 refusal.TrailingBytes = refl
-refusal_ends_with_7 refusal.ZeroLength = refl
-refusal_ends_with_7 refusal.TornFrame = refl
-refusal_ends_with_7 refusal.NotAResponse = refl
-refusal_ends_with_7 refusal.Truncated = refl
-refusal_ends_with_7 refusal.Limit = refl
-refusal_ends_with_7 refusal.StatementSyntax = refl
-refusal_ends_with_7 refusal.Contradiction = refl
-
 -- 1 is the exit status of a failed write, or of a fault that left the output as it was
 pub ended_failed : {Same Begun : Type 0} (outcome : Result Status Fault) → outcome_code outcome ≡ 1
     → IfErr outcome (λ failed. (failed ≡ fault.WriteFailed → ⊥) → Same) → (outcome ≡ Err fault.WriteFailed → Begun) → Same ⊎ Begun
@@ -119,11 +95,11 @@ ended_failed (Err (fault.ReadFailed file)) is_1 untouched begun = inl (untouched
 ended_failed (Err (fault.TooLong file)) is_1 untouched begun = inl (untouched (λ is. cc))
 ended_failed (Err (fault.OpenFailed file)) is_1 untouched begun = inl (untouched (λ is. cc))
 ended_failed (Err fault.WriteFailed) is_1 untouched begun = inr (begun refl)
-ended_failed (Err (fault.Refused why place)) is_1 untouched begun = absurd (omega (arith, is_1, refusal_ends_with_7 why))
+ended_failed (Err (fault.Refused why place)) is_1 untouched begun = absurd (omega (arith, is_1))
 
 pub began : (given : Option (List (List ℕ))) (octets_at : List ℕ → Option (List ℕ)) (old new : Option (List ℕ)) (request : Request)
     → IfSome given (λ words. IsAccepted words request)
-    → ((files : Files) → AreFilesAt octets_at request files → (status : Status) × (text : List ℕ) × IsTextOf request files status text × AppendsBeginning old new text)
+    → ((files : Files) → AreFilesAt octets_at request files → (status : Status) × (text : List ℕ) × IsTextAskedFor request files status text × AppendsBeginning old new text)
     → IfSome given (λ words. BeganText words octets_at old new)
 began None octets_at old new request accepted text = tt
 began (Some words) octets_at old new request accepted text = record { request = request; accepted = accepted; text = text }
@@ -131,7 +107,7 @@ began (Some words) octets_at old new request accepted text = record { request = 
 pub wrote : (given : Option (List (List ℕ))) (octets_at : List ℕ → Option (List ℕ)) (old new : Option (List ℕ)) (request : Request) (code : ℕ)
     → IfSome given (λ words. IsAccepted words request)
     → ((files : Files) → AreFilesAt octets_at request files
-    → (status : Status) × (status_code status ≡ code) × ((text : List ℕ) × IsTextOf request files status text × Appends old new text))
+    → (status : Status) × (status_code status ≡ code) × ((text : List ℕ) × IsTextAskedFor request files status text × Appends old new text))
     → IfSome given (λ words. WroteText words octets_at old new code ⊎ RefusedWords words code)
 wrote None octets_at old new request code accepted text = tt
 wrote (Some words) octets_at old new request code accepted text = inl (record {

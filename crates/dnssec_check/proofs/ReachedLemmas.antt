@@ -1,12 +1,12 @@
 -- What comes before a failed read.
-use Rattle.std.proofs.Common.{◌≡◌, ℕ, List, Option, subst, sym}
-use Rattle.std.specs.Prelude.{Result, Ok, Err, IfErr, ⊤}
+use Rattle.std.proofs.Common.{◌≡◌, ℕ, subst, sym}
+use Rattle.std.specs.Prelude.{Result, Ok, Err, IfErr}
 use Rattle.dnssec_check.specs.declared.status.Fault.{Fault}
 use Rattle.dnssec_check.specs.declared.status.Fault.TheVariants as fault
 use Rattle.dnssec_check.specs.declared.status.InputFile.{InputFile}
 use Rattle.dnssec_check.specs.declared.status.InputFile.TheVariants.{Anchors, Capture, Keys, Macs, Statements}
-use Rattle.dnssec_check.specs.EnvelopeFiles.{IsEnvelopeReached}
-use Rattle.dnssec_check.specs.FileFaults.{IsAbout, OfFailedRead}
+use Rattle.dnssec_check.specs.Opening.Given.{IsOpeningReached}
+use Rattle.dnssec_check.specs.Files.Faults.{IsAbout, OfFailedRead}
 use Rattle.dnssec_check.specs.Files.{Files}
 use Rattle.dnssec_check.specs.Run.{IsReachedOfFiles}
 
@@ -38,7 +38,7 @@ pub reached_in : {T : Type 0} (P Q : InputFile → Type 0) (result : Result T Fa
 reached_in P Q (Ok x) weaker holds = tt
 reached_in P Q (Err told) weaker holds = weaker_told P Q told weaker holds
 
-in_files : (moment : ℕ) (files : Files) (file : InputFile) → IsEnvelopeReached files.keys file → IsReachedOfFiles moment files file
+in_files : (moment : ℕ) (files : Files) (file : InputFile) → IsOpeningReached files.keys file → IsReachedOfFiles moment files file
 in_files moment files Keys holds = tt
 in_files moment files Macs holds = holds
 in_files moment files Capture holds = absurd holds
@@ -46,5 +46,5 @@ in_files moment files Anchors holds = absurd holds
 in_files moment files Statements holds = absurd holds
 
 -- the keys and the MACs are read first
-pub reached_sealed : (moment : ℕ) (files : Files) (told : Fault) → OfFailedRead (IsEnvelopeReached files.keys) told → OfFailedRead (IsReachedOfFiles moment files) told
-reached_sealed moment files told = weaker_told (IsEnvelopeReached files.keys) (IsReachedOfFiles moment files) told (in_files moment files)
+pub reached_sealed : (moment : ℕ) (files : Files) (told : Fault) → OfFailedRead (IsOpeningReached files.keys) told → OfFailedRead (IsReachedOfFiles moment files) told
+reached_sealed moment files told = weaker_told (IsOpeningReached files.keys) (IsReachedOfFiles moment files) told (in_files moment files)

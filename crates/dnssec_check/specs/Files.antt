@@ -1,4 +1,8 @@
 -- The files of a run, and what their readers tell of them.
+pub mod Anchors
+pub mod Capture
+pub mod Faults
+pub mod Statements
 use Rattle.std.specs.Prelude.{◌≡◌, ℕ, List, [], Option, Some, unwrap_or}
 use Rattle.std.specs.Option.{option_map, option_map_or}
 use Rattle.dnsv_message.specs.Counted.{inner_of, failures_of}

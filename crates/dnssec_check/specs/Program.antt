@@ -1,22 +1,25 @@
 -- How the program ends, where its machine tells the words of the command line and the octets of files.
-use Rattle.std.specs.Prelude.{◌≡◌, ◌⊎◌, ◌≤◌, ℕ, Bool, not, List, [], ◌∷◌, ◌++◌, Option, Some, None, find}
+use Rattle.std.specs.Prelude.{◌≡◌, ◌⊎◌, ◌↔◌, ◌<◌, ◌≤◌, ◌-◌, ◌^◌, ℕ, Bool, not, List, [], ◌∷◌, Option, Some, None, find}
 use Rattle.std.specs.Option.{option_map}
 use Rattle.std.specs.Io.KnownBytes.{Appends}
-use Rattle.dnsv_message.specs.Counted.{AppendsBeginning}
+use Rattle.dnsv_message.specs.Counted.{AppendsBeginning, failures_of, inner_of}
+use Rattle.dnsv_message.specs.declared.counted.Counted.{Counted}
 use Rattle.clap.specs.Words.{Text}
-use Rattle.dnssec_check.specs.declared.request.Request.{Request}
-use Rattle.dnssec_check.specs.declared.line.LineError.{LineError}
+use Rattle.dnssec_check.specs.declared.command_line.request.Request.{Request}
+use Rattle.dnssec_check.specs.declared.command_line.CommandLineError.{CommandLineError}
+use Rattle.dnssec_check.specs.declared.status.Fault.{Fault}
 use Rattle.dnssec_check.specs.declared.status.Fault.TheVariants as fault
 use Rattle.dnssec_check.specs.declared.status.InputFile.{InputFile}
 use Rattle.dnssec_check.specs.declared.status.InputFile.TheVariants.{Anchors, Capture, Keys, Macs, Statements}
 use Rattle.dnssec_check.specs.declared.status.Status.{Status}
 use Rattle.dnssec_check.specs.declared.status.Place.{Place}
 use Rattle.dnssec_check.specs.declared.status.Refusal.{Refusal}
+use Rattle.dnssec_check.specs.Files.Faults.{OfFailedRead, OfOctets}
 use Rattle.dnssec_check.specs.Files.{Files}
-use Rattle.dnssec_check.specs.Line.{IsAccepted, IsRefused, line_code}
-use Rattle.dnssec_check.specs.Request.{anchors_of, capture_of, keys_of, macs_of, statements_of}
-use Rattle.dnssec_check.specs.Run.{IsTextOf, IsFirstFault}
-use Rattle.dnssec_check.specs.Status.{status_code}
+use Rattle.dnssec_check.specs.CommandLine.{IsAccepted, IsRefused, command_line_code}
+use Rattle.dnssec_check.specs.CommandLine.Paths.{anchors_of, capture_of, keys_of, macs_of, statements_of}
+use Rattle.dnssec_check.specs.Run.{IsTextAskedFor, IsFirstFault, IsReached}
+use Rattle.dnssec_check.specs.Status.{fault_line, status_code}
 
 -- ---- files
 
@@ -56,7 +59,7 @@ pub record WroteText (words : List Text) (octets_at : List ℕ → Option (List 
   pub request : Request
   pub accepted : IsAccepted words request
   pub text : (files : Files) → AreFilesAt octets_at request files
-      → (status : Status) × (text : List ℕ) × IsTextOf request files status text
+      → (status : Status) × (text : List ℕ) × IsTextAskedFor request files status text
       × (status_code status ≡ code) × Appends old new text
 
 -- the words ask for something, and the output got a beginning of what the files that they name have for it
@@ -65,7 +68,7 @@ pub record BeganText (words : List Text) (octets_at : List ℕ → Option (List 
   pub request : Request
   pub accepted : IsAccepted words request
   pub text : (files : Files) → AreFilesAt octets_at request files
-      → (status : Status) × (text : List ℕ) × IsTextOf request files status text × AppendsBeginning old new text
+      → (status : Status) × (text : List ℕ) × IsTextAskedFor request files status text × AppendsBeginning old new text
 
 -- the words ask for something, and the first fault of the files that they name is a refusal
 pub record RefusedFiles (words : List Text) (octets_at : List ℕ → Option (List ℕ)) : Type 0 where
@@ -76,6 +79,39 @@ pub record RefusedFiles (words : List Text) (octets_at : List ℕ → Option (Li
 
 -- the words ask for nothing, which the program ends with this exit status
 pub record RefusedWords (words : List Text) (code : ℕ) : Type 0 where
-  pub error : LineError
+  pub error : CommandLineError
   pub refused : IsRefused words error
-  pub code_told : line_code error ≡ code
+  pub code_told : command_line_code error ≡ code
+
+-- ---- the line that is told
+
+-- a stream got the line of the fault; or a beginning of it, and then a write failed: by the count of its calls that
+-- failed, unless that began at its greatest value
+abbrev pub HasToldIn : {W : Type 0} → (W → Option (List ℕ)) → Counted W → Counted W → Fault → Type 0
+HasToldIn contents old new told =
+    Appends (contents (inner_of old)) (contents (inner_of new)) (fault_line told)
+    ⊎ ((failures_of old < 2 ^ 64 - 1 → failures_of old < failures_of new)
+    × AppendsBeginning (contents (inner_of old)) (contents (inner_of new)) (fault_line told))
+
+-- where this fault is told, a write of the output failed, or the output is as it was
+abbrev pub LeavesOutput : {W : Type 0} → Counted W → Counted W → Fault → Type 0
+LeavesOutput old new fault.WriteFailed = failures_of old < 2 ^ 64 - 1 → failures_of old < failures_of new
+LeavesOutput old new _ = new ≡ old
+
+-- The words ask for something, and the fault is the first that it has: by the octets of the files that they name, and
+-- by which of these open.
+pub record FailedRequest (words : List Text) (octets_at : List ℕ → Option (List ℕ))
+    (opens_at : List ℕ → Option Bool) (told : Fault) : Type 0 where
+  pub request : Request
+  pub accepted : IsAccepted words request
+  pub first : (files : Files) → AreFilesAt octets_at request files → OfOctets (IsFirstFault request files) told
+  pub reached : (files : Files) → AreFilesAt octets_at request files → OfFailedRead (IsReached request files) told
+  pub unopened : (opens : List ℕ → Bool) → ((path : List ℕ) → opens_at path ≡ Some (opens path))
+      → (file : InputFile) → (told ≡ fault.OpenFailed file)
+      ↔ (first_unopened opens (paths_of request) ≡ Some file)
+
+-- memory was wanting for the words or for help, or help wasn't written
+abbrev pub FailedWords : List Text → Fault → Type 0
+FailedWords words told =
+    ((told ≡ fault.OutOfMemory) × (RefusedWords words 0 ⊎ RefusedWords words 1))
+    ⊎ ((told ≡ fault.WriteFailed) × RefusedWords words 0)

@@ -4,26 +4,26 @@ use Rattle.dnsv_names.specs.Name.{Labels}
 use Rattle.dnsv_message.specs.Message.{Contents}
 use Rattle.dnsv_canonical.specs.Rrsets.{IsQuestion}
 use Rattle.dnsv_chain.specs.declared.anchor.Anchor.{Anchor}
-use Rattle.dnssec_check.specs.declared.envelope.Envelope.{Envelope}
-use Rattle.dnssec_check.specs.declared.envelope.Envelope.TheVariants.{Bare}
-use Rattle.dnssec_check.specs.declared.request.Request.{Request}
-use Rattle.dnssec_check.specs.declared.request.Request.TheVariants as request
+use Rattle.dnssec_check.specs.declared.opening.Opening.{Opening}
+use Rattle.dnssec_check.specs.declared.opening.Opening.TheVariants.{Plain}
+use Rattle.dnssec_check.specs.declared.command_line.request.Request.{Request}
+use Rattle.dnssec_check.specs.declared.command_line.request.Request.TheVariants as request
 use Rattle.dnssec_check.specs.declared.status.Fault.{Fault}
 use Rattle.dnssec_check.specs.declared.status.Fault.TheVariants as fault
 use Rattle.dnssec_check.specs.declared.status.InputFile.{InputFile}
 use Rattle.dnssec_check.specs.declared.status.InputFile.TheVariants.{Anchors, Capture, Keys, Macs, Statements}
 use Rattle.dnssec_check.specs.declared.status.Status.{Status}
 use Rattle.dnssec_check.specs.declared.status.Status.TheVariants.{Done}
-use Rattle.dnssec_check.specs.AnchorsFile.{HasAnchors, IsFaultOfAnchors}
-use Rattle.dnssec_check.specs.CaptureFile.{AnyMessage, NewEvidence, Holds, IsFaultOfCapture}
-use Rattle.dnssec_check.specs.Checking.{IsCheck}
-use Rattle.dnssec_check.specs.EnvelopeFiles.{IsEnvelopeOf, IsEnvelopeReached, IsFaultOfEnvelope}
+use Rattle.dnssec_check.specs.Files.Anchors.{HasAnchors, IsFaultOfAnchors}
+use Rattle.dnssec_check.specs.Files.Capture.{AnyMessage, NewEvidence, Holds, IsFaultOfCapture}
+use Rattle.dnssec_check.specs.Texts.Checking.{IsCheck}
+use Rattle.dnssec_check.specs.Opening.Given.{IsOpeningOf, IsOpeningReached, IsFaultOfOpening}
 use Rattle.dnssec_check.specs.Files.{Files, octets_or_none}
-use Rattle.dnssec_check.specs.Listing.{IsListing}
-use Rattle.dnssec_check.specs.Question.{IsQuestionRefused, Spells}
-use Rattle.dnssec_check.specs.Showing.{IsShowing}
-use Rattle.dnssec_check.specs.StatementsFile.{IsFaultOfStatements}
-use Rattle.dnssec_check.specs.Todo.{IsTodo}
+use Rattle.dnssec_check.specs.Texts.Listing.{IsListing}
+use Rattle.dnssec_check.specs.CommandLine.Question.{IsQuestionRefused, Spells}
+use Rattle.dnssec_check.specs.Texts.Showing.{IsShowing}
+use Rattle.dnssec_check.specs.Files.Statements.{IsFaultOfStatements}
+use Rattle.dnssec_check.specs.Texts.Todo.{IsTodo}
 
 -- ---- the text
 
@@ -33,24 +33,24 @@ IsAnswered asked rtype moment files end text =
     (name : Labels) × Spells asked name × IsQuestion name rtype × IsCheck name rtype moment files end text
 
 -- over these files the request ends so, with this text
-abbrev pub IsTextOf : Request → Files → Status → List ℕ → Type 0
-IsTextOf (request.Show capture) files end text = (end ≡ Done) × IsShowing files.capture text
-IsTextOf (request.List capture moment statements true) files end text = (end ≡ Done) × IsListing files.capture text
-IsTextOf (request.List capture moment statements false) files end text = (end ≡ Done) × IsTodo moment files text
-IsTextOf (request.Check capture anchors moment asked rtype statements keys macs) files end text =
+abbrev pub IsTextAskedFor : Request → Files → Status → List ℕ → Type 0
+IsTextAskedFor (request.Show capture) files end text = (end ≡ Done) × IsShowing files.capture text
+IsTextAskedFor (request.List capture moment statements true) files end text = (end ≡ Done) × IsListing files.capture text
+IsTextAskedFor (request.List capture moment statements false) files end text = (end ≡ Done) × IsTodo moment files text
+IsTextAskedFor (request.Check capture anchors moment asked rtype statements keys macs) files end text =
     IsAnswered (string_bytes asked) rtype.0 moment files end text
 
 -- ---- the first fault
 
 -- the file holds messages in such frames, each of them evidence besides those before it
-abbrev pub HasEvidence : Envelope → List ℕ → Type 0
-HasEvidence envelope file = (messages : List Contents) × Holds NewEvidence envelope file messages
+abbrev pub HasEvidence : Opening → List ℕ → Type 0
+HasEvidence opening file = (messages : List Contents) × Holds NewEvidence opening file messages
 
 -- the file of captured messages has this fault; or it has none, and the file of statements has it
 abbrev pub IsFirstFaultOfTodo : Files → Fault → Type 0
 IsFirstFaultOfTodo files fault =
-    IsFaultOfCapture NewEvidence Bare files.capture fault
-    ⊎ (HasEvidence Bare files.capture × IsFaultOfStatements (octets_or_none files.statements) fault)
+    IsFaultOfCapture NewEvidence Plain files.capture fault
+    ⊎ (HasEvidence Plain files.capture × IsFaultOfStatements (octets_or_none files.statements) fault)
 
 -- behind the file of captured messages, the first fault is in the trust anchors, and then in the statements
 abbrev pub IsFirstFaultBehind : Files → Fault → Type 0
@@ -60,17 +60,17 @@ IsFirstFaultBehind files fault =
     × IsFaultOfStatements (octets_or_none files.statements) fault)
 
 -- where frames are opened so, the first fault is in the file of captured messages, and then in those behind it
-abbrev pub IsFirstFaultOfEvidence : Envelope → Files → Fault → Type 0
-IsFirstFaultOfEvidence envelope files fault =
-    IsFaultOfCapture NewEvidence envelope files.capture fault
-    ⊎ (HasEvidence envelope files.capture × IsFirstFaultBehind files fault)
+abbrev pub IsFirstFaultOfEvidence : Opening → Files → Fault → Type 0
+IsFirstFaultOfEvidence opening files fault =
+    IsFaultOfCapture NewEvidence opening files.capture fault
+    ⊎ (HasEvidence opening files.capture × IsFirstFaultBehind files fault)
 
 -- the first fault is in the files of keys and MACs, and then in the others
 abbrev pub IsFirstFaultOfFiles : ℕ → Files → Fault → Type 0
 IsFirstFaultOfFiles moment files fault =
-    IsFaultOfEnvelope files.keys files.macs fault
-    ⊎ ((envelope : Envelope) × IsEnvelopeOf files.keys files.macs moment envelope
-    × IsFirstFaultOfEvidence envelope files fault)
+    IsFaultOfOpening files.keys files.macs fault
+    ⊎ ((opening : Opening) × IsOpeningOf files.keys files.macs moment opening
+    × IsFirstFaultOfEvidence opening files fault)
 
 -- the question is refused so
 abbrev pub IsFaultOfQuestion : List ℕ → ℕ → Fault → Type 0
@@ -85,9 +85,9 @@ IsFirstFaultOfCheck asked rtype moment files fault =
 
 -- the first fault, in the order of the work
 abbrev pub IsFirstFault : Request → Files → Fault → Type 0
-IsFirstFault (request.Show capture) files fault = IsFaultOfCapture AnyMessage Bare files.capture fault
+IsFirstFault (request.Show capture) files fault = IsFaultOfCapture AnyMessage Plain files.capture fault
 IsFirstFault (request.List capture moment statements true) files fault =
-    IsFaultOfCapture NewEvidence Bare files.capture fault
+    IsFaultOfCapture NewEvidence Plain files.capture fault
 IsFirstFault (request.List capture moment statements false) files fault = IsFirstFaultOfTodo files fault
 IsFirstFault (request.Check capture anchors moment asked rtype statements keys macs) files fault =
     IsFirstFaultOfCheck (string_bytes asked) rtype.0 moment files fault
@@ -102,19 +102,19 @@ IsCaptureReached _ = ⊥
 -- the statements are read behind evidence
 abbrev pub IsReachedByTodo : Files → InputFile → Type 0
 IsReachedByTodo files Capture = ⊤
-IsReachedByTodo files Statements = HasEvidence Bare files.capture
+IsReachedByTodo files Statements = HasEvidence Plain files.capture
 IsReachedByTodo files _ = ⊥
 
 -- the file of captured messages is read behind the keys and MACs, the anchors behind evidence, and the statements
 -- behind the anchors
 abbrev pub IsReachedOfFiles : ℕ → Files → InputFile → Type 0
 IsReachedOfFiles moment files Keys = ⊤
-IsReachedOfFiles moment files Macs = IsEnvelopeReached files.keys Macs
-IsReachedOfFiles moment files Capture = (envelope : Envelope) × IsEnvelopeOf files.keys files.macs moment envelope
+IsReachedOfFiles moment files Macs = IsOpeningReached files.keys Macs
+IsReachedOfFiles moment files Capture = (opening : Opening) × IsOpeningOf files.keys files.macs moment opening
 IsReachedOfFiles moment files Anchors =
-    (envelope : Envelope) × IsEnvelopeOf files.keys files.macs moment envelope × HasEvidence envelope files.capture
+    (opening : Opening) × IsOpeningOf files.keys files.macs moment opening × HasEvidence opening files.capture
 IsReachedOfFiles moment files Statements =
-    (envelope : Envelope) × IsEnvelopeOf files.keys files.macs moment envelope × HasEvidence envelope files.capture
+    (opening : Opening) × IsOpeningOf files.keys files.macs moment opening × HasEvidence opening files.capture
     × ((anchors : List Anchor) × HasAnchors (octets_or_none files.anchors) anchors)
 
 -- the question can be asked, and the files before this one are in order

@@ -14,21 +14,21 @@ use Rattle.dnssec_check.specs.declared.status.Refusal.TheVariants as refusal
 use Rattle.dnsv_canonical.specs.declared.capture.CaptureError.{CaptureError}
 use Rattle.dnsv_canonical.specs.declared.capture.CaptureError.TheVariants as capture
 use Rattle.dnsv_canonical.specs.Evidence.{Evidence}
-use Rattle.dnssec_check.specs.declared.envelope.Envelope.{Envelope}
-use Rattle.dnssec_check.specs.CaptureFile.{Demand, FrameRefused}
+use Rattle.dnssec_check.specs.declared.opening.Opening.{Opening}
+use Rattle.dnssec_check.specs.Files.Capture.{Demand, FrameRefused}
 use Rattle.dnsv_verifier.specs.declared.statements.StatementsError.{StatementsError}
 use Rattle.dnsv_verifier.specs.declared.statements.StatementsError.TheVariants as statements
 use Rattle.dnsv_chain.specs.declared.anchors.AnchorsError.{AnchorsError}
 use Rattle.dnsv_chain.specs.declared.anchors.AnchorsError.TheVariants as anchors
-use Rattle.dnssec_check.specs.AnchorsFile.{TellsAnchorsError}
+use Rattle.dnssec_check.specs.Files.Anchors.{TellsAnchorsError}
 use Rattle.dnsv_tsig.specs.declared.error.TsigError.{TsigError}
 use Rattle.dnsv_tsig.specs.declared.error.TsigError.TheVariants as tsig
 use Rattle.dnsv_tsig.specs.Answer.{tsig_answer_of}
 use Rattle.dnsv_tsig.specs.Key.{SharedKey}
-use Rattle.dnssec_check.specs.Envelope.{HoldsNoMessage, IsUnreadable}
-use Rattle.dnssec_check.specs.StatementsFile.{TellsStatementsError}
+use Rattle.dnssec_check.specs.Opening.{HoldsNoMessage, IsUnreadable}
+use Rattle.dnssec_check.specs.Files.Statements.{TellsStatementsError}
 use Rattle.dnssec_check.specs.Status.{TellsMessageError, TellsCaptureError, TellsTsigError}
-use Rattle.dnssec_check.specs.KeysFile.{TellsKeysError}
+use Rattle.dnssec_check.specs.Opening.Keys.{TellsKeysError}
 use Rattle.dnsv_tsig.specs.declared.error.KeyFileError.{KeyFileError}
 use Rattle.dnsv_tsig.specs.declared.error.KeyFileError.TheVariants as key_file
 
@@ -43,11 +43,11 @@ IsReadFault read.ZeroLength told = told ≡ fault.Refused refusal.ZeroLength now
 IsReadFault read.TornFrame told = told ≡ fault.Refused refusal.TornFrame nowhere
 
 -- how a text file that wasn't read is told
-abbrev pub IsTextFault : InputFile → ReadError → Fault → Type 0
-IsTextFault file read.OutOfMemory told = told ≡ fault.OutOfMemory
-IsTextFault file read.Read told = told ≡ fault.ReadFailed file
-IsTextFault file read.TooLong told = told ≡ fault.TooLong file
-IsTextFault file _ told = ⊥
+abbrev pub TellsTextReadError : InputFile → ReadError → Fault → Type 0
+TellsTextReadError file read.OutOfMemory told = told ≡ fault.OutOfMemory
+TellsTextReadError file read.Read told = told ≡ fault.ReadFailed file
+TellsTextReadError file read.TooLong told = told ≡ fault.TooLong file
+TellsTextReadError file _ told = ⊥
 
 -- nothing else is told where a text file isn't read
 abbrev pub IsTextReadFault : InputFile → Fault → Type 0
@@ -84,9 +84,9 @@ IsFaultOf Holds (fault.OpenFailed file) = ⊥
 IsFaultOf Holds fault.WriteFailed = ⊥
 
 -- besides the evidence that is held, the frame with this number is refused, at this place
-abbrev pub IsRefusedAt : Demand → Envelope → Evidence → List ℕ → ℕ → Refusal → Place → Type 0
-IsRefusedAt demand envelope held frame number why place =
-    FrameRefused demand envelope held number frame why place.«record» × (place.message ≡ Some number)
+abbrev pub IsRefusedAt : Demand → Opening → Evidence → List ℕ → ℕ → Refusal → Place → Type 0
+IsRefusedAt demand opening held frame number why place =
+    FrameRefused demand opening held number frame why place.«record» × (place.message ≡ Some number)
     × (place.line ≡ None)
 
 -- the octets of the message with this number are none, and are refused at this place
@@ -101,9 +101,9 @@ IsUnopenedAt keys moment request frame number why place =
     × TellsTsigError error why place.«record») × (place.message ≡ Some number) × (place.line ≡ None)
 
 -- the frame with this number holds no message, and is refused at this place
-abbrev pub IsNoMessageAt : Envelope → List ℕ → ℕ → Refusal → Place → Type 0
-IsNoMessageAt envelope frame number why place =
-    HoldsNoMessage envelope number frame why place.«record» × (place.message ≡ Some number) × (place.line ≡ None)
+abbrev pub IsNoMessageAt : Opening → List ℕ → ℕ → Refusal → Place → Type 0
+IsNoMessageAt opening frame number why place =
+    HoldsNoMessage opening number frame why place.«record» × (place.message ≡ Some number) × (place.line ≡ None)
 
 -- the fault tells the error of the message with this number
 abbrev pub IsDecodeFault : DecodeError → ℕ → Fault → Type 0

@@ -2,17 +2,17 @@
 ghost use Rattle.std.specs.Prelude.{◌≡◌, ◌⊎◌, List, Option, ℕ};
 ghost use Rattle.dnsv_names.specs.Octets.{AreOctets};
 ghost use Rattle.dnsv_message.specs.Frames.{IsTooLong};
-ghost use Rattle.dnssec_check.specs.CaptureFile.{AnyMessage, IsRefusal, NewEvidence};
-ghost use Rattle.dnssec_check.specs.declared.envelope.Envelope.TheVariants.{Bare};
-ghost use Rattle.dnssec_check.specs.Listing.{IsListing};
-ghost use Rattle.dnssec_check.specs.Showing.{IsShowing};
+ghost use Rattle.dnssec_check.specs.Files.Capture.{AnyMessage, IsRefusal, NewEvidence};
+ghost use Rattle.dnssec_check.specs.declared.opening.Opening.TheVariants.{Plain};
+ghost use Rattle.dnssec_check.specs.Texts.Listing.{IsListing};
+ghost use Rattle.dnssec_check.specs.Texts.Showing.{IsShowing};
 ghost use Rattle.dnssec_check.specs.Files.{Files};
 ghost use Rattle.dnssec_check.specs.Layers.{LayerLaws};
-ghost use Rattle.dnssec_check.specs.MacsFile.{HasMacs, IsFaultOfMacs};
-ghost use Rattle.dnssec_check.specs.Run.{IsTextOf, IsFirstFault};
+ghost use Rattle.dnssec_check.specs.Opening.Macs.{HasMacs, IsFaultOfMacs};
+ghost use Rattle.dnssec_check.specs.Run.{IsTextAskedFor, IsFirstFault};
 ghost use Rattle.dnssec_check.specs.declared.status.Status.{Status};
 ghost use Rattle.dnssec_check.specs.declared.status.Fault.{Fault};
-ghost use Rattle.dnssec_check.specs.declared.request.Request.{Request};
+ghost use Rattle.dnssec_check.specs.declared.command_line.request.Request.{Request};
 ghost use Rattle.dnssec_check.specs.declared.status.Place.{Place};
 ghost use Rattle.dnssec_check.specs.declared.status.Refusal.{Refusal};
 
@@ -23,7 +23,7 @@ use dnsv_message::{
 };
 use dnsv_names::{a_text_has_one_list_of_lines, a_text_has_one_reading};
 use dnsv_records::record_laws;
-use dnsv_tsig::{one_answer as one_opening, one_ring_or_fault};
+use dnsv_tsig::{one_answer as one_opened, one_ring_or_fault};
 use dnsv_verdict::a_question_has_one_verdict;
 use dnsv_verifier::a_table_is_its_verifier;
 
@@ -36,7 +36,7 @@ fn layers()
     no_fault_of_a_message();
     one_fault();
     one_answer();
-    one_opening();
+    one_opened();
     one_ring_or_fault();
     record_laws();
     one_signed_data();
@@ -49,7 +49,7 @@ fn layers()
 /// A request has at most one text for its files, and one end.
 pub fn one_text()
     ensures { (asked : Request) (files : Files) → AreOctets files.capture
-        → (s t : Status) (a b : List ℕ) → IsTextOf asked files s a → IsTextOf asked files t b → (s ≡ t) × (a ≡ b) }
+        → (s t : Status) (a b : List ℕ) → IsTextAskedFor asked files s a → IsTextAskedFor asked files t b → (s ≡ t) × (a ≡ b) }
 {
     layers();
 }
@@ -58,7 +58,7 @@ pub fn one_text()
 pub fn no_fault_of_a_text()
     ensures { (asked : Request) (files : Files) → AreOctets files.capture
         → (end : Status) (text : List ℕ) (fault : Fault)
-        → IsTextOf asked files end text → IsFirstFault asked files fault → ⊥ }
+        → IsTextAskedFor asked files end text → IsFirstFault asked files fault → ⊥ }
 {
     layers();
 }
@@ -86,7 +86,7 @@ pub fn one_list_of_macs_or_fault()
 /// A file of octets is shown, or refused, or has an octet too many.
 pub fn every_file_is_shown_or_refused()
     ensures { (file : List ℕ) → AreOctets file → ((text : List ℕ) × IsShowing file text)
-        ⊎ (((why : Refusal) × (place : Place) × IsRefusal AnyMessage Bare file why place) ⊎ IsTooLong file) }
+        ⊎ (((why : Refusal) × (place : Place) × IsRefusal AnyMessage Plain file why place) ⊎ IsTooLong file) }
 {
     one_answer();
     message_or_fault();
@@ -96,7 +96,7 @@ pub fn every_file_is_shown_or_refused()
 /// A file of octets is listed, or refused, or has an octet too many.
 pub fn every_file_is_listed_or_refused()
     ensures { (file : List ℕ) → AreOctets file → ((text : List ℕ) × IsListing file text)
-        ⊎ (((why : Refusal) × (place : Place) × IsRefusal NewEvidence Bare file why place) ⊎ IsTooLong file) }
+        ⊎ (((why : Refusal) × (place : Place) × IsRefusal NewEvidence Plain file why place) ⊎ IsTooLong file) }
 {
     one_answer();
     message_or_fault();

@@ -1,10 +1,10 @@
 //! What the program has of the machine that runs it: the words of its command line, and files.
 ghost use Rattle.std.specs.Prelude.{◌≡◌, Bool, ℕ, List, Option, None, Some, map, string_bytes};
 ghost use Rattle.std.specs.Prelude.{IfErr, IfOk, IfSome, is_ok};
-ghost use Rattle.dnssec_check.specs.declared.line.LineError.{LineError};
-ghost use Rattle.dnssec_check.specs.declared.line.LineError.TheVariants.{OutOfMemory};
+ghost use Rattle.dnssec_check.specs.declared.command_line.CommandLineError.{CommandLineError};
+ghost use Rattle.dnssec_check.specs.declared.command_line.CommandLineError.TheVariants.{OutOfMemory};
 
-use crate::line::LineError;
+use crate::command_line::CommandLineError;
 use std::alloc::Global;
 use std::fs::File;
 use std::io::Read;
@@ -27,7 +27,7 @@ pub trait Machine {
     fn alloc(&self) -> Global;
 
     /// The words of the command line, of which the first is the program's name.
-    fn words(&self) -> Result<Vec<String>, LineError>
+    fn words(&self) -> Result<Vec<String>, CommandLineError>
         ensures told { IfOk result (λ said. IfSome (given_words self.now) (λ told.
             map string_bytes said.items ≡ told)) }
         ensures failed { IfErr result (λ error. IfSome (given_words self.now) (λ _. error ≡ OutOfMemory)) };
@@ -58,7 +58,7 @@ impl<R: Env + Files + AllocGlobal> Machine for Host<'_, R> {
         self.system.alloc()
     }
 
-    fn words(&self) -> Result<Vec<String>, LineError> {
+    fn words(&self) -> Result<Vec<String>, CommandLineError> {
         Ok(env::args(self.system)?.collect(self.alloc())?)
     }
 

@@ -1,32 +1,20 @@
 //! `dnssec_check`: what captured DNS messages prove.
 #![tactic(auto)]
 
-mod anchors_file;
-mod capture_file;
-mod checking;
-mod commands;
-mod envelope;
-mod hex_text;
-mod keys_file;
+mod command_line;
+mod fault_line;
+mod files;
 mod laws;
-mod line;
-mod listing;
 mod machine;
-mod macs_file;
-mod moment;
+mod opening;
 mod program;
-mod question;
-mod request;
 mod run;
 #[cfg(test)]
 mod samples;
-mod showing;
-mod statements_file;
 mod status;
 #[cfg(test)]
 mod tests;
-mod text_file;
-mod todo;
+mod texts;
 
 use std::process::ExitCode;
 

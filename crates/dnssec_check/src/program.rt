@@ -3,12 +3,14 @@ ghost use Rattle.std.specs.Prelude.{◌≡◌, ◌<◌, ◌≤◌, ◌⊎◌, �
 ghost use Rattle.std.specs.Option.{option_map};
 ghost use Rattle.std.specs.Io.KnownBytes.{Appends};
 ghost use Rattle.dnsv_message.specs.Counted.{inner_of, failures_of, AppendsBeginning};
+ghost use Rattle.dnssec_check.specs.Files.Faults.{OfFailedRead, OfOctets};
 ghost use Rattle.dnssec_check.specs.Files.{AreTold, Files, IsToldBy};
-ghost use Rattle.dnssec_check.specs.Line.{IsAccepted, IsRefused, line_code};
+ghost use Rattle.dnssec_check.specs.CommandLine.{IsAccepted, IsRefused, command_line_code};
 ghost use Rattle.dnssec_check.specs.Program.{AreFilesAt, BeganText, IsEnd, RefusedFiles, RefusedWords, WroteText};
+ghost use Rattle.dnssec_check.specs.Program.{FailedRequest, FailedWords, HasToldIn, LeavesOutput};
 ghost use Rattle.dnssec_check.specs.Program.{first_unopened, given_path, paths_of};
-ghost use Rattle.dnssec_check.specs.Run.{IsTextOf, IsFirstFault};
-ghost use Rattle.dnssec_check.specs.Status.{outcome_code};
+ghost use Rattle.dnssec_check.specs.Run.{IsTextAskedFor, IsFirstFault, IsReached};
+ghost use Rattle.dnssec_check.specs.Status.{fault_code, outcome_code};
 ghost use Rattle.dnssec_check.specs.Told.{IsOpenFault, IsUnopened};
 ghost use Rattle.dnssec_check.specs.declared.status.Fault.TheVariants as Fault;
 ghost use Rattle.dnssec_check.specs.declared.status.InputFile.{InputFile};
@@ -16,9 +18,9 @@ ghost use Rattle.dnssec_check.specs.declared.status.Place.{Place};
 ghost use Rattle.dnssec_check.specs.declared.status.Status.{Status};
 ghost use Rattle.dnssec_check.specs.declared.status.Refusal.{Refusal};
 
-use crate::line::{LineError, read_line};
+use crate::command_line::request::Request;
+use crate::command_line::{CommandLineError, read_command_line};
 use crate::machine::{Host, Machine};
-use crate::request::Request;
 use crate::run::{Inputs, run};
 use crate::status::{Fault, InputFile, Status};
 use dnsv_message::Counted;
@@ -34,7 +36,7 @@ pub fn exit_status_on<R: Env + Files + AllocGlobal + Print, E: Print>(system: &R
     exit_status(
         &Host::new(system),
         &mut Counted::new(io::writer(system)),
-        &mut io::writer(errors),
+        &mut Counted::new(io::writer(errors)),
     )
 }
 
@@ -44,7 +46,7 @@ pub fn exit_status_on<R: Env + Files + AllocGlobal + Print, E: Print>(system: &R
 pub fn exit_status<M: Machine, W: Write, E: Write>(
     machine: &M,
     output: &mut Counted<W>,
-    errors: &mut E,
+    errors: &mut Counted<E>,
 ) -> u8
     ensures done { IsEnd result → IfSome (M.given_words machine.now) (λ words. WroteText words
         (M.octets_at machine.now) (W.contents (inner_of output.old)) (W.contents (inner_of output.new)) result
@@ -60,6 +62,13 @@ pub fn exit_status<M: Machine, W: Write, E: Write>(
         ((failures_of output.old < u64.MAX → failures_of output.old < failures_of output.new)
         × IfSome (M.given_words machine.now) (λ words. BeganText words (M.octets_at machine.now)
         (W.contents (inner_of output.old)) (W.contents (inner_of output.new)) ⊎ RefusedWords words 0)) }
+
+    // The errors got the line of the first fault, or a beginning of it where a write failed.
+    ensures told { (result ≡ 1) ⊎ (result ≡ 7) → (fault : Fault) × (fault_code fault ≡ result)
+        × HasToldIn E.contents errors.old errors.new fault × LeavesOutput output.old output.new fault
+        × IfSome (M.given_words machine.now) (λ words. FailedRequest words (M.octets_at machine.now)
+        (M.opens machine.now) fault ⊎ FailedWords words fault) }
+    ensures quiet { IsEnd result → errors.new ≡ errors.old }
     ensures codes { result ≤ 7 }
 {
     match request(machine) {
@@ -72,12 +81,12 @@ pub fn exit_status<M: Machine, W: Write, E: Write>(
 }
 
 /// The request of the command line.
-fn request<M: Machine>(machine: &M) -> Result<Request, LineError>
+fn request<M: Machine>(machine: &M) -> Result<Request, CommandLineError>
     ensures accepted { IfOk result (λ request. IfSome (M.given_words machine.now) (λ words. IsAccepted words request)) }
     ensures refused { IfErr result (λ error. IfSome (M.given_words machine.now) (λ words. IsRefused words error)) }
 {
     let words = machine.words()?;
-    read_line(machine.alloc(), words.as_slice())
+    read_command_line(machine.alloc(), words.as_slice())
 }
 
 /// Opens the files of the request, and runs it over them and the output.
@@ -87,11 +96,15 @@ fn answer<M: Machine, W: Write>(
     output: &mut Counted<W>,
 ) -> Result<Status, Fault>
     ensures done { (files : Files) → AreFilesAt (M.octets_at machine.now) request.now files → IfOk result (λ status.
-        (text : List ℕ) × IsTextOf request.now files status text
+        (text : List ℕ) × IsTextAskedFor request.now files status text
         × Appends (W.contents (inner_of output.old)) (W.contents (inner_of output.new)) text) }
     ensures refused { (files : Files) → AreFilesAt (M.octets_at machine.now) request.now files
         → (why : Refusal) (place : Place) → result ≡ Err (Fault.Refused why place)
         → IsFirstFault request.now files (Fault.Refused why place) }
+    ensures first { (files : Files) → AreFilesAt (M.octets_at machine.now) request.now files
+        → IfErr result (OfOctets (IsFirstFault request.now files)) }
+    ensures reached { (files : Files) → AreFilesAt (M.octets_at machine.now) request.now files
+        → IfErr result (OfFailedRead (IsReached request.now files)) }
 
     // The first file that doesn't open is the fault.
     ensures unopened { (opens : List ℕ → Bool) → ((path : List ℕ) → M.opens machine.now path ≡ Some (opens path))
@@ -101,7 +114,7 @@ fn answer<M: Machine, W: Write>(
         → failures_of output.old < u64.MAX → failures_of output.old < failures_of output.new }
     ensures begun { (files : Files) → AreFilesAt (M.octets_at machine.now) request.now files
         → result ≡ Err Fault.WriteFailed
-        → (status : Status) × (text : List ℕ) × IsTextOf request.now files status text
+        → (status : Status) × (text : List ℕ) × IsTextAskedFor request.now files status text
         × AppendsBeginning (W.contents (inner_of output.old)) (W.contents (inner_of output.new)) text }
     ensures untouched { IfErr result (λ fault. (fault ≡ Fault.WriteFailed → ⊥) → output.new ≡ output.old) }
 {
@@ -176,17 +189,21 @@ fn open<M: Machine>(machine: &M, file: InputFile, path: &str) -> Result<Counted<
 fn refuse<W: Write, E: Write>(
     alloc: Global,
     output: &mut Counted<W>,
-    errors: &mut E,
-    error: LineError,
+    errors: &mut Counted<E>,
+    error: CommandLineError,
 ) -> u8
-    ensures code { (result ≡ line_code error) ⊎ ((line_code error ≡ 0) × (result ≡ 1)) }
-    ensures untouched { (result ≡ 0) ⊎ (output.new ≡ output.old) ⊎ ((line_code error ≡ 0) × (result ≡ 1)
+    ensures code { (result ≡ command_line_code error) ⊎ ((command_line_code error ≡ 0) × (result ≡ 1)) }
+    ensures untouched { (result ≡ 0) ⊎ (output.new ≡ output.old) ⊎ ((command_line_code error ≡ 0) × (result ≡ 1)
         × (failures_of output.old < u64.MAX → failures_of output.old < failures_of output.new)) }
+    ensures told { result ≡ 1 → (fault : Fault) × HasToldIn E.contents errors.old errors.new fault
+        × LeavesOutput output.old output.new fault
+        × ((fault ≡ Fault.OutOfMemory) ⊎ ((fault ≡ Fault.WriteFailed) × (command_line_code error ≡ 0))) }
+    ensures quiet { result ≡ 0 → errors.new ≡ errors.old }
 {
     match error {
-        LineError::OutOfMemory => finish(errors, Err(Fault::OutOfMemory)),
-        LineError::Help(_) => finish(errors, tell_help(alloc, error, output)),
-        LineError::NotText | LineError::Misused(_) => {
+        CommandLineError::OutOfMemory => finish(errors, Err(Fault::OutOfMemory)),
+        CommandLineError::Help(_) => finish(errors, tell_help(alloc, error, output)),
+        CommandLineError::NotText | CommandLineError::Misused(_) => {
             let code = error.code();
             // Nothing is left to tell where the text itself can't be written.
             let _ = errors.write_fmt(error);
@@ -198,7 +215,7 @@ fn refuse<W: Write, E: Write>(
 /// Writes the help that was asked for.
 fn tell_help<W: Write>(
     alloc: Global,
-    help: LineError,
+    help: CommandLineError,
     output: &mut Counted<W>,
 ) -> Result<Status, Fault>
     ensures done { IfOk result (λ status. status ≡ Status.Done) }
@@ -214,16 +231,26 @@ fn tell_help<W: Write>(
 }
 
 /// Tells a fault on the errors, in a line. The answer is the exit status.
-fn finish<E: Write>(errors: &mut E, outcome: Result<Status, Fault>) -> u8
-    ensures { result ≡ outcome_code outcome }
+fn finish<E: Write>(errors: &mut Counted<E>, outcome: Result<Status, Fault>) -> u8
+    ensures code { result ≡ outcome_code outcome }
+    ensures told { IfErr outcome (HasToldIn E.contents errors.old errors.new) }
+    ensures quiet { OnOk outcome (errors.new ≡ errors.old) }
 {
     match outcome {
         Ok(status) => status.code(),
         Err(fault) => {
-            let _ = errors.writeln(fault);
+            tell(errors, &fault);
             fault.code()
         }
     }
+}
+
+/// Writes the line of a fault.
+fn tell<E: Write>(errors: &mut Counted<E>, fault: &Fault)
+    ensures { HasToldIn E.contents errors.old errors.new fault.now }
+{
+    // Nothing is left to tell where the line itself can't be written.
+    let _ = errors.write_all(fault.line().as_str().as_bytes());
 }
 
 #[cfg(test)]

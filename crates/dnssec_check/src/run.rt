@@ -3,30 +3,30 @@ ghost use Rattle.std.specs.Prelude.{◌≡◌, ◌<◌, List, ℕ, IfErr, IfOk, 
 ghost use Rattle.std.specs.Io.KnownBytes.{Appends};
 ghost use Rattle.dnsv_canonical.specs.Rrsets.{IsQuestion};
 ghost use Rattle.dnsv_message.specs.Counted.{inner_of, failures_of, AppendsBeginning};
-ghost use Rattle.dnssec_check.specs.CaptureFile.{AnyMessage, NewEvidence, IsFaultOfCapture};
-ghost use Rattle.dnssec_check.specs.declared.envelope.Envelope.TheVariants.{Bare};
-ghost use Rattle.dnssec_check.specs.FileFaults.{OfFailedRead, TellsFaults};
+ghost use Rattle.dnssec_check.specs.Files.Capture.{AnyMessage, NewEvidence, IsFaultOfCapture};
+ghost use Rattle.dnssec_check.specs.declared.opening.Opening.TheVariants.{Plain};
+ghost use Rattle.dnssec_check.specs.Files.Faults.{OfFailedRead, TellsFaults};
 ghost use Rattle.dnssec_check.specs.Files.{AreTold, Files};
-ghost use Rattle.dnssec_check.specs.Listing.{IsListing};
-ghost use Rattle.dnssec_check.specs.Checking.{IsCheck};
-ghost use Rattle.dnssec_check.specs.Run.{IsAnswered, IsTextOf, IsFirstFault, IsFirstFaultOfCheck};
+ghost use Rattle.dnssec_check.specs.Texts.Listing.{IsListing};
+ghost use Rattle.dnssec_check.specs.Texts.Checking.{IsCheck};
+ghost use Rattle.dnssec_check.specs.Run.{IsAnswered, IsTextAskedFor, IsFirstFault, IsFirstFaultOfCheck};
 ghost use Rattle.dnssec_check.specs.Run.{IsFirstFaultOfFiles, IsFirstFaultOfTodo};
 ghost use Rattle.dnssec_check.specs.Run.{IsCaptureReached, IsReached, IsReachedByCheck, IsReachedByTodo, IsReachedOfFiles};
-ghost use Rattle.dnssec_check.specs.Showing.{IsShowing};
-ghost use Rattle.dnssec_check.specs.Todo.{IsTodo};
+ghost use Rattle.dnssec_check.specs.Texts.Showing.{IsShowing};
+ghost use Rattle.dnssec_check.specs.Texts.Todo.{IsTodo};
 
-use crate::anchors_file::anchors_in;
-use crate::capture_file::{evidence_in, messages_in};
-use crate::checking::{Outcome, judged};
-use crate::envelope::{Envelope, envelope_in};
-use crate::listing::listing;
-use crate::moment::Moment;
-use crate::question::question_name;
-use crate::request::Request;
-use crate::showing::showing;
-use crate::statements_file::statements_in;
+use crate::command_line::moment::Moment;
+use crate::command_line::question::question_name;
+use crate::command_line::request::Request;
+use crate::files::anchors::anchors_in;
+use crate::files::capture::{evidence_in, messages_in};
+use crate::files::statements::statements_in;
+use crate::opening::{Opening, opening_in};
 use crate::status::{Fault, Status};
-use crate::todo::still_to_check;
+use crate::texts::checking::{Outcome, judge};
+use crate::texts::listing::listing;
+use crate::texts::showing::showing;
+use crate::texts::todo::still_to_check;
 use dnsv_message::Counted;
 use dnsv_names::{Name, RecordType};
 use std::alloc::Global;
@@ -61,7 +61,7 @@ pub fn run<R: Read, W: Write>(
 ) -> Result<Status, Fault>
     // The output got exactly the defined text.
     ensures done { (files : Files) → AreTold R.remaining inputs.old files → IfOk result (λ status. (text : List ℕ)
-        × IsTextOf request.now files status text
+        × IsTextAskedFor request.now files status text
         × Appends (W.contents (inner_of output.old)) (W.contents (inner_of output.new)) text) }
 
     // The fault is the first that the files have.
@@ -77,7 +77,7 @@ pub fn run<R: Read, W: Write>(
 
     // A failed write leaves a beginning of the defined text.
     ensures begun { (files : Files) → AreTold R.remaining inputs.old files → result ≡ Err Fault.WriteFailed
-        → (status : Status) × (text : List ℕ) × IsTextOf request.now files status text
+        → (status : Status) × (text : List ℕ) × IsTextAskedFor request.now files status text
         × AppendsBeginning (W.contents (inner_of output.old)) (W.contents (inner_of output.new)) text }
 
     // Nothing is written unless the whole text is made.
@@ -97,22 +97,22 @@ fn outcome_of<R: Read>(
     inputs: &mut Inputs<R>,
 ) -> Result<Outcome, Fault>
     ensures text { (files : Files) → AreTold R.remaining inputs.old files
-        → IfOk result (λ outcome. IsTextOf request.now files outcome.status (string_bytes outcome.text)) }
+        → IfOk result (λ outcome. IsTextAskedFor request.now files outcome.status (string_bytes outcome.text)) }
     ensures faults { TellsFaults (IsFirstFault request.now) R.remaining inputs.old inputs.new result }
     ensures reached { (files : Files) → AreTold R.remaining inputs.old files
         → IfErr result (OfFailedRead (IsReached request.now files)) }
     ensures unwritten { IfErr result (λ fault. fault ≡ Fault.WriteFailed → ⊥) }
 {
     match request {
-        Request::Show { .. } => Ok(done(shown(alloc, inputs)?)),
-        Request::List { all: true, .. } => Ok(done(listed(alloc, inputs)?)),
-        Request::List { moment, .. } => Ok(done(todo(alloc, *moment, inputs)?)),
+        Request::Show { .. } => Ok(done(show(alloc, inputs)?)),
+        Request::List { all: true, .. } => Ok(done(list_all(alloc, inputs)?)),
+        Request::List { moment, .. } => Ok(done(list(alloc, *moment, inputs)?)),
         Request::Check {
             name,
             rtype,
             moment,
             ..
-        } => answered(alloc, name.as_bytes(), *rtype, *moment, inputs),
+        } => check(alloc, name.as_bytes(), *rtype, *moment, inputs),
     }
 }
 
@@ -127,10 +127,10 @@ fn done(text: String) -> Outcome
 }
 
 /// The messages with their questions and records.
-fn shown<R: Read>(alloc: Global, inputs: &mut Inputs<R>) -> Result<String, Fault>
+fn show<R: Read>(alloc: Global, inputs: &mut Inputs<R>) -> Result<String, Fault>
     ensures text { (files : Files) → AreTold R.remaining inputs.old files
         → IfOk result (λ text. IsShowing files.capture (string_bytes text)) }
-    ensures faults { TellsFaults (λ files. IsFaultOfCapture AnyMessage Bare files.capture) R.remaining
+    ensures faults { TellsFaults (λ files. IsFaultOfCapture AnyMessage Plain files.capture) R.remaining
         inputs.old inputs.new result }
     ensures reached { (files : Files) → AreTold R.remaining inputs.old files
         → IfErr result (OfFailedRead (IsCaptureReached)) }
@@ -141,21 +141,21 @@ fn shown<R: Read>(alloc: Global, inputs: &mut Inputs<R>) -> Result<String, Fault
 }
 
 /// What each signature signs.
-fn listed<R: Read>(alloc: Global, inputs: &mut Inputs<R>) -> Result<String, Fault>
+fn list_all<R: Read>(alloc: Global, inputs: &mut Inputs<R>) -> Result<String, Fault>
     ensures text { (files : Files) → AreTold R.remaining inputs.old files
         → IfOk result (λ text. IsListing files.capture (string_bytes text)) }
-    ensures faults { TellsFaults (λ files. IsFaultOfCapture NewEvidence Bare files.capture) R.remaining
+    ensures faults { TellsFaults (λ files. IsFaultOfCapture NewEvidence Plain files.capture) R.remaining
         inputs.old inputs.new result }
     ensures reached { (files : Files) → AreTold R.remaining inputs.old files
         → IfErr result (OfFailedRead (IsCaptureReached)) }
     ensures unwritten { IfErr result (λ fault. fault ≡ Fault.WriteFailed → ⊥) }
 {
-    let held = evidence_in(alloc, &Envelope::Bare, &mut inputs.capture)?;
+    let held = evidence_in(alloc, &Opening::Plain, &mut inputs.capture)?;
     Ok(listing(alloc, &held)?)
 }
 
 /// What a verifier still has to check.
-fn todo<R: Read>(alloc: Global, moment: Moment, inputs: &mut Inputs<R>) -> Result<String, Fault>
+fn list<R: Read>(alloc: Global, moment: Moment, inputs: &mut Inputs<R>) -> Result<String, Fault>
     ensures text { (files : Files) → AreTold R.remaining inputs.old files
         → IfOk result (λ text. IsTodo moment files (string_bytes text)) }
     ensures faults { TellsFaults IsFirstFaultOfTodo R.remaining inputs.old inputs.new result }
@@ -163,13 +163,13 @@ fn todo<R: Read>(alloc: Global, moment: Moment, inputs: &mut Inputs<R>) -> Resul
         → IfErr result (OfFailedRead (IsReachedByTodo files)) }
     ensures unwritten { IfErr result (λ fault. fault ≡ Fault.WriteFailed → ⊥) }
 {
-    let held = evidence_in(alloc, &Envelope::Bare, &mut inputs.capture)?;
+    let held = evidence_in(alloc, &Opening::Plain, &mut inputs.capture)?;
     let statements = statements_in(alloc, &mut inputs.statements)?;
     Ok(still_to_check(alloc, &held, moment, &statements)?)
 }
 
 /// The verdict on the question, if it is one that can be asked.
-fn answered<R: Read>(
+fn check<R: Read>(
     alloc: Global,
     asked: &[u8],
     rtype: RecordType,
@@ -185,11 +185,11 @@ fn answered<R: Read>(
     ensures unwritten { IfErr result (λ fault. fault ≡ Fault.WriteFailed → ⊥) }
 {
     let name = question_name(asked, rtype)?;
-    checked(alloc, &name, rtype, moment, inputs)
+    check_question(alloc, &name, rtype, moment, inputs)
 }
 
 /// The verdict on the question.
-fn checked<R: Read>(
+fn check_question<R: Read>(
     alloc: Global,
     name: &Name,
     rtype: RecordType,
@@ -204,9 +204,9 @@ fn checked<R: Read>(
         → IfErr result (OfFailedRead (IsReachedOfFiles moment files)) }
     ensures unwritten { IfErr result (λ fault. fault ≡ Fault.WriteFailed → ⊥) }
 {
-    let envelope = envelope_in(alloc, moment, &mut inputs.keys, &mut inputs.macs)?;
-    let held = evidence_in(alloc, &envelope, &mut inputs.capture)?;
+    let opening = opening_in(alloc, moment, &mut inputs.keys, &mut inputs.macs)?;
+    let held = evidence_in(alloc, &opening, &mut inputs.capture)?;
     let anchors = anchors_in(alloc, &mut inputs.anchors)?;
     let statements = statements_in(alloc, &mut inputs.statements)?;
-    judged(alloc, &held, &anchors, moment, &statements, name, rtype)
+    judge(alloc, &held, &anchors, moment, &statements, name, rtype)
 }

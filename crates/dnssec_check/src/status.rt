@@ -1,11 +1,14 @@
 //! How a run ends: with its text written, or with a fault.
-ghost use Rattle.std.specs.Prelude.{◌≡◌, Some};
-ghost use Rattle.dnssec_check.specs.Status.{status_code, fault_code, fault_number, refusal_number};
-ghost use Rattle.dnssec_check.specs.Status.{fault_text, file_word, place_text};
+ghost use Rattle.std.specs.Prelude.{◌≡◌, ◌≤◌, length};
+ghost use Rattle.dnssec_check.specs.Status.{status_code, fault_code, fault_number, file_word, refusal_number};
 
+use dnsv_canonical::CaptureError;
+use dnsv_chain::AnchorsError;
+use dnsv_message::DecodeError;
+use dnsv_names::NameError;
+use dnsv_tsig::{KeyFileError, TsigError};
+use dnsv_verifier::StatementsError;
 use std::alloc::{AllocError, AllocFailed};
-use std::error::Error;
-use std::fmt;
 
 /// How a run ended that wrote its whole text.
 #[derive(Clone, Copy, Debug, PartialEq, Eq)]
@@ -55,7 +58,8 @@ pub enum InputFile {
 impl InputFile {
     /// The word of the option that names the file, without its hyphens.
     pub fn option(&self) -> &'static str
-        ensures { result.now ≡ file_word self.now }
+        ensures word { result.now ≡ file_word self.now }
+        ensures short { length result.now ≤ 10 }
     {
         match self {
             InputFile::Capture => "capture",
@@ -67,117 +71,54 @@ impl InputFile {
     }
 }
 
-/// Why the input was refused.
+/// Why the input was refused: what a layer below says of it, which is never want of memory, or a reason of the program's
+/// own.
 #[derive(Clone, Copy, Debug, PartialEq, Eq)]
 pub enum Refusal {
-    /// The question's name has an octet that no text spells (RFC 1035 5.1).
-    BadEscape,
-    /// The question's name has a dot that follows no label.
-    EmptyLabel,
-    /// The question's name has a label of more than 63 octets (RFC 1035 2.3.4).
-    LongLabel,
-    /// The question's name has a wire form of more than 255 octets (RFC 1035 2.3.4).
-    LongQuestionName,
-    /// The question's name doesn't end with the dot of the root (RFC 1035 5.1).
-    NotAbsolute,
-    /// Octets are missing at the end of a message.
-    Short,
-    /// The top bits of a label's length octet are 01 or 10 (RFC 1035 4.1.4).
-    BadLabel,
-    /// A compression pointer doesn't lead to an earlier place (RFC 1035 4.1.4).
-    BadPointer,
-    /// A name goes through more than 32 compression pointers.
-    TooManyPointers,
-    /// The wire form of a name passes 255 octets (RFC 1035 2.3.4).
-    LongName,
-    /// The RDATA of a record isn't laid out as its type says.
-    BadRdata,
-    /// Octets follow the last record of a message.
-    TrailingBytes,
-    /// A message of the stream has the length 0.
-    ZeroLength,
-    /// The stream ends inside a message or its length.
-    TornFrame,
-    /// A line of the file of keys is no key.
-    KeySyntax,
-    /// A line of the file of keys names a key again.
-    DuplicateKey,
-    /// A message isn't signed with TSIG (RFC 8945 5.2).
-    NoTsig,
-    /// A message has several TSIG records, or one that isn't where or what it has to be (RFC 8945 4.2, 5.2).
-    TsigForm,
-    /// A message is signed under a key that the file of keys lacks, or by another algorithm (RFC 8945 5.2.1).
-    BadKey,
-    /// A message's MAC is wrong (RFC 8945 5.2.2).
-    BadMac,
-    /// The moment is too far from a message's time of signing (RFC 8945 5.2.3).
-    BadTime,
-    /// A message's MAC is only a beginning of the right one (RFC 8945 5.2.4).
-    TruncatedMac,
-    /// A message's signer tells an error (RFC 8945 5.4).
-    PeerError,
-    /// A message is a query: QR is clear (RFC 1035 4.1.1).
-    NotAResponse,
-    /// A message was cut to fit: TC is set (RFC 1035 4.1.1).
-    Truncated,
-    /// With a message the capture would have too many messages or records, keys or signatures of an RRset, or
-    /// pairs of iterations and salt.
-    Limit,
-    /// A line of the file of statements is no statement.
-    StatementSyntax,
-    /// A statement calls an entry good that was called bad before, or the other way round.
-    Contradiction,
-    /// A line of the file of trust anchors is no anchor.
-    AnchorSyntax,
-    /// A line is the 65th trust anchor.
-    TooManyAnchors,
+    /// The question's name is no text of a name (RFC 1035 5.1).
+    Name(NameError),
     /// The question's type can't be asked for at the name.
     BadQuestion,
+    /// A line of the file of keys is at fault.
+    KeyLine(KeyFileError),
     /// A line of the file of request MACs is neither a MAC nor `-`.
     MacSyntax,
     /// The file of request MACs has more or fewer than the capture has messages.
     MacCount,
+    /// A message of the stream has the length 0 (RFC 1035 4.2.2).
+    ZeroLength,
+    /// The stream ends inside a message or its length (RFC 1035 4.2.2).
+    TornFrame,
+    /// Octets are no message (RFC 1035 4.1).
+    Message(DecodeError),
+    /// A message isn't signed by one of the keys (RFC 8945 5.2).
+    Tsig(TsigError),
+    /// A message isn't evidence besides those before it.
+    Evidence(CaptureError),
+    /// A line of the file of trust anchors is at fault.
+    AnchorLine(AnchorsError),
+    /// A line of the file of statements is at fault.
+    StatementLine(StatementsError),
 }
 
 impl Refusal {
-    /// The number by which the refusal is told.
+    /// The number by which the refusal is told: that of the layer below, where it is that layer's.
     pub fn number(&self) -> u16
         ensures { result ≡ refusal_number self.now }
     {
         match self {
-            Refusal::BadEscape => 101,
-            Refusal::EmptyLabel => 102,
-            Refusal::LongLabel => 103,
-            Refusal::LongQuestionName => 104,
-            Refusal::NotAbsolute => 105,
-            Refusal::Short => 201,
-            Refusal::BadLabel => 202,
-            Refusal::BadPointer => 203,
-            Refusal::TooManyPointers => 204,
-            Refusal::LongName => 205,
-            Refusal::BadRdata => 206,
-            Refusal::TrailingBytes => 207,
-            Refusal::ZeroLength => 208,
-            Refusal::TornFrame => 209,
-            Refusal::KeySyntax => 301,
-            Refusal::DuplicateKey => 302,
-            Refusal::NoTsig => 310,
-            Refusal::TsigForm => 311,
-            Refusal::BadKey => 312,
-            Refusal::BadMac => 313,
-            Refusal::BadTime => 314,
-            Refusal::TruncatedMac => 315,
-            Refusal::PeerError => 316,
-            Refusal::NotAResponse => 401,
-            Refusal::Truncated => 402,
-            Refusal::Limit => 403,
-            Refusal::StatementSyntax => 501,
-            Refusal::Contradiction => 502,
-            Refusal::AnchorSyntax => 601,
-            Refusal::TooManyAnchors => 602,
+            Refusal::Name(error) => error.code(),
             Refusal::BadQuestion => 701,
+            Refusal::KeyLine(error) => error.code(),
             Refusal::MacSyntax => 801,
             Refusal::MacCount => 802,
+            Refusal::ZeroLength => 208,
+            Refusal::TornFrame => 209,
+            Refusal::Message(error) => error.code(),
+            Refusal::Tsig(error) => error.code(),
+            Refusal::Evidence(error) => error.code(),
+            Refusal::AnchorLine(error) => error.code(),
+            Refusal::StatementLine(error) => error.code(),
         }
     }
 }
@@ -200,24 +141,6 @@ impl Place {
         record: None,
         line: None,
     };
-}
-
-/// Each part that is known, as ` message M`, ` record K` and ` line L`.
-impl fmt::Display for Place {
-    ghost output = { λ place. Some (place_text place) };
-
-    fn fmt<W: fmt::Write>(&self, f: &mut fmt::Formatter<W>) -> fmt::Result {
-        if let Some(message) = self.message {
-            write!(f, " message {message}")?;
-        }
-        if let Some(record) = self.record {
-            write!(f, " record {record}")?;
-        }
-        if let Some(line) = self.line {
-            write!(f, " line {line}")?;
-        }
-        Ok(())
-    }
 }
 
 /// Why a run wrote no text, or not all of it.
@@ -254,7 +177,7 @@ impl Fault {
 
     /// The exit status of the program: 7 where the input was refused, else 1.
     pub fn code(&self) -> u8
-        ensures { result ≡ fault_code (fault_number self.now) }
+        ensures { result ≡ fault_code self.now }
     {
         match self {
             Fault::Refused(_, _) => 7,
@@ -262,25 +185,6 @@ impl Fault {
         }
     }
 }
-
-/// The line that tells the fault, without its newline: `fault N FILE` or `refused N` and the place.
-impl fmt::Display for Fault {
-    ghost output = { λ fault. Some (fault_text fault) };
-
-    fn fmt<W: fmt::Write>(&self, f: &mut fmt::Formatter<W>) -> fmt::Result {
-        let number = self.number();
-        match self {
-            Fault::Refused(_, place) => write!(f, "refused {number}{place}"),
-            Fault::ReadFailed(file) | Fault::TooLong(file) | Fault::OpenFailed(file) => {
-                let word = file.option();
-                write!(f, "fault {number} {word}")
-            }
-            Fault::OutOfMemory | Fault::WriteFailed => write!(f, "fault {number}"),
-        }
-    }
-}
-
-impl Error for Fault {}
 
 impl From<AllocError> for Fault {
     ghost use Rattle.dnssec_check.specs.declared.status.Fault.TheVariants.{OutOfMemory};

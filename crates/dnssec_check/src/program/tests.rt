@@ -27,9 +27,9 @@ impl<'a> Machine for Desk<'a> {
         self.alloc
     }
 
-    fn words(&self) -> Result<Vec<String>, LineError> {
+    fn words(&self) -> Result<Vec<String>, CommandLineError> {
         if !self.has_room {
-            return Err(LineError::OutOfMemory);
+            return Err(CommandLineError::OutOfMemory);
         }
         Ok(words_of(self.alloc, self.words)?)
     }
@@ -56,9 +56,9 @@ fn words_of(alloc: Global, given: &[&str]) -> Result<Vec<String>, AllocError>
 // What the program ends with on a machine that tells what it has, and what it writes to its two streams.
 fn ended(desk: &Desk<'_>) -> (u8, Vec<u8>, Vec<u8>) {
     let mut output = Counted::new(Vec::new(desk.alloc));
-    let mut errors = Vec::new(desk.alloc);
+    let mut errors = Counted::new(Vec::new(desk.alloc));
     let code = exit_status(desk, &mut output, &mut errors);
-    (code, output.into_inner(), errors)
+    (code, output.into_inner(), errors.into_inner())
 }
 
 #[test]

@@ -1,6 +1,6 @@
-use Rattle.dnssec_check.specs.CaptureFile.{NewEvidence}
-use Rattle.dnssec_check.proofs.AnswerLemmas.{file_answer}
-use Rattle.dnssec_check.proofs.ListedLemmas.{evidence_or_fails, listed}
+use Rattle.dnssec_check.specs.Files.Capture.{NewEvidence}
+use Rattle.dnssec_check.proofs.LawLemmas.Answers.{file_answer}
+use Rattle.dnssec_check.proofs.LawLemmas.Listed.{evidence_or_fails, listed}
 use Rattle.dnssec_check.proofs.laws.every_file_is_listed_or_refused.Goals as goal
 
 pub returns : goal.returns

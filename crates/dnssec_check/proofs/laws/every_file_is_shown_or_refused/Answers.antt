@@ -1,6 +1,6 @@
 use Rattle.std.proofs.Common.{inl}
-use Rattle.dnssec_check.specs.CaptureFile.{AnyMessage}
-use Rattle.dnssec_check.proofs.AnswerLemmas.{file_answer, shown}
+use Rattle.dnssec_check.specs.Files.Capture.{AnyMessage}
+use Rattle.dnssec_check.proofs.LawLemmas.Answers.{file_answer, shown}
 use Rattle.dnssec_check.proofs.laws.every_file_is_shown_or_refused.Goals as goal
 
 pub returns : goal.returns

@@ -1,4 +1,4 @@
-use Rattle.dnssec_check.proofs.OneFault.{text_stands}
+use Rattle.dnssec_check.proofs.LawLemmas.OneFault.{text_stands}
 use Rattle.dnssec_check.proofs.laws.no_fault_of_a_text.Goals as goal
 
 pub returns : goal.returns

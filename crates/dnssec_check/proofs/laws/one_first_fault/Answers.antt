@@ -1,4 +1,4 @@
-use Rattle.dnssec_check.proofs.OneFault.{one_first_fault}
+use Rattle.dnssec_check.proofs.LawLemmas.OneFault.{one_first_fault}
 use Rattle.dnssec_check.proofs.laws.one_first_fault.Goals as goal
 
 pub returns : goal.returns

@@ -1,4 +1,4 @@
-use Rattle.dnssec_check.proofs.MacsFileLemmas.{macs_or_fault, no_macs_fault, one_list_of_macs, one_macs_fault}
+use Rattle.dnssec_check.proofs.OpeningLemmas.Macs.{macs_or_fault, no_macs_fault, one_list_of_macs, one_macs_fault}
 use Rattle.dnssec_check.proofs.laws.one_list_of_macs_or_fault.Goals as goal
 
 pub returns-clause-some : goal.returns-clause-some

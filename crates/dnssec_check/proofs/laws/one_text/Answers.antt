@@ -1,4 +1,4 @@
-use Rattle.dnssec_check.proofs.OneText.{one_text}
+use Rattle.dnssec_check.proofs.LawLemmas.OneText.{one_text}
 use Rattle.dnssec_check.proofs.laws.one_text.Goals as goal
 
 pub returns : goal.returns

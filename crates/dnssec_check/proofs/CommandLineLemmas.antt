@@ -1,0 +1,5 @@
+-- What the words of a command line ask for.
+pub mod Rows
+pub mod Values
+pub mod Walks
+pub mod Words

@@ -1,0 +1,6 @@
+-- Reading the files of a request, and their faults.
+pub mod Anchors
+pub mod Capture
+pub mod Faults
+pub mod Statements
+pub mod Text

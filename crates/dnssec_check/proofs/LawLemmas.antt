@@ -1,0 +1,6 @@
+-- Files have one text or one first fault.
+pub mod Answers
+pub mod Listed
+pub mod OneCapture
+pub mod OneFault
+pub mod OneText

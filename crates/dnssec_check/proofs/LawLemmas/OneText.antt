@@ -1,0 +1,131 @@
+-- For its files a request has at most one text.
+use Rattle.std.proofs.Common.{◌≡◌, ℕ, suc, List, [], ◌∷◌, ◌++◌, Option, Some, None, refl, sym, ap, subst, ◌∙◌}
+use Rattle.std.specs.List.{flat_map}
+use Rattle.std.specs.Prelude.{string_bytes, true, false}
+use Rattle.dnsv_names.specs.Name.{Labels}
+use Rattle.dnsv_names.specs.Octets.{AreOctets}
+use Rattle.dnsv_message.specs.Message.{Contents}
+use Rattle.dnsv_records.specs.declared.rrsig.Rrsig.{Rrsig}
+use Rattle.dnsv_canonical.specs.Evidence.{evidence_of}
+use Rattle.dnsv_canonical.specs.Rrsets.{ReceivedRrset}
+use Rattle.dnsv_canonical.specs.SignedData.{IsSignedData}
+use Rattle.dnsv_tsig.specs.Key.{SharedKey}
+use Rattle.dnsv_verifier.specs.Table.{IsTableOf, unknown_entries}
+use Rattle.dnsv_verifier.specs.declared.answer.Answer.{Answer}
+use Rattle.dnsv_verifier.specs.declared.entry.Entry.{Entry}
+use Rattle.dnsv_chain.specs.declared.anchor.Anchor.{Anchor}
+use Rattle.dnsv_verdict.specs.Verdict.{Basis, IsVerdictAt}
+use Rattle.dnssec_check.specs.declared.opening.Opening.{Opening}
+use Rattle.dnssec_check.specs.declared.opening.Opening.TheVariants.{Plain, Signed}
+use Rattle.dnssec_check.specs.declared.command_line.request.Request.{Request}
+use Rattle.dnssec_check.specs.declared.command_line.request.Request.TheVariants as request
+use Rattle.dnssec_check.specs.declared.status.Status.{Status}
+use Rattle.dnssec_check.specs.Files.Capture.{AnyMessage, NewEvidence, Holds}
+use Rattle.dnssec_check.specs.Texts.Checking.{IsCheck, verdict_status, verdict_text}
+use Rattle.dnssec_check.specs.Opening.Given.{IsOpeningOf}
+use Rattle.dnssec_check.specs.Files.{Files, octets_or_none}
+use Rattle.dnssec_check.specs.Opening.Keys.{MayHaveKeys}
+use Rattle.dnssec_check.specs.Layers.{LayerLaws}
+use Rattle.dnssec_check.specs.Texts.Listing.{data_line, SignatureLines, RrsetLines}
+use Rattle.dnssec_check.specs.CommandLine.Question.{Spells}
+use Rattle.dnssec_check.specs.Run.{IsAnswered, IsTextAskedFor}
+use Rattle.dnssec_check.specs.Texts.Showing.{message_text, texts_from}
+use Rattle.dnssec_check.specs.Texts.Todo.{IsTodo, todo_line}
+use Rattle.dnssec_check.proofs.OpeningLemmas.Keys.{same_keys}
+use Rattle.dnssec_check.proofs.OpeningLemmas.Macs.{same_macs}
+use Rattle.dnssec_check.proofs.LawLemmas.OneCapture.{one_holding}
+use Rattle.dnssec_check.proofs.FileLemmas.Statements.{one_meaning}
+
+module _ (laws : LayerLaws) where
+  -- ---- list --all
+
+  one_front : (number : ℕ) (rrset : ReceivedRrset) (signature : ℕ) (signatures : List (List ℕ)) (a b : List ℕ)
+      → SignatureLines number rrset signature signatures a → SignatureLines number rrset signature signatures b → a ≡ b
+  one_front number rrset signature [] a b x y = x ∙ sym y
+  one_front number rrset signature (rdata ∷ others) a b x y =
+      let signs : Rrsig → Type 0 = λ rrsig. IsSignedData rrset.owner rrset.rtype rrset.rdata rrsig x.1 in
+      let octets : x.1 ≡ y.1 = laws.evidence.one_signed_data rrset.owner rrset.rtype rrset.rdata y.0 x.1 y.1 (subst signs (laws.evidence.one_rrsig rdata x.0 y.0 x.3 y.3) x.4) y.4 in
+      x.6 ∙ ap (λ octets. data_line number signature octets ++ x.2) octets
+      ∙ ap (λ rest. data_line number signature y.1 ++ rest) (one_front number rrset (suc signature) others x.2 y.2 x.5 y.5)
+      ∙ sym y.6
+
+  one_lines : (number : ℕ) (rrsets : List ReceivedRrset) (a b : List ℕ) → RrsetLines number rrsets a → RrsetLines number rrsets b → a ≡ b
+  one_lines number [] a b x y = x ∙ sym y
+  one_lines number (rrset ∷ rrsets) a b x y =
+      x.4 ∙ ap (λ front. front ++ x.1) (one_front number rrset 1 rrset.signatures x.0 y.0 x.2 y.2)
+      ∙ ap (λ rest. y.0 ++ rest) (one_lines (suc number) rrsets x.1 y.1 x.3 y.3)
+      ∙ sym y.4
+
+  -- ---- list
+
+  one_todo : (moment : ℕ) (files : Files) → AreOctets files.capture → (a b : List ℕ) → IsTodo moment files a → IsTodo moment files b → a ≡ b
+  one_todo moment files are a b x y =
+      let messages = one_holding laws NewEvidence Plain files.capture are x.messages y.messages x.holds y.holds in
+      let meanings = one_meaning (octets_or_none files.statements) x.meaning y.meaning x.said y.said in
+      let first = subst (λ (meaning : Entry → Answer). IsTableOf meaning moment (evidence_of x.messages).rrsets x.table) meanings x.is_table in
+      let second = subst (λ messages. IsTableOf y.meaning moment (evidence_of messages).rrsets x.table) messages first in
+      x.lines ∙ ap (λ table. flat_map todo_line (unknown_entries table)) (laws.verdicts.one_table y.meaning moment (evidence_of y.messages).rrsets x.table y.table second y.is_table) ∙ sym y.lines
+
+  -- ---- check
+
+  keys_alone : (file : Option (List ℕ)) (a b : Option (List SharedKey)) → MayHaveKeys file a → MayHaveKeys file b → a ≡ b
+  keys_alone = same_keys laws.tsig.one_ring laws.tsig.one_fault laws.tsig.apart
+
+  -- files of keys and MACs open frames in one way
+  pub one_opening : (keys_file macs_file : Option (List ℕ)) (moment : ℕ) (a b : Opening) → IsOpeningOf keys_file macs_file moment a → IsOpeningOf keys_file macs_file moment b → a ≡ b
+  one_opening keys_file macs_file moment Plain Plain x y = refl
+  one_opening keys_file macs_file moment Plain (Signed keys now macs) x y = let same = keys_alone keys_file None (Some keys) x y.0 in cc
+  one_opening keys_file macs_file moment (Signed keys now macs) Plain x y = let same = keys_alone keys_file (Some keys) None x.0 y in cc
+  one_opening keys_file macs_file moment (Signed keys now macs) (Signed others at more) x y =
+      let same = keys_alone keys_file (Some keys) (Some others) x.0 y.0 in
+      let rings : keys ≡ others = cc in
+      let lists = same_macs macs_file macs more x.2 y.2 in
+      λ i. Signed (rings i) ((x.1 ∙ sym y.1) i) (lists i)
+
+  -- a text spells one name
+  pub one_question : (asked : List ℕ) (a b : Labels) → Spells asked a → Spells asked b → a ≡ b
+  one_question asked a b x y = laws.names.one_name asked a b x.is_name y.is_name x.spelling y.spelling
+
+  -- what the verdict of a question is drawn from
+  abbrev basis : List Contents → List Anchor → ℕ → (Entry → Answer) → Basis
+  basis messages anchors moment meaning = record { rrsets = (evidence_of messages).rrsets; anchors = anchors; moment = moment; meaning = meaning }
+
+  module _ (rtype moment : ℕ) (files : Files) (are : AreOctets files.capture) where
+    same_messages : (e f : Opening) (a b : List Contents) → IsOpeningOf files.keys files.macs moment e → IsOpeningOf files.keys files.macs moment f
+        → Holds NewEvidence e files.capture a → Holds NewEvidence f files.capture b → a ≡ b
+    same_messages e f a b x y holds also =
+        one_holding laws NewEvidence f files.capture are a b
+        (subst (λ (opening : Opening). Holds NewEvidence opening files.capture a) (one_opening files.keys files.macs moment e f x y) holds) also
+
+    one_check : (name : Labels) (s t : Status) (a b : List ℕ) → IsCheck name rtype moment files s a → IsCheck name rtype moment files t b → (s ≡ t) × (a ≡ b)
+    one_check name s t a b x y =
+        let messages = same_messages x.opening y.opening x.messages y.messages x.opens y.opens x.holds y.holds in
+        let anchors = laws.verdicts.one_list_of_anchors (octets_or_none files.anchors) x.anchors y.anchors x.trusted.are y.trusted.are in
+        let meanings = one_meaning (octets_or_none files.statements) x.meaning y.meaning x.said y.said in
+        let bases : basis x.messages x.anchors moment x.meaning ≡ basis y.messages y.anchors moment y.meaning = λ i. basis (messages i) (anchors i) moment (meanings i) in
+        let verdicts = laws.verdicts.one_verdict (basis y.messages y.anchors moment y.meaning) name rtype x.verdict y.verdict
+        (subst (λ (each : Basis). IsVerdictAt each name rtype x.verdict) bases x.is_verdict) y.is_verdict in (
+          x.ends ∙ ap verdict_status verdicts ∙ sym y.ends,
+          x.lines ∙ (λ i. verdict_text name rtype (evidence_of (messages i)).rrsets (verdicts i)) ∙ sym y.lines,
+        )
+
+    one_answer : (asked : List ℕ) (s t : Status) (a b : List ℕ) → IsAnswered asked rtype moment files s a → IsAnswered asked rtype moment files t b → (s ≡ t) × (a ≡ b)
+    one_answer asked s t a b x y =
+        one_check y.0 s t a b
+        (subst (λ (name : Labels). IsCheck name rtype moment files s a) (one_question asked x.0 y.0 x.1 y.1) x.3) y.3
+
+  -- ---- all requests
+
+  -- a request has one text for its files
+  pub one_text : (asked : Request) (files : Files) → AreOctets files.capture → (s t : Status) (a b : List ℕ)
+      → IsTextAskedFor asked files s a → IsTextAskedFor asked files t b → (s ≡ t) × (a ≡ b)
+  one_text (request.Show capture) files are s t a b x y =
+      (x.0 ∙ sym y.0, x.1.2 ∙ ap (texts_from message_text 1) (one_holding laws AnyMessage Plain files.capture are x.1.0 y.1.0 x.1.1 y.1.1) ∙ sym y.1.2)
+  one_text (request.List capture moment statements true) files are s t a b x y = (
+    x.0 ∙ sym y.0,
+    one_lines 1 (evidence_of x.1.0).rrsets a b x.1.2
+        (subst (λ messages. RrsetLines 1 (evidence_of messages).rrsets b) (one_holding laws NewEvidence Plain files.capture are y.1.0 x.1.0 y.1.1 x.1.1) y.1.2),
+  )
+  one_text (request.List capture moment statements false) files are s t a b x y = (x.0 ∙ sym y.0, one_todo moment files are a b x.1 y.1)
+  one_text (request.Check capture anchors moment asked rtype statements keys macs) files are s t a b x y =
+      one_answer rtype.0 moment files are (string_bytes asked) s t a b x y

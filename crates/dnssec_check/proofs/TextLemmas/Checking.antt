@@ -1,0 +1,52 @@
+-- The check of a question over files that were all taken.
+use Rattle.std.proofs.Common.{◌≡◌, ℕ, List, Option, Some, subst, string_bytes}
+use Rattle.std.specs.Prelude.{Result, Ok, Err, IfOk, IfSome}
+use Rattle.dnsv_names.specs.Name.{Labels}
+use Rattle.dnsv_message.specs.Message.{Contents}
+use Rattle.dnsv_canonical.specs.Evidence.{Evidence, evidence_of}
+use Rattle.dnsv_verifier.specs.declared.answer.Answer.{Answer}
+use Rattle.dnsv_verifier.specs.declared.entry.Entry.{Entry}
+use Rattle.dnsv_chain.specs.declared.anchor.Anchor.{Anchor}
+use Rattle.dnsv_verdict.specs.Verdict.{IsVerdictAt}
+use Rattle.dnsv_verdict.specs.declared.verdict.Verdict.{Verdict}
+use Rattle.dnssec_check.specs.Files.Anchors.{HasAnchors}
+use Rattle.dnssec_check.specs.declared.opening.Opening.{Opening}
+use Rattle.dnssec_check.specs.Files.Capture.{Holds, NewEvidence}
+use Rattle.dnssec_check.specs.Opening.Given.{IsOpeningOf}
+use Rattle.dnssec_check.specs.Texts.Checking.{IsCheck, verdict_status, verdict_text}
+use Rattle.dnssec_check.specs.Files.{Files, octets_or_none}
+use Rattle.dnssec_check.specs.Files.Statements.{IsMeaningOf}
+use Rattle.dnssec_check.specs.declared.texts.checking.Outcome.{Outcome}
+use Rattle.dnssec_check.specs.declared.status.Fault.{Fault}
+use Rattle.dnssec_check.proofs.FileLemmas.Faults.{of_told}
+
+-- the outcome is that of the verdict on this evidence
+abbrev pub IsOutcome : List Anchor → ℕ → (Entry → Answer) → Labels → ℕ → Outcome → Evidence → Type 0
+IsOutcome anchors moment meaning name rtype outcome held =
+    (verdict : Verdict) × IsVerdictAt (record { rrsets = held.rrsets; anchors = anchors; moment = moment; meaning = meaning }) name rtype verdict
+    × (outcome.status ≡ verdict_status verdict)
+    × (string_bytes outcome.text ≡ verdict_text name rtype held.rrsets verdict)
+
+module _ (name : Labels) (rtype moment : ℕ) (files : Files) (opening : Opening) (opens : IsOpeningOf files.keys files.macs moment opening) (held : Evidence) (anchors : List Anchor) (meaning : Entry → Answer) where
+  pub all_checked : (result : Result Outcome Fault) {octets : Option (List ℕ)} → octets ≡ Some files.capture
+      → IfSome octets (λ file. (messages : List Contents) × Holds NewEvidence opening file messages × (held ≡ evidence_of messages))
+      → HasAnchors (octets_or_none files.anchors) anchors → IsMeaningOf (octets_or_none files.statements) meaning
+      → IfOk result (λ outcome. IsOutcome anchors moment meaning name rtype outcome held)
+      → IfOk result (λ outcome. IsCheck name rtype moment files outcome.status (string_bytes outcome.text))
+  all_checked (Err told) is taken trusted said judged = tt
+  all_checked (Ok outcome) is taken trusted said judged =
+      let evidence = of_told (λ file. (messages : List Contents) × Holds NewEvidence opening file messages × (held ≡ evidence_of messages)) is taken in
+      let outcome_is = subst (IsOutcome anchors moment meaning name rtype outcome) evidence.2 judged in record {
+        opening = opening;
+        opens = opens;
+        messages = evidence.0;
+        holds = evidence.1;
+        anchors = anchors;
+        trusted = trusted;
+        meaning = meaning;
+        said = said;
+        verdict = outcome_is.0;
+        is_verdict = outcome_is.1;
+        ends = outcome_is.2;
+        lines = outcome_is.3;
+      }

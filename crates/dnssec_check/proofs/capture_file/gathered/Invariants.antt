@@ -1,6 +1,0 @@
-use Rattle.dnsv_message.specs.Frames.{octets_of_each}
-use Rattle.dnssec_check.proofs.CaptureFileLemmas.{EvidenceSoFar}
-use Rattle.dnssec_check.proofs.capture_file.gathered.Given as goal
-
-abbrev pub invariant-loop-index : goal.invariant-loop-index
-invariant-loop-index l = EvidenceSoFar l.envelope (octets_of_each l.frames) l.index l.held

@@ -1,8 +1,0 @@
-use Rattle.dnsv_message.specs.Frames.{octets_of_each}
-use Rattle.dnssec_check.specs.CaptureFile.{AnyMessage}
-use Rattle.dnssec_check.specs.declared.envelope.Envelope.TheVariants.{Bare}
-use Rattle.dnssec_check.proofs.CaptureFileLemmas.{MessagesSoFar}
-use Rattle.dnssec_check.proofs.capture_file.messages_of_frames.Given as goal
-
-abbrev pub invariant-loop-index : goal.invariant-loop-index
-invariant-loop-index l = MessagesSoFar AnyMessage Bare (octets_of_each l.frames) l.index l.messages.items

@@ -1,7 +1,0 @@
-use Rattle.std.specs.Prelude.{string_bytes}
-use Rattle.dnssec_check.specs.Checking.{proof_line}
-use Rattle.dnssec_check.proofs.ShowingLemmas.{Joined}
-use Rattle.dnssec_check.proofs.checking.push_proof.Given as goal
-
-abbrev pub invariant-loop-number : goal.invariant-loop-number
-invariant-loop-number l = Joined (proof_line l.rrsets) l.records l.number-index (string_bytes l.fn.text) (string_bytes l.text)

@@ -1,6 +1,0 @@
-use Rattle.std.proofs.Common.{refl, ◌∙◌}
-use Rattle.dnssec_check.proofs.LineLemmas.{is_made, same_moment}
-use Rattle.dnssec_check.proofs.line.check_request.Goals as goal
-
-pub unwrap-moment-requires : goal.unwrap-moment-requires
-unwrap-moment-requires c = is_made c.new.result c.number.result c.new.ensures c.number.ensures.bound

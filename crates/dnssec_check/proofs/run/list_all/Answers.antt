@@ -1,0 +1,10 @@
+use Rattle.std.proofs.lemmas.Result.{err_from_is_err_and}
+use Rattle.dnssec_check.specs.declared.status.InputFile.TheVariants.{Capture}
+use Rattle.dnssec_check.specs.Run.{IsCaptureReached}
+use Rattle.dnssec_check.proofs.ReachedLemmas.{reached_by}
+use Rattle.dnssec_check.proofs.run.list_all.Goals as goal
+
+pub returns-in_err-held-clause-reached : goal.returns-in_err-held-clause-reached
+returns-in_err-held-clause-reached g c = λ files are.
+    let p = err_from_is_err_and c.from_residual.result c.from_residual.ensures.1 in
+    rw (p.1, p.2) (reached_by IsCaptureReached Capture c.in_err-held.field-0.0 c.in_err-held.ensures.faults.about tt)

@@ -1,0 +1,6 @@
+-- The texts that requests ask for.
+pub mod Checking
+pub mod Hex
+pub mod Listing
+pub mod Showing
+pub mod Todo

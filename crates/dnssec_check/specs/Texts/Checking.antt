@@ -1,0 +1,110 @@
+-- The text of `check`: a question's verdict, and what carries it.
+use Rattle.std.specs.Prelude.{◌≡◌, ℕ, ◌-◌, List, [], ◌++◌, Option, Some, None, codes, slice_get}
+use Rattle.std.specs.Fmt.{decimal}
+use Rattle.std.specs.List.{flat_map}
+use Rattle.dnsv_names.specs.Name.{Labels, lower_case}
+use Rattle.dnsv_names.specs.Text.{text_of}
+use Rattle.dnsv_message.specs.Message.{Contents}
+use Rattle.dnsv_canonical.specs.Evidence.{evidence_of}
+use Rattle.dnsv_canonical.specs.Rrsets.{ReceivedRrset}
+use Rattle.dnsv_verifier.specs.declared.answer.Answer.{Answer}
+use Rattle.dnsv_verifier.specs.declared.entry.Entry.{Entry}
+use Rattle.dnsv_chain.specs.declared.anchor.Anchor.{Anchor}
+use Rattle.dnsv_denial.specs.declared.records.number.RecordNumber.{RecordNumber}
+use Rattle.dnsv_verdict.specs.Verdict.{IsVerdictAt}
+use Rattle.dnsv_verdict.specs.declared.verdict.Verdict.{Verdict}
+use Rattle.dnsv_verdict.specs.declared.verdict.Verdict.TheVariants as verdict
+use Rattle.dnssec_check.specs.Files.Anchors.{HasAnchors}
+use Rattle.dnssec_check.specs.declared.opening.Opening.{Opening}
+use Rattle.dnssec_check.specs.Files.Capture.{Holds, NewEvidence}
+use Rattle.dnssec_check.specs.Opening.Given.{IsOpeningOf}
+use Rattle.dnssec_check.specs.Files.{Files, octets_or_none}
+use Rattle.dnssec_check.specs.Files.Statements.{IsMeaningOf}
+use Rattle.dnssec_check.specs.Texts.Todo.{todo_line}
+use Rattle.dnssec_check.specs.declared.status.Status.{Status}
+use Rattle.dnssec_check.specs.declared.status.Status.TheVariants as status
+
+-- ---- the lines
+
+abbrev pub verdict_word : Verdict → List ℕ
+verdict_word (verdict.SecureAnswer k s) = codes "SecureAnswer"
+verdict_word (verdict.SecureAlias k s) = codes "SecureAlias"
+verdict_word (verdict.SecureNoName proof) = codes "SecureNoName"
+verdict_word (verdict.SecureNoData proof) = codes "SecureNoData"
+verdict_word (verdict.Insecure cut) = codes "Insecure"
+verdict_word (verdict.Pending entries) = codes "Pending"
+verdict_word verdict.Bogus = codes "Bogus"
+verdict_word verdict.Indeterminate = codes "Indeterminate"
+
+-- names in lower case
+abbrev pub lower_text : Labels → List ℕ
+lower_text name = text_of (lower_case name)
+
+-- the first line: the verdict's word, and the name and type that are asked for
+abbrev pub verdict_line : Verdict → Labels → ℕ → List ℕ
+verdict_line verdict name rtype =
+    verdict_word verdict ++ codes " " ++ lower_text name ++ codes " " ++ decimal rtype ++ codes "\n"
+
+-- an RRset by its number, and its signature by its own
+abbrev pub signature_line : ℕ → ℕ → List ℕ
+signature_line rrset signature =
+    codes "rrset " ++ decimal rrset ++ codes " signature " ++ decimal signature ++ codes "\n"
+
+-- the name at which a zone that isn't signed may begin
+abbrev pub cut_line : Labels → List ℕ
+cut_line cut = codes "cut " ++ lower_text cut ++ codes "\n"
+
+-- the owner and type of a record of the RRset
+abbrev pub proof_record_line : Option ReceivedRrset → List ℕ
+proof_record_line None = []
+proof_record_line (Some rrset) = codes "record " ++ lower_text rrset.owner ++ codes " " ++ decimal rrset.rtype ++ codes "\n"
+
+-- those of a record by its number
+abbrev pub proof_line : List ReceivedRrset → RecordNumber → List ℕ
+proof_line rrsets number = proof_record_line (slice_get rrsets (number.rrset - 1))
+
+-- what carries the verdict
+abbrev pub reason_lines : List ReceivedRrset → Verdict → List ℕ
+reason_lines rrsets (verdict.SecureAnswer k s) = signature_line k s
+reason_lines rrsets (verdict.SecureAlias k s) = signature_line k s
+reason_lines rrsets (verdict.SecureNoName proof) = flat_map (proof_line rrsets) proof.records
+reason_lines rrsets (verdict.SecureNoData proof) = flat_map (proof_line rrsets) proof.records
+reason_lines rrsets (verdict.Insecure cut) = cut_line cut
+reason_lines rrsets (verdict.Pending entries) = flat_map todo_line entries
+reason_lines rrsets verdict.Bogus = []
+reason_lines rrsets verdict.Indeterminate = []
+
+abbrev pub verdict_text : Labels → ℕ → List ReceivedRrset → Verdict → List ℕ
+verdict_text name rtype rrsets verdict = verdict_line verdict name rtype ++ reason_lines rrsets verdict
+
+-- the end of a run by the verdict
+abbrev pub verdict_status : Verdict → Status
+verdict_status (verdict.Insecure cut) = status.Insecure
+verdict_status (verdict.Pending entries) = status.Pending
+verdict_status verdict.Bogus = status.Bogus
+verdict_status verdict.Indeterminate = status.Indeterminate
+verdict_status _ = status.Done
+
+-- ---- the files
+
+-- The capture holds messages, in frames that the keys open at the moment where keys are given, each of them evidence
+-- besides those before it, and the end and the text are those of the verdict that they prove of the question, from the
+-- trust anchors, at the moment, under the statements.
+pub record IsCheck (name : Labels) (rtype moment : ℕ) (files : Files) (end : Status) (text : List ℕ) : Type 0 where
+  pub opening : Opening
+  pub opens : IsOpeningOf files.keys files.macs moment opening
+  pub messages : List Contents
+  pub holds : Holds NewEvidence opening files.capture messages
+  pub anchors : List Anchor
+  pub trusted : HasAnchors (octets_or_none files.anchors) anchors
+  pub meaning : Entry → Answer
+  pub said : IsMeaningOf (octets_or_none files.statements) meaning
+  pub verdict : Verdict
+  pub is_verdict : IsVerdictAt (record {
+    rrsets = (evidence_of messages).rrsets;
+    anchors = anchors;
+    moment = moment;
+    meaning = meaning;
+  }) name rtype verdict
+  pub ends : end ≡ verdict_status verdict
+  pub lines : text ≡ verdict_text name rtype (evidence_of messages).rrsets verdict

@@ -1,0 +1,31 @@
+-- The text of `list` without `--all`: what a verifier still has to check.
+use Rattle.std.specs.Prelude.{◌≡◌, ℕ, List, ◌++◌, codes}
+use Rattle.std.specs.Fmt.{decimal}
+use Rattle.std.specs.List.{flat_map}
+use Rattle.dnsv_message.specs.Message.{Contents}
+use Rattle.dnsv_canonical.specs.Evidence.{evidence_of}
+use Rattle.dnsv_verifier.specs.declared.answer.Answer.{Answer}
+use Rattle.dnsv_verifier.specs.declared.entry.Entry.{Entry}
+use Rattle.dnsv_verifier.specs.Table.{IsTableOf, TableContents, unknown_entries}
+use Rattle.dnssec_check.specs.declared.opening.Opening.TheVariants.{Plain}
+use Rattle.dnssec_check.specs.Files.Capture.{Holds, NewEvidence}
+use Rattle.dnssec_check.specs.Files.{Files, octets_or_none}
+use Rattle.dnssec_check.specs.Texts.Hex.{hex_text}
+use Rattle.dnssec_check.specs.Files.Statements.{IsMeaningOf}
+
+-- a line: the algorithm, the key, the signed data and the signature
+abbrev pub todo_line : Entry → List ℕ
+todo_line entry =
+    codes "todo " ++ decimal entry.algorithm.0 ++ codes " " ++ hex_text entry.key
+    ++ codes " " ++ hex_text entry.signed_data ++ codes " " ++ hex_text entry.signature ++ codes "\n"
+
+-- The capture holds messages, each of them evidence besides those before it, and the text has a line for each
+-- signature that some key of theirs may be used to verify at the moment and of which the statements say nothing.
+pub record IsTodo (moment : ℕ) (files : Files) (text : List ℕ) : Type 0 where
+  pub messages : List Contents
+  pub holds : Holds NewEvidence Plain files.capture messages
+  pub meaning : Entry → Answer
+  pub said : IsMeaningOf (octets_or_none files.statements) meaning
+  pub table : TableContents
+  pub is_table : IsTableOf meaning moment (evidence_of messages).rrsets table
+  pub lines : text ≡ flat_map todo_line (unknown_entries table)

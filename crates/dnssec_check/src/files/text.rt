@@ -1,0 +1,64 @@
+//! Text files, which may be left out.
+ghost use Rattle.std.specs.Prelude.{◌≡◌, ◌<◌, ◌≤◌, Err, IfErr, IfOk, List, Option, ℕ, length};
+ghost use Rattle.dnsv_message.specs.Frames.{file_limit};
+ghost use Rattle.dnsv_message.specs.ReadError.{IsFileError, read_error_code};
+ghost use Rattle.dnssec_check.specs.Files.Faults.{TellsFailedReads};
+ghost use Rattle.dnssec_check.specs.Files.{IsToldBy, given_failures, octets_or_none};
+ghost use Rattle.dnssec_check.specs.Files.Statements.{IsAtLine};
+ghost use Rattle.dnssec_check.specs.Status.{fault_number};
+ghost use Rattle.dnssec_check.specs.Told.{TellsTextReadError, IsTextReadFault};
+
+use crate::status::{Fault, InputFile, Place, Refusal};
+use dnsv_message::{Counted, ReadError, read_all};
+use std::alloc::Global;
+use std::io::Read;
+
+/// The octets of the file; none where it isn't given.
+pub fn octets_in<R: Read>(
+    alloc: Global,
+    file: InputFile,
+    reader: &mut Option<Counted<R>>,
+) -> Result<Vec<u8>, Fault>
+    ensures octets { (octets : Option (List ℕ)) → IsToldBy R.remaining reader.old octets → IfOk result (λ text.
+        (text.items ≡ octets_or_none octets) × (length text.items ≤ file_limit)) }
+    ensures too_long { (octets : Option (List ℕ)) → IsToldBy R.remaining reader.old octets
+        → result ≡ Err (Fault.TooLong file) → file_limit < length (octets_or_none octets) }
+    ensures reads { TellsFailedReads file (given_failures reader.old) (given_failures reader.new) result }
+    ensures only { IfErr result (IsTextReadFault file) }
+{
+    match reader {
+        None => Ok(Vec::new(alloc)),
+        Some(reader) => match read_all(alloc, reader) {
+            Ok(octets) => Ok(octets),
+            Err(error) => Err(text_read_fault(file, error)),
+        },
+    }
+}
+
+/// The fault of a file of any octets that wasn't read.
+fn text_read_fault(file: InputFile, error: ReadError) -> Fault
+    requires { IsFileError error }
+    ensures told { TellsTextReadError file error result }
+    ensures number { fault_number result ≡ read_error_code error }
+{
+    match error {
+        ReadError::OutOfMemory => Fault::OutOfMemory,
+        ReadError::Read => Fault::ReadFailed(file),
+        ReadError::TooLong => Fault::TooLong(file),
+        ReadError::ZeroLength | ReadError::TornFrame => unreachable!(),
+    }
+}
+
+/// The refusal of a text for one of its lines.
+pub fn refused_line(why: Refusal, line: usize) -> Fault
+    ensures { (place : Place) × IsAtLine line place × (result ≡ Fault.Refused why place) }
+{
+    Fault::Refused(
+        why,
+        Place {
+            message: None,
+            record: None,
+            line: Some(line),
+        },
+    )
+}

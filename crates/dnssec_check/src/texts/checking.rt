@@ -1,0 +1,202 @@
+//! The text of `check`: a question's verdict, and what carries it.
+ghost use Rattle.std.specs.Prelude.{◌≡◌, ◌++◌, IfErr, IfOk, OnOk, Some, flat_map, string_bytes};
+ghost use Rattle.dnsv_canonical.specs.Rrsets.{IsQuestion};
+ghost use Rattle.dnsv_verdict.specs.Verdict.{IsVerdictAt};
+ghost use Rattle.dnsv_verdict.specs.declared.verdict.Verdict.{Verdict};
+ghost use Rattle.dnssec_check.specs.Texts.Checking as specs;
+
+use crate::command_line::moment::Moment;
+use crate::status::{Fault, Status};
+use crate::texts::todo::push_entries;
+use dnsv_canonical::{Capture, Rrset};
+use dnsv_chain::Anchors;
+use dnsv_denial::RecordNumber;
+use dnsv_names::{Name, RecordType};
+use dnsv_verdict::{Verdict, VerdictError, validate};
+use dnsv_verifier::Verifier;
+use std::alloc::{AllocError, Global};
+
+/// How a run ends that makes its whole text.
+#[derive(Debug, Drop)]
+pub struct Outcome {
+    pub status: Status,
+    pub text: String,
+}
+
+/// The verdict on the question, and what carries it.
+pub fn judge<V: Verifier>(
+    alloc: Global,
+    held: &Capture,
+    anchors: &Anchors,
+    moment: Moment,
+    verifier: &V,
+    name: &Name,
+    rtype: RecordType,
+) -> Result<Outcome, Fault>
+    requires { IsQuestion name.now rtype.0 }
+    ensures verdict { IfOk result (λ outcome. (verdict : Verdict) × IsVerdictAt (record {
+      rrsets = held.now.rrsets;
+      anchors = anchors.now;
+      moment = moment;
+      meaning = V.meaning verifier.now;
+    }) name.now rtype.0 verdict
+        × (outcome.status ≡ specs.verdict_status verdict)
+        × (string_bytes outcome.text ≡ specs.verdict_text name.now rtype.0 held.now.rrsets verdict)) }
+    ensures only { IfErr result (λ fault. fault ≡ Fault.OutOfMemory) }
+{
+    match validate(
+        alloc,
+        held,
+        anchors,
+        moment.seconds(),
+        verifier,
+        name,
+        rtype,
+    ) {
+        Ok(report) => Ok(Outcome {
+            status: status_of(&report.verdict),
+            text: verdict_text(alloc, name, rtype, held.rrsets(), &report.verdict)?,
+        }),
+        Err(VerdictError::OutOfMemory) => Err(Fault::OutOfMemory),
+        Err(VerdictError::BadQuestion) => unreachable!(),
+    }
+}
+
+/// The end of a run by the verdict.
+fn status_of(verdict: &Verdict) -> Status
+    ensures { result ≡ specs.verdict_status verdict.now }
+{
+    match verdict {
+        Verdict::Insecure(_) => Status::Insecure,
+        Verdict::Pending(_) => Status::Pending,
+        Verdict::Bogus => Status::Bogus,
+        Verdict::Indeterminate => Status::Indeterminate,
+        _ => Status::Done,
+    }
+}
+
+/// The verdict's line, and those of what carries it.
+fn verdict_text(
+    alloc: Global,
+    name: &Name,
+    rtype: RecordType,
+    rrsets: &[Rrset],
+    verdict: &Verdict,
+) -> Result<String, AllocError>
+    ensures { IfOk result (λ text.
+        string_bytes text ≡ specs.verdict_text name.now rtype.0 rrsets.now verdict.now) }
+{
+    let mut text = String::new(alloc);
+    push_verdict(&mut text, verdict, name, rtype)?;
+    push_reason(alloc, &mut text, rrsets, verdict)?;
+    Ok(text)
+}
+
+/// Adds the verdict's word, and the name and type that are asked for.
+fn push_verdict(
+    text: &mut String,
+    verdict: &Verdict,
+    name: &Name,
+    rtype: RecordType,
+) -> Result<(), AllocError>
+    ensures { OnOk result (string_bytes text.new
+        ≡ string_bytes text.old ++ specs.verdict_line verdict.now name.now rtype.0) }
+{
+    let word = verdict_word(verdict);
+    let name = name.to_lower();
+    let rtype = rtype.0;
+    writeln!(text, "{word} {name} {rtype}")?;
+    Ok(())
+}
+
+/// The verdict's word.
+fn verdict_word(verdict: &Verdict) -> &'static str
+    ensures { result.now ≡ specs.verdict_word verdict.now }
+{
+    match verdict {
+        Verdict::SecureAnswer(_, _) => "SecureAnswer",
+        Verdict::SecureAlias(_, _) => "SecureAlias",
+        Verdict::SecureNoName(_) => "SecureNoName",
+        Verdict::SecureNoData(_) => "SecureNoData",
+        Verdict::Insecure(_) => "Insecure",
+        Verdict::Pending(_) => "Pending",
+        Verdict::Bogus => "Bogus",
+        Verdict::Indeterminate => "Indeterminate",
+    }
+}
+
+/// Adds the lines of what carries the verdict.
+fn push_reason(
+    alloc: Global,
+    text: &mut String,
+    rrsets: &[Rrset],
+    verdict: &Verdict,
+) -> Result<(), AllocError>
+    ensures { OnOk result (string_bytes text.new
+        ≡ string_bytes text.old ++ specs.reason_lines rrsets.now verdict.now) }
+{
+    match verdict {
+        Verdict::SecureAnswer(rrset, signature) | Verdict::SecureAlias(rrset, signature) => {
+            push_signature(text, *rrset, *signature)
+        }
+        Verdict::SecureNoName(proof) | Verdict::SecureNoData(proof) => {
+            push_proof(text, rrsets, proof.records())
+        }
+        Verdict::Insecure(cut) => push_cut(text, cut),
+        Verdict::Pending(entries) => push_entries(alloc, text, entries.as_slice()),
+        Verdict::Bogus | Verdict::Indeterminate => Ok(()),
+    }
+}
+
+/// Adds the numbers of an RRset and of its signature.
+fn push_signature(text: &mut String, rrset: usize, signature: usize) -> Result<(), AllocError>
+    ensures { OnOk result (string_bytes text.new ≡ string_bytes text.old ++ specs.signature_line rrset signature) }
+{
+    writeln!(text, "rrset {rrset} signature {signature}")?;
+    Ok(())
+}
+
+/// Adds the name at which a zone that isn't signed may begin.
+fn push_cut(text: &mut String, cut: &Name) -> Result<(), AllocError>
+    ensures { OnOk result (string_bytes text.new ≡ string_bytes text.old ++ specs.cut_line cut.now) }
+{
+    let name = cut.to_lower();
+    writeln!(text, "cut {name}")?;
+    Ok(())
+}
+
+/// Adds a line for each record of a proof.
+fn push_proof(
+    text: &mut String,
+    rrsets: &[Rrset],
+    records: &[RecordNumber],
+) -> Result<(), AllocError>
+    ensures { OnOk result (string_bytes text.new
+        ≡ string_bytes text.old ++ flat_map (specs.proof_line rrsets.now) records.now) }
+{
+    for number in records {
+        push_number(text, rrsets, number)?;
+    }
+    Ok(())
+}
+
+/// Adds the line of the record with this number.
+fn push_number(text: &mut String, rrsets: &[Rrset], number: &RecordNumber) -> Result<(), AllocError>
+    ensures { OnOk result (string_bytes text.new ≡ string_bytes text.old ++ specs.proof_line rrsets.now number.now) }
+{
+    let place = number.rrset.saturating_sub(1);
+    if place < rrsets.len() {
+        push_record(text, &rrsets[place])?;
+    }
+    Ok(())
+}
+
+/// Adds the owner and type of a record of the RRset.
+fn push_record(text: &mut String, rrset: &Rrset) -> Result<(), AllocError>
+    ensures { OnOk result (string_bytes text.new ≡ string_bytes text.old ++ specs.proof_record_line (Some rrset.now)) }
+{
+    let owner = rrset.owner().to_lower();
+    let rtype = rrset.rtype().0;
+    writeln!(text, "record {owner} {rtype}")?;
+    Ok(())
+}

@@ -1,0 +1,53 @@
+//! The text of `list` without `--all`: what a verifier still has to check.
+ghost use Rattle.std.specs.Prelude.{◌≡◌, ◌++◌, IfOk, OnOk, flat_map, string_bytes};
+ghost use Rattle.dnsv_verifier.specs.Table.{IsTableOf, TableContents, unknown_entries};
+ghost use Rattle.dnssec_check.specs.Texts.Todo.{todo_line};
+
+use crate::command_line::moment::Moment;
+use crate::texts::hex::hex_text;
+use dnsv_canonical::Capture;
+use dnsv_names::Count;
+use dnsv_verifier::{Entry, Verifier, ask_all};
+use std::alloc::{AllocError, Global};
+
+/// A line for each entry that the verifier knows nothing of, of those that it is asked about the evidence.
+pub fn still_to_check<V: Verifier>(
+    alloc: Global,
+    held: &Capture,
+    moment: Moment,
+    verifier: &V,
+) -> Result<String, AllocError>
+    ensures { IfOk result (λ text. (table : TableContents)
+        × IsTableOf (V.meaning verifier.now) moment held.now.rrsets table
+        × (string_bytes text ≡ flat_map todo_line (unknown_entries table))) }
+{
+    let mut asked = Count::new();
+    let table = ask_all(alloc, held, moment.seconds(), verifier, &mut asked)?;
+    let unknown = table.unknown(alloc)?;
+    let mut text = String::new(alloc);
+    push_entries(alloc, &mut text, &unknown)?;
+    Ok(text)
+}
+
+/// Adds a line for each entry.
+pub fn push_entries(alloc: Global, text: &mut String, entries: &[Entry]) -> Result<(), AllocError>
+    ensures { OnOk result (string_bytes text.new ≡ string_bytes text.old ++ flat_map todo_line entries.now) }
+{
+    for entry in entries {
+        push_entry(alloc, text, entry)?;
+    }
+    Ok(())
+}
+
+/// Adds the line of an entry.
+fn push_entry(alloc: Global, text: &mut String, entry: &Entry) -> Result<(), AllocError>
+    ensures { OnOk result (string_bytes text.new ≡ string_bytes text.old ++ todo_line entry.now) }
+{
+    let algorithm = entry.algorithm.0;
+    let key = hex_text(alloc, entry.key.as_slice())?;
+    let signed_data = hex_text(alloc, entry.signed_data.as_slice())?;
+    let signature = hex_text(alloc, entry.signature.as_slice())?;
+    write!(text, "todo {algorithm} {key}")?;
+    writeln!(text, " {signed_data} {signature}")?;
+    Ok(())
+}
