@@ -21,19 +21,15 @@ Each message is a response with RECORDS records in its answer section, of one of
 
 The second form writes a file of the anchor that the zones of tree, chain and collide begin with.
 """
-import base64
 import hashlib
 import random
 import struct
 import sys
 
+from wire import QUESTION, ROOT, ZONE, anchor, key_tag, label, nsec3_rdata, record, response, rrsig, twin_key, zone_key
+
 TYPES = {1: 4, 28: 16, 15: None, 16: 24, 2: None}  # the type and how many octets its RDATA has
-ZONE = b"\x05bench\x07example\x00"
-DEEP = b"\x01a" * 121 + b"\x00"
-
-
-def record(owner, rtype, rdata):
-    return owner + struct.pack("!HHIH", rtype, 1, 3600, len(rdata)) + rdata
+DEEP = b"\x01a" * 121 + ROOT
 
 
 def rdata_of(draw, rtype):
@@ -46,49 +42,32 @@ def rdata_of(draw, rtype):
     return bytes([len(octets) - 1]) + octets[1:] if rtype == 16 else octets
 
 
-def signature(draw, rtype, labels, tag):
-    front = struct.pack("!HBBIIIH", rtype, 13, labels, 3600, 2000, 1000, tag)
-    return front + ZONE + draw.randbytes(64)
-
-
 def dnskey(number):
-    """A key of algorithm 13. All have one tag, since two of its numbers of 16 bits sum up to the same."""
-    return struct.pack("!HBBHH", 257, 3, 13, number, 1000 - number) + bytes(range(60))
-
-
-def key_tag(rdata):
-    """RFC 4034 appendix B."""
-    total = sum(octet << 8 if place % 2 == 0 else octet for place, octet in enumerate(rdata))
-    return (total + (total >> 16)) & 0xFFFF
-
-
-def nsec3(number):
-    return struct.pack("!BBHBHB", 1, 0, 1, 2, number, 20) + bytes(20)
+    """A key. All have one tag."""
+    return twin_key(number, 1000, back=bytes(range(60)))
 
 
 def records_of(draw, count, kind, is_first):
     """The records of one message, RRset by RRset."""
-    pointer = struct.pack("!H", 0xC000 + 12)  # the question's name
     if kind == "pairs":
-        return [record(pointer, 50, nsec3(number)) for number in range(count)]
+        return [record(QUESTION, 50, nsec3_rdata(1, struct.pack("!H", number), 0)) for number in range(count)]
     signatures = 16 if kind in ("signed", "keyed", "tagged", "vouched") else 0
     keys = {"keyed": 1, "tagged": 16, "vouched": 16}.get(kind, 0)
     records = []
     if is_first:
-        records += [record(pointer, 48, dnskey(number)) for number in range(keys)]
+        records += [record(QUESTION, 48, dnskey(number)) for number in range(keys)]
     if is_first and kind == "vouched":
-        records += [record(pointer, 46, signature(draw, 48, 2, key_tag(dnskey(0)))) for _ in range(signatures)]
+        records += [record(QUESTION, 46, rrsig(draw, 48, 2, ZONE, key_tag(dnskey(0)))) for _ in range(signatures)]
     for number in range(count):
         if len(records) >= count:
             break
-        label = b"h%d" % number
-        owner = bytes([len(label)]) + label + pointer
+        owner = label(b"h%d" % number) + QUESTION
         rtype = draw.choice(list(TYPES)) if signatures else 1
         size = 5 if signatures else 1
         records += [record(owner, rtype, rdata_of(draw, rtype)) for _ in range(size)]
         for _ in range(signatures):
             tag = key_tag(dnskey(0)) if keys else draw.randrange(65536)
-            records.append(record(owner, 46, signature(draw, rtype, 3, tag)))
+            records.append(record(owner, 46, rrsig(draw, rtype, 3, ZONE, tag)))
     return records[:count]
 
 
@@ -96,19 +75,11 @@ def zone_name(number, width):
     """Zone 0 is the first, and each zone has as many below it as the width says."""
     if number == 0:
         return ZONE
-    label = b"z%d" % number if width > 1 else b"z"
-    return bytes([len(label)]) + label + zone_name((number - 1) // width, width)
-
-
-def zone_key(number, flags):
-    draw = random.Random(number * 1000 + flags)
-    return struct.pack("!HBB", flags, 3, 13) + draw.randbytes(64)
+    return label(b"z%d" % number if width > 1 else b"z") + zone_name((number - 1) // width, width)
 
 
 def zone_signature(draw, rtype, owner, signer, tag):
-    labels = owner.count(b"z") + owner.count(b"sub") + 2
-    front = struct.pack("!HBBIIIH", rtype, 13, labels, 3600, 2000, 1000, tag)
-    return front + signer + draw.randbytes(64)
+    return rrsig(draw, rtype, owner.count(b"z") + owner.count(b"sub") + 2, signer, tag)
 
 
 def zone_records(draw, number, width):
@@ -140,7 +111,7 @@ def collide(draw, number):
         return zone_records(draw, 0, 8)[2:6]
     below = b"\x03sub" + ZONE
     numbers = range(number * 16, number * 16 + 16)
-    keys = [struct.pack("!HBBHH", 257, 3, 13, each, 65000 - each) + bytes(range(60)) for each in numbers]
+    keys = [twin_key(each, 65000, back=bytes(range(60))) for each in numbers]
     tag = key_tag(keys[0])
     return [
         *(record(below, 43, struct.pack("!HBB", tag, 13, 2) + draw.randbytes(32)) for _ in range(46)),
@@ -150,14 +121,10 @@ def collide(draw, number):
     ]
 
 
-def write_anchor():
-    key = zone_key(0, 257)
-    print("KEY bench.example. 257 3 13 " + base64.b64encode(key[4:]).decode())
-
-
 def main():
     if sys.argv[1] == "anchor":
-        return write_anchor()
+        sys.stdout.write(anchor("bench.example.", zone_key(0, 257)))
+        return
     kind, messages, count = sys.argv[1], int(sys.argv[2]), int(sys.argv[3])
     draw = random.Random(20261122)
     for number in range(messages):
@@ -168,10 +135,7 @@ def main():
             records = collide(draw, number)
         else:
             records = records_of(draw, count, kind, number == 0)
-        header = struct.pack("!HHHHHH", number, 0x8400, 1, len(records), 0, 0)
-        asked = DEEP if kind == "deep" else ZONE
-        octets = header + asked + struct.pack("!HH", 255, 1) + b"".join(records)
-        sys.stdout.buffer.write(struct.pack("!H", len(octets)) + octets)
+        sys.stdout.buffer.write(response(number, DEEP if kind == "deep" else ZONE, records))
 
 
 main()

@@ -13,35 +13,19 @@ usage: make_denials.py anchors > FILE
 
 Writes the trust anchor: the zone's key.
 """
-import base64
 import random
 import struct
 import sys
 
-ROOT = b"\x00"
+from wire import (DNSKEY, NSEC, NSEC3, ROOT, RRSIG, anchor, hash_label, key_tag, label, nsec3_rdata, record, response,
+                  rrsig)
+
 ABOVE = b"\x01a" * 119 + ROOT
-
-
-def record(owner, rtype, rdata):
-    return owner + struct.pack("!HHIH", rtype, 1, 3600, len(rdata)) + rdata
-
-
-def key_tag(rdata):
-    """RFC 4034 appendix B."""
-    total = sum(octet << 8 if place % 2 == 0 else octet for place, octet in enumerate(rdata))
-    return (total + (total >> 16)) & 0xFFFF
-
-
-DNSKEY = struct.pack("!HBB", 257, 3, 13) + bytes(range(64))
+KEY = struct.pack("!HBB", 257, 3, 13) + bytes(range(64))
 
 
 def signature(draw, rtype, labels):
-    front = struct.pack("!HBBIIIH", rtype, 13, labels, 3600, 2000, 1000, key_tag(DNSKEY))
-    return front + ROOT + draw.randbytes(64)
-
-
-def label(text):
-    return bytes([len(text)]) + text
+    return rrsig(draw, rtype, labels, ROOT, key_tag(KEY))
 
 
 def nsec(draw, count, above):
@@ -49,11 +33,7 @@ def nsec(draw, count, above):
     names = [label(b"h%04d" % number) + above for number in range(count)]
     for place, owner in enumerate(names):
         following = names[(place + 1) % count]
-        yield owner, 47, following + bytes([0, 6, 0x40, 0, 0, 0, 0, 3]), 1 + len(above) // 2
-
-
-def base32hex(octets):
-    return base64.b32hexencode(octets).lower()
+        yield owner, NSEC, following + bytes([0, 6, 0x40, 0, 0, 0, 0, 3]), 1 + len(above) // 2
 
 
 def nsec3(draw, count):
@@ -61,15 +41,13 @@ def nsec3(draw, count):
     for number in range(count):
         salt = bytes([number % 8] * 8)
         hashed = int.from_bytes(draw.randbytes(20), "big") & ~1
-        following = hashed + 1
-        front = struct.pack("!BBHB", 1, 0, 500, len(salt)) + salt
-        rdata = front + b"\x14" + following.to_bytes(20, "big") + bytes([0, 1, 0x40])
-        yield label(base32hex(hashed.to_bytes(20, "big"))) + ROOT, 50, rdata, 1
+        rdata = nsec3_rdata(500, salt, hashed + 1) + bytes([0, 1, 0x40])
+        yield hash_label(hashed) + ROOT, NSEC3, rdata, 1
 
 
 def main():
     if sys.argv[1] == "anchors":
-        print("KEY . 257 3 13", base64.b64encode(DNSKEY[4:]).decode())
+        sys.stdout.write(anchor(".", KEY))
         return
     kind, count = sys.argv[1], int(sys.argv[2])
     draw = random.Random(20261123)
@@ -79,15 +57,12 @@ def main():
         "far": lambda: nsec(draw, sets, b"\x01b" + ROOT),
         "hashed": lambda: nsec3(draw, sets),
     }[kind]()
-    records = [record(ROOT, 48, DNSKEY), record(ROOT, 46, signature(draw, 48, 0))]
+    records = [record(ROOT, DNSKEY, KEY), record(ROOT, RRSIG, signature(draw, DNSKEY, 0))]
     for owner, rtype, rdata, labels in rrsets:
-        records += [record(owner, rtype, rdata), record(owner, 46, signature(draw, rtype, labels))]
+        records += [record(owner, rtype, rdata), record(owner, RRSIG, signature(draw, rtype, labels))]
     # Messages of 64 records, whose question is the same.
     for number, first in enumerate(range(0, len(records), 64)):
-        part = records[first:first + 64]
-        header = struct.pack("!HHHHHH", number, 0x8400, 1, len(part), 0, 0)
-        octets = header + ROOT + struct.pack("!HH", 255, 1) + b"".join(part)
-        sys.stdout.buffer.write(struct.pack("!H", len(octets)) + octets)
+        sys.stdout.buffer.write(response(number, ROOT, records[first:first + 64]))
 
 
 main()

@@ -5,11 +5,12 @@ from command import read, shown
 
 from .dnsviz import entries_of_dnsviz
 from .entries import Message, Omission, PassedOver, Refusal
+from .frames import frames_of
 from .octets import Incomplete
 from .packed import unpacked
 from .packets import BadPacket, Datagram, Other, Segment, payload_of
 from .pcap import TornFile, is_packet_capture, packets_of
-from .streams import Streams, frames_of
+from .streams import Streams
 from .tshark import entries_of_tshark
 
 # Streams of one file, and lists in hex

@@ -6,10 +6,10 @@ from urllib.parse import quote
 from command import shown, tell, write
 
 from .entries import Refusal
+from .frames import framed
 from .messages import (AA, ADDITIONAL, ANSWER, AUTHORITY, TYPE_DNSKEY, TYPE_DS, TYPE_NS, Question, flags_of, lower,
                        name_at, name_text, question_of, records_of)
 from .octets import Incomplete
-from .streams import framed
 
 MESSAGES_MOST = 64
 NAME_SIZE_MOST = 150

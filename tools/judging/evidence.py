@@ -1,9 +1,9 @@
 """The RRsets of a capture with their signatures, numbered as the program does, and what else its records tell."""
 from collections import namedtuple
 
+from capturing.frames import frames_of
 from capturing.messages import TYPE_DNSKEY, TYPE_RRSIG, lower, name_at, name_text, records_of
 from capturing.octets import Incomplete, number_at
-from capturing.streams import frames_of
 
 CLASS_IN = 1
 TYPE_CNAME = 5

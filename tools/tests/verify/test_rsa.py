@@ -5,7 +5,6 @@ import unittest
 from cryptography.hazmat.primitives import hashes
 from cryptography.hazmat.primitives.asymmetric import padding, rsa
 
-import tool  # noqa: F401
 from verifying import entries, rsa as keys
 
 HASHES = {5: "sha1", 7: "sha1", 8: "sha256", 10: "sha512"}

@@ -1,0 +1,91 @@
+#!/usr/bin/env python3
+"""Measures the built program on requests that are made to cost much for what they weigh, each at a size and at four
+times as much, and prints the rows of the table in docs/PERFORMANCE.md.
+
+usage: measure_shapes.py [SHAPE [SIZE ..]]
+
+Without a shape all are measured; with sizes, the shape at these. Instructions are counted by valgrind's callgrind, a
+growth is their number by that of the row above, and peak memory and processor time are those that GNU time tells. It
+needs the built program (make), valgrind and GNU time; the largest rows take a few GiB of memory and of disk, and all
+together about ten minutes.
+"""
+import pathlib
+import re
+import subprocess
+import sys
+import tempfile
+from collections import namedtuple
+
+from shapes import SHAPES
+
+PROGRAM = pathlib.Path(__file__).resolve().parent.parent / "crates" / "dnssec_check" / "out" / "dnssec_check"
+GROWTH = 4
+VERDICTS_AND_REFUSALS = (0, 3, 4, 5, 6, 7)
+
+Costs = namedtuple("Costs", "octets pairs instructions peak seconds answer")
+
+
+def write_files(shape, room):
+    """Writes the shape's files, and its statements as the lines of `list` begin."""
+    for option, pieces in shape.files.items():
+        with open(room / option, "wb") as file:
+            file.writelines(pieces)
+    if shape.answered_from is not None:
+        words = [PROGRAM, "list", "--capture", room / "capture", "--moment", "1500"]
+        todo = subprocess.run(words, check=True, stdout=subprocess.PIPE).stdout.splitlines(keepends=True)
+        good = [line.replace(b"todo", b"good", 1) for line in todo[shape.answered_from:]]
+        (room / "statements").write_bytes(b"".join(good))
+
+
+def words_of(shape, room):
+    files = [word for path in sorted(room.iterdir()) for word in (f"--{path.name}", path)]
+    return [PROGRAM, *shape.words, *files]
+
+
+def run(words):
+    """What it prints and what it complains of; any verdict and any refusal will do, a fault of the machine won't."""
+    done = subprocess.run(words, capture_output=True, check=False)
+    if done.returncode not in VERDICTS_AND_REFUSALS:
+        raise SystemExit(f"{' '.join(map(str, words))}: status {done.returncode}: {done.stderr.decode()}")
+    return done.stdout.decode(), done.stderr.decode()
+
+
+def costs_of(shape):
+    with tempfile.TemporaryDirectory() as name:
+        room, log = pathlib.Path(name) / "files", pathlib.Path(name) / "log"
+        room.mkdir()
+        write_files(shape, room)
+        octets, words = sum(path.stat().st_size for path in room.iterdir()), words_of(shape, room)
+        output, errors = run(["/usr/bin/time", "-q", "-f", "%M %U %S", "-o", log, *words])
+        peak, user, system = log.read_text().split()
+        valgrind = ["valgrind", "--tool=callgrind", "--callgrind-out-file=/dev/null"]
+        counted = re.search(r"refs: *([0-9,]+)", run([*valgrind, *words])[1]).group(1)
+        answer = (output or errors).split("\n")[0]
+        return Costs(octets, shape.pairs, int(counted.replace(",", "")), int(peak), float(user) + float(system), answer)
+
+
+def row(name, size, costs, before):
+    pairs = f"{costs.pairs:,}" if costs.pairs else ""
+    growth = f"{costs.instructions / before.instructions:.1f}" if before else ""
+    return (f"| `{name}` | {size:,} | {costs.octets:,} | {pairs} | {costs.instructions:,} | {growth} "
+            f"| {costs.peak:,} KiB | {costs.seconds:.2f} |")
+
+
+def measure(name, sizes):
+    make, before = SHAPES[name][0], None
+    for size in sizes:
+        costs = costs_of(make(size))
+        print(row(name, size, costs, before), flush=True)
+        print(f"{name} {size}: {costs.answer[:70]}", file=sys.stderr)
+        before = costs
+
+
+def main(words):
+    names, sizes = words[:1] or SHAPES, [int(word) for word in words[1:]]
+    for name in names:
+        _, size = SHAPES[name]
+        measure(name, sizes or (size, GROWTH * size))
+
+
+if __name__ == "__main__":
+    main(sys.argv[1:])

@@ -1,0 +1,19 @@
+"""What a shape is."""
+from dataclasses import dataclass
+from typing import Optional
+
+
+def check(name):
+    """The words that ask for addresses of the name; the moment is within the times of each signature."""
+    return "check", "--moment", "1500", "--name", name, "--type", "1"
+
+
+@dataclass
+class Shape:
+    """A request and its files."""
+
+    files: dict  # the octets of each option's file, in pieces
+    words: tuple = check("www.bench.example.")
+    pairs: int = 0  # of a signature and a key that may have made it
+    # The statements say `good` of each line that `list` prints from this place on; without it there are none.
+    answered_from: Optional[int] = None

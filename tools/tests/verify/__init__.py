@@ -1,0 +1,2 @@
+"""Tests of tools/verify."""
+import tool  # noqa: F401
