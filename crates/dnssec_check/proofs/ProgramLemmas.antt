@@ -4,7 +4,7 @@ pub mod Words
 use Rattle.std.proofs.Common.{◌≡◌, ◌⊎◌, ◌↔◌, ℕ, Bool, true, List, [], ◌∷◌, Option, Some, None, ap, refl, subst, sym, ◌∙◌, inl, inr, arith}
 use Rattle.std.specs.Prelude.{Result, Ok, Err, IfErr, IfOk, IfSome}
 use Rattle.std.specs.Io.KnownBytes.{Appends}
-use Rattle.dnsv_message.specs.Counted.{AppendsBeginning}
+use Rattle.dnsv_message.specs.Streams.Counted.{AppendsBeginning}
 use Rattle.dnssec_check.specs.declared.command_line.request.Request.{Request}
 use Rattle.dnssec_check.specs.declared.status.Status.{Status}
 use Rattle.dnssec_check.specs.declared.status.Status.TheVariants.{Done, Insecure, Pending, Bogus, Indeterminate}

@@ -5,8 +5,8 @@ pub mod Faults
 pub mod Statements
 use Rattle.std.specs.Prelude.{◌≡◌, ℕ, List, [], Option, Some, unwrap_or}
 use Rattle.std.specs.Option.{option_map, option_map_or}
-use Rattle.dnsv_message.specs.Counted.{inner_of, failures_of}
-use Rattle.dnsv_message.specs.declared.counted.Counted.{Counted}
+use Rattle.dnsv_message.specs.Streams.Counted.{inner_of, failures_of}
+use Rattle.dnsv_message.specs.declared.streams.counted.Counted.{Counted}
 use Rattle.dnssec_check.specs.declared.run.Inputs.{Inputs}
 
 -- the octets of each file; one that isn't given has none

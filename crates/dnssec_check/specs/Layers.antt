@@ -6,7 +6,7 @@ use Rattle.dnsv_names.specs.Octets.{AreOctets}
 use Rattle.dnsv_names.specs.Text.{FirstFault, IsTextOf}
 use Rattle.dnsv_names.specs.declared.error.NameError.{NameError}
 use Rattle.dnsv_message.specs.declared.errors.DecodeError.{DecodeError}
-use Rattle.dnsv_message.specs.Frames.{IsCapture, HasZeroLength, EndsTorn, IsTooLong}
+use Rattle.dnsv_message.specs.Streams.Frames.{IsCapture, HasZeroLength, EndsTorn, IsTooLong}
 use Rattle.dnsv_message.specs.Grammar.{MessageOf, FaultOf}
 use Rattle.dnsv_message.specs.Message.{Contents}
 use Rattle.dnsv_tsig.specs.Answer.{tsig_answer_of}

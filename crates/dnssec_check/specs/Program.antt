@@ -2,8 +2,8 @@
 use Rattle.std.specs.Prelude.{◌≡◌, ◌⊎◌, ◌↔◌, ◌<◌, ◌≤◌, ◌-◌, ◌^◌, ℕ, Bool, not, List, [], ◌∷◌, Option, Some, None, find}
 use Rattle.std.specs.Option.{option_map}
 use Rattle.std.specs.Io.KnownBytes.{Appends}
-use Rattle.dnsv_message.specs.Counted.{AppendsBeginning, failures_of, inner_of}
-use Rattle.dnsv_message.specs.declared.counted.Counted.{Counted}
+use Rattle.dnsv_message.specs.Streams.Counted.{AppendsBeginning, failures_of, inner_of}
+use Rattle.dnsv_message.specs.declared.streams.counted.Counted.{Counted}
 use Rattle.clap.specs.Words.{Text}
 use Rattle.dnssec_check.specs.declared.command_line.request.Request.{Request}
 use Rattle.dnssec_check.specs.declared.command_line.CommandLineError.{CommandLineError}

@@ -1,7 +1,7 @@
 //! What the definitions of a request's text and of its first fault say of each other, for files of octets.
 ghost use Rattle.std.specs.Prelude.{◌≡◌, ◌⊎◌, List, Option, ℕ};
 ghost use Rattle.dnsv_names.specs.Octets.{AreOctets};
-ghost use Rattle.dnsv_message.specs.Frames.{IsTooLong};
+ghost use Rattle.dnsv_message.specs.Streams.Frames.{IsTooLong};
 ghost use Rattle.dnssec_check.specs.Files.Capture.{AnyMessage, IsRefusal, NewEvidence};
 ghost use Rattle.dnssec_check.specs.declared.opening.Opening.TheVariants.{Plain};
 ghost use Rattle.dnssec_check.specs.Texts.Listing.{IsListing};

@@ -1,7 +1,7 @@
 //! What the frames of a file of captured messages are opened by.
 ghost use Rattle.std.specs.Prelude.{◌≡◌, ◌⊎◌, Decides, IfErr, IfOk, List, Option, ℕ};
 ghost use Rattle.std.specs.Option.{option_copied};
-ghost use Rattle.dnsv_message.specs.Frames.{octets_of_each};
+ghost use Rattle.dnsv_message.specs.Streams.Frames.{octets_of_each};
 ghost use Rattle.dnssec_check.specs.Opening.{HasItsMacs, request_mac};
 ghost use Rattle.dnssec_check.specs.Opening.Given.{IsOpeningOf, IsOpeningReached, IsFaultOfOpening};
 ghost use Rattle.dnssec_check.specs.Files.Faults.{IsAbout, OfFailedRead, OfOctets, TellsFailedReads};

@@ -2,7 +2,7 @@
 ghost use Rattle.std.specs.Prelude.{◌≡◌, ◌<◌, ◌≤◌, ◌⊎◌, ◌↔◌, Bool, IfErr, IfOk, IfSome, List, ℕ, OnOk, Option, is_ok};
 ghost use Rattle.std.specs.Option.{option_map};
 ghost use Rattle.std.specs.Io.KnownBytes.{Appends};
-ghost use Rattle.dnsv_message.specs.Counted.{inner_of, failures_of, AppendsBeginning};
+ghost use Rattle.dnsv_message.specs.Streams.Counted.{inner_of, failures_of, AppendsBeginning};
 ghost use Rattle.dnssec_check.specs.Files.Faults.{OfFailedRead, OfOctets};
 ghost use Rattle.dnssec_check.specs.Files.{AreTold, Files, IsToldBy};
 ghost use Rattle.dnssec_check.specs.CommandLine.{IsAccepted, IsRefused, command_line_code};

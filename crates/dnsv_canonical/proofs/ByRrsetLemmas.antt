@@ -18,9 +18,9 @@ use Rattle.std.specs.Str.{bytes_eq}
 use Rattle.std.specs.declared.cmp.Ordering.{Ordering}
 use Rattle.dnsv_names.specs.declared.number.RecordType.{RecordType}
 use Rattle.dnsv_names.specs.Name.{Labels, same_name}
-use Rattle.dnsv_names.specs.ByWire.{search_cmp}
-use Rattle.dnsv_names.specs.ByWireLaws.{search_ties}
-use Rattle.dnsv_names.specs.declared.by_wire.ByWire.{ByWire}
+use Rattle.dnsv_names.specs.Order.ByWire.{search_cmp}
+use Rattle.dnsv_names.specs.Order.ByWireLaws.{search_ties}
+use Rattle.dnsv_names.specs.declared.order.by_wire.ByWire.{ByWire}
 use Rattle.dnsv_canonical.specs.ByRrset.{rdata_at}
 use Rattle.dnsv_canonical.specs.Rrsets.{first_appearances}
 use Rattle.dnsv_canonical.proofs.GroupLemmas.{same_name_equiv, first_appearances-push}

@@ -8,7 +8,7 @@ use Rattle.std.proofs.lemmas.List.{take_at, drop_at, map-append}
 use Rattle.std.proofs.lemmas.List.Elements.{All-contains, All-from_recursion}
 use Rattle.std.proofs.lemmas.Map.Views.{Contains-from_any}
 use Rattle.dnsv_names.specs.Name.{Labels, IsName, wire, lower_case}
-use Rattle.dnsv_names.specs.WireLaws.{lower_case-wire}
+use Rattle.dnsv_names.specs.Name.WireLaws.{lower_case-wire}
 use Rattle.dnsv_message.specs.declared.record.Record.{Record}
 use Rattle.dnsv_message.specs.declared.record.Section.{Section}
 use Rattle.dnsv_message.specs.Grammar.{IsMessage, IsTail}

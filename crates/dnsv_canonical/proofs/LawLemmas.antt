@@ -22,7 +22,7 @@ use Rattle.dnsv_canonical.specs.CanonicalRdata.{canonical_form}
 use Rattle.dnsv_canonical.specs.Evidence.{IsDistinct}
 use Rattle.dnsv_canonical.specs.Rrsets.{first_appearances, message_rrsets, rrsets_from, rrsets_of}
 use Rattle.dnsv_canonical.specs.SignedData.{IsSignedData, signed_front, signed_label_count}
-use Rattle.dnsv_canonical.proofs.AppearanceLemmas.{first_appearances_any, first_appearances_apart}
+use Rattle.dnsv_canonical.proofs.GroupLemmas.AppearanceLemmas.{first_appearances_any, first_appearances_apart}
 use Rattle.dnsv_canonical.proofs.CanonicalLemmas.{canonical_some}
 
 -- ---- a beginning of the messages

@@ -8,7 +8,5 @@ pub mod ListLemmas
 pub mod ParameterLemmas
 pub mod ReadableLemmas
 pub mod SignedLemmas
-pub mod WellFormedLemmas
-pub mod AppearanceLemmas
 pub mod LawLemmas
 pub mod OneReason

@@ -6,7 +6,7 @@ use Rattle.std.specs.List.{AllByRecursion, list_any}
 use Rattle.std.proofs.lemmas.List.{append-nil, drop_at, take_all, take_more}
 use Rattle.dnsv_names.specs.Name.{Labels, IsName, wire}
 use Rattle.dnsv_names.specs.Octets.{number_at}
-use Rattle.dnsv_names.specs.WireLaws.{wire-front}
+use Rattle.dnsv_names.specs.Name.WireLaws.{wire-front}
 use Rattle.dnsv_message.specs.declared.record.Record.{Record}
 use Rattle.dnsv_message.specs.Fits.{FitsMessage, FitsRecord}
 use Rattle.dnsv_message.specs.Message.{Contents, records_of}

@@ -1,4 +1,5 @@
 -- Records that can be read, and the first that can't.
+pub mod WellFormedLemmas
 use Rattle.std.proofs.Common.{◌≡◌, inl, inr, ℕ, ◌+◌, ◌<◌, Bool, true, false, List, ◌∷◌, ◌++◌, length, get_or, take, drop, refl, sym, ap, ◌∙◌, subst, arith, append_assoc, Result, Ok, Err, IfOk, IfErr, ◌↔◌, IsTrue}
 use Rattle.std.proofs.lemmas.List.{drop_more, take-append-drop, length-take-le, length-append}
 use Rattle.std.specs.List.{AllByRecursion}

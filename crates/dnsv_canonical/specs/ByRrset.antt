@@ -4,7 +4,7 @@ use Rattle.std.specs.Option.{option_map_or}
 use Rattle.std.specs.BTreeMap.{BTreeMap}
 use Rattle.std.specs.Map.{lookup}
 use denote.Ref.{Bor}
-use Rattle.dnsv_names.specs.declared.by_wire.ByWire.{ByWire}
+use Rattle.dnsv_names.specs.declared.order.by_wire.ByWire.{ByWire}
 use Rattle.dnsv_names.specs.declared.number.RecordType.{RecordType}
 use Rattle.dnsv_names.specs.Name.{Labels, same_name}
 

@@ -1,17 +1,19 @@
 -- A text is at most one list of anchors, or has one first fault.
+pub mod AnchorFileLemmas
+pub mod AnchorLineLemmas
 use Rattle.std.proofs.Common.{◌≡◌, ◌<◌, ◌≤◌, ◌^◌, ℕ, List, [], ◌∷◌, ◌++◌, length, drop, refl, sym, ap, ◌∙◌, arith, subst, Some, inl, inr, ⊎_elim, append_assoc, append-nil, length-append}
 use Rattle.std.proofs.lemmas.Bool.{cases_lt}
 use Rattle.std.proofs.lemmas.Fmt.{decimal_injective}
 use Rattle.dnsv_names.proofs.LineFileLemmas.{each_more}
 use Rattle.dnsv_names.proofs.OneReading.{one_name}
-use Rattle.dnsv_names.specs.LineFile.{SayEach}
-use Rattle.dnsv_names.specs.LineFileLaws.{HasFirstFault-only, IsLineFile, SaysValues-no_fault, SaysValues-only}
+use Rattle.dnsv_names.specs.Lines.LineFile.{SayEach}
+use Rattle.dnsv_names.specs.Lines.LineFileLaws.{HasFirstFault-only, IsLineFile, SaysValues-no_fault, SaysValues-only}
 use Rattle.dnsv_names.specs.Name.{Labels, IsName}
 use Rattle.dnsv_names.specs.Text.{IsTextOf}
 use Rattle.dnsv_names.specs.Lines.{HasLines, NumberedLine, kept_from}
 use Rattle.dnsv_names.proofs.Base64Lemmas.{decoded}
-use Rattle.dnsv_names.specs.LineLaws.{AreFields-only, HasLines-read}
-use Rattle.dnsv_names.specs.LineReading.{lines_in}
+use Rattle.dnsv_names.specs.Lines.LineLaws.{AreFields-only, HasLines-read}
+use Rattle.dnsv_names.specs.Lines.LineReading.{lines_in}
 use Rattle.dnsv_names.specs.Octets.{AreOctets}
 use Rattle.dnsv_records.proofs.OneRecord.{one_dnskey_spelling}
 use Rattle.dnsv_records.specs.Dnskey.{IsDnskey}
@@ -23,7 +25,7 @@ use Rattle.dnsv_chain.specs.declared.anchor.Anchor.{Anchor}
 use Rattle.dnsv_chain.specs.declared.anchor.Anchor.TheVariants as anchor
 use Rattle.dnsv_chain.specs.declared.anchors.AnchorsError.{AnchorsError}
 use Rattle.dnsv_chain.specs.declared.anchors.AnchorsError.TheVariants.{OutOfMemory, Syntax, TooMany}
-use Rattle.dnsv_chain.proofs.AnchorLineLemmas.{DS-KEY, key_octets}
+use Rattle.dnsv_chain.proofs.AnchorLaws.AnchorLineLemmas.{DS-KEY, key_octets}
 
 -- a text is the digits of one number
 one_number : (text : List ℕ) (m n limit : ℕ) → limit ≤ 2 ^ 64 → IsNumber text m limit → IsNumber text n limit → m ≡ n

@@ -9,10 +9,10 @@ use Rattle.std.specs.Option.{option_map_or}
 use Rattle.std.specs.Ordering.{is_eq}
 use Rattle.std.specs.declared.cmp.Ordering.{Ordering}
 use Rattle.dnsv_names.specs.Name.{Labels, SameName, same_name}
-use Rattle.dnsv_names.specs.ByWire.{search_cmp}
-use Rattle.dnsv_names.specs.ByWireLaws.{same_name_equiv, search_ties}
-use Rattle.dnsv_names.specs.OrderLaws.{same_name_Decides}
-use Rattle.dnsv_names.specs.declared.by_wire.ByWire.{ByWire}
+use Rattle.dnsv_names.specs.Order.ByWire.{search_cmp}
+use Rattle.dnsv_names.specs.Order.ByWireLaws.{same_name_equiv, search_ties}
+use Rattle.dnsv_names.specs.Order.OrderLaws.{same_name_Decides}
+use Rattle.dnsv_names.specs.declared.order.by_wire.ByWire.{ByWire}
 use Rattle.dnsv_chain.specs.ByOwner.{values_at}
 
 abbrev pub key_cmp : ByWire → ByWire → Ordering

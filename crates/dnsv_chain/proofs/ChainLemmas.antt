@@ -6,7 +6,7 @@ use Rattle.std.proofs.lemmas.List.{get_or-map, length-map, map-append}
 use Rattle.std.proofs.lemmas.List.Elements.{Contains-get_or, Contains-append_left, Contains-append_cases, Contains-push, Contains-push_cases}
 use Rattle.std.specs.List.{AllZip, Contains}
 use Rattle.dnsv_names.specs.Name.{Labels, SameName, same_name}
-use Rattle.dnsv_names.specs.OrderLaws.{same_name_Decides}
+use Rattle.dnsv_names.specs.Order.OrderLaws.{same_name_Decides}
 use Rattle.dnsv_records.proofs.OneRecord.{one_dnskey, one_ds}
 use Rattle.dnsv_records.specs.Dnskey.{IsDnskey}
 use Rattle.dnsv_records.specs.Ds.{IsDs}

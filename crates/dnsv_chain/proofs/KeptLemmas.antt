@@ -13,7 +13,7 @@ use Rattle.std.specs.List.Sorted.{IsPermutation, IsSorted, IsStrictlySortedBy}
 use Rattle.std.specs.Map.{lookup}
 use Rattle.std.specs.Option.{option_map_or}
 use Rattle.dnsv_names.specs.Name.{Labels, SameName, same_name}
-use Rattle.dnsv_names.specs.declared.by_wire.ByWire.{ByWire}
+use Rattle.dnsv_names.specs.declared.order.by_wire.ByWire.{ByWire}
 use Rattle.dnsv_records.specs.Dnskey.{IsDnskey}
 use Rattle.dnsv_records.specs.declared.dnskey.Dnskey.{Dnskey}
 use Rattle.dnsv_message.specs.declared.record.Section.TheVariants as section

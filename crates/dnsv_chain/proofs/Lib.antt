@@ -1,6 +1,4 @@
-pub mod AnchorFileLemmas
 pub mod AnchorLaws
-pub mod AnchorLineLemmas
 pub mod ByOwnerLemmas
 pub mod ChainLemmas
 pub mod DerivationLemmas

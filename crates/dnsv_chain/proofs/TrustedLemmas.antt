@@ -3,7 +3,7 @@ use Rattle.std.proofs.Common.{◌≡◌, ◌<◌, ◌-◌, ℕ, zero, suc, List,
 use Rattle.std.proofs.lemmas.Option.{slice_get_within, get_or_from_slice_get}
 use Rattle.std.specs.List.{Contains, slice_get}
 use Rattle.dnsv_names.specs.Name.{Labels}
-use Rattle.dnsv_names.specs.TreeLaws.{below_length, same_labels}
+use Rattle.dnsv_names.specs.Tree.TreeLaws.{below_length, same_labels}
 use Rattle.dnsv_records.specs.declared.rrsig.Rrsig.{Rrsig}
 use Rattle.dnsv_canonical.specs.Rrsets.{ReceivedRrset}
 use Rattle.dnsv_verifier.specs.Admissible.{DnskeyRecord, IsGood, IsKeyAmong, IsSignatureOf}

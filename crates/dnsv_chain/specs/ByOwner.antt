@@ -5,7 +5,7 @@ use Rattle.std.specs.Map.{lookup}
 use Rattle.std.specs.Option.{option_map_or}
 use denote.Ref.{Bor}
 use Rattle.dnsv_names.specs.Name.{Labels, same_name}
-use Rattle.dnsv_names.specs.declared.by_wire.ByWire.{ByWire}
+use Rattle.dnsv_names.specs.declared.order.by_wire.ByWire.{ByWire}
 use Rattle.dnsv_canonical.specs.Rrsets.{ReceivedRrset}
 
 -- the values that are kept for the owner, in order: none where nothing is

@@ -1,4 +1,5 @@
 -- The octets that are written for a message are the message.
+pub mod OneEncoding
 use Rattle.std.proofs.Common.{◌≡◌, ℕ, ◌+◌, ◌^◌, ◌<◌, ◌≤◌, List, [], ◌∷◌, ◌++◌, length, drop, false, All, refl, sym, ap, subst, ◌∙◌, arith, append_assoc, length-append, length-take, length-drop}
 use Rattle.std.specs.Prelude.{flat_map}
 use Rattle.std.specs.Int.{w16, w32, to_be_bytes, bytes_high_first}
@@ -18,10 +19,10 @@ use Rattle.dnsv_message.specs.Grammar.{InOrder, QuestionAt, RecordAt, IsMessage}
 use Rattle.dnsv_message.specs.Fits.{FitsQuestion, FitsRecord, FitsMessage}
 use Rattle.dnsv_message.specs.Encoding.{question_octets, record_octets, header_octets, message_octets, PlainQuestionAt, PlainRecordAt, PlainMessageOf}
 use Rattle.dnsv_message.proofs.Numbers.{number_behind}
-use Rattle.dnsv_message.proofs.NameWalk.{part_within}
+use Rattle.dnsv_message.proofs.NameLaws.NameWalk.{part_within}
 use Rattle.dnsv_message.proofs.Sequences.{InOrder-append}
 use Rattle.dnsv_message.proofs.RecordParts.{up_to_type, up_to_class, up_to_ttl, up_to_size, length-up_to_type, length-up_to_class, length-up_to_ttl, length-up_to_size}
-use Rattle.dnsv_message.proofs.RdataWritten.{Stands, Stands-end, InOrder-stands, InOrder-map, name_stands, rdata_stands}
+use Rattle.dnsv_message.proofs.RdataLemmas.RdataWritten.{Stands, Stands-end, InOrder-stands, InOrder-map, name_stands, rdata_stands}
 use Rattle.dnsv_message.proofs.FitLemmas.{IsMessage-fits, answer_fits, authority_fits, additional_fits}
 
 -- a number in its octets is read as it is

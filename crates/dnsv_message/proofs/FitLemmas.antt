@@ -14,7 +14,7 @@ use Rattle.dnsv_message.specs.Grammar.{QuestionAt, RdataNameAt, RdataAt, RecordA
 use Rattle.dnsv_message.specs.Fits.{FitsQuestion, FitsRecord, FitsMessage}
 use Rattle.dnsv_message.proofs.Numbers.{octet_fits, octets_of_part, number_sum}
 use Rattle.dnsv_message.proofs.RdataLemmas.{rdata_name}
-use Rattle.dnsv_message.proofs.RdataWritten.{InOrder-each, name_is, layout_short, rdata_short, rdata_parts}
+use Rattle.dnsv_message.proofs.RdataLemmas.RdataWritten.{InOrder-each, name_is, layout_short, rdata_short, rdata_parts}
 use Rattle.dnsv_message.proofs.TailLemmas.{records_in_order}
 
 -- ---- what is true of each of two lists is true of both, joined

@@ -1,13 +1,16 @@
 -- Frames of a stream: a stream has one reading, and what comes after a rest is read with it.
+pub mod CaptureLemmas
+pub mod FileLemmas
+pub mod FramerLemmas
 use Rattle.std.proofs.Common.{◌≡◌, ℕ, zero, suc, ◌+◌, ◌-◌, ◌*◌, ◌/◌, ◌%◌, ◌<◌, ◌≤◌, List, [], ◌∷◌, ◌++◌, length, get_or, take, drop, refl, zero-add, ⊎_elim, sym, ap, ◌∙◌, arith, append_assoc, length-append, Option, Some, None}
 use Rattle.std.proofs.Math.Nat.{suc-add}
 use Rattle.std.proofs.lemmas.List.{append-nil, length-drop, length-take-le, take_rest, take-append-drop}
 use Rattle.std.proofs.lemmas.Bool.{cases_lt}
 use Rattle.std.proofs.lemmas.Grind.{flat_map-append}
 use Rattle.std.specs.List.{AllByRecursion, flat_map}
-use Rattle.dnsv_message.specs.Frames.{frame, IsFramed, BeginsNoFrame, Frames, IsZero}
-use Rattle.dnsv_message.specs.Framer.{Gains, GainsFirst}
-use Rattle.dnsv_message.specs.OpenFrame.{octets_of}
+use Rattle.dnsv_message.specs.Streams.Frames.{frame, IsFramed, BeginsNoFrame, Frames, IsZero}
+use Rattle.dnsv_message.specs.Streams.Framer.{Gains, GainsFirst}
+use Rattle.dnsv_message.specs.Streams.OpenFrame.{octets_of}
 
 -- a number is known by its two octets
 pub same_number : (m n : ℕ) → m / 256 ≡ n / 256 → m % 256 ≡ n % 256 → m ≡ n

@@ -1,5 +1,4 @@
 pub mod Numbers
-pub mod NameWalk
 pub mod Sequences
 pub mod Faults
 pub mod NameLaws
@@ -7,13 +6,7 @@ pub mod RdataLemmas
 pub mod MessageLaws
 pub mod TailLemmas
 pub mod RecordParts
-pub mod RdataWritten
 pub mod FitLemmas
 pub mod EncodingLemmas
-pub mod OneEncoding
-pub mod MessageOrFault
 pub mod MemoryLemmas
-pub mod CaptureLemmas
 pub mod FrameLemmas
-pub mod FramerLemmas
-pub mod FileLemmas

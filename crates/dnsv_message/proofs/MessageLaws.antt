@@ -1,4 +1,5 @@
 -- Octets are at most one message, or have one fault, and never both.
+pub mod MessageOrFault
 use Rattle.std.proofs.Common.{◌≡◌, ◌⊎◌, ℕ, ◌+◌, ◌<◌, ◌≤◌, List, ◌++◌, length, get_or, refl, sym, ap, subst, ◌∙◌, arith, ⊎_elim, length-append, Result, Ok, Err}
 use Rattle.std.specs.Result.{IfOk, IfErr, MatchResult}
 use Rattle.dnsv_names.specs.Name.{Labels}

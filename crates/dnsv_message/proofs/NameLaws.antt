@@ -1,4 +1,5 @@
 -- Octets spell at most one name at a place, or have one fault there, and never both.
+pub mod NameWalk
 use Rattle.std.proofs.Common.{◌≡◌, ℕ, suc, ◌+◌, ◌<◌, ◌≤◌, List, [], ◌∷◌, length, get_or, take, drop, refl, sym, ap, subst, ◌∙◌, arith, ⊎_elim, add-zero, length-append}
 use Rattle.std.proofs.lemmas.List.{get_or-take, get_or-drop}
 use Rattle.dnsv_names.specs.Name.{Labels, wire}
@@ -6,7 +7,7 @@ use Rattle.dnsv_message.specs.declared.errors.NameFault.{NameFault}
 use Rattle.dnsv_message.specs.declared.errors.NameFault.TheVariants.{Short, BadLabel, BadPointer, TooManyPointers, LongName}
 use Rattle.dnsv_message.specs.NameAt.{NumberAt, LabelAt, PointerAt, NameAt, root, label, pointer, IsTorn, FaultHere, NameFaultAt, here, after_label, after_pointer}
 use Rattle.dnsv_message.proofs.Numbers.{number_sum}
-use Rattle.dnsv_message.proofs.NameWalk.{part_within, wire_not_empty}
+use Rattle.dnsv_message.proofs.NameLaws.NameWalk.{part_within, wire_not_empty}
 
 module _ (octets : List ℕ) where
   octet_of_number : (place n : ℕ) → NumberAt octets place 1 n → get_or octets place 0 ≡ n

@@ -6,7 +6,7 @@ use Rattle.std.proofs.lemmas.Bool.{false≢true}
 use Rattle.std.specs.List.{AllByRecursion}
 use Rattle.byteorder.specs.Endian.{big_from}
 use Rattle.dnsv_names.specs.Octets.{AreOctets, number_at}
-use Rattle.dnsv_names.specs.OctetLaws.{number_at-big_from}
+use Rattle.dnsv_names.specs.Octets.OctetLaws.{number_at-big_from}
 use Rattle.dnsv_message.specs.Grammar.{part_of}
 use Rattle.dnsv_message.specs.NameAt.{NumberAt, LabelAt}
 

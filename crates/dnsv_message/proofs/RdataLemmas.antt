@@ -1,4 +1,5 @@
 -- The names of an RDATA, and that octets hold at most one RDATA at a place.
+pub mod RdataWritten
 use Rattle.std.proofs.Common.{◌≡◌, ℕ, suc, ◌+◌, ◌-◌, ◌<◌, ◌≤◌, List, [], ◌∷◌, ◌++◌, length, get_or, take, drop, refl, sym, ap, subst, ◌∙◌, arith, add-zero, length-append, Option, Some, None, Bool, true, false, Result, Ok, Err, unwrap_or}
 use Rattle.std.specs.Prelude.{flat_map}
 use Rattle.std.specs.Result.{IfOk, IfErr, result_ok}
@@ -10,8 +11,8 @@ use Rattle.dnsv_message.specs.declared.errors.NameFault.{NameFault}
 use Rattle.dnsv_message.specs.declared.rdata.Layout.{Layout}
 use Rattle.dnsv_message.specs.NameAt.{PartAt, NameAt, root, label, NameFrom, NameFaultFrom, pointer_limit}
 use Rattle.dnsv_message.specs.Grammar.{InOrder, FirstFault, RdataNameAt, RdataAt, IsTail, part_of}
-use Rattle.dnsv_message.specs.TailLaws.{name_rises}
-use Rattle.dnsv_message.proofs.NameWalk.{part_within}
+use Rattle.dnsv_message.specs.Tail.TailLaws.{name_rises}
+use Rattle.dnsv_message.proofs.NameLaws.NameWalk.{part_within}
 use Rattle.dnsv_message.proofs.NameLaws.{NameAt_same, NameAt_sound}
 use Rattle.dnsv_message.proofs.Sequences.{Reading, Reading-start, Reading-next, Reading-fault, Reading-order, InOrder-same, InOrder-sound}
 use Rattle.dnsv_message.proofs.Numbers.{part_same, number_from}

@@ -7,12 +7,7 @@ pub mod Grammar
 pub mod Parts
 pub mod Fits
 pub mod Tail
-pub mod TailLaws
 pub mod Encoding
 pub mod Steps
-pub mod Counted
-pub mod Frames
-pub mod OpenFrame
-pub mod Framer
 pub mod ReadError
 pub mod Streams

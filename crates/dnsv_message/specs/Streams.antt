@@ -1,9 +1,13 @@
 -- What a call that reads a stream until it ends or is at fault does with the stream.
+pub mod Counted
+pub mod Framer
+pub mod Frames
+pub mod OpenFrame
 use Rattle.std.specs.Prelude.{ℕ, ◌<◌, ◌-◌, ◌^◌, List, Option, Result, IsErrOf, OnOk}
 use Rattle.std.specs.Io.KnownBytes.{IsAtEnd}
 use Rattle.dnsv_message.specs.declared.errors.ReadError.{ReadError}
 use Rattle.dnsv_message.specs.declared.errors.ReadError.TheVariants.{Read}
-use Rattle.dnsv_message.specs.Frames.{StopsAtFault}
+use Rattle.dnsv_message.specs.Streams.Frames.{StopsAtFault}
 
 -- The stream has ended where the call succeeded, and no more of it was read than had to be. `old` and `new` are the
 -- octets that its reader still has, where it tells them; `before` and `after` count the calls of the reader that

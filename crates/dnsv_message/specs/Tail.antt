@@ -1,4 +1,5 @@
 -- Where the last record of a message begins.
+pub mod TailLaws
 use Rattle.std.specs.Prelude.{◌≡◌, ℕ, List, [], ◌∷◌, ◌++◌, length, Option, Some, None}
 use Rattle.dnsv_message.specs.declared.record.Record.{Record}
 use Rattle.dnsv_message.specs.Message.{Contents, records_of}

@@ -1,11 +1,7 @@
 //! DNS messages (RFC 1035): the octets of one message, and the messages of a stream.
 #![tactic(auto)]
 
-pub use capture::{one_answer, one_reading, read_capture};
-pub use counted::Counted;
 pub use errors::{DecodeError, NameFault, ReadError};
-pub use file::read_all;
-pub use framer::{Framer, any_cutting};
 pub use laws::{
     message_or_fault, messages_fit, no_fault_of_a_message, no_fault_of_memory, one_encoding,
     one_fault, one_message, one_tail, the_encoding_is_the_message,
@@ -13,14 +9,13 @@ pub use laws::{
 pub use message::Message;
 pub use number::{Class, Flags};
 pub use record::{Question, Rdata, Record, Section};
+pub use streams::capture::{one_answer, one_reading, read_capture};
+pub use streams::counted::Counted;
+pub use streams::file::read_all;
+pub use streams::framer::{Framer, any_cutting};
 
-mod capture;
-mod counted;
 mod encode;
 mod errors;
-mod file;
-mod framer;
-mod framing;
 mod laws;
 mod message;
 mod name_at;
@@ -30,6 +25,7 @@ mod record;
 #[cfg(test)]
 mod samples;
 mod section;
+mod streams;
 
 /// How many octets a file may have.
 pub const FILE_LIMIT: usize = 1_073_741_824;

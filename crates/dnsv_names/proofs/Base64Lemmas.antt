@@ -15,8 +15,8 @@ use Rattle.base64.specs.declared.engine.general_purpose.GeneralPurpose.{GeneralP
 use Rattle.base64.proofs.EngineFacts.{decode_of-encode_of, decode_of_strict, encode_of-append}
 use Rattle.base64.proofs.RoundTrip.{length-encode_symbols}
 use Rattle.dnsv_names.specs.Octets.{AreOctets}
-use Rattle.dnsv_names.specs.Base64Field.{IsBase64}
-use Rattle.dnsv_names.specs.LineReading.{SaysOctets}
+use Rattle.dnsv_names.specs.Lines.Base64Field.{IsBase64}
+use Rattle.dnsv_names.specs.Lines.LineReading.{SaysOctets}
 use Rattle.dnsv_names.specs.PartLaws.{octet_at_place, octets_fit, recursion-append, recursion-drop, recursion-take}
 
 -- octets have one text in base64, of which they are the only ones

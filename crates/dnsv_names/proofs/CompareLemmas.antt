@@ -9,17 +9,17 @@ use Rattle.std.specs.declared.cmp.Ordering.{Ordering}
 use Rattle.std.specs.declared.cmp.Ordering.TheVariants.{Less, Equal, Greater}
 use Rattle.std.specs.Ordering.{ordering_then}
 use Rattle.std.specs.Cmp.Lexicographic.{slice_cmp}
-use Rattle.dnsv_names.specs.ByWireLaws.{same_wire}
-use Rattle.dnsv_names.specs.Ends.{EndAlike, LabelBefore, Walked, WalkedTo}
+use Rattle.dnsv_names.specs.Order.ByWireLaws.{same_wire}
+use Rattle.dnsv_names.specs.Order.Ends.{EndAlike, LabelBefore, Walked, WalkedTo}
 use Rattle.dnsv_names.specs.Name.{Labels, wire, lower_case}
 use Rattle.dnsv_names.specs.Order.{label_cmp, from_the_right, canonical_cmp}
-use Rattle.dnsv_names.specs.Spelling.{labels_of, SpellsName}
+use Rattle.dnsv_names.specs.Name.Spelling.{labels_of, SpellsName}
 use Rattle.dnsv_names.proofs.EndLemmas.{end_less}
 use Rattle.dnsv_names.proofs.LowerLemmas.{untied}
 use Rattle.dnsv_names.proofs.NameLemmas.{Stands, Stands-next, place_within, label_octets}
-use Rattle.dnsv_names.specs.WireLaws.{wire_not_empty, lower_case-wire}
-use Rattle.dnsv_names.specs.AncestorLaws.{IsName-drop, length_lower_wire}
-use Rattle.dnsv_names.specs.KeyLaws.{label_cmp_exact}
+use Rattle.dnsv_names.specs.Name.WireLaws.{wire_not_empty, lower_case-wire}
+use Rattle.dnsv_names.specs.Tree.AncestorLaws.{IsName-drop, length_lower_wire}
+use Rattle.dnsv_names.specs.Tree.KeyLaws.{label_cmp_exact}
 
 -- no place of the one walk that lies within what is alike has been passed in the other walk
 pub record Apart (alike : ℕ) (a_rest b_rest : List ℕ) (a_label b_label : Option (Bor (List ℕ))) : Type 0 where

@@ -10,7 +10,7 @@ use Rattle.std.specs.Option.{MatchOption}
 use Rattle.std.specs.Result.{OkIff, result_ok}
 use Rattle.std.specs.Str.{all_ascii_digits, IsAscii, IsUtf8}
 use Rattle.std.specs.Str.Parse.{ParsesUnsigned, digits_value}
-use Rattle.dnsv_names.specs.LineReading.{is_marked}
+use Rattle.dnsv_names.specs.Lines.LineReading.{is_marked}
 
 above_zero : (text : List ℕ) → 48 < get_or text 0 0 → is_marked text ≡ false
 above_zero [] above = refl

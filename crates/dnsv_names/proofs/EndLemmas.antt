@@ -4,7 +4,7 @@ use Rattle.std.proofs.lemmas.Bool.{cases_lt}
 use Rattle.std.specs.Bool.{Decides}
 use Rattle.std.proofs.lemmas.List.{drop_more, drop_all, drop-drop, drop-map, get_or-drop, get_or-map}
 use Rattle.std.specs.Char.{to_ascii_lowercase}
-use Rattle.dnsv_names.specs.Ends.{EndAlike}
+use Rattle.dnsv_names.specs.Order.Ends.{EndAlike}
 
 abbrev lower : List ℕ → List ℕ
 lower octets = map to_ascii_lowercase octets

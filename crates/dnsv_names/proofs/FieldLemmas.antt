@@ -6,8 +6,8 @@ use Rattle.std.specs.List.{AllByRecursion, join_with_byte}
 use Rattle.std.specs.Option.{is_some, option_copied}
 use denote.Ref.{Bor}
 use Rattle.dnsv_names.specs.Lines.{Lacks, IsField, AreFields, is_passed_over}
-use Rattle.dnsv_names.specs.LineReading.{pieces_in, pieces_left}
-use Rattle.dnsv_names.specs.LineLaws.{pieces_of, pieces_in-fields}
+use Rattle.dnsv_names.specs.Lines.LineReading.{pieces_in, pieces_left}
+use Rattle.dnsv_names.specs.Lines.LineLaws.{pieces_of, pieces_in-fields}
 
 -- So much of a line was read: fields, and the pieces that are left.
 pub record ReadsFields (line : List ℕ) (found : List (List ℕ)) (rest : Option (List ℕ)) : Type 0 where

@@ -1,8 +1,8 @@
 -- Reading a text file in which each line says a value, line by line.
 use Rattle.std.proofs.Common.{◌≡◌, ◌⊎◌, inl, inr, ℕ, Result, Err, List, [], ◌∷◌, ◌++◌, sym, ap, ◌∙◌, subst, append_assoc}
 use Rattle.std.proofs.lemmas.List.{append-nil}
-use Rattle.dnsv_names.specs.LineFile.{BeginsWithValue, HasFirstFault, SayEach, SaysValues}
-use Rattle.dnsv_names.specs.LineFileLaws.{HasFirstFault-only, IsLineFile}
+use Rattle.dnsv_names.specs.Lines.LineFile.{BeginsWithValue, HasFirstFault, SayEach, SaysValues}
+use Rattle.dnsv_names.specs.Lines.LineFileLaws.{HasFirstFault-only, IsLineFile}
 use Rattle.dnsv_names.specs.Lines.{HasLines, NumberedLine}
 
 -- ---- the lines that were read, and those that are left

@@ -7,9 +7,9 @@ use Rattle.std.specs.Char.{to_ascii_lowercase}
 use Rattle.std.proofs.lemmas.Option.{slice_get-get_or}
 use Rattle.std.specs.List.{AllByRecursion, refill, slice_get}
 use Rattle.dnsv_names.specs.Name.{Labels, IsLabel, IsName, wire, lower_case, SameName, same_name}
-use Rattle.dnsv_names.specs.OrderLaws.{same_name_Decides}
-use Rattle.dnsv_names.specs.WireLaws.{labels_of-wire, wire-injective, wire_not_empty, lower_case-wire, lower_labels}
-use Rattle.dnsv_names.specs.Spelling.{labels_of, SpellsName}
+use Rattle.dnsv_names.specs.Order.OrderLaws.{same_name_Decides}
+use Rattle.dnsv_names.specs.Name.WireLaws.{labels_of-wire, wire-injective, wire_not_empty, lower_case-wire, lower_labels}
+use Rattle.dnsv_names.specs.Name.Spelling.{labels_of, SpellsName}
 
 -- a slice that is written as a whole is what was written
 pub refill_same : (old new : List ℕ) → length new ≡ length old → refill (length old) old new ≡ new

@@ -4,7 +4,7 @@ use Rattle.std.proofs.lemmas.Bool.Decides.{nat_tests}
 use Rattle.std.proofs.lemmas.List.{append-nil}
 use Rattle.std.specs.List.{AllByRecursion}
 use Rattle.dnsv_names.specs.Name.{Labels, IsLabel, IsName, wire}
-use Rattle.dnsv_names.specs.Reading.{octet_of}
+use Rattle.dnsv_names.specs.Text.Reading.{octet_of}
 use Rattle.dnsv_names.specs.Text.{SpellsOctet, SpellsLabel, SpellsLabels, IsTextOf, IsFaultAt, SpellsSoFar, FirstFault, BeginsDot, BeginsOctet}
 use Rattle.dnsv_names.specs.declared.error.NameError.{NameError}
 use Rattle.dnsv_names.specs.declared.error.NameError.TheVariants.{BadEscape, EmptyLabel, LongLabel, LongName, NotAbsolute}

@@ -5,7 +5,7 @@ use Rattle.std.proofs.lemmas.Bool.Decides.{nat_tests}
 use Rattle.std.proofs.lemmas.List.{append-nil}
 use Rattle.std.specs.List.{AllByRecursion}
 use Rattle.dnsv_names.specs.Name.{IsLabel}
-use Rattle.dnsv_names.specs.Reading.{octet_of, escaped_of, decimal_of, decimal_value}
+use Rattle.dnsv_names.specs.Text.Reading.{octet_of, escaped_of, decimal_of, decimal_value}
 use Rattle.dnsv_names.specs.Text.{SpellsOctet, SpellsLabel}
 
 -- the text of an octet is read as that octet

@@ -4,7 +4,7 @@ use Rattle.std.proofs.lemmas.List.{drop_at, drop-drop, drop_more, get_or-drop, t
 use Rattle.std.proofs.lemmas.List.Elements.{All-from_get_or, All-take, All-drop, recursion_from_All}
 use Rattle.std.specs.List.{AllByRecursion}
 use Rattle.dnsv_names.specs.Name.{Labels, IsLabel, wire}
-use Rattle.dnsv_names.specs.WireLaws.{wire_not_empty}
+use Rattle.dnsv_names.specs.Name.WireLaws.{wire_not_empty}
 
 -- at the place begins the wire form of the labels, and then the rest
 pub record Spells (octets : List ℕ) (place : ℕ) (labels : Labels) (rest : List ℕ) : Type 0 where

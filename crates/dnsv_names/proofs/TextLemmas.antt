@@ -6,7 +6,7 @@ use Rattle.std.specs.List.{AllByRecursion, flat_map}
 use Rattle.std.specs.Char.{is_ascii_graphic}
 use Rattle.dnsv_names.specs.Text.{octet_text, label_text, text_of, SpellsOctet, SpellsLabel, SpellsLabels, IsTextOf}
 use Rattle.dnsv_names.specs.Name.{Labels, IsLabel, IsName, wire}
-use Rattle.dnsv_names.specs.WireLaws.{wire_not_empty}
+use Rattle.dnsv_names.specs.Name.WireLaws.{wire_not_empty}
 use Rattle.dnsv_names.proofs.NameLemmas.{Stands, Stands-next, place_within, label_left, label_length, label_octets, root_reached}
 
 -- the text of the first labels is written, and the wire form of the rest is left, for which there is room

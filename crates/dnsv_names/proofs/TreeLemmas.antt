@@ -4,10 +4,10 @@ use Rattle.std.specs.Bool.{Decides}
 use Rattle.std.specs.Char.{to_ascii_lowercase}
 use Rattle.std.specs.Cmp.Lexicographic.{bytes_decides}
 use Rattle.dnsv_names.specs.Name.{Labels, IsName, wire, lower_case, IsAtOrBelow}
-use Rattle.dnsv_names.specs.Spelling.{labels_of, SpellsName}
-use Rattle.dnsv_names.specs.AncestorLaws.{at_or_below_ends, ends_at_or_below, IsName-drop, IsLabel-asterisk}
+use Rattle.dnsv_names.specs.Name.Spelling.{labels_of, SpellsName}
+use Rattle.dnsv_names.specs.Tree.AncestorLaws.{at_or_below_ends, ends_at_or_below, IsName-drop, IsLabel-asterisk}
 use Rattle.dnsv_names.specs.Tree.{asterisk, wildcard_of, IsWildcard, is_wildcard}
-use Rattle.dnsv_names.specs.WireLaws.{lower_case-wire, lower_labels, wire-injective, labels_of-wire}
+use Rattle.dnsv_names.specs.Name.WireLaws.{lower_case-wire, lower_labels, wire-injective, labels_of-wire}
 use Rattle.dnsv_names.proofs.NameLemmas.{SpellsName-wire}
 
 -- the test on the octets of the two wire forms

@@ -4,12 +4,12 @@ use Rattle.std.proofs.lemmas.Bool.Decides.{nat_tests}
 use Rattle.std.proofs.lemmas.List.{append-nil}
 use Rattle.std.specs.List.{AllByRecursion}
 use Rattle.dnsv_names.specs.Name.{Labels, IsLabel, IsName, wire}
-use Rattle.dnsv_names.specs.Reading.{BeginsLabel, LabelFault}
-use Rattle.dnsv_names.specs.Spelling.{labels_of, SpellsName}
+use Rattle.dnsv_names.specs.Text.Reading.{BeginsLabel, LabelFault}
+use Rattle.dnsv_names.specs.Name.Spelling.{labels_of, SpellsName}
 use Rattle.dnsv_names.specs.Text.{SpellsLabel, SpellsLabels, IsTextOf, FirstFault}
 use Rattle.dnsv_names.specs.declared.error.NameError.{NameError}
 use Rattle.dnsv_names.specs.declared.error.NameError.TheVariants.{LongName, NotAbsolute}
-use Rattle.dnsv_names.specs.WireLaws.{labels_of-wire}
+use Rattle.dnsv_names.specs.Name.WireLaws.{labels_of-wire}
 use Rattle.dnsv_names.proofs.NameLemmas.{SpellsName-wire}
 
 -- the wire form of labels without the root

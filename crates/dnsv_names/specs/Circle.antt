@@ -1,5 +1,7 @@
 -- Circles: finite lists of values in a total order, the greatest of which the least follows (RFC 4034 4.1.1,
 -- RFC 5155 3.1.7). `cmp` is the order, and values that it ties are equal here.
+pub mod CircleLaws
+pub mod NameCircleLaws
 use Rattle.std.specs.Prelude.{◌≡◌, ◌≢◌, Bool, not, ◌&&◌, ◌||◌, List, [], ◌∷◌, ◌⊎◌}
 use Rattle.std.specs.Ordering.{is_lt, is_eq}
 use Rattle.std.specs.declared.cmp.Ordering.{Ordering}

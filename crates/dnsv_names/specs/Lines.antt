@@ -1,5 +1,10 @@
 -- The lines of a text file, their fields, and the text of a number. A text is octets of any values: 10 ends
 -- a line, 32 parts fields, and 35 is `#`.
+pub mod Base64Field
+pub mod LineFile
+pub mod LineFileLaws
+pub mod LineLaws
+pub mod LineReading
 use Rattle.std.specs.Prelude.{◌≡◌, ◌≢◌, ℕ, ◌==◌, Bool, true, not, List, [], ◌∷◌, ◌++◌, filter, map}
 use Rattle.std.specs.List.{AllByRecursion, enumerate_from, flat_map, join_with_byte}
 

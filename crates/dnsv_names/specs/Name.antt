@@ -1,4 +1,6 @@
 -- What a domain name is, its wire form, and when two names are equal. An octet is a number below 256.
+pub mod Spelling
+pub mod WireLaws
 use Rattle.std.specs.Prelude.{◌≡◌, ℕ, ◌-◌, ◌<◌, ◌≤◌, Bool, nat_eq, List, [], ◌∷◌, ◌++◌, length, drop, map}
 use Rattle.std.specs.Char.{to_ascii_lowercase}
 use Rattle.std.specs.List.{AllByRecursion}

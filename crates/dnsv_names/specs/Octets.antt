@@ -1,4 +1,5 @@
 -- Octets, their order, and the numbers that they write.
+pub mod OctetLaws
 use Rattle.std.specs.Prelude.{ℕ, ◌<◌, List, take, drop}
 use Rattle.std.specs.declared.cmp.Ordering.{Ordering}
 use Rattle.std.specs.Ordering.{nat_cmp}

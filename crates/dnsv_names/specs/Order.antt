@@ -1,4 +1,8 @@
 -- The canonical order of names (RFC 4034 6.1).
+pub mod ByWire
+pub mod ByWireLaws
+pub mod Ends
+pub mod OrderLaws
 use Rattle.std.specs.Prelude.{◌≡◌, ℕ, List, reverse}
 use Rattle.std.specs.declared.cmp.Ordering.{Ordering}
 use Rattle.std.specs.declared.cmp.Ordering.TheVariants.{Less}

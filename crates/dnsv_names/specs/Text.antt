@@ -1,5 +1,6 @@
 -- Names as text (RFC 1035 5.1, RFC 4343 2.1). A text is octets: 46 is the dot, 92 the backslash, 48 to 57
 -- are the digits, and 33 to 126 what is graphic, that is 0x21 to 0x7e.
+pub mod Reading
 use Rattle.std.specs.Prelude.{◌≡◌, ◌≢◌, ℕ, ◌+◌, ◌-◌, ◌*◌, ◌/◌, ◌%◌, ◌<◌, ◌≤◌, ◌⊎◌, ◌==◌, ◌||◌, if◌then◌else◌, List, [], ◌∷◌, ◌++◌, length}
 use Rattle.std.specs.List.{flat_map}
 use Rattle.std.specs.Char.{is_ascii_graphic, IsAsciiGraphic, IsAsciiDigit}

@@ -1,4 +1,8 @@
 -- Names above and below a name (RFC 1034 3.1), and wildcards (RFC 4592 2.1.1).
+pub mod AncestorLaws
+pub mod KeyLaws
+pub mod Keys
+pub mod TreeLaws
 use Rattle.std.specs.Prelude.{◌≡◌, ℕ, Bool, false, List, [], ◌∷◌}
 use Rattle.std.specs.Str.{bytes_eq}
 use Rattle.dnsv_names.specs.Name.{Labels}

@@ -1,9 +1,13 @@
 //! The lines of text files.
+
+pub mod base64_field;
+pub mod decimal;
+
 ghost use Rattle.std.specs.Prelude.{◌≡◌, ◌==◌, ◌+◌, ◌++◌, ◌∷◌, [], ◌<◌, ◌^◌, ◌↔◌, IsTrue, List, ℕ, length, MatchOption, Some, map, ◌≢◌, IfSome, IfNone};
 ghost use Rattle.std.specs.Option.{option_copied};
 ghost use Rattle.std.specs.Iterator.{YieldsFirst, item_count};
 ghost use Rattle.std.specs.List.{position};
-ghost use Rattle.dnsv_names.specs.LineReading.{lines_in, pieces_in, pieces_left};
+ghost use Rattle.dnsv_names.specs.Lines.LineReading.{lines_in, pieces_in, pieces_left};
 ghost use Rattle.dnsv_names.specs.Lines.{AreFields, HasLines, Lacks, NumberedLine, is_passed_over};
 
 use arrayvec::ArrayVec;
@@ -81,7 +85,7 @@ pub struct Lines<'a> {
 impl<'a> Model for Lines<'a> {
     ghost use Rattle.std.specs.Prelude.{List, length, ◌+◌, ◌<◌, ◌^◌};
     ghost use Rattle.dnsv_names.specs.Lines.{NumberedLine, kept_from};
-    ghost use Rattle.dnsv_names.specs.LineReading.{lines_in};
+    ghost use Rattle.dnsv_names.specs.Lines.LineReading.{lines_in};
 
     ghost Value = { List NumberedLine };
 

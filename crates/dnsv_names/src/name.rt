@@ -4,7 +4,7 @@ ghost use Rattle.std.specs.Cmp.{on_equiv, partial_equiv_from_equiv};
 ghost use Rattle.std.specs.Cmp.Lexicographic.{lists_equiv};
 ghost use Rattle.std.proofs.lemmas.Cmp.{nat_eq_equiv};
 ghost use Rattle.dnsv_names.specs.Name.{Labels, IsName, IsAtOrBelow, wire, lower_case, SameName, same_name, rightmost};
-ghost use Rattle.dnsv_names.specs.Spelling.{labels_of, SpellsName};
+ghost use Rattle.dnsv_names.specs.Name.Spelling.{labels_of, SpellsName};
 
 use crate::wire::{copied, label_count, label_place, lowered, wire_length};
 use arrayvec::ArrayVec;

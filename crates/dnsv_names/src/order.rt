@@ -1,15 +1,18 @@
 //! The canonical order of names (RFC 4034 6.1), and their hash.
+
+pub mod by_wire;
+
 ghost use Rattle.std.specs.Prelude.{◌≡◌, ◌↔◌, ◌<◌, ◌+◌, ◌++◌, refl, length, take, drop, slice_index};
 ghost use Rattle.std.specs.Cmp.{IsTotalOrder, partial_order_from_agreeing_total};
 ghost use Rattle.std.specs.Ordering.{as_partial_cmp};
 ghost use Rattle.dnsv_names.specs.Name.{Labels, SameName, IsAtOrBelow};
 ghost use Rattle.dnsv_names.specs.Order.{from_the_right, canonical_cmp, IsBefore, IsBelow};
-ghost use Rattle.dnsv_names.specs.OrderLaws.{canonical_cmp_total, same_name_ties, hash_input_of, hash_respects_eq};
-ghost use Rattle.dnsv_names.specs.Ends.{WalkedTo};
-ghost use Rattle.dnsv_names.specs.Spelling.{labels_of, SpellsName};
+ghost use Rattle.dnsv_names.specs.Order.OrderLaws.{canonical_cmp_total, same_name_ties, hash_input_of, hash_respects_eq};
+ghost use Rattle.dnsv_names.specs.Order.Ends.{WalkedTo};
+ghost use Rattle.dnsv_names.specs.Name.Spelling.{labels_of, SpellsName};
 
-use crate::lower::{alike_at_end, lower_order};
 use crate::name::Name;
+use crate::wire::lower::{alike_at_end, lower_order};
 use std::cmp::Ordering;
 use std::hash::{Hash, Hasher};
 

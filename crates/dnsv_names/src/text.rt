@@ -1,4 +1,7 @@
 //! The text that is written for a name (RFC 1035 5.1).
+
+pub mod parse;
+
 ghost use Rattle.std.specs.Prelude.{◌≡◌, ◌+◌, ◌*◌, ◌<◌, ◌≤◌, ◌++◌, ◌∷◌, [], Some, length};
 ghost use Rattle.arrayvec.specs.ArrayString.{array_string_len};
 ghost use Rattle.dnsv_names.specs.Text.{octet_text, label_text, text_of};

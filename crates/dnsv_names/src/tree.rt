@@ -1,7 +1,10 @@
 //! Names above and below a name (RFC 1034 3.1).
+
+pub mod tree_laws;
+
 ghost use Rattle.std.specs.Prelude.{◌≡◌, ◌↔◌, ◌<◌, ◌≤◌, List, ℕ, [], ◌∷◌, length, MatchOption, MatchResult, IsTrue, IfOk};
 ghost use Rattle.dnsv_names.specs.Name.{Labels, IsName, IsAtOrBelow, wire, rightmost};
-ghost use Rattle.dnsv_names.specs.Keys.{is_at_or_below};
+ghost use Rattle.dnsv_names.specs.Tree.Keys.{is_at_or_below};
 ghost use Rattle.dnsv_names.specs.Tree.{wildcard_of, is_wildcard, IsWildcard};
 
 use crate::error::NameError;

@@ -1,8 +1,11 @@
 //! Walks over the octets of a name's wire form.
+
+pub mod lower;
+
 ghost use Rattle.std.specs.Prelude.{◌≡◌, ◌<◌, ◌≤◌, ◌++◌, List, ℕ, Some, length, take, drop, map, IfSome};
 ghost use Rattle.std.specs.Char.{to_ascii_lowercase};
 ghost use Rattle.dnsv_names.specs.Name.{Labels, IsName, wire};
-ghost use Rattle.dnsv_names.specs.Spelling.{labels_of, SpellsName};
+ghost use Rattle.dnsv_names.specs.Name.Spelling.{labels_of, SpellsName};
 
 use crate::name::{LABEL_LIMIT, WIRE_LIMIT};
 use arrayvec::ArrayVec;

@@ -12,7 +12,7 @@ use Rattle.std.specs.Ordering.{nat_cmp}
 use Rattle.std.specs.Cmp.{nat_cmp_total, unsigned_tied}
 use Rattle.std.specs.FinSet as set
 use Rattle.dnsv_records.specs.Bitmap.{Types, Block, block_octets, has_bit, IsBlockOf, WindowsRise, HasWindow, Bitmap}
-use Rattle.dnsv_records.specs.Blocks.{blocks_of, bits_of, has_type, types_below, types_of, IsGoodBlock, AreBlocks}
+use Rattle.dnsv_records.specs.Bitmap.Blocks.{blocks_of, bits_of, has_type, types_below, types_of, IsGoodBlock, AreBlocks}
 use Rattle.dnsv_records.proofs.BlockLemmas.{blocks_of-flat_map, AreBlocks-from}
 
 -- facts on each element, carried over

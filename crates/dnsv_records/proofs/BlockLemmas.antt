@@ -5,7 +5,7 @@ use Rattle.std.proofs.lemmas.Bool.{cond-true, cond-false, eqb-true, eq-eqb, fals
 use Rattle.std.specs.List.{AllByRecursion, flat_map}
 use Rattle.dnsv_names.specs.PartLaws.{octets_fit, recursion-take, recursion-drop}
 use Rattle.dnsv_records.specs.Bitmap.{Block, block_octets, WindowsRise}
-use Rattle.dnsv_records.specs.Blocks.{blocks_after, blocks_of, bits_of, IsGoodBlock, AreBlocks, BlockAtFront}
+use Rattle.dnsv_records.specs.Bitmap.Blocks.{blocks_after, blocks_of, bits_of, IsGoodBlock, AreBlocks, BlockAtFront}
 
 pub blocks_after-append : (xs ys : List ℕ) → blocks_after (length xs) (xs ++ ys) ≡ blocks_of ys
 blocks_after-append [] ys = refl

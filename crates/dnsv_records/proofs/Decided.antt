@@ -9,7 +9,7 @@ use Rattle.dnsv_records.specs.declared.dnskey.Dnskey.{Dnskey}
 use Rattle.dnsv_records.specs.declared.ds.Ds.{Ds}
 use Rattle.dnsv_records.specs.declared.nsec3.Nsec3.{Nsec3}
 use Rattle.dnsv_records.specs.Bitmap.{Block, block_octets, IsBitmap, WindowsRise}
-use Rattle.dnsv_records.specs.Blocks.{blocks_of, IsGoodBlock, AreBlocks}
+use Rattle.dnsv_records.specs.Bitmap.Blocks.{blocks_of, IsGoodBlock, AreBlocks}
 use Rattle.dnsv_records.specs.DecisionLaws.{Or, all_or, at_most_or, less_or, number_or}
 use Rattle.dnsv_records.specs.Dnskey.{IsDnskey}
 use Rattle.dnsv_records.specs.Ds.{IsDs}

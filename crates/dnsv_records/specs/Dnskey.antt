@@ -1,4 +1,5 @@
 -- The RDATA of DNSKEY (RFC 4034 2.1).
+pub mod KeyTag
 use Rattle.std.specs.Prelude.{◌≡◌, ℕ, ◌<◌, ◌≤◌, List, length, drop}
 use Rattle.dnsv_records.specs.declared.error.Field.{Field}
 use Rattle.dnsv_records.specs.declared.error.Field.TheVariants.{Head}

@@ -1,15 +1,12 @@
 pub mod Algorithm
 pub mod Base32Hex
 pub mod Bitmap
-pub mod Blocks
 pub mod DecisionLaws
 pub mod Dnskey
 pub mod Ds
-pub mod KeyTag
 pub mod Layout
 pub mod Nsec
 pub mod Nsec3
 pub mod OctetLaws
 pub mod Reading
 pub mod Rrsig
-pub mod Time

@@ -1,4 +1,5 @@
 -- The RDATA of RRSIG (RFC 4034 3.1).
+pub mod Time
 use Rattle.std.specs.Prelude.{◌≡◌, ℕ, ◌<◌, ◌≤◌, List, ◌++◌, length, drop}
 use Rattle.dnsv_names.specs.Name.{IsName, wire}
 use Rattle.dnsv_records.specs.declared.error.Field.{Field}

@@ -1,12 +1,15 @@
 //! The type bitmap of NSEC and NSEC3 (RFC 4034 4.1.2).
+
+pub mod blocks;
+
 ghost use Rattle.std.specs.Prelude.{◌≡◌, IfOk};
 ghost use Rattle.std.specs.Coded.{coded_ℕ};
 ghost use Rattle.std.specs.FinSet as set;
 ghost use Rattle.dnsv_records.specs.Bitmap.{Types, Bitmap, BitmapFault};
-ghost use Rattle.dnsv_records.specs.Blocks.{types_of, AreBlocks};
+ghost use Rattle.dnsv_records.specs.Bitmap.Blocks.{types_of, AreBlocks};
 ghost use Rattle.dnsv_records.specs.Reading.{IsFirstFault, Gives};
 
-use crate::blocks::{are_blocks, has_bit, window_bits};
+use crate::bitmap::blocks::{are_blocks, has_bit, window_bits};
 use crate::error::{Field, RecordError};
 use dnsv_names::RecordType;
 use std::alloc::Global;

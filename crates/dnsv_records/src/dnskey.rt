@@ -1,4 +1,7 @@
 //! The RDATA of DNSKEY (RFC 4034 2).
+
+pub mod tag;
+
 use crate::error::{Field, RecordError};
 use crate::number::Algorithm;
 use crate::octets::Octets;

@@ -3,6 +3,7 @@
 
 pub use base32hex::{base32hex_read, base32hex_write};
 pub use bitmap::TypeBitmap;
+pub use dnskey::tag::key_tag;
 pub use dnskey::{Dnskey, DnskeyFlags};
 pub use ds::Ds;
 pub use error::{Field, RecordError};
@@ -12,12 +13,10 @@ pub use nsec3::{HashAlgorithm, Iterations, Nsec3, Nsec3Flags, Nsec3Parameters, U
 pub use number::{Algorithm, DigestType, KeyTag};
 pub use octets::Octets;
 pub use rrsig::Rrsig;
-pub use tag::key_tag;
 pub use time::{Expiration, Inception, time_valid};
 
 mod base32hex;
 mod bitmap;
-mod blocks;
 mod dnskey;
 mod ds;
 mod error;
@@ -27,5 +26,4 @@ mod nsec3;
 mod number;
 mod octets;
 mod rrsig;
-mod tag;
 mod time;

@@ -1,6 +1,6 @@
 //! The times of a signature (RFC 4034 3.1.5).
 ghost use Rattle.std.specs.Prelude.{IsTrue, ◌↔◌};
-ghost use Rattle.dnsv_records.specs.Time.{ValidAt};
+ghost use Rattle.dnsv_records.specs.Rrsig.Time.{ValidAt};
 
 /// The first moment at which a signature is valid, in seconds since 1970, modulo 2^32 (RFC 4034 3.1.5).
 #[derive(Clone, Copy, Debug, PartialEq, Eq, Hash)]

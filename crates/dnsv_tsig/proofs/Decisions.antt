@@ -5,7 +5,7 @@ use Rattle.std.proofs.lemmas.Bool.{cases_lt}
 use Rattle.std.proofs.lemmas.List.{take_at, drop_at, take-append-drop, length-take, length-drop}
 use Rattle.dnsv_names.specs.Name.{Labels, IsLabel, IsName, wire}
 use Rattle.dnsv_names.specs.Octets.{AreOctets, number_at}
-use Rattle.dnsv_names.specs.WireLaws.{wire_not_empty, wire-front}
+use Rattle.dnsv_names.specs.Name.WireLaws.{wire_not_empty, wire-front}
 use Rattle.dnsv_tsig.specs.Tsig.{TsigFields, AreParts, IsTsig}
 use Rattle.dnsv_tsig.proofs.TsigLemmas.{same_parts}
 

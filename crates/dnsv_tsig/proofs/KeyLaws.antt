@@ -4,8 +4,8 @@ use Rattle.base64.specs.Engines.{standard}
 use Rattle.base64.specs.GeneralPurpose.{decode_of}
 use Rattle.dnsv_names.proofs.Base64Lemmas.{decoded}
 use Rattle.dnsv_names.proofs.OneReading.{one_name}
-use Rattle.dnsv_names.specs.LineFileLaws.{HasFirstFault-only, IsLineFile, SaysValues-no_fault, SaysValues-only}
-use Rattle.dnsv_names.specs.LineLaws.{AreFields-only}
+use Rattle.dnsv_names.specs.Lines.LineFileLaws.{HasFirstFault-only, IsLineFile, SaysValues-no_fault, SaysValues-only}
+use Rattle.dnsv_names.specs.Lines.LineLaws.{AreFields-only}
 use Rattle.dnsv_names.specs.Lines.{NumberedLine}
 use Rattle.dnsv_names.specs.Text.{IsTextOf}
 use Rattle.dnsv_tsig.specs.declared.error.KeyFileError.{KeyFileError}

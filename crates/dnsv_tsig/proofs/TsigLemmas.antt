@@ -2,7 +2,7 @@
 use Rattle.std.proofs.Common.{◌≡◌, ℕ, List, [], ◌∷◌, ◌++◌, length, take, drop, refl, sym, ap, subst, ◌∙◌, arith, length-append}
 use Rattle.std.proofs.lemmas.List.{take_at, drop_at}
 use Rattle.dnsv_names.specs.Octets.{number_at}
-use Rattle.dnsv_names.specs.WireLaws.{wire-front}
+use Rattle.dnsv_names.specs.Name.WireLaws.{wire-front}
 use Rattle.dnsv_message.specs.declared.record.Record.{Record}
 use Rattle.dnsv_tsig.specs.Answer.{LacksTsig}
 use Rattle.dnsv_tsig.specs.Tsig.{TsigFields, AreParts, IsTsig}

@@ -2,7 +2,7 @@
 use Rattle.std.specs.Prelude.{◌≡◌, List, ℕ, [], ◌∷◌, ◌++◌, None}
 use Rattle.base64.specs.Engines.{standard}
 use Rattle.base64.specs.GeneralPurpose.{encode_of}
-use Rattle.dnsv_names.specs.LineFile.{BeginsWithValue, HasFirstFault, SaysValues}
+use Rattle.dnsv_names.specs.Lines.LineFile.{BeginsWithValue, HasFirstFault, SaysValues}
 use Rattle.dnsv_names.specs.Lines.{AreFields, NumberedLine}
 use Rattle.dnsv_names.specs.Name.{IsName}
 use Rattle.dnsv_names.specs.Octets.{AreOctets}

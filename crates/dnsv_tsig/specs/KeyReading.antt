@@ -1,6 +1,6 @@
 -- How a line of a file of keys is read. No public clause cites this module.
 use Rattle.std.specs.Prelude.{ℕ, List, [], ◌∷◌}
-use Rattle.dnsv_names.specs.Base64Field.{IsBase64}
+use Rattle.dnsv_names.specs.Lines.Base64Field.{IsBase64}
 use Rattle.dnsv_names.specs.Name.{Labels, IsName}
 use Rattle.dnsv_names.specs.Text.{IsTextOf}
 use Rattle.dnsv_names.specs.Lines.{AreFields}

@@ -3,7 +3,7 @@ ghost use Rattle.std.specs.Prelude.{◌≡◌, ◌⊎◌, ◌++◌, [], ◌∷�
 ghost use Rattle.std.specs.Option.{option_copied};
 ghost use Rattle.base64.specs.Engines.{standard};
 ghost use Rattle.base64.specs.GeneralPurpose.{encode_of};
-ghost use Rattle.dnsv_names.specs.Base64Field.{IsBase64};
+ghost use Rattle.dnsv_names.specs.Lines.Base64Field.{IsBase64};
 ghost use Rattle.dnsv_names.specs.Lines.{AreFields};
 ghost use Rattle.dnsv_names.specs.Octets.{AreOctets};
 ghost use Rattle.dnsv_tsig.specs.Key.{SharedKey, key_named};

@@ -1,4 +1,5 @@
 -- What verdicts mean for each zone that has the records which they rest on in its chain.
+pub mod CompleteLemmas
 use Rattle.std.proofs.Common.{◌≡◌, ◌⊎◌, ◌+◌, ℕ, List, inl, inr, ⊎_elim}
 use Rattle.dnsv_names.specs.Name.{Labels, rightmost}
 use Rattle.dnsv_records.specs.declared.rrsig.Rrsig.{Rrsig}

@@ -1,4 +1,6 @@
 -- The first signature that is such, and the first RRset.
+pub mod LowestLemmas
+pub mod ViewLemmas
 use Rattle.std.proofs.Common.{◌≡◌, ◌≢◌, ◌⊎◌, ℕ, zero, suc, ◌+◌, ◌-◌, ◌<◌, ◌≤◌, true, false, List, [], ◌∷◌, refl, sym, subst, arith, length, inl, inr, ⊎_elim}
 use Rattle.std.proofs.lemmas.Bool.Decides.{eqb_tells}
 use lib.Dec.{eqb}

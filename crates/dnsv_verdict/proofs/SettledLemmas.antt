@@ -1,4 +1,7 @@
 -- What is settled depends on which signatures are secured, and more of them settle no less, also among more RRsets.
+pub mod EvidenceLemmas
+pub mod NoLessLemmas
+pub mod PendingLemmas
 use Rattle.std.proofs.Common.{◌≡◌, ◌⊎◌, ℕ, List, inl, inr, ⊎_elim}
 use Rattle.dnsv_names.specs.Name.{Labels}
 use Rattle.dnsv_records.specs.declared.rrsig.Rrsig.{Rrsig}
@@ -7,8 +10,8 @@ use Rattle.dnsv_canonical.specs.Rrsets.{ReceivedRrset}
 use Rattle.dnsv_canonical.specs.SignedData.{IsExpanded}
 use Rattle.dnsv_chain.specs.Trusted.{IsNumbered}
 use Rattle.dnsv_denial.specs.proving.FirstProof.{CanProveNoCloser}
-use Rattle.dnsv_verdict.proofs.EvidenceLemmas.{no_name_can_to, no_data_can_to, no_closer_can_to, has_cut_to, loose_closer_to, first_no_name_to, first_no_data_to, cut_is_to}
-use Rattle.dnsv_verdict.proofs.LowestLemmas.{lowest_respects}
+use Rattle.dnsv_verdict.proofs.SettledLemmas.EvidenceLemmas.{no_name_can_to, no_data_can_to, no_closer_can_to, has_cut_to, loose_closer_to, first_no_name_to, first_no_data_to, cut_is_to}
+use Rattle.dnsv_verdict.proofs.SearchLemmas.LowestLemmas.{lowest_respects}
 use Rattle.dnsv_verdict.specs.Insecure.{IsLoose, IsLooseCut, IsLooseSet, IsUnsigned, IsUnsignedFrom}
 use Rattle.dnsv_verdict.specs.Secure.{HoldsForName, IsLowest, IsSecureSet, IsSecuredAt}
 use Rattle.dnsv_verdict.specs.Settled.{HasAlias, HasAnswer, IsSettled, IsSettledAs}

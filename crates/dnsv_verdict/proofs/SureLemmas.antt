@@ -1,4 +1,7 @@
 -- What can't fail to be. Where a thing isn't decided, "it can't be that there is none" stands for "there is one".
+pub mod FiniteLemmas
+pub mod SomeProof
+pub mod SomeVerdict
 use Rattle.std.proofs.Common.{◌≡◌, ◌⊎◌, ◌+◌, ◌<◌, ◌≤◌, ℕ, zero, suc, inl, inr, ⊎_elim, sym, ap, ◌∙◌, subst, arith}
 use Rattle.std.proofs.lemmas.Bool.{cases_lt}
 use Rattle.std.specs.Cmp.{nat_cmp_is}

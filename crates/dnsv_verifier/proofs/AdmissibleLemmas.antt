@@ -1,7 +1,7 @@
 -- Who may sign an RRset, by its type.
 use Rattle.std.proofs.Common.{◌≡◌, ◌≢◌, ◌↔◌, ℕ, arith}
 use Rattle.dnsv_names.specs.Name.{Labels, SameName, IsAtOrBelow}
-use Rattle.dnsv_names.specs.TreeLaws.{same_at_or_below}
+use Rattle.dnsv_names.specs.Tree.TreeLaws.{same_at_or_below}
 use Rattle.dnsv_verifier.specs.Admissible.{MaySign}
 
 pub dnskey_signer : (signer owner : Labels) (rtype : ℕ) → rtype ≡ 48 → SameName owner signer ↔ MaySign signer rtype owner

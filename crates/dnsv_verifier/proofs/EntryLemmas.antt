@@ -15,7 +15,7 @@ use Rattle.dnsv_verifier.specs.Admissible.{DnskeyRecord, IsAsked, IsEntryOf, IsS
 use Rattle.dnsv_verifier.specs.Asking.{AddsJust, AreKeysOf, ComesOfSome, IsAskedIn, IsAskedOf, IsEntryBy, IsPartOf, entry_with}
 use Rattle.dnsv_verifier.specs.Entry.{entry_cmp}
 use Rattle.dnsv_verifier.specs.declared.entry.Entry.{Entry}
-use Rattle.dnsv_verifier.specs.declared.shared_entry.SignaturePart.{SignaturePart}
+use Rattle.dnsv_verifier.specs.declared.entry.shared_entry.SignaturePart.{SignaturePart}
 use Rattle.dnsv_verifier.proofs.AskLemmas.{adds_same, zip_at, zip_length}
 use Rattle.dnsv_verifier.proofs.TableLemmas.{exact_entries, same_entry_equiv}
 

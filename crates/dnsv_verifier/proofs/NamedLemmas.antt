@@ -11,9 +11,9 @@ use Rattle.std.specs.Ordering.{is_le, is_lt, nat_cmp, ordering_index}
 use Rattle.std.specs.declared.cmp.Ordering.{Ordering}
 use Rattle.std.specs.declared.cmp.Ordering.TheVariants.{Less, Equal, Greater}
 use Rattle.dnsv_names.specs.RisingLaws.{le_before, lt_before}
-use Rattle.dnsv_names.specs.OrderLaws.{SameName_Equal, canonical_cmp_total}
+use Rattle.dnsv_names.specs.Order.OrderLaws.{SameName_Equal, canonical_cmp_total}
 use Rattle.dnsv_canonical.specs.Rrsets.{ReceivedRrset}
-use Rattle.dnsv_records.specs.KeyTag.{key_tag_of}
+use Rattle.dnsv_records.specs.Dnskey.KeyTag.{key_tag_of}
 use Rattle.dnsv_records.specs.declared.rrsig.Rrsig.{Rrsig}
 use Rattle.dnsv_verifier.specs.Admissible.{DnskeyRecord, MayHaveMade}
 use Rattle.dnsv_verifier.specs.Asking.{AreKeysOf, KeyName, key_name_cmp, name_of_key, named_by}

@@ -5,13 +5,13 @@ use Rattle.std.specs.Fmt.{decimal}
 use Rattle.std.specs.Str.{bytes_eq}
 use Rattle.hex.specs.Hex.{decode_of}
 use Rattle.dnsv_names.specs.Lines.{AreFields}
-use Rattle.dnsv_names.specs.LineLaws.{AreFields-only}
+use Rattle.dnsv_names.specs.Lines.LineLaws.{AreFields-only}
 use Rattle.dnsv_verifier.specs.HexField.{AreDigitsOf, hex_value}
 use Rattle.dnsv_verifier.specs.Statements.{States, word_text}
 use Rattle.dnsv_verifier.specs.StatementsReading.{IsStatement, word_of}
 use Rattle.dnsv_verifier.specs.declared.entry.Entry.{Entry}
-use Rattle.dnsv_verifier.specs.declared.statement.Word.{Word}
-use Rattle.dnsv_verifier.specs.declared.statement.Word.TheVariants.{Good, Bad}
+use Rattle.dnsv_verifier.specs.declared.statements.statement.Word.{Word}
+use Rattle.dnsv_verifier.specs.declared.statements.statement.Word.TheVariants.{Good, Bad}
 
 -- the values that the five fields of a statement have
 pub record HaveValues (first second third fourth fifth : List ℕ) (entry : Entry) (word : Word) : Type 0 where

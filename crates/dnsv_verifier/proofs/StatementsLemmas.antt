@@ -9,7 +9,7 @@ use Rattle.std.specs.Ordering.{is_eq}
 use Rattle.std.specs.declared.cmp.Ordering.{Ordering}
 use Rattle.std.specs.declared.cmp.Ordering.TheVariants.{Less, Equal, Greater}
 use Rattle.dnsv_names.proofs.LineFileLemmas.{begins, each_more}
-use Rattle.dnsv_names.specs.LineFile.{SayEach}
+use Rattle.dnsv_names.specs.Lines.LineFile.{SayEach}
 use Rattle.dnsv_names.specs.Lines.{HasLines, NumberedLine}
 use Rattle.dnsv_verifier.specs.Entry.{entry_cmp}
 use Rattle.dnsv_verifier.specs.EntryLaws.{entry_cmp_total, entry_Equal}
@@ -18,8 +18,8 @@ use Rattle.dnsv_verifier.specs.StatementsLaws.{AreStatementsOf-no_fault, IsFault
 use Rattle.dnsv_verifier.specs.StatementsReading.{AddsStatement, IsStatement, RefusesLine, said_in}
 use Rattle.dnsv_verifier.specs.declared.answer.Answer.{Answer}
 use Rattle.dnsv_verifier.specs.declared.entry.Entry.{Entry}
-use Rattle.dnsv_verifier.specs.declared.statement.Word.{Word}
-use Rattle.dnsv_verifier.specs.declared.statement.Word.TheVariants.{Good, Bad}
+use Rattle.dnsv_verifier.specs.declared.statements.statement.Word.{Word}
+use Rattle.dnsv_verifier.specs.declared.statements.statement.Word.TheVariants.{Good, Bad}
 use Rattle.dnsv_verifier.specs.declared.statements.StatementsError.{StatementsError}
 use Rattle.dnsv_verifier.specs.declared.statements.StatementsError.TheVariants.{OutOfMemory, Syntax, Contradiction}
 

@@ -6,9 +6,9 @@ use Rattle.dnsv_names.specs.Name.{Labels, SameName, IsAtOrBelow}
 use Rattle.dnsv_names.specs.Order.{IsBelow}
 use Rattle.dnsv_records.specs.Algorithm.{is_supported}
 use Rattle.dnsv_records.specs.Dnskey.{IsDnskey}
-use Rattle.dnsv_records.specs.KeyTag.{key_tag_of}
+use Rattle.dnsv_records.specs.Dnskey.KeyTag.{key_tag_of}
 use Rattle.dnsv_records.specs.Rrsig.{IsRrsig}
-use Rattle.dnsv_records.specs.Time.{ValidAt}
+use Rattle.dnsv_records.specs.Rrsig.Time.{ValidAt}
 use Rattle.dnsv_records.specs.declared.dnskey.Dnskey.{Dnskey}
 use Rattle.dnsv_records.specs.declared.rrsig.Rrsig.{Rrsig}
 use Rattle.dnsv_canonical.specs.Rrsets.{ReceivedRrset}

@@ -5,13 +5,13 @@ use Rattle.std.specs.declared.cmp.Ordering.{Ordering}
 use Rattle.dnsv_names.specs.Name.{Labels}
 use Rattle.dnsv_names.specs.Order.{canonical_cmp}
 use Rattle.dnsv_records.specs.Dnskey.{IsDnskey}
-use Rattle.dnsv_records.specs.KeyTag.{key_tag_of}
+use Rattle.dnsv_records.specs.Dnskey.KeyTag.{key_tag_of}
 use Rattle.dnsv_records.specs.declared.rrsig.Rrsig.{Rrsig}
 use Rattle.dnsv_canonical.specs.Rrsets.{ReceivedRrset}
 use Rattle.dnsv_canonical.specs.SignedData.{IsSignedData}
 use Rattle.dnsv_verifier.specs.Admissible.{DnskeyRecord, IsAdmissible, IsEntryOf, IsKeyAmong, IsSignatureOf, MayHaveMade}
 use Rattle.dnsv_verifier.specs.declared.entry.Entry.{Entry}
-use Rattle.dnsv_verifier.specs.declared.shared_entry.SignaturePart.{SignaturePart}
+use Rattle.dnsv_verifier.specs.declared.entry.shared_entry.SignaturePart.{SignaturePart}
 
 -- the new list has what the old one has and what meets P, and nothing else
 pub record AddsJust {X : Type 0} (P : X → Type 0) (old new : List X) : Type 0 where

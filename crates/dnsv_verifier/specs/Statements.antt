@@ -4,15 +4,15 @@ use Rattle.std.specs.Fmt.{decimal}
 use Rattle.std.specs.List.{Contains}
 use Rattle.std.specs.Map.{lookup}
 use Rattle.std.specs.Ordering.{is_eq}
-use Rattle.dnsv_names.specs.LineFile.{BeginsWithValue, HasFirstFault, SaysValues}
+use Rattle.dnsv_names.specs.Lines.LineFile.{BeginsWithValue, HasFirstFault, SaysValues}
 use Rattle.dnsv_names.specs.Lines.{AreFields, NumberedLine}
 use Rattle.dnsv_verifier.specs.Entry.{entry_cmp}
 use Rattle.dnsv_verifier.specs.HexField.{hex_value}
 use Rattle.dnsv_verifier.specs.declared.answer.Answer.{Answer}
 use Rattle.dnsv_verifier.specs.declared.answer.Answer.TheVariants.{Valid, Invalid, Unknown}
 use Rattle.dnsv_verifier.specs.declared.entry.Entry.{Entry}
-use Rattle.dnsv_verifier.specs.declared.statement.Word.{Word}
-use Rattle.dnsv_verifier.specs.declared.statement.Word.TheVariants.{Good, Bad}
+use Rattle.dnsv_verifier.specs.declared.statements.statement.Word.{Word}
+use Rattle.dnsv_verifier.specs.declared.statements.statement.Word.TheVariants.{Good, Bad}
 use Rattle.dnsv_verifier.specs.declared.statements.StatementsError.{StatementsError}
 use Rattle.dnsv_verifier.specs.declared.statements.StatementsError.TheVariants.{OutOfMemory, Syntax, Contradiction}
 

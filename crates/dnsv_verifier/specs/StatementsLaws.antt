@@ -5,13 +5,13 @@ use Rattle.std.proofs.lemmas.List.Elements.{Contains-append_left, Contains-appen
 use Rattle.std.specs.Fmt.{decimal}
 use Rattle.std.specs.List.{Contains}
 use Rattle.dnsv_names.specs.Lines.{NumberedLine}
-use Rattle.dnsv_names.specs.LineFileLaws.{HasFirstFault-only, IsLineFile, SaysValues-no_fault, SaysValues-only}
-use Rattle.dnsv_names.specs.LineLaws.{AreFields-only}
+use Rattle.dnsv_names.specs.Lines.LineFileLaws.{HasFirstFault-only, IsLineFile, SaysValues-no_fault, SaysValues-only}
+use Rattle.dnsv_names.specs.Lines.LineLaws.{AreFields-only}
 use Rattle.dnsv_verifier.specs.HexField.{hex_value}
 use Rattle.dnsv_verifier.specs.Statements.{Agree, AreStatementsOf, IsFaultOf, IsFaultOfLine, IsStatementOf, States, other_word, word_text}
 use Rattle.dnsv_verifier.specs.declared.entry.Entry.{Entry}
-use Rattle.dnsv_verifier.specs.declared.statement.Word.{Word}
-use Rattle.dnsv_verifier.specs.declared.statement.Word.TheVariants.{Good, Bad}
+use Rattle.dnsv_verifier.specs.declared.statements.statement.Word.{Word}
+use Rattle.dnsv_verifier.specs.declared.statements.statement.Word.TheVariants.{Good, Bad}
 use Rattle.dnsv_verifier.specs.declared.statements.StatementsError.{StatementsError}
 use Rattle.dnsv_verifier.specs.declared.statements.StatementsError.TheVariants.{OutOfMemory, Syntax, Contradiction}
 

@@ -12,9 +12,9 @@ ghost use Rattle.dnsv_verifier.specs.declared.entry.Entry.{Entry};
 
 use crate::admissible::is_verifiable;
 use crate::answer::Answer;
+use crate::entry::shared_entry::{SharedEntry, SignaturePart};
 use crate::entry_key::EntryKey;
-use crate::keys::Keys;
-use crate::shared_entry::{SharedEntry, SignaturePart};
+use crate::key::keys::Keys;
 use crate::table::Table;
 use crate::verifier::Verifier;
 use dnsv_canonical::{Capture, Rrset, signed_data};

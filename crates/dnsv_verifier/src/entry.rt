@@ -1,11 +1,15 @@
 //! What a verifier is asked.
+
+pub mod borrowed_entry;
+pub mod shared_entry;
+
 ghost use Rattle.std.specs.Prelude.{◌≡◌, refl};
 ghost use Rattle.std.specs.Cmp.{partial_equiv_from_equiv, partial_order_from_agreeing_total};
 ghost use Rattle.std.specs.Ordering.{as_partial_cmp, eq_by_cmp};
 ghost use Rattle.std.proofs.lemmas.Cmp.{eq_by_cmp_equiv};
 ghost use Rattle.dnsv_verifier.specs.Entry.{entry_cmp};
 
-use crate::borrowed_entry::BorrowedEntry;
+use crate::entry::borrowed_entry::BorrowedEntry;
 use dnsv_records::{Algorithm, Octets};
 use std::cmp::Ordering;
 

@@ -5,8 +5,8 @@ ghost use Rattle.dnsv_verifier.specs.Admissible.{MayHaveMade};
 ghost use Rattle.dnsv_verifier.specs.Asking.{entry_with, key_name_cmp, name_of_key};
 
 use crate::admissible::may_have_made;
+use crate::entry::shared_entry::{SharedEntry, SignaturePart};
 use crate::key::KeyRecord;
-use crate::shared_entry::{SharedEntry, SignaturePart};
 use dnsv_names::Name;
 use dnsv_records::{Algorithm, Dnskey, KeyTag, Octets, Rrsig};
 use std::alloc::{AllocError, Global};

@@ -1,7 +1,10 @@
 //! DNSKEY records with what is asked of them.
+
+pub mod keys;
+
 ghost use Rattle.std.specs.Prelude.{◌≡◌};
 ghost use Rattle.dnsv_records.specs.Dnskey.{IsDnskey};
-ghost use Rattle.dnsv_records.specs.KeyTag.{key_tag_of};
+ghost use Rattle.dnsv_records.specs.Dnskey.KeyTag.{key_tag_of};
 
 use dnsv_names::Name;
 use dnsv_records::{Dnskey, KeyTag, key_tag};
@@ -21,7 +24,7 @@ impl<'a> Model for KeyRecord<'a> {
     ghost use Rattle.std.specs.Prelude.{◌≡◌};
     ghost use Rattle.dnsv_verifier.specs.Admissible.{DnskeyRecord};
     ghost use Rattle.dnsv_records.specs.Dnskey.{IsDnskey};
-    ghost use Rattle.dnsv_records.specs.KeyTag.{key_tag_of};
+    ghost use Rattle.dnsv_records.specs.Dnskey.KeyTag.{key_tag_of};
 
     ghost Value = { DnskeyRecord };
 

@@ -13,7 +13,7 @@ pub use laws::{
     several_verifiers_say_what_one_does, unknown_entries_may_turn_out_valid,
 };
 pub use panel::Panel;
-pub use statement::Word;
+pub use statements::statement::Word;
 pub use statements::{Statements, StatementsError, a_text_is_one_list_of_statements};
 pub use table::Table;
 pub use verifier::Verifier;
@@ -21,16 +21,12 @@ pub use verifier::Verifier;
 mod admissible;
 mod answer;
 mod ask;
-mod borrowed_entry;
 mod entry;
 mod entry_key;
 mod hex_field;
 mod key;
-mod keys;
 mod laws;
 mod panel;
-mod shared_entry;
-mod statement;
 mod statements;
 mod table;
 mod verifier;

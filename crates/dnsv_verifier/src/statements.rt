@@ -1,15 +1,18 @@
 //! Files of statements.
+
+pub mod statement;
+
 ghost use Rattle.std.specs.Prelude.{◌≡◌, ◌⊎◌, ℕ, Err, List, Vec, IfOk, IfErr, OnOk};
 ghost use Rattle.dnsv_verifier.specs.Statements.{AreStatementsOf, BeginsWithStatement, IsFaultOf, IsSaid, listed_answer};
 ghost use Rattle.dnsv_verifier.specs.StatementsReading.{AddsStatement, Lists, RefusesEntry, RefusesLine};
 ghost use Rattle.dnsv_verifier.specs.declared.entry.Entry.{Entry};
-ghost use Rattle.dnsv_verifier.specs.declared.statement.Word.{Word};
+ghost use Rattle.dnsv_verifier.specs.declared.statements.statement.Word.{Word};
 ghost use Rattle.dnsv_verifier.specs.declared.statements.StatementsError.{StatementsError};
 
 use crate::answer::Answer;
-use crate::borrowed_entry::BorrowedEntry;
 use crate::entry::Entry;
-use crate::statement::{Word, statement_of};
+use crate::entry::borrowed_entry::BorrowedEntry;
+use crate::statements::statement::{Word, statement_of};
 use crate::verifier::Verifier;
 use dnsv_names::{Line, Lines};
 use dnsv_records::Algorithm;
@@ -81,7 +84,7 @@ impl Model for Statements {
     ghost use Rattle.std.specs.List.Sorted.{IsStrictlySortedBy};
     ghost use Rattle.dnsv_verifier.specs.Entry.{entry_cmp};
     ghost use Rattle.dnsv_verifier.specs.declared.entry.Entry.{Entry};
-    ghost use Rattle.dnsv_verifier.specs.declared.statement.Word.{Word};
+    ghost use Rattle.dnsv_verifier.specs.declared.statements.statement.Word.{Word};
 
     ghost Value = { List (Entry × Word) };
 

@@ -5,9 +5,9 @@ ghost use Rattle.dnsv_verifier.specs.Entry.{entry_cmp};
 ghost use Rattle.dnsv_verifier.specs.Table.{hopeful, unknown_entries};
 
 use crate::answer::Answer;
-use crate::borrowed_entry::BorrowedEntry;
 use crate::entry::Entry;
-use crate::shared_entry::SharedEntry;
+use crate::entry::borrowed_entry::BorrowedEntry;
+use crate::entry::shared_entry::SharedEntry;
 use crate::verifier::Verifier;
 use dnsv_records::Algorithm;
 use std::alloc::{AllocError, Global};

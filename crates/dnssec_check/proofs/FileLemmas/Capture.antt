@@ -4,7 +4,7 @@ use Rattle.std.proofs.lemmas.List.{drop_more, take_all, take_more, length-map, l
 use Rattle.std.specs.List.{fold}
 use Rattle.std.specs.Prelude.{Vec, Result, Err}
 use Rattle.std.specs.declared.alloc.Global.{Global}
-use Rattle.dnsv_message.specs.Frames.{octets_of_each}
+use Rattle.dnsv_message.specs.Streams.Frames.{octets_of_each}
 use Rattle.dnsv_message.specs.Message.{Contents}
 use Rattle.dnsv_canonical.specs.declared.capture.CaptureError.{CaptureError}
 use Rattle.dnsv_canonical.specs.declared.capture.CaptureError.TheVariants as capture

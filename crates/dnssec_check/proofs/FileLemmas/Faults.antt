@@ -1,10 +1,10 @@
 -- Answers over files, from call to call.
 use Rattle.std.proofs.Common.{◌≡◌, ◌⊎◌, ◌-◌, ℕ, List, Option, Some, None, ap, subst, sym, ◌∙◌, inl, inr, arith}
 use Rattle.std.specs.Prelude.{Result, Ok, Err, IfErr, IfSome, ⊤}
-use Rattle.dnsv_message.specs.Frames.{IsCapture}
+use Rattle.dnsv_message.specs.Streams.Frames.{IsCapture}
 use Rattle.dnsv_message.specs.Message.{Contents}
 use Rattle.dnsv_canonical.specs.Evidence.{Evidence, evidence_of}
-use Rattle.dnsv_message.specs.Counted.{inner_of, failures_of}
+use Rattle.dnsv_message.specs.Streams.Counted.{inner_of, failures_of}
 use Rattle.dnssec_check.specs.Files.Capture.{AreFramesRefused, Demand, Holds, IsFaultOfCapture, IsRefusal, NewEvidence}
 use Rattle.dnssec_check.specs.declared.opening.Opening.{Opening}
 use Rattle.dnssec_check.specs.Opening.Given.{IsOpeningOf, IsFaultOfOpening}

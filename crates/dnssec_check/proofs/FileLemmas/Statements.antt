@@ -5,8 +5,8 @@ use Rattle.dnsv_verifier.specs.StatementsLaws.{AreStatementsOf-no_fault, AreStat
 use Rattle.dnsv_verifier.specs.declared.answer.Answer.{Answer}
 use Rattle.dnsv_verifier.specs.declared.answer.Answer.TheVariants.{Valid, Invalid, Unknown}
 use Rattle.dnsv_verifier.specs.declared.entry.Entry.{Entry}
-use Rattle.dnsv_verifier.specs.declared.statement.Word.{Word}
-use Rattle.dnsv_verifier.specs.declared.statement.Word.TheVariants.{Good, Bad}
+use Rattle.dnsv_verifier.specs.declared.statements.statement.Word.{Word}
+use Rattle.dnsv_verifier.specs.declared.statements.statement.Word.TheVariants.{Good, Bad}
 use Rattle.dnsv_verifier.specs.declared.statements.StatementsError.{StatementsError}
 use Rattle.dnsv_verifier.specs.declared.statements.StatementsError.TheVariants as statements
 use Rattle.dnssec_check.specs.declared.status.Fault.{Fault}

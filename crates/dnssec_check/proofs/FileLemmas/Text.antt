@@ -5,7 +5,7 @@ use Rattle.dnssec_check.specs.declared.status.Fault.TheVariants as fault
 use Rattle.dnssec_check.specs.declared.status.InputFile.{InputFile}
 use Rattle.dnssec_check.specs.declared.status.Place.{Place}
 use Rattle.dnssec_check.specs.declared.status.Refusal.{Refusal}
-use Rattle.dnsv_message.specs.Frames.{file_limit}
+use Rattle.dnsv_message.specs.Streams.Frames.{file_limit}
 use Rattle.dnssec_check.specs.Files.Faults.{IsTextFault}
 use Rattle.dnssec_check.specs.Files.Statements.{IsAtLine}
 

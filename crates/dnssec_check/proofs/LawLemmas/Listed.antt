@@ -4,7 +4,7 @@ use Rattle.std.proofs.lemmas.Bool.{cases_lt}
 use Rattle.std.specs.List.{AllByRecursion, fold}
 use Rattle.dnsv_names.specs.Name.{Labels}
 use Rattle.dnsv_names.specs.Octets.{AreOctets}
-use Rattle.dnsv_message.specs.Frames.{IsCapture}
+use Rattle.dnsv_message.specs.Streams.Frames.{IsCapture}
 use Rattle.dnsv_message.specs.Grammar.{IsMessage}
 use Rattle.dnsv_message.specs.Message.{Contents, records_of}
 use Rattle.dnsv_records.specs.declared.rrsig.Rrsig.{Rrsig}

@@ -2,7 +2,7 @@
 use Rattle.std.proofs.Common.{◌≡◌, ◌≢◌, ℕ, suc, List, [], ◌∷◌, refl, sym, ap, subst, ◌∙◌, inl, inr, Option}
 use Rattle.std.specs.List.{AllByRecursion}
 use Rattle.std.specs.Prelude.{length}
-use Rattle.dnsv_message.specs.Frames.{IsTooLong, file_limit}
+use Rattle.dnsv_message.specs.Streams.Frames.{IsTooLong, file_limit}
 use Rattle.dnsv_message.specs.Message.{Contents}
 use Rattle.dnsv_names.specs.Octets.{AreOctets}
 use Rattle.dnsv_canonical.specs.declared.capture.CaptureError.{CaptureError}

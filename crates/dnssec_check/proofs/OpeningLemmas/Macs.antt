@@ -4,8 +4,8 @@ use Rattle.hex.specs.Hex.{decode_of, decode_sized}
 use Rattle.hex.specs.declared.error.FromHexError.{FromHexError}
 use Rattle.hex.proofs.HexLemmas.{decode_sized-ok, decode_sized-twice}
 use Rattle.dnsv_names.specs.Lines.{HasLines, NumberedLine}
-use Rattle.dnsv_names.specs.LineLaws.{HasLines-only}
-use Rattle.dnsv_message.specs.Frames.{file_limit}
+use Rattle.dnsv_names.specs.Lines.LineLaws.{HasLines-only}
+use Rattle.dnsv_message.specs.Streams.Frames.{file_limit}
 use Rattle.dnsv_records.specs.DecisionLaws.{Or, at_most_or, number_or}
 use Rattle.dnssec_check.specs.declared.status.Fault.{Fault}
 use Rattle.dnssec_check.specs.declared.status.Fault.TheVariants as fault

@@ -2,8 +2,8 @@
 use Rattle.std.proofs.Common.{◌≡◌, ◌<◌, ◌-◌, ◌^◌, ◌⊎◌, ◌↔◌, ℕ, Bool, List, Option, Some, None, ap, refl, sym, ◌∙◌, inl, inr, arith}
 use Rattle.std.specs.Prelude.{Result, Ok, Err, IfErr, IfSome, OnOk, is_err}
 use Rattle.std.specs.Io.KnownBytes.{Appends}
-use Rattle.dnsv_message.specs.Counted.{AppendsBeginning, count_after, failures_of, inner_of}
-use Rattle.dnsv_message.specs.declared.counted.Counted.{Counted}
+use Rattle.dnsv_message.specs.Streams.Counted.{AppendsBeginning, count_after, failures_of, inner_of}
+use Rattle.dnsv_message.specs.declared.streams.counted.Counted.{Counted}
 use Rattle.dnssec_check.specs.declared.command_line.CommandLineError.{CommandLineError}
 use Rattle.dnssec_check.specs.declared.command_line.request.Request.{Request}
 use Rattle.dnssec_check.specs.declared.status.Fault.{Fault}

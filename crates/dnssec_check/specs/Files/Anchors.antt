@@ -1,6 +1,6 @@
 -- Files of trust anchors: what they say, and what they are refused for.
 use Rattle.std.specs.Prelude.{◌≡◌, ◌≤◌, ℕ, List, length}
-use Rattle.dnsv_message.specs.Frames.{file_limit}
+use Rattle.dnsv_message.specs.Streams.Frames.{file_limit}
 use Rattle.dnsv_chain.specs.AnchorFile.{AreAnchorsOf, IsFaultOf}
 use Rattle.dnsv_chain.specs.declared.anchor.Anchor.{Anchor}
 use Rattle.dnsv_chain.specs.declared.anchors.AnchorsError.{AnchorsError}

@@ -1,6 +1,6 @@
 -- Files of captured messages: which messages a file holds, and what it is refused for.
 use Rattle.std.specs.Prelude.{◌≡◌, ◌⊎◌, ⊤, ℕ, suc, List, [], ◌∷◌, Option, Some, None}
-use Rattle.dnsv_message.specs.Frames.{IsCapture, HasZeroLength, EndsTorn, IsTooLong}
+use Rattle.dnsv_message.specs.Streams.Frames.{IsCapture, HasZeroLength, EndsTorn, IsTooLong}
 use Rattle.dnsv_message.specs.Message.{Contents}
 use Rattle.dnsv_canonical.specs.declared.capture.CaptureError.{CaptureError}
 use Rattle.dnsv_canonical.specs.Evidence.{Evidence, IsEvidence, no_evidence, with_message}

@@ -1,7 +1,7 @@
 -- What a call over files answers where one of them is at fault.
 use Rattle.std.specs.Prelude.{◌≡◌, ◌<◌, ◌≤◌, ◌-◌, ◌^◌, ⊤, ℕ, List, Option, Result, Err, IfErr, IfSome, IsErrOf, length}
-use Rattle.dnsv_message.specs.Counted.{failures_of}
-use Rattle.dnsv_message.specs.Frames.{file_limit}
+use Rattle.dnsv_message.specs.Streams.Counted.{failures_of}
+use Rattle.dnsv_message.specs.Streams.Frames.{file_limit}
 use Rattle.dnssec_check.specs.declared.run.Inputs.{Inputs}
 use Rattle.dnssec_check.specs.declared.status.Fault.{Fault}
 use Rattle.dnssec_check.specs.declared.status.Fault.TheVariants as fault

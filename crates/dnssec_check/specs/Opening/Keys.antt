@@ -1,6 +1,6 @@
 -- Files of keys: what they say, and what they are refused for.
 use Rattle.std.specs.Prelude.{◌≡◌, ◌≤◌, ℕ, List, Option, Some, None, length}
-use Rattle.dnsv_message.specs.Frames.{file_limit}
+use Rattle.dnsv_message.specs.Streams.Frames.{file_limit}
 use Rattle.dnsv_tsig.specs.Key.{SharedKey}
 use Rattle.dnsv_tsig.specs.KeyFile.{IsKeyFault, IsRingOf}
 use Rattle.dnsv_tsig.specs.declared.error.KeyFileError.{KeyFileError}

@@ -1,7 +1,7 @@
 -- Files of the MACs of requests: what they say, and what they are refused for.
 use Rattle.std.specs.Prelude.{◌≡◌, ◌≤◌, ◌⊎◌, ℕ, List, [], ◌∷◌, Option, Some, None, Ok, codes, length}
 use Rattle.hex.specs.Hex.{decode_of}
-use Rattle.dnsv_message.specs.Frames.{file_limit}
+use Rattle.dnsv_message.specs.Streams.Frames.{file_limit}
 use Rattle.dnsv_names.specs.Lines.{HasLines, NumberedLine}
 use Rattle.dnssec_check.specs.declared.status.Fault.{Fault}
 use Rattle.dnssec_check.specs.declared.status.InputFile.TheVariants.{Macs}

@@ -1,6 +1,6 @@
 //! Files of trust anchors.
 ghost use Rattle.std.specs.Prelude.{◌≡◌, ◌≤◌, IfErr, IfOk, List, Option, ℕ, length};
-ghost use Rattle.dnsv_message.specs.Frames.{file_limit};
+ghost use Rattle.dnsv_message.specs.Streams.Frames.{file_limit};
 ghost use Rattle.dnsv_chain.specs.AnchorsError.{anchors_error_code};
 ghost use Rattle.dnssec_check.specs.Files.Anchors.{AreAnchorsRefused, HasAnchors, IsFaultOfAnchors};
 ghost use Rattle.dnssec_check.specs.Files.Faults.{IsAbout, OfOctets, TellsFailedReads};

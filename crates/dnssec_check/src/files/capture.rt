@@ -1,10 +1,10 @@
 //! The messages of a file of captured messages.
 ghost use Rattle.std.specs.Prelude.{◌≡◌, List, IfErr, IfOk, IfSome, Ok, OnOk, Some, None};
 ghost use Rattle.std.specs.Option.{option_copied};
-ghost use Rattle.dnsv_message.specs.Counted.{inner_of, failures_of};
+ghost use Rattle.dnsv_message.specs.Streams.Counted.{inner_of, failures_of};
 ghost use Rattle.dnsv_message.specs.Errors.{decode_error_code};
 ghost use Rattle.dnsv_message.specs.ReadError.{read_error_code};
-ghost use Rattle.dnsv_message.specs.Frames.{IsCapture, octets_of_each};
+ghost use Rattle.dnsv_message.specs.Streams.Frames.{IsCapture, octets_of_each};
 ghost use Rattle.dnsv_message.specs.Grammar.{MessageOf};
 ghost use Rattle.dnsv_message.specs.Message.{Contents};
 ghost use Rattle.dnsv_canonical.specs.CaptureError.{capture_error_code};

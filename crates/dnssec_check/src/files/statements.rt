@@ -1,6 +1,6 @@
 //! Files of statements.
 ghost use Rattle.std.specs.Prelude.{◌≡◌, ◌≤◌, IfErr, IfOk, List, Option, ℕ, length};
-ghost use Rattle.dnsv_message.specs.Frames.{file_limit};
+ghost use Rattle.dnsv_message.specs.Streams.Frames.{file_limit};
 ghost use Rattle.dnsv_verifier.specs.Statements.{listed_answer};
 ghost use Rattle.dnsv_verifier.specs.StatementsError.{statements_error_code};
 ghost use Rattle.dnssec_check.specs.Files.Faults.{IsAbout, OfOctets, TellsFailedReads};

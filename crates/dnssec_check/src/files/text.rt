@@ -1,6 +1,6 @@
 //! Text files, which may be left out.
 ghost use Rattle.std.specs.Prelude.{◌≡◌, ◌<◌, ◌≤◌, Err, IfErr, IfOk, List, Option, ℕ, length};
-ghost use Rattle.dnsv_message.specs.Frames.{file_limit};
+ghost use Rattle.dnsv_message.specs.Streams.Frames.{file_limit};
 ghost use Rattle.dnsv_message.specs.ReadError.{IsFileError, read_error_code};
 ghost use Rattle.dnssec_check.specs.Files.Faults.{TellsFailedReads};
 ghost use Rattle.dnssec_check.specs.Files.{IsToldBy, given_failures, octets_or_none};

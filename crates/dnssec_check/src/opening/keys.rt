@@ -1,6 +1,6 @@
 //! Files of keys.
 ghost use Rattle.std.specs.Prelude.{◌≡◌, ◌≤◌, IfErr, IfOk, List, Option, ℕ, length};
-ghost use Rattle.dnsv_message.specs.Frames.{file_limit};
+ghost use Rattle.dnsv_message.specs.Streams.Frames.{file_limit};
 ghost use Rattle.dnsv_tsig.specs.Errors.{key_file_error_code};
 ghost use Rattle.dnssec_check.specs.Files.Faults.{IsAbout, OfOctets, TellsFailedReads};
 ghost use Rattle.dnssec_check.specs.Files.{IsToldBy, given_failures, octets_or_none};

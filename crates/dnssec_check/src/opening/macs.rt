@@ -1,7 +1,7 @@
 //! Files of the MACs of requests.
 ghost use Rattle.std.specs.Prelude.{◌≡◌, ◌≤◌, ◌↔◌, IsTrue, IfErr, IfOk, List, Option, ℕ, length};
 ghost use Rattle.std.specs.Option.{option_map};
-ghost use Rattle.dnsv_message.specs.Frames.{file_limit};
+ghost use Rattle.dnsv_message.specs.Streams.Frames.{file_limit};
 ghost use Rattle.dnssec_check.specs.Files.Faults.{IsAbout, OfOctets, TellsFailedReads};
 ghost use Rattle.dnssec_check.specs.Files.{IsToldBy, given_failures, octets_or_none};
 ghost use Rattle.dnssec_check.specs.Opening.Macs.{AreMacsRefused, HasMacs, IsFaultOfMacs, IsMacLine, IsMacRefused, MayHaveMacs};

@@ -1,10 +1,10 @@
 -- What the first proof of each kind means for each zone whose chain has its records.
 use Rattle.std.proofs.Common.{◌≡◌, ℕ, List, [], ◌∷◌, refl, sym, ap, ◌∙◌, subst, inl, inr, ⊎_elim}
 use Rattle.std.specs.List.{AllByRecursion, AllZip}
-use Rattle.dnsv_names.specs.AncestorLaws.{rightmost_above, rightmost_same}
+use Rattle.dnsv_names.specs.Tree.AncestorLaws.{rightmost_above, rightmost_same}
 use Rattle.dnsv_names.specs.Name.{Labels, SameName, IsAtOrBelow, rightmost}
 use Rattle.dnsv_names.specs.Tree.{wildcard_of}
-use Rattle.dnsv_names.specs.TreeLaws.{at_or_below_trans}
+use Rattle.dnsv_names.specs.Tree.TreeLaws.{at_or_below_trans}
 use Rattle.dnsv_zones.specs.Any.{Any}
 use Rattle.dnsv_zones.specs.chains.HashedNames.{sha1_hash}
 use Rattle.dnsv_zones.specs.chains.Nsec3Chain.{Nsec3Record, Parameters, NameHash, IsInNsec3Chain}

@@ -1,8 +1,8 @@
 -- What the evidence proves where it has a zone's whole chain.
 use Rattle.std.proofs.Common.{◌≡◌, ◌≢◌, ◌⊎◌, ℕ, ◌≤◌, length, sym, subst, inl, inr, ⊎_elim, List}
-use Rattle.dnsv_names.specs.AncestorLaws.{rightmost_above, rightmost_same}
+use Rattle.dnsv_names.specs.Tree.AncestorLaws.{rightmost_above, rightmost_same}
 use Rattle.dnsv_names.specs.Name.{Labels, SameName, IsAtOrBelow, rightmost}
-use Rattle.dnsv_names.specs.TreeLaws.{at_or_below_length}
+use Rattle.dnsv_names.specs.Tree.TreeLaws.{at_or_below_length}
 use Rattle.dnsv_zones.specs.chains.HashedNames.{sha1_hash}
 use Rattle.dnsv_zones.specs.forms.Forms.{NoNameForm, NoDataForms, UnsignedCutForm}
 use Rattle.dnsv_zones.specs.forms.Nsec.{nsec_words}

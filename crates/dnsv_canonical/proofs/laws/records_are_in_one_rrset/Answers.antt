@@ -1,4 +1,4 @@
-use Rattle.dnsv_canonical.proofs.AppearanceLemmas.{rrset_with, rrsets_apart}
+use Rattle.dnsv_canonical.proofs.GroupLemmas.AppearanceLemmas.{rrset_with, rrsets_apart}
 use Rattle.dnsv_canonical.proofs.laws.records_are_in_one_rrset.Goals as goal
 
 pub returns-clause-some : goal.returns-clause-some

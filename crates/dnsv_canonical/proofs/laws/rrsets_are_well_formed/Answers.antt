@@ -1,4 +1,4 @@
-use Rattle.dnsv_canonical.proofs.WellFormedLemmas.{message_well_formed}
+use Rattle.dnsv_canonical.proofs.ReadableLemmas.WellFormedLemmas.{message_well_formed}
 use Rattle.dnsv_canonical.proofs.laws.rrsets_are_well_formed.Goals as goal
 
 pub returns : goal.returns

@@ -3,7 +3,7 @@ use Rattle.dnsv_records.specs.Dnskey.{IsDnskey}
 use Rattle.dnsv_records.specs.Ds.{IsDs}
 use Rattle.dnsv_records.specs.Nsec.{IsNsec}
 use Rattle.dnsv_records.specs.Nsec3.{IsNsec3}
-use Rattle.dnsv_canonical.proofs.WellFormedLemmas.{laid_out_as}
+use Rattle.dnsv_canonical.proofs.ReadableLemmas.WellFormedLemmas.{laid_out_as}
 use Rattle.dnsv_canonical.proofs.records.read_records.Goals as goal
 
 pub read_each-requires : goal.read_each-requires

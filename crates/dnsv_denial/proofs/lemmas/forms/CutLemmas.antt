@@ -2,8 +2,8 @@
 use Rattle.std.proofs.Common.{◌≡◌, ℕ, ◌+◌, ◌<◌, ◌≤◌, List, length, subst, sym, ◌∙◌, arith, ⊎_elim}
 use Rattle.std.proofs.lemmas.Bool.{cases_lt}
 use Rattle.dnsv_names.specs.Name.{Labels, SameName, IsAtOrBelow, rightmost}
-use Rattle.dnsv_names.specs.TreeLaws.{ancestors_in_line, at_or_below_length, at_or_below_trans, below_by_length, below_length}
-use Rattle.dnsv_names.specs.AncestorLaws.{rightmost_above, rightmost_length, rightmost_same}
+use Rattle.dnsv_names.specs.Tree.TreeLaws.{ancestors_in_line, at_or_below_length, at_or_below_trans, below_by_length, below_length}
+use Rattle.dnsv_names.specs.Tree.AncestorLaws.{rightmost_above, rightmost_length, rightmost_same}
 use Rattle.dnsv_zones.specs.forms.Forms.{UnsignedCutForm}
 use Rattle.dnsv_zones.specs.forms.Parts.{IsHighestCut}
 use Rattle.dnsv_zones.specs.forms.RecordWords.{RecordWords, words}

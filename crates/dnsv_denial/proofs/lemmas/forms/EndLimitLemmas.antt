@@ -7,11 +7,11 @@ use Rattle.std.specs.Prelude.{Some, slice_get}
 use Rattle.std.proofs.lemmas.Option.{slice_get_within}
 use Rattle.dnsv_names.specs.Name.{Labels, SameName, IsAtOrBelow, rightmost}
 use Rattle.dnsv_names.specs.Order.{IsBelow}
-use Rattle.dnsv_names.specs.OrderLaws.{canonical_cmp_total}
-use Rattle.dnsv_names.specs.CircleLaws.{gap_cases, gap_without_owner}
-use Rattle.dnsv_names.specs.NameCircleLaws.{same_gap, next_at_or_below}
-use Rattle.dnsv_names.specs.TreeLaws.{at_or_below_cases, at_or_below_trans, either_above, same_labels}
-use Rattle.dnsv_names.specs.AncestorLaws.{rightmost_in_line, rightmost_length}
+use Rattle.dnsv_names.specs.Order.OrderLaws.{canonical_cmp_total}
+use Rattle.dnsv_names.specs.Circle.CircleLaws.{gap_cases, gap_without_owner}
+use Rattle.dnsv_names.specs.Circle.NameCircleLaws.{same_gap, next_at_or_below}
+use Rattle.dnsv_names.specs.Tree.TreeLaws.{at_or_below_cases, at_or_below_trans, either_above, same_labels}
+use Rattle.dnsv_names.specs.Tree.AncestorLaws.{rightmost_in_line, rightmost_length}
 use Rattle.dnsv_zones.specs.chains.NsecChain.{NsecRecord}
 use Rattle.dnsv_zones.specs.forms.Forms.{IsAbove}
 use Rattle.dnsv_zones.specs.forms.Nsec.{Covers, IsAbsentBy, IsFair, IsNodeBy}

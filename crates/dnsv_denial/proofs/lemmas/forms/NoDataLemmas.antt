@@ -4,8 +4,8 @@ use Rattle.std.specs.Prelude.{Some, None, MatchOption}
 use Rattle.std.specs.Ordering.{nat_cmp}
 use Rattle.dnsv_names.specs.declared.number.RecordType.{RecordType}
 use Rattle.dnsv_names.specs.Name.{Labels, IsAtOrBelow, rightmost}
-use Rattle.dnsv_names.specs.TreeLaws.{at_or_below_trans}
-use Rattle.dnsv_names.specs.AncestorLaws.{rightmost_above}
+use Rattle.dnsv_names.specs.Tree.TreeLaws.{at_or_below_trans}
+use Rattle.dnsv_names.specs.Tree.AncestorLaws.{rightmost_above}
 use Rattle.dnsv_zones.specs.forms.Forms.{Words, IsAbove, NoDataForm, EmptyForm, NoWildcardDataForm, EmptyWildcardForm, NoDataForms}
 use Rattle.dnsv_zones.specs.forms.Parts.{AreNoDataParts, AreWildcardDataParts, AreEmptyWildcardParts}
 use Rattle.dnsv_zones.specs.forms.Parts.AreNoDataParts.{at_wildcard, empty_wildcard}

@@ -5,8 +5,8 @@ use Rattle.std.specs.Ordering.{nat_cmp}
 use Rattle.std.proofs.lemmas.Bool.{cases_lt}
 use Rattle.dnsv_names.specs.Name.{Labels, rightmost}
 use Rattle.dnsv_names.specs.Tree.{wildcard_of}
-use Rattle.dnsv_names.specs.TreeLaws.{at_or_below_length}
-use Rattle.dnsv_names.specs.AncestorLaws.{rightmost_length}
+use Rattle.dnsv_names.specs.Tree.TreeLaws.{at_or_below_length}
+use Rattle.dnsv_names.specs.Tree.AncestorLaws.{rightmost_length}
 use Rattle.dnsv_zones.specs.forms.Forms.{IsAbove, NoNameForm, NoCloserForm}
 use Rattle.dnsv_zones.specs.forms.Parts.{AreNoNameParts, IsNoCloserPart}
 use Rattle.dnsv_zones.specs.forms.RecordWords.{RecordWords, words}

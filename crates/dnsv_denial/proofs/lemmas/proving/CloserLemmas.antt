@@ -4,7 +4,7 @@ use Rattle.std.specs.List.Sorted.{IsStrictlySortedBy}
 use Rattle.std.specs.Ordering.{ordering_reverse}
 use Rattle.std.specs.declared.cmp.Ordering.TheVariants.{Less, Greater}
 use Rattle.dnsv_names.specs.Name.{Labels, SameName, rightmost}
-use Rattle.dnsv_names.specs.TreeLaws.{at_or_below_respects}
+use Rattle.dnsv_names.specs.Tree.TreeLaws.{at_or_below_respects}
 use Rattle.dnsv_zones.specs.chains.Nsec3Chain.{Nsec3Record}
 use Rattle.dnsv_zones.specs.chains.NsecChain.{NsecRecord}
 use Rattle.dnsv_zones.specs.forms.Forms.{IsAbove, NoCloserForm}

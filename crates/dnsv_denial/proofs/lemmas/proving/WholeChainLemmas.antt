@@ -6,7 +6,7 @@ use Rattle.std.specs.Prelude.{nat_eq}
 use Rattle.std.specs.List.{AllByRecursion, AllZip}
 use Rattle.dnsv_names.specs.Name.{Labels, SameName, rightmost}
 use Rattle.dnsv_names.specs.Tree.{wildcard_of}
-use Rattle.dnsv_names.specs.TreeLaws.{decided}
+use Rattle.dnsv_names.specs.Tree.TreeLaws.{decided}
 use Rattle.dnsv_zones.specs.Any.{Any}
 use Rattle.dnsv_zones.specs.chains.HashedNames.{sha1_hash}
 use Rattle.dnsv_zones.specs.chains.Nsec3Chain.{Nsec3Record, Parameters}

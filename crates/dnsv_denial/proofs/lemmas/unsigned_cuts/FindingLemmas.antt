@@ -6,8 +6,8 @@ use Rattle.std.proofs.lemmas.Bool.{cases_lt}
 use Rattle.std.proofs.lemmas.Bool.Decides.{Decides-eqb}
 use Rattle.std.proofs.lemmas.Option.{slice_get_within}
 use Rattle.dnsv_names.specs.Name.{Labels, IsAtOrBelow, rightmost}
-use Rattle.dnsv_names.specs.TreeLaws.{at_or_below_length, same_labels, at_or_below_respects}
-use Rattle.dnsv_names.specs.AncestorLaws.{rightmost_above, rightmost_length, rightmost_same}
+use Rattle.dnsv_names.specs.Tree.TreeLaws.{at_or_below_length, same_labels, at_or_below_respects}
+use Rattle.dnsv_names.specs.Tree.AncestorLaws.{rightmost_above, rightmost_length, rightmost_same}
 use Rattle.dnsv_records.specs.Ds.{IsDs}
 use Rattle.dnsv_records.specs.declared.ds.Ds.{Ds}
 use Rattle.dnsv_records.proofs.OneRecord.{one_ds}

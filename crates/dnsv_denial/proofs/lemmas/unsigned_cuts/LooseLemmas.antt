@@ -3,8 +3,8 @@ use Rattle.std.proofs.Common.{◌≡◌, ℕ, ◌+◌, ◌≤◌, List, length, 
 use Rattle.std.specs.Prelude.{Some, slice_get}
 use Rattle.std.proofs.lemmas.Option.{slice_get_read}
 use Rattle.dnsv_names.specs.Name.{Labels, SameName, IsAtOrBelow, rightmost}
-use Rattle.dnsv_names.specs.AncestorLaws.{rightmost_above, rightmost_same}
-use Rattle.dnsv_names.specs.TreeLaws.{at_or_below_length, at_or_below_trans}
+use Rattle.dnsv_names.specs.Tree.AncestorLaws.{rightmost_above, rightmost_same}
+use Rattle.dnsv_names.specs.Tree.TreeLaws.{at_or_below_length, at_or_below_trans}
 use Rattle.dnsv_zones.specs.chains.Rdata.{parameters_of}
 use Rattle.dnsv_zones.specs.forms.Forms.{IsAbove}
 use Rattle.dnsv_zones.specs.forms.Parts.{LeavesCloser}

@@ -1,5 +1,5 @@
 use Rattle.dnsv_message.proofs.Numbers.{octet_fits}
-use Rattle.dnsv_message.specs.TailLaws.{TailAt-bounds}
+use Rattle.dnsv_message.specs.Tail.TailLaws.{TailAt-bounds}
 use Rattle.dnsv_message.proofs.TailLemmas.{IsTailOf-some, IsTailOf-same}
 use Rattle.dnsv_message.proofs.laws.one_tail.Goals as goal
 

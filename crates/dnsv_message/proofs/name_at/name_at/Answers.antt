@@ -1,7 +1,7 @@
 use Rattle.std.proofs.Common.{◌∙◌, refl, arith}
 use Rattle.std.proofs.lemmas.Result.{err_from_is_err_and, IfOk-at_ok}
 use Rattle.dnsv_message.specs.NameAt.{here}
-use Rattle.dnsv_message.proofs.NameWalk.{step_is, label_part, Walked-by_label, Walked-by_pointer, name_found, name_returned, end_within}
+use Rattle.dnsv_message.proofs.NameLaws.NameWalk.{step_is, label_part, Walked-by_label, Walked-by_pointer, name_found, name_returned, end_within}
 use Rattle.dnsv_message.proofs.name_at.name_at.Goals as goal
 
 pub returns-in_err-step_at-clause-fault : goal.returns-in_err-step_at-clause-fault

@@ -1,6 +1,6 @@
 use Rattle.std.proofs.Common.{◌+◌, ◌-◌, ◌*◌}
 use Rattle.arrayvec.specs.ArrayVec.{array_vec_len}
-use Rattle.dnsv_message.proofs.NameWalk.{Walked}
+use Rattle.dnsv_message.proofs.NameLaws.NameWalk.{Walked}
 use Rattle.dnsv_message.proofs.name_at.name_at.Given as goal
 
 -- some labels are read, and the name goes on at the walk's place

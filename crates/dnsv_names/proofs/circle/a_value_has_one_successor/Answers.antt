@@ -1,4 +1,4 @@
-use Rattle.dnsv_names.specs.CircleLaws.{one_successor}
+use Rattle.dnsv_names.specs.Circle.CircleLaws.{one_successor}
 use Rattle.dnsv_names.proofs.circle.a_value_has_one_successor.Goals as goal
 
 pub returns : goal.returns

@@ -1,4 +1,4 @@
-use Rattle.dnsv_names.specs.CircleLaws.{one_gap}
+use Rattle.dnsv_names.specs.Circle.CircleLaws.{one_gap}
 use Rattle.dnsv_names.proofs.circle.all_else_lies_in_one_gap.Goals as goal
 
 pub returns : goal.returns

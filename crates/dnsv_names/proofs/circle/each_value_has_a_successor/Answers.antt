@@ -1,4 +1,4 @@
-use Rattle.dnsv_names.specs.CircleLaws.{successor_among}
+use Rattle.dnsv_names.specs.Circle.CircleLaws.{successor_among}
 use Rattle.dnsv_names.proofs.circle.each_value_has_a_successor.Goals as goal
 
 pub returns : goal.returns

@@ -1,4 +1,4 @@
-use Rattle.dnsv_names.specs.NameCircleLaws.{owner_at_or_below}
+use Rattle.dnsv_names.specs.Circle.NameCircleLaws.{owner_at_or_below}
 use Rattle.dnsv_names.proofs.circle.the_owner_is_below_each_member_above.Goals as goal
 
 pub returns : goal.returns

@@ -1,6 +1,6 @@
 use Rattle.dnsv_names.specs.Lines.{kept_from}
-use Rattle.dnsv_names.specs.LineReading.{lines_in}
-use Rattle.dnsv_names.specs.LineLaws.{HasLines-read, HasLines-only}
+use Rattle.dnsv_names.specs.Lines.LineReading.{lines_in}
+use Rattle.dnsv_names.specs.Lines.LineLaws.{HasLines-read, HasLines-only}
 use Rattle.dnsv_names.proofs.lines.a_text_has_one_list_of_lines.Goals as goal
 
 pub returns-clause-some : goal.returns-clause-some

@@ -1,6 +1,6 @@
 use Rattle.std.proofs.Common.{◌∙◌, ap}
-use Rattle.dnsv_names.specs.LineReading.{lines_in}
-use Rattle.dnsv_names.specs.LineLaws.{lines_in-ended, lines_in-whole}
+use Rattle.dnsv_names.specs.Lines.LineReading.{lines_in}
+use Rattle.dnsv_names.specs.Lines.LineLaws.{lines_in-ended, lines_in-whole}
 use Rattle.dnsv_names.proofs.lines.first_line.Goals as goal
 
 pub returns-in-Some-clause-first : goal.returns-in-Some-clause-first

@@ -1,6 +1,6 @@
 use Rattle.std.proofs.Common.{◌∙◌, ap}
-use Rattle.dnsv_names.specs.LineReading.{pieces_in}
-use Rattle.dnsv_names.specs.LineLaws.{pieces_in-field, pieces_in-last}
+use Rattle.dnsv_names.specs.Lines.LineReading.{pieces_in}
+use Rattle.dnsv_names.specs.Lines.LineLaws.{pieces_in-field, pieces_in-last}
 use Rattle.dnsv_names.proofs.lines.first_piece.Goals as goal
 
 pub returns-in-Some : goal.returns-in-Some

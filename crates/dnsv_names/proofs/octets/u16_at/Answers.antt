@@ -1,5 +1,5 @@
 use Rattle.std.proofs.Common.{◌∙◌}
-use Rattle.dnsv_names.specs.OctetLaws.{number_of_rest}
+use Rattle.dnsv_names.specs.Octets.OctetLaws.{number_of_rest}
 use Rattle.dnsv_names.proofs.octets.u16_at.Goals as goal
 
 pub returns : goal.returns

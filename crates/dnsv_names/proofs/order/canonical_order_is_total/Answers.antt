@@ -1,4 +1,4 @@
-use Rattle.dnsv_names.specs.OrderLaws.{canonical_cmp_total, canonical_Equal, SameName_Equal}
+use Rattle.dnsv_names.specs.Order.OrderLaws.{canonical_cmp_total, canonical_Equal, SameName_Equal}
 use Rattle.dnsv_names.proofs.order.canonical_order_is_total.Goals as goal
 
 pub returns-clause-total : goal.returns-clause-total

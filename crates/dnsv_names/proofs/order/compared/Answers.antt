@@ -2,7 +2,7 @@ use Rattle.std.proofs.Common.{length, ◌∙◌, arith, subst, refl, map, Some}
 use Rattle.std.specs.Char.{to_ascii_lowercase}
 use Rattle.dnsv_names.specs.Order.{label_cmp}
 use Rattle.dnsv_names.proofs.CompareLemmas.{Apart, StepsOn, beyond_root, label_in_front, steps_on, some_rest, Apart-start, Apart-left, Apart-right, label_there, ended_together, ended_first, ended_last, ended_apart, root_alike}
-use Rattle.dnsv_names.specs.Ends.{Walked}
+use Rattle.dnsv_names.specs.Order.Ends.{Walked}
 use Rattle.dnsv_names.proofs.order.compared.Goals as goal
 
 pub walked-requires-clause-root : goal.walked-requires-clause-root

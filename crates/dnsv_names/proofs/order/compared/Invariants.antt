@@ -1,6 +1,6 @@
 use Rattle.std.proofs.Common.{◌+◌, ◌≤◌, length}
 use Rattle.dnsv_names.proofs.CompareLemmas.{Apart}
-use Rattle.dnsv_names.specs.Ends.{Walked}
+use Rattle.dnsv_names.specs.Order.Ends.{Walked}
 use Rattle.dnsv_names.proofs.order.compared.Given as goal
 
 abbrev pub invariant-loop-a_rest : goal.invariant-loop-a_rest

@@ -1,4 +1,4 @@
-use Rattle.dnsv_names.specs.TreeLaws.{interval}
+use Rattle.dnsv_names.specs.Tree.TreeLaws.{interval}
 use Rattle.dnsv_names.proofs.order.names_at_or_below_are_an_interval.Goals as goal
 
 pub returns : goal.returns

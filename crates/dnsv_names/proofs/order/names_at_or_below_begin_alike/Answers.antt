@@ -1,5 +1,5 @@
 use Rattle.dnsv_names.specs.Order.{from_the_right}
-use Rattle.dnsv_names.specs.TreeLaws.{from_the_right_below, at_or_below_begins}
+use Rattle.dnsv_names.specs.Tree.TreeLaws.{from_the_right_below, at_or_below_begins}
 use Rattle.dnsv_names.proofs.order.names_at_or_below_begin_alike.Goals as goal
 
 pub returns : goal.returns

@@ -1,6 +1,6 @@
 use Rattle.std.proofs.Common.{◌<◌, length}
 use Rattle.std.specs.Option.{IfSome}
-use Rattle.dnsv_names.specs.Ends.{Walked}
+use Rattle.dnsv_names.specs.Order.Ends.{Walked}
 use Rattle.dnsv_names.proofs.order.walked.Given as goal
 
 abbrev pub invariant-loop-rest : goal.invariant-loop-rest

@@ -1,6 +1,6 @@
 use Rattle.std.proofs.Common.{◌<◌, length, arith}
-use Rattle.dnsv_names.specs.Spelling.{labels_of}
-use Rattle.dnsv_names.specs.WireLaws.{length-wire}
+use Rattle.dnsv_names.specs.Name.Spelling.{labels_of}
+use Rattle.dnsv_names.specs.Name.WireLaws.{length-wire}
 use Rattle.dnsv_names.proofs.NameLemmas.{Stands-start, place_within, label_left, Stands-next, root_reached}
 use Rattle.dnsv_names.proofs.wire.label_count.Goals as goal
 

@@ -1,5 +1,5 @@
 use Rattle.std.proofs.Common.{◌≤◌, ◌-◌, length}
-use Rattle.dnsv_names.specs.Spelling.{labels_of}
+use Rattle.dnsv_names.specs.Name.Spelling.{labels_of}
 use Rattle.dnsv_names.proofs.NameLemmas.{Stands}
 use Rattle.dnsv_names.proofs.wire.label_count.Given as goal
 

@@ -1,6 +1,6 @@
 use Rattle.std.proofs.Common.{◌≡◌, ◌<◌, length, drop, ap, ◌∙◌, arith}
 use Rattle.dnsv_names.specs.Name.{wire}
-use Rattle.dnsv_names.specs.Spelling.{labels_of}
+use Rattle.dnsv_names.specs.Name.Spelling.{labels_of}
 use Rattle.dnsv_names.proofs.NameLemmas.{Stands-start, place_within, length_spelled, Stands-next}
 use Rattle.dnsv_names.proofs.wire.label_place.Goals as goal
 

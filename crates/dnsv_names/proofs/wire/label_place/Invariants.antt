@@ -1,4 +1,4 @@
-use Rattle.dnsv_names.specs.Spelling.{labels_of}
+use Rattle.dnsv_names.specs.Name.Spelling.{labels_of}
 use Rattle.dnsv_names.proofs.NameLemmas.{Stands}
 use Rattle.dnsv_names.proofs.wire.label_place.Given as goal
 

@@ -1,7 +1,7 @@
 use Rattle.std.proofs.Common.{◌+◌, drop, take, ap, ◌∙◌, Some, ⊎_elim, arith}
 use Rattle.std.proofs.lemmas.List.{take_at}
 use Rattle.dnsv_names.specs.Name.{wire}
-use Rattle.dnsv_names.specs.WireLaws.{wire_not_empty}
+use Rattle.dnsv_names.specs.Name.WireLaws.{wire_not_empty}
 use Rattle.dnsv_names.proofs.NameLemmas.{SpellsName-wire}
 use Rattle.dnsv_names.proofs.ReadLemmas.{Reads-start, Reads-next, Spells-root, Spells-only_root, Spells-next, spelled_within}
 use Rattle.dnsv_names.proofs.wire.wire_length.Goals as goal

@@ -1,7 +1,7 @@
 use Rattle.std.proofs.Common.{◌≡◌, ◌∙◌, ℕ, List, [], ◌∷◌, sym, subst}
 use Rattle.std.proofs.lemmas.Bool.{false≢true}
 use Rattle.std.proofs.lemmas.Option.{MatchOption-at_none}
-use Rattle.dnsv_names.specs.LineLaws.{AreFields-only}
+use Rattle.dnsv_names.specs.Lines.LineLaws.{AreFields-only}
 use Rattle.dnsv_names.specs.Text.{IsTextOf}
 use Rattle.dnsv_tsig.proofs.key_ring.key_text.Goals as goal
 

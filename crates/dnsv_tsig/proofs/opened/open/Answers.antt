@@ -3,7 +3,7 @@ use Rattle.std.proofs.lemmas.Result.{err_from_is_err_and}
 use Rattle.dnsv_message.specs.declared.record.Record.{Record}
 use Rattle.dnsv_message.specs.Message.{records_of}
 use Rattle.dnsv_message.specs.Tail.{IsTailOf, TailAt}
-use Rattle.dnsv_message.specs.TailLaws.{TailAt-bounds}
+use Rattle.dnsv_message.specs.Tail.TailLaws.{TailAt-bounds}
 use Rattle.dnsv_tsig.specs.Answer.{LacksTsig, readable, unsigned}
 use Rattle.dnsv_tsig.proofs.AnswerLemmas.{told_fault, told_lacking, told_signed}
 use Rattle.dnsv_tsig.proofs.opened.open.Goals as goal

@@ -6,7 +6,7 @@ use Rattle.dnsv_verifier.specs.declared.answer.Answer.{Answer}
 use Rattle.dnsv_verifier.specs.declared.entry.Entry.{Entry}
 use Rattle.dnsv_denial.specs.Viewed.{SecuredIn}
 use Rattle.dnsv_verdict.proofs.CaseLemmas.{settled_stands}
-use Rattle.dnsv_verdict.proofs.PendingLemmas.{nothing_to_hope}
+use Rattle.dnsv_verdict.proofs.SettledLemmas.PendingLemmas.{nothing_to_hope}
 use Rattle.dnsv_verdict.proofs.TrustLemmas.{settled_by_trust, settled_from_trust}
 use Rattle.dnsv_verdict.proofs.UnknownLemmas.{none_unknown, table_unknown}
 use Rattle.dnsv_verdict.specs.Verdict.{AreUnknown, Basis}

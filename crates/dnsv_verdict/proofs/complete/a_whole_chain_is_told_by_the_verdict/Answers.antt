@@ -1,4 +1,4 @@
-use Rattle.dnsv_verdict.proofs.CompleteLemmas.{tells_whole_chains}
+use Rattle.dnsv_verdict.proofs.MeaningLemmas.CompleteLemmas.{tells_whole_chains}
 use Rattle.dnsv_verdict.proofs.complete.a_whole_chain_is_told_by_the_verdict.Goals as goal
 
 pub returns : goal.returns

@@ -1,4 +1,4 @@
-use Rattle.dnsv_verdict.proofs.SomeVerdict.{some_verdict}
+use Rattle.dnsv_verdict.proofs.SureLemmas.SomeVerdict.{some_verdict}
 use Rattle.dnsv_verdict.proofs.laws.a_question_has_a_verdict.Goals as goal
 
 pub returns : goal.returns

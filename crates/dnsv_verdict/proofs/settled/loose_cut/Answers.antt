@@ -2,7 +2,7 @@
 use Rattle.std.proofs.Common.{◌+◌, ℕ, ap, subst, sym, ◌∙◌}
 use Rattle.dnsv_names.specs.Name.{rightmost}
 use Rattle.dnsv_denial.specs.Viewed.{Viewed}
-use Rattle.dnsv_verdict.proofs.ViewLemmas.{AtLowest, AtNumbers, IsLooseForView}
+use Rattle.dnsv_verdict.proofs.SearchLemmas.ViewLemmas.{AtLowest, AtNumbers, IsLooseForView}
 use Rattle.dnsv_verdict.proofs.settled.loose_cut.Goals as goal
 
 pub returns-in_default : goal.returns-in_default

@@ -2,7 +2,7 @@
 use Rattle.std.proofs.Common.{ℕ, subst}
 use Rattle.std.specs.Prelude.{MatchOption}
 use Rattle.dnsv_denial.specs.Viewed.{Viewed}
-use Rattle.dnsv_verdict.proofs.ViewLemmas.{AtLowest, AtNumbers, HoldsForView}
+use Rattle.dnsv_verdict.proofs.SearchLemmas.ViewLemmas.{AtLowest, AtNumbers, HoldsForView}
 use Rattle.dnsv_verdict.proofs.settled.secure_set.Goals as goal
 
 pub returns : goal.returns

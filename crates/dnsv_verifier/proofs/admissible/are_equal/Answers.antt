@@ -1,5 +1,5 @@
 use Rattle.std.proofs.Common.{sym, ◌∙◌}
-use Rattle.dnsv_names.specs.OrderLaws.{same_name_Decides}
+use Rattle.dnsv_names.specs.Order.OrderLaws.{same_name_Decides}
 use Rattle.dnsv_verifier.proofs.admissible.are_equal.Goals as goal
 
 pub returns : goal.returns

@@ -2,8 +2,8 @@
 use Rattle.std.proofs.Common.{◌≡◌, ◌≢◌, ℕ, ◌⊎◌, Bool, sym, inl, inr, ⊎_elim, arith}
 use Rattle.dnsv_names.specs.Name.{Labels, SameName, IsAtOrBelow}
 use Rattle.dnsv_names.specs.Tree.{wildcard_of}
-use Rattle.dnsv_names.specs.TreeLaws.{below_trans_at}
-use Rattle.dnsv_names.specs.AncestorLaws.{wildcard_below}
+use Rattle.dnsv_names.specs.Tree.TreeLaws.{below_trans_at}
+use Rattle.dnsv_names.specs.Tree.AncestorLaws.{wildcard_below}
 use Rattle.dnsv_zones.specs.zones.TypeNumbers.{ns, cname, soa, dname, ds, rrsig, nsec}
 use Rattle.dnsv_zones.specs.zones.Types.{IsDelegation, IsClosed, Denies}
 use Rattle.dnsv_zones.specs.zones.Zone.{Zone, Holds, IsClosedAt, IsWellFormed, HasNoWildcardDelegation}

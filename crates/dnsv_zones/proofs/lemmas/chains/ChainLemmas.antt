@@ -4,11 +4,11 @@ use Rattle.std.proofs.lemmas.Cmp.{nat_list_cmp_total}
 use Rattle.std.specs.List.{AllByRecursion}
 use Rattle.dnsv_names.specs.Name.{Labels, lower_case, SameName, IsAtOrBelow, rightmost}
 use Rattle.dnsv_names.specs.Order.{canonical_cmp, label_cmp}
-use Rattle.dnsv_names.specs.OrderLaws.{canonical_cmp_total}
+use Rattle.dnsv_names.specs.Order.OrderLaws.{canonical_cmp_total}
 use Rattle.dnsv_names.specs.Circle.{IsMember, IsSuccessor}
-use Rattle.dnsv_names.specs.CircleLaws.{successor_among}
-use Rattle.dnsv_names.specs.TreeLaws.{same_at_or_below, at_or_below_trans, at_or_below_length}
-use Rattle.dnsv_names.specs.AncestorLaws.{rightmost_above, rightmost_same, rightmost_in_line}
+use Rattle.dnsv_names.specs.Circle.CircleLaws.{successor_among}
+use Rattle.dnsv_names.specs.Tree.TreeLaws.{same_at_or_below, at_or_below_trans, at_or_below_length}
+use Rattle.dnsv_names.specs.Tree.AncestorLaws.{rightmost_above, rightmost_same, rightmost_in_line}
 use Rattle.dnsv_zones.specs.zones.TypeNumbers.{soa}
 use Rattle.dnsv_zones.specs.Any.{Any}
 use Rattle.dnsv_zones.specs.zones.Zone.{Entry, Zone, IsOwner, IsNode, IsWellFormed, HasNoWildcardDelegation}

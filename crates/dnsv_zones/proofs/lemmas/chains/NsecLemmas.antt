@@ -3,14 +3,14 @@ use Rattle.std.proofs.Common.{◌≡◌, List, [], ◌∷◌, map, sym, inl, inr
 use Rattle.std.specs.declared.cmp.Ordering.TheVariants.{Equal}
 use Rattle.dnsv_names.specs.Name.{Labels, SameName, IsAtOrBelow}
 use Rattle.dnsv_names.specs.Order.{canonical_cmp, IsBelow}
-use Rattle.dnsv_names.specs.OrderLaws.{canonical_Equal, SameName_Equal}
+use Rattle.dnsv_names.specs.Order.OrderLaws.{canonical_Equal, SameName_Equal}
 use Rattle.dnsv_names.specs.Circle.{has, IsMember}
-use Rattle.dnsv_names.specs.TreeLaws.{same_at_or_below, at_or_below_cases, below_trans_at}
+use Rattle.dnsv_names.specs.Tree.TreeLaws.{same_at_or_below, at_or_below_cases, below_trans_at}
 use Rattle.dnsv_zones.specs.Any.{Any}
 use Rattle.dnsv_zones.specs.zones.Zone.{Entry, Zone, IsOwner, IsNode, IsClosedAt, IsWellFormed}
 use Rattle.dnsv_zones.specs.chains.NsecChain.{NsecRecord, owners, IsInNsecChain}
 use Rattle.dnsv_zones.specs.forms.Nsec.{Covers, IsFair, IsAbsentBy, IsInnerBy, IsNodeBy}
-use Rattle.dnsv_names.specs.NameCircleLaws.{owner_at_or_below, next_at_or_below}
+use Rattle.dnsv_names.specs.Circle.NameCircleLaws.{owner_at_or_below, next_at_or_below}
 use Rattle.dnsv_zones.proofs.lemmas.zones.ZoneLemmas.{closed_respects, closed_owner, owner_under, node_of_owner}
 use Rattle.dnsv_zones.proofs.lemmas.chains.BitmapLemmas.{closed_bits}
 

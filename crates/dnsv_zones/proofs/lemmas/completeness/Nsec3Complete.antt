@@ -10,10 +10,10 @@ use Rattle.dnsv_names.specs.Name.{Labels, SameName, IsAtOrBelow, rightmost}
 use Rattle.dnsv_names.specs.Order.{label_cmp, IsBelow}
 use Rattle.dnsv_names.specs.Tree.{wildcard_of}
 use Rattle.dnsv_names.specs.Circle.{Gap, has, IsSuccessor}
-use Rattle.dnsv_names.specs.KeyLaws.{label_cmp_exact}
-use Rattle.dnsv_names.specs.CircleLaws.{lies_in_a_gap_among}
-use Rattle.dnsv_names.specs.TreeLaws.{same_at_or_below, at_or_below_trans, at_or_below_length, same_or_not, at_or_below_or_not, decided}
-use Rattle.dnsv_names.specs.AncestorLaws.{rightmost_above, rightmost_below, rightmost_same, rightmost_length, rightmost_rightmost, rightmost_in_line}
+use Rattle.dnsv_names.specs.Tree.KeyLaws.{label_cmp_exact}
+use Rattle.dnsv_names.specs.Circle.CircleLaws.{lies_in_a_gap_among}
+use Rattle.dnsv_names.specs.Tree.TreeLaws.{same_at_or_below, at_or_below_trans, at_or_below_length, same_or_not, at_or_below_or_not, decided}
+use Rattle.dnsv_names.specs.Tree.AncestorLaws.{rightmost_above, rightmost_below, rightmost_same, rightmost_length, rightmost_rightmost, rightmost_in_line}
 use Rattle.dnsv_zones.specs.zones.TypeNumbers.{ns, cname, soa, ds, rrsig, nsec}
 use Rattle.dnsv_zones.specs.Any.{Any}
 use Rattle.dnsv_zones.specs.zones.Types.{IsClosed, Denies, IsUnsignedDelegation}

@@ -3,12 +3,12 @@ use Rattle.std.proofs.Common.{◌≢◌, ℕ, ◌+◌, Bool, List, sym, ◌∙�
 use Rattle.std.proofs.lemmas.Cmp.{tied_itself}
 use Rattle.dnsv_names.specs.Name.{Labels, SameName, IsAtOrBelow, rightmost}
 use Rattle.dnsv_names.specs.Order.{IsBelow}
-use Rattle.dnsv_names.specs.OrderLaws.{canonical_cmp_total, SameName_Equal}
+use Rattle.dnsv_names.specs.Order.OrderLaws.{canonical_cmp_total, SameName_Equal}
 use Rattle.dnsv_names.specs.Tree.{wildcard_of}
-use Rattle.dnsv_names.specs.CircleLaws.{gap_respects, successor_respects, lies_in_a_gap_among}
-use Rattle.dnsv_names.specs.NameCircleLaws.{next_at_or_below}
-use Rattle.dnsv_names.specs.TreeLaws.{same_at_or_below, at_or_below_trans}
-use Rattle.dnsv_names.specs.AncestorLaws.{rightmost_above, rightmost_below, rightmost_in_line, wildcard_below}
+use Rattle.dnsv_names.specs.Circle.CircleLaws.{gap_respects, successor_respects, lies_in_a_gap_among}
+use Rattle.dnsv_names.specs.Circle.NameCircleLaws.{next_at_or_below}
+use Rattle.dnsv_names.specs.Tree.TreeLaws.{same_at_or_below, at_or_below_trans}
+use Rattle.dnsv_names.specs.Tree.AncestorLaws.{rightmost_above, rightmost_below, rightmost_in_line, wildcard_below}
 use Rattle.dnsv_zones.specs.zones.TypeNumbers.{ns, cname, soa, ds, rrsig, nsec}
 use Rattle.dnsv_zones.specs.Any.{Any}
 use Rattle.dnsv_zones.specs.zones.Types.{Denies, IsUnsignedDelegation}

@@ -6,12 +6,12 @@ use Rattle.std.specs.Cmp.{IsTotalOrder}
 use Rattle.std.specs.declared.cmp.Ordering.{Ordering}
 use Rattle.std.specs.declared.cmp.Ordering.TheVariants.{Equal}
 use Rattle.dnsv_names.specs.Name.{Labels, SameName, same_name, IsAtOrBelow}
-use Rattle.dnsv_names.specs.OrderLaws.{canonical_cmp_total, same_name_Decides}
+use Rattle.dnsv_names.specs.Order.OrderLaws.{canonical_cmp_total, same_name_Decides}
 use Rattle.dnsv_names.specs.Tree.{wildcard_of}
-use Rattle.dnsv_names.specs.Keys.{is_at_or_below}
+use Rattle.dnsv_names.specs.Tree.Keys.{is_at_or_below}
 use Rattle.dnsv_names.specs.Circle.{Gap, has}
-use Rattle.dnsv_names.specs.CircleLaws.{gap_respects}
-use Rattle.dnsv_names.specs.TreeLaws.{at_or_below_respects, below_length, same_labels, is_at_or_below_Decides}
+use Rattle.dnsv_names.specs.Circle.CircleLaws.{gap_respects}
+use Rattle.dnsv_names.specs.Tree.TreeLaws.{at_or_below_respects, below_length, same_labels, is_at_or_below_Decides}
 use Rattle.dnsv_zones.specs.zones.TypeNumbers.{dname}
 use Rattle.dnsv_zones.specs.zones.Types.{IsDelegation}
 use Rattle.dnsv_zones.specs.zones.Zone.{IsOwner, Holds, IsClosedAt, IsWellFormed, HasNoWildcardDelegation}

@@ -4,9 +4,9 @@ use Rattle.std.proofs.lemmas.Cmp.{nat_list_cmp_total}
 use Rattle.std.specs.declared.cmp.Ordering.TheVariants.{Less}
 use Rattle.dnsv_names.specs.Name.{Labels, SameName, IsAtOrBelow, lower_case, wire}
 use Rattle.dnsv_names.specs.Order.{IsBelow, label_cmp}
-use Rattle.dnsv_names.specs.AncestorLaws.{parent_at_or_below}
-use Rattle.dnsv_names.specs.TreeLaws.{at_or_below_antisymm, at_or_below_cases}
-use Rattle.dnsv_names.specs.WireLaws.{wire_not_empty}
+use Rattle.dnsv_names.specs.Tree.AncestorLaws.{parent_at_or_below}
+use Rattle.dnsv_names.specs.Tree.TreeLaws.{at_or_below_antisymm, at_or_below_cases}
+use Rattle.dnsv_names.specs.Name.WireLaws.{wire_not_empty}
 use Rattle.dnsv_zones.specs.Any.{Any}
 use Rattle.dnsv_zones.specs.examples.Example.{e_name, a_name, s_name, apex_types, zone}
 use Rattle.dnsv_zones.specs.forms.Nsec3.{OptOutForm}

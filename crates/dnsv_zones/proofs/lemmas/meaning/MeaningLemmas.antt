@@ -3,7 +3,7 @@ use Rattle.std.proofs.Common.{inl, ◌≡◌, ◌≢◌, ℕ, ◌+◌, ◌<◌, 
 use Rattle.dnsv_names.specs.Name.{Labels, SameName, IsAtOrBelow, rightmost}
 use Rattle.dnsv_names.specs.Order.{IsBelow}
 use Rattle.dnsv_names.specs.Tree.{wildcard_of}
-use Rattle.dnsv_names.specs.TreeLaws.{same_at_or_below, at_or_below_trans}
+use Rattle.dnsv_names.specs.Tree.TreeLaws.{same_at_or_below, at_or_below_trans}
 use Rattle.dnsv_zones.specs.zones.TypeNumbers.{ns, cname, soa, ds}
 use Rattle.dnsv_zones.specs.zones.Types.{IsDelegation, Denies, IsUnsignedDelegation}
 use Rattle.dnsv_zones.specs.zones.Zone.{Zone, IsOwner, Holds, IsNode, IsClosedAt, IsWellFormed}
@@ -14,7 +14,7 @@ use Rattle.dnsv_zones.specs.chains.NsecChain.{IsInBitmap, IsBitmapOf}
 use Rattle.dnsv_zones.specs.chains.Nsec3Chain.{IsAsked}
 use Rattle.dnsv_zones.specs.chains.Nsec3Chain.IsAsked.{itself as asked_above, wildcard as asked_wildcard}
 use Rattle.dnsv_zones.specs.forms.Forms.{Words, IsAbove, EndsAt, NoNameForm, NoDataForm, EmptyForm, NoWildcardDataForm, EmptyWildcardForm, NoDataForms, NoCloserForm, UnsignedCutForm}
-use Rattle.dnsv_names.specs.AncestorLaws.{rightmost_above, rightmost_below, wildcard_below}
+use Rattle.dnsv_names.specs.Tree.AncestorLaws.{rightmost_above, rightmost_below, wildcard_below}
 use Rattle.dnsv_zones.proofs.lemmas.zones.ZoneLemmas.{holds_owner, owner_node, node_above, closest, nothing_closed}
 use Rattle.dnsv_zones.proofs.lemmas.zones.LookupLemmas.{IsMissing, node_here, missing_no_name, missing_no_data, missing_held}
 use Rattle.dnsv_zones.proofs.lemmas.chains.BitmapLemmas.{plain_type, delegation_bits}

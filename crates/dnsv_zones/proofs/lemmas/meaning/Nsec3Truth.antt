@@ -13,7 +13,7 @@ use Rattle.dnsv_zones.specs.chains.NsecChain.{IsInBitmap, IsBitmapOf}
 use Rattle.dnsv_zones.specs.chains.Nsec3Chain.{Nsec3Record, NameHash, IsUnsignedEnd, IsChained, AreChainNames, IsInNsec3Chain, IsAsked, HasNoCollision}
 use Rattle.dnsv_zones.specs.chains.Nsec3Chain.IsAsked.{itself as asked_above}
 use Rattle.dnsv_zones.specs.forms.Nsec3.{Matches, Covers, nsec3_words}
-use Rattle.dnsv_names.specs.AncestorLaws.{rightmost_above}
+use Rattle.dnsv_names.specs.Tree.AncestorLaws.{rightmost_above}
 use Rattle.dnsv_zones.proofs.lemmas.AnyLemmas.{found_of}
 use Rattle.dnsv_zones.proofs.lemmas.zones.ZoneLemmas.{node_respects, nothing_closed}
 use Rattle.dnsv_zones.proofs.lemmas.meaning.MeaningLemmas.{Told, AreTrue}

@@ -3,8 +3,8 @@ use Rattle.std.proofs.Common.{ℕ, ◌+◌, ◌⊎◌, List, sym, ◌∙◌, ⊎
 use Rattle.std.specs.List.{AllByRecursion}
 use Rattle.dnsv_names.specs.Name.{Labels, SameName, IsAtOrBelow, rightmost}
 use Rattle.dnsv_names.specs.Order.{IsBelow}
-use Rattle.dnsv_names.specs.TreeLaws.{below_trans_at}
-use Rattle.dnsv_names.specs.AncestorLaws.{rightmost_next_below}
+use Rattle.dnsv_names.specs.Tree.TreeLaws.{below_trans_at}
+use Rattle.dnsv_names.specs.Tree.AncestorLaws.{rightmost_next_below}
 use Rattle.dnsv_zones.specs.Any.{Any}
 use Rattle.dnsv_zones.specs.zones.Zone.{Zone, IsNode, IsClosedAt, IsWellFormed}
 use Rattle.dnsv_zones.specs.zones.Lookup.{IsClosestEncloser}

@@ -5,8 +5,8 @@ use Rattle.std.specs.Prelude.{nat_eq}
 use Rattle.dnsv_names.specs.Name.{Labels, SameName, IsAtOrBelow, rightmost}
 use Rattle.dnsv_names.specs.Order.{IsBelow}
 use Rattle.dnsv_names.specs.Tree.{wildcard_of}
-use Rattle.dnsv_names.specs.TreeLaws.{same_at_or_below, at_or_below_length, below_trans_at, decided, at_or_below_or_not, below_or_not, same_or_not}
-use Rattle.dnsv_names.specs.AncestorLaws.{rightmost_all, rightmost_same}
+use Rattle.dnsv_names.specs.Tree.TreeLaws.{same_at_or_below, at_or_below_length, below_trans_at, decided, at_or_below_or_not, below_or_not, same_or_not}
+use Rattle.dnsv_names.specs.Tree.AncestorLaws.{rightmost_all, rightmost_same}
 use Rattle.dnsv_zones.specs.zones.TypeNumbers.{ns, cname, soa, dname, ds}
 use Rattle.dnsv_zones.specs.Any.{Any}
 use Rattle.dnsv_zones.specs.zones.Types.{IsDelegation}

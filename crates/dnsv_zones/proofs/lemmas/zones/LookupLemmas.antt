@@ -3,7 +3,7 @@ use Rattle.std.proofs.Common.{◌≡◌, ◌≢◌, ℕ, ◌<◌, ◌⊎◌, ref
 use Rattle.dnsv_names.specs.Name.{Labels, rightmost, IsAtOrBelow}
 use Rattle.dnsv_names.specs.Order.{IsBelow}
 use Rattle.dnsv_names.specs.Tree.{wildcard_of, asterisk}
-use Rattle.dnsv_names.specs.TreeLaws.{at_or_below_trans, below_trans_at, at_trans_below}
+use Rattle.dnsv_names.specs.Tree.TreeLaws.{at_or_below_trans, below_trans_at, at_trans_below}
 use Rattle.dnsv_zones.specs.zones.TypeNumbers.{ns, cname, soa, ds}
 use Rattle.dnsv_zones.specs.zones.Types.{IsDelegation}
 use Rattle.dnsv_zones.specs.zones.Zone.{Zone, Holds, IsNode, IsClosedAt, IsWellFormed}
@@ -11,7 +11,7 @@ use Rattle.dnsv_zones.specs.zones.Lookup.{Answer, IsElsewhere, IsClosestEncloser
 use Rattle.dnsv_zones.specs.zones.Lookup.Answer.{Held, Alias, NoData, NoName, Elsewhere}
 use Rattle.dnsv_zones.specs.zones.Lookup.IsElsewhere.{outside, below_end, at_delegation, at_apex}
 use Rattle.dnsv_zones.specs.zones.Lookup.IsSource.{itself, wildcard}
-use Rattle.dnsv_names.specs.AncestorLaws.{rightmost_above, parent_at_or_below}
+use Rattle.dnsv_names.specs.Tree.AncestorLaws.{rightmost_above, parent_at_or_below}
 use Rattle.dnsv_zones.proofs.lemmas.zones.ZoneLemmas.{holds_owner, holds_respects, owner_node, apex_node, node_respects, node_not_below, name_no_node}
 
 -- The name is no node, its closest encloser has so many labels, and the zone doesn't end above it.

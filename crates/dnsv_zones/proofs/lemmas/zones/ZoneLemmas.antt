@@ -3,8 +3,8 @@ use Rattle.std.proofs.Common.{◌≡◌, ℕ, ◌+◌, ◌<◌, ◌⊎◌, IsTru
 use Rattle.dnsv_names.specs.Name.{Labels, lower_case, SameName, IsAtOrBelow, rightmost}
 use Rattle.dnsv_names.specs.Order.{IsBelow}
 use Rattle.dnsv_names.specs.Tree.{wildcard_of}
-use Rattle.dnsv_names.specs.TreeLaws.{same_at_or_below, at_or_below_trans, at_or_below_cases, at_trans_below, below_trans_at}
-use Rattle.dnsv_names.specs.AncestorLaws.{rightmost_all, rightmost_in_line, above_or_next, wildcard_below}
+use Rattle.dnsv_names.specs.Tree.TreeLaws.{same_at_or_below, at_or_below_trans, at_or_below_cases, at_trans_below, below_trans_at}
+use Rattle.dnsv_names.specs.Tree.AncestorLaws.{rightmost_all, rightmost_in_line, above_or_next, wildcard_below}
 use Rattle.dnsv_zones.specs.zones.TypeNumbers.{ns, soa, dname}
 use Rattle.dnsv_zones.specs.zones.Types.{IsDelegation}
 use Rattle.dnsv_zones.specs.zones.Zone.{Entry, Zone, IsOwner, Holds, IsNode, IsClosedAt, IsWellFormed}

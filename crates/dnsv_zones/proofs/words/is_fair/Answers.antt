@@ -3,7 +3,7 @@ use Rattle.std.proofs.Common.{Bool, true, false, refl, IsTrue}
 use Rattle.std.specs.Prelude.{not}
 use Rattle.std.specs.Bool.{Decides}
 use Rattle.std.specs.FinSet as set
-use Rattle.dnsv_names.specs.OrderLaws.{same_name_Decides}
+use Rattle.dnsv_names.specs.Order.OrderLaws.{same_name_Decides}
 use Rattle.dnsv_zones.specs.zones.Types.{IsClosed}
 use Rattle.dnsv_zones.specs.chains.NsecChain.{IsInBitmap}
 use Rattle.dnsv_zones.proofs.words.is_fair.Goals as goal

@@ -1,4 +1,4 @@
-use Rattle.dnsv_message.specs.Frames.{octets_of_each}
+use Rattle.dnsv_message.specs.Streams.Frames.{octets_of_each}
 use Rattle.dnssec_check.proofs.FileLemmas.Capture.{EvidenceSoFar}
 use Rattle.dnssec_check.proofs.files.capture.gathered.Given as goal
 

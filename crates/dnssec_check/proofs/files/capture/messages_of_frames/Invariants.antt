@@ -1,4 +1,4 @@
-use Rattle.dnsv_message.specs.Frames.{octets_of_each}
+use Rattle.dnsv_message.specs.Streams.Frames.{octets_of_each}
 use Rattle.dnssec_check.specs.Files.Capture.{AnyMessage}
 use Rattle.dnssec_check.specs.declared.opening.Opening.TheVariants.{Plain}
 use Rattle.dnssec_check.proofs.FileLemmas.Capture.{MessagesSoFar}

@@ -10,7 +10,7 @@ use Rattle.dnsv_canonical.specs.Rdata.{IsWellFormed}
 use Rattle.dnsv_canonical.specs.Rrsets.{ReceivedRrset}
 use Rattle.dnsv_canonical.proofs.EvidenceLemmas.{large_refused, many_refused, grown, grown_is, pairs_so_far, not_small}
 use Rattle.dnsv_canonical.proofs.ParameterLemmas.{few_pairs}
-use Rattle.dnsv_canonical.proofs.WellFormedLemmas.{message_well_formed}
+use Rattle.dnsv_canonical.proofs.ReadableLemmas.WellFormedLemmas.{message_well_formed}
 use Rattle.dnsv_canonical.proofs.capture.Capture.add.Goals as goal
 
 -- why the pairs aren't all, as a refusal of the message

@@ -1,6 +1,6 @@
 use Rattle.std.proofs.Common.{subst, sym}
 use Rattle.std.specs.List.{AllByRecursion}
-use Rattle.dnsv_canonical.proofs.WellFormedLemmas.{HasRrsig, signatures_read}
+use Rattle.dnsv_canonical.proofs.ReadableLemmas.WellFormedLemmas.{HasRrsig, signatures_read}
 use Rattle.dnsv_canonical.proofs.rrset.Rrset.of.Goals as goal
 
 pub read_each-requires : goal.read_each-requires

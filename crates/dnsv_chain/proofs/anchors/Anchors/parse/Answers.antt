@@ -1,6 +1,6 @@
 use Rattle.std.proofs.lemmas.Result.{err_from_is_err_and}
 use Rattle.dnsv_names.proofs.LineFileLemmas.{all_say, has_all, has_more, has_next}
-use Rattle.dnsv_chain.proofs.AnchorFileLemmas.{anchors_more, fault_or_memory, fault_told}
+use Rattle.dnsv_chain.proofs.AnchorLaws.AnchorFileLemmas.{anchors_more, fault_or_memory, fault_told}
 use Rattle.dnsv_chain.proofs.AnchorLaws.{AreAnchorsOf-no_fault}
 use Rattle.dnsv_chain.proofs.anchors.Anchors.parse.Goals as goal
 

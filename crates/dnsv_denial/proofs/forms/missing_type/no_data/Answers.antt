@@ -2,7 +2,7 @@
 use Rattle.std.proofs.Common.{◌≡◌, ℕ, [], ◌∷◌, length, subst, sym, arith}
 use Rattle.std.specs.Ordering.{nat_cmp}
 use Rattle.dnsv_names.specs.Name.{Labels, rightmost}
-use Rattle.dnsv_names.specs.AncestorLaws.{rightmost_all}
+use Rattle.dnsv_names.specs.Tree.AncestorLaws.{rightmost_all}
 use Rattle.dnsv_zones.specs.forms.Forms.{NoDataForms}
 use Rattle.dnsv_zones.specs.forms.Parts.{IsLowest, AreNoDataParts}
 use Rattle.dnsv_zones.specs.forms.Parts.AreNoDataParts.{at_name, empty}

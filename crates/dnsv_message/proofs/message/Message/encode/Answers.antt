@@ -2,7 +2,7 @@ use Rattle.std.proofs.Common.{sym, ap, subst, ◌∙◌}
 use Rattle.dnsv_message.specs.Grammar.{IsMessage}
 use Rattle.dnsv_message.specs.Encoding.{question_octets, record_octets}
 use Rattle.dnsv_message.proofs.Numbers.{octet_fits}
-use Rattle.dnsv_message.proofs.OneEncoding.{PlainMessageOf-written}
+use Rattle.dnsv_message.proofs.EncodingLemmas.OneEncoding.{PlainMessageOf-written}
 use Rattle.dnsv_message.proofs.FitLemmas.{IsMessage-fits, answer_fits, authority_fits, additional_fits}
 use Rattle.dnsv_message.proofs.EncodingLemmas.{encoded_message, records_sized, written_same, message_written}
 use Rattle.dnsv_message.proofs.message.Message.encode.Goals as goal

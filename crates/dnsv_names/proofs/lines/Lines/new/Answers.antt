@@ -1,4 +1,4 @@
-use Rattle.dnsv_names.specs.LineLaws.{HasLines-read}
+use Rattle.dnsv_names.specs.Lines.LineLaws.{HasLines-read}
 use Rattle.dnsv_names.proofs.lines.Lines.new.Goals as goal
 
 pub returns : goal.returns

@@ -1,6 +1,6 @@
 use Rattle.std.proofs.Common.{◌≡◌, ◌+◌, ◌<◌, ◌^◌, length}
 use Rattle.dnsv_names.specs.Lines.{kept_from}
-use Rattle.dnsv_names.specs.LineReading.{lines_in}
+use Rattle.dnsv_names.specs.Lines.LineReading.{lines_in}
 use Rattle.dnsv_names.proofs.lines.LinesIterator.next.Given as goal
 
 abbrev pub invariant-loop-self : goal.invariant-loop-self

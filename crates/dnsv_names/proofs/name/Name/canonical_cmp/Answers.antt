@@ -1,7 +1,7 @@
 use Rattle.std.proofs.Common.{◌≡◌, ap, ◌∙◌}
 use Rattle.dnsv_names.specs.Order.{canonical_cmp}
-use Rattle.dnsv_names.specs.Spelling.{labels_of}
-use Rattle.dnsv_names.specs.WireLaws.{labels_of-wire}
+use Rattle.dnsv_names.specs.Name.Spelling.{labels_of}
+use Rattle.dnsv_names.specs.Name.WireLaws.{labels_of-wire}
 use Rattle.dnsv_names.proofs.NameLemmas.{SpellsName-wire}
 use Rattle.dnsv_names.proofs.name.Name.canonical_cmp.Goals as goal
 

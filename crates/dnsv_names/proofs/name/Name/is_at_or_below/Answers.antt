@@ -2,9 +2,9 @@ use Rattle.std.proofs.Common.{◌≡◌, ◌-◌, length, drop, ap, ◌∙◌, a
 use Rattle.std.proofs.lemmas.List.{take_rest}
 use Rattle.std.specs.Bool.{one_answer}
 use Rattle.dnsv_names.specs.Name.{wire}
-use Rattle.dnsv_names.specs.Spelling.{labels_of}
-use Rattle.dnsv_names.specs.TreeLaws.{at_or_below_length, is_at_or_below_Decides}
-use Rattle.dnsv_names.specs.WireLaws.{labels_of-wire}
+use Rattle.dnsv_names.specs.Name.Spelling.{labels_of}
+use Rattle.dnsv_names.specs.Tree.TreeLaws.{at_or_below_length, is_at_or_below_Decides}
+use Rattle.dnsv_names.specs.Name.WireLaws.{labels_of-wire}
 use Rattle.dnsv_names.proofs.NameLemmas.{SpellsName-wire}
 use Rattle.dnsv_names.proofs.TreeLemmas.{at_or_below_Decides}
 use Rattle.dnsv_names.proofs.name.Name.is_at_or_below.Goals as goal

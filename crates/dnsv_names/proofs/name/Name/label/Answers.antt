@@ -1,5 +1,5 @@
 use Rattle.std.proofs.Common.{ap, ◌∙◌, arith}
-use Rattle.dnsv_names.specs.Spelling.{labels_of}
+use Rattle.dnsv_names.specs.Name.Spelling.{labels_of}
 use Rattle.dnsv_names.proofs.NameLemmas.{label_found}
 use Rattle.dnsv_names.proofs.name.Name.label.Goals as goal
 

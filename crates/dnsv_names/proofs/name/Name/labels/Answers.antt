@@ -1,6 +1,6 @@
 use Rattle.std.proofs.Common.{◌≡◌, length, ap, ◌∙◌, arith}
-use Rattle.dnsv_names.specs.Spelling.{labels_of}
-use Rattle.dnsv_names.specs.WireLaws.{length-wire}
+use Rattle.dnsv_names.specs.Name.Spelling.{labels_of}
+use Rattle.dnsv_names.specs.Name.WireLaws.{length-wire}
 use Rattle.dnsv_names.proofs.name.Name.labels.Goals as goal
 
 pub returns-clause-at_most_127 : goal.returns-clause-at_most_127

@@ -1,8 +1,8 @@
 use Rattle.std.proofs.Common.{◌≡◌, length, take, sym, ap, ◌∙◌, Some, unwrap_or}
 use Rattle.std.proofs.lemmas.List.{take_at}
 use Rattle.dnsv_names.specs.Name.{wire}
-use Rattle.dnsv_names.specs.Spelling.{labels_of}
-use Rattle.dnsv_names.specs.WireLaws.{labels_of-wire}
+use Rattle.dnsv_names.specs.Name.Spelling.{labels_of}
+use Rattle.dnsv_names.specs.Name.WireLaws.{labels_of-wire}
 use Rattle.dnsv_names.proofs.name.Name.read.Goals as goal
 
 pub returns-clause-every : goal.returns-clause-every

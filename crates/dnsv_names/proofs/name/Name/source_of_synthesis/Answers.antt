@@ -1,7 +1,7 @@
 use Rattle.std.proofs.Common.{length, ap, arith}
 use Rattle.dnsv_names.specs.Name.{wire}
 use Rattle.dnsv_names.specs.Tree.{wildcard_of}
-use Rattle.dnsv_names.specs.AncestorLaws.{IsName-wildcard_of_rightmost}
+use Rattle.dnsv_names.specs.Tree.AncestorLaws.{IsName-wildcard_of_rightmost}
 use Rattle.dnsv_names.proofs.name.Name.source_of_synthesis.Goals as goal
 
 pub unreachable-requires : goal.unreachable-requires

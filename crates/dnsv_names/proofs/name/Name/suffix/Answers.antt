@@ -1,9 +1,9 @@
 use Rattle.std.proofs.Common.{◌≡◌, ◌-◌, ◌++◌, length, take, drop, sym, ap, ◌∙◌}
 use Rattle.std.proofs.lemmas.List.{take-append-drop, take_rest}
 use Rattle.dnsv_names.specs.Name.{wire, lower_case, rightmost}
-use Rattle.dnsv_names.specs.Spelling.{labels_of}
-use Rattle.dnsv_names.specs.AncestorLaws.{IsName-drop}
-use Rattle.dnsv_names.specs.WireLaws.{labels_of-wire}
+use Rattle.dnsv_names.specs.Name.Spelling.{labels_of}
+use Rattle.dnsv_names.specs.Tree.AncestorLaws.{IsName-drop}
+use Rattle.dnsv_names.specs.Name.WireLaws.{labels_of-wire}
 use Rattle.dnsv_names.proofs.NameLemmas.{SpellsName-wire}
 use Rattle.dnsv_names.proofs.name.Name.suffix.Goals as goal
 

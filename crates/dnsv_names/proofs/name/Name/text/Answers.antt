@@ -1,6 +1,6 @@
 use Rattle.std.proofs.Common.{◌+◌, length, get_or, drop, refl, ap, ◌∙◌, arith}
 use Rattle.arrayvec.specs.ArrayString.{array_string_len}
-use Rattle.dnsv_names.specs.WireLaws.{wire_not_empty}
+use Rattle.dnsv_names.specs.Name.WireLaws.{wire_not_empty}
 use Rattle.dnsv_names.proofs.TextLemmas.{NextLabel, some_rest, label_in_front, next_label, all_written, text_of_labels}
 use Rattle.dnsv_names.proofs.name.Name.text.Goals as goal
 

@@ -1,8 +1,8 @@
 use Rattle.std.proofs.Common.{◌≡◌, ap, ◌∙◌, map}
 use Rattle.std.specs.Char.{to_ascii_lowercase}
 use Rattle.dnsv_names.specs.Name.{wire, lower_case}
-use Rattle.dnsv_names.specs.Spelling.{labels_of}
-use Rattle.dnsv_names.specs.WireLaws.{IsName-lower_case, lower_case-wire, labels_of-wire}
+use Rattle.dnsv_names.specs.Name.Spelling.{labels_of}
+use Rattle.dnsv_names.specs.Name.WireLaws.{IsName-lower_case, lower_case-wire, labels_of-wire}
 use Rattle.dnsv_names.proofs.NameLemmas.{SpellsName-wire}
 use Rattle.dnsv_names.proofs.name.Name.to_lower.Goals as goal
 

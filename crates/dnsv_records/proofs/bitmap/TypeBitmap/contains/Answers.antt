@@ -1,7 +1,7 @@
 use Rattle.std.proofs.Common.{◌≡◌, ◌/◌, sym, ap, ◌∙◌, arith}
 use Rattle.std.specs.FinSet as set
 use Rattle.dnsv_records.specs.Bitmap.{has_bit}
-use Rattle.dnsv_records.specs.Blocks.{blocks_of, bits_of}
+use Rattle.dnsv_records.specs.Bitmap.Blocks.{blocks_of, bits_of}
 use Rattle.dnsv_records.proofs.BitmapLemmas.{types_of-in}
 use Rattle.dnsv_records.proofs.bitmap.TypeBitmap.contains.Goals as goal
 

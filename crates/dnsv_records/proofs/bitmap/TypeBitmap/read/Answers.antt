@@ -1,5 +1,5 @@
 use Rattle.std.proofs.Common.{Ok, ap, inl, ◌∙◌}
-use Rattle.dnsv_records.specs.Blocks.{types_of}
+use Rattle.dnsv_records.specs.Bitmap.Blocks.{types_of}
 use Rattle.dnsv_records.proofs.BitmapLemmas.{AreBlocks-Bitmap, Bitmap-types_of, types_of-Bitmap}
 use Rattle.dnsv_records.proofs.RecordLemmas.{no_bitmap_fault}
 use Rattle.dnsv_records.proofs.bitmap.TypeBitmap.read.Goals as goal

@@ -3,7 +3,7 @@ use Rattle.std.proofs.lemmas.Fn.{always_returns_same}
 use Rattle.dnsv_verifier.specs.Entry.{entry_cmp}
 use Rattle.dnsv_verifier.specs.Statements.{answer_by}
 use Rattle.dnsv_verifier.specs.declared.entry.Entry.{Entry}
-use Rattle.dnsv_verifier.specs.declared.statement.Word.{Word}
+use Rattle.dnsv_verifier.specs.declared.statements.statement.Word.{Word}
 use Rattle.dnsv_verifier.proofs.SearchLemmas.{found_at, absent_from}
 use Rattle.dnsv_verifier.proofs.statements.StatementsVerifier.answer.Goals as goal
 

@@ -1,5 +1,0 @@
-use Rattle.dnsv_names.specs.TreeLaws.{ancestors_in_line}
-use Rattle.dnsv_names.proofs.tree_laws.ancestors_stand_in_one_line.Goals as goal
-
-pub returns : goal.returns
-returns c = ancestors_in_line
