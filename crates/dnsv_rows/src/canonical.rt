@@ -1,7 +1,6 @@
 //! Calls of `dnsv_canonical`.
 
-use crate::printed;
-use crate::row::{Row, RowError};
+use crate::row::{Row, RowError, printed};
 use dnsv_canonical::{forms_rrsets, is_question, signed_label_count};
 use dnsv_names::RecordType;
 

@@ -1,7 +1,6 @@
 //! Calls of `dnsv_digest`.
 
-use crate::printed;
-use crate::row::{Row, RowError};
+use crate::row::{Row, RowError, printed};
 use dnsv_digest::{Digest, DigestAlgorithm, ds_digest, hmac_sha256, nsec3_hash};
 use dnsv_names::Count;
 

@@ -1,4 +1,7 @@
 //! Captures that rows write: messages, each behind its length in two octets (RFC 1035 4.2.2).
+
+pub mod verifying;
+
 ghost use Rattle.std.specs.Prelude.{IfOk};
 ghost use Rattle.dnsv_records.specs.Dnskey.{IsDnskey};
 

@@ -9,14 +9,11 @@ mod digest;
 mod evidence;
 mod message;
 mod names;
-mod printed;
 mod records;
 mod row;
 mod tsig;
 mod verdict;
 mod verifier;
-mod verifying;
-mod written;
 
 use row::Row;
 use std::io;

@@ -4,8 +4,7 @@ mod denial;
 mod key;
 mod told;
 
-use crate::printed;
-use crate::row::{Row, RowError};
+use crate::row::{Row, RowError, printed};
 use dnsv_names::Hash20;
 use dnsv_records::{Expiration, Inception, base32hex_read, base32hex_write, key_tag, time_valid};
 use std::str;

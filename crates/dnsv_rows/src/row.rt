@@ -1,6 +1,8 @@
 //! A row of the input: the name of a call, and its arguments.
 
-use crate::written;
+pub mod printed;
+pub mod written;
+
 use dnsv_names::Name;
 use std::alloc::{AllocError, AllocFailed, Global};
 use std::collections::BTreeMap;

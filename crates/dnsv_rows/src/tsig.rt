@@ -1,7 +1,6 @@
 //! Calls of `dnsv_tsig`.
 
-use crate::printed;
-use crate::row::{Row, RowError};
+use crate::row::{Row, RowError, printed};
 use dnsv_message::DecodeError;
 use dnsv_names::Name;
 use dnsv_tsig::{KeyFileError, KeyRing, Opened, TsigError, open};

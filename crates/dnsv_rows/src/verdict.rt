@@ -1,10 +1,10 @@
 //! Calls of `dnsv_verdict`.
 
 use crate::chain::trust_anchors;
-use crate::row::{Row, RowError};
+use crate::evidence;
+use crate::evidence::verifying::ByFirstOctet;
+use crate::row::{Row, RowError, printed};
 use crate::verifier::statements_of;
-use crate::verifying::ByFirstOctet;
-use crate::{evidence, printed};
 use dnsv_denial::Proof;
 use dnsv_names::RecordType;
 use dnsv_verdict::{Entries, Report, Verdict, VerdictError, validate};

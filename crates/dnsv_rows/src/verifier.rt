@@ -1,8 +1,8 @@
 //! Calls of `dnsv_verifier`.
 
+use crate::evidence;
 use crate::evidence::capture;
-use crate::row::{Row, RowError};
-use crate::{evidence, printed};
+use crate::row::{Row, RowError, printed};
 use dnsv_canonical::Rrset;
 use dnsv_names::Count;
 use dnsv_records::{Algorithm, Octets};

@@ -1,8 +1,7 @@
 //! What the records of captures say.
 
 use crate::evidence::{capture, rrset};
-use crate::printed;
-use crate::row::{Row, RowError};
+use crate::row::{Row, RowError, printed};
 use dnsv_canonical::Rrset;
 use std::alloc::Global;
 

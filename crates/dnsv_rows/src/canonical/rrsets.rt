@@ -1,8 +1,7 @@
 //! Which RRsets captures have, and what they refuse.
 
 use crate::evidence::{capture, capture_or_refusal, messages};
-use crate::printed;
-use crate::row::{Row, RowError};
+use crate::row::{Row, RowError, printed};
 use dnsv_canonical::{Capture, CaptureError, Rrset};
 use dnsv_message::Section;
 use std::alloc::Global;

@@ -1,8 +1,7 @@
 //! RDATA as it came and as it is signed, and signatures.
 
 use crate::evidence::{capture, rrset, signature};
-use crate::printed;
-use crate::row::{Row, RowError};
+use crate::row::{Row, RowError, printed};
 use dnsv_canonical::{Rrset, canonical_rrset, is_expanded, signed_data};
 use dnsv_records::Rrsig;
 use std::alloc::Global;

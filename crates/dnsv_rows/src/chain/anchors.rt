@@ -1,8 +1,7 @@
 //! Files of trust anchors, and the keys that they match.
 
 use crate::evidence::dnskey_of;
-use crate::printed;
-use crate::row::{Row, RowError};
+use crate::row::{Row, RowError, printed};
 use dnsv_chain::{Anchor, Anchors, AnchorsError};
 use dnsv_names::Name;
 use dnsv_verifier::KeyRecord;

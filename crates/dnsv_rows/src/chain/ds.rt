@@ -1,8 +1,7 @@
 //! Which DS records of an RRset count, and the keys that they match.
 
 use crate::evidence::dnskey_of;
-use crate::printed;
-use crate::row::{Row, RowError};
+use crate::row::{Row, RowError, printed};
 use dnsv_chain::{has_usable, has_usable_match, is_match, is_usable};
 use dnsv_records::{Ds, RecordError};
 use dnsv_verifier::KeyRecord;

@@ -1,9 +1,9 @@
 //! What is trusted in a capture, where `ByFirstOctet` verifies.
 
 use super::anchors::trust_anchors;
-use crate::row::{Row, RowError};
-use crate::verifying::ByFirstOctet;
-use crate::{evidence, printed};
+use crate::evidence;
+use crate::evidence::verifying::ByFirstOctet;
+use crate::row::{Row, RowError, printed};
 use dnsv_canonical::Capture;
 use dnsv_chain::{Trust, trusted};
 use dnsv_names::Count;

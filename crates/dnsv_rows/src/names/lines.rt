@@ -1,8 +1,7 @@
 //! Lines of text files, their fields, and numbers in them.
 ghost use Rattle.std.specs.Prelude.{◌≤◌};
 
-use crate::printed;
-use crate::row::{Row, RowError};
+use crate::row::{Row, RowError, printed};
 use dnsv_names::{Line, Lines, decimal_u8, decimal_u16};
 use std::alloc::{AllocError, Global};
 

@@ -1,7 +1,6 @@
 //! Equality and order of names, and gaps in circles.
 
-use crate::printed;
-use crate::row::{Row, RowError};
+use crate::row::{Row, RowError, printed};
 use dnsv_names::{ByWire, Hash20, Name, covers};
 use std::cmp::Ordering;
 

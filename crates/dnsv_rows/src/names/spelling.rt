@@ -1,8 +1,7 @@
 //! Names as octets and as text.
 
 use super::refused;
-use crate::printed;
-use crate::row::{Row, RowError};
+use crate::row::{Row, RowError, printed};
 use dnsv_names::Name;
 
 /// What the library answers, where it has the call.

@@ -1,8 +1,7 @@
 //! Records that deny, and their sets of types.
 
 use super::told;
-use crate::printed;
-use crate::row::{Row, RowError};
+use crate::row::{Row, RowError, printed};
 use dnsv_records::{Nsec, Nsec3, Nsec3Parameters, TypeBitmap, UsableNsec3};
 use std::alloc::{AllocError, Global};
 use std::cmp::Ordering;

@@ -1,8 +1,7 @@
 //! Keys, their digests and signatures.
 
 use super::told;
-use crate::printed;
-use crate::row::{Row, RowError};
+use crate::row::{Row, RowError, printed};
 use dnsv_records::{Algorithm, Dnskey, DnskeyFlags, Ds, Rrsig};
 use std::alloc::{AllocError, Global};
 

@@ -1,7 +1,6 @@
 //! How the fields of records are printed.
 
-use crate::printed;
-use crate::row::{Row, RowError};
+use crate::row::{Row, RowError, printed};
 use dnsv_names::RecordType;
 use dnsv_records::{Field, Octets, RecordError, TypeBitmap};
 use std::alloc::{AllocError, Global};
