@@ -83,6 +83,13 @@ pub record RefusedWords (words : List Text) (code : ℕ) : Type 0 where
   pub refused : IsRefused words error
   pub code_told : command_line_code error ≡ code
 
+-- ---- help
+
+-- The output got a text, and no write of it failed. What help says is clap's; tests see that it is all of it.
+abbrev pub HasWritten : {W : Type 0} → (W → Option (List ℕ)) → Counted W → Counted W → Type 0
+HasWritten contents old new = (failures_of new ≡ failures_of old)
+    × ((text : List ℕ) × Appends (contents (inner_of old)) (contents (inner_of new)) text)
+
 -- ---- the line that is told
 
 -- a stream got the line of the fault; or a beginning of it, and then a write failed: by the count of its calls that

@@ -7,7 +7,7 @@ ghost use Rattle.dnssec_check.specs.Files.Faults.{OfFailedRead, OfOctets};
 ghost use Rattle.dnssec_check.specs.Files.{AreTold, Files, IsToldBy};
 ghost use Rattle.dnssec_check.specs.CommandLine.{IsAccepted, IsRefused, command_line_code};
 ghost use Rattle.dnssec_check.specs.Program.{AreFilesAt, BeganText, IsEnd, RefusedFiles, RefusedWords, WroteText};
-ghost use Rattle.dnssec_check.specs.Program.{FailedRequest, FailedWords, HasToldIn, LeavesOutput};
+ghost use Rattle.dnssec_check.specs.Program.{FailedRequest, FailedWords, HasToldIn, HasWritten, LeavesOutput};
 ghost use Rattle.dnssec_check.specs.Program.{first_unopened, given_path, paths_of};
 ghost use Rattle.dnssec_check.specs.Run.{IsTextAskedFor, IsFirstFault, IsReached};
 ghost use Rattle.dnssec_check.specs.Status.{fault_code, outcome_code};
@@ -50,7 +50,7 @@ pub fn exit_status<M: Machine, W: Write, E: Write>(
 ) -> u8
     ensures done { IsEnd result → IfSome (M.given_words machine.now) (λ words. WroteText words
         (M.octets_at machine.now) (W.contents (inner_of output.old)) (W.contents (inner_of output.new)) result
-        ⊎ RefusedWords words result) }
+        ⊎ (RefusedWords words result × HasWritten W.contents output.old output.new)) }
     ensures refused { result ≡ 7
         → IfSome (M.given_words machine.now) (λ words. RefusedFiles words (M.octets_at machine.now)) }
     ensures misused { result ≡ 2 → IfSome (M.given_words machine.now) (λ words. RefusedWords words 2) }
@@ -198,6 +198,7 @@ fn refuse<W: Write, E: Write>(
     ensures told { result ≡ 1 → (fault : Fault) × HasToldIn E.contents errors.old errors.new fault
         × LeavesOutput output.old output.new fault
         × ((fault ≡ Fault.OutOfMemory) ⊎ ((fault ≡ Fault.WriteFailed) × (command_line_code error ≡ 0))) }
+    ensures helped { result ≡ 0 → HasWritten W.contents output.old output.new }
     ensures quiet { result ≡ 0 → errors.new ≡ errors.old }
 {
     match error {
@@ -218,7 +219,8 @@ fn tell_help<W: Write>(
     help: CommandLineError,
     output: &mut Counted<W>,
 ) -> Result<Status, Fault>
-    ensures done { IfOk result (λ status. status ≡ Status.Done) }
+    ensures done { IfOk result (λ status. (status ≡ Status.Done)
+        × HasWritten W.contents output.old output.new) }
     ensures failed { IfErr result (λ fault. ((fault ≡ Fault.OutOfMemory) × (output.new ≡ output.old))
         ⊎ ((fault ≡ Fault.WriteFailed)
         × (failures_of output.old < u64.MAX → failures_of output.old < failures_of output.new))) }

@@ -18,6 +18,17 @@ no_end_of_1 : (code : ℕ) → code ≡ 1 → IsEnd code → ⊥
 no_end_of_1 code is_1 (inl is_0) = omega (arith, is_1, is_0)
 no_end_of_1 code is_1 (inr between) = omega (arith, is_1, between.0)
 
+no_end_of_2 : (code : ℕ) → code ≡ 2 → IsEnd code → ⊥
+no_end_of_2 code is_2 (inl is_0) = omega (arith, is_2, is_0)
+no_end_of_2 code is_2 (inr between) = omega (arith, is_2, between.0)
+
+-- of the words that ask for nothing, those that ask for help end as a whole text does
+end_of_words : (error : CommandLineError) (code : ℕ) → code ≡ command_line_code error → IsEnd code → code ≡ 0
+end_of_words line.OutOfMemory code is ends = absurd (no_end_of_1 code is ends)
+end_of_words line.NotText code is ends = absurd (no_end_of_2 code is ends)
+end_of_words (line.Help refusal) code is ends = is
+end_of_words (line.Misused refusal) code is ends = absurd (no_end_of_2 code is ends)
+
 pub at_most_2 : (error : CommandLineError) → command_line_code error ≤ 2
 at_most_2 line.OutOfMemory = omega arith
 at_most_2 line.NotText = omega arith
@@ -40,15 +51,15 @@ words_untouched error code (inr (inr (asked, is_1, failed))) (inl is_2) = absurd
 words_untouched error code (inr (inr (asked, is_1, failed))) (inr is_7) = absurd (omega (arith, is_1, is_7))
 
 module _ (given : Option (List (List ℕ))) (error : CommandLineError) (code : ℕ) where
-  of_words : (octets_at : List ℕ → Option (List ℕ)) (old new : Option (List ℕ)) (told : Option (List (List ℕ))) → IfSome told (λ words. IsRefused words error)
-      → code ≡ command_line_code error → IfSome told (λ words. WroteText words octets_at old new code ⊎ RefusedWords words code)
-  of_words octets_at old new None refused is = tt
-  of_words octets_at old new (Some words) refused is = inr (record { error = error; refused = refused; code_told = sym is })
+  of_words : (octets_at : List ℕ → Option (List ℕ)) (old new : Option (List ℕ)) (Helped : Type 0) (told : Option (List (List ℕ))) → IfSome told (λ words. IsRefused words error)
+      → code ≡ command_line_code error → Helped → IfSome told (λ words. WroteText words octets_at old new code ⊎ (RefusedWords words code × Helped))
+  of_words octets_at old new Helped None refused is helped = tt
+  of_words octets_at old new Helped (Some words) refused is helped = inr (record { error = error; refused = refused; code_told = sym is }, helped)
 
-  pub words_done : (octets_at : List ℕ → Option (List ℕ)) (old new : Option (List ℕ)) → IfSome given (λ words. IsRefused words error) → EndsSo error code → IsEnd code
-      → IfSome given (λ words. WroteText words octets_at old new code ⊎ RefusedWords words code)
-  words_done octets_at old new refused (inl is) ends = of_words octets_at old new given refused is
-  words_done octets_at old new refused (inr (asked, is_1)) ends = absurd (no_end_of_1 code is_1 ends)
+  pub words_done : (octets_at : List ℕ → Option (List ℕ)) (old new : Option (List ℕ)) (Helped : Type 0) → IfSome given (λ words. IsRefused words error) → EndsSo error code
+      → (code ≡ 0 → Helped) → IsEnd code → IfSome given (λ words. WroteText words octets_at old new code ⊎ (RefusedWords words code × Helped))
+  words_done octets_at old new Helped refused (inl is) helped ends = of_words octets_at old new Helped given refused is (helped (end_of_words error code is ends))
+  words_done octets_at old new Helped refused (inr (asked, is_1)) helped ends = absurd (no_end_of_1 code is_1 ends)
 
   misused_in : (told : Option (List (List ℕ))) → IfSome told (λ words. IsRefused words error) → command_line_code error ≡ 2 → IfSome told (λ words. RefusedWords words 2)
   misused_in None refused is = tt

@@ -19,7 +19,7 @@ returns-in-Ok-clause-failed g c = λ is_1.
     (c.answer-outcome.ensures.write failed, began_so _ _ _ _ (began _ _ _ _ _ c.in-Ok.ensures.accepted (λ files are. c.answer-outcome.ensures.begun files are failed))))
 
 pub returns-in-Err-clause-done : goal.returns-in-Err-clause-done
-returns-in-Err-clause-done g c = words_done _ c.in-Err.error _ _ _ _ c.in-Err.ensures.refused c.refuse.ensures.code
+returns-in-Err-clause-done g c = words_done _ c.in-Err.error _ _ _ _ _ c.in-Err.ensures.refused c.refuse.ensures.code c.refuse.ensures.helped
 
 pub returns-in-Err-clause-refused : goal.returns-in-Err-clause-refused
 returns-in-Err-clause-refused g c = words_refused _ c.in-Err.error _ _ c.refuse.ensures.code
