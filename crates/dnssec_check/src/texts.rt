@@ -1,7 +1,7 @@
 //! The texts that requests ask for.
 
 pub mod checking;
-pub mod hex;
+pub mod hex_text;
 pub mod listing;
 pub mod showing;
 pub mod todo;

@@ -3,7 +3,7 @@ ghost use Rattle.std.specs.Prelude.{◌≡◌, ◌++◌, ◌+◌, ◌<◌, ℕ, 
 ghost use Rattle.dnssec_check.specs.Texts.Showing.{texts_from, message_line, question_line, record_line};
 ghost use Rattle.dnssec_check.specs.Texts.Showing.{message_text, about_text};
 
-use crate::texts::hex::hex_text;
+use crate::texts::hex_text::hex_text;
 use dnsv_message::{Class, Message, Question, Record, Section};
 use dnsv_names::{Name, RecordType};
 use std::alloc::{AllocError, Global};

@@ -4,7 +4,7 @@ ghost use Rattle.dnsv_verifier.specs.Table.{IsTableOf, TableContents, unknown_en
 ghost use Rattle.dnssec_check.specs.Texts.Todo.{todo_line};
 
 use crate::command_line::moment::Moment;
-use crate::texts::hex::hex_text;
+use crate::texts::hex_text::hex_text;
 use dnsv_canonical::Capture;
 use dnsv_names::Count;
 use dnsv_verifier::{Entry, Verifier, ask_all};
