@@ -6,8 +6,8 @@ usage: measure_shapes.py [SHAPE [SIZE ..]]
 
 Without a shape all are measured; with sizes, the shape at these. Instructions are counted by valgrind's callgrind, a
 growth is their number by that of the row above, and peak memory and processor time are those that GNU time tells. It
-needs the built program (make), valgrind and GNU time; the largest rows take a few GiB of memory and of disk, and all
-together about ten minutes.
+needs the built program (make), valgrind and GNU time. The largest rows take a GiB of memory, and all together some
+minutes of processor time.
 """
 import pathlib
 import re

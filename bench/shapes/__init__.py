@@ -12,6 +12,7 @@ SHAPES = {
     "hashes": (denials.hashes, 31),
     "key-file": (files.key_file, 4_000),
     "statements": (files.statements, 250_000),
+    "scattered": (files.scattered, 250_000),
     "frames": (files.frames, 5_000_000),
-    "zeros": (files.zeros, 2**28),
+    "zeros": (files.zeros, 2**24),
 }

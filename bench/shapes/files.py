@@ -9,11 +9,20 @@ def key_file(lines):
     return Shape({**NOTHING, "keys": [b"k%07d. AAAA\n" % number for number in range(lines)]})
 
 
+def statement(number):
+    """A line of 23 octets."""
+    return b"good 13 %08x 00 00\n" % number
+
+
 def statements(lines):
-    """So many statements of 23 octets, in no order."""
+    """So many short statements, each greater than the one before."""
+    return Shape({**NOTHING, "statements": map(statement, range(lines))})
+
+
+def scattered(lines):
+    """The same in no order."""
     # The factor is odd, so no two numbers become one.
-    scattered = (number * 2_654_435_761 % 2**32 for number in range(lines))
-    return Shape({**NOTHING, "statements": (b"good 13 %08x 00 00\n" % number for number in scattered)})
+    return Shape({**NOTHING, "statements": (statement(number * 2_654_435_761 % 2**32) for number in range(lines))})
 
 
 def frames(count):

@@ -19,6 +19,7 @@ SMALL = {
     "hashes": (2, "Bogus a.a. 1"),
     "key-file": (10, "Indeterminate www.bench.example. 1"),
     "statements": (10, "Indeterminate www.bench.example. 1"),
+    "scattered": (10, "Indeterminate www.bench.example. 1"),
     "frames": (1_000, "refused 201 message 1"),
     "zeros": (2**20, "refused 601 line 1"),
 }

@@ -144,9 +144,11 @@ class Files(unittest.TestCase):
         self.assertEqual((len(set(lines)), {len(line) for line in lines}), (100, {15}))
 
     def test_statements_have_23_octets_and_differ(self):
-        lines = list(files.statements(1_000).files["statements"])
-        self.assertEqual((len(set(lines)), {len(line) for line in lines}), (1_000, {23}))
-        self.assertNotEqual(lines, sorted(lines))
+        rising, scattered = (list(make(1_000).files["statements"]) for make in (files.statements, files.scattered))
+        for lines in (rising, scattered):
+            self.assertEqual((len(set(lines)), {len(line) for line in lines}), (1_000, {23}))
+        self.assertEqual(rising, sorted(rising))
+        self.assertNotEqual(scattered, sorted(scattered))
 
     def test_zeros_are_as_many_as_it_says(self):
         self.assertEqual(b"".join(files.zeros(2**22).files["anchors"]), bytes(2**22))
