@@ -8,6 +8,7 @@ SECTION = re.compile(r"module _\b")
 ANSWER = re.compile(r"(?:abbrev )?(?:pub )?\S+ :\s+goal\.")
 INNER = re.compile(r"\s+(?:abbrev )?(?:pub )?([^\s(){}]+) :(?:\s|$)")
 STEP = re.compile(r"\bc\.([A-Za-z]\w*)")
+BRANCHES = re.compile(r"(use \S+\.Goals\.)\{(.*)\}$")
 
 
 @dataclass(frozen=True)
@@ -23,7 +24,7 @@ class Part:
         return "\n".join(self.lines)
 
     def mentions(self, names):
-        return any(re.search(rf"(?<![\w-]){re.escape(name)}(?![\w-])", self.text) for name in names)
+        return any(re.search(rf"(?<![\w+-]){re.escape(name)}(?![\w+-])", self.text) for name in names)
 
 
 def parts_of(text):
@@ -63,7 +64,18 @@ def without(text, names):
     kept = [part for part in parts if not part.names & set(names)]
     if not any(ANSWER.match(part.text) for part in kept):
         return ""
-    return "\n".join(text.split("\n")[:start] + [line for part in kept for line in part.lines])
+    head = [line for line in text.split("\n")[:start] for line in still_cited(line, kept)]
+    return "\n".join(head + [line for part in kept for line in part.lines])
+
+
+def still_cited(line, parts):
+    """The line without those branches of a goal that no declaration mentions any more: where the goal has no answer, its
+    branches have no names either."""
+    found = BRANCHES.match(line)
+    if not found:
+        return [line]
+    cited = [name for name in found[2].split(", ") if any(part.mentions({name}) for part in parts)]
+    return [f"{found[1]}{{{', '.join(cited)}}}"] if cited else []
 
 
 def steps_of(text, name):

@@ -40,6 +40,14 @@ class Answers(unittest.TestCase):
         self.assertEqual(answers.without(FILE, ()), FILE)
         self.assertEqual(answers.without(FILE, {"returns-clause-some", "loop-place-init"}), "")
 
+    def test_branches_of_a_goal_go_with_the_answers_that_name_them(self):
+        both = "use Rattle.names.proofs.first.Goals.{then-eq+in_ok-push, else-eq}\n"
+        text = both + FILE.replace("c.get-2.ensures", "elim c.if-eq.branch [ | then-eq+in_ok-push w ↦ w.is | else-eq w ↦ w.is ]")
+        self.assertEqual(answers.without(text, ()), text)
+        self.assertNotIn("Goals.{", answers.without(text, {"loop-place-init"}))
+        text = text.replace("first (same c)", "else-eq")
+        self.assertIn("first.Goals.{else-eq}\n", answers.without(text, {"loop-place-init"}))
+
     def test_an_answer_has_the_steps_that_it_cites_and_those_of_its_goal(self):
         self.assertEqual(answers.steps_of(FILE, "loop-place-init"), {"get", "loop", "place", "init"})
         self.assertTrue(answers.has_answer(FILE, "loop-place-init"))
