@@ -19,11 +19,6 @@ reached_by Holds file (fault.TooLong other) about holds = tt
 reached_by Holds file (fault.OpenFailed other) about holds = tt
 reached_by Holds file fault.WriteFailed about holds = tt
 
--- want of memory is no failed read
-pub no_read : {T : Type 0} (Holds : InputFile → Type 0) (result : Result T Fault) → IfErr result (λ told. told ≡ fault.OutOfMemory) → IfErr result (OfFailedRead Holds)
-no_read Holds (Ok x) only = tt
-no_read Holds (Err told) only = subst (OfFailedRead Holds) (sym only) tt
-
 weaker_told : (P Q : InputFile → Type 0) (told : Fault) → ((file : InputFile) → P file → Q file) → OfFailedRead P told → OfFailedRead Q told
 weaker_told P Q (fault.ReadFailed file) weaker holds = weaker file holds
 weaker_told P Q fault.OutOfMemory weaker holds = tt
