@@ -104,13 +104,13 @@ pub began : (given : Option (List (List ℕ))) (octets_at : List ℕ → Option 
 began None octets_at old new request accepted text = tt
 began (Some words) octets_at old new request accepted text = record { request = request; accepted = accepted; text = text }
 
-pub wrote : (given : Option (List (List ℕ))) (octets_at : List ℕ → Option (List ℕ)) (old new : Option (List ℕ)) (request : Request) (code : ℕ)
+pub wrote : (given : Option (List (List ℕ))) (octets_at : List ℕ → Option (List ℕ)) (old new : Option (List ℕ)) (request : Request) (code : ℕ) (Helped : Type 0)
     → IfSome given (λ words. IsAccepted words request)
     → ((files : Files) → AreFilesAt octets_at request files
     → (status : Status) × (status_code status ≡ code) × ((text : List ℕ) × IsTextAskedFor request files status text × Appends old new text))
-    → IfSome given (λ words. WroteText words octets_at old new code ⊎ RefusedWords words code)
-wrote None octets_at old new request code accepted text = tt
-wrote (Some words) octets_at old new request code accepted text = inl (record {
+    → IfSome given (λ words. WroteText words octets_at old new code ⊎ (RefusedWords words code × Helped))
+wrote None octets_at old new request code Helped accepted text = tt
+wrote (Some words) octets_at old new request code Helped accepted text = inl (record {
   request = request;
   accepted = accepted;
   text = λ files are. let ended = text files are in (ended.0, ended.2.0, ended.2.1, ended.1, ended.2.2);

@@ -1,5 +1,6 @@
 -- A text of keys is one list of them, or has one fault.
 use Rattle.std.proofs.Common.{◌≡◌, ℕ, List, [], Option, Some, None, refl, sym, ap, ◌∙◌, arith}
+use Rattle.dnsv_tsig.proofs.KeyLemmas.{none_say}
 use Rattle.dnsv_tsig.specs.Key.{SharedKey}
 use Rattle.dnsv_tsig.specs.KeyFile.{IsKeyFault, IsRingOf}
 use Rattle.dnsv_tsig.specs.declared.error.KeyFileError.{KeyFileError}
@@ -21,10 +22,12 @@ one_telling (key_file.DuplicateKey number) a b p q x y = one_at_line number (ref
 
 -- no text has no keys
 pub no_keys : HasKeys [] []
-no_keys = record {
-  within = omega arith;
-  are = ([], record { lines = []; all = record { ended = []; behind = []; each = tt; last = tt; octets = refl; all = refl }; numbered = refl }, refl);
-}
+no_keys =
+    let none = none_say [] refl in
+    record {
+      within = omega arith;
+      are = record { lines = []; has = record { lines = []; all = record { ended = []; behind = []; each = tt; last = tt; octets = refl; all = refl }; numbered = refl }; each = none.each; may_stand = none.may_stand };
+    }
 
 module _ (one_ring : (text : List ℕ) (a b : List SharedKey) → IsRingOf text a → IsRingOf text b → a ≡ b)
     (one_error : (text : List ℕ) (a b : KeyFileError) → IsKeyFault text a → IsKeyFault text b → a ≡ b)

@@ -6,7 +6,7 @@ use Rattle.dnssec_check.proofs.program.exit_status.Goals as goal
 
 pub returns-in-Ok-clause-done : goal.returns-in-Ok-clause-done
 returns-in-Ok-clause-done g c = λ ends.
-    wrote _ _ _ _ _ _ c.in-Ok.ensures.accepted (λ files are. ended_well _ _ (sym c.finish.ensures.code) ends (c.answer-outcome.ensures.done files are))
+    wrote _ _ _ _ _ _ _ c.in-Ok.ensures.accepted (λ files are. ended_well _ _ (sym c.finish.ensures.code) ends (c.answer-outcome.ensures.done files are))
 
 pub returns-in-Ok-clause-refused : goal.returns-in-Ok-clause-refused
 returns-in-Ok-clause-refused g c = λ is_7.
