@@ -8,10 +8,11 @@ ghost use Rattle.dnsv_records.specs.declared.nsec3.Nsec3Parameters.{Nsec3Paramet
 ghost use Rattle.dnsv_canonical.specs.Evidence.{AreParameters, nsec3_rdata};
 ghost use Rattle.dnsv_digest.specs.Nsec3Hash.{nsec3_hash_of};
 ghost use Rattle.dnsv_zones.specs.chains.HashedNames.{hashes_for, sha1_hash};
-ghost use Rattle.dnsv_denial.specs.gathering.Kept.{IsSetOf};
 ghost use Rattle.dnsv_zones.specs.chains.Nsec3Chain.{IsAsked};
-ghost use Rattle.dnsv_denial.specs.QuestionHashes.{IsAskedHash};
 ghost use Rattle.dnsv_zones.specs.chains.Rdata.{parameters_of};
+ghost use Rattle.dnsv_denial.specs.KeptHashes.{AreKeptHashes};
+ghost use Rattle.dnsv_denial.specs.QuestionHashes.{IsAskedHash};
+ghost use Rattle.dnsv_denial.specs.gathering.Kept.{IsSetOf};
 ghost use Rattle.dnsv_denial.specs.declared.proving.zone_records.ParameterSet.{ParameterSet};
 
 use crate::gathering::zones::sets_of;
@@ -20,6 +21,7 @@ use dnsv_canonical::Capture;
 use dnsv_names::{Count, Hash20, Name};
 use std::alloc::{AllocError, Global};
 use std::marker::Model;
+use std::rc::Rc;
 
 /// The hashes of the names that a question asks for: its name, the ancestors of that, and each wildcard right below one
 /// of its proper ancestors, with each iterations and salt of a usable NSEC3 record of a capture (RFC 5155 5, 8).
@@ -27,8 +29,8 @@ use std::marker::Model;
 pub struct Hashes<'a> {
     capture: &'a Capture,
     name: Name,
-    /// In the order of their parameters.
-    sets: Vec<ParameterSet<'a>>,
+    /// In the order of their parameters. Each view that is made with them has a share.
+    sets: Rc<Vec<ParameterSet<'a>>>,
 }
 
 impl<'a> Model for Hashes<'a> {
@@ -39,7 +41,7 @@ impl<'a> Model for Hashes<'a> {
 
     ghost view = { λ hashes. record { rrsets = hashes.capture.now.rrsets; name = hashes.name } };
 
-    ghost invariant = { λ hashes. AreKeptHashes hashes.capture.now.rrsets hashes.name hashes.sets.items };
+    ghost invariant = { λ hashes. AreKeptHashes hashes.capture.now.rrsets hashes.name hashes.sets.value.items };
 }
 
 impl<'a> Hashes<'a> {
@@ -61,8 +63,22 @@ impl<'a> Hashes<'a> {
         Ok(Hashes {
             capture,
             name: name.clone()?,
-            sets,
+            sets: Rc::new(alloc, sets)?,
         })
+    }
+
+    /// The name whose question asks for them.
+    pub(crate) fn name(&self) -> &Name
+        ensures { result.now ≡ self.now.name }
+    {
+        &self.name
+    }
+
+    /// A share of the sets.
+    pub(crate) fn share(&self) -> Result<Rc<Vec<ParameterSet<'a>>>, AllocError>
+        ensures { IfOk result (λ sets. AreKeptHashes self.now.rrsets self.now.name sets.value.items) }
+    {
+        self.sets.clone()
     }
 
     /// The hash of the name with so many iterations and the salt (RFC 5155 5). `None` where no usable NSEC3 record of

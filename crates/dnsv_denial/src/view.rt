@@ -27,31 +27,33 @@ ghost use Rattle.dnsv_denial.specs.unsigned_cuts.Cuts.{HasLooseCloser, HasUnsign
 ghost use Rattle.dnsv_denial.specs.words.EvidenceWords.{Chain, evidence_said};
 
 use crate::forms::denial::Denial;
-use crate::gathering::zones::{sets_of, zones_of};
+use crate::gathering::zones::zones_of;
 use crate::proving::first_proof::{first_proof, no_closer};
 use crate::proving::proof::Proof;
 use crate::proving::zone_records::{ParameterSet, ZoneRecords};
+use crate::question_hashes::Hashes;
 use crate::unsigned_cuts::kept_cuts::{loose_next_closer, unsigned_cut};
 use dnsv_canonical::Capture;
 use dnsv_chain::Trust;
 use dnsv_names::{Count, Name, RecordType};
 use std::alloc::{AllocError, Global};
 use std::marker::Model;
+use std::rc::Rc;
 
 /// The secured NSEC and NSEC3 records of a capture that can speak of a question's name: those of the zones at or above
 /// it.
 #[derive(Drop)]
-pub struct View<'a> {
-    capture: &'a Capture,
-    trust: &'a Trust,
-    name: &'a Name,
-    /// In the order of their parameters.
-    sets: Vec<ParameterSet<'a>>,
+pub struct View<'c, 't> {
+    capture: &'c Capture,
+    trust: &'t Trust,
+    name: Name,
+    /// In the order of their parameters, shared with the `Hashes` that the view was made with.
+    sets: Rc<Vec<ParameterSet<'c>>>,
     /// One for each number of the name's rightmost labels, from the root on.
-    zones: Vec<ZoneRecords<'a>>,
+    zones: Vec<ZoneRecords<'c>>,
 }
 
-impl<'a> Model for View<'a> {
+impl<'c, 't> Model for View<'c, 't> {
     ghost use Rattle.dnsv_denial.specs.Viewed.{SecuredIn, Viewed};
     ghost use Rattle.dnsv_denial.specs.gathering.Kept.{IsViewOf};
 
@@ -60,24 +62,24 @@ impl<'a> Model for View<'a> {
     ghost view = { λ view. record {
       rrsets = view.capture.now.rrsets;
       trust = view.trust.now;
-      name = view.name.now;
+      name = view.name;
     } };
 
-    ghost invariant = { λ view. IsViewOf (SecuredIn view.trust.now) view.capture.now.rrsets view.name.now
-        view.sets.items view.zones.items };
+    ghost invariant = { λ view. IsViewOf (SecuredIn view.trust.now) view.capture.now.rrsets view.name
+        view.sets.value.items view.zones.items };
 }
 
-impl<'a> View<'a> {
+impl<'c, 't> View<'c, 't> {
     /// Gathers the records for the question's name. `trust` is that of the capture. `count` grows by the hashes that
     /// are made: one more than the iterations for the name, for each of its ancestors and for each wildcard right below
     /// one of its proper ancestors, with each iterations and salt of a usable NSEC3 record of the capture (RFC 5155 5).
     pub fn new(
         alloc: Global,
-        capture: &'a Capture,
-        trust: &'a Trust,
-        name: &'a Name,
+        capture: &'c Capture,
+        trust: &'t Trust,
+        name: &Name,
         count: &mut Count,
-    ) -> Result<View<'a>, AllocError>
+    ) -> Result<View<'c, 't>, AllocError>
         ensures value { IfOk result (λ view. view
             ≡ record { rrsets = capture.now.rrsets; trust = trust.now; name = name.now }) }
         // Whatever the order of the parameters.
@@ -85,28 +87,28 @@ impl<'a> View<'a> {
             → AreParameters (nsec3_rdata capture.now.rrsets) all
             → count.new ≡ counted count.old (hashes_for name.now all)) }
     {
-        let sets = sets_of(alloc, capture.nsec3_parameters(), name, count)?;
-        let zones = zones_of(alloc, capture, trust, name)?;
+        let hashes = Hashes::new(alloc, capture, name, count)?;
+        View::with(alloc, capture, trust, &hashes)
+    }
+
+    /// Gathers the records for the name that the hashes are kept for, which are those of the capture. Nothing is hashed.
+    pub fn with(
+        alloc: Global,
+        capture: &'c Capture,
+        trust: &'t Trust,
+        hashes: &Hashes<'c>,
+    ) -> Result<View<'c, 't>, AllocError>
+        requires { hashes.now.rrsets ≡ capture.now.rrsets }
+        ensures { IfOk result (λ view. view
+            ≡ record { rrsets = capture.now.rrsets; trust = trust.now; name = hashes.now.name }) }
+    {
+        let sets = hashes.share()?;
+        let zones = zones_of(alloc, capture, trust, hashes.name())?;
         Ok(View {
             capture,
             trust,
-            name,
+            name: hashes.name().clone()?,
             sets,
-            zones,
-        })
-    }
-
-    /// The view that another trust in the same capture gives. The hashes are kept, since none depends on the trust.
-    pub fn with_trust(self, alloc: Global, trust: &'a Trust) -> Result<View<'a>, AllocError>
-        ensures { IfOk result (λ view. view
-            ≡ record { rrsets = self.entry.rrsets; trust = trust.now; name = self.entry.name }) }
-    {
-        let zones = zones_of(alloc, self.capture, trust, self.name)?;
-        Ok(View {
-            capture: self.capture,
-            trust,
-            name: self.name,
-            sets: self.sets,
             zones,
         })
     }
@@ -131,7 +133,7 @@ impl<'a> View<'a> {
             → HasFirmChain (SecuredIn self.now.trust) self.now.rrsets self.now.name zone
             → IsLookup zone self.now.name t NoName → IsSome result }
     {
-        first_proof(Denial::NoName, self.name, &self.zones, &self.sets)
+        first_proof(Denial::NoName, &self.name, &self.zones, &self.sets)
     }
 
     /// The first proof that the type isn't at the name, nor at a wildcard that stands for it (RFC 4035 5.4, RFC 5155
@@ -155,7 +157,7 @@ impl<'a> View<'a> {
             → HasFirmChain (SecuredIn self.now.trust) self.now.rrsets self.now.name zone
             → IsLookup zone self.now.name rtype.0 (NoData source) → IsSome result }
     {
-        first_proof(Denial::NoData(rtype), self.name, &self.zones, &self.sets)
+        first_proof(Denial::NoData(rtype), &self.name, &self.zones, &self.sets)
     }
 
     /// The first proof that an answer of the zone from the wildcard below the name's so many rightmost labels has no
@@ -172,7 +174,7 @@ impl<'a> View<'a> {
             → Holds signer (wildcard_of (rightmost self.now.name labels)) t
             → IsLookup signer self.now.name t (Held (wildcard_of (rightmost self.now.name labels)))) }
     {
-        no_closer(self.name, zone, labels, &self.zones, &self.sets)
+        no_closer(&self.name, zone, labels, &self.zones, &self.sets)
     }
 
     /// The name from which on the question's name may be unsigned: the highest delegation without DS; else the highest
@@ -200,7 +202,13 @@ impl<'a> View<'a> {
             → IsLookup zone self.now.name t (NoData source)
             → CanProveNoData (SecuredIn self.now.trust) self.now.rrsets self.now.name t ⊎ IsSome result }
     {
-        unsigned_cut(self.capture, self.trust, self.name, &self.zones, &self.sets)
+        unsigned_cut(
+            self.capture,
+            self.trust,
+            &self.name,
+            &self.zones,
+            &self.sets,
+        )
     }
 
     /// The next closer name to the name's so many rightmost labels, if Opt-Out may leave out an unsigned delegation of
@@ -216,6 +224,6 @@ impl<'a> View<'a> {
         ensures meaning { IfSome result (λ closer. (chain : Chain) × IsCoveredEnd self.now.rrsets
             zone.now ((evidence_said (SecuredIn self.now.trust) self.now.rrsets zone.now chain).OptedOut) closer) }
     {
-        loose_next_closer(self.name, zone, labels, &self.zones, &self.sets)
+        loose_next_closer(&self.name, zone, labels, &self.zones, &self.sets)
     }
 }

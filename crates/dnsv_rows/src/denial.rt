@@ -5,8 +5,10 @@ mod evidence;
 mod places;
 
 use crate::chain::trust_in;
-use crate::row::{Row, RowError};
-use dnsv_denial::{Proof, View};
+use crate::evidence::capture_or_refusal;
+use crate::row::{Row, RowError, printed};
+use dnsv_chain::Trust;
+use dnsv_denial::{Hashes, Proof, View};
 use dnsv_names::{Count, Name, RecordType};
 use evidence::{Evidence, evidence_of};
 use std::alloc::Global;
@@ -24,6 +26,9 @@ pub fn answer(row: &Row) -> Result<Option<String>, RowError> {
     }
     if row.calls("hashes") {
         return Ok(Some(hashes(row)?));
+    }
+    if row.calls("hash") {
+        return Ok(Some(hash(row)?));
     }
     if row.calls("lacks") {
         return Ok(Some(each::lacks(row)?));
@@ -46,8 +51,8 @@ fn deny(row: &Row) -> Result<String, RowError> {
     denials(row.alloc(), &view, rtype_of(row.text(4)?)?)
 }
 
-/// `retrust CAPTURE ANCHORS MOMENT NAME TYPE BEFORE`: what `deny` prints, by a view that was made under the anchors
-/// BEFORE.
+/// `retrust CAPTURE ANCHORS MOMENT NAME TYPE BEFORE`: what `deny` prints, by the hashes that a view under the anchors
+/// BEFORE was made with.
 fn retrust(row: &Row) -> Result<String, RowError> {
     let evidence = match evidence_of(row)? {
         Ok(evidence) => evidence,
@@ -55,15 +60,20 @@ fn retrust(row: &Row) -> Result<String, RowError> {
     };
     let before = trust_in(row, &evidence.capture, 5)?;
     let name = row.name(3)?;
-    let view = View::new(
-        row.alloc(),
-        &evidence.capture,
-        &before,
-        &name,
-        &mut Count::new(),
-    )?;
-    let view = view.with_trust(row.alloc(), &evidence.trust)?;
+    let view = view_with_hashes_of(row.alloc(), &evidence, &before, &name)?;
     denials(row.alloc(), &view, rtype_of(row.text(4)?)?)
+}
+
+/// The view of the evidence for the name, by the hashes that a view under another trust was made with.
+fn view_with_hashes_of<'a>(
+    alloc: Global,
+    evidence: &'a Evidence,
+    before: &Trust,
+    name: &Name,
+) -> Result<View<'a, 'a>, RowError> {
+    let hashes = Hashes::new(alloc, &evidence.capture, name, &mut Count::new())?;
+    View::with(alloc, &evidence.capture, before, &hashes)?;
+    Ok(View::with(alloc, &evidence.capture, &evidence.trust, &hashes)?)
 }
 
 /// `closer CAPTURE ANCHORS MOMENT NAME ZONE LABELS`: the zone and the record of the proof that the zone has no closer
@@ -78,7 +88,7 @@ fn closer(row: &Row) -> Result<String, RowError> {
     closer_names(row, &view)
 }
 
-fn closer_names(row: &Row, view: &View<'_>) -> Result<String, RowError> {
+fn closer_names(row: &Row, view: &View<'_, '_>) -> Result<String, RowError> {
     let alloc = row.alloc();
     let zone = row.name(4)?;
     let Ok(labels) = usize::try_from(row.number(5)?) else {
@@ -108,12 +118,33 @@ fn hashes(row: &Row) -> Result<String, RowError> {
     Ok(format!(in row.alloc(); "{value}")?)
 }
 
+/// `hash CAPTURE NAME ITERATIONS SALT OTHER`: the hash of the other name among those that are kept for the name.
+fn hash(row: &Row) -> Result<String, RowError> {
+    let capture = match capture_or_refusal(row, 0)? {
+        Ok(capture) => capture,
+        Err(refusal) => return Ok(refusal),
+    };
+    let name = row.name(1)?;
+    let hashes = Hashes::new(row.alloc(), &capture, &name, &mut Count::new())?;
+    kept_hash(row, &hashes)
+}
+
+fn kept_hash(row: &Row, hashes: &Hashes<'_>) -> Result<String, RowError> {
+    let iterations = row.number16(2)?;
+    let salt = row.octets(3)?;
+    let other = row.name(4)?;
+    match hashes.get(iterations, salt.as_slice(), &other) {
+        Some(hash) => Ok(hex::encode(row.alloc(), hash.octets().as_slice())?),
+        None => Ok(printed::none(row.alloc())?),
+    }
+}
+
 /// The view of the evidence for the name.
 fn view_of<'a>(
     alloc: Global,
     evidence: &'a Evidence,
-    name: &'a Name,
-) -> Result<View<'a>, RowError> {
+    name: &Name,
+) -> Result<View<'a, 'a>, RowError> {
     Ok(View::new(
         alloc,
         &evidence.capture,
@@ -131,7 +162,7 @@ fn rtype_of(text: &str) -> Result<RecordType, RowError> {
     }
 }
 
-fn denials(alloc: Global, view: &View<'_>, rtype: RecordType) -> Result<String, RowError> {
+fn denials(alloc: Global, view: &View<'_, '_>, rtype: RecordType) -> Result<String, RowError> {
     let no_name = told(alloc, view.no_name())?;
     let no_data = told(alloc, view.no_data(rtype))?;
     let cut = named(alloc, view.unsigned_cut())?;

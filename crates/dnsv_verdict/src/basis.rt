@@ -17,7 +17,7 @@ use crate::settled::settled;
 use crate::verdict::Verdict;
 use dnsv_canonical::Capture;
 use dnsv_chain::{Anchor, Anchors, Trust, trust_depends_on_what_is_asked, trusted};
-use dnsv_denial::View;
+use dnsv_denial::{Hashes, View};
 use dnsv_names::{Count, Name, RecordType};
 use dnsv_verifier::{Entry, Table, a_table_is_its_verifier, unknown_entries_may_turn_out_valid};
 use std::alloc::{AllocError, Global};
@@ -56,12 +56,13 @@ pub fn verdict_at(
 {
     a_table_is_its_verifier();
     trust_depends_on_what_is_asked();
-    let view = View::new(alloc, basis.capture, trust, name, hashed)?;
+    let hashes = Hashes::new(alloc, basis.capture, name, hashed)?;
+    let view = View::with(alloc, basis.capture, trust, &hashes)?;
     if let Some(verdict) = settled(basis.capture, trust, name, rtype, &view) {
         return Ok(verdict);
     }
     let unknown = basis.table.unknown(alloc)?;
-    if may_settle(alloc, basis, view, &unknown, name, rtype)? {
+    if may_settle(alloc, basis, &hashes, &unknown, name, rtype)? {
         return Ok(Verdict::Pending(Entries::from_vec(unknown)));
     }
     if has_anchor(basis.anchors, name) {
@@ -71,18 +72,18 @@ pub fn verdict_at(
 }
 
 /// Whether the evidence, which doesn't settle the question, would if each of the entries that the verifier doesn't know
-/// were valid. Where there are none, nothing is worked out again. `view` is one for the name with any trust: its hashes
-/// serve again.
-fn may_settle(
+/// were valid. Where there are none, nothing is worked out again. The hashes are those for the name: none depends on the
+/// trust, so that they serve again.
+fn may_settle<'a>(
     alloc: Global,
-    basis: &Basis<'_>,
-    view: View<'_>,
+    basis: &Basis<'a>,
+    hashes: &Hashes<'a>,
     unknown: &[Entry],
     name: &Name,
     rtype: RecordType,
 ) -> Result<bool, AllocError>
-    requires rrsets { view.rrsets ≡ basis.now.capture.now.rrsets }
-    requires name { view.name ≡ name.now }
+    requires rrsets { hashes.now.rrsets ≡ basis.now.capture.now.rrsets }
+    requires name { hashes.now.name ≡ name.now }
     requires entries { unknown.now ≡ unknown_entries basis.now.table.now }
     requires rising { IsStrictlySortedBy entry_cmp unknown.now }
     ensures { (meaning : Entry → Answer) (moment : ℕ)
@@ -108,7 +109,7 @@ fn may_settle(
     }
     let hopeful = basis.table.hopeful(alloc)?;
     let trust = trusted(alloc, basis.capture, basis.anchors, &hopeful)?;
-    let view = view.with_trust(alloc, &trust)?;
+    let view = View::with(alloc, basis.capture, &trust, hashes)?;
     let Some(_found) = settled(basis.capture, &trust, name, rtype, &view) else {
         return Ok(false);
     };

@@ -21,7 +21,7 @@ pub fn settled(
     trust: &Trust,
     name: &Name,
     rtype: RecordType,
-    view: &View<'_>,
+    view: &View<'_, '_>,
 ) -> Option<Verdict>
     requires { view.now ≡ record { rrsets = capture.now.rrsets; trust = trust.now; name = name.now } }
     ensures { MatchOption result (¬ IsSettled (SecuredIn trust.now) capture.now.rrsets name.now rtype.0)
@@ -54,7 +54,7 @@ fn secure_set<'a>(
     trust: &Trust,
     name: &Name,
     rtype: RecordType,
-    view: &View<'_>,
+    view: &View<'_, '_>,
 ) -> Option<Found<'a>>
     requires { view.now ≡ record { rrsets = capture.now.rrsets; trust = trust.now; name = name.now } }
     ensures { MatchOption result
@@ -71,7 +71,7 @@ fn secure_alias<'a>(
     trust: &Trust,
     name: &Name,
     rtype: RecordType,
-    view: &View<'_>,
+    view: &View<'_, '_>,
 ) -> Option<Found<'a>>
     requires { view.now ≡ record { rrsets = capture.now.rrsets; trust = trust.now; name = name.now } }
     ensures { MatchOption result (¬ HasAlias (SecuredIn trust.now) capture.now.rrsets name.now rtype.0)
@@ -94,7 +94,7 @@ fn loose_cut(
     trust: &Trust,
     name: &Name,
     rtype: RecordType,
-    view: &View<'_>,
+    view: &View<'_, '_>,
 ) -> Option<Name>
     requires { view.now ≡ record { rrsets = capture.now.rrsets; trust = trust.now; name = name.now } }
     ensures { MatchOption result
@@ -110,12 +110,12 @@ fn loose_cut(
 /// That an RRset of the type holds for the view's name by the signature: no wildcard is behind it, or there is a proof
 /// that no closer name than the wildcard exists (RFC 4035 5.3.4, RFC 5155 8.8).
 #[derive(Drop)]
-struct HoldsForName<'a> {
-    view: &'a View<'a>,
+struct HoldsForName<'v, 'c, 't> {
+    view: &'v View<'c, 't>,
     rtype: RecordType,
 }
 
-impl Test for HoldsForName<'_> {
+impl Test for HoldsForName<'_, '_, '_> {
     ghost use Rattle.std.specs.Prelude.{◌≡◌};
     ghost use Rattle.dnsv_denial.specs.Viewed.{SecuredIn};
     ghost use Rattle.dnsv_verdict.specs.Secure.{HoldsForName};
@@ -139,12 +139,12 @@ impl Test for HoldsForName<'_> {
 /// That a wildcard is behind the signature of an RRset of the type, or of CNAME, and an unsigned delegation may be
 /// closer to the view's name (RFC 5155 8.8).
 #[derive(Drop)]
-struct IsLoose<'a> {
-    view: &'a View<'a>,
+struct IsLoose<'v, 'c, 't> {
+    view: &'v View<'c, 't>,
     rtype: RecordType,
 }
 
-impl Test for IsLoose<'_> {
+impl Test for IsLoose<'_, '_, '_> {
     ghost use Rattle.std.specs.Prelude.{◌≡◌, ◌⊎◌};
     ghost use Rattle.dnsv_zones.specs.zones.TypeNumbers.{cname};
     ghost use Rattle.dnsv_denial.specs.Viewed.{SecuredIn};

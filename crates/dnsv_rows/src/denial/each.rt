@@ -25,7 +25,7 @@ pub fn lacks(row: &Row) -> Result<String, RowError> {
 }
 
 /// What a name lacks.
-fn lacked(row: &Row, view: &View<'_>) -> Result<String, RowError> {
+fn lacked(row: &Row, view: &View<'_, '_>) -> Result<String, RowError> {
     let alloc = row.alloc();
     let no_name = if view.no_name().is_some() { "+" } else { "-" };
     let types = lacked_types(alloc, row.text(3)?, view)?;
@@ -37,7 +37,7 @@ fn lacked(row: &Row, view: &View<'_>) -> Result<String, RowError> {
 }
 
 /// Those of the types that are proved not to be there.
-fn lacked_types(alloc: Global, types: &str, view: &View<'_>) -> Result<String, RowError> {
+fn lacked_types(alloc: Global, types: &str, view: &View<'_, '_>) -> Result<String, RowError> {
     let mut text = String::new(alloc);
     for each in types.split(',') {
         if view.no_data(rtype_of(each)?).is_some() {
@@ -84,7 +84,12 @@ pub fn closers(row: &Row) -> Result<String, RowError> {
     Ok(text)
 }
 
-fn closers_of(row: &Row, view: &View<'_>, zone: &Name, count: usize) -> Result<String, RowError> {
+fn closers_of(
+    row: &Row,
+    view: &View<'_, '_>,
+    zone: &Name,
+    count: usize,
+) -> Result<String, RowError> {
     let mut text = String::new(row.alloc());
     for labels in 0..count {
         let is_shown = view.no_closer(zone, labels).is_some();

@@ -8,19 +8,22 @@ use Rattle.std.specs.Prelude.{Contains, Some, slice_get}
 use Rattle.std.specs.declared.cmp.Ordering.{Ordering}
 use Rattle.std.specs.declared.cmp.Ordering.TheVariants.{Less}
 use Rattle.dnsv_names.specs.Name.{Labels}
-use Rattle.dnsv_records.specs.declared.nsec3.Nsec3Parameters.{Nsec3Parameters}
 use Rattle.dnsv_zones.specs.Any.{Any}
 use Rattle.dnsv_zones.specs.chains.Nsec3Chain.{Nsec3Record, Parameters}
 use Rattle.dnsv_zones.specs.chains.Rdata.{parameters_of}
 use Rattle.dnsv_canonical.proofs.CanonicalLemmas.{IsMember, IsMember-from_contains, Contains-from_member}
 use Rattle.dnsv_canonical.specs.CanonicalRdata.{canonical_form}
-use Rattle.dnsv_canonical.specs.Evidence.{AreParameters, nsec3_rdata}
+use Rattle.dnsv_canonical.specs.Evidence.{nsec3_rdata}
 use Rattle.dnsv_canonical.specs.Rrsets.{ReceivedRrset}
+use Rattle.dnsv_chain.specs.Trust.{KeptTrust}
+use Rattle.dnsv_denial.specs.KeptHashes.{AreKeptHashes}
+use Rattle.dnsv_denial.specs.Viewed.{SecuredIn}
 use Rattle.dnsv_denial.specs.gathering.Evidence.{IsNsec3At}
-use Rattle.dnsv_denial.specs.gathering.Kept.{AreSets}
+use Rattle.dnsv_denial.specs.gathering.Kept.{AreSets, AreZones, IsViewOf}
 use Rattle.dnsv_denial.specs.words.EvidenceWords.{parameters_cmp}
 use Rattle.dnsv_denial.specs.declared.records.number.RecordNumber.{RecordNumber}
 use Rattle.dnsv_denial.specs.declared.proving.zone_records.ParameterSet.{ParameterSet}
+use Rattle.dnsv_denial.specs.declared.proving.zone_records.ZoneRecords.{ZoneRecords}
 use Rattle.dnsv_denial.proofs.lemmas.gathering.EvidenceLemmas.{nsec3_forms}
 use Rattle.dnsv_denial.proofs.lemmas.gathering.GatherLemmas.{each_at, mapped_at}
 
@@ -64,14 +67,11 @@ rising_at f R (x ∷ xs) rising zero (suc j) a b at_i at_j less =
     subst (λ y. R (f y) (f b) ≡ Less) is (each_at (λ y. R (f x) y ≡ Less) (map f xs) j (f b) rising.0 (mapped_at f xs j b at_j))
 rising_at f R (x ∷ xs) rising (suc i) (suc j) a b at_i at_j less = rising_at f R xs rising.1 i j a b at_i at_j (omega (arith, less))
 
-pub are_sets : (Secured : ℕ → ℕ → Type 0) (rrsets : List ReceivedRrset) (all : List Nsec3Parameters) (sets : List ParameterSet)
-    → AreParameters (nsec3_rdata rrsets) all
-    → IsStrictlySortedBy parameters_cmp (map parameters_of (map (λ set. set.parameters.now) sets))
-    → ((each : Nsec3Parameters) → Contains all each → Contains (map (λ set. set.parameters.now) sets) each)
-    → AreSets Secured rrsets sets
-are_sets Secured rrsets all sets are rising each = record {
+pub are_sets : (Secured : ℕ → ℕ → Type 0) (rrsets : List ReceivedRrset) (name : Labels) (sets : List ParameterSet)
+    → AreKeptHashes rrsets name sets → AreSets Secured rrsets sets
+are_sets Secured rrsets name sets kept = record {
   order = λ i j a b at_i at_j less.
-      rising_at parameters_of parameters_cmp (map (λ (set : ParameterSet). set.parameters.now) sets) rising i j a.parameters.now b.parameters.now
+      rising_at parameters_of parameters_cmp (map (λ (set : ParameterSet). set.parameters.now) sets) kept.order i j a.parameters.now b.parameters.now
       (mapped_at (λ (set : ParameterSet). set.parameters.now) sets i a at_i) (mapped_at (λ (set : ParameterSet). set.parameters.now) sets j b at_j) less;
   all = λ zone n nsec3 at.
       let is = at.is in
@@ -80,9 +80,22 @@ are_sets Secured rrsets all sets are rising each = record {
       let canonical : Contains is.at.canonical is.rdata = Contains-from_member is.at.canonical is.rdata (member_at is.at.canonical (n.place - 1) is.rdata is.at.is_rdata.1) in
       let received : Contains is.rrset.rdata is.rdata = subst (λ xs. Contains xs is.rdata) forms ((is.at.is_canonical.members is.rdata).0 canonical) in
       let among : Contains (nsec3_rdata rrsets) is.rdata = among_all rrsets (n.rrset - 1) is.rrset is.rdata is.at.is_rrset.1 is.rtype received in
-      let found : Contains all is.fields.parameters = (are.members is.fields.parameters).1 (is.rdata, among, (is.fields, is.read, is.usable, refl)) in
+      let found : Contains (map (λ (set : ParameterSet). set.parameters.now) sets) is.fields.parameters =
+      (kept.members is.fields.parameters).1 (is.rdata, among, (is.fields, is.read, is.usable, refl)) in
       any_leads (λ (set : ParameterSet). set.parameters.now ≡ is.fields.parameters) (λ (set : ParameterSet). parameters_of set.parameters.now ≡ nsec3.parameters) sets
       (λ set same. ap parameters_of same ∙ sym is.parameters)
       (any_member (λ (set : ParameterSet). set.parameters.now) sets is.fields.parameters
-      (IsMember-from_contains (map (λ (set : ParameterSet). set.parameters.now) sets) is.fields.parameters (each is.fields.parameters found)));
+      (IsMember-from_contains (map (λ (set : ParameterSet). set.parameters.now) sets) is.fields.parameters found));
 }
+
+-- the hashes that are kept for the name, and the zones of it, are what a view keeps
+pub view_of_kept : (trust : KeptTrust) (hashed rrsets : List ReceivedRrset) (kept_name name : Labels) (sets : List ParameterSet) (zones : List ZoneRecords)
+    → hashed ≡ rrsets → name ≡ kept_name → AreKeptHashes hashed kept_name sets → AreZones (SecuredIn trust) rrsets kept_name zones
+    → IsViewOf (SecuredIn trust) rrsets name sets zones
+view_of_kept trust hashed rrsets kept_name name sets zones same its kept are =
+    let of : AreKeptHashes rrsets name sets = subst (λ each. AreKeptHashes each name sets) same (subst (λ each. AreKeptHashes hashed each sets) (sym its) kept) in
+    record {
+      hashed = of.hashed;
+      are_sets = λ any. are_sets (SecuredIn any) rrsets name sets of;
+      are_zones = subst (λ each. AreZones (SecuredIn trust) rrsets each zones) (sym its) are;
+    }

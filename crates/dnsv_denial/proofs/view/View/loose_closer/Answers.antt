@@ -8,10 +8,10 @@ use Rattle.dnsv_denial.proofs.view.View.loose_closer.Goals as goal
 
 pub returns-clause-meaning : goal.returns-clause-meaning
 returns-clause-meaning c =
-    let found = c.loose_next_closer.ensures c.self.inside.trust.now c.self.inside.capture.now.rrsets (rw c.deref-2.ensures.value (rw c.deref.ensures.value c.self.invariant)) in
-    rw (← c.self.view_is) (if_some (¬ HasLooseCloser (SecuredIn c.self.inside.trust.now) c.self.inside.capture.now.rrsets c.self.inside.name.now c.args.labels c.args.zone.now)
-    (λ closer. HasLooseCloser (SecuredIn c.self.inside.trust.now) c.self.inside.capture.now.rrsets c.self.inside.name.now c.args.labels c.args.zone.now
-    × (closer ≡ rightmost c.self.inside.name.now (c.args.labels + 1)))
+    let found = c.loose_next_closer.ensures c.self.inside.trust.now c.self.inside.capture.now.rrsets (rw c.deref-3.ensures.value (rw c.deref-2.ensures (rw c.deref.ensures.value c.self.invariant))) in
+    rw (← c.self.view_is) (if_some (¬ HasLooseCloser (SecuredIn c.self.inside.trust.now) c.self.inside.capture.now.rrsets c.self.inside.name c.args.labels c.args.zone.now)
+    (λ closer. HasLooseCloser (SecuredIn c.self.inside.trust.now) c.self.inside.capture.now.rrsets c.self.inside.name c.args.labels c.args.zone.now
+    × (closer ≡ rightmost c.self.inside.name (c.args.labels + 1)))
     _ c.loose_next_closer.result
-    (closer_means (SecuredIn c.self.inside.trust.now) c.self.inside.capture.now.rrsets c.self.inside.name.now c.args.labels c.args.zone.now)
+    (closer_means (SecuredIn c.self.inside.trust.now) c.self.inside.capture.now.rrsets c.self.inside.name c.args.labels c.args.zone.now)
     found)
