@@ -3,8 +3,9 @@
 //! Rows are parted by an empty line. Lines `PATH < HEX..` and `PATH = TEXT` are the machine's files: octets in hex, by a
 //! name of `samples` or with `^N` behind them N times; or a text, in which `;` ends a line. With `!` behind the octets
 //! each read behind the last one fails, and `full` says that no write is taken. The line `$ WORDS` is the command line,
-//! or `octets HEX..`, a word each.
-//! Behind it stands how the program has to end: `=> STATUS`, and then what it prints, on the standard error behind `! `;
+//! or `octets HEX..`, a word each. Behind these lines stand those that the rows of a file share: of files with one path, and
+//! of command lines, the first counts.
+//! Behind them stands how the program has to end: `=> STATUS`, and then what it prints, on the standard error behind `! `;
 //! or lines `~ TEXT`, which have to stand somewhere in what is printed.
 use crate::program::exit_status_on;
 use crate::samples::hex_named;
@@ -25,44 +26,46 @@ use system::{File, Page, System};
 
 #[test]
 fn lists_as_the_rows_say(rt: HostRuntime) -> Result<(), Fail> {
-    meets(&rt, listing::ROWS)
+    meets(&rt, "", listing::ROWS)
 }
 
 #[test]
 fn shows_as_the_rows_say(rt: HostRuntime) -> Result<(), Fail> {
-    meets(&rt, showing::ROWS)
+    meets(&rt, "", showing::ROWS)
 }
 
 #[test]
 fn checks_as_the_rows_say(rt: HostRuntime) -> Result<(), Fail> {
-    meets(&rt, checking::ROWS)
+    meets(&rt, "", checking::ROWS)
 }
 
 #[test]
 fn opens_messages_as_the_rows_say(rt: HostRuntime) -> Result<(), Fail> {
-    meets(&rt, signed::ROWS)
+    meets(&rt, signed::SHARED, signed::ROWS)
 }
 
 #[test]
 fn reads_key_files_as_the_rows_say(rt: HostRuntime) -> Result<(), Fail> {
-    meets(&rt, key_files::ROWS)
+    meets(&rt, signed::SHARED, key_files::ROWS)
 }
 
 #[test]
 fn reads_command_lines_as_the_rows_say(rt: HostRuntime) -> Result<(), Fail> {
-    meets(&rt, command_line::ROWS)
+    meets(&rt, command_line::SHARED, command_line::ROWS)
 }
 
 #[test]
 fn prints_what_others_print_of_real_answers(rt: HostRuntime) -> Result<(), Fail> {
-    meets(&rt, captures::ROWS)
+    meets(&rt, "", captures::ROWS)
 }
 
 /// Runs the program as each row says, and compares how it ends.
-fn meets<R: Abort + AllocGlobal>(rt: &R, rows: &str) -> Result<(), Fail> {
+fn meets<R: Abort + AllocGlobal>(rt: &R, shared: &str, rows: &str) -> Result<(), Fail> {
+    let alloc = rt.alloc();
     for row in rows.split("\n\n") {
-        let (machine, wanted) = row.split_once("\n=> ").ok_or("a row without an end")?;
-        let told = outcome(rt.alloc(), machine)?;
+        let (own, wanted) = row.split_once("\n=> ").ok_or("a row without an end")?;
+        let machine = format!(in alloc; "{own}\n{shared}")?;
+        let told = outcome(alloc, machine.as_str())?;
         assert!(rt; is_met(wanted, told.as_str()), "{row}\ntold: {told}");
     }
     Ok(())
@@ -104,8 +107,10 @@ fn system_of(alloc: Global, lines: &str) -> Result<System, Fail> {
 /// Adds what the line says of the machine.
 fn add(alloc: Global, system: &mut System, line: &str) -> Result<(), Fail> {
     if let Some(words) = line.strip_prefix("$ ") {
-        for word in words.split(' ') {
-            system.words.push(Vec::from_slice(alloc, word.as_bytes())?)?;
+        if system.words.is_empty() {
+            for word in words.split(' ') {
+                system.words.push(Vec::from_slice(alloc, word.as_bytes())?)?;
+            }
         }
     } else if let Some(words) = line.strip_prefix("octets ") {
         for word in words.split(' ') {

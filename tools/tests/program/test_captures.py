@@ -84,21 +84,35 @@ class Numbers(Desk):
         octets = struct.pack("!HHHHHH", 1, 0, 0, 0, 0, 0)
         return struct.pack("!H", len(octets)) + octets
 
-    def test_1000_records_and_signatures_are_listed(self):
-        owners = [f"n{number:04}.example." for number in range(1000)]
-        parts = [[signed(each, "A", ADDRESS) for each in owners[first:first + 20]] for first in range(0, 1000, 20)]
-        capture = KEYS + b"".join(message(*part) for part in parts)
-        lines = [GOOD_KEYS] + [said("good", each, "A", ADDRESS) for each in owners]
-        entries = sorted(line.split(b" ") for line in lines)
+
+class Signatures(Desk):
+    """A key and a thousand addresses, each of a name of its own and with a signature."""
+    OWNERS = [f"n{number:04}.example." for number in range(1000)]
+
+    def setUp(self):
+        super().setUp()
+        parts = [[signed(each, "A", ADDRESS) for each in self.OWNERS[first:first + 20]] for first in range(0, 1000, 20)]
+        self.capture = KEYS + b"".join(message(*part) for part in parts)
+        self.lines = [GOOD_KEYS] + [said("good", each, "A", ADDRESS) for each in self.OWNERS]
+
+    def test_what_is_to_check_is_listed(self):
+        entries = sorted(line.split(b" ") for line in self.lines)
         wanted = b"".join(b" ".join([b"todo"] + fields[1:]) for fields in entries).decode()
-        self.assertEqual(self.told("list", "--moment", MOMENT, capture=capture), (0, wanted, ""))
+        self.assertEqual(self.told("list", "--moment", MOMENT, capture=self.capture), (0, wanted, ""))
         last = entries[-1]
-        self.assertEqual(self.told("list", "--moment", MOMENT, capture=capture, statements=b" ".join(last)),
+        self.assertEqual(self.told("list", "--moment", MOMENT, capture=self.capture, statements=b" ".join(last)),
                          (0, wanted.removesuffix(b" ".join([b"todo"] + last[1:]).decode()), ""))
-        more = "".join(f"data {place} 1 {said('good', each, 'A', ADDRESS).split()[3].decode()}\n"
-                       for place, each in enumerate(owners, 2))
-        told = self.told("list", "--all", "--moment", MOMENT, capture=capture)
-        self.assertEqual(told, (0, f"data 1 1 {GOOD_KEYS.split()[3].decode()}\n" + more, ""))
+
+    def test_what_they_sign_is_listed(self):
+        wanted = "".join(f"data {place} 1 {line.split()[3].decode()}\n" for place, line in enumerate(self.lines, 1))
+        self.assertEqual(self.told("list", "--all", "--moment", MOMENT, capture=self.capture), (0, wanted, ""))
+
+    def test_the_last_counts(self):
+        given = {"owner": self.OWNERS[-1], "capture": self.capture}
+        wanted = f"SecureAnswer {self.OWNERS[-1]} 1\nrrset 1001 signature 1\n"
+        self.assertEqual(self.verdict(statements=b"".join(self.lines), **given), (0, wanted, ""))
+        wanted = f"Pending {self.OWNERS[-1]} 1\n" + self.lines[-1].replace(b"good", b"todo").decode()
+        self.assertEqual(self.verdict(statements=b"".join(self.lines[:-1]), **given), (4, wanted, ""))
 
 
 class LongName(Desk):

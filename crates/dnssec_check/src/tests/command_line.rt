@@ -1,14 +1,18 @@
 //! Command lines.
 
+/// A file of captured messages, and an empty one.
+pub const SHARED: &str = "\
+a < HOST
+b = ";
+
 pub const ROWS: &str = "\
 # Options in any order, joined to their values or not; a value may look like an option, and a number may have a sign.
+# Beside --all no statements are opened.
 --all < HOST
-b = 
-$ ./check list --all --moment=+281474976710655 --capture=--all --statements b
+$ ./check list --all --moment=+281474976710655 --capture=--all --statements z
 => 0
 data 1 1 00010d0200000e10000007d0000003e8080f076578616d706c650004686f7374076578616d706c65000001000100000e100004c0000201
 
-a < HOST
 $ dnssec_check list --moment 0 --capture a
 => 0
 
@@ -28,13 +32,11 @@ $ dnssec_check list --statements said --capture a --moment 1000
 todo 13 010203 00300d0100000e10000007d0000003e8080f076578616d706c6500076578616d706c65000030000100000e1000070100030d010203 cc
 
 a = 
-b = 
 $ dnssec_check check --capture a --anchors b --moment 1 --name c. --type 65535
 => 6
 Indeterminate c. 65535
 
 a = 
-b = 
 d = 
 e = 
 f = 
@@ -48,183 +50,131 @@ $
 ! 
 ~ help
 
-a < HOST
-b = 
 $ dnssec_check
 => 2
 ! 
 ~ help
 
-a < HOST
-b = 
 $ dnssec_check list
 => 2
 ! 
 ~ help
 
-a < HOST
-b = 
 $ dnssec_check show
 => 2
 ! 
 ~ help
 
-a < HOST
-b = 
 $ dnssec_check show --capture
 => 2
 ! 
 ~ help
 
-a < HOST
-b = 
 $ dnssec_check show --moment 1
 => 2
 ! 
 ~ help
 
-a < HOST
-b = 
 $ dnssec_check show --capture a --moment 1
 => 2
 ! 
 ~ help
 
-a < HOST
-b = 
 $ dnssec_check show --capture a --all
 => 2
 ! 
 ~ help
 
-a < HOST
-b = 
 $ dnssec_check show --capture a --capture a
 => 2
 ! 
 ~ help
 
-a < HOST
-b = 
 $ dnssec_check show --capture a b
 => 2
 ! 
 ~ help
 
-a < HOST
-b = 
 $ dnssec_check help
 => 2
 ! 
 ~ help
 
-a < HOST
-b = 
 $ dnssec_check list --capture a --all
 => 2
 ! 
 ~ help
 
-a < HOST
-b = 
 $ dnssec_check list --moment 1 --all
 => 2
 ! 
 ~ help
 
-a < HOST
-b = 
 $ dnssec_check list --capture --moment 1 --all
 => 2
 ! 
 ~ help
 
-a < HOST
-b = 
 $ dnssec_check list --capture a --moment 281474976710656 --all
 => 2
 ! 
 ~ help
 
-a < HOST
-b = 
 $ dnssec_check list --capture a --moment -1 --all
 => 2
 ! 
 ~ help
 
-a < HOST
-b = 
 $ dnssec_check list --capture a --moment= --all
 => 2
 ! 
 ~ help
 
-a < HOST
-b = 
 $ dnssec_check list --capture a --moment 1 --statements
 => 2
 ! 
 ~ help
 
-a < HOST
-b = 
 $ dnssec_check list --capture a --moment 1 --statements b --statements b
 => 2
 ! 
 ~ help
 
-a < HOST
-b = 
 $ dnssec_check list --capture a --moment 1 --all=true
 => 2
 ! 
 ~ help
 
-a < HOST
-b = 
 $ dnssec_check list --capture a --moment 1 --all --all
 => 2
 ! 
 ~ help
 
-a < HOST
-b = 
 $ dnssec_check show --capture a --statements b
 => 2
 ! 
 ~ help
 
-a < HOST
-b = 
 $ dnssec_check list --capture a --capture a --moment 1 --all
 => 2
 ! 
 ~ help
 
-a < HOST
-b = 
 $ dnssec_check list --capture a --moment 1 --all b
 => 2
 ! 
 ~ help
 
-a < HOST
-b = 
 $ dnssec_check list --capture a --moment 1 --keys b
 => 2
 ! 
 ~ help
 
-a < HOST
-b = 
 $ dnssec_check check --capture a --anchors b --moment 1 --name c. --type 1 --keys
 => 2
 ! 
 ~ help
 
-a < HOST
-b = 
 $ dnssec_check check --capture a --anchors b --moment 1 --name c. --type 65536
 => 2
 ! 
@@ -248,13 +198,11 @@ octets 64 73686f77 2d2d63617074757265 6120
 => 0
 ~ record 3 Host.Example. 46 1 5 
 
-a < HOST
 octets 64 73686f77 2d2d63617074757265 6120
 => 1
 ! fault 811 capture
 
 # A word that is no UTF-8.
-a < HOST
 octets 64 73686f77 2d2d63617074757265 61ff
 => 2
 ! error: a word of the command line is not UTF-8
