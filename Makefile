@@ -1,6 +1,6 @@
 # `all`, `try`, `test` and `wrong-bodies` need the kit's command `rt` on the path, and nothing else; `demo`, `examples`,
-# `pages`, `install` and `deb` take the program that is built, and build it where there is none.
-.PHONY: all try test demo examples wrong-bodies test-tools pages install deb
+# `faults`, `pages`, `install` and `deb` take the program that is built, and build it where there is none.
+.PHONY: all try test demo examples faults wrong-bodies test-tools pages install deb
 
 program = crates/dnssec_check/out/dnssec_check
 PREFIX = /usr/local
@@ -28,6 +28,11 @@ demo: | $(program)
 # What the built program says of each folder of examples/, against what has to come.
 examples: | $(program)
 	tools/examples
+
+# What the built program does where memory, a file or a write fails it, and on captures that are cut, changed or
+# incomplete; needs python3 and cc.
+faults: | $(program)
+	tools/faults
 
 # Every wrong body, those that the gate leaves out too, of all crates or of those named, as CRATES="dnsv_names"; with
 # SINCE=COMMIT, of those that a change since that commit concerns.

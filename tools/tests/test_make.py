@@ -12,7 +12,7 @@ from tool import TOOLS, load
 TOP = TOOLS.parent
 PROGRAM = "crates/dnssec_check/out/dnssec_check"
 SAYS = '#!/bin/sh\nprintf "%s\\n" "$(basename "$0")" "$@"\n'
-NEED_NO_RT = ("demo", "examples", "pages", "install", "deb")
+NEED_NO_RT = ("demo", "examples", "faults", "pages", "install", "deb")
 
 
 @unittest.skipUnless(shutil.which("make"), "needs make")

@@ -5,8 +5,8 @@ import unittest
 
 from tool import TOOLS
 
-FOLDERS = ("capturing", "verifying", "asking", "judging")
-NAMES = ["verify", "capture", "judge", "pages", "command.py"]
+FOLDERS = ("capturing", "verifying", "asking", "judging", "failing")
+NAMES = ["verify", "capture", "judge", "pages", "faults", "command.py"]
 NAMES += [str(path.relative_to(TOOLS)) for folder in FOLDERS for path in sorted((TOOLS / folder).glob("*.py"))]
 # What each imports besides; dnspython (`dns`), distributed and rich only where they're needed.
 PACKAGES = {
@@ -20,6 +20,8 @@ PACKAGES = {
     "judging/cluster.py": {"asking", "distributed"},
     "judging/progress.py": {"rich"},
     "pages": {"command"},
+    "faults": {"command", "failing"},
+    "failing": {"messages", "zones"},  # of rows
 }
 
 

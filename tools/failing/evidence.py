@@ -1,0 +1,47 @@
+"""RRsets with a signature each by the key of `example.`, as messages, and the statements that the signatures are good."""
+import pathlib
+import struct
+import sys
+from collections import namedtuple
+
+sys.path.insert(0, str(pathlib.Path(__file__).resolve().parent.parent / "rows"))
+
+from messages import DNSKEY, KEY_TAG, TYPES, counted, labels_of, message, name, rrsig, signed
+
+ANCHOR = b"KEY example. 256 3 13 AQID\n"
+MOMENT = 1500
+ORIGINAL_TTL = 3600
+
+
+class Rrset(namedtuple("Rrset", "owner rtype rdata signer labels", defaults=("example.", None))):
+    """Its owner, its type and the RDATA of each record; who signs it, and how many labels the signature counts, which are
+    the owner's where nothing is said."""
+
+    def count(self):
+        return counted(self.owner) if self.labels is None else self.labels
+
+    def message(self):
+        """A response of these records alone, behind its length."""
+        return message(*(signed(self.owner, self.rtype, each, self.count(), self.signer) for each in self.rdata))
+
+    def statement(self):
+        """The line of statements which says that the signature is good (RFC 4034 3.1.8.1, 6.2, 6.3)."""
+        owner = name(self.signed_owner())
+        records = [owner + struct.pack("!HHIH", TYPES[self.rtype], 1, ORIGINAL_TTL, len(each)) + each
+                   for each in sorted(set(self.rdata))]
+        data = rrsig(self.rtype, self.count(), self.signer, "") + b"".join(records)
+        return f"good 13 {DNSKEY[4:].hex()} {data.hex()} cc\n".encode()
+
+    def signed_owner(self):
+        """In lower case, and the wildcard where the signature counts fewer labels (RFC 4035 5.3.2)."""
+        labels, count = self.owner.lower().split("."), self.count()
+        left = len(labels_of(self.owner)) - count
+        return self.owner.lower() if self.count() == counted(self.owner) else ".".join(["*", *labels[left:]])
+
+
+def ds(digest_type, digest):
+    """The RDATA of a DS record of that key (RFC 4034 5.1)."""
+    return struct.pack("!HBB", KEY_TAG, 13, digest_type) + digest
+
+
+KEY = Rrset("example.", "DNSKEY", (DNSKEY,))

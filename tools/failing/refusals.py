@@ -1,0 +1,110 @@
+"""The program on a machine that refuses it memory, reads or writes."""
+from .refusal import Refusal, refused
+from .runs import Answer, Bench
+from .tally import Tally
+
+OUT_OF_MEMORY = Answer(1, b"", b"fault 90\n")
+RIGHT = "right answers"
+# How many calls are refused in one job.
+SPAN = 200
+# In how many pieces a text is written, so that a write is refused behind each.
+PIECES = 100
+OUTPUT, ERRORS = "/dev/stdout", "/dev/stderr"
+
+
+def jobs(tried, kind, cases):
+    """A job for each part of what is refused to each case."""
+    with Bench(tried) as bench:
+        for case in cases:
+            for refusal in KINDS[kind].plan(case):
+                answer, calls, _ = refused(bench, case.words_with(), refusal)
+                yield none, case, refusal, answer, calls
+                for first in range(1, calls + 1, SPAN):
+                    yield each, case, refusal, range(first, min(first + SPAN, calls + 1))
+
+
+def none(_tried, case, refusal, answer, calls):
+    """What came where each call was granted."""
+    tally = Tally()
+    tally.take(row_of(case, refusal), RIGHT if answer == case.right and calls else None, f"{refusal}, {calls} calls", answer)
+    return tally
+
+
+def each(tried, case, refusal, numbers):
+    """Refuses the call of each of these numbers: alone, and with all that follow."""
+    tally, row, kind = Tally(), row_of(case, refusal), KINDS[refusal.kind]
+    with Bench(tried) as bench:
+        for number in numbers:
+            for last in (number, None):
+                asked = refusal._replace(first=number, last=last)
+                answer, _, count = refused(bench, case.words_with(), asked)
+                tally.take(row, kind.end_of(case, asked, answer) if count else None, f"{asked}, {count} refused", answer)
+    return tally
+
+
+def row_of(case, refusal):
+    return f"{refusal.kind}: {case.name}" + KINDS[refusal.kind].told(case, refusal)
+
+
+class Memory:
+    """Each call for memory."""
+
+    def plan(self, _case):
+        return [Refusal("memory")]
+
+    def told(self, _case, _refusal):
+        return ""
+
+    def end_of(self, case, _refusal, answer):
+        if answer == OUT_OF_MEMORY:
+            return "`fault 90`"
+        return RIGHT if answer == case.right else None
+
+
+class Reads:
+    """Each read of each file: as the program asks for it, and of an octet at a time where the file is small."""
+
+    def plan(self, case):
+        for path in case.files.values():
+            yield Refusal("read", file=path)
+            if path.stat().st_size <= SPAN:
+                yield Refusal("read", file=path, size=1)
+
+    def option(self, case, refusal):
+        return next(option for option, path in case.files.items() if path == refusal.file)
+
+    def told(self, case, refusal):
+        return f", {self.option(case, refusal)}" + (", an octet at a time" if refusal.size else "")
+
+    def end_of(self, case, refusal, answer):
+        said = f"fault 210 {self.option(case, refusal)}"
+        return f"`{said}`" if answer == Answer(1, b"", f"{said}\n".encode()) else None
+
+
+class Writes:
+    """Each write of both streams: as the program asks for it, and in pieces, down to an octet."""
+
+    def plan(self, case):
+        for stream, text in ((OUTPUT, case.right.output), (ERRORS, case.right.errors)):
+            if text:
+                yield Refusal("write", file=stream)
+                yield Refusal("write", file=stream, size=max(1, len(text) // PIECES))
+
+    def told(self, _case, refusal):
+        return f", {refusal.file}" + (f", {refusal.size} octets at a time" if refusal.size else "")
+
+    def end_of(self, case, refusal, answer):
+        """What was written is a beginning of the text, as long as what was taken before."""
+        status, output, errors = case.right
+        if refusal.file == ERRORS:
+            beginning = errors[:self.taken(refusal, errors)]
+            return "a beginning of the line" if answer == Answer(status, output, beginning) else None
+        wanted = Answer(1, output[:self.taken(refusal, output)], b"fault 812\n")
+        return "`fault 812` behind a beginning" if answer == wanted else None
+
+    def taken(self, refusal, text):
+        """How many octets were taken: a call that is refused alone isn't made anew."""
+        return (refusal.first - 1) * (refusal.size or len(text))
+
+
+KINDS = {"memory": Memory(), "read": Reads(), "write": Writes()}

@@ -1,0 +1,93 @@
+"""Runs of the program: its words, the files that they name, and what came of it."""
+import os
+import pathlib
+import signal
+import tempfile
+from collections import namedtuple
+
+FILES = ("capture", "anchors", "statements", "keys", "macs")
+# No run takes a tenth of that; where one does, it is ended.
+SECONDS = 20
+# Files that are written anew again and again wait for a disk; where there is memory for them, they are kept there.
+ROOMS = "/dev/shm" if os.access("/dev/shm", os.W_OK | os.X_OK) else None
+
+# The exit status, below 0 the signal that ended it; and both streams' octets.
+Answer = namedtuple("Answer", "status output errors")
+# What is tried: the program, and the library that refuses it its calls.
+Tried = namedtuple("Tried", "program library")
+
+
+class Case:
+    """A folder as those of examples/: a command line (`words`), the files that it names, and what has to come."""
+
+    def __init__(self, folder):
+        self.name = folder.name
+        self.words = (folder / "words").read_text().splitlines()
+        self.files = {}
+        for place, option in enumerate(self.words[:-1]):
+            if option[2:] in FILES:
+                self.files[option[2:]] = (folder / self.words[place + 1]).resolve()
+        self.right = Answer(int((folder / "status").read_text()), *((folder / name).read_bytes()
+                                                                    for name in ("stdout", "stderr")))
+
+    def words_with(self, **others):
+        """The command line, with these files in the place of its own."""
+        paths, words = {**self.files, **others}, list(self.words)
+        for option, path in paths.items():
+            words[words.index(f"--{option}") + 1] = str(path)
+        return words
+
+
+class Spoken:
+    """A command line that names no file, and what the program says to it where nothing is refused."""
+    files = {}
+
+    def __init__(self, name, words, right):
+        self.name, self.words, self.right = name, words, right
+
+    def words_with(self):
+        return self.words
+
+
+class Bench:
+    """Where the program is run, and the files that its runs are given: a folder that goes at the end."""
+
+    def __init__(self, tried):
+        self.tried, self.folder = tried, tempfile.TemporaryDirectory(dir=ROOMS)
+        self.room = pathlib.Path(self.folder.name)
+        self.output, self.errors = self.room / "output", self.room / "errors"
+
+    def __enter__(self):
+        return self
+
+    def __exit__(self, *_):
+        self.folder.cleanup()
+
+    def file(self, name, octets):
+        """The path of a file with these octets."""
+        path = self.room / name
+        path.write_bytes(octets)
+        return path
+
+    def answer(self, words, environment=None):
+        """What comes of these words."""
+        return self.answer_of([str(self.tried.program), *words], environment)
+
+    def answer_of(self, command, environment=None):
+        created = os.O_WRONLY | os.O_CREAT | os.O_TRUNC
+        streams = [(0, os.devnull, os.O_RDONLY), (1, str(self.output), created), (2, str(self.errors), created)]
+        opened = [(os.POSIX_SPAWN_OPEN, number, path, flags, 0o600) for number, path, flags in streams]
+        process = os.posix_spawn(command[0], command, environment or {}, file_actions=opened)
+        return Answer(waited(process), self.output.read_bytes(), self.errors.read_bytes())
+
+
+def waited(process):
+    """The exit status of the process, or the signal that ended it."""
+    former = signal.signal(signal.SIGALRM, lambda *_: os.kill(process, signal.SIGKILL))
+    signal.setitimer(signal.ITIMER_REAL, SECONDS)
+    try:
+        _, ended = os.waitpid(process, 0)
+    finally:
+        signal.setitimer(signal.ITIMER_REAL, 0)
+        signal.signal(signal.SIGALRM, former)
+    return -os.WTERMSIG(ended) if os.WIFSIGNALED(ended) else os.WEXITSTATUS(ended)
