@@ -1,8 +1,8 @@
 //! Octets as a field of a text file.
-ghost use Rattle.std.specs.Prelude.{◌≡◌, ◌↔◌, ◌<◌, Ok, IfOk, IsOk, IsSome, IsTrue, MatchOption, OnErr, OnOk, unwrap_or};
+ghost use Rattle.std.specs.Prelude.{◌≡◌, ◌↔◌, Ok, IfOk, IsOk, IsSome, IsTrue, MatchOption, OnErr};
 ghost use Rattle.std.specs.List.{AllPass};
-ghost use Rattle.hex.specs.Hex.{decode_of, hex_digit_value, is_hex_digit};
-ghost use Rattle.dnsv_verifier.specs.HexField.{AddsDecoded, AreDigitsOf, hex_value};
+ghost use Rattle.hex.specs.Hex.{decode_of, is_hex_digit};
+ghost use Rattle.dnsv_verifier.specs.HexField.{AreDigitsOf, hex_value};
 
 use dnsv_records::Octets;
 use std::alloc::{AllocError, Global};
@@ -62,31 +62,5 @@ pub(crate) fn decoded(alloc: Global, digits: &[u8]) -> Result<Octets, AllocError
     match hex::decode(alloc, digits) {
         Ok(octets) => Ok(Octets::from_vec(octets)),
         Err(_) => Err(AllocError),
-    }
-}
-
-/// Adds the octets of pairs of hex digits.
-pub(crate) fn push_decoded(octets: &mut Vec<u8>, digits: &[u8]) -> Result<(), AllocError>
-    requires { IsOk (decode_of digits.now) }
-    ensures { OnOk result (AddsDecoded digits.now octets.old.items octets.new.items) }
-{
-    let mut place = 0;
-    while place + 1 < digits.len() {
-        octets.push(digit_value(digits[place]) * 16 + digit_value(digits[place + 1]))?;
-        place += 2;
-    }
-    Ok(())
-}
-
-/// The value of a hex digit, in either case, and 0 of another octet.
-fn digit_value(octet: u8) -> u8
-    ensures value { result ≡ unwrap_or (hex_digit_value octet) 0 }
-    ensures below { result < 16 }
-{
-    match octet {
-        b'0'..=b'9' => octet - b'0',
-        b'a'..=b'f' => octet - b'a' + 10,
-        b'A'..=b'F' => octet - b'A' + 10,
-        _ => 0,
     }
 }

@@ -10,8 +10,8 @@ ghost use Rattle.dnsv_verifier.specs.declared.statements.statement.Word.{Word};
 ghost use Rattle.dnsv_verifier.specs.declared.statements.StatementsError.{StatementsError};
 
 use crate::answer::Answer;
+use crate::entry::Entry;
 use crate::entry::borrowed_entry::BorrowedEntry;
-use crate::entry::packed_entry::PackedEntry;
 use crate::statements::statement::{Word, statement_of};
 use crate::verifier::Verifier;
 use dnsv_names::{Line, Lines};
@@ -76,7 +76,7 @@ impl<T: Drop> From<AllocFailed<T>> for StatementsError {
 /// algorithm, key, signed data and signature.
 #[derive(Drop)]
 pub struct Statements {
-    listed: Vec<(PackedEntry, Word)>,
+    listed: Vec<(Entry, Word)>,
 }
 
 impl Model for Statements {
@@ -156,11 +156,7 @@ pub fn a_text_is_one_list_of_statements()
 {}
 
 /// Adds what a line states, unless something else was said.
-fn add(
-    alloc: Global,
-    said: &mut BTreeMap<PackedEntry, Word>,
-    line: &Line,
-) -> Result<(), StatementsError>
+fn add(alloc: Global, said: &mut BTreeMap<Entry, Word>, line: &Line) -> Result<(), StatementsError>
     ensures adds { OnOk result (AddsStatement line.now.octets said.old said.new) }
     ensures refuses { IfErr result (λ error. RefusesLine error line.now said.old) }
 {
@@ -170,19 +166,20 @@ fn add(
     list(said, entry, word, line.number())
 }
 
-/// Lists an entry of the line of this number by its word. Where it is listed by the other one, that is told; memory is
-/// asked for only where it isn't listed.
+/// Lists an entry of the line of this number by its word, unless it is listed by the other one. Memory is asked for
+/// only where it isn't.
 fn list(
-    said: &mut BTreeMap<PackedEntry, Word>,
-    entry: PackedEntry,
+    said: &mut BTreeMap<Entry, Word>,
+    entry: Entry,
     word: Word,
     number: usize,
 ) -> Result<(), StatementsError>
     ensures lists { OnOk result (Lists entry word said.old said.new) }
     ensures refuses { IfErr result (λ error. RefusesEntry error number entry word said.old) }
 {
-    if said.insert(entry, word)? == Some(word.other()) {
+    if said.get(&entry) == Some(&word.other()) {
         return Err(StatementsError::Contradiction(number));
     }
+    said.insert(entry, word)?;
     Ok(())
 }
