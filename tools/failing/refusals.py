@@ -10,10 +10,14 @@ SPAN = 200
 # In how many pieces a text is written, so that a write is refused behind each.
 PIECES = 100
 OUTPUT, ERRORS = "/dev/stdout", "/dev/stderr"
+# What the system itself refuses to write to: a full disk, and a stream that is closed.
+BROKEN = ("> /dev/full", ">&-")
 
 
 def jobs(tried, kind, cases):
     """A job for each part of what is refused to each case."""
+    if kind == "write":
+        yield from ((broken, case) for case in cases)
     with Bench(tried) as bench:
         for case in cases:
             for refusal in KINDS[kind].plan(case):
@@ -40,6 +44,24 @@ def each(tried, case, refusal, numbers):
                 answer, _, count = refused(bench, case.words_with(), asked)
                 tally.take(row, kind.end_of(case, asked, answer) if count else None, f"{asked}, {count} refused", answer)
     return tally
+
+
+def broken(tried, case):
+    """The stream that the answer is written to is none."""
+    tally, (status, output, errors) = Tally(), case.right
+    with Bench(tried) as bench:
+        for how in BROKEN:
+            if output:
+                take_broken(tally, bench, case, f"1{how}", Answer(1, b"", b"fault 812\n"))
+            if errors:
+                take_broken(tally, bench, case, f"2{how}", Answer(status, output, b""))
+    return tally
+
+
+def take_broken(tally, bench, case, how, wanted):
+    command = ["/bin/sh", "-c", f'exec "$0" "$@" {how}', str(bench.tried.program), *case.words_with()]
+    answer = bench.answer_of(command)
+    tally.take(f"write: {case.name}, where the system refuses it", "as it should" if answer == wanted else None, how, answer)
 
 
 def row_of(case, refusal):
@@ -94,17 +116,17 @@ class Writes:
         return f", {refusal.file}" + (f", {refusal.size} octets at a time" if refusal.size else "")
 
     def end_of(self, case, refusal, answer):
-        """What was written is a beginning of the text, as long as what was taken before."""
+        """What was written is a beginning of the text, of no more than what was taken before."""
         status, output, errors = case.right
         if refusal.file == ERRORS:
-            beginning = errors[:self.taken(refusal, errors)]
-            return "a beginning of the line" if answer == Answer(status, output, beginning) else None
-        wanted = Answer(1, output[:self.taken(refusal, output)], b"fault 812\n")
-        return "`fault 812` behind a beginning" if answer == wanted else None
+            is_right = self.is_begun(refusal, answer.errors, errors) and answer[:2] == (status, output)
+            return "a beginning of the text" if is_right else None
+        is_right = self.is_begun(refusal, answer.output, output) and answer == (1, answer.output, b"fault 812\n")
+        return "`fault 812` behind a beginning" if is_right else None
 
-    def taken(self, refusal, text):
-        """How many octets were taken: a call that is refused alone isn't made anew."""
-        return (refusal.first - 1) * (refusal.size or len(text))
+    def is_begun(self, refusal, written, text):
+        taken = (refusal.first - 1) * (refusal.size or len(text))
+        return text.startswith(written) and len(written) <= min(taken, len(text) - 1)
 
 
 KINDS = {"memory": Memory(), "read": Reads(), "write": Writes()}

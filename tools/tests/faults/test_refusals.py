@@ -40,9 +40,9 @@ class Refusals(Programs):
         self.assertEqual(self.ends("read", "reads on")[1], (2, 2 * 2 + 2 * 11))
 
     def test_writes(self):
-        # The text has 11 octets.
-        self.assertEqual(self.ends("write")[1], (1 + 2 + 1 + 2 * 11, 0))
-        self.assertEqual(self.ends("write", "writes on")[1], (2, 2 + 2 * 11))
+        # The text has 11 octets; and there are a full disk and a closed stream.
+        self.assertEqual(self.ends("write")[1], (1 + 2 + 1 + 2 * 11 + 2, 0))
+        self.assertEqual(self.ends("write", "writes on")[1], (2, 2 + 2 * 11 + 2))
 
     def test_a_run_without_end_is_ended(self):
         tried = self.script("exec sleep 60\n")
