@@ -3,5 +3,6 @@ pub mod AnswerLemmas
 pub mod Decisions
 pub mod KeyLaws
 pub mod KeyLemmas
+pub mod KeyNamesLemmas
 pub mod SomeAnswer
 pub mod TsigLemmas

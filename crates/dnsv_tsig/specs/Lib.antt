@@ -2,6 +2,7 @@ pub mod Answer
 pub mod Errors
 pub mod Key
 pub mod KeyFile
+pub mod KeyNames
 pub mod KeyReading
 pub mod Mac
 pub mod Opened

@@ -11,8 +11,10 @@ ghost use Rattle.dnsv_tsig.specs.KeyFile.{IsKeyLine};
 ghost use Rattle.dnsv_tsig.specs.KeyReading.{IsKeyText};
 
 use crate::error::KeyFileError;
+use crate::key_names::{KeyNames, add_name, has_name};
 use dnsv_names::{Line, Lines, Name, base64_octets, is_base64};
 use std::alloc::{AllocError, Global};
+use std::collections::BTreeSet;
 use std::fmt;
 use std::marker::Model;
 
@@ -83,6 +85,7 @@ impl Model for KeyRing {
 
 impl KeyRing {
     ghost use Rattle.dnsv_tsig.specs.KeyFile.{BeginsWithKey, IsFaultOfLine, IsKeyFault, IsRingOf};
+    ghost use Rattle.dnsv_tsig.specs.KeyNames.{AreNamesOf};
 
     /// Reads a file of keys: a line each, the name and then the key in base64 with padding, with one space
     /// between them. Empty lines and lines that begin with `#` are passed over, but counted.
@@ -99,15 +102,19 @@ impl KeyRing {
         let mut ring = KeyRing {
             keys: Vec::new(alloc),
         };
+        let mut names = BTreeSet::new(alloc);
         for line in Lines::new(text) {
-            ring.add(alloc, &line)?;
+            ring.add(alloc, &mut names, &line)?;
         }
         Ok(ring)
     }
 
-    /// Adds the key of a line. Where memory is refused, the line is that of a key with a new name.
-    #[tactic(auto, using(crate::proofs::KeyLemmas::key_line, crate::proofs::KeyLemmas::new_key, crate::proofs::KeyLemmas::named_again))]
-    fn add(&mut self, alloc: Global, line: &Line) -> Result<(), KeyFileError>
+    /// Adds the key of a line, and its name to those of the ring. Where memory is refused, the line is that of a key
+    /// with a new name.
+    #[tactic(auto, using(crate::proofs::KeyLemmas::key_line, crate::proofs::KeyLemmas::new_key, crate::proofs::KeyLemmas::named_again, crate::proofs::KeyNamesLemmas::unnamed, crate::proofs::KeyNamesLemmas::named, crate::proofs::KeyNamesLemmas::names_more))]
+    fn add(&mut self, alloc: Global, names: &mut KeyNames, line: &Line) -> Result<(), KeyFileError>
+        requires { AreNamesOf names.old self.old }
+        ensures names { OnOk result (AreNamesOf names.new self.new) }
         ensures added { OnOk result ((key : SharedKey) × IsKeyLine line.now.octets key
             × (key_named key.name self.old ≡ None) × (self.new ≡ self.old ++ key ∷ [])) }
         ensures fault { IfErr result (λ error. ((error ≡ KeyFileError.OutOfMemory)
@@ -117,9 +124,10 @@ impl KeyRing {
         let Some((name, coded)) = key_text(line) else {
             return Err(KeyFileError::Syntax(line.number()));
         };
-        if self.key_named(&name).is_some() {
+        if has_name(names, &name) {
             return Err(KeyFileError::DuplicateKey(line.number()));
         }
+        add_name(alloc, names, &name)?;
         let key = Key::of(alloc, name, coded)?;
         self.keys.push(key)?;
         Ok(())

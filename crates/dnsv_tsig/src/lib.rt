@@ -7,6 +7,7 @@ pub use laws::{one_answer, one_ring_or_fault};
 pub use opened::{Opened, open};
 
 mod error;
+mod key_names;
 mod key_ring;
 mod laws;
 mod mac;

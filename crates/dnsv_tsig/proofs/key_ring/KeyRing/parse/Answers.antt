@@ -3,18 +3,24 @@ use Rattle.std.proofs.lemmas.Result.{err_from_is_err_and}
 use Rattle.dnsv_names.proofs.LineFileLemmas.{all_say, has_all, has_more, has_next}
 use Rattle.dnsv_tsig.proofs.KeyLaws.{IsRingOf-no_fault}
 use Rattle.dnsv_tsig.proofs.KeyLemmas.{fault_or_memory, fault_told, none_say, ring_more}
+use Rattle.dnsv_tsig.proofs.KeyNamesLemmas.{no_names}
 use Rattle.dnsv_tsig.proofs.key_ring.KeyRing.parse.Goals as goal
 
 pub loop-line-init : goal.loop-line-init
 loop-line-init c =
     let none : c.new.result.items ≡ [] = search rules in
-    record { has = rw c.into_iter-line-iterator.ensures.into_iter_gives c.new-line-items.ensures; says = none_say c.new.result.items none }
+    record {
+      has = rw c.into_iter-line-iterator.ensures.into_iter_gives c.new-line-items.ensures;
+      says = none_say c.new.result.items none;
+      names = no_names c.new-names.result c.new.result.items c.new-names.ensures.empty none;
+    }
 
 pub loop-line-preserved : goal.loop-line-preserved
 loop-line-preserved c =
     record {
       has = has_more c.args.text.now c.loop-line.yielded _ _ c.in-Some.line c.in-Some.ensures.steps c.loop-line.invariant.has;
       says = ring_more c.add.new.self c.in-Some.line c.loop-line.invariant.says c.in_ok-add.ensures.added;
+      names = c.in_ok-add.ensures.names;
     }
 
 pub returns-in_err-add-clause-fault : goal.returns-in_err-add-clause-fault
