@@ -1,5 +1,6 @@
 -- Answers over files, from call to call.
 use Rattle.std.proofs.Common.{◌≡◌, ◌⊎◌, ◌-◌, ℕ, List, Option, Some, None, ap, subst, sym, ◌∙◌, inl, inr, arith}
+use Rattle.std.proofs.lemmas.Result.{IfErr-weaker}
 use Rattle.std.specs.Prelude.{Result, Ok, Err, IfErr, IfSome, ⊤}
 use Rattle.dnsv_message.specs.Streams.Frames.{IsCapture}
 use Rattle.dnsv_message.specs.Message.{Contents}
@@ -259,17 +260,8 @@ module _ {R U : Type 0} {remaining : R → Option (List ℕ)} {before after : In
 pub TellsFaults-weaker : {R T : Type 0} {remaining : R → Option (List ℕ)} {before after : Inputs R} (P Q : Files → Fault → Type 0) (result : Result T Fault)
     → ((files : Files) (fault : Fault) → P files fault → Q files fault)
     → TellsFaults P remaining before after result → TellsFaults Q remaining before after result
-TellsFaults-weaker P Q (Ok x) weaker tells = record {
-  first = λ files are. tt;
-  capture = tells.capture;
-  anchors = tells.anchors;
-  statements = tells.statements;
-  keys = tells.keys;
-  macs = tells.macs;
-  opened = tells.opened;
-}
-TellsFaults-weaker P Q (Err told) weaker tells = record {
-  first = λ files are. OfOctets-weaker (P files) (Q files) told (weaker files) (tells.first files are);
+TellsFaults-weaker P Q result weaker tells = record {
+  first = λ files are. IfErr-weaker result (OfOctets (P files)) (OfOctets (Q files)) (λ told. OfOctets-weaker (P files) (Q files) told (weaker files)) (tells.first files are);
   capture = tells.capture;
   anchors = tells.anchors;
   statements = tells.statements;

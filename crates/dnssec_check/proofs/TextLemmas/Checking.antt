@@ -1,5 +1,5 @@
 -- The check of a question over files that were all taken.
-use Rattle.std.proofs.Common.{◌≡◌, ℕ, List, Option, Some, subst, string_bytes}
+use Rattle.std.proofs.Common.{◌≡◌, ℕ, List, Option, Some, ap, refl, string_bytes}
 use Rattle.std.specs.Prelude.{Result, Ok, Err, IfOk, IfSome}
 use Rattle.dnsv_names.specs.Name.{Labels}
 use Rattle.dnsv_message.specs.Message.{Contents}
@@ -14,7 +14,7 @@ use Rattle.dnssec_check.specs.Files.Anchors.{HasAnchors}
 use Rattle.dnssec_check.specs.declared.opening.Opening.{Opening}
 use Rattle.dnssec_check.specs.Files.Capture.{Holds, NewEvidence}
 use Rattle.dnssec_check.specs.Opening.Given.{IsOpeningOf}
-use Rattle.dnssec_check.specs.Texts.Checking.{IsCheck, verdict_status, verdict_text}
+use Rattle.dnssec_check.specs.Texts.Checking.{IsBasisOf, IsCheck, verdict_status, verdict_text}
 use Rattle.dnssec_check.specs.Files.{Files, octets_or_none}
 use Rattle.dnssec_check.specs.Files.Statements.{IsMeaningOf}
 use Rattle.dnssec_check.specs.declared.texts.checking.Outcome.{Outcome}
@@ -29,6 +29,24 @@ IsOutcome anchors moment meaning name rtype outcome held =
     × (outcome.status ≡ verdict_status verdict)
     × (string_bytes outcome.text ≡ verdict_text name rtype held.rrsets links verdict)
 
+module _ (moment : ℕ) (files : Files) (opening : Opening) (opens : IsOpeningOf files.keys files.macs moment opening) (held : Evidence) (anchors : List Anchor) (meaning : Entry → Answer) where
+  -- what a verdict is drawn from over files that were all taken
+  pub is_basis : {octets : Option (List ℕ)} → octets ≡ Some files.capture
+      → IfSome octets (λ file. (messages : List Contents) × Holds NewEvidence opening file messages × (held ≡ evidence_of messages))
+      → HasAnchors (octets_or_none files.anchors) anchors → IsMeaningOf (octets_or_none files.statements) meaning
+      → IsBasisOf moment files (record { rrsets = held.rrsets; anchors = anchors; moment = moment; meaning = meaning })
+  is_basis is taken trusted said =
+      let evidence = of_told (λ file. (messages : List Contents) × Holds NewEvidence opening file messages × (held ≡ evidence_of messages)) is taken in record {
+        opening = opening;
+        opens = opens;
+        messages = evidence.0;
+        holds = evidence.1;
+        gathered = ap (λ (each : Evidence). each.rrsets) evidence.2;
+        trusted = trusted;
+        judged_at = refl;
+        said = said;
+      }
+
 module _ (name : Labels) (rtype moment : ℕ) (files : Files) (opening : Opening) (opens : IsOpeningOf files.keys files.macs moment opening) (held : Evidence) (anchors : List Anchor) (meaning : Entry → Answer) where
   pub all_checked : (result : Result Outcome Fault) {octets : Option (List ℕ)} → octets ≡ Some files.capture
       → IfSome octets (λ file. (messages : List Contents) × Holds NewEvidence opening file messages × (held ≡ evidence_of messages))
@@ -36,21 +54,13 @@ module _ (name : Labels) (rtype moment : ℕ) (files : Files) (opening : Opening
       → IfOk result (λ outcome. IsOutcome anchors moment meaning name rtype outcome held)
       → IfOk result (λ outcome. IsCheck name rtype moment files outcome.status (string_bytes outcome.text))
   all_checked (Err told) is taken trusted said judged = tt
-  all_checked (Ok outcome) is taken trusted said judged =
-      let evidence = of_told (λ file. (messages : List Contents) × Holds NewEvidence opening file messages × (held ≡ evidence_of messages)) is taken in
-      let outcome_is = subst (IsOutcome anchors moment meaning name rtype outcome) evidence.2 judged in record {
-        opening = opening;
-        opens = opens;
-        messages = evidence.0;
-        holds = evidence.1;
-        anchors = anchors;
-        trusted = trusted;
-        meaning = meaning;
-        said = said;
-        links = outcome_is.0;
-        last = outcome_is.1;
-        verdict = outcome_is.2;
-        is_verdict = outcome_is.3;
-        ends = outcome_is.4;
-        lines = outcome_is.5;
-      }
+  all_checked (Ok outcome) is taken trusted said judged = record {
+    basis = record { rrsets = held.rrsets; anchors = anchors; moment = moment; meaning = meaning };
+    rests_on = is_basis moment files opening opens held anchors meaning is taken trusted said;
+    links = judged.0;
+    last = judged.1;
+    verdict = judged.2;
+    is_verdict = judged.3;
+    ends = judged.4;
+    lines = judged.5;
+  }

@@ -7,10 +7,8 @@ use Rattle.dnsv_names.specs.Text.{text_of}
 use Rattle.dnsv_message.specs.Message.{Contents}
 use Rattle.dnsv_canonical.specs.Evidence.{evidence_of}
 use Rattle.dnsv_canonical.specs.Rrsets.{ReceivedRrset}
-use Rattle.dnsv_verifier.specs.declared.answer.Answer.{Answer}
-use Rattle.dnsv_verifier.specs.declared.entry.Entry.{Entry}
-use Rattle.dnsv_chain.specs.declared.anchor.Anchor.{Anchor}
 use Rattle.dnsv_denial.specs.declared.records.number.RecordNumber.{RecordNumber}
+use Rattle.dnsv_verdict.specs.Verdict.{Basis}
 use Rattle.dnsv_verdict.specs.Way.{IsRefusedFor, IsVerdictOf}
 use Rattle.dnsv_verdict.specs.declared.error.VerdictError.{VerdictError}
 use Rattle.dnsv_verdict.specs.declared.error.VerdictError.TheVariants as error
@@ -108,46 +106,35 @@ verdict_fault error.AliasTargets = fault.Refused refusal.AliasTargets nowhere
 
 -- ---- the files
 
--- The capture holds messages, in frames that the keys open at the moment where keys are given, each of them evidence
--- besides those before it, and the end and the text are those of the verdict that they prove of the question, from the
--- trust anchors, at the moment, under the statements.
-pub record IsCheck (name : Labels) (rtype moment : ℕ) (files : Files) (end : Status) (text : List ℕ) : Type 0 where
+-- The files are in order, and this is what a verdict at the moment is drawn from: the capture holds messages, in frames that
+-- the keys open at the moment where keys are given, each of them evidence besides those before it; the trust anchors; and
+-- what the statements say.
+pub record IsBasisOf (moment : ℕ) (files : Files) (basis : Basis) : Type 0 where
   pub opening : Opening
   pub opens : IsOpeningOf files.keys files.macs moment opening
   pub messages : List Contents
   pub holds : Holds NewEvidence opening files.capture messages
-  pub anchors : List Anchor
-  pub trusted : HasAnchors (octets_or_none files.anchors) anchors
-  pub meaning : Entry → Answer
-  pub said : IsMeaningOf (octets_or_none files.statements) meaning
+  pub gathered : basis.rrsets ≡ (evidence_of messages).rrsets
+  pub trusted : HasAnchors (octets_or_none files.anchors) basis.anchors
+  pub judged_at : basis.moment ≡ moment
+  pub said : IsMeaningOf (octets_or_none files.statements) basis.meaning
+
+-- The files are in order, and the end and the text are those of the verdict that they prove of the question.
+pub record IsCheck (name : Labels) (rtype moment : ℕ) (files : Files) (end : Status) (text : List ℕ) : Type 0 where
+  pub basis : Basis
+  pub rests_on : IsBasisOf moment files basis
   pub links : List Link
   pub last : Labels
   pub verdict : Verdict
-  pub is_verdict : IsVerdictOf (record {
-    rrsets = (evidence_of messages).rrsets;
-    anchors = anchors;
-    moment = moment;
-    meaning = meaning;
-  }) name rtype links last verdict
+  pub is_verdict : IsVerdictOf basis name rtype links last verdict
   pub ends : end ≡ verdict_status verdict
-  pub lines : text ≡ verdict_text name rtype (evidence_of messages).rrsets links verdict
+  pub lines : text ≡ verdict_text name rtype basis.rrsets links verdict
 
 -- The files are in order, as for a text, and the question is refused: a way over aliases from its name ends at one that
 -- can't be followed. The refusal has no place.
 pub record IsStopped (name : Labels) (rtype moment : ℕ) (files : Files) (told : Fault) : Type 0 where
-  pub opening : Opening
-  pub opens : IsOpeningOf files.keys files.macs moment opening
-  pub messages : List Contents
-  pub holds : Holds NewEvidence opening files.capture messages
-  pub anchors : List Anchor
-  pub trusted : HasAnchors (octets_or_none files.anchors) anchors
-  pub meaning : Entry → Answer
-  pub said : IsMeaningOf (octets_or_none files.statements) meaning
+  pub basis : Basis
+  pub rests_on : IsBasisOf moment files basis
   pub error : VerdictError
-  pub refused : IsRefusedFor (record {
-    rrsets = (evidence_of messages).rrsets;
-    anchors = anchors;
-    moment = moment;
-    meaning = meaning;
-  }) name rtype error
+  pub refused : IsRefusedFor basis name rtype error
   pub is : told ≡ verdict_fault error

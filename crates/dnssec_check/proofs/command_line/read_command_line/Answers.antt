@@ -2,7 +2,7 @@ use Rattle.std.proofs.Common.{◌≡◌, ap, map, ◌∙◌, codes, true, false,
 use Rattle.std.proofs.lemmas.Slice.Eq.{bytes_eq-Decides}
 use Rattle.std.specs.Str.{bytes_eq}
 use Rattle.clap.specs.Words.{app_of, found_of, rows_of}
-use Rattle.dnssec_check.proofs.CommandLineLemmas.Words.{Sees, is_check, is_list, is_show, not_named, passed_up, sees}
+use Rattle.dnssec_check.proofs.CommandLineLemmas.Words.{Sees, is_check, is_list, is_show, passed_up, sees}
 use Rattle.dnssec_check.proofs.command_line.read_command_line.Goals as goal
 
 pub returns-in_err-matches-clause-refused : goal.returns-in_err-matches-clause-refused
@@ -53,8 +53,7 @@ check_request-requires g c =
     c.in_ok-program.ensures c.in_ok-matches.ensures.matches c.in_ok-matches.ensures.kinds c.unwrap.ensures c.subcommand.ensures.name c.subcommand.ensures.rows in
     let test : bytes_eq c.unwrap.result.0.now (codes "show") ≡ false = search rules in
     let other : bytes_eq c.unwrap.result.0.now (codes "list") ≡ false = search rules in
-    let check = is_check at (λ same. not_named c.unwrap.result.0.now (codes "show") test same) (λ same. not_named c.unwrap.result.0.now (codes "list") other same) in
-    check.1
+    (is_check at test other).1
 
 pub returns-clause-accepted : goal.returns-clause-accepted
 returns-clause-accepted g c =
@@ -63,5 +62,5 @@ returns-clause-accepted g c =
     c.in_ok-program.ensures c.in_ok-matches.ensures.matches c.in_ok-matches.ensures.kinds c.unwrap.ensures c.subcommand.ensures.name c.subcommand.ensures.rows in
     let test : bytes_eq c.unwrap.result.0.now (codes "show") ≡ false = search rules in
     let other : bytes_eq c.unwrap.result.0.now (codes "list") ≡ false = search rules in
-    let check = is_check at (λ same. not_named c.unwrap.result.0.now (codes "show") test same) (λ same. not_named c.unwrap.result.0.now (codes "list") other same) in
+    let check = is_check at test other in
     (at.none, (codes "check", _, at.met ∙ ap (λ n. Some (n, rows_of (found_of c.unwrap.result.1.now))) check.0, c.in_ok-check_request.ensures))
