@@ -100,9 +100,9 @@ module _ (meaning : Entry → Answer) (moment : ℕ) (rrsets : List ReceivedRrse
   absent_anchor zone ByNsec name n said = zone_anchor zone n.rrset said.1.secured
   absent_anchor zone (ByNsec3 parameters) name n said = zone_anchor zone n.rrset said.1.secured
 
-  inner_anchor : (zone : Labels) (chain : Chain) (name : Labels) (n : RecordNumber) → (evidence_said S rrsets zone chain).Inner name n → HasAnchor anchors zone
-  inner_anchor zone ByNsec name n said = zone_anchor zone n.rrset said.1.secured
-  inner_anchor zone (ByNsec3 parameters) name n said = absurd said
+  empty_non_terminal_anchor : (zone : Labels) (chain : Chain) (name : Labels) (n : RecordNumber) → (evidence_said S rrsets zone chain).EmptyNonTerminal name n → HasAnchor anchors zone
+  empty_non_terminal_anchor zone ByNsec name n said = zone_anchor zone n.rrset said.1.secured
+  empty_non_terminal_anchor zone (ByNsec3 parameters) name n said = absurd said
 
   types_anchor : (zone : Labels) (chain : Chain) (name : Labels) (Says : (ℕ → Type 0) → Type 0) (n : RecordNumber)
       → (evidence_said S rrsets zone chain).TypesAt name Says n → HasAnchor anchors zone
@@ -127,9 +127,9 @@ module _ (meaning : Entry → Answer) (moment : ℕ) (rrsets : List ReceivedRrse
 
   data_anchor : (zone : Labels) (chain : Chain) (name : Labels) (rtype : ℕ) → NoDataForms (words (evidence_said S rrsets zone chain)) zone name rtype → HasAnchor anchors zone
   data_anchor zone chain name rtype (inl form) = types_anchor zone chain name (λ has. Denies has rtype) form.types.0 form.types.1
-  data_anchor zone chain name rtype (inr (inl form)) = inner_anchor zone chain name form.inner.0 form.inner.1
+  data_anchor zone chain name rtype (inr (inl form)) = empty_non_terminal_anchor zone chain name form.empty_non_terminal.0 form.empty_non_terminal.1
   data_anchor zone chain name rtype (inr (inr (inl form))) = types_anchor zone chain (wildcard_of (rightmost name form.labels)) (λ has. Denies has rtype) form.types.0 form.types.1
-  data_anchor zone chain name rtype (inr (inr (inr form))) = inner_anchor zone chain (wildcard_of (rightmost name form.labels)) form.inner.0 form.inner.1
+  data_anchor zone chain name rtype (inr (inr (inr form))) = empty_non_terminal_anchor zone chain (wildcard_of (rightmost name form.labels)) form.empty_non_terminal.0 form.empty_non_terminal.1
 
   no_data_anchor : (name : Labels) (rtype : ℕ) → CanProveNoData S rrsets name rtype → HasAnchor anchors name
   no_data_anchor name rtype can =

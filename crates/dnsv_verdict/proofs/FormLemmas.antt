@@ -13,7 +13,7 @@ pub record SaysNoLess {Index : Type 0} (a b : RecordWords Index) : Type 1 where
   pub needs_none : (name : Labels) → a.NeedsNone name → b.NeedsNone name
   pub encloser : (name : Labels) (index : Index) → a.Encloser name index → b.Encloser name index
   pub absent : (name : Labels) (index : Index) → a.Absent name index → b.Absent name index
-  pub inner : (name : Labels) (index : Index) → a.Inner name index → b.Inner name index
+  pub empty_non_terminal : (name : Labels) (index : Index) → a.EmptyNonTerminal name index → b.EmptyNonTerminal name index
   pub types_at : (name : Labels) (Says : (ℕ → Type 0) → Type 0) (index : Index) → a.TypesAt name Says index → b.TypesAt name Says index
   pub opted_out : (name : Labels) (index : Index) → a.OptedOut name index → b.OptedOut name index
 
@@ -31,8 +31,8 @@ module _ {Index : Type 0} (a b : RecordWords Index) (less : SaysNoLess a b) wher
   pub absent_to : (name : Labels) → (words a).Absent name → (words b).Absent name
   absent_to name = some (a.Absent name) (b.Absent name) (less.absent name)
 
-  pub inner_to : (name : Labels) → (words a).Inner name → (words b).Inner name
-  inner_to name = some (a.Inner name) (b.Inner name) (less.inner name)
+  pub empty_non_terminal_to : (name : Labels) → (words a).EmptyNonTerminal name → (words b).EmptyNonTerminal name
+  empty_non_terminal_to name = some (a.EmptyNonTerminal name) (b.EmptyNonTerminal name) (less.empty_non_terminal name)
 
   pub types_to : (name : Labels) (Says : (ℕ → Type 0) → Type 0) → (words a).TypesAt name Says → (words b).TypesAt name Says
   types_to name Says = some (a.TypesAt name Says) (b.TypesAt name Says) (less.types_at name Says)
@@ -55,7 +55,7 @@ module _ {Index : Type 0} (a b : RecordWords Index) (less : SaysNoLess a b) wher
   no_data_at_name_to apex name t form = record { within = form.within; types = types_to name (λ has. Denies has t) form.types }
 
   pub empty_to : (apex name : Labels) → EmptyForm (words a) apex name → EmptyForm (words b) apex name
-  empty_to apex name form = record { within = form.within; inner = inner_to name form.inner }
+  empty_to apex name form = record { within = form.within; empty_non_terminal = empty_non_terminal_to name form.empty_non_terminal }
 
   abbrev pub wildcard_data_to : (apex name : Labels) (t : ℕ) → NoWildcardDataForm (words a) apex name t → NoWildcardDataForm (words b) apex name t
   wildcard_data_to apex name t form = record {
@@ -68,7 +68,7 @@ module _ {Index : Type 0} (a b : RecordWords Index) (less : SaysNoLess a b) wher
   empty_wildcard_to apex name form = record {
     labels = form.labels;
     ends = ends_to apex name form.labels form.ends;
-    inner = inner_to (wildcard_of (rightmost name form.labels)) form.inner;
+    empty_non_terminal = empty_non_terminal_to (wildcard_of (rightmost name form.labels)) form.empty_non_terminal;
   }
 
   pub no_data_to : (apex name : Labels) (t : ℕ) → NoDataForms (words a) apex name t → NoDataForms (words b) apex name t
@@ -150,7 +150,7 @@ module _ {Index : Type 0} (cmp : Index → Index → Ordering) (a b : RecordWord
   empty_wildcard_parts_to : (apex name : Labels) (parts : List Index) → AreEmptyWildcardParts cmp a apex name parts → AreEmptyWildcardParts cmp b apex name parts
   empty_wildcard_parts_to apex name parts are = let wildcard = wildcard_of (rightmost name are.labels) in record {
     labels = are.labels;
-    are = wildcard_parts_to apex name are.labels (a.Inner wildcard) (b.Inner wildcard) (to.inner wildcard) (from.inner wildcard) parts are.are;
+    are = wildcard_parts_to apex name are.labels (a.EmptyNonTerminal wildcard) (b.EmptyNonTerminal wildcard) (to.empty_non_terminal wildcard) (from.empty_non_terminal wildcard) parts are.are;
     most_labels = λ form. are.most_labels (empty_wildcard_to b a from apex name form);
   }
 
@@ -160,7 +160,7 @@ module _ {Index : Type 0} (cmp : Index → Index → Ordering) (a b : RecordWord
       at_name index within (lowest_to (a.TypesAt name Says) (b.TypesAt name Says) (to.types_at name Says) (from.types_at name Says) index lowest)
   no_data_parts_to apex name t _ (empty index not_here within lowest) =
       empty index (λ form. not_here (no_data_at_name_to b a from apex name t form)) within
-      (lowest_to (a.Inner name) (b.Inner name) (to.inner name) (from.inner name) index lowest)
+      (lowest_to (a.EmptyNonTerminal name) (b.EmptyNonTerminal name) (to.empty_non_terminal name) (from.empty_non_terminal name) index lowest)
   no_data_parts_to apex name t _ (at_wildcard parts not_here not_empty are) =
       at_wildcard parts (λ form. not_here (no_data_at_name_to b a from apex name t form))
       (λ form. not_empty (empty_to b a from apex name form)) (wildcard_data_parts_to apex name t parts are)

@@ -128,12 +128,12 @@ module _ {Index : Type 0} (cmp : Index → Index → Ordering) (total : IsTotalO
   empty_wildcard_of apex name p x = record {
     labels = x.labels;
     ends = ends_of apex name x.labels x.are.end_parts x.are.ends;
-    inner = (x.are.last, x.are.wildcard.says);
+    empty_non_terminal = (x.are.last, x.are.wildcard.says);
   }
 
   one_empty_wildcard : (apex name : Labels) (p q : List Index) → AreEmptyWildcardParts cmp said apex name p → AreEmptyWildcardParts cmp said apex name q → p ≡ q
   one_empty_wildcard apex name p q x y =
-      let Says : ℕ → Index → Type 0 = λ n. said.Inner (wildcard_of (rightmost name n)) in
+      let Says : ℕ → Index → Type 0 = λ n. said.EmptyNonTerminal (wildcard_of (rightmost name n)) in
       let same : x.labels ≡ y.labels = same_count x.labels y.labels (y.most_labels (empty_wildcard_of apex name p x)) (x.most_labels (empty_wildcard_of apex name q y)) in
       one_wildcard apex name y.labels (Says y.labels) p q (subst (λ n. AreWildcardParts cmp said apex name n (Says n) p) same x.are) y.are
 
@@ -143,15 +143,15 @@ module _ {Index : Type 0} (cmp : Index → Index → Ordering) (total : IsTotalO
   one_no_data apex name t _ _ (at_name i w l) (at_wildcard q m e k) = absurd (m (record { within = w; types = (i, l.says) }))
   one_no_data apex name t _ _ (at_name i w l) (empty_wildcard q m e d k) = absurd (m (record { within = w; types = (i, l.says) }))
   one_no_data apex name t _ _ (empty j m v k) (at_name i w l) = absurd (m (record { within = w; types = (i, l.says) }))
-  one_no_data apex name t _ _ (empty i n w l) (empty j m v k) = ap (λ x. x ∷ []) (one_index (said.Inner name) i j l k)
-  one_no_data apex name t _ _ (empty i n w l) (at_wildcard q m e k) = absurd (e (record { within = w; inner = (i, l.says) }))
-  one_no_data apex name t _ _ (empty i n w l) (empty_wildcard q m e d k) = absurd (e (record { within = w; inner = (i, l.says) }))
+  one_no_data apex name t _ _ (empty i n w l) (empty j m v k) = ap (λ x. x ∷ []) (one_index (said.EmptyNonTerminal name) i j l k)
+  one_no_data apex name t _ _ (empty i n w l) (at_wildcard q m e k) = absurd (e (record { within = w; empty_non_terminal = (i, l.says) }))
+  one_no_data apex name t _ _ (empty i n w l) (empty_wildcard q m e d k) = absurd (e (record { within = w; empty_non_terminal = (i, l.says) }))
   one_no_data apex name t _ _ (at_wildcard q m e k) (at_name i w l) = absurd (m (record { within = w; types = (i, l.says) }))
-  one_no_data apex name t _ _ (at_wildcard q m e k) (empty i n w l) = absurd (e (record { within = w; inner = (i, l.says) }))
+  one_no_data apex name t _ _ (at_wildcard q m e k) (empty i n w l) = absurd (e (record { within = w; empty_non_terminal = (i, l.says) }))
   one_no_data apex name t _ _ (at_wildcard p m e k) (at_wildcard q n f l) = one_wildcard_data apex name t p q k l
   one_no_data apex name t _ _ (at_wildcard p m e k) (empty_wildcard q n f d l) = absurd (d (wildcard_data_of apex name t p k))
   one_no_data apex name t _ _ (empty_wildcard q m e d k) (at_name i w l) = absurd (m (record { within = w; types = (i, l.says) }))
-  one_no_data apex name t _ _ (empty_wildcard q m e d k) (empty i n w l) = absurd (e (record { within = w; inner = (i, l.says) }))
+  one_no_data apex name t _ _ (empty_wildcard q m e d k) (empty i n w l) = absurd (e (record { within = w; empty_non_terminal = (i, l.says) }))
   one_no_data apex name t _ _ (empty_wildcard p m e d k) (at_wildcard q n f l) = absurd (d (wildcard_data_of apex name t q l))
   one_no_data apex name t _ _ (empty_wildcard p m e d k) (empty_wildcard q n f g l) = one_empty_wildcard apex name p q k l
 

@@ -3,7 +3,7 @@ ghost use Rattle.dnsv_names.specs.Name.{Labels, SameName, IsAtOrBelow};
 ghost use Rattle.dnsv_names.specs.Order.{IsBelow};
 ghost use Rattle.dnsv_zones.specs.zones.Zone.{Zone, IsOwner, IsNode, IsClosedAt, IsWellFormed};
 ghost use Rattle.dnsv_zones.specs.chains.NsecChain.{NsecRecord, IsInNsecChain};
-ghost use Rattle.dnsv_zones.specs.forms.Nsec.{Covers, IsFair, IsAbsentBy, IsInnerBy, IsNodeBy};
+ghost use Rattle.dnsv_zones.specs.forms.Nsec.{Covers, IsFair, IsAbsentBy, IsEmptyNonTerminalBy, IsNodeBy};
 
 /// A law of NSEC: where a delegation or a DNAME is above a covered name, it is the record's owner.
 pub fn the_owner_before_a_name_is_the_end_above_it()
@@ -27,11 +27,11 @@ pub fn a_name_absent_by_nsec_is_no_node()
 {}
 
 /// A law of NSEC: a name that is covered, and has the next owner below it, is an empty non-terminal.
-pub fn a_name_inner_by_nsec_is_an_empty_non_terminal()
+pub fn an_empty_non_terminal_by_nsec_is_one_of_the_zone()
     ensures node { (zone : Zone) (nsec : NsecRecord) (name : Labels) → IsInNsecChain zone nsec
-        → IsAtOrBelow name zone.apex → IsInnerBy nsec name → IsNode zone name }
+        → IsAtOrBelow name zone.apex → IsEmptyNonTerminalBy nsec name → IsNode zone name }
     ensures empty { (zone : Zone) (nsec : NsecRecord) (name : Labels) → IsInNsecChain zone nsec
-        → IsInnerBy nsec name → ¬ IsOwner zone name }
+        → IsEmptyNonTerminalBy nsec name → ¬ IsOwner zone name }
 {}
 
 /// A law of NSEC: what is above a record's owner or the next one, within the zone, is a node.

@@ -1,7 +1,7 @@
 //! What one NSEC record says of a name (RFC 4035 5.4, RFC 6840 4.1 and 4.3).
 ghost use Rattle.std.specs.Prelude.{◌↔◌, IsTrue};
 ghost use Rattle.dnsv_zones.specs.chains.Rdata.{nsec_record};
-ghost use Rattle.dnsv_zones.specs.forms.Nsec.{Covers, IsFair, IsAbsentBy, IsInnerBy, IsNodeBy};
+ghost use Rattle.dnsv_zones.specs.forms.Nsec.{Covers, IsFair, IsAbsentBy, IsEmptyNonTerminalBy, IsNodeBy};
 
 use crate::types::is_closed;
 use dnsv_names::{Name, covers};
@@ -42,8 +42,8 @@ pub fn is_absent(owner: &Name, nsec: &Nsec, name: &Name) -> bool
 }
 
 /// Whether the name is an empty non-terminal: the record covers it and may speak of it, and the next owner is below.
-pub fn is_inner(owner: &Name, nsec: &Nsec, name: &Name) -> bool
-    ensures { IsTrue result ↔ IsInnerBy (nsec_record owner.now nsec.now) name.now }
+pub fn is_empty_non_terminal(owner: &Name, nsec: &Nsec, name: &Name) -> bool
+    ensures { IsTrue result ↔ IsEmptyNonTerminalBy (nsec_record owner.now nsec.now) name.now }
 {
     if !nsec.next.is_at_or_below(name) {
         return false;

@@ -16,7 +16,7 @@ use Rattle.dnsv_denial.proofs.meaning.CutMeaningLemmas.{absent_end}
 
 -- what is so of the zone's nodes
 abbrev absence_in : Zone → Words
-absence_in zone = record { Encloser = λ name. Unit {0}; Absent = λ name. ¬ IsNode zone name; Inner = λ name. ⊥; TypesAt = λ name Says. ⊥ }
+absence_in zone = record { Encloser = λ name. Unit {0}; Absent = λ name. ¬ IsNode zone name; EmptyNonTerminal = λ name. ⊥; TypesAt = λ name Says. ⊥ }
 
 -- a zone that has a record is well formed, and has the record's name
 zone_of_record : (rrsets : List ReceivedRrset) (apex : Labels) (n : RecordNumber) (zone : Zone) → HasRecord rrsets apex n zone

@@ -10,7 +10,7 @@ use Rattle.dnsv_zones.specs.chains.HashedNames.{sha1_hash}
 use Rattle.dnsv_zones.specs.chains.Nsec3Chain.{Nsec3Record, Parameters, NameHash, IsInNsec3Chain}
 use Rattle.dnsv_zones.specs.chains.NsecChain.{NsecRecord, IsInBitmap}
 use Rattle.dnsv_zones.specs.forms.Forms.{Words, NoNameForm, NoDataForms, NoCloserForm}
-use Rattle.dnsv_zones.specs.forms.Nsec.{IsAbsentBy, IsInnerBy, IsNodeBy, nsec_words}
+use Rattle.dnsv_zones.specs.forms.Nsec.{IsAbsentBy, IsEmptyNonTerminalBy, IsNodeBy, nsec_words}
 use Rattle.dnsv_zones.specs.forms.Nsec3.{Matches, Covers, nsec3_words}
 use Rattle.dnsv_zones.specs.forms.Parts.{AreNoNameParts, AreNoDataParts, IsNoCloserPart}
 use Rattle.dnsv_zones.specs.zones.Lookup.{IsLookup}
@@ -44,7 +44,7 @@ numbered Is (m ∷ numbers) (x ∷ records) n all there =
 
 -- what records of the other kind say: nothing but that names are nodes
 abbrev no_words : Words
-no_words = record { Encloser = λ name. Unit {0}; Absent = λ name. ⊥; Inner = λ name. ⊥; TypesAt = λ name Says. ⊥ }
+no_words = record { Encloser = λ name. Unit {0}; Absent = λ name. ⊥; EmptyNonTerminal = λ name. ⊥; TypesAt = λ name Says. ⊥ }
 
 module _ (Secured : ℕ → ℕ → Type 0) (rrsets : List ReceivedRrset) (apex : Labels) (numbers : List RecordNumber) where
   -- NSEC records with these numbers say no more than they do as records of a chain
@@ -58,7 +58,7 @@ module _ (Secured : ℕ → ℕ → Type 0) (rrsets : List ReceivedRrset) (apex 
       needs_none = λ name same. inl same;
       encloser = λ name n there said. inr (said_by (λ r. IsNodeBy r name) n there said);
       absent = λ name. said_by (λ r. IsAbsentBy r name);
-      inner = λ name. said_by (λ r. IsInnerBy r name);
+      empty_non_terminal = λ name. said_by (λ r. IsEmptyNonTerminalBy r name);
       types_at = λ name Says. said_by (λ r. SameName r.owner name × Says (IsInBitmap r.types));
     }
 
@@ -75,7 +75,7 @@ module _ (Secured : ℕ → ℕ → Type 0) (rrsets : List ReceivedRrset) (apex 
       needs_none = λ name none. absurd none;
       encloser = λ name n there said. tt;
       absent = λ name. no_nsec3 (λ r. Covers (sha1_hash parameters) r name × (r.flags ≡ 0));
-      inner = λ name n there none. none;
+      empty_non_terminal = λ name n there none. none;
       types_at = λ name Says. no_nsec3 (λ r. Matches (sha1_hash parameters) r name × Says (IsInBitmap r.types));
     }
 
@@ -86,7 +86,7 @@ module _ (Secured : ℕ → ℕ → Type 0) (rrsets : List ReceivedRrset) (apex 
       needs_none = λ name same. tt;
       encloser = λ name n there said. tt;
       absent = λ name. no_nsec (λ r. IsAbsentBy r name);
-      inner = λ name. no_nsec (λ r. IsInnerBy r name);
+      empty_non_terminal = λ name. no_nsec (λ r. IsEmptyNonTerminalBy r name);
       types_at = λ name Says. no_nsec (λ r. SameName r.owner name × Says (IsInBitmap r.types));
     } where
       no_nsec : (Says : NsecRecord → Type 0) (n : RecordNumber) → IsMember n numbers → SaidByNsec Secured rrsets apex Says n → ⊥
@@ -111,7 +111,7 @@ module _ (Secured : ℕ → ℕ → Type 0) (rrsets : List ReceivedRrset) (apex 
         needs_none = λ name none. absurd none;
         encloser = λ name. said_with (λ hash r. Matches hash r name × ¬ IsClosed (IsInBitmap r.types)) (λ r is. is.0.same_parameters);
         absent = λ name. said_with (λ hash r. Covers hash r name × (r.flags ≡ 0)) (λ r is. is.0.same_parameters);
-        inner = λ name n there none. none;
+        empty_non_terminal = λ name n there none. none;
         types_at = λ name Says. said_with (λ hash r. Matches hash r name × Says (IsInBitmap r.types)) (λ r is. is.0.same_parameters);
       }
 
@@ -129,9 +129,9 @@ with_parameters zone hash names (r ∷ records) all = (all.0.same_parameters, wi
 -- nothing is proved by such words
 none_by_no_words : (apex name : Labels) (t : ℕ) (P : Type 0) → NoDataForms no_words apex name t → P
 none_by_no_words apex name t P (inl form) = absurd form.types
-none_by_no_words apex name t P (inr (inl form)) = absurd form.inner
+none_by_no_words apex name t P (inr (inl form)) = absurd form.empty_non_terminal
 none_by_no_words apex name t P (inr (inr (inl form))) = absurd form.types
-none_by_no_words apex name t P (inr (inr (inr form))) = absurd form.inner
+none_by_no_words apex name t P (inr (inr (inr form))) = absurd form.empty_non_terminal
 
 module _ (Secured : ℕ → ℕ → Type 0) (rrsets : List ReceivedRrset) (name : Labels) (zone : Zone) where
   no_name_of : (proof : ProofRecords) (chain : Chain) (t : ℕ) (parts : List RecordNumber) → AreNoNameParts number_cmp (evidence_said Secured rrsets proof.zone chain) proof.zone name parts

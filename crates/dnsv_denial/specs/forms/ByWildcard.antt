@@ -13,7 +13,7 @@ use Rattle.dnsv_denial.specs.declared.words.asked.AskedWildcard.TheVariants.{Abs
 -- the record at the place says it of the wildcard
 abbrev pub wildcard_said : AskedWildcard → RecordWords ℕ → Labels → ℕ → Type 0
 wildcard_said Absent said wildcard = said.Absent wildcard
-wildcard_said Empty said wildcard = said.Inner wildcard
+wildcard_said Empty said wildcard = said.EmptyNonTerminal wildcard
 wildcard_said (Without rtype) said wildcard = said.TypesAt wildcard (λ has. Denies has rtype.0)
 
 -- the form stands, by a closest encloser of so many labels

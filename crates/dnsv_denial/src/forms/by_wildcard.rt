@@ -18,7 +18,7 @@ use crate::forms::end_limits::end_limits;
 use crate::forms::ends::{Places, end_at};
 use crate::records::chain_records::ChainRecords;
 use crate::words::asked::{AskedName, AskedTypes, AskedWildcard};
-use crate::words::said::{absent, inner, types_at};
+use crate::words::said::{absent, empty_non_terminal, types_at};
 use dnsv_names::Name;
 
 /// The records that show that there is no such name (RFC 4035 5.4, RFC 5155 8.4), or `None` where none do. The closest
@@ -94,7 +94,7 @@ fn at_wildcard(
     let wildcard = AskedName::Wildcard(labels);
     match asked {
         AskedWildcard::Absent => absent(name, wildcard, records),
-        AskedWildcard::Empty => inner(name, wildcard, records),
+        AskedWildcard::Empty => empty_non_terminal(name, wildcard, records),
         AskedWildcard::Without(rtype) => {
             types_at(name, wildcard, AskedTypes::Without(rtype), records)
         }

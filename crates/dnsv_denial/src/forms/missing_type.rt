@@ -15,7 +15,7 @@ use crate::forms::by_wildcard::by_wildcard;
 use crate::forms::ends::Places;
 use crate::records::chain_records::ChainRecords;
 use crate::words::asked::{AskedName, AskedTypes, AskedWildcard};
-use crate::words::said::{inner, types_at};
+use crate::words::said::{empty_non_terminal, types_at};
 use arrayvec::ArrayVec;
 use dnsv_names::{Name, RecordType};
 
@@ -45,7 +45,7 @@ pub fn no_data(
     if let Some(place) = types_at(name, itself, AskedTypes::Without(rtype), records) {
         return Some(alone(place));
     }
-    if let Some(place) = inner(name, itself, records) {
+    if let Some(place) = empty_non_terminal(name, itself, records) {
         return Some(alone(place));
     }
     if let Some(places) = by_wildcard(apex, name, AskedWildcard::Without(rtype), records) {

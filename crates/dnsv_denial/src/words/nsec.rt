@@ -2,7 +2,7 @@
 ghost use Rattle.std.specs.Prelude.{◌≡◌};
 ghost use Rattle.dnsv_names.specs.Name.{SameName};
 ghost use Rattle.dnsv_zones.specs.chains.NsecChain.{IsInBitmap};
-ghost use Rattle.dnsv_zones.specs.forms.Nsec.{IsAbsentBy, IsInnerBy, IsNodeBy};
+ghost use Rattle.dnsv_zones.specs.forms.Nsec.{IsAbsentBy, IsEmptyNonTerminalBy, IsNodeBy};
 ghost use Rattle.dnsv_denial.specs.records.Record.{read_entry};
 ghost use Rattle.dnsv_denial.specs.declared.records.entry.NsecEntry.{NsecEntry};
 ghost use Rattle.dnsv_denial.specs.words.Asked.{said_types};
@@ -11,7 +11,7 @@ use crate::records::entry::NsecEntry;
 use crate::words::asked::AskedTypes;
 use crate::words::search::Word;
 use dnsv_names::Name;
-use dnsv_zones::{is_absent, is_inner, is_node};
+use dnsv_zones::{is_absent, is_empty_non_terminal, is_node};
 
 /// The word that a name is no node.
 #[derive(Debug, Drop)]
@@ -27,13 +27,13 @@ impl Word<NsecEntry<'_>> for Absent<'_> {
 
 /// The word that a name is an empty non-terminal.
 #[derive(Debug, Drop)]
-pub struct Inner<'a>(pub &'a Name);
+pub struct EmptyNonTerminal<'a>(pub &'a Name);
 
-impl Word<NsecEntry<'_>> for Inner<'_> {
-    ghost says = { λ word entry. IsInnerBy (read_entry entry) word.0.now };
+impl Word<NsecEntry<'_>> for EmptyNonTerminal<'_> {
+    ghost says = { λ word entry. IsEmptyNonTerminalBy (read_entry entry) word.0.now };
 
     fn is_said_by(&self, entry: &NsecEntry<'_>) -> bool {
-        is_inner(entry.owner, entry.nsec, self.0)
+        is_empty_non_terminal(entry.owner, entry.nsec, self.0)
     }
 }
 

@@ -8,7 +8,7 @@ ghost use Rattle.dnsv_denial.specs.words.SaidAt.{IsFirstPlace};
 
 use crate::records::chain_records::ChainRecords;
 use crate::words::asked::{AskedName, AskedTypes};
-use crate::words::nsec::{Absent, Inner, Node, Owner};
+use crate::words::nsec::{Absent, EmptyNonTerminal, Node, Owner};
 use crate::words::nsec3::{first_cover, first_match};
 use crate::words::search::first_to_say;
 use dnsv_names::Name;
@@ -63,15 +63,15 @@ pub fn absent(name: &Name, asked: AskedName, records: &ChainRecords<'_>) -> Opti
 
 /// The place of the first record that shows the asked name to be an empty non-terminal. NSEC3 records have an owner
 /// for each of these (RFC 5155 7.1).
-pub fn inner(name: &Name, asked: AskedName, records: &ChainRecords<'_>) -> Option<usize>
+pub fn empty_non_terminal(name: &Name, asked: AskedName, records: &ChainRecords<'_>) -> Option<usize>
     requires within { IsWithin name.now asked }
     ensures { (apex : Labels)
-        → IsFirstPlace ((chain_said apex records.now).Inner (asked_name name.now asked)) result }
+        → IsFirstPlace ((chain_said apex records.now).EmptyNonTerminal (asked_name name.now asked)) result }
 {
     match records {
         ChainRecords::Nsec(entries) => {
-            let inner = asked.of(name);
-            first_to_say(&Inner(&inner), entries)
+            let empty_non_terminal = asked.of(name);
+            first_to_say(&EmptyNonTerminal(&empty_non_terminal), entries)
         }
         ChainRecords::Nsec3(_) => None,
     }

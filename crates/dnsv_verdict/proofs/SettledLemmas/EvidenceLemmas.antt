@@ -85,7 +85,7 @@ module _
     needs_none = λ name same. same;
     encloser = λ name. nsec_to zone _;
     absent = λ name. nsec_to zone _;
-    inner = λ name. nsec_to zone _;
+    empty_non_terminal = λ name. nsec_to zone _;
     types_at = λ name Says. nsec_to zone _;
     opted_out = λ name number never. never;
   }
@@ -93,7 +93,7 @@ module _
     needs_none = λ name never. never;
     encloser = λ name. nsec3_to zone _;
     absent = λ name. nsec3_to zone _;
-    inner = λ name number never. never;
+    empty_non_terminal = λ name number never. never;
     types_at = λ name Says. nsec3_to zone _;
     opted_out = λ name. nsec3_to zone _;
   }

@@ -91,7 +91,7 @@ module _ (said : RecordWords RecordNumber) where
       → Surely ((p : List RecordNumber) × AreEmptyWildcardParts number_cmp said apex name p)
   some_empty_wildcard apex name form =
       and_then (best_form (EmptyWildcardForm (words said) apex name) (λ f. f.labels) (length name) (λ f. omega (arith, f.ends.above.proper)) form)
-      (λ best. and_then (some_wildcard apex name best.0.labels (said.Inner (wildcard_of (rightmost name best.0.labels))) best.0.ends best.0.inner.0 best.0.inner.1)
+      (λ best. and_then (some_wildcard apex name best.0.labels (said.EmptyNonTerminal (wildcard_of (rightmost name best.0.labels))) best.0.ends best.0.empty_non_terminal.0 best.0.empty_non_terminal.1)
       (λ found. surely (found.0, record { labels = best.0.labels; are = found.1; most_labels = best.1 })))
 
   -- the last of the four forms, where the others don't stand
@@ -109,7 +109,7 @@ module _ (said : RecordWords RecordNumber) where
       (λ form. and_then (some_record (said.TypesAt name (λ has. Denies has t)) form.types.0 form.types.1)
       (λ first. surely (first.0 ∷ [], at_name first.0 form.within first.1)))
       (λ none. by_cases (EmptyForm (words said) apex name)
-      (λ form. and_then (some_record (said.Inner name) form.inner.0 form.inner.1)
+      (λ form. and_then (some_record (said.EmptyNonTerminal name) form.empty_non_terminal.0 form.empty_non_terminal.1)
       (λ first. surely (first.0 ∷ [], empty first.0 none form.within first.1)))
       (λ hollow. by_cases (NoWildcardDataForm (words said) apex name t)
       (λ form. and_then (some_wildcard_data apex name t form) (λ found. surely (found.0, at_wildcard found.0 none hollow found.1)))
@@ -235,10 +235,10 @@ module _ (S : ℕ → ℕ → Type 0) (rrsets : List ReceivedRrset) where
   no_data_parameters : (name : Labels) (t : ℕ) (zone : Labels) (p : Parameters) → NoDataForms (words (nsec3_said S rrsets zone p)) zone name t → AreOfRecord rrsets zone p
   no_data_parameters name t zone p (inl form) =
       let said = form.types.1 in (form.types.0, said.0, said.1.is, said.2.0.same_parameters)
-  no_data_parameters name t zone p (inr (inl form)) = absurd form.inner.1
+  no_data_parameters name t zone p (inr (inl form)) = absurd form.empty_non_terminal.1
   no_data_parameters name t zone p (inr (inr (inl form))) =
       let said = form.types.1 in (form.types.0, said.0, said.1.is, said.2.0.same_parameters)
-  no_data_parameters name t zone p (inr (inr (inr form))) = absurd form.inner.1
+  no_data_parameters name t zone p (inr (inr (inr form))) = absurd form.empty_non_terminal.1
 
   pub some_no_name : (name : Labels) → CanProveNoName S rrsets name → Surely ((proof : ProofRecords) × IsFirstNoName S rrsets name proof)
   some_no_name name =

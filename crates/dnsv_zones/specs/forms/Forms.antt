@@ -11,7 +11,7 @@ use Rattle.dnsv_zones.specs.zones.Types.{Denies, IsUnsignedDelegation}
 pub record Words : Type 1 where
   pub Encloser : Labels → Type 0
   pub Absent : Labels → Type 0
-  pub Inner : Labels → Type 0
+  pub EmptyNonTerminal : Labels → Type 0
   pub TypesAt : Labels → ((ℕ → Type 0) → Type 0) → Type 0
 
 -- the name's so many rightmost labels are a proper ancestor of it, at or below the apex
@@ -39,7 +39,7 @@ pub record NoDataForm (words : Words) (apex name : Labels) (t : ℕ) : Type 0 wh
 -- the name is an empty non-terminal
 pub record EmptyForm (words : Words) (apex name : Labels) : Type 0 where
   pub within : IsAtOrBelow name apex
-  pub inner : words.Inner name
+  pub empty_non_terminal : words.EmptyNonTerminal name
 
 -- the wildcard at the closest encloser is there, without the type (RFC 4035 3.1.3.4, RFC 5155 8.7)
 pub record NoWildcardDataForm (words : Words) (apex name : Labels) (t : ℕ) : Type 0 where
@@ -51,7 +51,7 @@ pub record NoWildcardDataForm (words : Words) (apex name : Labels) (t : ℕ) : T
 pub record EmptyWildcardForm (words : Words) (apex name : Labels) : Type 0 where
   pub labels : ℕ
   pub ends : EndsAt words apex name labels
-  pub inner : words.Inner (wildcard_of (rightmost name labels))
+  pub empty_non_terminal : words.EmptyNonTerminal (wildcard_of (rightmost name labels))
 
 -- there is no data: any of these forms
 abbrev pub NoDataForms : Words → Labels → Labels → ℕ → Type 0

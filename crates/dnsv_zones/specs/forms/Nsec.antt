@@ -23,7 +23,7 @@ pub record IsAbsentBy (nsec : NsecRecord) (name : Labels) : Type 0 where
   pub nothing_below : ¬ IsAtOrBelow nsec.next name
 
 -- the name has no owner, and one below it
-pub record IsInnerBy (nsec : NsecRecord) (name : Labels) : Type 0 where
+pub record IsEmptyNonTerminalBy (nsec : NsecRecord) (name : Labels) : Type 0 where
   pub covers : Covers nsec name
   pub fair : IsFair nsec name
   pub some_below : IsAtOrBelow nsec.next name
@@ -37,6 +37,6 @@ abbrev pub nsec_words : Labels → List NsecRecord → Words
 nsec_words apex records = record {
   Encloser = λ name. SameName name apex ⊎ Any (λ nsec. IsNodeBy nsec name) records;
   Absent = λ name. Any (λ nsec. IsAbsentBy nsec name) records;
-  Inner = λ name. Any (λ nsec. IsInnerBy nsec name) records;
+  EmptyNonTerminal = λ name. Any (λ nsec. IsEmptyNonTerminalBy nsec name) records;
   TypesAt = λ name Says. Any (λ nsec. SameName nsec.owner name × Says (IsInBitmap nsec.types)) records;
 }

@@ -25,7 +25,7 @@ abbrev pub nsec3_words : NameHash → List Nsec3Record → Words
 nsec3_words hash records = record {
   Encloser = λ name. Any (λ nsec3. Matches hash nsec3 name × ¬ IsClosed (IsInBitmap nsec3.types)) records;
   Absent = λ name. Any (λ nsec3. Covers hash nsec3 name × (nsec3.flags ≡ 0)) records;
-  Inner = λ name. ⊥;
+  EmptyNonTerminal = λ name. ⊥;
   TypesAt = λ name Says. Any (λ nsec3. Matches hash nsec3 name × Says (IsInBitmap nsec3.types)) records;
 }
 

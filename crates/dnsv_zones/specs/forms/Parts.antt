@@ -76,7 +76,7 @@ pub record AreEmptyWildcardParts
     {Index : Type 0} (cmp : Index → Index → Ordering) (said : RecordWords Index) (apex name : Labels)
     (parts : List Index) : Type 0 where
   pub labels : ℕ
-  pub are : AreWildcardParts cmp said apex name labels (said.Inner (wildcard_of (rightmost name labels))) parts
+  pub are : AreWildcardParts cmp said apex name labels (said.EmptyNonTerminal (wildcard_of (rightmost name labels))) parts
   pub most_labels : (form : EmptyWildcardForm (words said) apex name) → form.labels ≤ labels
 
 -- these prove that the type isn't there, by the first form that stands
@@ -86,7 +86,7 @@ pub data AreNoDataParts
   at_name : (index : Index) → IsAtOrBelow name apex → IsLowest cmp (said.TypesAt name (λ has. Denies has t)) index
       → AreNoDataParts cmp said apex name t (index ∷ [])
   empty : (index : Index) → ¬ NoDataForm (words said) apex name t → IsAtOrBelow name apex
-      → IsLowest cmp (said.Inner name) index → AreNoDataParts cmp said apex name t (index ∷ [])
+      → IsLowest cmp (said.EmptyNonTerminal name) index → AreNoDataParts cmp said apex name t (index ∷ [])
   at_wildcard : (parts : List Index) → ¬ NoDataForm (words said) apex name t → ¬ EmptyForm (words said) apex name
       → AreWildcardDataParts cmp said apex name t parts → AreNoDataParts cmp said apex name t parts
   empty_wildcard : (parts : List Index) → ¬ NoDataForm (words said) apex name t

@@ -10,7 +10,7 @@ pub record RecordWords (Index : Type 0) : Type 1 where
   pub NeedsNone : Labels → Type 0
   pub Encloser : Labels → Index → Type 0
   pub Absent : Labels → Index → Type 0
-  pub Inner : Labels → Index → Type 0
+  pub EmptyNonTerminal : Labels → Index → Type 0
   pub TypesAt : Labels → ((ℕ → Type 0) → Type 0) → Index → Type 0
   pub OptedOut : Labels → Index → Type 0
 
@@ -19,6 +19,6 @@ abbrev pub words : {Index : Type 0} → RecordWords Index → Words
 words {Index} said = record {
   Encloser = λ name. said.NeedsNone name ⊎ ((index : Index) × said.Encloser name index);
   Absent = λ name. (index : Index) × said.Absent name index;
-  Inner = λ name. (index : Index) × said.Inner name index;
+  EmptyNonTerminal = λ name. (index : Index) × said.EmptyNonTerminal name index;
   TypesAt = λ name Says. (index : Index) × said.TypesAt name Says index;
 }

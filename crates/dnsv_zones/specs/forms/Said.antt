@@ -3,7 +3,7 @@ use Rattle.std.specs.Prelude.{◌≡◌, ◌≢◌}
 use Rattle.dnsv_names.specs.Name.{Labels, SameName}
 use Rattle.dnsv_zones.specs.chains.Nsec3Chain.{Nsec3Record, NameHash}
 use Rattle.dnsv_zones.specs.chains.NsecChain.{NsecRecord, IsInBitmap}
-use Rattle.dnsv_zones.specs.forms.Nsec.{IsAbsentBy, IsInnerBy, IsNodeBy}
+use Rattle.dnsv_zones.specs.forms.Nsec.{IsAbsentBy, IsEmptyNonTerminalBy, IsNodeBy}
 use Rattle.dnsv_zones.specs.forms.Nsec3.{Covers, Matches}
 use Rattle.dnsv_zones.specs.forms.RecordWords.{RecordWords}
 use Rattle.dnsv_zones.specs.zones.Types.{IsClosed}
@@ -14,7 +14,7 @@ nsec_records_say apex At = record {
   NeedsNone = λ name. SameName name apex;
   Encloser = λ name. At (λ nsec. IsNodeBy nsec name);
   Absent = λ name. At (λ nsec. IsAbsentBy nsec name);
-  Inner = λ name. At (λ nsec. IsInnerBy nsec name);
+  EmptyNonTerminal = λ name. At (λ nsec. IsEmptyNonTerminalBy nsec name);
   TypesAt = λ name Says. At (λ nsec. SameName nsec.owner name × Says (IsInBitmap nsec.types));
   OptedOut = λ name index. ⊥;
 }
@@ -25,7 +25,7 @@ nsec3_records_say hash At = record {
   NeedsNone = λ name. ⊥;
   Encloser = λ name. At (λ nsec3. Matches hash nsec3 name × ¬ IsClosed (IsInBitmap nsec3.types));
   Absent = λ name. At (λ nsec3. Covers hash nsec3 name × (nsec3.flags ≡ 0));
-  Inner = λ name index. ⊥;
+  EmptyNonTerminal = λ name index. ⊥;
   TypesAt = λ name Says. At (λ nsec3. Matches hash nsec3 name × Says (IsInBitmap nsec3.types));
   OptedOut = λ name. At (λ nsec3. Covers hash nsec3 name × (nsec3.flags ≢ 0));
 }

@@ -39,7 +39,7 @@ module _ {Index : Type 0} (cmp : Index → Index → Ordering) (said : RecordWor
 
   no_data_stands : (t : ℕ) (parts : List Index) → AreNoDataParts cmp said apex name t parts → DenialForm (NoData (record { 0 = t })) name (words said) apex
   no_data_stands t (index ∷ []) (at_name _ within lowest) = inl (record { within = within; types = (index, lowest.says) })
-  no_data_stands t (index ∷ []) (empty _ no_form within lowest) = inr (inl (record { within = within; inner = (index, lowest.says) }))
+  no_data_stands t (index ∷ []) (empty _ no_form within lowest) = inr (inl (record { within = within; empty_non_terminal = (index, lowest.says) }))
   no_data_stands t parts (at_wildcard _ no_form no_empty are) = inr (inr (inl (record {
     labels = are.labels;
     ends = ends_stand are.labels are.are.end_parts are.are.ends;
@@ -48,7 +48,7 @@ module _ {Index : Type 0} (cmp : Index → Index → Ordering) (said : RecordWor
   no_data_stands t parts (empty_wildcard _ no_form no_empty no_data are) = inr (inr (inr (record {
     labels = are.labels;
     ends = ends_stand are.labels are.are.end_parts are.are.ends;
-    inner = (are.are.last, are.are.wildcard.says);
+    empty_non_terminal = (are.are.last, are.are.wildcard.says);
   })))
 
   pub parts_stand : (denial : Denial) (parts : List Index) → AreParts cmp denial name said apex parts → DenialForm denial name (words said) apex
@@ -78,7 +78,7 @@ module _ (numbers : List RecordNumber) (order : AreInOrder numbers) (by : Record
 pub record AreBound (count : ℕ) (by : RecordWords ℕ) : Type 1 where
   pub encloser : (name : Labels) (place : ℕ) → by.Encloser name place → place < count
   pub absent : (name : Labels) (place : ℕ) → by.Absent name place → place < count
-  pub inner : (name : Labels) (place : ℕ) → by.Inner name place → place < count
+  pub empty_non_terminal : (name : Labels) (place : ℕ) → by.EmptyNonTerminal name place → place < count
   pub types_at : (name : Labels) (Says : (ℕ → Type 0) → Type 0) (place : ℕ) → by.TypesAt name Says place → place < count
 
 module _ (count : ℕ) (by : RecordWords ℕ) (bound : AreBound count by) (apex name : Labels) where
@@ -97,11 +97,11 @@ module _ (count : ℕ) (by : RecordWords ℕ) (bound : AreBound count by) (apex 
 
   no_data_places : (t : ℕ) (places : List ℕ) → AreNoDataParts nat_cmp by apex name t places → AllByRecursion (λ p. p < count) places
   no_data_places t (place ∷ []) (at_name _ within lowest) = (bound.types_at name (λ has. Denies has t) place lowest.says, tt)
-  no_data_places t (place ∷ []) (empty _ no_form within lowest) = (bound.inner name place lowest.says, tt)
+  no_data_places t (place ∷ []) (empty _ no_form within lowest) = (bound.empty_non_terminal name place lowest.says, tt)
   no_data_places t places (at_wildcard _ no_form no_empty are) =
       wildcard_places are.labels (by.TypesAt (wildcard_of (rightmost name are.labels)) (λ has. Denies has t)) (bound.types_at (wildcard_of (rightmost name are.labels)) (λ has. Denies has t)) places are.are
   no_data_places t places (empty_wildcard _ no_form no_empty no_data are) =
-      wildcard_places are.labels (by.Inner (wildcard_of (rightmost name are.labels))) (bound.inner (wildcard_of (rightmost name are.labels))) places are.are
+      wildcard_places are.labels (by.EmptyNonTerminal (wildcard_of (rightmost name are.labels))) (bound.empty_non_terminal (wildcard_of (rightmost name are.labels))) places are.are
 
   pub parts_are_places : (denial : Denial) (places : List ℕ) → AreParts nat_cmp denial name by apex places → AllByRecursion (λ p. p < count) places
   parts_are_places NoName places parts =

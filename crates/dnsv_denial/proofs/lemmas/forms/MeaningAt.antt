@@ -7,7 +7,7 @@ use Rattle.dnsv_names.specs.Tree.{wildcard_of}
 use Rattle.dnsv_zones.specs.Any.{Any}
 use Rattle.dnsv_zones.specs.chains.NsecChain.{IsInBitmap}
 use Rattle.dnsv_zones.specs.forms.Forms.{Words}
-use Rattle.dnsv_zones.specs.forms.Nsec.{IsAbsentBy, IsInnerBy, IsNodeBy, nsec_words}
+use Rattle.dnsv_zones.specs.forms.Nsec.{IsAbsentBy, IsEmptyNonTerminalBy, IsNodeBy, nsec_words}
 use Rattle.dnsv_zones.specs.forms.Nsec3.{Covers, Matches, nsec3_words}
 use Rattle.dnsv_zones.specs.forms.Parts.{AreNoNameParts, AreNoDataParts, IsNoCloserPart}
 use Rattle.dnsv_zones.specs.zones.Lookup.{IsLookup}
@@ -56,7 +56,7 @@ say_at apex (Nsec entries) places = record {
   needs_none = λ x same. inl same;
   encloser = λ x place among said. inr (any_at read_entry (λ nsec. IsNodeBy nsec x) entries.now places place among said);
   absent = λ x place among said. any_at read_entry (λ nsec. IsAbsentBy nsec x) entries.now places place among said;
-  inner = λ x place among said. any_at read_entry (λ nsec. IsInnerBy nsec x) entries.now places place among said;
+  empty_non_terminal = λ x place among said. any_at read_entry (λ nsec. IsEmptyNonTerminalBy nsec x) entries.now places place among said;
   types_at = λ x Says place among said. any_at read_entry (λ nsec. SameName nsec.owner x × Says (IsInBitmap nsec.types)) entries.now places place among said;
 }
 say_at apex (Nsec3 hashed) places = record {
@@ -65,7 +65,7 @@ say_at apex (Nsec3 hashed) places = record {
       any_at read_nsec3 (λ nsec3. Matches (hash_of hashed.now) nsec3 x × ¬ IsClosed (IsInBitmap nsec3.types)) hashed.now.entries.now places place among said;
   absent = λ x place among said.
       any_at read_nsec3 (λ nsec3. Covers (hash_of hashed.now) nsec3 x × (nsec3.flags ≡ 0)) hashed.now.entries.now places place among said;
-  inner = λ x place among none. none;
+  empty_non_terminal = λ x place among none. none;
   types_at = λ x Says place among said.
       any_at read_nsec3 (λ nsec3. Matches (hash_of hashed.now) nsec3 x × Says (IsInBitmap nsec3.types)) hashed.now.entries.now places place among said;
 }

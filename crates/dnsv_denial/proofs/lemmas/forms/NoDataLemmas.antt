@@ -36,14 +36,14 @@ module _ (said : RecordWords ℕ) (apex name : Labels) where
   pub none_at_name : (t : ℕ) → ((place : ℕ) → ¬ said.TypesAt name (λ has. Denies has t) place) → ¬ NoDataForm (words said) apex name t
   none_at_name t none form = none form.types.0 form.types.1
 
-  pub none_empty : ((place : ℕ) → ¬ said.Inner name place) → ¬ EmptyForm (words said) apex name
-  none_empty none form = none form.inner.0 form.inner.1
+  pub none_empty : ((place : ℕ) → ¬ said.EmptyNonTerminal name place) → ¬ EmptyForm (words said) apex name
+  none_empty none form = none form.empty_non_terminal.0 form.empty_non_terminal.1
 
   data_stands : (rtype : RecordType) (form : NoWildcardDataForm (words said) apex name rtype.0) → StandsAt (Without rtype) said apex name form.labels
   data_stands rtype form = record { ends = form.ends; wildcard = form.types }
 
   empty_stands : (form : EmptyWildcardForm (words said) apex name) → StandsAt Empty said apex name form.labels
-  empty_stands form = record { ends = form.ends; wildcard = form.inner }
+  empty_stands form = record { ends = form.ends; wildcard = form.empty_non_terminal }
 
   pub none_at_wildcard : (rtype : RecordType) → ((labels : ℕ) → ¬ StandsAt (Without rtype) said apex name labels)
       → ¬ NoWildcardDataForm (words said) apex name rtype.0

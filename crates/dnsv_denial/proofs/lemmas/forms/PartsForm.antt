@@ -16,7 +16,7 @@ pub record SayNoMore {I : Type 0} (said : RecordWords I) (indices : List I) (wor
   pub needs_none : (name : Labels) → said.NeedsNone name → words.Encloser name
   pub encloser : (name : Labels) (i : I) → IsMember i indices → said.Encloser name i → words.Encloser name
   pub absent : (name : Labels) (i : I) → IsMember i indices → said.Absent name i → words.Absent name
-  pub inner : (name : Labels) (i : I) → IsMember i indices → said.Inner name i → words.Inner name
+  pub empty_non_terminal : (name : Labels) (i : I) → IsMember i indices → said.EmptyNonTerminal name i → words.EmptyNonTerminal name
   pub types_at : (name : Labels) (Says : (ℕ → Type 0) → Type 0) (i : I) → IsMember i indices → said.TypesAt name Says i → words.TypesAt name Says
 
 pub member_left : {I : Type 0} (i : I) (xs ys : List I) → IsMember i xs → IsMember i (xs ++ ys)
@@ -59,15 +59,15 @@ module _ {I : Type 0} (cmp : I → I → Ordering) (said : RecordWords I) (indic
     pub no_data_by : (t : ℕ) (parts : List I) → AreNoDataParts cmp said apex name t parts → ((i : I) → IsMember i parts → IsMember i indices) → NoDataForms words apex name t
     no_data_by t parts (at_name i within lowest) among =
         inl (record { within = within; types = say.types_at name (λ has. Denies has t) i (among i (inl refl)) lowest.says })
-    no_data_by t parts (empty i no_form within lowest) among = inr (inl (record { within = within; inner = say.inner name i (among i (inl refl)) lowest.says }))
+    no_data_by t parts (empty i no_form within lowest) among = inr (inl (record { within = within; empty_non_terminal = say.empty_non_terminal name i (among i (inl refl)) lowest.says }))
     no_data_by t parts (at_wildcard _ no_form no_empty are) among =
         let star = wildcard_of (rightmost name are.labels) in
         let both = all_by are.labels (said.TypesAt star (λ has. Denies has t)) parts are.are among in
         inr (inr (inl (record { labels = are.labels; ends = both.0; types = say.types_at star (λ has. Denies has t) are.are.last both.1 are.are.wildcard.says })))
     no_data_by t parts (empty_wildcard _ no_form no_empty no_types are) among =
         let star = wildcard_of (rightmost name are.labels) in
-        let both = all_by are.labels (said.Inner star) parts are.are among in
-        inr (inr (inr (record { labels = are.labels; ends = both.0; inner = say.inner star are.are.last both.1 are.are.wildcard.says })))
+        let both = all_by are.labels (said.EmptyNonTerminal star) parts are.are among in
+        inr (inr (inr (record { labels = are.labels; ends = both.0; empty_non_terminal = say.empty_non_terminal star are.are.last both.1 are.are.wildcard.says })))
 
     pub no_closer_by : (labels : ℕ) (part : I) → IsNoCloserPart cmp said apex name labels part → IsMember part indices → NoCloserForm words apex name labels
     no_closer_by labels part is there = record { above = is.above; next_closer = say.absent (rightmost name (labels + 1)) part there is.next_closer.says }

@@ -34,13 +34,13 @@ pub chain_bound : (apex : Labels) (records : ChainRecords) → AreBound (record_
 chain_bound apex (Nsec entries) = record {
   encloser = λ name place said. slice_get_within entries.now place said.entry said.there;
   absent = λ name place said. slice_get_within entries.now place said.entry said.there;
-  inner = λ name place said. slice_get_within entries.now place said.entry said.there;
+  empty_non_terminal = λ name place said. slice_get_within entries.now place said.entry said.there;
   types_at = λ name Says place said. slice_get_within entries.now place said.entry said.there;
 }
 chain_bound apex (Nsec3 hashed) = record {
   encloser = λ name place said. slice_get_within hashed.now.entries.now place said.entry said.there;
   absent = λ name place said. slice_get_within hashed.now.entries.now place said.entry said.there;
-  inner = λ name place none. absurd none;
+  empty_non_terminal = λ name place none. absurd none;
   types_at = λ name Says place said. slice_get_within hashed.now.entries.now place said.entry said.there;
 }
 

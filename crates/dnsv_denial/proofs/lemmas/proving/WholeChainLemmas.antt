@@ -12,7 +12,7 @@ use Rattle.dnsv_zones.specs.chains.HashedNames.{sha1_hash}
 use Rattle.dnsv_zones.specs.chains.Nsec3Chain.{Nsec3Record, Parameters}
 use Rattle.dnsv_zones.specs.chains.NsecChain.{NsecRecord, IsInBitmap}
 use Rattle.dnsv_zones.specs.forms.Forms.{Words, NoNameForm, NoDataForms}
-use Rattle.dnsv_zones.specs.forms.Nsec.{IsAbsentBy, IsInnerBy, IsNodeBy, nsec_words}
+use Rattle.dnsv_zones.specs.forms.Nsec.{IsAbsentBy, IsEmptyNonTerminalBy, IsNodeBy, nsec_words}
 use Rattle.dnsv_zones.specs.forms.Nsec3.{Matches, Covers, nsec3_words, IsCovered, IsOptedOut, OptOutForm}
 use Rattle.dnsv_zones.specs.forms.Parts.{OptsOut}
 use Rattle.dnsv_zones.specs.forms.RecordWords.{RecordWords, words}
@@ -51,7 +51,7 @@ module _ (Secured : ℕ → ℕ → Type 0) (rrsets : List ReceivedRrset) (apex 
     encloser = λ x told. ⊎_elim (λ (same : SameName x apex). inl same)
         (λ (some : Any (λ r. IsNodeBy r x) records). inr (with_number (IsNsecAt Secured rrsets apex) (λ r. IsNodeBy r x) numbers records are some)) told;
     absent = λ x. with_number (IsNsecAt Secured rrsets apex) (λ r. IsAbsentBy r x) numbers records are;
-    inner = λ x. with_number (IsNsecAt Secured rrsets apex) (λ r. IsInnerBy r x) numbers records are;
+    empty_non_terminal = λ x. with_number (IsNsecAt Secured rrsets apex) (λ r. IsEmptyNonTerminalBy r x) numbers records are;
     types_at = λ x Says. with_number (IsNsecAt Secured rrsets apex) (λ r. SameName r.owner x × Says (IsInBitmap r.types)) numbers records are;
   }
 
@@ -60,7 +60,7 @@ module _ (Secured : ℕ → ℕ → Type 0) (rrsets : List ReceivedRrset) (apex 
     nsec3_from = record {
       encloser = λ x some. inr (with_number (IsNsec3At Secured rrsets apex) (λ r. Matches (sha1_hash parameters) r x × ¬ IsClosed (IsInBitmap r.types)) numbers records are some);
       absent = λ x. with_number (IsNsec3At Secured rrsets apex) (λ r. Covers (sha1_hash parameters) r x × (r.flags ≡ 0)) numbers records are;
-      inner = λ x none. absurd none;
+      empty_non_terminal = λ x none. absurd none;
       types_at = λ x Says. with_number (IsNsec3At Secured rrsets apex) (λ r. Matches (sha1_hash parameters) r x × Says (IsInBitmap r.types)) numbers records are;
     }
 
@@ -98,7 +98,7 @@ module _ (said : RecordWords RecordNumber) (numbers : List RecordNumber) (others
   pub record SaidAmong : Type 1 where
     pub encloser : (x : Labels) (n : RecordNumber) → said.Encloser x n → IsMember n numbers
     pub absent : (x : Labels) (n : RecordNumber) → said.Absent x n → IsMember n numbers
-    pub inner : (x : Labels) (n : RecordNumber) → said.Inner x n → IsMember n numbers
+    pub empty_non_terminal : (x : Labels) (n : RecordNumber) → said.EmptyNonTerminal x n → IsMember n numbers
     pub types_at : (x : Labels) (Says : (ℕ → Type 0) → Type 0) (n : RecordNumber) → said.TypesAt x Says n → IsMember n numbers
 
   say_all : SayNoMore said numbers others → SaidAmong → SayMore (words said) others
@@ -106,7 +106,7 @@ module _ (said : RecordWords RecordNumber) (numbers : List RecordNumber) (others
     encloser = λ x told. ⊎_elim (λ (none : said.NeedsNone x). say.needs_none x none)
         (λ (some : (n : RecordNumber) × said.Encloser x n). say.encloser x some.0 (among.encloser x some.0 some.1) some.1) told;
     absent = λ x some. say.absent x some.0 (among.absent x some.0 some.1) some.1;
-    inner = λ x some. say.inner x some.0 (among.inner x some.0 some.1) some.1;
+    empty_non_terminal = λ x some. say.empty_non_terminal x some.0 (among.empty_non_terminal x some.0 some.1) some.1;
     types_at = λ x Says some. say.types_at x Says some.0 (among.types_at x Says some.0 some.1) some.1;
   }
 
@@ -120,7 +120,7 @@ module _ (Secured : ℕ → ℕ → Type 0) (rrsets : List ReceivedRrset) (apex 
       (record {
         encloser = λ x n said. all n said.0 said.1;
         absent = λ x n said. all n said.0 said.1;
-        inner = λ x n said. all n said.0 said.1;
+        empty_non_terminal = λ x n said. all n said.0 said.1;
         types_at = λ x Says n said. all n said.0 said.1;
       })
 
@@ -134,7 +134,7 @@ module _ (Secured : ℕ → ℕ → Type 0) (rrsets : List ReceivedRrset) (apex 
       (record {
         encloser = λ x n said. all n said.0 said.1;
         absent = λ x n said. all n said.0 said.1;
-        inner = λ x n none. absurd none;
+        empty_non_terminal = λ x n none. absurd none;
         types_at = λ x Says n said. all n said.0 said.1;
       })
   -- ---- a denial rests on a record
@@ -152,15 +152,15 @@ module _ (Secured : ℕ → ℕ → Type 0) (rrsets : List ReceivedRrset) (apex 
 
   pub no_data_by_nsec : (name : Labels) (t : ℕ) → NoDataForms (words (nsec_said Secured rrsets apex)) apex name t → SomeNsec
   no_data_by_nsec name t (inl form) = let some = form.types in (some.0, some.1.0, some.1.1)
-  no_data_by_nsec name t (inr (inl form)) = let some = form.inner in (some.0, some.1.0, some.1.1)
+  no_data_by_nsec name t (inr (inl form)) = let some = form.empty_non_terminal in (some.0, some.1.0, some.1.1)
   no_data_by_nsec name t (inr (inr (inl form))) = let some = form.types in (some.0, some.1.0, some.1.1)
-  no_data_by_nsec name t (inr (inr (inr form))) = let some = form.inner in (some.0, some.1.0, some.1.1)
+  no_data_by_nsec name t (inr (inr (inr form))) = let some = form.empty_non_terminal in (some.0, some.1.0, some.1.1)
 
   pub no_name_by_nsec3 : (parameters : Parameters) (name : Labels) → NoNameForm (words (nsec3_said Secured rrsets apex parameters)) apex name → SomeNsec3
   no_name_by_nsec3 parameters name form = let some = form.wildcard in (some.0, some.1.0, some.1.1)
 
   pub no_data_by_nsec3 : (parameters : Parameters) (name : Labels) (t : ℕ) → NoDataForms (words (nsec3_said Secured rrsets apex parameters)) apex name t → SomeNsec3
   no_data_by_nsec3 parameters name t (inl form) = let some = form.types in (some.0, some.1.0, some.1.1)
-  no_data_by_nsec3 parameters name t (inr (inl form)) = absurd form.inner.1
+  no_data_by_nsec3 parameters name t (inr (inl form)) = absurd form.empty_non_terminal.1
   no_data_by_nsec3 parameters name t (inr (inr (inl form))) = let some = form.types in (some.0, some.1.0, some.1.1)
-  no_data_by_nsec3 parameters name t (inr (inr (inr form))) = absurd form.inner.1
+  no_data_by_nsec3 parameters name t (inr (inr (inr form))) = absurd form.empty_non_terminal.1

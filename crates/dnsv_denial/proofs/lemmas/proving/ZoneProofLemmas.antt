@@ -49,9 +49,9 @@ module _ (Secured : ℕ → ℕ → Type 0) (rrsets : List ReceivedRrset) (zone 
   has_one NoName name form = absent_one _ form.wildcard
   has_one (NoCloser labels) name form = absent_one _ form.next_closer
   has_one (NoData rtype) name (inl form) = types_one name (λ has. Denies has rtype.0) form.types
-  has_one (NoData rtype) name (inr (inl form)) = absurd form.inner.1
+  has_one (NoData rtype) name (inr (inl form)) = absurd form.empty_non_terminal.1
   has_one (NoData rtype) name (inr (inr (inl form))) = types_one (wildcard_of (rightmost name form.labels)) (λ has. Denies has rtype.0) form.types
-  has_one (NoData rtype) name (inr (inr (inr form))) = absurd form.inner.1
+  has_one (NoData rtype) name (inr (inr (inr form))) = absurd form.empty_non_terminal.1
 
 -- ---- the order of parameters
 

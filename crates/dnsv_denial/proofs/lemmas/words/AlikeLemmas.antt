@@ -11,7 +11,7 @@ use Rattle.dnsv_zones.specs.Any.{Any}
 use Rattle.dnsv_zones.specs.chains.Nsec3Chain.{Nsec3Record, NameHash}
 use Rattle.dnsv_zones.specs.chains.NsecChain.{NsecRecord, IsInBitmap}
 use Rattle.dnsv_zones.specs.chains.Rdata.{parameters_of}
-use Rattle.dnsv_zones.specs.forms.Nsec.{IsAbsentBy, IsInnerBy, IsNodeBy}
+use Rattle.dnsv_zones.specs.forms.Nsec.{IsAbsentBy, IsEmptyNonTerminalBy, IsNodeBy}
 use Rattle.dnsv_zones.specs.forms.Nsec3.{Covers, Matches}
 use Rattle.dnsv_zones.specs.zones.Types.{IsClosed}
 use Rattle.dnsv_canonical.specs.Rrsets.{ReceivedRrset}
@@ -84,7 +84,7 @@ nsec_alike Secured rrsets zone entries are given same = record {
   needs_from = λ name is. is;
   encloser = λ name. moved (λ entry. IsNodeBy (read_entry entry) name) (alike (λ nsec. IsNodeBy nsec name));
   absent = λ name. moved (λ entry. IsAbsentBy (read_entry entry) name) (alike (λ nsec. IsAbsentBy nsec name));
-  inner = λ name. moved (λ entry. IsInnerBy (read_entry entry) name) (alike (λ nsec. IsInnerBy nsec name));
+  empty_non_terminal = λ name. moved (λ entry. IsEmptyNonTerminalBy (read_entry entry) name) (alike (λ nsec. IsEmptyNonTerminalBy nsec name));
   types_at = λ name Says. moved (λ entry. SameName entry.owner.now name × Says (IsInBitmap (read_entry entry).types)) (alike (λ nsec. SameName nsec.owner name × Says (IsInBitmap nsec.types)));
   opted_out = λ name. none_alike (map (λ entry. entry.number) entries);
 } where
@@ -102,7 +102,7 @@ nsec3_alike Secured rrsets zone entries are given same = record {
   needs_from = λ name is. is;
   encloser = λ name. moved (λ entry. Matches hash (read_nsec3 entry) name × ¬ IsClosed (IsInBitmap (read_nsec3 entry).types)) (alike (λ nsec3. Matches hash nsec3 name × ¬ IsClosed (IsInBitmap nsec3.types)));
   absent = λ name. moved (λ entry. Covers hash (read_nsec3 entry) name × ((read_nsec3 entry).flags ≡ 0)) (alike (λ nsec3. Covers hash nsec3 name × (nsec3.flags ≡ 0)));
-  inner = λ name. none_alike (map (λ entry. entry.number) entries);
+  empty_non_terminal = λ name. none_alike (map (λ entry. entry.number) entries);
   types_at = λ name Says. moved (λ entry. Matches hash (read_nsec3 entry) name × Says (IsInBitmap (read_nsec3 entry).types)) (alike (λ nsec3. Matches hash nsec3 name × Says (IsInBitmap nsec3.types)));
   opted_out = λ name. moved (λ entry. Covers hash (read_nsec3 entry) name × ((read_nsec3 entry).flags ≢ 0)) (alike (λ nsec3. Covers hash nsec3 name × (nsec3.flags ≢ 0)));
 } where

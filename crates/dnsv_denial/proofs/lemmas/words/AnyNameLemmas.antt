@@ -40,13 +40,13 @@ module _ (apex name : Labels) (records : ChainRecords) where
       none_there empty ((chain_said apex records).TypesAt name (λ has. Denies has rtype.0))
       ((chain_bound apex records).types_at name (λ has. Denies has rtype.0)) form.types
   nothing_denied empty (NoData rtype) (inr (inl form)) =
-      none_there empty ((chain_said apex records).Inner name) ((chain_bound apex records).inner name) form.inner
+      none_there empty ((chain_said apex records).EmptyNonTerminal name) ((chain_bound apex records).empty_non_terminal name) form.empty_non_terminal
   nothing_denied empty (NoData rtype) (inr (inr (inl form))) =
       none_there empty ((chain_said apex records).TypesAt (wildcard_of (rightmost name form.labels)) (λ has. Denies has rtype.0))
       ((chain_bound apex records).types_at (wildcard_of (rightmost name form.labels)) (λ has. Denies has rtype.0)) form.types
   nothing_denied empty (NoData rtype) (inr (inr (inr form))) =
-      none_there empty ((chain_said apex records).Inner (wildcard_of (rightmost name form.labels)))
-      ((chain_bound apex records).inner (wildcard_of (rightmost name form.labels))) form.inner
+      none_there empty ((chain_said apex records).EmptyNonTerminal (wildcard_of (rightmost name form.labels)))
+      ((chain_bound apex records).empty_non_terminal (wildcard_of (rightmost name form.labels))) form.empty_non_terminal
 
 -- ---- what some record says
 

@@ -31,7 +31,7 @@ pub record SayAlike (numbers : List RecordNumber) (by : RecordWords ℕ) (of : R
   pub needs_from : (name : Labels) → of.NeedsNone name → by.NeedsNone name
   pub encloser : (name : Labels) → SaysAlike numbers (by.Encloser name) (of.Encloser name)
   pub absent : (name : Labels) → SaysAlike numbers (by.Absent name) (of.Absent name)
-  pub inner : (name : Labels) → SaysAlike numbers (by.Inner name) (of.Inner name)
+  pub empty_non_terminal : (name : Labels) → SaysAlike numbers (by.EmptyNonTerminal name) (of.EmptyNonTerminal name)
   pub types_at : (name : Labels) (Says : (ℕ → Type 0) → Type 0) → SaysAlike numbers (by.TypesAt name Says) (of.TypesAt name Says)
   pub opted_out : (name : Labels) → SaysAlike numbers (by.OptedOut name) (of.OptedOut name)
 
@@ -46,7 +46,7 @@ module _ (numbers : List RecordNumber) (by : RecordWords ℕ) (of : RecordWords 
   words_to = record {
     encloser = λ x told. ⊎_elim (λ (none : by.NeedsNone x). inl (alike.needs_to x none)) (λ (some : (place : ℕ) × by.Encloser x place). inr (some_to numbers (by.Encloser x) (of.Encloser x) (alike.encloser x) some)) told;
     absent = λ x. some_to numbers (by.Absent x) (of.Absent x) (alike.absent x);
-    inner = λ x. some_to numbers (by.Inner x) (of.Inner x) (alike.inner x);
+    empty_non_terminal = λ x. some_to numbers (by.EmptyNonTerminal x) (of.EmptyNonTerminal x) (alike.empty_non_terminal x);
     types_at = λ x Says. some_to numbers (by.TypesAt x Says) (of.TypesAt x Says) (alike.types_at x Says);
   }
 
@@ -54,7 +54,7 @@ module _ (numbers : List RecordNumber) (by : RecordWords ℕ) (of : RecordWords 
   words_from = record {
     encloser = λ x told. ⊎_elim (λ (none : of.NeedsNone x). inl (alike.needs_from x none)) (λ (some : (n : RecordNumber) × of.Encloser x n). inr (some_from numbers (by.Encloser x) (of.Encloser x) (alike.encloser x) some)) told;
     absent = λ x. some_from numbers (by.Absent x) (of.Absent x) (alike.absent x);
-    inner = λ x. some_from numbers (by.Inner x) (of.Inner x) (alike.inner x);
+    empty_non_terminal = λ x. some_from numbers (by.EmptyNonTerminal x) (of.EmptyNonTerminal x) (alike.empty_non_terminal x);
     types_at = λ x Says. some_from numbers (by.TypesAt x Says) (of.TypesAt x Says) (alike.types_at x Says);
   }
 
@@ -113,7 +113,7 @@ module _ (numbers : List RecordNumber) (order : AreInOrder numbers) (by : Record
   data_back t form = record { within = form.within; types = back.types_at name (λ has. Denies has t) form.types }
 
   empty_back : EmptyForm (words of) apex name → EmptyForm (words by) apex name
-  empty_back form = record { within = form.within; inner = back.inner name form.inner }
+  empty_back form = record { within = form.within; empty_non_terminal = back.empty_non_terminal name form.empty_non_terminal }
 
   ends_back : (labels : ℕ) → EndsAt (words of) apex name labels → EndsAt (words by) apex name labels
   ends_back labels ends = record {
@@ -148,7 +148,7 @@ module _ (numbers : List RecordNumber) (order : AreInOrder numbers) (by : Record
   empty_wildcard_back form = record {
     labels = form.labels;
     ends = ends_back form.labels form.ends;
-    inner = back.inner (wildcard_of (rightmost name form.labels)) form.inner;
+    empty_non_terminal = back.empty_non_terminal (wildcard_of (rightmost name form.labels)) form.empty_non_terminal;
   }
 
   pub no_data_parts : (t : ℕ) (places : List ℕ) → AreNoDataParts nat_cmp by apex name t places → AreNoDataParts number_cmp of apex name t (map at places)
@@ -156,7 +156,7 @@ module _ (numbers : List RecordNumber) (order : AreInOrder numbers) (by : Record
   no_data_parts t (place ∷ []) (at_name _ within lowest) =
       at_name (at place) within (lowest_to numbers order (by.TypesAt name (λ has. Denies has t)) (of.TypesAt name (λ has. Denies has t)) (alike.types_at name (λ has. Denies has t)) place lowest)
   no_data_parts t (place ∷ []) (empty _ no_form within lowest) =
-      empty (at place) (λ form. no_form (data_back t form)) within (lowest_to numbers order (by.Inner name) (of.Inner name) (alike.inner name) place lowest)
+      empty (at place) (λ form. no_form (data_back t form)) within (lowest_to numbers order (by.EmptyNonTerminal name) (of.EmptyNonTerminal name) (alike.empty_non_terminal name) place lowest)
   no_data_parts t places (at_wildcard _ no_form no_empty parts) =
       at_wildcard (map at places) (λ form. no_form (data_back t form)) (λ form. no_empty (empty_back form)) (record {
         labels = parts.labels;
@@ -167,7 +167,7 @@ module _ (numbers : List RecordNumber) (order : AreInOrder numbers) (by : Record
   no_data_parts t places (empty_wildcard _ no_form no_empty no_data parts) =
       empty_wildcard (map at places) (λ form. no_form (data_back t form)) (λ form. no_empty (empty_back form)) (λ form. no_data (wildcard_data_back t form)) (record {
         labels = parts.labels;
-        are = wildcard_to parts.labels (by.Inner (wildcard_of (rightmost name parts.labels))) (of.Inner (wildcard_of (rightmost name parts.labels))) (alike.inner (wildcard_of (rightmost name parts.labels))) places parts.are;
+        are = wildcard_to parts.labels (by.EmptyNonTerminal (wildcard_of (rightmost name parts.labels))) (of.EmptyNonTerminal (wildcard_of (rightmost name parts.labels))) (alike.empty_non_terminal (wildcard_of (rightmost name parts.labels))) places parts.are;
         most_labels = λ form. parts.most_labels (empty_wildcard_back form);
       })
 

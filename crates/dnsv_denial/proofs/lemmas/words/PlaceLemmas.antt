@@ -29,20 +29,20 @@ within Says xs i said = there_within xs i said.entry said.there
 record SayWithin (said : RecordWords ℕ) (count : ℕ) : Type 1 where
   pub encloser : (name : Labels) (i : ℕ) → said.Encloser name i → i < count
   pub absent : (name : Labels) (i : ℕ) → said.Absent name i → i < count
-  pub inner : (name : Labels) (i : ℕ) → said.Inner name i → i < count
+  pub empty_non_terminal : (name : Labels) (i : ℕ) → said.EmptyNonTerminal name i → i < count
   pub types_at : (name : Labels) (Says : (ℕ → Type 0) → Type 0) (i : ℕ) → said.TypesAt name Says i → i < count
 
 say_within : (apex : Labels) (records : ChainRecords) → SayWithin (chain_said apex records) (record_count records)
 say_within apex (Nsec entries) = record {
   encloser = λ name. within _ entries.now;
   absent = λ name. within _ entries.now;
-  inner = λ name. within _ entries.now;
+  empty_non_terminal = λ name. within _ entries.now;
   types_at = λ name Says. within _ entries.now;
 }
 say_within apex (Nsec3 hashed) = record {
   encloser = λ name. within _ hashed.now.entries.now;
   absent = λ name. within _ hashed.now.entries.now;
-  inner = λ name i none. absurd none;
+  empty_non_terminal = λ name i none. absurd none;
   types_at = λ name Says. within _ hashed.now.entries.now;
 }
 
@@ -72,12 +72,12 @@ module _ (apex : Labels) (records : ChainRecords) (name : Labels) where
 
   pub no_data_within : (t : ℕ) (places : List ℕ) → AreNoDataParts nat_cmp said apex name t places → AreWithin places
   no_data_within t places (at_name i under lowest) = ((say_within apex records).types_at name (λ has. Denies has t) i lowest.says, tt)
-  no_data_within t places (empty i no_form under lowest) = ((say_within apex records).inner name i lowest.says, tt)
+  no_data_within t places (empty i no_form under lowest) = ((say_within apex records).empty_non_terminal name i lowest.says, tt)
   no_data_within t places (at_wildcard _ no_form no_empty are) =
       let star = wildcard_of (rightmost name are.labels) in
       wildcard_within are.labels (said.TypesAt star (λ has. Denies has t)) places ((say_within apex records).types_at star (λ has. Denies has t)) are.are
   no_data_within t places (empty_wildcard _ no_form no_empty no_types are) =
-      let star = wildcard_of (rightmost name are.labels) in wildcard_within are.labels (said.Inner star) places ((say_within apex records).inner star) are.are
+      let star = wildcard_of (rightmost name are.labels) in wildcard_within are.labels (said.EmptyNonTerminal star) places ((say_within apex records).empty_non_terminal star) are.are
 
   pub no_closer_within : (labels place : ℕ) → IsNoCloserPart nat_cmp said apex name labels place → place < record_count records
   no_closer_within labels place is = (say_within apex records).absent (rightmost name (labels + 1)) place is.next_closer.says

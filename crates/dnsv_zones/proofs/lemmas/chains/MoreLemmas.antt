@@ -6,7 +6,7 @@ use Rattle.dnsv_zones.specs.Any.{Any, AreAmong}
 use Rattle.dnsv_zones.specs.zones.Types.{IsClosed, Denies, IsUnsignedDelegation}
 use Rattle.dnsv_zones.specs.chains.NsecChain.{NsecRecord, IsInBitmap}
 use Rattle.dnsv_zones.specs.chains.Nsec3Chain.{Nsec3Record, NameHash}
-use Rattle.dnsv_zones.specs.forms.Nsec.{IsAbsentBy, IsInnerBy, IsNodeBy, nsec_words}
+use Rattle.dnsv_zones.specs.forms.Nsec.{IsAbsentBy, IsEmptyNonTerminalBy, IsNodeBy, nsec_words}
 use Rattle.dnsv_zones.specs.forms.Nsec3.{Matches, Covers, nsec3_words, IsOptedOut, OptOutForm, LooseCloserForm}
 use Rattle.dnsv_zones.specs.forms.Forms.{Words, EndsAt, NoNameForm, NoDataForms, NoCloserForm, UnsignedCutForm}
 use Rattle.dnsv_zones.proofs.lemmas.AnyLemmas.{any_among}
@@ -15,7 +15,7 @@ use Rattle.dnsv_zones.proofs.lemmas.AnyLemmas.{any_among}
 pub record SayMore (words more : Words) : Type 1 where
   pub encloser : (name : Labels) → words.Encloser name → more.Encloser name
   pub absent : (name : Labels) → words.Absent name → more.Absent name
-  pub inner : (name : Labels) → words.Inner name → more.Inner name
+  pub empty_non_terminal : (name : Labels) → words.EmptyNonTerminal name → more.EmptyNonTerminal name
   pub types_at : (name : Labels) (Says : (ℕ → Type 0) → Type 0) → words.TypesAt name Says → more.TypesAt name Says
 
 module _ (words more : Words) (say : SayMore words more) (apex name : Labels) where
@@ -35,7 +35,7 @@ module _ (words more : Words) (say : SayMore words more) (apex name : Labels) wh
 
   pub no_data_more : (t : ℕ) → NoDataForms words apex name t → NoDataForms more apex name t
   no_data_more t (inl form) = inl (record { within = form.within; types = say.types_at name (λ has. Denies has t) form.types })
-  no_data_more t (inr (inl form)) = inr (inl (record { within = form.within; inner = say.inner name form.inner }))
+  no_data_more t (inr (inl form)) = inr (inl (record { within = form.within; empty_non_terminal = say.empty_non_terminal name form.empty_non_terminal }))
   no_data_more t (inr (inr (inl form))) = inr (inr (inl (record {
     labels = form.labels;
     ends = ends_more form.labels form.ends;
@@ -44,7 +44,7 @@ module _ (words more : Words) (say : SayMore words more) (apex name : Labels) wh
   no_data_more t (inr (inr (inr form))) = inr (inr (inr (record {
     labels = form.labels;
     ends = ends_more form.labels form.ends;
-    inner = say.inner (wildcard_of (rightmost name form.labels)) form.inner;
+    empty_non_terminal = say.empty_non_terminal (wildcard_of (rightmost name form.labels)) form.empty_non_terminal;
   })))
 
   pub no_closer_more : (labels : ℕ) → NoCloserForm words apex name labels → NoCloserForm more apex name labels
@@ -61,7 +61,7 @@ pub nsec_more : (apex : Labels) (few many : List NsecRecord) → AreAmong few ma
 nsec_more apex few many among = record {
   encloser = λ x told. ⊎_elim (λ (same : SameName x apex). inl same) (λ (some : Any (λ r. IsNodeBy r x) few). inr (any_among (λ r. IsNodeBy r x) few many among some)) told;
   absent = λ x. any_among (λ r. IsAbsentBy r x) few many among;
-  inner = λ x. any_among (λ r. IsInnerBy r x) few many among;
+  empty_non_terminal = λ x. any_among (λ r. IsEmptyNonTerminalBy r x) few many among;
   types_at = λ x Says. any_among (λ r. SameName r.owner x × Says (IsInBitmap r.types)) few many among;
 }
 
@@ -69,7 +69,7 @@ pub nsec3_more : (hash : NameHash) (few many : List Nsec3Record) → AreAmong fe
 nsec3_more hash few many among = record {
   encloser = λ x. any_among (λ r. Matches hash r x × ¬ IsClosed (IsInBitmap r.types)) few many among;
   absent = λ x. any_among (λ r. Covers hash r x × (r.flags ≡ 0)) few many among;
-  inner = λ x none. none;
+  empty_non_terminal = λ x none. none;
   types_at = λ x Says. any_among (λ r. Matches hash r x × Says (IsInBitmap r.types)) few many among;
 }
 

@@ -9,7 +9,7 @@ use Rattle.dnsv_names.specs.Tree.TreeLaws.{same_at_or_below, at_or_below_cases, 
 use Rattle.dnsv_zones.specs.Any.{Any}
 use Rattle.dnsv_zones.specs.zones.Zone.{Entry, Zone, IsOwner, IsNode, IsClosedAt, IsWellFormed}
 use Rattle.dnsv_zones.specs.chains.NsecChain.{NsecRecord, owners, IsInNsecChain}
-use Rattle.dnsv_zones.specs.forms.Nsec.{Covers, IsFair, IsAbsentBy, IsInnerBy, IsNodeBy}
+use Rattle.dnsv_zones.specs.forms.Nsec.{Covers, IsFair, IsAbsentBy, IsEmptyNonTerminalBy, IsNodeBy}
 use Rattle.dnsv_names.specs.Circle.NameCircleLaws.{owner_at_or_below, next_at_or_below}
 use Rattle.dnsv_zones.proofs.lemmas.zones.ZoneLemmas.{closed_respects, closed_owner, owner_under, node_of_owner}
 use Rattle.dnsv_zones.proofs.lemmas.chains.BitmapLemmas.{closed_bits}
@@ -63,8 +63,8 @@ module _ (zone : Zone) (r : NsecRecord) (there : IsInNsecChain zone r) (name : L
       absent.nothing_below (next_at_or_below r.owner r.next name some.owner outside absent.covers some.under)
 
   -- an empty non-terminal is a node and no owner
-  pub inner_node : IsAtOrBelow name zone.apex → IsInnerBy r name → IsNode zone name
-  inner_node within inner = node_of_owner zone r.next name (owner_of_member zone r.next there.next.member) inner.some_below within
+  pub empty_non_terminal_node : IsAtOrBelow name zone.apex → IsEmptyNonTerminalBy r name → IsNode zone name
+  empty_non_terminal_node within empty_non_terminal = node_of_owner zone r.next name (owner_of_member zone r.next there.next.member) empty_non_terminal.some_below within
 
   pub told_node : IsAtOrBelow name zone.apex → IsNodeBy r name → IsNode zone name
   told_node within told =

@@ -17,7 +17,7 @@ use Rattle.dnsv_zones.specs.zones.Lookup.{IsElsewhere, IsClosestEncloser, IsSour
 use Rattle.dnsv_zones.specs.zones.Lookup.Answer.{NoData, NoName}
 use Rattle.dnsv_zones.specs.zones.Lookup.IsSource.{itself, wildcard}
 use Rattle.dnsv_zones.specs.chains.NsecChain.{NsecRecord, IsInBitmap, IsBitmapOf, owners, IsInNsecChain, IsNsecChainOf}
-use Rattle.dnsv_zones.specs.forms.Nsec.{Covers, IsFair, IsAbsentBy, IsInnerBy, IsNodeBy, nsec_words}
+use Rattle.dnsv_zones.specs.forms.Nsec.{Covers, IsFair, IsAbsentBy, IsEmptyNonTerminalBy, IsNodeBy, nsec_words}
 use Rattle.dnsv_zones.specs.forms.Forms.{EndsAt, NoNameForm, NoDataForms, UnsignedCutForm}
 use Rattle.dnsv_zones.proofs.lemmas.AnyLemmas.{any_map, any_both}
 use Rattle.dnsv_zones.proofs.lemmas.zones.ZoneLemmas.{holds_owner, holds_respects, owner_under, owner_node, node_of_owner, node_not_below}
@@ -71,9 +71,9 @@ module _ (zone : Zone) (apex : Labels) (records : List NsecRecord) (chain : IsNs
       let some = owner_under zone x node in
       next_at_or_below r.owner r.next x some.owner (there.next.none_between some.owner (member_of_owner zone some.owner some.is_owner)) covers some.under
 
-  inner : (x : Labels) → IsNode zone x → ¬ IsOwner zone x → Any (λ r. IsInnerBy r x) records
-  inner x node none =
-      any_map (λ r. Covers r x × IsInNsecChain zone r) (λ r. IsInnerBy r x) records
+  empty_non_terminal : (x : Labels) → IsNode zone x → ¬ IsOwner zone x → Any (λ r. IsEmptyNonTerminalBy r x) records
+  empty_non_terminal x node none =
+      any_map (λ r. Covers r x × IsInNsecChain zone r) (λ r. IsEmptyNonTerminalBy r x) records
       (λ r there. record {
         covers = there.0;
         fair = fair r x there.1 (λ cut below closed. node_not_below zone cut x well closed node below);
@@ -123,7 +123,7 @@ module _ (zone : Zone) (apex : Labels) (records : List NsecRecord) (chain : IsNs
         within = inside name node.within;
         types = types_at name (λ has. Denies has t) owner (λ types bitmap. denies_bits zone name types t other another bitmap (may_deny_here zone name t well here no_type no_alias));
       }))
-      (λ (none : ¬ IsOwner zone name). inr (inl (record { within = inside name node.within; inner = inner name node none })))
+      (λ (none : ¬ IsOwner zone name). inr (inl (record { within = inside name node.within; empty_non_terminal = empty_non_terminal name node none })))
       (owner_decided zone name)
   no_data_from name source t other another here (wildcard labels encloser node) no_type no_alias =
       let ce = rightmost name labels in
@@ -136,7 +136,7 @@ module _ (zone : Zone) (apex : Labels) (records : List NsecRecord) (chain : IsNs
       (λ (none : ¬ IsOwner zone (wildcard_of ce)). inr (inr (inr (record {
         labels = labels;
         ends = ends_at name labels t here encloser;
-        inner = inner (wildcard_of ce) node none;
+        empty_non_terminal = empty_non_terminal (wildcard_of ce) node none;
       }))))
       (owner_decided zone (wildcard_of ce))
 

@@ -26,7 +26,7 @@ pub record Told (zone : Zone) (name : Labels) (Says : (ℕ → Type 0) → Type 
   pub bitmap : IsBitmapOf zone name types
   pub said : Says (IsInBitmap types)
 
-pub record IsInner (zone : Zone) (name : Labels) : Type 0 where
+pub record IsEmptyNonTerminal (zone : Zone) (name : Labels) : Type 0 where
   pub node : IsNode zone name
   pub no_owner : ¬ IsOwner zone name
 
@@ -34,7 +34,7 @@ pub record IsInner (zone : Zone) (name : Labels) : Type 0 where
 pub record AreTrue (zone : Zone) (words : Words) (name : Labels) : Type 1 where
   pub encloser : (x : Labels) → IsAsked name x → IsAtOrBelow x zone.apex → words.Encloser x → IsNode zone x
   pub absent : (x : Labels) → words.Absent x → ¬ IsNode zone x
-  pub inner : (x : Labels) → IsAtOrBelow x zone.apex → words.Inner x → IsInner zone x
+  pub empty_non_terminal : (x : Labels) → IsAtOrBelow x zone.apex → words.EmptyNonTerminal x → IsEmptyNonTerminal zone x
   pub types : (x : Labels) (Says : (ℕ → Type 0) → Type 0) → IsAsked name x → words.TypesAt x Says → Told zone x Says
   pub open_above : (labels : ℕ) → IsClosestEncloser zone name labels → words.Encloser (rightmost name labels)
       → words.Absent (rightmost name (labels + 1)) → (cut : Labels) → IsBelow name cut → ¬ IsClosedAt zone cut
@@ -118,7 +118,7 @@ module _ (zone : Zone) (words : Words) (apex name : Labels) (well : IsWellFormed
 
   pub empty : (t : ℕ) → EmptyForm words apex name → IsLookup zone name t (NoData name)
   empty t form =
-      let told = true_.inner name (within_zone name form.within) form.inner in
+      let told = true_.empty_non_terminal name (within_zone name form.within) form.empty_non_terminal in
       denied_here zone name t well told.node (empty_denied zone name t told.no_owner)
 
   pub no_wildcard_data : (t : ℕ) (form : NoWildcardDataForm words apex name t) → IsLookup zone name t (NoData (wildcard_of (rightmost name form.labels)))
@@ -132,7 +132,7 @@ module _ (zone : Zone) (words : Words) (apex name : Labels) (well : IsWellFormed
   pub empty_wildcard : (t : ℕ) (form : EmptyWildcardForm words apex name) → IsLookup zone name t (NoData (wildcard_of (rightmost name form.labels)))
   empty_wildcard t form =
       let star = wildcard_of (rightmost name form.labels) in
-      let told = true_.inner star (star_within form.labels form.ends.above) form.inner in
+      let told = true_.empty_non_terminal star (star_within form.labels form.ends.above) form.empty_non_terminal in
       let none = empty_denied zone star t told.no_owner in
       missing_no_data zone name form.labels t well (ends_missing form.labels form.ends) told.node none.no_type none.no_alias
 

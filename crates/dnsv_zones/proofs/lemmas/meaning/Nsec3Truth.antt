@@ -106,7 +106,7 @@ module _ (zone : Zone) (hash : NameHash) (names : List Labels) (records : List N
   nsec3_true = record {
     encloser = λ x asked within told. (open_node x asked told).0;
     absent = absent zone hash names records all;
-    inner = λ x within told. absurd told;
+    empty_non_terminal = λ x within told. absurd told;
     types = types;
     open_above = λ labels ce told some. open_above labels ce told;
   }

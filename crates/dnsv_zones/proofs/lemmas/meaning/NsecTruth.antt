@@ -9,11 +9,11 @@ use Rattle.dnsv_zones.specs.Any.{Any}
 use Rattle.dnsv_zones.specs.zones.Zone.{Zone, IsNode, IsClosedAt, IsWellFormed}
 use Rattle.dnsv_zones.specs.zones.Lookup.{IsClosestEncloser}
 use Rattle.dnsv_zones.specs.chains.NsecChain.{NsecRecord, IsInBitmap, IsInNsecChain}
-use Rattle.dnsv_zones.specs.forms.Nsec.{IsAbsentBy, IsInnerBy, IsNodeBy, nsec_words}
+use Rattle.dnsv_zones.specs.forms.Nsec.{IsAbsentBy, IsEmptyNonTerminalBy, IsNodeBy, nsec_words}
 use Rattle.dnsv_zones.proofs.lemmas.AnyLemmas.{found_of}
 use Rattle.dnsv_zones.proofs.lemmas.zones.ZoneLemmas.{owner_respects, apex_node, closed_node, encloser_below, node_respects, owner_node}
-use Rattle.dnsv_zones.proofs.lemmas.chains.NsecLemmas.{covered_no_owner, fair_open_above, absent_no_node, inner_node, told_node}
-use Rattle.dnsv_zones.proofs.lemmas.meaning.MeaningLemmas.{Told, IsInner, AreTrue}
+use Rattle.dnsv_zones.proofs.lemmas.chains.NsecLemmas.{covered_no_owner, fair_open_above, absent_no_node, empty_non_terminal_node, told_node}
+use Rattle.dnsv_zones.proofs.lemmas.meaning.MeaningLemmas.{Told, IsEmptyNonTerminal, AreTrue}
 use Rattle.dnsv_zones.proofs.lemmas.chains.BitmapLemmas.{bitmap_respects}
 
 module _ (zone : Zone) (apex name : Labels) (records : List NsecRecord) (well : IsWellFormed zone) (same : SameName apex zone.apex) (all : AllByRecursion (IsInNsecChain zone) records) where
@@ -37,10 +37,10 @@ module _ (zone : Zone) (apex name : Labels) (records : List NsecRecord) (well : 
       let by = found_of (λ (r : NsecRecord). IsNodeBy r x) (IsInNsecChain zone) records all some in
       told_node zone by.member by.kind x within by.holds) told
 
-  inner : (x : Labels) → IsAtOrBelow x zone.apex → Any (λ r. IsInnerBy r x) records → IsInner zone x
-  inner x within some =
-      let by = found_of (λ (r : NsecRecord). IsInnerBy r x) (IsInNsecChain zone) records all some in
-      record { node = inner_node zone by.member by.kind x within by.holds; no_owner = covered_no_owner zone by.member by.kind x by.holds.covers }
+  empty_non_terminal : (x : Labels) → IsAtOrBelow x zone.apex → Any (λ r. IsEmptyNonTerminalBy r x) records → IsEmptyNonTerminal zone x
+  empty_non_terminal x within some =
+      let by = found_of (λ (r : NsecRecord). IsEmptyNonTerminalBy r x) (IsInNsecChain zone) records all some in
+      record { node = empty_non_terminal_node zone by.member by.kind x within by.holds; no_owner = covered_no_owner zone by.member by.kind x by.holds.covers }
 
   types : (x : Labels) (Says : (ℕ → Type 0) → Type 0) → Any (λ r. SameName r.owner x × Says (IsInBitmap r.types)) records → Told zone x Says
   types x Says some =
@@ -56,7 +56,7 @@ module _ (zone : Zone) (apex name : Labels) (records : List NsecRecord) (well : 
   nsec_true = record {
     encloser = λ x asked within told. encloser x within told;
     absent = absent;
-    inner = inner;
+    empty_non_terminal = empty_non_terminal;
     types = λ x Says asked some. types x Says some;
     open_above = λ labels ce told some cut below closed. open_above labels ce some cut below closed;
   }

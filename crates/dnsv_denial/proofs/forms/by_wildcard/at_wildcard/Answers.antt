@@ -13,8 +13,8 @@ returns-in-Absent c = λ apex.
 
 pub returns-in-Empty : goal.returns-in-Empty
 returns-in-Empty c = λ apex.
-    subst (λ asked. IsFirstPlace (wildcard_said asked (chain_said apex c.args.records.now) (wildcard_of (rightmost c.args.name.now c.args.labels))) c.inner.result)
-    (sym c.in-Empty.is) (c.inner.ensures apex)
+    subst (λ asked. IsFirstPlace (wildcard_said asked (chain_said apex c.args.records.now) (wildcard_of (rightmost c.args.name.now c.args.labels))) c.empty_non_terminal.result)
+    (sym c.in-Empty.is) (c.empty_non_terminal.ensures apex)
 
 pub returns-in-Without : goal.returns-in-Without
 returns-in-Without c = λ apex.

@@ -31,16 +31,16 @@ returns-in-Some-clause-first c =
     (at_name c.in-Some.place (c.is_at_or_below.ensures.at_or_below.0 c.if-not-is_at_or_below.false)
     (subst (λ name. IsLowest nat_cmp (said.TypesAt name (λ has. Denies has c.args.rtype.0)) c.in-Some.place) whole (c.in-Some.ensures c.args.apex.now)))
 
-pub returns-in-Some-inner-clause-first : goal.returns-in-Some-inner-clause-first
-returns-in-Some-inner-clause-first c =
+pub returns-in-Some-empty_non_terminal-clause-first : goal.returns-in-Some-empty_non_terminal-clause-first
+returns-in-Some-empty_non_terminal-clause-first c =
     let said = chain_said c.args.apex.now c.args.records.now in
     let whole : rightmost c.args.name.now c.labels.result ≡ c.args.name.now = rightmost_all c.args.name.now c.labels.result (omega (arith, c.labels.ensures.count)) in
-    subst (AreNoDataParts nat_cmp said c.args.apex.now c.args.name.now c.args.rtype.0) (sym c.alone-in-Some-inner.ensures)
-    (empty c.in-Some-inner.place
+    subst (AreNoDataParts nat_cmp said c.args.apex.now c.args.name.now c.args.rtype.0) (sym c.alone-in-Some-empty_non_terminal.ensures)
+    (empty c.in-Some-empty_non_terminal.place
     (none_at_name said c.args.apex.now c.args.name.now c.args.rtype.0
     (subst (λ name. (place : ℕ) → ¬ said.TypesAt name (λ has. Denies has c.args.rtype.0) place) whole (c.in_default.ensures c.args.apex.now)))
     (c.is_at_or_below.ensures.at_or_below.0 c.if-not-is_at_or_below.false)
-    (subst (λ name. IsLowest nat_cmp (said.Inner name) c.in-Some-inner.place) whole (c.in-Some-inner.ensures c.args.apex.now)))
+    (subst (λ name. IsLowest nat_cmp (said.EmptyNonTerminal name) c.in-Some-empty_non_terminal.place) whole (c.in-Some-empty_non_terminal.ensures c.args.apex.now)))
 
 pub returns-in-Some-by_wildcard-clause-first : goal.returns-in-Some-by_wildcard-clause-first
 returns-in-Some-by_wildcard-clause-first c =
@@ -50,7 +50,7 @@ returns-in-Some-by_wildcard-clause-first c =
     (none_at_name said c.args.apex.now c.args.name.now c.args.rtype.0
     (subst (λ name. (place : ℕ) → ¬ said.TypesAt name (λ has. Denies has c.args.rtype.0) place) whole (c.in_default.ensures c.args.apex.now)))
     (none_empty said c.args.apex.now c.args.name.now
-    (subst (λ name. (place : ℕ) → ¬ said.Inner name place) whole (c.in_default-inner.ensures c.args.apex.now)))
+    (subst (λ name. (place : ℕ) → ¬ said.EmptyNonTerminal name place) whole (c.in_default-empty_non_terminal.ensures c.args.apex.now)))
     c.in-Some-by_wildcard.ensures
 
 pub returns-clause-first : goal.returns-clause-first
@@ -61,7 +61,7 @@ returns-clause-first c =
     (none_at_name said c.args.apex.now c.args.name.now c.args.rtype.0
     (subst (λ name. (place : ℕ) → ¬ said.TypesAt name (λ has. Denies has c.args.rtype.0) place) whole (c.in_default.ensures c.args.apex.now)))
     (none_empty said c.args.apex.now c.args.name.now
-    (subst (λ name. (place : ℕ) → ¬ said.Inner name place) whole (c.in_default-inner.ensures c.args.apex.now)))
+    (subst (λ name. (place : ℕ) → ¬ said.EmptyNonTerminal name place) whole (c.in_default-empty_non_terminal.ensures c.args.apex.now)))
     (none_at_wildcard said c.args.apex.now c.args.name.now c.args.rtype c.in_default-by_wildcard.ensures)
     c.by_wildcard-2.ensures
 
@@ -69,9 +69,9 @@ pub returns-in-Some-clause-meaning : goal.returns-in-Some-clause-meaning
 returns-in-Some-clause-meaning c =
     no_data_at c.args.apex.now c.args.name.now c.args.rtype.0 c.args.records.now c.alone.result.items (returns-in-Some-clause-first c)
 
-pub returns-in-Some-inner-clause-meaning : goal.returns-in-Some-inner-clause-meaning
-returns-in-Some-inner-clause-meaning c =
-    no_data_at c.args.apex.now c.args.name.now c.args.rtype.0 c.args.records.now c.alone-in-Some-inner.result.items (returns-in-Some-inner-clause-first c)
+pub returns-in-Some-empty_non_terminal-clause-meaning : goal.returns-in-Some-empty_non_terminal-clause-meaning
+returns-in-Some-empty_non_terminal-clause-meaning c =
+    no_data_at c.args.apex.now c.args.name.now c.args.rtype.0 c.args.records.now c.alone-in-Some-empty_non_terminal.result.items (returns-in-Some-empty_non_terminal-clause-first c)
 
 pub returns-in-Some-by_wildcard-clause-meaning : goal.returns-in-Some-by_wildcard-clause-meaning
 returns-in-Some-by_wildcard-clause-meaning c =
