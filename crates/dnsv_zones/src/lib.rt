@@ -11,7 +11,7 @@ pub use hashing::{HashedNames, hash_names};
 pub use lookup::a_question_has_one_answer;
 pub use more::{more_nsec_records_prove_no_less, more_nsec3_records_prove_no_less};
 pub use nsec::{
-    a_name_absent_by_nsec_is_no_node, a_name_covered_fairly_has_nothing_closed_above,
+    a_name_absent_by_nsec_is_no_node, a_name_that_nsec_covers_has_nothing_closed_above,
     an_empty_non_terminal_by_nsec_is_one_of_the_zone, nsec_records_show_nodes,
     the_owner_before_a_name_is_the_end_above_it,
 };
@@ -39,7 +39,7 @@ pub use nsec3_meaning::{
     unsigned_cut_by_nsec3_is_an_unsigned_delegation,
 };
 pub use types::{denies, is_closed, is_delegation, is_unsigned_delegation};
-pub use words::{is_absent, is_covered, is_fair, is_empty_non_terminal, is_node};
+pub use words::{is_absent, is_covered, is_no_cut_above, is_empty_non_terminal, is_node};
 pub use zone::{
     a_next_closer_name_that_is_missing_ends_the_search, no_node_is_below_an_end_of_the_zone,
     nothing_closed_is_above_a_missing_name, what_is_above_a_node_is_a_node,

@@ -3,7 +3,7 @@ ghost use Rattle.dnsv_names.specs.Name.{Labels, SameName, IsAtOrBelow};
 ghost use Rattle.dnsv_names.specs.Order.{IsBelow};
 ghost use Rattle.dnsv_zones.specs.zones.Zone.{Zone, IsOwner, IsNode, IsClosedAt, IsWellFormed};
 ghost use Rattle.dnsv_zones.specs.chains.NsecChain.{NsecRecord, IsInNsecChain};
-ghost use Rattle.dnsv_zones.specs.forms.Nsec.{Covers, IsFair, IsAbsentBy, IsEmptyNonTerminalBy, IsNodeBy};
+ghost use Rattle.dnsv_zones.specs.forms.Nsec.{Covers, IsNoCutAbove, IsAbsentBy, IsEmptyNonTerminalBy, IsNodeBy};
 
 /// A law of NSEC: where a delegation or a DNAME is above a covered name, it is the record's owner.
 pub fn the_owner_before_a_name_is_the_end_above_it()
@@ -13,11 +13,11 @@ pub fn the_owner_before_a_name_is_the_end_above_it()
 
 /// A law of NSEC: a covered name is no owner, and where the record isn't that of a delegation or a DNAME
 /// above the name, there is none above it.
-pub fn a_name_covered_fairly_has_nothing_closed_above()
+pub fn a_name_that_nsec_covers_has_nothing_closed_above()
     ensures owner { (zone : Zone) (nsec : NsecRecord) (name : Labels) → IsInNsecChain zone nsec → Covers nsec name
         → ¬ IsOwner zone name }
     ensures above { (zone : Zone) (nsec : NsecRecord) (name cut : Labels) → IsWellFormed zone
-        → IsInNsecChain zone nsec → Covers nsec name → IsFair nsec name → IsBelow name cut → ¬ IsClosedAt zone cut }
+        → IsInNsecChain zone nsec → Covers nsec name → IsNoCutAbove nsec name → IsBelow name cut → ¬ IsClosedAt zone cut }
 {}
 
 /// A law of NSEC: a name that a record proves absent is no node.

@@ -1,7 +1,7 @@
 //! What one NSEC record says of a name (RFC 4035 5.4, RFC 6840 4.1 and 4.3).
 ghost use Rattle.std.specs.Prelude.{◌↔◌, IsTrue};
 ghost use Rattle.dnsv_zones.specs.chains.Rdata.{nsec_record};
-ghost use Rattle.dnsv_zones.specs.forms.Nsec.{Covers, IsFair, IsAbsentBy, IsEmptyNonTerminalBy, IsNodeBy};
+ghost use Rattle.dnsv_zones.specs.forms.Nsec.{Covers, IsNoCutAbove, IsAbsentBy, IsEmptyNonTerminalBy, IsNodeBy};
 
 use crate::types::is_closed;
 use dnsv_names::{Name, covers};
@@ -16,8 +16,8 @@ pub fn is_covered(owner: &Name, nsec: &Nsec, name: &Name) -> bool
 
 /// Whether the record may speak of the name: it isn't that of a delegation or a DNAME above the name
 /// (RFC 6840 4.1).
-pub fn is_fair(owner: &Name, nsec: &Nsec, name: &Name) -> bool
-    ensures { IsTrue result ↔ IsFair (nsec_record owner.now nsec.now) name.now }
+pub fn is_no_cut_above(owner: &Name, nsec: &Nsec, name: &Name) -> bool
+    ensures { IsTrue result ↔ IsNoCutAbove (nsec_record owner.now nsec.now) name.now }
 {
     if name == owner {
         return true;
@@ -38,7 +38,7 @@ pub fn is_absent(owner: &Name, nsec: &Nsec, name: &Name) -> bool
     if !is_covered(owner, nsec, name) {
         return false;
     }
-    is_fair(owner, nsec, name)
+    is_no_cut_above(owner, nsec, name)
 }
 
 /// Whether the name is an empty non-terminal: the record covers it and may speak of it, and the next owner is below.
@@ -51,7 +51,7 @@ pub fn is_empty_non_terminal(owner: &Name, nsec: &Nsec, name: &Name) -> bool
     if !is_covered(owner, nsec, name) {
         return false;
     }
-    is_fair(owner, nsec, name)
+    is_no_cut_above(owner, nsec, name)
 }
 
 /// Whether the record's owner or the next one is at or below the name, which so is a node.

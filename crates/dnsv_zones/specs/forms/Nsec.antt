@@ -13,19 +13,19 @@ abbrev pub Covers : NsecRecord → Labels → Type 0
 Covers nsec name = Gap canonical_cmp nsec.owner nsec.next name
 
 -- The record of a delegation or a DNAME above the name says nothing of the name (RFC 6840 4.1).
-abbrev pub IsFair : NsecRecord → Labels → Type 0
-IsFair nsec name = IsBelow name nsec.owner → ¬ IsClosed (IsInBitmap nsec.types)
+abbrev pub IsNoCutAbove : NsecRecord → Labels → Type 0
+IsNoCutAbove nsec name = IsBelow name nsec.owner → ¬ IsClosed (IsInBitmap nsec.types)
 
 -- no owner is at or below the name, since the next one isn't
 pub record IsAbsentBy (nsec : NsecRecord) (name : Labels) : Type 0 where
   pub covers : Covers nsec name
-  pub fair : IsFair nsec name
+  pub no_cut_above : IsNoCutAbove nsec name
   pub nothing_below : ¬ IsAtOrBelow nsec.next name
 
 -- the name has no owner, and one below it
 pub record IsEmptyNonTerminalBy (nsec : NsecRecord) (name : Labels) : Type 0 where
   pub covers : Covers nsec name
-  pub fair : IsFair nsec name
+  pub no_cut_above : IsNoCutAbove nsec name
   pub some_below : IsAtOrBelow nsec.next name
 
 -- the record's owner or the next one is at or below the name

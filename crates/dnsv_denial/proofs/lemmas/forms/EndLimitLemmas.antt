@@ -14,7 +14,7 @@ use Rattle.dnsv_names.specs.Tree.TreeLaws.{at_or_below_cases, at_or_below_trans,
 use Rattle.dnsv_names.specs.Tree.AncestorLaws.{rightmost_in_line, rightmost_length}
 use Rattle.dnsv_zones.specs.chains.NsecChain.{NsecRecord}
 use Rattle.dnsv_zones.specs.forms.Forms.{IsAbove}
-use Rattle.dnsv_zones.specs.forms.Nsec.{Covers, IsAbsentBy, IsFair, IsNodeBy}
+use Rattle.dnsv_zones.specs.forms.Nsec.{Covers, IsAbsentBy, IsNoCutAbove, IsNodeBy}
 use Rattle.dnsv_denial.specs.forms.EndLimits.{DeniesNoFewer, HoldsOfFirst, ShowsNoMore}
 use Rattle.dnsv_denial.specs.records.Record.{read_entry}
 use Rattle.dnsv_denial.specs.words.SaidAt.{IsSaidAt}
@@ -33,11 +33,11 @@ module _ (r : NsecRecord) (a x : Labels) (under : IsAtOrBelow x a) where
       (λ (outside : ¬ Covers r x). absurd (absent.nothing_below (next_at_or_below r.owner r.next a x outside absent.covers under)))
       (gap_cases canonical_cmp_total r.owner r.next x)
 
-  fair_deeper : IsAbsentBy r a → IsFair r x
-  fair_deeper absent below =
+  no_cut_deeper : IsAbsentBy r a → IsNoCutAbove r x
+  no_cut_deeper absent below =
       ⊎_elim (λ (higher : IsAtOrBelow a r.owner).
       ⊎_elim (λ (same : SameName a r.owner). absurd (gap_without_owner canonical_cmp_total (same_gap r.owner r.next a r.owner same absent.covers)))
-      (λ (deeper : IsBelow a r.owner). absent.fair deeper) (at_or_below_cases a r.owner higher))
+      (λ (deeper : IsBelow a r.owner). absent.no_cut_above deeper) (at_or_below_cases a r.owner higher))
       (λ (inside : IsBelow r.owner a). absurd (absent.nothing_below
       (next_at_or_below r.owner r.next a r.owner (λ gap. gap_without_owner canonical_cmp_total gap) absent.covers inside.0)))
       (either_above x a r.owner under below.0)
@@ -45,7 +45,7 @@ module _ (r : NsecRecord) (a x : Labels) (under : IsAtOrBelow x a) where
   pub absent_deeper : IsAbsentBy r a → IsAbsentBy r x
   absent_deeper absent = record {
     covers = covers_deeper absent;
-    fair = fair_deeper absent;
+    no_cut_above = no_cut_deeper absent;
     nothing_below = λ below. absent.nothing_below (at_or_below_trans r.next x a below under);
   }
 

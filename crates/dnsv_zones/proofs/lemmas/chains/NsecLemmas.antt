@@ -9,7 +9,7 @@ use Rattle.dnsv_names.specs.Tree.TreeLaws.{same_at_or_below, at_or_below_cases, 
 use Rattle.dnsv_zones.specs.Any.{Any}
 use Rattle.dnsv_zones.specs.zones.Zone.{Entry, Zone, IsOwner, IsNode, IsClosedAt, IsWellFormed}
 use Rattle.dnsv_zones.specs.chains.NsecChain.{NsecRecord, owners, IsInNsecChain}
-use Rattle.dnsv_zones.specs.forms.Nsec.{Covers, IsFair, IsAbsentBy, IsEmptyNonTerminalBy, IsNodeBy}
+use Rattle.dnsv_zones.specs.forms.Nsec.{Covers, IsNoCutAbove, IsAbsentBy, IsEmptyNonTerminalBy, IsNodeBy}
 use Rattle.dnsv_names.specs.Circle.NameCircleLaws.{owner_at_or_below, next_at_or_below}
 use Rattle.dnsv_zones.proofs.lemmas.zones.ZoneLemmas.{closed_respects, closed_owner, owner_under, node_of_owner}
 use Rattle.dnsv_zones.proofs.lemmas.chains.BitmapLemmas.{closed_bits}
@@ -49,10 +49,10 @@ module _ (zone : Zone) (r : NsecRecord) (there : IsInNsecChain zone r) (name : L
       (at_or_below_cases r.owner cut (owner_at_or_below r.owner r.next name cut outside covers below.0))
 
   -- nothing above a name that a fair record covers is closed
-  pub fair_open_above : (cut : Labels) → IsWellFormed zone → Covers r name → IsFair r name → IsBelow name cut → ¬ IsClosedAt zone cut
-  fair_open_above cut well covers fair below closed =
+  pub covered_open_above : (cut : Labels) → IsWellFormed zone → Covers r name → IsNoCutAbove r name → IsBelow name cut → ¬ IsClosedAt zone cut
+  covered_open_above cut well covers no_cut_above below closed =
       let same : SameName r.owner cut = owner_is_the_end cut well covers closed below in
-      fair (below_trans_at name cut r.owner below (same_at_or_below cut r.owner (sym same)))
+      no_cut_above (below_trans_at name cut r.owner below (same_at_or_below cut r.owner (sym same)))
       (closed_bits zone r.owner r.types there.types (closed_respects zone cut r.owner (sym same) closed))
 
   -- a name that the record proves absent is no node

@@ -17,7 +17,7 @@ use Rattle.dnsv_zones.specs.zones.Lookup.{IsElsewhere, IsClosestEncloser, IsSour
 use Rattle.dnsv_zones.specs.zones.Lookup.Answer.{NoData, NoName}
 use Rattle.dnsv_zones.specs.zones.Lookup.IsSource.{itself, wildcard}
 use Rattle.dnsv_zones.specs.chains.NsecChain.{NsecRecord, IsInBitmap, IsBitmapOf, owners, IsInNsecChain, IsNsecChainOf}
-use Rattle.dnsv_zones.specs.forms.Nsec.{Covers, IsFair, IsAbsentBy, IsEmptyNonTerminalBy, IsNodeBy, nsec_words}
+use Rattle.dnsv_zones.specs.forms.Nsec.{Covers, IsNoCutAbove, IsAbsentBy, IsEmptyNonTerminalBy, IsNodeBy, nsec_words}
 use Rattle.dnsv_zones.specs.forms.Forms.{EndsAt, NoNameForm, NoDataForms, UnsignedCutForm}
 use Rattle.dnsv_zones.proofs.lemmas.AnyLemmas.{any_map, any_both}
 use Rattle.dnsv_zones.proofs.lemmas.zones.ZoneLemmas.{holds_owner, holds_respects, owner_under, owner_node, node_of_owner, node_not_below}
@@ -52,15 +52,15 @@ module _ (zone : Zone) (apex : Labels) (records : List NsecRecord) (chain : IsNs
       ))
       (record_at some.0 (owner_of_member zone some.0 some.1))
 
-  fair : (r : NsecRecord) (x : Labels) → IsInNsecChain zone r → ((cut : Labels) → IsBelow x cut → ¬ IsClosedAt zone cut) → IsFair r x
-  fair r x there open_above below closed = open_above r.owner below (bits_closed zone r.owner r.types there.types closed)
+  no_cut_above : (r : NsecRecord) (x : Labels) → IsInNsecChain zone r → ((cut : Labels) → IsBelow x cut → ¬ IsClosedAt zone cut) → IsNoCutAbove r x
+  no_cut_above r x there open_above below closed = open_above r.owner below (bits_closed zone r.owner r.types there.types closed)
 
   absent : (x : Labels) → IsAtOrBelow x zone.apex → ¬ IsNode zone x → ((cut : Labels) → IsBelow x cut → ¬ IsClosedAt zone cut) → Any (λ r. IsAbsentBy r x) records
   absent x within none open_above =
       any_map (λ r. Covers r x × IsInNsecChain zone r) (λ r. IsAbsentBy r x) records
       (λ r there. record {
         covers = there.0;
-        fair = fair r x there.1 open_above;
+        no_cut_above = no_cut_above r x there.1 open_above;
         nothing_below = λ under. none (node_of_owner zone r.next x (owner_of_member zone r.next there.1.next.member) under within);
       })
       (covered x (λ owner. none (owner_node zone x well owner)))
@@ -76,7 +76,7 @@ module _ (zone : Zone) (apex : Labels) (records : List NsecRecord) (chain : IsNs
       any_map (λ r. Covers r x × IsInNsecChain zone r) (λ r. IsEmptyNonTerminalBy r x) records
       (λ r there. record {
         covers = there.0;
-        fair = fair r x there.1 (λ cut below closed. node_not_below zone cut x well closed node below);
+        no_cut_above = no_cut_above r x there.1 (λ cut below closed. node_not_below zone cut x well closed node below);
         some_below = next_below r x there.0 there.1 node;
       })
       (covered x none)

@@ -160,13 +160,13 @@ form = record {
     encloser = inl refl;
     next_closer = inr (inl (record {
       covers = record { lies = (refl, refl) };
-      fair = λ below. absurd (not_below b_name a_name refl below.0);
+      no_cut_above = λ below. absurd (not_below b_name a_name refl below.0);
       nothing_below = not_below s_name b_name refl;
     }));
   };
   wildcard = inl (record {
     covers = record { lies = (refl, refl) };
-    fair = λ below closed.
+    no_cut_above = λ below closed.
         ⊎_elim (λ (delegation : IsDelegation (λ t. IsTrue (apex_types t))). delegation.no_apex refl) (λ (alias : IsTrue false). cc) closed;
     nothing_below = not_below a_name (wildcard_of e_name) refl;
   });

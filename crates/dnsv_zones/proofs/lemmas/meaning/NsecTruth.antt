@@ -12,7 +12,7 @@ use Rattle.dnsv_zones.specs.chains.NsecChain.{NsecRecord, IsInBitmap, IsInNsecCh
 use Rattle.dnsv_zones.specs.forms.Nsec.{IsAbsentBy, IsEmptyNonTerminalBy, IsNodeBy, nsec_words}
 use Rattle.dnsv_zones.proofs.lemmas.AnyLemmas.{found_of}
 use Rattle.dnsv_zones.proofs.lemmas.zones.ZoneLemmas.{owner_respects, apex_node, closed_node, encloser_below, node_respects, owner_node}
-use Rattle.dnsv_zones.proofs.lemmas.chains.NsecLemmas.{covered_no_owner, fair_open_above, absent_no_node, empty_non_terminal_node, told_node}
+use Rattle.dnsv_zones.proofs.lemmas.chains.NsecLemmas.{covered_no_owner, covered_open_above, absent_no_node, empty_non_terminal_node, told_node}
 use Rattle.dnsv_zones.proofs.lemmas.meaning.MeaningLemmas.{Told, IsEmptyNonTerminal, AreTrue}
 use Rattle.dnsv_zones.proofs.lemmas.chains.BitmapLemmas.{bitmap_respects}
 
@@ -28,7 +28,7 @@ module _ (zone : Zone) (apex name : Labels) (records : List NsecRecord) (well : 
       let line : IsAtOrBelow (rightmost name labels) cut = encloser_below zone name cut labels encloser below.0 (closed_node zone cut well closed) in
       let under : IsBelow (rightmost name (labels + 1)) cut =
       below_trans_at (rightmost name (labels + 1)) (rightmost name labels) cut (rightmost_next_below name labels encloser.proper) line in
-      fair_open_above zone by.member by.kind (rightmost name (labels + 1)) cut well by.holds.covers by.holds.fair under closed
+      covered_open_above zone by.member by.kind (rightmost name (labels + 1)) cut well by.holds.covers by.holds.no_cut_above under closed
 
   encloser : (x : Labels) → IsAtOrBelow x zone.apex → SameName x apex ⊎ Any (λ r. IsNodeBy r x) records → IsNode zone x
   encloser x within told =
