@@ -23,7 +23,7 @@ ghost use Rattle.dnsv_denial.specs.proving.FirstProof.{
 ghost use Rattle.dnsv_denial.specs.proving.ProofMeaning.{HasProofRecords, HasProofWithoutCollision};
 ghost use Rattle.dnsv_denial.specs.proving.WholeChain.{HasFirmChain, HasWholeChain, HasWholeNsec3Chain, IsJustFirmChain};
 ghost use Rattle.dnsv_denial.specs.unsigned_cuts.CutMeaning.{IsCoveredEnd, MeansCut};
-ghost use Rattle.dnsv_denial.specs.unsigned_cuts.Cuts.{HasLooseCloser, HasUnsignedCut, IsUnsignedCut};
+ghost use Rattle.dnsv_denial.specs.unsigned_cuts.Cuts.{HasOptedOutNextCloser, HasUnsignedCut, IsUnsignedCut};
 ghost use Rattle.dnsv_denial.specs.words.EvidenceWords.{Chain, evidence_said};
 
 use crate::forms::denial::Denial;
@@ -32,7 +32,7 @@ use crate::proving::first_proof::{first_proof, no_closer};
 use crate::proving::proof::Proof;
 use crate::proving::zone_records::{ParameterSet, ZoneRecords};
 use crate::question_hashes::Hashes;
-use crate::unsigned_cuts::kept_cuts::{loose_next_closer, unsigned_cut};
+use crate::unsigned_cuts::kept_cuts::{opted_out_next_closer, unsigned_cut};
 use dnsv_canonical::Capture;
 use dnsv_chain::Trust;
 use dnsv_names::{Count, Name, RecordType};
@@ -214,16 +214,16 @@ impl<'c, 't> View<'c, 't> {
     /// The next closer name to the name's so many rightmost labels, if Opt-Out may leave out an unsigned delegation of
     /// the zone there, against an answer from the wildcard (RFC 5155 8.8). `None` where the evidence shows none, or
     /// these labels are no proper ancestor of the name at or below the zone.
-    pub fn loose_closer(&self, zone: &Name, labels: usize) -> Option<Name>
+    pub fn opted_out_next_closer(&self, zone: &Name, labels: usize) -> Option<Name>
         ensures closer { MatchOption result
-            (¬ HasLooseCloser (SecuredIn self.now.trust) self.now.rrsets self.now.name labels zone.now)
-            (λ closer. HasLooseCloser (SecuredIn self.now.trust) self.now.rrsets self.now.name labels zone.now
+            (¬ HasOptedOutNextCloser (SecuredIn self.now.trust) self.now.rrsets self.now.name labels zone.now)
+            (λ closer. HasOptedOutNextCloser (SecuredIn self.now.trust) self.now.rrsets self.now.name labels zone.now
             × (closer ≡ rightmost self.now.name (labels + 1))) }
         // In each zone that has the record in its chain, the name is no node, or a delegation without DS, or exists
         // through such alone.
         ensures meaning { IfSome result (λ closer. (chain : Chain) × IsCoveredEnd self.now.rrsets
             zone.now ((evidence_said (SecuredIn self.now.trust) self.now.rrsets zone.now chain).OptedOut) closer) }
     {
-        loose_next_closer(&self.name, zone, labels, &self.zones, &self.sets)
+        opted_out_next_closer(&self.name, zone, labels, &self.zones, &self.sets)
     }
 }

@@ -161,7 +161,7 @@ module _ (meaning : Entry → Answer) (moment : ℕ) (rrsets : List ReceivedRrse
   settled_anchor name rtype (inr (inr (inl can))) = no_name_anchor name can
   settled_anchor name rtype (inr (inr (inr (inl can)))) = no_data_anchor name rtype can
   settled_anchor name rtype (inr (inr (inr (inr (inl cut))))) = cut_anchor name cut
-  settled_anchor name rtype (inr (inr (inr (inr (inr loose))))) = set_anchor name _ loose.0 loose.1 loose.2
+  settled_anchor name rtype (inr (inr (inr (inr (inr opt_out))))) = set_anchor name _ opt_out.0 opt_out.1 opt_out.2
 
 settles_anchor : (basis : Basis) (name : Labels) (rtype : ℕ) → Settles basis name rtype → HasAnchor basis.anchors name
 settles_anchor basis name rtype settles = settled_anchor basis.meaning basis.moment basis.rrsets basis.anchors name rtype settles

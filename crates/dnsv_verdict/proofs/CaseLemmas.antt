@@ -13,7 +13,7 @@ use Rattle.dnsv_denial.specs.unsigned_cuts.Cuts.{HasUnsignedCut}
 use Rattle.dnsv_verdict.proofs.SearchLemmas.LowestLemmas.{one_lowest}
 use Rattle.dnsv_verdict.proofs.OneProof.{can_be, one_cut, cut_stands, one_first_no_name, one_first_no_data}
 use Rattle.dnsv_verdict.proofs.UnknownLemmas.{one_unknown}
-use Rattle.dnsv_verdict.specs.Insecure.{IsLooseCut, IsLooseSet, IsUnsigned, IsUnsignedFrom}
+use Rattle.dnsv_verdict.specs.Insecure.{IsOptOutWildcardCut, IsOptOutWildcardSet, IsUnsigned, IsUnsignedFrom}
 use Rattle.dnsv_verdict.specs.Secure.{IsLowest, IsSecuredAt, IsSecureSet}
 use Rattle.dnsv_verdict.specs.Settled.{HasAlias, HasAnswer, IsSettled, IsSettledAs}
 use Rattle.dnsv_verdict.specs.Verdict.{AreUnknown, Basis, HasAnchor, IsVerdictAt, MaySettle, Settles, SettlesAs}
@@ -28,7 +28,7 @@ some_is_one e = cc
 -- none of the five holds
 pub nothing_settled : (S : ℕ → ℕ → Type 0) (rrsets : List ReceivedRrset) (name : Labels) (t : ℕ)
     → ¬ HasAnswer S rrsets name t → ¬ HasAlias S rrsets name t → ¬ CanProveNoName S rrsets name → ¬ CanProveNoData S rrsets name t
-    → ¬ HasUnsignedCut S rrsets name → ((k s : ℕ) → ¬ IsLooseSet S rrsets name t k s) → ¬ IsSettled S rrsets name t
+    → ¬ HasUnsignedCut S rrsets name → ((k s : ℕ) → ¬ IsOptOutWildcardSet S rrsets name t k s) → ¬ IsSettled S rrsets name t
 nothing_settled S rrsets name t a b c d e f (inl x) = a x
 nothing_settled S rrsets name t a b c d e f (inr (inl x)) = b x
 nothing_settled S rrsets name t a b c d e f (inr (inr (inl x))) = c x
@@ -40,7 +40,7 @@ nothing_settled S rrsets name t a b c d e f (inr (inr (inr (inr (inr x))))) = f 
 pub unsigned_stands : (S : ℕ → ℕ → Type 0) (rrsets : List ReceivedRrset) (name : Labels) (t : ℕ) (cut : Labels)
     → IsUnsignedFrom S rrsets name t cut → IsUnsigned S rrsets name t
 unsigned_stands S rrsets name t cut (inl is) = inl (cut_stands S rrsets name cut is)
-unsigned_stands S rrsets name t cut (inr loose) = inr (loose.1.k, loose.1.s, loose.1.lowest.such)
+unsigned_stands S rrsets name t cut (inr opt_out) = inr (opt_out.1.k, opt_out.1.s, opt_out.1.lowest.such)
 
 -- what is settled in some way is settled
 pub settled_stands : (S : ℕ → ℕ → Type 0) (rrsets : List ReceivedRrset) (name : Labels) (t : ℕ) (verdict : Verdict)
@@ -116,9 +116,9 @@ module _ (S : ℕ → ℕ → Type 0) (rrsets : List ReceivedRrset) (name : Labe
       let rdata : x.rdata ≡ y.rdata = some_is_one (sym here ∙ y.is_signature.1) in
       one_rrsig y.rdata x.rrsig y.rrsig (subst (λ octets. IsRrsig octets x.rrsig) rdata x.read) y.read
 
-  one_loose : (t : ℕ) (a b : Labels) → IsLooseCut S rrsets name t a → IsLooseCut S rrsets name t b → a ≡ b
-  one_loose t a b p q =
-      let same = one_lowest (IsLooseSet S rrsets name t) p.k p.s q.k q.s p.lowest q.lowest in
+  one_opt_out : (t : ℕ) (a b : Labels) → IsOptOutWildcardCut S rrsets name t a → IsOptOutWildcardCut S rrsets name t b → a ≡ b
+  one_opt_out t a b p q =
+      let same = one_lowest (IsOptOutWildcardSet S rrsets name t) p.k p.s q.k q.s p.lowest q.lowest in
       let rrsig = one_signature _ p.k p.s q.k q.s same.0 same.1 p.lowest.such q.lowest.such in
       p.next_closer ∙ ap (λ x. rightmost name (x.labels + 1)) rrsig ∙ sym q.next_closer
 
@@ -126,7 +126,7 @@ module _ (S : ℕ → ℕ → Type 0) (rrsets : List ReceivedRrset) (name : Labe
   one_unsigned_from t a b (inl p) (inl q) = one_cut S rrsets name a b p q
   one_unsigned_from t a b (inl p) (inr q) = absurd (q.0 (cut_stands S rrsets name a p))
   one_unsigned_from t a b (inr p) (inl q) = absurd (p.0 (cut_stands S rrsets name b q))
-  one_unsigned_from t a b (inr p) (inr q) = one_loose t a b p.1 q.1
+  one_unsigned_from t a b (inr p) (inr q) = one_opt_out t a b p.1 q.1
 
   one_unsigned : (t : ℕ) → IsOne (UnsignedAs t)
   one_unsigned t a b p q = p.1 ∙ ap (λ cut. Insecure cut) (one_unsigned_from t p.0 q.0 p.2 q.2) ∙ sym q.1

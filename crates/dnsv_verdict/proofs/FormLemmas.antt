@@ -86,14 +86,14 @@ module _ {Index : Type 0} (a b : RecordWords Index) (less : SaysNoLess a b) wher
 
   pub opts_out_to : (apex name : Labels) (labels : ℕ) → OptsOut a apex name labels → OptsOut b apex name labels
   opts_out_to apex name labels form =
-      let loose : (at : Labels) → (index : Index) × a.OptedOut at index → (index : Index) × b.OptedOut at index
+      let opt_out : (at : Labels) → (index : Index) × a.OptedOut at index → (index : Index) × b.OptedOut at index
       = λ at. some (a.OptedOut at) (b.OptedOut at) (less.opted_out at) in record {
         above = form.above;
         encloser = encloser_to (rightmost name labels) form.encloser;
         next_closer = ⊎_elim (λ (firm : (words a).Absent (rightmost name (labels + 1))). inl (absent_to _ firm))
-            (λ (out : (index : Index) × a.OptedOut (rightmost name (labels + 1)) index). inr (loose _ out)) form.next_closer;
-        opted_out = ⊎_elim (λ (out : (index : Index) × a.OptedOut (rightmost name (labels + 1)) index). inl (loose _ out))
-            (λ (out : (index : Index) × a.OptedOut (wildcard_of (rightmost name labels)) index). inr (loose _ out)) form.opted_out;
+            (λ (out : (index : Index) × a.OptedOut (rightmost name (labels + 1)) index). inr (opt_out _ out)) form.next_closer;
+        opted_out = ⊎_elim (λ (out : (index : Index) × a.OptedOut (rightmost name (labels + 1)) index). inl (opt_out _ out))
+            (λ (out : (index : Index) × a.OptedOut (wildcard_of (rightmost name labels)) index). inr (opt_out _ out)) form.opted_out;
       }
 
 -- ---- chosen records

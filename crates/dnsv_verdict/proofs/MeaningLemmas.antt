@@ -15,8 +15,8 @@ use Rattle.dnsv_denial.proofs.meaning.ProofMeaningLemmas.{first_no_data_means, f
 use Rattle.dnsv_denial.specs.proving.FirstProof.{CanProveNoCloser}
 use Rattle.dnsv_denial.specs.unsigned_cuts.Cuts.{HasUnsignedCut, IsUnsignedCut}
 use Rattle.dnsv_denial.specs.words.EvidenceWords.{Chain, evidence_said}
-use Rattle.dnsv_verdict.specs.Insecure.{IsLooseCut}
-use Rattle.dnsv_verdict.specs.Meaning.{IsOwnOrFromWildcard, IsShownFromWildcard, IsTrueOfZones, MeansLooseCut}
+use Rattle.dnsv_verdict.specs.Insecure.{IsOptOutWildcardCut}
+use Rattle.dnsv_verdict.specs.Meaning.{IsOwnOrFromWildcard, IsShownFromWildcard, IsTrueOfZones, MeansOptOutWildcardCut}
 use Rattle.dnsv_verdict.specs.Secure.{IsSecureSet}
 use Rattle.dnsv_verdict.specs.Settled.{IsSettledAs}
 use Rattle.dnsv_verdict.specs.Verdict.{Basis, IsVerdictAt}
@@ -47,11 +47,11 @@ module _ (S : ℕ → ℕ → Type 0) (rrsets : List ReceivedRrset) (name : Labe
         (λ (can : CanProveNoCloser S rrsets name at.rrsig.labels at.rrsig.signer). inr (from_wildcard at.rrsig can)) at.such.1;
   }
 
-  loose_means : (t : ℕ) (cut : Labels) → IsLooseCut S rrsets name t cut → MeansLooseCut S rrsets name t cut
-  loose_means t cut is =
+  opt_out_means : (t : ℕ) (cut : Labels) → IsOptOutWildcardCut S rrsets name t cut → MeansOptOutWildcardCut S rrsets name t cut
+  opt_out_means t cut is =
       let such = is.lowest.such in
       let covered = closer_means S rrsets name such.rrsig.labels such.rrsig.signer cut (such.such.1.1, is.next_closer) in
-      record { loose = is; chain = covered.0; covered = covered.1 }
+      record { opt_out = is; chain = covered.0; covered = covered.1 }
 
   settled_means : (t : ℕ) (verdict : Verdict) → IsSettledAs S rrsets name t verdict → IsTrueOfZones S rrsets name t verdict
   settled_means t (SecureAnswer k s) is = answer_means t k s is.such
@@ -60,7 +60,7 @@ module _ (S : ℕ → ℕ → Type 0) (rrsets : List ReceivedRrset) (name : Labe
   settled_means t (SecureNoData proof) is = λ zone has. first_no_data_means S rrsets name zone proof t is.3 has
   settled_means t (Insecure cut) is =
       ⊎_elim (λ (above : IsUnsignedCut S rrsets name cut). inl (cut_means S rrsets name cut above))
-      (λ (loose : (¬ HasUnsignedCut S rrsets name) × IsLooseCut S rrsets name t cut). inr (loose_means t cut loose.1)) is.4
+      (λ (opt_out : (¬ HasUnsignedCut S rrsets name) × IsOptOutWildcardCut S rrsets name t cut). inr (opt_out_means t cut opt_out.1)) is.4
   settled_means t (Pending entries) is = absurd is
   settled_means t Bogus is = absurd is
   settled_means t Indeterminate is = absurd is

@@ -10,9 +10,9 @@ use Rattle.dnsv_canonical.specs.Rrsets.{ReceivedRrset}
 use Rattle.dnsv_canonical.specs.SignedData.{IsExpanded}
 use Rattle.dnsv_chain.specs.Trusted.{IsNumbered}
 use Rattle.dnsv_denial.specs.proving.FirstProof.{CanProveNoCloser}
-use Rattle.dnsv_verdict.proofs.SettledLemmas.EvidenceLemmas.{no_name_can_to, no_data_can_to, no_closer_can_to, has_cut_to, loose_closer_to, first_no_name_to, first_no_data_to, cut_is_to}
+use Rattle.dnsv_verdict.proofs.SettledLemmas.EvidenceLemmas.{no_name_can_to, no_data_can_to, no_closer_can_to, has_cut_to, opt_out_closer_to, first_no_name_to, first_no_data_to, cut_is_to}
 use Rattle.dnsv_verdict.proofs.SearchLemmas.LowestLemmas.{lowest_respects}
-use Rattle.dnsv_verdict.specs.Insecure.{IsLoose, IsLooseCut, IsLooseSet, IsUnsigned, IsUnsignedFrom}
+use Rattle.dnsv_verdict.specs.Insecure.{IsOptOutWildcard, IsOptOutWildcardCut, IsOptOutWildcardSet, IsUnsigned, IsUnsignedFrom}
 use Rattle.dnsv_verdict.specs.Secure.{HoldsForName, IsLowest, IsSecureSet, IsSecuredAt}
 use Rattle.dnsv_verdict.specs.Settled.{HasAlias, HasAnswer, IsSettled, IsSettledAs}
 use Rattle.dnsv_verdict.specs.declared.verdict.Verdict.{Verdict}
@@ -48,11 +48,11 @@ module _
       (λ rrset rrsig. (rrset.rtype ≡ t) × HoldsForName T rest name rrset rrsig)
       (λ rrset rrsig such. (such.0, holds_to name rrset rrsig such.1))
 
-  abbrev pub loose_set_to : (name : Labels) (t k s : ℕ) → IsLooseSet S rrsets name t k s → IsLooseSet T rest name t k s
-  loose_set_to name t =
-      secured_at_to name (λ rrset rrsig. ((rrset.rtype ≡ t) ⊎ (rrset.rtype ≡ cname)) × IsLoose S rrsets name rrset rrsig)
-      (λ rrset rrsig. ((rrset.rtype ≡ t) ⊎ (rrset.rtype ≡ cname)) × IsLoose T rest name rrset rrsig)
-      (λ rrset rrsig such. (such.0, (such.1.0, loose_closer_to S T more rrsets rest stay name rrsig.labels rrsig.signer such.1.1)))
+  abbrev pub opt_out_set_to : (name : Labels) (t k s : ℕ) → IsOptOutWildcardSet S rrsets name t k s → IsOptOutWildcardSet T rest name t k s
+  opt_out_set_to name t =
+      secured_at_to name (λ rrset rrsig. ((rrset.rtype ≡ t) ⊎ (rrset.rtype ≡ cname)) × IsOptOutWildcard S rrsets name rrset rrsig)
+      (λ rrset rrsig. ((rrset.rtype ≡ t) ⊎ (rrset.rtype ≡ cname)) × IsOptOutWildcard T rest name rrset rrsig)
+      (λ rrset rrsig such. (such.0, (such.1.0, opt_out_closer_to S T more rrsets rest stay name rrsig.labels rrsig.signer such.1.1)))
 
   pub answer_to : (name : Labels) (t : ℕ) → HasAnswer S rrsets name t → HasAnswer T rest name t
   answer_to name t has = (has.0, has.1, secure_set_to name t has.0 has.1 has.2)
@@ -62,7 +62,7 @@ module _
 
   pub unsigned_to : (name : Labels) (t : ℕ) → IsUnsigned S rrsets name t → IsUnsigned T rest name t
   unsigned_to name t (inl cut) = inl (has_cut_to S T more rrsets rest stay name cut)
-  unsigned_to name t (inr loose) = inr (loose.0, loose.1, loose_set_to name t loose.0 loose.1 loose.2)
+  unsigned_to name t (inr opt_out) = inr (opt_out.0, opt_out.1, opt_out_set_to name t opt_out.0 opt_out.1 opt_out.2)
 
   pub settled_to : (name : Labels) (t : ℕ) → IsSettled S rrsets name t → IsSettled T rest name t
   settled_to name t (inl has) = inl (answer_to name t has)
@@ -83,21 +83,21 @@ module _ (S T : ℕ → ℕ → Type 0) (to : (k s : ℕ) → S k s → T k s) (
       lowest_respects (IsSecureSet S rrsets name t) (IsSecureSet T rrsets name t) k s
       (λ j r. (secure_set_to S T to rrsets rrsets same name t j r, secure_set_to T S from rrsets rrsets same name t j r))
 
-  loose_cut_to : (name : Labels) (t : ℕ) (cut : Labels) → IsLooseCut S rrsets name t cut → IsLooseCut T rrsets name t cut
-  loose_cut_to name t cut loose = record {
-    k = loose.k;
-    s = loose.s;
+  opt_out_cut_to : (name : Labels) (t : ℕ) (cut : Labels) → IsOptOutWildcardCut S rrsets name t cut → IsOptOutWildcardCut T rrsets name t cut
+  opt_out_cut_to name t cut opt_out = record {
+    k = opt_out.k;
+    s = opt_out.s;
     lowest = record {
-      such = loose_set_to S T to rrsets rrsets same name t loose.k loose.s loose.lowest.such;
-      lowest = λ j r other. loose.lowest.lowest j r (loose_set_to T S from rrsets rrsets same name t j r other);
+      such = opt_out_set_to S T to rrsets rrsets same name t opt_out.k opt_out.s opt_out.lowest.such;
+      lowest = λ j r other. opt_out.lowest.lowest j r (opt_out_set_to T S from rrsets rrsets same name t j r other);
     };
-    next_closer = loose.next_closer;
+    next_closer = opt_out.next_closer;
   }
 
   unsigned_from_to : (name : Labels) (t : ℕ) (cut : Labels) → IsUnsignedFrom S rrsets name t cut → IsUnsignedFrom T rrsets name t cut
   unsigned_from_to name t cut (inl is) = inl (cut_is_to S T to from rrsets name cut is)
-  unsigned_from_to name t cut (inr loose) =
-      inr (λ has. loose.0 (has_cut_to T S from rrsets rrsets same name has), loose_cut_to name t cut loose.1)
+  unsigned_from_to name t cut (inr opt_out) =
+      inr (λ has. opt_out.0 (has_cut_to T S from rrsets rrsets same name has), opt_out_cut_to name t cut opt_out.1)
 
   pub settled_as_to : (name : Labels) (t : ℕ) (verdict : Verdict) → IsSettledAs S rrsets name t verdict → IsSettledAs T rrsets name t verdict
   settled_as_to name t (SecureAnswer k s) is = lowest_set_to name t k s is

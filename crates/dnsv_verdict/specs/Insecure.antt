@@ -5,36 +5,36 @@ use Rattle.dnsv_records.specs.declared.rrsig.Rrsig.{Rrsig}
 use Rattle.dnsv_zones.specs.zones.TypeNumbers.{cname}
 use Rattle.dnsv_canonical.specs.Rrsets.{ReceivedRrset}
 use Rattle.dnsv_canonical.specs.SignedData.{IsExpanded}
-use Rattle.dnsv_denial.specs.unsigned_cuts.Cuts.{HasLooseCloser, HasUnsignedCut, IsUnsignedCut}
+use Rattle.dnsv_denial.specs.unsigned_cuts.Cuts.{HasOptedOutNextCloser, HasUnsignedCut, IsUnsignedCut}
 use Rattle.dnsv_verdict.specs.Secure.{IsSecuredAt, IsLowest}
 
 -- A wildcard is behind the signature, and an NSEC3 record with the Opt-Out flag covers the next closer name: an
 -- unsigned delegation may be closer than the wildcard (RFC 5155 8.8).
-abbrev pub IsLoose : (ℕ → ℕ → Type 0) → List ReceivedRrset → Labels → ReceivedRrset → Rrsig → Type 0
-IsLoose Secured rrsets name rrset rrsig =
-    IsExpanded rrset.owner rrsig × HasLooseCloser Secured rrsets name rrsig.labels rrsig.signer
+abbrev pub IsOptOutWildcard : (ℕ → ℕ → Type 0) → List ReceivedRrset → Labels → ReceivedRrset → Rrsig → Type 0
+IsOptOutWildcard Secured rrsets name rrset rrsig =
+    IsExpanded rrset.owner rrsig × HasOptedOutNextCloser Secured rrsets name rrsig.labels rrsig.signer
 
 -- signature s of RRset k, which has the name and the type or CNAME, is loose
-abbrev pub IsLooseSet : (ℕ → ℕ → Type 0) → List ReceivedRrset → Labels → ℕ → ℕ → ℕ → Type 0
-IsLooseSet Secured rrsets name t =
+abbrev pub IsOptOutWildcardSet : (ℕ → ℕ → Type 0) → List ReceivedRrset → Labels → ℕ → ℕ → ℕ → Type 0
+IsOptOutWildcardSet Secured rrsets name t =
     IsSecuredAt Secured rrsets name
-    (λ rrset rrsig. ((rrset.rtype ≡ t) ⊎ (rrset.rtype ≡ cname)) × IsLoose Secured rrsets name rrset rrsig)
+    (λ rrset rrsig. ((rrset.rtype ≡ t) ⊎ (rrset.rtype ≡ cname)) × IsOptOutWildcard Secured rrsets name rrset rrsig)
 
 -- the next closer name for the lowest loose signature: it has one label more than the wildcard's parent
-pub record IsLooseCut
+pub record IsOptOutWildcardCut
     (Secured : ℕ → ℕ → Type 0) (rrsets : List ReceivedRrset) (name : Labels) (t : ℕ) (cut : Labels) : Type 0 where
   pub k : ℕ
   pub s : ℕ
-  pub lowest : IsLowest (IsLooseSet Secured rrsets name t) k s
+  pub lowest : IsLowest (IsOptOutWildcardSet Secured rrsets name t) k s
   pub next_closer : cut ≡ rightmost name (lowest.such.rrsig.labels + 1)
 
 -- Something shows that the name may lie in an unsigned zone: records of the zones above it, or a loose signature.
 abbrev pub IsUnsigned : (ℕ → ℕ → Type 0) → List ReceivedRrset → Labels → ℕ → Type 0
 IsUnsigned Secured rrsets name t =
-    HasUnsignedCut Secured rrsets name ⊎ ((k : ℕ) × (s : ℕ) × IsLooseSet Secured rrsets name t k s)
+    HasUnsignedCut Secured rrsets name ⊎ ((k : ℕ) × (s : ℕ) × IsOptOutWildcardSet Secured rrsets name t k s)
 
 -- the name at which the unsigned zone may begin, by the first of the two that stands
 abbrev pub IsUnsignedFrom : (ℕ → ℕ → Type 0) → List ReceivedRrset → Labels → ℕ → Labels → Type 0
 IsUnsignedFrom Secured rrsets name t cut =
     IsUnsignedCut Secured rrsets name cut
-    ⊎ ((¬ HasUnsignedCut Secured rrsets name) × IsLooseCut Secured rrsets name t cut)
+    ⊎ ((¬ HasUnsignedCut Secured rrsets name) × IsOptOutWildcardCut Secured rrsets name t cut)

@@ -12,7 +12,7 @@ use Rattle.dnsv_denial.specs.proving.ProofMeaning.{HasProofWithoutCollision}
 use Rattle.dnsv_denial.specs.unsigned_cuts.CutMeaning.{HasRecord, IsCoveredEnd, MeansCut}
 use Rattle.dnsv_denial.specs.words.EvidenceWords.{Chain, evidence_said}
 use Rattle.dnsv_denial.specs.declared.records.number.RecordNumber.{RecordNumber}
-use Rattle.dnsv_verdict.specs.Insecure.{IsLooseCut}
+use Rattle.dnsv_verdict.specs.Insecure.{IsOptOutWildcardCut}
 use Rattle.dnsv_verdict.specs.Secure.{IsSecuredAt}
 use Rattle.dnsv_verdict.specs.declared.verdict.Verdict.{Verdict}
 use Rattle.dnsv_verdict.specs.declared.verdict.Verdict.TheVariants.{SecureAnswer, SecureAlias, SecureNoName, SecureNoData, Insecure, Pending, Bogus, Indeterminate}
@@ -41,12 +41,12 @@ IsOwnOrFromWildcard Secured rrsets name =
 
 -- The cut is that of the lowest loose signature. A record of its signer with the Opt-Out flag covers the cut, which is
 -- an unsigned end, if it is a node at all, in each zone that has the record in its chain.
-pub record MeansLooseCut
+pub record MeansOptOutWildcardCut
     (Secured : ℕ → ℕ → Type 0) (rrsets : List ReceivedRrset) (name : Labels) (t : ℕ) (cut : Labels) : Type 0 where
-  pub loose : IsLooseCut Secured rrsets name t cut
+  pub opt_out : IsOptOutWildcardCut Secured rrsets name t cut
   pub chain : Chain
-  pub covered : IsCoveredEnd rrsets loose.lowest.such.rrsig.signer
-      ((evidence_said Secured rrsets loose.lowest.such.rrsig.signer chain).OptedOut) cut
+  pub covered : IsCoveredEnd rrsets opt_out.lowest.such.rrsig.signer
+      ((evidence_said Secured rrsets opt_out.lowest.such.rrsig.signer chain).OptedOut) cut
 
 -- ---- verdicts
 
@@ -62,5 +62,5 @@ IsTrueOfZones Secured rrsets name t (SecureNoData proof) =
     (zone : Zone) → HasProofWithoutCollision rrsets name proof zone
     → (source : Labels) × IsLookup zone name t (NoData source)
 IsTrueOfZones Secured rrsets name t (Insecure cut) =
-    MeansCut Secured rrsets name cut ⊎ MeansLooseCut Secured rrsets name t cut
+    MeansCut Secured rrsets name cut ⊎ MeansOptOutWildcardCut Secured rrsets name t cut
 IsTrueOfZones Secured rrsets name t verdict = Unit {0}

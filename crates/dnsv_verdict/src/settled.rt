@@ -2,7 +2,7 @@
 ghost use Rattle.std.specs.Prelude.{◌≡◌, ◌≢◌, ℕ, MatchOption};
 ghost use Rattle.dnsv_zones.specs.zones.TypeNumbers.{cname};
 ghost use Rattle.dnsv_denial.specs.Viewed.{SecuredIn};
-ghost use Rattle.dnsv_verdict.specs.Insecure.{IsLooseCut, IsLooseSet};
+ghost use Rattle.dnsv_verdict.specs.Insecure.{IsOptOutWildcardCut, IsOptOutWildcardSet};
 ghost use Rattle.dnsv_verdict.specs.Secure.{IsLowest, IsSecureSet};
 ghost use Rattle.dnsv_verdict.specs.Settled.{HasAlias, IsSettled, IsSettledAs};
 
@@ -42,7 +42,7 @@ pub fn settled(
     if let Some(cut) = view.unsigned_cut() {
         return Some(Verdict::Insecure(cut));
     }
-    if let Some(cut) = loose_cut(capture, trust, name, rtype, view) {
+    if let Some(cut) = opt_out_wildcard_cut(capture, trust, name, rtype, view) {
         return Some(Verdict::Insecure(cut));
     }
     None
@@ -89,7 +89,7 @@ fn secure_alias<'a>(
 
 /// The next closer name for the lowest RRset and signature of the name, and of the type or CNAME, that an unsigned
 /// delegation may stand against (RFC 5155 8.8).
-fn loose_cut(
+fn opt_out_wildcard_cut(
     capture: &Capture,
     trust: &Trust,
     name: &Name,
@@ -98,10 +98,10 @@ fn loose_cut(
 ) -> Option<Name>
     requires { view.now ≡ record { rrsets = capture.now.rrsets; trust = trust.now; name = name.now } }
     ensures { MatchOption result
-        ((k s : ℕ) → ¬ IsLooseSet (SecuredIn trust.now) capture.now.rrsets name.now rtype.0 k s)
-        (IsLooseCut (SecuredIn trust.now) capture.now.rrsets name.now rtype.0) }
+        ((k s : ℕ) → ¬ IsOptOutWildcardSet (SecuredIn trust.now) capture.now.rrsets name.now rtype.0 k s)
+        (IsOptOutWildcardCut (SecuredIn trust.now) capture.now.rrsets name.now rtype.0) }
 {
-    let Some(found) = lowest(capture, trust, name, &IsLoose { view, rtype }) else {
+    let Some(found) = lowest(capture, trust, name, &IsOptOutWildcard { view, rtype }) else {
         return None;
     };
     Some(name.suffix(found.rrsig.labels as usize + 1))
@@ -139,19 +139,19 @@ impl Test for HoldsForName<'_, '_, '_> {
 /// That a wildcard is behind the signature of an RRset of the type, or of CNAME, and an unsigned delegation may be
 /// closer to the view's name (RFC 5155 8.8).
 #[derive(Drop)]
-struct IsLoose<'v, 'c, 't> {
+struct IsOptOutWildcard<'v, 'c, 't> {
     view: &'v View<'c, 't>,
     rtype: RecordType,
 }
 
-impl Test for IsLoose<'_, '_, '_> {
+impl Test for IsOptOutWildcard<'_, '_, '_> {
     ghost use Rattle.std.specs.Prelude.{◌≡◌, ◌⊎◌};
     ghost use Rattle.dnsv_zones.specs.zones.TypeNumbers.{cname};
     ghost use Rattle.dnsv_denial.specs.Viewed.{SecuredIn};
-    ghost use Rattle.dnsv_verdict.specs.Insecure.{IsLoose};
+    ghost use Rattle.dnsv_verdict.specs.Insecure.{IsOptOutWildcard};
 
     ghost passes = { λ test rrset rrsig. ((rrset.rtype ≡ test.rtype.0) ⊎ (rrset.rtype ≡ cname))
-        × IsLoose (SecuredIn test.view.now.trust) test.view.now.rrsets test.view.now.name rrset rrsig };
+        × IsOptOutWildcard (SecuredIn test.view.now.trust) test.view.now.rrsets test.view.now.name rrset rrsig };
 
     fn is_passed_by(&self, rrset: &Rrset, rrsig: &Rrsig) -> bool {
         if rrset.rtype() != self.rtype && rrset.rtype() != RecordType::CNAME {
@@ -161,7 +161,7 @@ impl Test for IsLoose<'_, '_, '_> {
             return false;
         }
         self.view
-            .loose_closer(&rrsig.signer, rrsig.labels as usize)
+            .opted_out_next_closer(&rrsig.signer, rrsig.labels as usize)
             .is_some()
     }
 }

@@ -5,7 +5,7 @@ ghost use Rattle.dnsv_zones.specs.Any.{AreAmong};
 ghost use Rattle.dnsv_zones.specs.chains.NsecChain.{NsecRecord};
 ghost use Rattle.dnsv_zones.specs.chains.Nsec3Chain.{Nsec3Record, NameHash};
 ghost use Rattle.dnsv_zones.specs.forms.Nsec.{nsec_words};
-ghost use Rattle.dnsv_zones.specs.forms.Nsec3.{nsec3_words, OptOutForm, LooseCloserForm};
+ghost use Rattle.dnsv_zones.specs.forms.Nsec3.{nsec3_words, OptOutForm, OptedOutNextCloserForm};
 ghost use Rattle.dnsv_zones.specs.forms.Forms.{NoNameForm, NoDataForms, NoCloserForm, UnsignedCutForm};
 
 /// A law of NSEC: a form that stands over some records stands over more.
@@ -35,6 +35,6 @@ pub fn more_nsec3_records_prove_no_less()
         → UnsignedCutForm (nsec3_words hash few) apex name cut → UnsignedCutForm (nsec3_words hash many) apex name cut }
     ensures opt_out { (hash : NameHash) (apex name : Labels) (labels : ℕ) (few many : List Nsec3Record)
         → AreAmong few many → OptOutForm hash few apex name labels → OptOutForm hash many apex name labels }
-    ensures loose_closer { (hash : NameHash) (apex name : Labels) (labels : ℕ) (few many : List Nsec3Record)
-        → AreAmong few many → LooseCloserForm hash few apex name labels → LooseCloserForm hash many apex name labels }
+    ensures opted_out_next_closer { (hash : NameHash) (apex name : Labels) (labels : ℕ) (few many : List Nsec3Record)
+        → AreAmong few many → OptedOutNextCloserForm hash few apex name labels → OptedOutNextCloserForm hash many apex name labels }
 {}

@@ -16,7 +16,7 @@ ghost use Rattle.dnsv_zones.specs.chains.Nsec3Chain.{
   IsNsec3ChainOf,
   HasNoCollision,
 };
-ghost use Rattle.dnsv_zones.specs.forms.Nsec3.{nsec3_words, IsCovered, OptOutForm, LooseCloserForm};
+ghost use Rattle.dnsv_zones.specs.forms.Nsec3.{nsec3_words, IsCovered, OptOutForm, OptedOutNextCloserForm};
 ghost use Rattle.dnsv_zones.specs.examples.Example.{zone as example_zone, e_name, s_name};
 ghost use Rattle.dnsv_zones.specs.examples.OptOutExample.{wire_hash, opt_out_records};
 ghost use Rattle.dnsv_zones.specs.forms.Forms.{NoNameForm, NoDataForm, NoWildcardDataForm, NoCloserForm, UnsignedCutForm};
@@ -69,7 +69,7 @@ pub fn opted_out_nodes_are_unsigned_ends()
         → IsCovered hash records name → IsNode zone name → IsUnsignedEnd zone name }
     ensures next_closer { (zone : Zone) (apex name : Labels) (labels : ℕ) (hash : NameHash)
         (records : List Nsec3Record) → HasNsec3Records zone apex hash records
-        → OptOutForm hash records apex name labels ⊎ LooseCloserForm hash records apex name labels
+        → OptOutForm hash records apex name labels ⊎ OptedOutNextCloserForm hash records apex name labels
         → IsNode zone (rightmost name (labels + 1)) → IsUnsignedEnd zone (rightmost name (labels + 1)) }
 {}
 

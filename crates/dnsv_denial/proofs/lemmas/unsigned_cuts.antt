@@ -1,4 +1,4 @@
 -- Of the names from which on a question may be unsigned.
 pub mod FindingLemmas
-pub mod LooseLemmas
+pub mod OptOutNextCloserLemmas
 pub mod ShownLemmas

@@ -21,7 +21,7 @@ use Rattle.dnsv_denial.specs.proving.ProofMeaning.{IsWithoutCollision}
 use Rattle.dnsv_denial.specs.proving.ProofMeaning.HasProofRecords.{by_nsec, by_nsec3}
 use Rattle.dnsv_denial.specs.unsigned_cuts.CutMeaning.{HasRecord, HasRecordWithoutCollision, IsCover, IsCoveredEnd, IsShownEncloser, IsShownUnsigned, MayLeaveOut, MeansCut}
 use Rattle.dnsv_denial.specs.unsigned_cuts.CutMeaning.MeansCut.{no_ds as means_no_ds_cut, no_usable_ds as means_no_usable_ds, opt_out as means_by_opt_out}
-use Rattle.dnsv_denial.specs.unsigned_cuts.Cuts.{HasLooseCloser, IsOptOutCut, IsUnsignedCut, IsUnsignedDelegationCut}
+use Rattle.dnsv_denial.specs.unsigned_cuts.Cuts.{HasOptedOutNextCloser, IsOptOutCut, IsUnsignedCut, IsUnsignedDelegationCut}
 use Rattle.dnsv_denial.specs.unsigned_cuts.Cuts.IsUnsignedCut.{no_ds, no_usable_ds, opt_out}
 use Rattle.dnsv_denial.specs.words.EvidenceWords.{Chain, evidence_said, nsec3_said}
 use Rattle.dnsv_denial.specs.words.EvidenceWords.Chain.{ByNsec, ByNsec3}
@@ -155,7 +155,7 @@ module _ (Secured : ℕ → ℕ → Type 0) (rrsets : List ReceivedRrset) (name 
   cut_means _ (no_usable_ds labels none fewest) = means_no_usable_ds labels none fewest.holds
   cut_means _ (opt_out labels none usable most) = means_by_opt_out labels none usable (means_opt_out labels most.holds)
 
-  pub closer_means : (labels : ℕ) (zone closer : Labels) → HasLooseCloser Secured rrsets name labels zone × (closer ≡ rightmost name (labels + 1))
+  pub closer_means : (labels : ℕ) (zone closer : Labels) → HasOptedOutNextCloser Secured rrsets name labels zone × (closer ≡ rightmost name (labels + 1))
       → (chain : Chain) × IsCoveredEnd rrsets zone ((evidence_said Secured rrsets zone chain).OptedOut) closer
   closer_means labels zone closer both = (
     both.0.chain,

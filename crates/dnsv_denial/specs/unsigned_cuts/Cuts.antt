@@ -82,7 +82,7 @@ HasUnsignedCut Secured rrsets name =
 
 -- An unsigned delegation may stand against an answer of the zone from the wildcard below the name's so many rightmost
 -- labels: a record with the Opt-Out flag covers the next closer name (RFC 5155 8.8).
-pub record HasLooseCloser
+pub record HasOptedOutNextCloser
     (Secured : ℕ → ℕ → Type 0) (rrsets : List ReceivedRrset) (name : Labels) (labels : ℕ) (zone : Labels)
     : Type 0 where
   pub above : IsAbove zone name labels

@@ -3,7 +3,7 @@ use Rattle.std.specs.Prelude.{◌≡◌, ◌<◌, ◌≤◌, ℕ, List, Some, le
 use Rattle.dnsv_names.specs.Name.{Labels, rightmost}
 use Rattle.dnsv_zones.specs.chains.Rdata.{parameters_of}
 use Rattle.dnsv_zones.specs.forms.Forms.{UnsignedCutForm}
-use Rattle.dnsv_zones.specs.forms.Parts.{LeavesCloser, OptsOut}
+use Rattle.dnsv_zones.specs.forms.Parts.{OptsOutNextCloser, OptsOut}
 use Rattle.dnsv_zones.specs.forms.RecordWords.{words}
 use Rattle.dnsv_canonical.specs.Rrsets.{ReceivedRrset}
 use Rattle.dnsv_denial.specs.unsigned_cuts.Findings.{IsFewestFound, IsGreater, IsLesser, IsMostFound}
@@ -72,6 +72,6 @@ pub record AreBoth (one other both : ShownCuts) : Type 0 where
 -- ---- an answer from a wildcard
 
 -- the zone's chain leaves open that an unsigned delegation stands against an answer from the wildcard
-abbrev pub LeavesCloserOf : (ℕ → ℕ → Type 0) → List ReceivedRrset → Labels → ℕ → Labels → Chain → Type 0
-LeavesCloserOf Secured rrsets name labels zone chain =
-    LeavesCloser (evidence_said Secured rrsets zone chain) zone name labels
+abbrev pub OptsOutNextCloserOf : (ℕ → ℕ → Type 0) → List ReceivedRrset → Labels → ℕ → Labels → Chain → Type 0
+OptsOutNextCloserOf Secured rrsets name labels zone chain =
+    OptsOutNextCloser (evidence_said Secured rrsets zone chain) zone name labels

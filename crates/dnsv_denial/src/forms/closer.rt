@@ -4,7 +4,7 @@ ghost use Rattle.std.specs.Ordering.{nat_cmp};
 ghost use Rattle.dnsv_names.specs.Name.{rightmost};
 ghost use Rattle.dnsv_names.specs.Tree.{wildcard_of};
 ghost use Rattle.dnsv_zones.specs.forms.Forms.{NoCloserForm};
-ghost use Rattle.dnsv_zones.specs.forms.Parts.{IsNoCloserPart, LeavesCloser};
+ghost use Rattle.dnsv_zones.specs.forms.Parts.{IsNoCloserPart, OptsOutNextCloser};
 ghost use Rattle.dnsv_zones.specs.forms.RecordWords.{words};
 ghost use Rattle.dnsv_zones.specs.zones.Lookup.{IsLookup};
 ghost use Rattle.dnsv_zones.specs.zones.Lookup.Answer.{Held};
@@ -46,9 +46,9 @@ pub fn no_closer(
 /// Whether an unsigned delegation may stand against an answer from the wildcard below the name's so many labels: these
 /// are a proper ancestor of the name within the zone, and a record with the Opt-Out flag covers the next closer name
 /// (RFC 5155 8.8).
-pub fn loose_closer(apex: &Name, name: &Name, labels: usize, records: &ChainRecords<'_>) -> bool
+pub fn opts_out_next_closer(apex: &Name, name: &Name, labels: usize, records: &ChainRecords<'_>) -> bool
     requires { HasHashes name.now records.now }
-    ensures { IsTrue result ↔ LeavesCloser (chain_said apex.now records.now) apex.now name.now labels }
+    ensures { IsTrue result ↔ OptsOutNextCloser (chain_said apex.now records.now) apex.now name.now labels }
 {
     if !is_above(apex, name, labels) {
         return false;

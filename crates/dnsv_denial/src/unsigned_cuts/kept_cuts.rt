@@ -5,13 +5,13 @@ ghost use Rattle.dnsv_canonical.specs.Rrsets.{ReceivedRrset};
 ghost use Rattle.dnsv_chain.specs.Trust.{KeptTrust};
 ghost use Rattle.dnsv_denial.specs.Viewed.{SecuredIn};
 ghost use Rattle.dnsv_denial.specs.gathering.Kept.{IsViewOf};
-ghost use Rattle.dnsv_denial.specs.unsigned_cuts.Cuts.{HasLooseCloser, HasUnsignedCut, IsUnsignedCut};
+ghost use Rattle.dnsv_denial.specs.unsigned_cuts.Cuts.{HasOptedOutNextCloser, HasUnsignedCut, IsUnsignedCut};
 
 use crate::proving::zone_records::{ParameterSet, ZoneRecords};
 use crate::unsigned_cuts::first_cut::{first_cut, next_closer};
 use crate::unsigned_cuts::shown_cuts::zones_cuts;
 use crate::unsigned_cuts::unusable_ds::highest_unusable_ds;
-use crate::unsigned_cuts::zone_closer::zone_loose_closer;
+use crate::unsigned_cuts::zone_closer::zone_opts_out_next_closer;
 use dnsv_canonical::Capture;
 use dnsv_chain::Trust;
 use dnsv_names::Name;
@@ -36,7 +36,7 @@ pub fn unsigned_cut(
 
 /// The next closer name to the name's so many labels, if an unsigned delegation of the zone may stand there against an
 /// answer from the wildcard (RFC 5155 8.8).
-pub fn loose_next_closer(
+pub fn opted_out_next_closer(
     name: &Name,
     zone: &Name,
     labels: usize,
@@ -47,15 +47,15 @@ pub fn loose_next_closer(
         × IsViewOf (SecuredIn trust) rrsets name.now sets.now zones.now }
     ensures { (trust : KeptTrust) (rrsets : List ReceivedRrset)
         → IsViewOf (SecuredIn trust) rrsets name.now sets.now zones.now
-        → MatchOption result (¬ HasLooseCloser (SecuredIn trust) rrsets name.now labels zone.now)
-        (λ closer. HasLooseCloser (SecuredIn trust) rrsets name.now labels zone.now
+        → MatchOption result (¬ HasOptedOutNextCloser (SecuredIn trust) rrsets name.now labels zone.now)
+        (λ closer. HasOptedOutNextCloser (SecuredIn trust) rrsets name.now labels zone.now
         × (closer ≡ rightmost name.now (labels + 1))) }
 {
     if !name.is_at_or_below(zone) {
         return None;
     }
     let kept = &zones[zone.labels()];
-    if !zone_loose_closer(kept, name, labels, sets) {
+    if !zone_opts_out_next_closer(kept, name, labels, sets) {
         return None;
     }
     Some(next_closer(name, labels))

@@ -7,20 +7,20 @@ ghost use Rattle.dnsv_chain.specs.Trust.{KeptTrust};
 ghost use Rattle.dnsv_denial.specs.Viewed.{SecuredIn};
 ghost use Rattle.dnsv_denial.specs.gathering.Kept.{AreSets, IsSetOf, IsZoneOf};
 ghost use Rattle.dnsv_denial.specs.proving.ChainOf.{IsChainOf};
-ghost use Rattle.dnsv_denial.specs.unsigned_cuts.Cuts.{HasLooseCloser};
-ghost use Rattle.dnsv_denial.specs.unsigned_cuts.ShownCuts.{LeavesCloserOf};
+ghost use Rattle.dnsv_denial.specs.unsigned_cuts.Cuts.{HasOptedOutNextCloser};
+ghost use Rattle.dnsv_denial.specs.unsigned_cuts.ShownCuts.{OptsOutNextCloserOf};
 ghost use Rattle.dnsv_denial.specs.words.ChainSaid.{HasHashes};
 ghost use Rattle.dnsv_denial.specs.words.EvidenceWords.{Chain};
 ghost use Rattle.dnsv_denial.specs.words.EvidenceWords.Chain.{ByNsec3};
 
-use crate::forms::closer::loose_closer;
+use crate::forms::closer::opts_out_next_closer;
 use crate::proving::zone_records::{ParameterSet, ZoneRecords, nsec3_records};
 use crate::records::chain_records::ChainRecords;
 use dnsv_names::Name;
 
 /// Whether an unsigned delegation of the zone may stand against an answer from the wildcard below the name's so many
 /// labels (RFC 5155 8.8). Only NSEC3 records have the Opt-Out flag.
-pub fn zone_loose_closer(
+pub fn zone_opts_out_next_closer(
     zone: &ZoneRecords<'_>,
     name: &Name,
     labels: usize,
@@ -29,10 +29,10 @@ pub fn zone_loose_closer(
     requires { AllByRecursion (IsSetOf name.now) sets.now }
     ensures { (trust : KeptTrust) (rrsets : List ReceivedRrset) → IsZoneOf (SecuredIn trust) rrsets zone.now
         → AreSets (SecuredIn trust) rrsets sets.now
-        → IsTrue result ↔ HasLooseCloser (SecuredIn trust) rrsets name.now labels zone.now.zone }
+        → IsTrue result ↔ HasOptedOutNextCloser (SecuredIn trust) rrsets name.now labels zone.now.zone }
 {
     for set in sets {
-        if set_loose_closer(zone, name, labels, set) {
+        if set_opts_out_next_closer(zone, name, labels, set) {
             return true;
         }
     }
@@ -40,7 +40,7 @@ pub fn zone_loose_closer(
 }
 
 /// Whether the zone's NSEC3 records with the set's parameters leave that open.
-fn set_loose_closer(
+fn set_opts_out_next_closer(
     zone: &ZoneRecords<'_>,
     name: &Name,
     labels: usize,
@@ -48,19 +48,19 @@ fn set_loose_closer(
 ) -> bool
     requires { IsSetOf name.now set.now }
     ensures { (trust : KeptTrust) (rrsets : List ReceivedRrset) → IsZoneOf (SecuredIn trust) rrsets zone.now
-        → IsTrue result ↔ LeavesCloserOf (SecuredIn trust) rrsets name.now labels zone.now.zone
+        → IsTrue result ↔ OptsOutNextCloserOf (SecuredIn trust) rrsets name.now labels zone.now.zone
         (ByNsec3 (parameters_of set.now.parameters.now)) }
 {
     let hashed = nsec3_records(name, zone, set);
-    chain_loose_closer(&zone.zone, name, labels, &ChainRecords::Nsec3(&hashed))
+    chain_opts_out_next_closer(&zone.zone, name, labels, &ChainRecords::Nsec3(&hashed))
 }
 
 /// Whether the records of a chain of the zone leave that open.
-fn chain_loose_closer(zone: &Name, name: &Name, labels: usize, records: &ChainRecords<'_>) -> bool
+fn chain_opts_out_next_closer(zone: &Name, name: &Name, labels: usize, records: &ChainRecords<'_>) -> bool
     requires { HasHashes name.now records.now }
     ensures { (trust : KeptTrust) (rrsets : List ReceivedRrset) (chain : Chain)
         → IsChainOf (SecuredIn trust) rrsets zone.now chain records.now
-        → IsTrue result ↔ LeavesCloserOf (SecuredIn trust) rrsets name.now labels zone.now chain }
+        → IsTrue result ↔ OptsOutNextCloserOf (SecuredIn trust) rrsets name.now labels zone.now chain }
 {
-    loose_closer(zone, name, labels, records)
+    opts_out_next_closer(zone, name, labels, records)
 }

@@ -93,14 +93,14 @@ fn closers_of(
     let mut text = String::new(row.alloc());
     for labels in 0..count {
         let is_shown = view.no_closer(zone, labels).is_some();
-        let is_loose = view.loose_closer(zone, labels).is_some();
-        text.push_str(mark_of(is_shown, is_loose))?;
+        let is_opted_out = view.opted_out_next_closer(zone, labels).is_some();
+        text.push_str(mark_of(is_shown, is_opted_out))?;
     }
     Ok(text)
 }
 
-fn mark_of(is_shown: bool, is_loose: bool) -> &'static str {
-    match (is_shown, is_loose) {
+fn mark_of(is_shown: bool, is_opted_out: bool) -> &'static str {
+    match (is_shown, is_opted_out) {
         (true, false) => "+",
         (false, true) => "~",
         (true, true) => "*",

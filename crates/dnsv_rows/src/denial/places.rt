@@ -8,7 +8,7 @@ use crate::row::{Row, RowError};
 use dnsv_canonical::{Capture, Rrset};
 use dnsv_denial::{
     ChainRecords, Nsec3Entries, Nsec3Entry, Nsec3Records, NsecEntry, Places, RecordNumber,
-    loose_closer, no_closer, no_data, no_name, opt_out, unsigned_delegation,
+    opts_out_next_closer, no_closer, no_data, no_name, opt_out, unsigned_delegation,
 };
 use dnsv_names::{Count, Hash20, Name};
 use dnsv_records::base32hex_read;
@@ -151,8 +151,8 @@ fn closerplace(row: &Row, name: &Name, records: &ChainRecords<'_>) -> Result<Str
         return Err(RowError::Malformed);
     };
     let place = numbered(alloc, no_closer(&apex, name, labels, records))?;
-    let is_loose = loose_closer(&apex, name, labels, records);
-    Ok(format!(in alloc; "{place}, {is_loose}")?)
+    let is_opted_out = opts_out_next_closer(&apex, name, labels, records);
+    Ok(format!(in alloc; "{place}, {is_opted_out}")?)
 }
 
 fn listed(alloc: Global, places: Option<Places>) -> Result<String, RowError> {

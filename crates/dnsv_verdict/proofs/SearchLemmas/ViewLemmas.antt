@@ -4,7 +4,7 @@ use Rattle.dnsv_records.specs.declared.rrsig.Rrsig.{Rrsig}
 use Rattle.dnsv_zones.specs.zones.TypeNumbers.{cname}
 use Rattle.dnsv_canonical.specs.Rrsets.{ReceivedRrset}
 use Rattle.dnsv_denial.specs.Viewed.{SecuredIn, Viewed}
-use Rattle.dnsv_verdict.specs.Insecure.{IsLoose}
+use Rattle.dnsv_verdict.specs.Insecure.{IsOptOutWildcard}
 use Rattle.dnsv_verdict.specs.Secure.{HoldsForName, IsLowest, IsSecuredAt}
 
 -- the RRset is of the type and holds for the view's name
@@ -12,9 +12,9 @@ abbrev pub HoldsForView : ℕ → Viewed → ReceivedRrset → Rrsig → Type 0
 HoldsForView t view rrset rrsig = (rrset.rtype ≡ t) × HoldsForName (SecuredIn view.trust) view.rrsets view.name rrset rrsig
 
 -- the signature is loose for the view's name
-abbrev pub IsLooseForView : ℕ → Viewed → ReceivedRrset → Rrsig → Type 0
-IsLooseForView t view rrset rrsig =
-    ((rrset.rtype ≡ t) ⊎ (rrset.rtype ≡ cname)) × IsLoose (SecuredIn view.trust) view.rrsets view.name rrset rrsig
+abbrev pub IsOptOutWildcardForView : ℕ → Viewed → ReceivedRrset → Rrsig → Type 0
+IsOptOutWildcardForView t view rrset rrsig =
+    ((rrset.rtype ≡ t) ⊎ (rrset.rtype ≡ cname)) × IsOptOutWildcard (SecuredIn view.trust) view.rrsets view.name rrset rrsig
 
 -- numbers of a signature that is such, of the evidence that a view is of
 abbrev pub AtNumbers : Viewed → (ReceivedRrset → Rrsig → Type 0) → ℕ → ℕ → Type 0

@@ -9,7 +9,7 @@ use Rattle.dnsv_canonical.specs.Rrsets.{ReceivedRrset}
 use Rattle.dnsv_chain.specs.Trusted.{IsNumbered}
 use Rattle.dnsv_denial.specs.gathering.Evidence.{IsNsecOf, IsNsec3Of, IsRecordAt, IsSecuredBy}
 use Rattle.dnsv_denial.specs.proving.FirstProof.{CanProveNoCloser, CanProveNoData, CanProveNoName, IsFirstNoData, IsFirstNoName, IsFirstProof, ProofRecords}
-use Rattle.dnsv_denial.specs.unsigned_cuts.Cuts.{no_ds, no_usable_ds, opt_out, IsUnsignedDelegationCut, IsUnusableDsCut, IsOptOutCut, IsFewest, IsMost, IsUnsignedCut, HasUnsignedCut, HasLooseCloser}
+use Rattle.dnsv_denial.specs.unsigned_cuts.Cuts.{no_ds, no_usable_ds, opt_out, IsUnsignedDelegationCut, IsUnusableDsCut, IsOptOutCut, IsFewest, IsMost, IsUnsignedCut, HasUnsignedCut, HasOptedOutNextCloser}
 use Rattle.dnsv_denial.specs.words.EvidenceWords.{Chain, SaidByNsec, SaidByNsec3, evidence_said, number_cmp}
 use Rattle.dnsv_denial.specs.words.EvidenceWords.Chain.{ByNsec, ByNsec3}
 use Rattle.dnsv_denial.specs.declared.records.number.RecordNumber.{RecordNumber}
@@ -142,12 +142,12 @@ module _
   has_cut_to name (labels, inr (inl cut)) = (labels, inr (inl (ds_cut_to name labels cut)))
   has_cut_to name (labels, inr (inr cut)) = (labels, inr (inr (opt_out_cut_to name labels cut)))
 
-  pub loose_closer_to : (name : Labels) (labels : ℕ) (zone : Labels) → HasLooseCloser S rrsets name labels zone → HasLooseCloser T rest name labels zone
-  loose_closer_to name labels zone loose = record {
-    above = loose.above;
-    chain = loose.chain;
-    covering = loose.covering;
-    opted_out = (chain_to zone loose.chain).opted_out (rightmost name (labels + 1)) loose.covering loose.opted_out;
+  pub opt_out_closer_to : (name : Labels) (labels : ℕ) (zone : Labels) → HasOptedOutNextCloser S rrsets name labels zone → HasOptedOutNextCloser T rest name labels zone
+  opt_out_closer_to name labels zone open_still = record {
+    above = open_still.above;
+    chain = open_still.chain;
+    covering = open_still.covering;
+    opted_out = (chain_to zone open_still.chain).opted_out (rightmost name (labels + 1)) open_still.covering open_still.opted_out;
   }
 
 -- ---- what the first proof is depends on which are secured alone

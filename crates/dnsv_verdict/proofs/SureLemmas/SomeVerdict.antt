@@ -24,7 +24,7 @@ use Rattle.dnsv_verdict.proofs.SureLemmas.FiniteLemmas.{IsFinite, finite_each, f
 use Rattle.dnsv_verdict.proofs.SureLemmas.SomeProof.{some_cut, some_no_data, some_no_name}
 use Rattle.dnsv_verdict.proofs.SureLemmas.{Surely, surely, and_then, by_cases, some_lowest}
 use Rattle.dnsv_verdict.proofs.TrustLemmas.{settled_is_verdict}
-use Rattle.dnsv_verdict.specs.Insecure.{IsLooseSet, IsUnsigned, IsUnsignedFrom}
+use Rattle.dnsv_verdict.specs.Insecure.{IsOptOutWildcardSet, IsUnsigned, IsUnsignedFrom}
 use Rattle.dnsv_verdict.specs.Secure.{IsSecureSet}
 use Rattle.dnsv_verdict.specs.Settled.{HasAlias, HasAnswer, IsSettled, IsSettledAs}
 use Rattle.dnsv_verdict.specs.Verdict.{AreUnknown, Basis, HasAnchor, IsVerdictAt, MaySettle, Settles}
@@ -34,10 +34,10 @@ use Rattle.dnsv_verdict.specs.declared.verdict.Verdict.TheVariants.{SecureAnswer
 -- ---- what is settled
 
 module _ (S : ℕ → ℕ → Type 0) (rrsets : List ReceivedRrset) (name : Labels) (t : ℕ) where
-  some_loose : (HasUnsignedCut S rrsets name → ⊥) → IsUnsigned S rrsets name t → Surely ((cut : Labels) × IsUnsignedFrom S rrsets name t cut)
-  some_loose none (inl has) = absurd (none has)
-  some_loose none (inr loose) =
-      and_then (some_lowest (IsLooseSet S rrsets name t) loose.0 loose.1 loose.2)
+  some_opt_out : (HasUnsignedCut S rrsets name → ⊥) → IsUnsigned S rrsets name t → Surely ((cut : Labels) × IsUnsignedFrom S rrsets name t cut)
+  some_opt_out none (inl has) = absurd (none has)
+  some_opt_out none (inr opt_out) =
+      and_then (some_lowest (IsOptOutWildcardSet S rrsets name t) opt_out.0 opt_out.1 opt_out.2)
       (λ found. surely (
         rightmost name (found.2.such.rrsig.labels + 1),
         inr (none, record { k = found.0; s = found.1; lowest = found.2; next_closer = refl }),
@@ -47,7 +47,7 @@ module _ (S : ℕ → ℕ → Type 0) (rrsets : List ReceivedRrset) (name : Labe
   some_unsigned is =
       by_cases (HasUnsignedCut S rrsets name)
       (λ has. and_then (some_cut S rrsets name has) (λ found. surely (found.0, inl found.1)))
-      (λ none. some_loose none is)
+      (λ none. some_opt_out none is)
 
   -- the last of the five cases, where the others don't hold
   last_case : (HasAnswer S rrsets name t → ⊥) → (HasAlias S rrsets name t → ⊥) → (CanProveNoName S rrsets name → ⊥)

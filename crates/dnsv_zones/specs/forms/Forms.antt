@@ -84,6 +84,6 @@ pub record OptOut (Encloser Covered OptedOut : Labels → Type 0) (apex name : L
 
 -- An unsigned delegation may stand against an answer from the wildcard below the name's so many labels: a record with
 -- the Opt-Out flag covers the next closer name (RFC 5155 8.8).
-pub record LooseCloser (OptedOut : Labels → Type 0) (apex name : Labels) (labels : ℕ) : Type 0 where
+pub record OptedOutNextCloser (OptedOut : Labels → Type 0) (apex name : Labels) (labels : ℕ) : Type 0 where
   pub above : IsAbove apex name labels
   pub opted_out : OptedOut (rightmost name (labels + 1))

@@ -7,7 +7,7 @@ use Rattle.dnsv_zones.specs.Any.{Any}
 use Rattle.dnsv_zones.specs.zones.Types.{IsClosed}
 use Rattle.dnsv_zones.specs.chains.NsecChain.{IsInBitmap}
 use Rattle.dnsv_zones.specs.chains.Nsec3Chain.{Nsec3Record, NameHash}
-use Rattle.dnsv_zones.specs.forms.Forms.{LooseCloser, OptOut, Words}
+use Rattle.dnsv_zones.specs.forms.Forms.{OptedOutNextCloser, OptOut, Words}
 
 -- the record has the name's hash (RFC 5155 1.3)
 pub record Matches (hash : NameHash) (nsec3 : Nsec3Record) (name : Labels) : Type 0 where
@@ -43,5 +43,5 @@ OptOutForm hash records =
     OptOut (λ name. (nsec3_words hash records).Encloser name) (IsCovered hash records) (IsOptedOut hash records)
 
 -- they leave open that one stands against an answer from the wildcard
-abbrev pub LooseCloserForm : NameHash → List Nsec3Record → Labels → Labels → ℕ → Type 0
-LooseCloserForm hash records = LooseCloser (IsOptedOut hash records)
+abbrev pub OptedOutNextCloserForm : NameHash → List Nsec3Record → Labels → Labels → ℕ → Type 0
+OptedOutNextCloserForm hash records = OptedOutNextCloser (IsOptedOut hash records)

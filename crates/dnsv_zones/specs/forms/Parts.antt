@@ -8,7 +8,7 @@ use Rattle.dnsv_names.specs.Tree.{wildcard_of}
 use Rattle.dnsv_zones.specs.forms.RecordWords.{RecordWords, words}
 use Rattle.dnsv_zones.specs.forms.Forms.{
   IsAbove,
-  LooseCloser,
+  OptedOutNextCloser,
   OptOut,
   NoNameForm,
   NoDataForm,
@@ -108,8 +108,8 @@ OptsOut {Index} said =
     (λ name. (index : Index) × said.OptedOut name index)
 
 -- they leave open that one stands against an answer from the wildcard
-abbrev pub LeavesCloser : {Index : Type 0} → RecordWords Index → Labels → Labels → ℕ → Type 0
-LeavesCloser {Index} said = LooseCloser (λ name. (index : Index) × said.OptedOut name index)
+abbrev pub OptsOutNextCloser : {Index : Type 0} → RecordWords Index → Labels → Labels → ℕ → Type 0
+OptsOutNextCloser {Index} said = OptedOutNextCloser (λ name. (index : Index) × said.OptedOut name index)
 
 -- the highest delegation without DS, at or above the name, has so many labels
 pub record IsHighestCut {Index : Type 0} (said : RecordWords Index) (apex name : Labels) (labels : ℕ) : Type 0 where

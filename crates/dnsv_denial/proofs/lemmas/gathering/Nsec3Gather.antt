@@ -41,7 +41,7 @@ one_nsec3_of rrsets zone n a b is_a is_b =
     let parameters : a.parameters ≡ b.parameters = is_a.parameters ∙ ap (λ (f : Nsec3). parameters_of f.parameters) fields ∙ sym is_b.parameters in
     λ i. record { hash = hash i; next = next i; flags = flags i; types = types i; parameters = parameters i }
 
-flags_are : (loose : Bool) (flags : ℕ) → flags ≤ 1 → (IsTrue loose → flags ≡ 1) → (flags ≡ 1 → IsTrue loose) → flags_of loose ≡ flags
+flags_are : (opt_out : Bool) (flags : ℕ) → flags ≤ 1 → (IsTrue opt_out → flags ≡ 1) → (flags ≡ 1 → IsTrue opt_out) → flags_of opt_out ≡ flags
 flags_are true flags most to from = sym (to refl)
 flags_are false zero most to from = refl
 flags_are false (suc n) most to from = let one : suc n ≡ 1 = omega (arith, most) in let wrong = from one in cc

@@ -34,13 +34,13 @@ returns-in-Some-unsigned_cut c = (
   inl (subst (λ view. IsUnsignedCut (SecuredIn view.trust) view.rrsets view.name c.in-Some-unsigned_cut.cut) c.requires c.in-Some-unsigned_cut.ensures.first),
 )
 
-pub returns-in-Some-loose_cut : goal.returns-in-Some-loose_cut
-returns-in-Some-loose_cut c = (
+pub returns-in-Some-opt_out_wildcard_cut : goal.returns-in-Some-opt_out_wildcard_cut
+returns-in-Some-opt_out_wildcard_cut c = (
   λ has. c.in_default.ensures has.0 has.1 has.2,
   c.in_default-secure_alias.ensures,
   subst (λ view. ¬ CanProveNoName (SecuredIn view.trust) view.rrsets view.name) c.requires c.in_default-no_name.ensures.first,
   subst (λ view. ¬ CanProveNoData (SecuredIn view.trust) view.rrsets view.name c.args.rtype.0) c.requires c.in_default-no_data.ensures.first,
-  inr (subst (λ view. ¬ HasUnsignedCut (SecuredIn view.trust) view.rrsets view.name) c.requires c.in_default-unsigned_cut.ensures.first, c.in-Some-loose_cut.ensures),
+  inr (subst (λ view. ¬ HasUnsignedCut (SecuredIn view.trust) view.rrsets view.name) c.requires c.in_default-unsigned_cut.ensures.first, c.in-Some-opt_out_wildcard_cut.ensures),
 )
 
 pub returns : goal.returns
@@ -51,4 +51,4 @@ returns c =
     (subst (λ view. ¬ CanProveNoName (SecuredIn view.trust) view.rrsets view.name) c.requires c.in_default-no_name.ensures.first)
     (subst (λ view. ¬ CanProveNoData (SecuredIn view.trust) view.rrsets view.name c.args.rtype.0) c.requires c.in_default-no_data.ensures.first)
     (subst (λ view. ¬ HasUnsignedCut (SecuredIn view.trust) view.rrsets view.name) c.requires c.in_default-unsigned_cut.ensures.first)
-    (λ k s loose. c.in_default-loose_cut.ensures k s loose)
+    (λ k s opt_out. c.in_default-opt_out_wildcard_cut.ensures k s opt_out)

@@ -7,7 +7,7 @@ use Rattle.dnsv_zones.specs.zones.Types.{IsClosed, Denies, IsUnsignedDelegation}
 use Rattle.dnsv_zones.specs.chains.NsecChain.{NsecRecord, IsInBitmap}
 use Rattle.dnsv_zones.specs.chains.Nsec3Chain.{Nsec3Record, NameHash}
 use Rattle.dnsv_zones.specs.forms.Nsec.{IsAbsentBy, IsEmptyNonTerminalBy, IsNodeBy, nsec_words}
-use Rattle.dnsv_zones.specs.forms.Nsec3.{Matches, Covers, nsec3_words, IsOptedOut, OptOutForm, LooseCloserForm}
+use Rattle.dnsv_zones.specs.forms.Nsec3.{Matches, Covers, nsec3_words, IsOptedOut, OptOutForm, OptedOutNextCloserForm}
 use Rattle.dnsv_zones.specs.forms.Forms.{Words, EndsAt, NoNameForm, NoDataForms, NoCloserForm, UnsignedCutForm}
 use Rattle.dnsv_zones.proofs.lemmas.AnyLemmas.{any_among}
 
@@ -87,6 +87,6 @@ opt_out_more hash few many apex name labels among form = record {
       form.opted_out;
 }
 
-pub loose_closer_more : (hash : NameHash) (few many : List Nsec3Record) (apex name : Labels) (labels : ℕ) → AreAmong few many → LooseCloserForm hash few apex name labels → LooseCloserForm hash many apex name labels
-loose_closer_more hash few many apex name labels among form =
+pub opt_out_closer_more : (hash : NameHash) (few many : List Nsec3Record) (apex name : Labels) (labels : ℕ) → AreAmong few many → OptedOutNextCloserForm hash few apex name labels → OptedOutNextCloserForm hash many apex name labels
+opt_out_closer_more hash few many apex name labels among form =
     record { above = form.above; opted_out = opted_out_among hash few many (rightmost name (labels + 1)) among form.opted_out }

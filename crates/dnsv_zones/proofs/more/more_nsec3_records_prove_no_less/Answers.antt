@@ -1,5 +1,5 @@
 use Rattle.dnsv_zones.specs.forms.Nsec3.{nsec3_words}
-use Rattle.dnsv_zones.proofs.lemmas.chains.MoreLemmas.{no_name_more, no_data_more, no_closer_more, unsigned_cut_more, nsec3_more, opt_out_more, loose_closer_more}
+use Rattle.dnsv_zones.proofs.lemmas.chains.MoreLemmas.{no_name_more, no_data_more, no_closer_more, unsigned_cut_more, nsec3_more, opt_out_more, opt_out_closer_more}
 use Rattle.dnsv_zones.proofs.more.more_nsec3_records_prove_no_less.Goals as goal
 
 pub returns-clause-no_name : goal.returns-clause-no_name
@@ -17,5 +17,5 @@ returns-clause-unsigned_cut c = λ hash apex name cut few many among. unsigned_c
 pub returns-clause-opt_out : goal.returns-clause-opt_out
 returns-clause-opt_out c = λ hash apex name labels few many among. opt_out_more hash few many apex name labels among
 
-pub returns-clause-loose_closer : goal.returns-clause-loose_closer
-returns-clause-loose_closer c = λ hash apex name labels few many among. loose_closer_more hash few many apex name labels among
+pub returns-clause-opted_out_next_closer : goal.returns-clause-opted_out_next_closer
+returns-clause-opted_out_next_closer c = λ hash apex name labels few many among. opt_out_closer_more hash few many apex name labels among

@@ -7,14 +7,14 @@ use Rattle.dnsv_names.specs.Tree.AncestorLaws.{rightmost_above, rightmost_same}
 use Rattle.dnsv_names.specs.Tree.TreeLaws.{at_or_below_length, at_or_below_trans}
 use Rattle.dnsv_zones.specs.chains.Rdata.{parameters_of}
 use Rattle.dnsv_zones.specs.forms.Forms.{IsAbove}
-use Rattle.dnsv_zones.specs.forms.Parts.{LeavesCloser}
+use Rattle.dnsv_zones.specs.forms.Parts.{OptsOutNextCloser}
 use Rattle.dnsv_zones.specs.forms.RecordWords.{RecordWords}
 use Rattle.dnsv_canonical.specs.Rrsets.{ReceivedRrset}
 use Rattle.dnsv_denial.specs.gathering.Kept.{AreSets, AreZones, IsZoneOf}
 use Rattle.dnsv_denial.specs.proving.ChainOf.{IsChainOf}
 use Rattle.dnsv_denial.specs.proving.Numbers.{numbers_of}
-use Rattle.dnsv_denial.specs.unsigned_cuts.Cuts.{HasLooseCloser}
-use Rattle.dnsv_denial.specs.unsigned_cuts.ShownCuts.{LeavesCloserOf}
+use Rattle.dnsv_denial.specs.unsigned_cuts.Cuts.{HasOptedOutNextCloser}
+use Rattle.dnsv_denial.specs.unsigned_cuts.ShownCuts.{OptsOutNextCloserOf}
 use Rattle.dnsv_denial.specs.words.ChainSaid.{chain_said}
 use Rattle.dnsv_denial.specs.words.EvidenceWords.{Chain, evidence_said}
 use Rattle.dnsv_denial.specs.words.EvidenceWords.Chain.{ByNsec, ByNsec3}
@@ -30,17 +30,17 @@ use Rattle.dnsv_denial.proofs.lemmas.words.IndexLemmas.{SayAlike}
 -- ---- by places and by numbers
 
 module _ (numbers : List RecordNumber) (by : RecordWords ℕ) (of : RecordWords RecordNumber) (alike : SayAlike numbers by of) (zone name : Labels) (labels : ℕ) where
-  pub leaves_to : LeavesCloser by zone name labels → LeavesCloser of zone name labels
+  pub leaves_to : OptsOutNextCloser by zone name labels → OptsOutNextCloser of zone name labels
   leaves_to leaves = let it = (alike.opted_out (rightmost name (labels + 1))).to leaves.opted_out.0 leaves.opted_out.1 in
       record { above = leaves.above; opted_out = (it.0, it.2) }
 
-  pub leaves_from : LeavesCloser of zone name labels → LeavesCloser by zone name labels
+  pub leaves_from : OptsOutNextCloser of zone name labels → OptsOutNextCloser by zone name labels
   leaves_from leaves = let it = (alike.opted_out (rightmost name (labels + 1))).from leaves.opted_out.0 leaves.opted_out.1 in
       record { above = leaves.above; opted_out = (it.0, it.2) }
 
 pub chain_leaves : (Secured : ℕ → ℕ → Type 0) (rrsets : List ReceivedRrset) (name zone : Labels) (labels : ℕ) (chain : Chain) (records : ChainRecords) (Test : Type 0)
-    → IsChainOf Secured rrsets zone chain records → (Test → LeavesCloser (chain_said zone records) zone name labels) → (LeavesCloser (chain_said zone records) zone name labels → Test)
-    → (Test → LeavesCloserOf Secured rrsets name labels zone chain) × (LeavesCloserOf Secured rrsets name labels zone chain → Test)
+    → IsChainOf Secured rrsets zone chain records → (Test → OptsOutNextCloser (chain_said zone records) zone name labels) → (OptsOutNextCloser (chain_said zone records) zone name labels → Test)
+    → (Test → OptsOutNextCloserOf Secured rrsets name labels zone chain) × (OptsOutNextCloserOf Secured rrsets name labels zone chain → Test)
 chain_leaves Secured rrsets name zone labels chain records Test are to from =
     let alike = chain_alike Secured rrsets zone chain records are in (
       λ test. leaves_to (numbers_of records) (chain_said zone records) (evidence_said Secured rrsets zone chain) alike zone name labels (to test),
@@ -50,9 +50,9 @@ chain_leaves Secured rrsets name zone labels chain records Test are to from =
 -- ---- a zone
 
 module _ (Secured : ℕ → ℕ → Type 0) (rrsets : List ReceivedRrset) (name zone : Labels) (labels : ℕ) (sets : List ParameterSet) where
-  pub loose_by_set : (set : ParameterSet) → LeavesCloserOf Secured rrsets name labels zone (ByNsec3 (parameters_of set.parameters.now))
-      → HasLooseCloser Secured rrsets name labels zone
-  loose_by_set set leaves = record {
+  pub opt_out_by_set : (set : ParameterSet) → OptsOutNextCloserOf Secured rrsets name labels zone (ByNsec3 (parameters_of set.parameters.now))
+      → HasOptedOutNextCloser Secured rrsets name labels zone
+  opt_out_by_set set leaves = record {
     above = leaves.above;
     chain = ByNsec3 (parameters_of set.parameters.now);
     covering = leaves.opted_out.0;
@@ -60,42 +60,42 @@ module _ (Secured : ℕ → ℕ → Type 0) (rrsets : List ReceivedRrset) (name 
   }
 
   by_chain : AreSets Secured rrsets sets → IsAbove zone name labels → (chain : Chain) (n : RecordNumber) → (evidence_said Secured rrsets zone chain).OptedOut (rightmost name (labels + 1)) n
-      → (place : ℕ) × (set : ParameterSet) × (slice_get sets place ≡ Some set) × LeavesCloserOf Secured rrsets name labels zone (ByNsec3 (parameters_of set.parameters.now))
+      → (place : ℕ) × (set : ParameterSet) × (slice_get sets place ≡ Some set) × OptsOutNextCloserOf Secured rrsets name labels zone (ByNsec3 (parameters_of set.parameters.now))
   by_chain are above ByNsec n said = absurd said
   by_chain are above (ByNsec3 parameters) n said =
       let it = any_place (λ set. parameters_of set.parameters.now ≡ said.0.parameters) sets (are.all zone n said.0 said.1) in
-      (it.0, it.1, it.2, subst (λ p. LeavesCloserOf Secured rrsets name labels zone (ByNsec3 p)) (sym said.2.0.same_parameters ∙ sym it.3) (record { above = above; opted_out = (n, said) }))
+      (it.0, it.1, it.2, subst (λ p. OptsOutNextCloserOf Secured rrsets name labels zone (ByNsec3 p)) (sym said.2.0.same_parameters ∙ sym it.3) (record { above = above; opted_out = (n, said) }))
 
-  pub none_loose : AreSets Secured rrsets sets
-      → ((k : ℕ) (set : ParameterSet) → slice_get sets k ≡ Some set → ¬ LeavesCloserOf Secured rrsets name labels zone (ByNsec3 (parameters_of set.parameters.now)))
-      → ¬ HasLooseCloser Secured rrsets name labels zone
-  none_loose are none has = let it = by_chain are has.above has.chain has.covering has.opted_out in none it.0 it.1 it.2 it.3
+  pub none_opt_out : AreSets Secured rrsets sets
+      → ((k : ℕ) (set : ParameterSet) → slice_get sets k ≡ Some set → ¬ OptsOutNextCloserOf Secured rrsets name labels zone (ByNsec3 (parameters_of set.parameters.now)))
+      → ¬ HasOptedOutNextCloser Secured rrsets name labels zone
+  none_opt_out are none has = let it = by_chain are has.above has.chain has.covering has.opted_out in none it.0 it.1 it.2 it.3
 
 -- ---- a zone of the same name
 
-loose_as : (Secured : ℕ → ℕ → Type 0) (rrsets : List ReceivedRrset) (name : Labels) (labels : ℕ) (a b : Labels) → SameName a b
-    → HasLooseCloser Secured rrsets name labels a → HasLooseCloser Secured rrsets name labels b
-loose_as Secured rrsets name labels a b same has = record {
+opt_out_as : (Secured : ℕ → ℕ → Type 0) (rrsets : List ReceivedRrset) (name : Labels) (labels : ℕ) (a b : Labels) → SameName a b
+    → HasOptedOutNextCloser Secured rrsets name labels a → HasOptedOutNextCloser Secured rrsets name labels b
+opt_out_as Secured rrsets name labels a b same has = record {
   above = above_as Secured rrsets name labels a b same has.above;
   chain = has.chain;
   covering = has.covering;
   opted_out = opted_out_as Secured rrsets name labels a b same has.chain (rightmost name (labels + 1)) has.covering has.opted_out;
 }
 
-pub loose_within : (Secured : ℕ → ℕ → Type 0) (rrsets : List ReceivedRrset) (name : Labels) (labels : ℕ) (zone : Labels)
-    → HasLooseCloser Secured rrsets name labels zone → IsAtOrBelow name zone
-loose_within Secured rrsets name labels zone has = at_or_below_trans name (rightmost name labels) zone (rightmost_above name labels) has.above.within
+pub opt_out_within : (Secured : ℕ → ℕ → Type 0) (rrsets : List ReceivedRrset) (name : Labels) (labels : ℕ) (zone : Labels)
+    → HasOptedOutNextCloser Secured rrsets name labels zone → IsAtOrBelow name zone
+opt_out_within Secured rrsets name labels zone has = at_or_below_trans name (rightmost name labels) zone (rightmost_above name labels) has.above.within
 
 -- the kept zone of so many labels serves for the zone
 module _ (Secured : ℕ → ℕ → Type 0) (rrsets : List ReceivedRrset) (name : Labels) (labels : ℕ) (zone kept : Labels) (is : kept ≡ rightmost name (length zone)) (below : IsAtOrBelow name zone) where
   same_zone : SameName kept zone
   same_zone = subst (λ (z : Labels). SameName z zone) (sym is) (rightmost_same name zone below)
 
-  pub loose_of_kept : HasLooseCloser Secured rrsets name labels kept → HasLooseCloser Secured rrsets name labels zone
-  loose_of_kept has = loose_as Secured rrsets name labels kept zone same_zone has
+  pub opt_out_of_kept : HasOptedOutNextCloser Secured rrsets name labels kept → HasOptedOutNextCloser Secured rrsets name labels zone
+  opt_out_of_kept has = opt_out_as Secured rrsets name labels kept zone same_zone has
 
-  pub kept_of_loose : HasLooseCloser Secured rrsets name labels zone → HasLooseCloser Secured rrsets name labels kept
-  kept_of_loose has = loose_as Secured rrsets name labels zone kept (sym same_zone) has
+  pub kept_of_opt_out : HasOptedOutNextCloser Secured rrsets name labels zone → HasOptedOutNextCloser Secured rrsets name labels kept
+  kept_of_opt_out has = opt_out_as Secured rrsets name labels zone kept (sym same_zone) has
 
 -- the kept zone at the place of the zone's number of labels
 pub kept_at : (Secured : ℕ → ℕ → Type 0) (rrsets : List ReceivedRrset) (name zone : Labels) (zones : List ZoneRecords) (place : ℕ) (kept : ZoneRecords) → AreZones Secured rrsets name zones

@@ -1,9 +1,0 @@
-use Rattle.std.specs.Prelude.{IsTrue}
-use Rattle.dnsv_denial.specs.Viewed.{SecuredIn}
-use Rattle.dnsv_denial.proofs.lemmas.unsigned_cuts.LooseLemmas.{chain_leaves}
-use Rattle.dnsv_denial.proofs.unsigned_cuts.zone_closer.chain_loose_closer.Goals as goal
-
-pub returns : goal.returns
-returns c = λ trust rrsets chain are.
-    chain_leaves (SecuredIn trust) rrsets c.args.name.now c.args.zone.now c.args.labels chain c.args.records.now (IsTrue c.loose_closer.result)
-    are c.loose_closer.ensures.0 c.loose_closer.ensures.1
