@@ -21,7 +21,7 @@ ghost use Rattle.dnsv_denial.specs.proving.FirstProof.{
   IsFirstNoName,
 };
 ghost use Rattle.dnsv_denial.specs.proving.ProofMeaning.{HasProofRecords, HasProofWithoutCollision};
-ghost use Rattle.dnsv_denial.specs.proving.WholeChain.{HasFirmChain, HasWholeChain, HasWholeNsec3Chain, IsJustFirmChain};
+ghost use Rattle.dnsv_denial.specs.proving.WholeChain.{HasWholeChainWithoutOptOut, HasWholeChain, HasWholeNsec3Chain, IsJustChainWithoutOptOut};
 ghost use Rattle.dnsv_denial.specs.unsigned_cuts.CutMeaning.{IsCoveredEnd, MeansCut};
 ghost use Rattle.dnsv_denial.specs.unsigned_cuts.Cuts.{HasOptedOutNextCloser, HasUnsignedCut, IsUnsignedCut};
 ghost use Rattle.dnsv_denial.specs.words.EvidenceWords.{Chain, evidence_said};
@@ -126,11 +126,11 @@ impl<'c, 't> View<'c, 't> {
         // Where the evidence has just a zone's whole chain without Opt-Out, there is a proof exactly where the zone has
         // no such name.
         ensures exactly { (zone : Zone) (t : ℕ)
-            → IsJustFirmChain (SecuredIn self.now.trust) self.now.rrsets self.now.name zone
+            → IsJustChainWithoutOptOut (SecuredIn self.now.trust) self.now.rrsets self.now.name zone
             → IsSome result ↔ IsLookup zone self.now.name t NoName }
         // Whatever else the evidence has, such a chain proves what the zone denies.
         ensures whole { (zone : Zone) (t : ℕ)
-            → HasFirmChain (SecuredIn self.now.trust) self.now.rrsets self.now.name zone
+            → HasWholeChainWithoutOptOut (SecuredIn self.now.trust) self.now.rrsets self.now.name zone
             → IsLookup zone self.now.name t NoName → IsSome result }
     {
         first_proof(Denial::NoName, &self.name, &self.zones, &self.sets)
@@ -150,11 +150,11 @@ impl<'c, 't> View<'c, 't> {
         // Where the evidence has just a zone's whole chain without Opt-Out, there is a proof exactly where the zone has
         // no data of the type. The types that come with a chain are left out.
         ensures exactly { (zone : Zone) → rtype.0 ≢ rrsig → rtype.0 ≢ nsec
-            → IsJustFirmChain (SecuredIn self.now.trust) self.now.rrsets self.now.name zone
+            → IsJustChainWithoutOptOut (SecuredIn self.now.trust) self.now.rrsets self.now.name zone
             → IsSome result ↔ ((source : Labels) × IsLookup zone self.now.name rtype.0 (NoData source)) }
         // Whatever else the evidence has, such a chain proves what the zone denies.
         ensures whole { (zone : Zone) (source : Labels) → rtype.0 ≢ rrsig → rtype.0 ≢ nsec
-            → HasFirmChain (SecuredIn self.now.trust) self.now.rrsets self.now.name zone
+            → HasWholeChainWithoutOptOut (SecuredIn self.now.trust) self.now.rrsets self.now.name zone
             → IsLookup zone self.now.name rtype.0 (NoData source) → IsSome result }
     {
         first_proof(Denial::NoData(rtype), &self.name, &self.zones, &self.sets)

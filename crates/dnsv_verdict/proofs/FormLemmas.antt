@@ -90,7 +90,7 @@ module _ {Index : Type 0} (a b : RecordWords Index) (less : SaysNoLess a b) wher
       = λ at. some (a.OptedOut at) (b.OptedOut at) (less.opted_out at) in record {
         above = form.above;
         encloser = encloser_to (rightmost name labels) form.encloser;
-        next_closer = ⊎_elim (λ (firm : (words a).Absent (rightmost name (labels + 1))). inl (absent_to _ firm))
+        next_closer = ⊎_elim (λ (without_opt_out : (words a).Absent (rightmost name (labels + 1))). inl (absent_to _ without_opt_out))
             (λ (out : (index : Index) × a.OptedOut (rightmost name (labels + 1)) index). inr (opt_out _ out)) form.next_closer;
         opted_out = ⊎_elim (λ (out : (index : Index) × a.OptedOut (rightmost name (labels + 1)) index). inl (opt_out _ out))
             (λ (out : (index : Index) × a.OptedOut (wildcard_of (rightmost name labels)) index). inr (opt_out _ out)) form.opted_out;

@@ -33,7 +33,7 @@ pub fn a_name_covered_by_nsec3_is_none_of_the_chain()
     ensures chained { (zone : Zone) (hash : NameHash) (names : List Labels)
         (nsec3 : Nsec3Record) (name : Labels) → IsInNsec3Chain zone hash names nsec3
         → Covers hash nsec3 name → ¬ IsChained names name }
-    ensures firm { (zone : Zone) (hash : NameHash) (names : List Labels)
+    ensures without_opt_out { (zone : Zone) (hash : NameHash) (names : List Labels)
         (nsec3 : Nsec3Record) (name : Labels) → IsInNsec3Chain zone hash names nsec3
         → Covers hash nsec3 name → nsec3.flags ≡ 0 → ¬ IsNode zone name }
 {}

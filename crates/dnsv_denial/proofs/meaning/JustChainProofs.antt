@@ -20,9 +20,9 @@ use Rattle.dnsv_canonical.specs.Rrsets.{ReceivedRrset}
 use Rattle.dnsv_canonical.proofs.CanonicalLemmas.{IsMember, IsMember-from_contains}
 use Rattle.dnsv_denial.specs.gathering.Evidence.{IsNsecAt, IsNsec3At}
 use Rattle.dnsv_denial.specs.proving.FirstProof.{CanBeProved, CanProveNoData, CanProveNoName, IsFirstProof, ProofRecords, StandsBy}
-use Rattle.dnsv_denial.specs.proving.WholeChain.{HasFirmChain, IsJustFirmChain, IsJustNsecChain, IsJustNsec3Chain}
-use Rattle.dnsv_denial.specs.proving.WholeChain.HasFirmChain.{by_nsec as firm_by_nsec, by_nsec3 as firm_by_nsec3}
-use Rattle.dnsv_denial.specs.proving.WholeChain.IsJustFirmChain.{by_nsec, by_nsec3}
+use Rattle.dnsv_denial.specs.proving.WholeChain.{HasWholeChainWithoutOptOut, IsJustChainWithoutOptOut, IsJustNsecChain, IsJustNsec3Chain}
+use Rattle.dnsv_denial.specs.proving.WholeChain.HasWholeChainWithoutOptOut.{by_nsec as without_opt_out_by_nsec, by_nsec3 as without_opt_out_by_nsec3}
+use Rattle.dnsv_denial.specs.proving.WholeChain.IsJustChainWithoutOptOut.{by_nsec, by_nsec3}
 use Rattle.dnsv_denial.specs.unsigned_cuts.Cuts.{HasUnsignedCut, IsUnsignedCut}
 use Rattle.dnsv_denial.specs.unsigned_cuts.Cuts.IsUnsignedCut.{no_ds, no_usable_ds, opt_out}
 use Rattle.dnsv_denial.specs.words.EvidenceWords.{Chain, nsec_said, nsec3_said}
@@ -30,7 +30,7 @@ use Rattle.dnsv_denial.specs.words.EvidenceWords.Chain.{ByNsec, ByNsec3}
 use Rattle.dnsv_denial.specs.declared.records.number.RecordNumber.{RecordNumber}
 use Rattle.dnsv_denial.proofs.meaning.ProofMeaningLemmas.{with_parameters}
 use Rattle.dnsv_denial.proofs.lemmas.proving.WholeChainLemmas.{nsec_to, nsec3_to, no_name_by_nsec, no_data_by_nsec, no_name_by_nsec3, no_data_by_nsec3}
-use Rattle.dnsv_denial.proofs.meaning.WholeChainProofs.{firm_no_name, firm_no_data}
+use Rattle.dnsv_denial.proofs.meaning.WholeChainProofs.{without_opt_out_no_name, without_opt_out_no_data}
 
 module _ (Secured : ℕ → ℕ → Type 0) (rrsets : List ReceivedRrset) (name : Labels) (zone : Zone) where
   -- ---- by NSEC
@@ -120,25 +120,25 @@ module _ (Secured : ℕ → ℕ → Type 0) (rrsets : List ReceivedRrset) (name 
 
   -- ---- by either
 
-  its_chain : IsJustFirmChain Secured rrsets name zone → HasFirmChain Secured rrsets name zone
-  its_chain (by_nsec just) = firm_by_nsec just.whole
-  its_chain (by_nsec3 just firm) = firm_by_nsec3 just.whole firm
+  its_chain : IsJustChainWithoutOptOut Secured rrsets name zone → HasWholeChainWithoutOptOut Secured rrsets name zone
+  its_chain (by_nsec just) = without_opt_out_by_nsec just.whole
+  its_chain (by_nsec3 just without_opt_out) = without_opt_out_by_nsec3 just.whole without_opt_out
 
-  no_name_meant : (t : ℕ) → IsJustFirmChain Secured rrsets name zone → CanProveNoName Secured rrsets name → IsLookup zone name t NoName
+  no_name_meant : (t : ℕ) → IsJustChainWithoutOptOut Secured rrsets name zone → CanProveNoName Secured rrsets name → IsLookup zone name t NoName
   no_name_meant t (by_nsec just) (labels, fits, chain, form) = no_name_by just t labels chain fits form
-  no_name_meant t (by_nsec3 just firm) can = just3_no_name just t can
+  no_name_meant t (by_nsec3 just without_opt_out) can = just3_no_name just t can
 
-  no_data_meant : (t : ℕ) → IsJustFirmChain Secured rrsets name zone → CanProveNoData Secured rrsets name t → (source : Labels) × IsLookup zone name t (NoData source)
+  no_data_meant : (t : ℕ) → IsJustChainWithoutOptOut Secured rrsets name zone → CanProveNoData Secured rrsets name t → (source : Labels) × IsLookup zone name t (NoData source)
   no_data_meant t (by_nsec just) (labels, fits, chain, form) = no_data_by just t labels chain fits form
-  no_data_meant t (by_nsec3 just firm) can = just3_no_data just t can
+  no_data_meant t (by_nsec3 just without_opt_out) can = just3_no_data just t can
 
-  pub just_no_name : (t : ℕ) → IsJustFirmChain Secured rrsets name zone → CanProveNoName Secured rrsets name ↔ IsLookup zone name t NoName
-  just_no_name t just = (no_name_meant t just, firm_no_name Secured rrsets name zone t (its_chain just))
+  pub just_no_name : (t : ℕ) → IsJustChainWithoutOptOut Secured rrsets name zone → CanProveNoName Secured rrsets name ↔ IsLookup zone name t NoName
+  just_no_name t just = (no_name_meant t just, without_opt_out_no_name Secured rrsets name zone t (its_chain just))
 
-  pub just_no_data : (t : ℕ) → t ≢ rrsig → t ≢ nsec → IsJustFirmChain Secured rrsets name zone
+  pub just_no_data : (t : ℕ) → t ≢ rrsig → t ≢ nsec → IsJustChainWithoutOptOut Secured rrsets name zone
       → CanProveNoData Secured rrsets name t ↔ ((source : Labels) × IsLookup zone name t (NoData source))
   just_no_data t other another just =
-      (no_data_meant t just, λ lookup. firm_no_data Secured rrsets name zone t lookup.0 other another (its_chain just) lookup.1)
+      (no_data_meant t just, λ lookup. without_opt_out_no_data Secured rrsets name zone t lookup.0 other another (its_chain just) lookup.1)
 
 -- ---- what is found
 

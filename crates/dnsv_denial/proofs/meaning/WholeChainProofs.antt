@@ -19,8 +19,8 @@ use Rattle.dnsv_zones.proofs.lemmas.completeness.Nsec3Complete as by_nsec3_recor
 use Rattle.dnsv_zones.proofs.lemmas.zones.ZoneLemmas.{delegation_respects, holds_respects}
 use Rattle.dnsv_canonical.specs.Rrsets.{ReceivedRrset}
 use Rattle.dnsv_denial.specs.proving.FirstProof.{CanProveNoData, CanProveNoName}
-use Rattle.dnsv_denial.specs.proving.WholeChain.{HasFirmChain, HasWholeChain, HasWholeNsecChain, HasWholeNsec3Chain, IsFirm}
-use Rattle.dnsv_denial.specs.proving.WholeChain.HasFirmChain.{by_nsec, by_nsec3}
+use Rattle.dnsv_denial.specs.proving.WholeChain.{HasWholeChainWithoutOptOut, HasWholeChain, HasWholeNsecChain, HasWholeNsec3Chain, AreWithoutOptOut}
+use Rattle.dnsv_denial.specs.proving.WholeChain.HasWholeChainWithoutOptOut.{by_nsec, by_nsec3}
 use Rattle.dnsv_denial.specs.proving.WholeChain.HasWholeChain.{by_nsec as whole_by_nsec, by_nsec3 as whole_by_nsec3}
 use Rattle.dnsv_denial.specs.unsigned_cuts.Cuts.{HasUnsignedCut}
 use Rattle.dnsv_denial.specs.words.EvidenceWords.{nsec_said, nsec3_said}
@@ -121,10 +121,10 @@ module _ (Secured : ℕ → ℕ → Type 0) (rrsets : List ReceivedRrset) (name 
     by_form_or_cut Form Can to told =
         ⊎_elim (λ (form : Form). inl (to form)) (λ (out : OptsOutSomewhere). inr (opt_out_cut out)) told
 
-    by_form : (Form Can : Type 0) → (Form → Can) → IsFirm whole.records → Form ⊎ OptsOutSomewhere → Can
-    by_form Form Can to firm told =
+    by_form : (Form Can : Type 0) → (Form → Can) → AreWithoutOptOut whole.records → Form ⊎ OptsOutSomewhere → Can
+    by_form Form Can to without_opt_out told =
         ⊎_elim (λ (form : Form). to form)
-        (λ (out : OptsOutSomewhere). absurd (by_nsec3_records.no_opt_out (sha1_hash whole.parameters) whole.records (rightmost name whole.labels) name out.0 firm out.1)) told
+        (λ (out : OptsOutSomewhere). absurd (by_nsec3_records.no_opt_out (sha1_hash whole.parameters) whole.records (rightmost name whole.labels) name out.0 without_opt_out out.1)) told
 
     told_no_name : (t : ℕ) → IsLookup zone name t NoName → NoNameForm (nsec3_words (sha1_hash whole.parameters) whole.records) (rightmost name whole.labels) name ⊎ OptsOutSomewhere
     told_no_name = by_nsec3_records.no_name_proved zone (rightmost name whole.labels) (sha1_hash whole.parameters) whole.records whole.chain name whole.apart
@@ -165,15 +165,15 @@ module _ (Secured : ℕ → ℕ → Type 0) (rrsets : List ReceivedRrset) (name 
 
   -- ---- by either
 
-  pub firm_no_name : (t : ℕ) → HasFirmChain Secured rrsets name zone → IsLookup zone name t NoName → CanProveNoName Secured rrsets name
-  firm_no_name t (by_nsec whole) lookup = nsec_no_name whole t lookup
-  firm_no_name t (by_nsec3 whole firm) lookup =
-      by_form whole (NoNameForm (nsec3_words (sha1_hash whole.parameters) whole.records) (rightmost name whole.labels) name) (CanProveNoName Secured rrsets name) (form_no_name whole) firm (told_no_name whole t lookup)
+  pub without_opt_out_no_name : (t : ℕ) → HasWholeChainWithoutOptOut Secured rrsets name zone → IsLookup zone name t NoName → CanProveNoName Secured rrsets name
+  without_opt_out_no_name t (by_nsec whole) lookup = nsec_no_name whole t lookup
+  without_opt_out_no_name t (by_nsec3 whole without_opt_out) lookup =
+      by_form whole (NoNameForm (nsec3_words (sha1_hash whole.parameters) whole.records) (rightmost name whole.labels) name) (CanProveNoName Secured rrsets name) (form_no_name whole) without_opt_out (told_no_name whole t lookup)
 
-  pub firm_no_data : (t : ℕ) (source : Labels) → t ≢ rrsig → t ≢ nsec → HasFirmChain Secured rrsets name zone → IsLookup zone name t (NoData source) → CanProveNoData Secured rrsets name t
-  firm_no_data t source other another (by_nsec whole) lookup = nsec_no_data whole t source other another lookup
-  firm_no_data t source other another (by_nsec3 whole firm) lookup =
-      by_form whole (NoDataForms (nsec3_words (sha1_hash whole.parameters) whole.records) (rightmost name whole.labels) name t) (CanProveNoData Secured rrsets name t) (form_no_data whole t) firm
+  pub without_opt_out_no_data : (t : ℕ) (source : Labels) → t ≢ rrsig → t ≢ nsec → HasWholeChainWithoutOptOut Secured rrsets name zone → IsLookup zone name t (NoData source) → CanProveNoData Secured rrsets name t
+  without_opt_out_no_data t source other another (by_nsec whole) lookup = nsec_no_data whole t source other another lookup
+  without_opt_out_no_data t source other another (by_nsec3 whole without_opt_out) lookup =
+      by_form whole (NoDataForms (nsec3_words (sha1_hash whole.parameters) whole.records) (rightmost name whole.labels) name t) (CanProveNoData Secured rrsets name t) (form_no_data whole t) without_opt_out
       (told_no_data whole t source other another lookup)
 
   pub whole_cut : (cut : Labels) → HasWholeChain Secured rrsets name zone → IsAtOrBelow name cut → IsUnsignedDelegation (Holds zone cut) → HasUnsignedCut Secured rrsets name

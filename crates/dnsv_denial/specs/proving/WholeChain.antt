@@ -39,8 +39,8 @@ pub record HasWholeNsec3Chain (Secured : ℕ → ℕ → Type 0) (rrsets : List 
   pub apart : HasNoCollision zone (sha1_hash parameters) name
 
 -- no record has the Opt-Out flag (RFC 5155 6)
-abbrev pub IsFirm : List Nsec3Record → Type 0
-IsFirm records = AllByRecursion (λ nsec3. nsec3.flags ≡ 0) records
+abbrev pub AreWithoutOptOut : List Nsec3Record → Type 0
+AreWithoutOptOut records = AllByRecursion (λ nsec3. nsec3.flags ≡ 0) records
 
 -- a whole chain of either kind
 pub data HasWholeChain (Secured : ℕ → ℕ → Type 0) (rrsets : List ReceivedRrset) (name : Labels) (zone : Zone)
@@ -49,11 +49,11 @@ pub data HasWholeChain (Secured : ℕ → ℕ → Type 0) (rrsets : List Receive
   by_nsec3 : HasWholeNsec3Chain Secured rrsets name zone → HasWholeChain Secured rrsets name zone
 
 -- a whole chain without Opt-Out
-pub data HasFirmChain (Secured : ℕ → ℕ → Type 0) (rrsets : List ReceivedRrset) (name : Labels) (zone : Zone)
+pub data HasWholeChainWithoutOptOut (Secured : ℕ → ℕ → Type 0) (rrsets : List ReceivedRrset) (name : Labels) (zone : Zone)
     : Type 0 where
-  by_nsec : HasWholeNsecChain Secured rrsets name zone → HasFirmChain Secured rrsets name zone
-  by_nsec3 : (whole : HasWholeNsec3Chain Secured rrsets name zone) → IsFirm whole.records
-      → HasFirmChain Secured rrsets name zone
+  by_nsec : HasWholeNsecChain Secured rrsets name zone → HasWholeChainWithoutOptOut Secured rrsets name zone
+  by_nsec3 : (whole : HasWholeNsec3Chain Secured rrsets name zone) → AreWithoutOptOut whole.records
+      → HasWholeChainWithoutOptOut Secured rrsets name zone
 
 -- ---- and nothing else
 
@@ -78,8 +78,8 @@ pub record IsJustNsec3Chain (Secured : ℕ → ℕ → Type 0) (rrsets : List Re
       → ¬ IsNsecAt Secured rrsets (rightmost name other) number nsec
 
 -- just a whole chain without Opt-Out
-pub data IsJustFirmChain (Secured : ℕ → ℕ → Type 0) (rrsets : List ReceivedRrset) (name : Labels) (zone : Zone)
+pub data IsJustChainWithoutOptOut (Secured : ℕ → ℕ → Type 0) (rrsets : List ReceivedRrset) (name : Labels) (zone : Zone)
     : Type 0 where
-  by_nsec : IsJustNsecChain Secured rrsets name zone → IsJustFirmChain Secured rrsets name zone
-  by_nsec3 : (just : IsJustNsec3Chain Secured rrsets name zone) → IsFirm just.whole.records
-      → IsJustFirmChain Secured rrsets name zone
+  by_nsec : IsJustNsecChain Secured rrsets name zone → IsJustChainWithoutOptOut Secured rrsets name zone
+  by_nsec3 : (just : IsJustNsec3Chain Secured rrsets name zone) → AreWithoutOptOut just.whole.records
+      → IsJustChainWithoutOptOut Secured rrsets name zone

@@ -9,10 +9,10 @@ use Rattle.dnsv_zones.specs.zones.Zone.{Zone}
 use Rattle.dnsv_zones.proofs.lemmas.zones.LookupLemmas.{one_answer}
 use Rattle.dnsv_canonical.specs.Rrsets.{IsQuestion, forms_rrsets}
 use Rattle.dnsv_denial.specs.proving.FirstProof.{CanProveNoData, CanProveNoName}
-use Rattle.dnsv_denial.specs.proving.WholeChain.{HasFirmChain, IsJustFirmChain, IsJustNsec3Chain}
+use Rattle.dnsv_denial.specs.proving.WholeChain.{HasWholeChainWithoutOptOut, IsJustChainWithoutOptOut, IsJustNsec3Chain}
 use Rattle.dnsv_denial.specs.unsigned_cuts.Cuts.{HasUnsignedCut}
 use Rattle.dnsv_denial.proofs.meaning.JustChainProofs.{can_be, just_no_name, just_no_data, just3_no_name, just3_no_data}
-use Rattle.dnsv_denial.proofs.meaning.WholeChainProofs.{firm_no_name, firm_no_data, no_name_or_cut, no_data_or_cut}
+use Rattle.dnsv_denial.proofs.meaning.WholeChainProofs.{without_opt_out_no_name, without_opt_out_no_data, no_name_or_cut, no_data_or_cut}
 use Rattle.dnsv_verdict.specs.Complete.{SaysNoName, SaysNoData, SaysInsecure, IsDenied, IsDeniedOrUnsigned, IsDeniedSomehow, SecuredBy, HasNoAnswer, TellsWholeChains}
 use Rattle.dnsv_verdict.specs.Verdict.{Basis, IsVerdictAt, Settles}
 use Rattle.dnsv_verdict.specs.declared.verdict.Verdict.{Verdict}
@@ -73,7 +73,7 @@ module _ (basis : Basis) (name : Labels) (t : ℕ) where
   told Indeterminate none is = unsettled Indeterminate (λ bad. bad) (λ bad. bad) is.0
 
   module _ (verdict : Verdict) (zone : Zone) (tells : Told verdict) where
-    denied : t ≢ rrsig → t ≢ nsec → IsJustFirmChain (SecuredBy basis) basis.rrsets name zone → IsDenied zone name t verdict
+    denied : t ≢ rrsig → t ≢ nsec → IsJustChainWithoutOptOut (SecuredBy basis) basis.rrsets name zone → IsDenied zone name t verdict
     denied other another just =
         let names = just_no_name (SecuredBy basis) basis.rrsets name zone t just in
         let datas = just_no_data (SecuredBy basis) basis.rrsets name zone t other another just in
@@ -115,10 +115,10 @@ module _ (basis : Basis) (name : Labels) (t : ℕ) where
           (no_data_or_cut (SecuredBy basis) basis.rrsets name zone just.whole t source other another lookup);
     }
 
-    denied_somehow : t ≢ rrsig → t ≢ nsec → HasFirmChain (SecuredBy basis) basis.rrsets name zone → IsDeniedSomehow zone name t verdict
+    denied_somehow : t ≢ rrsig → t ≢ nsec → HasWholeChainWithoutOptOut (SecuredBy basis) basis.rrsets name zone → IsDeniedSomehow zone name t verdict
     denied_somehow other another whole = record {
-      no_name = λ lookup. tells.if_no_name (firm_no_name (SecuredBy basis) basis.rrsets name zone t whole lookup);
-      no_data = λ source lookup. tells.if_no_data (firm_no_data (SecuredBy basis) basis.rrsets name zone t source other another whole lookup);
+      no_name = λ lookup. tells.if_no_name (without_opt_out_no_name (SecuredBy basis) basis.rrsets name zone t whole lookup);
+      no_data = λ source lookup. tells.if_no_data (without_opt_out_no_data (SecuredBy basis) basis.rrsets name zone t source other another whole lookup);
     }
 
   pub tells_whole_chains : (verdict : Verdict) → IsQuestion name t → IsVerdictAt basis name t verdict → TellsWholeChains basis name t verdict
@@ -126,7 +126,7 @@ module _ (basis : Basis) (name : Labels) (t : ℕ) where
       let other : t ≢ rrsig = no_rrsig name t question in
       let another : t ≢ nsec = question.not_nsec in
       record {
-        firm = λ zone none just. denied verdict zone (told verdict none is) other another just;
+        without_opt_out = λ zone none just. denied verdict zone (told verdict none is) other another just;
         opt_out = λ zone none just. denied_or_unsigned verdict zone (told verdict none is) other another just;
         whole = λ zone none chain. denied_somehow verdict zone (told verdict none is) other another chain;
       }

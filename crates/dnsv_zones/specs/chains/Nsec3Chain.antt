@@ -58,7 +58,7 @@ pub record IsInNsec3Chain (zone : Zone) (hash : NameHash) (names : List Labels) 
   pub next : IsSuccessor label_cmp (map hash.of names) nsec3.hash nsec3.next
   pub types : IsBitmapOf zone name nsec3.types
   pub flags : nsec3.flags ≤ 1
-  pub firm : nsec3.flags ≡ 0 → (node : Labels) → IsNode zone node
+  pub without_opt_out : nsec3.flags ≡ 0 → (node : Labels) → IsNode zone node
       → ¬ Gap label_cmp nsec3.hash nsec3.next (hash.of node)
 
 -- The zone has this name, and the records are of one chain of it with these parameters.

@@ -74,7 +74,7 @@ module _ (Secured : ℕ → ℕ → Type 0) (rrsets : List ReceivedRrset) (apex 
         let there = with_number (IsNsec3At Secured rrsets apex) (λ r. Covers (sha1_hash parameters) r x) numbers records are some in
         let n = there.0 in
         let r = there.1.0 in
-        ⊎_elim (λ (firm : r.flags ≡ 0). inl (n, (r, there.1.1, (there.1.2, firm))))
+        ⊎_elim (λ (without_opt_out : r.flags ≡ 0). inl (n, (r, there.1.1, (there.1.2, without_opt_out))))
         (λ (opted : ¬ (r.flags ≡ 0)). inr (n, (r, there.1.1, (there.1.2, opted))))
         (decided (nat_eq r.flags 0) (Decides-eqb r.flags 0))
 

@@ -215,7 +215,7 @@ module _ (zone : Zone) (well : IsWellFormed zone) where
           next = (next_hash hash (hash.of name)).1;
           types = types_bitmap zone name;
           flags = omega arith;
-          firm = λ no_flags node is_node gap. (next_hash hash (hash.of name)).1.none_between (hash.of node) (hash_member hash names node (node_chained node is_node)) gap;
+          without_opt_out = λ no_flags node is_node gap. (next_hash hash (hash.of name)).1.none_between (hash.of node) (hash_member hash names node (node_chained node is_node)) gap;
         });
       };
       each_name = λ name chained. any_of_map (nsec3_of hash) (λ r. r.hash ≡ hash.of name) names

@@ -33,7 +33,7 @@ use Rattle.dnsv_zones.proofs.lemmas.zones.ZoneLemmas.{holds_owner, holds_respect
 use Rattle.dnsv_zones.proofs.lemmas.zones.LookupLemmas.{one_encloser, open_above_here}
 use Rattle.dnsv_zones.proofs.lemmas.zones.AnswerLemmas.{Decided, any_decided, Longest, longest_part}
 use Rattle.dnsv_zones.proofs.lemmas.meaning.MeaningLemmas.{no_name, any_no_data}
-use Rattle.dnsv_zones.proofs.lemmas.meaning.Nsec3Truth.{matched, firm_no_node, nsec3_true}
+use Rattle.dnsv_zones.proofs.lemmas.meaning.Nsec3Truth.{matched, without_opt_out_no_node, nsec3_true}
 use Rattle.dnsv_zones.proofs.lemmas.chains.BitmapLemmas.{plain_type, bits_closed, denies_bits, may_deny_here, may_deny_wildcard}
 
 -- a name of the chain with this hash
@@ -156,16 +156,16 @@ module _ (zone : Zone) (apex : Labels) (hash : NameHash) (records : List Nsec3Re
         types_at x (λ has. ¬ IsClosed has) asked chained (λ types bitmap closed. open_here (bits_closed zone x types bitmap closed))
 
     -- a cover is firm, or opted out, and of a node never firm
-    firm_or_opted_out : (x : Labels) → HasCover zone hash chain.has_records.names records x
+    without_opt_out_or_opted_out : (x : Labels) → HasCover zone hash chain.has_records.names records x
         → (((nsec3_words hash records).Absent x × ¬ IsNode zone x) ⊎ (IsOptedOut hash records x × IsCovered hash records x))
-    firm_or_opted_out x some =
+    without_opt_out_or_opted_out x some =
         let there = found (λ (r : Nsec3Record). Covers hash r x × IsInNsec3Chain zone hash chain.has_records.names r) records some in
         let cover : IsCovered hash records x =
         any_map (λ r. Covers hash r x × IsInNsec3Chain zone hash chain.has_records.names r) (λ r. Covers hash r x) records (λ r both. both.0) some in
-        ⊎_elim (λ (firm : there.member.flags ≡ 0). inl (
+        ⊎_elim (λ (without_opt_out : there.member.flags ≡ 0). inl (
           any_map (λ r. r ≡ there.member) (λ r. Covers hash r x × (r.flags ≡ 0)) records
-              (λ r is. subst (λ (each : Nsec3Record). Covers hash each x × (each.flags ≡ 0)) (sym is) (there.holds.0, firm)) there.is_there,
-          firm_no_node zone hash chain.has_records.names there.member there.holds.1 x there.holds.0 firm,
+              (λ r is. subst (λ (each : Nsec3Record). Covers hash each x × (each.flags ≡ 0)) (sym is) (there.holds.0, without_opt_out)) there.is_there,
+          without_opt_out_no_node zone hash chain.has_records.names there.member there.holds.1 x there.holds.0 without_opt_out,
         ))
         (λ (opted : ¬ (there.member.flags ≡ 0)). inr (
           any_map (λ r. r ≡ there.member) (λ r. Covers hash r x × (r.flags ≢ 0)) records
@@ -216,12 +216,12 @@ module _ (zone : Zone) (apex : Labels) (hash : NameHash) (records : List Nsec3Re
     -- the name ends at its closest name of the chain, or Opt-Out stands there
     ends_or_opted_out : (labels : ℕ) → Above labels → (EndsAt (nsec3_words hash records) apex name labels × IsClosestEncloser zone name labels) ⊎ OptOutForm hash records apex name labels
     ends_or_opted_out labels some =
-        ⊎_elim (λ (firm : (nsec3_words hash records).Absent (rightmost name (labels + 1)) × ¬ IsNode zone (rightmost name (labels + 1))). inl (
-          record { above = some.above; encloser = some.encloser; next_closer = firm.0 },
-          closest zone name labels some.above.proper some.node firm.1,
+        ⊎_elim (λ (without_opt_out : (nsec3_words hash records).Absent (rightmost name (labels + 1)) × ¬ IsNode zone (rightmost name (labels + 1))). inl (
+          record { above = some.above; encloser = some.encloser; next_closer = without_opt_out.0 },
+          closest zone name labels some.above.proper some.node without_opt_out.1,
         ))
         (λ (opted : IsOptedOut hash records (rightmost name (labels + 1)) × IsCovered hash records (rightmost name (labels + 1))). inr (opted_out_form labels some (inl opted.0)))
-        (firm_or_opted_out (rightmost name (labels + 1)) some.cover)
+        (without_opt_out_or_opted_out (rightmost name (labels + 1)) some.cover)
 
     here_above : (t : ℕ) → ¬ IsElsewhere zone name t → (part : Longest (IsChained chain.has_records.names) name) → Above part.labels
     here_above t here part =
@@ -236,9 +236,9 @@ module _ (zone : Zone) (apex : Labels) (hash : NameHash) (records : List Nsec3Re
         subst (λ (n : ℕ). ¬ IsNode zone (wildcard_of (rightmost name n))) (one_encloser zone name none.labels labels none.encloser ends.1) none.no_wildcard in
         ⊎_elim (λ (chained : IsChained chain.has_records.names star). absurd (no_star (chain.has_records.chain_names.nodes star chained)))
         (λ (cover : HasCover zone hash chain.has_records.names records star).
-        ⊎_elim (λ (firm : (nsec3_words hash records).Absent star × ¬ IsNode zone star). inl (record { labels = labels; ends = ends.0; wildcard = firm.0 }))
+        ⊎_elim (λ (without_opt_out : (nsec3_words hash records).Absent star × ¬ IsNode zone star). inl (record { labels = labels; ends = ends.0; wildcard = without_opt_out.0 }))
         (λ (opted : IsOptedOut hash records star × IsCovered hash records star). inr (labels, opted_out_form labels some (inr opted.0)))
-        (firm_or_opted_out star cover))
+        (without_opt_out_or_opted_out star cover))
         (chained_or_covered star (asked_star labels some.above.proper)))
         (λ (form : OptOutForm hash records apex name labels). inr (labels, form))
         (ends_or_opted_out labels some)
@@ -273,9 +273,9 @@ module _ (zone : Zone) (apex : Labels) (hash : NameHash) (records : List Nsec3Re
               (λ types bitmap. denies_bits zone star types t other another bitmap (may_deny_wildcard zone (rightmost name labels) t chain.has_records.well_formed chain.wildcards some.node.within no_type no_alias));
         })))))
         (λ (cover : HasCover zone hash chain.has_records.names records star).
-        ⊎_elim (λ (firm : (nsec3_words hash records).Absent star × ¬ IsNode zone star). absurd (firm.1 node))
+        ⊎_elim (λ (without_opt_out : (nsec3_words hash records).Absent star × ¬ IsNode zone star). absurd (without_opt_out.1 node))
         (λ (opted : IsOptedOut hash records star × IsCovered hash records star). inr (labels, opted_out_form labels some (inr opted.0)))
-        (firm_or_opted_out star cover))
+        (without_opt_out_or_opted_out star cover))
         (chained_or_covered star (asked_star labels some.above.proper))
 
     no_data_from : (labels t : ℕ) (source : Labels) → t ≢ rrsig → t ≢ nsec → Above labels → IsSource zone name source → ¬ Holds zone source t → ¬ Holds zone source cname → NoDataForms (nsec3_words hash records) apex name t ⊎ ((n : ℕ) × OptOutForm hash records apex name n)
@@ -352,9 +352,9 @@ module _ (zone : Zone) (apex : Labels) (hash : NameHash) (records : List Nsec3Re
         node_above zone (rightmost name size) (rightmost name (labels + 1)) part_node (rightmost_in_line name size (labels + 1) (omega arith))
         (at_or_below_trans (rightmost name (labels + 1)) (rightmost name labels) zone.apex (rightmost_in_line name (labels + 1) labels (omega arith)) some.node.within) in (
           labels,
-          ⊎_elim (λ (firm : (nsec3_words hash records).Absent (rightmost name (labels + 1)) × ¬ IsNode zone (rightmost name (labels + 1))). absurd (firm.1 next))
+          ⊎_elim (λ (without_opt_out : (nsec3_words hash records).Absent (rightmost name (labels + 1)) × ¬ IsNode zone (rightmost name (labels + 1))). absurd (without_opt_out.1 next))
               (λ (opted : IsOptedOut hash records (rightmost name (labels + 1)) × IsCovered hash records (rightmost name (labels + 1))). opted_out_form labels some (inl opted.0))
-              (firm_or_opted_out (rightmost name (labels + 1)) some.cover),
+              (without_opt_out_or_opted_out (rightmost name (labels + 1)) some.cover),
         )
 
     pub unsigned_cut_proved : (cut : Labels) → IsAtOrBelow name cut → IsUnsignedDelegation (Holds zone cut) → UnsignedCutForm (nsec3_words hash records) apex name cut ⊎ ((labels : ℕ) × OptOutForm hash records apex name labels)

@@ -141,7 +141,7 @@ has_records = record {
       };
       types = a_bitmap;
       flags = omega arith;
-      firm = λ none. absurd (omega (arith, none));
+      without_opt_out = λ none. absurd (omega (arith, none));
     },
     (
       record {
@@ -163,7 +163,7 @@ has_records = record {
         };
         types = apex_bitmap;
         flags = omega arith;
-        firm = λ none. absurd (omega (arith, none));
+        without_opt_out = λ none. absurd (omega (arith, none));
       },
       tt,
     ),

@@ -42,8 +42,8 @@ module _ (zone : Zone) (hash : NameHash) (names : List Labels) (r : Nsec3Record)
   covered_not_chained x covers chained = there.next.none_between (hash.of x) (hash_member hash names x chained) covers.gap
 
   -- a name that is covered without Opt-Out is no node
-  pub firm_no_node : (x : Labels) → Covers hash r x → r.flags ≡ 0 → ¬ IsNode zone x
-  firm_no_node x covers firm node = there.firm firm x node covers.gap
+  pub without_opt_out_no_node : (x : Labels) → Covers hash r x → r.flags ≡ 0 → ¬ IsNode zone x
+  without_opt_out_no_node x covers without_opt_out node = there.without_opt_out without_opt_out x node covers.gap
 
 module _ (zone : Zone) (hash : NameHash) (names : List Labels) (chain : AreChainNames zone names) (r : Nsec3Record) (there : IsInNsec3Chain zone hash names r) where
   -- the record that matches a name is that name's
@@ -75,7 +75,7 @@ module _ (zone : Zone) (hash : NameHash) (names : List Labels) (records : List N
   pub absent : (x : Labels) → Any (λ r. Covers hash r x × (r.flags ≡ 0)) records → ¬ IsNode zone x
   absent x some =
       let by = found_of (λ (r : Nsec3Record). Covers hash r x × (r.flags ≡ 0)) (IsInNsec3Chain zone hash names) records all some in
-      firm_no_node zone hash names by.member by.kind x by.holds.0 by.holds.1
+      without_opt_out_no_node zone hash names by.member by.kind x by.holds.0 by.holds.1
 
   pub covered_end : AreChainNames zone names → (x : Labels) → Any (λ r. Covers hash r x) records → IsNode zone x → IsUnsignedEnd zone x
   covered_end chain x some =

@@ -6,7 +6,7 @@ use Rattle.dnsv_denial.specs.proving.FirstProof.{CanProveNoData, IsFirstNoData}
 use Rattle.dnsv_denial.proofs.lemmas.words.FirstLemmas.{if_some}
 use Rattle.dnsv_denial.proofs.meaning.ProofMeaningLemmas.{first_no_data_means}
 use Rattle.dnsv_denial.proofs.meaning.JustChainProofs.{can_be, exactly_where, just_no_data, some_where}
-use Rattle.dnsv_denial.proofs.meaning.WholeChainProofs.{firm_no_data}
+use Rattle.dnsv_denial.proofs.meaning.WholeChainProofs.{without_opt_out_no_data}
 use Rattle.dnsv_denial.proofs.view.View.no_data.Goals as goal
 
 pub returns-clause-first : goal.returns-clause-first
@@ -31,4 +31,4 @@ returns-clause-exactly c = λ zone other another just.
 pub returns-clause-whole : goal.returns-clause-whole
 returns-clause-whole c = λ zone source other another whole lookup.
     some_where (CanProveNoData (SecuredIn c.args.self.now.trust) c.args.self.now.rrsets c.args.self.now.name c.args.rtype.0) (IsFirstNoData (SecuredIn c.args.self.now.trust) c.args.self.now.rrsets c.args.self.now.name c.args.rtype.0)
-    c.first_proof.result (returns-clause-first c) (firm_no_data (SecuredIn c.args.self.now.trust) c.args.self.now.rrsets c.args.self.now.name zone c.args.rtype.0 source other another whole lookup)
+    c.first_proof.result (returns-clause-first c) (without_opt_out_no_data (SecuredIn c.args.self.now.trust) c.args.self.now.rrsets c.args.self.now.name zone c.args.rtype.0 source other another whole lookup)

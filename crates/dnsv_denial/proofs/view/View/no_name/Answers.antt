@@ -5,7 +5,7 @@ use Rattle.dnsv_denial.specs.proving.FirstProof.{CanProveNoName, IsFirstNoName}
 use Rattle.dnsv_denial.proofs.lemmas.words.FirstLemmas.{if_some}
 use Rattle.dnsv_denial.proofs.meaning.ProofMeaningLemmas.{first_no_name_means}
 use Rattle.dnsv_denial.proofs.meaning.JustChainProofs.{can_be, exactly_where, just_no_name, some_where}
-use Rattle.dnsv_denial.proofs.meaning.WholeChainProofs.{firm_no_name}
+use Rattle.dnsv_denial.proofs.meaning.WholeChainProofs.{without_opt_out_no_name}
 use Rattle.dnsv_denial.proofs.view.View.no_name.Goals as goal
 
 pub returns-clause-first : goal.returns-clause-first
@@ -28,4 +28,4 @@ returns-clause-exactly c = λ zone t just.
 pub returns-clause-whole : goal.returns-clause-whole
 returns-clause-whole c = λ zone t whole lookup.
     some_where (CanProveNoName (SecuredIn c.args.self.now.trust) c.args.self.now.rrsets c.args.self.now.name) (IsFirstNoName (SecuredIn c.args.self.now.trust) c.args.self.now.rrsets c.args.self.now.name)
-    c.first_proof.result (returns-clause-first c) (firm_no_name (SecuredIn c.args.self.now.trust) c.args.self.now.rrsets c.args.self.now.name zone t whole lookup)
+    c.first_proof.result (returns-clause-first c) (without_opt_out_no_name (SecuredIn c.args.self.now.trust) c.args.self.now.rrsets c.args.self.now.name zone t whole lookup)
