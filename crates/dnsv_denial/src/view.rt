@@ -178,7 +178,7 @@ impl<'c, 't> View<'c, 't> {
     }
 
     /// The name from which on the question's name may be unsigned: the highest delegation without DS; else the highest
-    /// whose DS records can't be used; else the next closer name of the longest closest encloser where Opt-Out may
+    /// whose DS records can't be used; else the next closer name of the closest encloser with most labels where Opt-Out may
     /// leave out a delegation (RFC 4035 5.2, RFC 5155 8.6, 8.9, 9.2). `None` where the evidence shows none.
     pub fn unsigned_cut(&self) -> Option<Name>
         ensures first { MatchOption result

@@ -10,11 +10,11 @@ use Rattle.dnsv_canonical.specs.Rrsets.{ReceivedRrset}
 use Rattle.dnsv_verifier.specs.declared.entry.Entry.{Entry}
 use Rattle.dnsv_denial.specs.proving.FirstProof.{CanProveNoData, CanProveNoName, IsFirstNoData, IsFirstNoName, ProofRecords}
 use Rattle.dnsv_denial.specs.unsigned_cuts.Cuts.{HasUnsignedCut}
-use Rattle.dnsv_verdict.proofs.SearchLemmas.LowestLemmas.{one_lowest}
+use Rattle.dnsv_verdict.proofs.SearchLemmas.FirstSuchLemmas.{one_first_such}
 use Rattle.dnsv_verdict.proofs.OneProof.{can_be, one_cut, cut_stands, one_first_no_name, one_first_no_data}
 use Rattle.dnsv_verdict.proofs.UnknownLemmas.{one_unknown}
 use Rattle.dnsv_verdict.specs.Insecure.{IsOptOutWildcardCut, IsOptOutWildcardSet, IsUnsigned, IsUnsignedFrom}
-use Rattle.dnsv_verdict.specs.Secure.{IsLowest, IsSecuredAt, IsSecureSet}
+use Rattle.dnsv_verdict.specs.Secure.{IsFirstSuch, IsSecuredAt, IsSecureSet}
 use Rattle.dnsv_verdict.specs.Settled.{HasAlias, HasAnswer, IsSettled, IsSettledAs}
 use Rattle.dnsv_verdict.specs.Verdict.{AreUnknown, Basis, HasAnchor, IsVerdictAt, MaySettle, Settles, SettlesAs}
 use Rattle.dnsv_verdict.specs.declared.verdict.Verdict.{Verdict}
@@ -40,7 +40,7 @@ nothing_settled S rrsets name t a b c d e f (inr (inr (inr (inr (inr x))))) = f 
 pub unsigned_stands : (S : ℕ → ℕ → Type 0) (rrsets : List ReceivedRrset) (name : Labels) (t : ℕ) (cut : Labels)
     → IsUnsignedFrom S rrsets name t cut → IsUnsigned S rrsets name t
 unsigned_stands S rrsets name t cut (inl is) = inl (cut_stands S rrsets name cut is)
-unsigned_stands S rrsets name t cut (inr opt_out) = inr (opt_out.1.k, opt_out.1.s, opt_out.1.lowest.such)
+unsigned_stands S rrsets name t cut (inr opt_out) = inr (opt_out.1.k, opt_out.1.s, opt_out.1.earliest.such)
 
 -- what is settled in some way is settled
 pub settled_stands : (S : ℕ → ℕ → Type 0) (rrsets : List ReceivedRrset) (name : Labels) (t : ℕ) (verdict : Verdict)
@@ -74,11 +74,11 @@ one_else Case Gives Others holds one others a b p q =
 
 module _ (S : ℕ → ℕ → Type 0) (rrsets : List ReceivedRrset) (name : Labels) where
   abbrev AnswerAs : ℕ → Verdict → Type 0
-  AnswerAs t verdict = (k : ℕ) × (s : ℕ) × (verdict ≡ SecureAnswer k s) × IsLowest (IsSecureSet S rrsets name t) k s
+  AnswerAs t verdict = (k : ℕ) × (s : ℕ) × (verdict ≡ SecureAnswer k s) × IsFirstSuch (IsSecureSet S rrsets name t) k s
 
   abbrev AliasAs : ℕ → Verdict → Type 0
   AliasAs t verdict =
-      (k : ℕ) × (s : ℕ) × (verdict ≡ SecureAlias k s) × (t ≡ cname → ⊥) × IsLowest (IsSecureSet S rrsets name cname) k s
+      (k : ℕ) × (s : ℕ) × (verdict ≡ SecureAlias k s) × (t ≡ cname → ⊥) × IsFirstSuch (IsSecureSet S rrsets name cname) k s
 
   abbrev NoNameAs : Verdict → Type 0
   NoNameAs verdict = (proof : ProofRecords) × (verdict ≡ SecureNoName proof) × IsFirstNoName S rrsets name proof
@@ -91,12 +91,12 @@ module _ (S : ℕ → ℕ → Type 0) (rrsets : List ReceivedRrset) (name : Labe
 
   one_answer : (t : ℕ) → IsOne (AnswerAs t)
   one_answer t a b p q =
-      let same = one_lowest (IsSecureSet S rrsets name t) p.0 p.1 q.0 q.1 p.3 q.3 in
+      let same = one_first_such (IsSecureSet S rrsets name t) p.0 p.1 q.0 q.1 p.3 q.3 in
       p.2 ∙ (λ i. SecureAnswer (same.0 i) (same.1 i)) ∙ sym q.2
 
   one_alias : (t : ℕ) → IsOne (AliasAs t)
   one_alias t a b p q =
-      let same = one_lowest (IsSecureSet S rrsets name cname) p.0 p.1 q.0 q.1 p.4 q.4 in
+      let same = one_first_such (IsSecureSet S rrsets name cname) p.0 p.1 q.0 q.1 p.4 q.4 in
       p.2 ∙ (λ i. SecureAlias (same.0 i) (same.1 i)) ∙ sym q.2
 
   one_no_name : IsOne NoNameAs
@@ -118,8 +118,8 @@ module _ (S : ℕ → ℕ → Type 0) (rrsets : List ReceivedRrset) (name : Labe
 
   one_opt_out : (t : ℕ) (a b : Labels) → IsOptOutWildcardCut S rrsets name t a → IsOptOutWildcardCut S rrsets name t b → a ≡ b
   one_opt_out t a b p q =
-      let same = one_lowest (IsOptOutWildcardSet S rrsets name t) p.k p.s q.k q.s p.lowest q.lowest in
-      let rrsig = one_signature _ p.k p.s q.k q.s same.0 same.1 p.lowest.such q.lowest.such in
+      let same = one_first_such (IsOptOutWildcardSet S rrsets name t) p.k p.s q.k q.s p.earliest q.earliest in
+      let rrsig = one_signature _ p.k p.s q.k q.s same.0 same.1 p.earliest.such q.earliest.such in
       p.next_closer ∙ ap (λ x. rightmost name (x.labels + 1)) rrsig ∙ sym q.next_closer
 
   one_unsigned_from : (t : ℕ) (a b : Labels) → IsUnsignedFrom S rrsets name t a → IsUnsignedFrom S rrsets name t b → a ≡ b

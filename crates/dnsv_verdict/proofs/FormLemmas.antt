@@ -4,7 +4,7 @@ use Rattle.std.specs.declared.cmp.Ordering.{Ordering}
 use Rattle.dnsv_names.specs.Name.{Labels, rightmost}
 use Rattle.dnsv_names.specs.Tree.{wildcard_of}
 use Rattle.dnsv_zones.specs.forms.Forms.{EndsAt, NoNameForm, NoDataForm, EmptyForm, NoWildcardDataForm, EmptyWildcardForm, NoDataForms, NoCloserForm, UnsignedCutForm}
-use Rattle.dnsv_zones.specs.forms.Parts.{IsLowest, IsEncloserPart, no_record, a_record, at_name, empty, at_wildcard, empty_wildcard, AreEndParts, AreWildcardParts, AreNoNameParts, AreWildcardDataParts, AreEmptyWildcardParts, AreNoDataParts, OptsOut}
+use Rattle.dnsv_zones.specs.forms.Parts.{IsFirstToSay, IsEncloserPart, no_record, a_record, at_name, empty, at_wildcard, empty_wildcard, AreEndParts, AreWildcardParts, AreNoNameParts, AreWildcardDataParts, AreEmptyWildcardParts, AreNoDataParts, OptsOut}
 use Rattle.dnsv_zones.specs.forms.RecordWords.{RecordWords, words}
 use Rattle.dnsv_zones.specs.zones.Types.{Denies}
 
@@ -99,16 +99,16 @@ module _ {Index : Type 0} (a b : RecordWords Index) (less : SaysNoLess a b) wher
 -- ---- chosen records
 
 module _ {Index : Type 0} (cmp : Index → Index → Ordering) (a b : RecordWords Index) (to : SaysNoLess a b) (from : SaysNoLess b a) where
-  pub lowest_to : (P Q : Index → Type 0) → ((index : Index) → P index → Q index) → ((index : Index) → Q index → P index)
-      → (index : Index) → IsLowest cmp P index → IsLowest cmp Q index
-  lowest_to P Q f g index lowest =
-      record { says = f index lowest.says; lowest = λ other says. lowest.lowest other (g other says) }
+  pub first_such_to : (P Q : Index → Type 0) → ((index : Index) → P index → Q index) → ((index : Index) → Q index → P index)
+      → (index : Index) → IsFirstToSay cmp P index → IsFirstToSay cmp Q index
+  first_such_to P Q f g index earliest =
+      record { says = f index earliest.says; earliest = λ other says. earliest.earliest other (g other says) }
 
   encloser_part_to : (encloser : Labels) (parts : List Index) → IsEncloserPart cmp a encloser parts → IsEncloserPart cmp b encloser parts
   encloser_part_to encloser _ (no_record none) = no_record (to.needs_none encloser none)
-  encloser_part_to encloser _ (a_record index needs lowest) =
+  encloser_part_to encloser _ (a_record index needs earliest) =
       a_record index (λ none. needs (from.needs_none encloser none))
-      (lowest_to (a.Encloser encloser) (b.Encloser encloser) (to.encloser encloser) (from.encloser encloser) index lowest)
+      (first_such_to (a.Encloser encloser) (b.Encloser encloser) (to.encloser encloser) (from.encloser encloser) index earliest)
 
   end_parts_to : (apex name : Labels) (labels : ℕ) (parts : List Index) → AreEndParts cmp a apex name labels parts → AreEndParts cmp b apex name labels parts
   end_parts_to apex name labels parts ends = record {
@@ -116,7 +116,7 @@ module _ {Index : Type 0} (cmp : Index → Index → Ordering) (a b : RecordWord
     encloser_part = ends.encloser_part;
     encloser = encloser_part_to (rightmost name labels) ends.encloser_part ends.encloser;
     covering = ends.covering;
-    next_closer = let closer = rightmost name (labels + 1) in lowest_to (a.Absent closer) (b.Absent closer) (to.absent closer) (from.absent closer) ends.covering ends.next_closer;
+    next_closer = let closer = rightmost name (labels + 1) in first_such_to (a.Absent closer) (b.Absent closer) (to.absent closer) (from.absent closer) ends.covering ends.next_closer;
     both = ends.both;
   }
 
@@ -127,7 +127,7 @@ module _ {Index : Type 0} (cmp : Index → Index → Ordering) (a b : RecordWord
     end_parts = are.end_parts;
     ends = end_parts_to apex name labels are.end_parts are.ends;
     last = are.last;
-    wildcard = lowest_to P Q f g are.last are.wildcard;
+    wildcard = first_such_to P Q f g are.last are.wildcard;
     all = are.all;
   }
 
@@ -155,12 +155,12 @@ module _ {Index : Type 0} (cmp : Index → Index → Ordering) (a b : RecordWord
   }
 
   pub no_data_parts_to : (apex name : Labels) (t : ℕ) (parts : List Index) → AreNoDataParts cmp a apex name t parts → AreNoDataParts cmp b apex name t parts
-  no_data_parts_to apex name t _ (at_name index within lowest) =
+  no_data_parts_to apex name t _ (at_name index within earliest) =
       let Says : (ℕ → Type 0) → Type 0 = λ has. Denies has t in
-      at_name index within (lowest_to (a.TypesAt name Says) (b.TypesAt name Says) (to.types_at name Says) (from.types_at name Says) index lowest)
-  no_data_parts_to apex name t _ (empty index not_here within lowest) =
+      at_name index within (first_such_to (a.TypesAt name Says) (b.TypesAt name Says) (to.types_at name Says) (from.types_at name Says) index earliest)
+  no_data_parts_to apex name t _ (empty index not_here within earliest) =
       empty index (λ form. not_here (no_data_at_name_to b a from apex name t form)) within
-      (lowest_to (a.EmptyNonTerminal name) (b.EmptyNonTerminal name) (to.empty_non_terminal name) (from.empty_non_terminal name) index lowest)
+      (first_such_to (a.EmptyNonTerminal name) (b.EmptyNonTerminal name) (to.empty_non_terminal name) (from.empty_non_terminal name) index earliest)
   no_data_parts_to apex name t _ (at_wildcard parts not_here not_empty are) =
       at_wildcard parts (λ form. not_here (no_data_at_name_to b a from apex name t form))
       (λ form. not_empty (empty_to b a from apex name form)) (wildcard_data_parts_to apex name t parts are)

@@ -49,7 +49,7 @@ module _ (S : ℕ → ℕ → Type 0) (rrsets : List ReceivedRrset) (name : Labe
 
   opt_out_means : (t : ℕ) (cut : Labels) → IsOptOutWildcardCut S rrsets name t cut → MeansOptOutWildcardCut S rrsets name t cut
   opt_out_means t cut is =
-      let such = is.lowest.such in
+      let such = is.earliest.such in
       let covered = closer_means S rrsets name such.rrsig.labels such.rrsig.signer cut (such.such.1.1, is.next_closer) in
       record { opt_out = is; chain = covered.0; covered = covered.1 }
 

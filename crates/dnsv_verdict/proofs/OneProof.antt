@@ -11,7 +11,7 @@ use Rattle.dnsv_names.specs.Tree.{wildcard_of}
 use Rattle.dnsv_records.specs.DecisionLaws.{at_most_or}
 use Rattle.dnsv_zones.specs.chains.Nsec3Chain.{Parameters}
 use Rattle.dnsv_zones.specs.forms.Forms.{Words, EndsAt, NoNameForm, NoWildcardDataForm, EmptyWildcardForm}
-use Rattle.dnsv_zones.specs.forms.Parts.{IsLowest, IsEncloserPart, no_record, a_record, at_name, empty, at_wildcard, empty_wildcard, AreEndParts, AreWildcardParts, AreNoNameParts, AreWildcardDataParts, AreEmptyWildcardParts, AreNoDataParts}
+use Rattle.dnsv_zones.specs.forms.Parts.{IsFirstToSay, IsEncloserPart, no_record, a_record, at_name, empty, at_wildcard, empty_wildcard, AreEndParts, AreWildcardParts, AreNoNameParts, AreWildcardDataParts, AreEmptyWildcardParts, AreNoDataParts}
 use Rattle.dnsv_zones.specs.forms.RecordWords.{RecordWords, words}
 use Rattle.dnsv_zones.specs.zones.Types.{Denies}
 use Rattle.dnsv_canonical.proofs.CanonicalLemmas.{rising_unique, IsMember, Contains-from_member, IsMember-from_contains}
@@ -58,11 +58,11 @@ module _ {X : Type 0} (cmp : X → X → Ordering) (total : IsTotalOrder cmp) (e
 -- ---- chosen records
 
 module _ {Index : Type 0} (cmp : Index → Index → Ordering) (total : IsTotalOrder cmp) (exact : (a b : Index) → cmp a b ≡ Equal → a ≡ b) (said : RecordWords Index) where
-  one_index : (Says : Index → Type 0) (a b : Index) → IsLowest cmp Says a → IsLowest cmp Says b → a ≡ b
+  one_index : (Says : Index → Type 0) (a b : Index) → IsFirstToSay cmp Says a → IsFirstToSay cmp Says b → a ≡ b
   one_index Says a b x y =
       ⊎_elim (λ (same : a ≡ b). same)
       (λ (apart : (cmp a b ≡ Less) ⊎ (cmp b a ≡ Less)).
-      ⊎_elim (λ (less : cmp a b ≡ Less). absurd (y.lowest a x.says less)) (λ (less : cmp b a ≡ Less). absurd (x.lowest b y.says less)) apart)
+      ⊎_elim (λ (less : cmp a b ≡ Less). absurd (y.earliest a x.says less)) (λ (less : cmp b a ≡ Less). absurd (x.earliest b y.says less)) apart)
       (compared cmp total exact a b)
 
   one_encloser : (encloser : Labels) (p q : List Index) → IsEncloserPart cmp said encloser p → IsEncloserPart cmp said encloser q → p ≡ q

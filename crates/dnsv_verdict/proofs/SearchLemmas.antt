@@ -1,5 +1,5 @@
 -- The first signature that is such, and the first RRset.
-pub mod LowestLemmas
+pub mod FirstSuchLemmas
 pub mod ViewLemmas
 use Rattle.std.proofs.Common.{◌≡◌, ◌≢◌, ◌⊎◌, ℕ, zero, suc, ◌+◌, ◌-◌, ◌<◌, ◌≤◌, true, false, List, [], ◌∷◌, refl, sym, subst, arith, length, inl, inr, ⊎_elim}
 use Rattle.std.proofs.lemmas.Bool.Decides.{eqb_tells}
@@ -11,7 +11,7 @@ use Rattle.dnsv_records.proofs.OneRecord.{one_rrsig}
 use Rattle.dnsv_records.specs.Rrsig.{IsRrsig}
 use Rattle.dnsv_records.specs.declared.rrsig.Rrsig.{Rrsig}
 use Rattle.dnsv_canonical.specs.Rrsets.{ReceivedRrset}
-use Rattle.dnsv_verdict.specs.Secure.{IsLowest, IsSecuredAt}
+use Rattle.dnsv_verdict.specs.Secure.{IsFirstSuch, IsSecuredAt}
 use Rattle.dnsv_chain.specs.Trust.{KeptTrust, signed_of}
 use Rattle.dnsv_denial.specs.Viewed.{SecuredIn}
 use Rattle.dnsv_verdict.specs.Search.{IsFirstFound, IsFound}
@@ -167,12 +167,12 @@ next_found Such trust name rrsets count rrset j r there same at =
     (subst (λ n. IsFound Such at.rrset (signed_of trust n) r) (sym same) (found_in Such trust name rrsets j r at))
 
 -- the RRset that the search stops at is the first
-pub lowest_found : (Such : ReceivedRrset → Rrsig → Type 0) (trust : KeptTrust) (name : Labels)
+pub first_such_found : (Such : ReceivedRrset → Rrsig → Type 0) (trust : KeptTrust) (name : Labels)
     (rrsets : List ReceivedRrset) (count : ℕ) (rrset : ReceivedRrset) (s : ℕ) (rrsig : Rrsig)
     → NoneSoFarAt Such trust name rrsets count → slice_get rrsets count ≡ Some rrset → SameName rrset.owner name
     → IsFirstFound Such rrset (signed_of trust (count + 1)) s rrsig
-    → (is : IsLowest (IsSecuredAt (SecuredIn trust) rrsets name Such) (count + 1) s) × (is.such.rrsig ≡ rrsig)
-lowest_found Such trust name rrsets count rrset s rrsig none there owner first =
+    → (is : IsFirstSuch (IsSecuredAt (SecuredIn trust) rrsets name Such) (count + 1) s) × (is.such.rrsig ≡ rrsig)
+first_such_found Such trust name rrsets count rrset s rrsig none there owner first =
     let place : count ≡ count + 1 - 1 = omega arith in (
       record {
         such = record {
@@ -186,7 +186,7 @@ lowest_found Such trust name rrsets count rrset s rrsig none there owner first =
           secured = first.found.among;
           such = first.found.such;
         };
-        lowest = λ j r other.
+        earliest = λ j r other.
             ⊎_elim (λ (later : count + 1 < j). inl later)
             (λ (same : count + 1 ≡ j). inr (same, first.first r (next_found Such trust name rrsets count rrset j r there same other)))
             (behind_or_next j count other.is_rrset.0 (not_so_far_at Such trust name rrsets count none j r other));

@@ -11,9 +11,9 @@ use Rattle.dnsv_canonical.specs.SignedData.{IsExpanded}
 use Rattle.dnsv_chain.specs.Trusted.{IsNumbered}
 use Rattle.dnsv_denial.specs.proving.FirstProof.{CanProveNoCloser}
 use Rattle.dnsv_verdict.proofs.SettledLemmas.EvidenceLemmas.{no_name_can_to, no_data_can_to, no_closer_can_to, has_cut_to, opt_out_closer_to, first_no_name_to, first_no_data_to, cut_is_to}
-use Rattle.dnsv_verdict.proofs.SearchLemmas.LowestLemmas.{lowest_respects}
+use Rattle.dnsv_verdict.proofs.SearchLemmas.FirstSuchLemmas.{first_such_respects}
 use Rattle.dnsv_verdict.specs.Insecure.{IsOptOutWildcard, IsOptOutWildcardCut, IsOptOutWildcardSet, IsUnsigned, IsUnsignedFrom}
-use Rattle.dnsv_verdict.specs.Secure.{HoldsForName, IsLowest, IsSecureSet, IsSecuredAt}
+use Rattle.dnsv_verdict.specs.Secure.{HoldsForName, IsFirstSuch, IsSecureSet, IsSecuredAt}
 use Rattle.dnsv_verdict.specs.Settled.{HasAlias, HasAnswer, IsSettled, IsSettledAs}
 use Rattle.dnsv_verdict.specs.declared.verdict.Verdict.{Verdict}
 use Rattle.dnsv_verdict.specs.declared.verdict.Verdict.TheVariants.{SecureAnswer, SecureAlias, SecureNoName, SecureNoData, Insecure, Pending, Bogus, Indeterminate}
@@ -78,18 +78,18 @@ module _ (S T : ℕ → ℕ → Type 0) (to : (k s : ℕ) → S k s → T k s) (
   same : (k : ℕ) (rrset : ReceivedRrset) → IsNumbered rrsets k rrset → IsNumbered rrsets k rrset
   same k rrset is = is
 
-  lowest_set_to : (name : Labels) (t k s : ℕ) → IsLowest (IsSecureSet S rrsets name t) k s → IsLowest (IsSecureSet T rrsets name t) k s
-  lowest_set_to name t k s =
-      lowest_respects (IsSecureSet S rrsets name t) (IsSecureSet T rrsets name t) k s
+  first_such_set_to : (name : Labels) (t k s : ℕ) → IsFirstSuch (IsSecureSet S rrsets name t) k s → IsFirstSuch (IsSecureSet T rrsets name t) k s
+  first_such_set_to name t k s =
+      first_such_respects (IsSecureSet S rrsets name t) (IsSecureSet T rrsets name t) k s
       (λ j r. (secure_set_to S T to rrsets rrsets same name t j r, secure_set_to T S from rrsets rrsets same name t j r))
 
   opt_out_cut_to : (name : Labels) (t : ℕ) (cut : Labels) → IsOptOutWildcardCut S rrsets name t cut → IsOptOutWildcardCut T rrsets name t cut
   opt_out_cut_to name t cut opt_out = record {
     k = opt_out.k;
     s = opt_out.s;
-    lowest = record {
-      such = opt_out_set_to S T to rrsets rrsets same name t opt_out.k opt_out.s opt_out.lowest.such;
-      lowest = λ j r other. opt_out.lowest.lowest j r (opt_out_set_to T S from rrsets rrsets same name t j r other);
+    earliest = record {
+      such = opt_out_set_to S T to rrsets rrsets same name t opt_out.k opt_out.s opt_out.earliest.such;
+      earliest = λ j r other. opt_out.earliest.earliest j r (opt_out_set_to T S from rrsets rrsets same name t j r other);
     };
     next_closer = opt_out.next_closer;
   }
@@ -100,9 +100,9 @@ module _ (S T : ℕ → ℕ → Type 0) (to : (k s : ℕ) → S k s → T k s) (
       inr (λ has. opt_out.0 (has_cut_to T S from rrsets rrsets same name has), opt_out_cut_to name t cut opt_out.1)
 
   pub settled_as_to : (name : Labels) (t : ℕ) (verdict : Verdict) → IsSettledAs S rrsets name t verdict → IsSettledAs T rrsets name t verdict
-  settled_as_to name t (SecureAnswer k s) is = lowest_set_to name t k s is
+  settled_as_to name t (SecureAnswer k s) is = first_such_set_to name t k s is
   settled_as_to name t (SecureAlias k s) is =
-      (λ has. is.0 (answer_to T S from rrsets rrsets same name t has), is.1, lowest_set_to name cname k s is.2)
+      (λ has. is.0 (answer_to T S from rrsets rrsets same name t has), is.1, first_such_set_to name cname k s is.2)
   settled_as_to name t (SecureNoName proof) is = (
     λ has. is.0 (answer_to T S from rrsets rrsets same name t has),
     λ has. is.1 (alias_to T S from rrsets rrsets same name t has),

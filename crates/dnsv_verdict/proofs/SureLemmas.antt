@@ -11,7 +11,7 @@ use Rattle.dnsv_zones.specs.forms.Parts as parts
 use Rattle.dnsv_denial.specs.unsigned_cuts.Cuts.{IsFewest, IsMost}
 use Rattle.dnsv_denial.specs.words.EvidenceWords.{number_cmp}
 use Rattle.dnsv_denial.specs.declared.records.number.RecordNumber.{RecordNumber}
-use Rattle.dnsv_verdict.specs.Secure.{IsLowest}
+use Rattle.dnsv_verdict.specs.Secure.{IsFirstSuch}
 
 abbrev pub Surely : Type 0 → Type 0
 Surely X = (X → ⊥) → ⊥
@@ -54,9 +54,9 @@ some_most P bound limit n p = most_within P bound limit bound n (omega arith) p
 
 -- ---- the lowest pair of numbers
 
-after_lowest : (Such : ℕ → ℕ → Type 0) (k s j r : ℕ) → ((fewer : ℕ) → fewer < k → ((n : ℕ) × Such fewer n) → ⊥)
+after_first_such : (Such : ℕ → ℕ → Type 0) (k s j r : ℕ) → ((fewer : ℕ) → fewer < k → ((n : ℕ) × Such fewer n) → ⊥)
     → ((fewer : ℕ) → fewer < s → Such k fewer → ⊥) → Such j r → (k < j) ⊎ ((k ≡ j) × (s ≤ r))
-after_lowest Such k s j r rows columns other =
+after_first_such Such k s j r rows columns other =
     ⊎_elim (λ (less : j < k). absurd (rows j less (r, other)))
     (λ (least : k ≤ j). ⊎_elim (λ (more : k < j). inl more)
     (λ (most : j ≤ k). let same : k ≡ j = omega (arith, least, most) in
@@ -65,8 +65,8 @@ after_lowest Such k s j r rows columns other =
     (cases_lt k j))
     (cases_lt j k)
 
-pub some_lowest : (Such : ℕ → ℕ → Type 0) (k s : ℕ) → Such k s → Surely ((j : ℕ) × (r : ℕ) × IsLowest Such j r)
-some_lowest Such k s such =
+pub some_first_such : (Such : ℕ → ℕ → Type 0) (k s : ℕ) → Such k s → Surely ((j : ℕ) × (r : ℕ) × IsFirstSuch Such j r)
+some_first_such Such k s such =
     and_then (some_fewest (λ j. (r : ℕ) × Such j r) k (s, such))
     (λ row. and_then (some_fewest (λ r. Such row.0 r) row.1.holds.0 row.1.holds.1)
     (λ column. surely (
@@ -74,7 +74,7 @@ some_lowest Such k s such =
       column.0,
       record {
         such = column.1.holds;
-        lowest = λ j r other. after_lowest Such row.0 column.0 j r row.1.fewest column.1.fewest other;
+        earliest = λ j r other. after_first_such Such row.0 column.0 j r row.1.fewest column.1.fewest other;
       },
     )))
 
@@ -94,13 +94,13 @@ not_less a b (inr (same, at_most)) less =
     (cases_lt a.place b.place)
 
 pub some_record : (Says : RecordNumber → Type 0) (number : RecordNumber) → Says number
-    → Surely ((first : RecordNumber) × parts.IsLowest number_cmp Says first)
+    → Surely ((first : RecordNumber) × parts.IsFirstToSay number_cmp Says first)
 some_record Says number says =
-    and_then (some_lowest (λ k p. Says (record { rrset = k; place = p })) number.rrset number.place says)
+    and_then (some_first_such (λ k p. Says (record { rrset = k; place = p })) number.rrset number.place says)
     (λ found. surely (
       record { rrset = found.0; place = found.1 },
       record {
         says = found.2.such;
-        lowest = λ other said. not_less (record { rrset = found.0; place = found.1 }) other (found.2.lowest other.rrset other.place said);
+        earliest = λ other said. not_less (record { rrset = found.0; place = found.1 }) other (found.2.earliest other.rrset other.place said);
       },
     ))

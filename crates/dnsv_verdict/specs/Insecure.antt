@@ -6,7 +6,7 @@ use Rattle.dnsv_zones.specs.zones.TypeNumbers.{cname}
 use Rattle.dnsv_canonical.specs.Rrsets.{ReceivedRrset}
 use Rattle.dnsv_canonical.specs.SignedData.{IsExpanded}
 use Rattle.dnsv_denial.specs.unsigned_cuts.Cuts.{HasOptedOutNextCloser, HasUnsignedCut, IsUnsignedCut}
-use Rattle.dnsv_verdict.specs.Secure.{IsSecuredAt, IsLowest}
+use Rattle.dnsv_verdict.specs.Secure.{IsSecuredAt, IsFirstSuch}
 
 -- A wildcard is behind the signature, and an NSEC3 record with the Opt-Out flag covers the next closer name: an
 -- unsigned delegation may be closer than the wildcard (RFC 5155 8.8).
@@ -25,8 +25,8 @@ pub record IsOptOutWildcardCut
     (Secured : ℕ → ℕ → Type 0) (rrsets : List ReceivedRrset) (name : Labels) (t : ℕ) (cut : Labels) : Type 0 where
   pub k : ℕ
   pub s : ℕ
-  pub lowest : IsLowest (IsOptOutWildcardSet Secured rrsets name t) k s
-  pub next_closer : cut ≡ rightmost name (lowest.such.rrsig.labels + 1)
+  pub earliest : IsFirstSuch (IsOptOutWildcardSet Secured rrsets name t) k s
+  pub next_closer : cut ≡ rightmost name (earliest.such.rrsig.labels + 1)
 
 -- Something shows that the name may lie in an unsigned zone: records of the zones above it, or a loose signature.
 abbrev pub IsUnsigned : (ℕ → ℕ → Type 0) → List ReceivedRrset → Labels → ℕ → Type 0

@@ -45,8 +45,8 @@ pub record MeansOptOutWildcardCut
     (Secured : ℕ → ℕ → Type 0) (rrsets : List ReceivedRrset) (name : Labels) (t : ℕ) (cut : Labels) : Type 0 where
   pub opt_out : IsOptOutWildcardCut Secured rrsets name t cut
   pub chain : Chain
-  pub covered : IsCoveredEnd rrsets opt_out.lowest.such.rrsig.signer
-      ((evidence_said Secured rrsets opt_out.lowest.such.rrsig.signer chain).OptedOut) cut
+  pub covered : IsCoveredEnd rrsets opt_out.earliest.such.rrsig.signer
+      ((evidence_said Secured rrsets opt_out.earliest.such.rrsig.signer chain).OptedOut) cut
 
 -- ---- verdicts
 

@@ -38,6 +38,6 @@ IsSecureSet Secured rrsets name t =
     IsSecuredAt Secured rrsets name (λ rrset rrsig. (rrset.rtype ≡ t) × HoldsForName Secured rrsets name rrset rrsig)
 
 -- these two numbers are such, and no others before them, by the first and then by the second
-pub record IsLowest (Such : ℕ → ℕ → Type 0) (k s : ℕ) : Type 0 where
+pub record IsFirstSuch (Such : ℕ → ℕ → Type 0) (k s : ℕ) : Type 0 where
   pub such : Such k s
-  pub lowest : (j r : ℕ) → Such j r → (k < j) ⊎ ((k ≡ j) × (s ≤ r))
+  pub earliest : (j r : ℕ) → Such j r → (k < j) ⊎ ((k ≡ j) × (s ≤ r))

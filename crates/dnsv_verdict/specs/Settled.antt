@@ -5,7 +5,7 @@ use Rattle.dnsv_zones.specs.zones.TypeNumbers.{cname}
 use Rattle.dnsv_canonical.specs.Rrsets.{ReceivedRrset}
 use Rattle.dnsv_denial.specs.proving.FirstProof.{CanProveNoData, CanProveNoName, IsFirstNoData, IsFirstNoName}
 use Rattle.dnsv_verdict.specs.Insecure.{IsUnsigned, IsUnsignedFrom}
-use Rattle.dnsv_verdict.specs.Secure.{IsSecureSet, IsLowest}
+use Rattle.dnsv_verdict.specs.Secure.{IsSecureSet, IsFirstSuch}
 use Rattle.dnsv_verdict.specs.declared.verdict.Verdict.{Verdict}
 use Rattle.dnsv_verdict.specs.declared.verdict.Verdict.TheVariants.{SecureAnswer, SecureAlias, SecureNoName, SecureNoData, Insecure, Pending, Bogus, Indeterminate}
 
@@ -29,9 +29,9 @@ IsSettled Secured rrsets name t =
 
 -- the verdict is that of the first of the five cases that holds
 abbrev pub IsSettledAs : (ℕ → ℕ → Type 0) → List ReceivedRrset → Labels → ℕ → Verdict → Type 0
-IsSettledAs Secured rrsets name t (SecureAnswer k s) = IsLowest (IsSecureSet Secured rrsets name t) k s
+IsSettledAs Secured rrsets name t (SecureAnswer k s) = IsFirstSuch (IsSecureSet Secured rrsets name t) k s
 IsSettledAs Secured rrsets name t (SecureAlias k s) =
-    (¬ HasAnswer Secured rrsets name t) × (t ≢ cname) × IsLowest (IsSecureSet Secured rrsets name cname) k s
+    (¬ HasAnswer Secured rrsets name t) × (t ≢ cname) × IsFirstSuch (IsSecureSet Secured rrsets name cname) k s
 IsSettledAs Secured rrsets name t (SecureNoName proof) =
     (¬ HasAnswer Secured rrsets name t) × (¬ HasAlias Secured rrsets name t) × IsFirstNoName Secured rrsets name proof
 IsSettledAs Secured rrsets name t (SecureNoData proof) =

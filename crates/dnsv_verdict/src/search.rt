@@ -4,7 +4,7 @@ ghost use Rattle.dnsv_records.specs.declared.rrsig.Rrsig.{Rrsig};
 ghost use Rattle.dnsv_canonical.specs.Rrsets.{ReceivedRrset};
 ghost use Rattle.dnsv_denial.specs.Viewed.{SecuredIn};
 ghost use Rattle.dnsv_verdict.specs.Search.{IsFirstFound, IsFound};
-ghost use Rattle.dnsv_verdict.specs.Secure.{IsLowest, IsSecuredAt};
+ghost use Rattle.dnsv_verdict.specs.Secure.{IsFirstSuch, IsSecuredAt};
 
 use dnsv_canonical::{Capture, Rrset};
 use dnsv_chain::Trust;
@@ -34,7 +34,7 @@ pub struct Found<'a> {
 
 /// The first RRset of the name that has a trusted signature with which it passes the test, and the first such
 /// signature; `None` where there is none. It goes over the RRsets once.
-pub fn lowest<'a, T: Test>(
+pub fn first_such<'a, T: Test>(
     capture: &'a Capture,
     trust: &Trust,
     name: &Name,
@@ -42,7 +42,7 @@ pub fn lowest<'a, T: Test>(
 ) -> Option<Found<'a>>
     ensures { MatchOption result
         ((k s : ℕ) → ¬ IsSecuredAt (SecuredIn trust.now) capture.now.rrsets name.now (T.passes test.now) k s)
-        (λ found. (is : IsLowest (IsSecuredAt (SecuredIn trust.now) capture.now.rrsets name.now (T.passes test.now))
+        (λ found. (is : IsFirstSuch (IsSecuredAt (SecuredIn trust.now) capture.now.rrsets name.now (T.passes test.now))
         found.rrset found.signature) × (is.such.rrsig ≡ found.rrsig.now)) }
 {
     let rrsets = capture.rrsets();

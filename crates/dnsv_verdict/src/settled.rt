@@ -3,10 +3,10 @@ ghost use Rattle.std.specs.Prelude.{◌≡◌, ◌≢◌, ℕ, MatchOption};
 ghost use Rattle.dnsv_zones.specs.zones.TypeNumbers.{cname};
 ghost use Rattle.dnsv_denial.specs.Viewed.{SecuredIn};
 ghost use Rattle.dnsv_verdict.specs.Insecure.{IsOptOutWildcardCut, IsOptOutWildcardSet};
-ghost use Rattle.dnsv_verdict.specs.Secure.{IsLowest, IsSecureSet};
+ghost use Rattle.dnsv_verdict.specs.Secure.{IsFirstSuch, IsSecureSet};
 ghost use Rattle.dnsv_verdict.specs.Settled.{HasAlias, IsSettled, IsSettledAs};
 
-use crate::search::{Found, Test, lowest};
+use crate::search::{Found, Test, first_such};
 use crate::verdict::Verdict;
 use dnsv_canonical::{Capture, Rrset, is_expanded};
 use dnsv_chain::Trust;
@@ -59,10 +59,10 @@ fn secure_set<'a>(
     requires { view.now ≡ record { rrsets = capture.now.rrsets; trust = trust.now; name = name.now } }
     ensures { MatchOption result
         ((k s : ℕ) → ¬ IsSecureSet (SecuredIn trust.now) capture.now.rrsets name.now rtype.0 k s)
-        (λ found. (is : IsLowest (IsSecureSet (SecuredIn trust.now) capture.now.rrsets name.now rtype.0)
+        (λ found. (is : IsFirstSuch (IsSecureSet (SecuredIn trust.now) capture.now.rrsets name.now rtype.0)
         found.rrset found.signature) × (is.such.rrsig ≡ found.rrsig.now)) }
 {
-    lowest(capture, trust, name, &HoldsForName { view, rtype })
+    first_such(capture, trust, name, &HoldsForName { view, rtype })
 }
 
 /// The same for CNAME, where another type is asked.
@@ -76,7 +76,7 @@ fn secure_alias<'a>(
     requires { view.now ≡ record { rrsets = capture.now.rrsets; trust = trust.now; name = name.now } }
     ensures { MatchOption result (¬ HasAlias (SecuredIn trust.now) capture.now.rrsets name.now rtype.0)
         (λ found. (rtype.0 ≢ cname)
-        × IsLowest (IsSecureSet (SecuredIn trust.now) capture.now.rrsets name.now cname) found.rrset found.signature) }
+        × IsFirstSuch (IsSecureSet (SecuredIn trust.now) capture.now.rrsets name.now cname) found.rrset found.signature) }
 {
     if rtype == RecordType::CNAME {
         return None;
@@ -101,7 +101,7 @@ fn opt_out_wildcard_cut(
         ((k s : ℕ) → ¬ IsOptOutWildcardSet (SecuredIn trust.now) capture.now.rrsets name.now rtype.0 k s)
         (IsOptOutWildcardCut (SecuredIn trust.now) capture.now.rrsets name.now rtype.0) }
 {
-    let Some(found) = lowest(capture, trust, name, &IsOptOutWildcard { view, rtype }) else {
+    let Some(found) = first_such(capture, trust, name, &IsOptOutWildcard { view, rtype }) else {
         return None;
     };
     Some(name.suffix(found.rrsig.labels as usize + 1))

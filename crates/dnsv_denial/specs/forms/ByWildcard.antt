@@ -22,7 +22,7 @@ pub record StandsAt (asked : AskedWildcard) (said : RecordWords ℕ) (apex name 
   pub wildcard : (place : ℕ) × wildcard_said asked said (wildcard_of (rightmost name labels)) place
 
 -- these are its records, by the closest encloser with most labels
-pub record AreMostParts (asked : AskedWildcard) (said : RecordWords ℕ) (apex name : Labels) (parts : List ℕ)
+pub record ArePartsWithMostLabels (asked : AskedWildcard) (said : RecordWords ℕ) (apex name : Labels) (parts : List ℕ)
     : Type 0 where
   pub labels : ℕ
   pub are : AreWildcardParts nat_cmp said apex name labels

@@ -1,7 +1,7 @@
 -- What the entry at a place of a list says.
 use Rattle.std.specs.Prelude.{◌≡◌, ℕ, List, Option, Some, MatchOption, slice_get}
 use Rattle.std.specs.Ordering.{nat_cmp}
-use Rattle.dnsv_zones.specs.forms.Parts.{IsLowest}
+use Rattle.dnsv_zones.specs.forms.Parts.{IsFirstToSay}
 
 -- the entry at the place is such
 pub record IsSaidAt {Entry : Type 0} (Says : Entry → Type 0) (entries : List Entry) (place : ℕ) : Type 0 where
@@ -11,4 +11,4 @@ pub record IsSaidAt {Entry : Type 0} (Says : Entry → Type 0) (entries : List E
 
 -- the place is the first where it is so, or it is so at none
 abbrev pub IsFirstPlace : (ℕ → Type 0) → Option ℕ → Type 0
-IsFirstPlace Says found = MatchOption found ((place : ℕ) → ¬ Says place) (IsLowest nat_cmp Says)
+IsFirstPlace Says found = MatchOption found ((place : ℕ) → ¬ Says place) (IsFirstToSay nat_cmp Says)

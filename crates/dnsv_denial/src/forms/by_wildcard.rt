@@ -9,7 +9,7 @@ ghost use Rattle.dnsv_zones.specs.forms.RecordWords.{words};
 ghost use Rattle.dnsv_zones.specs.zones.Lookup.{IsLookup};
 ghost use Rattle.dnsv_zones.specs.zones.Lookup.Answer.{NoName};
 ghost use Rattle.dnsv_zones.specs.zones.Zone.{Zone};
-ghost use Rattle.dnsv_denial.specs.forms.ByWildcard.{wildcard_said, StandsAt, AreMostParts};
+ghost use Rattle.dnsv_denial.specs.forms.ByWildcard.{wildcard_said, StandsAt, ArePartsWithMostLabels};
 ghost use Rattle.dnsv_denial.specs.records.RecordsAt.{HasRecordsAt, HasNoCollisionBy};
 ghost use Rattle.dnsv_denial.specs.words.ChainSaid.{chain_said, HasHashes};
 ghost use Rattle.dnsv_denial.specs.words.SaidAt.{IsFirstPlace};
@@ -46,7 +46,7 @@ pub fn by_wildcard(
     requires { HasHashes name.now records.now }
     ensures { MatchOption result
         ((labels : ℕ) → ¬ StandsAt asked (chain_said apex.now records.now) apex.now name.now labels)
-        (λ places. AreMostParts asked (chain_said apex.now records.now) apex.now name.now places.items) }
+        (λ places. ArePartsWithMostLabels asked (chain_said apex.now records.now) apex.now name.now places.items) }
 {
     let limits = end_limits(apex, name, records);
     let mut labels = limits.limit;

@@ -2,7 +2,7 @@
 ghost use Rattle.std.specs.Prelude.{ℕ, ◌↔◌, ◌≤◌, IsTrue, MatchOption};
 ghost use Rattle.dnsv_names.specs.Name.{Labels};
 ghost use Rattle.dnsv_zones.specs.forms.Forms.{UnsignedCutForm};
-ghost use Rattle.dnsv_zones.specs.forms.Parts.{IsHighestCut, IsLowestOptOut, OptsOut};
+ghost use Rattle.dnsv_zones.specs.forms.Parts.{IsHighestCut, IsOptOutWithMostLabels, OptsOut};
 ghost use Rattle.dnsv_zones.specs.forms.RecordWords.{words};
 ghost use Rattle.dnsv_denial.specs.words.ChainSaid.{chain_said, HasHashes};
 
@@ -38,13 +38,13 @@ pub fn unsigned_delegation(apex: &Name, name: &Name, records: &ChainRecords<'_>)
     None
 }
 
-/// How many labels the lowest closest encloser has below which an unsigned delegation may be left out at the next
+/// How many labels the closest encloser with most labels has below which an unsigned delegation may be left out at the next
 /// closer name, or `None` where there is none (RFC 5155 8.6, 9.2).
 pub fn opt_out(apex: &Name, name: &Name, records: &ChainRecords<'_>) -> Option<usize>
     requires { HasHashes name.now records.now }
     ensures { MatchOption result
         ((labels : ℕ) → ¬ OptsOut (chain_said apex.now records.now) apex.now name.now labels)
-        (IsLowestOptOut (chain_said apex.now records.now) apex.now name.now) }
+        (IsOptOutWithMostLabels (chain_said apex.now records.now) apex.now name.now) }
 {
     if !has_opt_out(records) {
         return None;

@@ -10,7 +10,7 @@ ghost use Rattle.dnsv_denial.specs.unsigned_cuts.Findings.{AreFindings};
 use dnsv_names::Name;
 
 /// The name from which on the name may be unsigned, by what is found: how many labels the highest delegation without DS
-/// has, the highest whose DS records can't be used, and the longest closest encloser where Opt-Out may leave out a
+/// has, the highest whose DS records can't be used, and the closest encloser with most labels where Opt-Out may leave out a
 /// delegation (RFC 4035 5.2, RFC 5155 8.6, 8.9, 9.2). `None` where nothing is found.
 pub fn first_cut(
     name: &Name,

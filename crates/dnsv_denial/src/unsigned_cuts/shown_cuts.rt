@@ -34,7 +34,7 @@ use dnsv_names::Name;
 pub struct ShownCuts {
     /// The highest delegation without DS (RFC 4035 5.2, RFC 5155 8.9).
     pub no_ds: Option<usize>,
-    /// The longest closest encloser where Opt-Out may leave out a delegation (RFC 5155 8.6, 9.2).
+    /// The closest encloser with most labels where Opt-Out may leave out a delegation (RFC 5155 8.6, 9.2).
     pub opt_out: Option<usize>,
 }
 

@@ -5,7 +5,7 @@ use Rattle.dnsv_zones.specs.zones.TypeNumbers.{cname}
 use Rattle.dnsv_canonical.specs.Rrsets.{ReceivedRrset}
 use Rattle.dnsv_denial.specs.Viewed.{SecuredIn, Viewed}
 use Rattle.dnsv_verdict.specs.Insecure.{IsOptOutWildcard}
-use Rattle.dnsv_verdict.specs.Secure.{HoldsForName, IsLowest, IsSecuredAt}
+use Rattle.dnsv_verdict.specs.Secure.{HoldsForName, IsFirstSuch, IsSecuredAt}
 
 -- the RRset is of the type and holds for the view's name
 abbrev pub HoldsForView : ℕ → Viewed → ReceivedRrset → Rrsig → Type 0
@@ -21,5 +21,5 @@ abbrev pub AtNumbers : Viewed → (ReceivedRrset → Rrsig → Type 0) → ℕ �
 AtNumbers of Such = IsSecuredAt (SecuredIn of.trust) of.rrsets of.name Such
 
 -- the lowest such numbers, and the signature
-abbrev pub AtLowest : Viewed → (ReceivedRrset → Rrsig → Type 0) → ℕ → ℕ → Rrsig → Type 0
-AtLowest of Such k s rrsig = (is : IsLowest (AtNumbers of Such) k s) × (is.such.rrsig ≡ rrsig)
+abbrev pub AtFirstSuch : Viewed → (ReceivedRrset → Rrsig → Type 0) → ℕ → ℕ → Rrsig → Type 0
+AtFirstSuch of Such k s rrsig = (is : IsFirstSuch (AtNumbers of Such) k s) × (is.such.rrsig ≡ rrsig)

@@ -184,9 +184,9 @@ module _ (S : ℕ → ℕ → Type 0) (rrsets : List ReceivedRrset) (Form : Word
   first_parameters : (zone : Labels) (p : Parameters) → (StandsBy S rrsets Form zone ByNsec → ⊥)
       → ((other : Parameters) → StandsBy S rrsets Form zone (ByNsec3 other) → parameters_cmp other p ≡ Less → ⊥)
       → (other last : Chain) → GoesBefore other last → last ≡ ByNsec3 p → StandsBy S rrsets Form zone other → ⊥
-  first_parameters zone p none lowest other last (nsec_first parameters) is stands = none stands
-  first_parameters zone p none lowest other last (by_parameters before after less) is stands =
-      let same : after ≡ p = cc in lowest before stands (subst (λ q. parameters_cmp before q ≡ Less) same less)
+  first_parameters zone p none earliest other last (nsec_first parameters) is stands = none stands
+  first_parameters zone p none earliest other last (by_parameters before after less) is stands =
+      let same : after ≡ p = cc in earliest before stands (subst (λ q. parameters_cmp before q ≡ Less) same less)
 
   some_chain : (zone : Labels) → IsFinite (λ p. StandsBy S rrsets Form zone (ByNsec3 p)) → (chain : Chain) → StandsBy S rrsets Form zone chain
       → Surely ((first : Chain) × StandsBy S rrsets Form zone first × IsFirstOfZone S rrsets Form zone first)

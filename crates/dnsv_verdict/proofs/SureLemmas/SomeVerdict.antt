@@ -22,7 +22,7 @@ use Rattle.dnsv_denial.specs.proving.FirstProof.{CanProveNoData, CanProveNoName}
 use Rattle.dnsv_denial.specs.unsigned_cuts.Cuts.{HasUnsignedCut}
 use Rattle.dnsv_verdict.proofs.SureLemmas.FiniteLemmas.{IsFinite, finite_each, finite_one, finite_within, some_sorted}
 use Rattle.dnsv_verdict.proofs.SureLemmas.SomeProof.{some_cut, some_no_data, some_no_name}
-use Rattle.dnsv_verdict.proofs.SureLemmas.{Surely, surely, and_then, by_cases, some_lowest}
+use Rattle.dnsv_verdict.proofs.SureLemmas.{Surely, surely, and_then, by_cases, some_first_such}
 use Rattle.dnsv_verdict.proofs.TrustLemmas.{settled_is_verdict}
 use Rattle.dnsv_verdict.specs.Insecure.{IsOptOutWildcardSet, IsUnsigned, IsUnsignedFrom}
 use Rattle.dnsv_verdict.specs.Secure.{IsSecureSet}
@@ -37,10 +37,10 @@ module _ (S : ℕ → ℕ → Type 0) (rrsets : List ReceivedRrset) (name : Labe
   some_opt_out : (HasUnsignedCut S rrsets name → ⊥) → IsUnsigned S rrsets name t → Surely ((cut : Labels) × IsUnsignedFrom S rrsets name t cut)
   some_opt_out none (inl has) = absurd (none has)
   some_opt_out none (inr opt_out) =
-      and_then (some_lowest (IsOptOutWildcardSet S rrsets name t) opt_out.0 opt_out.1 opt_out.2)
+      and_then (some_first_such (IsOptOutWildcardSet S rrsets name t) opt_out.0 opt_out.1 opt_out.2)
       (λ found. surely (
         rightmost name (found.2.such.rrsig.labels + 1),
-        inr (none, record { k = found.0; s = found.1; lowest = found.2; next_closer = refl }),
+        inr (none, record { k = found.0; s = found.1; earliest = found.2; next_closer = refl }),
       ))
 
   some_unsigned : IsUnsigned S rrsets name t → Surely ((cut : Labels) × IsUnsignedFrom S rrsets name t cut)
@@ -61,10 +61,10 @@ module _ (S : ℕ → ℕ → Type 0) (rrsets : List ReceivedRrset) (name : Labe
   some_settled : IsSettled S rrsets name t → Surely ((verdict : Verdict) × IsSettledAs S rrsets name t verdict)
   some_settled settled =
       by_cases (HasAnswer S rrsets name t)
-      (λ has. and_then (some_lowest (IsSecureSet S rrsets name t) has.0 has.1 has.2)
+      (λ has. and_then (some_first_such (IsSecureSet S rrsets name t) has.0 has.1 has.2)
       (λ found. surely (SecureAnswer found.0 found.1, found.2)))
       (λ answer. by_cases (HasAlias S rrsets name t)
-      (λ has. and_then (some_lowest (IsSecureSet S rrsets name cname) has.1.0 has.1.1 has.1.2)
+      (λ has. and_then (some_first_such (IsSecureSet S rrsets name cname) has.1.0 has.1.1 has.1.2)
       (λ found. surely (SecureAlias found.0 found.1, (answer, has.0, found.2))))
       (λ alias. by_cases (CanProveNoName S rrsets name)
       (λ can. and_then (some_no_name S rrsets name can) (λ found. surely (SecureNoName found.0, (answer, alias, found.1))))

@@ -20,17 +20,17 @@ use Rattle.dnsv_zones.specs.forms.Forms.{
 use Rattle.dnsv_zones.specs.zones.Types.{Denies}
 
 -- the record says it, and none before it does
-pub record IsLowest {Index : Type 0} (cmp : Index → Index → Ordering) (Says : Index → Type 0) (index : Index)
+pub record IsFirstToSay {Index : Type 0} (cmp : Index → Index → Ordering) (Says : Index → Type 0) (index : Index)
     : Type 0 where
   pub says : Says index
-  pub lowest : (other : Index) → Says other → cmp other index ≢ Less
+  pub earliest : (other : Index) → Says other → cmp other index ≢ Less
 
 -- the record that shows the closest encloser, if it needs one
 pub data IsEncloserPart
     {Index : Type 0} (cmp : Index → Index → Ordering) (said : RecordWords Index) (encloser : Labels)
     : List Index → Type 0 where
   no_record : said.NeedsNone encloser → IsEncloserPart cmp said encloser []
-  a_record : (index : Index) → ¬ said.NeedsNone encloser → IsLowest cmp (said.Encloser encloser) index
+  a_record : (index : Index) → ¬ said.NeedsNone encloser → IsFirstToSay cmp (said.Encloser encloser) index
       → IsEncloserPart cmp said encloser (index ∷ [])
 
 -- these show that the search for the name ends at its so many rightmost labels
@@ -41,7 +41,7 @@ pub record AreEndParts
   pub encloser_part : List Index
   pub encloser : IsEncloserPart cmp said (rightmost name labels) encloser_part
   pub covering : Index
-  pub next_closer : IsLowest cmp (said.Absent (rightmost name (labels + 1))) covering
+  pub next_closer : IsFirstToSay cmp (said.Absent (rightmost name (labels + 1))) covering
   pub both : parts ≡ encloser_part ++ covering ∷ []
 
 -- these show it, and the last of them says so of the wildcard there
@@ -51,7 +51,7 @@ pub record AreWildcardParts
   pub end_parts : List Index
   pub ends : AreEndParts cmp said apex name labels end_parts
   pub last : Index
-  pub wildcard : IsLowest cmp Says last
+  pub wildcard : IsFirstToSay cmp Says last
   pub all : parts ≡ end_parts ++ last ∷ []
 
 -- these prove that there is no such name
@@ -83,10 +83,10 @@ pub record AreEmptyWildcardParts
 pub data AreNoDataParts
     {Index : Type 0} (cmp : Index → Index → Ordering) (said : RecordWords Index) (apex name : Labels) (t : ℕ)
     : List Index → Type 0 where
-  at_name : (index : Index) → IsAtOrBelow name apex → IsLowest cmp (said.TypesAt name (λ has. Denies has t)) index
+  at_name : (index : Index) → IsAtOrBelow name apex → IsFirstToSay cmp (said.TypesAt name (λ has. Denies has t)) index
       → AreNoDataParts cmp said apex name t (index ∷ [])
   empty : (index : Index) → ¬ NoDataForm (words said) apex name t → IsAtOrBelow name apex
-      → IsLowest cmp (said.EmptyNonTerminal name) index → AreNoDataParts cmp said apex name t (index ∷ [])
+      → IsFirstToSay cmp (said.EmptyNonTerminal name) index → AreNoDataParts cmp said apex name t (index ∷ [])
   at_wildcard : (parts : List Index) → ¬ NoDataForm (words said) apex name t → ¬ EmptyForm (words said) apex name
       → AreWildcardDataParts cmp said apex name t parts → AreNoDataParts cmp said apex name t parts
   empty_wildcard : (parts : List Index) → ¬ NoDataForm (words said) apex name t
@@ -98,7 +98,7 @@ pub record IsNoCloserPart
     {Index : Type 0} (cmp : Index → Index → Ordering) (said : RecordWords Index) (apex name : Labels) (labels : ℕ)
     (part : Index) : Type 0 where
   pub above : IsAbove apex name labels
-  pub next_closer : IsLowest cmp (said.Absent (rightmost name (labels + 1))) part
+  pub next_closer : IsFirstToSay cmp (said.Absent (rightmost name (labels + 1))) part
 
 -- the records leave open that an unsigned delegation lies at or below the next closer name
 abbrev pub OptsOut : {Index : Type 0} → RecordWords Index → Labels → Labels → ℕ → Type 0
@@ -119,6 +119,6 @@ pub record IsHighestCut {Index : Type 0} (said : RecordWords Index) (apex name :
 
 -- the closest encloser with most labels where an unsigned delegation may lie at or below the next closer name has so
 -- many
-pub record IsLowestOptOut {Index : Type 0} (said : RecordWords Index) (apex name : Labels) (labels : ℕ) : Type 0 where
+pub record IsOptOutWithMostLabels {Index : Type 0} (said : RecordWords Index) (apex name : Labels) (labels : ℕ) : Type 0 where
   pub opts_out : OptsOut said apex name labels
   pub most : (more : ℕ) → OptsOut said apex name more → more ≤ labels

@@ -8,7 +8,7 @@ use Rattle.dnsv_names.specs.Name.{Labels, rightmost}
 use Rattle.dnsv_names.specs.Tree.{wildcard_of}
 use Rattle.dnsv_records.specs.OctetLaws.{recursion-append}
 use Rattle.dnsv_zones.specs.forms.Forms.{Words, EndsAt}
-use Rattle.dnsv_zones.specs.forms.Parts.{IsLowest, IsEncloserPart, AreEndParts, AreWildcardParts, AreNoDataParts}
+use Rattle.dnsv_zones.specs.forms.Parts.{IsFirstToSay, IsEncloserPart, AreEndParts, AreWildcardParts, AreNoDataParts}
 use Rattle.dnsv_zones.specs.forms.Parts.AreNoDataParts.{at_name, empty, at_wildcard, empty_wildcard}
 use Rattle.dnsv_zones.specs.forms.Parts.IsEncloserPart.{no_record, a_record}
 use Rattle.dnsv_zones.specs.forms.RecordWords.{RecordWords, words}
@@ -27,7 +27,7 @@ use Rattle.dnsv_denial.proofs.lemmas.words.IndexLemmas.{AreInOrder, SaysAlike, S
 module _ {Index : Type 0} (cmp : Index → Index → Ordering) (said : RecordWords Index) (apex name : Labels) where
   encloser_stands : (enc : Labels) (parts : List Index) → IsEncloserPart cmp said enc parts → (words said).Encloser enc
   encloser_stands enc [] (no_record needs) = inl needs
-  encloser_stands enc (index ∷ []) (a_record _ needs lowest) = inr (index, lowest.says)
+  encloser_stands enc (index ∷ []) (a_record _ needs earliest) = inr (index, earliest.says)
   encloser_stands enc (index ∷ (_ ∷ _)) part = elim part [ ]
 
   ends_stand : (labels : ℕ) (parts : List Index) → AreEndParts cmp said apex name labels parts → EndsAt (words said) apex name labels
@@ -38,8 +38,8 @@ module _ {Index : Type 0} (cmp : Index → Index → Ordering) (said : RecordWor
   }
 
   no_data_stands : (t : ℕ) (parts : List Index) → AreNoDataParts cmp said apex name t parts → DenialForm (NoData (record { 0 = t })) name (words said) apex
-  no_data_stands t (index ∷ []) (at_name _ within lowest) = inl (record { within = within; types = (index, lowest.says) })
-  no_data_stands t (index ∷ []) (empty _ no_form within lowest) = inr (inl (record { within = within; empty_non_terminal = (index, lowest.says) }))
+  no_data_stands t (index ∷ []) (at_name _ within earliest) = inl (record { within = within; types = (index, earliest.says) })
+  no_data_stands t (index ∷ []) (empty _ no_form within earliest) = inr (inl (record { within = within; empty_non_terminal = (index, earliest.says) }))
   no_data_stands t parts (at_wildcard _ no_form no_empty are) = inr (inr (inl (record {
     labels = are.labels;
     ends = ends_stand are.labels are.are.end_parts are.are.ends;
@@ -84,7 +84,7 @@ pub record AreBound (count : ℕ) (by : RecordWords ℕ) : Type 1 where
 module _ (count : ℕ) (by : RecordWords ℕ) (bound : AreBound count by) (apex name : Labels) where
   encloser_places : (enc : Labels) (places : List ℕ) → IsEncloserPart nat_cmp by enc places → AllByRecursion (λ p. p < count) places
   encloser_places enc [] (no_record needs) = tt
-  encloser_places enc (place ∷ []) (a_record _ needs lowest) = (bound.encloser enc place lowest.says, tt)
+  encloser_places enc (place ∷ []) (a_record _ needs earliest) = (bound.encloser enc place earliest.says, tt)
   encloser_places enc (place ∷ (_ ∷ _)) part = elim part [ ]
 
   wildcard_places : (labels : ℕ) (By : ℕ → Type 0) → ((place : ℕ) → By place → place < count) → (places : List ℕ) → AreWildcardParts nat_cmp by apex name labels By places → AllByRecursion (λ p. p < count) places
@@ -96,8 +96,8 @@ module _ (count : ℕ) (by : RecordWords ℕ) (bound : AreBound count by) (apex 
       (says parts.last parts.wildcard.says, tt)))
 
   no_data_places : (t : ℕ) (places : List ℕ) → AreNoDataParts nat_cmp by apex name t places → AllByRecursion (λ p. p < count) places
-  no_data_places t (place ∷ []) (at_name _ within lowest) = (bound.types_at name (λ has. Denies has t) place lowest.says, tt)
-  no_data_places t (place ∷ []) (empty _ no_form within lowest) = (bound.empty_non_terminal name place lowest.says, tt)
+  no_data_places t (place ∷ []) (at_name _ within earliest) = (bound.types_at name (λ has. Denies has t) place earliest.says, tt)
+  no_data_places t (place ∷ []) (empty _ no_form within earliest) = (bound.empty_non_terminal name place earliest.says, tt)
   no_data_places t places (at_wildcard _ no_form no_empty are) =
       wildcard_places are.labels (by.TypesAt (wildcard_of (rightmost name are.labels)) (λ has. Denies has t)) (bound.types_at (wildcard_of (rightmost name are.labels)) (λ has. Denies has t)) places are.are
   no_data_places t places (empty_wildcard _ no_form no_empty no_data are) =

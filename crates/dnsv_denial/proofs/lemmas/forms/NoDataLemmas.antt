@@ -13,7 +13,7 @@ use Rattle.dnsv_zones.specs.forms.RecordWords.{RecordWords, words}
 use Rattle.dnsv_zones.specs.zones.Types.{Denies}
 use Rattle.dnsv_denial.specs.declared.words.asked.AskedWildcard.{AskedWildcard}
 use Rattle.dnsv_denial.specs.declared.words.asked.AskedWildcard.TheVariants.{Absent, Empty, Without}
-use Rattle.dnsv_denial.specs.forms.ByWildcard.{StandsAt, AreMostParts}
+use Rattle.dnsv_denial.specs.forms.ByWildcard.{StandsAt, ArePartsWithMostLabels}
 
 -- a name with an ancestor within the zone is within it
 pub within_by : (apex name : Labels) (labels : ℕ) → IsAbove apex name labels → IsAtOrBelow name apex
@@ -50,7 +50,7 @@ module _ (said : RecordWords ℕ) (apex name : Labels) where
   none_at_wildcard rtype none form = none form.labels (data_stands rtype form)
 
   pub by_wildcard_data : (rtype : RecordType) (parts : List ℕ) → ¬ NoDataForm (words said) apex name rtype.0 → ¬ EmptyForm (words said) apex name
-      → AreMostParts (Without rtype) said apex name parts → AreNoDataParts nat_cmp said apex name rtype.0 parts
+      → ArePartsWithMostLabels (Without rtype) said apex name parts → AreNoDataParts nat_cmp said apex name rtype.0 parts
   by_wildcard_data rtype parts not_at_name not_empty most = at_wildcard parts not_at_name not_empty (record {
     labels = most.labels;
     are = most.are;
@@ -59,7 +59,7 @@ module _ (said : RecordWords ℕ) (apex name : Labels) where
 
   pub last_found : {P : Type 0} (t : ℕ) (items : P → List ℕ) (found : Option P) → ¬ NoDataForm (words said) apex name t
       → ¬ EmptyForm (words said) apex name → ¬ NoWildcardDataForm (words said) apex name t
-      → MatchOption found ((labels : ℕ) → ¬ StandsAt Empty said apex name labels) (λ places. AreMostParts Empty said apex name (items places))
+      → MatchOption found ((labels : ℕ) → ¬ StandsAt Empty said apex name labels) (λ places. ArePartsWithMostLabels Empty said apex name (items places))
       → MatchOption found (¬ NoDataForms (words said) apex name t) (λ places. AreNoDataParts nat_cmp said apex name t (items places))
   last_found t items None not_at_name not_empty not_at_wildcard none =
       none_of_four (words said) apex name t not_at_name not_empty not_at_wildcard (λ form. none form.labels (empty_stands form))

@@ -30,7 +30,7 @@ member_last i (x ∷ xs) = inr (member_last i xs)
 module _ {I : Type 0} (cmp : I → I → Ordering) (said : RecordWords I) (indices : List I) (words : Words) (say : SayNoMore said indices words) where
   encloser_by : (encloser : Labels) (parts : List I) → IsEncloserPart cmp said encloser parts → ((i : I) → IsMember i parts → IsMember i indices) → words.Encloser encloser
   encloser_by encloser parts (no_record needs) among = say.needs_none encloser needs
-  encloser_by encloser parts (a_record i needs lowest) among = say.encloser encloser i (among i (inl refl)) lowest.says
+  encloser_by encloser parts (a_record i needs earliest) among = say.encloser encloser i (among i (inl refl)) earliest.says
 
   module _ (apex name : Labels) where
     ends_by : (labels : ℕ) (parts : List I) → AreEndParts cmp said apex name labels parts → ((i : I) → IsMember i parts → IsMember i indices) → EndsAt words apex name labels
@@ -57,9 +57,9 @@ module _ {I : Type 0} (cmp : I → I → Ordering) (said : RecordWords I) (indic
         record { labels = are.labels; ends = both.0; wildcard = say.absent star are.are.last both.1 are.are.wildcard.says }
 
     pub no_data_by : (t : ℕ) (parts : List I) → AreNoDataParts cmp said apex name t parts → ((i : I) → IsMember i parts → IsMember i indices) → NoDataForms words apex name t
-    no_data_by t parts (at_name i within lowest) among =
-        inl (record { within = within; types = say.types_at name (λ has. Denies has t) i (among i (inl refl)) lowest.says })
-    no_data_by t parts (empty i no_form within lowest) among = inr (inl (record { within = within; empty_non_terminal = say.empty_non_terminal name i (among i (inl refl)) lowest.says }))
+    no_data_by t parts (at_name i within earliest) among =
+        inl (record { within = within; types = say.types_at name (λ has. Denies has t) i (among i (inl refl)) earliest.says })
+    no_data_by t parts (empty i no_form within earliest) among = inr (inl (record { within = within; empty_non_terminal = say.empty_non_terminal name i (among i (inl refl)) earliest.says }))
     no_data_by t parts (at_wildcard _ no_form no_empty are) among =
         let star = wildcard_of (rightmost name are.labels) in
         let both = all_by are.labels (said.TypesAt star (λ has. Denies has t)) parts are.are among in

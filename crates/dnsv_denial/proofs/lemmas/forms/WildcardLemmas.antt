@@ -12,7 +12,7 @@ use Rattle.dnsv_zones.specs.forms.Parts.{AreNoNameParts, IsNoCloserPart}
 use Rattle.dnsv_zones.specs.forms.RecordWords.{RecordWords, words}
 use Rattle.dnsv_denial.specs.declared.words.asked.AskedWildcard.{AskedWildcard}
 use Rattle.dnsv_denial.specs.declared.words.asked.AskedWildcard.TheVariants.{Absent, Empty, Without}
-use Rattle.dnsv_denial.specs.forms.ByWildcard.{StandsAt, AreMostParts}
+use Rattle.dnsv_denial.specs.forms.ByWildcard.{StandsAt, ArePartsWithMostLabels}
 use Rattle.dnsv_denial.specs.words.SaidAt.{IsFirstPlace}
 
 -- what holds of fewer than n only, and not of the last before n
@@ -37,7 +37,7 @@ module _ (said : RecordWords ℕ) (apex name : Labels) where
   no_name_stands form = record { ends = form.ends; wildcard = form.wildcard }
 
   pub no_name_found : {P : Type 0} (items : P → List ℕ) (found : Option P)
-      → MatchOption found ((labels : ℕ) → ¬ StandsAt Absent said apex name labels) (λ places. AreMostParts Absent said apex name (items places))
+      → MatchOption found ((labels : ℕ) → ¬ StandsAt Absent said apex name labels) (λ places. ArePartsWithMostLabels Absent said apex name (items places))
       → MatchOption found (¬ NoNameForm (words said) apex name) (λ places. AreNoNameParts nat_cmp said apex name (items places))
   no_name_found items None none = λ form. none form.labels (no_name_stands form)
   no_name_found items (Some places) parts = record {

@@ -129,7 +129,7 @@ module _ (Secured : ℕ → ℕ → Type 0) (rrsets : List ReceivedRrset) (name 
           above = above_as a b same chosen.above;
           next_closer = record {
             says = absent_as a b same found.chain (rightmost name (labels + 1)) part chosen.next_closer.says;
-            lowest = λ other said less. chosen.next_closer.lowest other (absent_as b a (sym same) found.chain (rightmost name (labels + 1)) other said) less;
+            earliest = λ other said less. chosen.next_closer.earliest other (absent_as b a (sym same) found.chain (rightmost name (labels + 1)) other said) less;
           };
         };
         records = one_alone part proof.records (subst (λ parts. AreRecordsOf parts proof.records) found.by_chain.chosen.1 found.by_chain.records);

@@ -8,7 +8,7 @@ use Rattle.dnsv_names.specs.Tree.{wildcard_of}
 use Rattle.dnsv_zones.specs.chains.Nsec3Chain.{Nsec3Record, Parameters}
 use Rattle.dnsv_zones.specs.chains.Rdata.{parameters_of}
 use Rattle.dnsv_zones.specs.forms.Forms.{UnsignedCutForm}
-use Rattle.dnsv_zones.specs.forms.Parts.{IsHighestCut, IsLowestOptOut, OptsOut}
+use Rattle.dnsv_zones.specs.forms.Parts.{IsHighestCut, IsOptOutWithMostLabels, OptsOut}
 use Rattle.dnsv_zones.specs.forms.RecordWords.{RecordWords, words}
 use Rattle.dnsv_zones.proofs.lemmas.chains.MoreLemmas.{SayMore, unsigned_cut_more}
 use Rattle.dnsv_canonical.specs.Rrsets.{ReceivedRrset}
@@ -136,7 +136,7 @@ module _ (Secured : ℕ → ℕ → Type 0) (rrsets : List ReceivedRrset) (name 
   }
 
   outs_of : (Out : ℕ → Type 0) (said : RecordWords ℕ) → ((n : ℕ) → OptsOut said zone name n → Out n) → ((n : ℕ) → Out n → OptsOut said zone name n) → (found : Option ℕ)
-      → MatchOption found ((n : ℕ) → ¬ OptsOut said zone name n) (IsLowestOptOut said zone name) → IsMostFound Out found
+      → MatchOption found ((n : ℕ) → ¬ OptsOut said zone name n) (IsOptOutWithMostLabels said zone name) → IsMostFound Out found
   outs_of Out said to from None none = λ n out. none n (from n out)
   outs_of Out said to from (Some m) is = record {
     holds = to m is.opts_out;
@@ -145,7 +145,7 @@ module _ (Secured : ℕ → ℕ → Type 0) (rrsets : List ReceivedRrset) (name 
 
   pub chain_shown : (chain : Chain) (records : ChainRecords) → IsChainOf Secured rrsets zone chain records → (found : ShownCuts)
       → MatchOption found.no_ds ((cut : Labels) → ¬ UnsignedCutForm (words (chain_said zone records)) zone name cut) (IsHighestCut (chain_said zone records) zone name)
-      → MatchOption found.opt_out ((n : ℕ) → ¬ OptsOut (chain_said zone records) zone name n) (IsLowestOptOut (chain_said zone records) zone name)
+      → MatchOption found.opt_out ((n : ℕ) → ¬ OptsOut (chain_said zone records) zone name n) (IsOptOutWithMostLabels (chain_said zone records) zone name)
       → AreShown (IsCutOf Secured rrsets name zone chain) (IsOptOutOf Secured rrsets name zone chain) found
   chain_shown chain records are found cuts outs =
       let by = chain_said zone records in

@@ -19,7 +19,7 @@ pub first_alike : (P Q : ℕ → Type 0) (found : Option ℕ) → ((place : ℕ)
 first_alike P Q None to from none = λ place says. none place (from place says)
 first_alike P Q (Some place) to from first = record {
   says = to place first.says;
-  lowest = λ other says. first.lowest other (from other says);
+  earliest = λ other says. first.earliest other (from other says);
 }
 
 found_says : (P : ℕ → Type 0) (found : Option ℕ) (place : ℕ) → IsFirstPlace P found → found ≡ Some place → P place
@@ -29,7 +29,7 @@ found_says P (Some first) place is_first is = let same : first ≡ place = cc in
 no_more : (P : ℕ → Type 0) (found : Option ℕ) → IsFirstPlace P found → (place : ℕ) → P place
     → (first : ℕ) × (found ≡ Some first) × (nat_cmp place first ≢ Less)
 no_more P None none place says = absurd (none place says)
-no_more P (Some first) is_first place says = (first, refl, is_first.lowest place says)
+no_more P (Some first) is_first place says = (first, refl, is_first.earliest place says)
 
 -- what isn't behind one before the first is before it too
 least : (place it first : ℕ) → nat_cmp place it ≢ Less → nat_cmp place first ≡ Less → nat_cmp it first ≡ Less
@@ -56,9 +56,9 @@ module _ (P Q : ℕ → Type 0) (one other : Option ℕ) (is_one : IsFirstPlace 
   first_of_both None none = λ place says. let it = is_behind place says in none it.0 it.1
   first_of_both (Some first) is_first = record {
     says = is_such first is_first.says;
-    lowest = λ place says less.
+    earliest = λ place says less.
         let it = is_behind place says in
-        is_first.lowest it.0 it.1 (least place it.0 first it.2 less);
+        is_first.earliest it.0 it.1 (least place it.0 first it.2 less);
   }
 
 -- ---- the loop over the places

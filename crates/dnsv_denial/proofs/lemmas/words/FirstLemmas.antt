@@ -7,7 +7,7 @@ use Rattle.std.specs.Prelude.{Bool, IfSome, IsTrue, MatchOption, Some, is_some, 
 use Rattle.std.proofs.lemmas.Option.{slice_get_within}
 use Rattle.std.specs.Ordering.{nat_cmp}
 use Rattle.std.specs.declared.cmp.Ordering.TheVariants.{Less}
-use Rattle.dnsv_zones.specs.forms.Parts.{IsLowest}
+use Rattle.dnsv_zones.specs.forms.Parts.{IsFirstToSay}
 use Rattle.dnsv_denial.specs.words.SaidAt.{IsSaidAt, IsFirstPlace}
 
 less : (k n : ℕ) → k < n + 1 → k ≢ n → k < n
@@ -26,11 +26,11 @@ none_with P xs n x last not_last before k y small there holds =
 nat_less : (m n : ℕ) → nat_cmp m n ≡ Less → m < n
 nat_less m n less = ranked m n Less (sym less)
 
-pub lowest_of : {X : Type 0} (P : X → Type 0) (xs : List X) (n : ℕ) (x : X) → slice_get xs n ≡ Some x → P x
-    → ((k : ℕ) (y : X) → k < n → slice_get xs k ≡ Some y → ¬ P y) → IsLowest nat_cmp (IsSaidAt P xs) n
-lowest_of P xs n x there holds before = record {
+pub first_such_of : {X : Type 0} (P : X → Type 0) (xs : List X) (n : ℕ) (x : X) → slice_get xs n ≡ Some x → P x
+    → ((k : ℕ) (y : X) → k < n → slice_get xs k ≡ Some y → ¬ P y) → IsFirstToSay nat_cmp (IsSaidAt P xs) n
+first_such_of P xs n x there holds before = record {
   says = record { entry = x; there = there; says = holds };
-  lowest = λ other said less. before other said.entry (nat_less other n less) said.there said.says;
+  earliest = λ other said less. before other said.entry (nat_less other n less) said.there said.says;
 }
 
 pub none_of : {X : Type 0} (P : X → Type 0) (xs : List X) (n : ℕ) → length xs ≤ n
@@ -46,7 +46,7 @@ first_as P Q xs None to from none =
     λ place said. none place (record { entry = said.entry; there = said.there; says = from said.entry said.says })
 first_as P Q xs (Some place) to from first = record {
   says = record { entry = first.says.entry; there = first.says.there; says = to first.says.entry first.says.says };
-  lowest = λ other said. first.lowest other (record { entry = said.entry; there = said.there; says = from said.entry said.says });
+  earliest = λ other said. first.earliest other (record { entry = said.entry; there = said.there; says = from said.entry said.says });
 }
 
 -- something is found where there is something

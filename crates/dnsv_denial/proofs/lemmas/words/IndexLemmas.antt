@@ -11,7 +11,7 @@ use Rattle.std.specs.declared.cmp.Ordering.TheVariants.{Less, Equal, Greater}
 use Rattle.dnsv_names.specs.Name.{Labels, IsAtOrBelow, rightmost}
 use Rattle.dnsv_names.specs.Tree.{wildcard_of}
 use Rattle.dnsv_zones.specs.forms.Forms.{Words, EndsAt, NoNameForm, NoDataForm, EmptyForm, NoWildcardDataForm, EmptyWildcardForm, NoDataForms, NoCloserForm, UnsignedCutForm}
-use Rattle.dnsv_zones.specs.forms.Parts.{IsLowest, IsEncloserPart, AreEndParts, AreWildcardParts, AreNoNameParts, AreWildcardDataParts, AreEmptyWildcardParts, AreNoDataParts, IsNoCloserPart}
+use Rattle.dnsv_zones.specs.forms.Parts.{IsFirstToSay, IsEncloserPart, AreEndParts, AreWildcardParts, AreNoNameParts, AreWildcardDataParts, AreEmptyWildcardParts, AreNoDataParts, IsNoCloserPart}
 use Rattle.dnsv_zones.specs.forms.Parts.AreNoDataParts.{at_name, empty, at_wildcard, empty_wildcard}
 use Rattle.dnsv_zones.specs.forms.Parts.IsEncloserPart.{no_record, a_record}
 use Rattle.dnsv_zones.specs.forms.RecordWords.{RecordWords, words}
@@ -64,15 +64,15 @@ pub record AreInOrder (numbers : List RecordNumber) : Type 0 where
   pub later : (i j : ℕ) (a b : RecordNumber) → slice_get numbers i ≡ Some a → slice_get numbers j ≡ Some b → number_cmp a b ≡ Less → i < j
 
 module _ (numbers : List RecordNumber) (order : AreInOrder numbers) where
-  pub lowest_to : (By : ℕ → Type 0) (Of : RecordNumber → Type 0) → SaysAlike numbers By Of
-      → (place : ℕ) → IsLowest nat_cmp By place → IsLowest number_cmp Of (number_at numbers place)
-  lowest_to By Of alike place lowest =
-      let it = alike.to place lowest.says in
-      subst (IsLowest number_cmp Of) (sym (get_or_from_slice_get numbers place it.0 (record { rrset = 0; place = 0 }) it.1)) (record {
+  pub first_such_to : (By : ℕ → Type 0) (Of : RecordNumber → Type 0) → SaysAlike numbers By Of
+      → (place : ℕ) → IsFirstToSay nat_cmp By place → IsFirstToSay number_cmp Of (number_at numbers place)
+  first_such_to By Of alike place earliest =
+      let it = alike.to place earliest.says in
+      subst (IsFirstToSay number_cmp Of) (sym (get_or_from_slice_get numbers place it.0 (record { rrset = 0; place = 0 }) it.1)) (record {
         says = it.2;
-        lowest = λ other says below.
+        earliest = λ other says below.
             let from = alike.from other says in
-            lowest.lowest from.0 from.2 (sym (nat_cmp_is from.0 place Less (order.later from.0 place other it.0 from.1 it.1 below)));
+            earliest.earliest from.0 from.2 (sym (nat_cmp_is from.0 place Less (order.later from.0 place other it.0 from.1 it.1 below)));
       })
 
 -- ---- parts
@@ -86,7 +86,7 @@ module _ (numbers : List RecordNumber) (order : AreInOrder numbers) (by : Record
 
   encloser_to : (enc : Labels) (places : List ℕ) → IsEncloserPart nat_cmp by enc places → IsEncloserPart number_cmp of enc (map at places)
   encloser_to enc [] (no_record needs) = no_record (alike.needs_to enc needs)
-  encloser_to enc (place ∷ []) (a_record _ needs lowest) = a_record (at place) (λ n. needs (alike.needs_from enc n)) (lowest_to numbers order (by.Encloser enc) (of.Encloser enc) (alike.encloser enc) place lowest)
+  encloser_to enc (place ∷ []) (a_record _ needs earliest) = a_record (at place) (λ n. needs (alike.needs_from enc n)) (first_such_to numbers order (by.Encloser enc) (of.Encloser enc) (alike.encloser enc) place earliest)
   encloser_to enc (place ∷ (_ ∷ _)) part = elim part [ ]
 
   ends_to : (labels : ℕ) (places : List ℕ) → AreEndParts nat_cmp by apex name labels places → AreEndParts number_cmp of apex name labels (map at places)
@@ -95,7 +95,7 @@ module _ (numbers : List RecordNumber) (order : AreInOrder numbers) (by : Record
     encloser_part = map at ends.encloser_part;
     encloser = encloser_to (rightmost name labels) ends.encloser_part ends.encloser;
     covering = at ends.covering;
-    next_closer = lowest_to numbers order (by.Absent (rightmost name (labels + 1))) (of.Absent (rightmost name (labels + 1))) (alike.absent (rightmost name (labels + 1))) ends.covering ends.next_closer;
+    next_closer = first_such_to numbers order (by.Absent (rightmost name (labels + 1))) (of.Absent (rightmost name (labels + 1))) (alike.absent (rightmost name (labels + 1))) ends.covering ends.next_closer;
     both = ap (map at) ends.both ∙ map-append at ends.encloser_part (ends.covering ∷ []);
   }
 
@@ -105,7 +105,7 @@ module _ (numbers : List RecordNumber) (order : AreInOrder numbers) (by : Record
     end_parts = map at parts.end_parts;
     ends = ends_to labels parts.end_parts parts.ends;
     last = at parts.last;
-    wildcard = lowest_to numbers order By Of says parts.last parts.wildcard;
+    wildcard = first_such_to numbers order By Of says parts.last parts.wildcard;
     all = ap (map at) parts.all ∙ map-append at parts.end_parts (parts.last ∷ []);
   }
 
@@ -153,10 +153,10 @@ module _ (numbers : List RecordNumber) (order : AreInOrder numbers) (by : Record
 
   pub no_data_parts : (t : ℕ) (places : List ℕ) → AreNoDataParts nat_cmp by apex name t places → AreNoDataParts number_cmp of apex name t (map at places)
   unfolding wildcard_data_back empty_wildcard_back
-  no_data_parts t (place ∷ []) (at_name _ within lowest) =
-      at_name (at place) within (lowest_to numbers order (by.TypesAt name (λ has. Denies has t)) (of.TypesAt name (λ has. Denies has t)) (alike.types_at name (λ has. Denies has t)) place lowest)
-  no_data_parts t (place ∷ []) (empty _ no_form within lowest) =
-      empty (at place) (λ form. no_form (data_back t form)) within (lowest_to numbers order (by.EmptyNonTerminal name) (of.EmptyNonTerminal name) (alike.empty_non_terminal name) place lowest)
+  no_data_parts t (place ∷ []) (at_name _ within earliest) =
+      at_name (at place) within (first_such_to numbers order (by.TypesAt name (λ has. Denies has t)) (of.TypesAt name (λ has. Denies has t)) (alike.types_at name (λ has. Denies has t)) place earliest)
+  no_data_parts t (place ∷ []) (empty _ no_form within earliest) =
+      empty (at place) (λ form. no_form (data_back t form)) within (first_such_to numbers order (by.EmptyNonTerminal name) (of.EmptyNonTerminal name) (alike.empty_non_terminal name) place earliest)
   no_data_parts t places (at_wildcard _ no_form no_empty parts) =
       at_wildcard (map at places) (λ form. no_form (data_back t form)) (λ form. no_empty (empty_back form)) (record {
         labels = parts.labels;
@@ -174,5 +174,5 @@ module _ (numbers : List RecordNumber) (order : AreInOrder numbers) (by : Record
   pub no_closer_part : (labels place : ℕ) → IsNoCloserPart nat_cmp by apex name labels place → IsNoCloserPart number_cmp of apex name labels (at place)
   no_closer_part labels place part = record {
     above = part.above;
-    next_closer = lowest_to numbers order (by.Absent (rightmost name (labels + 1))) (of.Absent (rightmost name (labels + 1))) (alike.absent (rightmost name (labels + 1))) place part.next_closer;
+    next_closer = first_such_to numbers order (by.Absent (rightmost name (labels + 1))) (of.Absent (rightmost name (labels + 1))) (alike.absent (rightmost name (labels + 1))) place part.next_closer;
   }

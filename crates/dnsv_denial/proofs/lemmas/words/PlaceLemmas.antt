@@ -55,7 +55,7 @@ module _ (apex : Labels) (records : ChainRecords) (name : Labels) where
 
   encloser_within : (encloser : Labels) (places : List ℕ) → IsEncloserPart nat_cmp said encloser places → AreWithin places
   encloser_within encloser places (no_record needs) = tt
-  encloser_within encloser places (a_record i needs lowest) = ((say_within apex records).encloser encloser i lowest.says, tt)
+  encloser_within encloser places (a_record i needs earliest) = ((say_within apex records).encloser encloser i earliest.says, tt)
 
   ends_within : (labels : ℕ) (places : List ℕ) → AreEndParts nat_cmp said apex name labels places → AreWithin places
   ends_within labels places ends =
@@ -71,8 +71,8 @@ module _ (apex : Labels) (records : ChainRecords) (name : Labels) where
       let star = wildcard_of (rightmost name are.labels) in wildcard_within are.labels (said.Absent star) places ((say_within apex records).absent star) are.are
 
   pub no_data_within : (t : ℕ) (places : List ℕ) → AreNoDataParts nat_cmp said apex name t places → AreWithin places
-  no_data_within t places (at_name i under lowest) = ((say_within apex records).types_at name (λ has. Denies has t) i lowest.says, tt)
-  no_data_within t places (empty i no_form under lowest) = ((say_within apex records).empty_non_terminal name i lowest.says, tt)
+  no_data_within t places (at_name i under earliest) = ((say_within apex records).types_at name (λ has. Denies has t) i earliest.says, tt)
+  no_data_within t places (empty i no_form under earliest) = ((say_within apex records).empty_non_terminal name i earliest.says, tt)
   no_data_within t places (at_wildcard _ no_form no_empty are) =
       let star = wildcard_of (rightmost name are.labels) in
       wildcard_within are.labels (said.TypesAt star (λ has. Denies has t)) places ((say_within apex records).types_at star (λ has. Denies has t)) are.are

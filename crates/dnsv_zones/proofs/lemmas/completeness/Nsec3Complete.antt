@@ -31,7 +31,7 @@ use Rattle.dnsv_zones.specs.forms.Forms.{IsAbove, EndsAt, NoNameForm, NoDataForm
 use Rattle.dnsv_zones.proofs.lemmas.AnyLemmas.{any_map, found, any_both}
 use Rattle.dnsv_zones.proofs.lemmas.zones.ZoneLemmas.{holds_owner, holds_respects, owner_node, apex_node, node_above, node_not_below, node_respects, closest, name_no_node}
 use Rattle.dnsv_zones.proofs.lemmas.zones.LookupLemmas.{one_encloser, open_above_here}
-use Rattle.dnsv_zones.proofs.lemmas.zones.AnswerLemmas.{Decided, any_decided, Longest, longest_part}
+use Rattle.dnsv_zones.proofs.lemmas.zones.AnswerLemmas.{Decided, any_decided, HasMostLabels, most_labels_part}
 use Rattle.dnsv_zones.proofs.lemmas.meaning.MeaningLemmas.{no_name, any_no_data}
 use Rattle.dnsv_zones.proofs.lemmas.meaning.Nsec3Truth.{matched, without_opt_out_no_node, nsec3_true}
 use Rattle.dnsv_zones.proofs.lemmas.chains.BitmapLemmas.{plain_type, bits_closed, denies_bits, may_deny_here, may_deny_wildcard}
@@ -200,9 +200,9 @@ module _ (zone : Zone) (apex : Labels) (hash : NameHash) (records : List Nsec3Re
               (chained_or_covered (rightmost name (labels + 1)) (asked_part (labels + 1)));
         }
 
-    part_above : IsAtOrBelow name zone.apex → ¬ IsChained chain.has_records.names name → Longest (IsChained chain.has_records.names) name
+    part_above : IsAtOrBelow name zone.apex → ¬ IsChained chain.has_records.names name → HasMostLabels (IsChained chain.has_records.names) name
     part_above within none =
-        longest_part (IsChained chain.has_records.names) (chained_decided chain.has_records.names) name (length zone.apex) (at_or_below_length name zone.apex within)
+        most_labels_part (IsChained chain.has_records.names) (chained_decided chain.has_records.names) name (length zone.apex) (at_or_below_length name zone.apex within)
         (chained_respects chain.has_records.names zone.apex (rightmost name (length zone.apex)) (sym (rightmost_same name zone.apex within)) apex_chained) none
 
     opted_out_form : (labels : ℕ) → Above labels → IsOptedOut hash records (rightmost name (labels + 1)) ⊎ IsOptedOut hash records (wildcard_of (rightmost name labels)) → OptOutForm hash records apex name labels
@@ -223,9 +223,9 @@ module _ (zone : Zone) (apex : Labels) (hash : NameHash) (records : List Nsec3Re
         (λ (opted : IsOptedOut hash records (rightmost name (labels + 1)) × IsCovered hash records (rightmost name (labels + 1))). inr (opted_out_form labels some (inl opted.0)))
         (without_opt_out_or_opted_out (rightmost name (labels + 1)) some.cover)
 
-    here_above : (t : ℕ) → ¬ IsElsewhere zone name t → (part : Longest (IsChained chain.has_records.names) name) → Above part.labels
+    here_above : (t : ℕ) → ¬ IsElsewhere zone name t → (part : HasMostLabels (IsChained chain.has_records.names) name) → Above part.labels
     here_above t here part =
-        above_by part.labels part.proper part.holds (part.longest (part.labels + 1) (omega arith) (omega (arith, part.proper)))
+        above_by part.labels part.proper part.holds (part.most_labels (part.labels + 1) (omega arith) (omega (arith, part.proper)))
         (λ closed. open_above_here zone name t here name (rightmost name part.labels) (same_at_or_below name name refl) (rightmost_below name part.labels part.proper) closed)
 
     no_name_from : (labels t : ℕ) → Above labels → HasNoSource zone name → NoNameForm (nsec3_words hash records) apex name ⊎ ((n : ℕ) × OptOutForm hash records apex name n)
@@ -333,8 +333,8 @@ module _ (zone : Zone) (apex : Labels) (hash : NameHash) (records : List Nsec3Re
         let size_part : length (rightmost name size) ≡ size = rightmost_length name size long in
         let within : IsAtOrBelow (rightmost name size) zone.apex = part_node.within in
         let no_part : ¬ IsChained chain.has_records.names (rightmost name size) = λ chained. none (chained_respects chain.has_records.names (rightmost name size) cut same chained) in
-        let part : Longest (IsChained chain.has_records.names) (rightmost name size) =
-        longest_part (IsChained chain.has_records.names) (chained_decided chain.has_records.names) (rightmost name size) (length zone.apex)
+        let part : HasMostLabels (IsChained chain.has_records.names) (rightmost name size) =
+        most_labels_part (IsChained chain.has_records.names) (chained_decided chain.has_records.names) (rightmost name size) (length zone.apex)
         (at_or_below_length (rightmost name size) zone.apex within)
         (chained_respects chain.has_records.names zone.apex (rightmost (rightmost name size) (length zone.apex)) (sym (rightmost_same (rightmost name size) zone.apex within)) apex_chained)
         no_part in
@@ -347,7 +347,7 @@ module _ (zone : Zone) (apex : Labels) (hash : NameHash) (records : List Nsec3Re
         (subst (λ (above : Labels). IsBelow (rightmost name size) above) ce (rightmost_below (rightmost name size) labels part.proper)) in
         let some : Above labels =
         above_by labels (omega arith) (subst (λ (x : Labels). IsChained chain.has_records.names x) ce part.holds)
-        (subst (λ (x : Labels). ¬ IsChained chain.has_records.names x) nc (part.longest (labels + 1) (omega arith) (omega arith))) open_here in
+        (subst (λ (x : Labels). ¬ IsChained chain.has_records.names x) nc (part.most_labels (labels + 1) (omega arith) (omega arith))) open_here in
         let next : IsNode zone (rightmost name (labels + 1)) =
         node_above zone (rightmost name size) (rightmost name (labels + 1)) part_node (rightmost_in_line name size (labels + 1) (omega arith))
         (at_or_below_trans (rightmost name (labels + 1)) (rightmost name labels) zone.apex (rightmost_in_line name (labels + 1) labels (omega arith)) some.node.within) in (

@@ -104,17 +104,17 @@ end_above_decided zone name =
     (any_decided (λ each. IsBelow name each.owner × IsClosedAt zone each.owner) (λ each. both (below_or_not name each.owner) (closed_decided zone each.owner)) zone.entries)
 
 -- the most of a name's rightmost labels that are such, where the name itself isn't
-pub record Longest (P : Labels → Type 0) (name : Labels) : Type 0 where
+pub record HasMostLabels (P : Labels → Type 0) (name : Labels) : Type 0 where
   pub labels : ℕ
   pub proper : labels < length name
   pub holds : P (rightmost name labels)
-  pub longest : (more : ℕ) → labels < more → more ≤ length name → ¬ P (rightmost name more)
+  pub most_labels : (more : ℕ) → labels < more → more ≤ length name → ¬ P (rightmost name more)
 
 -- from k labels on none are such, and fewer are
-search_down : (P : Labels → Type 0) → ((x : Labels) → Decided (P x)) → (name : Labels) (k base : ℕ) → k ≤ length name → base < k → P (rightmost name base) → ((more : ℕ) → k ≤ more → more ≤ length name → ¬ P (rightmost name more)) → Longest P name
+search_down : (P : Labels → Type 0) → ((x : Labels) → Decided (P x)) → (name : Labels) (k base : ℕ) → k ≤ length name → base < k → P (rightmost name base) → ((more : ℕ) → k ≤ more → more ≤ length name → ¬ P (rightmost name more)) → HasMostLabels P name
 search_down P each name zero base within below some none = absurd (omega arith)
 search_down P each name (suc j) base within below some none =
-    ⊎_elim (λ (here : P (rightmost name j)). record { labels = j; proper = omega arith; holds = here; longest = λ more above long. none more (omega arith) long })
+    ⊎_elim (λ (here : P (rightmost name j)). record { labels = j; proper = omega arith; holds = here; most_labels = λ more above long. none more (omega arith) long })
     (λ (not_here : ¬ P (rightmost name j)).
     let other : ¬ (base ≡ j) = λ same. not_here (subst (λ (n : ℕ). P (rightmost name n)) same some) in
     search_down P each name j base (omega arith) (omega arith) some
@@ -124,8 +124,8 @@ search_down P each name (suc j) base within below some none =
     (each (rightmost name j))
 
 -- where some of the labels are such, and not the whole name, there are most of them
-pub longest_part : (P : Labels → Type 0) → ((x : Labels) → Decided (P x)) → (name : Labels) (base : ℕ) → base ≤ length name → P (rightmost name base) → ¬ P name → Longest P name
-longest_part P each name base within some none =
+pub most_labels_part : (P : Labels → Type 0) → ((x : Labels) → Decided (P x)) → (name : Labels) (base : ℕ) → base ≤ length name → P (rightmost name base) → ¬ P name → HasMostLabels P name
+most_labels_part P each name base within some none =
     let whole : ¬ P (rightmost name (length name)) = λ is. none (subst (λ (n : Labels). P n) (rightmost_all name (length name) (omega arith)) is) in
     let cases : (base ≡ length name) ⊎ (base < length name) = grind arith in
     ⊎_elim (λ (even : base ≡ length name). absurd (whole (subst (λ (n : ℕ). P (rightmost name n)) even some)))
@@ -140,8 +140,8 @@ has_encloser zone name well within none =
     let apex : SameName (rightmost name (length zone.apex)) zone.apex = rightmost_same name zone.apex within in
     let node : IsNode zone (rightmost name (length zone.apex)) =
     node_respects zone zone.apex (rightmost name (length zone.apex)) (sym apex) (apex_node zone well) in
-    let part = longest_part (IsNode zone) (node_decided zone) name (length zone.apex) (at_or_below_length name zone.apex within) node none in
-    (part.labels, record { proper = part.proper; node = part.holds; closest = part.longest })
+    let part = most_labels_part (IsNode zone) (node_decided zone) name (length zone.apex) (at_or_below_length name zone.apex within) node none in
+    (part.labels, record { proper = part.proper; node = part.holds; closest = part.most_labels })
 
 -- ---- the answer
 

@@ -4,7 +4,7 @@ use Rattle.std.specs.Ordering.{nat_cmp}
 use Rattle.dnsv_names.specs.Name.{Labels, rightmost}
 use Rattle.dnsv_names.specs.Tree.AncestorLaws.{rightmost_all}
 use Rattle.dnsv_zones.specs.forms.Forms.{NoDataForms}
-use Rattle.dnsv_zones.specs.forms.Parts.{IsLowest, AreNoDataParts}
+use Rattle.dnsv_zones.specs.forms.Parts.{IsFirstToSay, AreNoDataParts}
 use Rattle.dnsv_zones.specs.forms.Parts.AreNoDataParts.{at_name, empty}
 use Rattle.dnsv_zones.specs.forms.RecordWords.{words}
 use Rattle.dnsv_zones.specs.zones.Lookup.{IsLookup}
@@ -29,7 +29,7 @@ returns-in-Some-clause-first c =
     let whole : rightmost c.args.name.now c.labels.result ≡ c.args.name.now = rightmost_all c.args.name.now c.labels.result (omega (arith, c.labels.ensures.count)) in
     subst (AreNoDataParts nat_cmp said c.args.apex.now c.args.name.now c.args.rtype.0) (sym c.alone.ensures)
     (at_name c.in-Some.place (c.is_at_or_below.ensures.at_or_below.0 c.if-not-is_at_or_below.false)
-    (subst (λ name. IsLowest nat_cmp (said.TypesAt name (λ has. Denies has c.args.rtype.0)) c.in-Some.place) whole (c.in-Some.ensures c.args.apex.now)))
+    (subst (λ name. IsFirstToSay nat_cmp (said.TypesAt name (λ has. Denies has c.args.rtype.0)) c.in-Some.place) whole (c.in-Some.ensures c.args.apex.now)))
 
 pub returns-in-Some-empty_non_terminal-clause-first : goal.returns-in-Some-empty_non_terminal-clause-first
 returns-in-Some-empty_non_terminal-clause-first c =
@@ -40,7 +40,7 @@ returns-in-Some-empty_non_terminal-clause-first c =
     (none_at_name said c.args.apex.now c.args.name.now c.args.rtype.0
     (subst (λ name. (place : ℕ) → ¬ said.TypesAt name (λ has. Denies has c.args.rtype.0) place) whole (c.in_default.ensures c.args.apex.now)))
     (c.is_at_or_below.ensures.at_or_below.0 c.if-not-is_at_or_below.false)
-    (subst (λ name. IsLowest nat_cmp (said.EmptyNonTerminal name) c.in-Some-empty_non_terminal.place) whole (c.in-Some-empty_non_terminal.ensures c.args.apex.now)))
+    (subst (λ name. IsFirstToSay nat_cmp (said.EmptyNonTerminal name) c.in-Some-empty_non_terminal.place) whole (c.in-Some-empty_non_terminal.ensures c.args.apex.now)))
 
 pub returns-in-Some-by_wildcard-clause-first : goal.returns-in-Some-by_wildcard-clause-first
 returns-in-Some-by_wildcard-clause-first c =

@@ -4,14 +4,14 @@ use Rattle.std.specs.Prelude.{slice_get}
 use Rattle.std.proofs.lemmas.Option.{slice_get_read}
 use Rattle.dnsv_names.specs.Name.{SameName}
 use Rattle.dnsv_verdict.specs.Search.{IsFirstFound, IsFound}
-use Rattle.dnsv_verdict.proofs.SearchLemmas.{NoneSoFarAt, lowest_found, none_found_at, none_with}
-use Rattle.dnsv_verdict.proofs.search.lowest.Goals as goal
-use Rattle.dnsv_verdict.proofs.search.lowest.Goals.{then-eq+in_default, else-eq}
+use Rattle.dnsv_verdict.proofs.SearchLemmas.{NoneSoFarAt, first_such_found, none_found_at, none_with}
+use Rattle.dnsv_verdict.proofs.search.first_such.Goals as goal
+use Rattle.dnsv_verdict.proofs.search.first_such.Goals.{then-eq+in_default, else-eq}
 
 pub returns-in-Some : goal.returns-in-Some
 returns-in-Some g c =
     let here = slice_get_read c.rrsets-rrsets.result.now (length c.rrsets-rrsets.result.now) c.loop-place.place c.index-rrsets-place.result refl c.loop-place-test.true c.index-rrsets-place.is in
-    lowest_found (g.T.Test.passes c.args.test.now) c.args.trust.now c.args.name.now c.args.capture.now.rrsets c.loop-place.place
+    first_such_found (g.T.Test.passes c.args.test.now) c.args.trust.now c.args.name.now c.args.capture.now.rrsets c.loop-place.place
     c.index-rrsets-place.result c.in-Some.signature c.in-Some.rrsig.now
     (subst (λ xs. NoneSoFarAt (g.T.Test.passes c.args.test.now) c.args.trust.now c.args.name.now xs c.loop-place.place) c.rrsets-rrsets.ensures.value c.loop-place.invariant)
     (subst (λ xs. slice_get xs c.loop-place.place ≡ Some c.index-rrsets-place.result) c.rrsets-rrsets.ensures.value here)
