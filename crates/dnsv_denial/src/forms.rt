@@ -1,6 +1,6 @@
 //! Which records of one chain make a form of proof.
 pub mod by_wildcard;
-pub mod closer;
+pub mod wildcard_answer;
 pub mod cuts;
 pub mod denial;
 pub mod end_limits;

@@ -5,7 +5,7 @@
 #![tactic(auto)]
 
 pub use forms::by_wildcard::no_name;
-pub use forms::closer::{opts_out_next_closer, no_closer};
+pub use forms::wildcard_answer::{opts_out_next_closer, no_closer};
 pub use forms::cuts::{opt_out, unsigned_delegation};
 pub use forms::ends::Places;
 pub use forms::missing_type::no_data;

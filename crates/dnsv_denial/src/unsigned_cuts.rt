@@ -5,4 +5,4 @@ pub mod first_cut;
 pub mod kept_cuts;
 pub mod shown_cuts;
 pub mod unusable_ds;
-pub mod zone_closer;
+pub mod zone_opt_out;

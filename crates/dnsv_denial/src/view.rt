@@ -215,14 +215,14 @@ impl<'c, 't> View<'c, 't> {
     /// the zone there, against an answer from the wildcard (RFC 5155 8.8). `None` where the evidence shows none, or
     /// these labels are no proper ancestor of the name at or below the zone.
     pub fn opted_out_next_closer(&self, zone: &Name, labels: usize) -> Option<Name>
-        ensures closer { MatchOption result
+        ensures next_closer { MatchOption result
             (¬ HasOptedOutNextCloser (SecuredIn self.now.trust) self.now.rrsets self.now.name labels zone.now)
-            (λ closer. HasOptedOutNextCloser (SecuredIn self.now.trust) self.now.rrsets self.now.name labels zone.now
-            × (closer ≡ rightmost self.now.name (labels + 1))) }
+            (λ next_closer. HasOptedOutNextCloser (SecuredIn self.now.trust) self.now.rrsets self.now.name labels zone.now
+            × (next_closer ≡ rightmost self.now.name (labels + 1))) }
         // In each zone that has the record in its chain, the name is no node, or a delegation without DS, or exists
         // through such alone.
-        ensures meaning { IfSome result (λ closer. (chain : Chain) × IsCoveredEnd self.now.rrsets
-            zone.now ((evidence_said (SecuredIn self.now.trust) self.now.rrsets zone.now chain).OptedOut) closer) }
+        ensures meaning { IfSome result (λ next_closer. (chain : Chain) × IsCoveredEnd self.now.rrsets
+            zone.now ((evidence_said (SecuredIn self.now.trust) self.now.rrsets zone.now chain).OptedOut) next_closer) }
     {
         opted_out_next_closer(&self.name, zone, labels, &self.zones, &self.sets)
     }

@@ -116,7 +116,7 @@ module _ {Index : Type 0} (cmp : Index → Index → Ordering) (a b : RecordWord
     encloser_part = ends.encloser_part;
     encloser = encloser_part_to (rightmost name labels) ends.encloser_part ends.encloser;
     covering = ends.covering;
-    next_closer = let closer = rightmost name (labels + 1) in first_such_to (a.Absent closer) (b.Absent closer) (to.absent closer) (from.absent closer) ends.covering ends.next_closer;
+    next_closer = let next_closer = rightmost name (labels + 1) in first_such_to (a.Absent next_closer) (b.Absent next_closer) (to.absent next_closer) (from.absent next_closer) ends.covering ends.next_closer;
     both = ends.both;
   }
 

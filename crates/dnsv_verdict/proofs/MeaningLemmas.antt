@@ -9,7 +9,7 @@ use Rattle.dnsv_zones.specs.zones.TypeNumbers.{cname}
 use Rattle.dnsv_canonical.specs.Rrsets.{ReceivedRrset}
 use Rattle.dnsv_canonical.specs.SignedData.{IsExpanded}
 use Rattle.dnsv_chain.specs.Trusted.{IsSecured}
-use Rattle.dnsv_denial.proofs.meaning.CutMeaningLemmas.{closer_means, cut_means}
+use Rattle.dnsv_denial.proofs.meaning.CutMeaningLemmas.{next_closer_means, cut_means}
 use Rattle.dnsv_denial.proofs.meaning.DeniedMeaning.{denied_means}
 use Rattle.dnsv_denial.proofs.meaning.ProofMeaningLemmas.{first_no_data_means, first_no_name_means}
 use Rattle.dnsv_denial.specs.proving.FirstProof.{CanProveNoCloser}
@@ -50,7 +50,7 @@ module _ (S : ℕ → ℕ → Type 0) (rrsets : List ReceivedRrset) (name : Labe
   opt_out_means : (t : ℕ) (cut : Labels) → IsOptOutWildcardCut S rrsets name t cut → MeansOptOutWildcardCut S rrsets name t cut
   opt_out_means t cut is =
       let such = is.earliest.such in
-      let covered = closer_means S rrsets name such.rrsig.labels such.rrsig.signer cut (such.such.1.1, is.next_closer) in
+      let covered = next_closer_means S rrsets name such.rrsig.labels such.rrsig.signer cut (such.such.1.1, is.next_closer) in
       record { opt_out = is; chain = covered.0; covered = covered.1 }
 
   settled_means : (t : ℕ) (verdict : Verdict) → IsSettledAs S rrsets name t verdict → IsTrueOfZones S rrsets name t verdict

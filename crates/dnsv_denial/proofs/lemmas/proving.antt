@@ -1,6 +1,6 @@
 -- Of the first proof of a denial, by a chain, a zone and the evidence.
 pub mod ChainProofLemmas
-pub mod CloserLemmas
+pub mod RespelledZoneLemmas
 pub mod FirstProofLemmas
 pub mod NumberLemmas
 pub mod WholeChainLemmas

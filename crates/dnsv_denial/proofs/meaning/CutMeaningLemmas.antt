@@ -136,7 +136,7 @@ module _ (Secured : ℕ → ℕ → Type 0) (rrsets : List ReceivedRrset) (name 
       let zone = rightmost name apex in
       let chain = ByNsec3 parameters in
       let said = nsec3_said Secured rrsets zone parameters in
-      let closer = rightmost name (labels + 1) in
+      let next_closer = rightmost name (labels + 1) in
       let star = wildcard_of (rightmost name labels) in
       record {
         apex = zone;
@@ -144,9 +144,9 @@ module _ (Secured : ℕ → ℕ → Type 0) (rrsets : List ReceivedRrset) (name 
         chain = chain;
         encloser = ⊎_elim (λ (none : ⊥). absurd none)
             (λ (shown : (n : RecordNumber) × said.Encloser (rightmost name labels) n). encloser_means zone labels parameters shown.0 shown.1) out.encloser;
-        next_closer = ⊎_elim (λ (absent : (n : RecordNumber) × said.Absent closer n). cover_means Secured rrsets zone closer chain absent.0 (inl absent.1))
-            (λ (out : (n : RecordNumber) × said.OptedOut closer n). cover_means Secured rrsets zone closer chain out.0 (inr out.1)) out.next_closer;
-        opted_out = ⊎_elim (λ (out : (n : RecordNumber) × said.OptedOut closer n). inl (opted_out_means Secured rrsets zone closer chain out.0 out.1))
+        next_closer = ⊎_elim (λ (absent : (n : RecordNumber) × said.Absent next_closer n). cover_means Secured rrsets zone next_closer chain absent.0 (inl absent.1))
+            (λ (out : (n : RecordNumber) × said.OptedOut next_closer n). cover_means Secured rrsets zone next_closer chain out.0 (inr out.1)) out.next_closer;
+        opted_out = ⊎_elim (λ (out : (n : RecordNumber) × said.OptedOut next_closer n). inl (opted_out_means Secured rrsets zone next_closer chain out.0 out.1))
             (λ (out : (n : RecordNumber) × said.OptedOut star n). inr (opted_out_means Secured rrsets zone star chain out.0 out.1)) out.opted_out;
       }
 
@@ -155,9 +155,9 @@ module _ (Secured : ℕ → ℕ → Type 0) (rrsets : List ReceivedRrset) (name 
   cut_means _ (no_usable_ds labels none fewest) = means_no_usable_ds labels none fewest.holds
   cut_means _ (opt_out labels none usable most) = means_by_opt_out labels none usable (means_opt_out labels most.holds)
 
-  pub closer_means : (labels : ℕ) (zone closer : Labels) → HasOptedOutNextCloser Secured rrsets name labels zone × (closer ≡ rightmost name (labels + 1))
-      → (chain : Chain) × IsCoveredEnd rrsets zone ((evidence_said Secured rrsets zone chain).OptedOut) closer
-  closer_means labels zone closer both = (
+  pub next_closer_means : (labels : ℕ) (zone next_closer : Labels) → HasOptedOutNextCloser Secured rrsets name labels zone × (next_closer ≡ rightmost name (labels + 1))
+      → (chain : Chain) × IsCoveredEnd rrsets zone ((evidence_said Secured rrsets zone chain).OptedOut) next_closer
+  next_closer_means labels zone next_closer both = (
     both.0.chain,
     subst (IsCoveredEnd rrsets zone ((evidence_said Secured rrsets zone both.0.chain).OptedOut)) (sym both.1)
         (opted_out_means Secured rrsets zone (rightmost name (labels + 1)) both.0.chain both.0.covering both.0.opted_out),

@@ -11,7 +11,7 @@ use crate::proving::zone_records::{ParameterSet, ZoneRecords};
 use crate::unsigned_cuts::first_cut::{first_cut, next_closer};
 use crate::unsigned_cuts::shown_cuts::zones_cuts;
 use crate::unsigned_cuts::unusable_ds::highest_unusable_ds;
-use crate::unsigned_cuts::zone_closer::zone_opts_out_next_closer;
+use crate::unsigned_cuts::zone_opt_out::zone_opts_out_next_closer;
 use dnsv_canonical::Capture;
 use dnsv_chain::Trust;
 use dnsv_names::Name;
@@ -48,8 +48,8 @@ pub fn opted_out_next_closer(
     ensures { (trust : KeptTrust) (rrsets : List ReceivedRrset)
         → IsViewOf (SecuredIn trust) rrsets name.now sets.now zones.now
         → MatchOption result (¬ HasOptedOutNextCloser (SecuredIn trust) rrsets name.now labels zone.now)
-        (λ closer. HasOptedOutNextCloser (SecuredIn trust) rrsets name.now labels zone.now
-        × (closer ≡ rightmost name.now (labels + 1))) }
+        (λ next_closer. HasOptedOutNextCloser (SecuredIn trust) rrsets name.now labels zone.now
+        × (next_closer ≡ rightmost name.now (labels + 1))) }
 {
     if !name.is_at_or_below(zone) {
         return None;

@@ -81,13 +81,13 @@ module _ (Secured : ℕ → ℕ → Type 0) (rrsets : List ReceivedRrset) (apex 
     pub opts_out_from : (name : Labels) (labels : ℕ) → OptOutForm (sha1_hash parameters) records apex name labels
         → OptsOut (nsec3_said Secured rrsets apex parameters) apex name labels
     opts_out_from name labels form =
-        let closer = rightmost name (labels + 1) in
+        let next_closer = rightmost name (labels + 1) in
         let star = wildcard_of (rightmost name labels) in
         record {
           above = form.above;
           encloser = nsec3_from.encloser (rightmost name labels) form.encloser;
-          next_closer = covered_from closer form.next_closer;
-          opted_out = ⊎_elim (λ (next : IsOptedOut (sha1_hash parameters) records closer). inl (opted_out_from closer next))
+          next_closer = covered_from next_closer form.next_closer;
+          opted_out = ⊎_elim (λ (next : IsOptedOut (sha1_hash parameters) records next_closer). inl (opted_out_from next_closer next))
               (λ (wild : IsOptedOut (sha1_hash parameters) records star). inr (opted_out_from star wild)) form.opted_out;
         }
 

@@ -24,7 +24,7 @@ use Rattle.dnsv_denial.specs.declared.proving.zone_records.ParameterSet.{Paramet
 use Rattle.dnsv_denial.specs.declared.proving.zone_records.ZoneRecords.{ZoneRecords}
 use Rattle.dnsv_denial.proofs.lemmas.words.AlikeLemmas.{any_place}
 use Rattle.dnsv_denial.proofs.lemmas.proving.ChainProofLemmas.{chain_alike}
-use Rattle.dnsv_denial.proofs.lemmas.proving.CloserLemmas.{above_as, opted_out_as}
+use Rattle.dnsv_denial.proofs.lemmas.proving.RespelledZoneLemmas.{above_as, opted_out_as}
 use Rattle.dnsv_denial.proofs.lemmas.words.IndexLemmas.{SayAlike}
 
 -- ---- by places and by numbers

@@ -13,7 +13,7 @@ pub returns-clause-next_closer : goal.returns-clause-next_closer
 returns-clause-next_closer c = λ zone apex name labels hash records has form.
     covered_end zone hash has.names records has.in_chain has.chain_names (rightmost name (labels + 1))
     (⊎_elim (λ (cut : OptOutForm hash records apex name labels). cut.next_closer)
-    (λ (closer : OptedOutNextCloserForm hash records apex name labels).
+    (λ (next_closer : OptedOutNextCloserForm hash records apex name labels).
     any_map (λ nsec3. Covers hash nsec3 (rightmost name (labels + 1)) × (nsec3.flags ≢ 0))
-    (λ nsec3. Covers hash nsec3 (rightmost name (labels + 1))) records (λ nsec3 both. both.0) closer.opted_out)
+    (λ nsec3. Covers hash nsec3 (rightmost name (labels + 1))) records (λ nsec3 both. both.0) next_closer.opted_out)
     form)

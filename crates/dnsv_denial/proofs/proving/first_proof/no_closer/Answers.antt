@@ -8,7 +8,7 @@ use Rattle.dnsv_denial.specs.gathering.Kept.{IsZoneProof}
 use Rattle.dnsv_denial.specs.proving.FirstProof.{CanProveNoCloser, IsFirstNoCloser, StandsBy}
 use Rattle.dnsv_denial.specs.words.EvidenceWords.{Chain}
 use Rattle.dnsv_denial.specs.declared.forms.denial.Denial.TheVariants.{NoCloser}
-use Rattle.dnsv_denial.proofs.lemmas.proving.CloserLemmas.{closer_as, first_closer}
+use Rattle.dnsv_denial.proofs.lemmas.proving.RespelledZoneLemmas.{closer_as, first_closer}
 use Rattle.dnsv_denial.proofs.lemmas.proving.FirstProofLemmas.{zone_at}
 use Rattle.dnsv_denial.proofs.lemmas.proving.ZoneProofLemmas.{option_leads}
 use Rattle.dnsv_denial.proofs.proving.first_proof.no_closer.Goals as goal

@@ -13,7 +13,7 @@ use Rattle.dnsv_denial.specs.words.ChainSaid.{chain_said}
 use Rattle.dnsv_denial.proofs.lemmas.words.FirstLemmas.{if_some}
 use Rattle.dnsv_denial.proofs.lemmas.forms.MeaningAt.{no_closer_at}
 use Rattle.dnsv_denial.proofs.lemmas.forms.WildcardLemmas.{no_closer_found}
-use Rattle.dnsv_denial.proofs.forms.closer.no_closer.Goals as goal
+use Rattle.dnsv_denial.proofs.forms.wildcard_answer.no_closer.Goals as goal
 
 pub returns-clause-first : goal.returns-clause-first
 returns-clause-first c =

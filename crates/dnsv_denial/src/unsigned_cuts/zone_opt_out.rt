@@ -13,7 +13,7 @@ ghost use Rattle.dnsv_denial.specs.words.ChainSaid.{HasHashes};
 ghost use Rattle.dnsv_denial.specs.words.EvidenceWords.{Chain};
 ghost use Rattle.dnsv_denial.specs.words.EvidenceWords.Chain.{ByNsec3};
 
-use crate::forms::closer::opts_out_next_closer;
+use crate::forms::wildcard_answer::opts_out_next_closer;
 use crate::proving::zone_records::{ParameterSet, ZoneRecords, nsec3_records};
 use crate::records::chain_records::ChainRecords;
 use dnsv_names::Name;

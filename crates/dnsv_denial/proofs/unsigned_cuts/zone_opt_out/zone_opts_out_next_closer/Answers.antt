@@ -6,7 +6,7 @@ use Rattle.dnsv_denial.specs.unsigned_cuts.ShownCuts.{OptsOutNextCloserOf}
 use Rattle.dnsv_denial.specs.words.EvidenceWords.Chain.{ByNsec3}
 use Rattle.dnsv_denial.proofs.lemmas.words.FirstLemmas.{none_with}
 use Rattle.dnsv_denial.proofs.lemmas.unsigned_cuts.OptOutNextCloserLemmas.{opt_out_by_set, none_opt_out}
-use Rattle.dnsv_denial.proofs.unsigned_cuts.zone_closer.zone_opts_out_next_closer.Goals as goal
+use Rattle.dnsv_denial.proofs.unsigned_cuts.zone_opt_out.zone_opts_out_next_closer.Goals as goal
 
 pub returns-then-set_opts_out_next_closer : goal.returns-then-set_opts_out_next_closer
 returns-then-set_opts_out_next_closer c = λ trust rrsets is are. (

@@ -9,7 +9,7 @@ use Rattle.dnsv_denial.specs.gathering.Kept.{IsZoneOf}
 use Rattle.dnsv_denial.specs.unsigned_cuts.ShownCuts.{OptsOutNextCloserOf}
 use Rattle.dnsv_denial.specs.words.EvidenceWords.Chain.{ByNsec3}
 use Rattle.dnsv_denial.specs.declared.proving.zone_records.ParameterSet.{ParameterSet}
-use Rattle.dnsv_denial.proofs.unsigned_cuts.zone_closer.zone_opts_out_next_closer.Given as goal
+use Rattle.dnsv_denial.proofs.unsigned_cuts.zone_opt_out.zone_opts_out_next_closer.Given as goal
 
 abbrev pub invariant-loop-set : goal.invariant-loop-set
 invariant-loop-set l =

@@ -1,4 +1,4 @@
-use Rattle.dnsv_denial.proofs.forms.closer.opts_out_next_closer.Goals as goal
+use Rattle.dnsv_denial.proofs.forms.wildcard_answer.opts_out_next_closer.Goals as goal
 
 pub returns : goal.returns
 returns c = (

@@ -3,7 +3,7 @@ use Rattle.dnsv_zones.specs.chains.Rdata.{parameters_of}
 use Rattle.dnsv_denial.specs.Viewed.{SecuredIn}
 use Rattle.dnsv_denial.specs.gathering.Gathered.{AreNsec3sOf}
 use Rattle.dnsv_denial.specs.words.EvidenceWords.Chain.{ByNsec3}
-use Rattle.dnsv_denial.proofs.unsigned_cuts.zone_closer.set_opts_out_next_closer.Goals as goal
+use Rattle.dnsv_denial.proofs.unsigned_cuts.zone_opt_out.set_opts_out_next_closer.Goals as goal
 
 pub returns : goal.returns
 returns c = λ trust rrsets is.
