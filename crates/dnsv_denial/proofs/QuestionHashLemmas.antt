@@ -15,7 +15,7 @@ use Rattle.dnsv_zones.specs.chains.Nsec3Chain.{IsAsked, NameHash, Parameters}
 use Rattle.dnsv_zones.specs.chains.Nsec3Chain.IsAsked.{itself, wildcard}
 use Rattle.dnsv_denial.specs.QuestionHashes.{AreUsed}
 use Rattle.dnsv_zones.specs.chains.Rdata.{parameters_of}
-use Rattle.dnsv_denial.specs.declared.proving.zone_records.ParameterSet.{ParameterSet}
+use Rattle.dnsv_denial.specs.declared.proving.zone_records.NameHashes.{NameHashes}
 
 -- ---- names
 
@@ -50,35 +50,35 @@ hash_of_wildcard hash question above hashes wildcards are below =
 
 -- ---- the parameters of sets
 
-set_of : (sets : List ParameterSet) (each : Nsec3Parameters) → IsMember each (map (λ (set : ParameterSet). set.parameters.now) sets)
-    → (k : ℕ) × (set : ParameterSet) × (slice_get sets k ≡ Some set) × (set.parameters.now ≡ each)
+set_of : (sets : List NameHashes) (each : Nsec3Parameters) → IsMember each (map (λ (set : NameHashes). set.parameters.now) sets)
+    → (k : ℕ) × (set : NameHashes) × (slice_get sets k ≡ Some set) × (set.parameters.now ≡ each)
 set_of [] each there = absurd there
 set_of (set ∷ sets) each (inl is) = (0, set, refl, sym is)
 set_of (set ∷ sets) each (inr later) = let found = set_of sets each later in (suc found.0, found.1, found.2, found.3)
 
-member_of : (sets : List ParameterSet) (k : ℕ) (set : ParameterSet) → slice_get sets k ≡ Some set
-    → IsMember set.parameters.now (map (λ (each : ParameterSet). each.parameters.now) sets)
+member_of : (sets : List NameHashes) (k : ℕ) (set : NameHashes) → slice_get sets k ≡ Some set
+    → IsMember set.parameters.now (map (λ (each : NameHashes). each.parameters.now) sets)
 member_of [] k set there = cc
-member_of (first ∷ sets) zero set there = let is : set ≡ first = cc in inl (ap (λ (each : ParameterSet). each.parameters.now) is)
+member_of (first ∷ sets) zero set there = let is : set ≡ first = cc in inl (ap (λ (each : NameHashes). each.parameters.now) is)
 member_of (first ∷ sets) (suc k) set there = inr (member_of sets k set there)
 
 -- a set's parameters are those of a usable record
-pub used_by_set : (rrsets : List ReceivedRrset) (name : Labels) (sets : List ParameterSet) (parameters : Parameters)
-    → AreKeptHashes rrsets name sets → (k : ℕ) (set : ParameterSet) → slice_get sets k ≡ Some set
+pub used_by_set : (rrsets : List ReceivedRrset) (name : Labels) (sets : List NameHashes) (parameters : Parameters)
+    → AreKeptHashes rrsets name sets → (k : ℕ) (set : NameHashes) → slice_get sets k ≡ Some set
     → parameters_of set.parameters.now ≡ parameters → AreUsed rrsets parameters
 used_by_set rrsets name sets parameters kept k set there same = (
   set.parameters.now,
-  (kept.members set.parameters.now).0 (Contains-from_member (map (λ (each : ParameterSet). each.parameters.now) sets) set.parameters.now (member_of sets k set there)),
+  (kept.members set.parameters.now).0 (Contains-from_member (map (λ (each : NameHashes). each.parameters.now) sets) set.parameters.now (member_of sets k set there)),
   same,
 )
 
 -- where no set has them, no usable record does
-pub not_used : (rrsets : List ReceivedRrset) (name : Labels) (sets : List ParameterSet) (parameters : Parameters)
+pub not_used : (rrsets : List ReceivedRrset) (name : Labels) (sets : List NameHashes) (parameters : Parameters)
     → AreKeptHashes rrsets name sets
-    → ((k : ℕ) (set : ParameterSet) → slice_get sets k ≡ Some set → ¬ (parameters_of set.parameters.now ≡ parameters))
+    → ((k : ℕ) (set : NameHashes) → slice_get sets k ≡ Some set → ¬ (parameters_of set.parameters.now ≡ parameters))
     → ¬ AreUsed rrsets parameters
 not_used rrsets name sets parameters kept none used =
-    let found = set_of sets used.0 (IsMember-from_contains (map (λ (each : ParameterSet). each.parameters.now) sets) used.0 ((kept.members used.0).1 used.1)) in
+    let found = set_of sets used.0 (IsMember-from_contains (map (λ (each : NameHashes). each.parameters.now) sets) used.0 ((kept.members used.0).1 used.1)) in
     none found.0 found.1 found.2 (ap parameters_of found.3 ∙ used.2)
 
 -- an asked hash with parameters that are used

@@ -9,10 +9,10 @@ use Rattle.dnsv_canonical.specs.Rrsets.{ReceivedRrset}
 use Rattle.dnsv_denial.specs.words.EvidenceWords.{parameters_cmp}
 use Rattle.dnsv_denial.specs.gathering.Kept.{IsSetOf}
 use Rattle.dnsv_zones.specs.chains.Rdata.{parameters_of}
-use Rattle.dnsv_denial.specs.declared.proving.zone_records.ParameterSet.{ParameterSet}
+use Rattle.dnsv_denial.specs.declared.proving.zone_records.NameHashes.{NameHashes}
 
 -- the sets are of the name, in the order of their parameters, which are those of all usable NSEC3 records
-pub record AreKeptHashes (rrsets : List ReceivedRrset) (name : Labels) (sets : List ParameterSet) : Type 0 where
+pub record AreKeptHashes (rrsets : List ReceivedRrset) (name : Labels) (sets : List NameHashes) : Type 0 where
   pub hashed : AllByRecursion (IsSetOf name) sets
   pub order : IsStrictlySortedBy parameters_cmp (map parameters_of (map (λ set. set.parameters.now) sets))
   pub members : (each : Nsec3Parameters) → Contains (map (λ set. set.parameters.now) sets) each

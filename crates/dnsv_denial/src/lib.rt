@@ -13,7 +13,7 @@ pub use proving::proof::Proof;
 pub use question_hashes::Hashes;
 pub use records::chain_records::ChainRecords;
 pub use records::entry::{Nsec3Entry, NsecEntry};
-pub use records::hashes::Nsec3Records;
+pub use records::hashed_records::HashedRecords;
 pub use records::nsec3_entries::Nsec3Entries;
 pub use records::number::RecordNumber;
 pub use unsigned_cuts::cut_meaning::{

@@ -13,10 +13,10 @@ ghost use Rattle.dnsv_zones.specs.chains.Rdata.{parameters_of};
 ghost use Rattle.dnsv_denial.specs.KeptHashes.{AreKeptHashes};
 ghost use Rattle.dnsv_denial.specs.QuestionHashes.{IsAskedHash};
 ghost use Rattle.dnsv_denial.specs.gathering.Kept.{IsSetOf};
-ghost use Rattle.dnsv_denial.specs.declared.proving.zone_records.ParameterSet.{ParameterSet};
+ghost use Rattle.dnsv_denial.specs.declared.proving.zone_records.NameHashes.{NameHashes};
 
 use crate::gathering::zones::sets_of;
-use crate::proving::zone_records::ParameterSet;
+use crate::proving::zone_records::NameHashes;
 use dnsv_canonical::Capture;
 use dnsv_names::{Count, Hash20, Name};
 use std::alloc::{AllocError, Global};
@@ -30,7 +30,7 @@ pub struct Hashes<'a> {
     capture: &'a Capture,
     name: Name,
     /// In the order of their parameters. Each view that is made with them has a share.
-    sets: Rc<Vec<ParameterSet<'a>>>,
+    sets: Rc<Vec<NameHashes<'a>>>,
 }
 
 impl<'a> Model for Hashes<'a> {
@@ -75,7 +75,7 @@ impl<'a> Hashes<'a> {
     }
 
     /// A share of the sets.
-    pub(crate) fn share(&self) -> Result<Rc<Vec<ParameterSet<'a>>>, AllocError>
+    pub(crate) fn share(&self) -> Result<Rc<Vec<NameHashes<'a>>>, AllocError>
         ensures { IfOk result (λ sets. AreKeptHashes self.now.rrsets self.now.name sets.value.items) }
     {
         self.sets.clone()
@@ -96,11 +96,11 @@ impl<'a> Hashes<'a> {
 }
 
 /// The place of the set with these parameters.
-fn place_of(sets: &[ParameterSet<'_>], iterations: u16, salt: &[u8]) -> Option<usize>
+fn place_of(sets: &[NameHashes<'_>], iterations: u16, salt: &[u8]) -> Option<usize>
     ensures { MatchOption result
-        ((k : ℕ) (set : ParameterSet) → slice_get sets.now k ≡ Some set → ¬ (parameters_of set.parameters.now
+        ((k : ℕ) (set : NameHashes) → slice_get sets.now k ≡ Some set → ¬ (parameters_of set.parameters.now
         ≡ record { iterations = iterations; salt = salt.now }))
-        (λ place. (set : ParameterSet) × (slice_get sets.now place ≡ Some set)
+        (λ place. (set : NameHashes) × (slice_get sets.now place ≡ Some set)
         × (parameters_of set.parameters.now ≡ record { iterations = iterations; salt = salt.now })) }
 {
     for (place, set) in sets.iter().enumerate() {
@@ -112,7 +112,7 @@ fn place_of(sets: &[ParameterSet<'_>], iterations: u16, salt: &[u8]) -> Option<u
 }
 
 /// Whether the set's hashes are made with these parameters.
-fn has_parameters(set: &ParameterSet<'_>, iterations: u16, salt: &[u8]) -> bool
+fn has_parameters(set: &NameHashes<'_>, iterations: u16, salt: &[u8]) -> bool
     ensures { IsTrue result
         ↔ (parameters_of set.now.parameters.now ≡ record { iterations = iterations; salt = salt.now }) }
 {
@@ -120,7 +120,7 @@ fn has_parameters(set: &ParameterSet<'_>, iterations: u16, salt: &[u8]) -> bool
 }
 
 /// The hash of the name in the set, if a question of the other name asks for it.
-fn asked_hash(question: &Name, set: &ParameterSet<'_>, name: &Name) -> Option<Hash20>
+fn asked_hash(question: &Name, set: &NameHashes<'_>, name: &Name) -> Option<Hash20>
     requires { IsSetOf question.now set.now }
     ensures { MatchOption result (¬ IsAsked question.now name.now)
         (λ hash. IsAsked question.now name.now

@@ -2,6 +2,6 @@
 pub mod chain_records;
 pub mod entry;
 pub mod hash_places;
-pub mod hashes;
+pub mod hashed_records;
 pub mod nsec3_entries;
 pub mod number;

@@ -30,7 +30,7 @@ use crate::forms::denial::Denial;
 use crate::gathering::zones::zones_of;
 use crate::proving::first_proof::{first_proof, no_closer};
 use crate::proving::proof::Proof;
-use crate::proving::zone_records::{ParameterSet, ZoneRecords};
+use crate::proving::zone_records::{NameHashes, ZoneRecords};
 use crate::question_hashes::Hashes;
 use crate::unsigned_cuts::kept_cuts::{opted_out_next_closer, unsigned_cut};
 use dnsv_canonical::Capture;
@@ -48,7 +48,7 @@ pub struct View<'c, 't> {
     trust: &'t Trust,
     name: Name,
     /// In the order of their parameters, shared with the `Hashes` that the view was made with.
-    sets: Rc<Vec<ParameterSet<'c>>>,
+    sets: Rc<Vec<NameHashes<'c>>>,
     /// One for each number of the name's rightmost labels, from the root on.
     zones: Vec<ZoneRecords<'c>>,
 }

@@ -7,4 +7,4 @@ pub mod HashCountLemmas
 pub mod Nsec3Gather
 pub mod NsecGather
 pub mod NumberedLemmas
-pub mod ParameterSetLemmas
+pub mod NameHashesLemmas

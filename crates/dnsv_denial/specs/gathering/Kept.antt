@@ -19,7 +19,7 @@ use Rattle.dnsv_denial.specs.words.EvidenceWords.{Chain, parameters_cmp}
 use Rattle.dnsv_denial.specs.words.EvidenceWords.Chain.{ByNsec3}
 use Rattle.dnsv_denial.specs.declared.forms.denial.Denial.{Denial}
 use Rattle.dnsv_denial.specs.declared.records.number.RecordNumber.{RecordNumber}
-use Rattle.dnsv_denial.specs.declared.proving.zone_records.ParameterSet.{ParameterSet}
+use Rattle.dnsv_denial.specs.declared.proving.zone_records.NameHashes.{NameHashes}
 use Rattle.dnsv_denial.specs.declared.proving.zone_records.ZoneRecords.{ZoneRecords}
 
 -- ---- what is kept
@@ -30,13 +30,13 @@ pub record IsZoneOf (Secured : ℕ → ℕ → Type 0) (rrsets : List ReceivedRr
   pub nsec3s : AreNsec3sOf Secured rrsets kept.zone kept.nsec3s
 
 -- the hashes are those of the names that a question of the name asks for
-abbrev pub IsSetOf : Labels → ParameterSet → Type 0
+abbrev pub IsSetOf : Labels → NameHashes → Type 0
 IsSetOf name set =
     AreHashes (sha1_hash (parameters_of set.parameters.now)) name set.hashed.above.items set.hashed.wildcards.items
 
 -- the sets are in the order of their parameters, and every NSEC3 record of a zone has those of one
-pub record AreSets (Secured : ℕ → ℕ → Type 0) (rrsets : List ReceivedRrset) (sets : List ParameterSet) : Type 0 where
-  pub order : (i j : ℕ) (a b : ParameterSet) → slice_get sets i ≡ Some a → slice_get sets j ≡ Some b → i < j
+pub record AreSets (Secured : ℕ → ℕ → Type 0) (rrsets : List ReceivedRrset) (sets : List NameHashes) : Type 0 where
+  pub order : (i j : ℕ) (a b : NameHashes) → slice_get sets i ≡ Some a → slice_get sets j ≡ Some b → i < j
       → parameters_cmp (parameters_of a.parameters.now) (parameters_of b.parameters.now) ≡ Less
   pub all : (zone : Labels) (n : RecordNumber) (nsec3 : Nsec3Record) → IsNsec3At Secured rrsets zone n nsec3
       → Any (λ set. parameters_of set.parameters.now ≡ nsec3.parameters) sets
@@ -50,7 +50,7 @@ pub record AreZones (Secured : ℕ → ℕ → Type 0) (rrsets : List ReceivedRr
 
 -- what a view keeps for the name
 pub record IsViewOf
-    (Secured : ℕ → ℕ → Type 0) (rrsets : List ReceivedRrset) (name : Labels) (sets : List ParameterSet)
+    (Secured : ℕ → ℕ → Type 0) (rrsets : List ReceivedRrset) (name : Labels) (sets : List NameHashes)
     (zones : List ZoneRecords) : Type 0 where
   pub hashed : AllByRecursion (IsSetOf name) sets
   -- whatever is secured
@@ -70,10 +70,10 @@ pub record IsZoneProof
 -- the place is that of the first set with which the records of the zone prove the denial
 pub record IsFirstSet
     (Secured : ℕ → ℕ → Type 0) (rrsets : List ReceivedRrset) (denial : Denial) (name zone : Labels)
-    (sets : List ParameterSet) (proof : ProofRecords) : Type 0 where
+    (sets : List NameHashes) (proof : ProofRecords) : Type 0 where
   pub place : ℕ
-  pub set : ParameterSet
+  pub set : NameHashes
   pub there : slice_get sets place ≡ Some set
   pub by_set : IsProofBy Secured rrsets denial name zone (ByNsec3 (parameters_of set.parameters.now)) proof
-  pub none_before : (k : ℕ) (earlier : ParameterSet) → k < place → slice_get sets k ≡ Some earlier
+  pub none_before : (k : ℕ) (earlier : NameHashes) → k < place → slice_get sets k ≡ Some earlier
       → ¬ StandsBy Secured rrsets (DenialForm denial name) zone (ByNsec3 (parameters_of earlier.parameters.now))

@@ -2,12 +2,12 @@
 use Rattle.dnsv_zones.specs.chains.HashedNames.{sha1_hash, AreHashes}
 use Rattle.dnsv_zones.specs.chains.Nsec3Chain.{NameHash}
 use Rattle.dnsv_zones.specs.chains.Rdata.{parameters_of}
-use Rattle.dnsv_denial.specs.declared.records.hashes.Nsec3Records.{Nsec3Records}
+use Rattle.dnsv_denial.specs.declared.records.hashed_records.HashedRecords.{HashedRecords}
 
 -- the hash that they are made with
-abbrev pub hash_of : Nsec3Records → NameHash
+abbrev pub hash_of : HashedRecords → NameHash
 hash_of hashes = sha1_hash (parameters_of hashes.parameters.now)
 
 -- they are the hashes that a question of the name asks for
-abbrev pub HasHashesOf : Nsec3Records → Type 0
+abbrev pub HasHashesOf : HashedRecords → Type 0
 HasHashesOf hashes = AreHashes (hash_of hashes) hashes.name.now hashes.above.now hashes.wildcards.now

@@ -10,7 +10,7 @@ use Rattle.dnsv_denial.specs.unsigned_cuts.Findings.{IsFewestFound, IsGreater, I
 use Rattle.dnsv_denial.specs.words.EvidenceWords.{Chain, evidence_said}
 use Rattle.dnsv_denial.specs.words.EvidenceWords.Chain.{ByNsec3}
 use Rattle.dnsv_denial.specs.declared.unsigned_cuts.shown_cuts.ShownCuts.{ShownCuts}
-use Rattle.dnsv_denial.specs.declared.proving.zone_records.ParameterSet.{ParameterSet}
+use Rattle.dnsv_denial.specs.declared.proving.zone_records.NameHashes.{NameHashes}
 
 -- ---- of a chain of a zone
 
@@ -27,11 +27,11 @@ IsOptOutOf Secured rrsets name zone chain labels =
     OptsOut (evidence_said Secured rrsets zone chain) zone name labels
 
 -- the same of the chain of the zone's NSEC3 records with the set's parameters
-abbrev pub IsCutBySet : (ℕ → ℕ → Type 0) → List ReceivedRrset → Labels → Labels → ParameterSet → ℕ → Type 0
+abbrev pub IsCutBySet : (ℕ → ℕ → Type 0) → List ReceivedRrset → Labels → Labels → NameHashes → ℕ → Type 0
 IsCutBySet Secured rrsets name zone set =
     IsCutOf Secured rrsets name zone (ByNsec3 (parameters_of set.parameters.now))
 
-abbrev pub IsOptOutBySet : (ℕ → ℕ → Type 0) → List ReceivedRrset → Labels → Labels → ParameterSet → ℕ → Type 0
+abbrev pub IsOptOutBySet : (ℕ → ℕ → Type 0) → List ReceivedRrset → Labels → Labels → NameHashes → ℕ → Type 0
 IsOptOutBySet Secured rrsets name zone set =
     IsOptOutOf Secured rrsets name zone (ByNsec3 (parameters_of set.parameters.now))
 

@@ -12,7 +12,7 @@ ghost use Rattle.dnsv_denial.specs.words.EvidenceWords.{parameters_cmp};
 
 use crate::gathering::nsec::nsecs_of;
 use crate::gathering::nsec3::nsec3s_of;
-use crate::proving::zone_records::{ParameterSet, ZoneRecords};
+use crate::proving::zone_records::{NameHashes, ZoneRecords};
 use crate::records::nsec3_entries::Nsec3Entries;
 use dnsv_canonical::Capture;
 use dnsv_chain::Trust;
@@ -52,7 +52,7 @@ pub fn sets_of<'a>(
     all: &'a [Nsec3Parameters],
     name: &Name,
     count: &mut Count,
-) -> Result<Vec<ParameterSet<'a>>, AllocError>
+) -> Result<Vec<NameHashes<'a>>, AllocError>
     ensures hashed { IfOk result (λ sets. AllByRecursion (IsSetOf name.now) sets.items) }
     ensures order { IfOk result (λ sets. IsStrictlySortedBy parameters_cmp
         (map parameters_of (map (λ set. set.parameters.now) sets.items))) }
@@ -66,7 +66,7 @@ pub fn sets_of<'a>(
     let mut sets = Vec::new(alloc);
     for parameters in ordered.iter() {
         let hashed = hash_names(alloc, name, *parameters, count)?;
-        sets.push(ParameterSet {
+        sets.push(NameHashes {
             parameters: *parameters,
             hashed,
         })?;

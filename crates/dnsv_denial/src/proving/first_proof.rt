@@ -11,7 +11,7 @@ ghost use Rattle.dnsv_denial.specs.words.EvidenceWords.{number_cmp};
 
 use crate::forms::denial::Denial;
 use crate::proving::proof::Proof;
-use crate::proving::zone_records::{ParameterSet, ZoneRecords, zone_proof};
+use crate::proving::zone_records::{NameHashes, ZoneRecords, zone_proof};
 use dnsv_names::Name;
 
 /// The first proof of the denial, by the zone with most labels that has one; or `None` where no zone has.
@@ -19,7 +19,7 @@ pub fn first_proof(
     denial: Denial,
     name: &Name,
     zones: &[ZoneRecords<'_>],
-    sets: &[ParameterSet<'_>],
+    sets: &[NameHashes<'_>],
 ) -> Option<Proof>
     requires { AllByRecursion (IsSetOf name.now) sets.now }
     ensures { (trust : KeptTrust) (rrsets : List ReceivedRrset) → AreSets (SecuredIn trust) rrsets sets.now
@@ -47,7 +47,7 @@ pub fn no_closer(
     zone: &Name,
     labels: usize,
     zones: &[ZoneRecords<'_>],
-    sets: &[ParameterSet<'_>],
+    sets: &[NameHashes<'_>],
 ) -> Option<Proof>
     requires hashed { AllByRecursion (IsSetOf name.now) sets.now }
     requires zones { length zones.now ≡ length name.now + 1 }

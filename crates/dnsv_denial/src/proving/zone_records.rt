@@ -18,7 +18,7 @@ use crate::proving::chain_proof::chain_proof;
 use crate::proving::proof::Proof;
 use crate::records::chain_records::ChainRecords;
 use crate::records::entry::NsecEntry;
-use crate::records::hashes::Nsec3Records;
+use crate::records::hashed_records::HashedRecords;
 use crate::records::nsec3_entries::Nsec3Entries;
 use dnsv_names::Name;
 use dnsv_records::Nsec3Parameters;
@@ -26,7 +26,7 @@ use dnsv_zones::HashedNames;
 
 /// Parameters of NSEC3 records, and the hashes with them of the names that a question asks for.
 #[derive(Debug, Drop)]
-pub struct ParameterSet<'a> {
+pub struct NameHashes<'a> {
     /// What the hashes are made with.
     pub parameters: &'a Nsec3Parameters,
     /// The hashes.
@@ -50,7 +50,7 @@ pub fn zone_proof(
     denial: Denial,
     name: &Name,
     zone: &ZoneRecords<'_>,
-    sets: &[ParameterSet<'_>],
+    sets: &[NameHashes<'_>],
 ) -> Option<Proof>
     requires { AllByRecursion (IsSetOf name.now) sets.now }
     ensures { (trust : KeptTrust) (rrsets : List ReceivedRrset) → IsZoneOf (SecuredIn trust) rrsets zone.now
@@ -71,12 +71,12 @@ fn nsec3_proof(
     denial: Denial,
     name: &Name,
     zone: &ZoneRecords<'_>,
-    sets: &[ParameterSet<'_>],
+    sets: &[NameHashes<'_>],
 ) -> Option<Proof>
     requires { AllByRecursion (IsSetOf name.now) sets.now }
     ensures { (trust : KeptTrust) (rrsets : List ReceivedRrset) → IsZoneOf (SecuredIn trust) rrsets zone.now
         → MatchOption result
-        ((k : ℕ) (set : ParameterSet) → slice_get sets.now k ≡ Some set
+        ((k : ℕ) (set : NameHashes) → slice_get sets.now k ≡ Some set
         → ¬ StandsBy (SecuredIn trust) rrsets (DenialForm denial name.now) zone.now.zone
         (ByNsec3 (parameters_of set.parameters.now)))
         (IsFirstSet (SecuredIn trust) rrsets denial name.now zone.now.zone sets.now) }
@@ -94,7 +94,7 @@ fn set_proof(
     denial: Denial,
     name: &Name,
     zone: &ZoneRecords<'_>,
-    set: &ParameterSet<'_>,
+    set: &NameHashes<'_>,
 ) -> Option<Proof>
     requires { IsSetOf name.now set.now }
     ensures { (trust : KeptTrust) (rrsets : List ReceivedRrset) → IsZoneOf (SecuredIn trust) rrsets zone.now
@@ -112,15 +112,15 @@ fn set_proof(
 pub fn nsec3_records<'a>(
     name: &'a Name,
     zone: &'a ZoneRecords<'a>,
-    set: &'a ParameterSet<'a>,
-) -> Nsec3Records<'a>
+    set: &'a NameHashes<'a>,
+) -> HashedRecords<'a>
     requires { IsSetOf name.now set.now }
     ensures entries { result.entries.now ≡ zone.now.nsec3s }
     ensures parameters { result.parameters.now ≡ set.now.parameters.now }
     ensures name { result.name.now ≡ name.now }
     ensures hashes { HasHashesOf result }
 {
-    Nsec3Records {
+    HashedRecords {
         entries: &zone.nsec3s,
         name,
         parameters: set.parameters,

@@ -7,7 +7,7 @@ ghost use Rattle.dnsv_denial.specs.Viewed.{SecuredIn};
 ghost use Rattle.dnsv_denial.specs.gathering.Kept.{IsViewOf};
 ghost use Rattle.dnsv_denial.specs.unsigned_cuts.Cuts.{HasOptedOutNextCloser, HasUnsignedCut, IsUnsignedCut};
 
-use crate::proving::zone_records::{ParameterSet, ZoneRecords};
+use crate::proving::zone_records::{NameHashes, ZoneRecords};
 use crate::unsigned_cuts::first_cut::{first_cut, next_closer};
 use crate::unsigned_cuts::shown_cuts::zones_cuts;
 use crate::unsigned_cuts::unusable_ds::highest_unusable_ds;
@@ -23,7 +23,7 @@ pub fn unsigned_cut(
     trust: &Trust,
     name: &Name,
     zones: &[ZoneRecords<'_>],
-    sets: &[ParameterSet<'_>],
+    sets: &[NameHashes<'_>],
 ) -> Option<Name>
     requires { IsViewOf (SecuredIn trust.now) capture.now.rrsets name.now sets.now zones.now }
     ensures { MatchOption result (¬ HasUnsignedCut (SecuredIn trust.now) capture.now.rrsets name.now)
@@ -41,7 +41,7 @@ pub fn opted_out_next_closer(
     zone: &Name,
     labels: usize,
     zones: &[ZoneRecords<'_>],
-    sets: &[ParameterSet<'_>],
+    sets: &[NameHashes<'_>],
 ) -> Option<Name>
     requires { (trust : KeptTrust) × (rrsets : List ReceivedRrset)
         × IsViewOf (SecuredIn trust) rrsets name.now sets.now zones.now }

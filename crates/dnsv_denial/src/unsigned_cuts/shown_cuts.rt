@@ -24,7 +24,7 @@ ghost use Rattle.dnsv_denial.specs.words.EvidenceWords.{Chain};
 ghost use Rattle.dnsv_denial.specs.words.EvidenceWords.Chain.{ByNsec3};
 
 use crate::forms::cuts::{opt_out, unsigned_delegation};
-use crate::proving::zone_records::{ParameterSet, ZoneRecords, nsec3_records};
+use crate::proving::zone_records::{NameHashes, ZoneRecords, nsec3_records};
 use crate::records::chain_records::ChainRecords;
 use crate::unsigned_cuts::findings::{greater, lesser};
 use dnsv_names::Name;
@@ -39,7 +39,7 @@ pub struct ShownCuts {
 }
 
 /// What any chain of these zones shows.
-pub fn zones_cuts(zones: &[ZoneRecords<'_>], name: &Name, sets: &[ParameterSet<'_>]) -> ShownCuts
+pub fn zones_cuts(zones: &[ZoneRecords<'_>], name: &Name, sets: &[NameHashes<'_>]) -> ShownCuts
     requires { AllByRecursion (IsSetOf name.now) sets.now }
     ensures { (trust : KeptTrust) (rrsets : List ReceivedRrset)
         → AreZones (SecuredIn trust) rrsets name.now zones.now → AreSets (SecuredIn trust) rrsets sets.now
@@ -57,7 +57,7 @@ pub fn zones_cuts(zones: &[ZoneRecords<'_>], name: &Name, sets: &[ParameterSet<'
 }
 
 /// What any chain of the zone shows.
-fn zone_cuts(zone: &ZoneRecords<'_>, name: &Name, sets: &[ParameterSet<'_>]) -> ShownCuts
+fn zone_cuts(zone: &ZoneRecords<'_>, name: &Name, sets: &[NameHashes<'_>]) -> ShownCuts
     requires { AllByRecursion (IsSetOf name.now) sets.now }
     ensures { (trust : KeptTrust) (rrsets : List ReceivedRrset) → IsZoneOf (SecuredIn trust) rrsets zone.now
         → AreSets (SecuredIn trust) rrsets sets.now
@@ -70,7 +70,7 @@ fn zone_cuts(zone: &ZoneRecords<'_>, name: &Name, sets: &[ParameterSet<'_>]) -> 
 }
 
 /// What the zone's NSEC3 records show with any of the sets.
-fn sets_cuts(zone: &ZoneRecords<'_>, name: &Name, sets: &[ParameterSet<'_>]) -> ShownCuts
+fn sets_cuts(zone: &ZoneRecords<'_>, name: &Name, sets: &[NameHashes<'_>]) -> ShownCuts
     requires { AllByRecursion (IsSetOf name.now) sets.now }
     ensures { (trust : KeptTrust) (rrsets : List ReceivedRrset) → IsZoneOf (SecuredIn trust) rrsets zone.now
         → AreShown
@@ -89,7 +89,7 @@ fn sets_cuts(zone: &ZoneRecords<'_>, name: &Name, sets: &[ParameterSet<'_>]) -> 
 }
 
 /// What the zone's NSEC3 records show with the set.
-fn set_cuts(zone: &ZoneRecords<'_>, name: &Name, set: &ParameterSet<'_>) -> ShownCuts
+fn set_cuts(zone: &ZoneRecords<'_>, name: &Name, set: &NameHashes<'_>) -> ShownCuts
     requires { IsSetOf name.now set.now }
     ensures { (trust : KeptTrust) (rrsets : List ReceivedRrset) → IsZoneOf (SecuredIn trust) rrsets zone.now
         → AreShown (IsCutBySet (SecuredIn trust) rrsets name.now zone.now.zone set.now)

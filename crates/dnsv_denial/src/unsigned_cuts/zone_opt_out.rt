@@ -14,7 +14,7 @@ ghost use Rattle.dnsv_denial.specs.words.EvidenceWords.{Chain};
 ghost use Rattle.dnsv_denial.specs.words.EvidenceWords.Chain.{ByNsec3};
 
 use crate::forms::wildcard_answer::opts_out_next_closer;
-use crate::proving::zone_records::{ParameterSet, ZoneRecords, nsec3_records};
+use crate::proving::zone_records::{NameHashes, ZoneRecords, nsec3_records};
 use crate::records::chain_records::ChainRecords;
 use dnsv_names::Name;
 
@@ -24,7 +24,7 @@ pub fn zone_opts_out_next_closer(
     zone: &ZoneRecords<'_>,
     name: &Name,
     labels: usize,
-    sets: &[ParameterSet<'_>],
+    sets: &[NameHashes<'_>],
 ) -> bool
     requires { AllByRecursion (IsSetOf name.now) sets.now }
     ensures { (trust : KeptTrust) (rrsets : List ReceivedRrset) → IsZoneOf (SecuredIn trust) rrsets zone.now
@@ -44,7 +44,7 @@ fn set_opts_out_next_closer(
     zone: &ZoneRecords<'_>,
     name: &Name,
     labels: usize,
-    set: &ParameterSet<'_>,
+    set: &NameHashes<'_>,
 ) -> bool
     requires { IsSetOf name.now set.now }
     ensures { (trust : KeptTrust) (rrsets : List ReceivedRrset) → IsZoneOf (SecuredIn trust) rrsets zone.now

@@ -11,7 +11,7 @@ ghost use Rattle.dnsv_denial.specs.declared.records.entry.Nsec3Entry.{Nsec3Entry
 ghost use Rattle.dnsv_denial.specs.words.SaidAt.{IsSaidAt, IsFirstPlace};
 
 use crate::records::entry::Nsec3Entry;
-use crate::records::hashes::Nsec3Records;
+use crate::records::hashed_records::HashedRecords;
 use crate::words::asked::{AskedName, AskedTypes};
 use crate::words::first_among::{earlier, first_among};
 use crate::words::search::Word;
@@ -81,7 +81,7 @@ fn same_parameters(a: &Nsec3Parameters, b: &Nsec3Parameters) -> bool
 }
 
 /// The place of the first record whose owner has the hash of the asked name, and whose types are such.
-pub fn first_match(records: &Nsec3Records<'_>, asked: AskedName, types: AskedTypes) -> Option<usize>
+pub fn first_match(records: &HashedRecords<'_>, asked: AskedName, types: AskedTypes) -> Option<usize>
     requires within { IsWithin records.now.name.now asked }
     requires hashes { HasHashesOf records.now }
     ensures { IsFirstPlace (IsSaidAt (λ entry.
@@ -100,7 +100,7 @@ pub fn first_match(records: &Nsec3Records<'_>, asked: AskedName, types: AskedTyp
 }
 
 /// The place of the first record, with the Opt-Out flag or without, that covers the hash of the asked name.
-pub fn first_cover(records: &Nsec3Records<'_>, asked: AskedName, is_opt_out: bool) -> Option<usize>
+pub fn first_cover(records: &HashedRecords<'_>, asked: AskedName, is_opt_out: bool) -> Option<usize>
     requires within { IsWithin records.now.name.now asked }
     requires hashes { HasHashesOf records.now }
     ensures { IsFirstPlace (IsSaidAt (λ entry.

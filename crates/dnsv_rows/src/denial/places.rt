@@ -7,7 +7,7 @@ use crate::evidence::capture_or_refusal;
 use crate::row::{Row, RowError};
 use dnsv_canonical::{Capture, Rrset};
 use dnsv_denial::{
-    ChainRecords, Nsec3Entries, Nsec3Entry, Nsec3Records, NsecEntry, Places, RecordNumber,
+    ChainRecords, Nsec3Entries, Nsec3Entry, HashedRecords, NsecEntry, Places, RecordNumber,
     opts_out_next_closer, no_closer, no_data, no_name, opt_out, unsigned_delegation,
 };
 use dnsv_names::{Count, Hash20, Name};
@@ -105,7 +105,7 @@ fn told_by_hashes(row: &Row, name: &Name, entries: &Nsec3Entries<'_>) -> Result<
     };
     let parameters = first.parameters;
     let hashed = hash_names(row.alloc(), name, parameters, &mut Count::new())?;
-    let set = Nsec3Records {
+    let set = HashedRecords {
         entries,
         name,
         parameters,

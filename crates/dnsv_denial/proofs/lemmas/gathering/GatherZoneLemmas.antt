@@ -24,7 +24,7 @@ use Rattle.dnsv_canonical.proofs.CanonicalLemmas.{each_map}
 use Rattle.dnsv_canonical.specs.Rrsets.{ReceivedRrset}
 use Rattle.dnsv_denial.specs.gathering.Kept.{IsSetOf, IsZoneOf}
 use Rattle.dnsv_denial.specs.words.EvidenceWords.{parameters_cmp}
-use Rattle.dnsv_denial.specs.declared.proving.zone_records.ParameterSet.{ParameterSet}
+use Rattle.dnsv_denial.specs.declared.proving.zone_records.NameHashes.{NameHashes}
 use Rattle.dnsv_denial.specs.declared.proving.zone_records.ZoneRecords.{ZoneRecords}
 use Rattle.dnsv_denial.proofs.lemmas.proving.ZoneProofLemmas.{parameters_total}
 
@@ -114,26 +114,26 @@ module _ (given sorted kept : List (Bor Nsec3Parameters)) (ordered : IsSorted (�
 -- ---- sets
 
 -- the sets of the parameters so far
-pub record AreSetsTo (name : Labels) (ordered : List (Bor Nsec3Parameters)) (i : ℕ) (sets : List ParameterSet) : Type 0 where
+pub record AreSetsTo (name : Labels) (ordered : List (Bor Nsec3Parameters)) (i : ℕ) (sets : List NameHashes) : Type 0 where
   pub same : map (λ set. set.parameters.now) sets ≡ map (λ each. each.now) (take i ordered)
   pub hashed : AllByRecursion (IsSetOf name) sets
 
 pub no_sets : (name : Labels) (ordered : List (Bor Nsec3Parameters)) → AreSetsTo name ordered 0 []
 no_sets name ordered = record { same = refl; hashed = tt }
 
-pub set_more : (name : Labels) (ordered : List (Bor Nsec3Parameters)) (i : ℕ) (sets : List ParameterSet) (set : ParameterSet) (each : Bor Nsec3Parameters)
+pub set_more : (name : Labels) (ordered : List (Bor Nsec3Parameters)) (i : ℕ) (sets : List NameHashes) (set : NameHashes) (each : Bor Nsec3Parameters)
     → i < length ordered → each ≡ get_or ordered i each → set.parameters.now ≡ each.now → IsSetOf name set → AreSetsTo name ordered i sets
     → AreSetsTo name ordered (i + 1) (sets ++ set ∷ [])
 set_more name ordered i sets set each within is its of so_far =
     let next : take (i + 1) ordered ≡ take i ordered ++ each ∷ [] = take_more ordered i each within ∙ ap (λ e. take i ordered ++ e ∷ []) (sym is) in
     record {
-      same = map-append (λ (s : ParameterSet). s.parameters.now) sets (set ∷ [])
+      same = map-append (λ (s : NameHashes). s.parameters.now) sets (set ∷ [])
           ∙ ap (λ front. front ++ set.parameters.now ∷ []) so_far.same ∙ ap (λ e. map (λ (b : Bor Nsec3Parameters). b.now) (take i ordered) ++ e ∷ []) its
           ∙ sym (map-append (λ (b : Bor Nsec3Parameters). b.now) (take i ordered) (each ∷ []))
           ∙ sym (ap (map (λ (b : Bor Nsec3Parameters). b.now)) next);
       hashed = recursion-append (IsSetOf name) sets (set ∷ []) so_far.hashed (of, tt);
     }
 
-pub all_sets : (name : Labels) (ordered : List (Bor Nsec3Parameters)) (i : ℕ) (sets : List ParameterSet) → length ordered ≤ i → AreSetsTo name ordered i sets
+pub all_sets : (name : Labels) (ordered : List (Bor Nsec3Parameters)) (i : ℕ) (sets : List NameHashes) → length ordered ≤ i → AreSetsTo name ordered i sets
     → map (λ set. set.parameters.now) sets ≡ map (λ each. each.now) ordered
 all_sets name ordered i sets whole so_far = so_far.same ∙ ap (map (λ (b : Bor Nsec3Parameters). b.now)) (take_all i ordered whole)

@@ -16,7 +16,7 @@ use Rattle.dnsv_zones.specs.chains.Rdata.{parameters_of}
 use Rattle.dnsv_canonical.proofs.CanonicalLemmas.{IsMember, IsMember-from_contains, Contains-from_member}
 use Rattle.dnsv_canonical.specs.Evidence.{AreParameters, AreParametersAmong, IsDistinct}
 use Rattle.dnsv_denial.specs.words.EvidenceWords.{parameters_cmp}
-use Rattle.dnsv_denial.specs.declared.proving.zone_records.ParameterSet.{ParameterSet}
+use Rattle.dnsv_denial.specs.declared.proving.zone_records.NameHashes.{NameHashes}
 use Rattle.dnsv_denial.proofs.lemmas.proving.ZoneProofLemmas.{parameters_total}
 
 -- ---- one after another
@@ -33,16 +33,16 @@ nothing_before n = omega arith
 pub none_counted : (name : Labels) (before : ℕ) → before ≤ count_limit → before ≡ counted before (hashes_for name [])
 none_counted name before few = still count_limit before few
 
-pub one_counted : (name : Labels) (sets : List ParameterSet) (set : ParameterSet) (before so_far after : ℕ)
+pub one_counted : (name : Labels) (sets : List NameHashes) (set : NameHashes) (before so_far after : ℕ)
     → so_far ≡ counted before (hashes_for name (map (λ each. each.parameters.now) sets))
     → after ≡ counted so_far ((2 * length name + 1) * (set.parameters.now.iterations.0 + 1))
     → after ≡ counted before (hashes_for name (map (λ each. each.parameters.now) (sets ++ set ∷ [])))
 one_counted name sets set before so_far after is next =
     let f : Nsec3Parameters → ℕ = λ each. (2 * length name + 1) * (each.iterations.0 + 1) in
-    let its : List Nsec3Parameters = map (λ (each : ParameterSet). each.parameters.now) sets in
+    let its : List Nsec3Parameters = map (λ (each : NameHashes). each.parameters.now) sets in
     let last : sum_by f (set.parameters.now ∷ []) ≡ f set.parameters.now = nothing_before (f set.parameters.now) in
-    let whole : sum_by f (map (λ (each : ParameterSet). each.parameters.now) (sets ++ set ∷ [])) ≡ sum_by f its + f set.parameters.now =
-    ap (sum_by f) (map-append (λ (each : ParameterSet). each.parameters.now) sets (set ∷ [])) ∙ sum_by-append f its (set.parameters.now ∷ []) ∙ ap (λ n. sum_by f its + n) last in
+    let whole : sum_by f (map (λ (each : NameHashes). each.parameters.now) (sets ++ set ∷ [])) ≡ sum_by f its + f set.parameters.now =
+    ap (sum_by f) (map-append (λ (each : NameHashes). each.parameters.now) sets (set ∷ [])) ∙ sum_by-append f its (set.parameters.now ∷ []) ∙ ap (λ n. sum_by f its + n) last in
     next ∙ ap (λ n. counted n (f set.parameters.now)) is ∙ counted_twice count_limit before (sum_by f its) (f set.parameters.now) ∙ ap (counted before) (sym whole)
 
 -- ---- whatever the order

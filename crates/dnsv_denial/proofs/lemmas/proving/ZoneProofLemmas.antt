@@ -20,7 +20,7 @@ use Rattle.dnsv_denial.specs.proving.FirstProof.{ProofRecords, StandsBy}
 use Rattle.dnsv_denial.specs.words.EvidenceWords.{Chain, GoesBefore, nsec3_said, parameters_cmp}
 use Rattle.dnsv_denial.specs.words.EvidenceWords.Chain.{ByNsec, ByNsec3}
 use Rattle.dnsv_denial.specs.words.EvidenceWords.GoesBefore.{nsec_first, by_parameters}
-use Rattle.dnsv_denial.specs.declared.proving.zone_records.ParameterSet.{ParameterSet}
+use Rattle.dnsv_denial.specs.declared.proving.zone_records.NameHashes.{NameHashes}
 use Rattle.dnsv_denial.proofs.lemmas.words.AlikeLemmas.{any_place}
 use Rattle.dnsv_names.specs.Tree.{wildcard_of}
 use Rattle.dnsv_denial.specs.declared.forms.denial.Denial.{Denial}
@@ -67,17 +67,17 @@ nothing_before first other (by_parameters before after less) is = cc
 
 -- ---- the first of the zone
 
-module _ (Secured : ℕ → ℕ → Type 0) (rrsets : List ReceivedRrset) (denial : Denial) (name zone : Labels) (sets : List ParameterSet) (are : AreSets Secured rrsets sets) where
+module _ (Secured : ℕ → ℕ → Type 0) (rrsets : List ReceivedRrset) (denial : Denial) (name zone : Labels) (sets : List NameHashes) (are : AreSets Secured rrsets sets) where
   -- some set has the parameters of a chain that proves the denial
   set_of : (parameters : Parameters) → StandsBy Secured rrsets (DenialForm denial name) zone (ByNsec3 parameters)
-      → (place : ℕ) × (set : ParameterSet) × (slice_get sets place ≡ Some set) × (parameters_of set.parameters.now ≡ parameters)
+      → (place : ℕ) × (set : NameHashes) × (slice_get sets place ≡ Some set) × (parameters_of set.parameters.now ≡ parameters)
   set_of parameters stands =
       let one = has_one Secured rrsets zone parameters denial name stands in
       let it = any_place (λ set. parameters_of set.parameters.now ≡ one.nsec3.parameters) sets (are.all zone one.number one.nsec3 one.is) in
       (it.0, it.1, it.2, it.3 ∙ one.same)
 
   pub none_of_zone : ¬ StandsBy Secured rrsets (DenialForm denial name) zone ByNsec
-      → ((k : ℕ) (set : ParameterSet) → slice_get sets k ≡ Some set → ¬ StandsBy Secured rrsets (DenialForm denial name) zone (ByNsec3 (parameters_of set.parameters.now)))
+      → ((k : ℕ) (set : NameHashes) → slice_get sets k ≡ Some set → ¬ StandsBy Secured rrsets (DenialForm denial name) zone (ByNsec3 (parameters_of set.parameters.now)))
       → (chain : Chain) → ¬ StandsBy Secured rrsets (DenialForm denial name) zone chain
   none_of_zone no_nsec none ByNsec stands = no_nsec stands
   none_of_zone no_nsec none (ByNsec3 parameters) stands =
@@ -91,8 +91,8 @@ module _ (Secured : ℕ → ℕ → Type 0) (rrsets : List ReceivedRrset) (denia
     first = λ other before stands. nothing_before other ByNsec before refl;
   }
 
-  earlier_set : (place : ℕ) (set : ParameterSet) → slice_get sets place ≡ Some set
-      → ((k : ℕ) (earlier : ParameterSet) → k < place → slice_get sets k ≡ Some earlier → ¬ StandsBy Secured rrsets (DenialForm denial name) zone (ByNsec3 (parameters_of earlier.parameters.now)))
+  earlier_set : (place : ℕ) (set : NameHashes) → slice_get sets place ≡ Some set
+      → ((k : ℕ) (earlier : NameHashes) → k < place → slice_get sets k ≡ Some earlier → ¬ StandsBy Secured rrsets (DenialForm denial name) zone (ByNsec3 (parameters_of earlier.parameters.now)))
       → (other : Parameters) → parameters_cmp other (parameters_of set.parameters.now) ≡ Less → ¬ StandsBy Secured rrsets (DenialForm denial name) zone (ByNsec3 other)
   earlier_set place set there none other less stands =
       let it = set_of other stands in
@@ -104,7 +104,7 @@ module _ (Secured : ℕ → ℕ → Type 0) (rrsets : List ReceivedRrset) (denia
       (λ (least : it.0 ≤ place). let same_place : it.0 ≡ place = omega (arith, most, least) in
       let moved : slice_get sets place ≡ Some it.1 = subst (λ k. slice_get sets k ≡ Some it.1) same_place it.2 in
       let same : it.1 ≡ set = cc in
-      let itself : parameters_cmp (parameters_of set.parameters.now) (parameters_of set.parameters.now) ≡ Less = subst (λ (s : ParameterSet). parameters_cmp (parameters_of s.parameters.now) (parameters_of set.parameters.now) ≡ Less) same its_less in
+      let itself : parameters_cmp (parameters_of set.parameters.now) (parameters_of set.parameters.now) ≡ Less = subst (λ (s : NameHashes). parameters_cmp (parameters_of s.parameters.now) (parameters_of set.parameters.now) ≡ Less) same its_less in
       not_both_less (parameters_of set.parameters.now) (parameters_of set.parameters.now) itself itself)
       (cases_lt place it.0))
       (cases_lt it.0 place)

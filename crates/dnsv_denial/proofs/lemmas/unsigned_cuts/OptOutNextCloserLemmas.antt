@@ -20,7 +20,7 @@ use Rattle.dnsv_denial.specs.words.EvidenceWords.{Chain, evidence_said}
 use Rattle.dnsv_denial.specs.words.EvidenceWords.Chain.{ByNsec, ByNsec3}
 use Rattle.dnsv_denial.specs.declared.records.number.RecordNumber.{RecordNumber}
 use Rattle.dnsv_denial.specs.declared.records.chain_records.ChainRecords.{ChainRecords}
-use Rattle.dnsv_denial.specs.declared.proving.zone_records.ParameterSet.{ParameterSet}
+use Rattle.dnsv_denial.specs.declared.proving.zone_records.NameHashes.{NameHashes}
 use Rattle.dnsv_denial.specs.declared.proving.zone_records.ZoneRecords.{ZoneRecords}
 use Rattle.dnsv_denial.proofs.lemmas.words.AlikeLemmas.{any_place}
 use Rattle.dnsv_denial.proofs.lemmas.proving.ChainProofLemmas.{chain_alike}
@@ -49,8 +49,8 @@ chain_leaves Secured rrsets name zone labels chain records Test are to from =
 
 -- ---- a zone
 
-module _ (Secured : ℕ → ℕ → Type 0) (rrsets : List ReceivedRrset) (name zone : Labels) (labels : ℕ) (sets : List ParameterSet) where
-  pub opt_out_by_set : (set : ParameterSet) → OptsOutNextCloserOf Secured rrsets name labels zone (ByNsec3 (parameters_of set.parameters.now))
+module _ (Secured : ℕ → ℕ → Type 0) (rrsets : List ReceivedRrset) (name zone : Labels) (labels : ℕ) (sets : List NameHashes) where
+  pub opt_out_by_set : (set : NameHashes) → OptsOutNextCloserOf Secured rrsets name labels zone (ByNsec3 (parameters_of set.parameters.now))
       → HasOptedOutNextCloser Secured rrsets name labels zone
   opt_out_by_set set leaves = record {
     above = leaves.above;
@@ -60,14 +60,14 @@ module _ (Secured : ℕ → ℕ → Type 0) (rrsets : List ReceivedRrset) (name 
   }
 
   by_chain : AreSets Secured rrsets sets → IsAbove zone name labels → (chain : Chain) (n : RecordNumber) → (evidence_said Secured rrsets zone chain).OptedOut (rightmost name (labels + 1)) n
-      → (place : ℕ) × (set : ParameterSet) × (slice_get sets place ≡ Some set) × OptsOutNextCloserOf Secured rrsets name labels zone (ByNsec3 (parameters_of set.parameters.now))
+      → (place : ℕ) × (set : NameHashes) × (slice_get sets place ≡ Some set) × OptsOutNextCloserOf Secured rrsets name labels zone (ByNsec3 (parameters_of set.parameters.now))
   by_chain are above ByNsec n said = absurd said
   by_chain are above (ByNsec3 parameters) n said =
       let it = any_place (λ set. parameters_of set.parameters.now ≡ said.0.parameters) sets (are.all zone n said.0 said.1) in
       (it.0, it.1, it.2, subst (λ p. OptsOutNextCloserOf Secured rrsets name labels zone (ByNsec3 p)) (sym said.2.0.same_parameters ∙ sym it.3) (record { above = above; opted_out = (n, said) }))
 
   pub none_opt_out : AreSets Secured rrsets sets
-      → ((k : ℕ) (set : ParameterSet) → slice_get sets k ≡ Some set → ¬ OptsOutNextCloserOf Secured rrsets name labels zone (ByNsec3 (parameters_of set.parameters.now)))
+      → ((k : ℕ) (set : NameHashes) → slice_get sets k ≡ Some set → ¬ OptsOutNextCloserOf Secured rrsets name labels zone (ByNsec3 (parameters_of set.parameters.now)))
       → ¬ HasOptedOutNextCloser Secured rrsets name labels zone
   none_opt_out are none has = let it = by_chain are has.above has.chain has.covering has.opted_out in none it.0 it.1 it.2 it.3
 

@@ -25,7 +25,7 @@ use Rattle.dnsv_denial.specs.words.EvidenceWords.Chain.{ByNsec, ByNsec3}
 use Rattle.dnsv_denial.specs.declared.records.number.RecordNumber.{RecordNumber}
 use Rattle.dnsv_denial.specs.declared.records.chain_records.ChainRecords.{ChainRecords}
 use Rattle.dnsv_denial.specs.declared.unsigned_cuts.shown_cuts.ShownCuts.{ShownCuts}
-use Rattle.dnsv_denial.specs.declared.proving.zone_records.ParameterSet.{ParameterSet}
+use Rattle.dnsv_denial.specs.declared.proving.zone_records.NameHashes.{NameHashes}
 use Rattle.dnsv_denial.specs.declared.proving.zone_records.ZoneRecords.{ZoneRecords}
 use Rattle.dnsv_denial.proofs.lemmas.words.AlikeLemmas.{any_place}
 use Rattle.dnsv_denial.proofs.lemmas.proving.ChainProofLemmas.{chain_alike}
@@ -162,15 +162,15 @@ module _ (Secured : ℕ → ℕ → Type 0) (rrsets : List ReceivedRrset) (name 
 
 -- ---- a zone
 
-module _ (Secured : ℕ → ℕ → Type 0) (rrsets : List ReceivedRrset) (name zone : Labels) (sets : List ParameterSet) (are : AreSets Secured rrsets sets) where
+module _ (Secured : ℕ → ℕ → Type 0) (rrsets : List ReceivedRrset) (name zone : Labels) (sets : List NameHashes) (are : AreSets Secured rrsets sets) where
   set_with : (number : RecordNumber) (nsec3 : Nsec3Record) → IsNsec3At Secured rrsets zone number nsec3 → (parameters : Parameters) → nsec3.parameters ≡ parameters
-      → (place : ℕ) × (set : ParameterSet) × (slice_get sets place ≡ Some set) × (parameters ≡ parameters_of set.parameters.now)
+      → (place : ℕ) × (set : NameHashes) × (slice_get sets place ≡ Some set) × (parameters ≡ parameters_of set.parameters.now)
   set_with number nsec3 is parameters same =
       let it = any_place (λ set. parameters_of set.parameters.now ≡ nsec3.parameters) sets (are.all zone number nsec3 is) in
       (it.0, it.1, it.2, sym same ∙ sym it.3)
 
   by_parameters : (P : Chain → ℕ → Type 0) (parameters : Parameters) (labels : ℕ) → P (ByNsec3 parameters) labels
-      → (place : ℕ) × (set : ParameterSet) × (slice_get sets place ≡ Some set) × (parameters ≡ parameters_of set.parameters.now)
+      → (place : ℕ) × (set : NameHashes) × (slice_get sets place ≡ Some set) × (parameters ≡ parameters_of set.parameters.now)
       → IsOfFirst sets (λ set. P (ByNsec3 (parameters_of set.parameters.now))) (length sets) labels
   by_parameters P parameters labels holds it = record {
     place = it.0;
@@ -188,7 +188,7 @@ module _ (Secured : ℕ → ℕ → Type 0) (rrsets : List ReceivedRrset) (name 
       inr (by_parameters (IsCutOf Secured rrsets name zone) parameters labels cut (set_with said.0 said.1.0 said.1.1 parameters said.1.2.0.same_parameters))
 
   out_set : (parameters : Parameters) (x y : Labels) → ((n : RecordNumber) × (nsec3_said Secured rrsets zone parameters).OptedOut x n) ⊎ ((n : RecordNumber) × (nsec3_said Secured rrsets zone parameters).OptedOut y n)
-      → (place : ℕ) × (set : ParameterSet) × (slice_get sets place ≡ Some set) × (parameters ≡ parameters_of set.parameters.now)
+      → (place : ℕ) × (set : NameHashes) × (slice_get sets place ≡ Some set) × (parameters ≡ parameters_of set.parameters.now)
   out_set parameters x y (inl said) = set_with said.0 said.1.0 said.1.1 parameters said.1.2.0.same_parameters
   out_set parameters x y (inr said) = set_with said.0 said.1.0 said.1.1 parameters said.1.2.0.same_parameters
 

@@ -24,7 +24,7 @@ use Rattle.dnsv_denial.specs.words.EvidenceWords.{number_cmp, nsec_said, nsec3_s
 use Rattle.dnsv_denial.specs.words.SaidAt.{IsSaidAt}
 use Rattle.dnsv_denial.specs.declared.records.entry.NsecEntry.{NsecEntry}
 use Rattle.dnsv_denial.specs.declared.records.entry.Nsec3Entry.{Nsec3Entry}
-use Rattle.dnsv_denial.specs.declared.records.hashes.Nsec3Records.{Nsec3Records}
+use Rattle.dnsv_denial.specs.declared.records.hashed_records.HashedRecords.{HashedRecords}
 use Rattle.dnsv_denial.specs.declared.records.number.RecordNumber.{RecordNumber}
 use Rattle.dnsv_denial.specs.declared.records.chain_records.ChainRecords.TheVariants.{Nsec, Nsec3}
 use Rattle.dnsv_denial.proofs.lemmas.gathering.GatherLemmas.{mapped_at, each_at}
@@ -95,7 +95,7 @@ nsec_alike Secured rrsets zone entries are given same = record {
   moved Says {Of} alike = subst (λ es. SaysAlike (map (λ entry. entry.number) entries) (IsSaidAt Says es) Of) (sym same) alike
 
 pub nsec3_alike : (Secured : ℕ → ℕ → Type 0) (rrsets : List ReceivedRrset) (zone : Labels) (entries : List Nsec3Entry) → AreNsec3sOf Secured rrsets zone entries
-    → (given : Bor Nsec3Records) → given.now.entries.now ≡ entries
+    → (given : Bor HashedRecords) → given.now.entries.now ≡ entries
     → SayAlike (map (λ entry. entry.number) entries) (chain_said zone (Nsec3 given)) (nsec3_said Secured rrsets zone (parameters_of given.now.parameters.now))
 nsec3_alike Secured rrsets zone entries are given same = record {
   needs_to = λ name is. is;

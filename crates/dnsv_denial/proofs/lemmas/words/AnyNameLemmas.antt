@@ -17,7 +17,7 @@ use Rattle.dnsv_denial.specs.declared.forms.denial.Denial.{Denial}
 use Rattle.dnsv_denial.specs.declared.forms.denial.Denial.TheVariants.{NoName, NoData, NoCloser}
 use Rattle.dnsv_denial.specs.declared.records.entry.Nsec3Entry.{Nsec3Entry}
 use Rattle.dnsv_denial.specs.declared.records.entry.NsecEntry.{NsecEntry}
-use Rattle.dnsv_denial.specs.declared.records.hashes.Nsec3Records.{Nsec3Records}
+use Rattle.dnsv_denial.specs.declared.records.hashed_records.HashedRecords.{HashedRecords}
 use Rattle.dnsv_denial.specs.declared.records.chain_records.ChainRecords.{ChainRecords}
 use Rattle.dnsv_denial.specs.declared.records.chain_records.ChainRecords.TheVariants.{Nsec, Nsec3}
 use Rattle.dnsv_denial.proofs.lemmas.proving.ChainProofLemmas.{chain_bound}
@@ -68,7 +68,7 @@ module _ (apex name : Labels) (found : Option ℕ) (test : Bool) (is : test ≡ 
       some_other (λ (entry : NsecEntry). IsUnsignedDelegation (IsInBitmap (read_entry entry).types))
       (λ (entry : NsecEntry). SameName entry.owner.now name × IsUnsignedDelegation (IsInBitmap (read_entry entry).types)) entries found test is (λ entry says. says.1)
 
-  pub nsec3_delegation : (hashed : Nsec3Records)
+  pub nsec3_delegation : (hashed : HashedRecords)
       → IsFirstPlace (IsSaidAt (λ entry. IsUnsignedDelegation (IsInBitmap (read_nsec3 entry).types)) hashed.entries.now) found
       → ((place : ℕ) × IsSaidAt (λ entry. Matches (hash_of hashed) (read_nsec3 entry) name × IsUnsignedDelegation (IsInBitmap (read_nsec3 entry).types)) hashed.entries.now place)
       → IsTrue test
@@ -77,7 +77,7 @@ module _ (apex name : Labels) (found : Option ℕ) (test : Bool) (is : test ≡ 
       (λ (entry : Nsec3Entry). Matches (hash_of hashed) (read_nsec3 entry) name × IsUnsignedDelegation (IsInBitmap (read_nsec3 entry).types))
       hashed.entries.now found test is (λ entry says. says.1)
 
-  pub nsec3_opt_out : (hashed : Nsec3Records)
+  pub nsec3_opt_out : (hashed : HashedRecords)
       → IsFirstPlace (IsSaidAt (λ entry. IsTrue entry.is_opt_out) hashed.entries.now) found
       → ((place : ℕ) × IsSaidAt (λ entry. Covers (hash_of hashed) (read_nsec3 entry) name × ((read_nsec3 entry).flags ≢ 0)) hashed.entries.now place) → IsTrue test
   nsec3_opt_out hashed =

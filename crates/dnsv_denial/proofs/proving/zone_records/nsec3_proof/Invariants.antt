@@ -9,11 +9,11 @@ use Rattle.dnsv_denial.specs.forms.Denials.{DenialForm}
 use Rattle.dnsv_denial.specs.gathering.Kept.{IsZoneOf}
 use Rattle.dnsv_denial.specs.proving.FirstProof.{StandsBy}
 use Rattle.dnsv_denial.specs.words.EvidenceWords.Chain.{ByNsec3}
-use Rattle.dnsv_denial.specs.declared.proving.zone_records.ParameterSet.{ParameterSet}
+use Rattle.dnsv_denial.specs.declared.proving.zone_records.NameHashes.{NameHashes}
 use Rattle.dnsv_denial.proofs.proving.zone_records.nsec3_proof.Given as goal
 
 abbrev pub invariant-loop-set : goal.invariant-loop-set
 invariant-loop-set l =
     (trust : KeptTrust) (rrsets : List ReceivedRrset) → IsZoneOf (SecuredIn trust) rrsets l.zone
-    → (k : ℕ) (set : ParameterSet) → k < l.set-index → slice_get l.sets k ≡ Some set
+    → (k : ℕ) (set : NameHashes) → k < l.set-index → slice_get l.sets k ≡ Some set
     → ¬ StandsBy (SecuredIn trust) rrsets (DenialForm l.denial l.name) l.zone.zone (ByNsec3 (parameters_of set.parameters.now))

@@ -7,7 +7,7 @@ use Rattle.dnsv_denial.specs.gathering.Kept.{IsFirstSet, IsZoneProof}
 use Rattle.dnsv_denial.specs.proving.FirstProof.{StandsBy}
 use Rattle.dnsv_denial.specs.words.EvidenceWords.{Chain}
 use Rattle.dnsv_denial.specs.words.EvidenceWords.Chain.{ByNsec, ByNsec3}
-use Rattle.dnsv_denial.specs.declared.proving.zone_records.ParameterSet.{ParameterSet}
+use Rattle.dnsv_denial.specs.declared.proving.zone_records.NameHashes.{NameHashes}
 use Rattle.dnsv_denial.proofs.lemmas.proving.ZoneProofLemmas.{first_by_nsec, first_by_set, none_of_zone, option_leads}
 use Rattle.dnsv_denial.proofs.proving.zone_records.zone_proof.Goals as goal
 
@@ -21,7 +21,7 @@ returns c = λ trust rrsets is sets.
     let no_nsec : ¬ StandsBy (SecuredIn trust) rrsets (DenialForm c.args.denial c.args.name.now) c.args.zone.now.zone ByNsec =
     c.in_default.ensures trust rrsets ByNsec (rw c.deref.ensures.value is.nsecs) in
     option_leads c.nsec3_proof.result
-    ((k : ℕ) (set : ParameterSet) → slice_get c.args.sets.now k ≡ Some set
+    ((k : ℕ) (set : NameHashes) → slice_get c.args.sets.now k ≡ Some set
     → ¬ StandsBy (SecuredIn trust) rrsets (DenialForm c.args.denial c.args.name.now) c.args.zone.now.zone (ByNsec3 (parameters_of set.parameters.now)))
     ((chain : Chain) → ¬ StandsBy (SecuredIn trust) rrsets (DenialForm c.args.denial c.args.name.now) c.args.zone.now.zone chain)
     (IsFirstSet (SecuredIn trust) rrsets c.args.denial c.args.name.now c.args.zone.now.zone c.args.sets.now)

@@ -8,11 +8,11 @@ use Rattle.dnsv_denial.specs.Viewed.{SecuredIn}
 use Rattle.dnsv_denial.specs.gathering.Kept.{IsZoneOf}
 use Rattle.dnsv_denial.specs.unsigned_cuts.ShownCuts.{OptsOutNextCloserOf}
 use Rattle.dnsv_denial.specs.words.EvidenceWords.Chain.{ByNsec3}
-use Rattle.dnsv_denial.specs.declared.proving.zone_records.ParameterSet.{ParameterSet}
+use Rattle.dnsv_denial.specs.declared.proving.zone_records.NameHashes.{NameHashes}
 use Rattle.dnsv_denial.proofs.unsigned_cuts.zone_opt_out.zone_opts_out_next_closer.Given as goal
 
 abbrev pub invariant-loop-set : goal.invariant-loop-set
 invariant-loop-set l =
     (trust : KeptTrust) (rrsets : List ReceivedRrset) → IsZoneOf (SecuredIn trust) rrsets l.zone
-    → (k : ℕ) (set : ParameterSet) → k < l.set-index → slice_get l.sets k ≡ Some set
+    → (k : ℕ) (set : NameHashes) → k < l.set-index → slice_get l.sets k ≡ Some set
     → ¬ OptsOutNextCloserOf (SecuredIn trust) rrsets l.name l.labels l.zone.zone (ByNsec3 (parameters_of set.parameters.now))

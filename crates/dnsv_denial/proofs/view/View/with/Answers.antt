@@ -1,7 +1,7 @@
 use Rattle.std.proofs.Common.{◌∙◌, subst}
 use Rattle.dnsv_denial.specs.Viewed.{SecuredIn}
 use Rattle.dnsv_denial.specs.gathering.Kept.{AreZones}
-use Rattle.dnsv_denial.proofs.lemmas.gathering.ParameterSetLemmas.{view_of_kept}
+use Rattle.dnsv_denial.proofs.lemmas.gathering.NameHashesLemmas.{view_of_kept}
 use Rattle.dnsv_denial.proofs.view.View.with.Goals as goal
 
 pub invariant_of-result : goal.invariant_of-result

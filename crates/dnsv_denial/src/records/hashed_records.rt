@@ -8,7 +8,7 @@ use dnsv_records::Nsec3Parameters;
 
 /// NSEC3 records, and the hashes with their parameters of the names that a question asks for (RFC 5155 8).
 #[derive(Clone, Copy, Debug)]
-pub struct Nsec3Records<'a> {
+pub struct HashedRecords<'a> {
     /// The records.
     pub entries: &'a Nsec3Entries<'a>,
     /// The question's name.
@@ -21,7 +21,7 @@ pub struct Nsec3Records<'a> {
     pub wildcards: &'a [Hash20],
 }
 
-impl Nsec3Records<'_> {
+impl HashedRecords<'_> {
     ghost use Rattle.dnsv_denial.specs.records.AskedHash.{hash_of, HasHashesOf};
     ghost use Rattle.dnsv_denial.specs.words.Asked.{asked_name, IsWithin};
 

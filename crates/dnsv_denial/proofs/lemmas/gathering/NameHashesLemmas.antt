@@ -22,7 +22,7 @@ use Rattle.dnsv_denial.specs.gathering.Evidence.{IsNsec3At}
 use Rattle.dnsv_denial.specs.gathering.Kept.{AreSets, AreZones, IsViewOf}
 use Rattle.dnsv_denial.specs.words.EvidenceWords.{parameters_cmp}
 use Rattle.dnsv_denial.specs.declared.records.number.RecordNumber.{RecordNumber}
-use Rattle.dnsv_denial.specs.declared.proving.zone_records.ParameterSet.{ParameterSet}
+use Rattle.dnsv_denial.specs.declared.proving.zone_records.NameHashes.{NameHashes}
 use Rattle.dnsv_denial.specs.declared.proving.zone_records.ZoneRecords.{ZoneRecords}
 use Rattle.dnsv_denial.proofs.lemmas.gathering.EvidenceLemmas.{nsec3_forms}
 use Rattle.dnsv_denial.proofs.lemmas.gathering.GatherLemmas.{each_at, mapped_at}
@@ -67,12 +67,12 @@ rising_at f R (x ∷ xs) rising zero (suc j) a b at_i at_j less =
     subst (λ y. R (f y) (f b) ≡ Less) is (each_at (λ y. R (f x) y ≡ Less) (map f xs) j (f b) rising.0 (mapped_at f xs j b at_j))
 rising_at f R (x ∷ xs) rising (suc i) (suc j) a b at_i at_j less = rising_at f R xs rising.1 i j a b at_i at_j (omega (arith, less))
 
-pub are_sets : (Secured : ℕ → ℕ → Type 0) (rrsets : List ReceivedRrset) (name : Labels) (sets : List ParameterSet)
+pub are_sets : (Secured : ℕ → ℕ → Type 0) (rrsets : List ReceivedRrset) (name : Labels) (sets : List NameHashes)
     → AreKeptHashes rrsets name sets → AreSets Secured rrsets sets
 are_sets Secured rrsets name sets kept = record {
   order = λ i j a b at_i at_j less.
-      rising_at parameters_of parameters_cmp (map (λ (set : ParameterSet). set.parameters.now) sets) kept.order i j a.parameters.now b.parameters.now
-      (mapped_at (λ (set : ParameterSet). set.parameters.now) sets i a at_i) (mapped_at (λ (set : ParameterSet). set.parameters.now) sets j b at_j) less;
+      rising_at parameters_of parameters_cmp (map (λ (set : NameHashes). set.parameters.now) sets) kept.order i j a.parameters.now b.parameters.now
+      (mapped_at (λ (set : NameHashes). set.parameters.now) sets i a at_i) (mapped_at (λ (set : NameHashes). set.parameters.now) sets j b at_j) less;
   all = λ zone n nsec3 at.
       let is = at.is in
       let forms : map (canonical_form is.rrset.rtype) is.rrset.rdata ≡ is.rrset.rdata =
@@ -80,16 +80,16 @@ are_sets Secured rrsets name sets kept = record {
       let canonical : Contains is.at.canonical is.rdata = Contains-from_member is.at.canonical is.rdata (member_at is.at.canonical (n.place - 1) is.rdata is.at.is_rdata.1) in
       let received : Contains is.rrset.rdata is.rdata = subst (λ xs. Contains xs is.rdata) forms ((is.at.is_canonical.members is.rdata).0 canonical) in
       let among : Contains (nsec3_rdata rrsets) is.rdata = among_all rrsets (n.rrset - 1) is.rrset is.rdata is.at.is_rrset.1 is.rtype received in
-      let found : Contains (map (λ (set : ParameterSet). set.parameters.now) sets) is.fields.parameters =
+      let found : Contains (map (λ (set : NameHashes). set.parameters.now) sets) is.fields.parameters =
       (kept.members is.fields.parameters).1 (is.rdata, among, (is.fields, is.read, is.usable, refl)) in
-      any_leads (λ (set : ParameterSet). set.parameters.now ≡ is.fields.parameters) (λ (set : ParameterSet). parameters_of set.parameters.now ≡ nsec3.parameters) sets
+      any_leads (λ (set : NameHashes). set.parameters.now ≡ is.fields.parameters) (λ (set : NameHashes). parameters_of set.parameters.now ≡ nsec3.parameters) sets
       (λ set same. ap parameters_of same ∙ sym is.parameters)
-      (any_member (λ (set : ParameterSet). set.parameters.now) sets is.fields.parameters
-      (IsMember-from_contains (map (λ (set : ParameterSet). set.parameters.now) sets) is.fields.parameters found));
+      (any_member (λ (set : NameHashes). set.parameters.now) sets is.fields.parameters
+      (IsMember-from_contains (map (λ (set : NameHashes). set.parameters.now) sets) is.fields.parameters found));
 }
 
 -- the hashes that are kept for the name, and the zones of it, are what a view keeps
-pub view_of_kept : (trust : KeptTrust) (hashed rrsets : List ReceivedRrset) (kept_name name : Labels) (sets : List ParameterSet) (zones : List ZoneRecords)
+pub view_of_kept : (trust : KeptTrust) (hashed rrsets : List ReceivedRrset) (kept_name name : Labels) (sets : List NameHashes) (zones : List ZoneRecords)
     → hashed ≡ rrsets → name ≡ kept_name → AreKeptHashes hashed kept_name sets → AreZones (SecuredIn trust) rrsets kept_name zones
     → IsViewOf (SecuredIn trust) rrsets name sets zones
 view_of_kept trust hashed rrsets kept_name name sets zones same its kept are =
