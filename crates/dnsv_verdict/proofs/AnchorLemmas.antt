@@ -29,7 +29,7 @@ use Rattle.dnsv_denial.specs.declared.records.number.RecordNumber.{RecordNumber}
 use Rattle.dnsv_verdict.proofs.CaseLemmas.{some_is_one}
 use Rattle.dnsv_verdict.specs.Secure.{IsSecuredAt}
 use Rattle.dnsv_verdict.specs.Settled.{IsSettled}
-use Rattle.dnsv_verdict.specs.Verdict.{Basis, HasAnchor, IsVerdictAt, Settles, anchor_owner, hopeful}
+use Rattle.dnsv_verdict.specs.Verdict.{Basis, HasAnchor, IsVerdictAt, IsSettledBy, anchor_owner, hopeful}
 use Rattle.dnsv_verdict.specs.declared.verdict.Verdict.{Verdict}
 use Rattle.dnsv_verdict.specs.declared.verdict.Verdict.TheVariants.{Indeterminate}
 
@@ -163,7 +163,7 @@ module _ (meaning : Entry → Answer) (moment : ℕ) (rrsets : List ReceivedRrse
   settled_anchor name rtype (inr (inr (inr (inr (inl cut))))) = cut_anchor name cut
   settled_anchor name rtype (inr (inr (inr (inr (inr opt_out))))) = set_anchor name _ opt_out.0 opt_out.1 opt_out.2
 
-settles_anchor : (basis : Basis) (name : Labels) (rtype : ℕ) → Settles basis name rtype → HasAnchor basis.anchors name
+settles_anchor : (basis : Basis) (name : Labels) (rtype : ℕ) → IsSettledBy basis name rtype → HasAnchor basis.anchors name
 settles_anchor basis name rtype settles = settled_anchor basis.meaning basis.moment basis.rrsets basis.anchors name rtype settles
 
 -- without an anchor the verdict is the last one

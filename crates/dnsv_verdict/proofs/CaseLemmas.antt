@@ -16,7 +16,7 @@ use Rattle.dnsv_verdict.proofs.UnknownLemmas.{one_unknown}
 use Rattle.dnsv_verdict.specs.Insecure.{IsOptOutWildcardCut, IsOptOutWildcardSet, IsUnsigned, IsUnsignedFrom}
 use Rattle.dnsv_verdict.specs.Secure.{IsFirstSuch, IsSecuredAt, IsSecureSet}
 use Rattle.dnsv_verdict.specs.Settled.{HasAlias, HasAnswer, IsSettled, IsSettledAs}
-use Rattle.dnsv_verdict.specs.Verdict.{AreUnknown, Basis, HasAnchor, IsVerdictAt, MaySettle, Settles, SettlesAs}
+use Rattle.dnsv_verdict.specs.Verdict.{AreUnknown, Basis, HasAnchor, IsVerdictAt, MayBeSettledBy, IsSettledBy, IsSettledAsBy}
 use Rattle.dnsv_verdict.specs.declared.verdict.Verdict.{Verdict}
 use Rattle.dnsv_verdict.specs.declared.verdict.Verdict.TheVariants.{SecureAnswer, SecureAlias, SecureNoName, SecureNoData, Insecure, Pending, Bogus, Indeterminate}
 
@@ -170,14 +170,14 @@ one_pending basis a b p q = p.1 ∙ ap (λ entries. Pending entries) (one_unknow
 -- the eight cases, each where none before it holds
 abbrev FirstOf : Basis → Labels → ℕ → Verdict → Type 0
 FirstOf basis name t =
-    Else (Settles basis name t) (SettlesAs basis name t)
-    (Else (MaySettle basis name t) (λ v. MaySettle basis name t × PendingAs basis v)
+    Else (IsSettledBy basis name t) (IsSettledAsBy basis name t)
+    (Else (MayBeSettledBy basis name t) (λ v. MayBeSettledBy basis name t × PendingAs basis v)
     (Else (HasAnchor basis.anchors name) (λ v. HasAnchor basis.anchors name × (v ≡ Bogus)) (λ v. v ≡ Indeterminate)))
 
 one_of : (basis : Basis) (name : Labels) (t : ℕ) → IsOne (FirstOf basis name t)
 one_of basis name t =
-    one_else (Settles basis name t) (SettlesAs basis name t) _ (λ v p. settled_stands _ basis.rrsets name t v p) (one_settled_as _ basis.rrsets name t)
-    (one_else (MaySettle basis name t) _ _ (λ v p. p.0) (λ a b p q. one_pending basis a b p.1 q.1)
+    one_else (IsSettledBy basis name t) (IsSettledAsBy basis name t) _ (λ v p. settled_stands _ basis.rrsets name t v p) (one_settled_as _ basis.rrsets name t)
+    (one_else (MayBeSettledBy basis name t) _ _ (λ v p. p.0) (λ a b p q. one_pending basis a b p.1 q.1)
     (one_else (HasAnchor basis.anchors name) _ _ (λ v p. p.0) (λ a b p q. p.1 ∙ sym q.1) (λ a b p q. p ∙ sym q)))
 
 first_of_eight : (basis : Basis) (name : Labels) (t : ℕ) (verdict : Verdict) → IsVerdictAt basis name t verdict → FirstOf basis name t verdict

@@ -12,7 +12,7 @@ use Rattle.dnsv_denial.specs.Viewed.{SecuredIn}
 use Rattle.dnsv_names.specs.Name.{Labels}
 use Rattle.dnsv_verdict.proofs.SettledLemmas.{settled_as_to, settled_to}
 use Rattle.dnsv_verdict.specs.Settled.{IsSettled, IsSettledAs}
-use Rattle.dnsv_verdict.specs.Verdict.{Basis, IsVerdictAt, SettlesAs}
+use Rattle.dnsv_verdict.specs.Verdict.{Basis, IsVerdictAt, IsSettledAsBy}
 use Rattle.dnsv_verdict.specs.declared.verdict.Verdict.{Verdict}
 use Rattle.dnsv_verdict.specs.declared.verdict.Verdict.TheVariants.{SecureAnswer, SecureAlias, SecureNoName, SecureNoData, Insecure, Pending, Bogus, Indeterminate}
 
@@ -49,7 +49,7 @@ module _ (meaning : Entry → Answer) (moment : ℕ) (rrsets : List ReceivedRrse
       settled_as_to (SecuredIn trust) (IsSecured meaning moment rrsets anchors) secured_to secured_from rrsets name t verdict
 
 -- what is settled is the verdict
-pub settled_is_verdict : (basis : Basis) (name : Labels) (t : ℕ) (verdict : Verdict) → SettlesAs basis name t verdict → IsVerdictAt basis name t verdict
+pub settled_is_verdict : (basis : Basis) (name : Labels) (t : ℕ) (verdict : Verdict) → IsSettledAsBy basis name t verdict → IsVerdictAt basis name t verdict
 settled_is_verdict basis name t (SecureAnswer k s) is = is
 settled_is_verdict basis name t (SecureAlias k s) is = is
 settled_is_verdict basis name t (SecureNoName proof) is = is

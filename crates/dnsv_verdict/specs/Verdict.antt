@@ -41,17 +41,17 @@ hopeful basis = with_meaning basis (λ entry. hoped_answer (basis.meaning entry)
 -- ---- the cases, in their order
 
 -- 1 to 5: the evidence settles it, as `IsSettled` says
-abbrev pub Settles : Basis → Labels → ℕ → Type 0
-Settles basis name t = IsSettled (IsSecured basis.meaning basis.moment basis.rrsets basis.anchors) basis.rrsets name t
+abbrev pub IsSettledBy : Basis → Labels → ℕ → Type 0
+IsSettledBy basis name t = IsSettled (IsSecured basis.meaning basis.moment basis.rrsets basis.anchors) basis.rrsets name t
 
 -- and so
-abbrev pub SettlesAs : Basis → Labels → ℕ → Verdict → Type 0
-SettlesAs basis name t verdict =
+abbrev pub IsSettledAsBy : Basis → Labels → ℕ → Verdict → Type 0
+IsSettledAsBy basis name t verdict =
     IsSettledAs (IsSecured basis.meaning basis.moment basis.rrsets basis.anchors) basis.rrsets name t verdict
 
 -- 6: it would settle it if what isn't known were valid
-abbrev pub MaySettle : Basis → Labels → ℕ → Type 0
-MaySettle basis name t = Settles (hopeful basis) name t
+abbrev pub MayBeSettledBy : Basis → Labels → ℕ → Type 0
+MayBeSettledBy basis name t = IsSettledBy (hopeful basis) name t
 
 -- what the verifier is asked and doesn't know, in order
 pub record AreUnknown (basis : Basis) (entries : List Entry) : Type 0 where
@@ -80,15 +80,15 @@ pub record IsNumberAsked (moment : ℕ) (rrsets : List ReceivedRrset) (count : �
 -- the verdict at a name, for a type: that of the first case which holds
 abbrev pub IsVerdictAt : Basis → Labels → ℕ → Verdict → Type 0
 IsVerdictAt basis name t (Pending entries) =
-    (¬ Settles basis name t) × MaySettle basis name t × AreUnknown basis entries
-IsVerdictAt basis name t Bogus = (¬ Settles basis name t) × (¬ MaySettle basis name t) × HasAnchor basis.anchors name
+    (¬ IsSettledBy basis name t) × MayBeSettledBy basis name t × AreUnknown basis entries
+IsVerdictAt basis name t Bogus = (¬ IsSettledBy basis name t) × (¬ MayBeSettledBy basis name t) × HasAnchor basis.anchors name
 IsVerdictAt basis name t Indeterminate =
-    (¬ Settles basis name t) × (¬ MaySettle basis name t) × (¬ HasAnchor basis.anchors name)
-IsVerdictAt basis name t verdict = SettlesAs basis name t verdict
+    (¬ IsSettledBy basis name t) × (¬ MayBeSettledBy basis name t) × (¬ HasAnchor basis.anchors name)
+IsVerdictAt basis name t verdict = IsSettledAsBy basis name t verdict
 
 -- the verdict is one of the first five, which need no more answers
-abbrev pub IsConclusive : Verdict → Type 0
-IsConclusive (Pending entries) = ⊥
-IsConclusive Bogus = ⊥
-IsConclusive Indeterminate = ⊥
-IsConclusive verdict = Unit {0}
+abbrev pub IsSettledVerdict : Verdict → Type 0
+IsSettledVerdict (Pending entries) = ⊥
+IsSettledVerdict Bogus = ⊥
+IsSettledVerdict Indeterminate = ⊥
+IsSettledVerdict verdict = Unit {0}

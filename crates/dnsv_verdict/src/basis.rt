@@ -10,7 +10,7 @@ ghost use Rattle.dnsv_verifier.specs.Entry.{entry_cmp};
 ghost use Rattle.dnsv_verifier.specs.Table.{IsTableOf, table_answer, unknown_entries};
 ghost use Rattle.dnsv_verifier.specs.declared.answer.Answer.{Answer};
 ghost use Rattle.dnsv_verifier.specs.declared.entry.Entry.{Entry};
-ghost use Rattle.dnsv_verdict.specs.Verdict.{HasAnchor, IsVerdictAt, MaySettle, Settles, anchor_owner};
+ghost use Rattle.dnsv_verdict.specs.Verdict.{HasAnchor, IsVerdictAt, MayBeSettledBy, IsSettledBy, anchor_owner};
 
 use crate::entries::Entries;
 use crate::settled::settled;
@@ -62,7 +62,7 @@ pub fn verdict_at(
         return Ok(verdict);
     }
     let unknown = basis.table.unknown(alloc)?;
-    if may_settle(alloc, basis, &hashes, &unknown, name, rtype)? {
+    if may_be_settled(alloc, basis, &hashes, &unknown, name, rtype)? {
         return Ok(Verdict::Pending(Entries::from_vec(unknown)));
     }
     if has_anchor(basis.anchors, name) {
@@ -74,7 +74,7 @@ pub fn verdict_at(
 /// Whether the evidence, which doesn't settle the question, would if each of the entries that the verifier doesn't know
 /// were valid. Where there are none, nothing is worked out again. The hashes are those for the name: none depends on the
 /// trust, so that they serve again.
-fn may_settle<'a>(
+fn may_be_settled<'a>(
     alloc: Global,
     basis: &Basis<'a>,
     hashes: &Hashes<'a>,
@@ -88,13 +88,13 @@ fn may_settle<'a>(
     requires rising { IsStrictlySortedBy entry_cmp unknown.now }
     ensures { (meaning : Entry → Answer) (moment : ℕ)
         → IsTableOf meaning moment basis.now.capture.now.rrsets basis.now.table.now
-        → ¬ Settles (record {
+        → ¬ IsSettledBy (record {
           rrsets = basis.now.capture.now.rrsets;
           anchors = basis.now.anchors.now;
           moment = moment;
           meaning = meaning;
         }) name.now rtype.0
-        → IfOk result (λ may. IsTrue may ↔ MaySettle (record {
+        → IfOk result (λ may. IsTrue may ↔ MayBeSettledBy (record {
           rrsets = basis.now.capture.now.rrsets;
           anchors = basis.now.anchors.now;
           moment = moment;

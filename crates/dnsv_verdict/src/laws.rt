@@ -9,7 +9,7 @@ ghost use Rattle.dnsv_verifier.specs.declared.answer.Answer.TheVariants.{Valid};
 ghost use Rattle.dnsv_verifier.specs.declared.entry.Entry.{Entry};
 ghost use Rattle.dnsv_chain.specs.declared.anchor.Anchor.{Anchor};
 ghost use Rattle.dnsv_verdict.specs.NoLess.{AnswersNoLess, IsNoLess, basis_of, case_of};
-ghost use Rattle.dnsv_verdict.specs.Verdict.{Basis, HasAnchor, IsConclusive, IsVerdictAt, Settles, with_meaning};
+ghost use Rattle.dnsv_verdict.specs.Verdict.{Basis, HasAnchor, IsSettledVerdict, IsVerdictAt, IsSettledBy, with_meaning};
 
 use crate::verdict::Verdict;
 use dnsv_canonical::earlier_rrsets_keep_their_numbers;
@@ -44,12 +44,12 @@ pub fn valid_answers_settle_what_depends_on_them()
         → IsVerdictAt basis name t (Verdict.Pending entries)
         → ((entry : Entry) → Contains entries entry → later entry ≡ Valid)
         → ((entry : Entry) → ¬ Contains entries entry → later entry ≡ basis.meaning entry)
-        → Settles (with_meaning basis later) name t }
+        → IsSettledBy (with_meaning basis later) name t }
     ensures verdict { (basis : Basis) (name : Labels) (t : ℕ) (entries : List Entry) (later : Entry → Answer)
         → IsVerdictAt basis name t (Verdict.Pending entries)
         → ((entry : Entry) → Contains entries entry → later entry ≡ Valid)
         → ((entry : Entry) → ¬ Contains entries entry → later entry ≡ basis.meaning entry)
-        → (verdict : Verdict) → IsVerdictAt (with_meaning basis later) name t verdict → IsConclusive verdict }
+        → (verdict : Verdict) → IsVerdictAt (with_meaning basis later) name t verdict → IsSettledVerdict verdict }
     ensures some { (basis : Basis) (name : Labels) (t : ℕ) → ¬ IsVerdictAt basis name t (Verdict.Pending []) }
 {
     trust_depends_on_what_is_asked();

@@ -14,7 +14,7 @@ use Rattle.dnsv_denial.specs.unsigned_cuts.Cuts.{HasUnsignedCut}
 use Rattle.dnsv_denial.proofs.meaning.JustChainProofs.{can_be, just_no_name, just_no_data, just3_no_name, just3_no_data}
 use Rattle.dnsv_denial.proofs.meaning.WholeChainProofs.{without_opt_out_no_name, without_opt_out_no_data, no_name_or_cut, no_data_or_cut}
 use Rattle.dnsv_verdict.specs.Complete.{SaysNoName, SaysNoData, SaysInsecure, IsDenied, IsDeniedOrUnsigned, IsDeniedSomehow, SecuredBy, HasNoAnswer, TellsWholeChains}
-use Rattle.dnsv_verdict.specs.Verdict.{Basis, IsVerdictAt, Settles}
+use Rattle.dnsv_verdict.specs.Verdict.{Basis, IsVerdictAt, IsSettledBy}
 use Rattle.dnsv_verdict.specs.declared.verdict.Verdict.{Verdict}
 use Rattle.dnsv_verdict.specs.declared.verdict.Verdict.TheVariants.{SecureAnswer, SecureAlias, SecureNoName, SecureNoData, Insecure, Pending, Bogus, Indeterminate}
 
@@ -35,7 +35,7 @@ module _ (basis : Basis) (name : Labels) (t : ℕ) where
     if_no_data : CanProveNoData (SecuredBy basis) basis.rrsets name t → SaysNoName verdict ⊎ SaysNoData verdict
     if_cut : HasUnsignedCut (SecuredBy basis) basis.rrsets name → SaysNoName verdict ⊎ SaysNoData verdict ⊎ SaysInsecure verdict
 
-  unsettled : (verdict : Verdict) → (SaysNoName verdict → ⊥) → (SaysNoData verdict → ⊥) → ¬ Settles basis name t → Told verdict
+  unsettled : (verdict : Verdict) → (SaysNoName verdict → ⊥) → (SaysNoData verdict → ⊥) → ¬ IsSettledBy basis name t → Told verdict
   unsettled verdict not_name not_data none = record {
     no_name = λ says. absurd (not_name says);
     no_data = λ says. absurd (not_data says);

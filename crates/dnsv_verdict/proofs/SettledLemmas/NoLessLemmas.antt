@@ -18,7 +18,7 @@ use Rattle.dnsv_verdict.proofs.SettledLemmas.{answer_to, alias_to, settled_to, u
 use Rattle.dnsv_verdict.specs.Insecure.{IsUnsigned}
 use Rattle.dnsv_verdict.specs.NoLess.{AnswersNoLess, IsNoLess, case_of}
 use Rattle.dnsv_verdict.specs.Settled.{HasAlias, HasAnswer}
-use Rattle.dnsv_verdict.specs.Verdict.{Basis, HasAnchor, IsVerdictAt, MaySettle, hopeful}
+use Rattle.dnsv_verdict.specs.Verdict.{Basis, HasAnchor, IsVerdictAt, MayBeSettledBy, hopeful}
 use Rattle.dnsv_verdict.specs.declared.verdict.Verdict.{Verdict}
 use Rattle.dnsv_verdict.specs.declared.verdict.Verdict.TheVariants.{SecureAnswer, SecureAlias, SecureNoName, SecureNoData, Insecure, Pending, Bogus, Indeterminate}
 
@@ -109,7 +109,7 @@ module _ (basis : Basis) (name : Labels) (t : ℕ) where
   by_cut unsigned Bogus is = absurd (is.0 (inr (inr (inr (inr unsigned)))))
   by_cut unsigned Indeterminate is = absurd (is.0 (inr (inr (inr (inr unsigned)))))
 
-  by_hope : MaySettle basis name t → (verdict : Verdict) → IsVerdictAt basis name t verdict → case_of verdict ≤ 6
+  by_hope : MayBeSettledBy basis name t → (verdict : Verdict) → IsVerdictAt basis name t verdict → case_of verdict ≤ 6
   by_hope may (SecureAnswer k s) is = omega arith
   by_hope may (SecureAlias k s) is = omega arith
   by_hope may (SecureNoName proof) is = omega arith

@@ -11,7 +11,7 @@ use Rattle.dnsv_verifier.specs.declared.entry.Entry.{Entry}
 use Rattle.dnsv_chain.specs.Trusted.{IsSecured}
 use Rattle.dnsv_chain.specs.declared.anchor.Anchor.{Anchor}
 use Rattle.dnsv_verdict.proofs.SettledLemmas.{settled_to}
-use Rattle.dnsv_verdict.specs.Verdict.{AreUnknown, Basis, IsConclusive, IsVerdictAt, MaySettle, Settles, with_meaning}
+use Rattle.dnsv_verdict.specs.Verdict.{AreUnknown, Basis, IsSettledVerdict, IsVerdictAt, MayBeSettledBy, IsSettledBy, with_meaning}
 use Rattle.dnsv_verdict.specs.declared.verdict.Verdict.{Verdict}
 use Rattle.dnsv_verdict.specs.declared.verdict.Verdict.TheVariants.{SecureAnswer, SecureAlias, SecureNoName, SecureNoData, Insecure, Pending, Bogus, Indeterminate}
 
@@ -31,10 +31,10 @@ module _
     → ((entry : Entry) → IsAsked moment rrsets entry → first entry ≡ second entry)
     → (k s : ℕ) → IsSecured first moment rrsets anchors k s → IsSecured second moment rrsets anchors k s) where
   pub hopes_settle : (basis : Basis) (name : Labels) (t : ℕ) (entries : List Entry) (later : Entry → Answer)
-      → MaySettle basis name t → AreUnknown basis entries
+      → MayBeSettledBy basis name t → AreUnknown basis entries
       → ((entry : Entry) → Contains entries entry → later entry ≡ Valid)
       → ((entry : Entry) → ¬ Contains entries entry → later entry ≡ basis.meaning entry)
-      → Settles (with_meaning basis later) name t
+      → IsSettledBy (with_meaning basis later) name t
   hopes_settle basis name t entries later may unknown valid others =
       let hoped : Entry → Answer = λ entry. hoped_answer (basis.meaning entry) in
       settled_to (IsSecured hoped basis.moment basis.rrsets basis.anchors) (IsSecured later basis.moment basis.rrsets basis.anchors)
@@ -42,13 +42,13 @@ module _
       (λ entry asked. as_hoped basis entries later unknown valid others entry asked (basis.meaning entry) refl)) basis.rrsets basis.rrsets (λ k rrset is. is) name t may
 
   -- where nothing is unknown, hope changes nothing
-  pub nothing_to_hope : (basis : Basis) (name : Labels) (t : ℕ) → AreUnknown basis [] → MaySettle basis name t → Settles basis name t
+  pub nothing_to_hope : (basis : Basis) (name : Labels) (t : ℕ) → AreUnknown basis [] → MayBeSettledBy basis name t → IsSettledBy basis name t
   nothing_to_hope basis name t unknown may =
       hopes_settle basis name t [] basis.meaning may unknown (λ entry found. absurd (omega (arith, found.1))) (λ entry other. refl)
 
 -- a verdict on what is settled is one of the first five
-pub settled_is_conclusive : (basis : Basis) (name : Labels) (t : ℕ) (verdict : Verdict) → Settles basis name t
-    → IsVerdictAt basis name t verdict → IsConclusive verdict
+pub settled_is_conclusive : (basis : Basis) (name : Labels) (t : ℕ) (verdict : Verdict) → IsSettledBy basis name t
+    → IsVerdictAt basis name t verdict → IsSettledVerdict verdict
 settled_is_conclusive basis name t (SecureAnswer k s) settles is = tt
 settled_is_conclusive basis name t (SecureAlias k s) settles is = tt
 settled_is_conclusive basis name t (SecureNoName proof) settles is = tt

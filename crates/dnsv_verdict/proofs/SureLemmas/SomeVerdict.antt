@@ -27,7 +27,7 @@ use Rattle.dnsv_verdict.proofs.TrustLemmas.{settled_is_verdict}
 use Rattle.dnsv_verdict.specs.Insecure.{IsOptOutWildcardSet, IsUnsigned, IsUnsignedFrom}
 use Rattle.dnsv_verdict.specs.Secure.{IsSecureSet}
 use Rattle.dnsv_verdict.specs.Settled.{HasAlias, HasAnswer, IsSettled, IsSettledAs}
-use Rattle.dnsv_verdict.specs.Verdict.{AreUnknown, Basis, HasAnchor, IsVerdictAt, MaySettle, Settles}
+use Rattle.dnsv_verdict.specs.Verdict.{AreUnknown, Basis, HasAnchor, IsVerdictAt, MayBeSettledBy, IsSettledBy}
 use Rattle.dnsv_verdict.specs.declared.verdict.Verdict.{Verdict}
 use Rattle.dnsv_verdict.specs.declared.verdict.Verdict.TheVariants.{SecureAnswer, SecureAlias, SecureNoName, SecureNoData, Insecure, Pending, Bogus, Indeterminate}
 
@@ -161,10 +161,10 @@ some_unknown basis =
 
 pub some_verdict : (basis : Basis) (name : Labels) (t : ℕ) → Surely ((verdict : Verdict) × IsVerdictAt basis name t verdict)
 some_verdict basis name t =
-    by_cases (Settles basis name t)
+    by_cases (IsSettledBy basis name t)
     (λ settles. and_then (some_settled (IsSecured basis.meaning basis.moment basis.rrsets basis.anchors) basis.rrsets name t settles)
     (λ found. surely (found.0, settled_is_verdict basis name t found.0 found.1)))
-    (λ none. by_cases (MaySettle basis name t)
+    (λ none. by_cases (MayBeSettledBy basis name t)
     (λ may. and_then (some_unknown basis) (λ found. surely (Pending found.0, (none, may, found.1))))
     (λ never. by_cases (HasAnchor basis.anchors name)
     (λ has. surely (Bogus, (none, never, has)))

@@ -25,7 +25,7 @@ returns-then-branch-clause-value c = λ meaning moment table.
     c.trust_depends_on_what_is_asked.ensures.numbers c.requires c.args.name.now c.args.rtype.0
     (MatchOption-at_none _ _ c.in_default.is c.settled.ensures) in (
       never,
-      (c.in_ok-may_settle.ensures meaning moment table never).0 c.if-branch.true,
+      (c.in_ok-may_be_settled.ensures meaning moment table never).0 c.if-branch.true,
       subst (λ entries. AreUnknown judged entries) (sym c.from_vec.ensures)
           (table_unknown judged basis.table.now table c.in_ok-unknown.unknown.items c.in_ok-unknown.ensures.value c.in_ok-unknown.ensures.rising),
     )
@@ -38,7 +38,7 @@ returns-then-has_anchor-clause-value c = λ meaning moment table.
     c.trust_depends_on_what_is_asked.ensures.numbers c.requires c.args.name.now c.args.rtype.0
     (MatchOption-at_none _ _ c.in_default.is c.settled.ensures) in (
       never,
-      λ may. (let holds = (c.in_ok-may_settle.ensures meaning moment table never).1 may in let fails = c.if-branch.false in cc),
+      λ may. (let holds = (c.in_ok-may_be_settled.ensures meaning moment table never).1 may in let fails = c.if-branch.false in cc),
       c.has_anchor.ensures.0 c.if-has_anchor.true,
     )
 
@@ -50,6 +50,6 @@ returns-clause-value c = λ meaning moment table.
     c.trust_depends_on_what_is_asked.ensures.numbers c.requires c.args.name.now c.args.rtype.0
     (MatchOption-at_none _ _ c.in_default.is c.settled.ensures) in (
       never,
-      λ may. (let holds = (c.in_ok-may_settle.ensures meaning moment table never).1 may in let fails = c.if-branch.false in cc),
+      λ may. (let holds = (c.in_ok-may_be_settled.ensures meaning moment table never).1 may in let fails = c.if-branch.false in cc),
       λ has. (let holds = c.has_anchor.ensures.1 has in let fails = c.if-has_anchor.false in cc),
     )

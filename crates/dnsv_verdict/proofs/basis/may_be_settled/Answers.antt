@@ -10,7 +10,7 @@ use Rattle.dnsv_verdict.proofs.SettledLemmas.PendingLemmas.{nothing_to_hope}
 use Rattle.dnsv_verdict.proofs.TrustLemmas.{settled_by_trust, settled_from_trust}
 use Rattle.dnsv_verdict.proofs.UnknownLemmas.{none_unknown, table_unknown}
 use Rattle.dnsv_verdict.specs.Verdict.{AreUnknown, Basis}
-use Rattle.dnsv_verdict.proofs.basis.may_settle.Goals as goal
+use Rattle.dnsv_verdict.proofs.basis.may_be_settled.Goals as goal
 
 pub returns-then-is_empty : goal.returns-then-is_empty
 returns-then-is_empty c = λ meaning moment table unsettled.
