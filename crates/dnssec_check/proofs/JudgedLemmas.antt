@@ -11,6 +11,7 @@ use Rattle.dnsv_chain.specs.declared.anchor.Anchor.{Anchor}
 use Rattle.dnsv_verdict.specs.Way.{IsRefusedFor}
 use Rattle.dnsv_verdict.specs.declared.error.VerdictError.{VerdictError}
 use Rattle.dnsv_verdict.specs.declared.error.VerdictError.TheVariants as error
+use Rattle.dnsv_verdict.specs.Verdict.{basis_of}
 use Rattle.dnssec_check.specs.declared.opening.Opening.{Opening}
 use Rattle.dnssec_check.specs.declared.run.Inputs.{Inputs}
 use Rattle.dnssec_check.specs.declared.status.Fault.{Fault}
@@ -115,7 +116,7 @@ pub stopped_there : (name : Labels) (rtype moment : ℕ) (files : Files) (openin
     → IfSome octets (λ file. (messages : List Contents) × Holds NewEvidence opening file messages × (held ≡ evidence_of messages))
     → HasAnchors (octets_or_none files.anchors) anchors → IsMeaningOf (octets_or_none files.statements) meaning
     → (error : VerdictError)
-    → IsRefusedFor (record { rrsets = held.rrsets; anchors = anchors; moment = moment; meaning = meaning }) name rtype error
+    → IsRefusedFor (basis_of held.rrsets anchors moment meaning) name rtype error
     → IsStopped name rtype moment files (verdict_fault error)
 stopped_there name rtype moment files opening opens held anchors meaning is taken trusted said error refused =
     let evidence = of_told (λ file. (messages : List Contents) × Holds NewEvidence opening file messages × (held ≡ evidence_of messages)) is taken in record {
@@ -128,6 +129,6 @@ stopped_there name rtype moment files opening opens held anchors meaning is take
       meaning = meaning;
       said = said;
       error = error;
-      refused = subst (λ (each : Evidence). IsRefusedFor (record { rrsets = each.rrsets; anchors = anchors; moment = moment; meaning = meaning }) name rtype error) evidence.2 refused;
+      refused = subst (λ (each : Evidence). IsRefusedFor (basis_of each.rrsets anchors moment meaning) name rtype error) evidence.2 refused;
       is = refl;
     }

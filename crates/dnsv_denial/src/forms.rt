@@ -1,8 +1,8 @@
 //! Which records of one chain make a form of proof.
 pub mod by_wildcard;
-pub mod wildcard_answer;
 pub mod cuts;
 pub mod denial;
 pub mod end_limits;
 pub mod ends;
 pub mod missing_type;
+pub mod wildcard_answer;

@@ -5,10 +5,10 @@
 #![tactic(auto)]
 
 pub use forms::by_wildcard::no_name;
-pub use forms::wildcard_answer::{opts_out_next_closer, no_closer};
 pub use forms::cuts::{opt_out, unsigned_delegation};
 pub use forms::ends::Places;
 pub use forms::missing_type::no_data;
+pub use forms::wildcard_answer::{no_closer, opts_out_next_closer};
 pub use proving::proof::Proof;
 pub use question_hashes::Hashes;
 pub use records::chain_records::ChainRecords;

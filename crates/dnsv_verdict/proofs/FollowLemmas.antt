@@ -15,7 +15,7 @@ use Rattle.dnsv_zones.specs.chains.HashedNames.{hashes_for}
 use Rattle.dnsv_verdict.proofs.HashedLemmas.{hashes_more}
 use Rattle.dnsv_verdict.proofs.WayLemmas.{empty_way, names_behind, way_more}
 use Rattle.dnsv_verdict.specs.Hashed.{hashes_on}
-use Rattle.dnsv_verdict.specs.Verdict.{Basis, IsVerdictAt}
+use Rattle.dnsv_verdict.specs.Verdict.{Basis, IsVerdictAt, basis_of}
 use Rattle.dnsv_verdict.specs.Way.{IsAlias, IsAmong, IsRefusedFor, IsTarget, IsVerdictOf, IsWay, Stops, names_on}
 use Rattle.dnsv_verdict.specs.declared.error.VerdictError.{VerdictError}
 use Rattle.dnsv_verdict.specs.declared.error.VerdictError.TheVariants.{OutOfMemory}
@@ -23,13 +23,10 @@ use Rattle.dnsv_verdict.specs.declared.link.Link.{Link}
 use Rattle.dnsv_verdict.specs.declared.verdict.Verdict.{Verdict}
 use Rattle.dnsv_verdict.specs.declared.verdict.Verdict.TheVariants.{SecureAlias}
 
-abbrev pub judged : List ReceivedRrset → List Anchor → ℕ → (Entry → Answer) → Basis
-judged rrsets anchors moment meaning = record { rrsets = rrsets; anchors = anchors; moment = moment; meaning = meaning }
-
 -- of each basis that the table is of
 abbrev pub OfTable : List ReceivedRrset → List Anchor → TableContents → (Basis → Type 0) → Type 0
 OfTable rrsets anchors table Holds =
-    (meaning : Entry → Answer) (moment : ℕ) → IsTableOf meaning moment rrsets table → Holds (judged rrsets anchors moment meaning)
+    (meaning : Entry → Answer) (moment : ℕ) → IsTableOf meaning moment rrsets table → Holds (basis_of rrsets anchors moment meaning)
 
 -- hashing each of the names, with each parameters, makes the count this one
 abbrev pub AreCounted : List ReceivedRrset → List Labels → ℕ → ℕ → Type 0
@@ -49,8 +46,8 @@ pub record IsFollowed
 pub followed_none : (rrsets : List ReceivedRrset) (anchors : List Anchor) (table : TableContents) (t : ℕ) (name last : Labels) (count : ℕ)
     → last ≡ name → IsName name → counted count 0 ≡ count → IsFollowed rrsets anchors table t name count count [] last
 followed_none rrsets anchors table t name last count same is counts = record {
-  way = λ meaning moment of. subst (λ n. IsWay (judged rrsets anchors moment meaning) t name [] n) (sym same)
-      (empty_way (judged rrsets anchors moment meaning) t name);
+  way = λ meaning moment of. subst (λ n. IsWay (basis_of rrsets anchors moment meaning) t name [] n) (sym same)
+      (empty_way (basis_of rrsets anchors moment meaning) t name);
   names = (subst (λ n. IsName n) (sym same) is, tt);
   counts = λ all are. sym counts;
 }
@@ -82,7 +79,7 @@ pub followed_more : (rrsets : List ReceivedRrset) (anchors : List Anchor) (table
 followed_more rrsets anchors table t name before between after links last k s target so_far alias counts to new few asked =
     let link : Link = record { name = last; rrset = k; signature = s } in
     record {
-      way = λ meaning moment of. way_more (judged rrsets anchors moment meaning) t name links last k s target
+      way = λ meaning moment of. way_more (basis_of rrsets anchors moment meaning) t name links last k s target
           (so_far.way meaning moment of) (alias meaning moment of) to new few asked;
       names = subst (λ ns. AllByRecursion IsName ns) (sym (names_behind links link [] target)) (each_more (names_on links last) target so_far.names to.is_name);
       counts = subst (λ ns. AreCounted rrsets ns before after) (sym (map-append (λ (each : Link). each.name) links (link ∷ []))) counts;

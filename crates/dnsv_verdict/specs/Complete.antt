@@ -57,9 +57,11 @@ HasNoAnswer basis name t =
 -- Opt-Out; that or Insecure, where there is just this chain and it may have Opt-Out; and no less, where there is such a
 -- chain without Opt-Out, whatever else there is.
 pub record TellsWholeChains (basis : Basis) (name : Labels) (t : ℕ) (verdict : Verdict) : Type 0 where
-  pub without_opt_out : (zone : Zone) → HasNoAnswer basis name t → IsJustChainWithoutOptOut (SecuredBy basis) basis.rrsets name zone
+  pub without_opt_out : (zone : Zone) → HasNoAnswer basis name t → IsJustChainWithoutOptOut (SecuredBy basis)
+      basis.rrsets name zone
       → IsDenied zone name t verdict
   pub opt_out : (zone : Zone) → HasNoAnswer basis name t → IsJustNsec3Chain (SecuredBy basis) basis.rrsets name zone
       → IsDeniedOrUnsigned zone name t verdict
-  pub whole : (zone : Zone) → HasNoAnswer basis name t → HasWholeChainWithoutOptOut (SecuredBy basis) basis.rrsets name zone
+  pub whole : (zone : Zone) → HasNoAnswer basis name t → HasWholeChainWithoutOptOut (SecuredBy basis) basis.rrsets name
+      zone
       → IsDeniedSomehow zone name t verdict

@@ -6,7 +6,7 @@ use Rattle.dnsv_verifier.specs.declared.answer.Answer.{Answer}
 use Rattle.dnsv_verifier.specs.declared.answer.Answer.TheVariants.{Valid, Invalid, Unknown}
 use Rattle.dnsv_verifier.specs.declared.entry.Entry.{Entry}
 use Rattle.dnsv_chain.specs.declared.anchor.Anchor.{Anchor}
-use Rattle.dnsv_verdict.specs.Verdict.{Basis}
+use Rattle.dnsv_verdict.specs.Verdict.{Basis, basis_of}
 use Rattle.dnsv_verdict.specs.declared.verdict.Verdict.{Verdict}
 use Rattle.dnsv_verdict.specs.declared.verdict.Verdict.TheVariants.{SecureAnswer, SecureAlias, SecureNoName, SecureNoData, Insecure, Pending, Bogus, Indeterminate}
 
@@ -26,13 +26,8 @@ pub record IsNoLess (before after : Basis) : Type 0 where
   pub answers : AnswersNoLess before.meaning after.meaning
 
 -- what a question is judged by where the evidence is that of these messages
-abbrev pub basis_of : List Contents → List Anchor → ℕ → (Entry → Answer) → Basis
-basis_of messages anchors moment meaning = record {
-  rrsets = rrsets_of messages;
-  anchors = anchors;
-  moment = moment;
-  meaning = meaning;
-}
+abbrev pub basis_of_messages : List Contents → List Anchor → ℕ → (Entry → Answer) → Basis
+basis_of_messages messages anchors moment meaning = basis_of (rrsets_of messages) anchors moment meaning
 
 -- the number of the verdict's case: the lower it is, the better the verdict
 abbrev pub case_of : Verdict → ℕ

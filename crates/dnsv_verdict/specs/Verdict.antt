@@ -25,14 +25,17 @@ pub record Basis : Type 0 where
   pub moment : ℕ
   pub meaning : Entry → Answer
 
--- the same with a verifier of another meaning
-abbrev pub with_meaning : Basis → (Entry → Answer) → Basis
-with_meaning basis meaning = record {
-  rrsets = basis.rrsets;
-  anchors = basis.anchors;
-  moment = basis.moment;
+abbrev pub basis_of : List ReceivedRrset → List Anchor → ℕ → (Entry → Answer) → Basis
+basis_of rrsets anchors moment meaning = record {
+  rrsets = rrsets;
+  anchors = anchors;
+  moment = moment;
   meaning = meaning;
 }
+
+-- the same with a verifier of another meaning
+abbrev pub with_meaning : Basis → (Entry → Answer) → Basis
+with_meaning basis meaning = basis_of basis.rrsets basis.anchors basis.moment meaning
 
 -- the same with each Unknown taken as Valid
 abbrev pub hopeful : Basis → Basis
@@ -42,7 +45,8 @@ hopeful basis = with_meaning basis (λ entry. hoped_answer (basis.meaning entry)
 
 -- 1 to 5: the evidence settles it, as `IsSettled` says
 abbrev pub IsSettledBy : Basis → Labels → ℕ → Type 0
-IsSettledBy basis name t = IsSettled (IsSecured basis.meaning basis.moment basis.rrsets basis.anchors) basis.rrsets name t
+IsSettledBy basis name t = IsSettled (IsSecured basis.meaning basis.moment basis.rrsets basis.anchors) basis.rrsets name
+    t
 
 -- and so
 abbrev pub IsSettledAsBy : Basis → Labels → ℕ → Verdict → Type 0
@@ -81,7 +85,8 @@ pub record IsNumberAsked (moment : ℕ) (rrsets : List ReceivedRrset) (count : �
 abbrev pub IsVerdictAt : Basis → Labels → ℕ → Verdict → Type 0
 IsVerdictAt basis name t (Pending entries) =
     (¬ IsSettledBy basis name t) × MayBeSettledBy basis name t × AreUnknown basis entries
-IsVerdictAt basis name t Bogus = (¬ IsSettledBy basis name t) × (¬ MayBeSettledBy basis name t) × HasAnchor basis.anchors name
+IsVerdictAt basis name t Bogus = (¬ IsSettledBy basis name t) × (¬ MayBeSettledBy basis name t) × HasAnchor
+    basis.anchors name
 IsVerdictAt basis name t Indeterminate =
     (¬ IsSettledBy basis name t) × (¬ MayBeSettledBy basis name t) × (¬ HasAnchor basis.anchors name)
 IsVerdictAt basis name t verdict = IsSettledAsBy basis name t verdict

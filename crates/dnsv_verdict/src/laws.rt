@@ -8,7 +8,7 @@ ghost use Rattle.dnsv_verifier.specs.declared.answer.Answer.{Answer};
 ghost use Rattle.dnsv_verifier.specs.declared.answer.Answer.TheVariants.{Valid};
 ghost use Rattle.dnsv_verifier.specs.declared.entry.Entry.{Entry};
 ghost use Rattle.dnsv_chain.specs.declared.anchor.Anchor.{Anchor};
-ghost use Rattle.dnsv_verdict.specs.NoLess.{AnswersNoLess, IsNoLess, basis_of, case_of};
+ghost use Rattle.dnsv_verdict.specs.NoLess.{AnswersNoLess, IsNoLess, basis_of_messages, case_of};
 ghost use Rattle.dnsv_verdict.specs.Verdict.{Basis, HasAnchor, IsSettledVerdict, IsVerdictAt, IsSettledBy, with_meaning};
 
 use crate::verdict::Verdict;
@@ -67,8 +67,8 @@ pub fn more_evidence_makes_no_verdict_worse()
         (meaning better : Entry → Answer) (name : Labels) (t : ℕ) (first second : Verdict)
         → ((anchor : Anchor) → Contains anchors anchor → Contains others anchor)
         → AnswersNoLess meaning better
-        → IsVerdictAt (basis_of earlier anchors moment meaning) name t first
-        → IsVerdictAt (basis_of (earlier ++ later) others moment better) name t second
+        → IsVerdictAt (basis_of_messages earlier anchors moment meaning) name t first
+        → IsVerdictAt (basis_of_messages (earlier ++ later) others moment better) name t second
         → case_of second ≤ case_of first }
 {
     more_evidence_takes_no_trust_away();

@@ -15,10 +15,10 @@ pub use report::{Report, validate};
 pub use verdict::Verdict;
 pub use ways::a_question_leads_one_way;
 
-mod basis;
 mod complete;
 mod entries;
 mod error;
+mod grounds;
 mod laws;
 mod link;
 mod report;

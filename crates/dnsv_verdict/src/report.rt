@@ -11,13 +11,13 @@ ghost use Rattle.dnsv_chain.specs.Trusted.{IsSecured};
 ghost use Rattle.dnsv_verdict.specs.Complete.{TellsWholeChains};
 ghost use Rattle.dnsv_verdict.specs.Hashed.{IsFewHashedOn, IsNumberHashedOn, hashes_on};
 ghost use Rattle.dnsv_verdict.specs.Meaning.{IsTrueOfZones};
-ghost use Rattle.dnsv_verdict.specs.Verdict.{IsNumberAsked};
+ghost use Rattle.dnsv_verdict.specs.Verdict.{IsNumberAsked, basis_of};
 ghost use Rattle.dnsv_verdict.specs.Way.{IsRefusal, IsVerdictOf, names_on};
 ghost use Rattle.dnsv_verdict.specs.declared.error.VerdictError.{VerdictError};
 
-use crate::basis::Basis;
 use crate::complete::a_whole_chain_is_told_by_the_verdict;
 use crate::error::VerdictError;
+use crate::grounds::Grounds;
 use crate::link::Links;
 use crate::verdict::Verdict;
 use crate::way::{Way, follow};
@@ -62,24 +62,16 @@ pub fn validate<V: Verifier>(
     rtype: RecordType,
 ) -> Result<Report, VerdictError>
     // The links lead to the last name, where the verdict is.
-    ensures verdict { IfOk result (λ report. IsVerdictOf (record {
-      rrsets = capture.now.rrsets;
-      anchors = anchors.now;
-      moment = moment;
-      meaning = V.meaning verifier.now;
-    }) name.now rtype.0 report.links report.last report.verdict) }
+    ensures verdict { IfOk result (λ report. IsVerdictOf (basis_of capture.now.rrsets anchors.now moment (V.meaning
+        verifier.now)) name.now rtype.0 report.links report.last report.verdict) }
     // In each zone that has the records of the verdict in its chain, looking the last name up gives what is denied, or
     // what the wildcard has; and the cut is a delegation without DS, or a name that Opt-Out may leave out.
     ensures meaning { IfOk result (λ report. IsTrueOfZones
         (IsSecured (V.meaning verifier.now) moment capture.now.rrsets anchors.now) capture.now.rrsets report.last
         rtype.0 report.verdict) }
     // Where nothing answers, what the zone of a whole chain denies is told.
-    ensures whole_chains { IfOk result (λ report. TellsWholeChains (record {
-      rrsets = capture.now.rrsets;
-      anchors = anchors.now;
-      moment = moment;
-      meaning = V.meaning verifier.now;
-    }) report.last rtype.0 report.verdict) }
+    ensures whole_chains { IfOk result (λ report. TellsWholeChains (basis_of capture.now.rrsets anchors.now moment
+        (V.meaning verifier.now)) report.last rtype.0 report.verdict) }
     ensures asked { IfOk result (λ report. IsNumberAsked moment capture.now.rrsets report.asked) }
     ensures hashed { IfOk result (λ report. IsNumberHashedOn capture.now.rrsets (names_on report.links report.last)
         report.hashed) }
@@ -88,19 +80,11 @@ pub fn validate<V: Verifier>(
     // A type that can't be asked at the name is refused.
     ensures question { ¬ IsQuestion name.now rtype.0 → IsErrOf result VerdictError.BadQuestion }
     // What is refused is so, unless memory runs out.
-    ensures told { IfErr result (λ error. (error ≡ VerdictError.OutOfMemory) ⊎ IsRefusal (record {
-      rrsets = capture.now.rrsets;
-      anchors = anchors.now;
-      moment = moment;
-      meaning = V.meaning verifier.now;
-    }) name.now rtype.0 error) }
+    ensures told { IfErr result (λ error. (error ≡ VerdictError.OutOfMemory) ⊎ IsRefusal (basis_of capture.now.rrsets
+        anchors.now moment (V.meaning verifier.now)) name.now rtype.0 error) }
     // What is to be refused is, unless memory runs out.
-    ensures refused { (error : VerdictError) → IsRefusal (record {
-      rrsets = capture.now.rrsets;
-      anchors = anchors.now;
-      moment = moment;
-      meaning = V.meaning verifier.now;
-    }) name.now rtype.0 error
+    ensures refused { (error : VerdictError) → IsRefusal (basis_of capture.now.rrsets anchors.now moment (V.meaning
+        verifier.now)) name.now rtype.0 error
         → IsErrOf result error ⊎ IsErrOf result VerdictError.OutOfMemory }
 {
     if !is_question(name, rtype) {
@@ -111,13 +95,13 @@ pub fn validate<V: Verifier>(
     let mut asked = Count::new();
     let table = ask_all(alloc, capture, moment, verifier, &mut asked)?;
     let trust = trusted(alloc, capture, anchors, &table)?;
-    let basis = Basis {
+    let grounds = Grounds {
         capture,
         anchors,
         table: &table,
     };
     let mut hashed = Count::new();
-    let followed = follow(alloc, &basis, &trust, name, rtype, &mut hashed)?;
+    let followed = follow(alloc, &grounds, &trust, name, rtype, &mut hashed)?;
     let hashed = exact_hashed(&hashed, capture, &followed.way);
     Ok(Report {
         links: followed.way.links,

@@ -15,9 +15,10 @@ ghost use Rattle.dnsv_verdict.specs.Way.{IsAlias, IsAmong, IsRefusedFor, IsTarge
 ghost use Rattle.dnsv_verdict.specs.declared.error.VerdictError.TheVariants.{OutOfMemory};
 ghost use Rattle.dnsv_verdict.specs.declared.link.Link.{Link};
 ghost use Rattle.dnsv_verdict.specs.declared.verdict.Verdict.TheVariants.{SecureAlias};
+ghost use Rattle.dnsv_verdict.specs.Verdict.{basis_of};
 
-use crate::basis::{Basis, verdict_at};
 use crate::error::VerdictError;
+use crate::grounds::{Grounds, verdict_at};
 use crate::link::{LINK_LIMIT, Link, Links};
 use crate::target::target_of;
 use crate::verdict::Verdict;
@@ -41,39 +42,31 @@ pub struct Followed {
 }
 
 /// Follows secure aliases from the name on, and gives the verdict at the last name, which is none. `trust` is that of
-/// the basis. `hashed` grows by the SHA-1 digests that are worked out, at each name.
+/// the grounds. `hashed` grows by the SHA-1 digests that are worked out, at each name.
 ///
 /// An alias that can't be followed is refused: `AliasTargets` where it has no one target, `AliasLoop` where the target
 /// is a name of the way, `TooManyLinks` where it would be the ninth link, `BadQuestion` where the type can't be asked
 /// at the target; the first of these, in this order.
 pub fn follow(
     alloc: Global,
-    basis: &Basis<'_>,
+    grounds: &Grounds<'_>,
     trust: &Trust,
     name: &Name,
     rtype: RecordType,
     hashed: &mut Count,
 ) -> Result<Followed, VerdictError>
-    requires { IsTrustOf (table_answer basis.now.table.now) basis.now.table.now.moment basis.now.capture.now.rrsets
-        basis.now.anchors.now trust.now }
+    requires { IsTrustOf (table_answer grounds.now.table.now) grounds.now.table.now.moment
+        grounds.now.capture.now.rrsets grounds.now.anchors.now trust.now }
     ensures value { (meaning : Entry → Answer) (moment : ℕ)
-        → IsTableOf meaning moment basis.now.capture.now.rrsets basis.now.table.now
-        → IfOk result (λ followed. IsVerdictOf (record {
-          rrsets = basis.now.capture.now.rrsets;
-          anchors = basis.now.anchors.now;
-          moment = moment;
-          meaning = meaning;
-        }) name.now rtype.0 followed.way.links followed.way.last followed.verdict) }
+        → IsTableOf meaning moment grounds.now.capture.now.rrsets grounds.now.table.now
+        → IfOk result (λ followed. IsVerdictOf (basis_of grounds.now.capture.now.rrsets grounds.now.anchors.now moment
+        meaning) name.now rtype.0 followed.way.links followed.way.last followed.verdict) }
     ensures refused { (meaning : Entry → Answer) (moment : ℕ)
-        → IsTableOf meaning moment basis.now.capture.now.rrsets basis.now.table.now
-        → IfErr result (λ error. (error ≡ OutOfMemory) ⊎ IsRefusedFor (record {
-          rrsets = basis.now.capture.now.rrsets;
-          anchors = basis.now.anchors.now;
-          moment = moment;
-          meaning = meaning;
-        }) name.now rtype.0 error) }
+        → IsTableOf meaning moment grounds.now.capture.now.rrsets grounds.now.table.now
+        → IfErr result (λ error. (error ≡ OutOfMemory) ⊎ IsRefusedFor (basis_of grounds.now.capture.now.rrsets
+        grounds.now.anchors.now moment meaning) name.now rtype.0 error) }
     ensures hashed { IfOk result (λ followed. (all : List Nsec3Parameters)
-        → AreParameters (nsec3_rdata basis.now.capture.now.rrsets) all
+        → AreParameters (nsec3_rdata grounds.now.capture.now.rrsets) all
         → hashed.new ≡ counted hashed.old (hashes_on (names_on followed.way.links followed.way.last) all)) }
     ensures names { IfOk result (λ followed. AllByRecursion IsName
         (names_on followed.way.links followed.way.last)) }
@@ -86,11 +79,11 @@ pub fn follow(
         last: name.clone()?,
     };
     'links: loop {
-        let verdict = verdict_at(alloc, basis, trust, &way.last, rtype, hashed)?;
+        let verdict = verdict_at(alloc, grounds, trust, &way.last, rtype, hashed)?;
         let Some((rrset, signature)) = alias_of(&verdict) else {
             return Ok(Followed { way, verdict });
         };
-        let target = next_name(alloc, basis, &way, rrset, rtype)?;
+        let target = next_name(alloc, grounds, &way, rrset, rtype)?;
         way = longer(way, rrset, signature, target);
     }
 }
@@ -127,19 +120,19 @@ fn longer(way: Way, rrset: usize, signature: usize, target: Name) -> Way
 /// The target of the alias at the way's last name, where the way can go on to it.
 fn next_name(
     alloc: Global,
-    basis: &Basis<'_>,
+    grounds: &Grounds<'_>,
     way: &Way,
     rrset: usize,
     rtype: RecordType,
 ) -> Result<Name, VerdictError>
-    ensures target { IfOk result (IsTarget basis.now.capture.now.rrsets rrset) }
+    ensures target { IfOk result (IsTarget grounds.now.capture.now.rrsets rrset) }
     ensures new { IfOk result (λ target. ¬ IsAmong target (names_on way.now.links way.now.last)) }
     ensures few { IfOk result (λ target. length way.now.links < 8) }
     ensures question { IfOk result (λ target. IsQuestion target rtype.0) }
-    ensures stops { IfErr result (λ error. (error ≡ OutOfMemory) ⊎ Stops basis.now.capture.now.rrsets rtype.0
+    ensures stops { IfErr result (λ error. (error ≡ OutOfMemory) ⊎ Stops grounds.now.capture.now.rrsets rtype.0
         (names_on way.now.links way.now.last) (length way.now.links) rrset error) }
 {
-    let Some(target) = target_of(alloc, basis.capture, rrset)? else {
+    let Some(target) = target_of(alloc, grounds.capture, rrset)? else {
         return Err(VerdictError::AliasTargets);
     };
     if is_on(way, &target) {

@@ -39,7 +39,7 @@ pub use nsec3_meaning::{
     unsigned_cut_by_nsec3_is_an_unsigned_delegation,
 };
 pub use types::{denies, is_closed, is_delegation, is_unsigned_delegation};
-pub use words::{is_absent, is_covered, is_no_cut_above, is_empty_non_terminal, is_node};
+pub use words::{is_absent, is_covered, is_empty_non_terminal, is_no_cut_above, is_node};
 pub use zone::{
     a_next_closer_name_that_is_missing_ends_the_search, no_node_is_below_an_end_of_the_zone,
     nothing_closed_is_above_a_missing_name, what_is_above_a_node_is_a_node,

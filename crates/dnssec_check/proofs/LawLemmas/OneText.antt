@@ -14,7 +14,7 @@ use Rattle.dnsv_verifier.specs.Table.{IsTableOf, unknown_entries}
 use Rattle.dnsv_verifier.specs.declared.answer.Answer.{Answer}
 use Rattle.dnsv_verifier.specs.declared.entry.Entry.{Entry}
 use Rattle.dnsv_chain.specs.declared.anchor.Anchor.{Anchor}
-use Rattle.dnsv_verdict.specs.Verdict.{Basis}
+use Rattle.dnsv_verdict.specs.Verdict.{Basis, basis_of}
 use Rattle.dnsv_verdict.specs.Way.{IsVerdictOf}
 use Rattle.dnssec_check.specs.declared.opening.Opening.{Opening}
 use Rattle.dnssec_check.specs.declared.opening.Opening.TheVariants.{Plain, Signed}
@@ -91,7 +91,7 @@ module _ (laws : LayerLaws) where
 
   -- what the verdict of a question is drawn from
   abbrev pub basis : List Contents → List Anchor → ℕ → (Entry → Answer) → Basis
-  basis messages anchors moment meaning = record { rrsets = (evidence_of messages).rrsets; anchors = anchors; moment = moment; meaning = meaning }
+  basis messages anchors moment meaning = basis_of (evidence_of messages).rrsets anchors moment meaning
 
   module _ (rtype moment : ℕ) (files : Files) (are : AreOctets files.capture) where
     same_messages : (e f : Opening) (a b : List Contents) → IsOpeningOf files.keys files.macs moment e → IsOpeningOf files.keys files.macs moment f

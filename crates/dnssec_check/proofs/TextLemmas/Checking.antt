@@ -10,6 +10,7 @@ use Rattle.dnsv_chain.specs.declared.anchor.Anchor.{Anchor}
 use Rattle.dnsv_verdict.specs.Way.{IsVerdictOf}
 use Rattle.dnsv_verdict.specs.declared.link.Link.{Link}
 use Rattle.dnsv_verdict.specs.declared.verdict.Verdict.{Verdict}
+use Rattle.dnsv_verdict.specs.Verdict.{basis_of}
 use Rattle.dnssec_check.specs.Files.Anchors.{HasAnchors}
 use Rattle.dnssec_check.specs.declared.opening.Opening.{Opening}
 use Rattle.dnssec_check.specs.Files.Capture.{Holds, NewEvidence}
@@ -25,7 +26,7 @@ use Rattle.dnssec_check.proofs.FileLemmas.Faults.{of_told}
 abbrev pub IsOutcome : List Anchor → ℕ → (Entry → Answer) → Labels → ℕ → Outcome → Evidence → Type 0
 IsOutcome anchors moment meaning name rtype outcome held =
     (links : List Link) × (last : Labels) × (verdict : Verdict)
-    × IsVerdictOf (record { rrsets = held.rrsets; anchors = anchors; moment = moment; meaning = meaning }) name rtype links last verdict
+    × IsVerdictOf (basis_of held.rrsets anchors moment meaning) name rtype links last verdict
     × (outcome.status ≡ verdict_status verdict)
     × (string_bytes outcome.text ≡ verdict_text name rtype held.rrsets links verdict)
 

@@ -17,6 +17,7 @@ use Rattle.dnsv_verdict.specs.declared.error.VerdictError.TheVariants as error
 use Rattle.dnsv_verdict.specs.declared.link.Link.{Link}
 use Rattle.dnsv_verdict.specs.declared.verdict.Verdict.{Verdict}
 use Rattle.dnsv_verdict.specs.declared.verdict.Verdict.TheVariants as verdict
+use Rattle.dnsv_verdict.specs.Verdict.{basis_of}
 use Rattle.dnssec_check.specs.Files.Anchors.{HasAnchors}
 use Rattle.dnssec_check.specs.declared.opening.Opening.{Opening}
 use Rattle.dnssec_check.specs.Files.Capture.{Holds, NewEvidence}
@@ -123,12 +124,8 @@ pub record IsCheck (name : Labels) (rtype moment : ℕ) (files : Files) (end : S
   pub links : List Link
   pub last : Labels
   pub verdict : Verdict
-  pub is_verdict : IsVerdictOf (record {
-    rrsets = (evidence_of messages).rrsets;
-    anchors = anchors;
-    moment = moment;
-    meaning = meaning;
-  }) name rtype links last verdict
+  pub is_verdict : IsVerdictOf (basis_of (evidence_of messages).rrsets anchors moment meaning) name rtype links last
+      verdict
   pub ends : end ≡ verdict_status verdict
   pub lines : text ≡ verdict_text name rtype (evidence_of messages).rrsets links verdict
 
@@ -144,10 +141,5 @@ pub record IsStopped (name : Labels) (rtype moment : ℕ) (files : Files) (told 
   pub meaning : Entry → Answer
   pub said : IsMeaningOf (octets_or_none files.statements) meaning
   pub error : VerdictError
-  pub refused : IsRefusedFor (record {
-    rrsets = (evidence_of messages).rrsets;
-    anchors = anchors;
-    moment = moment;
-    meaning = meaning;
-  }) name rtype error
+  pub refused : IsRefusedFor (basis_of (evidence_of messages).rrsets anchors moment meaning) name rtype error
   pub is : told ≡ verdict_fault error

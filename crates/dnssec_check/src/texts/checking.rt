@@ -6,6 +6,7 @@ ghost use Rattle.dnsv_verdict.specs.Way.{IsRefusedFor, IsVerdictOf};
 ghost use Rattle.dnsv_verdict.specs.declared.error.VerdictError.{VerdictError};
 ghost use Rattle.dnsv_verdict.specs.declared.link.Link.{Link};
 ghost use Rattle.dnsv_verdict.specs.declared.verdict.Verdict.{Verdict};
+ghost use Rattle.dnsv_verdict.specs.Verdict.{basis_of};
 ghost use Rattle.dnssec_check.specs.Texts.Checking as specs;
 
 use crate::command_line::moment::Moment;
@@ -40,21 +41,13 @@ pub fn judge<V: Verifier>(
 ) -> Result<Outcome, Fault>
     requires { IsQuestion name.now rtype.0 }
     ensures verdict { IfOk result (λ outcome. (links : List Link) × (last : Labels) × (verdict : Verdict)
-        × IsVerdictOf (record {
-          rrsets = held.now.rrsets;
-          anchors = anchors.now;
-          moment = moment;
-          meaning = V.meaning verifier.now;
-        }) name.now rtype.0 links last verdict
+        × IsVerdictOf (basis_of held.now.rrsets anchors.now moment (V.meaning verifier.now)) name.now rtype.0 links last
+            verdict
         × (outcome.status ≡ specs.verdict_status verdict)
         × (string_bytes outcome.text ≡ specs.verdict_text name.now rtype.0 held.now.rrsets links verdict)) }
     ensures only { IfErr result (λ told. (told ≡ Fault.OutOfMemory) ⊎ ((error : VerdictError)
-        × IsRefusedFor (record {
-          rrsets = held.now.rrsets;
-          anchors = anchors.now;
-          moment = moment;
-          meaning = V.meaning verifier.now;
-        }) name.now rtype.0 error × (told ≡ specs.verdict_fault error))) }
+        × IsRefusedFor (basis_of held.now.rrsets anchors.now moment (V.meaning verifier.now)) name.now rtype.0 error ×
+            (told ≡ specs.verdict_fault error))) }
 {
     match validate(
         alloc,

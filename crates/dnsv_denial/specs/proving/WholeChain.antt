@@ -49,8 +49,8 @@ pub data HasWholeChain (Secured : ℕ → ℕ → Type 0) (rrsets : List Receive
   by_nsec3 : HasWholeNsec3Chain Secured rrsets name zone → HasWholeChain Secured rrsets name zone
 
 -- a whole chain without Opt-Out
-pub data HasWholeChainWithoutOptOut (Secured : ℕ → ℕ → Type 0) (rrsets : List ReceivedRrset) (name : Labels) (zone : Zone)
-    : Type 0 where
+pub data HasWholeChainWithoutOptOut
+    (Secured : ℕ → ℕ → Type 0) (rrsets : List ReceivedRrset) (name : Labels) (zone : Zone) : Type 0 where
   by_nsec : HasWholeNsecChain Secured rrsets name zone → HasWholeChainWithoutOptOut Secured rrsets name zone
   by_nsec3 : (whole : HasWholeNsec3Chain Secured rrsets name zone) → AreWithoutOptOut whole.records
       → HasWholeChainWithoutOptOut Secured rrsets name zone

@@ -6,9 +6,9 @@ ghost use Rattle.dnsv_denial.specs.forms.Denials.{AreParts, DenialForm};
 ghost use Rattle.dnsv_denial.specs.words.ChainSaid.{chain_said, HasHashes};
 
 use crate::forms::by_wildcard::no_name;
-use crate::forms::wildcard_answer::no_closer;
 use crate::forms::ends::Places;
 use crate::forms::missing_type::no_data;
+use crate::forms::wildcard_answer::no_closer;
 use crate::records::chain_records::ChainRecords;
 use crate::words::any_name::has_records;
 use arrayvec::ArrayVec;

@@ -46,7 +46,12 @@ pub fn no_closer(
 /// Whether an unsigned delegation may stand against an answer from the wildcard below the name's so many labels: these
 /// are a proper ancestor of the name within the zone, and a record with the Opt-Out flag covers the next closer name
 /// (RFC 5155 8.8).
-pub fn opts_out_next_closer(apex: &Name, name: &Name, labels: usize, records: &ChainRecords<'_>) -> bool
+pub fn opts_out_next_closer(
+    apex: &Name,
+    name: &Name,
+    labels: usize,
+    records: &ChainRecords<'_>,
+) -> bool
     requires { HasHashes name.now records.now }
     ensures { IsTrue result ↔ OptsOutNextCloser (chain_said apex.now records.now) apex.now name.now labels }
 {

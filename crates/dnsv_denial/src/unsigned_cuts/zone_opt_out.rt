@@ -56,7 +56,12 @@ fn set_opts_out_next_closer(
 }
 
 /// Whether the records of a chain of the zone leave that open.
-fn chain_opts_out_next_closer(zone: &Name, name: &Name, labels: usize, records: &ChainRecords<'_>) -> bool
+fn chain_opts_out_next_closer(
+    zone: &Name,
+    name: &Name,
+    labels: usize,
+    records: &ChainRecords<'_>,
+) -> bool
     requires { HasHashes name.now records.now }
     ensures { (trust : KeptTrust) (rrsets : List ReceivedRrset) (chain : Chain)
         → IsChainOf (SecuredIn trust) rrsets zone.now chain records.now

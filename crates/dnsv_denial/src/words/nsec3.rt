@@ -81,7 +81,11 @@ fn same_parameters(a: &Nsec3Parameters, b: &Nsec3Parameters) -> bool
 }
 
 /// The place of the first record whose owner has the hash of the asked name, and whose types are such.
-pub fn first_match(records: &HashedRecords<'_>, asked: AskedName, types: AskedTypes) -> Option<usize>
+pub fn first_match(
+    records: &HashedRecords<'_>,
+    asked: AskedName,
+    types: AskedTypes,
+) -> Option<usize>
     requires within { IsWithin records.now.name.now asked }
     requires hashes { HasHashesOf records.now }
     ensures { IsFirstPlace (IsSaidAt (λ entry.

@@ -63,7 +63,11 @@ pub fn absent(name: &Name, asked: AskedName, records: &ChainRecords<'_>) -> Opti
 
 /// The place of the first record that shows the asked name to be an empty non-terminal. NSEC3 records have an owner
 /// for each of these (RFC 5155 7.1).
-pub fn empty_non_terminal(name: &Name, asked: AskedName, records: &ChainRecords<'_>) -> Option<usize>
+pub fn empty_non_terminal(
+    name: &Name,
+    asked: AskedName,
+    records: &ChainRecords<'_>,
+) -> Option<usize>
     requires within { IsWithin name.now asked }
     ensures { (apex : Labels)
         → IsFirstPlace ((chain_said apex records.now).EmptyNonTerminal (asked_name name.now asked)) result }

@@ -76,7 +76,8 @@ pub record AreEmptyWildcardParts
     {Index : Type 0} (cmp : Index → Index → Ordering) (said : RecordWords Index) (apex name : Labels)
     (parts : List Index) : Type 0 where
   pub labels : ℕ
-  pub are : AreWildcardParts cmp said apex name labels (said.EmptyNonTerminal (wildcard_of (rightmost name labels))) parts
+  pub are : AreWildcardParts cmp said apex name labels (said.EmptyNonTerminal (wildcard_of (rightmost name labels)))
+      parts
   pub most_labels : (form : EmptyWildcardForm (words said) apex name) → form.labels ≤ labels
 
 -- these prove that the type isn't there, by the first form that stands
@@ -119,6 +120,7 @@ pub record IsHighestCut {Index : Type 0} (said : RecordWords Index) (apex name :
 
 -- the closest encloser with most labels where an unsigned delegation may lie at or below the next closer name has so
 -- many
-pub record IsOptOutWithMostLabels {Index : Type 0} (said : RecordWords Index) (apex name : Labels) (labels : ℕ) : Type 0 where
+pub record IsOptOutWithMostLabels
+    {Index : Type 0} (said : RecordWords Index) (apex name : Labels) (labels : ℕ) : Type 0 where
   pub opts_out : OptsOut said apex name labels
   pub most : (more : ℕ) → OptsOut said apex name more → more ≤ labels

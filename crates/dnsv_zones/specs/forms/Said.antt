@@ -20,7 +20,8 @@ nsec_records_say apex At = record {
 }
 
 -- NSEC3 records, by this hash: a cover without the Opt-Out flag is firm (RFC 5155 6, 8)
-abbrev pub nsec3_records_say : {Index : Type 0} → NameHash → ((Nsec3Record → Type 0) → Index → Type 0) → RecordWords Index
+abbrev pub nsec3_records_say
+    : {Index : Type 0} → NameHash → ((Nsec3Record → Type 0) → Index → Type 0) → RecordWords Index
 nsec3_records_say hash At = record {
   NeedsNone = λ name. ⊥;
   Encloser = λ name. At (λ nsec3. Matches hash nsec3 name × ¬ IsClosed (IsInBitmap nsec3.types));

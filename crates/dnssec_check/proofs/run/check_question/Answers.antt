@@ -2,7 +2,7 @@ use Rattle.std.proofs.Common.{inl, inr, refl}
 use Rattle.std.proofs.lemmas.Result.{err_from_is_err_and}
 use Rattle.dnsv_verifier.specs.Statements.{listed_answer}
 use Rattle.dnssec_check.specs.declared.status.InputFile.TheVariants.{Anchors, Capture, Statements}
-use Rattle.dnsv_verdict.specs.Verdict.{Basis}
+use Rattle.dnsv_verdict.specs.Verdict.{Basis, basis_of}
 use Rattle.dnsv_verdict.specs.Way.{IsRefusedFor}
 use Rattle.dnssec_check.specs.Run.{IsFirstFaultOfFiles, IsFirstFaultOfName, IsReachedOfFiles}
 use Rattle.dnssec_check.proofs.TextLemmas.Checking.{all_checked}
@@ -52,7 +52,7 @@ returns-in_err-statements-clause-faults g c =
 
 pub returns-clause-faults : goal.returns-clause-faults
 returns-clause-faults g c =
-    let basis : Basis = record { rrsets = c.in_ok-held.held.rrsets; anchors = c.in_ok-anchors.anchors; moment = c.args.moment; meaning = listed_answer c.in_ok-statements.statements } in
+    let basis : Basis = basis_of (c.in_ok-held.held.rrsets) (c.in_ok-anchors.anchors) c.args.moment (listed_answer c.in_ok-statements.statements) in
     all_judged c.in_ok-opening.opening c.args.name.now c.args.rtype.0 c.args.moment (λ error. IsRefusedFor basis c.args.name.now c.args.rtype.0 error)
     c.in_ok-opening.opening c.in_ok-held.held c.in_ok-anchors.anchors c.in_ok-statements.statements c.judge.result
     c.in_ok-opening.ensures.keys_reads c.in_ok-opening.ensures.macs_reads c.in_ok-held.ensures.faults

@@ -5,7 +5,7 @@ use Rattle.dnsv_canonical.specs.Rrsets.{IsQuestion}
 use Rattle.dnsv_verdict.proofs.MeaningLemmas.{verdict_means}
 use Rattle.dnsv_verdict.proofs.RefusalLemmas.{no_refusal, one_refusal}
 use Rattle.dnsv_verdict.proofs.WayLemmas.{last_is_question}
-use Rattle.dnsv_verdict.specs.Verdict.{Basis}
+use Rattle.dnsv_verdict.specs.Verdict.{Basis, basis_of}
 use Rattle.dnsv_verdict.specs.Way.{IsRefusedFor}
 use Rattle.dnsv_verdict.specs.declared.error.VerdictError.{VerdictError}
 use Rattle.dnsv_verdict.specs.declared.error.VerdictError.TheVariants.{OutOfMemory}
@@ -17,12 +17,12 @@ returns-clause-verdict g c =
 
 pub returns-clause-meaning : goal.returns-clause-meaning
 returns-clause-meaning g c =
-    let basis : Basis = record { rrsets = c.args.capture.now.rrsets; anchors = c.args.anchors.now; moment = c.args.moment; meaning = g.V.Verifier.meaning c.args.verifier.now } in
+    let basis : Basis = basis_of c.args.capture.now.rrsets c.args.anchors.now c.args.moment (g.V.Verifier.meaning c.args.verifier.now) in
     verdict_means basis c.in_ok-followed.followed.way.last c.args.rtype.0 c.in_ok-followed.followed.verdict (returns-clause-verdict g c).is_verdict
 
 pub returns-clause-whole_chains : goal.returns-clause-whole_chains
 returns-clause-whole_chains g c =
-    let basis : Basis = record { rrsets = c.args.capture.now.rrsets; anchors = c.args.anchors.now; moment = c.args.moment; meaning = g.V.Verifier.meaning c.args.verifier.now } in
+    let basis : Basis = basis_of c.args.capture.now.rrsets c.args.anchors.now c.args.moment (g.V.Verifier.meaning c.args.verifier.now) in
     let way = c.in_ok-followed.followed.way in
     let asked : IsQuestion c.args.name.now c.args.rtype.0 = c.is_question.ensures.0 c.if-not-is_question.false in
     c.a_whole_chain_is_told_by_the_verdict.ensures basis way.last c.args.rtype.0 c.in_ok-followed.followed.verdict
@@ -31,14 +31,14 @@ returns-clause-whole_chains g c =
 
 pub returns-clause-refused : goal.returns-clause-refused
 returns-clause-refused g c = λ error refused.
-    let basis : Basis = record { rrsets = c.args.capture.now.rrsets; anchors = c.args.anchors.now; moment = c.args.moment; meaning = g.V.Verifier.meaning c.args.verifier.now } in
+    let basis : Basis = basis_of c.args.capture.now.rrsets c.args.anchors.now c.args.moment (g.V.Verifier.meaning c.args.verifier.now) in
     let way = c.in_ok-followed.followed.way in
     let asked : IsQuestion c.args.name.now c.args.rtype.0 = c.is_question.ensures.0 c.if-not-is_question.false in
     absurd (no_refusal basis c.args.name.now c.args.rtype.0 way.links way.last c.in_ok-followed.followed.verdict error asked (returns-clause-verdict g c) refused)
 
 pub returns-in_err-followed-clause-told : goal.returns-in_err-followed-clause-told
 returns-in_err-followed-clause-told g c =
-    let basis : Basis = record { rrsets = c.args.capture.now.rrsets; anchors = c.args.anchors.now; moment = c.args.moment; meaning = g.V.Verifier.meaning c.args.verifier.now } in
+    let basis : Basis = basis_of c.args.capture.now.rrsets c.args.anchors.now c.args.moment (g.V.Verifier.meaning c.args.verifier.now) in
     let asked : IsQuestion c.args.name.now c.args.rtype.0 = c.is_question.ensures.0 c.if-not-is_question.false in
     let p = err_from_is_err_and c.from_residual-in_err-followed.result c.from_residual-in_err-followed.ensures.1 in
     rw (p.1, p.2) (⊎_elim (λ (memory : c.in_err-followed.field-0.0 ≡ OutOfMemory). inl memory)
@@ -47,7 +47,7 @@ returns-in_err-followed-clause-told g c =
 
 pub returns-in_err-followed-clause-refused : goal.returns-in_err-followed-clause-refused
 returns-in_err-followed-clause-refused g c = λ error refused.
-    let basis : Basis = record { rrsets = c.args.capture.now.rrsets; anchors = c.args.anchors.now; moment = c.args.moment; meaning = g.V.Verifier.meaning c.args.verifier.now } in
+    let basis : Basis = basis_of c.args.capture.now.rrsets c.args.anchors.now c.args.moment (g.V.Verifier.meaning c.args.verifier.now) in
     let asked : IsQuestion c.args.name.now c.args.rtype.0 = c.is_question.ensures.0 c.if-not-is_question.false in
     let p = err_from_is_err_and c.from_residual-in_err-followed.result c.from_residual-in_err-followed.ensures.1 in
     rw (p.1, p.2) (⊎_elim (λ (memory : c.in_err-followed.field-0.0 ≡ OutOfMemory). inr (ap (λ e. Err e) memory))

@@ -2,45 +2,45 @@
 use Rattle.std.proofs.Common.{◌≡◌, subst}
 use Rattle.std.proofs.lemmas.Option.{MatchOption-at_none, MatchOption-at_some}
 use Rattle.std.proofs.lemmas.Result.{err_from_is_err_and}
-use Rattle.dnsv_verdict.proofs.FollowLemmas.{OfTable, counted_last, followed_more, followed_to_end, judged, refused_at_last}
-use Rattle.dnsv_verdict.specs.Verdict.{IsVerdictAt}
+use Rattle.dnsv_verdict.proofs.FollowLemmas.{OfTable, counted_last, followed_more, followed_to_end, refused_at_last}
+use Rattle.dnsv_verdict.specs.Verdict.{IsVerdictAt, basis_of}
 use Rattle.dnsv_verdict.specs.declared.verdict.Verdict.TheVariants.{SecureAlias}
 use Rattle.dnsv_verdict.proofs.way.follow.Goals as goal
 
 pub returns-in_default-clause-value : goal.returns-in_default-clause-value
 returns-in_default-clause-value c =
-    let basis = c.args.basis.now in
-    followed_to_end basis.capture.now.rrsets basis.anchors.now basis.table.now c.args.rtype.0 c.args.name.now c.args.hashed.now c.links.hashed
+    let grounds = c.args.grounds.now in
+    followed_to_end grounds.capture.now.rrsets grounds.anchors.now grounds.table.now c.args.rtype.0 c.args.name.now c.args.hashed.now c.links.hashed
     c.links.way.links c.links.way.last c.in_ok-verdict.verdict c.links.invariant c.in_ok-verdict.ensures.value
     (MatchOption-at_none _ _ c.in_default.is c.alias_of.ensures)
 
 pub returns-in_err-target-clause-refused : goal.returns-in_err-target-clause-refused
 returns-in_err-target-clause-refused c = λ meaning moment of.
-    let basis = c.args.basis.now in
+    let grounds = c.args.grounds.now in
     let last = c.links.way.last in
     let k = c.in-Some.rrset in
     let s = c.in-Some.signature in
     let is : c.in_ok-verdict.verdict ≡ SecureAlias k s = MatchOption-at_some _ _ (k, s) c.in-Some.is c.alias_of.ensures in
-    let alias : OfTable basis.capture.now.rrsets basis.anchors.now basis.table.now (λ judged. IsVerdictAt judged last c.args.rtype.0 (SecureAlias k s)) =
-    λ meaning moment of. subst (λ verdict. IsVerdictAt (judged basis.capture.now.rrsets basis.anchors.now moment meaning) last c.args.rtype.0 verdict) is
+    let alias : OfTable grounds.capture.now.rrsets grounds.anchors.now grounds.table.now (λ judged. IsVerdictAt judged last c.args.rtype.0 (SecureAlias k s)) =
+    λ meaning moment of. subst (λ verdict. IsVerdictAt (basis_of grounds.capture.now.rrsets grounds.anchors.now moment meaning) last c.args.rtype.0 verdict) is
     (c.in_ok-verdict.ensures.value meaning moment of) in
     let p = err_from_is_err_and c.from_residual-in_err-target.result c.from_residual-in_err-target.ensures.1 in
-    rw (p.1, p.2) (refused_at_last basis.capture.now.rrsets basis.anchors.now basis.table.now c.args.rtype.0 c.args.name.now c.args.hashed.now
+    rw (p.1, p.2) (refused_at_last grounds.capture.now.rrsets grounds.anchors.now grounds.table.now c.args.rtype.0 c.args.name.now c.args.hashed.now
     c.links.hashed c.links.way.links last k s c.in_err-target.field-0.0 c.links.invariant alias c.in_err-target.ensures.stops meaning moment of)
 
 pub links-preserved : goal.links-preserved
 links-preserved c =
-    let basis = c.args.basis.now in
+    let grounds = c.args.grounds.now in
     let last = c.links.way.last in
     let k = c.in-Some.rrset in
     let s = c.in-Some.signature in
     let is : c.in_ok-verdict.verdict ≡ SecureAlias k s = MatchOption-at_some _ _ (k, s) c.in-Some.is c.alias_of.ensures in
-    let alias : OfTable basis.capture.now.rrsets basis.anchors.now basis.table.now (λ judged. IsVerdictAt judged last c.args.rtype.0 (SecureAlias k s)) =
-    λ meaning moment of. subst (λ verdict. IsVerdictAt (judged basis.capture.now.rrsets basis.anchors.now moment meaning) last c.args.rtype.0 verdict) is
+    let alias : OfTable grounds.capture.now.rrsets grounds.anchors.now grounds.table.now (λ judged. IsVerdictAt judged last c.args.rtype.0 (SecureAlias k s)) =
+    λ meaning moment of. subst (λ verdict. IsVerdictAt (basis_of grounds.capture.now.rrsets grounds.anchors.now moment meaning) last c.args.rtype.0 verdict) is
     (c.in_ok-verdict.ensures.value meaning moment of) in
     rw (c.longer-way.ensures.links, c.longer-way.ensures.last)
-    (followed_more basis.capture.now.rrsets basis.anchors.now basis.table.now c.args.rtype.0 c.args.name.now c.args.hashed.now c.links.hashed
+    (followed_more grounds.capture.now.rrsets grounds.anchors.now grounds.table.now c.args.rtype.0 c.args.name.now c.args.hashed.now c.links.hashed
     c.verdict_at.new.hashed c.links.way.links last k s c.in_ok-target.target c.links.invariant alias
-    (counted_last basis.capture.now.rrsets c.links.way.links last c.args.hashed.now c.links.hashed c.verdict_at.new.hashed
+    (counted_last grounds.capture.now.rrsets c.links.way.links last c.args.hashed.now c.links.hashed c.verdict_at.new.hashed
     c.counts_add_up.ensures.twice c.links.invariant.counts c.in_ok-verdict.ensures.hashed)
     c.in_ok-target.ensures.target c.in_ok-target.ensures.new c.in_ok-target.ensures.few c.in_ok-target.ensures.question)

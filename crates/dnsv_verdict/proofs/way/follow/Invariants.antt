@@ -5,7 +5,7 @@ use Rattle.dnsv_verdict.proofs.way.follow.Given as goal
 
 abbrev pub invariant-links : goal.invariant-links
 invariant-links l =
-    IsFollowed l.basis.capture.now.rrsets l.basis.anchors.now l.basis.table.now l.rtype.0 l.name l.initial.hashed l.hashed
+    IsFollowed l.grounds.capture.now.rrsets l.grounds.anchors.now l.grounds.table.now l.rtype.0 l.name l.initial.hashed l.hashed
     l.way.links l.way.last
 
 -- each turn adds a link

@@ -1,6 +1,6 @@
 use Rattle.std.proofs.Common.{◌≡◌, ◌⊎◌, ◌∙◌, ap, inl, inr, ⊎_elim}
 use Rattle.dnsv_canonical.specs.Rrsets.{IsQuestion}
-use Rattle.dnsv_verdict.specs.Verdict.{Basis}
+use Rattle.dnsv_verdict.specs.Verdict.{Basis, basis_of}
 use Rattle.dnsv_verdict.specs.Way.{IsRefusal, IsRefusedFor}
 use Rattle.dnsv_verdict.specs.declared.error.VerdictError.TheVariants.{BadQuestion, OutOfMemory}
 use Rattle.dnssec_check.specs.Texts.Checking.{verdict_fault}
@@ -18,7 +18,7 @@ returns-in_ok-verdict_text-in-Ok-clause-verdict g c = (
 
 pub returns-in-Err-clause-only : goal.returns-in-Err-clause-only
 returns-in-Err-clause-only g c =
-    let basis : Basis = record { rrsets = c.args.held.now.rrsets; anchors = c.args.anchors.now; moment = c.args.moment; meaning = g.V.Verifier.meaning c.args.verifier.now } in
+    let basis : Basis = basis_of c.args.held.now.rrsets c.args.anchors.now c.args.moment (g.V.Verifier.meaning c.args.verifier.now) in
     let told : (c.in-Err.error ≡ OutOfMemory) ⊎ IsRefusal basis c.args.name.now c.args.rtype.0 c.in-Err.error = rw (← c.seconds.ensures.value) c.in-Err.ensures.told in
     ⊎_elim (λ (memory : c.in-Err.error ≡ OutOfMemory). inl (c.verdict_fault.ensures ∙ ap verdict_fault memory))
     (λ (refusal : IsRefusal basis c.args.name.now c.args.rtype.0 c.in-Err.error).

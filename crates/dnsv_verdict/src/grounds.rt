@@ -10,7 +10,7 @@ ghost use Rattle.dnsv_verifier.specs.Entry.{entry_cmp};
 ghost use Rattle.dnsv_verifier.specs.Table.{IsTableOf, table_answer, unknown_entries};
 ghost use Rattle.dnsv_verifier.specs.declared.answer.Answer.{Answer};
 ghost use Rattle.dnsv_verifier.specs.declared.entry.Entry.{Entry};
-ghost use Rattle.dnsv_verdict.specs.Verdict.{HasAnchor, IsVerdictAt, MayBeSettledBy, IsSettledBy, anchor_owner};
+ghost use Rattle.dnsv_verdict.specs.Verdict.{HasAnchor, IsSettledBy, IsVerdictAt, MayBeSettledBy, anchor_owner, basis_of};
 
 use crate::entries::Entries;
 use crate::settled::settled;
@@ -24,48 +24,44 @@ use std::alloc::{AllocError, Global};
 
 /// What questions are judged by: the evidence, the trust anchors, and what the verifier says at the moment.
 #[derive(Drop)]
-pub struct Basis<'a> {
+pub struct Grounds<'a> {
     pub capture: &'a Capture,
     pub anchors: &'a Anchors,
     pub table: &'a Table,
 }
 
-/// The verdict at the name, for the type. `trust` is that of the basis. `hashed` grows by the SHA-1 digests that are
+/// The verdict at the name, for the type. `trust` is that of the grounds. `hashed` grows by the SHA-1 digests that are
 /// worked out. The verifier isn't asked again.
 pub fn verdict_at(
     alloc: Global,
-    basis: &Basis<'_>,
+    grounds: &Grounds<'_>,
     trust: &Trust,
     name: &Name,
     rtype: RecordType,
     hashed: &mut Count,
 ) -> Result<Verdict, AllocError>
-    requires { IsTrustOf (table_answer basis.now.table.now) basis.now.table.now.moment basis.now.capture.now.rrsets
-        basis.now.anchors.now trust.now }
+    requires { IsTrustOf (table_answer grounds.now.table.now) grounds.now.table.now.moment
+        grounds.now.capture.now.rrsets grounds.now.anchors.now trust.now }
     ensures value { (meaning : Entry → Answer) (moment : ℕ)
-        → IsTableOf meaning moment basis.now.capture.now.rrsets basis.now.table.now
-        → IfOk result (IsVerdictAt (record {
-          rrsets = basis.now.capture.now.rrsets;
-          anchors = basis.now.anchors.now;
-          moment = moment;
-          meaning = meaning;
-        }) name.now rtype.0) }
+        → IsTableOf meaning moment grounds.now.capture.now.rrsets grounds.now.table.now
+        → IfOk result (IsVerdictAt (basis_of grounds.now.capture.now.rrsets grounds.now.anchors.now moment meaning)
+        name.now rtype.0) }
     ensures hashed { IfOk result (λ verdict. (all : List Nsec3Parameters)
-        → AreParameters (nsec3_rdata basis.now.capture.now.rrsets) all
+        → AreParameters (nsec3_rdata grounds.now.capture.now.rrsets) all
         → hashed.new ≡ counted hashed.old (hashes_for name.now all)) }
 {
     a_table_is_its_verifier();
     trust_depends_on_what_is_asked();
-    let hashes = Hashes::new(alloc, basis.capture, name, hashed)?;
-    let view = View::with(alloc, basis.capture, trust, &hashes)?;
-    if let Some(verdict) = settled(basis.capture, trust, name, rtype, &view) {
+    let hashes = Hashes::new(alloc, grounds.capture, name, hashed)?;
+    let view = View::with(alloc, grounds.capture, trust, &hashes)?;
+    if let Some(verdict) = settled(grounds.capture, trust, name, rtype, &view) {
         return Ok(verdict);
     }
-    let unknown = basis.table.unknown(alloc)?;
-    if may_be_settled(alloc, basis, &hashes, &unknown, name, rtype)? {
+    let unknown = grounds.table.unknown(alloc)?;
+    if may_be_settled(alloc, grounds, &hashes, &unknown, name, rtype)? {
         return Ok(Verdict::Pending(Entries::from_vec(unknown)));
     }
-    if has_anchor(basis.anchors, name) {
+    if has_anchor(grounds.anchors, name) {
         return Ok(Verdict::Bogus);
     }
     Ok(Verdict::Indeterminate)
@@ -76,30 +72,22 @@ pub fn verdict_at(
 /// trust, so that they serve again.
 fn may_be_settled<'a>(
     alloc: Global,
-    basis: &Basis<'a>,
+    grounds: &Grounds<'a>,
     hashes: &Hashes<'a>,
     unknown: &[Entry],
     name: &Name,
     rtype: RecordType,
 ) -> Result<bool, AllocError>
-    requires rrsets { hashes.now.rrsets ≡ basis.now.capture.now.rrsets }
+    requires rrsets { hashes.now.rrsets ≡ grounds.now.capture.now.rrsets }
     requires name { hashes.now.name ≡ name.now }
-    requires entries { unknown.now ≡ unknown_entries basis.now.table.now }
+    requires entries { unknown.now ≡ unknown_entries grounds.now.table.now }
     requires rising { IsStrictlySortedBy entry_cmp unknown.now }
     ensures { (meaning : Entry → Answer) (moment : ℕ)
-        → IsTableOf meaning moment basis.now.capture.now.rrsets basis.now.table.now
-        → ¬ IsSettledBy (record {
-          rrsets = basis.now.capture.now.rrsets;
-          anchors = basis.now.anchors.now;
-          moment = moment;
-          meaning = meaning;
-        }) name.now rtype.0
-        → IfOk result (λ may. IsTrue may ↔ MayBeSettledBy (record {
-          rrsets = basis.now.capture.now.rrsets;
-          anchors = basis.now.anchors.now;
-          moment = moment;
-          meaning = meaning;
-        }) name.now rtype.0) }
+        → IsTableOf meaning moment grounds.now.capture.now.rrsets grounds.now.table.now
+        → ¬ IsSettledBy (basis_of grounds.now.capture.now.rrsets grounds.now.anchors.now moment meaning) name.now
+        rtype.0
+        → IfOk result (λ may. IsTrue may ↔ MayBeSettledBy (basis_of grounds.now.capture.now.rrsets
+        grounds.now.anchors.now moment meaning) name.now rtype.0) }
 {
     a_table_is_its_verifier();
     trust_depends_on_what_is_asked();
@@ -107,10 +95,10 @@ fn may_be_settled<'a>(
     if unknown.is_empty() {
         return Ok(false);
     }
-    let hopeful = basis.table.hopeful(alloc)?;
-    let trust = trusted(alloc, basis.capture, basis.anchors, &hopeful)?;
-    let view = View::with(alloc, basis.capture, &trust, hashes)?;
-    let Some(_found) = settled(basis.capture, &trust, name, rtype, &view) else {
+    let hopeful = grounds.table.hopeful(alloc)?;
+    let trust = trusted(alloc, grounds.capture, grounds.anchors, &hopeful)?;
+    let view = View::with(alloc, grounds.capture, &trust, hashes)?;
+    let Some(_found) = settled(grounds.capture, &trust, name, rtype, &view) else {
         return Ok(false);
     };
     Ok(true)

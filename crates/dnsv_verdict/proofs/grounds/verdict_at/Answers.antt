@@ -3,38 +3,38 @@ use Rattle.std.proofs.Common.{sym, subst}
 use Rattle.std.proofs.lemmas.Option.{MatchOption-at_none, MatchOption-at_some}
 use Rattle.dnsv_verdict.proofs.TrustLemmas.{settled_as_by_trust, settled_is_verdict, unsettled_by_trust}
 use Rattle.dnsv_verdict.proofs.UnknownLemmas.{table_unknown}
-use Rattle.dnsv_verdict.specs.Verdict.{AreUnknown, Basis}
-use Rattle.dnsv_verdict.proofs.basis.verdict_at.Goals as goal
+use Rattle.dnsv_verdict.specs.Verdict.{AreUnknown, Basis, basis_of}
+use Rattle.dnsv_verdict.proofs.grounds.verdict_at.Goals as goal
 
 pub returns-in-Some-clause-value : goal.returns-in-Some-clause-value
 returns-in-Some-clause-value c = λ meaning moment table.
-    let basis = c.args.basis.now in
-    settled_is_verdict (record { rrsets = basis.capture.now.rrsets; anchors = basis.anchors.now; moment = moment; meaning = meaning })
+    let grounds = c.args.grounds.now in
+    settled_is_verdict (basis_of grounds.capture.now.rrsets grounds.anchors.now moment meaning)
     c.args.name.now c.args.rtype.0 c.in-Some.verdict
-    (settled_as_by_trust meaning moment basis.capture.now.rrsets basis.anchors.now basis.table.now c.args.trust.now table.of_moment
-    (c.a_table_is_its_verifier.ensures.answer meaning moment basis.capture.now.rrsets basis.table.now table)
+    (settled_as_by_trust meaning moment grounds.capture.now.rrsets grounds.anchors.now grounds.table.now c.args.trust.now table.of_moment
+    (c.a_table_is_its_verifier.ensures.answer meaning moment grounds.capture.now.rrsets grounds.table.now table)
     c.trust_depends_on_what_is_asked.ensures.numbers c.requires c.args.name.now c.args.rtype.0 c.in-Some.verdict
     (MatchOption-at_some _ _ c.in-Some.verdict c.in-Some.is c.settled.ensures))
 
 pub returns-then-branch-clause-value : goal.returns-then-branch-clause-value
 returns-then-branch-clause-value c = λ meaning moment table.
-    let basis = c.args.basis.now in
-    let judged : Basis = record { rrsets = basis.capture.now.rrsets; anchors = basis.anchors.now; moment = moment; meaning = meaning } in
-    let never = unsettled_by_trust meaning moment basis.capture.now.rrsets basis.anchors.now basis.table.now c.args.trust.now table.of_moment
-    (c.a_table_is_its_verifier.ensures.answer meaning moment basis.capture.now.rrsets basis.table.now table)
+    let grounds = c.args.grounds.now in
+    let judged : Basis = basis_of grounds.capture.now.rrsets grounds.anchors.now moment meaning in
+    let never = unsettled_by_trust meaning moment grounds.capture.now.rrsets grounds.anchors.now grounds.table.now c.args.trust.now table.of_moment
+    (c.a_table_is_its_verifier.ensures.answer meaning moment grounds.capture.now.rrsets grounds.table.now table)
     c.trust_depends_on_what_is_asked.ensures.numbers c.requires c.args.name.now c.args.rtype.0
     (MatchOption-at_none _ _ c.in_default.is c.settled.ensures) in (
       never,
       (c.in_ok-may_be_settled.ensures meaning moment table never).0 c.if-branch.true,
       subst (λ entries. AreUnknown judged entries) (sym c.from_vec.ensures)
-          (table_unknown judged basis.table.now table c.in_ok-unknown.unknown.items c.in_ok-unknown.ensures.value c.in_ok-unknown.ensures.rising),
+          (table_unknown judged grounds.table.now table c.in_ok-unknown.unknown.items c.in_ok-unknown.ensures.value c.in_ok-unknown.ensures.rising),
     )
 
 pub returns-then-has_anchor-clause-value : goal.returns-then-has_anchor-clause-value
 returns-then-has_anchor-clause-value c = λ meaning moment table.
-    let basis = c.args.basis.now in
-    let never = unsettled_by_trust meaning moment basis.capture.now.rrsets basis.anchors.now basis.table.now c.args.trust.now table.of_moment
-    (c.a_table_is_its_verifier.ensures.answer meaning moment basis.capture.now.rrsets basis.table.now table)
+    let grounds = c.args.grounds.now in
+    let never = unsettled_by_trust meaning moment grounds.capture.now.rrsets grounds.anchors.now grounds.table.now c.args.trust.now table.of_moment
+    (c.a_table_is_its_verifier.ensures.answer meaning moment grounds.capture.now.rrsets grounds.table.now table)
     c.trust_depends_on_what_is_asked.ensures.numbers c.requires c.args.name.now c.args.rtype.0
     (MatchOption-at_none _ _ c.in_default.is c.settled.ensures) in (
       never,
@@ -44,9 +44,9 @@ returns-then-has_anchor-clause-value c = λ meaning moment table.
 
 pub returns-clause-value : goal.returns-clause-value
 returns-clause-value c = λ meaning moment table.
-    let basis = c.args.basis.now in
-    let never = unsettled_by_trust meaning moment basis.capture.now.rrsets basis.anchors.now basis.table.now c.args.trust.now table.of_moment
-    (c.a_table_is_its_verifier.ensures.answer meaning moment basis.capture.now.rrsets basis.table.now table)
+    let grounds = c.args.grounds.now in
+    let never = unsettled_by_trust meaning moment grounds.capture.now.rrsets grounds.anchors.now grounds.table.now c.args.trust.now table.of_moment
+    (c.a_table_is_its_verifier.ensures.answer meaning moment grounds.capture.now.rrsets grounds.table.now table)
     c.trust_depends_on_what_is_asked.ensures.numbers c.requires c.args.name.now c.args.rtype.0
     (MatchOption-at_none _ _ c.in_default.is c.settled.ensures) in (
       never,

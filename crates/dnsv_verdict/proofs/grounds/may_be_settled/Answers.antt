@@ -9,46 +9,46 @@ use Rattle.dnsv_verdict.proofs.CaseLemmas.{settled_stands}
 use Rattle.dnsv_verdict.proofs.SettledLemmas.PendingLemmas.{nothing_to_hope}
 use Rattle.dnsv_verdict.proofs.TrustLemmas.{settled_by_trust, settled_from_trust}
 use Rattle.dnsv_verdict.proofs.UnknownLemmas.{none_unknown, table_unknown}
-use Rattle.dnsv_verdict.specs.Verdict.{AreUnknown, Basis}
-use Rattle.dnsv_verdict.proofs.basis.may_be_settled.Goals as goal
+use Rattle.dnsv_verdict.specs.Verdict.{AreUnknown, Basis, basis_of}
+use Rattle.dnsv_verdict.proofs.grounds.may_be_settled.Goals as goal
 
 pub returns-then-is_empty : goal.returns-then-is_empty
 returns-then-is_empty c = λ meaning moment table unsettled.
-    let basis = c.args.basis.now in
-    let judged : Basis = record { rrsets = basis.capture.now.rrsets; anchors = basis.anchors.now; moment = moment; meaning = meaning } in (
+    let grounds = c.args.grounds.now in
+    let judged : Basis = basis_of grounds.capture.now.rrsets grounds.anchors.now moment meaning in (
       λ never. cc,
       λ may. absurd (unsettled (nothing_to_hope c.trust_depends_on_what_is_asked.ensures.numbers judged c.args.name.now c.args.rtype.0
           (subst (λ (entries : List Entry). AreUnknown judged entries) (none_unknown c.args.unknown.now c.if-is_empty.ensures)
-          (table_unknown judged basis.table.now table c.args.unknown.now c.requires.entries c.requires.rising)) may)),
+          (table_unknown judged grounds.table.now table c.args.unknown.now c.requires.entries c.requires.rising)) may)),
     )
 
 pub returns : goal.returns
 returns c = λ meaning moment table unsettled.
-    let basis = c.args.basis.now in
+    let grounds = c.args.grounds.now in
     let hoped : Entry → Answer = λ entry. hoped_answer (meaning entry) in
     let contents = c.in_ok-hopeful.hopeful in
-    let is : IsTableOf hoped moment basis.capture.now.rrsets contents =
-    subst (λ each. IsTableOf hoped moment basis.capture.now.rrsets each) (sym c.in_ok-hopeful.ensures)
-    (c.unknown_entries_may_turn_out_valid.ensures.hoped meaning moment basis.capture.now.rrsets basis.table.now table) in (
-      λ _. settled_from_trust hoped moment basis.capture.now.rrsets basis.anchors.now contents c.in_ok-trust.trust is.of_moment
-          (c.a_table_is_its_verifier.ensures.answer hoped moment basis.capture.now.rrsets contents is)
+    let is : IsTableOf hoped moment grounds.capture.now.rrsets contents =
+    subst (λ each. IsTableOf hoped moment grounds.capture.now.rrsets each) (sym c.in_ok-hopeful.ensures)
+    (c.unknown_entries_may_turn_out_valid.ensures.hoped meaning moment grounds.capture.now.rrsets grounds.table.now table) in (
+      λ _. settled_from_trust hoped moment grounds.capture.now.rrsets grounds.anchors.now contents c.in_ok-trust.trust is.of_moment
+          (c.a_table_is_its_verifier.ensures.answer hoped moment grounds.capture.now.rrsets contents is)
           c.trust_depends_on_what_is_asked.ensures.numbers c.in_ok-trust.ensures c.args.name.now c.args.rtype.0
-          (settled_stands (SecuredIn c.in_ok-trust.trust) basis.capture.now.rrsets c.args.name.now c.args.rtype.0 c.in-Some._found
+          (settled_stands (SecuredIn c.in_ok-trust.trust) grounds.capture.now.rrsets c.args.name.now c.args.rtype.0 c.in-Some._found
           (MatchOption-at_some _ _ c.in-Some._found c.in-Some.is c.settled.ensures)),
       λ _. refl,
     )
 
 pub returns-in_default : goal.returns-in_default
 returns-in_default c = λ meaning moment table unsettled.
-    let basis = c.args.basis.now in
+    let grounds = c.args.grounds.now in
     let hoped : Entry → Answer = λ entry. hoped_answer (meaning entry) in
     let contents = c.in_ok-hopeful.hopeful in
-    let is : IsTableOf hoped moment basis.capture.now.rrsets contents =
-    subst (λ each. IsTableOf hoped moment basis.capture.now.rrsets each) (sym c.in_ok-hopeful.ensures)
-    (c.unknown_entries_may_turn_out_valid.ensures.hoped meaning moment basis.capture.now.rrsets basis.table.now table) in (
+    let is : IsTableOf hoped moment grounds.capture.now.rrsets contents =
+    subst (λ each. IsTableOf hoped moment grounds.capture.now.rrsets each) (sym c.in_ok-hopeful.ensures)
+    (c.unknown_entries_may_turn_out_valid.ensures.hoped meaning moment grounds.capture.now.rrsets grounds.table.now table) in (
       λ never. cc,
       λ may. absurd (MatchOption-at_none _ _ c.in_default.is c.settled.ensures
-          (settled_by_trust hoped moment basis.capture.now.rrsets basis.anchors.now contents c.in_ok-trust.trust is.of_moment
-          (c.a_table_is_its_verifier.ensures.answer hoped moment basis.capture.now.rrsets contents is)
+          (settled_by_trust hoped moment grounds.capture.now.rrsets grounds.anchors.now contents c.in_ok-trust.trust is.of_moment
+          (c.a_table_is_its_verifier.ensures.answer hoped moment grounds.capture.now.rrsets contents is)
           c.trust_depends_on_what_is_asked.ensures.numbers c.in_ok-trust.ensures c.args.name.now c.args.rtype.0 may)),
     )
