@@ -69,10 +69,10 @@ fn links_text(alloc: Global, links: &[Link]) -> Result<String, RowError> {
 
 fn verdict_text(alloc: Global, verdict: &Verdict) -> Result<String, RowError> {
     Ok(match verdict {
-        Verdict::SecureAnswer(rrset, signature) => {
+        Verdict::SecureAnswer { rrset, signature } => {
             format!(in alloc; "SecureAnswer {rrset}.{signature}")?
         }
-        Verdict::SecureAlias(rrset, signature) => {
+        Verdict::SecureAlias { rrset, signature } => {
             format!(in alloc; "SecureAlias {rrset}.{signature}")?
         }
         Verdict::SecureNoName(proof) => with_records(alloc, "SecureNoName", proof)?,

@@ -27,11 +27,17 @@ pub fn settled(
     ensures { MatchOption result (¬ IsSettled (SecuredIn trust.now) capture.now.rrsets name.now rtype.0)
         (IsSettledAs (SecuredIn trust.now) capture.now.rrsets name.now rtype.0) }
 {
-    if let Some(found) = secure_set(capture, trust, name, rtype, view) {
-        return Some(Verdict::SecureAnswer(found.rrset, found.signature));
+    if let Some(answer) = secure_set(capture, trust, name, rtype, view) {
+        return Some(Verdict::SecureAnswer {
+            rrset: answer.rrset,
+            signature: answer.signature,
+        });
     }
-    if let Some(found) = secure_alias(capture, trust, name, rtype, view) {
-        return Some(Verdict::SecureAlias(found.rrset, found.signature));
+    if let Some(alias) = secure_alias(capture, trust, name, rtype, view) {
+        return Some(Verdict::SecureAlias {
+            rrset: alias.rrset,
+            signature: alias.signature,
+        });
     }
     if let Some(proof) = view.no_name() {
         return Some(Verdict::SecureNoName(proof));

@@ -7,9 +7,9 @@ use dnsv_names::Name;
 #[derive(Debug, Drop)]
 pub enum Verdict {
     /// The RRset answers the question, and the signature secures it (RFC 4035 5.3).
-    SecureAnswer(usize, usize),
+    SecureAnswer { rrset: usize, signature: usize },
     /// The RRset is a CNAME for the name, and the signature secures it.
-    SecureAlias(usize, usize),
+    SecureAlias { rrset: usize, signature: usize },
     /// Records prove that there is no such name (RFC 4035 5.4, RFC 5155 8.4).
     SecureNoName(Proof),
     /// Records prove that the name doesn't have the type (RFC 4035 5.4, RFC 5155 8.5 to 8.7).

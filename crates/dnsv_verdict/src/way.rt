@@ -93,7 +93,7 @@ fn alias_of(verdict: &Verdict) -> Option<(usize, usize)>
     ensures { MatchOption result (¬ IsAlias verdict.now) (λ found. verdict.now ≡ SecureAlias found.0 found.1) }
 {
     match verdict {
-        Verdict::SecureAlias(rrset, signature) => Some((*rrset, *signature)),
+        Verdict::SecureAlias { rrset, signature } => Some((*rrset, *signature)),
         _ => None,
     }
 }

@@ -42,12 +42,12 @@ pub fn judge<V: Verifier>(
     requires { IsQuestion name.now rtype.0 }
     ensures verdict { IfOk result (λ outcome. (links : List Link) × (last : Labels) × (verdict : Verdict)
         × IsVerdictOf (basis_of held.now.rrsets anchors.now moment (V.meaning verifier.now)) name.now rtype.0 links last
-            verdict
+        verdict
         × (outcome.status ≡ specs.verdict_status verdict)
         × (string_bytes outcome.text ≡ specs.verdict_text name.now rtype.0 held.now.rrsets links verdict)) }
     ensures only { IfErr result (λ told. (told ≡ Fault.OutOfMemory) ⊎ ((error : VerdictError)
         × IsRefusedFor (basis_of held.now.rrsets anchors.now moment (V.meaning verifier.now)) name.now rtype.0 error ×
-            (told ≡ specs.verdict_fault error))) }
+        (told ≡ specs.verdict_fault error))) }
 {
     match validate(
         alloc,
@@ -152,8 +152,8 @@ fn verdict_word(verdict: &Verdict) -> &'static str
     ensures { result.now ≡ specs.verdict_word verdict.now }
 {
     match verdict {
-        Verdict::SecureAnswer(_, _) => "SecureAnswer",
-        Verdict::SecureAlias(_, _) => "SecureAlias",
+        Verdict::SecureAnswer { .. } => "SecureAnswer",
+        Verdict::SecureAlias { .. } => "SecureAlias",
         Verdict::SecureNoName(_) => "SecureNoName",
         Verdict::SecureNoData(_) => "SecureNoData",
         Verdict::Insecure(_) => "Insecure",
@@ -174,7 +174,7 @@ fn push_reason(
         ≡ string_bytes text.old ++ specs.reason_lines rrsets.now verdict.now) }
 {
     match verdict {
-        Verdict::SecureAnswer(rrset, signature) | Verdict::SecureAlias(rrset, signature) => {
+        Verdict::SecureAnswer { rrset, signature } | Verdict::SecureAlias { rrset, signature } => {
             push_signature(text, *rrset, *signature)
         }
         Verdict::SecureNoName(proof) | Verdict::SecureNoData(proof) => {

@@ -7,8 +7,8 @@ use crate::evidence::capture_or_refusal;
 use crate::row::{Row, RowError};
 use dnsv_canonical::{Capture, Rrset};
 use dnsv_denial::{
-    ChainRecords, Nsec3Entries, Nsec3Entry, HashedRecords, NsecEntry, Places, RecordNumber,
-    opts_out_next_closer, no_closer, no_data, no_name, opt_out, unsigned_delegation,
+    ChainRecords, HashedRecords, Nsec3Entries, Nsec3Entry, NsecEntry, Places, RecordNumber,
+    no_closer, no_data, no_name, opt_out, opts_out_next_closer, unsigned_delegation,
 };
 use dnsv_names::{Count, Hash20, Name};
 use dnsv_records::base32hex_read;
