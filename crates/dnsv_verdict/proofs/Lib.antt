@@ -1,15 +1,12 @@
 mod AnchorLemmas
 mod CaseLemmas
-mod FollowLemmas
 mod FormLemmas
 mod HashedLemmas
 mod MeaningLemmas
 mod OneProof
-mod RefusalLemmas
 mod SearchLemmas
 mod SettledLemmas
 mod SureLemmas
-mod TargetLemmas
 mod TrustLemmas
 mod UnknownLemmas
 mod WayLemmas

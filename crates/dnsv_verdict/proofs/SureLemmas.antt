@@ -52,7 +52,7 @@ most_within P bound limit (suc room) n near p =
 pub some_most : (P : ℕ → Type 0) (bound : ℕ) → ((n : ℕ) → P n → n ≤ bound) → (n : ℕ) → P n → Surely ((m : ℕ) × IsMost P m)
 some_most P bound limit n p = most_within P bound limit bound n (omega arith) p
 
--- ---- the lowest pair of numbers
+-- ---- the first pair of numbers
 
 after_first_such : (Such : ℕ → ℕ → Type 0) (k s j r : ℕ) → ((fewer : ℕ) → fewer < k → ((n : ℕ) × Such fewer n) → ⊥)
     → ((fewer : ℕ) → fewer < s → Such k fewer → ⊥) → Such j r → (k < j) ⊎ ((k ≡ j) × (s ≤ r))

@@ -1,4 +1,7 @@
 -- Two ways from one name are one, or one goes on where the other ends; and what goes on isn't stopped.
+pub mod FollowLemmas
+pub mod RefusalLemmas
+pub mod TargetLemmas
 use Rattle.std.proofs.Common.{◌≡◌, ◌⊎◌, ◌+◌, ◌<◌, ◌≤◌, ℕ, List, [], ◌∷◌, ◌++◌, length, map, refl, sym, ap, ◌∙◌, inl, inr, ⊎_elim, subst, arith, length-append}
 use Rattle.std.proofs.lemmas.List.{length-map}
 use Rattle.std.specs.Prelude.{Contains}

@@ -14,13 +14,13 @@ abbrev pub IsOptOutWildcard : (ℕ → ℕ → Type 0) → List ReceivedRrset �
 IsOptOutWildcard Secured rrsets name rrset rrsig =
     IsExpanded rrset.owner rrsig × HasOptedOutNextCloser Secured rrsets name rrsig.labels rrsig.signer
 
--- signature s of RRset k, which has the name and the type or CNAME, is loose
+-- signature s of RRset k, which has the name and the type or CNAME, is such
 abbrev pub IsOptOutWildcardSet : (ℕ → ℕ → Type 0) → List ReceivedRrset → Labels → ℕ → ℕ → ℕ → Type 0
 IsOptOutWildcardSet Secured rrsets name t =
     IsSecuredAt Secured rrsets name
     (λ rrset rrsig. ((rrset.rtype ≡ t) ⊎ (rrset.rtype ≡ cname)) × IsOptOutWildcard Secured rrsets name rrset rrsig)
 
--- the next closer name for the lowest loose signature: it has one label more than the wildcard's parent
+-- the next closer name for the first such signature: it has one label more than the wildcard's parent
 pub record IsOptOutWildcardCut
     (Secured : ℕ → ℕ → Type 0) (rrsets : List ReceivedRrset) (name : Labels) (t : ℕ) (cut : Labels) : Type 0 where
   pub k : ℕ
@@ -28,7 +28,7 @@ pub record IsOptOutWildcardCut
   pub earliest : IsFirstSuch (IsOptOutWildcardSet Secured rrsets name t) k s
   pub next_closer : cut ≡ rightmost name (earliest.such.rrsig.labels + 1)
 
--- Something shows that the name may lie in an unsigned zone: records of the zones above it, or a loose signature.
+-- Something shows that the name may lie in an unsigned zone: records of the zones above it, or such a signature.
 abbrev pub IsUnsigned : (ℕ → ℕ → Type 0) → List ReceivedRrset → Labels → ℕ → Type 0
 IsUnsigned Secured rrsets name t =
     HasUnsignedCut Secured rrsets name ⊎ ((k : ℕ) × (s : ℕ) × IsOptOutWildcardSet Secured rrsets name t k s)

@@ -39,8 +39,8 @@ IsOwnOrFromWildcard Secured rrsets name =
 
 -- ---- cuts
 
--- The cut is that of the lowest loose signature. A record of its signer with the Opt-Out flag covers the cut, which is
--- an unsigned end, if it is a node at all, in each zone that has the record in its chain.
+-- The cut is that of the first signature that Opt-Out leaves open. A record of its signer with the Opt-Out flag covers
+-- the cut, which is an unsigned end, if it is a node at all, in each zone that has the record in its chain.
 pub record MeansOptOutWildcardCut
     (Secured : ℕ → ℕ → Type 0) (rrsets : List ReceivedRrset) (name : Labels) (t : ℕ) (cut : Labels) : Type 0 where
   pub opt_out : IsOptOutWildcardCut Secured rrsets name t cut

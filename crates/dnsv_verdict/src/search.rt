@@ -1,4 +1,4 @@
-//! The lowest RRset of a name, and its lowest signature, that pass a test.
+//! The first RRset of a name, and its first signature, that pass a test.
 ghost use Rattle.std.specs.Prelude.{◌≡◌, ◌↔◌, ℕ, Contains, IsTrue, MatchOption};
 ghost use Rattle.dnsv_records.specs.declared.rrsig.Rrsig.{Rrsig};
 ghost use Rattle.dnsv_canonical.specs.Rrsets.{ReceivedRrset};

@@ -54,7 +54,7 @@ pub fn settled(
     None
 }
 
-/// The lowest RRset of the name and type that holds for the name, and the lowest signature by which it does.
+/// The first RRset of the name and type that holds for the name, and the first signature by which it does.
 fn secure_set<'a>(
     capture: &'a Capture,
     trust: &Trust,
@@ -93,7 +93,7 @@ fn secure_alias<'a>(
     Some(found)
 }
 
-/// The next closer name for the lowest RRset and signature of the name, and of the type or CNAME, that an unsigned
+/// The next closer name for the first RRset and signature of the name, and of the type or CNAME, that an unsigned
 /// delegation may stand against (RFC 5155 8.8).
 fn opt_out_wildcard_cut(
     capture: &Capture,

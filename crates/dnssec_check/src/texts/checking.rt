@@ -41,13 +41,12 @@ pub fn judge<V: Verifier>(
 ) -> Result<Outcome, Fault>
     requires { IsQuestion name.now rtype.0 }
     ensures verdict { IfOk result (λ outcome. (links : List Link) × (last : Labels) × (verdict : Verdict)
-        × IsVerdictOf (basis_of held.now.rrsets anchors.now moment (V.meaning verifier.now)) name.now rtype.0 links last
-        verdict
-        × (outcome.status ≡ specs.verdict_status verdict)
+        × IsVerdictOf (basis_of held.now.rrsets anchors.now moment (V.meaning verifier.now)) name.now rtype.0 links
+        last verdict × (outcome.status ≡ specs.verdict_status verdict)
         × (string_bytes outcome.text ≡ specs.verdict_text name.now rtype.0 held.now.rrsets links verdict)) }
     ensures only { IfErr result (λ told. (told ≡ Fault.OutOfMemory) ⊎ ((error : VerdictError)
-        × IsRefusedFor (basis_of held.now.rrsets anchors.now moment (V.meaning verifier.now)) name.now rtype.0 error ×
-        (told ≡ specs.verdict_fault error))) }
+        × IsRefusedFor (basis_of held.now.rrsets anchors.now moment (V.meaning verifier.now)) name.now rtype.0 error
+        × (told ≡ specs.verdict_fault error))) }
 {
     match validate(
         alloc,

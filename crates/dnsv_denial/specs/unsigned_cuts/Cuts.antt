@@ -60,8 +60,8 @@ pub record IsMost (Holds : ℕ → Type 0) (labels : ℕ) : Type 0 where
   pub most : (more : ℕ) → labels < more → ¬ Holds more
 
 -- From this name on the question's name may be unsigned: the highest delegation without DS; if there is none, the
--- highest with DS records of which none can be used; if there is none, the next closer name of the longest closest
--- encloser where an unsigned delegation may be left out.
+-- highest with DS records of which none can be used; if there is none, the next closer name of the closest encloser
+-- with most labels where an unsigned delegation may be left out.
 pub data IsUnsignedCut (Secured : ℕ → ℕ → Type 0) (rrsets : List ReceivedRrset) (name : Labels) : Labels → Type 0 where
   no_ds : (labels : ℕ) → IsFewest (IsUnsignedDelegationCut Secured rrsets name) labels
       → IsUnsignedCut Secured rrsets name (rightmost name labels)

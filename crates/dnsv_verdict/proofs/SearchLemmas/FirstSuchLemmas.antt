@@ -1,4 +1,4 @@
--- The lowest of pairs of numbers.
+-- The first of pairs of numbers.
 use Rattle.std.proofs.Common.{◌≡◌, ◌↔◌, ◌⊎◌, ℕ, ◌<◌, ◌≤◌, ⊎_elim, arith}
 use Rattle.dnsv_verdict.specs.Secure.{IsFirstSuch}
 

@@ -11,7 +11,7 @@ use Rattle.dnsv_verdict.specs.Secure.{HoldsForName, IsFirstSuch, IsSecuredAt}
 abbrev pub HoldsForView : ℕ → Viewed → ReceivedRrset → Rrsig → Type 0
 HoldsForView t view rrset rrsig = (rrset.rtype ≡ t) × HoldsForName (SecuredIn view.trust) view.rrsets view.name rrset rrsig
 
--- the signature is loose for the view's name
+-- Opt-Out leaves the signature's answer open for the view's name
 abbrev pub IsOptOutWildcardForView : ℕ → Viewed → ReceivedRrset → Rrsig → Type 0
 IsOptOutWildcardForView t view rrset rrsig =
     ((rrset.rtype ≡ t) ⊎ (rrset.rtype ≡ cname)) × IsOptOutWildcard (SecuredIn view.trust) view.rrsets view.name rrset rrsig
@@ -20,6 +20,6 @@ IsOptOutWildcardForView t view rrset rrsig =
 abbrev pub AtNumbers : Viewed → (ReceivedRrset → Rrsig → Type 0) → ℕ → ℕ → Type 0
 AtNumbers of Such = IsSecuredAt (SecuredIn of.trust) of.rrsets of.name Such
 
--- the lowest such numbers, and the signature
+-- the first such numbers, and the signature
 abbrev pub AtFirstSuch : Viewed → (ReceivedRrset → Rrsig → Type 0) → ℕ → ℕ → Rrsig → Type 0
 AtFirstSuch of Such k s rrsig = (is : IsFirstSuch (AtNumbers of Such) k s) × (is.such.rrsig ≡ rrsig)

@@ -19,7 +19,7 @@ pub record Covers (hash : NameHash) (nsec3 : Nsec3Record) (name : Labels) : Type
   pub same_parameters : nsec3.parameters ≡ hash.parameters
   pub gap : Gap label_cmp nsec3.hash nsec3.next (hash.of name)
 
--- A cover without the Opt-Out flag is firm, and only such says that a name is absent (RFC 5155 6). The closest
+-- Only a cover without the Opt-Out flag says that a name is absent (RFC 5155 6). The closest
 -- encloser is no delegation and has no DNAME (RFC 5155 8.3).
 abbrev pub nsec3_words : NameHash → List Nsec3Record → Words
 nsec3_words hash records = record {

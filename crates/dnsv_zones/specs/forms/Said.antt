@@ -19,7 +19,7 @@ nsec_records_say apex At = record {
   OptedOut = λ name index. ⊥;
 }
 
--- NSEC3 records, by this hash: a cover without the Opt-Out flag is firm (RFC 5155 6, 8)
+-- NSEC3 records, by this hash: only a cover without the Opt-Out flag says that a name is absent (RFC 5155 6, 8)
 abbrev pub nsec3_records_say
     : {Index : Type 0} → NameHash → ((Nsec3Record → Type 0) → Index → Type 0) → RecordWords Index
 nsec3_records_say hash At = record {

@@ -67,7 +67,7 @@ module _ (Secured : ℕ → ℕ → Type 0) (rrsets : List ReceivedRrset) (apex 
     opted_out_from : (x : Labels) → IsOptedOut (sha1_hash parameters) records x → (n : RecordNumber) × (nsec3_said Secured rrsets apex parameters).OptedOut x n
     opted_out_from x = with_number (IsNsec3At Secured rrsets apex) (λ r. Covers (sha1_hash parameters) r x × (r.flags ≢ 0)) numbers records are
 
-    -- a cover is firm, or has the flag
+    -- a cover is without the flag, or has it
     covered_from : (x : Labels) → IsCovered (sha1_hash parameters) records x
         → (words (nsec3_said Secured rrsets apex parameters)).Absent x ⊎ ((n : RecordNumber) × (nsec3_said Secured rrsets apex parameters).OptedOut x n)
     covered_from x some =

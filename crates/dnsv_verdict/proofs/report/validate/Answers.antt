@@ -3,7 +3,7 @@ use Rattle.std.proofs.Common.{◌≡◌, ◌⊎◌, Err, ap, inl, inr, ⊎_elim}
 use Rattle.std.proofs.lemmas.Result.{err_from_is_err_and}
 use Rattle.dnsv_canonical.specs.Rrsets.{IsQuestion}
 use Rattle.dnsv_verdict.proofs.MeaningLemmas.{verdict_means}
-use Rattle.dnsv_verdict.proofs.RefusalLemmas.{no_refusal, one_refusal}
+use Rattle.dnsv_verdict.proofs.WayLemmas.RefusalLemmas.{no_refusal, one_refusal}
 use Rattle.dnsv_verdict.proofs.WayLemmas.{last_is_question}
 use Rattle.dnsv_verdict.specs.Verdict.{Basis, basis_of}
 use Rattle.dnsv_verdict.specs.Way.{IsRefusedFor}

@@ -2,7 +2,7 @@ use Rattle.std.proofs.Common.{map, sym, subst}
 use Rattle.std.proofs.lemmas.Option.{MatchOption-at_some}
 use Rattle.dnsv_canonical.specs.Canonical.{IsCanonical}
 use Rattle.dnsv_canonical.specs.CanonicalRdata.{canonical_form}
-use Rattle.dnsv_verdict.proofs.TargetLemmas.{target_from}
+use Rattle.dnsv_verdict.proofs.WayLemmas.TargetLemmas.{target_from}
 use Rattle.dnsv_verdict.proofs.target.target_of.Goals as goal
 
 pub returns : goal.returns

@@ -2,7 +2,7 @@
 use Rattle.std.proofs.Common.{◌≡◌, subst}
 use Rattle.std.proofs.lemmas.Option.{MatchOption-at_none, MatchOption-at_some}
 use Rattle.std.proofs.lemmas.Result.{err_from_is_err_and}
-use Rattle.dnsv_verdict.proofs.FollowLemmas.{OfTable, counted_last, followed_more, followed_to_end, refused_at_last}
+use Rattle.dnsv_verdict.proofs.WayLemmas.FollowLemmas.{OfTable, counted_last, followed_more, followed_to_end, refused_at_last}
 use Rattle.dnsv_verdict.specs.Verdict.{IsVerdictAt, basis_of}
 use Rattle.dnsv_verdict.specs.declared.verdict.Verdict.TheVariants.{SecureAlias}
 use Rattle.dnsv_verdict.proofs.way.follow.Goals as goal

@@ -1,6 +1,6 @@
 -- the way so far
 use Rattle.std.proofs.Common.{◌-◌, length}
-use Rattle.dnsv_verdict.proofs.FollowLemmas.{IsFollowed}
+use Rattle.dnsv_verdict.proofs.WayLemmas.FollowLemmas.{IsFollowed}
 use Rattle.dnsv_verdict.proofs.way.follow.Given as goal
 
 abbrev pub invariant-links : goal.invariant-links

@@ -1,6 +1,6 @@
 use Rattle.std.proofs.Common.{◌⊎◌, List, ⊎_elim}
 use Rattle.dnsv_names.specs.Name.{Labels}
-use Rattle.dnsv_verdict.proofs.RefusalLemmas.{never_both, one_refused_for, some_answer}
+use Rattle.dnsv_verdict.proofs.WayLemmas.RefusalLemmas.{never_both, one_refused_for, some_answer}
 use Rattle.dnsv_verdict.proofs.WayLemmas.{one_way}
 use Rattle.dnsv_verdict.specs.Way.{IsRefusedFor, IsVerdictOf}
 use Rattle.dnsv_verdict.specs.declared.error.VerdictError.{VerdictError}

@@ -48,7 +48,7 @@ module _ (zone : Zone) (r : NsecRecord) (there : IsInNsecChain zone r) (name : L
       (λ (inside : IsBelow r.owner cut). absurd (well.ends cut r.owner closed there.owner inside))
       (at_or_below_cases r.owner cut (owner_at_or_below r.owner r.next name cut outside covers below.0))
 
-  -- nothing above a name that a fair record covers is closed
+  -- nothing above a name that a record covers, which is no cut above it, is closed
   pub covered_open_above : (cut : Labels) → IsWellFormed zone → Covers r name → IsNoCutAbove r name → IsBelow name cut → ¬ IsClosedAt zone cut
   covered_open_above cut well covers no_cut_above below closed =
       let same : SameName r.owner cut = owner_is_the_end cut well covers closed below in

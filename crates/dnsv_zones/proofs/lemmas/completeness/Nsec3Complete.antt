@@ -155,7 +155,7 @@ module _ (zone : Zone) (apex : Labels) (hash : NameHash) (records : List Nsec3Re
     encloser_at x asked chained open_here =
         types_at x (λ has. ¬ IsClosed has) asked chained (λ types bitmap closed. open_here (bits_closed zone x types bitmap closed))
 
-    -- a cover is firm, or opted out, and of a node never firm
+    -- a cover is without Opt-Out, or with it, and of a node always with it
     without_opt_out_or_opted_out : (x : Labels) → HasCover zone hash chain.has_records.names records x
         → (((nsec3_words hash records).Absent x × ¬ IsNode zone x) ⊎ (IsOptedOut hash records x × IsCovered hash records x))
     without_opt_out_or_opted_out x some =

@@ -1,4 +1,4 @@
--- Below the owner, the record is fair where it isn't closed.
+-- Below the owner, the record is no cut above the name where it isn't closed.
 use Rattle.std.proofs.Common.{Bool, true, false, refl, IsTrue}
 use Rattle.std.specs.Prelude.{not}
 use Rattle.std.specs.Bool.{Decides}
