@@ -13,7 +13,7 @@ use Rattle.dnsv_canonical.specs.CanonicalRdata.{canonical_form}
 use Rattle.dnsv_canonical.specs.Rrsets.{IsQuestion, ReceivedRrset}
 use Rattle.dnsv_verdict.proofs.CaseLemmas.{one_verdict, some_is_one}
 use Rattle.dnsv_verdict.specs.Verdict.{Basis, IsVerdictAt}
-use Rattle.dnsv_verdict.specs.Way.{AreApart, IsAlias, IsAmong, IsLink, IsTarget, IsVerdictOf, IsWay, LeadTo, names_on}
+use Rattle.dnsv_verdict.specs.Way.{AreApart, IsAlias, IsAmong, IsLink, IsTarget, IsVerdictOf, IsWay, LeadTo, most_links, names_on}
 use Rattle.dnsv_verdict.specs.declared.link.Link.{Link}
 use Rattle.dnsv_verdict.specs.declared.verdict.Verdict.{Verdict}
 use Rattle.dnsv_verdict.specs.declared.verdict.Verdict.TheVariants.{SecureAnswer, SecureAlias, SecureNoName, SecureNoData, Insecure, Pending, Bogus, Indeterminate}
@@ -82,7 +82,7 @@ names_behind [] link rest last = refl
 names_behind (each ∷ links) link rest last = ap (λ names. each.name ∷ names) (names_behind links link rest last)
 
 -- one name more than there are links
-pub few_names : (links : List Link) (last : Labels) → length links ≤ 8 → length (names_on links last) ≤ 9
+pub few_names : (links : List Link) (last : Labels) → length links ≤ most_links → length (names_on links last) ≤ 9
 few_names links last few =
     let count : length (names_on links last) ≡ length (map (λ (link : Link). link.name) links) + length (last ∷ []) =
     length-append (map (λ (link : Link). link.name) links) (last ∷ []) in
@@ -236,7 +236,7 @@ lead_more basis t name (each ∷ links) last link target leads is to asked =
 
 pub way_more : (basis : Basis) (t : ℕ) (name : Labels) (links : List Link) (last : Labels) (k s : ℕ) (target : Labels)
     → IsWay basis t name links last → IsVerdictAt basis last t (SecureAlias k s) → IsTarget basis.rrsets k target
-    → ¬ IsAmong target (names_on links last) → length links < 8 → IsQuestion target t
+    → ¬ IsAmong target (names_on links last) → length links < most_links → IsQuestion target t
     → IsWay basis t name (links ++ (record { name = last; rrset = k; signature = s }) ∷ []) target
 way_more basis t name links last k s target way alias to new few asked =
     let link : Link = record { name = last; rrset = k; signature = s } in

@@ -50,11 +50,15 @@ abbrev pub AreApart : List Labels → Type 0
 AreApart [] = Unit {0}
 AreApart (name ∷ names) = (¬ IsAmong name names) × AreApart names
 
--- at most eight links lead from the name to the last one, and no name comes twice
+-- how many links a way has at most
+abbrev pub most_links : ℕ
+most_links = 8
+
+-- at most so many links lead from the name to the last one, and no name comes twice
 pub record IsWay (basis : Basis) (t : ℕ) (name : Labels) (links : List Link) (last : Labels) : Type 0 where
   pub leads : LeadTo basis t name links last
   pub apart : AreApart (names_on links last)
-  pub few : length links ≤ 8
+  pub few : length links ≤ most_links
 
 -- ---- the verdict on a question
 
@@ -77,9 +81,10 @@ abbrev pub Stops : List ReceivedRrset → ℕ → List Labels → ℕ → ℕ �
 Stops rrsets t names links k AliasTargets = (target : Labels) → ¬ IsTarget rrsets k target
 Stops rrsets t names links k AliasLoop = (target : Labels) × IsTarget rrsets k target × IsAmong target names
 Stops rrsets t names links k TooManyLinks =
-    (target : Labels) × IsTarget rrsets k target × (¬ IsAmong target names) × (links ≡ 8)
+    (target : Labels) × IsTarget rrsets k target × (¬ IsAmong target names) × (links ≡ most_links)
 Stops rrsets t names links k BadQuestion =
-    (target : Labels) × IsTarget rrsets k target × (¬ IsAmong target names) × (links < 8) × (¬ IsQuestion target t)
+    (target : Labels) × IsTarget rrsets k target × (¬ IsAmong target names) × (links < most_links)
+    × (¬ IsQuestion target t)
 Stops rrsets t names links k OutOfMemory = ⊥
 
 -- the question is refused so: a way ends at an alias that can't be followed

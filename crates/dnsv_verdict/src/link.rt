@@ -1,5 +1,6 @@
 //! The links of a way over aliases.
 ghost use Rattle.std.specs.Prelude.{◌≡◌, ◌<◌, ◌≤◌, ◌++◌, [], ◌∷◌, length};
+ghost use Rattle.dnsv_verdict.specs.Way.{most_links};
 
 use arrayvec::ArrayVec;
 use dnsv_names::Name;
@@ -70,14 +71,14 @@ impl Links {
     /// The links, in order.
     pub fn as_slice(&self) -> &[Link]
         ensures value { result.now ≡ self.now }
-        ensures at_most_8 { length self.now ≤ 8 }
+        ensures few { length self.now ≤ most_links }
     {
         &self.links
     }
 
     /// Adds a link behind the others.
     pub fn push(&mut self, link: Link)
-        requires { length self.now < 8 }
+        requires { length self.now < most_links }
         ensures { self.new ≡ self.old ++ link ∷ [] }
     {
         self.links.push(link);

@@ -11,7 +11,7 @@ ghost use Rattle.dnsv_verifier.specs.Table.{IsTableOf, table_answer};
 ghost use Rattle.dnsv_verifier.specs.declared.answer.Answer.{Answer};
 ghost use Rattle.dnsv_verifier.specs.declared.entry.Entry.{Entry};
 ghost use Rattle.dnsv_verdict.specs.Hashed.{hashes_on};
-ghost use Rattle.dnsv_verdict.specs.Way.{IsAlias, IsAmong, IsRefusedFor, IsTarget, IsVerdictOf, IsWay, Stops, names_on};
+ghost use Rattle.dnsv_verdict.specs.Way.{IsAlias, IsAmong, IsRefusedFor, IsTarget, IsVerdictOf, IsWay, Stops, most_links, names_on};
 ghost use Rattle.dnsv_verdict.specs.declared.error.VerdictError.TheVariants.{OutOfMemory};
 ghost use Rattle.dnsv_verdict.specs.declared.link.Link.{Link};
 ghost use Rattle.dnsv_verdict.specs.declared.verdict.Verdict.TheVariants.{SecureAlias};
@@ -100,7 +100,7 @@ fn alias_of(verdict: &Verdict) -> Option<(usize, usize)>
 
 /// The way with one link more, from its last name to the target.
 fn longer(way: Way, rrset: usize, signature: usize, target: Name) -> Way
-    requires { length way.links < 8 }
+    requires { length way.links < most_links }
     ensures links { result.links
         ≡ way.links ++ (record { name = way.last; rrset = rrset; signature = signature }) ∷ [] }
     ensures last { result.last ≡ target }
@@ -127,7 +127,7 @@ fn next_name(
 ) -> Result<Name, VerdictError>
     ensures target { IfOk result (IsTarget grounds.now.capture.now.rrsets rrset) }
     ensures new { IfOk result (λ target. ¬ IsAmong target (names_on way.now.links way.now.last)) }
-    ensures few { IfOk result (λ target. length way.now.links < 8) }
+    ensures few { IfOk result (λ target. length way.now.links < most_links) }
     ensures question { IfOk result (λ target. IsQuestion target rtype.0) }
     ensures stops { IfErr result (λ error. (error ≡ OutOfMemory) ⊎ Stops grounds.now.capture.now.rrsets rtype.0
         (names_on way.now.links way.now.last) (length way.now.links) rrset error) }

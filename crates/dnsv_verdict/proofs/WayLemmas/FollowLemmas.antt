@@ -16,7 +16,7 @@ use Rattle.dnsv_verdict.proofs.HashedLemmas.{hashes_more}
 use Rattle.dnsv_verdict.proofs.WayLemmas.{empty_way, names_behind, way_more}
 use Rattle.dnsv_verdict.specs.Hashed.{hashes_on}
 use Rattle.dnsv_verdict.specs.Verdict.{Basis, IsVerdictAt, basis_of}
-use Rattle.dnsv_verdict.specs.Way.{IsAlias, IsAmong, IsRefusedFor, IsTarget, IsVerdictOf, IsWay, Stops, names_on}
+use Rattle.dnsv_verdict.specs.Way.{IsAlias, IsAmong, IsRefusedFor, IsTarget, IsVerdictOf, IsWay, Stops, most_links, names_on}
 use Rattle.dnsv_verdict.specs.declared.error.VerdictError.{VerdictError}
 use Rattle.dnsv_verdict.specs.declared.error.VerdictError.TheVariants.{OutOfMemory}
 use Rattle.dnsv_verdict.specs.declared.link.Link.{Link}
@@ -74,7 +74,7 @@ pub followed_more : (rrsets : List ReceivedRrset) (anchors : List Anchor) (table
     → IsFollowed rrsets anchors table t name before between links last
     → OfTable rrsets anchors table (λ basis. IsVerdictAt basis last t (SecureAlias k s))
     → AreCounted rrsets (names_on links last) before after
-    → IsTarget rrsets k target → ¬ IsAmong target (names_on links last) → length links < 8 → IsQuestion target t
+    → IsTarget rrsets k target → ¬ IsAmong target (names_on links last) → length links < most_links → IsQuestion target t
     → IsFollowed rrsets anchors table t name before after (links ++ (record { name = last; rrset = k; signature = s }) ∷ []) target
 followed_more rrsets anchors table t name before between after links last k s target so_far alias counts to new few asked =
     let link : Link = record { name = last; rrset = k; signature = s } in

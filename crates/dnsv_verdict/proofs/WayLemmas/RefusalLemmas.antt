@@ -7,7 +7,7 @@ use Rattle.dnsv_verdict.proofs.SureLemmas.SomeVerdict.{some_verdict}
 use Rattle.dnsv_verdict.proofs.SureLemmas.{Surely, surely, and_then, by_cases}
 use Rattle.dnsv_verdict.proofs.WayLemmas.{GoesOn, alias_or, empty_way, ends, next, next_is_new, one_alias, one_target, way_more, ways_compared}
 use Rattle.dnsv_verdict.specs.Verdict.{Basis, IsVerdictAt}
-use Rattle.dnsv_verdict.specs.Way.{IsAlias, IsAmong, IsRefusal, IsRefusedFor, IsTarget, IsVerdictOf, IsWay, Stops, names_on}
+use Rattle.dnsv_verdict.specs.Way.{IsAlias, IsAmong, IsRefusal, IsRefusedFor, IsTarget, IsVerdictOf, IsWay, Stops, most_links, names_on}
 use Rattle.dnsv_verdict.specs.declared.error.VerdictError.{VerdictError}
 use Rattle.dnsv_verdict.specs.declared.error.VerdictError.TheVariants.{OutOfMemory, BadQuestion, AliasLoop, TooManyLinks, AliasTargets}
 use Rattle.dnsv_verdict.specs.declared.link.Link.{Link}
@@ -138,7 +138,7 @@ module _ (basis : Basis) (name : Labels) (t : ℕ) where
       (λ new. follow found.0 found.1 new))
       (λ none. refused_there links last k s AliasTargets way alias (λ target is. none (target, is)))
 
-  some_answer_from : (room : ℕ) (links : List Link) (last : Labels) → IsWay basis t name links last → length links + room ≡ 8
+  some_answer_from : (room : ℕ) (links : List Link) (last : Labels) → IsWay basis t name links last → length links + room ≡ most_links
       → Surely (Answered basis name t)
   some_answer_from zero links last way is =
       at_last links last way (λ k s alias. at_target links last k s way alias

@@ -13,7 +13,7 @@ returns-clause-exact c =
       are = c.nsec3_parameters-parameters.ensures;
       is = c.value.ensures.value ∙ c.requires.hashed all c.nsec3_parameters-parameters.ensures
           ∙ counted_exactly c.args.capture.now.rrsets (names_on way.links way.last) all c.rrsets-limits.ensures.limits.parameters
-          c.nsec3_parameters-parameters.ensures c.requires.names (few_names way.links way.last c.as_slice-links.ensures.at_most_8);
+          c.nsec3_parameters-parameters.ensures c.requires.names (few_names way.links way.last c.as_slice-links.ensures.few);
     }
 
 pub returns-clause-few : goal.returns-clause-few
