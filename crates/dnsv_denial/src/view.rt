@@ -218,7 +218,7 @@ impl<'c, 't> View<'c, 't> {
         ensures next_closer { MatchOption result
             (¬ HasOptedOutNextCloser (SecuredIn self.now.trust) self.now.rrsets self.now.name labels zone.now)
             (λ next_closer. HasOptedOutNextCloser (SecuredIn self.now.trust) self.now.rrsets self.now.name labels
-                zone.now
+            zone.now
             × (next_closer ≡ rightmost self.now.name (labels + 1))) }
         // In each zone that has the record in its chain, the name is no node, or a delegation without DS, or exists
         // through such alone.

@@ -37,5 +37,5 @@ pub fn more_nsec3_records_prove_no_less()
         → AreAmong few many → OptOutForm hash few apex name labels → OptOutForm hash many apex name labels }
     ensures opted_out_next_closer { (hash : NameHash) (apex name : Labels) (labels : ℕ) (few many : List Nsec3Record)
         → AreAmong few many → OptedOutNextCloserForm hash few apex name labels → OptedOutNextCloserForm hash many apex
-            name labels }
+        name labels }
 {}

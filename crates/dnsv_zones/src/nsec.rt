@@ -17,8 +17,7 @@ pub fn a_name_that_nsec_covers_has_nothing_closed_above()
     ensures owner { (zone : Zone) (nsec : NsecRecord) (name : Labels) → IsInNsecChain zone nsec → Covers nsec name
         → ¬ IsOwner zone name }
     ensures above { (zone : Zone) (nsec : NsecRecord) (name cut : Labels) → IsWellFormed zone
-        → IsInNsecChain zone nsec → Covers nsec name → IsNoCutAbove nsec name → IsBelow name cut → ¬ IsClosedAt zone cut
-            }
+        → IsInNsecChain zone nsec → Covers nsec name → IsNoCutAbove nsec name → IsBelow name cut → ¬ IsClosedAt zone cut }
 {}
 
 /// A law of NSEC: a name that a record proves absent is no node.
