@@ -105,7 +105,7 @@ impl Nsec3 {
     }
 
     /// Whether the record may carry a denial: it hashes by SHA-1 (RFC 5155 8.1) with at most 500 iterations (RFC 5155
-    /// 10.3, RFC 9276 3.1), has no flags but Opt-Out (RFC 5155 8.2), and its next hash has 20 octets.
+    /// 10.3, RFC 9276 3.2), has no flags but Opt-Out (RFC 5155 8.2), and its next hash has 20 octets.
     pub fn is_usable(&self) -> bool
         ensures { IsTrue result ↔ IsUsable self.now }
     {
