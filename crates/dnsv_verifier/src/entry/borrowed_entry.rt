@@ -2,6 +2,7 @@
 ghost use Rattle.std.specs.Prelude.{◌≡◌};
 ghost use Rattle.dnsv_verifier.specs.Entry.{entry_cmp};
 
+use dnsv_names::compare_octets;
 use dnsv_records::Algorithm;
 use std::cmp::Ordering;
 use std::marker::Model;
@@ -61,8 +62,8 @@ impl<'a> BorrowedEntry<'a> {
         self.algorithm
             .0
             .cmp(&other.algorithm.0)
-            .then_with(|| key.cmp(other_key))
-            .then_with(|| signed_data.cmp(other_data))
-            .then_with(|| signature.cmp(other_signature))
+            .then_with(|| compare_octets(key, other_key))
+            .then_with(|| compare_octets(signed_data, other_data))
+            .then_with(|| compare_octets(signature, other_signature))
     }
 }
