@@ -2,6 +2,7 @@
 ghost use Rattle.std.specs.Prelude.{◌≡◌, List, ℕ, IfOk, map};
 ghost use Rattle.dnsv_canonical.specs.Canonical.{IsCanonical};
 
+use dnsv_names::compare_octets;
 use std::alloc::{AllocError, Global};
 
 /// The RDATA of an RRset in canonical order (RFC 4034 6.3): rising as unsigned octets, a missing octet before
@@ -17,7 +18,7 @@ pub fn canonical_rdata<'a>(
         → other ≡ map (λ r. r.now) sorted.items) }
 {
     let mut sorted = Vec::from_slice(alloc, received)?;
-    sorted.sort_unstable();
+    sorted.sort_unstable_by(|a, b| compare_octets(a, b));
     sorted.dedup();
     Ok(sorted)
 }

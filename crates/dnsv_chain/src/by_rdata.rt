@@ -7,6 +7,7 @@ ghost use Rattle.std.proofs.lemmas.Cmp.{nat_eq_equiv, nat_list_cmp_total};
 ghost use Rattle.dnsv_canonical.specs.Canonical.{rdata_cmp};
 ghost use Rattle.dnsv_records.specs.declared.dnskey.Dnskey.{Dnskey};
 
+use dnsv_names::compare_octets;
 use dnsv_records::{Dnskey, Octets};
 use dnsv_verifier::KeyRecord;
 use std::alloc::{AllocError, Global};
@@ -78,7 +79,7 @@ impl Ord for ByRdata<'_> {
     ghost matches_eq = { λ a b. texts_ties a.0 b.0 };
 
     fn cmp(&self, other: &Self) -> Ordering {
-        self.rdata.cmp(other.rdata)
+        compare_octets(self.rdata, other.rdata)
     }
 }
 

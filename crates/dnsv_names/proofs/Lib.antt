@@ -13,3 +13,4 @@ pub mod ReadLemmas
 pub mod TextLemmas
 pub mod TreeLemmas
 pub mod WireLemmas
+pub mod WordLemmas

@@ -6,6 +6,7 @@ ghost use Rattle.std.specs.Ordering.{as_partial_cmp};
 ghost use Rattle.std.proofs.lemmas.Cmp.{nat_list_cmp_total};
 ghost use Rattle.dnsv_names.specs.Octets.{octets_cmp};
 
+use crate::octets::compare::compare_octets;
 use std::cmp::Ordering;
 use std::marker::Model;
 
@@ -54,7 +55,7 @@ impl Ord for Hash20 {
     fn cmp(&self, other: &Hash20) -> Ordering
         ensures { result ≡ octets_cmp self.now other.now }
     {
-        self.octets.as_slice().cmp(other.octets.as_slice())
+        compare_octets(&self.octets, &other.octets)
     }
 }
 

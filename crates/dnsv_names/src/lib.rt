@@ -15,6 +15,7 @@ pub use lines::decimal::{decimal_u8, decimal_u16};
 pub use lines::{Line, Lines, a_line_has_one_list_of_fields, a_text_has_one_list_of_lines};
 pub use name::{LABEL_LIMIT, Name, WIRE_LIMIT};
 pub use number::{RecordType, Ttl, record_types_have_their_numbers};
+pub use octets::compare::compare_octets;
 pub use octets::{u16_at, u32_at, u48_at};
 pub use order::by_wire::ByWire;
 pub use order::{

@@ -1,4 +1,7 @@
 //! Numbers that stand in octets, big-endian (RFC 1035 2.3.2).
+
+pub mod compare;
+
 ghost use Rattle.std.specs.Prelude.{◌≡◌, ◌+◌, ◌≤◌, length};
 ghost use Rattle.dnsv_names.specs.Octets.{number_at};
 
@@ -26,4 +29,12 @@ pub fn u48_at(octets: &[u8], place: usize) -> u64
     ensures { result ≡ number_at octets.now place 6 }
 {
     BigEndian::read_u48(&octets[place..])
+}
+
+/// The number in the eight octets at the place, the highest first.
+pub fn u64_at(octets: &[u8], place: usize) -> u64
+    requires { place + 8 ≤ length octets.now }
+    ensures { result ≡ number_at octets.now place 8 }
+{
+    BigEndian::read_u64(&octets[place..])
 }

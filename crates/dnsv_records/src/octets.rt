@@ -6,6 +6,7 @@ ghost use Rattle.std.specs.Ordering.{as_partial_cmp};
 ghost use Rattle.std.proofs.lemmas.Cmp.{nat_eq_equiv, nat_list_cmp_total};
 ghost use Rattle.dnsv_names.specs.Octets.{octets_cmp};
 
+use dnsv_names::compare_octets;
 use std::alloc::{AllocError, Global};
 use std::cmp::Ordering;
 use std::marker::Model;
@@ -84,7 +85,7 @@ impl Ord for Octets {
     fn cmp(&self, other: &Octets) -> Ordering
         ensures { result ≡ octets_cmp self.now other.now }
     {
-        self.as_slice().cmp(other.as_slice())
+        compare_octets(self.as_slice(), other.as_slice())
     }
 }
 

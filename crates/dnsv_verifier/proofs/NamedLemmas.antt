@@ -8,8 +8,7 @@ use Rattle.std.specs.Cmp.{IsTotalOrder}
 use Rattle.std.specs.List.{Contains}
 use Rattle.std.specs.List.Sorted.{IsNonDecreasingBy, IsPartitionedBy, IsPartitionPoint, IsPermutation, IsSortedByKey}
 use Rattle.std.specs.Ordering.{is_le, is_lt, nat_cmp, ordering_index}
-use Rattle.std.specs.declared.cmp.Ordering.{Ordering}
-use Rattle.std.specs.declared.cmp.Ordering.TheVariants.{Less, Equal, Greater}
+use Rattle.std.specs.declared.cmp.Ordering.TheVariants.{Equal}
 use Rattle.dnsv_names.specs.RisingLaws.{le_before, lt_before}
 use Rattle.dnsv_names.specs.Order.OrderLaws.{SameName_Equal, canonical_cmp_total}
 use Rattle.dnsv_canonical.specs.Rrsets.{ReceivedRrset}

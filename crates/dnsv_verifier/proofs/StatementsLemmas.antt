@@ -15,7 +15,7 @@ use Rattle.dnsv_verifier.specs.Entry.{entry_cmp}
 use Rattle.dnsv_verifier.specs.EntryLaws.{entry_cmp_total, entry_Equal}
 use Rattle.dnsv_verifier.specs.Statements.{Agree, AreStatementsOf, BeginsWithStatement, IsFaultOf, IsSaid, IsStatementOf, answer_by, listed_answer, other_word}
 use Rattle.dnsv_verifier.specs.StatementsLaws.{AreStatementsOf-no_fault, IsFaultOf-only}
-use Rattle.dnsv_verifier.specs.StatementsReading.{AddsStatement, IsStatement, RefusesLine, said_in}
+use Rattle.dnsv_verifier.specs.StatementsReading.{AddsStatement, RefusesLine, said_in}
 use Rattle.dnsv_verifier.specs.declared.answer.Answer.{Answer}
 use Rattle.dnsv_verifier.specs.declared.entry.Entry.{Entry}
 use Rattle.dnsv_verifier.specs.declared.statements.statement.Word.{Word}

@@ -1,5 +1,5 @@
 -- What a table says, by the entries that it is made of.
-use Rattle.std.proofs.Common.{◌≡◌, ℕ, Bool, true, false, cond, inl, inr, ⊎_elim, List, [], ◌∷◌, Option, Some, None, map, refl, sym, ap, ◌∙◌, subst}
+use Rattle.std.proofs.Common.{◌≡◌, ℕ, zero, suc, ◌<◌, Bool, true, false, cond, inl, inr, ⊎_elim, List, [], ◌∷◌, Option, Some, None, length, get_or, map, refl, sym, ap, ◌∙◌, subst, arith}
 use Rattle.std.proofs.lemmas.Cmp.{eq_by_cmp_equiv}
 use Rattle.std.proofs.lemmas.Map.Keys.{IsDistinct-from_sorted}
 use Rattle.std.proofs.lemmas.Map.Views.{lookup-from_Contains, Contains-keys_from_lookup}
@@ -177,3 +177,25 @@ entries-hoped (a ∷ answers) = ap (λ rest. a.0 ∷ rest) (entries-hoped answer
 pub rising_hoped : (answers : List (Entry × Answer)) → IsStrictlySortedBy entry_cmp (map (λ each. each.0) answers)
     → IsStrictlySortedBy entry_cmp (map (λ (each : Entry × Answer). each.0) (map (λ (each : Entry × Answer). (each.0, hoped_answer each.1)) answers))
 rising_hoped answers rising = subst (IsStrictlySortedBy entry_cmp) (sym (entries-hoped answers)) rising
+
+-- an Unknown answer has its entry among those that are listed
+unknown_first : (unknown : Bool) (a : Entry × Answer) (rest : List (Entry × Answer)) → unknown ≡ true
+    → map (λ (each : Entry × Answer). each.0) (cond unknown (a ∷ rest) rest) ≡ [] → ⊥
+unknown_first true a rest is none = cc
+unknown_first false a rest is none = cc
+
+unknown_later : (unknown : Bool) (a : Entry × Answer) (rest : List (Entry × Answer))
+    → map (λ (each : Entry × Answer). each.0) (cond unknown (a ∷ rest) rest) ≡ []
+    → map (λ (each : Entry × Answer). each.0) rest ≡ []
+unknown_later true a rest none = absurd (cc)
+unknown_later false a rest none = none
+
+pub unknown_stands : (answers : List (Entry × Answer)) (i : ℕ) (each : Entry × Answer) → i < length answers
+    → each ≡ get_or answers i each → each.1 ≡ Unknown
+    → map (λ (each : Entry × Answer). each.0) (filter (λ each. is_unknown each.1) answers) ≡ [] → ⊥
+unknown_stands [] i each within is unknown none = absurd (omega (arith, within))
+unknown_stands (a ∷ answers) zero each within is unknown none =
+    let itself : is_unknown a.1 ≡ true = ap (λ (e : Entry × Answer). is_unknown e.1) (sym is) ∙ ap is_unknown unknown in
+    unknown_first (is_unknown a.1) a (filter (λ each. is_unknown each.1) answers) itself none
+unknown_stands (a ∷ answers) (suc i) each within is unknown none =
+    unknown_stands answers i each (omega (arith, within)) is unknown (unknown_later (is_unknown a.1) a (filter (λ each. is_unknown each.1) answers) none)

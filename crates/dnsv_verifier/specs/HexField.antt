@@ -1,5 +1,5 @@
 -- Octets as a field of a text file.
-use Rattle.std.specs.Prelude.{ℕ, ◌==◌, if◌then◌else◌, List, [], ◌∷◌, Option, Some, None, Ok, ◌≡◌}
+use Rattle.std.specs.Prelude.{ℕ, ◌==◌, if◌then◌else◌, List, [], ◌∷◌, ◌++◌, Option, Some, None, Ok, ◌≡◌}
 use Rattle.std.specs.Result.{result_ok}
 use Rattle.hex.specs.Hex.{decode_of}
 
@@ -15,3 +15,9 @@ pub record AreDigitsOf (field digits : List ℕ) : Type 0 where
   pub octets : List ℕ
   pub decoded : decode_of digits ≡ Ok octets
   pub value : hex_value field ≡ Some octets
+
+-- new is old with the octets of the digits behind it
+pub record AddsDecoded (digits old new : List ℕ) : Type 0 where
+  pub octets : List ℕ
+  pub decoded : decode_of digits ≡ Ok octets
+  pub behind : new ≡ old ++ octets

@@ -1,6 +1,7 @@
 //! What a verifier is asked.
 
 pub mod borrowed_entry;
+pub mod packed_entry;
 pub mod shared_entry;
 
 ghost use Rattle.std.specs.Prelude.{◌≡◌, refl};

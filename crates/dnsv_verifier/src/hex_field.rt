@@ -1,8 +1,8 @@
 //! Octets as a field of a text file.
-ghost use Rattle.std.specs.Prelude.{◌≡◌, ◌↔◌, Ok, IfOk, IsOk, IsSome, IsTrue, MatchOption, OnErr};
+ghost use Rattle.std.specs.Prelude.{◌≡◌, ◌↔◌, Ok, IfOk, IsOk, IsSome, IsTrue, MatchOption, OnErr, OnOk};
 ghost use Rattle.std.specs.List.{AllPass};
 ghost use Rattle.hex.specs.Hex.{decode_of, is_hex_digit};
-ghost use Rattle.dnsv_verifier.specs.HexField.{AreDigitsOf, hex_value};
+ghost use Rattle.dnsv_verifier.specs.HexField.{AddsDecoded, AreDigitsOf, hex_value};
 
 use dnsv_records::Octets;
 use std::alloc::{AllocError, Global};
@@ -61,6 +61,19 @@ pub(crate) fn decoded(alloc: Global, digits: &[u8]) -> Result<Octets, AllocError
 {
     match hex::decode(alloc, digits) {
         Ok(octets) => Ok(Octets::from_vec(octets)),
+        Err(_) => Err(AllocError),
+    }
+}
+
+/// Adds the octets of pairs of hex digits.
+pub(crate) fn push_decoded(octets: &mut Vec<u8>, digits: &[u8]) -> Result<(), AllocError>
+    requires { IsOk (decode_of digits.now) }
+    ensures { OnOk result (AddsDecoded digits.now octets.old.items octets.new.items) }
+{
+    let place = octets.len();
+    octets.resize(place + digits.len() / 2, 0)?;
+    match hex::decode_to_slice(digits, &mut octets[place..]) {
+        Ok(()) => Ok(()),
         Err(_) => Err(AllocError),
     }
 }

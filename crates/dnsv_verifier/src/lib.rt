@@ -5,6 +5,7 @@ pub use admissible::{is_admissible, is_verifiable, may_have_made};
 pub use answer::Answer;
 pub use ask::ask_all;
 pub use entry::Entry;
+pub use entry::borrowed_entry::BorrowedEntry;
 pub use hex_field::hex_octets;
 pub use key::KeyRecord;
 pub use laws::{

@@ -10,8 +10,8 @@ ghost use Rattle.dnsv_verifier.specs.declared.statements.statement.Word.{Word};
 ghost use Rattle.dnsv_verifier.specs.declared.statements.StatementsError.{StatementsError};
 
 use crate::answer::Answer;
-use crate::entry::Entry;
 use crate::entry::borrowed_entry::BorrowedEntry;
+use crate::entry::packed_entry::PackedEntry;
 use crate::statements::statement::{Word, statement_of};
 use crate::verifier::Verifier;
 use dnsv_names::{Line, Lines};
@@ -76,7 +76,7 @@ impl<T: Drop> From<AllocFailed<T>> for StatementsError {
 /// algorithm, key, signed data and signature.
 #[derive(Drop)]
 pub struct Statements {
-    listed: Vec<(Entry, Word)>,
+    listed: Vec<(PackedEntry, Word)>,
 }
 
 impl Model for Statements {
@@ -156,7 +156,11 @@ pub fn a_text_is_one_list_of_statements()
 {}
 
 /// Adds what a line states, unless something else was said.
-fn add(alloc: Global, said: &mut BTreeMap<Entry, Word>, line: &Line) -> Result<(), StatementsError>
+fn add(
+    alloc: Global,
+    said: &mut BTreeMap<PackedEntry, Word>,
+    line: &Line,
+) -> Result<(), StatementsError>
     ensures adds { OnOk result (AddsStatement line.now.octets said.old said.new) }
     ensures refuses { IfErr result (λ error. RefusesLine error line.now said.old) }
 {
@@ -166,20 +170,19 @@ fn add(alloc: Global, said: &mut BTreeMap<Entry, Word>, line: &Line) -> Result<(
     list(said, entry, word, line.number())
 }
 
-/// Lists an entry of the line of this number by its word, unless it is listed by the other one. Memory is asked for
-/// only where it isn't.
+/// Lists an entry of the line of this number by its word. Where it is listed by the other one, that is told; memory is
+/// asked for only where it isn't listed.
 fn list(
-    said: &mut BTreeMap<Entry, Word>,
-    entry: Entry,
+    said: &mut BTreeMap<PackedEntry, Word>,
+    entry: PackedEntry,
     word: Word,
     number: usize,
 ) -> Result<(), StatementsError>
     ensures lists { OnOk result (Lists entry word said.old said.new) }
     ensures refuses { IfErr result (λ error. RefusesEntry error number entry word said.old) }
 {
-    if said.get(&entry) == Some(&word.other()) {
+    if said.insert(entry, word)? == Some(word.other()) {
         return Err(StatementsError::Contradiction(number));
     }
-    said.insert(entry, word)?;
     Ok(())
 }

@@ -1,5 +1,5 @@
 //! What a verifier says of the evidence, worked out once.
-ghost use Rattle.std.specs.Prelude.{◌≡◌, IfOk, length, map};
+ghost use Rattle.std.specs.Prelude.{◌≡◌, ◌↔◌, [], IfOk, IsTrue, length, map};
 ghost use Rattle.std.specs.List.Sorted.{IsStrictlySortedBy};
 ghost use Rattle.dnsv_verifier.specs.Entry.{entry_cmp};
 ghost use Rattle.dnsv_verifier.specs.Table.{hopeful, unknown_entries};
@@ -71,6 +71,32 @@ impl Table {
             }
         }
         Ok(entries)
+    }
+
+    /// The same entries, whose octets stay in the table.
+    pub fn unknown_borrowed(&self, alloc: Global) -> Result<Vec<BorrowedEntry<'_>>, AllocError>
+        ensures value { IfOk result (λ entries. entries.items ≡ unknown_entries self.now) }
+        ensures rising { IfOk result (λ entries. IsStrictlySortedBy entry_cmp entries.items) }
+    {
+        let mut entries = Vec::new(alloc);
+        for (entry, said) in &self.answers {
+            if *said == Answer::Unknown {
+                entries.push(entry.borrowed())?;
+            }
+        }
+        Ok(entries)
+    }
+
+    /// Whether there are no entries that are still to be verified. It takes no memory.
+    pub fn knows_all(&self) -> bool
+        ensures { IsTrue result ↔ (unknown_entries self.now ≡ []) }
+    {
+        for listed in &self.answers {
+            if listed.1 == Answer::Unknown {
+                return false;
+            }
+        }
+        true
     }
 
     /// The best that may come of the table: the same moment and entries, each Unknown one Valid. It asks nobody.

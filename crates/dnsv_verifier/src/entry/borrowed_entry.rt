@@ -1,14 +1,17 @@
 //! Entries whose parts lie elsewhere, and their order.
-ghost use Rattle.std.specs.Prelude.{◌≡◌};
+ghost use Rattle.std.specs.Prelude.{◌≡◌, IfOk};
 ghost use Rattle.dnsv_verifier.specs.Entry.{entry_cmp};
 
-use dnsv_records::Algorithm;
+use crate::entry::Entry;
+use dnsv_names::compare_octets;
+use dnsv_records::{Algorithm, Octets};
+use std::alloc::{AllocError, Global};
 use std::cmp::Ordering;
 use std::marker::Model;
 
 /// An entry whose parts lie elsewhere. Entries, however they keep their parts, are ordered by this one.
 #[derive(Drop)]
-pub(crate) struct BorrowedEntry<'a> {
+pub struct BorrowedEntry<'a> {
     algorithm: Algorithm,
     key: &'a [u8],
     signed_data: &'a [u8],
@@ -51,6 +54,46 @@ impl<'a> BorrowedEntry<'a> {
         }
     }
 
+    /// The number of the algorithm (RFC 4034 A.1).
+    pub fn algorithm(&self) -> Algorithm
+        ensures { result ≡ self.now.algorithm }
+    {
+        self.algorithm
+    }
+
+    /// The public key, as the field of a DNSKEY record has it (RFC 4034 2.1.4).
+    pub fn key(&self) -> &[u8]
+        ensures { result.now ≡ self.now.key }
+    {
+        self.key
+    }
+
+    /// The octets that are signed (RFC 4034 3.1.8.1).
+    pub fn signed_data(&self) -> &[u8]
+        ensures { result.now ≡ self.now.signed_data }
+    {
+        self.signed_data
+    }
+
+    /// The signature, as the field of an RRSIG record has it (RFC 4034 3.1.8).
+    pub fn signature(&self) -> &[u8]
+        ensures { result.now ≡ self.now.signature }
+    {
+        self.signature
+    }
+
+    /// The entry with octets of its own.
+    pub fn to_entry(&self, alloc: Global) -> Result<Entry, AllocError>
+        ensures { IfOk result (λ entry. entry ≡ self.now) }
+    {
+        Ok(Entry {
+            algorithm: self.algorithm,
+            key: Octets::copy_of(alloc, self.key)?,
+            signed_data: Octets::copy_of(alloc, self.signed_data)?,
+            signature: Octets::copy_of(alloc, self.signature)?,
+        })
+    }
+
     /// How this entry stands to the other: by algorithm, key, signed data and signature.
     pub(crate) fn stands_to(&self, other: &BorrowedEntry<'_>) -> Ordering
         ensures { result ≡ entry_cmp self.now other.now }
@@ -61,8 +104,8 @@ impl<'a> BorrowedEntry<'a> {
         self.algorithm
             .0
             .cmp(&other.algorithm.0)
-            .then_with(|| key.cmp(other_key))
-            .then_with(|| signed_data.cmp(other_data))
-            .then_with(|| signature.cmp(other_signature))
+            .then_with(|| compare_octets(key, other_key))
+            .then_with(|| compare_octets(signed_data, other_data))
+            .then_with(|| compare_octets(signature, other_signature))
     }
 }

@@ -1,16 +1,14 @@
 //! One line of a file of statements.
-ghost use Rattle.std.specs.Prelude.{◌≡◌, ◌∷◌, [], List, ℕ, length, Ok, IfOk, IsOk, MatchOption, OnErr};
-ghost use Rattle.hex.specs.Hex.{decode_of};
+ghost use Rattle.std.specs.Prelude.{◌≡◌, ◌∷◌, [], List, ℕ, length, IfOk, MatchOption, OnErr};
 ghost use Rattle.dnsv_names.specs.Lines.{AreFields};
 ghost use Rattle.dnsv_verifier.specs.Statements.{States};
 ghost use Rattle.dnsv_verifier.specs.declared.entry.Entry.{Entry};
 ghost use Rattle.dnsv_verifier.specs.StatementsReading.{IsStatement, word_of};
 
 use crate::answer::Answer;
-use crate::entry::Entry;
-use crate::hex_field::{decoded, digits_of};
+use crate::entry::packed_entry::PackedEntry;
+use crate::hex_field::digits_of;
 use dnsv_names::{Line, decimal_u8};
-use dnsv_records::Algorithm;
 use std::alloc::{AllocError, Global};
 
 type FiveFields<'a> = (&'a [u8], &'a [u8], &'a [u8], &'a [u8], &'a [u8]);
@@ -49,7 +47,10 @@ impl Word {
 }
 
 /// What a line states, `None` where it is no statement. Memory is asked for only where it is one.
-pub(crate) fn statement_of(alloc: Global, line: &Line) -> Result<Option<(Entry, Word)>, AllocError>
+pub(crate) fn statement_of(
+    alloc: Global,
+    line: &Line,
+) -> Result<Option<(PackedEntry, Word)>, AllocError>
     ensures found { IfOk result (λ found. MatchOption found
         ((entry : Entry) (word : Word) → States line.now.octets entry word → ⊥)
         (λ statement. States line.now.octets statement.0 statement.1)) }
@@ -73,32 +74,8 @@ pub(crate) fn statement_of(alloc: Global, line: &Line) -> Result<Option<(Entry, 
     let Some(signature) = digits_of(signature) else {
         return Ok(None);
     };
-    let entry = entry_of(alloc, algorithm, key, signed_data, signature)?;
+    let entry = PackedEntry::of_digits(alloc, algorithm, key, signed_data, signature)?;
     Ok(Some((entry, word)))
-}
-
-/// The entry of these hex digits.
-fn entry_of(
-    alloc: Global,
-    algorithm: u8,
-    key: &[u8],
-    signed_data: &[u8],
-    signature: &[u8],
-) -> Result<Entry, AllocError>
-    requires key_decodes { IsOk (decode_of key.now) }
-    requires signed_data_decodes { IsOk (decode_of signed_data.now) }
-    requires signature_decodes { IsOk (decode_of signature.now) }
-    ensures { IfOk result (λ entry. (entry.algorithm.0 ≡ algorithm)
-        × (decode_of key.now ≡ Ok entry.key)
-        × (decode_of signed_data.now ≡ Ok entry.signed_data)
-        × (decode_of signature.now ≡ Ok entry.signature)) }
-{
-    Ok(Entry {
-        algorithm: Algorithm(algorithm),
-        key: decoded(alloc, key)?,
-        signed_data: decoded(alloc, signed_data)?,
-        signature: decoded(alloc, signature)?,
-    })
 }
 
 /// The fields of a line that has five.

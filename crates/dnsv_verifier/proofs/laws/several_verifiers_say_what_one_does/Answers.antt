@@ -1,8 +1,3 @@
-use Rattle.std.proofs.Common.{◌≡◌, List}
-use Rattle.std.specs.List.{Contains}
-use Rattle.dnsv_verifier.specs.declared.answer.Answer.{Answer}
-use Rattle.dnsv_verifier.specs.declared.answer.Answer.TheVariants.{Valid, Invalid}
-use Rattle.dnsv_verifier.specs.Panel.{joint_answer}
 use Rattle.dnsv_verifier.proofs.PanelLemmas.{one_is_invalid, all_are_invalid, one_is_valid, all_are_valid}
 use Rattle.dnsv_verifier.proofs.laws.several_verifiers_say_what_one_does.Goals as goal
 
