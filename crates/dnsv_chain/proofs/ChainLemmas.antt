@@ -26,7 +26,7 @@ use Rattle.dnsv_chain.proofs.ZipLemmas.{zip_at, zip_length}
 
 -- ---- the records of an RRset
 
-its_rdata : (rtype : ℕ) (rrset : ReceivedRrset) → rrset.rtype ≡ rtype → rdata_of_type rtype rrset ≡ rrset.rdata
+pub its_rdata : (rtype : ℕ) (rrset : ReceivedRrset) → rrset.rtype ≡ rtype → rdata_of_type rtype rrset ≡ rrset.rdata
 its_rdata rtype rrset is = ap (λ (b : Bool). if b then rrset.rdata else []) ((Decides-eqb rrset.rtype rtype).1 is)
 
 pub keys_read : (set : ReceivedRrset) (dnskeys : List Dnskey) → set.rtype ≡ 48 → AllZip IsDnskey (rdata_of_type 48 set) dnskeys
@@ -43,7 +43,7 @@ pub all_places : (set : ReceivedRrset) (dnskeys : List Dnskey) (n : ℕ) → set
 all_places set dnskeys n is each past =
     let sizes = zip_length IsDnskey set.rdata dnskeys (keys_read set dnskeys is each) in omega (arith, sizes, past)
 
-same_ds : (xs : List (List ℕ)) (a b : List Ds) → AllZip IsDs xs a → AllZip IsDs xs b → a ≡ b
+pub same_ds : (xs : List (List ℕ)) (a b : List Ds) → AllZip IsDs xs a → AllZip IsDs xs b → a ≡ b
 same_ds [] [] [] p q = refl
 same_ds [] [] (y ∷ b) p q = absurd q
 same_ds [] (x ∷ a) b p q = absurd p
@@ -51,36 +51,10 @@ same_ds (o ∷ xs) [] b p q = absurd p
 same_ds (o ∷ xs) (x ∷ a) [] p q = absurd q
 same_ds (o ∷ xs) (x ∷ a) (y ∷ b) p q = ap (λ z. z ∷ a) (one_ds o x y p.0 q.0) ∙ ap (λ zs. y ∷ zs) (same_ds xs a b p.1 q.1)
 
-pub ds_delegates : (ds : ReceivedRrset) (key : DnskeyRecord) (records : List Ds) → ds.rtype ≡ 43
-    → AllZip IsDs (rdata_of_type 43 ds) records → HasUsableMatch ds.owner records key ↔ DelegatesTo ds key
-ds_delegates ds key records is each =
-    let read : AllZip IsDs ds.rdata records = subst (λ (rdata : List (List ℕ)). AllZip IsDs rdata records) (its_rdata 43 ds is) each in (
-      λ usable. record { rtype = is; records = records; read = read; usable = usable },
-      λ delegates. subst (λ (list : List Ds). HasUsableMatch ds.owner list key) (same_ds ds.rdata delegates.records records delegates.read read) delegates.usable,
-    )
-
 -- ---- DS RRsets that lie elsewhere
 
 abbrev now : Bor ReceivedRrset → ReceivedRrset
 now r = r.now
-
-pub delegated_found : (refs : List (Bor ReceivedRrset)) (i : ℕ) (r : Bor ReceivedRrset) (key : DnskeyRecord) → i < length refs
-    → r ≡ get_or refs i r → DelegatesTo r.now key → IsDelegatedBySome (map (λ ds. ds.now) refs) key
-delegated_found refs i r key within at delegates =
-    let size = length-map refs now in
-    record { ds = r.now; among = (i, omega (arith, size, within), get_or-map now refs i r r.now within ∙ ap now (sym at)); delegates = delegates }
-
-pub none_delegated : (refs : List (Bor ReceivedRrset)) (n : ℕ) (key : DnskeyRecord) → length refs ≤ n
-    → ((k : ℕ) (d : Bor ReceivedRrset) → k < n → DelegatesTo (get_or refs k d).now key → ⊥)
-    → IsDelegatedBySome (map (λ ds. ds.now) refs) key → ⊥
-none_delegated refs n key past none some =
-    let k : ℕ = some.among.0 in
-    let size = length-map refs now in
-    let below : k < length (map now refs) = some.among.1 in
-    let within : k < length refs = omega (arith, below, size) in
-    let d : Bor ReceivedRrset = record { ref_ptr = (0, 0); now = some.ds } in
-    let there : some.ds ≡ (get_or refs k d).now = sym some.among.2 ∙ get_or-map now refs k d some.ds within in
-    none k d (omega (arith, within, past)) (subst (λ (ds : ReceivedRrset). DelegatesTo ds key) there some.delegates)
 
 -- ---- keys of a set
 

@@ -1,6 +1,7 @@
 pub mod AnchorLaws
 pub mod ByOwnerLemmas
 pub mod ChainLemmas
+pub mod DelegatedLemmas
 pub mod DerivationLemmas
 pub mod KeptLemmas
 pub mod MatchingLemmas

@@ -5,12 +5,12 @@ ghost use Rattle.dnsv_verifier.specs.Admissible.{DnskeyRecord};
 ghost use Rattle.dnsv_verifier.specs.Table.{table_answer};
 ghost use Rattle.dnsv_chain.specs.ByOwner.{rrsets_at, values_at};
 ghost use Rattle.dnsv_chain.specs.Trust.{IsTrustOf};
-ghost use Rattle.dnsv_chain.specs.Trusted.{DelegatesTo, IsKeyOf};
-ghost use Rattle.dnsv_chain.specs.Chain.{AddsDelegation, AddsKeys, AddsTrusted, AreKeysByOwner, HasRdata, IsDelegatedBySome, IsVouchedFor};
+ghost use Rattle.dnsv_chain.specs.Trusted.{IsKeyOf};
+ghost use Rattle.dnsv_chain.specs.Chain.{AddsDelegation, AddsKeys, AddsTrusted, AreKeysByOwner, HasRdata, IsVouchedFor};
 
 use crate::anchors::Anchors;
 use crate::by_owner::{ByOwner, add, at};
-use crate::matching::has_usable_match;
+use crate::delegated::is_delegated;
 use crate::order::{Step, steps};
 use crate::signing::{TrustedKeys, good_numbers, is_signed_under_some};
 use crate::trust::Trust;
@@ -135,29 +135,6 @@ fn is_vouched_for(anchors: &Anchors, delegations: &[&Rrset], key: &KeyRecord<'_>
     ensures { IsTrue result ↔ IsVouchedFor anchors.now (map (λ ds. ds.now) delegations.now) key.now }
 {
     anchors.is_match(key) || is_delegated(delegations, key)
-}
-
-/// Whether a usable record of one of the DS RRsets matches the key.
-fn is_delegated(delegations: &[&Rrset], key: &KeyRecord<'_>) -> bool
-    ensures { IsTrue result ↔ IsDelegatedBySome (map (λ ds. ds.now) delegations.now) key.now }
-{
-    for ds in delegations {
-        if delegates_to(ds, key) {
-            return true;
-        }
-    }
-    false
-}
-
-/// Whether it is a DS RRset of which a usable record matches the key.
-#[tactic(auto, using(crate::proofs::ChainLemmas::ds_delegates))]
-fn delegates_to(ds: &Rrset, key: &KeyRecord<'_>) -> bool
-    ensures { IsTrue result ↔ DelegatesTo ds.now key.now }
-{
-    match ds.rtype() {
-        RecordType::DS => has_usable_match(ds.owner(), ds.ds_records(), key),
-        _ => false,
-    }
 }
 
 /// Adds the keys of the DNSKEY RRset, but those whose RDATA is there.
