@@ -1,7 +1,7 @@
 -- DS RRsets that delegate to a key, found a digest type at a time.
-use Rattle.std.proofs.Common.{◌≡◌, ◌<◌, ◌≤◌, ◌↔◌, ◌==◌, ℕ, Bool, Bor, List, Some, None, length, get_or, map, refl, sym, ap, ◌∙◌, subst, arith, ◌⊎◌, inl, inr}
+use Rattle.std.proofs.Common.{◌≡◌, ◌<◌, ◌≤◌, ◌↔◌, ◌==◌, ℕ, Bor, List, Some, None, length, get_or, map, refl, sym, ap, ◌∙◌, subst, arith, ◌⊎◌, inl, inr}
 use Rattle.std.proofs.lemmas.List.{get_or-map, length-map}
-use Rattle.std.specs.List.{AllZip, Contains}
+use Rattle.std.specs.List.{AllZip}
 use Rattle.std.specs.Prelude.{IsTrue}
 use Rattle.dnsv_names.specs.Name.{SameName}
 use Rattle.dnsv_records.specs.Algorithm.{is_supported}
@@ -9,14 +9,11 @@ use Rattle.dnsv_records.specs.Ds.{IsDs}
 use Rattle.dnsv_records.specs.declared.ds.Ds.{Ds}
 use Rattle.dnsv_digest.specs.Digest.{ds_digest_of}
 use Rattle.dnsv_digest.specs.DigestAlgorithm.{digest_algorithm_of}
-use Rattle.dnsv_digest.specs.declared.digest_algorithm.DigestAlgorithm.{DigestAlgorithm as Supported}
-use Rattle.dnsv_digest.specs.declared.digest_algorithm.DigestAlgorithm.TheVariants.{Sha1, Sha256, Sha384}
 use Rattle.dnsv_canonical.specs.Rdata.{rdata_of_type}
 use Rattle.dnsv_canonical.specs.Rrsets.{ReceivedRrset}
 use Rattle.dnsv_verifier.specs.Admissible.{DnskeyRecord}
 use Rattle.dnsv_chain.specs.Chain.{IsDelegatedBySome}
 use Rattle.dnsv_chain.specs.DsReading.{DelegatesByDigest, DelegatesByType, HasNamed, HasNamedDigest, HasSome, IsLeading, Leads, NamesByType}
-use Rattle.dnsv_chain.specs.Trusted.{DelegatesTo}
 use Rattle.dnsv_chain.proofs.ChainLemmas.{its_rdata, same_ds}
 use Rattle.dnsv_chain.proofs.MatchingLemmas.{by_digest, match_is_named, no_digest}
 use Rattle.dnsv_chain.proofs.UsableLemmas.{compared, number_by, number_of, of_three, one_number, usable_matches}

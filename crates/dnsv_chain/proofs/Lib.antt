@@ -4,6 +4,7 @@ pub mod ChainLemmas
 pub mod DelegatedLemmas
 pub mod DerivationLemmas
 pub mod KeptLemmas
+pub mod KnownLemmas
 pub mod MatchingLemmas
 pub mod SigningLemmas
 pub mod StepLemmas
