@@ -2,7 +2,7 @@
 use Rattle.std.proofs.Common.{◌≡◌, ◌<◌, ◌≤◌, ◌+◌, ◌↔◌, ℕ, Bool, true, false, Bor, List, [], ◌∷◌, ◌++◌, length, get_or, map, if◌then◌else◌, refl, sym, ap, ◌∙◌, subst, arith, ◌⊎◌, inl, inr, ⊎_elim}
 use Rattle.std.proofs.lemmas.Bool.{cases_lt}
 use Rattle.std.proofs.lemmas.Bool.Decides.{Decides-eqb}
-use Rattle.std.proofs.lemmas.List.{get_or-map, length-map, map-append}
+use Rattle.std.proofs.lemmas.List.{map-append}
 use Rattle.std.proofs.lemmas.List.Elements.{Contains-get_or, Contains-append_left, Contains-append_cases, Contains-push, Contains-push_cases}
 use Rattle.std.specs.List.{AllZip, Contains}
 use Rattle.dnsv_names.specs.Name.{Labels, SameName, same_name}
@@ -17,16 +17,15 @@ use Rattle.dnsv_canonical.specs.Rrsets.{ReceivedRrset}
 use Rattle.dnsv_verifier.specs.Admissible.{DnskeyRecord}
 use Rattle.dnsv_verifier.specs.declared.answer.Answer.{Answer}
 use Rattle.dnsv_verifier.specs.declared.entry.Entry.{Entry}
-use Rattle.dnsv_chain.specs.Ds.{HasUsableMatch}
-use Rattle.dnsv_chain.specs.Trusted.{IsKeyOf, DelegatesTo}
-use Rattle.dnsv_chain.specs.Chain.{AddsDelegation, AddsKeys, AddsKeysTo, AddsTrusted, AreVouchedTo, HasRdata, IsDelegatedBySome, IsSignedByVouched, IsVouchedFor}
+use Rattle.dnsv_chain.specs.Trusted.{IsKeyOf}
+use Rattle.dnsv_chain.specs.Chain.{AddsDelegation, AddsKeys, AddsKeysTo, AddsTrusted, AreKeysOfSet, AreKeysTo, AreVouched, HasRdata, IsSignedByVouched, IsVouchedFor}
 use Rattle.dnsv_chain.specs.Signing.{AreGoodNumbers, IsGoodNumber, IsSignedUnderSome}
 use Rattle.dnsv_chain.specs.declared.anchor.Anchor.{Anchor}
 use Rattle.dnsv_chain.proofs.ZipLemmas.{zip_at, zip_length}
 
 -- ---- the records of an RRset
 
-its_rdata : (rtype : ℕ) (rrset : ReceivedRrset) → rrset.rtype ≡ rtype → rdata_of_type rtype rrset ≡ rrset.rdata
+pub its_rdata : (rtype : ℕ) (rrset : ReceivedRrset) → rrset.rtype ≡ rtype → rdata_of_type rtype rrset ≡ rrset.rdata
 its_rdata rtype rrset is = ap (λ (b : Bool). if b then rrset.rdata else []) ((Decides-eqb rrset.rtype rtype).1 is)
 
 pub keys_read : (set : ReceivedRrset) (dnskeys : List Dnskey) → set.rtype ≡ 48 → AllZip IsDnskey (rdata_of_type 48 set) dnskeys
@@ -43,7 +42,7 @@ pub all_places : (set : ReceivedRrset) (dnskeys : List Dnskey) (n : ℕ) → set
 all_places set dnskeys n is each past =
     let sizes = zip_length IsDnskey set.rdata dnskeys (keys_read set dnskeys is each) in omega (arith, sizes, past)
 
-same_ds : (xs : List (List ℕ)) (a b : List Ds) → AllZip IsDs xs a → AllZip IsDs xs b → a ≡ b
+pub same_ds : (xs : List (List ℕ)) (a b : List Ds) → AllZip IsDs xs a → AllZip IsDs xs b → a ≡ b
 same_ds [] [] [] p q = refl
 same_ds [] [] (y ∷ b) p q = absurd q
 same_ds [] (x ∷ a) b p q = absurd p
@@ -51,36 +50,10 @@ same_ds (o ∷ xs) [] b p q = absurd p
 same_ds (o ∷ xs) (x ∷ a) [] p q = absurd q
 same_ds (o ∷ xs) (x ∷ a) (y ∷ b) p q = ap (λ z. z ∷ a) (one_ds o x y p.0 q.0) ∙ ap (λ zs. y ∷ zs) (same_ds xs a b p.1 q.1)
 
-pub ds_delegates : (ds : ReceivedRrset) (key : DnskeyRecord) (records : List Ds) → ds.rtype ≡ 43
-    → AllZip IsDs (rdata_of_type 43 ds) records → HasUsableMatch ds.owner records key ↔ DelegatesTo ds key
-ds_delegates ds key records is each =
-    let read : AllZip IsDs ds.rdata records = subst (λ (rdata : List (List ℕ)). AllZip IsDs rdata records) (its_rdata 43 ds is) each in (
-      λ usable. record { rtype = is; records = records; read = read; usable = usable },
-      λ delegates. subst (λ (list : List Ds). HasUsableMatch ds.owner list key) (same_ds ds.rdata delegates.records records delegates.read read) delegates.usable,
-    )
-
 -- ---- DS RRsets that lie elsewhere
 
 abbrev now : Bor ReceivedRrset → ReceivedRrset
 now r = r.now
-
-pub delegated_found : (refs : List (Bor ReceivedRrset)) (i : ℕ) (r : Bor ReceivedRrset) (key : DnskeyRecord) → i < length refs
-    → r ≡ get_or refs i r → DelegatesTo r.now key → IsDelegatedBySome (map (λ ds. ds.now) refs) key
-delegated_found refs i r key within at delegates =
-    let size = length-map refs now in
-    record { ds = r.now; among = (i, omega (arith, size, within), get_or-map now refs i r r.now within ∙ ap now (sym at)); delegates = delegates }
-
-pub none_delegated : (refs : List (Bor ReceivedRrset)) (n : ℕ) (key : DnskeyRecord) → length refs ≤ n
-    → ((k : ℕ) (d : Bor ReceivedRrset) → k < n → DelegatesTo (get_or refs k d).now key → ⊥)
-    → IsDelegatedBySome (map (λ ds. ds.now) refs) key → ⊥
-none_delegated refs n key past none some =
-    let k : ℕ = some.among.0 in
-    let size = length-map refs now in
-    let below : k < length (map now refs) = some.among.1 in
-    let within : k < length refs = omega (arith, below, size) in
-    let d : Bor ReceivedRrset = record { ref_ptr = (0, 0); now = some.ds } in
-    let there : some.ds ≡ (get_or refs k d).now = sym some.among.2 ∙ get_or-map now refs k d some.ds within in
-    none k d (omega (arith, within, past)) (subst (λ (ds : ReceivedRrset). DelegatesTo ds key) there some.delegates)
 
 -- ---- keys of a set
 
@@ -101,46 +74,73 @@ one_key set a b first second same =
     let dnskeys : a.dnskey ≡ b.dnskey = one_dnskey b.rdata a.dnskey b.dnskey read second.is in
     λ i. record { owner = (first.owner ∙ sym second.owner) i; rdata = same i; dnskey = dnskeys i }
 
-module _ (anchors : List Anchor) (delegations : List ReceivedRrset) (set : ReceivedRrset) where
-  pub none_vouched : AreVouchedTo anchors delegations set 0 []
-  none_vouched = record {
+module _ (set : ReceivedRrset) where
+  pub no_keys_yet : AreKeysTo set 0 []
+  no_keys_yet = record {
     each = λ key among. let below = among.1 in absurd (omega (arith, below));
-    every = λ place key below within at stands vouched. absurd (omega (arith, below));
+    every = λ place key below within at stands. absurd (omega (arith, below));
   }
 
-  pub vouched_more : (n : ℕ) (keys : List DnskeyRecord) (key : DnskeyRecord) → IsKeyOf set key
-      → ((other : List ℕ) → get_or set.rdata n other ≡ key.rdata) → IsVouchedFor anchors delegations key
-      → AreVouchedTo anchors delegations set n keys → AreVouchedTo anchors delegations set (n + 1) (keys ++ key ∷ [])
-  vouched_more n keys key stands there vouched so_far = record {
+  pub keys_more : (n : ℕ) (keys : List DnskeyRecord) (key : DnskeyRecord) → IsKeyOf set key
+      → ((other : List ℕ) → get_or set.rdata n other ≡ key.rdata) → AreKeysTo set n keys → AreKeysTo set (n + 1) (keys ++ key ∷ [])
+  keys_more n keys key stands there so_far = record {
     each = λ k among. ⊎_elim (λ (before : Contains keys k). so_far.each k before)
-        (λ (last : key ≡ k). subst (λ (x : DnskeyRecord). IsKeyOf set x × IsVouchedFor anchors delegations x) last (stands, vouched))
+        (λ (last : key ≡ k). subst (λ (x : DnskeyRecord). IsKeyOf set x) last stands)
         (Contains-push_cases keys key k among);
-    every = λ place k below within at k_stands k_vouched. ⊎_elim
-        (λ (before : place < n). Contains-append_left keys (key ∷ []) k (so_far.every place k before within at k_stands k_vouched))
+    every = λ place k below within at k_stands. ⊎_elim
+        (λ (before : place < n). Contains-append_left keys (key ∷ []) k (so_far.every place k before within at k_stands))
         (λ (behind : n ≤ place). let same : place ≡ n = omega (arith, below, behind) in
         let rdata : key.rdata ≡ k.rdata = sym (there k.rdata) ∙ ap (λ (j : ℕ). get_or set.rdata j k.rdata) (sym same) ∙ at in
         subst (λ (x : DnskeyRecord). Contains (keys ++ key ∷ []) x) (one_key set key k stands k_stands rdata) (Contains-push keys key))
         (cases_lt place n);
   }
 
-  pub vouched_skip : (n : ℕ) (keys : List DnskeyRecord) (key : DnskeyRecord) → IsKeyOf set key
-      → ((other : List ℕ) → get_or set.rdata n other ≡ key.rdata) → ¬ IsVouchedFor anchors delegations key
-      → AreVouchedTo anchors delegations set n keys → AreVouchedTo anchors delegations set (n + 1) keys
-  vouched_skip n keys key stands there never so_far = record {
-    each = so_far.each;
-    every = λ place k below within at k_stands k_vouched. ⊎_elim
-        (λ (before : place < n). so_far.every place k before within at k_stands k_vouched)
-        (λ (behind : n ≤ place). let same : place ≡ n = omega (arith, below, behind) in
-        let rdata : k.rdata ≡ key.rdata = sym at ∙ ap (λ (j : ℕ). get_or set.rdata j k.rdata) same ∙ there k.rdata in
-        absurd (never (subst (λ (x : DnskeyRecord). IsVouchedFor anchors delegations x) (one_key set k key k_stands stands rdata) k_vouched)))
-        (cases_lt place n);
-  }
-
-  pub all_vouched : (n : ℕ) (keys : List DnskeyRecord) → length set.rdata ≤ n → AreVouchedTo anchors delegations set n keys
-      → (key : DnskeyRecord) → Contains keys key ↔ (IsKeyOf set key × IsVouchedFor anchors delegations key)
-  all_vouched n keys past so_far key = (
+  pub all_keys : (n : ℕ) (keys : List DnskeyRecord) → length set.rdata ≤ n → AreKeysTo set n keys → AreKeysOfSet set keys
+  all_keys n keys past so_far key = (
     λ among. so_far.each key among,
-    λ both. let within = both.0.among.1 in so_far.every both.0.among.0 key (omega (arith, within, past)) within both.0.among.2 both.0 both.1,
+    λ stands. let within = stands.among.1 in so_far.every stands.among.0 key (omega (arith, within, past)) within stands.among.2 stands,
+  )
+
+module _ (anchors : List Anchor) (delegations : List ReceivedRrset) where
+  pub none_vouched : AreVouched anchors delegations [] []
+  none_vouched key = (
+    λ among. let below = among.1 in absurd (omega (arith, below)),
+    λ both. let below = both.0.1 in absurd (omega (arith, below)),
+  )
+
+  pub vouched_more : (keys vouched : List DnskeyRecord) (key : DnskeyRecord) → IsVouchedFor anchors delegations key
+      → AreVouched anchors delegations keys vouched → AreVouched anchors delegations (keys ++ key ∷ []) (vouched ++ key ∷ [])
+  vouched_more keys vouched key is so_far k = (
+    λ among. ⊎_elim (λ (before : Contains vouched k). let both = (so_far k).0 before in (Contains-append_left keys (key ∷ []) k both.0, both.1))
+        (λ (last : key ≡ k). subst (λ (x : DnskeyRecord). Contains (keys ++ key ∷ []) x × IsVouchedFor anchors delegations x) last (Contains-push keys key, is))
+        (Contains-push_cases vouched key k among),
+    λ both. ⊎_elim (λ (before : Contains keys k). Contains-append_left vouched (key ∷ []) k ((so_far k).1 (before, both.1)))
+        (λ (last : key ≡ k). subst (λ (x : DnskeyRecord). Contains (vouched ++ key ∷ []) x) last (Contains-push vouched key))
+        (Contains-push_cases keys key k both.0),
+  )
+
+  pub vouched_skip : (keys vouched : List DnskeyRecord) (key : DnskeyRecord) → ¬ IsVouchedFor anchors delegations key
+      → AreVouched anchors delegations keys vouched → AreVouched anchors delegations (keys ++ key ∷ []) vouched
+  vouched_skip keys vouched key never so_far k = (
+    λ among. let both = (so_far k).0 among in (Contains-append_left keys (key ∷ []) k both.0, both.1),
+    λ both. ⊎_elim (λ (before : Contains keys k). (so_far k).1 (before, both.1))
+        (λ (last : key ≡ k). absurd (never (subst (λ (x : DnskeyRecord). IsVouchedFor anchors delegations x) (sym last) both.1)))
+        (Contains-push_cases keys key k both.0),
+  )
+
+-- what is signed under some of the keys of a set that are vouched for is signed by one of them
+module _ (m : Entry → Answer) (t : ℕ) (anchors : List Anchor) (delegations : List ReceivedRrset) (set : ReceivedRrset) (keys : List DnskeyRecord)
+    (are : AreKeysOfSet set keys) where
+  pub not_by_own : ¬ IsSignedUnderSome m t set keys → IsSignedByVouched m t anchors delegations set → ⊥
+  not_by_own never by = never (record { key = by.key; among = (are by.key).1 by.signs.stands; signed = by.signs.signed })
+
+  pub signed_by_vouched : (vouched : List DnskeyRecord) → AreVouched anchors delegations keys vouched
+      → IsSignedUnderSome m t set vouched ↔ IsSignedByVouched m t anchors delegations set
+  signed_by_vouched vouched are_vouched = (
+    λ signed.
+        let both = (are_vouched signed.key).0 signed.among in
+        record { key = signed.key; signs = record { stands = (are signed.key).0 both.0; signed = signed.signed }; vouched = both.1 },
+    λ by. record { key = by.key; among = (are_vouched by.key).1 ((are by.key).1 by.signs.stands, by.vouched); signed = by.signs.signed },
   )
 
 -- ---- keys that are added
@@ -210,26 +210,20 @@ module _ (set : ReceivedRrset) (old : Labels → List DnskeyRecord) where
     all = λ rdata among. let within = among.1 in so_far.all among.0 rdata (omega (arith, within, past)) within among.2;
   }
 
-module _ (m : Entry → Answer) (t : ℕ) (anchors : List Anchor) (delegations : Labels → List ReceivedRrset) (set : ReceivedRrset) (vouched : List DnskeyRecord)
-    (are : (key : DnskeyRecord) → Contains vouched key ↔ (IsKeyOf set key × IsVouchedFor anchors (delegations set.owner) key)) where
-  signed_by_vouched : IsSignedUnderSome m t set vouched → IsSignedByVouched m t anchors (delegations set.owner) set
-  signed_by_vouched signed =
-      let both = (are signed.key).0 signed.among in
-      record { key = signed.key; signs = record { stands = both.0; signed = signed.signed }; vouched = both.1 }
-
-  pub trusted_added : (old new : Labels → List DnskeyRecord) → IsSignedUnderSome m t set vouched → AddsKeys set old new
+module _ (m : Entry → Answer) (t : ℕ) (anchors : List Anchor) (delegations : Labels → List ReceivedRrset) (set : ReceivedRrset) where
+  pub trusted_added : (old new : Labels → List DnskeyRecord) → IsSignedByVouched m t anchors (delegations set.owner) set → AddsKeys set old new
       → AddsTrusted m t anchors delegations set old new
-  trusted_added old new signed adds = record {
+  trusted_added old new by adds = record {
     signed = λ _. adds;
     kept = adds.kept;
     cases = λ zone key among. ⊎_elim (λ (before : Contains (old zone) key). inl before)
-        (λ (fresh : SameName set.owner zone × IsKeyOf set key). inr (signed_by_vouched signed, fresh.0, fresh.1))
+        (λ (fresh : SameName set.owner zone × IsKeyOf set key). inr (by, fresh.0, fresh.1))
         (adds.cases zone key among);
   }
 
-  pub trusted_skipped : (old : Labels → List DnskeyRecord) → ¬ IsSignedUnderSome m t set vouched → AddsTrusted m t anchors delegations set old old
+  pub trusted_skipped : (old : Labels → List DnskeyRecord) → ¬ IsSignedByVouched m t anchors (delegations set.owner) set → AddsTrusted m t anchors delegations set old old
   trusted_skipped old never = record {
-    signed = λ by. absurd (never (record { key = by.key; among = (are by.key).1 (by.signs.stands, by.vouched); signed = by.signs.signed }));
+    signed = λ by. absurd (never by);
     kept = λ zone key among. among;
     cases = λ zone key among. inl among;
   }

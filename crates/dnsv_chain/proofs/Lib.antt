@@ -1,8 +1,10 @@
 pub mod AnchorLaws
 pub mod ByOwnerLemmas
 pub mod ChainLemmas
+pub mod DelegatedLemmas
 pub mod DerivationLemmas
 pub mod KeptLemmas
+pub mod KnownLemmas
 pub mod MatchingLemmas
 pub mod SigningLemmas
 pub mod StepLemmas

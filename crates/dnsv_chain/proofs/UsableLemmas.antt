@@ -85,12 +85,12 @@ next_lead records i ds leading new below ds_is new_is is =
     let both : take (i + 1) records ≡ take i records ++ ds ∷ [] = take_more records i ds below ∙ ap (λ z. take i records ++ z ∷ []) (sym ds_is) in
     subst Q (sym both) (subst P (sym new_is) is)
 
-number_of : Supported → ℕ
+pub number_of : Supported → ℕ
 number_of Sha1 = 1
 number_of Sha256 = 2
 number_of Sha384 = 4
 
-number_by : (number : ℕ) (first second third : Bool) (supported : Supported) → (number == 1) ≡ first
+pub number_by : (number : ℕ) (first second third : Bool) (supported : Supported) → (number == 1) ≡ first
     → (number == 2) ≡ second → (number == 4) ≡ third
     → cond first (Some Sha1) (cond second (Some Sha256) (cond third (Some Sha384) None)) ≡ Some supported
     → number ≡ number_of supported
@@ -106,14 +106,21 @@ number_by number false false true Sha256 one two four e = cc
 number_by number false false true Sha384 one two four e = grind (arith, nat_tests)
 number_by number false false false supported one two four e = cc
 
+-- what holds of the number of a digest type holds of one of the three
+pub of_three : (supported : Supported) (By : ℕ → Type 0) → By (number_of supported) → By 1 ⊎ (By 2 ⊎ By 4)
+unfolding number_of
+of_three Sha1 By by = inl by
+of_three Sha256 By by = inr (inl by)
+of_three Sha384 By by = inr (inr by)
+
 -- numbers of one digest type are equal
-one_number : (a b : ℕ) (supported : Supported) → digest_algorithm_of a ≡ Some supported → digest_algorithm_of b ≡ Some supported → a ≡ b
+pub one_number : (a b : ℕ) (supported : Supported) → digest_algorithm_of a ≡ Some supported → digest_algorithm_of b ≡ Some supported → a ≡ b
 one_number a b supported p q =
     number_by a (a == 1) (a == 2) (a == 4) supported refl refl refl p
     ∙ sym (number_by b (b == 1) (b == 2) (b == 4) supported refl refl refl q)
 
 -- two digest types are one, or one is stronger
-compared : (s t : Supported) → IsStronger s t ⊎ (IsStronger t s ⊎ (s ≡ t))
+pub compared : (s t : Supported) → IsStronger s t ⊎ (IsStronger t s ⊎ (s ≡ t))
 compared Sha1 Sha1 = inr (inr refl)
 compared Sha1 Sha256 = inr (inl (omega arith))
 compared Sha1 Sha384 = inr (inl (omega arith))

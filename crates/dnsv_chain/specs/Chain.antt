@@ -1,6 +1,13 @@
 -- How trust is worked out, a step at a time. No public clause cites this module.
-use Rattle.std.specs.Prelude.{◌≡◌, ◌<◌, ◌⊎◌, ℕ, List, Contains, length, slice_index_or}
+use Rattle.std.specs.Prelude.{◌≡◌, ◌<◌, ◌⊎◌, ◌↔◌, ℕ, List, Contains, length, slice_index_or, true}
+use Rattle.std.specs.BTreeSet.{BTreeSet, contains}
+use Rattle.std.specs.Cmp.Lexicographic.{slice_cmp}
+use Rattle.std.specs.Ordering.{nat_cmp, ordering_then}
+use Rattle.std.specs.declared.cmp.Ordering.{Ordering}
+use denote.Ref.{Bor}
 use Rattle.dnsv_names.specs.Name.{Labels, SameName}
+use Rattle.dnsv_names.specs.Order.ByWire.{search_cmp}
+use Rattle.dnsv_names.specs.declared.order.by_wire.ByWire.{ByWire}
 use Rattle.dnsv_canonical.specs.Rrsets.{ReceivedRrset}
 use Rattle.dnsv_verifier.specs.Admissible.{DnskeyRecord}
 use Rattle.dnsv_verifier.specs.declared.answer.Answer.{Answer}
@@ -24,14 +31,20 @@ pub record IsDelegatedBySome (delegations : List ReceivedRrset) (key : DnskeyRec
 abbrev pub IsVouchedFor : List Anchor → List ReceivedRrset → DnskeyRecord → Type 0
 IsVouchedFor anchors delegations key = HasAnchorMatch anchors key ⊎ IsDelegatedBySome delegations key
 
--- just the keys among the first so many of the set that are vouched for
-pub record AreVouchedTo
-    (anchors : List Anchor) (delegations : List ReceivedRrset) (set : ReceivedRrset) (count : ℕ)
-    (keys : List DnskeyRecord) : Type 0 where
-  pub each : (key : DnskeyRecord) → Contains keys key → IsKeyOf set key × IsVouchedFor anchors delegations key
+-- just the keys of the set
+abbrev pub AreKeysOfSet : ReceivedRrset → List DnskeyRecord → Type 0
+AreKeysOfSet set keys = (key : DnskeyRecord) → Contains keys key ↔ IsKeyOf set key
+
+-- just those among the first so many of the set
+pub record AreKeysTo (set : ReceivedRrset) (count : ℕ) (keys : List DnskeyRecord) : Type 0 where
+  pub each : (key : DnskeyRecord) → Contains keys key → IsKeyOf set key
   pub every : (place : ℕ) (key : DnskeyRecord) → place < count → place < length set.rdata
-      → slice_index_or set.rdata place key.rdata ≡ key.rdata → IsKeyOf set key
-      → IsVouchedFor anchors delegations key → Contains keys key
+      → slice_index_or set.rdata place key.rdata ≡ key.rdata → IsKeyOf set key → Contains keys key
+
+-- just those of the keys that are vouched for
+abbrev pub AreVouched : List Anchor → List ReceivedRrset → List DnskeyRecord → List DnskeyRecord → Type 0
+AreVouched anchors delegations keys vouched =
+    (key : DnskeyRecord) → Contains vouched key ↔ (Contains keys key × IsVouchedFor anchors delegations key)
 
 -- a key of the set signs it, and an anchor or one of the DS RRsets matches the key
 pub record IsSignedByVouched
@@ -68,6 +81,15 @@ pub record IsDelegation
   pub above : DnskeyRecord
   pub stands : IsKeyOf parent above
   pub signed : IsSignedUnder meaning moment ds above
+
+-- by owner, and by RDATA as unsigned octets
+abbrev pub known_cmp : ByWire × Bor (List ℕ) → ByWire × Bor (List ℕ) → Ordering
+known_cmp a b = ordering_then (search_cmp a.0.0.now b.0.0.now) (slice_cmp nat_cmp a.1.now b.1.now)
+
+-- each owner and RDATA is that of a key that is kept for the owner
+pub record AreKnown (known : BTreeSet (ByWire × Bor (List ℕ))) (keys : Labels → List DnskeyRecord) : Type 0 where
+  pub each : (key : ByWire × Bor (List ℕ)) → contains known_cmp known key ≡ true
+      → HasRdata (keys key.0.0.now) key.1.now
 
 -- ---- the walk
 

@@ -1,10 +1,13 @@
 -- How the records of a DS RRset that count are found. No public clause cites this module.
 use Rattle.std.specs.Prelude.{◌≡◌, ℕ, List, Option, Some, None, Contains, IsTrue}
-use Rattle.dnsv_names.specs.Name.{Labels}
+use Rattle.std.specs.List.{AllZip}
+use Rattle.dnsv_names.specs.Name.{Labels, SameName}
 use Rattle.dnsv_records.specs.Algorithm.{is_supported}
 use Rattle.dnsv_records.specs.Dnskey.KeyTag.{key_tag_of}
+use Rattle.dnsv_records.specs.Ds.{IsDs}
 use Rattle.dnsv_records.specs.declared.ds.Ds.{Ds}
 use Rattle.dnsv_records.specs.declared.number.DigestType.{DigestType}
+use Rattle.dnsv_canonical.specs.Rrsets.{ReceivedRrset}
 use Rattle.dnsv_verifier.specs.Admissible.{DnskeyRecord}
 use Rattle.dnsv_chain.specs.Ds.{GoesBefore, IsMatch, IsSupported}
 
@@ -59,3 +62,35 @@ pub record HasNamedDigest (records : List Ds) (number : ℕ) (key : DnskeyRecord
   pub is : ds.digest_type.0 ≡ number
   pub names : NamesKey ds key
   pub digest_is : ds.digest ≡ digest
+
+-- ---- the DS RRsets of an owner, a digest type at a time
+
+-- one of the RRsets is such
+pub record HasSome (Is : ReceivedRrset → Type 0) (rrsets : List ReceivedRrset) : Type 0 where
+  pub rrset : ReceivedRrset
+  pub among : Contains rrsets rrset
+  pub is : Is rrset
+
+-- a record of the DS RRset has the digest type, and the key's algorithm and tag
+pub record NamesByType (ds : ReceivedRrset) (number : ℕ) (key : DnskeyRecord) : Type 0 where
+  pub rtype : ds.rtype ≡ 43
+  pub records : List Ds
+  pub read : AllZip IsDs ds.rdata records
+  pub named : HasNamed records number key
+
+-- the digest type leads in the DS RRset, and a record that has it matches the key
+pub record DelegatesByType (ds : ReceivedRrset) (number : ℕ) (key : DnskeyRecord) : Type 0 where
+  pub rtype : ds.rtype ≡ 43
+  pub records : List Ds
+  pub read : AllZip IsDs ds.rdata records
+  pub leads : Leads records number
+  pub matching : HasLeadingMatch ds.owner records number key
+
+-- the same by the digest
+pub record DelegatesByDigest (ds : ReceivedRrset) (number : ℕ) (key : DnskeyRecord) (digest : List ℕ) : Type 0 where
+  pub rtype : ds.rtype ≡ 43
+  pub owner : SameName ds.owner key.owner
+  pub records : List Ds
+  pub read : AllZip IsDs ds.rdata records
+  pub leads : Leads records number
+  pub named : HasNamedDigest records number key digest

@@ -1,24 +1,22 @@
 //! The chain of trust: which DNSKEY RRsets of a capture are trusted (RFC 4035 5).
-ghost use Rattle.std.specs.Prelude.{◌↔◌, ◌≡◌, ◌<◌, Contains, IfOk, IsTrue, OnOk, length, map, slice_index_or};
+ghost use Rattle.std.specs.Prelude.{◌↔◌, ◌≡◌, ◌<◌, IfOk, IsTrue, OnOk, length, map, slice_index_or};
 ghost use Rattle.dnsv_canonical.specs.Rrsets.{ReceivedRrset};
-ghost use Rattle.dnsv_verifier.specs.Admissible.{DnskeyRecord};
 ghost use Rattle.dnsv_verifier.specs.Table.{table_answer};
 ghost use Rattle.dnsv_chain.specs.ByOwner.{rrsets_at, values_at};
 ghost use Rattle.dnsv_chain.specs.Trust.{IsTrustOf};
-ghost use Rattle.dnsv_chain.specs.Trusted.{DelegatesTo, IsKeyOf};
-ghost use Rattle.dnsv_chain.specs.Chain.{AddsDelegation, AddsKeys, AddsTrusted, AreKeysByOwner, HasRdata, IsDelegatedBySome, IsVouchedFor};
+ghost use Rattle.dnsv_chain.specs.Chain.{AddsDelegation, AddsKeys, AddsTrusted, AreKeysByOwner, AreKeysOfSet, AreKnown, AreVouched, IsSignedByVouched, IsVouchedFor};
 
 use crate::anchors::Anchors;
 use crate::by_owner::{ByOwner, add, at};
-use crate::matching::has_usable_match;
+use crate::delegated::is_delegated;
 use crate::order::{Step, steps};
 use crate::signing::{TrustedKeys, good_numbers, is_signed_under_some};
 use crate::trust::Trust;
 use dnsv_canonical::{Capture, Rrset};
-use dnsv_names::RecordType;
+use dnsv_names::{ByWire, RecordType};
 use dnsv_verifier::{KeyRecord, Table};
 use std::alloc::{AllocError, Global};
-use std::collections::BTreeMap;
+use std::collections::{BTreeMap, BTreeSet};
 
 /// The trust that the capture gives at the table's moment, under the anchors and the table's answers (RFC 4035 5). An
 /// entry that the table lacks counts as Unknown.
@@ -38,6 +36,9 @@ pub fn trusted(
 /// DS RRsets by owner that have a signature good under a key of a trusted RRset.
 type Delegations<'a> = ByOwner<'a, &'a Rrset>;
 
+/// Owner and RDATA of the keys that are kept, to find one again.
+type KnownKeys<'a> = BTreeSet<(ByWire<'a>, &'a [u8])>;
+
 /// The keys of the trusted DNSKEY RRsets. One pass finds them: where a DS RRset is good, its signer is a proper
 /// ancestor, whose RRsets have been looked at before.
 fn trusted_keys<'a>(
@@ -51,12 +52,21 @@ fn trusted_keys<'a>(
 {
     let order = steps(alloc, rrsets)?;
     let mut keys = BTreeMap::new(alloc);
+    let mut known = BTreeSet::new(alloc);
     let mut delegations = BTreeMap::new(alloc);
     for step in &order {
         let rrset = rrset_at(rrsets, step);
         match step.rtype {
             RecordType::DS => add_delegation(alloc, table, &keys, &mut delegations, rrset)?,
-            _ => add_trusted(alloc, table, anchors, &delegations, &mut keys, rrset)?,
+            _ => add_trusted(
+                alloc,
+                table,
+                anchors,
+                &delegations,
+                &mut known,
+                &mut keys,
+                rrset,
+            )?,
         }
     }
     Ok(keys)
@@ -95,39 +105,72 @@ fn add_trusted<'a>(
     table: &Table,
     anchors: &Anchors,
     delegations: &Delegations<'a>,
+    known: &mut KnownKeys<'a>,
     keys: &mut TrustedKeys<'a>,
     set: &'a Rrset,
 ) -> Result<(), AllocError>
-    requires { set.now.rtype ≡ 48 }
-    ensures { OnOk result (AddsTrusted (table_answer table.now) table.now.moment anchors.now
+    requires rtype { set.now.rtype ≡ 48 }
+    requires known { AreKnown known.old (values_at keys.old) }
+    ensures known { OnOk result (AreKnown known.new (values_at keys.new)) }
+    ensures trusted { OnOk result (AddsTrusted (table_answer table.now) table.now.moment anchors.now
         (rrsets_at delegations.now) set.now (values_at keys.old) (values_at keys.new)) }
 {
-    let vouched = vouched_keys(alloc, anchors, at(delegations, set.owner()), set)?;
-    if is_signed_under_some(alloc, table, set, vouched.as_slice())? {
-        add_keys(alloc, keys, set)?;
+    if is_trusted(alloc, table, anchors, at(delegations, set.owner()), set)? {
+        add_keys(alloc, known, keys, set)?;
     }
     Ok(())
 }
 
-/// The keys of the DNSKEY RRset that match an anchor or a usable record of one of the DS RRsets.
-fn vouched_keys<'a>(
+/// Whether one of the keys of the DNSKEY RRset signs it, and matches an anchor or a usable record of one of the DS
+/// RRsets. No key is digested where none signs it.
+fn is_trusted(
     alloc: Global,
+    table: &Table,
     anchors: &Anchors,
-    delegations: &[&'a Rrset],
-    set: &'a Rrset,
-) -> Result<Vec<KeyRecord<'a>>, AllocError>
+    delegations: &[&Rrset],
+    set: &Rrset,
+) -> Result<bool, AllocError>
     requires { set.now.rtype ≡ 48 }
-    ensures { IfOk result (λ keys. (key : DnskeyRecord) → Contains keys.items key
-        ↔ (IsKeyOf set.now key × IsVouchedFor anchors.now (map (λ ds. ds.now) delegations.now) key)) }
+    ensures { IfOk result (λ trusted. IsTrue trusted ↔ IsSignedByVouched (table_answer table.now) table.now.moment
+        anchors.now (map (λ ds. ds.now) delegations.now) set.now) }
+{
+    let keys = keys_of(alloc, set)?;
+    if !is_signed_under_some(alloc, table, set, keys.as_slice())? {
+        return Ok(false);
+    }
+    let vouched = vouched_keys(alloc, anchors, delegations, keys)?;
+    Ok(is_signed_under_some(alloc, table, set, vouched.as_slice())?)
+}
+
+/// The keys of the DNSKEY RRset.
+fn keys_of(alloc: Global, set: &Rrset) -> Result<Vec<KeyRecord<'_>>, AllocError>
+    requires { set.now.rtype ≡ 48 }
+    ensures { IfOk result (λ keys. AreKeysOfSet set.now keys.items) }
 {
     let mut keys = Vec::new(alloc);
     for (place, dnskey) in set.dnskeys().iter().enumerate() {
-        let key = KeyRecord::new(set.owner(), set.rdata(place), dnskey);
-        if is_vouched_for(anchors, delegations, &key) {
-            keys.push(key)?;
-        }
+        keys.push(KeyRecord::new(set.owner(), set.rdata(place), dnskey))?;
     }
     Ok(keys)
+}
+
+/// Those of the keys that match an anchor or a usable record of one of the DS RRsets.
+fn vouched_keys<'a>(
+    alloc: Global,
+    anchors: &Anchors,
+    delegations: &[&Rrset],
+    keys: Vec<KeyRecord<'a>>,
+) -> Result<Vec<KeyRecord<'a>>, AllocError>
+    ensures { IfOk result (λ vouched. AreVouched anchors.now (map (λ ds. ds.now) delegations.now) keys.entry.items
+        vouched.items) }
+{
+    let mut vouched = Vec::new(alloc);
+    for key in keys {
+        if is_vouched_for(anchors, delegations, &key) {
+            vouched.push(key)?;
+        }
+    }
+    Ok(vouched)
 }
 
 /// Whether an anchor or a usable record of one of the DS RRsets matches the key.
@@ -137,51 +180,24 @@ fn is_vouched_for(anchors: &Anchors, delegations: &[&Rrset], key: &KeyRecord<'_>
     anchors.is_match(key) || is_delegated(delegations, key)
 }
 
-/// Whether a usable record of one of the DS RRsets matches the key.
-fn is_delegated(delegations: &[&Rrset], key: &KeyRecord<'_>) -> bool
-    ensures { IsTrue result ↔ IsDelegatedBySome (map (λ ds. ds.now) delegations.now) key.now }
-{
-    for ds in delegations {
-        if delegates_to(ds, key) {
-            return true;
-        }
-    }
-    false
-}
-
-/// Whether it is a DS RRset of which a usable record matches the key.
-#[tactic(auto, using(crate::proofs::ChainLemmas::ds_delegates))]
-fn delegates_to(ds: &Rrset, key: &KeyRecord<'_>) -> bool
-    ensures { IsTrue result ↔ DelegatesTo ds.now key.now }
-{
-    match ds.rtype() {
-        RecordType::DS => has_usable_match(ds.owner(), ds.ds_records(), key),
-        _ => false,
-    }
-}
-
 /// Adds the keys of the DNSKEY RRset, but those whose RDATA is there.
-fn add_keys<'a>(alloc: Global, keys: &mut TrustedKeys<'a>, set: &'a Rrset) -> Result<(), AllocError>
-    requires { set.now.rtype ≡ 48 }
-    ensures { OnOk result (AddsKeys set.now (values_at keys.old) (values_at keys.new)) }
+fn add_keys<'a>(
+    alloc: Global,
+    known: &mut KnownKeys<'a>,
+    keys: &mut TrustedKeys<'a>,
+    set: &'a Rrset,
+) -> Result<(), AllocError>
+    requires rtype { set.now.rtype ≡ 48 }
+    requires known { AreKnown known.old (values_at keys.old) }
+    ensures known { OnOk result (AreKnown known.new (values_at keys.new)) }
+    ensures adds { OnOk result (AddsKeys set.now (values_at keys.old) (values_at keys.new)) }
 {
     for (place, dnskey) in set.dnskeys().iter().enumerate() {
         let rdata = set.rdata(place);
-        if !has_rdata(at(keys, set.owner()), rdata) {
-            add(
-                alloc,
-                keys,
-                set.owner(),
-                KeyRecord::new(set.owner(), rdata, dnskey),
-            )?;
+        if known.insert((ByWire(set.owner()), rdata))? {
+            let key = KeyRecord::new(set.owner(), rdata, dnskey);
+            add(alloc, keys, set.owner(), key)?;
         }
     }
     Ok(())
-}
-
-/// Whether one of the keys has the RDATA.
-fn has_rdata(keys: &[KeyRecord<'_>], rdata: &[u8]) -> bool
-    ensures { IsTrue result ↔ HasRdata keys.now rdata.now }
-{
-    keys.iter().any(|key| key.rdata() == rdata)
 }

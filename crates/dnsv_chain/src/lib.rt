@@ -21,6 +21,7 @@ mod anchors;
 mod by_owner;
 mod by_rdata;
 mod chain;
+mod delegated;
 mod laws;
 mod matching;
 mod order;

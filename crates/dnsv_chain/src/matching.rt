@@ -20,7 +20,7 @@ pub fn is_match(owner: &Name, ds: &Ds, key: &KeyRecord<'_>) -> bool
 }
 
 /// Whether the key is one of the owner.
-fn is_owner(owner: &Name, key: &KeyRecord<'_>) -> bool
+pub(crate) fn is_owner(owner: &Name, key: &KeyRecord<'_>) -> bool
     ensures { IsTrue result ↔ SameName owner.now key.now.owner }
 {
     *owner == *key.owner()
@@ -44,7 +44,7 @@ fn has_digest_of(ds: &Ds, key: &KeyRecord<'_>) -> bool
 }
 
 /// The key's digest by a digest type, `None` where that isn't supported (RFC 4034 5.1.4).
-fn digest_of(digest_type: DigestType, key: &KeyRecord<'_>) -> Option<Digest>
+pub(crate) fn digest_of(digest_type: DigestType, key: &KeyRecord<'_>) -> Option<Digest>
     ensures { result ≡ ds_digest_of digest_type.0 key.now.owner key.now.rdata }
 {
     ds_digest(digest_type.0, key.owner(), key.rdata())
@@ -87,14 +87,14 @@ fn has_leading_match(
 }
 
 /// Whether a record has the digest type, and the key's algorithm and tag.
-fn has_named(records: &[Ds], digest_type: DigestType, key: &KeyRecord<'_>) -> bool
+pub(crate) fn has_named(records: &[Ds], digest_type: DigestType, key: &KeyRecord<'_>) -> bool
     ensures { IsTrue result ↔ HasNamed records.now digest_type.0 key.now }
 {
     records.iter().any(|ds| ds.digest_type.0 == digest_type.0 && names_key(ds, key))
 }
 
 /// Whether such a record has the digest.
-fn has_named_digest(
+pub(crate) fn has_named_digest(
     records: &[Ds],
     digest_type: DigestType,
     key: &KeyRecord<'_>,

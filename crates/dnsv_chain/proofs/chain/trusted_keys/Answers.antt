@@ -27,8 +27,8 @@ pub rrset_at-rrset-requires : goal.rrset_at-rrset-requires
 rrset_at-rrset-requires c =
     (step_at c.args.rrsets.now c.in_ok-order.order.items c.deref-step-items.result.now c.loop-step.step-index (record { labels = 0; rtype = record { 0 = 0 }; place = 0 }) c.deref-step-items.ensures.value c.in_ok-order.ensures c.loop-step-test.true).1.below
 
-pub add_trusted-requires : goal.add_trusted-requires
-add_trusted-requires c =
+pub add_trusted-requires-clause-rtype : goal.add_trusted-requires-clause-rtype
+add_trusted-requires-clause-rtype c =
     let rrsets = c.args.rrsets.now in
     let step : Step = get_or c.deref-step-items.result.now c.loop-step.step-index (record { labels = 0; rtype = record { 0 = 0 }; place = 0 }) in
     let rrset = c.rrset_at-rrset.result.now in
@@ -58,14 +58,20 @@ loop-step-preserved c =
     λ a b alike. ap (λ (refs : List (Bor ReceivedRrset)). map (λ r. r.now) refs) (values_same c.loop-step.delegations a b alike) in
     elim c.match-step.branch [
       | in-DS+in_ok-add_delegation-in-DS w ↦
-          rw (w.keys-is, w.delegations-is)
-          (walked_delegation (table_answer table) table.moment rrsets c.args.anchors.now (values_at c.loop-step.keys) (rrsets_at c.loop-step.delegations) keys_same delegations_same order are i step c.loop-step-test.true at c.loop-step.invariant rrset (rrsets_at w.add_delegation.new.delegations) for_it (omega (arith, step_type, w.in-DS)) among w.in_ok-add_delegation-in-DS.ensures)
+          rw (w.keys-is, w.delegations-is, w.known-is) (record {
+            known = c.loop-step.invariant.known;
+            walked =
+                walked_delegation (table_answer table) table.moment rrsets c.args.anchors.now (values_at c.loop-step.keys) (rrsets_at c.loop-step.delegations) keys_same delegations_same order are i step c.loop-step-test.true at c.loop-step.invariant.walked rrset (rrsets_at w.add_delegation.new.delegations) for_it (omega (arith, step_type, w.in-DS)) among w.in_ok-add_delegation-in-DS.ensures;
+          })
       | in_default+in_ok-add_trusted-in_default w ↦
           let dnskey : rrset.rtype ≡ 48 =
           ⊎_elim (λ (ds : found.0.rtype ≡ 43). let rtype : step.rtype.0 ≡ found.0.rtype = found.1.rtype in absurd (omega (arith, rtype, ds, w.in_default)))
           (λ (is : found.0.rtype ≡ 48). sym (ap (λ (r : ReceivedRrset). r.rtype) same) ∙ is) found.2 in
-          rw (w.keys-is, w.delegations-is)
-          (walked_trusted (table_answer table) table.moment rrsets c.args.anchors.now (values_at c.loop-step.keys) (rrsets_at c.loop-step.delegations) keys_same delegations_same order are i step c.loop-step-test.true at c.loop-step.invariant rrset (values_at w.add_trusted.new.keys) for_it dnskey among w.in_ok-add_trusted-in_default.ensures)
+          rw (w.keys-is, w.delegations-is, w.known-is) (record {
+            known = w.in_ok-add_trusted-in_default.ensures.known;
+            walked =
+                walked_trusted (table_answer table) table.moment rrsets c.args.anchors.now (values_at c.loop-step.keys) (rrsets_at c.loop-step.delegations) keys_same delegations_same order are i step c.loop-step-test.true at c.loop-step.invariant.walked rrset (values_at w.add_trusted.new.keys) for_it dnskey among w.in_ok-add_trusted-in_default.ensures.trusted;
+          })
     ]
 
 pub returns : goal.returns
@@ -77,4 +83,4 @@ returns c =
     let keys_same : (a b : Labels) → SameName a b → values_at c.loop-step.keys a ≡ values_at c.loop-step.keys b = λ a b. values_same c.loop-step.keys a b in
     let delegations_same : (a b : Labels) → SameName a b → rrsets_at c.loop-step.delegations a ≡ rrsets_at c.loop-step.delegations b =
     λ a b alike. ap (λ (refs : List (Bor ReceivedRrset)). map (λ r. r.now) refs) (values_same c.loop-step.delegations a b alike) in
-    all_walked (table_answer table) table.moment rrsets c.args.anchors.now (values_at c.loop-step.keys) (rrsets_at c.loop-step.delegations) keys_same delegations_same order are c.loop-step.step-index c.loop-step-test.false c.loop-step.invariant
+    all_walked (table_answer table) table.moment rrsets c.args.anchors.now (values_at c.loop-step.keys) (rrsets_at c.loop-step.delegations) keys_same delegations_same order are c.loop-step.step-index c.loop-step-test.false c.loop-step.invariant.walked

@@ -1,46 +1,53 @@
-use Rattle.std.proofs.Common.{◌≡◌, ◌+◌, Bor, List, ℕ, map, sym, ap, ◌∙◌, subst}
+use Rattle.std.proofs.Common.{◌≡◌, ◌+◌, ◌++◌, ◌∷◌, [], ℕ, suc, Bor, List, append_assoc, append-nil, arith, length, map, refl, sym, ap, ◌∙◌, subst}
 use Rattle.std.proofs.lemmas.Bool.{false≢true}
 use Rattle.dnsv_canonical.specs.Rrsets.{ReceivedRrset}
-use Rattle.dnsv_verifier.proofs.KeyLemmas.{reads_as}
 use Rattle.dnsv_verifier.specs.Admissible.{DnskeyRecord}
-use Rattle.dnsv_chain.specs.Chain.{AreVouchedTo}
-use Rattle.dnsv_chain.proofs.ChainLemmas.{place_within, all_places, key_stands, vouched_more, vouched_skip, all_vouched}
+use Rattle.dnsv_chain.specs.Chain.{AreVouched}
+use Rattle.dnsv_chain.proofs.ChainLemmas.{none_vouched, vouched_more, vouched_skip}
 use Rattle.dnsv_chain.proofs.chain.vouched_keys.Goals as goal
-use Rattle.dnsv_chain.proofs.chain.vouched_keys.Goals.{then-is_vouched_for+in_ok-push, else-is_vouched_for}
 
-pub rdata-requires : goal.rdata-requires
-rdata-requires c =
-    place_within c.args.set.now c.dnskeys-dnskey-items.result.now c.loop-place.place c.requires c.dnskeys-dnskey-items.ensures c.loop-place-test.true
+parts_more : (read left rest all : List DnskeyRecord) (key : DnskeyRecord) → left ≡ key ∷ rest → read ++ left ≡ all → (read ++ key ∷ []) ++ rest ≡ all
+parts_more read left rest all key next parts = append_assoc read (key ∷ []) rest ∙ ap (λ list. read ++ list) (sym next) ∙ parts
 
-pub new-key-requires : goal.new-key-requires
-new-key-requires c =
-    reads_as c.args.set.now c.dnskeys-dnskey-items.result.now c.dnskeys-dnskey-items.ensures c.loop-place.place c.dnskey-item.result c.rdata.result.now c.loop-place-test.true c.dnskey-item.is c.rdata.ensures.value
+size_more : (left rest : List DnskeyRecord) (key : DnskeyRecord) (size less : ℕ) → left ≡ key ∷ rest → less + 1 ≡ size → size ≡ length left → less ≡ length rest
+size_more left rest key size less next one is = let longer : length left ≡ suc (length rest) = ap length next in omega (arith, one, is, longer)
 
-pub loop-place-preserved : goal.loop-place-preserved
-loop-place-preserved c =
-    let set = c.args.set.now in
-    let i : ℕ = c.loop-place.place in
+none_left : (left : List DnskeyRecord) (size : ℕ) → size ≡ 0 → size ≡ length left → left ≡ []
+none_left [] size none is = refl
+none_left (x ∷ left) size none is = absurd (omega (arith, none, is))
+
+pub loop-key-init : goal.loop-key-init
+loop-key-init c =
+    record {
+      parts = c.into_iter-key-iterator.ensures.into_iter_gives.0;
+      size = c.into_iter-key-iterator.ensures.into_iter_gives.1 ∙ c.args.keys.ok.0 ∙ ap length (sym c.into_iter-key-iterator.ensures.into_iter_gives.0);
+      vouched = subst (λ (keys : List DnskeyRecord). AreVouched c.args.anchors.now (map (λ (r : Bor ReceivedRrset). r.now) c.args.delegations.now) [] keys)
+          (sym c.new-vouched.ensures.items) (none_vouched c.args.anchors.now (map (λ (r : Bor ReceivedRrset). r.now) c.args.delegations.now));
+    }
+
+pub loop-key-preserved-in-Continue-1 : goal.loop-key-preserved-in-Continue-1
+loop-key-preserved-in-Continue-1 c =
     let delegations : List ReceivedRrset = map (λ (r : Bor ReceivedRrset). r.now) c.args.delegations.now in
-    let rdata = c.rdata.result.now in
-    let key = c.new-key.result in
-    let made : key ≡ record { owner = set.owner; rdata = rdata; dnskey = c.dnskey-item.result } =
-    c.new-key.ensures ∙ (λ j. record { owner = c.owner.ensures j; rdata = rdata; dnskey = c.dnskey-item.result }) in
-    let stands = key_stands set c.dnskeys-dnskey-items.result.now i c.dnskey-item.result rdata key c.requires c.dnskeys-dnskey-items.ensures c.loop-place-test.true c.dnskey-item.is c.rdata.ensures.value made in
-    let there = λ (other : List ℕ). c.rdata.ensures.value other ∙ sym (ap (λ (k : DnskeyRecord). k.rdata) made) in
-    let So_far : List DnskeyRecord → Type 0 = λ keys. AreVouchedTo c.args.anchors.now delegations set (i + 1) keys in
-    let test = c.is_vouched_for.ensures in
-    elim c.if-is_vouched_for.branch [
-      | then-is_vouched_for+in_ok-push w ↦
-          subst So_far (sym (ap (λ v. v.items) w.keys-is ∙ w.in_ok-push.ensures.items))
-          (vouched_more c.args.anchors.now delegations set i c.loop-place.keys.items key stands there (test.0 w.if-is_vouched_for.true) c.loop-place.invariant)
-      | else-is_vouched_for w ↦
-          subst So_far (sym (ap (λ v. v.items) w.keys-is))
-          (vouched_skip c.args.anchors.now delegations set i c.loop-place.keys.items key stands there (λ is. false≢true (sym w.if-is_vouched_for.false ∙ test.1 is)) c.loop-place.invariant)
-    ]
+    record {
+      parts = parts_more c.loop-key.yielded c.loop-key.key-iterator.rest.items c.next.new.self.rest.items c.args.keys.items c.in-Some.key c.in-Some.ensures.steps.0 c.loop-key.invariant.parts;
+      size = size_more c.loop-key.key-iterator.rest.items c.next.new.self.rest.items c.in-Some.key c.loop-key.key-iterator.rest.len c.next.new.self.rest.len c.in-Some.ensures.steps.0 c.in-Some.ensures.steps.1 c.loop-key.invariant.size;
+      vouched = subst (λ (keys : List DnskeyRecord). AreVouched c.args.anchors.now delegations (c.loop-key.yielded ++ c.in-Some.key ∷ []) keys)
+          (sym c.in_ok-push.ensures.items)
+          (vouched_more c.args.anchors.now delegations c.loop-key.yielded c.loop-key.vouched.items c.in-Some.key (c.is_vouched_for.ensures.0 c.if-is_vouched_for.true) c.loop-key.invariant.vouched);
+    }
+
+pub loop-key-preserved : goal.loop-key-preserved
+loop-key-preserved c =
+    let delegations : List ReceivedRrset = map (λ (r : Bor ReceivedRrset). r.now) c.args.delegations.now in
+    record {
+      parts = parts_more c.loop-key.yielded c.loop-key.key-iterator.rest.items c.next.new.self.rest.items c.args.keys.items c.in-Some.key c.in-Some.ensures.steps.0 c.loop-key.invariant.parts;
+      size = size_more c.loop-key.key-iterator.rest.items c.next.new.self.rest.items c.in-Some.key c.loop-key.key-iterator.rest.len c.next.new.self.rest.len c.in-Some.ensures.steps.0 c.in-Some.ensures.steps.1 c.loop-key.invariant.size;
+      vouched = vouched_skip c.args.anchors.now delegations c.loop-key.yielded c.loop-key.vouched.items c.in-Some.key
+          (λ is. false≢true (sym c.if-is_vouched_for.false ∙ c.is_vouched_for.ensures.1 is)) c.loop-key.invariant.vouched;
+    }
 
 pub returns : goal.returns
 returns c =
-    let set = c.args.set.now in
-    all_vouched c.args.anchors.now (map (λ (r : Bor ReceivedRrset). r.now) c.args.delegations.now) set c.loop-place.place c.loop-place.keys.items
-    (all_places set c.dnskeys-dnskey-items.result.now c.loop-place.place c.requires c.dnskeys-dnskey-items.ensures c.loop-place-test.false)
-    c.loop-place.invariant
+    subst (λ (keys : List DnskeyRecord). AreVouched c.args.anchors.now (map (λ (r : Bor ReceivedRrset). r.now) c.args.delegations.now) keys c.loop-key.vouched.items)
+    (sym (append-nil c.loop-key.yielded) ∙ ap (λ list. c.loop-key.yielded ++ list) (sym (none_left c.loop-key.key-iterator.rest.items c.loop-key.key-iterator.rest.len c.in-None.ensures.steps.0 c.loop-key.invariant.size)) ∙ c.loop-key.invariant.parts)
+    c.loop-key.invariant.vouched

@@ -1,0 +1,9 @@
+use Rattle.std.proofs.Common.{◌<◌, ℕ, Bor, get_or}
+use Rattle.dnsv_canonical.specs.Rrsets.{ReceivedRrset}
+use Rattle.dnsv_chain.specs.DsReading.{NamesByType}
+use Rattle.dnsv_chain.proofs.delegated.is_named.Given as goal
+
+-- none of the DS RRsets so far names the key
+abbrev pub invariant-loop-ds : goal.invariant-loop-ds
+invariant-loop-ds l =
+    (k : ℕ) (d : Bor ReceivedRrset) → k < l.ds-index → NamesByType (get_or l.delegations k d).now l.digest_type.0 l.key → ⊥
