@@ -214,7 +214,7 @@ impl<'c, 't> View<'c, 't> {
     /// The next closer name to the name's so many rightmost labels, if Opt-Out may leave out an unsigned delegation of
     /// the zone there, against an answer from the wildcard (RFC 5155 8.8). `None` where the evidence shows none, or
     /// these labels are no proper ancestor of the name at or below the zone.
-    pub fn opted_out_next_closer(&self, zone: &Name, labels: usize) -> Option<Name>
+    pub fn loose_closer(&self, zone: &Name, labels: usize) -> Option<Name>
         ensures next_closer { MatchOption result
             (¬ HasOptedOutNextCloser (SecuredIn self.now.trust) self.now.rrsets self.now.name labels zone.now)
             (λ next_closer. HasOptedOutNextCloser (SecuredIn self.now.trust) self.now.rrsets self.now.name labels

@@ -95,8 +95,8 @@ fn closer_names(row: &Row, view: &View<'_, '_>) -> Result<String, RowError> {
         return Err(RowError::Malformed);
     };
     let no_closer = told(alloc, view.no_closer(&zone, labels))?;
-    let opted_out_next_closer = named(alloc, view.opted_out_next_closer(&zone, labels))?;
-    Ok(format!(in alloc; "{no_closer}, {opted_out_next_closer}")?)
+    let loose_closer = named(alloc, view.loose_closer(&zone, labels))?;
+    Ok(format!(in alloc; "{no_closer}, {loose_closer}")?)
 }
 
 /// `hashes CAPTURE ANCHORS MOMENT NAME`: how many hashes a view for the name makes.

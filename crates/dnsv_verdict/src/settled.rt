@@ -167,7 +167,7 @@ impl Test for IsOptOutWildcard<'_, '_, '_> {
             return false;
         }
         self.view
-            .opted_out_next_closer(&rrsig.signer, rrsig.labels as usize)
+            .loose_closer(&rrsig.signer, rrsig.labels as usize)
             .is_some()
     }
 }

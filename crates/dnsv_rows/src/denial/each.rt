@@ -93,7 +93,7 @@ fn closers_of(
     let mut text = String::new(row.alloc());
     for labels in 0..count {
         let is_shown = view.no_closer(zone, labels).is_some();
-        let is_opted_out = view.opted_out_next_closer(zone, labels).is_some();
+        let is_opted_out = view.loose_closer(zone, labels).is_some();
         text.push_str(mark_of(is_shown, is_opted_out))?;
     }
     Ok(text)

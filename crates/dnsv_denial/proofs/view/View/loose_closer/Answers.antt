@@ -4,7 +4,7 @@ use Rattle.dnsv_denial.specs.Viewed.{SecuredIn}
 use Rattle.dnsv_denial.specs.unsigned_cuts.Cuts.{HasOptedOutNextCloser}
 use Rattle.dnsv_denial.proofs.meaning.CutMeaningLemmas.{next_closer_means}
 use Rattle.dnsv_denial.proofs.lemmas.words.FirstLemmas.{if_some}
-use Rattle.dnsv_denial.proofs.view.View.opted_out_next_closer.Goals as goal
+use Rattle.dnsv_denial.proofs.view.View.loose_closer.Goals as goal
 
 pub returns-clause-meaning : goal.returns-clause-meaning
 returns-clause-meaning c =
