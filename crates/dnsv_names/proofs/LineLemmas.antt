@@ -1,7 +1,8 @@
 -- Where a text is cut: before and behind the first of some octets.
-use Rattle.std.proofs.Common.{◌≡◌, ◌≢◌, ℕ, ◌+◌, ◌<◌, ◌≤◌, List, [], ◌∷◌, ◌++◌, length, take, drop, refl, sym, ap, ◌∙◌, arith, append_assoc, length-append, Bool, true, false, cond, not, ltb, ◌==◌, Some, None}
+use Rattle.std.proofs.Common.{◌≡◌, ◌≢◌, ℕ, zero, suc, ◌+◌, ◌<◌, ◌≤◌, List, [], ◌∷◌, ◌++◌, get_or, length, take, drop, refl, sym, ap, ◌∙◌, arith, append_assoc, length-append, Bool, true, false, cond, not, ltb, nat_lt, ◌==◌, Option, Some, None}
 use Rattle.std.proofs.lemmas.Bool.Decides.{nat_tests}
 use Rattle.std.proofs.lemmas.List.{take_at, drop_at}
+use Rattle.memchr.specs.Find.{IsFirstByte, is_byte}
 use Rattle.std.specs.List.{position, position_or_len}
 use Rattle.dnsv_names.specs.Lines.{Lacks}
 
@@ -61,3 +62,45 @@ pub uncut : (octet : ℕ) (text : List ℕ) → position (λ each. each == octet
 uncut octet text e =
     let none = position_None_by (ltb (position_or_len (λ each. each == octet) text) (length text)) _ e in
     lacks_from octet text (grind (arith, nat_tests, none))
+
+-- ---- the first place
+
+not_passed : (b : Bool) → ¬ (b ≡ true) → b ≡ false
+not_passed true never = absurd (never refl)
+not_passed false never = refl
+
+one_more : (n : ℕ) → 1 + n ≡ suc n
+one_more n = omega arith
+
+place_is : (octet : ℕ) (text : List ℕ) (k : ℕ) → k < length text → (get_or text k 0 == octet) ≡ true
+    → ((j : ℕ) → j < k → ¬ ((get_or text j 0 == octet) ≡ true)) → position_or_len (λ each. each == octet) text ≡ k
+place_is octet [] k within is before = absurd (omega (arith, within))
+place_is octet (x ∷ xs) zero within is before = ap (λ (b : Bool). cond (not b) (1 + position_or_len (λ each. each == octet) xs) 0) is
+place_is octet (x ∷ xs) (suc k) within is before =
+    let first : (x == octet) ≡ false = not_passed (x == octet) (before 0 (omega arith)) in
+    let rest : position_or_len (λ each. each == octet) xs ≡ k =
+    place_is octet xs k (omega (arith, within)) is (λ j below. before (suc j) (omega (arith, below))) in
+    ap (λ (b : Bool). cond (not b) (1 + position_or_len (λ each. each == octet) xs) 0) first ∙ ap (λ (n : ℕ). 1 + n) rest ∙ one_more k
+
+no_place : (octet : ℕ) (text : List ℕ) → ((j : ℕ) → j < length text → ¬ ((get_or text j 0 == octet) ≡ true))
+    → position_or_len (λ each. each == octet) text ≡ length text
+no_place octet [] none = refl
+no_place octet (x ∷ xs) none =
+    let first : (x == octet) ≡ false = not_passed (x == octet) (none 0 (omega arith)) in
+    ap (λ (b : Bool). cond (not b) (1 + position_or_len (λ each. each == octet) xs) 0) first
+    ∙ ap (λ (n : ℕ). 1 + n) (no_place octet xs (λ j below. none (suc j) (omega (arith, below)))) ∙ one_more (length xs)
+
+some_place : (n size : ℕ) → n < size → Some n ≡ cond (nat_lt n size) (Some n) None
+some_place n size within = let is : nat_lt n size ≡ true = grind (arith, nat_tests) in ap (λ (b : Bool). cond b (Some n) None) (sym is)
+
+past_end : (n : ℕ) → None ≡ cond (nat_lt n n) (Some n) None
+past_end n = let is : nat_lt n n ≡ false = grind (arith, nat_tests) in ap (λ (b : Bool). cond b (Some n) None) (sym is)
+
+-- the first place of an octet is its position
+pub first_place : (octet : ℕ) (text : List ℕ) (found : Option ℕ) → IsFirstByte (is_byte octet) text found → found ≡ position (λ each. each == octet) text
+first_place octet text None none =
+    past_end (length text)
+    ∙ ap (λ (n : ℕ). cond (nat_lt n (length text)) (Some n) None) (sym (no_place octet text (λ j below. none j (omega arith) below)))
+first_place octet text (Some k) first =
+    some_place k (length text) first.0.high
+    ∙ ap (λ (n : ℕ). cond (nat_lt n (length text)) (Some n) None) (sym (place_is octet text k first.0.high first.1 (λ j below. first.0.before j (omega arith) below)))

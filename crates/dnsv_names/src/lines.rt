@@ -11,6 +11,7 @@ ghost use Rattle.dnsv_names.specs.Lines.LineReading.{lines_in, pieces_in, pieces
 ghost use Rattle.dnsv_names.specs.Lines.{AreFields, HasLines, Lacks, NumberedLine, is_passed_over};
 
 use arrayvec::ArrayVec;
+use memchr::memchr;
 use std::marker::Model;
 
 /// A line of a text file, without its newline, and its number in the file.
@@ -173,7 +174,7 @@ fn parted(text: &[u8], octet: u8) -> Option<(&[u8], &[u8])>
 fn place_of(text: &[u8], octet: u8) -> Option<usize>
     ensures { result ≡ position (λ each. each == octet) text.now }
 {
-    text.iter().position(|each| *each == octet)
+    memchr(octet, text)
 }
 
 /// What stands before the first space, and what stands behind it.
