@@ -1,4 +1,5 @@
 -- Lemmas that no crate above cites.
+pub mod WildcardAnswerLemmas
 pub mod forms
 pub mod gathering
 pub mod proving

@@ -1,6 +1,7 @@
 pub mod KeptHashes
 pub mod QuestionHashes
 pub mod Viewed
+pub mod WildcardAnswers
 pub mod forms
 pub mod gathering
 pub mod proving

@@ -29,4 +29,5 @@ mod question_hashes;
 mod records;
 mod unsigned_cuts;
 mod view;
+mod wildcard_answers;
 mod words;

@@ -33,6 +33,9 @@ use crate::proving::proof::Proof;
 use crate::proving::zone_records::{NameHashes, ZoneRecords};
 use crate::question_hashes::Hashes;
 use crate::unsigned_cuts::kept_cuts::{opted_out_next_closer, unsigned_cut};
+use crate::wildcard_answers::{
+    WildcardAnswers, is_not_opted_out, may_have_closer, wildcard_answers,
+};
 use dnsv_canonical::Capture;
 use dnsv_chain::Trust;
 use dnsv_names::{Count, Name, RecordType};
@@ -51,10 +54,13 @@ pub struct View<'c, 't> {
     sets: Rc<Vec<NameHashes<'c>>>,
     /// One for each number of the name's rightmost labels, from the root on.
     zones: Vec<ZoneRecords<'c>>,
+    /// What they show against answers from wildcards to the name.
+    answers: WildcardAnswers,
 }
 
 impl<'c, 't> Model for View<'c, 't> {
     ghost use Rattle.dnsv_denial.specs.Viewed.{SecuredIn, Viewed};
+    ghost use Rattle.dnsv_denial.specs.WildcardAnswers.{AreAnswers};
     ghost use Rattle.dnsv_denial.specs.gathering.Kept.{IsViewOf};
 
     ghost Value = { Viewed };
@@ -66,7 +72,8 @@ impl<'c, 't> Model for View<'c, 't> {
     } };
 
     ghost invariant = { λ view. IsViewOf (SecuredIn view.trust.now) view.capture.now.rrsets view.name
-        view.sets.value.items view.zones.items };
+        view.sets.value.items view.zones.items
+        × AreAnswers (SecuredIn view.trust.now) view.capture.now.rrsets view.name view.answers };
 }
 
 impl<'c, 't> View<'c, 't> {
@@ -104,12 +111,14 @@ impl<'c, 't> View<'c, 't> {
     {
         let sets = hashes.share()?;
         let zones = zones_of(alloc, capture, trust, hashes.name())?;
+        let answers = wildcard_answers(alloc, capture, trust, hashes.name(), &zones, &sets)?;
         Ok(View {
             capture,
             trust,
             name: hashes.name().clone()?,
             sets,
             zones,
+            answers,
         })
     }
 
@@ -174,6 +183,9 @@ impl<'c, 't> View<'c, 't> {
             → Holds signer (wildcard_of (rightmost self.now.name labels)) t
             → IsLookup signer self.now.name t (Held (wildcard_of (rightmost self.now.name labels)))) }
     {
+        if may_have_closer(&self.answers, &self.name, zone, labels) {
+            return None;
+        }
         no_closer(&self.name, zone, labels, &self.zones, &self.sets)
     }
 
@@ -225,6 +237,9 @@ impl<'c, 't> View<'c, 't> {
         ensures meaning { IfSome result (λ next_closer. (chain : Chain) × IsCoveredEnd self.now.rrsets
             zone.now ((evidence_said (SecuredIn self.now.trust) self.now.rrsets zone.now chain).OptedOut) next_closer) }
     {
+        if is_not_opted_out(&self.answers, &self.name, zone, labels) {
+            return None;
+        }
         opted_out_next_closer(&self.name, zone, labels, &self.zones, &self.sets)
     }
 }

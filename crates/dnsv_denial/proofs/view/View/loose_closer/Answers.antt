@@ -8,7 +8,7 @@ use Rattle.dnsv_denial.proofs.view.View.loose_closer.Goals as goal
 
 pub returns-clause-meaning : goal.returns-clause-meaning
 returns-clause-meaning c =
-    let found = c.opted_out_next_closer.ensures c.self.inside.trust.now c.self.inside.capture.now.rrsets (rw c.deref-3.ensures.value (rw c.deref-2.ensures (rw c.deref.ensures.value c.self.invariant))) in
+    let found = c.opted_out_next_closer.ensures c.self.inside.trust.now c.self.inside.capture.now.rrsets (rw c.deref-3.ensures.value (rw c.deref-2.ensures (rw c.deref.ensures.value c.self.invariant.0))) in
     rw (← c.self.view_is) (if_some (¬ HasOptedOutNextCloser (SecuredIn c.self.inside.trust.now) c.self.inside.capture.now.rrsets c.self.inside.name c.args.labels c.args.zone.now)
     (λ next_closer. HasOptedOutNextCloser (SecuredIn c.self.inside.trust.now) c.self.inside.capture.now.rrsets c.self.inside.name c.args.labels c.args.zone.now
     × (next_closer ≡ rightmost c.self.inside.name (c.args.labels + 1)))

@@ -11,7 +11,7 @@ use Rattle.dnsv_denial.proofs.view.View.no_data.Goals as goal
 
 pub returns-clause-first : goal.returns-clause-first
 returns-clause-first c = rw (← c.self.view_is)
-    (c.first_proof.ensures c.self.inside.trust.now c.self.inside.capture.now.rrsets (rw c.deref-3.ensures.value (rw c.deref-2.ensures (c.self.invariant.are_sets c.self.inside.trust.now))) (rw c.deref.ensures.value c.self.invariant.are_zones))
+    (c.first_proof.ensures c.self.inside.trust.now c.self.inside.capture.now.rrsets (rw c.deref-3.ensures.value (rw c.deref-2.ensures (c.self.invariant.0.are_sets c.self.inside.trust.now))) (rw c.deref.ensures.value c.self.invariant.0.are_zones))
 
 pub returns-clause-meaning : goal.returns-clause-meaning
 returns-clause-meaning c =
