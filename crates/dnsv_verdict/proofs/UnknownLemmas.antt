@@ -69,10 +69,6 @@ unknown_out meaning (e ∷ entries) entry member =
     (λ (later : IsMember entry (Unknowns meaning entries)). let rest = unknown_out meaning entries entry later in (inr rest.0, rest.1))
     (member_out e entry (meaning e) (Unknowns meaning entries) (subst (λ xs. IsMember entry xs) (one_more meaning e entries (meaning e)) member))
 
-pub none_unknown : (entries : List Entry) → true ≡ (length entries == 0) → entries ≡ []
-none_unknown [] test = refl
-none_unknown (entry ∷ entries) test = absurd (grind (arith, nat_tests))
-
 -- those of a table are what its verifier is asked and doesn't know
 pub table_unknown : (basis : Basis) (contents : TableContents) → IsTableOf basis.meaning basis.moment basis.rrsets contents
     → (xs : List Entry) → xs ≡ unknown_entries contents → IsStrictlySortedBy entry_cmp xs → AreUnknown basis xs
@@ -87,3 +83,9 @@ table_unknown basis contents is xs of rising =
             (subst (λ ys. IsMember entry ys) (sym same) (unknown_in basis.meaning is.entries entry (IsMember-from_contains is.entries entry ((is.asked entry).1 asked.0)) asked.1)),
       );
     }
+
+-- where a table has none, none is what its verifier doesn't know
+pub none_unknown : (basis : Basis) (contents : TableContents) → IsTableOf basis.meaning basis.moment basis.rrsets contents
+    → unknown_entries contents ≡ [] → AreUnknown basis []
+unfolding IsStrictlySortedBy
+none_unknown basis contents is none = table_unknown basis contents is [] (sym none) tt

@@ -1,13 +1,11 @@
 //! What questions are judged by, and the verdict on one.
 ghost use Rattle.std.specs.Prelude.{◌≡◌, ◌↔◌, ℕ, List, IfOk, IsTrue};
-ghost use Rattle.std.specs.List.Sorted.{IsStrictlySortedBy};
 ghost use Rattle.dnsv_names.specs.Count.{counted};
 ghost use Rattle.dnsv_records.specs.declared.nsec3.Nsec3Parameters.{Nsec3Parameters};
 ghost use Rattle.dnsv_zones.specs.chains.HashedNames.{hashes_for};
 ghost use Rattle.dnsv_canonical.specs.Evidence.{AreParameters, nsec3_rdata};
 ghost use Rattle.dnsv_chain.specs.Trust.{IsTrustOf};
-ghost use Rattle.dnsv_verifier.specs.Entry.{entry_cmp};
-ghost use Rattle.dnsv_verifier.specs.Table.{IsTableOf, table_answer, unknown_entries};
+ghost use Rattle.dnsv_verifier.specs.Table.{IsTableOf, table_answer};
 ghost use Rattle.dnsv_verifier.specs.declared.answer.Answer.{Answer};
 ghost use Rattle.dnsv_verifier.specs.declared.entry.Entry.{Entry};
 ghost use Rattle.dnsv_verdict.specs.Verdict.{HasAnchor, IsSettledBy, IsVerdictAt, MayBeSettledBy, anchor_owner, basis_of};
@@ -19,7 +17,7 @@ use dnsv_canonical::Capture;
 use dnsv_chain::{Anchor, Anchors, Trust, trust_depends_on_what_is_asked, trusted};
 use dnsv_denial::{Hashes, View};
 use dnsv_names::{Count, Name, RecordType};
-use dnsv_verifier::{Entry, Table, a_table_is_its_verifier, unknown_entries_may_turn_out_valid};
+use dnsv_verifier::{Table, a_table_is_its_verifier, unknown_entries_may_turn_out_valid};
 use std::alloc::{AllocError, Global};
 
 /// What questions are judged by: the evidence, the trust anchors, and what the verifier says at the moment.
@@ -57,8 +55,8 @@ pub fn verdict_at(
     if let Some(verdict) = settled(grounds.capture, trust, name, rtype, &view) {
         return Ok(verdict);
     }
-    let unknown = grounds.table.unknown(alloc)?;
-    if may_be_settled(alloc, grounds, &hashes, &unknown, name, rtype)? {
+    if may_be_settled(alloc, grounds, &hashes, name, rtype)? {
+        let unknown = grounds.table.unknown(alloc)?;
         return Ok(Verdict::Pending(Entries::from_vec(unknown)));
     }
     if has_anchor(grounds.anchors, name) {
@@ -74,14 +72,11 @@ fn may_be_settled<'a>(
     alloc: Global,
     grounds: &Grounds<'a>,
     hashes: &Hashes<'a>,
-    unknown: &[Entry],
     name: &Name,
     rtype: RecordType,
 ) -> Result<bool, AllocError>
     requires rrsets { hashes.now.rrsets ≡ grounds.now.capture.now.rrsets }
     requires name { hashes.now.name ≡ name.now }
-    requires entries { unknown.now ≡ unknown_entries grounds.now.table.now }
-    requires rising { IsStrictlySortedBy entry_cmp unknown.now }
     ensures { (meaning : Entry → Answer) (moment : ℕ)
         → IsTableOf meaning moment grounds.now.capture.now.rrsets grounds.now.table.now
         → ¬ IsSettledBy (basis_of grounds.now.capture.now.rrsets grounds.now.anchors.now moment meaning) name.now
@@ -92,7 +87,7 @@ fn may_be_settled<'a>(
     a_table_is_its_verifier();
     trust_depends_on_what_is_asked();
     unknown_entries_may_turn_out_valid();
-    if unknown.is_empty() {
+    if grounds.table.knows_all() {
         return Ok(false);
     }
     let hopeful = grounds.table.hopeful(alloc)?;

@@ -30,7 +30,7 @@ pub struct Entry {
 
 impl Entry {
     /// The same entry, without its octets.
-    pub(crate) fn borrowed(&self) -> BorrowedEntry<'_>
+    pub fn borrowed(&self) -> BorrowedEntry<'_>
         ensures { result ≡ self.now }
     {
         BorrowedEntry::of(

@@ -7,7 +7,7 @@ use crate::command_line::moment::Moment;
 use crate::texts::hex_text::hex_text;
 use dnsv_canonical::Capture;
 use dnsv_names::Count;
-use dnsv_verifier::{Entry, Verifier, ask_all};
+use dnsv_verifier::{BorrowedEntry, Entry, Verifier, ask_all};
 use std::alloc::{AllocError, Global};
 
 /// A line for each entry that the verifier knows nothing of, of those that it is asked about the evidence.
@@ -23,14 +23,18 @@ pub fn still_to_check<V: Verifier>(
 {
     let mut asked = Count::new();
     let table = ask_all(alloc, held, moment.seconds(), verifier, &mut asked)?;
-    let unknown = table.unknown(alloc)?;
+    let unknown = table.unknown_borrowed(alloc)?;
     let mut text = String::new(alloc);
-    push_entries(alloc, &mut text, &unknown)?;
+    push_borrowed(alloc, &mut text, &unknown)?;
     Ok(text)
 }
 
-/// Adds a line for each entry.
-pub fn push_entries(alloc: Global, text: &mut String, entries: &[Entry]) -> Result<(), AllocError>
+/// Adds a line for each entry, whose octets lie elsewhere.
+fn push_borrowed(
+    alloc: Global,
+    text: &mut String,
+    entries: &[BorrowedEntry<'_>],
+) -> Result<(), AllocError>
     ensures { OnOk result (string_bytes text.new ≡ string_bytes text.old ++ flat_map todo_line entries.now) }
 {
     for entry in entries {
@@ -39,14 +43,24 @@ pub fn push_entries(alloc: Global, text: &mut String, entries: &[Entry]) -> Resu
     Ok(())
 }
 
+/// Adds a line for each entry.
+pub fn push_entries(alloc: Global, text: &mut String, entries: &[Entry]) -> Result<(), AllocError>
+    ensures { OnOk result (string_bytes text.new ≡ string_bytes text.old ++ flat_map todo_line entries.now) }
+{
+    for entry in entries {
+        push_entry(alloc, text, &entry.borrowed())?;
+    }
+    Ok(())
+}
+
 /// Adds the line of an entry.
-fn push_entry(alloc: Global, text: &mut String, entry: &Entry) -> Result<(), AllocError>
+fn push_entry(alloc: Global, text: &mut String, entry: &BorrowedEntry<'_>) -> Result<(), AllocError>
     ensures { OnOk result (string_bytes text.new ≡ string_bytes text.old ++ todo_line entry.now) }
 {
-    let algorithm = entry.algorithm.0;
-    let key = hex_text(alloc, entry.key.as_slice())?;
-    let signed_data = hex_text(alloc, entry.signed_data.as_slice())?;
-    let signature = hex_text(alloc, entry.signature.as_slice())?;
+    let algorithm = entry.algorithm().0;
+    let key = hex_text(alloc, entry.key())?;
+    let signed_data = hex_text(alloc, entry.signed_data())?;
+    let signature = hex_text(alloc, entry.signature())?;
     write!(text, "todo {algorithm} {key}")?;
     writeln!(text, " {signed_data} {signature}")?;
     Ok(())

@@ -1,5 +1,5 @@
 -- the hopeful table's trust settles what the hopeful verifier settles; where nothing is unknown, hope settles nothing more
-use Rattle.std.proofs.Common.{List, refl, subst, sym}
+use Rattle.std.proofs.Common.{refl, subst, sym}
 use Rattle.std.proofs.lemmas.Option.{MatchOption-at_none, MatchOption-at_some}
 use Rattle.dnsv_verifier.specs.Table.{IsTableOf, hoped_answer}
 use Rattle.dnsv_verifier.specs.declared.answer.Answer.{Answer}
@@ -8,18 +8,17 @@ use Rattle.dnsv_denial.specs.Viewed.{SecuredIn}
 use Rattle.dnsv_verdict.proofs.CaseLemmas.{settled_stands}
 use Rattle.dnsv_verdict.proofs.SettledLemmas.PendingLemmas.{nothing_to_hope}
 use Rattle.dnsv_verdict.proofs.TrustLemmas.{settled_by_trust, settled_from_trust}
-use Rattle.dnsv_verdict.proofs.UnknownLemmas.{none_unknown, table_unknown}
-use Rattle.dnsv_verdict.specs.Verdict.{AreUnknown, Basis, basis_of}
+use Rattle.dnsv_verdict.proofs.UnknownLemmas.{none_unknown}
+use Rattle.dnsv_verdict.specs.Verdict.{Basis, basis_of}
 use Rattle.dnsv_verdict.proofs.grounds.may_be_settled.Goals as goal
 
-pub returns-then-is_empty : goal.returns-then-is_empty
-returns-then-is_empty c = λ meaning moment table unsettled.
+pub returns-then-knows_all : goal.returns-then-knows_all
+returns-then-knows_all c = λ meaning moment table unsettled.
     let grounds = c.args.grounds.now in
     let judged : Basis = basis_of grounds.capture.now.rrsets grounds.anchors.now moment meaning in (
       λ never. cc,
       λ may. absurd (unsettled (nothing_to_hope c.trust_depends_on_what_is_asked.ensures.numbers judged c.args.name.now c.args.rtype.0
-          (subst (λ (entries : List Entry). AreUnknown judged entries) (none_unknown c.args.unknown.now c.if-is_empty.ensures)
-          (table_unknown judged grounds.table.now table c.args.unknown.now c.requires.entries c.requires.rising)) may)),
+          (none_unknown judged grounds.table.now table (c.knows_all.ensures.0 c.if-knows_all.true)) may)),
     )
 
 pub returns : goal.returns
