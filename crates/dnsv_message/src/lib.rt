@@ -7,7 +7,9 @@ pub use laws::{
     one_fault, one_message, one_tail, the_encoding_is_the_message,
 };
 pub use message::Message;
+pub use name_ref::{NameRef, name_ref_at};
 pub use number::{Class, Flags};
+pub use rdata_ref::{RdataOctets, RdataRef, rdata_ref_at};
 pub use record::{Question, Rdata, Record, Section};
 pub use streams::capture::{one_answer, one_reading, read_capture};
 pub use streams::counted::Counted;
@@ -16,11 +18,14 @@ pub use streams::framer::{Framer, any_cutting};
 
 mod encode;
 mod errors;
+mod following;
 mod laws;
 mod message;
 mod name_at;
+mod name_ref;
 mod number;
 mod rdata;
+mod rdata_ref;
 mod record;
 #[cfg(test)]
 mod samples;

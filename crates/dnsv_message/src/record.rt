@@ -58,4 +58,11 @@ impl Rdata {
     {
         &self.octets
     }
+
+    /// The octets, as the vector that holds them.
+    pub fn into_octets(self) -> Vec<u8>
+        ensures { result.items ≡ self }
+    {
+        self.octets
+    }
 }
