@@ -1,4 +1,7 @@
 //! Names where they stand in a message.
+
+pub mod by_wire;
+
 ghost use Rattle.std.specs.Prelude.{◌≡◌, ◌↔◌, ◌≤◌, IsTrue, IfOk, IfErr, length, map};
 ghost use Rattle.std.specs.Cmp.{on_equiv, partial_equiv_from_equiv};
 ghost use Rattle.dnsv_names.specs.Name.{SameName, same_name, IsName, IsAtOrBelow, wire};
@@ -30,9 +33,10 @@ pub struct NameRef<'b> {
 impl<'b> Model for NameRef<'b> {
     ghost use Rattle.std.specs.Prelude.{◌≡◌, length};
     ghost use Rattle.dnsv_names.specs.Name.{Labels, wire};
-    ghost use Rattle.dnsv_message.specs.Following.{labels_at, StandsAt};
 
     ghost Value = { Labels };
+
+    ghost use Rattle.dnsv_message.specs.Following.{labels_at, StandsAt};
 
     ghost view = { λ name. labels_at name.octets.now name.place };
 

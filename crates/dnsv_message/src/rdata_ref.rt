@@ -1,5 +1,5 @@
 //! The RDATA of a record where it stands in a message.
-ghost use Rattle.std.specs.Prelude.{◌≡◌, ◌≤◌, ◌+◌, ℕ, List, length, IsFalse, IsTrue, IfOk, MatchOption};
+ghost use Rattle.std.specs.Prelude.{◌≡◌, ◌≤◌, ◌+◌, [], ℕ, List, length, IsFalse, IsTrue, IfOk, MatchOption};
 ghost use Rattle.dnsv_names.specs.Name.{Labels};
 ghost use Rattle.dnsv_message.specs.Layout.{layout_of};
 ghost use Rattle.dnsv_message.specs.Grammar.{RdataNameAt, RdataAt};
@@ -7,7 +7,6 @@ ghost use Rattle.dnsv_message.specs.Grammar.{RdataNameAt, RdataAt};
 use crate::name_at::name_end;
 use crate::number::Class;
 use crate::rdata::{Layout, rdata_at};
-use crate::record::Rdata;
 use dnsv_names::{Name, RecordType};
 use std::alloc::{AllocError, Global};
 use std::marker::Model;
@@ -29,7 +28,7 @@ impl<'b> Model for RdataRef<'b> {
     ghost Value = { List ℕ };
 
     ghost use Rattle.dnsv_message.specs.Layout.{layout_of};
-    ghost use Rattle.dnsv_message.specs.Following.{rdata_from, RdataStandsAt};
+    ghost use Rattle.dnsv_message.specs.Following.Rdata.{rdata_from, RdataStandsAt};
 
     ghost view = { λ rdata. rdata_from rdata.octets.now (layout_of rdata.rtype.0 rdata.class.0) rdata.start rdata.size };
 
@@ -105,8 +104,8 @@ fn end_within(octets: &[u8], place: usize, limit: usize, pointers: bool) -> Opti
 
 impl<'b> RdataRef<'b> {
     /// The octets in a vector of their own.
-    pub fn to_rdata(&self, alloc: Global) -> Result<Rdata, AllocError>
-        ensures { IfOk result (λ rdata. rdata ≡ self.now) }
+    pub fn to_vec(&self, alloc: Global) -> Result<Vec<u8>, AllocError>
+        ensures { IfOk result (λ octets. octets.items ≡ self.now) }
     {
         let layout = Layout::of(self.rtype, self.class);
         let rdata = rdata_at(alloc, self.octets, self.start, self.size as usize, layout)?;
@@ -118,7 +117,7 @@ impl<'b> RdataRef<'b> {
         ensures { IfOk result (λ octets. octets ≡ self.now) }
     {
         if Layout::of(self.rtype, self.class).pointers {
-            let octets = self.to_rdata(alloc)?.into_octets();
+            let octets = self.to_vec(alloc)?;
             return Ok(RdataOctets {
                 kept: Kept::Written(octets),
             });
@@ -154,7 +153,16 @@ impl<'b> Model for RdataOctets<'b> {
     ghost view = { λ octets. octets_kept octets.kept };
 }
 
-impl RdataOctets<'_> {
+impl<'b> RdataOctets<'b> {
+    /// No octets.
+    pub fn none() -> RdataOctets<'b>
+        ensures { result ≡ [] }
+    {
+        RdataOctets {
+            kept: Kept::Stands(&[]),
+        }
+    }
+
     /// The octets.
     pub fn as_slice(&self) -> &[u8]
         ensures { result.now ≡ self.now }

@@ -1,5 +1,6 @@
 -- What following octets finds of an RDATA is the RDATA that stands there.
-use Rattle.std.proofs.Common.{◌≡◌, ℕ, zero, suc, ◌+◌, ◌-◌, ◌<◌, ◌≤◌, List, [], ◌∷◌, ◌++◌, length, get_or, take, drop, refl, sym, ap, subst, ◌∙◌, arith, Bool, true, false, nat_lt, append_assoc, length-append, length-drop, Option, Some, None}
+use Rattle.std.proofs.Common.{◌≡◌, ℕ, zero, suc, ◌+◌, ◌-◌, ◌<◌, ◌≤◌, List, [], ◌∷◌, ◌++◌, length, get_or, take, drop, refl, sym, ap, subst, ◌∙◌, arith, Bool, true, false, nat_lt, append_assoc, length-append, length-drop, Option, Some, None, Vec}
+use Rattle.std.specs.declared.alloc.Global.{Global}
 use Rattle.std.specs.Prelude.{flat_map, MatchOption, IsSome, IsTrue, IsFalse, nat_eq}
 use Rattle.std.proofs.lemmas.Bool.Decides.{nat_tests}
 use Rattle.std.proofs.lemmas.Option.{MatchOption-at_some}
@@ -11,7 +12,8 @@ use Rattle.dnsv_message.specs.declared.rdata.Layout.{Layout}
 use Rattle.dnsv_message.specs.declared.errors.NameFault.{NameFault}
 use Rattle.dnsv_message.specs.NameAt.{NameAt, root, label, pointer, NameFrom, NameFaultFrom, pointer_limit}
 use Rattle.dnsv_message.specs.Grammar.{InOrder, RdataNameAt, RdataAt, part_of}
-use Rattle.dnsv_message.specs.Following.{labels_at, end_behind, end_by_octet, end_from, end_at, written_at, rdata_from, RdataStandsAt}
+use Rattle.dnsv_message.specs.Following.{labels_at}
+use Rattle.dnsv_message.specs.Following.Rdata.{end_behind, end_by_octet, end_from, end_at, written_at, rdata_from, RdataStandsAt}
 use Rattle.dnsv_message.proofs.Numbers.{octet_fits, part_same}
 use Rattle.dnsv_message.proofs.NameLaws.{octet_of_number, octet_of_label, octet_of_pointer, NameAt_same, NameAt_sound}
 use Rattle.dnsv_message.proofs.RdataLemmas.{rdata_name, NamesRead, NamesRead-next, NamesRead-missing, NamesRead-tail, NamesRead-found}
@@ -141,15 +143,15 @@ plain_rdata octets layout start size rdata plain at =
     ∙ parts_join octets start (layout.head + names.0) at.rest ∙ ap (part_of octets start) all
 
 -- RDATA that stands is read, as what is seen there
-pub rdata_is_read : (octets : List ℕ) (layout : Layout) (start size : ℕ) → RdataStandsAt octets layout start size → (answer : Option (List ℕ))
-    → MatchOption answer ((rdata : List ℕ) → RdataAt octets layout start size rdata → ⊥) (RdataAt octets layout start size) → IsSome answer
+pub rdata_is_read : (octets : List ℕ) (layout : Layout) (start size : ℕ) → RdataStandsAt octets layout start size → (answer : Option (Vec ℕ Global))
+    → MatchOption answer ((rdata : List ℕ) → RdataAt octets layout start size rdata → ⊥) (λ rdata. RdataAt octets layout start size rdata.items) → IsSome answer
 rdata_is_read octets layout start size stands (Some found) read = refl
 rdata_is_read octets layout start size stands None read = absurd (read (rdata_from octets layout start size) stands.rdata)
 
-pub rdata_is_found : (octets : List ℕ) (layout : Layout) (start size : ℕ) → RdataStandsAt octets layout start size → (answer : Option (List ℕ)) (found : List ℕ) → answer ≡ Some found
-    → MatchOption answer ((rdata : List ℕ) → RdataAt octets layout start size rdata → ⊥) (RdataAt octets layout start size) → found ≡ rdata_from octets layout start size
+pub rdata_is_found : (octets : List ℕ) (layout : Layout) (start size : ℕ) → RdataStandsAt octets layout start size → (answer : Option (Vec ℕ Global)) (found : Vec ℕ Global) → answer ≡ Some found
+    → MatchOption answer ((rdata : List ℕ) → RdataAt octets layout start size rdata → ⊥) (λ rdata. RdataAt octets layout start size rdata.items) → found.items ≡ rdata_from octets layout start size
 rdata_is_found octets layout start size stands answer found is read =
-    sym (rdata_found octets layout start size found stands.fit (MatchOption-at_some _ _ _ is read))
+    sym (rdata_found octets layout start size found.items stands.fit (MatchOption-at_some _ _ _ is read))
 
 pub same_by_test : (m n : ℕ) → IsTrue (nat_eq m n) → m ≡ n
 same_by_test m n same = grind (arith, nat_tests, same)
