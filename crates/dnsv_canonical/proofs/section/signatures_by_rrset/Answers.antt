@@ -15,7 +15,7 @@ loop-record-preserved c = λ owner rtype fits.
           (c.covered_type.ensures owner rtype fits ∙ (λ i. option_map_or (λ covered. rtype == covered.0) (w.in-Some.is i) false && same_name_equiv.symm c.record-item.result.name owner i))
           (
           ap (λ m. rdata_at m rtype owner) w.by_rrset-is ∙ w.in_ok-add.ensures rtype owner
-          ∙ ap (λ rdata. rdata_at c.loop-record.by_rrset rtype owner ++ (if (rtype == w.in-Some.covered.0) && same_name owner c.record-item.result.name then rdata ∷ [] else [])) w.octets-rdata.ensures
+          ∙ ap (λ rdata. rdata_at c.loop-record.by_rrset rtype owner ++ (if (rtype == w.in-Some.covered.0) && same_name owner c.record-item.result.name then rdata ∷ [] else [])) w.rdata.ensures
           )
       | in_default w ↦
           signatures_next c.args.records.now c.loop-record.record-index c.record-item.result c.loop-record-test.true c.record-item.is
