@@ -81,27 +81,12 @@ pub fn message_rrsets<'a>(
         ++ rrsets_in number Section.Additional sections.now.additional.items) }
 {
     let mut rrsets = Vec::new(alloc);
-    add_section(
-        alloc,
-        &mut rrsets,
-        number,
-        Section::Answer,
-        &sections.answer,
-    )?;
-    add_section(
-        alloc,
-        &mut rrsets,
-        number,
-        Section::Authority,
-        &sections.authority,
-    )?;
-    add_section(
-        alloc,
-        &mut rrsets,
-        number,
-        Section::Additional,
-        &sections.additional,
-    )?;
+    let answer = sections.answer.as_slice();
+    let authority = sections.authority.as_slice();
+    let additional = sections.additional.as_slice();
+    add_section(alloc, &mut rrsets, number, Section::Answer, answer)?;
+    add_section(alloc, &mut rrsets, number, Section::Authority, authority)?;
+    add_section(alloc, &mut rrsets, number, Section::Additional, additional)?;
     Ok(rrsets)
 }
 

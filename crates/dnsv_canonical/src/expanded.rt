@@ -75,10 +75,7 @@ impl<'b> Sections<'b> {
 }
 
 /// The records, in order.
-fn all_expanded<'b>(
-    alloc: Global,
-    records: &[Record<'b>],
-) -> Result<Vec<Expanded<'b>>, AllocError>
+fn all_expanded<'b>(alloc: Global, records: &[Record<'b>]) -> Result<Vec<Expanded<'b>>, AllocError>
     ensures { IfOk result (λ all. all.items ≡ records.now) }
 {
     let mut all = Vec::with_capacity(alloc, records.len())?;

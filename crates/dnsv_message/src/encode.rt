@@ -40,18 +40,14 @@ fn push_question(octets: &mut Vec<u8>, question: &Question<'_>) -> Result<(), Al
     Ok(())
 }
 
-fn push_record(
-    alloc: Global,
-    octets: &mut Vec<u8>,
-    resource: &Record<'_>,
-) -> Result<(), AllocError>
+fn push_record(alloc: Global, octets: &mut Vec<u8>, resource: &Record<'_>) -> Result<(), AllocError>
     requires { length resource.now.rdata < 2 ^ 16 }
     ensures { OnOk result (octets.new.items ≡ octets.old.items ++ record_octets resource.now) }
 {
     let written = resource.rdata.octets(alloc)?;
     let rdata = written.as_slice();
-    let name = resource.name.to_name();
-    octets.extend_from_slice(name.wire())?;
+    let owner = resource.name.to_name();
+    octets.extend_from_slice(owner.wire())?;
     octets.extend_from_slice(&resource.rtype.0.to_be_bytes())?;
     octets.extend_from_slice(&resource.class.0.to_be_bytes())?;
     octets.extend_from_slice(&resource.ttl.0.to_be_bytes())?;

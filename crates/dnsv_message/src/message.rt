@@ -97,10 +97,7 @@ impl<'b> Message<'b> {
         Message::read(alloc, octets)
     }
 
-    fn read(
-        alloc: Global,
-        octets: &'b [u8],
-    ) -> Result<(Message<'b>, Option<usize>), DecodeError>
+    fn read(alloc: Global, octets: &'b [u8]) -> Result<(Message<'b>, Option<usize>), DecodeError>
         ensures found { IfOk result (λ found. MessageOf octets.now found.0) }
         ensures tail { IfOk result (λ found. IsTailOf octets.now found.0 found.1) }
         ensures fault { IfErr result (λ error. (error ≡ DecodeError.OutOfMemory) ⊎ FaultOf octets.now error) }

@@ -88,7 +88,7 @@ pub fn name_end(octets: &[u8], place: usize) -> Result<(u8, usize), NameFault>
         run: place,
         pointers: POINTER_LIMIT,
     };
-    let mut end = None;
+    let mut after = None;
     'steps: loop {
         match step_at(octets, walk, size)? {
             Step::Root => break,
@@ -97,16 +97,14 @@ pub fn name_end(octets: &[u8], place: usize) -> Result<(u8, usize), NameFault>
                 walk.place += 1 + length;
             }
             Step::Pointer(target) => {
-                end = end.or(Some(walk.place + 2));
-                walk = Walk {
-                    place: target,
-                    run: target,
-                    pointers: walk.pointers - 1,
-                };
+                after = after.or(Some(walk.place + 2));
+                walk.place = target;
+                walk.run = target;
+                walk.pointers -= 1;
             }
         }
     }
-    Ok(((size + 1) as u8, end.unwrap_or(walk.place + 1)))
+    Ok(((size + 1) as u8, after.unwrap_or(walk.place + 1)))
 }
 
 /// How the name goes on, of which `size` octets are written out already.

@@ -109,11 +109,7 @@ pub fn last_rdata<'b>(alloc: Global, message: &Message<'b>) -> Result<RdataOctet
 }
 
 /// Whether no record of the three lists is a TSIG record.
-fn lack_tsig(
-    answer: &[Record<'_>],
-    authority: &[Record<'_>],
-    additional: &[Record<'_>],
-) -> bool
+fn lack_tsig(answer: &[Record<'_>], authority: &[Record<'_>], additional: &[Record<'_>]) -> bool
     ensures { IsTrue result ↔ LacksTsig (answer.now ++ authority.now ++ additional.now) }
 {
     if !lacks_tsig(answer) {

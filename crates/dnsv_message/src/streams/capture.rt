@@ -50,13 +50,8 @@ pub fn read_capture<'b, R: Read>(
             break;
         }
         let within = count.min(left);
-        place_whole(
-            alloc,
-            &mut framer,
-            &piece[..within],
-            bump,
-            &mut messages,
-        )?;
+        let part = &piece[..within];
+        place_whole(alloc, &mut framer, part, bump, &mut messages)?;
         if within < count {
             return Err(ReadError::TooLong);
         }

@@ -16,7 +16,7 @@ pub steps-preserved : goal.steps-preserved
 steps-preserved c = (
   c.steps.invariant.0,
   c.steps.invariant.1,
-  Walked-by_pointer c.steps.walk c.steps.size c.in-Pointer.target _ c.steps.invariant.2 (step_is _ _ _ c.in-Pointer.is c.in_ok-step_at.ensures.step) c.or-end.ensures,
+  Walked-by_pointer c.steps.walk c.steps.size c.in-Pointer.target _ c.steps.invariant.2 (step_is _ _ _ c.in-Pointer.is c.in_ok-step_at.ensures.step) c.or-after.ensures,
 )
 
 pub returns-clause-found : goal.returns-clause-found

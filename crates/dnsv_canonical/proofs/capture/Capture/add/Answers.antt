@@ -60,7 +60,7 @@ pub invariant_of-self-in_err-append : goal.invariant_of-self-in_err-append
 invariant_of-self-in_err-append c = rw (c.in_err-append.ensures.items, c.in_ok-reserve.ensures.items) c.self.invariant
 
 -- what is kept with the message
-after : (c : goal.After-drop-drafts-2) → IsHeld (record { messages = c.self.inside.messages + 1; records = c.in-Some.records; rrsets = c.self.inside.rrsets.items ++ c.in_ok-drafts.drafts.items })
+after : (c : goal.After-drop-sections-4) → IsHeld (record { messages = c.self.inside.messages + 1; records = c.in-Some.records; rrsets = c.self.inside.rrsets.items ++ c.in_ok-drafts.drafts.items })
     (c.self.inside.parameters.items ++ c.in_ok-parameters.parameters.items)
 after c =
     grown c.self.inside.messages c.self.inside.records c.in-Some.records c.self.inside.rrsets.items c.args.message.now c.self.inside.parameters.items c.in_ok-parameters.parameters.items c.in_ok-drafts.drafts.items
