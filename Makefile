@@ -35,9 +35,10 @@ faults: | $(program)
 	tools/faults
 
 # Every wrong body, those that the gate leaves out too, of all crates or of those named, as CRATES="dnsv_names"; with
-# SINCE=COMMIT, of those that a change since that commit concerns.
+# SINCE=COMMIT, of those that a change since that commit concerns. And every program that must not compile.
 wrong-bodies:
 	tools/wrong-bodies $(CRATES)
+	tools/does-not-compile $(CRATES)
 
 # The tests of the tools around the program, and of the program where it is built; they need python3 with its package
 # cryptography, and nothing of the kit.

@@ -1,7 +1,7 @@
 //! What the frames of a file of captured messages are opened by.
 ghost use Rattle.std.specs.Prelude.{◌≡◌, ◌⊎◌, Decides, IfErr, IfOk, List, Option, ℕ};
 ghost use Rattle.std.specs.Option.{option_copied};
-ghost use Rattle.dnsv_message.specs.Streams.Frames.{octets_of_each};
+ghost use Rattle.dnsv_message.specs.Streams.Frames.{octets_at_each};
 ghost use Rattle.dnssec_check.specs.Opening.{HasItsMacs, request_mac};
 ghost use Rattle.dnssec_check.specs.Opening.Given.{IsOpeningOf, IsOpeningReached, IsFaultOfOpening};
 ghost use Rattle.dnssec_check.specs.Files.Faults.{IsAbout, OfFailedRead, OfOctets, TellsFailedReads};
@@ -77,8 +77,8 @@ impl RequestMacs {
 
 impl Opening {
     /// Whether each frame has its request's MAC, and no other is there, where MACs are given.
-    pub fn has_its_macs(&self, frames: &[Vec<u8>]) -> bool
-        ensures { Decides result (HasItsMacs self.now (octets_of_each frames.now)) }
+    pub fn has_its_macs(&self, frames: &[&[u8]]) -> bool
+        ensures { Decides result (HasItsMacs self.now (octets_at_each frames.now)) }
     {
         match self {
             Opening::Signed {

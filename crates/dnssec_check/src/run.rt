@@ -27,6 +27,7 @@ use crate::texts::checking::{Outcome, judge};
 use crate::texts::listing::listing;
 use crate::texts::showing::showing;
 use crate::texts::todo::still_to_check;
+use bumpalo::Bump;
 use dnsv_message::Counted;
 use dnsv_names::{Name, RecordType};
 use std::alloc::Global;
@@ -90,7 +91,7 @@ pub fn run<R: Read, W: Write>(
     }
 }
 
-/// The text that the request asks for, and how it ends.
+/// The text that the request asks for, and how it ends. The octets of the messages lie in an arena of its own.
 fn outcome_of<R: Read>(
     alloc: Global,
     request: &Request,
@@ -103,16 +104,17 @@ fn outcome_of<R: Read>(
         → IfErr result (OfFailedRead (IsReached request.now files)) }
     ensures unwritten { IfErr result (λ fault. fault ≡ Fault.WriteFailed → ⊥) }
 {
+    let bump = Bump::new(alloc);
     match request {
-        Request::Show { .. } => Ok(done(show(alloc, inputs)?)),
-        Request::List { all: true, .. } => Ok(done(list_all(alloc, inputs)?)),
-        Request::List { moment, .. } => Ok(done(list(alloc, *moment, inputs)?)),
+        Request::Show { .. } => Ok(done(show(alloc, inputs, &bump)?)),
+        Request::List { all: true, .. } => Ok(done(list_all(alloc, inputs, &bump)?)),
+        Request::List { moment, .. } => Ok(done(list(alloc, *moment, inputs, &bump)?)),
         Request::Check {
             name,
             rtype,
             moment,
             ..
-        } => check(alloc, name.as_bytes(), *rtype, *moment, inputs),
+        } => check(alloc, name.as_bytes(), *rtype, *moment, inputs, &bump),
     }
 }
 
@@ -127,7 +129,7 @@ fn done(text: String) -> Outcome
 }
 
 /// The messages with their questions and records.
-fn show<R: Read>(alloc: Global, inputs: &mut Inputs<R>) -> Result<String, Fault>
+fn show<R: Read>(alloc: Global, inputs: &mut Inputs<R>, bump: &Bump) -> Result<String, Fault>
     ensures text { (files : Files) → AreTold R.remaining inputs.old files
         → IfOk result (λ text. IsShowing files.capture (string_bytes text)) }
     ensures faults { TellsFaults (λ files. IsFaultOfCapture AnyMessage Plain files.capture) R.remaining
@@ -136,12 +138,12 @@ fn show<R: Read>(alloc: Global, inputs: &mut Inputs<R>) -> Result<String, Fault>
         → IfErr result (OfFailedRead (IsCaptureReached)) }
     ensures unwritten { IfErr result (λ fault. fault ≡ Fault.WriteFailed → ⊥) }
 {
-    let messages = messages_in(alloc, &mut inputs.capture)?;
+    let messages = messages_in(alloc, &mut inputs.capture, bump)?;
     Ok(showing(alloc, &messages)?)
 }
 
 /// What each signature signs.
-fn list_all<R: Read>(alloc: Global, inputs: &mut Inputs<R>) -> Result<String, Fault>
+fn list_all<R: Read>(alloc: Global, inputs: &mut Inputs<R>, bump: &Bump) -> Result<String, Fault>
     ensures text { (files : Files) → AreTold R.remaining inputs.old files
         → IfOk result (λ text. IsListing files.capture (string_bytes text)) }
     ensures faults { TellsFaults (λ files. IsFaultOfCapture NewEvidence Plain files.capture) R.remaining
@@ -150,12 +152,17 @@ fn list_all<R: Read>(alloc: Global, inputs: &mut Inputs<R>) -> Result<String, Fa
         → IfErr result (OfFailedRead (IsCaptureReached)) }
     ensures unwritten { IfErr result (λ fault. fault ≡ Fault.WriteFailed → ⊥) }
 {
-    let held = evidence_in(alloc, &Opening::Plain, &mut inputs.capture)?;
+    let held = evidence_in(alloc, &Opening::Plain, &mut inputs.capture, bump)?;
     Ok(listing(alloc, &held)?)
 }
 
 /// What a verifier still has to check.
-fn list<R: Read>(alloc: Global, moment: Moment, inputs: &mut Inputs<R>) -> Result<String, Fault>
+fn list<R: Read>(
+    alloc: Global,
+    moment: Moment,
+    inputs: &mut Inputs<R>,
+    bump: &Bump,
+) -> Result<String, Fault>
     ensures text { (files : Files) → AreTold R.remaining inputs.old files
         → IfOk result (λ text. IsTodo moment files (string_bytes text)) }
     ensures faults { TellsFaults IsFirstFaultOfTodo R.remaining inputs.old inputs.new result }
@@ -163,7 +170,7 @@ fn list<R: Read>(alloc: Global, moment: Moment, inputs: &mut Inputs<R>) -> Resul
         → IfErr result (OfFailedRead (IsReachedByTodo files)) }
     ensures unwritten { IfErr result (λ fault. fault ≡ Fault.WriteFailed → ⊥) }
 {
-    let held = evidence_in(alloc, &Opening::Plain, &mut inputs.capture)?;
+    let held = evidence_in(alloc, &Opening::Plain, &mut inputs.capture, bump)?;
     let statements = statements_in(alloc, &mut inputs.statements)?;
     Ok(still_to_check(alloc, &held, moment, &statements)?)
 }
@@ -175,6 +182,7 @@ fn check<R: Read>(
     rtype: RecordType,
     moment: Moment,
     inputs: &mut Inputs<R>,
+    bump: &Bump,
 ) -> Result<Outcome, Fault>
     ensures text { (files : Files) → AreTold R.remaining inputs.old files → IfOk result (λ outcome.
         IsAnswered asked.now rtype.0 moment files outcome.status (string_bytes outcome.text)) }
@@ -185,7 +193,7 @@ fn check<R: Read>(
     ensures unwritten { IfErr result (λ fault. fault ≡ Fault.WriteFailed → ⊥) }
 {
     let name = question_name(asked, rtype)?;
-    check_question(alloc, &name, rtype, moment, inputs)
+    check_question(alloc, &name, rtype, moment, inputs, bump)
 }
 
 /// The verdict on the question.
@@ -195,6 +203,7 @@ fn check_question<R: Read>(
     rtype: RecordType,
     moment: Moment,
     inputs: &mut Inputs<R>,
+    bump: &Bump,
 ) -> Result<Outcome, Fault>
     requires { IsQuestion name.now rtype.0 }
     ensures text { (files : Files) → AreTold R.remaining inputs.old files → IfOk result (λ outcome.
@@ -206,7 +215,7 @@ fn check_question<R: Read>(
     ensures unwritten { IfErr result (λ fault. fault ≡ Fault.WriteFailed → ⊥) }
 {
     let opening = opening_in(alloc, moment, &mut inputs.keys, &mut inputs.macs)?;
-    let held = evidence_in(alloc, &opening, &mut inputs.capture)?;
+    let held = evidence_in(alloc, &opening, &mut inputs.capture, bump)?;
     let anchors = anchors_in(alloc, &mut inputs.anchors)?;
     let statements = statements_in(alloc, &mut inputs.statements)?;
     judge(alloc, &held, &anchors, moment, &statements, name, rtype)

@@ -20,13 +20,13 @@ use Rattle.dnsv_names.specs.declared.number.RecordType.{RecordType}
 use Rattle.dnsv_names.specs.Name.{Labels, same_name}
 use Rattle.dnsv_names.specs.Order.ByWire.{search_cmp}
 use Rattle.dnsv_names.specs.Order.ByWireLaws.{search_ties}
-use Rattle.dnsv_names.specs.declared.order.by_wire.ByWire.{ByWire}
+use Rattle.dnsv_message.specs.declared.name_ref.by_wire.NameRefByWire.{NameRefByWire}
 use Rattle.dnsv_canonical.specs.ByRrset.{rdata_at}
 use Rattle.dnsv_canonical.specs.Rrsets.{first_appearances}
 use Rattle.dnsv_canonical.proofs.GroupLemmas.{same_name_equiv, first_appearances-push}
 
 abbrev pub Key : Type 0
-Key = RecordType × ByWire
+Key = RecordType × NameRefByWire
 
 abbrev pub key_cmp : Key → Key → Ordering
 key_cmp a b = ordering_then (nat_cmp a.0.0 b.0.0) (search_cmp a.1.0.now b.1.0.now)

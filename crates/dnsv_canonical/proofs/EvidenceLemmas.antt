@@ -22,6 +22,12 @@ use Rattle.dnsv_canonical.proofs.CanonicalLemmas.{each_map}
 use Rattle.dnsv_canonical.proofs.ListLemmas.{each_front, each_behind, each_chosen}
 use Rattle.dnsv_canonical.proofs.ParameterLemmas.{nsec3_rdata-append, few_pairs}
 
+-- the RRsets of a message's sections are its RRsets
+pub drafts_are : (number : ℕ) (message : Contents) (answer authority additional : List Record) (drafts : List ReceivedRrset) → answer ≡ message.answer → authority ≡ message.authority → additional ≡ message.additional
+    → drafts ≡ rrsets_in number Answer answer ++ rrsets_in number Authority authority ++ rrsets_in number Additional additional → drafts ≡ message_rrsets number message
+drafts_are number message answer authority additional drafts first second third are =
+    are ∙ (λ i. rrsets_in number Answer (first i) ++ rrsets_in number Authority (second i) ++ rrsets_in number Additional (third i))
+
 -- ---- each RRset
 
 -- what holds of each RRset of a section whose records are of a kind holds of each RRset of a message of such records

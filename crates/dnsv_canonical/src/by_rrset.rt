@@ -5,20 +5,21 @@ ghost use Rattle.dnsv_names.specs.Name.{Labels, same_name};
 ghost use Rattle.dnsv_canonical.specs.ByRrset.{rdata_at};
 ghost use Rattle.dnsv_canonical.specs.Rrsets.{first_appearances};
 
-use dnsv_names::{ByWire, Name, RecordType};
+use dnsv_message::{NameRef, NameRefByWire};
+use dnsv_names::RecordType;
 use std::alloc::{AllocError, Global};
 use std::collections::{BTreeMap, BTreeSet};
 
 /// RDATA by the type and owner of the RRset that it belongs to or covers. It's a tree, so that n records take time
 /// in proportion to n log n, whatever their owners are.
-pub type RdataByRrset<'a> = BTreeMap<(RecordType, ByWire<'a>), Vec<&'a [u8]>>;
+pub type RdataByRrset<'a> = BTreeMap<(RecordType, NameRefByWire<'a>), Vec<&'a [u8]>>;
 
 /// Adds RDATA behind what is there for the type and owner.
 pub fn add<'a>(
     alloc: Global,
     by_rrset: &mut RdataByRrset<'a>,
     rtype: RecordType,
-    owner: &'a Name,
+    owner: &'a NameRef<'a>,
     rdata: &'a [u8],
 ) -> Result<(), AllocError>
     ensures { OnOk result ((t : ℕ) (name : Labels) → rdata_at by_rrset.new t name ≡ rdata_at by_rrset.old t name
@@ -27,9 +28,9 @@ pub fn add<'a>(
     let mut first = Vec::new(alloc);
     first.push(rdata)?;
     // Mostly nothing is there, and one search does.
-    if let Some(mut received) = by_rrset.insert((rtype, ByWire(owner)), first)? {
+    if let Some(mut received) = by_rrset.insert((rtype, NameRefByWire(owner)), first)? {
         received.push(rdata)?;
-        by_rrset.insert((rtype, ByWire(owner)), received)?;
+        by_rrset.insert((rtype, NameRefByWire(owner)), received)?;
     }
     Ok(())
 }
@@ -39,13 +40,13 @@ pub fn take_rdata<'a>(
     alloc: Global,
     by_rrset: &mut RdataByRrset<'a>,
     rtype: RecordType,
-    owner: &'a Name,
+    owner: &'a NameRef<'a>,
 ) -> Vec<&'a [u8]>
     ensures value { map (λ r. r.now) result.items ≡ rdata_at by_rrset.old rtype.0 owner.now }
     ensures left { (t : ℕ) (name : Labels) → rdata_at by_rrset.new t name
         ≡ (if rtype.0 == t && same_name owner.now name then [] else rdata_at by_rrset.old t name) }
 {
-    match by_rrset.remove(&(rtype, ByWire(owner))) {
+    match by_rrset.remove(&(rtype, NameRefByWire(owner))) {
         Some(rdata) => rdata,
         None => Vec::new(alloc),
     }
@@ -56,7 +57,7 @@ pub fn distinct_rdata<'a>(
     alloc: Global,
     by_rrset: &RdataByRrset<'a>,
     rtype: RecordType,
-    owner: &'a Name,
+    owner: &'a NameRef<'a>,
 ) -> Result<Vec<&'a [u8]>, AllocError>
     ensures once { IfOk result (λ first_ones. map (λ r. r.now) first_ones.items
         ≡ first_appearances bytes_eq (rdata_at by_rrset.now rtype.0 owner.now)) }
@@ -64,7 +65,7 @@ pub fn distinct_rdata<'a>(
     ensures fits { rtype.0 < 2 ^ 16 }
 {
     let mut first_ones = Vec::new(alloc);
-    let Some(received) = by_rrset.get(&(rtype, ByWire(owner))) else {
+    let Some(received) = by_rrset.get(&(rtype, NameRefByWire(owner))) else {
         return Ok(first_ones);
     };
     if received.len() < 2 {

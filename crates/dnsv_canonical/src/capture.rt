@@ -8,6 +8,7 @@ ghost use Rattle.dnsv_canonical.specs.Rdata.{IsWellFormed};
 ghost use Rattle.dnsv_canonical.specs.declared.capture.CaptureError.TheVariants.{OutOfMemory};
 
 use crate::draft::message_rrsets;
+use crate::expanded::Sections;
 use crate::limits::{MESSAGE_LIMIT, are_small, fresh_parameters, records_with};
 use crate::readable::check_rdata;
 use crate::rrset::{Rrset, to_rrsets};
@@ -117,7 +118,7 @@ impl Capture {
 
     /// Adds a message. It is refused for the first of these that holds, and the capture then stays as it was:
     /// it is a query, it was cut to fit, a record can't be read, the capture would pass a limit.
-    pub fn add(&mut self, message: &Message) -> Result<(), CaptureError>
+    pub fn add(&mut self, message: &Message<'_>) -> Result<(), CaptureError>
         ensures added { OnOk result (self.new ≡ with_message self.old message.now) }
         ensures whole { OnOk result (IsWhole message.now) }
         ensures readable { OnOk result (AllByRecursion IsReadable (records_of message.now)) }
@@ -135,7 +136,8 @@ impl Capture {
         if self.messages >= MESSAGE_LIMIT {
             return Err(CaptureError::Limit);
         }
-        let drafts = message_rrsets(self.alloc, self.messages + 1, message)?;
+        let sections = Sections::of(self.alloc, message)?;
+        let drafts = message_rrsets(self.alloc, self.messages + 1, &sections)?;
         if !are_small(self.alloc, drafts.as_slice())? {
             return Err(CaptureError::Limit);
         }
@@ -189,7 +191,7 @@ impl Capture {
 }
 
 /// Whether the message is a response that wasn't cut to fit.
-fn check_whole(message: &Message) -> Result<(), CaptureError>
+fn check_whole(message: &Message<'_>) -> Result<(), CaptureError>
     ensures ok { OnOk result (IsWhole message.now) }
     ensures refused { (held : Evidence) → IfErr result (IsReasonAgainst held message.now) }
 {

@@ -3,9 +3,10 @@ ghost use Rattle.std.specs.Prelude.{◌≡◌, ◌++◌, ◌+◌, IfOk, OnOk, ma
 ghost use Rattle.dnsv_message.specs.declared.record.Section.{Section};
 
 use crate::by_rrset::{distinct_rdata, take_rdata};
+use crate::expanded::{Expanded, Sections};
 use crate::section::{is_grouped, rdata_by_rrset, signatures_by_rrset};
-use dnsv_message::{Message, Record, Section};
-use dnsv_names::{Name, RecordType};
+use dnsv_message::{NameRef, Section};
+use dnsv_names::RecordType;
 use std::alloc::{AllocError, Global};
 use std::marker::Model;
 
@@ -21,7 +22,7 @@ pub struct Draft<'a> {
     /// The section that its records stand in.
     pub section: Section,
     /// The owner as its first record spells it.
-    pub owner: &'a Name,
+    pub owner: &'a NameRef<'a>,
     rtype: RecordType,
     rdata: Vec<&'a [u8]>,
     signatures: Vec<&'a [u8]>,
@@ -67,36 +68,26 @@ impl<'a> Draft<'a> {
     }
 }
 
-ghost use Rattle.dnsv_canonical.specs.Rrsets.{message_rrsets, rrsets_in};
+ghost use Rattle.dnsv_canonical.specs.Rrsets.{rrsets_in};
 
-/// The RRsets of the message, which has this number.
+/// The RRsets of the message with these sections, which has this number.
 pub fn message_rrsets<'a>(
     alloc: Global,
     number: usize,
-    message: &'a Message,
+    sections: &'a Sections<'_>,
 ) -> Result<Vec<Draft<'a>>, AllocError>
-    ensures { IfOk result (λ rrsets. rrsets.items ≡ message_rrsets number message.now) }
+    ensures { IfOk result (λ rrsets. rrsets.items ≡ rrsets_in number Section.Answer sections.now.answer.items
+        ++ rrsets_in number Section.Authority sections.now.authority.items
+        ++ rrsets_in number Section.Additional sections.now.additional.items) }
 {
     let mut rrsets = Vec::new(alloc);
-    add_message(alloc, &mut rrsets, number, message)?;
+    let answer = sections.answer.as_slice();
+    let authority = sections.authority.as_slice();
+    let additional = sections.additional.as_slice();
+    add_section(alloc, &mut rrsets, number, Section::Answer, answer)?;
+    add_section(alloc, &mut rrsets, number, Section::Authority, authority)?;
+    add_section(alloc, &mut rrsets, number, Section::Additional, additional)?;
     Ok(rrsets)
-}
-
-/// Adds the RRsets of the message, which has this number.
-fn add_message<'a>(
-    alloc: Global,
-    rrsets: &mut Vec<Draft<'a>>,
-    number: usize,
-    message: &'a Message,
-) -> Result<(), AllocError>
-    ensures { OnOk result (rrsets.new.items ≡ rrsets.old.items ++ message_rrsets number message.now) }
-{
-    let answer = message.records(Section::Answer);
-    let authority = message.records(Section::Authority);
-    let additional = message.records(Section::Additional);
-    add_section(alloc, rrsets, number, Section::Answer, answer)?;
-    add_section(alloc, rrsets, number, Section::Authority, authority)?;
-    add_section(alloc, rrsets, number, Section::Additional, additional)
 }
 
 /// Adds the RRsets of a section.
@@ -105,7 +96,7 @@ fn add_section<'a>(
     rrsets: &mut Vec<Draft<'a>>,
     message: usize,
     section: Section,
-    records: &'a [Record],
+    records: &'a [Expanded<'_>],
 ) -> Result<(), AllocError>
     ensures { OnOk result (rrsets.new.items ≡ rrsets.old.items ++ rrsets_in message section records.now) }
 {

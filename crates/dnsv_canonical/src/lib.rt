@@ -17,6 +17,7 @@ mod by_rrset;
 mod canonical;
 mod capture;
 mod draft;
+mod expanded;
 mod form;
 mod laws;
 mod limits;

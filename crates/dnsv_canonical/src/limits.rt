@@ -29,7 +29,7 @@ pub const SIGNATURE_LIMIT: usize = 16;
 pub const PARAMETERS_LIMIT: usize = 8;
 
 /// So many records and those of the message, or `None` above the limit.
-pub fn records_with(records: usize, message: &Message) -> Option<usize>
+pub fn records_with(records: usize, message: &Message<'_>) -> Option<usize>
     ensures { MatchOption result (4096 < records + length (records_of message.now))
         (λ total. (total ≡ records + length (records_of message.now)) × (total ≤ 4096)) }
 {

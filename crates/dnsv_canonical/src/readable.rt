@@ -14,7 +14,7 @@ use std::alloc::{AllocError, Global};
 
 /// Whether all of the message's DNSSEC records of class IN can be read: else `BadRdata` tells the first that can't,
 /// by its number through the three sections, from 1 on.
-pub fn check_rdata(alloc: Global, message: &Message) -> Result<(), CaptureError>
+pub fn check_rdata(alloc: Global, message: &Message<'_>) -> Result<(), CaptureError>
     ensures ok { OnOk result (AllByRecursion IsReadable (records_of message.now)) }
     ensures refused { (held : Evidence) → IsWhole message.now → IfErr result (IsReasonAgainst held message.now) }
 {
@@ -27,7 +27,7 @@ pub fn check_rdata(alloc: Global, message: &Message) -> Result<(), CaptureError>
 }
 
 /// Whether the records of a section can be read, before which so many stand.
-fn check_section(alloc: Global, earlier: usize, records: &[Record]) -> Result<(), CaptureError>
+fn check_section(alloc: Global, earlier: usize, records: &[Record<'_>]) -> Result<(), CaptureError>
     requires { earlier + length records.now < u64.MAX }
     ensures ok { OnOk result (AllByRecursion IsReadable records.now) }
     ensures refused { IfErr result (IsBadAfter earlier records.now) }
@@ -39,7 +39,7 @@ fn check_section(alloc: Global, earlier: usize, records: &[Record]) -> Result<()
 }
 
 /// Which of the records is the first that can't be read, from 1 on.
-fn first_bad(alloc: Global, records: &[Record]) -> Result<Option<usize>, AllocError>
+fn first_bad(alloc: Global, records: &[Record<'_>]) -> Result<Option<usize>, AllocError>
     ensures { IfOk result (λ found. MatchOption found (AllByRecursion IsReadable records.now)
         (IsFirstBad records.now)) }
 {
@@ -52,13 +52,14 @@ fn first_bad(alloc: Global, records: &[Record]) -> Result<Option<usize>, AllocEr
 }
 
 /// Whether the candidate's RDATA can be read.
-fn is_readable(alloc: Global, candidate: &Record) -> Result<bool, AllocError>
+fn is_readable(alloc: Global, candidate: &Record<'_>) -> Result<bool, AllocError>
     ensures { IfOk result (λ answer. IsTrue answer ↔ IsReadable candidate.now) }
 {
     if candidate.class != Class::IN {
         return Ok(true);
     }
-    is_laid_out(alloc, candidate.rtype, candidate.rdata.octets())
+    let rdata = candidate.rdata.octets(alloc)?;
+    is_laid_out(alloc, candidate.rtype, rdata.as_slice())
 }
 
 /// Whether the RDATA is laid out as the type says.

@@ -76,7 +76,7 @@ impl Rrset {
         Ok(Rrset {
             message: draft.message,
             section: draft.section,
-            owner: draft.owner.clone()?,
+            owner: draft.owner.to_name(),
             rtype: draft.rtype(),
             rdata: copies(alloc, draft.rdata())?,
             records: read_records(alloc, draft.rtype(), draft.rdata())?,

@@ -7,7 +7,8 @@ ghost use Rattle.dnsv_canonical.specs.ByRrset.{rdata_at};
 ghost use Rattle.dnsv_canonical.specs.Rrsets.{forms_rrsets, is_grouped, IsQuestion, same_rrset, is_signature};
 
 use crate::by_rrset::{RdataByRrset, add};
-use dnsv_message::{Class, Record};
+use crate::expanded::Expanded;
+use dnsv_message::Class;
 use dnsv_names::{Name, RecordType};
 use std::alloc::{AllocError, Global};
 use std::collections::BTreeMap;
@@ -38,21 +39,21 @@ pub fn is_question(name: &Name, rtype: RecordType) -> bool
 }
 
 /// Whether the candidate belongs to an RRset: it is of class IN, and of a type that forms them.
-pub fn is_grouped(candidate: &Record) -> bool
+pub fn is_grouped(candidate: &Expanded<'_>) -> bool
     ensures { result ≡ is_grouped candidate.now }
 {
     candidate.class == Class::IN && forms_rrsets(candidate.rtype)
 }
 
 /// The type that the candidate covers if it is an IN RRSIG: the first two octets of its RDATA.
-fn covered_type(candidate: &Record) -> Option<RecordType>
+fn covered_type(candidate: &Expanded<'_>) -> Option<RecordType>
     ensures { (owner : Labels) (rtype : ℕ) → rtype < 2 ^ 16 → is_signature owner rtype candidate.now
         ≡ (option_map_or (λ covered. rtype == covered.0) result false && same_name candidate.now.name owner) }
 {
     if candidate.rtype != RecordType::RRSIG || candidate.class != Class::IN {
         return None;
     }
-    let [high, low, ..] = candidate.rdata.octets() else {
+    let [high, low, ..] = candidate.rdata() else {
         return None;
     };
     Some(RecordType(u16::from_be_bytes([*high, *low])))
@@ -61,7 +62,7 @@ fn covered_type(candidate: &Record) -> Option<RecordType>
 /// The RDATA of the records by the RRset that they belong to, as received.
 pub fn rdata_by_rrset<'a>(
     alloc: Global,
-    records: &'a [Record],
+    records: &'a [Expanded<'_>],
 ) -> Result<RdataByRrset<'a>, AllocError>
     ensures { IfOk result (λ by_rrset. (first : Record) → rdata_at by_rrset first.rtype.0 first.name
         ≡ map (λ r. r.rdata) (filter (same_rrset first) (filter is_grouped records.now))) }
@@ -69,7 +70,7 @@ pub fn rdata_by_rrset<'a>(
     let mut by_rrset = BTreeMap::new(alloc);
     for record in records {
         if is_grouped(record) {
-            let rdata = record.rdata.octets();
+            let rdata = record.rdata();
             add(alloc, &mut by_rrset, record.rtype, &record.name, rdata)?;
         }
     }
@@ -79,7 +80,7 @@ pub fn rdata_by_rrset<'a>(
 /// The RDATA of the IN RRSIG records by the RRset that they cover, in order.
 pub fn signatures_by_rrset<'a>(
     alloc: Global,
-    records: &'a [Record],
+    records: &'a [Expanded<'_>],
 ) -> Result<RdataByRrset<'a>, AllocError>
     ensures { IfOk result (λ by_rrset. (owner : Labels) (rtype : ℕ) → rtype < 2 ^ 16
         → rdata_at by_rrset rtype owner ≡ map (λ r. r.rdata) (filter (is_signature owner rtype) records.now)) }
@@ -87,7 +88,7 @@ pub fn signatures_by_rrset<'a>(
     let mut by_rrset = BTreeMap::new(alloc);
     for record in records {
         if let Some(covered) = covered_type(record) {
-            let rdata = record.rdata.octets();
+            let rdata = record.rdata();
             add(alloc, &mut by_rrset, covered, &record.name, rdata)?;
         }
     }

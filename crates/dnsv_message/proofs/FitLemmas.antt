@@ -33,7 +33,7 @@ each-behind P (x ∷ xs) ys all = each-behind P xs ys all.1
 
 -- ---- octets
 
-wire_octets : (labels : Labels) → AllByRecursion IsLabel labels → AreOctets (wire labels)
+pub wire_octets : (labels : Labels) → AllByRecursion IsLabel labels → AreOctets (wire labels)
 wire_octets [] each = (omega arith, tt)
 wire_octets (label ∷ labels) each =
     (omega (arith, each.0.at_most_63), each-append (λ octet. octet < 256) label (wire labels) each.0.octets (wire_octets labels each.1))

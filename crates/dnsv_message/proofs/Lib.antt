@@ -8,5 +8,6 @@ pub mod TailLemmas
 pub mod RecordParts
 pub mod FitLemmas
 pub mod EncodingLemmas
+pub mod FollowLemmas
 pub mod MemoryLemmas
 pub mod FrameLemmas

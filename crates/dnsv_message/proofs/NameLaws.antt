@@ -10,23 +10,23 @@ use Rattle.dnsv_message.proofs.Numbers.{number_sum}
 use Rattle.dnsv_message.proofs.NameLaws.NameWalk.{part_within, wire_not_empty}
 
 module _ (octets : List ℕ) where
-  octet_of_number : (place n : ℕ) → NumberAt octets place 1 n → get_or octets place 0 ≡ n
+  pub octet_of_number : (place n : ℕ) → NumberAt octets place 1 n → get_or octets place 0 ≡ n
   octet_of_number place n at = omega (arith, number_sum octets place 1 n at)
 
-  octet_of_label : (place : ℕ) (first : List ℕ) → LabelAt octets place first → get_or octets place 0 ≡ length first
+  pub octet_of_label : (place : ℕ) (first : List ℕ) → LabelAt octets place first → get_or octets place 0 ≡ length first
   octet_of_label place first at =
       ap (λ n. get_or octets n 0) (sym (add-zero place)) ∙ sym (get_or-drop place octets 0 0)
       ∙ sym (get_or-take (suc (length first)) (drop place octets) 0 0 (omega arith)) ∙ ap (λ xs. get_or xs 0 0) at.1
 
-  label_within : (place : ℕ) (first : List ℕ) → LabelAt octets place first → place + (1 + length first) ≤ length octets
+  pub label_within : (place : ℕ) (first : List ℕ) → LabelAt octets place first → place + (1 + length first) ≤ length octets
   label_within place first at = omega (arith, part_within octets place (length first ∷ first) (omega arith) at.1)
 
-  label_same : (place : ℕ) (first other : List ℕ) → LabelAt octets place first → LabelAt octets place other → first ≡ other
+  pub label_same : (place : ℕ) (first other : List ℕ) → LabelAt octets place first → LabelAt octets place other → first ≡ other
   label_same place first other at also =
       let size : length first ≡ length other = sym (octet_of_label place first at) ∙ octet_of_label place other also in
       ap (drop 1) (sym at.1 ∙ ap (λ n. take (suc n) (drop place octets)) size ∙ also.1)
 
-  target_same : (place target other : ℕ) → PointerAt octets place target → PointerAt octets place other → target ≡ other
+  pub target_same : (place target other : ℕ) → PointerAt octets place target → PointerAt octets place other → target ≡ other
   target_same place target other at also = omega (arith, at.1.1, also.1.1)
 
   -- the cases of a name, by what stands at its place
@@ -37,13 +37,13 @@ module _ (octets : List ℕ) where
     leads : (target left behind : ℕ) → PointerAt octets place target → target < run → pointers ≡ suc left → end ≡ place + 2
         → NameAt octets target target left labels behind → Cases place run pointers labels end
 
-  cases : (place run pointers : ℕ) (labels : Labels) (end : ℕ) → NameAt octets place run pointers labels end → Cases place run pointers labels end
+  pub cases : (place run pointers : ℕ) (labels : Labels) (end : ℕ) → NameAt octets place run pointers labels end → Cases place run pointers labels end
   cases place run pointers labels end (root at) = ends at refl refl
   cases place run pointers labels end (label {first = first} {labels = rest} at more) = goes_on first rest at refl more
   cases place run pointers labels end (pointer {pointers = left} {target = target} {end = behind} at back more) = leads target left behind at back refl refl more
 
   module _ (fit : (i : ℕ) → get_or octets i 0 < 256) where
-    octet_of_pointer : (place target : ℕ) → PointerAt octets place target → 192 ≤ get_or octets place 0
+    pub octet_of_pointer : (place target : ℕ) → PointerAt octets place target → 192 ≤ get_or octets place 0
     octet_of_pointer place target at = omega (arith, number_sum octets place 2 _ at.1, fit place, fit (suc place))
 
     pub NameAt_same : (place run pointers : ℕ) (labels others : Labels) (end other : ℕ) → NameAt octets place run pointers labels end → NameAt octets place run pointers others other → (labels ≡ others) × (end ≡ other)

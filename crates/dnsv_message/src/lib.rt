@@ -7,8 +7,11 @@ pub use laws::{
     one_fault, one_message, one_tail, the_encoding_is_the_message,
 };
 pub use message::Message;
+pub use name_ref::by_wire::NameRefByWire;
+pub use name_ref::{NameRef, name_ref_at};
 pub use number::{Class, Flags};
-pub use record::{Question, Rdata, Record, Section};
+pub use rdata_ref::{RdataOctets, RdataRef, rdata_ref_at};
+pub use record::{Question, Record, Section};
 pub use streams::capture::{one_answer, one_reading, read_capture};
 pub use streams::counted::Counted;
 pub use streams::file::read_all;
@@ -16,11 +19,14 @@ pub use streams::framer::{Framer, any_cutting};
 
 mod encode;
 mod errors;
+mod following;
 mod laws;
 mod message;
 mod name_at;
+mod name_ref;
 mod number;
 mod rdata;
+mod rdata_ref;
 mod record;
 #[cfg(test)]
 mod samples;

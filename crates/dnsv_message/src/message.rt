@@ -5,25 +5,26 @@ use crate::encode::{push_questions, push_records};
 use crate::errors::DecodeError;
 use crate::number::Flags;
 use crate::record::{Question, Record, Section};
-use crate::section::{questions_at, records_at};
+use crate::section::{Records, questions_at, records_at};
 use dnsv_names::u16_at;
 use std::alloc::{AllocError, Global};
 use std::marker::Model;
 
 /// A message (RFC 1035 4.1).
 ///
-/// Its records are numbered from 1 through the three sections.
+/// Its records are numbered from 1 through the three sections. It borrows the octets that it was read from, and its
+/// names and RDATA are found there each time.
 #[derive(Debug, Drop)]
-pub struct Message {
+pub struct Message<'b> {
     id: u16,
     flags: Flags,
-    questions: Vec<Question>,
-    answer: Vec<Record>,
-    authority: Vec<Record>,
-    additional: Vec<Record>,
+    questions: Vec<Question<'b>>,
+    answer: Vec<Record<'b>>,
+    authority: Vec<Record<'b>>,
+    additional: Vec<Record<'b>>,
 }
 
-impl Model for Message {
+impl<'b> Model for Message<'b> {
     ghost use Rattle.dnsv_message.specs.Message.{Contents};
     ghost use Rattle.dnsv_message.specs.Grammar.{IsMessage};
 
@@ -52,7 +53,7 @@ impl Model for Message {
 /// How many octets the header has.
 const HEADER_LENGTH: usize = 12;
 
-impl Message {
+impl<'b> Message<'b> {
     ghost use Rattle.dnsv_message.specs.Message.{Contents, section_of};
     ghost use Rattle.dnsv_message.specs.Grammar.{IsMessage, MessageOf, FaultOf};
     ghost use Rattle.dnsv_message.specs.Tail.{IsTailOf};
@@ -68,7 +69,7 @@ impl Message {
     /// Of class IN, RDATA of A, NS, CNAME, SOA, PTR, MX, AAAA, SRV, DNAME, RRSIG and NSEC is laid out;
     /// all other RDATA is octets as they are. Names in it may be compressed but for those of DNAME,
     /// RRSIG and NSEC (RFC 3597 4, RFC 6672 2.5, RFC 4034 3.1.7 and 4.1.1).
-    pub fn decode(alloc: Global, octets: &[u8]) -> Result<Message, DecodeError>
+    pub fn decode(alloc: Global, octets: &'b [u8]) -> Result<Message<'b>, DecodeError>
         // What is found stands in the octets.
         ensures found { IfOk result (MessageOf octets.now) }
         // Whatever message the octets are is found, unless memory was refused.
@@ -85,8 +86,8 @@ impl Message {
     /// counted from 0. That is `None` where the message has no records.
     pub fn decode_with_tail(
         alloc: Global,
-        octets: &[u8],
-    ) -> Result<(Message, Option<usize>), DecodeError>
+        octets: &'b [u8],
+    ) -> Result<(Message<'b>, Option<usize>), DecodeError>
         ensures found { IfOk result (λ found. MessageOf octets.now found.0) }
         ensures tail { IfOk result (λ found. IsTailOf octets.now found.0 found.1) }
         ensures every { (message : Contents) → MessageOf octets.now message
@@ -96,7 +97,7 @@ impl Message {
         Message::read(alloc, octets)
     }
 
-    fn read(alloc: Global, octets: &[u8]) -> Result<(Message, Option<usize>), DecodeError>
+    fn read(alloc: Global, octets: &'b [u8]) -> Result<(Message<'b>, Option<usize>), DecodeError>
         ensures found { IfOk result (λ found. MessageOf octets.now found.0) }
         ensures tail { IfOk result (λ found. IsTailOf octets.now found.0 found.1) }
         ensures fault { IfErr result (λ error. (error ≡ DecodeError.OutOfMemory) ⊎ FaultOf octets.now error) }
@@ -109,22 +110,34 @@ impl Message {
         let authority_count = u16_at(octets, 8) as usize;
         let additional_count = u16_at(octets, 10) as usize;
         let (questions, place) = questions_at(alloc, octets, HEADER_LENGTH, question_count)?;
-        let answer = records_at(alloc, octets, place, answer_count, 1)?;
+        let Records {
+            records: answer,
+            tail: answer_tail,
+            end: after_answer,
+        } = records_at(alloc, octets, place, answer_count, 1)?;
         let number = 1 + answer_count;
-        let authority = records_at(alloc, octets, answer.end, authority_count, number)?;
+        let Records {
+            records: authority,
+            tail: authority_tail,
+            end: after_authority,
+        } = records_at(alloc, octets, after_answer, authority_count, number)?;
         let number = number + authority_count;
-        let additional = records_at(alloc, octets, authority.end, additional_count, number)?;
-        if additional.end < octets.len() {
+        let Records {
+            records: additional,
+            tail: additional_tail,
+            end: after_additional,
+        } = records_at(alloc, octets, after_authority, additional_count, number)?;
+        if after_additional < octets.len() {
             return Err(DecodeError::TrailingBytes);
         }
-        let tail = additional.tail.or(authority.tail).or(answer.tail);
+        let tail = additional_tail.or(authority_tail).or(answer_tail);
         let message = Message {
             id: u16_at(octets, 0),
             flags: Flags(u16_at(octets, 2)),
             questions,
-            answer: answer.records,
-            authority: authority.records,
-            additional: additional.records,
+            answer,
+            authority,
+            additional,
         };
         Ok((message, tail))
     }
@@ -151,14 +164,14 @@ impl Message {
     }
 
     /// The questions, in order.
-    pub fn questions(&self) -> &[Question]
+    pub fn questions(&self) -> &[Question<'b>]
         ensures { result.now ≡ self.now.questions }
     {
         &self.questions
     }
 
     /// The records of one section, in order.
-    pub fn records(&self, section: Section) -> &[Record]
+    pub fn records(&self, section: Section) -> &[Record<'b>]
         ensures { result.now ≡ section_of self.now section }
     {
         match section {
@@ -183,9 +196,9 @@ impl Message {
     {
         let mut octets = self.header(alloc)?;
         push_questions(&mut octets, &self.questions)?;
-        push_records(&mut octets, &self.answer)?;
-        push_records(&mut octets, &self.authority)?;
-        push_records(&mut octets, &self.additional)?;
+        push_records(alloc, &mut octets, &self.answer)?;
+        push_records(alloc, &mut octets, &self.authority)?;
+        push_records(alloc, &mut octets, &self.additional)?;
         Ok(octets)
     }
 

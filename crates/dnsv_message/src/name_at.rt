@@ -1,5 +1,6 @@
 //! Names in a message, with compression (RFC 1035 4.1.4).
 ghost use Rattle.std.specs.Prelude.{◌≡◌, ◌+◌, ◌<◌, ◌≤◌, ℕ, List, length, IfOk, IfErr};
+ghost use Rattle.dnsv_names.specs.Name.{Labels, wire};
 ghost use Rattle.dnsv_message.specs.NameAt.{NameFrom, NameFaultFrom, NumberAt, FaultHere};
 ghost use Rattle.dnsv_message.specs.Steps.{StepAt};
 
@@ -11,7 +12,7 @@ use dnsv_names::{LABEL_LIMIT, Name, WIRE_LIMIT, u16_at};
 const POINTER_LIMIT: usize = 32;
 
 /// The top bits of a pointer, as the number of its two octets has them.
-const POINTER_BITS: usize = 0xc000;
+pub const POINTER_BITS: usize = 0xc000;
 
 /// How the spelling of a name goes on at a place.
 #[derive(Clone, Copy)]
@@ -72,6 +73,38 @@ pub fn name_at(octets: &[u8], place: usize) -> Result<(Name, usize), NameFault>
     wire.push(0);
     let (name, _) = Name::read(&wire).unwrap();
     Ok((name, end.unwrap_or(walk.place + 1)))
+}
+
+/// How many octets the wire form of the name at a place has, and at which place what follows it stands.
+pub fn name_end(octets: &[u8], place: usize) -> Result<(u8, usize), NameFault>
+    ensures found { IfOk result (λ found. (labels : Labels) × NameFrom octets.now place labels found.1
+        × (found.0 ≡ length (wire labels))) }
+    ensures within { IfOk result (λ found. found.1 ≤ length octets.now) }
+    ensures fault { IfErr result (NameFaultFrom octets.now place) }
+{
+    let mut size = 0;
+    let mut walk = Walk {
+        place,
+        run: place,
+        pointers: POINTER_LIMIT,
+    };
+    let mut after = None;
+    'steps: loop {
+        match step_at(octets, walk, size)? {
+            Step::Root => break,
+            Step::Label(length) => {
+                size += 1 + length;
+                walk.place += 1 + length;
+            }
+            Step::Pointer(target) => {
+                after = after.or(Some(walk.place + 2));
+                walk.place = target;
+                walk.run = target;
+                walk.pointers -= 1;
+            }
+        }
+    }
+    Ok(((size + 1) as u8, after.unwrap_or(walk.place + 1)))
 }
 
 /// How the name goes on, of which `size` octets are written out already.

@@ -6,7 +6,6 @@ ghost use Rattle.dnsv_message.specs.Grammar.{RdataNameAt, RdataAt};
 
 use crate::name_at::name_at;
 use crate::number::Class;
-use crate::record::Rdata;
 use dnsv_names::{Name, RecordType};
 use std::alloc::{AllocError, Global};
 
@@ -87,11 +86,11 @@ pub fn rdata_at(
     start: usize,
     size: usize,
     layout: Layout,
-) -> Result<Option<Rdata>, AllocError>
+) -> Result<Option<Vec<u8>>, AllocError>
     requires { start + size ≤ length octets.now }
     ensures { IfOk result (λ found. MatchOption found
         ((rdata : List ℕ) → RdataAt octets.now layout start size rdata → ⊥)
-        (RdataAt octets.now layout start size)) }
+        (λ rdata. RdataAt octets.now layout start size rdata.items)) }
 {
     if size < layout.head {
         return Ok(None);
@@ -111,7 +110,7 @@ pub fn rdata_at(
         return Ok(None);
     }
     written.extend_from_slice(&octets[place..limit])?;
-    Ok(Some(Rdata::new(written)))
+    Ok(Some(written))
 }
 
 /// Reads a name within an RDATA that ends at `limit`, and says where what follows it stands.

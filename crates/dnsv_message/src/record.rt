@@ -1,9 +1,8 @@
 //! What the sections of a message hold.
-ghost use Rattle.std.specs.Prelude.{◌≡◌, ℕ, List};
-
+use crate::name_ref::NameRef;
 use crate::number::Class;
-use dnsv_names::{Name, RecordType, Ttl};
-use std::marker::Model;
+use crate::rdata_ref::RdataRef;
+use dnsv_names::{RecordType, Ttl};
 
 /// The sections of records, in the order of a message (RFC 1035 4.1).
 #[derive(Clone, Copy, Debug, PartialEq, Eq, PartialOrd, Ord, Hash)]
@@ -15,47 +14,19 @@ pub enum Section {
 
 /// What a message asks (RFC 1035 4.1.2).
 #[derive(Debug, Drop)]
-pub struct Question {
-    pub name: Name,
+pub struct Question<'b> {
+    pub name: NameRef<'b>,
     pub rtype: RecordType,
     pub class: Class,
 }
 
 /// A resource record (RFC 1035 4.1.3).
 #[derive(Debug, Drop)]
-pub struct Record {
-    pub name: Name,
+pub struct Record<'b> {
+    pub name: NameRef<'b>,
     pub rtype: RecordType,
     pub class: Class,
     pub ttl: Ttl,
     /// The octets of the RDATA, with every name written out uncompressed as it is spelled.
-    pub rdata: Rdata,
-}
-
-/// The octets of a record's RDATA.
-#[derive(Debug, Drop)]
-pub struct Rdata {
-    octets: Vec<u8>,
-}
-
-impl Model for Rdata {
-    ghost Value = { List ℕ };
-
-    ghost view = { λ rdata. rdata.octets.items };
-}
-
-impl Rdata {
-    /// The RDATA with these octets.
-    pub fn new(octets: Vec<u8>) -> Rdata
-        ensures { result ≡ octets.items }
-    {
-        Rdata { octets }
-    }
-
-    /// The octets.
-    pub fn octets(&self) -> &[u8]
-        ensures { result.now ≡ self.now }
-    {
-        &self.octets
-    }
+    pub rdata: RdataRef<'b>,
 }

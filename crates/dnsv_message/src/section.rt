@@ -4,9 +4,9 @@ ghost use Rattle.dnsv_message.specs.Grammar.{QuestionAt, QuestionFaultAt, Record
 ghost use Rattle.dnsv_message.specs.Tail.{LastAt};
 
 use crate::errors::DecodeError;
-use crate::name_at::name_at;
+use crate::name_ref::name_ref_at;
 use crate::number::Class;
-use crate::rdata::{Layout, rdata_at};
+use crate::rdata_ref::rdata_ref_at;
 use crate::record::{Question, Record};
 use dnsv_names::{RecordType, Ttl, u16_at, u32_at};
 use std::alloc::Global;
@@ -19,8 +19,8 @@ const RECORD_TAIL: usize = 10;
 
 /// Records that stand one after another in a message.
 #[derive(Drop)]
-pub struct Records {
-    pub records: Vec<Record>,
+pub struct Records<'b> {
+    pub records: Vec<Record<'b>>,
     /// The place where the last of them begins, if there is one.
     pub tail: Option<usize>,
     /// The place of what follows them.
@@ -28,12 +28,12 @@ pub struct Records {
 }
 
 /// Reads this many questions from a place on, and says where what follows them stands.
-pub fn questions_at(
+pub fn questions_at<'b>(
     alloc: Global,
-    octets: &[u8],
+    octets: &'b [u8],
     place: usize,
     count: usize,
-) -> Result<(Vec<Question>, usize), DecodeError>
+) -> Result<(Vec<Question<'b>>, usize), DecodeError>
     ensures found { IfOk result (λ found. InOrder (QuestionAt octets.now) place found.0.items found.1) }
     ensures count { IfOk result (λ found. length found.0.items ≡ count) }
     ensures within { place ≤ length octets.now → IfOk result (λ found. found.1 ≤ length octets.now) }
@@ -51,13 +51,13 @@ pub fn questions_at(
 }
 
 /// Reads this many records from a place on, the first of which has this number.
-pub fn records_at(
+pub fn records_at<'b>(
     alloc: Global,
-    octets: &[u8],
+    octets: &'b [u8],
     place: usize,
     count: usize,
     first: usize,
-) -> Result<Records, DecodeError>
+) -> Result<Records<'b>, DecodeError>
     requires { first + count < 2 ^ 64 }
     ensures found { IfOk result (λ found. InOrder (RecordAt octets.now) place found.records.items found.end) }
     ensures tail { IfOk result (λ found. LastAt (RecordAt octets.now) place found.records.items found.end found.tail) }
@@ -70,7 +70,7 @@ pub fn records_at(
     let mut tail = None;
     let mut end = place;
     for read in 0..count {
-        let (record, next) = record_at(alloc, octets, end, first + read)?;
+        let (record, next) = record_at(octets, end, first + read)?;
         records.push(record)?;
         tail = Some(end);
         end = next;
@@ -78,11 +78,11 @@ pub fn records_at(
     Ok(Records { records, tail, end })
 }
 
-fn question_at(octets: &[u8], place: usize) -> Result<(Question, usize), DecodeError>
+fn question_at<'b>(octets: &'b [u8], place: usize) -> Result<(Question<'b>, usize), DecodeError>
     ensures found { IfOk result (λ found. QuestionAt octets.now place found.0 found.1) }
     ensures fault { IfErr result (QuestionFaultAt octets.now 1 place) }
 {
-    let (name, after_name) = name_at(octets, place)?;
+    let (name, after_name) = name_ref_at(octets, place)?;
     if octets.len() - after_name < QUESTION_TAIL {
         return Err(DecodeError::Short);
     }
@@ -94,30 +94,27 @@ fn question_at(octets: &[u8], place: usize) -> Result<(Question, usize), DecodeE
     Ok((question, after_name + QUESTION_TAIL))
 }
 
-fn record_at(
-    alloc: Global,
-    octets: &[u8],
+fn record_at<'b>(
+    octets: &'b [u8],
     place: usize,
     number: usize,
-) -> Result<(Record, usize), DecodeError>
+) -> Result<(Record<'b>, usize), DecodeError>
     ensures found { IfOk result (λ found. RecordAt octets.now place found.0 found.1) }
-    ensures fault { IfErr result (λ error. (error ≡ DecodeError.OutOfMemory)
-        ⊎ RecordFaultAt octets.now number place error) }
+    ensures fault { IfErr result (RecordFaultAt octets.now number place) }
 {
-    let (name, after_name) = name_at(octets, place)?;
+    let (name, after_name) = name_ref_at(octets, place)?;
     if octets.len() - after_name < RECORD_TAIL {
         return Err(DecodeError::Short);
     }
     let rtype = RecordType(u16_at(octets, after_name));
     let class = Class(u16_at(octets, after_name + 2));
     let ttl = Ttl(u32_at(octets, after_name + 4));
-    let size = u16_at(octets, after_name + 8) as usize;
+    let size = u16_at(octets, after_name + 8);
     let start = after_name + RECORD_TAIL;
-    if octets.len() - start < size {
+    if octets.len() - start < size as usize {
         return Err(DecodeError::Short);
     }
-    let layout = Layout::of(rtype, class);
-    let Some(rdata) = rdata_at(alloc, octets, start, size, layout)? else {
+    let Some(rdata) = rdata_ref_at(octets, start, size, rtype, class) else {
         return Err(DecodeError::BadRdata(number));
     };
     let record = Record {
@@ -127,5 +124,5 @@ fn record_at(
         ttl,
         rdata,
     };
-    Ok((record, start + size))
+    Ok((record, start + size as usize))
 }

@@ -32,6 +32,7 @@ pub use tree::tree_laws::{
     rightmost_labels_are_ancestors, the_next_closer_name_is_below_the_closest_encloser,
     wildcards_stand_right_below,
 };
+pub use wire::lower::lower_order;
 
 mod circle;
 mod count;

@@ -32,7 +32,8 @@ impl Refusal {
 
 /// The capture that the argument writes, or the text of the refusal of a message.
 pub fn capture_or_refusal(row: &Row, place: usize) -> Result<Result<Capture, String>, RowError> {
-    match capture_of(row.alloc(), messages(row, place)?.as_slice()) {
+    let frames = frames(row, place)?;
+    match capture_of(row.alloc(), messages(row.alloc(), &frames)?.as_slice()) {
         Ok(capture) => Ok(Ok(capture)),
         Err(refusal) => Ok(Err(refusal.text(row.alloc())?)),
     }
@@ -40,14 +41,15 @@ pub fn capture_or_refusal(row: &Row, place: usize) -> Result<Result<Capture, Str
 
 /// The capture that the argument writes, of which no message is refused.
 pub fn capture(row: &Row, place: usize) -> Result<Capture, RowError> {
-    match capture_of(row.alloc(), messages(row, place)?.as_slice()) {
+    let frames = frames(row, place)?;
+    match capture_of(row.alloc(), messages(row.alloc(), &frames)?.as_slice()) {
         Ok(capture) => Ok(capture),
         Err(_) => Err(RowError::Malformed),
     }
 }
 
 /// The capture of the messages, or the first that is refused.
-pub fn capture_of(alloc: Global, messages: &[Message]) -> Result<Capture, Refusal> {
+pub fn capture_of(alloc: Global, messages: &[Message<'_>]) -> Result<Capture, Refusal> {
     let mut capture = Capture::new(alloc);
     for (place, message) in messages.iter().enumerate() {
         if let Err(error) = capture.add(message) {
@@ -58,11 +60,11 @@ pub fn capture_of(alloc: Global, messages: &[Message]) -> Result<Capture, Refusa
     Ok(capture)
 }
 
-/// The messages that the argument writes.
-pub fn messages(row: &Row, place: usize) -> Result<Vec<Message>, RowError> {
-    let mut messages = Vec::new(row.alloc());
-    for octets in &frames(row, place)? {
-        messages.push(message_of(row.alloc(), octets.as_slice())?)?;
+/// The messages that these octets are.
+pub fn messages(alloc: Global, frames: &[Vec<u8>]) -> Result<Vec<Message<'_>>, RowError> {
+    let mut messages = Vec::new(alloc);
+    for octets in frames {
+        messages.push(message_of(alloc, octets.as_slice())?)?;
     }
     Ok(messages)
 }
@@ -91,7 +93,7 @@ pub fn signature<'a>(row: &Row, place: usize, rrset: &'a Rrset) -> Result<&'a Rr
     }
 }
 
-fn message_of(alloc: Global, octets: &[u8]) -> Result<Message, RowError> {
+fn message_of(alloc: Global, octets: &[u8]) -> Result<Message<'_>, RowError> {
     match Message::decode(alloc, octets) {
         Ok(message) => Ok(message),
         Err(_) => Err(RowError::Malformed),
@@ -99,7 +101,7 @@ fn message_of(alloc: Global, octets: &[u8]) -> Result<Message, RowError> {
 }
 
 /// The octets of the messages that the argument writes.
-fn frames(row: &Row, place: usize) -> Result<Vec<Vec<u8>>, RowError> {
+pub fn frames(row: &Row, place: usize) -> Result<Vec<Vec<u8>>, RowError> {
     let octets = row.octets(place)?;
     let mut frames = Vec::new(row.alloc());
     let mut framer = Framer::new(row.alloc());

@@ -27,7 +27,8 @@ pub fn answer(row: &Row) -> Result<Option<String>, RowError> {
 /// message.
 fn decode(row: &Row) -> Result<String, RowError> {
     let alloc = row.alloc();
-    match Message::decode_with_tail(alloc, &row.octets(0)?) {
+    let octets = row.octets(0)?;
+    match Message::decode_with_tail(alloc, &octets) {
         Ok((message, tail)) => {
             let place = place_of(alloc, tail)?;
             let octets = hex::encode(alloc, message.encode(alloc)?)?;
@@ -40,7 +41,8 @@ fn decode(row: &Row) -> Result<String, RowError> {
 /// `written OCTETS WRITTEN`: the same, but whether the octets that are written are these.
 fn written(row: &Row) -> Result<String, RowError> {
     let alloc = row.alloc();
-    match Message::decode_with_tail(alloc, &row.octets(0)?) {
+    let octets = row.octets(0)?;
+    match Message::decode_with_tail(alloc, &octets) {
         Ok((message, tail)) => {
             let place = place_of(alloc, tail)?;
             let is_so = message.encode(alloc)? == row.octets(1)?;
@@ -68,13 +70,14 @@ fn refused(alloc: Global, error: &DecodeError) -> Result<String, RowError> {
 /// `contents OCTETS`: the message's identifier and flags, `response` and `truncated` where it is so, and then each
 /// question and record: where it stands, its name, type, class, TTL and RDATA.
 fn contents(row: &Row) -> Result<String, RowError> {
-    match Message::decode(row.alloc(), &row.octets(0)?) {
+    let octets = row.octets(0)?;
+    match Message::decode(row.alloc(), &octets) {
         Ok(message) => Ok(contents_of(row.alloc(), &message)?),
         Err(error) => refused(row.alloc(), &error),
     }
 }
 
-fn contents_of(alloc: Global, message: &Message) -> Result<String, AllocError> {
+fn contents_of(alloc: Global, message: &Message<'_>) -> Result<String, AllocError> {
     let (id, flags) = (message.id(), message.flags());
     let mut text = format!(in alloc; "{id} {}", flags.0)?;
     if flags.is_response() {
@@ -85,7 +88,11 @@ fn contents_of(alloc: Global, message: &Message) -> Result<String, AllocError> {
     }
     for question in message.questions() {
         let (rtype, class) = (question.rtype.0, question.class.0);
-        write!(text, " question {} {rtype} {class}", question.name)?;
+        write!(
+            text,
+            " question {} {rtype} {class}",
+            question.name.to_name()
+        )?;
     }
     push_records(&mut text, "answer", message.records(Section::Answer))?;
     push_records(&mut text, "authority", message.records(Section::Authority))?;
@@ -97,11 +104,18 @@ fn contents_of(alloc: Global, message: &Message) -> Result<String, AllocError> {
     Ok(text)
 }
 
-fn push_records(text: &mut String, section: &str, records: &[Record]) -> Result<(), AllocError> {
+fn push_records(
+    text: &mut String,
+    section: &str,
+    records: &[Record<'_>],
+) -> Result<(), AllocError> {
     for each in records {
         let (rtype, class, ttl) = (each.rtype.0, each.class.0, each.ttl.0);
-        write!(text, " {section} {} {rtype} {class} {ttl}", each.name)?;
-        let rdata = hex::encode(*text.allocator(), each.rdata.octets())?;
+        let name = each.name.to_name();
+        write!(text, " {section} {name} {rtype} {class} {ttl}")?;
+        let alloc = *text.allocator();
+        let octets = each.rdata.octets(alloc)?;
+        let rdata = hex::encode(alloc, octets.as_slice())?;
         write!(text, " {rdata}")?;
     }
     Ok(())

@@ -1,6 +1,7 @@
 //! Calls of `dnsv_tsig`.
 
 use crate::row::{Row, RowError, printed};
+use bumpalo::Bump;
 use dnsv_message::DecodeError;
 use dnsv_names::Name;
 use dnsv_tsig::{KeyFileError, KeyRing, Opened, TsigError, open};
@@ -27,7 +28,8 @@ pub fn answer(row: &Row) -> Result<Option<String>, RowError> {
 /// last is the MAC of the request, or `-`.
 fn open_message(row: &Row) -> Result<String, RowError> {
     let alloc = row.alloc();
-    match answer_to(row)? {
+    let bump = Bump::new(alloc);
+    match answer_to(row, &bump)? {
         Ok(opened) => {
             let octets = hex::encode(alloc, opened.message())?;
             Ok(format!(in alloc; "{} {octets}", opened.key())?)
@@ -39,7 +41,8 @@ fn open_message(row: &Row) -> Result<String, RowError> {
 /// `opened MESSAGE KEYS NOW MAC INSIDE`: the same, but whether the octets of the message inside are these.
 fn opened(row: &Row) -> Result<String, RowError> {
     let inside = row.octets(4)?;
-    match answer_to(row)? {
+    let bump = Bump::new(row.alloc());
+    match answer_to(row, &bump)? {
         Ok(opened) => {
             let is_so = opened.message() == inside.as_slice();
             Ok(format!(in row.alloc(); "{} {is_so}", opened.key())?)
@@ -49,7 +52,7 @@ fn opened(row: &Row) -> Result<String, RowError> {
 }
 
 /// What `open` answers to the row's message.
-fn answer_to(row: &Row) -> Result<Result<Opened, TsigError>, RowError> {
+fn answer_to<'b>(row: &Row, bump: &'b Bump) -> Result<Result<Opened<'b>, TsigError>, RowError> {
     let octets = row.octets(0)?;
     let Ok(keys) = KeyRing::parse(row.alloc(), &row.octets(1)?) else {
         return Err(RowError::Malformed);
@@ -57,10 +60,10 @@ fn answer_to(row: &Row) -> Result<Result<Opened, TsigError>, RowError> {
     let now = row.number(2)?;
     let request_mac = row.octets(3)?;
     if request_mac.is_empty() {
-        return Ok(open(row.alloc(), &octets, &keys, now, None));
+        return Ok(open(row.alloc(), &octets, &keys, now, None, bump));
     }
     let mac = mac_of(&request_mac)?;
-    Ok(open(row.alloc(), &octets, &keys, now, Some(&mac)))
+    Ok(open(row.alloc(), &octets, &keys, now, Some(&mac), bump))
 }
 
 fn mac_of(octets: &[u8]) -> Result<[u8; 32], RowError> {

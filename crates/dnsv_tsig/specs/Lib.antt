@@ -7,3 +7,4 @@ pub mod KeyReading
 pub mod Mac
 pub mod Opened
 pub mod Tsig
+pub mod Signed

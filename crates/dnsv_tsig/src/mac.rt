@@ -24,7 +24,7 @@ pub fn right_mac(
     request_mac: Option<&[u8; MAC_LENGTH]>,
     octets: &[u8],
     place: usize,
-    signature: &Signature,
+    signature: &Signature<'_>,
 ) -> [u8; MAC_LENGTH]
     requires header { 12 ≤ place }
     requires within { place ≤ length octets.now }
@@ -33,7 +33,7 @@ pub fn right_mac(
 {
     let tsig = &signature.tsig;
     let request = request_part(request_mac);
-    let owner = signature.owner.to_lower();
+    let owner = signature.owner.to_name().to_lower();
     let algorithm = tsig.algorithm.to_lower();
     hmac_sha256(
         secret,

@@ -3,13 +3,15 @@ ghost use Rattle.std.specs.Prelude.{◌≡◌, ◌↔◌, ◌⊎◌, ◌++◌, �
 ghost use Rattle.dnsv_names.specs.Name.{Labels};
 ghost use Rattle.dnsv_message.specs.Message.{records_of};
 ghost use Rattle.dnsv_tsig.specs.Answer.{LacksTsig, Signs, IsSigned, failed_test, is_in_time};
+ghost use Rattle.dnsv_tsig.specs.Signed.{IsLastRdata};
 ghost use Rattle.dnsv_tsig.specs.Tsig.{TsigFields};
 
 use crate::error::TsigError;
 use crate::mac::begins_mac;
 use crate::tsig::Tsig;
-use dnsv_message::{Class, Message, Record, Section};
-use dnsv_names::{Name, RecordType, Ttl};
+use dnsv_message::{Class, Message, NameRef, RdataOctets, Record, Section};
+use dnsv_names::{RecordType, Ttl};
+use std::alloc::{AllocError, Global};
 
 /// The type of the records that sign messages (RFC 8945 4.2).
 const TSIG: RecordType = RecordType(250);
@@ -27,14 +29,18 @@ const LEAST_MAC_LENGTH: usize = 16;
 #[derive(Drop)]
 pub struct Signature<'a> {
     /// The record's owner, which names the key.
-    pub owner: &'a Name,
+    pub owner: &'a NameRef<'a>,
     pub tsig: Tsig<'a>,
 }
 
 impl<'a> Signature<'a> {
-    /// The one TSIG record of a message. `NoTsig` where it has none, and `Form` where it has several, or the one
-    /// isn't formed as it has to be.
-    pub fn of(message: &'a Message) -> Result<Signature<'a>, TsigError>
+    /// The one TSIG record of a message, whose RDATA is that of the last record. `NoTsig` where it has none, and `Form`
+    /// where it has several, or the one isn't formed as it has to be.
+    pub fn of(
+        message: &'a Message<'_>,
+        rdata: &'a RdataOctets<'_>,
+    ) -> Result<Signature<'a>, TsigError>
+        requires { IsLastRdata message.now.additional rdata.now }
         ensures found { IfOk result (λ signature. IsSigned message.now signature.owner.now signature.tsig) }
         ensures lacking { IfErr result (λ error.
             ((error ≡ TsigError.NoTsig) × LacksTsig (records_of message.now))
@@ -53,7 +59,7 @@ impl<'a> Signature<'a> {
         if !lack_tsig(answer, authority, others) {
             return Err(TsigError::Form);
         }
-        let Some(tsig) = signed_by(last) else {
+        let Some(tsig) = signed_by(last, rdata.as_slice()) else {
             return Err(TsigError::Form);
         };
         Ok(Signature {
@@ -92,8 +98,18 @@ fn is_in_time(now: u64, time_signed: u64, fudge: u16) -> bool
     now.abs_diff(time_signed) <= u64::from(fudge)
 }
 
+/// The RDATA of the last record of a message's additional section, or none where that has no records.
+pub fn last_rdata<'b>(alloc: Global, message: &Message<'b>) -> Result<RdataOctets<'b>, AllocError>
+    ensures { IfOk result (IsLastRdata message.now.additional) }
+{
+    match message.records(Section::Additional).last() {
+        Some(last) => last.rdata.octets(alloc),
+        None => Ok(RdataOctets::none()),
+    }
+}
+
 /// Whether no record of the three lists is a TSIG record.
-fn lack_tsig(answer: &[Record], authority: &[Record], additional: &[Record]) -> bool
+fn lack_tsig(answer: &[Record<'_>], authority: &[Record<'_>], additional: &[Record<'_>]) -> bool
     ensures { IsTrue result ↔ LacksTsig (answer.now ++ authority.now ++ additional.now) }
 {
     if !lacks_tsig(answer) {
@@ -106,14 +122,15 @@ fn lack_tsig(answer: &[Record], authority: &[Record], additional: &[Record]) -> 
 }
 
 /// Whether none of the records is a TSIG record.
-fn lacks_tsig(records: &[Record]) -> bool
+fn lacks_tsig(records: &[Record<'_>]) -> bool
     ensures { IsTrue result ↔ LacksTsig records.now }
 {
     records.iter().all(|each| each.rtype != TSIG)
 }
 
-/// What the record says, where it is a TSIG record that is formed as it has to be.
-fn signed_by(resource: &Record) -> Option<Tsig<'_>>
+/// What the record with this RDATA says, where it is a TSIG record that is formed as it has to be.
+fn signed_by<'a>(resource: &Record<'_>, rdata: &'a [u8]) -> Option<Tsig<'a>>
+    requires { rdata.now ≡ resource.now.rdata }
     ensures { MatchOption result
         ((tsig : TsigFields) → Signs resource.now tsig → ⊥)
         (λ tsig. Signs resource.now tsig) }
@@ -121,7 +138,7 @@ fn signed_by(resource: &Record) -> Option<Tsig<'_>>
     if resource.rtype != TSIG || resource.class != ANY || resource.ttl != Ttl(0) {
         return None;
     }
-    let Some(tsig) = Tsig::read(resource.rdata.octets()) else {
+    let Some(tsig) = Tsig::read(rdata) else {
         return None;
     };
     if tsig.mac.len() < LEAST_MAC_LENGTH {

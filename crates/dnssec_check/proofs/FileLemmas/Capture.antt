@@ -2,9 +2,9 @@
 use Rattle.std.proofs.Common.{◌≡◌, ℕ, suc, ◌+◌, ◌<◌, ◌≤◌, List, [], ◌∷◌, ◌++◌, length, get_or, take, drop, refl, sym, ap, subst, ◌∙◌, inl, inr, arith}
 use Rattle.std.proofs.lemmas.List.{drop_more, take_all, take_more, length-map, length-take-le, get_or-map}
 use Rattle.std.specs.List.{fold}
-use Rattle.std.specs.Prelude.{Vec, Result, Err}
-use Rattle.std.specs.declared.alloc.Global.{Global}
-use Rattle.dnsv_message.specs.Streams.Frames.{octets_of_each}
+use Rattle.std.specs.Prelude.{Result, Err}
+use Rattle.std.specs.Borrow.{Bor}
+use Rattle.dnsv_message.specs.Streams.Frames.{octets_at_each}
 use Rattle.dnsv_message.specs.Message.{Contents}
 use Rattle.dnsv_canonical.specs.declared.capture.CaptureError.{CaptureError}
 use Rattle.dnsv_canonical.specs.declared.capture.CaptureError.TheVariants as capture
@@ -148,8 +148,8 @@ pub EvidenceSoFar-all : (opening : Opening) (frames : List (List ℕ)) (done : �
 EvidenceSoFar-all opening frames done held all gathered = (gathered.messages, MessagesSoFar-all NewEvidence opening frames done gathered.messages all gathered.judged, gathered.same)
 
 -- the octets of the frame at a place
-pub frame_here : (frames : List (Vec ℕ Global)) (i : ℕ) (frame : Vec ℕ Global) (octets : List ℕ) → i < length frames → frame ≡ get_or frames i frame → octets ≡ frame.items → (i < length (octets_of_each frames)) × (get_or (octets_of_each frames) i [] ≡ octets)
-frame_here frames i frame octets within is same = (
-  omega (arith, within, length-map frames (λ (v : Vec ℕ Global). v.items)),
-  get_or-map (λ (v : Vec ℕ Global). v.items) frames i frame [] within ∙ ap (λ (v : Vec ℕ Global). v.items) (sym is) ∙ sym same,
+pub frame_here : (frames : List (Bor (List ℕ))) (i : ℕ) (frame : Bor (List ℕ)) → i < length frames → frame ≡ get_or frames i frame → (i < length (octets_at_each frames)) × (get_or (octets_at_each frames) i [] ≡ frame.now)
+frame_here frames i frame within is = (
+  omega (arith, within, length-map frames (λ (v : Bor (List ℕ)). v.now)),
+  get_or-map (λ (v : Bor (List ℕ)). v.now) frames i frame [] within ∙ ap (λ (v : Bor (List ℕ)). v.now) (sym is),
 )

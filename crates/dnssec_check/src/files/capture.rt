@@ -4,7 +4,7 @@ ghost use Rattle.std.specs.Option.{option_copied};
 ghost use Rattle.dnsv_message.specs.Streams.Counted.{inner_of, failures_of};
 ghost use Rattle.dnsv_message.specs.Errors.{decode_error_code};
 ghost use Rattle.dnsv_message.specs.ReadError.{read_error_code};
-ghost use Rattle.dnsv_message.specs.Streams.Frames.{IsCapture, octets_of_each};
+ghost use Rattle.dnsv_message.specs.Streams.Frames.{IsCapture, octets_at_each};
 ghost use Rattle.dnsv_message.specs.Grammar.{MessageOf};
 ghost use Rattle.dnsv_message.specs.Message.{Contents};
 ghost use Rattle.dnsv_canonical.specs.CaptureError.{capture_error_code};
@@ -25,27 +25,32 @@ ghost use Rattle.dnssec_check.specs.declared.status.Refusal.{Refusal};
 
 use crate::opening::{Opening, request_mac_of};
 use crate::status::{Fault, InputFile, Place, Refusal};
+use bumpalo::Bump;
 use dnsv_canonical::{Capture, CaptureError};
 use dnsv_message::{Counted, DecodeError, Message, ReadError, read_capture};
 use dnsv_tsig::{KeyRing, Opened, TsigError, open};
 use std::alloc::Global;
 use std::io::Read;
 
-/// The messages of the file, whatever they are.
+/// The messages of the file, whatever they are, whose octets are placed in the arena.
 ///
 /// The fault is the first in the order of the work: reading the file, its framing, and then each message in
 /// turn.
-pub fn messages_in<R: Read>(alloc: Global, capture: &mut Counted<R>) -> Result<Vec<Message>, Fault>
+pub fn messages_in<'b, R: Read>(
+    alloc: Global,
+    capture: &mut Counted<R>,
+    bump: &'b Bump,
+) -> Result<Vec<Message<'b>>, Fault>
     ensures messages { IfOk result (λ messages. IfSome (R.remaining (inner_of capture.old)) (λ file.
         Holds AnyMessage Plain file messages.items)) }
     ensures faults { TellsFileFaults InputFile.Capture (IsFaultOfCapture AnyMessage Plain)
         (R.remaining (inner_of capture.old)) (failures_of capture.old) (failures_of capture.new) result }
 {
-    let frames = frames(alloc, capture)?;
-    messages_of_frames(alloc, &frames)
+    let frames = frames(alloc, capture, bump)?;
+    messages_of_frames(alloc, &frames, bump)
 }
 
-/// The evidence of the file's messages, whose frames are opened so.
+/// The evidence of the file's messages, whose frames are opened so, and whose octets are placed in the arena.
 ///
 /// The fault is the first in the order of the work: reading the file, its framing, the number of the MACs of requests,
 /// and then each frame in turn, which is opened and read and then added to those before it.
@@ -53,25 +58,30 @@ pub fn evidence_in<R: Read>(
     alloc: Global,
     opening: &Opening,
     capture: &mut Counted<R>,
+    bump: &Bump,
 ) -> Result<Capture, Fault>
     ensures evidence { IfOk result (λ held. IfSome (R.remaining (inner_of capture.old)) (λ file.
         (messages : List Contents) × Holds NewEvidence opening.now file messages × (held ≡ evidence_of messages))) }
     ensures faults { TellsFileFaults InputFile.Capture (IsFaultOfCapture NewEvidence opening.now)
         (R.remaining (inner_of capture.old)) (failures_of capture.old) (failures_of capture.new) result }
 {
-    let frames = frames(alloc, capture)?;
-    evidence_of_frames(alloc, opening, &frames)
+    let frames = frames(alloc, capture, bump)?;
+    evidence_of_frames(alloc, opening, &frames, bump)
 }
 
 /// The octets of each frame of the file.
-fn frames<R: Read>(alloc: Global, capture: &mut Counted<R>) -> Result<Vec<Vec<u8>>, Fault>
+fn frames<'b, R: Read>(
+    alloc: Global,
+    capture: &mut Counted<R>,
+    bump: &'b Bump,
+) -> Result<Vec<&'b [u8]>, Fault>
     ensures frames { IfOk result (λ frames. IfSome (R.remaining (inner_of capture.old)) (λ file.
-        IsCapture file (octets_of_each frames.items))) }
+        IsCapture file (octets_at_each frames.items))) }
     ensures faults { (demand : Demand) (opening : Opening)
         → TellsFileFaults InputFile.Capture (IsFaultOfCapture demand opening)
         (R.remaining (inner_of capture.old)) (failures_of capture.old) (failures_of capture.new) result }
 {
-    match read_capture(alloc, capture) {
+    match read_capture(alloc, capture, bump) {
         Ok(frames) => Ok(frames),
         Err(error) => Err(capture_read_fault(error)),
     }
@@ -92,15 +102,20 @@ fn capture_read_fault(error: ReadError) -> Fault
 }
 
 /// The messages of the frames; the fault is that of the first that is none.
-fn messages_of_frames(alloc: Global, frames: &[Vec<u8>]) -> Result<Vec<Message>, Fault>
+fn messages_of_frames<'b>(
+    alloc: Global,
+    frames: &[&'b [u8]],
+    bump: &'b Bump,
+) -> Result<Vec<Message<'b>>, Fault>
     ensures taken { IfOk result (λ messages.
-        AllTaken AnyMessage Plain no_evidence 1 (octets_of_each frames.now) messages.items) }
+        AllTaken AnyMessage Plain no_evidence 1 (octets_at_each frames.now) messages.items) }
     ensures refused { IfErr result
-        (IsFaultOf (FirstRefused AnyMessage Plain no_evidence 1 (octets_of_each frames.now))) }
+        (IsFaultOf (FirstRefused AnyMessage Plain no_evidence 1 (octets_at_each frames.now))) }
 {
     let mut messages = Vec::new(alloc);
     for (index, frame) in frames.iter().enumerate() {
-        messages.push(message_of(alloc, &Opening::Plain, frame, index + 1)?)?;
+        let message = message_of(alloc, &Opening::Plain, frame, index + 1, bump)?;
+        messages.push(message)?;
     }
     Ok(messages)
 }
@@ -110,32 +125,38 @@ fn messages_of_frames(alloc: Global, frames: &[Vec<u8>]) -> Result<Vec<Message>,
 fn evidence_of_frames(
     alloc: Global,
     opening: &Opening,
-    frames: &[Vec<u8>],
+    frames: &[&[u8]],
+    bump: &Bump,
 ) -> Result<Capture, Fault>
-    ensures counted { OnOk result (HasItsMacs opening.now (octets_of_each frames.now)) }
+    ensures counted { OnOk result (HasItsMacs opening.now (octets_at_each frames.now)) }
     ensures taken { IfOk result (λ held. (messages : List Contents)
-        × AllTaken NewEvidence opening.now no_evidence 1 (octets_of_each frames.now) messages
+        × AllTaken NewEvidence opening.now no_evidence 1 (octets_at_each frames.now) messages
         × (held ≡ evidence_of messages)) }
     ensures refused { IfErr result
-        (IsFaultOf (AreFramesRefused NewEvidence opening.now (octets_of_each frames.now))) }
+        (IsFaultOf (AreFramesRefused NewEvidence opening.now (octets_at_each frames.now))) }
 {
     if !opening.has_its_macs(frames) {
         return Err(Fault::Refused(Refusal::MacCount, Place::NOWHERE));
     }
-    gathered(alloc, opening, frames)
+    gathered(alloc, opening, frames, bump)
 }
 
 /// The evidence of the frames' messages; the fault is that of the first frame whose message isn't taken.
-fn gathered(alloc: Global, opening: &Opening, frames: &[Vec<u8>]) -> Result<Capture, Fault>
+fn gathered(
+    alloc: Global,
+    opening: &Opening,
+    frames: &[&[u8]],
+    bump: &Bump,
+) -> Result<Capture, Fault>
     ensures taken { IfOk result (λ held. (messages : List Contents)
-        × AllTaken NewEvidence opening.now no_evidence 1 (octets_of_each frames.now) messages
+        × AllTaken NewEvidence opening.now no_evidence 1 (octets_at_each frames.now) messages
         × (held ≡ evidence_of messages)) }
     ensures refused { IfErr result
-        (IsFaultOf (FirstRefused NewEvidence opening.now no_evidence 1 (octets_of_each frames.now))) }
+        (IsFaultOf (FirstRefused NewEvidence opening.now no_evidence 1 (octets_at_each frames.now))) }
 {
     let mut held = Capture::new(alloc);
     for (index, frame) in frames.iter().enumerate() {
-        add_frame(alloc, opening, &mut held, frame, index + 1)?;
+        add_frame(alloc, opening, &mut held, frame, index + 1, bump)?;
     }
     Ok(held)
 }
@@ -147,13 +168,14 @@ fn add_frame(
     held: &mut Capture,
     frame: &[u8],
     number: usize,
+    bump: &Bump,
 ) -> Result<(), Fault>
     ensures taken { OnOk result ((message : Contents)
         × (IsInFrame opening.now number frame.now message × Meets NewEvidence held.old message)
         × (held.new ≡ with_message held.old message)) }
     ensures refused { IfErr result (IsFaultOf (IsRefusedAt NewEvidence opening.now held.old frame.now number)) }
 {
-    let message = message_of(alloc, opening, frame, number)?;
+    let message = message_of(alloc, opening, frame, number, bump)?;
     match held.add(&message) {
         Ok(()) => Ok(()),
         Err(error) => Err(capture_fault(error, number)),
@@ -161,12 +183,13 @@ fn add_frame(
 }
 
 /// The message of the frame with this number.
-fn message_of(
+fn message_of<'b>(
     alloc: Global,
     opening: &Opening,
-    frame: &[u8],
+    frame: &'b [u8],
     number: usize,
-) -> Result<Message, Fault>
+    bump: &'b Bump,
+) -> Result<Message<'b>, Fault>
     ensures found { IfOk result (IsInFrame opening.now number frame.now) }
     ensures refused { IfErr result (IsFaultOf (IsNoMessageAt opening.now frame.now number)) }
 {
@@ -174,34 +197,36 @@ fn message_of(
         Opening::Plain => decoded(alloc, frame, number),
         Opening::Signed { keys, moment, macs } => {
             let request_mac = request_mac_of(macs, number);
-            let opened = opened(alloc, keys, moment.seconds(), request_mac, frame, number)?;
+            let now = moment.seconds();
+            let opened = opened(alloc, keys, now, request_mac, frame, number, bump)?;
             decoded(alloc, opened.message(), number)
         }
     }
 }
 
 /// What is inside of the frame with this number.
-fn opened(
+fn opened<'b>(
     alloc: Global,
     keys: &KeyRing,
     now: u64,
     request_mac: Option<&[u8; 32]>,
     frame: &[u8],
     number: usize,
-) -> Result<Opened, Fault>
+    bump: &'b Bump,
+) -> Result<Opened<'b>, Fault>
     ensures opened { IfOk result (λ opened.
         tsig_answer_of frame.now keys.now now (option_copied request_mac.entry) (Ok opened)) }
     ensures refused { IfErr result
         (IsFaultOf (IsUnopenedAt keys.now now (option_copied request_mac.entry) frame.now number)) }
 {
-    match open(alloc, frame, keys, now, request_mac) {
+    match open(alloc, frame, keys, now, request_mac, bump) {
         Ok(opened) => Ok(opened),
         Err(error) => Err(tsig_fault(error, number)),
     }
 }
 
 /// The message with this number.
-fn decoded(alloc: Global, octets: &[u8], number: usize) -> Result<Message, Fault>
+fn decoded<'b>(alloc: Global, octets: &'b [u8], number: usize) -> Result<Message<'b>, Fault>
     ensures found { IfOk result (MessageOf octets.now) }
     ensures refused { IfErr result (IsFaultOf (IsUnreadableAt octets.now number)) }
 {

@@ -4,12 +4,12 @@ ghost use Rattle.dnssec_check.specs.Texts.Showing.{texts_from, message_line, que
 ghost use Rattle.dnssec_check.specs.Texts.Showing.{message_text, about_text};
 
 use crate::texts::hex_text::hex_text;
-use dnsv_message::{Class, Message, Question, Record, Section};
-use dnsv_names::{Name, RecordType};
+use dnsv_message::{Class, Message, NameRef, Question, Record, Section};
+use dnsv_names::RecordType;
 use std::alloc::{AllocError, Global};
 
 /// The lines of each message, which are numbered from 1.
-pub fn showing(alloc: Global, messages: &[Message]) -> Result<String, AllocError>
+pub fn showing(alloc: Global, messages: &[Message<'_>]) -> Result<String, AllocError>
     ensures { IfOk result (λ text. string_bytes text ≡ texts_from message_text 1 messages.now) }
 {
     let mut text = String::new(alloc);
@@ -25,7 +25,7 @@ fn push_message(
     alloc: Global,
     text: &mut String,
     number: usize,
-    message: &Message,
+    message: &Message<'_>,
 ) -> Result<(), AllocError>
     ensures { OnOk result (string_bytes text.new ≡ string_bytes text.old ++ message_text number message.now) }
 {
@@ -45,7 +45,7 @@ fn push_header(
     alloc: Global,
     text: &mut String,
     number: usize,
-    message: &Message,
+    message: &Message<'_>,
 ) -> Result<(), AllocError>
     ensures { OnOk result (string_bytes text.new ≡ string_bytes text.old ++ message_line number message.now) }
 {
@@ -61,7 +61,7 @@ fn push_header(
 }
 
 /// Adds a line for each question.
-fn push_questions(text: &mut String, questions: &[Question]) -> Result<(), AllocError>
+fn push_questions(text: &mut String, questions: &[Question<'_>]) -> Result<(), AllocError>
     ensures { OnOk result (string_bytes text.new ≡ string_bytes text.old ++ flat_map question_line questions.now) }
 {
     for question in questions {
@@ -71,7 +71,7 @@ fn push_questions(text: &mut String, questions: &[Question]) -> Result<(), Alloc
 }
 
 /// Adds the line of a question.
-fn push_question(text: &mut String, question: &Question) -> Result<(), AllocError>
+fn push_question(text: &mut String, question: &Question<'_>) -> Result<(), AllocError>
     ensures { OnOk result (string_bytes text.new ≡ string_bytes text.old ++ question_line question.now) }
 {
     write!(text, "question ")?;
@@ -83,12 +83,13 @@ fn push_question(text: &mut String, question: &Question) -> Result<(), AllocErro
 /// Adds what a question or a record is about: a name as it is spelled, a type and a class.
 fn push_about(
     text: &mut String,
-    name: &Name,
+    name: &NameRef<'_>,
     rtype: RecordType,
     class: Class,
 ) -> Result<(), AllocError>
     ensures { OnOk result (string_bytes text.new ≡ string_bytes text.old ++ about_text name.now rtype.0 class.0) }
 {
+    let name = name.to_name();
     let rtype = rtype.0;
     let class = class.0;
     write!(text, "{name} {rtype} {class}")?;
@@ -100,7 +101,7 @@ fn push_records(
     alloc: Global,
     text: &mut String,
     before: usize,
-    records: &[Record],
+    records: &[Record<'_>],
 ) -> Result<(), AllocError>
     requires { before + length records.now < u64.MAX }
     ensures { OnOk result (string_bytes text.new
@@ -117,12 +118,13 @@ fn push_record(
     alloc: Global,
     text: &mut String,
     number: usize,
-    resource: &Record,
+    resource: &Record<'_>,
 ) -> Result<(), AllocError>
     ensures { OnOk result (string_bytes text.new ≡ string_bytes text.old ++ record_line number resource.now) }
 {
     let ttl = resource.ttl.0;
-    let rdata = hex_text(alloc, resource.rdata.octets())?;
+    let octets = resource.rdata.octets(alloc)?;
+    let rdata = hex_text(alloc, octets.as_slice())?;
     write!(text, "record {number} ")?;
     push_about(text, &resource.name, resource.rtype, resource.class)?;
     writeln!(text, " {ttl} {rdata}")?;

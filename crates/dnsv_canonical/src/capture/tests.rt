@@ -12,7 +12,7 @@ const EACH: &[u8] = b"\x00\x01\x84\x00\x00\x00\x00\x05\x00\x00\x00\x00\
 \x07\x07\x07\x07\x07\x07\x07\x07\x07\x07\x07\x07\x07\x07\x07\x07\x07\x07\x07\x07";
 
 /// Whether the message has four RRsets, each with one record of its type, and one signature of the first.
-fn are_read(alloc: Global, message: &Message) -> Result<bool, Fail> {
+fn are_read(alloc: Global, message: &Message<'_>) -> Result<bool, Fail> {
     let mut capture = Capture::new(alloc);
     capture.add(message)?;
     let [keys, digests, nsecs, nsec3s] = capture.rrsets() else {

@@ -46,6 +46,14 @@ kept_once left a b (inl x) (inr y) = absurd (x.0 y.0)
 kept_once left a b (inr x) (inl y) = absurd (y.0 x.0)
 kept_once left a b (inr x) (inr y) = x.1 ∙ sym y.1
 
+-- what is added to no messages is added to others
+pub Feeds-onto : (rest piece : List ℕ) (old new : List (List ℕ)) (kept : List ℕ) (others : List (List ℕ)) → old ≡ [] → Feeds rest piece old new kept
+    → (all : List (List ℕ)) × Feeds rest piece others all kept
+Feeds-onto rest piece old new kept others none feeds = (
+  others ++ feeds.gains.messages,
+  record { left = feeds.left; gains = record { messages = feeds.gains.messages; gained = refl; frames = feeds.gains.frames }; keeps = feeds.keeps },
+)
+
 -- a piece has one outcome
 pub one_feeding : (rest piece : List ℕ) (old a b : List (List ℕ)) (r s : List ℕ) → Feeds rest piece old a r → Feeds rest piece old b s → (a ≡ b) × (r ≡ s)
 one_feeding rest piece old a b r s x y =

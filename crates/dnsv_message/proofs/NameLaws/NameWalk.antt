@@ -93,6 +93,25 @@ pub Walked-by_pointer : {octets : List ℕ} {start : ℕ} {written : List ℕ} {
 Walked-by_pointer {octets} {start} {written} {end} walk size target after walked at ended =
     rw (ended, end_kept end (walk.place + 2)) (Walked-pointer walked target (walk.pointers - 1) (omega (arith, at.2)) at.0 at.1)
 
+-- the same, where the written octets are counted alone
+pub Walked-sized : {octets : List ℕ} {start : ℕ} {written : List ℕ} {end : Option ℕ} (walk : Walk) (size n : ℕ)
+    → Walked octets start walk.place walk.run walk.pointers written end → StepAt octets walk size (Label n) → size ≡ length written
+    → (now : List ℕ) × (size + (1 + n) ≡ length now) × Walked octets start (walk.place + (1 + n)) walk.run walk.pointers now end
+Walked-sized {octets} {start} {written} {end} walk size n walked at sized =
+    let part = take (walk.place + (1 + n) - walk.place) (drop walk.place octets) in
+    let many : length part ≡ 1 + n = omega (arith, (label_part octets walk size n at).0, length-take (walk.place + (1 + n) - walk.place) (drop walk.place octets), length-drop walk.place octets) in
+    (written ++ part, omega (arith, sized, many, length-append written part), Walked-by_label walk size n (written ++ part) walked at sized refl)
+
+-- at the root the name is known, and how many octets it has
+pub sized_name : {octets : List ℕ} {start : ℕ} {written : List ℕ} {end : Option ℕ} (walk : Walk) (size after : ℕ)
+    → Walked octets start walk.place walk.run walk.pointers written end → StepAt octets walk size Root → size ≡ length written → after ≡ unwrap_or end (walk.place + 1)
+    → (name : Labels) × NameFrom octets start name after × (size + 1 ≡ length (wire name))
+sized_name {written = written} walk size after walked at sized is = (
+  walked.front,
+  rw is (Walked-root walked at, (Walked-IsName walked).at_most_255),
+  omega (arith, sized, ap length (Walked-written walked), length-append {A = ℕ} written (0 ∷ [])),
+)
+
 -- what reading the octets that are written gives
 pub name_found : {octets : List ℕ} {start : ℕ} {written : List ℕ} {end : Option ℕ} (walk : Walk) (size : ℕ)
     → Walked octets start walk.place walk.run walk.pointers written end → StepAt octets walk size Root

@@ -4,10 +4,15 @@ use Rattle.std.specs.Prelude.{◌≡◌, ◌≢◌, ℕ, ◌/◌, ◌%◌, ◌<�
 use Rattle.std.specs.List.{AllByRecursion}
 use Rattle.std.specs.Io.KnownBytes.{Consumes}
 use Rattle.std.specs.declared.alloc.Global.{Global}
+use Rattle.std.specs.Borrow.{Bor}
 
 -- the octets of each message
 abbrev pub octets_of_each : List (Vec ℕ Global) → List (List ℕ)
 octets_of_each messages = map (λ message. message.items) messages
+
+-- and where they are borrowed
+abbrev pub octets_at_each : List (Bor (List ℕ)) → List (List ℕ)
+octets_at_each messages = map (λ message. message.now) messages
 
 -- a message behind its length
 abbrev pub frame : List ℕ → List ℕ

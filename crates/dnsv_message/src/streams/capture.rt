@@ -1,9 +1,10 @@
 //! Captured messages, as a stream of frames gives them.
-ghost use Rattle.std.specs.Prelude.{◌≡◌, ◌⊎◌, List, ℕ, IfOk, IfSome, IsErrOf};
+ghost use Rattle.std.specs.Prelude.{◌≡◌, ◌⊎◌, ◌++◌, List, ℕ, None, IfOk, IfErr, IfSome, IsErrOf, OnOk};
 ghost use Rattle.std.specs.List.{AllByRecursion};
 ghost use Rattle.dnsv_names.specs.Octets.{AreOctets};
 ghost use Rattle.dnsv_message.specs.Streams.Counted.{failures_of, inner_of};
-ghost use Rattle.dnsv_message.specs.Streams.Frames.{EndsTorn, Frames, HasNoFault, HasZeroLength, IsCapture, IsTooLong, octets_of_each};
+ghost use Rattle.dnsv_message.specs.Streams.Frames.{EndsTorn, Frames, HasNoFault, HasZeroLength, IsCapture, IsTooLong, IsZero, octets_at_each, octets_of_each};
+ghost use Rattle.dnsv_message.specs.Streams.Framer.{Feeds, IsPieceError};
 ghost use Rattle.dnsv_message.specs.Streams.{ReadsStream};
 
 use crate::FILE_LIMIT;
@@ -11,23 +12,25 @@ use crate::errors::ReadError;
 use crate::streams::counted::Counted;
 use crate::streams::file::{PIECE_LIMIT, read_piece};
 use crate::streams::framer::Framer;
-use std::alloc::Global;
+use bumpalo::Bump;
+use std::alloc::{AllocError, Global};
 use std::io::Read;
 
 /// All messages of a stream, each behind its length in two octets, the high octet first
-/// (RFC 1035 4.2.2).
+/// (RFC 1035 4.2.2). Each message is placed in the arena once.
 ///
 /// The octets alone decide the answer, in whatever pieces they come. The first fault that is met is
 /// answered, and nothing is read after it: a reader that fails is [`ReadError::Read`], an octet past
 /// [`FILE_LIMIT`] [`ReadError::TooLong`], a length 0 [`ReadError::ZeroLength`], and an end within a
 /// frame [`ReadError::TornFrame`].
-pub fn read_capture<R: Read>(
+pub fn read_capture<'b, R: Read>(
     alloc: Global,
     reader: &mut Counted<R>,
-) -> Result<Vec<Vec<u8>>, ReadError>
+    bump: &'b Bump,
+) -> Result<Vec<&'b [u8]>, ReadError>
     // What the octets decide, where they are known.
     ensures messages { IfOk result (λ messages. IfSome (R.remaining (inner_of reader.old))
-        (λ octets. IsCapture octets (octets_of_each messages.items))) }
+        (λ octets. IsCapture octets (octets_at_each messages.items))) }
     ensures too_long { IsErrOf result ReadError.TooLong → IfSome (R.remaining (inner_of reader.old)) IsTooLong }
     ensures zero_length { IsErrOf result ReadError.ZeroLength →
         IfSome (R.remaining (inner_of reader.old)) HasZeroLength }
@@ -47,7 +50,8 @@ pub fn read_capture<R: Read>(
             break;
         }
         let within = count.min(left);
-        framer.feed(&piece[..within], &mut messages)?;
+        let part = &piece[..within];
+        place_whole(alloc, &mut framer, part, bump, &mut messages)?;
         if within < count {
             return Err(ReadError::TooLong);
         }
@@ -55,6 +59,45 @@ pub fn read_capture<R: Read>(
     }
     framer.finish()?;
     Ok(messages)
+}
+
+/// Takes the next piece of a stream, and places each message that is whole now in the arena.
+fn place_whole<'b>(
+    alloc: Global,
+    framer: &mut Framer,
+    piece: &[u8],
+    bump: &'b Bump,
+    out: &mut Vec<&'b [u8]>,
+) -> Result<(), ReadError>
+    ensures ok { OnOk result (Feeds framer.old.rest piece.now (octets_at_each out.old.items)
+        (octets_at_each out.new.items) framer.new.rest) }
+    ensures not_zero { OnOk result (¬ IsZero framer.new.rest) }
+    ensures no_fault { OnOk result (framer.new.fault ≡ None) }
+    ensures zero_length { IsErrOf result ReadError.ZeroLength → (messages : List (List ℕ))
+        × Feeds framer.old.rest piece.now (octets_at_each out.old.items) messages framer.new.rest }
+    ensures zero { IsErrOf result ReadError.ZeroLength → IsZero framer.new.rest }
+    ensures only { IfErr result IsPieceError }
+{
+    let mut whole = Vec::new(alloc);
+    framer.feed(piece, &mut whole)?;
+    place_each(bump, &whole, out)?;
+    Ok(())
+}
+
+/// Places each message in the arena, in order.
+fn place_each<'b>(
+    bump: &'b Bump,
+    messages: &[Vec<u8>],
+    out: &mut Vec<&'b [u8]>,
+) -> Result<(), AllocError>
+    ensures { OnOk result (octets_at_each out.new.items
+        ≡ octets_at_each out.old.items ++ octets_of_each messages.now) }
+{
+    for message in messages {
+        let octets: &[u8] = bump.try_alloc_slice_copy(message)?;
+        out.push(octets)?;
+    }
+    Ok(())
 }
 
 /// Every stream of octets is read as frames and a rest, in one way.

@@ -1,6 +1,6 @@
 //! Which RRsets captures have, and what they refuse.
 
-use crate::evidence::{capture, capture_or_refusal, messages};
+use crate::evidence::{capture, capture_or_refusal, frames, messages};
 use crate::row::{Row, RowError, printed};
 use dnsv_canonical::{Capture, CaptureError, Rrset};
 use dnsv_message::Section;
@@ -31,8 +31,9 @@ fn rrsets(row: &Row) -> Result<String, RowError> {
 
 /// `rrsets-of-the-rest CAPTURE`: the same, where each message that is refused is passed over.
 fn rrsets_of_the_rest(row: &Row) -> Result<String, RowError> {
+    let frames = frames(row, 0)?;
     let mut capture = Capture::new(row.alloc());
-    for message in &messages(row, 0)? {
+    for message in &messages(row.alloc(), &frames)? {
         let _ = capture.add(message);
     }
     list(row.alloc(), &capture)

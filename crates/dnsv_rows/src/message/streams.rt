@@ -1,6 +1,7 @@
 //! Calls of `dnsv_message` for streams of messages.
 
 use crate::row::{Row, RowError};
+use bumpalo::Bump;
 use dnsv_message::{Counted, Framer, ReadError, read_all, read_capture};
 use std::alloc::{AllocError, Global};
 use std::io::Cursor;
@@ -28,10 +29,14 @@ pub fn answer(row: &Row) -> Result<Option<String>, RowError> {
 /// `frames STREAM`: `ok` and the messages of a stream, as `read_capture` gives them.
 fn frames(row: &Row) -> Result<String, RowError> {
     let octets = row.octets(0)?;
-    match read_capture(row.alloc(), &mut Counted::new(octets.as_slice())) {
+    let bump = Bump::new(row.alloc());
+    let mut reader = Counted::new(octets.as_slice());
+    match read_capture(row.alloc(), &mut reader, &bump) {
         Ok(messages) => {
             let mut text = text_of(row.alloc(), Ok(()))?;
-            push_messages(&mut text, &messages)?;
+            for each in &messages {
+                push_message(&mut text, each)?;
+            }
             Ok(text)
         }
         Err(error) => Ok(text_of(row.alloc(), Err(error))?),
@@ -40,10 +45,14 @@ fn frames(row: &Row) -> Result<String, RowError> {
 
 fn push_messages(text: &mut String, messages: &[Vec<u8>]) -> Result<(), AllocError> {
     for each in messages {
-        let octets = hex::encode(*text.allocator(), each.as_slice())?;
-        write!(text, " {octets}")?;
+        push_message(text, each)?;
     }
     Ok(())
+}
+
+fn push_message(text: &mut String, message: &[u8]) -> Result<(), AllocError> {
+    let octets = hex::encode(*text.allocator(), message)?;
+    write!(text, " {octets}")
 }
 
 /// `ok`, or the refusal.
@@ -58,13 +67,22 @@ fn text_of(alloc: Global, answered: Result<(), ReadError>) -> Result<String, All
 fn framed(row: &Row) -> Result<String, RowError> {
     let stream = row.octets(0)?;
     let wanted = messages_of(row)?;
-    match read_capture(row.alloc(), &mut Counted::new(stream.as_slice())) {
+    let bump = Bump::new(row.alloc());
+    let mut reader = Counted::new(stream.as_slice());
+    match read_capture(row.alloc(), &mut reader, &bump) {
         Ok(messages) => {
-            let is_so = messages == wanted && is_cut_into(row.alloc(), &stream, &[], &wanted)?;
+            let is_so = are_same(&messages, &wanted)
+                && is_cut_into(row.alloc(), &stream, &[], &wanted)?;
             Ok(format!(in row.alloc(); "{is_so}")?)
         }
         Err(error) => Ok(text_of(row.alloc(), Err(error))?),
     }
+}
+
+/// Whether the messages are these.
+fn are_same(messages: &[&[u8]], wanted: &[Vec<u8>]) -> bool {
+    let pairs = messages.iter().zip(wanted.iter());
+    messages.len() == wanted.len() && pairs.all(|(message, other)| *message == other.as_slice())
 }
 
 /// The messages that the row's arguments behind the first are.

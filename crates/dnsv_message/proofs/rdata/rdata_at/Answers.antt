@@ -26,5 +26,5 @@ returns-then-unwrap_or-rest c =
 pub returns : goal.returns
 returns c =
     NamesRead-found c.args.octets.now c.args.layout c.args.start c.args.size c.loop-read.place c.loop-read.written.items c.loop-read.read c.loop-read.invariant
-    c.new.result (omega (arith, c.loop-read-test.false, c.loop-read.auto.read-end)) (sym c.unwrap_or.ensures ∙ c.if-unwrap_or-rest.false)
-    (c.new.ensures ∙ c.in_ok-extend_from_slice-2.ensures.items)
+    c.extend_from_slice-2.new.self.items (omega (arith, c.loop-read-test.false, c.loop-read.auto.read-end)) (sym c.unwrap_or.ensures ∙ c.if-unwrap_or-rest.false)
+    c.in_ok-extend_from_slice-2.ensures.items

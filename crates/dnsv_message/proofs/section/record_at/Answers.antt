@@ -1,10 +1,9 @@
 use Rattle.std.proofs.Common.{◌+◌, refl, inl, inr, arith}
-use Rattle.std.proofs.lemmas.Option.{MatchOption-at_none, MatchOption-at_some}
 use Rattle.dnsv_message.proofs.section.record_at.Goals as goal
 
 pub returns-then-octets-start-clause-fault : goal.returns-then-octets-start-clause-fault
 returns-then-octets-start-clause-fault c =
-    inr (inr (record {
+    inr (record {
       name = c.in_ok-name.name;
       rtype = c.u16_at.result;
       class = c.u16_at-2.result;
@@ -13,11 +12,11 @@ returns-then-octets-start-clause-fault c =
       size = c.u16_at-size.result;
       head = record { after_name = c.in_ok-name.after_name; named = c.in_ok-name.ensures.found; typed = (omega arith, c.u16_at.ensures); classed = (omega arith, c.u16_at-2.ensures); timed = (omega arith, c.u32_at.ensures); sized = (omega arith, c.u16_at-size.ensures); starts = refl };
       fault = inl (omega arith, refl);
-    }))
+    })
 
 pub returns-in_default-clause-fault : goal.returns-in_default-clause-fault
 returns-in_default-clause-fault c =
-    inr (inr (record {
+    inr (record {
       name = c.in_ok-name.name;
       rtype = c.u16_at.result;
       class = c.u16_at-2.result;
@@ -25,8 +24,8 @@ returns-in_default-clause-fault c =
       start = c.in_ok-name.after_name + 10;
       size = c.u16_at-size.result;
       head = record { after_name = c.in_ok-name.after_name; named = c.in_ok-name.ensures.found; typed = (omega arith, c.u16_at.ensures); classed = (omega arith, c.u16_at-2.ensures); timed = (omega arith, c.u32_at.ensures); sized = (omega arith, c.u16_at-size.ensures); starts = refl };
-      fault = inr (omega arith, rw c.of-layout.ensures at (MatchOption-at_none _ _ c.in_default.is c.in_ok-rdata.ensures), refl);
-    }))
+      fault = inr (omega arith, c.in_default.ensures, refl);
+    })
 
 pub returns-clause-found : goal.returns-clause-found
 returns-clause-found c =
@@ -35,6 +34,6 @@ returns-clause-found c =
       size = c.u16_at-size.result;
       head = record { after_name = c.in_ok-name.after_name; named = c.in_ok-name.ensures.found; typed = (omega arith, c.u16_at.ensures); classed = (omega arith, c.u16_at-2.ensures); timed = (omega arith, c.u32_at.ensures); sized = (omega arith, c.u16_at-size.ensures); starts = refl };
       whole = omega arith;
-      rdata = rw c.of-layout.ensures at (MatchOption-at_some _ _ _ c.in-Some.is c.in_ok-rdata.ensures);
+      rdata = c.in-Some.ensures;
       ends = refl;
     }

@@ -1,4 +1,4 @@
-use Rattle.std.proofs.Common.{inl, inr, ⊎_elim, arith}
+use Rattle.std.proofs.Common.{inr, arith}
 use Rattle.std.proofs.lemmas.Result.{err_from_is_err_and}
 use Rattle.dnsv_message.proofs.Sequences.{Reading-next, Reading-fault, Reading-order}
 use Rattle.dnsv_message.proofs.section.records_at.Goals as goal
@@ -13,7 +13,7 @@ loop-read-preserved c = record {
 pub returns-in_err-record-clause-fault : goal.returns-in_err-record-clause-fault
 returns-in_err-record-clause-fault c =
     let p = err_from_is_err_and c.from_residual.result c.from_residual.ensures.1 in
-    rw (p.1, p.2) (⊎_elim (λ memory. inl memory) (λ fault. inr (Reading-fault c.loop-read.invariant.reading _ c.loop-read-test.true fault)) c.in_err-record.ensures.fault)
+    rw (p.1, p.2) (inr (Reading-fault c.loop-read.invariant.reading _ c.loop-read-test.true c.in_err-record.ensures.fault))
 
 pub returns-clause-found : goal.returns-clause-found
 returns-clause-found c = Reading-order c.loop-read.invariant.reading

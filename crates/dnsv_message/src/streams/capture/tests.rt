@@ -5,13 +5,13 @@ use std::io::ErrorKind;
 use std::test::Fail;
 
 // Whether the stream is just these messages, each behind its length.
-fn is_stream_of(stream: &[u8], messages: &[Vec<u8>]) -> bool {
+fn is_stream_of(stream: &[u8], messages: &[&[u8]]) -> bool {
     let mut rest = stream;
     for message in messages {
         if rest.len() < 2 || usize::from(u16_at(rest, 0)) != message.len() {
             return false;
         }
-        let Some(behind) = rest[2..].strip_prefix(message.as_slice()) else {
+        let Some(behind) = rest[2..].strip_prefix(*message) else {
             return false;
         };
         rest = behind;
@@ -21,8 +21,9 @@ fn is_stream_of(stream: &[u8], messages: &[Vec<u8>]) -> bool {
 
 // Whether the messages of the stream are read where it comes in pieces of so many octets, by so many reads.
 fn is_read(alloc: Global, stream: &[u8], size: usize, reads: usize) -> bool {
+    let bump = Bump::new(alloc);
     let mut reader = Counted::new(Pieces::of(stream, size));
-    let Ok(messages) = read_capture(alloc, &mut reader) else {
+    let Ok(messages) = read_capture(alloc, &mut reader, &bump) else {
         return false;
     };
     is_stream_of(stream, &messages) && reader.failures() == 0 && reader.get_ref().reads == reads
@@ -44,8 +45,9 @@ fn reads_four_pieces_and_the_end(rt: HostRuntime) -> Result<(), Fail> {
 
 // Whether a read that fails so is the answer, and nothing is read after it.
 fn is_refused(alloc: Global, kind: ErrorKind) -> bool {
+    let bump = Bump::new(alloc);
     let mut reader = Counted::new(Pieces::failing(kind));
-    let answer = read_capture(alloc, &mut reader);
+    let answer = read_capture(alloc, &mut reader, &bump);
     answer.err() == Some(ReadError::Read) && reader.failures() == 1 && reader.get_ref().reads == 2
 }
 

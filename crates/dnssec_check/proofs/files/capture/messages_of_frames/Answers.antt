@@ -4,11 +4,11 @@ use Rattle.dnssec_check.proofs.files.capture.messages_of_frames.Goals as goal
 
 pub loop-index-preserved : goal.loop-index-preserved
 loop-index-preserved c =
-    let here = frame_here c.args.frames.now c.loop-index.index c.index-frames-index.result _ c.loop-index-test.true c.index-frames-index.is c.deref.ensures.value in
-    rw c.in_ok-push.ensures.items (MessagesSoFar-next c.loop-index.invariant _ here.0 here.1 _ (c.in_ok-message_of.ensures.found, tt))
+    let here = frame_here c.args.frames.now c.loop-index.index c.index-frames-index.result c.loop-index-test.true c.index-frames-index.is in
+    rw c.in_ok-push.ensures.items (MessagesSoFar-next c.loop-index.invariant _ here.0 here.1 _ (c.in_ok-message.ensures.found, tt))
 
-pub returns-in_err-message_of-clause-refused : goal.returns-in_err-message_of-clause-refused
-returns-in_err-message_of-clause-refused c =
+pub returns-in_err-message-clause-refused : goal.returns-in_err-message-clause-refused
+returns-in_err-message-clause-refused c =
     let p = err_from_is_err_and c.from_residual.result c.from_residual.ensures.1 in
-    let here = frame_here c.args.frames.now c.loop-index.index c.index-frames-index.result _ c.loop-index-test.true c.index-frames-index.is c.deref.ensures.value in
-    rw (p.1, p.2) (IsFaultOf-weaker _ _ c.in_err-message_of.field-0.0 (MessagesSoFar-no_message c.loop-index.invariant _ here.0 here.1) c.in_err-message_of.ensures.refused)
+    let here = frame_here c.args.frames.now c.loop-index.index c.index-frames-index.result c.loop-index-test.true c.index-frames-index.is in
+    rw (p.1, p.2) (IsFaultOf-weaker _ _ c.in_err-message.field-0.0 (MessagesSoFar-no_message c.loop-index.invariant _ here.0 here.1) c.in_err-message.ensures.refused)

@@ -19,47 +19,47 @@ pub returns-in_err-authority-clause-fault : goal.returns-in_err-authority-clause
 returns-in_err-authority-clause-fault c =
     let p = err_from_is_err_and c.from_residual-in_err-authority.result c.from_residual-in_err-authority.ensures.1 in
     let begun : Begun c.args.octets.now c.u16_at-question_count.result c.u16_at-answer_count.result c.u16_at-authority_count.result c.u16_at-additional_count.result c.in_ok-questions.questions.items c.in_ok-questions.place = record { header_there = c.if-octets-lt-HEADER_LENGTH.false; question_count_at = (omega (arith, c.if-octets-lt-HEADER_LENGTH.false), c.u16_at-question_count.ensures); answer_count_at = (omega (arith, c.if-octets-lt-HEADER_LENGTH.false), c.u16_at-answer_count.ensures); authority_count_at = (omega (arith, c.if-octets-lt-HEADER_LENGTH.false), c.u16_at-authority_count.ensures); additional_count_at = (omega (arith, c.if-octets-lt-HEADER_LENGTH.false), c.u16_at-additional_count.ensures); questions_at = c.in_ok-questions.ensures.found; all_questions = c.in_ok-questions.ensures.count } in
-    rw (p.1, p.2) (⊎_elim (λ memory. inl memory) (λ fault. inr (fault_of_authority begun c.in_ok-answer.answer.records.items c.in_ok-answer.answer.end c.in_ok-answer.ensures.found c.in_ok-answer.ensures.count fault)) c.in_err-authority.ensures.fault)
+    rw (p.1, p.2) (⊎_elim (λ memory. inl memory) (λ fault. inr (fault_of_authority begun c.in_ok-answer.field-0.records.items c.in_ok-answer.field-0.end c.in_ok-answer.ensures.found c.in_ok-answer.ensures.count fault)) c.in_err-authority.ensures.fault)
 
 pub returns-in_err-additional-clause-fault : goal.returns-in_err-additional-clause-fault
 returns-in_err-additional-clause-fault c =
     let p = err_from_is_err_and c.from_residual-in_err-additional.result c.from_residual-in_err-additional.ensures.1 in
     let begun : Begun c.args.octets.now c.u16_at-question_count.result c.u16_at-answer_count.result c.u16_at-authority_count.result c.u16_at-additional_count.result c.in_ok-questions.questions.items c.in_ok-questions.place = record { header_there = c.if-octets-lt-HEADER_LENGTH.false; question_count_at = (omega (arith, c.if-octets-lt-HEADER_LENGTH.false), c.u16_at-question_count.ensures); answer_count_at = (omega (arith, c.if-octets-lt-HEADER_LENGTH.false), c.u16_at-answer_count.ensures); authority_count_at = (omega (arith, c.if-octets-lt-HEADER_LENGTH.false), c.u16_at-authority_count.ensures); additional_count_at = (omega (arith, c.if-octets-lt-HEADER_LENGTH.false), c.u16_at-additional_count.ensures); questions_at = c.in_ok-questions.ensures.found; all_questions = c.in_ok-questions.ensures.count } in
-    rw (p.1, p.2) (⊎_elim (λ memory. inl memory) (λ fault. inr (fault_of_additional begun c.in_ok-answer.answer.records.items c.in_ok-answer.answer.end c.in_ok-answer.ensures.found c.in_ok-answer.ensures.count c.in_ok-authority.authority.records.items c.in_ok-authority.authority.end c.in_ok-authority.ensures.found c.in_ok-authority.ensures.count fault)) c.in_err-additional.ensures.fault)
+    rw (p.1, p.2) (⊎_elim (λ memory. inl memory) (λ fault. inr (fault_of_additional begun c.in_ok-answer.field-0.records.items c.in_ok-answer.field-0.end c.in_ok-answer.ensures.found c.in_ok-answer.ensures.count c.in_ok-authority.field-0.records.items c.in_ok-authority.field-0.end c.in_ok-authority.ensures.found c.in_ok-authority.ensures.count fault)) c.in_err-additional.ensures.fault)
 
-pub returns-then-additional-octets-clause-fault : goal.returns-then-additional-octets-clause-fault
-returns-then-additional-octets-clause-fault c =
+pub returns-then-after_additional-octets-clause-fault : goal.returns-then-after_additional-octets-clause-fault
+returns-then-after_additional-octets-clause-fault c =
     let begun : Begun c.args.octets.now c.u16_at-question_count.result c.u16_at-answer_count.result c.u16_at-authority_count.result c.u16_at-additional_count.result c.in_ok-questions.questions.items c.in_ok-questions.place = record { header_there = c.if-octets-lt-HEADER_LENGTH.false; question_count_at = (omega (arith, c.if-octets-lt-HEADER_LENGTH.false), c.u16_at-question_count.ensures); answer_count_at = (omega (arith, c.if-octets-lt-HEADER_LENGTH.false), c.u16_at-answer_count.ensures); authority_count_at = (omega (arith, c.if-octets-lt-HEADER_LENGTH.false), c.u16_at-authority_count.ensures); additional_count_at = (omega (arith, c.if-octets-lt-HEADER_LENGTH.false), c.u16_at-additional_count.ensures); questions_at = c.in_ok-questions.ensures.found; all_questions = c.in_ok-questions.ensures.count } in
-    inr (fault_of_rest begun c.in_ok-answer.answer.records.items c.in_ok-answer.answer.end c.in_ok-answer.ensures.found c.in_ok-answer.ensures.count c.in_ok-authority.authority.records.items c.in_ok-authority.authority.end c.in_ok-authority.ensures.found c.in_ok-authority.ensures.count c.in_ok-additional.additional.records.items c.in_ok-additional.additional.end c.in_ok-additional.ensures.found c.in_ok-additional.ensures.count c.if-additional-octets.true)
+    inr (fault_of_rest begun c.in_ok-answer.field-0.records.items c.in_ok-answer.field-0.end c.in_ok-answer.ensures.found c.in_ok-answer.ensures.count c.in_ok-authority.field-0.records.items c.in_ok-authority.field-0.end c.in_ok-authority.ensures.found c.in_ok-authority.ensures.count c.in_ok-additional.field-0.records.items c.in_ok-additional.field-0.end c.in_ok-additional.ensures.found c.in_ok-additional.ensures.count c.if-after_additional-octets.true)
 
 pub invariant_of-message : goal.invariant_of-message
 invariant_of-message c =
     let questions = c.in_ok-questions.ensures.within c.if-octets-lt-HEADER_LENGTH.false in
     let authority = c.in_ok-authority.ensures.within (c.in_ok-answer.ensures.within questions) in
-    let ends : c.in_ok-additional.additional.end ≡ length c.args.octets.now = omega (arith, c.if-additional-octets.false, c.in_ok-additional.ensures.within authority) in (
+    let ends : c.in_ok-additional.field-0.end ≡ length c.args.octets.now = omega (arith, c.if-after_additional-octets.false, c.in_ok-additional.ensures.within authority) in (
       c.args.octets.now,
       recursion_from_All (λ octet. octet < 256) c.args.octets.now (All-from_get_or (λ octet. octet < 256) c.args.octets.now 0 (λ i within. omega (arith, c.type_inv.octets i))),
       record {
         header = record { identifier = (omega (arith, c.if-octets-lt-HEADER_LENGTH.false), c.u16_at.ensures); flag_bits = (omega (arith, c.if-octets-lt-HEADER_LENGTH.false), c.u16_at-2.ensures); question_count = rw c.in_ok-questions.ensures.count (omega (arith, c.if-octets-lt-HEADER_LENGTH.false), c.u16_at-question_count.ensures); answer_count = rw c.in_ok-answer.ensures.count (omega (arith, c.if-octets-lt-HEADER_LENGTH.false), c.u16_at-answer_count.ensures); authority_count = rw c.in_ok-authority.ensures.count (omega (arith, c.if-octets-lt-HEADER_LENGTH.false), c.u16_at-authority_count.ensures); additional_count = rw c.in_ok-additional.ensures.count (omega (arith, c.if-octets-lt-HEADER_LENGTH.false), c.u16_at-additional_count.ensures) };
         after_questions = c.in_ok-questions.place;
-        after_answer = c.in_ok-answer.answer.end;
-        after_authority = c.in_ok-authority.authority.end;
+        after_answer = c.in_ok-answer.field-0.end;
+        after_authority = c.in_ok-authority.field-0.end;
         questions = c.in_ok-questions.ensures.found;
         answer = c.in_ok-answer.ensures.found;
         authority = c.in_ok-authority.ensures.found;
-        additional = subst (InOrder (RecordAt c.args.octets.now) c.in_ok-authority.authority.end c.in_ok-additional.additional.records.items) ends c.in_ok-additional.ensures.found;
+        additional = subst (InOrder (RecordAt c.args.octets.now) c.in_ok-authority.field-0.end c.in_ok-additional.field-0.records.items) ends c.in_ok-additional.ensures.found;
       },
     )
 
 pub returns-clause-tail : goal.returns-clause-tail
 returns-clause-tail c =
     let octets = c.args.octets.now in
-    let answer = c.in_ok-answer.answer in
-    let authority = c.in_ok-authority.authority in
-    let additional = c.in_ok-additional.additional in
+    let answer = c.in_ok-answer.field-0 in
+    let authority = c.in_ok-authority.field-0 in
+    let additional = c.in_ok-additional.field-0 in
     let all = answer.records.items ++ authority.records.items ++ additional.records.items in
     let ends : additional.end ≡ length octets =
-    omega (arith, c.if-additional-octets.false, c.in_ok-additional.ensures.within (c.in_ok-authority.ensures.within (c.in_ok-answer.ensures.within (c.in_ok-questions.ensures.within c.if-octets-lt-HEADER_LENGTH.false)))) in
+    omega (arith, c.if-after_additional-octets.false, c.in_ok-additional.ensures.within (c.in_ok-authority.ensures.within (c.in_ok-answer.ensures.within (c.in_ok-questions.ensures.within c.if-octets-lt-HEADER_LENGTH.false)))) in
     let tail : c.or-tail.result ≡ option_or (option_or additional.tail authority.tail) answer.tail = c.or-tail.ensures ∙ ap (λ o. option_or o answer.tail) c.or.ensures in
     let last = LastAt-or_or (RecordAt octets) answer.records.items authority.records.items additional.records.items c.in_ok-questions.place answer.end authority.end additional.end answer.tail authority.tail additional.tail
     c.in_ok-answer.ensures.found c.in_ok-authority.ensures.found c.in_ok-additional.ensures.found c.in_ok-answer.ensures.tail c.in_ok-authority.ensures.tail c.in_ok-additional.ensures.tail in

@@ -1,5 +1,5 @@
 use Rattle.std.proofs.Common.{◌≡◌, ◌<◌, ◌≤◌, length, None}
-use Rattle.dnsv_message.specs.Streams.Frames.{IsZero, octets_of_each}
+use Rattle.dnsv_message.specs.Streams.Frames.{IsZero, octets_at_each}
 use Rattle.dnsv_message.proofs.FrameLemmas.CaptureLemmas.{HasRead}
 use Rattle.dnsv_message.proofs.streams.capture.read_capture.Given as goal
 
@@ -9,7 +9,7 @@ invariant-loop-framer g l = record {
   room : 0 < length l.piece;
   piece : length l.piece ≤ 65536;
   none_failed : l.reader.failures ≡ l.fn.reader.failures;
-  read : HasRead (g.R.Read.remaining l.fn.reader.inner) (g.R.Read.remaining l.reader.inner) (octets_of_each l.messages.items) l.framer.rest l.left;
+  read : HasRead (g.R.Read.remaining l.fn.reader.inner) (g.R.Read.remaining l.reader.inner) (octets_at_each l.messages.items) l.framer.rest l.left;
   no_fault : l.framer.fault ≡ None;
   not_zero : ¬ IsZero l.framer.rest;
 }

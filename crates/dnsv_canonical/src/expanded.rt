@@ -1,0 +1,86 @@
+//! Records whose RDATA is at hand as octets one after another.
+ghost use Rattle.std.specs.Prelude.{◌≡◌, IfOk};
+
+use dnsv_message::{Class, Message, NameRef, RdataOctets, Record, Section};
+use dnsv_names::{RecordType, Ttl};
+use std::alloc::{AllocError, Global};
+use std::marker::Model;
+
+/// A record of a message, with its RDATA as octets one after another. It is seen as the message's record.
+#[derive(Drop)]
+pub struct Expanded<'b> {
+    pub name: NameRef<'b>,
+    pub rtype: RecordType,
+    pub class: Class,
+    ttl: Ttl,
+    rdata: RdataOctets<'b>,
+}
+
+impl<'b> Model for Expanded<'b> {
+    ghost use Rattle.dnsv_message.specs.declared.record.Record.{Record};
+
+    ghost Value = { Record };
+
+    ghost view = { λ expanded. record {
+      name = expanded.name;
+      rtype = expanded.rtype;
+      class = expanded.class;
+      ttl = expanded.ttl;
+      rdata = expanded.rdata;
+    } };
+}
+
+impl<'b> Expanded<'b> {
+    fn of(alloc: Global, resource: &Record<'b>) -> Result<Expanded<'b>, AllocError>
+        ensures { IfOk result (λ expanded. expanded ≡ resource.now) }
+    {
+        Ok(Expanded {
+            name: resource.name.copied(),
+            rtype: resource.rtype,
+            class: resource.class,
+            ttl: resource.ttl,
+            rdata: resource.rdata.octets(alloc)?,
+        })
+    }
+
+    /// The octets of its RDATA, with every name written out.
+    pub fn rdata(&self) -> &[u8]
+        ensures { result.now ≡ self.now.rdata }
+    {
+        self.rdata.as_slice()
+    }
+}
+
+/// The records of the three sections of a message.
+#[derive(Drop)]
+pub struct Sections<'b> {
+    pub answer: Vec<Expanded<'b>>,
+    pub authority: Vec<Expanded<'b>>,
+    pub additional: Vec<Expanded<'b>>,
+}
+
+impl<'b> Sections<'b> {
+    /// Those of the message.
+    pub fn of(alloc: Global, message: &Message<'b>) -> Result<Sections<'b>, AllocError>
+        ensures answer { IfOk result (λ sections. sections.answer.items ≡ message.now.answer) }
+        ensures authority { IfOk result (λ sections. sections.authority.items ≡ message.now.authority) }
+        ensures additional { IfOk result (λ sections. sections.additional.items ≡ message.now.additional) }
+    {
+        Ok(Sections {
+            answer: all_expanded(alloc, message.records(Section::Answer))?,
+            authority: all_expanded(alloc, message.records(Section::Authority))?,
+            additional: all_expanded(alloc, message.records(Section::Additional))?,
+        })
+    }
+}
+
+/// The records, in order.
+fn all_expanded<'b>(alloc: Global, records: &[Record<'b>]) -> Result<Vec<Expanded<'b>>, AllocError>
+    ensures { IfOk result (λ all. all.items ≡ records.now) }
+{
+    let mut all = Vec::with_capacity(alloc, records.len())?;
+    for resource in records {
+        all.push(Expanded::of(alloc, resource)?)?;
+    }
+    Ok(all)
+}

@@ -1,0 +1,175 @@
+//! The RDATA of a record where it stands in a message.
+ghost use Rattle.std.specs.Prelude.{◌≡◌, ◌≤◌, ◌+◌, [], ℕ, List, length, IsFalse, IsTrue, IfOk, MatchOption};
+ghost use Rattle.dnsv_names.specs.Name.{Labels};
+ghost use Rattle.dnsv_message.specs.Layout.{layout_of};
+ghost use Rattle.dnsv_message.specs.Grammar.{RdataNameAt, RdataAt};
+
+use crate::name_at::name_end;
+use crate::number::Class;
+use crate::rdata::{Layout, rdata_at};
+use dnsv_names::{Name, RecordType};
+use std::alloc::{AllocError, Global};
+use std::marker::Model;
+
+/// The RDATA of a record where it stands in a message, whose octets it borrows. It is seen as its octets with
+/// every name written out uncompressed as it is spelled. It takes no memory.
+#[derive(Debug, Drop)]
+pub struct RdataRef<'b> {
+    octets: &'b [u8],
+    start: usize,
+    size: u16,
+    rtype: RecordType,
+    class: Class,
+}
+
+impl<'b> Model for RdataRef<'b> {
+    ghost use Rattle.std.specs.Prelude.{ℕ, List};
+
+    ghost Value = { List ℕ };
+
+    ghost use Rattle.dnsv_message.specs.Layout.{layout_of};
+    ghost use Rattle.dnsv_message.specs.Following.Rdata.{rdata_from, RdataStandsAt};
+
+    ghost view = { λ rdata. rdata_from rdata.octets.now (layout_of rdata.rtype.0 rdata.class.0) rdata.start rdata.size };
+
+    ghost invariant = { λ rdata. RdataStandsAt rdata.octets.now (layout_of rdata.rtype.0 rdata.class.0) rdata.start rdata.size };
+}
+
+/// Reads the RDATA of the type and class that takes the `size` octets from `start` on. `None` where it is not
+/// laid out as they ask.
+pub fn rdata_ref_at<'b>(
+    octets: &'b [u8],
+    start: usize,
+    size: u16,
+    rtype: RecordType,
+    class: Class,
+) -> Option<RdataRef<'b>>
+    requires { start + size ≤ length octets.now }
+    ensures { MatchOption result
+        ((rdata : List ℕ) → RdataAt octets.now (layout_of rtype.0 class.0) start size rdata → ⊥)
+        (RdataAt octets.now (layout_of rtype.0 class.0) start size) }
+{
+    if is_laid_out(octets, start, size as usize, Layout::of(rtype, class)) {
+        Some(RdataRef {
+            octets,
+            start,
+            size,
+            rtype,
+            class,
+        })
+    } else {
+        None
+    }
+}
+
+/// Whether the `size` octets from `start` on are RDATA of the layout.
+fn is_laid_out(octets: &[u8], start: usize, size: usize, layout: Layout) -> bool
+    requires { start + size ≤ length octets.now }
+    ensures stands { IsTrue result → (rdata : List ℕ) × RdataAt octets.now layout start size rdata }
+    ensures none { IsFalse result → (rdata : List ℕ) → RdataAt octets.now layout start size rdata → ⊥ }
+{
+    if size < layout.head {
+        return false;
+    }
+    let limit = start + size;
+    let mut place = start + layout.head;
+    for read in 0..layout.names {
+        let Some(end) = end_within(octets, place, limit, layout.pointers) else {
+            return false;
+        };
+        place = end;
+    }
+    let rest = limit - place;
+    layout.tail.unwrap_or(rest) == rest
+}
+
+/// Where what follows a name stands, within an RDATA that ends at `limit`.
+fn end_within(octets: &[u8], place: usize, limit: usize, pointers: bool) -> Option<usize>
+    requires place { place ≤ limit }
+    requires limit { limit ≤ length octets.now }
+    ensures { MatchOption result
+        ((name : Labels) (end : ℕ) → RdataNameAt octets.now limit pointers place name end → ⊥)
+        (λ end. (name : Labels) × RdataNameAt octets.now limit pointers place name end) }
+{
+    if pointers {
+        let Ok((_, end)) = name_end(octets, place) else {
+            return None;
+        };
+        if limit < end { None } else { Some(end) }
+    } else {
+        let (_, length) = Name::read(&octets[place..limit])?;
+        Some(place + length)
+    }
+}
+
+impl<'b> RdataRef<'b> {
+    /// The octets in a vector of their own.
+    pub fn to_vec(&self, alloc: Global) -> Result<Vec<u8>, AllocError>
+        ensures { IfOk result (λ octets. octets.items ≡ self.now) }
+    {
+        let layout = Layout::of(self.rtype, self.class);
+        let rdata = rdata_at(alloc, self.octets, self.start, self.size as usize, layout)?;
+        Ok(rdata.unwrap())
+    }
+
+    /// The octets: those of the message where no name in them may be compressed, and a vector otherwise.
+    pub fn octets(&self, alloc: Global) -> Result<RdataOctets<'b>, AllocError>
+        ensures { IfOk result (λ octets. octets ≡ self.now) }
+    {
+        if Layout::of(self.rtype, self.class).pointers {
+            let octets = self.to_vec(alloc)?;
+            return Ok(RdataOctets {
+                kept: Kept::Written(octets),
+            });
+        }
+        let slice = &self.octets[self.start..self.start + self.size as usize];
+        Ok(RdataOctets {
+            kept: Kept::Stands(slice),
+        })
+    }
+}
+
+/// Where the octets of an RDATA are kept.
+#[derive(Debug, Drop)]
+enum Kept<'b> {
+    /// In the message.
+    Stands(&'b [u8]),
+    /// In a vector of their own.
+    Written(Vec<u8>),
+}
+
+/// The octets of an RDATA, one after another, with every name written out uncompressed as it is spelled.
+#[derive(Debug, Drop)]
+pub struct RdataOctets<'b> {
+    kept: Kept<'b>,
+}
+
+impl<'b> Model for RdataOctets<'b> {
+    ghost use Rattle.std.specs.Prelude.{ℕ, List};
+    ghost use Rattle.dnsv_message.specs.Kept.{octets_kept};
+
+    ghost Value = { List ℕ };
+
+    ghost view = { λ octets. octets_kept octets.kept };
+}
+
+impl<'b> RdataOctets<'b> {
+    /// No octets.
+    pub fn none() -> RdataOctets<'b>
+        ensures { result ≡ [] }
+    {
+        RdataOctets {
+            kept: Kept::Stands(&[]),
+        }
+    }
+
+    /// The octets.
+    pub fn as_slice(&self) -> &[u8]
+        ensures { result.now ≡ self.now }
+    {
+        match &self.kept {
+            Kept::Stands(slice) => slice,
+            Kept::Written(octets) => octets,
+        }
+    }
+}

@@ -1,0 +1,7 @@
+-- The octets that the RDATA of a signature is read from. No public clause cites this module.
+use Rattle.std.specs.Prelude.{◌≡◌, ℕ, List, [], ◌∷◌, ◌++◌}
+use Rattle.dnsv_message.specs.declared.record.Record.{Record}
+
+-- where there is a last record, the octets are its RDATA
+pub record IsLastRdata (records : List Record) (rdata : List ℕ) : Type 0 where
+  pub is : (others : List Record) (last : Record) → records ≡ others ++ last ∷ [] → rdata ≡ last.rdata
