@@ -7,11 +7,10 @@ ghost use Rattle.dnsv_denial.specs.Viewed.{SecuredIn};
 ghost use Rattle.dnsv_denial.specs.gathering.Evidence.{IsHashedOwner};
 ghost use Rattle.dnsv_denial.specs.gathering.Gathered.{AreNsec3s, AreNsec3sOf, IsEntryOf, IsNsec3RrsetOf};
 
-use crate::gathering::canonical_order::in_canonical_order;
 use crate::gathering::secured::has_zone_signature;
 use crate::records::entry::Nsec3Entry;
 use crate::records::number::RecordNumber;
-use dnsv_canonical::{Capture, Rrset};
+use dnsv_canonical::{Capture, Rrset, in_canonical_order};
 use dnsv_chain::Trust;
 use dnsv_names::{Hash20, Name, RecordType};
 use dnsv_records::{Nsec3, base32hex_read};
