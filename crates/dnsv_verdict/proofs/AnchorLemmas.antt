@@ -12,12 +12,12 @@ use Rattle.dnsv_zones.specs.forms.Forms.{NoNameForm, NoDataForms, UnsignedCutFor
 use Rattle.dnsv_zones.specs.forms.Parts.{OptsOut}
 use Rattle.dnsv_zones.specs.forms.RecordWords.{words}
 use Rattle.dnsv_zones.specs.zones.Types.{Denies, IsUnsignedDelegation}
-use Rattle.dnsv_canonical.specs.Rrsets.{ReceivedRrset}
+use Rattle.dnsv_canonical.specs.Rrsets.{IsNumbered, ReceivedRrset}
 use Rattle.dnsv_verifier.specs.Admissible.{DnskeyRecord}
 use Rattle.dnsv_verifier.specs.declared.answer.Answer.{Answer}
 use Rattle.dnsv_verifier.specs.declared.entry.Entry.{Entry}
 use Rattle.dnsv_chain.specs.Anchor.{IsAnchorMatch}
-use Rattle.dnsv_chain.specs.Trusted.{IsTrusted, anchored, delegated, IsGoodByTrust, IsKeyOf, IsNumbered, IsSecured}
+use Rattle.dnsv_chain.specs.Trusted.{IsTrusted, anchored, delegated, IsGoodByTrust, IsKeyOf, IsSecured}
 use Rattle.dnsv_chain.specs.declared.anchor.Anchor.{Anchor}
 use Rattle.dnsv_chain.specs.declared.anchor.Anchor.TheVariants.{Ds, Key}
 use Rattle.dnsv_denial.specs.gathering.Evidence.{IsSecuredBy}

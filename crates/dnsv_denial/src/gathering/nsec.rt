@@ -1,7 +1,6 @@
 //! The records of a zone among the evidence.
 ghost use Rattle.std.specs.Prelude.{◌≡◌, ◌++◌, List, IfOk, OnOk};
-ghost use Rattle.dnsv_canonical.specs.Rrsets.{ReceivedRrset};
-ghost use Rattle.dnsv_chain.specs.Trusted.{IsNumbered};
+ghost use Rattle.dnsv_canonical.specs.Rrsets.{IsNumbered, ReceivedRrset};
 ghost use Rattle.dnsv_denial.specs.Viewed.{SecuredIn};
 ghost use Rattle.dnsv_denial.specs.gathering.Gathered.{AreNsecs, AreNsecsOf};
 

@@ -13,9 +13,8 @@ use Rattle.dnsv_records.specs.declared.ds.Ds.{Ds}
 use Rattle.dnsv_records.proofs.OneRecord.{one_ds}
 use Rattle.dnsv_canonical.proofs.CanonicalLemmas.{Contains-from_member}
 use Rattle.dnsv_canonical.specs.Rdata.{rdata_of_type}
-use Rattle.dnsv_canonical.specs.Rrsets.{ReceivedRrset}
+use Rattle.dnsv_canonical.specs.Rrsets.{IsNumbered, ReceivedRrset}
 use Rattle.dnsv_chain.specs.Ds.{HasUsable}
-use Rattle.dnsv_chain.specs.Trusted.{IsNumbered}
 use Rattle.dnsv_denial.specs.unsigned_cuts.Cuts.{no_ds, no_usable_ds, opt_out, IsFewest, IsMost, IsUnsignedDelegationCut, IsUnusableDsCut, IsOptOutCut, IsUnsignedCut, HasUnsignedCut}
 use Rattle.dnsv_denial.specs.unsigned_cuts.Findings.{IsFewestFound, IsMostFound, IsLesser, IsGreater, AreFindings, IsUnusableDs}
 use Rattle.dnsv_denial.proofs.lemmas.gathering.EvidenceLemmas.{one_numbered}
