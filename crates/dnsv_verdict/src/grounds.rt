@@ -8,13 +8,13 @@ ghost use Rattle.dnsv_chain.specs.Trust.{IsTrustOf};
 ghost use Rattle.dnsv_verifier.specs.Table.{IsTableOf, table_answer};
 ghost use Rattle.dnsv_verifier.specs.declared.answer.Answer.{Answer};
 ghost use Rattle.dnsv_verifier.specs.declared.entry.Entry.{Entry};
-ghost use Rattle.dnsv_verdict.specs.Verdict.{HasAnchor, IsSettledBy, IsVerdictAt, MayBeSettledBy, anchor_owner, basis_of};
+ghost use Rattle.dnsv_verdict.specs.Verdict.{HasAnchor, IsSettledBy, IsVerdictAt, MayBeSettledBy, basis_of};
 
 use crate::entries::Entries;
 use crate::settled::settled;
 use crate::verdict::Verdict;
 use dnsv_canonical::Capture;
-use dnsv_chain::{Anchor, Anchors, Trust, trust_depends_on_what_is_asked, trusted};
+use dnsv_chain::{Anchors, Trust, trust_depends_on_what_is_asked, trusted};
 use dnsv_denial::{Hashes, View};
 use dnsv_names::{Count, Name, RecordType};
 use dnsv_verifier::{Table, a_table_is_its_verifier, unknown_entries_may_turn_out_valid};
@@ -106,14 +106,5 @@ fn has_anchor(anchors: &Anchors, name: &Name) -> bool
     anchors
         .as_slice()
         .iter()
-        .any(|anchor| name.is_at_or_below(owner_of(anchor)))
-}
-
-/// The owner of the trust anchor.
-fn owner_of(anchor: &Anchor) -> &Name
-    ensures { result.now ≡ anchor_owner anchor.now }
-{
-    match anchor {
-        Anchor::Ds { owner, .. } | Anchor::Key { owner, .. } => owner,
-    }
+        .any(|anchor| name.is_at_or_below(anchor.owner()))
 }
