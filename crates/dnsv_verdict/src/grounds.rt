@@ -10,14 +10,13 @@ ghost use Rattle.dnsv_verifier.specs.declared.answer.Answer.{Answer};
 ghost use Rattle.dnsv_verifier.specs.declared.entry.Entry.{Entry};
 ghost use Rattle.dnsv_verdict.specs.Verdict.{HasAnchor, IsSettledBy, IsVerdictAt, MayBeSettledBy, basis_of};
 
-use crate::entries::Entries;
 use crate::settled::settled;
 use crate::verdict::Verdict;
 use dnsv_canonical::Capture;
 use dnsv_chain::{Anchors, Trust, trust_depends_on_what_is_asked, trusted};
 use dnsv_denial::{Hashes, View};
 use dnsv_names::{Count, Name, RecordType};
-use dnsv_verifier::{Table, a_table_is_its_verifier, unknown_entries_may_turn_out_valid};
+use dnsv_verifier::{Entries, Table, a_table_is_its_verifier, unknown_entries_may_turn_out_valid};
 use std::alloc::{AllocError, Global};
 
 /// What questions are judged by: the evidence, the trust anchors, and what the verifier says at the moment.
