@@ -54,12 +54,12 @@ no_zone_signature rrset zone number signatures all at has =
     let found = zip_from IsRrsig rrset.signatures signatures (number - 1) has.rdata all there in
     let both : Some found.0 ≡ None = sym found.1 ∙ at in cc
 
--- a signature with one of the numbers
-pub signature_among : {P Q : ℕ → Type 0} (rrset : ReceivedRrset) (zone : Labels) → ((s : ℕ) → P s → Q s)
-    → HasZoneSignature P rrset zone → HasZoneSignature Q rrset zone
-signature_among rrset zone more has = record {
+-- the signature is one of those with other numbers
+numbered_too : {P : ℕ → Type 0} (Q : ℕ → Type 0) (rrset : ReceivedRrset) (zone : Labels) (has : HasZoneSignature P rrset zone)
+    → Q has.signature → HasZoneSignature Q rrset zone
+numbered_too Q rrset zone has secured = record {
   signature = has.signature;
-  secured = more has.signature has.secured;
+  secured = secured;
   rdata = has.rdata;
   is_signature = has.is_signature;
   rrsig = has.rrsig;
@@ -68,18 +68,14 @@ signature_among rrset zone more has = record {
   unexpanded = has.unexpanded;
 }
 
+-- a signature with one of the numbers
+pub signature_among : {P Q : ℕ → Type 0} (rrset : ReceivedRrset) (zone : Labels) → ((s : ℕ) → P s → Q s)
+    → HasZoneSignature P rrset zone → HasZoneSignature Q rrset zone
+signature_among {P} {Q} rrset zone more has = numbered_too Q rrset zone has (more has.signature has.secured)
+
 pub with_number : {P : ℕ → Type 0} (rrset : ReceivedRrset) (zone : Labels) (has : HasZoneSignature P rrset zone)
     → HasZoneSignature (λ s. s ≡ has.signature) rrset zone
-with_number rrset zone has = record {
-  signature = has.signature;
-  secured = refl;
-  rdata = has.rdata;
-  is_signature = has.is_signature;
-  rrsig = has.rrsig;
-  read = has.read;
-  signer = has.signer;
-  unexpanded = has.unexpanded;
-}
+with_number rrset zone has = numbered_too (λ s. s ≡ has.signature) rrset zone has refl
 
 pub unnumbered : (rrset : ReceivedRrset) (zone : Labels) (number : ℕ) → number ≡ 0 → HasZoneSignature (λ s. s ≡ number) rrset zone → ⊥
 unnumbered rrset zone number none has = let from_one = has.is_signature.0 in let is = has.secured in omega (arith, from_one, is, none)
