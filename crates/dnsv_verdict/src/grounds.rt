@@ -25,20 +25,21 @@ pub struct Grounds<'a> {
     pub capture: &'a Capture,
     pub anchors: &'a Anchors,
     pub table: &'a Table,
+    /// What the three make trusted.
+    pub trust: &'a Trust,
 }
 
-/// The verdict at the name, for the type. `trust` is that of the grounds. `hashed` grows by the SHA-1 digests that are
+/// The verdict at the name, for the type. `hashed` grows by the SHA-1 digests that are
 /// worked out. The verifier isn't asked again.
 pub fn verdict_at(
     alloc: Global,
     grounds: &Grounds<'_>,
-    trust: &Trust,
     name: &Name,
     rtype: RecordType,
     hashed: &mut Count,
 ) -> Result<Verdict, AllocError>
     requires { IsTrustOf (table_answer grounds.now.table.now) grounds.now.table.now.moment
-        grounds.now.capture.now.rrsets grounds.now.anchors.now trust.now }
+        grounds.now.capture.now.rrsets grounds.now.anchors.now grounds.now.trust.now }
     ensures value { (meaning : Entry → Answer) (moment : ℕ)
         → IsTableOf meaning moment grounds.now.capture.now.rrsets grounds.now.table.now
         → IfOk result (IsVerdictAt (basis_of grounds.now.capture.now.rrsets grounds.now.anchors.now moment meaning)
@@ -50,8 +51,8 @@ pub fn verdict_at(
     a_table_is_its_verifier();
     trust_depends_on_what_is_asked();
     let hashes = Hashes::new(alloc, grounds.capture, name, hashed)?;
-    let view = View::with(alloc, grounds.capture, trust, &hashes)?;
-    if let Some(verdict) = settled(grounds.capture, trust, name, rtype, &view) {
+    let view = View::with(alloc, grounds.capture, grounds.trust, &hashes)?;
+    if let Some(verdict) = settled(grounds.capture, grounds.trust, name, rtype, &view) {
         return Ok(verdict);
     }
     if may_be_settled(alloc, grounds, &hashes, name, rtype)? {

@@ -100,9 +100,10 @@ pub fn validate<V: Verifier>(
         capture,
         anchors,
         table: &table,
+        trust: &trust,
     };
     let mut hashed = Count::new();
-    let followed = follow(alloc, &grounds, &trust, name, rtype, &mut hashed)?;
+    let followed = follow(alloc, &grounds, name, rtype, &mut hashed)?;
     let hashed = exact_hashed(&hashed, capture, &followed.way);
     Ok(Report {
         links: followed.way.links,

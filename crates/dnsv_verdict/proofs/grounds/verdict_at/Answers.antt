@@ -11,7 +11,7 @@ returns-in-Some-clause-value c = λ meaning moment table.
     let grounds = c.args.grounds.now in
     settled_is_verdict (basis_of grounds.capture.now.rrsets grounds.anchors.now moment meaning)
     c.args.name.now c.args.rtype.0 c.in-Some.verdict
-    (settled_as_by_trust meaning moment grounds.capture.now.rrsets grounds.anchors.now grounds.table.now c.args.trust.now table.of_moment
+    (settled_as_by_trust meaning moment grounds.capture.now.rrsets grounds.anchors.now grounds.table.now grounds.trust.now table.of_moment
     (c.a_table_is_its_verifier.ensures.answer meaning moment grounds.capture.now.rrsets grounds.table.now table)
     c.trust_depends_on_what_is_asked.ensures.numbers c.requires c.args.name.now c.args.rtype.0 c.in-Some.verdict
     (MatchOption-at_some _ _ c.in-Some.verdict c.in-Some.is c.settled.ensures))
@@ -20,7 +20,7 @@ pub returns-then-branch-clause-value : goal.returns-then-branch-clause-value
 returns-then-branch-clause-value c = λ meaning moment table.
     let grounds = c.args.grounds.now in
     let judged : Basis = basis_of grounds.capture.now.rrsets grounds.anchors.now moment meaning in
-    let never = unsettled_by_trust meaning moment grounds.capture.now.rrsets grounds.anchors.now grounds.table.now c.args.trust.now table.of_moment
+    let never = unsettled_by_trust meaning moment grounds.capture.now.rrsets grounds.anchors.now grounds.table.now grounds.trust.now table.of_moment
     (c.a_table_is_its_verifier.ensures.answer meaning moment grounds.capture.now.rrsets grounds.table.now table)
     c.trust_depends_on_what_is_asked.ensures.numbers c.requires c.args.name.now c.args.rtype.0
     (MatchOption-at_none _ _ c.in_default.is c.settled.ensures) in (
@@ -33,7 +33,7 @@ returns-then-branch-clause-value c = λ meaning moment table.
 pub returns-then-has_anchor-clause-value : goal.returns-then-has_anchor-clause-value
 returns-then-has_anchor-clause-value c = λ meaning moment table.
     let grounds = c.args.grounds.now in
-    let never = unsettled_by_trust meaning moment grounds.capture.now.rrsets grounds.anchors.now grounds.table.now c.args.trust.now table.of_moment
+    let never = unsettled_by_trust meaning moment grounds.capture.now.rrsets grounds.anchors.now grounds.table.now grounds.trust.now table.of_moment
     (c.a_table_is_its_verifier.ensures.answer meaning moment grounds.capture.now.rrsets grounds.table.now table)
     c.trust_depends_on_what_is_asked.ensures.numbers c.requires c.args.name.now c.args.rtype.0
     (MatchOption-at_none _ _ c.in_default.is c.settled.ensures) in (
@@ -45,7 +45,7 @@ returns-then-has_anchor-clause-value c = λ meaning moment table.
 pub returns-clause-value : goal.returns-clause-value
 returns-clause-value c = λ meaning moment table.
     let grounds = c.args.grounds.now in
-    let never = unsettled_by_trust meaning moment grounds.capture.now.rrsets grounds.anchors.now grounds.table.now c.args.trust.now table.of_moment
+    let never = unsettled_by_trust meaning moment grounds.capture.now.rrsets grounds.anchors.now grounds.table.now grounds.trust.now table.of_moment
     (c.a_table_is_its_verifier.ensures.answer meaning moment grounds.capture.now.rrsets grounds.table.now table)
     c.trust_depends_on_what_is_asked.ensures.numbers c.requires c.args.name.now c.args.rtype.0
     (MatchOption-at_none _ _ c.in_default.is c.settled.ensures) in (
