@@ -1,4 +1,5 @@
 -- What the words of a command line ask for.
+pub mod Numbers
 pub mod Rows
 pub mod Values
 pub mod Walks

@@ -1,7 +1,6 @@
 -- What is told where all files were taken: the want of memory, or that the question is refused on its way.
 use Rattle.std.proofs.Common.{◌≡◌, ◌⊎◌, ◌∙◌, ℕ, List, Option, Some, inl, inr, refl, sym, subst}
-use Rattle.std.specs.Prelude.{Err, IfErr, IfSome, Ok, Result, ⊤}
-use Rattle.dnsv_message.specs.Streams.Counted.{failures_of}
+use Rattle.std.specs.Prelude.{Err, IfErr, IfSome, Ok, Result}
 use Rattle.dnsv_message.specs.Message.{Contents}
 use Rattle.dnsv_names.specs.Name.{Labels}
 use Rattle.dnsv_canonical.specs.Evidence.{Evidence, evidence_of}
@@ -26,6 +25,7 @@ use Rattle.dnssec_check.specs.Files.Faults.{OfFailedRead, OfOctets, TellsFailedR
 use Rattle.dnssec_check.specs.Files.{AreTold, Files, given_failures, octets_or_none}
 use Rattle.dnssec_check.specs.Run.{IsFirstFaultOfFiles, IsFirstFaultOfName}
 use Rattle.dnssec_check.specs.Files.Statements.{IsMeaningOf}
+use Rattle.dnssec_check.proofs.TextLemmas.Checking.{all_in_order}
 use Rattle.dnssec_check.proofs.FileLemmas.Faults.{CapturedBy, IsOther, all_taken, of_told, reads_then, TellsFaults-weaker}
 
 -- it tells no failed read
@@ -120,14 +120,7 @@ pub stopped_there : (name : Labels) (rtype moment : ℕ) (files : Files) (openin
     → IsStopped name rtype moment files (verdict_fault error)
 stopped_there name rtype moment files opening opens held anchors meaning is taken trusted said error refused =
     let evidence = of_told (λ file. (messages : List Contents) × Holds NewEvidence opening file messages × (held ≡ evidence_of messages)) is taken in record {
-      opening = opening;
-      opens = opens;
-      messages = evidence.0;
-      holds = evidence.1;
-      anchors = anchors;
-      trusted = trusted;
-      meaning = meaning;
-      said = said;
+      given = all_in_order moment files opening opens anchors meaning evidence.0 evidence.1 trusted said;
       error = error;
       refused = subst (λ (each : Evidence). IsRefusedFor (basis_of each.rrsets anchors moment meaning) name rtype error) evidence.2 refused;
       is = refl;

@@ -10,3 +10,4 @@ pub mod ReadableLemmas
 pub mod SignedLemmas
 pub mod LawLemmas
 pub mod OneReason
+pub mod OrderLemmas

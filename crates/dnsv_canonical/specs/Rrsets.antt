@@ -1,5 +1,5 @@
 -- The RRsets of messages and their signatures (RFC 2181 5, RFC 4035 5.3.1).
-use Rattle.std.specs.Prelude.{◌≡◌, ◌≢◌, ℕ, suc, ◌==◌, nat_le, Bool, IsTrue, not, ◌&&◌, List, [], ◌∷◌, ◌++◌, map, filter, take, nat_eq}
+use Rattle.std.specs.Prelude.{◌≡◌, ◌≢◌, ◌≤◌, ◌-◌, ℕ, suc, ◌==◌, nat_le, Bool, IsTrue, not, ◌&&◌, List, [], ◌∷◌, ◌++◌, map, filter, take, nat_eq, Some, slice_get}
 use Rattle.std.specs.Int.{w16, to_be_bytes}
 use Rattle.std.specs.List.{enumerate_from, list_any, starts_with}
 use Rattle.std.specs.Str.{bytes_eq}
@@ -8,6 +8,10 @@ use Rattle.dnsv_message.specs.declared.record.Record.{Record}
 use Rattle.dnsv_message.specs.declared.record.Section.{Section}
 use Rattle.dnsv_message.specs.declared.record.Section.TheVariants.{Answer, Authority, Additional}
 use Rattle.dnsv_message.specs.Message.{Contents}
+
+-- the element has the number, from 1 on, in the list
+abbrev pub IsNumbered : {X : Type 0} → List X → ℕ → X → Type 0
+IsNumbered xs number x = (1 ≤ number) × (slice_get xs (number - 1) ≡ Some x)
 
 -- an RRset: the number of its message, from 1 on, its section, the owner as its first record spells it, its type,
 -- the RDATA of its records as received, and the RDATA of its signatures

@@ -2,6 +2,7 @@
 #![tactic(auto)]
 
 pub use canonical::one_canonical_list;
+pub use canonical_order::{ReadFrom, ReadRecord, in_canonical_order};
 pub use capture::{Capture, CaptureError};
 pub use form::canonical_form_lowers_the_names;
 pub use laws::{
@@ -15,6 +16,7 @@ pub use signed::{is_expanded, signed_label_count};
 
 mod by_rrset;
 mod canonical;
+mod canonical_order;
 mod capture;
 mod draft;
 mod expanded;

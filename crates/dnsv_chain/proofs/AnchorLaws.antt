@@ -135,7 +135,8 @@ module _ (text : List ℕ) (none : (anchors : List Anchor) → AreAnchorsOf text
   no_end [] before anchors has each few =
       none anchors (record { lines = before; has = subst (λ (lines : List NumberedLine). HasLines text lines) (append-nil before) has; each = each; may_stand = few })
   no_end (line ∷ after) before anchors has each few =
-      no_first (Syntax line.number) (record {
+      let at_fault : (fault : AnchorsError) → IsFaultOfLine fault line anchors → ⊥ =
+      λ fault there. no_first fault (record {
         before = before;
         line = line;
         after = after;
@@ -143,25 +144,17 @@ module _ (text : List ℕ) (none : (anchors : List Anchor) → AreAnchorsOf text
         values = anchors;
         each = each;
         may_stand = few;
-        there = (
-          refl,
-          λ anchor says. ⊎_elim
-              (λ (room : length anchors < 64). no_end after (before ++ line ∷ []) (anchors ++ anchor ∷ [])
-              (subst (λ (lines : List NumberedLine). HasLines text lines) (sym (append_assoc before (line ∷ []) after)) has)
-              (each_more IsAnchorLine before anchors line anchor each says) (omega (arith, room, length-append anchors (anchor ∷ []))))
-              (λ (full : 64 ≤ length anchors). no_first (TooMany line.number) (record {
-                before = before;
-                line = line;
-                after = after;
-                has = has;
-                values = anchors;
-                each = each;
-                may_stand = few;
-                there = (refl, (anchor, says), omega (arith, full, few));
-              }))
-              (cases_lt (length anchors) 64),
-        );
-      })
+        there = there;
+      }) in
+      at_fault (Syntax line.number) (
+        refl,
+        λ anchor says. ⊎_elim
+            (λ (room : length anchors < 64). no_end after (before ++ line ∷ []) (anchors ++ anchor ∷ [])
+            (subst (λ (lines : List NumberedLine). HasLines text lines) (sym (append_assoc before (line ∷ []) after)) has)
+            (each_more IsAnchorLine before anchors line anchor each says) (omega (arith, room, length-append anchors (anchor ∷ []))))
+            (λ (full : 64 ≤ length anchors). at_fault (TooMany line.number) (refl, (anchor, says), omega (arith, full, few)))
+            (cases_lt (length anchors) 64),
+      )
 
   pub anchors_or_fault : ⊥
   anchors_or_fault = no_end (kept_from 1 (lines_in text)) [] [] (HasLines-read text) tt (omega arith)

@@ -19,12 +19,12 @@ use Rattle.dnsv_records.specs.declared.dnskey.Dnskey.{Dnskey}
 use Rattle.dnsv_message.specs.declared.record.Section.TheVariants as section
 use Rattle.dnsv_canonical.proofs.CanonicalLemmas.{IsCanonical-sorted}
 use Rattle.dnsv_canonical.specs.Canonical.{IsCanonical, rdata_cmp}
-use Rattle.dnsv_canonical.specs.Rrsets.{ReceivedRrset}
+use Rattle.dnsv_canonical.specs.Rrsets.{IsNumbered, ReceivedRrset}
 use Rattle.dnsv_verifier.specs.Admissible.{DnskeyRecord}
 use Rattle.dnsv_verifier.specs.declared.answer.Answer.{Answer}
 use Rattle.dnsv_verifier.specs.declared.entry.Entry.{Entry}
 use Rattle.dnsv_chain.specs.Trust.{AreSecured, AreTrustedKeys, IsTrustOf, KeptTrust, keys_among, keys_of}
-use Rattle.dnsv_chain.specs.Trusted.{IsNumbered, IsSecured}
+use Rattle.dnsv_chain.specs.Trusted.{IsSecured}
 use Rattle.dnsv_chain.specs.Chain.{AreKeysByOwner}
 use Rattle.dnsv_chain.specs.Kept.{AreDistinct, AreKeysOf, AreSigned, AreZonesBefore, IsKept, IsZoneOf}
 use Rattle.dnsv_chain.specs.Signing.{AreGoodNumbers, IsGoodNumber}

@@ -9,6 +9,7 @@ pub mod MatchingLemmas
 pub mod SigningLemmas
 pub mod StepLemmas
 pub mod TrustedLemmas
+pub mod UnusableDsLemmas
 pub mod UsableLemmas
 pub mod WalkLemmas
 pub mod ZipLemmas

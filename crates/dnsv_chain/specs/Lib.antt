@@ -11,3 +11,4 @@ pub mod Order
 pub mod Signing
 pub mod Trust
 pub mod Trusted
+pub mod UnusableDs

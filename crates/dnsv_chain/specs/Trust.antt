@@ -31,6 +31,10 @@ keys_of trust zone = keys_among trust.zones zone
 abbrev pub signed_of : KeptTrust → ℕ → List ℕ
 signed_of trust k = if k == 0 then [] else slice_index_or trust.signed (k - 1) []
 
+-- signature s of RRset k is secured, as the trust has it
+abbrev pub SecuredIn : KeptTrust → ℕ → ℕ → Type 0
+SecuredIn trust k s = Contains (signed_of trust k) s
+
 -- the keys of the trusted sets at the zone, each once, in the order of their RDATA as unsigned octets
 pub record AreTrustedKeys
     (meaning : Entry → Answer) (moment : ℕ) (rrsets : List ReceivedRrset) (anchors : List Anchor)

@@ -1,13 +1,13 @@
 -- Which DNSKEY RRsets of the evidence are trusted, and which signatures that makes good (RFC 4035 5).
-use Rattle.std.specs.Prelude.{◌≡◌, ◌≤◌, ℕ, ◌-◌, List, Contains, Some}
-use Rattle.std.specs.List.{AllZip, slice_get}
+use Rattle.std.specs.Prelude.{◌≡◌, ℕ, List, Contains}
+use Rattle.std.specs.List.{AllZip}
 use Rattle.dnsv_names.specs.Name.{Labels, SameName}
 use Rattle.dnsv_records.specs.Dnskey.{IsDnskey}
 use Rattle.dnsv_records.specs.Ds.{IsDs}
 use Rattle.dnsv_records.specs.Rrsig.{IsRrsig}
 use Rattle.dnsv_records.specs.declared.ds.Ds.{Ds}
 use Rattle.dnsv_records.specs.declared.rrsig.Rrsig.{Rrsig}
-use Rattle.dnsv_canonical.specs.Rrsets.{ReceivedRrset}
+use Rattle.dnsv_canonical.specs.Rrsets.{IsNumbered, ReceivedRrset}
 use Rattle.dnsv_verifier.specs.Admissible.{DnskeyRecord, IsGood, IsSignatureOf}
 use Rattle.dnsv_verifier.specs.declared.answer.Answer.{Answer}
 use Rattle.dnsv_verifier.specs.declared.entry.Entry.{Entry}
@@ -87,10 +87,6 @@ pub record IsGoodByTrust
   pub key : DnskeyRecord
   pub stands : IsKeyOf set key
   pub good : IsGood meaning moment rrset rrsig key
-
--- the element has the number, from 1 on, in the list
-abbrev pub IsNumbered : {X : Type 0} → List X → ℕ → X → Type 0
-IsNumbered xs number x = (1 ≤ number) × (slice_get xs (number - 1) ≡ Some x)
 
 -- signature s of RRset k is good under a key of a trusted set of its signer; both are numbered from 1 on
 pub record IsSecured

@@ -1,6 +1,6 @@
 //! Trust anchors.
-ghost use Rattle.std.specs.Prelude.{◌↔◌, IsTrue};
-ghost use Rattle.dnsv_chain.specs.Anchor.{IsAnchorMatch};
+ghost use Rattle.std.specs.Prelude.{◌≡◌, ◌↔◌, IsTrue};
+ghost use Rattle.dnsv_chain.specs.Anchor.{IsAnchorMatch, anchor_owner};
 
 use crate::matching::is_match;
 use dnsv_names::Name;
@@ -17,6 +17,15 @@ pub enum Anchor {
 }
 
 impl Anchor {
+    /// The owner.
+    pub fn owner(&self) -> &Name
+        ensures { result.now ≡ anchor_owner self.now }
+    {
+        match self {
+            Anchor::Ds { owner, .. } | Anchor::Key { owner, .. } => owner,
+        }
+    }
+
     /// Whether the anchor matches the key: it has the same owner, and either is a DS record that matches the key, or
     /// has the very RDATA.
     pub fn is_match(&self, key: &KeyRecord<'_>) -> bool

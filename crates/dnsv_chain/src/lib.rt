@@ -13,6 +13,7 @@ pub use laws::{
 };
 pub use matching::{has_usable_match, is_match};
 pub use trust::Trust;
+pub use unusable_ds::is_unusable_ds;
 pub use usable::{goes_before, has_usable, is_usable};
 
 mod anchor;
@@ -27,4 +28,5 @@ mod matching;
 mod order;
 mod signing;
 mod trust;
+mod unusable_ds;
 mod usable;

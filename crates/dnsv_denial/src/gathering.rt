@@ -1,5 +1,4 @@
 //! The records of zones, gathered from the evidence.
-pub mod canonical_order;
 pub mod nsec;
 pub mod nsec3;
 pub mod secured;

@@ -11,7 +11,7 @@ ghost use Rattle.dnsv_zones.specs.zones.TypeNumbers.{rrsig, nsec};
 ghost use Rattle.dnsv_zones.specs.zones.Types.{IsUnsignedDelegation};
 ghost use Rattle.dnsv_zones.specs.zones.Zone.{Zone, Holds};
 ghost use Rattle.dnsv_canonical.specs.Evidence.{AreParameters, nsec3_rdata};
-ghost use Rattle.dnsv_denial.specs.Viewed.{SecuredIn};
+ghost use Rattle.dnsv_chain.specs.Trust.{SecuredIn};
 ghost use Rattle.dnsv_denial.specs.proving.FirstProof.{
   CanProveNoCloser,
   CanProveNoData,
@@ -59,7 +59,8 @@ pub struct View<'c, 't> {
 }
 
 impl<'c, 't> Model for View<'c, 't> {
-    ghost use Rattle.dnsv_denial.specs.Viewed.{SecuredIn, Viewed};
+    ghost use Rattle.dnsv_chain.specs.Trust.{SecuredIn};
+    ghost use Rattle.dnsv_denial.specs.Viewed.{Viewed};
     ghost use Rattle.dnsv_denial.specs.WildcardAnswers.{AreAnswers};
     ghost use Rattle.dnsv_denial.specs.gathering.Kept.{IsViewOf};
 

@@ -1,8 +1,7 @@
 //! What the records kept for a name show against answers from wildcards, each zone and number of labels asked once.
 ghost use Rattle.std.specs.Prelude.{IfOk, IsTrue, List, OnOk};
 ghost use Rattle.dnsv_canonical.specs.Rrsets.{ReceivedRrset};
-ghost use Rattle.dnsv_chain.specs.Trust.{KeptTrust};
-ghost use Rattle.dnsv_denial.specs.Viewed.{SecuredIn};
+ghost use Rattle.dnsv_chain.specs.Trust.{KeptTrust, SecuredIn};
 ghost use Rattle.dnsv_denial.specs.WildcardAnswers.{AreAnswers, IsShown};
 ghost use Rattle.dnsv_denial.specs.gathering.Kept.{IsViewOf};
 ghost use Rattle.dnsv_denial.specs.proving.FirstProof.{CanProveNoCloser};

@@ -1,8 +1,6 @@
 pub mod Base64Lemmas
 pub mod CompareLemmas
-pub mod DecimalLemmas
 pub mod EndLemmas
-pub mod FieldLemmas
 pub mod LineFileLemmas
 pub mod LineLemmas
 pub mod LowerLemmas

@@ -1,4 +1,6 @@
 -- Where a text is cut: before and behind the first of some octets.
+pub mod DecimalLemmas
+pub mod FieldLemmas
 use Rattle.std.proofs.Common.{◌≡◌, ◌≢◌, ℕ, zero, suc, ◌+◌, ◌<◌, ◌≤◌, List, [], ◌∷◌, ◌++◌, get_or, length, take, drop, refl, sym, ap, ◌∙◌, arith, append_assoc, length-append, Bool, true, false, cond, not, ltb, nat_lt, ◌==◌, Option, Some, None}
 use Rattle.std.proofs.lemmas.Bool.Decides.{nat_tests}
 use Rattle.std.proofs.lemmas.List.{take_at, drop_at}

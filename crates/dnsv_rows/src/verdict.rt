@@ -7,8 +7,8 @@ use crate::row::{Row, RowError, printed};
 use crate::verifier::statements_of;
 use dnsv_denial::Proof;
 use dnsv_names::RecordType;
-use dnsv_verdict::{Entries, Link, Report, Verdict, VerdictError, validate};
-use dnsv_verifier::{Panel, Verifier};
+use dnsv_verdict::{Link, Report, Verdict, VerdictError, validate};
+use dnsv_verifier::{Entries, Panel, Verifier};
 use std::alloc::Global;
 
 /// What the library answers, where it has the call.

@@ -12,12 +12,12 @@ use Rattle.dnsv_zones.specs.forms.Forms.{NoNameForm, NoDataForms, UnsignedCutFor
 use Rattle.dnsv_zones.specs.forms.Parts.{OptsOut}
 use Rattle.dnsv_zones.specs.forms.RecordWords.{words}
 use Rattle.dnsv_zones.specs.zones.Types.{Denies, IsUnsignedDelegation}
-use Rattle.dnsv_canonical.specs.Rrsets.{ReceivedRrset}
+use Rattle.dnsv_canonical.specs.Rrsets.{IsNumbered, ReceivedRrset}
 use Rattle.dnsv_verifier.specs.Admissible.{DnskeyRecord}
 use Rattle.dnsv_verifier.specs.declared.answer.Answer.{Answer}
 use Rattle.dnsv_verifier.specs.declared.entry.Entry.{Entry}
-use Rattle.dnsv_chain.specs.Anchor.{IsAnchorMatch}
-use Rattle.dnsv_chain.specs.Trusted.{IsTrusted, anchored, delegated, IsGoodByTrust, IsKeyOf, IsNumbered, IsSecured}
+use Rattle.dnsv_chain.specs.Anchor.{IsAnchorMatch, anchor_owner}
+use Rattle.dnsv_chain.specs.Trusted.{IsTrusted, anchored, delegated, IsGoodByTrust, IsKeyOf, IsSecured}
 use Rattle.dnsv_chain.specs.declared.anchor.Anchor.{Anchor}
 use Rattle.dnsv_chain.specs.declared.anchor.Anchor.TheVariants.{Ds, Key}
 use Rattle.dnsv_denial.specs.gathering.Evidence.{IsSecuredBy}
@@ -29,7 +29,7 @@ use Rattle.dnsv_denial.specs.declared.records.number.RecordNumber.{RecordNumber}
 use Rattle.dnsv_verdict.proofs.CaseLemmas.{some_is_one}
 use Rattle.dnsv_verdict.specs.Secure.{IsSecuredAt}
 use Rattle.dnsv_verdict.specs.Settled.{IsSettled}
-use Rattle.dnsv_verdict.specs.Verdict.{Basis, HasAnchor, IsVerdictAt, IsSettledBy, anchor_owner, hopeful}
+use Rattle.dnsv_verdict.specs.Verdict.{Basis, HasAnchor, IsVerdictAt, IsSettledBy, hopeful}
 use Rattle.dnsv_verdict.specs.declared.verdict.Verdict.{Verdict}
 use Rattle.dnsv_verdict.specs.declared.verdict.Verdict.TheVariants.{Indeterminate}
 

@@ -12,8 +12,7 @@ use Rattle.dnsv_records.specs.Rrsig.{IsRrsig}
 use Rattle.dnsv_records.specs.declared.rrsig.Rrsig.{Rrsig}
 use Rattle.dnsv_canonical.specs.Rrsets.{ReceivedRrset}
 use Rattle.dnsv_verdict.specs.Secure.{IsFirstSuch, IsSecuredAt}
-use Rattle.dnsv_chain.specs.Trust.{KeptTrust, signed_of}
-use Rattle.dnsv_denial.specs.Viewed.{SecuredIn}
+use Rattle.dnsv_chain.specs.Trust.{KeptTrust, SecuredIn, signed_of}
 use Rattle.dnsv_verdict.specs.Search.{IsFirstFound, IsFound}
 
 -- ---- lists side by side

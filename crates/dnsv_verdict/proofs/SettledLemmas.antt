@@ -6,9 +6,8 @@ use Rattle.std.proofs.Common.{◌≡◌, ◌⊎◌, ℕ, List, inl, inr, ⊎_eli
 use Rattle.dnsv_names.specs.Name.{Labels}
 use Rattle.dnsv_records.specs.declared.rrsig.Rrsig.{Rrsig}
 use Rattle.dnsv_zones.specs.zones.TypeNumbers.{cname}
-use Rattle.dnsv_canonical.specs.Rrsets.{ReceivedRrset}
+use Rattle.dnsv_canonical.specs.Rrsets.{IsNumbered, ReceivedRrset}
 use Rattle.dnsv_canonical.specs.SignedData.{IsExpanded}
-use Rattle.dnsv_chain.specs.Trusted.{IsNumbered}
 use Rattle.dnsv_denial.specs.proving.FirstProof.{CanProveNoCloser}
 use Rattle.dnsv_verdict.proofs.SettledLemmas.EvidenceLemmas.{no_name_can_to, no_data_can_to, no_closer_can_to, has_cut_to, opt_out_closer_to, first_no_name_to, first_no_data_to, cut_is_to}
 use Rattle.dnsv_verdict.proofs.SearchLemmas.FirstSuchLemmas.{first_such_respects}

@@ -2,17 +2,17 @@
 use Rattle.std.proofs.Common.{◌≡◌, ℕ, List, subst, sym}
 use Rattle.dnsv_canonical.specs.Rrsets.{ReceivedRrset}
 use Rattle.dnsv_verifier.specs.Admissible.{IsAsked}
-use Rattle.dnsv_verifier.specs.Table.{TableContents, table_answer}
+use Rattle.dnsv_verifier.specs.Table.{IsTableOf, TableContents, table_answer}
 use Rattle.dnsv_verifier.specs.declared.answer.Answer.{Answer}
 use Rattle.dnsv_verifier.specs.declared.entry.Entry.{Entry}
-use Rattle.dnsv_chain.specs.Trust.{IsTrustOf, KeptTrust}
+use Rattle.dnsv_chain.specs.Trust.{IsTrustOf, KeptTrust, SecuredIn}
 use Rattle.dnsv_chain.specs.Trusted.{IsSecured}
 use Rattle.dnsv_chain.specs.declared.anchor.Anchor.{Anchor}
-use Rattle.dnsv_denial.specs.Viewed.{SecuredIn}
 use Rattle.dnsv_names.specs.Name.{Labels}
 use Rattle.dnsv_verdict.proofs.SettledLemmas.{settled_as_to, settled_to}
 use Rattle.dnsv_verdict.specs.Settled.{IsSettled, IsSettledAs}
-use Rattle.dnsv_verdict.specs.Verdict.{Basis, IsVerdictAt, IsSettledAsBy}
+use Rattle.dnsv_verdict.specs.Verdict.{Basis, IsSettledAsBy, IsSettledBy, IsVerdictAt, basis_of}
+use Rattle.dnsv_verdict.specs.declared.grounds.Grounds.{Grounds}
 use Rattle.dnsv_verdict.specs.declared.verdict.Verdict.{Verdict}
 use Rattle.dnsv_verdict.specs.declared.verdict.Verdict.TheVariants.{SecureAnswer, SecureAlias, SecureNoName, SecureNoData, Insecure, Pending, Bogus, Indeterminate}
 
@@ -47,6 +47,20 @@ module _ (meaning : Entry → Answer) (moment : ℕ) (rrsets : List ReceivedRrse
       → IsSettledAs (IsSecured meaning moment rrsets anchors) rrsets name t verdict
   settled_as_by_trust name t verdict =
       settled_as_to (SecuredIn trust) (IsSecured meaning moment rrsets anchors) secured_to secured_from rrsets name t verdict
+
+-- what the trust of these grounds doesn't settle, the verifier doesn't
+pub unsettled_on : (grounds : Grounds) (meaning : Entry → Answer) (moment : ℕ)
+    → IsTableOf meaning moment grounds.capture.now.rrsets grounds.table.now
+    → ((entry : Entry) → IsAsked moment grounds.capture.now.rrsets entry → table_answer grounds.table.now entry ≡ meaning entry)
+    → ((first second : Entry → Answer) (moment : ℕ) (rrsets : List ReceivedRrset) (anchors : List Anchor)
+    → ((entry : Entry) → IsAsked moment rrsets entry → first entry ≡ second entry)
+    → (k s : ℕ) → IsSecured first moment rrsets anchors k s → IsSecured second moment rrsets anchors k s)
+    → IsTrustOf (table_answer grounds.table.now) grounds.table.now.moment grounds.capture.now.rrsets grounds.anchors.now grounds.trust.now
+    → (name : Labels) (t : ℕ) → ¬ IsSettled (SecuredIn grounds.trust.now) grounds.capture.now.rrsets name t
+    → ¬ IsSettledBy (basis_of grounds.capture.now.rrsets grounds.anchors.now moment meaning) name t
+unsettled_on grounds meaning moment table says depends is name t none =
+    unsettled_by_trust meaning moment grounds.capture.now.rrsets grounds.anchors.now grounds.table.now grounds.trust.now
+    table.of_moment says depends is name t none
 
 -- what is settled is the verdict
 pub settled_is_verdict : (basis : Basis) (name : Labels) (t : ℕ) (verdict : Verdict) → IsSettledAsBy basis name t verdict → IsVerdictAt basis name t verdict

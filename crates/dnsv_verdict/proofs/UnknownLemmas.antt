@@ -1,8 +1,8 @@
 -- What the verifier doesn't know, in order.
-use Rattle.std.proofs.Common.{◌≡◌, ◌⊎◌, ◌==◌, true, List, [], ◌∷◌, length, map, cond, refl, sym, ap, ◌∙◌, subst, inl, inr, ⊎_elim, arith}
-use Rattle.std.proofs.lemmas.Bool.Decides.{nat_tests}
+use Rattle.std.proofs.Common.{ℕ, ◌≡◌, ◌⊎◌, List, [], ◌∷◌, map, cond, refl, sym, ap, ◌∙◌, subst, inl, inr, ⊎_elim}
 use Rattle.std.specs.Prelude.{filter}
 use Rattle.std.specs.List.Sorted.{IsStrictlySortedBy}
+use Rattle.dnsv_canonical.specs.Rrsets.{ReceivedRrset}
 use Rattle.dnsv_canonical.proofs.CanonicalLemmas.{rising_unique, IsMember, Contains-from_member, IsMember-from_contains}
 use Rattle.dnsv_verifier.specs.Entry.{entry_cmp}
 use Rattle.dnsv_verifier.specs.EntryLaws.{entry_cmp_total, entry_Equal}
@@ -89,3 +89,8 @@ pub none_unknown : (basis : Basis) (contents : TableContents) → IsTableOf basi
     → unknown_entries contents ≡ [] → AreUnknown basis []
 unfolding IsStrictlySortedBy
 none_unknown basis contents is none = table_unknown basis contents is [] (sym none) tt
+
+-- a table that was made as the hopeful one is that of the hopeful verifier
+pub hoped_table : (hoped : Entry → Answer) (moment : ℕ) (rrsets : List ReceivedRrset) {made table : TableContents} → made ≡ table
+    → IsTableOf hoped moment rrsets table → IsTableOf hoped moment rrsets made
+hoped_table hoped moment rrsets is of_table = subst (λ each. IsTableOf hoped moment rrsets each) (sym is) of_table

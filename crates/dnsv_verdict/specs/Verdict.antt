@@ -1,5 +1,5 @@
 -- The verdict on a question: the first of eight cases that holds.
-use Rattle.std.specs.Prelude.{◌≡◌, ◌↔◌, ℕ, List, Contains, length}
+use Rattle.std.specs.Prelude.{◌≡◌, ◌↔◌, ℕ, List, Contains}
 use Rattle.std.specs.List.Sorted.{IsStrictlySortedBy}
 use Rattle.dnsv_names.specs.Name.{Labels, IsAtOrBelow}
 use Rattle.dnsv_canonical.specs.Rrsets.{ReceivedRrset}
@@ -9,12 +9,12 @@ use Rattle.dnsv_verifier.specs.Table.{hoped_answer}
 use Rattle.dnsv_verifier.specs.declared.answer.Answer.{Answer}
 use Rattle.dnsv_verifier.specs.declared.answer.Answer.TheVariants.{Unknown}
 use Rattle.dnsv_verifier.specs.declared.entry.Entry.{Entry}
+use Rattle.dnsv_chain.specs.Anchor.{anchor_owner}
 use Rattle.dnsv_chain.specs.Trusted.{IsSecured}
 use Rattle.dnsv_chain.specs.declared.anchor.Anchor.{Anchor}
-use Rattle.dnsv_chain.specs.declared.anchor.Anchor.TheVariants.{Ds, Key}
 use Rattle.dnsv_verdict.specs.Settled.{IsSettled, IsSettledAs}
 use Rattle.dnsv_verdict.specs.declared.verdict.Verdict.{Verdict}
-use Rattle.dnsv_verdict.specs.declared.verdict.Verdict.TheVariants.{SecureAnswer, SecureAlias, SecureNoName, SecureNoData, Insecure, Pending, Bogus, Indeterminate}
+use Rattle.dnsv_verdict.specs.declared.verdict.Verdict.TheVariants.{Pending, Bogus, Indeterminate}
 
 -- ---- what a question is judged by
 
@@ -63,21 +63,9 @@ pub record AreUnknown (basis : Basis) (entries : List Entry) : Type 0 where
   pub members : (entry : Entry) → Contains entries entry
       ↔ (IsAsked basis.moment basis.rrsets entry × (basis.meaning entry ≡ Unknown))
 
--- the owner of a trust anchor
-abbrev pub anchor_owner : Anchor → Labels
-anchor_owner (Ds owner ds) = owner
-anchor_owner (Key owner rdata) = owner
-
 -- 7: there is a trust anchor at or above the name (RFC 4035 4.3). 8: there is none.
 abbrev pub HasAnchor : List Anchor → Labels → Type 0
 HasAnchor anchors name = (anchor : Anchor) × Contains anchors anchor × IsAtOrBelow name (anchor_owner anchor)
-
--- so many entries are asked: those of a list that has each once
-pub record IsNumberAsked (moment : ℕ) (rrsets : List ReceivedRrset) (count : ℕ) : Type 0 where
-  pub entries : List Entry
-  pub rising : IsStrictlySortedBy entry_cmp entries
-  pub members : (entry : Entry) → Contains entries entry ↔ IsAsked moment rrsets entry
-  pub is : count ≡ length entries
 
 -- ---- the verdict
 

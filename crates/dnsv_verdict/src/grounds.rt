@@ -8,16 +8,15 @@ ghost use Rattle.dnsv_chain.specs.Trust.{IsTrustOf};
 ghost use Rattle.dnsv_verifier.specs.Table.{IsTableOf, table_answer};
 ghost use Rattle.dnsv_verifier.specs.declared.answer.Answer.{Answer};
 ghost use Rattle.dnsv_verifier.specs.declared.entry.Entry.{Entry};
-ghost use Rattle.dnsv_verdict.specs.Verdict.{HasAnchor, IsSettledBy, IsVerdictAt, MayBeSettledBy, anchor_owner, basis_of};
+ghost use Rattle.dnsv_verdict.specs.Verdict.{HasAnchor, IsSettledBy, IsVerdictAt, MayBeSettledBy, basis_of};
 
-use crate::entries::Entries;
 use crate::settled::settled;
 use crate::verdict::Verdict;
 use dnsv_canonical::Capture;
-use dnsv_chain::{Anchor, Anchors, Trust, trust_depends_on_what_is_asked, trusted};
+use dnsv_chain::{Anchors, Trust, trust_depends_on_what_is_asked, trusted};
 use dnsv_denial::{Hashes, View};
 use dnsv_names::{Count, Name, RecordType};
-use dnsv_verifier::{Table, a_table_is_its_verifier, unknown_entries_may_turn_out_valid};
+use dnsv_verifier::{Entries, Table, a_table_is_its_verifier, unknown_entries_may_turn_out_valid};
 use std::alloc::{AllocError, Global};
 
 /// What questions are judged by: the evidence, the trust anchors, and what the verifier says at the moment.
@@ -26,20 +25,21 @@ pub struct Grounds<'a> {
     pub capture: &'a Capture,
     pub anchors: &'a Anchors,
     pub table: &'a Table,
+    /// What the three make trusted.
+    pub trust: &'a Trust,
 }
 
-/// The verdict at the name, for the type. `trust` is that of the grounds. `hashed` grows by the SHA-1 digests that are
+/// The verdict at the name, for the type. `hashed` grows by the SHA-1 digests that are
 /// worked out. The verifier isn't asked again.
 pub fn verdict_at(
     alloc: Global,
     grounds: &Grounds<'_>,
-    trust: &Trust,
     name: &Name,
     rtype: RecordType,
     hashed: &mut Count,
 ) -> Result<Verdict, AllocError>
     requires { IsTrustOf (table_answer grounds.now.table.now) grounds.now.table.now.moment
-        grounds.now.capture.now.rrsets grounds.now.anchors.now trust.now }
+        grounds.now.capture.now.rrsets grounds.now.anchors.now grounds.now.trust.now }
     ensures value { (meaning : Entry → Answer) (moment : ℕ)
         → IsTableOf meaning moment grounds.now.capture.now.rrsets grounds.now.table.now
         → IfOk result (IsVerdictAt (basis_of grounds.now.capture.now.rrsets grounds.now.anchors.now moment meaning)
@@ -51,8 +51,8 @@ pub fn verdict_at(
     a_table_is_its_verifier();
     trust_depends_on_what_is_asked();
     let hashes = Hashes::new(alloc, grounds.capture, name, hashed)?;
-    let view = View::with(alloc, grounds.capture, trust, &hashes)?;
-    if let Some(verdict) = settled(grounds.capture, trust, name, rtype, &view) {
+    let view = View::with(alloc, grounds.capture, grounds.trust, &hashes)?;
+    if let Some(verdict) = settled(grounds.capture, grounds.trust, name, rtype, &view) {
         return Ok(verdict);
     }
     if may_be_settled(alloc, grounds, &hashes, name, rtype)? {
@@ -106,14 +106,5 @@ fn has_anchor(anchors: &Anchors, name: &Name) -> bool
     anchors
         .as_slice()
         .iter()
-        .any(|anchor| name.is_at_or_below(owner_of(anchor)))
-}
-
-/// The owner of the trust anchor.
-fn owner_of(anchor: &Anchor) -> &Name
-    ensures { result.now ≡ anchor_owner anchor.now }
-{
-    match anchor {
-        Anchor::Ds { owner, .. } | Anchor::Key { owner, .. } => owner,
-    }
+        .any(|anchor| name.is_at_or_below(anchor.owner()))
 }

@@ -3,7 +3,6 @@
 #![tactic(auto)]
 
 pub use complete::a_whole_chain_is_told_by_the_verdict;
-pub use entries::Entries;
 pub use error::VerdictError;
 pub use laws::{
     a_question_has_a_verdict, a_question_has_one_verdict,
@@ -16,7 +15,6 @@ pub use verdict::Verdict;
 pub use ways::a_question_leads_one_way;
 
 mod complete;
-mod entries;
 mod error;
 mod grounds;
 mod laws;

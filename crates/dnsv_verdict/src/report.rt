@@ -11,7 +11,8 @@ ghost use Rattle.dnsv_chain.specs.Trusted.{IsSecured};
 ghost use Rattle.dnsv_verdict.specs.Complete.{TellsWholeChains};
 ghost use Rattle.dnsv_verdict.specs.Hashed.{IsFewHashedOn, IsNumberHashedOn, hashes_on};
 ghost use Rattle.dnsv_verdict.specs.Meaning.{IsTrueOfZones};
-ghost use Rattle.dnsv_verdict.specs.Verdict.{IsNumberAsked, basis_of};
+ghost use Rattle.dnsv_verifier.specs.Asked.{IsNumberAsked};
+ghost use Rattle.dnsv_verdict.specs.Verdict.{basis_of};
 ghost use Rattle.dnsv_verdict.specs.Way.{IsRefusal, IsVerdictOf, names_on};
 ghost use Rattle.dnsv_verdict.specs.declared.error.VerdictError.{VerdictError};
 
@@ -99,9 +100,10 @@ pub fn validate<V: Verifier>(
         capture,
         anchors,
         table: &table,
+        trust: &trust,
     };
     let mut hashed = Count::new();
-    let followed = follow(alloc, &grounds, &trust, name, rtype, &mut hashed)?;
+    let followed = follow(alloc, &grounds, name, rtype, &mut hashed)?;
     let hashed = exact_hashed(&hashed, capture, &followed.way);
     Ok(Report {
         links: followed.way.links,

@@ -2,7 +2,7 @@
 ghost use Rattle.std.specs.Prelude.{◌≡◌, ◌↔◌, ℕ, Contains, IsTrue, MatchOption};
 ghost use Rattle.dnsv_records.specs.declared.rrsig.Rrsig.{Rrsig};
 ghost use Rattle.dnsv_canonical.specs.Rrsets.{ReceivedRrset};
-ghost use Rattle.dnsv_denial.specs.Viewed.{SecuredIn};
+ghost use Rattle.dnsv_chain.specs.Trust.{SecuredIn};
 ghost use Rattle.dnsv_verdict.specs.Search.{IsFirstFound, IsFound};
 ghost use Rattle.dnsv_verdict.specs.Secure.{IsFirstSuch, IsSecuredAt};
 

@@ -1,7 +1,7 @@
 //! What the evidence settles about a question, if it settles it.
 ghost use Rattle.std.specs.Prelude.{◌≡◌, ◌≢◌, ℕ, MatchOption};
 ghost use Rattle.dnsv_zones.specs.zones.TypeNumbers.{cname};
-ghost use Rattle.dnsv_denial.specs.Viewed.{SecuredIn};
+ghost use Rattle.dnsv_chain.specs.Trust.{SecuredIn};
 ghost use Rattle.dnsv_verdict.specs.Insecure.{IsOptOutWildcardCut, IsOptOutWildcardSet};
 ghost use Rattle.dnsv_verdict.specs.Secure.{IsFirstSuch, IsSecureSet};
 ghost use Rattle.dnsv_verdict.specs.Settled.{HasAlias, IsSettled, IsSettledAs};
@@ -123,7 +123,7 @@ struct HoldsForName<'v, 'c, 't> {
 
 impl Test for HoldsForName<'_, '_, '_> {
     ghost use Rattle.std.specs.Prelude.{◌≡◌};
-    ghost use Rattle.dnsv_denial.specs.Viewed.{SecuredIn};
+    ghost use Rattle.dnsv_chain.specs.Trust.{SecuredIn};
     ghost use Rattle.dnsv_verdict.specs.Secure.{HoldsForName};
 
     ghost passes = { λ test rrset rrsig. (rrset.rtype ≡ test.rtype.0)
@@ -153,7 +153,7 @@ struct IsOptOutWildcard<'v, 'c, 't> {
 impl Test for IsOptOutWildcard<'_, '_, '_> {
     ghost use Rattle.std.specs.Prelude.{◌≡◌, ◌⊎◌};
     ghost use Rattle.dnsv_zones.specs.zones.TypeNumbers.{cname};
-    ghost use Rattle.dnsv_denial.specs.Viewed.{SecuredIn};
+    ghost use Rattle.dnsv_chain.specs.Trust.{SecuredIn};
     ghost use Rattle.dnsv_verdict.specs.Insecure.{IsOptOutWildcard};
 
     ghost passes = { λ test rrset rrsig. ((rrset.rtype ≡ test.rtype.0) ⊎ (rrset.rtype ≡ cname))

@@ -3,8 +3,7 @@ ghost use Rattle.std.specs.Prelude.{◌≡◌, [], ◌∷◌, IfOk, MatchOption,
 ghost use Rattle.dnsv_names.specs.Name.{Labels, IsName, wire};
 ghost use Rattle.dnsv_canonical.specs.Canonical.{IsCanonical};
 ghost use Rattle.dnsv_canonical.specs.CanonicalRdata.{canonical_form};
-ghost use Rattle.dnsv_canonical.specs.Rrsets.{ReceivedRrset};
-ghost use Rattle.dnsv_chain.specs.Trusted.{IsNumbered};
+ghost use Rattle.dnsv_canonical.specs.Rrsets.{IsNumbered, ReceivedRrset};
 ghost use Rattle.dnsv_verdict.specs.Way.{IsTarget};
 
 use dnsv_canonical::{Capture, Rrset, canonical_rrset};

@@ -1,7 +1,7 @@
 //! What a question's evidence comes to.
-use crate::entries::Entries;
 use dnsv_denial::Proof;
 use dnsv_names::Name;
+use dnsv_verifier::Entries;
 
 /// What the evidence says of a question. RRsets, and the signatures of each, are numbered from 1.
 #[derive(Debug, Drop)]

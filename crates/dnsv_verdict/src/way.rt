@@ -23,7 +23,6 @@ use crate::link::{LINK_LIMIT, Link, Links};
 use crate::target::target_of;
 use crate::verdict::Verdict;
 use dnsv_canonical::is_question;
-use dnsv_chain::Trust;
 use dnsv_names::{Count, Name, RecordType, counts_add_up};
 use std::alloc::Global;
 
@@ -41,8 +40,8 @@ pub struct Followed {
     pub verdict: Verdict,
 }
 
-/// Follows secure aliases from the name on, and gives the verdict at the last name, which is none. `trust` is that of
-/// the grounds. `hashed` grows by the SHA-1 digests that are worked out, at each name.
+/// Follows secure aliases from the name on, and gives the verdict at the last name, which is none. `hashed` grows by
+/// the SHA-1 digests that are worked out, at each name.
 ///
 /// An alias that can't be followed is refused: `AliasTargets` where it has no one target, `AliasLoop` where the target
 /// is a name of the way, `TooManyLinks` where it would be the ninth link, `BadQuestion` where the type can't be asked
@@ -50,13 +49,12 @@ pub struct Followed {
 pub fn follow(
     alloc: Global,
     grounds: &Grounds<'_>,
-    trust: &Trust,
     name: &Name,
     rtype: RecordType,
     hashed: &mut Count,
 ) -> Result<Followed, VerdictError>
     requires { IsTrustOf (table_answer grounds.now.table.now) grounds.now.table.now.moment
-        grounds.now.capture.now.rrsets grounds.now.anchors.now trust.now }
+        grounds.now.capture.now.rrsets grounds.now.anchors.now grounds.now.trust.now }
     ensures value { (meaning : Entry → Answer) (moment : ℕ)
         → IsTableOf meaning moment grounds.now.capture.now.rrsets grounds.now.table.now
         → IfOk result (λ followed. IsVerdictOf (basis_of grounds.now.capture.now.rrsets grounds.now.anchors.now moment
@@ -79,7 +77,7 @@ pub fn follow(
         last: name.clone()?,
     };
     'links: loop {
-        let verdict = verdict_at(alloc, grounds, trust, &way.last, rtype, hashed)?;
+        let verdict = verdict_at(alloc, grounds, &way.last, rtype, hashed)?;
         let Some((rrset, signature)) = alias_of(&verdict) else {
             return Ok(Followed { way, verdict });
         };

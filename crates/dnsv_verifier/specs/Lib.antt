@@ -1,4 +1,5 @@
 pub mod Admissible
+pub mod Asked
 pub mod Asking
 pub mod Entry
 pub mod EntryLaws

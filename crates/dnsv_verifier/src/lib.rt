@@ -4,6 +4,7 @@
 pub use admissible::{is_admissible, is_verifiable, may_have_made};
 pub use answer::Answer;
 pub use ask::ask_all;
+pub use entries::Entries;
 pub use entry::Entry;
 pub use entry::borrowed_entry::BorrowedEntry;
 pub use hex_field::hex_octets;
@@ -22,6 +23,7 @@ pub use verifier::Verifier;
 mod admissible;
 mod answer;
 mod ask;
+mod entries;
 mod entry;
 mod entry_key;
 mod hex_field;

@@ -255,21 +255,17 @@ module _ {R U : Type 0} {remaining : R → Option (List ℕ)} {before after : In
       opened = not_opened result only;
     }
 
+if_weaker : {T : Type 0} (P Q : Fault → Type 0) (result : Result T Fault) → ((fault : Fault) → P fault → Q fault)
+    → IfErr result (OfOctets P) → IfErr result (OfOctets Q)
+if_weaker P Q (Ok x) weaker none = tt
+if_weaker P Q (Err told) weaker holds = OfOctets-weaker P Q told weaker holds
+
 -- what is the first fault of files is told as that of more
 pub TellsFaults-weaker : {R T : Type 0} {remaining : R → Option (List ℕ)} {before after : Inputs R} (P Q : Files → Fault → Type 0) (result : Result T Fault)
     → ((files : Files) (fault : Fault) → P files fault → Q files fault)
     → TellsFaults P remaining before after result → TellsFaults Q remaining before after result
-TellsFaults-weaker P Q (Ok x) weaker tells = record {
-  first = λ files are. tt;
-  capture = tells.capture;
-  anchors = tells.anchors;
-  statements = tells.statements;
-  keys = tells.keys;
-  macs = tells.macs;
-  opened = tells.opened;
-}
-TellsFaults-weaker P Q (Err told) weaker tells = record {
-  first = λ files are. OfOctets-weaker (P files) (Q files) told (weaker files) (tells.first files are);
+TellsFaults-weaker P Q result weaker tells = record {
+  first = λ files are. if_weaker (P files) (Q files) result (weaker files) (tells.first files are);
   capture = tells.capture;
   anchors = tells.anchors;
   statements = tells.statements;

@@ -22,20 +22,19 @@ use Rattle.dnssec_check.specs.declared.status.Refusal.TheVariants as refusal
 use Rattle.dnssec_check.specs.declared.status.Status.{Status}
 use Rattle.dnssec_check.specs.Files.Anchors.{HasAnchors, IsFaultOfAnchors}
 use Rattle.dnssec_check.specs.Files.Capture.{AnyMessage, NewEvidence, Holds, IsFaultOfCapture}
-use Rattle.dnssec_check.specs.Texts.Checking.{IsCheck, IsStopped, verdict_fault}
+use Rattle.dnssec_check.specs.Texts.Checking.{AreInOrder, IsCheck, IsStopped, basis_in, verdict_fault}
 use Rattle.dnssec_check.specs.Opening.Given.{IsOpeningOf, IsFaultOfOpening}
 use Rattle.dnssec_check.specs.Files.{Files, octets_or_none}
 use Rattle.dnssec_check.specs.Opening.Keys.{IsFaultOfKeys, MayHaveKeys}
 use Rattle.dnssec_check.specs.Layers.{LayerLaws}
 use Rattle.dnssec_check.specs.CommandLine.Question.{IsNameRefused, IsQuestionRefused, Spells}
-use Rattle.dnssec_check.specs.Run.{IsAnswered, IsFaultOfQuestion, IsFirstFault, IsFirstFaultBehind, IsFirstFaultOfCheck, IsFirstFaultOfEvidence, IsFirstFaultOfFiles, IsFirstFaultOfName, IsFirstFaultOfTodo, HasEvidence, IsTextAskedFor}
-use Rattle.dnssec_check.specs.Files.Statements.{IsFaultOfStatements}
+use Rattle.dnssec_check.specs.Run.{IsAnswered, IsFaultOfQuestion, IsFirstFault, IsFirstFaultBehind, IsFirstFaultOfCheck, IsFirstFaultOfEvidence, IsFirstFaultOfFiles, IsFirstFaultOfName, IsFirstFaultOfTodo, IsTextAskedFor}
 use Rattle.dnssec_check.specs.Texts.Todo.{IsTodo}
 use Rattle.dnssec_check.proofs.FileLemmas.Anchors.{no_anchors_fault, one_anchors_fault}
 use Rattle.dnssec_check.proofs.OpeningLemmas.Keys.{no_keys_fault, one_keys_fault}
 use Rattle.dnssec_check.proofs.OpeningLemmas.Macs.{no_fault_of_macs, one_macs_fault}
 use Rattle.dnssec_check.proofs.LawLemmas.OneCapture.{no_capture_fault, one_capture_fault, same_nowhere}
-use Rattle.dnssec_check.proofs.LawLemmas.OneText.{basis, one_basis, one_opening, one_question}
+use Rattle.dnssec_check.proofs.LawLemmas.OneText.{one_basis, one_opening, one_question}
 use Rattle.dnssec_check.proofs.FileLemmas.Statements.{no_statements_fault, one_statements_fault}
 
 module _ (laws : LayerLaws) where
@@ -128,29 +127,33 @@ module _ (laws : LayerLaws) where
         one_fault_of_evidence y.0 a b
         (subst (λ (opening : Opening). IsFirstFaultOfEvidence opening files a) (one_opening laws files.keys files.macs moment x.0 y.0 x.1 y.1) x.2) y.2
 
-    -- a question that is refused has files without a fault
-    stopped_stands : (name : Labels) (rtype moment : ℕ) (stopped told : Fault) → IsStopped name rtype moment files stopped → IsFirstFaultOfFiles moment files told → ⊥
-    stopped_stands name rtype moment stopped told x (inl bad) = opening_stands files.keys files.macs moment x.opening told x.opens bad
-    stopped_stands name rtype moment stopped told x (inr bad) =
-        ⊎_elim (λ (captured : IsFaultOfCapture NewEvidence x.opening files.capture told). holding_stands x.opening x.messages told x.holds captured)
-        (λ (behind : HasEvidence x.opening files.capture × IsFirstFaultBehind files told).
-        ⊎_elim (λ (anchors : IsFaultOfAnchors (octets_or_none files.anchors) told). anchors_stand x.anchors told x.trusted anchors)
-        (λ (stated : ((anchors : List Anchor) × HasAnchors (octets_or_none files.anchors) anchors) × IsFaultOfStatements (octets_or_none files.statements) told).
-        no_statements_fault (octets_or_none files.statements) x.meaning told x.said stated.1) behind.1)
-        (subst (λ (opening : Opening). IsFirstFaultOfEvidence opening files told) (one_opening laws files.keys files.macs moment bad.0 x.opening bad.1 x.opens) bad.2)
+    -- files in order have no fault
+    module _ (moment : ℕ) (x : AreInOrder moment files) where
+      behind_stands : (told : Fault) → IsFirstFaultBehind files told → ⊥
+      behind_stands told (inl bad) = anchors_stand x.anchors told x.trusted bad
+      behind_stands told (inr bad) = no_statements_fault (octets_or_none files.statements) x.meaning told x.said bad.1
+
+      evidence_stands : (told : Fault) → IsFirstFaultOfEvidence x.opening files told → ⊥
+      evidence_stands told (inl bad) = holding_stands x.opening x.messages told x.holds bad
+      evidence_stands told (inr bad) = behind_stands told bad.1
+
+      order_stands : (told : Fault) → IsFirstFaultOfFiles moment files told → ⊥
+      order_stands told (inl bad) = opening_stands files.keys files.macs moment x.opening told x.opens bad
+      order_stands told (inr bad) =
+          evidence_stands told
+          (subst (λ (opening : Opening). IsFirstFaultOfEvidence opening files told) (one_opening laws files.keys files.macs moment bad.0 x.opening bad.1 x.opens) bad.2)
 
     one_stop : (name : Labels) (rtype moment : ℕ) (a b : Fault) → IsStopped name rtype moment files a → IsStopped name rtype moment files b → a ≡ b
     one_stop name rtype moment a b x y =
-        let bases = one_basis laws rtype moment files are x.opening y.opening x.messages y.messages x.anchors y.anchors x.meaning y.meaning
-        x.opens y.opens x.holds y.holds x.trusted y.trusted x.said y.said in
-        let errors = laws.verdicts.one_refusal (basis laws y.messages y.anchors moment y.meaning) name rtype x.error y.error
+        let bases = one_basis laws rtype moment files are x.given y.given in
+        let errors = laws.verdicts.one_refusal (basis_in y.given) name rtype x.error y.error
         (subst (λ (each : Basis). IsRefusedFor each name rtype x.error) bases x.refused) y.refused in
         x.is ∙ ap verdict_fault errors ∙ sym y.is
 
     one_fault_of_name : (name : Labels) (rtype moment : ℕ) (a b : Fault) → IsFirstFaultOfName name rtype moment files a → IsFirstFaultOfName name rtype moment files b → a ≡ b
     one_fault_of_name name rtype moment a b (inl x) (inl y) = one_fault_of_files moment a b x y
-    one_fault_of_name name rtype moment a b (inl x) (inr y) = absurd (stopped_stands name rtype moment b a y x)
-    one_fault_of_name name rtype moment a b (inr x) (inl y) = absurd (stopped_stands name rtype moment a b x y)
+    one_fault_of_name name rtype moment a b (inl x) (inr y) = absurd (order_stands moment y.given a x)
+    one_fault_of_name name rtype moment a b (inr x) (inl y) = absurd (order_stands moment x.given b y)
     one_fault_of_name name rtype moment a b (inr x) (inr y) = one_stop name rtype moment a b x y
 
     one_fault_of_check : (asked : List ℕ) (rtype moment : ℕ) (a b : Fault) → IsFirstFaultOfCheck asked rtype moment files a → IsFirstFaultOfCheck asked rtype moment files b → a ≡ b
@@ -173,35 +176,19 @@ module _ (laws : LayerLaws) where
     todo_stands moment text told x (inl captured) = holding_stands Plain x.messages told x.holds captured
     todo_stands moment text told x (inr stated) = no_statements_fault (octets_or_none files.statements) x.meaning told x.said stated.1
 
-    module _ (name : Labels) (rtype moment : ℕ) (end : Status) (text : List ℕ) (x : IsCheck name rtype moment files end text) where
-      behind_stands : (told : Fault) → IsFirstFaultBehind files told → ⊥
-      behind_stands told (inl bad) = anchors_stand x.anchors told x.trusted bad
-      behind_stands told (inr bad) = no_statements_fault (octets_or_none files.statements) x.meaning told x.said bad.1
-
-      evidence_stands : (told : Fault) → IsFirstFaultOfEvidence x.opening files told → ⊥
-      evidence_stands told (inl bad) = holding_stands x.opening x.messages told x.holds bad
-      evidence_stands told (inr bad) = behind_stands told bad.1
-
-      check_stands : (told : Fault) → IsFirstFaultOfFiles moment files told → ⊥
-      check_stands told (inl bad) = opening_stands files.keys files.macs moment x.opening told x.opens bad
-      check_stands told (inr bad) =
-          evidence_stands told
-          (subst (λ (opening : Opening). IsFirstFaultOfEvidence opening files told) (one_opening laws files.keys files.macs moment bad.0 x.opening bad.1 x.opens) bad.2)
-
     -- a question with a verdict isn't refused
     verdict_stands : (name : Labels) (rtype moment : ℕ) (end : Status) (text : List ℕ) → IsCheck name rtype moment files end text
         → (told : Fault) → IsStopped name rtype moment files told → ⊥
     verdict_stands name rtype moment end text x told y =
-        let bases = one_basis laws rtype moment files are x.opening y.opening x.messages y.messages x.anchors y.anchors x.meaning y.meaning
-        x.opens y.opens x.holds y.holds x.trusted y.trusted x.said y.said in
-        laws.verdicts.verdict_apart (basis laws y.messages y.anchors moment y.meaning) name rtype x.links x.last x.verdict y.error
+        let bases = one_basis laws rtype moment files are x.given y.given in
+        laws.verdicts.verdict_apart (basis_in y.given) name rtype x.links x.last x.verdict y.error
         (subst (λ (each : Basis). IsVerdictOf each name rtype x.links x.last x.verdict) bases x.is_verdict) y.refused
 
     answer_stands : (asked : List ℕ) (rtype moment : ℕ) (end : Status) (text : List ℕ) (told : Fault)
         → IsAnswered asked rtype moment files end text → IsFirstFaultOfCheck asked rtype moment files told → ⊥
     answer_stands asked rtype moment end text told x (inl bad) = question_stands asked rtype x.0 told x.1 x.2 bad
     answer_stands asked rtype moment end text told x (inr bad) =
-        ⊎_elim (λ (files_bad : IsFirstFaultOfFiles moment files told). check_stands x.0 rtype moment end text x.3 told files_bad)
+        ⊎_elim (λ (files_bad : IsFirstFaultOfFiles moment files told). order_stands moment x.3.given told files_bad)
         (λ (stopped : IsStopped bad.0 rtype moment files told). verdict_stands x.0 rtype moment end text x.3 told
         (subst (λ (name : Labels). IsStopped name rtype moment files told) (one_question laws asked bad.0 x.0 bad.1 x.1) stopped)) bad.3
 

@@ -13,7 +13,6 @@ use Rattle.dnsv_tsig.specs.Key.{SharedKey}
 use Rattle.dnsv_verifier.specs.Table.{IsTableOf, unknown_entries}
 use Rattle.dnsv_verifier.specs.declared.answer.Answer.{Answer}
 use Rattle.dnsv_verifier.specs.declared.entry.Entry.{Entry}
-use Rattle.dnsv_chain.specs.declared.anchor.Anchor.{Anchor}
 use Rattle.dnsv_verdict.specs.Verdict.{Basis, basis_of}
 use Rattle.dnsv_verdict.specs.Way.{IsVerdictOf}
 use Rattle.dnssec_check.specs.declared.opening.Opening.{Opening}
@@ -22,9 +21,7 @@ use Rattle.dnssec_check.specs.declared.command_line.request.Request.{Request}
 use Rattle.dnssec_check.specs.declared.command_line.request.Request.TheVariants as request
 use Rattle.dnssec_check.specs.declared.status.Status.{Status}
 use Rattle.dnssec_check.specs.Files.Capture.{AnyMessage, NewEvidence, Holds}
-use Rattle.dnssec_check.specs.Files.Anchors.{HasAnchors}
-use Rattle.dnssec_check.specs.Files.Statements.{IsMeaningOf}
-use Rattle.dnssec_check.specs.Texts.Checking.{IsCheck, verdict_status, verdict_text}
+use Rattle.dnssec_check.specs.Texts.Checking.{AreInOrder, IsCheck, basis_in, verdict_status, verdict_text}
 use Rattle.dnssec_check.specs.Opening.Given.{IsOpeningOf}
 use Rattle.dnssec_check.specs.Files.{Files, octets_or_none}
 use Rattle.dnssec_check.specs.Opening.Keys.{MayHaveKeys}
@@ -89,10 +86,6 @@ module _ (laws : LayerLaws) where
   pub one_question : (asked : List ℕ) (a b : Labels) → Spells asked a → Spells asked b → a ≡ b
   one_question asked a b x y = laws.names.one_name asked a b x.is_name y.is_name x.spelling y.spelling
 
-  -- what the verdict of a question is drawn from
-  abbrev pub basis : List Contents → List Anchor → ℕ → (Entry → Answer) → Basis
-  basis messages anchors moment meaning = basis_of (evidence_of messages).rrsets anchors moment meaning
-
   module _ (rtype moment : ℕ) (files : Files) (are : AreOctets files.capture) where
     same_messages : (e f : Opening) (a b : List Contents) → IsOpeningOf files.keys files.macs moment e → IsOpeningOf files.keys files.macs moment f
         → Holds NewEvidence e files.capture a → Holds NewEvidence f files.capture b → a ≡ b
@@ -100,30 +93,22 @@ module _ (laws : LayerLaws) where
         one_holding laws NewEvidence f files.capture are a b
         (subst (λ (opening : Opening). Holds NewEvidence opening files.capture a) (one_opening files.keys files.macs moment e f x y) holds) also
 
-    one_check : (name : Labels) (s t : Status) (a b : List ℕ) → IsCheck name rtype moment files s a → IsCheck name rtype moment files t b → (s ≡ t) × (a ≡ b)
-    one_check name s t a b x y =
+    -- what the files say is one basis, for a text and for a refusal alike
+    pub one_basis : (x y : AreInOrder moment files) → basis_in x ≡ basis_in y
+    one_basis x y =
         let messages = same_messages x.opening y.opening x.messages y.messages x.opens y.opens x.holds y.holds in
         let anchors = laws.verdicts.one_list_of_anchors (octets_or_none files.anchors) x.anchors y.anchors x.trusted.are y.trusted.are in
         let meanings = one_meaning (octets_or_none files.statements) x.meaning y.meaning x.said y.said in
-        let bases : basis x.messages x.anchors moment x.meaning ≡ basis y.messages y.anchors moment y.meaning = λ i. basis (messages i) (anchors i) moment (meanings i) in
-        let ways = laws.verdicts.one_way (basis y.messages y.anchors moment y.meaning) name rtype x.links y.links x.last y.last x.verdict y.verdict
+        λ i. basis_of (evidence_of (messages i)).rrsets (anchors i) moment (meanings i)
+
+    one_check : (name : Labels) (s t : Status) (a b : List ℕ) → IsCheck name rtype moment files s a → IsCheck name rtype moment files t b → (s ≡ t) × (a ≡ b)
+    one_check name s t a b x y =
+        let bases : basis_in x.given ≡ basis_in y.given = one_basis x.given y.given in
+        let ways = laws.verdicts.one_way (basis_in y.given) name rtype x.links y.links x.last y.last x.verdict y.verdict
         (subst (λ (each : Basis). IsVerdictOf each name rtype x.links x.last x.verdict) bases x.is_verdict) y.is_verdict in (
           x.ends ∙ ap verdict_status ways.2 ∙ sym y.ends,
-          x.lines ∙ (λ i. verdict_text name rtype (evidence_of (messages i)).rrsets (ways.0 i) (ways.2 i)) ∙ sym y.lines,
+          x.lines ∙ (λ i. verdict_text name rtype (bases i).rrsets (ways.0 i) (ways.2 i)) ∙ sym y.lines,
         )
-
-    -- what the files say is one basis, for a text and for a refusal alike
-    pub one_basis : (x_opening y_opening : Opening) (x_messages y_messages : List Contents) (x_anchors y_anchors : List Anchor) (x_meaning y_meaning : Entry → Answer)
-        → IsOpeningOf files.keys files.macs moment x_opening → IsOpeningOf files.keys files.macs moment y_opening
-        → Holds NewEvidence x_opening files.capture x_messages → Holds NewEvidence y_opening files.capture y_messages
-        → HasAnchors (octets_or_none files.anchors) x_anchors → HasAnchors (octets_or_none files.anchors) y_anchors
-        → IsMeaningOf (octets_or_none files.statements) x_meaning → IsMeaningOf (octets_or_none files.statements) y_meaning
-        → basis x_messages x_anchors moment x_meaning ≡ basis y_messages y_anchors moment y_meaning
-    one_basis xe ye xm ym xa ya xs ys x_opens y_opens x_holds y_holds x_trusted y_trusted x_said y_said =
-        let messages = same_messages xe ye xm ym x_opens y_opens x_holds y_holds in
-        let anchors = laws.verdicts.one_list_of_anchors (octets_or_none files.anchors) xa ya x_trusted.are y_trusted.are in
-        let meanings = one_meaning (octets_or_none files.statements) xs ys x_said y_said in
-        λ i. basis (messages i) (anchors i) moment (meanings i)
 
     one_answer : (asked : List ℕ) (s t : Status) (a b : List ℕ) → IsAnswered asked rtype moment files s a → IsAnswered asked rtype moment files t b → (s ≡ t) × (a ≡ b)
     one_answer asked s t a b x y =

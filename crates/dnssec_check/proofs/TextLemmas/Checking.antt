@@ -15,7 +15,7 @@ use Rattle.dnssec_check.specs.Files.Anchors.{HasAnchors}
 use Rattle.dnssec_check.specs.declared.opening.Opening.{Opening}
 use Rattle.dnssec_check.specs.Files.Capture.{Holds, NewEvidence}
 use Rattle.dnssec_check.specs.Opening.Given.{IsOpeningOf}
-use Rattle.dnssec_check.specs.Texts.Checking.{IsCheck, verdict_status, verdict_text}
+use Rattle.dnssec_check.specs.Texts.Checking.{AreInOrder, IsCheck, verdict_status, verdict_text}
 use Rattle.dnssec_check.specs.Files.{Files, octets_or_none}
 use Rattle.dnssec_check.specs.Files.Statements.{IsMeaningOf}
 use Rattle.dnssec_check.specs.declared.texts.checking.Outcome.{Outcome}
@@ -30,6 +30,21 @@ IsOutcome anchors moment meaning name rtype outcome held =
     × (outcome.status ≡ verdict_status verdict)
     × (string_bytes outcome.text ≡ verdict_text name rtype held.rrsets links verdict)
 
+module _ (moment : ℕ) (files : Files) (opening : Opening) (opens : IsOpeningOf files.keys files.macs moment opening) (anchors : List Anchor) (meaning : Entry → Answer) where
+  -- the files are in order whose parts were all taken
+  pub all_in_order : (messages : List Contents) → Holds NewEvidence opening files.capture messages → HasAnchors (octets_or_none files.anchors) anchors
+      → IsMeaningOf (octets_or_none files.statements) meaning → AreInOrder moment files
+  all_in_order messages holds trusted said = record {
+    opening = opening;
+    opens = opens;
+    messages = messages;
+    holds = holds;
+    anchors = anchors;
+    trusted = trusted;
+    meaning = meaning;
+    said = said;
+  }
+
 module _ (name : Labels) (rtype moment : ℕ) (files : Files) (opening : Opening) (opens : IsOpeningOf files.keys files.macs moment opening) (held : Evidence) (anchors : List Anchor) (meaning : Entry → Answer) where
   pub all_checked : (result : Result Outcome Fault) {octets : Option (List ℕ)} → octets ≡ Some files.capture
       → IfSome octets (λ file. (messages : List Contents) × Holds NewEvidence opening file messages × (held ≡ evidence_of messages))
@@ -40,14 +55,7 @@ module _ (name : Labels) (rtype moment : ℕ) (files : Files) (opening : Opening
   all_checked (Ok outcome) is taken trusted said judged =
       let evidence = of_told (λ file. (messages : List Contents) × Holds NewEvidence opening file messages × (held ≡ evidence_of messages)) is taken in
       let outcome_is = subst (IsOutcome anchors moment meaning name rtype outcome) evidence.2 judged in record {
-        opening = opening;
-        opens = opens;
-        messages = evidence.0;
-        holds = evidence.1;
-        anchors = anchors;
-        trusted = trusted;
-        meaning = meaning;
-        said = said;
+        given = all_in_order moment files opening opens anchors meaning evidence.0 evidence.1 trusted said;
         links = outcome_is.0;
         last = outcome_is.1;
         verdict = outcome_is.2;

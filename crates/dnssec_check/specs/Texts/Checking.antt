@@ -17,7 +17,7 @@ use Rattle.dnsv_verdict.specs.declared.error.VerdictError.TheVariants as error
 use Rattle.dnsv_verdict.specs.declared.link.Link.{Link}
 use Rattle.dnsv_verdict.specs.declared.verdict.Verdict.{Verdict}
 use Rattle.dnsv_verdict.specs.declared.verdict.Verdict.TheVariants as verdict
-use Rattle.dnsv_verdict.specs.Verdict.{basis_of}
+use Rattle.dnsv_verdict.specs.Verdict.{Basis, basis_of}
 use Rattle.dnssec_check.specs.Files.Anchors.{HasAnchors}
 use Rattle.dnssec_check.specs.declared.opening.Opening.{Opening}
 use Rattle.dnssec_check.specs.Files.Capture.{Holds, NewEvidence}
@@ -109,10 +109,9 @@ verdict_fault error.AliasTargets = fault.Refused refusal.AliasTargets nowhere
 
 -- ---- the files
 
--- The capture holds messages, in frames that the keys open at the moment where keys are given, each of them evidence
--- besides those before it, and the end and the text are those of the verdict that they prove of the question, from the
--- trust anchors, at the moment, under the statements.
-pub record IsCheck (name : Labels) (rtype moment : ℕ) (files : Files) (end : Status) (text : List ℕ) : Type 0 where
+-- The files are in order: the capture holds messages, in frames that the keys open at the moment where keys are given,
+-- each of them evidence besides those before it, and there are trust anchors and statements.
+pub record AreInOrder (moment : ℕ) (files : Files) : Type 0 where
   pub opening : Opening
   pub opens : IsOpeningOf files.keys files.macs moment opening
   pub messages : List Contents
@@ -121,25 +120,25 @@ pub record IsCheck (name : Labels) (rtype moment : ℕ) (files : Files) (end : S
   pub trusted : HasAnchors (octets_or_none files.anchors) anchors
   pub meaning : Entry → Answer
   pub said : IsMeaningOf (octets_or_none files.statements) meaning
+
+-- what a question is judged by, at the moment
+abbrev pub basis_in : {moment : ℕ} {files : Files} → AreInOrder moment files → Basis
+basis_in {moment} given = basis_of (evidence_of given.messages).rrsets given.anchors moment given.meaning
+
+-- The files are in order, and the end and the text are those of the verdict that they prove of the question.
+pub record IsCheck (name : Labels) (rtype moment : ℕ) (files : Files) (end : Status) (text : List ℕ) : Type 0 where
+  pub given : AreInOrder moment files
   pub links : List Link
   pub last : Labels
   pub verdict : Verdict
-  pub is_verdict : IsVerdictOf (basis_of (evidence_of messages).rrsets anchors moment meaning) name rtype links last
-      verdict
+  pub is_verdict : IsVerdictOf (basis_in given) name rtype links last verdict
   pub ends : end ≡ verdict_status verdict
-  pub lines : text ≡ verdict_text name rtype (evidence_of messages).rrsets links verdict
+  pub lines : text ≡ verdict_text name rtype (basis_in given).rrsets links verdict
 
--- The files are in order, as for a text, and the question is refused: a way over aliases from its name ends at one that
--- can't be followed. The refusal has no place.
+-- The files are in order, and the question is refused: a way over aliases from its name ends at one that can't be
+-- followed. The refusal has no place.
 pub record IsStopped (name : Labels) (rtype moment : ℕ) (files : Files) (told : Fault) : Type 0 where
-  pub opening : Opening
-  pub opens : IsOpeningOf files.keys files.macs moment opening
-  pub messages : List Contents
-  pub holds : Holds NewEvidence opening files.capture messages
-  pub anchors : List Anchor
-  pub trusted : HasAnchors (octets_or_none files.anchors) anchors
-  pub meaning : Entry → Answer
-  pub said : IsMeaningOf (octets_or_none files.statements) meaning
+  pub given : AreInOrder moment files
   pub error : VerdictError
-  pub refused : IsRefusedFor (basis_of (evidence_of messages).rrsets anchors moment meaning) name rtype error
+  pub refused : IsRefusedFor (basis_in given) name rtype error
   pub is : told ≡ verdict_fault error

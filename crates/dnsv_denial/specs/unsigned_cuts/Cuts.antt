@@ -7,9 +7,8 @@ use Rattle.dnsv_records.specs.declared.ds.Ds.{Ds}
 use Rattle.dnsv_zones.specs.forms.Forms.{IsAbove, UnsignedCutForm}
 use Rattle.dnsv_zones.specs.forms.Parts.{OptsOut}
 use Rattle.dnsv_zones.specs.forms.RecordWords.{words}
-use Rattle.dnsv_canonical.specs.Rrsets.{ReceivedRrset}
+use Rattle.dnsv_canonical.specs.Rrsets.{IsNumbered, ReceivedRrset}
 use Rattle.dnsv_chain.specs.Ds.{HasUsable}
-use Rattle.dnsv_chain.specs.Trusted.{IsNumbered}
 use Rattle.dnsv_denial.specs.words.EvidenceWords.{Chain, evidence_said}
 use Rattle.dnsv_denial.specs.declared.records.number.RecordNumber.{RecordNumber}
 

@@ -1,11 +1,7 @@
 -- What is found of the numbers of labels of cuts. No public clause cites this module.
 use Rattle.std.specs.Prelude.{◌≡◌, ◌≤◌, ℕ, List, Option, Some, None, MatchOption}
-use Rattle.std.specs.List.{AllZip}
-use Rattle.dnsv_names.specs.Name.{Labels, IsAtOrBelow}
-use Rattle.dnsv_records.specs.Ds.{IsDs}
-use Rattle.dnsv_records.specs.declared.ds.Ds.{Ds}
+use Rattle.dnsv_names.specs.Name.{Labels}
 use Rattle.dnsv_canonical.specs.Rrsets.{ReceivedRrset}
-use Rattle.dnsv_chain.specs.Ds.{HasUsable}
 use Rattle.dnsv_denial.specs.unsigned_cuts.Cuts.{IsFewest, IsMost, IsUnsignedDelegationCut, IsUnusableDsCut, IsOptOutCut}
 
 -- ---- numbers of labels
@@ -39,13 +35,3 @@ pub record AreFindings
   pub unsigned_delegation : IsFewestFound (IsUnsignedDelegationCut Secured rrsets name) no_ds
   pub unusable_ds : IsFewestFound (IsUnusableDsCut Secured rrsets name) no_usable_ds
   pub left_out : IsMostFound (IsOptOutCut Secured rrsets name) opt_out
-
--- the RRset is a secured DS RRset at or above the name, of which no record is usable
-pub record IsUnusableDs (Secured : ℕ → Type 0) (rrset : ReceivedRrset) (name : Labels) : Type 0 where
-  pub above : IsAtOrBelow name rrset.owner
-  pub rtype : rrset.rtype ≡ 43
-  pub signature : ℕ
-  pub secured : Secured signature
-  pub records : List Ds
-  pub read : AllZip IsDs rrset.rdata records
-  pub none : ¬ HasUsable records

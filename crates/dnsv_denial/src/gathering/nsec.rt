@@ -1,15 +1,13 @@
 //! The records of a zone among the evidence.
 ghost use Rattle.std.specs.Prelude.{◌≡◌, ◌++◌, List, IfOk, OnOk};
-ghost use Rattle.dnsv_canonical.specs.Rrsets.{ReceivedRrset};
-ghost use Rattle.dnsv_chain.specs.Trusted.{IsNumbered};
-ghost use Rattle.dnsv_denial.specs.Viewed.{SecuredIn};
+ghost use Rattle.dnsv_canonical.specs.Rrsets.{IsNumbered, ReceivedRrset};
+ghost use Rattle.dnsv_chain.specs.Trust.{SecuredIn};
 ghost use Rattle.dnsv_denial.specs.gathering.Gathered.{AreNsecs, AreNsecsOf};
 
-use crate::gathering::canonical_order::in_canonical_order;
 use crate::gathering::secured::has_zone_signature;
 use crate::records::entry::NsecEntry;
 use crate::records::number::RecordNumber;
-use dnsv_canonical::{Capture, Rrset};
+use dnsv_canonical::{Capture, Rrset, in_canonical_order};
 use dnsv_chain::Trust;
 use dnsv_names::{Name, RecordType};
 use std::alloc::{AllocError, Global};

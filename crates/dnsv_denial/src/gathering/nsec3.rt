@@ -1,17 +1,15 @@
 //! The NSEC3 records of a zone among the evidence.
 ghost use Rattle.std.specs.Prelude.{◌≡◌, ◌++◌, ℕ, Contains, List, IfOk, MatchOption, OnOk};
 ghost use Rattle.dnsv_records.specs.Nsec3.{IsUsable};
-ghost use Rattle.dnsv_canonical.specs.Rrsets.{ReceivedRrset};
-ghost use Rattle.dnsv_chain.specs.Trusted.{IsNumbered};
-ghost use Rattle.dnsv_denial.specs.Viewed.{SecuredIn};
+ghost use Rattle.dnsv_canonical.specs.Rrsets.{IsNumbered, ReceivedRrset};
+ghost use Rattle.dnsv_chain.specs.Trust.{SecuredIn};
 ghost use Rattle.dnsv_denial.specs.gathering.Evidence.{IsHashedOwner};
 ghost use Rattle.dnsv_denial.specs.gathering.Gathered.{AreNsec3s, AreNsec3sOf, IsEntryOf, IsNsec3RrsetOf};
 
-use crate::gathering::canonical_order::in_canonical_order;
 use crate::gathering::secured::has_zone_signature;
 use crate::records::entry::Nsec3Entry;
 use crate::records::number::RecordNumber;
-use dnsv_canonical::{Capture, Rrset};
+use dnsv_canonical::{Capture, Rrset, in_canonical_order};
 use dnsv_chain::Trust;
 use dnsv_names::{Hash20, Name, RecordType};
 use dnsv_records::{Nsec3, base32hex_read};

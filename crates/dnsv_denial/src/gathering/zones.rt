@@ -6,7 +6,7 @@ ghost use Rattle.dnsv_names.specs.Count.{counted};
 ghost use Rattle.dnsv_records.specs.declared.nsec3.Nsec3Parameters.{Nsec3Parameters};
 ghost use Rattle.dnsv_zones.specs.chains.HashedNames.{hashes_for};
 ghost use Rattle.dnsv_zones.specs.chains.Rdata.{parameters_of};
-ghost use Rattle.dnsv_denial.specs.Viewed.{SecuredIn};
+ghost use Rattle.dnsv_chain.specs.Trust.{SecuredIn};
 ghost use Rattle.dnsv_denial.specs.gathering.Kept.{AreZones, IsSetOf};
 ghost use Rattle.dnsv_denial.specs.words.EvidenceWords.{parameters_cmp};
 

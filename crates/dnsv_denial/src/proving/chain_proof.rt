@@ -1,8 +1,7 @@
 //! The proof of a denial by one chain.
 ghost use Rattle.std.specs.Prelude.{List, MatchOption};
 ghost use Rattle.dnsv_canonical.specs.Rrsets.{ReceivedRrset};
-ghost use Rattle.dnsv_chain.specs.Trust.{KeptTrust};
-ghost use Rattle.dnsv_denial.specs.Viewed.{SecuredIn};
+ghost use Rattle.dnsv_chain.specs.Trust.{KeptTrust, SecuredIn};
 ghost use Rattle.dnsv_denial.specs.forms.Denials.{DenialForm};
 ghost use Rattle.dnsv_denial.specs.proving.ChainOf.{IsChainOf, IsProofBy};
 ghost use Rattle.dnsv_denial.specs.proving.FirstProof.{StandsBy};

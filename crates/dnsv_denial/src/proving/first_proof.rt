@@ -2,8 +2,7 @@
 ghost use Rattle.std.specs.Prelude.{◌≡◌, ◌+◌, List, MatchOption, length};
 ghost use Rattle.std.specs.List.{AllByRecursion};
 ghost use Rattle.dnsv_canonical.specs.Rrsets.{ReceivedRrset};
-ghost use Rattle.dnsv_chain.specs.Trust.{KeptTrust};
-ghost use Rattle.dnsv_denial.specs.Viewed.{SecuredIn};
+ghost use Rattle.dnsv_chain.specs.Trust.{KeptTrust, SecuredIn};
 ghost use Rattle.dnsv_denial.specs.forms.Denials.{AreParts, DenialForm};
 ghost use Rattle.dnsv_denial.specs.gathering.Kept.{AreSets, AreZones, IsSetOf};
 ghost use Rattle.dnsv_denial.specs.proving.FirstProof.{CanBeProved, CanProveNoCloser, IsFirstNoCloser, IsFirstProof};

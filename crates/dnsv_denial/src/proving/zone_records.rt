@@ -3,8 +3,7 @@ ghost use Rattle.std.specs.Prelude.{◌≡◌, ℕ, List, MatchOption, Some, sli
 ghost use Rattle.std.specs.List.{AllByRecursion};
 ghost use Rattle.dnsv_zones.specs.chains.Rdata.{parameters_of};
 ghost use Rattle.dnsv_canonical.specs.Rrsets.{ReceivedRrset};
-ghost use Rattle.dnsv_chain.specs.Trust.{KeptTrust};
-ghost use Rattle.dnsv_denial.specs.Viewed.{SecuredIn};
+ghost use Rattle.dnsv_chain.specs.Trust.{KeptTrust, SecuredIn};
 ghost use Rattle.dnsv_denial.specs.forms.Denials.{DenialForm};
 ghost use Rattle.dnsv_denial.specs.gathering.Kept.{AreSets, IsFirstSet, IsSetOf, IsZoneOf, IsZoneProof};
 ghost use Rattle.dnsv_denial.specs.proving.ChainOf.{IsProofBy};

@@ -2,8 +2,7 @@
 ghost use Rattle.std.specs.Prelude.{◌≡◌, ◌+◌, List, MatchOption};
 ghost use Rattle.dnsv_names.specs.Name.{rightmost};
 ghost use Rattle.dnsv_canonical.specs.Rrsets.{ReceivedRrset};
-ghost use Rattle.dnsv_chain.specs.Trust.{KeptTrust};
-ghost use Rattle.dnsv_denial.specs.Viewed.{SecuredIn};
+ghost use Rattle.dnsv_chain.specs.Trust.{KeptTrust, SecuredIn};
 ghost use Rattle.dnsv_denial.specs.gathering.Kept.{IsViewOf};
 ghost use Rattle.dnsv_denial.specs.unsigned_cuts.Cuts.{HasOptedOutNextCloser, HasUnsignedCut, IsUnsignedCut};
 

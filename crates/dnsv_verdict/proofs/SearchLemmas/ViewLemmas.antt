@@ -3,7 +3,8 @@ use Rattle.std.proofs.Common.{◌≡◌, ◌⊎◌, ℕ}
 use Rattle.dnsv_records.specs.declared.rrsig.Rrsig.{Rrsig}
 use Rattle.dnsv_zones.specs.zones.TypeNumbers.{cname}
 use Rattle.dnsv_canonical.specs.Rrsets.{ReceivedRrset}
-use Rattle.dnsv_denial.specs.Viewed.{SecuredIn, Viewed}
+use Rattle.dnsv_chain.specs.Trust.{SecuredIn}
+use Rattle.dnsv_denial.specs.Viewed.{Viewed}
 use Rattle.dnsv_verdict.specs.Insecure.{IsOptOutWildcard}
 use Rattle.dnsv_verdict.specs.Secure.{HoldsForName, IsFirstSuch, IsSecuredAt}
 

@@ -28,6 +28,13 @@ abbrev pub OfTable : List ReceivedRrset → List Anchor → TableContents → (B
 OfTable rrsets anchors table Holds =
     (meaning : Entry → Answer) (moment : ℕ) → IsTableOf meaning moment rrsets table → Holds (basis_of rrsets anchors moment meaning)
 
+-- the verdict at the name is an alias
+pub alias_there : (rrsets : List ReceivedRrset) (anchors : List Anchor) (table : TableContents) (last : Labels) (t : ℕ) (verdict : Verdict) (k s : ℕ)
+    → verdict ≡ SecureAlias k s → OfTable rrsets anchors table (λ basis. IsVerdictAt basis last t verdict)
+    → OfTable rrsets anchors table (λ basis. IsVerdictAt basis last t (SecureAlias k s))
+alias_there rrsets anchors table last t verdict k s is there =
+    λ meaning moment of. subst (λ each. IsVerdictAt (basis_of rrsets anchors moment meaning) last t each) is (there meaning moment of)
+
 -- hashing each of the names, with each parameters, makes the count this one
 abbrev pub AreCounted : List ReceivedRrset → List Labels → ℕ → ℕ → Type 0
 AreCounted rrsets names before after =

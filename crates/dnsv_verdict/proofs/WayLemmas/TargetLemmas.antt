@@ -5,8 +5,7 @@ use Rattle.dnsv_names.specs.Name.{IsName, Labels, wire}
 use Rattle.dnsv_canonical.proofs.CanonicalLemmas.{canonical_unique}
 use Rattle.dnsv_canonical.specs.Canonical.{IsCanonical}
 use Rattle.dnsv_canonical.specs.CanonicalRdata.{canonical_form}
-use Rattle.dnsv_canonical.specs.Rrsets.{ReceivedRrset}
-use Rattle.dnsv_chain.specs.Trusted.{IsNumbered}
+use Rattle.dnsv_canonical.specs.Rrsets.{IsNumbered, ReceivedRrset}
 use Rattle.dnsv_verdict.proofs.CaseLemmas.{some_is_one}
 use Rattle.dnsv_verdict.specs.Way.{IsTarget}
 

@@ -1,5 +1,5 @@
 -- What NSEC records say of names (RFC 4035 5.4, RFC 4592, RFC 6840 4.1 and 4.3).
-use Rattle.std.specs.Prelude.{◌⊎◌, List}
+use Rattle.std.specs.Prelude.{ℕ, ◌⊎◌, List}
 use Rattle.dnsv_names.specs.Name.{Labels, SameName, IsAtOrBelow}
 use Rattle.dnsv_names.specs.Order.{canonical_cmp, IsBelow}
 use Rattle.dnsv_names.specs.Circle.{Gap}
@@ -32,11 +32,15 @@ pub record IsEmptyNonTerminalBy (nsec : NsecRecord) (name : Labels) : Type 0 whe
 abbrev pub IsNodeBy : NsecRecord → Labels → Type 0
 IsNodeBy nsec name = IsAtOrBelow nsec.owner name ⊎ IsAtOrBelow nsec.next name
 
+-- the name is the owner, and its types are such
+abbrev pub HasTypesBy : NsecRecord → Labels → ((ℕ → Type 0) → Type 0) → Type 0
+HasTypesBy nsec name Says = SameName nsec.owner name × Says (IsInBitmap nsec.types)
+
 -- what NSEC records of the zone with this apex say; that the apex is there they needn't
 abbrev pub nsec_words : Labels → List NsecRecord → Words
 nsec_words apex records = record {
   Encloser = λ name. SameName name apex ⊎ Any (λ nsec. IsNodeBy nsec name) records;
   Absent = λ name. Any (λ nsec. IsAbsentBy nsec name) records;
   EmptyNonTerminal = λ name. Any (λ nsec. IsEmptyNonTerminalBy nsec name) records;
-  TypesAt = λ name Says. Any (λ nsec. SameName nsec.owner name × Says (IsInBitmap nsec.types)) records;
+  TypesAt = λ name Says. Any (λ nsec. HasTypesBy nsec name Says) records;
 }

@@ -19,14 +19,29 @@ pub record Covers (hash : NameHash) (nsec3 : Nsec3Record) (name : Labels) : Type
   pub same_parameters : nsec3.parameters ≡ hash.parameters
   pub gap : Gap label_cmp nsec3.hash nsec3.next (hash.of name)
 
--- Only a cover without the Opt-Out flag says that a name is absent (RFC 5155 6). The closest
--- encloser is no delegation and has no DNAME (RFC 5155 8.3).
+-- the name is a node below which the zone may go on: no delegation, and with no DNAME (RFC 5155 8.3)
+abbrev pub IsEncloserBy : NameHash → Nsec3Record → Labels → Type 0
+IsEncloserBy hash nsec3 name = Matches hash nsec3 name × ¬ IsClosed (IsInBitmap nsec3.types)
+
+-- the name is no node: only a cover without the Opt-Out flag says so (RFC 5155 6)
+abbrev pub IsAbsentBy : NameHash → Nsec3Record → Labels → Type 0
+IsAbsentBy hash nsec3 name = Covers hash nsec3 name × (nsec3.flags ≡ 0)
+
+-- the record is the name's, and its types are such
+abbrev pub HasTypesBy : NameHash → Nsec3Record → Labels → ((ℕ → Type 0) → Type 0) → Type 0
+HasTypesBy hash nsec3 name Says = Matches hash nsec3 name × Says (IsInBitmap nsec3.types)
+
+-- a cover with the Opt-Out flag (RFC 5155 6)
+abbrev pub IsOptedOutBy : NameHash → Nsec3Record → Labels → Type 0
+IsOptedOutBy hash nsec3 name = Covers hash nsec3 name × (nsec3.flags ≢ 0)
+
+-- what NSEC3 records with the hash's parameters say
 abbrev pub nsec3_words : NameHash → List Nsec3Record → Words
 nsec3_words hash records = record {
-  Encloser = λ name. Any (λ nsec3. Matches hash nsec3 name × ¬ IsClosed (IsInBitmap nsec3.types)) records;
-  Absent = λ name. Any (λ nsec3. Covers hash nsec3 name × (nsec3.flags ≡ 0)) records;
+  Encloser = λ name. Any (λ nsec3. IsEncloserBy hash nsec3 name) records;
+  Absent = λ name. Any (λ nsec3. IsAbsentBy hash nsec3 name) records;
   EmptyNonTerminal = λ name. ⊥;
-  TypesAt = λ name Says. Any (λ nsec3. Matches hash nsec3 name × Says (IsInBitmap nsec3.types)) records;
+  TypesAt = λ name Says. Any (λ nsec3. HasTypesBy hash nsec3 name Says) records;
 }
 
 -- some record covers the name
@@ -35,7 +50,7 @@ IsCovered hash records name = Any (λ nsec3. Covers hash nsec3 name) records
 
 -- some record with the Opt-Out flag covers the name
 abbrev pub IsOptedOut : NameHash → List Nsec3Record → Labels → Type 0
-IsOptedOut hash records name = Any (λ nsec3. Covers hash nsec3 name × (nsec3.flags ≢ 0)) records
+IsOptedOut hash records name = Any (λ nsec3. IsOptedOutBy hash nsec3 name) records
 
 -- these records leave open that an unsigned delegation lies at or below the next closer name
 abbrev pub OptOutForm : NameHash → List Nsec3Record → Labels → Labels → ℕ → Type 0

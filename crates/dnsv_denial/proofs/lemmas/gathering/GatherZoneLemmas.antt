@@ -1,5 +1,5 @@
 -- Zones and parameters that are gathered one after another.
-use Rattle.std.proofs.Common.{◌≡◌, ◌↔◌, ◌&&◌, Bor, Bool, true, false, cond, ℕ, zero, suc, ◌+◌, ◌<◌, ◌≤◌, List, [], ◌∷◌, ◌++◌, length, get_or, map, take, refl, sym, ap, ◌∙◌, subst, inl, inr, ⊎_elim, arith, length-append}
+use Rattle.std.proofs.Common.{◌≡◌, ◌↔◌, ◌&&◌, Bor, Bool, true, ℕ, zero, suc, ◌+◌, ◌<◌, ◌≤◌, List, [], ◌∷◌, ◌++◌, length, get_or, map, take, refl, sym, ap, ◌∙◌, subst, arith, length-append}
 use Rattle.std.proofs.lemmas.Bool.{and_from, and_parts, eqb-true}
 use Rattle.std.proofs.lemmas.Cmp.{nat_eq_equiv, lists_equiv, on_total}
 use Rattle.std.proofs.lemmas.List.{map-append, take_all, take_more}
@@ -8,17 +8,17 @@ use Rattle.std.proofs.lemmas.List.Sorted.{Contains-permutation, IsPermutation-ma
 use Rattle.std.specs.Cmp.{IsEquivalence, unsigned_ties}
 use Rattle.std.specs.Cmp.Derive.{on_tied, then_tied, tie}
 use Rattle.std.specs.Cmp.Lexicographic.{pointwise, texts_ties, bytes_decides}
-use Rattle.std.specs.List.{AllByRecursion, dedup, dedup_from}
+use Rattle.std.specs.List.{AllByRecursion, dedup}
 use Rattle.std.specs.List.Sorted.{IsPermutation, IsSorted, IsStrictlySortedBy}
 use Rattle.std.specs.Ordering.{nat_cmp, eq_by_cmp}
 use Rattle.std.specs.Prelude.{Contains, Some, nat_eq, slice_get}
 use Rattle.std.specs.declared.cmp.Ordering.{Ordering}
 use Rattle.std.specs.declared.cmp.Ordering.TheVariants.{Less}
+use Rattle.dnsv_names.specs.RisingLaws.{map-dedup}
 use Rattle.dnsv_names.specs.Name.{Labels, rightmost}
 use Rattle.dnsv_names.specs.Octets.{octets_cmp}
 use Rattle.dnsv_records.specs.OctetLaws.{recursion-append}
 use Rattle.dnsv_records.specs.declared.nsec3.Nsec3Parameters.{Nsec3Parameters}
-use Rattle.dnsv_zones.specs.chains.Nsec3Chain.{Parameters}
 use Rattle.dnsv_zones.specs.chains.Rdata.{parameters_of}
 use Rattle.dnsv_canonical.proofs.CanonicalLemmas.{each_map}
 use Rattle.dnsv_canonical.specs.Rrsets.{ReceivedRrset}
@@ -81,18 +81,6 @@ rising_map : {X Y : Type 0} (f : X → Y) (R : Y → Y → Ordering) (xs : List 
 unfolding IsStrictlySortedBy
 rising_map f R [] rises = tt
 rising_map f R (x ∷ xs) rises = (each_map f (λ y. R (f x) y ≡ Less) xs rises.0, rising_map f R xs rises.1)
-
-map-dedup_from : {X Y : Type 0} (f : X → Y) (same : Y → Y → Bool) (x : X) (xs : List X) → map f (dedup_from (λ a b. same (f a) (f b)) x xs) ≡ dedup_from same (f x) (map f xs)
-map-dedup_from f same x [] = refl
-map-dedup_from f same x (y ∷ ys) =
-    elim (same (f y) (f x)) as (λ b. map f (cond b (dedup_from (λ a c. same (f a) (f c)) x ys) (x ∷ dedup_from (λ a c. same (f a) (f c)) y ys)) ≡ cond b (dedup_from same (f x) (map f ys)) (f x ∷ dedup_from same (f y) (map f ys))) [
-      | true ↦ map-dedup_from f same x ys
-      | false ↦ ap (λ t. f x ∷ t) (map-dedup_from f same y ys)
-    ]
-
-map-dedup : {X Y : Type 0} (f : X → Y) (same : Y → Y → Bool) (xs : List X) → map f (dedup (λ a b. same (f a) (f b)) xs) ≡ dedup same (map f xs)
-map-dedup f same [] = refl
-map-dedup f same (x ∷ xs) = map-dedup_from f same x xs
 
 -- what a sort and then a `dedup` leave of references to parameters
 module _ (given sorted kept : List (Bor Nsec3Parameters)) (ordered : IsSorted (λ (a b : Bor Nsec3Parameters). parameters_cmp (parameters_of a.now) (parameters_of b.now)) sorted) (is : kept ≡ dedup (λ (a b : Bor Nsec3Parameters). parameters_eq a.now b.now) sorted) where

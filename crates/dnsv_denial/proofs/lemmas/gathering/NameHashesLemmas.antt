@@ -15,9 +15,8 @@ use Rattle.dnsv_canonical.proofs.CanonicalLemmas.{IsMember, IsMember-from_contai
 use Rattle.dnsv_canonical.specs.CanonicalRdata.{canonical_form}
 use Rattle.dnsv_canonical.specs.Evidence.{nsec3_rdata}
 use Rattle.dnsv_canonical.specs.Rrsets.{ReceivedRrset}
-use Rattle.dnsv_chain.specs.Trust.{KeptTrust}
+use Rattle.dnsv_chain.specs.Trust.{KeptTrust, SecuredIn}
 use Rattle.dnsv_denial.specs.KeptHashes.{AreKeptHashes}
-use Rattle.dnsv_denial.specs.Viewed.{SecuredIn}
 use Rattle.dnsv_denial.specs.gathering.Evidence.{IsNsec3At}
 use Rattle.dnsv_denial.specs.gathering.Kept.{AreSets, AreZones, IsViewOf}
 use Rattle.dnsv_denial.specs.words.EvidenceWords.{parameters_cmp}

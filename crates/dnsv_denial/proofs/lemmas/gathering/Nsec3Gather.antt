@@ -13,8 +13,7 @@ use Rattle.dnsv_zones.specs.chains.Nsec3Chain.{Nsec3Record}
 use Rattle.dnsv_zones.specs.chains.Rdata.{parameters_of}
 use Rattle.dnsv_canonical.specs.Canonical.{IsCanonical}
 use Rattle.dnsv_canonical.specs.CanonicalRdata.{canonical_form}
-use Rattle.dnsv_canonical.specs.Rrsets.{ReceivedRrset}
-use Rattle.dnsv_chain.specs.Trusted.{IsNumbered}
+use Rattle.dnsv_canonical.specs.Rrsets.{IsNumbered, ReceivedRrset}
 use Rattle.dnsv_denial.specs.gathering.Evidence.{HasZoneSignature, IsHashedOwner, IsNsec3At, IsNsec3Of, IsRecordAt, IsSecuredBy}
 use Rattle.dnsv_denial.specs.gathering.Gathered.{AreAll, AreNsec3s, AreNsec3sOf, IsEntryOf, IsNsec3RrsetOf}
 use Rattle.dnsv_denial.specs.records.Record.{flags_of, read_nsec3}

@@ -6,6 +6,7 @@ use Rattle.dnsv_denial.specs.records.Record.{read_nsec3}
 use Rattle.dnsv_denial.specs.words.SaidAt.{IsSaidAt}
 use Rattle.dnsv_denial.specs.declared.records.entry.Nsec3Entry.{Nsec3Entry}
 use Rattle.dnsv_denial.specs.declared.records.hash_places.HashPlace.{HashPlace}
+use Rattle.dnsv_names.specs.RisingLaws.{le_before, lt_before}
 use Rattle.dnsv_names.specs.Circle.{between}
 use Rattle.dnsv_names.specs.Octets.{octets_cmp}
 use Rattle.std.proofs.Common.{◌≡◌, ◌≢◌, ◌⊎◌, ℕ, ◌+◌, ◌-◌, ◌<◌, ◌≤◌, true, false, List, [], Some, length, get_or, take, drop, refl, sym, ap, ◌∙◌, subst, inl, inr, ⊎_elim, arith}
@@ -42,22 +43,6 @@ pub not_le_is : (o : Ordering) → is_le o ≡ false → o ≡ Greater
 not_le_is Less no_le = cc
 not_le_is Equal no_le = cc
 not_le_is Greater no_le = refl
-
-lt_before : (a b : Ordering) → ordering_index a ≤ ordering_index b → is_lt b ≡ true → is_lt a ≡ true
-lt_before Less b rises lt = refl
-lt_before Equal Less rises lt = absurd (omega (arith, rises))
-lt_before Equal Equal rises lt = cc
-lt_before Equal Greater rises lt = cc
-lt_before Greater Less rises lt = absurd (omega (arith, rises))
-lt_before Greater Equal rises lt = cc
-lt_before Greater Greater rises lt = cc
-
-le_before : (a b : Ordering) → ordering_index a ≤ ordering_index b → is_le b ≡ true → is_le a ≡ true
-le_before Less b rises le = refl
-le_before Equal b rises le = refl
-le_before Greater Less rises le = absurd (omega (arith, rises))
-le_before Greater Equal rises le = absurd (omega (arith, rises))
-le_before Greater Greater rises le = cc
 
 module _ {X : Type 0} (key : X → List ℕ) (xs : List X) (hash : List ℕ) where
   rises : IsSortedByKey key octets_cmp xs → IsNonDecreasingBy (λ (x : X). ordering_index (octets_cmp (key x) hash)) xs

@@ -1,23 +1,15 @@
 -- Numbers of labels that are found one after another.
-use Rattle.std.proofs.Common.{◌≡◌, ℕ, ◌+◌, ◌-◌, ◌<◌, ◌≤◌, ◌⊎◌, Bool, false, Option, List, [], ◌∷◌, length, ◌==◌, if◌then◌else◌, refl, sym, ap, ◌∙◌, subst, inl, inr, ⊎_elim, arith}
-use Rattle.std.specs.Prelude.{Some, None, Contains}
-use Rattle.std.specs.List.{AllZip}
+use Rattle.std.proofs.Common.{◌≡◌, ℕ, ◌+◌, ◌-◌, ◌<◌, ◌≤◌, ◌⊎◌, Option, List, length, refl, sym, subst, inl, inr, ⊎_elim, arith}
+use Rattle.std.specs.Prelude.{Some, None}
 use Rattle.std.proofs.lemmas.Bool.{cases_lt}
-use Rattle.std.proofs.lemmas.Bool.Decides.{Decides-eqb}
 use Rattle.std.proofs.lemmas.Option.{slice_get_within}
 use Rattle.dnsv_names.specs.Name.{Labels, IsAtOrBelow, rightmost}
 use Rattle.dnsv_names.specs.Tree.TreeLaws.{at_or_below_length, same_labels, at_or_below_respects}
 use Rattle.dnsv_names.specs.Tree.AncestorLaws.{rightmost_above, rightmost_length, rightmost_same}
-use Rattle.dnsv_records.specs.Ds.{IsDs}
-use Rattle.dnsv_records.specs.declared.ds.Ds.{Ds}
-use Rattle.dnsv_records.proofs.OneRecord.{one_ds}
-use Rattle.dnsv_canonical.proofs.CanonicalLemmas.{Contains-from_member}
-use Rattle.dnsv_canonical.specs.Rdata.{rdata_of_type}
-use Rattle.dnsv_canonical.specs.Rrsets.{ReceivedRrset}
-use Rattle.dnsv_chain.specs.Ds.{HasUsable}
-use Rattle.dnsv_chain.specs.Trusted.{IsNumbered}
+use Rattle.dnsv_canonical.specs.Rrsets.{IsNumbered, ReceivedRrset}
 use Rattle.dnsv_denial.specs.unsigned_cuts.Cuts.{no_ds, no_usable_ds, opt_out, IsFewest, IsMost, IsUnsignedDelegationCut, IsUnusableDsCut, IsOptOutCut, IsUnsignedCut, HasUnsignedCut}
-use Rattle.dnsv_denial.specs.unsigned_cuts.Findings.{IsFewestFound, IsMostFound, IsLesser, IsGreater, AreFindings, IsUnusableDs}
+use Rattle.dnsv_chain.specs.UnusableDs.{IsUnusableDs}
+use Rattle.dnsv_denial.specs.unsigned_cuts.Findings.{IsFewestFound, IsMostFound, IsLesser, IsGreater, AreFindings}
 use Rattle.dnsv_denial.proofs.lemmas.gathering.EvidenceLemmas.{one_numbered}
 
 -- ---- the lesser and the greater of two findings
@@ -64,26 +56,6 @@ module _ (P Q R : ℕ → Type 0) (to_first : (n : ℕ) → P n → R n) (to_sec
       (cases_lt n m)
 
 -- ---- DS RRsets, one by one
-
-its_rdata : (rrset : ReceivedRrset) → rrset.rtype ≡ 43 → rdata_of_type 43 rrset ≡ rrset.rdata
-its_rdata rrset is = ap (λ (b : Bool). if b then rrset.rdata else []) ((Decides-eqb rrset.rtype 43).1 is)
-
-one_list : (xs : List (List ℕ)) (a b : List Ds) → AllZip IsDs xs a → AllZip IsDs xs b → a ≡ b
-one_list [] [] [] p q = refl
-one_list [] [] (y ∷ b) p q = absurd q
-one_list [] (x ∷ a) b p q = absurd p
-one_list (o ∷ xs) [] b p q = absurd p
-one_list (o ∷ xs) (x ∷ a) [] p q = absurd q
-one_list (o ∷ xs) (x ∷ a) (y ∷ b) p q = ap (λ z. z ∷ a) (one_ds o x y p.0 q.0) ∙ ap (λ zs. y ∷ zs) (one_list xs a b p.1 q.1)
-
-pub ds_read : (rrset : ReceivedRrset) (records : List Ds) → rrset.rtype ≡ 43 → AllZip IsDs (rdata_of_type 43 rrset) records → AllZip IsDs rrset.rdata records
-ds_read rrset records is each = subst (λ (rdata : List (List ℕ)). AllZip IsDs rdata records) (its_rdata rrset is) each
-
--- none of the records that were read is usable
-pub none_usable : (Secured : ℕ → Type 0) (rrset : ReceivedRrset) (name : Labels) (records : List Ds) → AllZip IsDs (rdata_of_type 43 rrset) records
-    → IsUnusableDs Secured rrset name → ¬ HasUsable records
-none_usable Secured rrset name records each is =
-    subst (λ (list : List Ds). ¬ HasUsable list) (one_list rrset.rdata is.records records is.read (ds_read rrset records is.rtype each)) is.none
 
 module _ (Secured : ℕ → ℕ → Type 0) (rrsets : List ReceivedRrset) (name : Labels) where
   -- it is shown by one of so many RRsets
@@ -168,10 +140,6 @@ module _ (Secured : ℕ → ℕ → Type 0) (rrsets : List ReceivedRrset) (name 
       found so_far
 
 -- a list that isn't empty has a member
-pub some_number : (xs : List ℕ) (empty : Bool) → empty ≡ (length xs == 0) → empty ≡ false → (s : ℕ) × Contains xs s
-some_number [] empty test fails = let bad : ⊥ = cc in absurd bad
-some_number (x ∷ xs) empty test fails = (x, Contains-from_member (x ∷ xs) x (inl refl))
-
 -- ---- the first of the three kinds
 
 fewest_at : (Holds : ℕ → Type 0) (found : Option ℕ) (n : ℕ) → found ≡ Some n → IsFewestFound Holds found → IsFewest Holds n

@@ -1,4 +1,4 @@
-use Rattle.dnsv_denial.specs.Viewed.{SecuredIn}
+use Rattle.dnsv_chain.specs.Trust.{SecuredIn}
 use Rattle.dnsv_denial.proofs.lemmas.WildcardAnswerLemmas.{answer_more, shown_here}
 use Rattle.dnsv_denial.proofs.wildcard_answers.add_answer.Goals as goal
 

@@ -1,7 +1,6 @@
 use Rattle.std.proofs.Common.{List}
 use Rattle.dnsv_canonical.specs.Rrsets.{ReceivedRrset}
-use Rattle.dnsv_chain.specs.Trust.{KeptTrust}
-use Rattle.dnsv_denial.specs.Viewed.{SecuredIn}
+use Rattle.dnsv_chain.specs.Trust.{KeptTrust, SecuredIn}
 use Rattle.dnsv_denial.specs.WildcardAnswers.{AreAnswers}
 use Rattle.dnsv_denial.specs.gathering.Kept.{IsViewOf}
 use Rattle.dnsv_denial.proofs.wildcard_answers.add_answers.Given as goal

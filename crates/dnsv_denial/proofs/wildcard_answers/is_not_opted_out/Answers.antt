@@ -1,7 +1,7 @@
 use Rattle.std.proofs.Common.{◌≡◌, Some, sym, ap, ◌∙◌}
 use Rattle.std.specs.BTreeMap.{get}
 use Rattle.std.specs.Option.{option_copied}
-use Rattle.dnsv_denial.specs.Viewed.{SecuredIn}
+use Rattle.dnsv_chain.specs.Trust.{SecuredIn}
 use Rattle.dnsv_denial.specs.WildcardAnswers.{asked_cmp}
 use Rattle.dnsv_denial.proofs.lemmas.WildcardAnswerLemmas.{isnt, shown_there}
 use Rattle.dnsv_denial.proofs.wildcard_answers.is_not_opted_out.Goals as goal

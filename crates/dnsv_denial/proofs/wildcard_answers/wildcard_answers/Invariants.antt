@@ -1,4 +1,4 @@
-use Rattle.dnsv_denial.specs.Viewed.{SecuredIn}
+use Rattle.dnsv_chain.specs.Trust.{SecuredIn}
 use Rattle.dnsv_denial.specs.WildcardAnswers.{AreAnswers}
 use Rattle.dnsv_denial.proofs.wildcard_answers.wildcard_answers.Given as goal
 

@@ -1,14 +1,14 @@
 -- the hopeful table's trust settles what the hopeful verifier settles; where nothing is unknown, hope settles nothing more
-use Rattle.std.proofs.Common.{refl, subst, sym}
+use Rattle.std.proofs.Common.{refl}
 use Rattle.std.proofs.lemmas.Option.{MatchOption-at_none, MatchOption-at_some}
-use Rattle.dnsv_verifier.specs.Table.{IsTableOf, hoped_answer}
+use Rattle.dnsv_verifier.specs.Table.{hoped_answer}
 use Rattle.dnsv_verifier.specs.declared.answer.Answer.{Answer}
 use Rattle.dnsv_verifier.specs.declared.entry.Entry.{Entry}
-use Rattle.dnsv_denial.specs.Viewed.{SecuredIn}
+use Rattle.dnsv_chain.specs.Trust.{SecuredIn}
 use Rattle.dnsv_verdict.proofs.CaseLemmas.{settled_stands}
 use Rattle.dnsv_verdict.proofs.SettledLemmas.PendingLemmas.{nothing_to_hope}
 use Rattle.dnsv_verdict.proofs.TrustLemmas.{settled_by_trust, settled_from_trust}
-use Rattle.dnsv_verdict.proofs.UnknownLemmas.{none_unknown}
+use Rattle.dnsv_verdict.proofs.UnknownLemmas.{hoped_table, none_unknown}
 use Rattle.dnsv_verdict.specs.Verdict.{Basis, basis_of}
 use Rattle.dnsv_verdict.proofs.grounds.may_be_settled.Goals as goal
 
@@ -26,9 +26,7 @@ returns c = λ meaning moment table unsettled.
     let grounds = c.args.grounds.now in
     let hoped : Entry → Answer = λ entry. hoped_answer (meaning entry) in
     let contents = c.in_ok-hopeful.hopeful in
-    let is : IsTableOf hoped moment grounds.capture.now.rrsets contents =
-    subst (λ each. IsTableOf hoped moment grounds.capture.now.rrsets each) (sym c.in_ok-hopeful.ensures)
-    (c.unknown_entries_may_turn_out_valid.ensures.hoped meaning moment grounds.capture.now.rrsets grounds.table.now table) in (
+    let is = hoped_table hoped moment grounds.capture.now.rrsets c.in_ok-hopeful.ensures (c.unknown_entries_may_turn_out_valid.ensures.hoped meaning moment grounds.capture.now.rrsets grounds.table.now table) in (
       λ _. settled_from_trust hoped moment grounds.capture.now.rrsets grounds.anchors.now contents c.in_ok-trust.trust is.of_moment
           (c.a_table_is_its_verifier.ensures.answer hoped moment grounds.capture.now.rrsets contents is)
           c.trust_depends_on_what_is_asked.ensures.numbers c.in_ok-trust.ensures c.args.name.now c.args.rtype.0
@@ -42,9 +40,7 @@ returns-in_default c = λ meaning moment table unsettled.
     let grounds = c.args.grounds.now in
     let hoped : Entry → Answer = λ entry. hoped_answer (meaning entry) in
     let contents = c.in_ok-hopeful.hopeful in
-    let is : IsTableOf hoped moment grounds.capture.now.rrsets contents =
-    subst (λ each. IsTableOf hoped moment grounds.capture.now.rrsets each) (sym c.in_ok-hopeful.ensures)
-    (c.unknown_entries_may_turn_out_valid.ensures.hoped meaning moment grounds.capture.now.rrsets grounds.table.now table) in (
+    let is = hoped_table hoped moment grounds.capture.now.rrsets c.in_ok-hopeful.ensures (c.unknown_entries_may_turn_out_valid.ensures.hoped meaning moment grounds.capture.now.rrsets grounds.table.now table) in (
       λ never. cc,
       λ may. absurd (MatchOption-at_none _ _ c.in_default.is c.settled.ensures
           (settled_by_trust hoped moment grounds.capture.now.rrsets grounds.anchors.now contents c.in_ok-trust.trust is.of_moment

@@ -1,10 +1,7 @@
 -- the verdict at the end, a refusal at the last name, and a link more
-use Rattle.std.proofs.Common.{◌≡◌, subst}
 use Rattle.std.proofs.lemmas.Option.{MatchOption-at_none, MatchOption-at_some}
 use Rattle.std.proofs.lemmas.Result.{err_from_is_err_and}
-use Rattle.dnsv_verdict.proofs.WayLemmas.FollowLemmas.{OfTable, counted_last, followed_more, followed_to_end, refused_at_last}
-use Rattle.dnsv_verdict.specs.Verdict.{IsVerdictAt, basis_of}
-use Rattle.dnsv_verdict.specs.declared.verdict.Verdict.TheVariants.{SecureAlias}
+use Rattle.dnsv_verdict.proofs.WayLemmas.FollowLemmas.{alias_there, counted_last, followed_more, followed_to_end, refused_at_last}
 use Rattle.dnsv_verdict.proofs.way.follow.Goals as goal
 
 pub returns-in_default-clause-value : goal.returns-in_default-clause-value
@@ -20,10 +17,7 @@ returns-in_err-target-clause-refused c = λ meaning moment of.
     let last = c.links.way.last in
     let k = c.in-Some.rrset in
     let s = c.in-Some.signature in
-    let is : c.in_ok-verdict.verdict ≡ SecureAlias k s = MatchOption-at_some _ _ (k, s) c.in-Some.is c.alias_of.ensures in
-    let alias : OfTable grounds.capture.now.rrsets grounds.anchors.now grounds.table.now (λ judged. IsVerdictAt judged last c.args.rtype.0 (SecureAlias k s)) =
-    λ meaning moment of. subst (λ verdict. IsVerdictAt (basis_of grounds.capture.now.rrsets grounds.anchors.now moment meaning) last c.args.rtype.0 verdict) is
-    (c.in_ok-verdict.ensures.value meaning moment of) in
+    let alias = alias_there grounds.capture.now.rrsets grounds.anchors.now grounds.table.now last c.args.rtype.0 c.in_ok-verdict.verdict k s (MatchOption-at_some _ _ (k, s) c.in-Some.is c.alias_of.ensures) c.in_ok-verdict.ensures.value in
     let p = err_from_is_err_and c.from_residual-in_err-target.result c.from_residual-in_err-target.ensures.1 in
     rw (p.1, p.2) (refused_at_last grounds.capture.now.rrsets grounds.anchors.now grounds.table.now c.args.rtype.0 c.args.name.now c.args.hashed.now
     c.links.hashed c.links.way.links last k s c.in_err-target.field-0.0 c.links.invariant alias c.in_err-target.ensures.stops meaning moment of)
@@ -34,10 +28,7 @@ links-preserved c =
     let last = c.links.way.last in
     let k = c.in-Some.rrset in
     let s = c.in-Some.signature in
-    let is : c.in_ok-verdict.verdict ≡ SecureAlias k s = MatchOption-at_some _ _ (k, s) c.in-Some.is c.alias_of.ensures in
-    let alias : OfTable grounds.capture.now.rrsets grounds.anchors.now grounds.table.now (λ judged. IsVerdictAt judged last c.args.rtype.0 (SecureAlias k s)) =
-    λ meaning moment of. subst (λ verdict. IsVerdictAt (basis_of grounds.capture.now.rrsets grounds.anchors.now moment meaning) last c.args.rtype.0 verdict) is
-    (c.in_ok-verdict.ensures.value meaning moment of) in
+    let alias = alias_there grounds.capture.now.rrsets grounds.anchors.now grounds.table.now last c.args.rtype.0 c.in_ok-verdict.verdict k s (MatchOption-at_some _ _ (k, s) c.in-Some.is c.alias_of.ensures) c.in_ok-verdict.ensures.value in
     rw (c.longer-way.ensures.links, c.longer-way.ensures.last)
     (followed_more grounds.capture.now.rrsets grounds.anchors.now grounds.table.now c.args.rtype.0 c.args.name.now c.args.hashed.now c.links.hashed
     c.verdict_at.new.hashed c.links.way.links last k s c.in_ok-target.target c.links.invariant alias

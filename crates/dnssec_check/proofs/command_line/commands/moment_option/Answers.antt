@@ -1,23 +1,15 @@
-use Rattle.std.proofs.Common.{rules, ap, ap₂, codes, subst, true, ◌≡◌, ◌∙◌}
-use Rattle.std.specs.Prelude.{ℤ, Option, Some, pos}
+use Rattle.std.proofs.Common.{rules, ap, ap₂, codes, true, ◌≡◌, ◌∙◌}
+use Rattle.std.specs.Prelude.{Some, pos}
 use Rattle.clap.specs.Words.{NarrowsTo, Rule, new_rule, rule_of}
 use Rattle.clap.specs.declared.Arg.{Arg}
 use Rattle.clap.specs.declared.builder.ValueParser.{ValueParser}
 use Rattle.clap.specs.declared.builder.ValueParser.TheVariants as parser
+use Rattle.dnssec_check.proofs.CommandLineLemmas.Numbers.{demanded, narrowed_to}
 use Rattle.dnssec_check.specs.CommandLine.Moment.{last_moment}
 use Rattle.dnssec_check.proofs.command_line.commands.moment_option.Goals as goal
 
-abbrev demanded : Option ValueParser → Rule → Rule
-demanded p r = record r { parser = p; required = true }
-
 abbrev named : Rule
 named = record (new_rule (codes "moment")) { long = Some (codes "moment"); value_names = 1 }
-
-narrowed_moment : (first last : ℤ) (r : ValueParser) → NarrowsTo (parser.Unsigned 0 18446744073709551615) (Some first) (Some last) r
-    → first ≡ pos 0 → last ≡ pos last_moment → r ≡ parser.Unsigned 0 last_moment
-narrowed_moment first last r narrows is_first is_last =
-    subst (λ (z : ℤ). NarrowsTo (parser.Unsigned 0 18446744073709551615) (Some (pos 0)) (Some z) r) is_last
-    (subst (λ (z : ℤ). NarrowsTo (parser.Unsigned 0 18446744073709551615) (Some z) (Some last) r) is_first narrows)
 
 pub returns-clause-rule : goal.returns-clause-rule
 returns-clause-rule c =
@@ -25,7 +17,7 @@ returns-clause-rule c =
     let start_is : c.new-2.result.start ≡ pos 0 = search rules in
     let end_is : c.new-2.result.end ≡ pos last_moment = search rules in
     let narrowed : NarrowsTo (parser.Unsigned 0 18446744073709551615) (Some c.new-2.result.start) (Some c.new-2.result.end) c.range.result = rw c.value_parser.ensures at c.range.ensures in
-    let range_is = narrowed_moment _ _ c.range.result narrowed start_is end_is in
+    let range_is : c.range.result ≡ parser.Unsigned 0 last_moment = narrowed_to (pos last_moment) _ _ c.range.result narrowed start_is end_is in
     let made : given.0 ≡ parser.Unsigned 0 last_moment = given.2 ∙ range_is in
     let parser_is : c.value_parser-2.result.value_parser ≡ Some (parser.Unsigned 0 last_moment) = given.1 ∙ ap (λ (p : ValueParser). Some p) made in
     let named_is : rule_of c.help.result ≡ named = search rules in

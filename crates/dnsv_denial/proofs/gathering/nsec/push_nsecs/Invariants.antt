@@ -1,7 +1,6 @@
 -- the records so far are added
 use Rattle.std.proofs.Common.{◌≡◌, ◌≤◌, List}
-use Rattle.dnsv_canonical.specs.Rrsets.{ReceivedRrset}
-use Rattle.dnsv_chain.specs.Trusted.{IsNumbered}
+use Rattle.dnsv_canonical.specs.Rrsets.{IsNumbered, ReceivedRrset}
 use Rattle.dnsv_denial.proofs.lemmas.gathering.NsecGather.{GrownBy}
 use Rattle.dnsv_denial.proofs.gathering.nsec.push_nsecs.Given as goal
 

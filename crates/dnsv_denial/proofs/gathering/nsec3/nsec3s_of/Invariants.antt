@@ -1,6 +1,6 @@
 -- the records of the RRsets so far are gathered
 use Rattle.std.proofs.Common.{◌≤◌}
-use Rattle.dnsv_denial.specs.Viewed.{SecuredIn}
+use Rattle.dnsv_chain.specs.Trust.{SecuredIn}
 use Rattle.dnsv_denial.specs.gathering.Evidence.{IsNsec3At}
 use Rattle.dnsv_denial.specs.gathering.Gathered.{AreAll}
 use Rattle.dnsv_denial.specs.records.Record.{read_nsec3}

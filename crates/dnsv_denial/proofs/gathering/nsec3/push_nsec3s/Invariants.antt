@@ -1,8 +1,7 @@
 -- the usable records so far are added
 use Rattle.std.proofs.Common.{◌≡◌, List, ℕ}
 use Rattle.std.specs.Prelude.{map}
-use Rattle.dnsv_canonical.specs.Rrsets.{ReceivedRrset}
-use Rattle.dnsv_chain.specs.Trusted.{IsNumbered}
+use Rattle.dnsv_canonical.specs.Rrsets.{IsNumbered, ReceivedRrset}
 use Rattle.dnsv_denial.specs.gathering.Evidence.{IsNsec3Of}
 use Rattle.dnsv_denial.specs.records.Record.{read_nsec3}
 use Rattle.dnsv_denial.proofs.lemmas.gathering.Gathering.{Grown, UpTo}

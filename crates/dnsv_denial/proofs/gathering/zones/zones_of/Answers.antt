@@ -1,5 +1,5 @@
 use Rattle.std.proofs.Common.{◌≡◌, ◌+◌, length, arith}
-use Rattle.dnsv_denial.specs.Viewed.{SecuredIn}
+use Rattle.dnsv_chain.specs.Trust.{SecuredIn}
 use Rattle.dnsv_denial.proofs.lemmas.gathering.GatherZoneLemmas.{no_zones, zone_more}
 use Rattle.dnsv_denial.proofs.gathering.zones.zones_of.Goals as goal
 

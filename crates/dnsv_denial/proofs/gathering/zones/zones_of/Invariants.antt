@@ -1,5 +1,5 @@
 -- the zones so far
-use Rattle.dnsv_denial.specs.Viewed.{SecuredIn}
+use Rattle.dnsv_chain.specs.Trust.{SecuredIn}
 use Rattle.dnsv_denial.proofs.lemmas.gathering.GatherZoneLemmas.{AreZonesTo}
 use Rattle.dnsv_denial.proofs.gathering.zones.zones_of.Given as goal
 

@@ -1,8 +1,7 @@
 -- no zone with so many labels or more has a proof
 use Rattle.std.proofs.Common.{List, ◌≤◌, length}
 use Rattle.dnsv_canonical.specs.Rrsets.{ReceivedRrset}
-use Rattle.dnsv_chain.specs.Trust.{KeptTrust}
-use Rattle.dnsv_denial.specs.Viewed.{SecuredIn}
+use Rattle.dnsv_chain.specs.Trust.{KeptTrust, SecuredIn}
 use Rattle.dnsv_denial.specs.gathering.Kept.{AreSets, AreZones}
 use Rattle.dnsv_denial.proofs.lemmas.proving.FirstProofLemmas.{NoneFrom}
 use Rattle.dnsv_denial.proofs.proving.first_proof.first_proof.Given as goal

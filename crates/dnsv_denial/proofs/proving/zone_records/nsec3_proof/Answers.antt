@@ -1,7 +1,7 @@
 use Rattle.std.proofs.Common.{ℕ, length, refl, arith}
 use Rattle.std.proofs.lemmas.Option.{slice_get_read, slice_get_within}
 use Rattle.dnsv_zones.specs.chains.Rdata.{parameters_of}
-use Rattle.dnsv_denial.specs.Viewed.{SecuredIn}
+use Rattle.dnsv_chain.specs.Trust.{SecuredIn}
 use Rattle.dnsv_denial.specs.forms.Denials.{DenialForm}
 use Rattle.dnsv_denial.specs.proving.FirstProof.{StandsBy}
 use Rattle.dnsv_denial.specs.words.EvidenceWords.Chain.{ByNsec3}

@@ -1,7 +1,7 @@
 use Rattle.std.proofs.Common.{◌≡◌, ℕ}
 use Rattle.std.specs.Prelude.{Some, slice_get}
 use Rattle.dnsv_zones.specs.chains.Rdata.{parameters_of}
-use Rattle.dnsv_denial.specs.Viewed.{SecuredIn}
+use Rattle.dnsv_chain.specs.Trust.{SecuredIn}
 use Rattle.dnsv_denial.specs.forms.Denials.{DenialForm}
 use Rattle.dnsv_denial.specs.gathering.Kept.{IsFirstSet, IsZoneProof}
 use Rattle.dnsv_denial.specs.proving.FirstProof.{StandsBy}

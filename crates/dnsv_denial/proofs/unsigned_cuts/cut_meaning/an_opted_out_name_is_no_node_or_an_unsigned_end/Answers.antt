@@ -1,4 +1,4 @@
-use Rattle.dnsv_denial.specs.Viewed.{SecuredIn}
+use Rattle.dnsv_chain.specs.Trust.{SecuredIn}
 use Rattle.dnsv_denial.proofs.meaning.CutMeaningLemmas.{opted_out_end}
 use Rattle.dnsv_denial.proofs.unsigned_cuts.cut_meaning.an_opted_out_name_is_no_node_or_an_unsigned_end.Goals as goal
 

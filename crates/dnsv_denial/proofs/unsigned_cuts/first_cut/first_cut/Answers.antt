@@ -1,4 +1,4 @@
-use Rattle.dnsv_denial.specs.Viewed.{SecuredIn}
+use Rattle.dnsv_chain.specs.Trust.{SecuredIn}
 use Rattle.dnsv_denial.proofs.lemmas.unsigned_cuts.FindingLemmas.{cut_without_ds, cut_unusable, cut_left_out, no_cut}
 use Rattle.dnsv_denial.proofs.unsigned_cuts.first_cut.first_cut.Goals as goal
 

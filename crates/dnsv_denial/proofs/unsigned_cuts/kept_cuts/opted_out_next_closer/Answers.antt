@@ -1,4 +1,4 @@
-use Rattle.dnsv_denial.specs.Viewed.{SecuredIn}
+use Rattle.dnsv_chain.specs.Trust.{SecuredIn}
 use Rattle.dnsv_denial.proofs.lemmas.unsigned_cuts.OptOutNextCloserLemmas.{kept_at, kept_of_opt_out, opt_out_of_kept, opt_out_within}
 use Rattle.dnsv_denial.proofs.unsigned_cuts.kept_cuts.opted_out_next_closer.Goals as goal
 

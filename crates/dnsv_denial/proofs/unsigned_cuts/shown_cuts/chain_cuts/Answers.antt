@@ -1,4 +1,4 @@
-use Rattle.dnsv_denial.specs.Viewed.{SecuredIn}
+use Rattle.dnsv_chain.specs.Trust.{SecuredIn}
 use Rattle.dnsv_denial.proofs.lemmas.unsigned_cuts.ShownLemmas.{chain_shown}
 use Rattle.dnsv_denial.proofs.unsigned_cuts.shown_cuts.chain_cuts.Goals as goal
 

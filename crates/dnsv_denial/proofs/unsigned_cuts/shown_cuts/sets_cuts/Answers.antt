@@ -1,6 +1,6 @@
 use Rattle.std.proofs.Common.{length, refl}
 use Rattle.std.proofs.lemmas.Option.{slice_get_read}
-use Rattle.dnsv_denial.specs.Viewed.{SecuredIn}
+use Rattle.dnsv_chain.specs.Trust.{SecuredIn}
 use Rattle.dnsv_denial.specs.unsigned_cuts.ShownCuts.{IsCutBySet, IsOptOutBySet}
 use Rattle.dnsv_denial.proofs.lemmas.unsigned_cuts.ShownLemmas.{none_shown, shown_with, shown_all}
 use Rattle.dnsv_denial.proofs.unsigned_cuts.shown_cuts.sets_cuts.Goals as goal

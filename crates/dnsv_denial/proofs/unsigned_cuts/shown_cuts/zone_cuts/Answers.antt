@@ -1,4 +1,4 @@
-use Rattle.dnsv_denial.specs.Viewed.{SecuredIn}
+use Rattle.dnsv_chain.specs.Trust.{SecuredIn}
 use Rattle.dnsv_denial.specs.words.EvidenceWords.Chain.{ByNsec}
 use Rattle.dnsv_denial.proofs.lemmas.unsigned_cuts.ShownLemmas.{zone_shown}
 use Rattle.dnsv_denial.proofs.unsigned_cuts.shown_cuts.zone_cuts.Goals as goal

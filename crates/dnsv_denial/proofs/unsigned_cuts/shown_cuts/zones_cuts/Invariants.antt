@@ -1,8 +1,7 @@
 -- what the zones so far show is found
 use Rattle.std.proofs.Common.{List}
 use Rattle.dnsv_canonical.specs.Rrsets.{ReceivedRrset}
-use Rattle.dnsv_chain.specs.Trust.{KeptTrust}
-use Rattle.dnsv_denial.specs.Viewed.{SecuredIn}
+use Rattle.dnsv_chain.specs.Trust.{KeptTrust, SecuredIn}
 use Rattle.dnsv_denial.specs.gathering.Kept.{AreSets, AreZones}
 use Rattle.dnsv_denial.specs.unsigned_cuts.ShownCuts.{AreShown, IsCutIn, IsOfFirst, IsOptOutIn}
 use Rattle.dnsv_denial.proofs.unsigned_cuts.shown_cuts.zones_cuts.Given as goal

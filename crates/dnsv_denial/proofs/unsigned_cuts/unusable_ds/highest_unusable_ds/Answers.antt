@@ -1,8 +1,9 @@
 use Rattle.std.proofs.Common.{ℕ, ◌∙◌, List, length, ap, subst}
 use Rattle.std.specs.Prelude.{Some, Contains}
 use Rattle.dnsv_names.specs.Name.{Labels}
-use Rattle.dnsv_denial.specs.Viewed.{SecuredIn}
-use Rattle.dnsv_denial.specs.unsigned_cuts.Findings.{IsLesser, IsUnusableDs}
+use Rattle.dnsv_chain.specs.Trust.{SecuredIn}
+use Rattle.dnsv_chain.specs.UnusableDs.{IsUnusableDs}
+use Rattle.dnsv_denial.specs.unsigned_cuts.Findings.{IsLesser}
 use Rattle.dnsv_denial.proofs.lemmas.gathering.EvidenceLemmas.{numbered_here}
 use Rattle.dnsv_denial.proofs.lemmas.unsigned_cuts.FindingLemmas.{none_here, one_here, all_of_them}
 use Rattle.dnsv_denial.proofs.unsigned_cuts.unusable_ds.highest_unusable_ds.Goals as goal

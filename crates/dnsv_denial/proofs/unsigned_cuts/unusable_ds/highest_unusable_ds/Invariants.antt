@@ -1,5 +1,5 @@
 -- the fewest labels by the RRsets so far are found
-use Rattle.dnsv_denial.specs.Viewed.{SecuredIn}
+use Rattle.dnsv_chain.specs.Trust.{SecuredIn}
 use Rattle.dnsv_denial.specs.unsigned_cuts.Findings.{IsFewestFound}
 use Rattle.dnsv_denial.proofs.lemmas.unsigned_cuts.FindingLemmas.{IsCutUpTo}
 use Rattle.dnsv_denial.proofs.unsigned_cuts.unusable_ds.highest_unusable_ds.Given as goal

@@ -1,5 +1,5 @@
 use Rattle.std.specs.Prelude.{IsTrue}
-use Rattle.dnsv_denial.specs.Viewed.{SecuredIn}
+use Rattle.dnsv_chain.specs.Trust.{SecuredIn}
 use Rattle.dnsv_denial.proofs.lemmas.unsigned_cuts.OptOutNextCloserLemmas.{chain_leaves}
 use Rattle.dnsv_denial.proofs.unsigned_cuts.zone_opt_out.chain_opts_out_next_closer.Goals as goal
 

@@ -1,6 +1,6 @@
 use Rattle.std.proofs.Common.{◌≡◌, ◌+◌}
 use Rattle.dnsv_names.specs.Name.{rightmost}
-use Rattle.dnsv_denial.specs.Viewed.{SecuredIn}
+use Rattle.dnsv_chain.specs.Trust.{SecuredIn}
 use Rattle.dnsv_denial.specs.unsigned_cuts.Cuts.{HasOptedOutNextCloser}
 use Rattle.dnsv_denial.proofs.meaning.CutMeaningLemmas.{next_closer_means}
 use Rattle.dnsv_denial.proofs.lemmas.words.FirstLemmas.{if_some}

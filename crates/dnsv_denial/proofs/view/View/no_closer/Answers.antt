@@ -1,4 +1,4 @@
-use Rattle.dnsv_denial.specs.Viewed.{SecuredIn}
+use Rattle.dnsv_chain.specs.Trust.{SecuredIn}
 use Rattle.dnsv_denial.specs.proving.FirstProof.{CanProveNoCloser, IsFirstNoCloser}
 use Rattle.dnsv_denial.proofs.lemmas.words.FirstLemmas.{if_some}
 use Rattle.dnsv_denial.proofs.meaning.ProofMeaningLemmas.{first_no_closer_means}

@@ -1,7 +1,7 @@
 use Rattle.dnsv_names.specs.Name.{Labels}
 use Rattle.dnsv_zones.specs.zones.Lookup.{IsLookup}
 use Rattle.dnsv_zones.specs.zones.Lookup.Answer.{NoData}
-use Rattle.dnsv_denial.specs.Viewed.{SecuredIn}
+use Rattle.dnsv_chain.specs.Trust.{SecuredIn}
 use Rattle.dnsv_denial.specs.proving.FirstProof.{CanProveNoData, IsFirstNoData}
 use Rattle.dnsv_denial.proofs.lemmas.words.FirstLemmas.{if_some}
 use Rattle.dnsv_denial.proofs.meaning.ProofMeaningLemmas.{first_no_data_means}

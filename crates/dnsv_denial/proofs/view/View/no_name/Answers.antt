@@ -1,6 +1,6 @@
 use Rattle.dnsv_zones.specs.zones.Lookup.{IsLookup}
 use Rattle.dnsv_zones.specs.zones.Lookup.Answer.{NoName}
-use Rattle.dnsv_denial.specs.Viewed.{SecuredIn}
+use Rattle.dnsv_chain.specs.Trust.{SecuredIn}
 use Rattle.dnsv_denial.specs.proving.FirstProof.{CanProveNoName, IsFirstNoName}
 use Rattle.dnsv_denial.proofs.lemmas.words.FirstLemmas.{if_some}
 use Rattle.dnsv_denial.proofs.meaning.ProofMeaningLemmas.{first_no_name_means}

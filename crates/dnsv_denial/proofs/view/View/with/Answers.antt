@@ -1,5 +1,5 @@
 use Rattle.std.proofs.Common.{◌∙◌, ap, sym, subst}
-use Rattle.dnsv_denial.specs.Viewed.{SecuredIn}
+use Rattle.dnsv_chain.specs.Trust.{SecuredIn}
 use Rattle.dnsv_denial.specs.WildcardAnswers.{AreAnswers}
 use Rattle.dnsv_denial.specs.gathering.Kept.{AreZones, IsViewOf}
 use Rattle.dnsv_denial.proofs.lemmas.gathering.NameHashesLemmas.{view_of_kept}

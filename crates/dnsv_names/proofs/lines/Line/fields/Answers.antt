@@ -2,7 +2,7 @@ use Rattle.std.proofs.Common.{◌≡◌, ℕ, ap, subst, List, false}
 use Rattle.std.proofs.lemmas.List.{length-map, map-append}
 use Rattle.std.specs.Option.{option_copied}
 use Rattle.dnsv_names.specs.Lines.{NumberedLine, is_passed_over}
-use Rattle.dnsv_names.proofs.FieldLemmas.{reads_none, reads_more, reads_few, reads_empty, reads_many, reads_all, some_octets, no_octets}
+use Rattle.dnsv_names.proofs.LineLemmas.FieldLemmas.{reads_none, reads_more, reads_few, reads_empty, reads_many, reads_all, some_octets, no_octets}
 use Rattle.dnsv_names.proofs.lines.Line.fields.Goals as goal
 
 pub loop-rest-init : goal.loop-rest-init

@@ -1,6 +1,6 @@
 use Rattle.std.proofs.Common.{◌-◌, length, map}
 use Rattle.std.specs.Option.{option_copied}
-use Rattle.dnsv_names.proofs.FieldLemmas.{ReadsFields}
+use Rattle.dnsv_names.proofs.LineLemmas.FieldLemmas.{ReadsFields}
 use Rattle.dnsv_names.proofs.lines.Line.fields.Given as goal
 
 abbrev pub invariant-loop-rest : goal.invariant-loop-rest

@@ -1,5 +1,5 @@
 use Rattle.std.proofs.Common.{sym}
-use Rattle.dnsv_names.proofs.DecimalLemmas.{marked, unread, parsed}
+use Rattle.dnsv_names.proofs.LineLemmas.DecimalLemmas.{marked, unread, parsed}
 use Rattle.dnsv_names.proofs.lines.decimal.decimal_u16.Goals as goal
 
 pub returns-then-is_marked : goal.returns-then-is_marked

@@ -1,5 +1,5 @@
 use Rattle.std.proofs.Common.{arith}
-use Rattle.dnsv_names.proofs.DecimalLemmas.{narrowed}
+use Rattle.dnsv_names.proofs.LineLemmas.DecimalLemmas.{narrowed}
 use Rattle.dnsv_names.proofs.lines.decimal.decimal_u8.Goals as goal
 
 pub returns : goal.returns

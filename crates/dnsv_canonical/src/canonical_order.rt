@@ -9,7 +9,7 @@ ghost use Rattle.dnsv_records.specs.Nsec.{IsNsec};
 ghost use Rattle.dnsv_records.specs.Nsec3.{IsNsec3};
 ghost use Rattle.dnsv_canonical.specs.Canonical.{IsCanonical, rdata_cmp};
 
-use dnsv_canonical::Rrset;
+use crate::rrset::Rrset;
 use dnsv_records::{Nsec, Nsec3};
 use std::alloc::{AllocError, Global};
 use std::cmp::Ordering;

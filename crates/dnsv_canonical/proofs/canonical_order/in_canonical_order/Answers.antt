@@ -1,8 +1,8 @@
 use Rattle.std.proofs.Common.{◌≡◌, ℕ, ◌<◌, length, map, refl, arith, subst, sym, ap, ◌∙◌}
 use Rattle.std.specs.List.{AllByRecursion, AllZip}
 use Rattle.dnsv_canonical.specs.Canonical.{IsCanonical}
-use Rattle.dnsv_denial.proofs.lemmas.gathering.GatherLemmas.{GoTogether, together_more, zip_length, each_of, each_kept, whole_by_count, reordered}
-use Rattle.dnsv_denial.proofs.gathering.canonical_order.in_canonical_order.Goals as goal
+use Rattle.dnsv_canonical.proofs.OrderLemmas.{GoTogether, together_more, zip_length, each_of, each_kept, whole_by_count, reordered}
+use Rattle.dnsv_canonical.proofs.canonical_order.in_canonical_order.Goals as goal
 
 pub loop-place-init : goal.loop-place-init
 loop-place-init g c = record { same_rdata = ap (map _) c.new-records.ensures.items; read = rw c.new-records.ensures.items tt }

@@ -4,8 +4,8 @@ use Rattle.std.proofs.lemmas.List.Filters.{dedup_is}
 use Rattle.std.proofs.lemmas.List.Kept.{Contains-from_dedup}
 use Rattle.std.proofs.lemmas.List.Sorted.{IsPermutation-sym, Contains-permutation}
 use Rattle.dnsv_canonical.proofs.CanonicalLemmas.{IsCanonical-sorted}
-use Rattle.dnsv_denial.proofs.lemmas.gathering.GatherLemmas.{each_member}
-use Rattle.dnsv_denial.proofs.gathering.canonical_order.put_in_order.Goals as goal
+use Rattle.dnsv_canonical.proofs.OrderLemmas.{each_member}
+use Rattle.dnsv_canonical.proofs.canonical_order.put_in_order.Goals as goal
 
 pub returns-clause-order : goal.returns-clause-order
 returns-clause-order g c =

@@ -1,7 +1,7 @@
 -- the records so far are those of the RDATA so far
 use Rattle.std.proofs.Common.{ℕ}
-use Rattle.dnsv_denial.proofs.lemmas.gathering.GatherLemmas.{GoTogether}
-use Rattle.dnsv_denial.proofs.gathering.canonical_order.in_canonical_order.Given as goal
+use Rattle.dnsv_canonical.proofs.OrderLemmas.{GoTogether}
+use Rattle.dnsv_canonical.proofs.canonical_order.in_canonical_order.Given as goal
 
 abbrev pub invariant-loop-place : goal.invariant-loop-place
 invariant-loop-place g l =

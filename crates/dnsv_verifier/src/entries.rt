@@ -1,7 +1,7 @@
 //! What a verifier would have to know.
 ghost use Rattle.std.specs.Prelude.{◌≡◌};
 
-use dnsv_verifier::Entry;
+use crate::entry::Entry;
 use std::marker::Model;
 
 /// What is asked of a verifier, one after another.

@@ -1,10 +1,9 @@
 use Rattle.std.proofs.Common.{◌≡◌, ◌∙◌, sym, subst}
 use Rattle.std.specs.Prelude.{Contains}
-use Rattle.std.proofs.lemmas.Bool.{eqb-true, not-false}
+use Rattle.std.proofs.lemmas.Bool.{eqb-true, false_from_ne_true, not-false, not-true, not_from_false}
 use Rattle.dnsv_names.specs.Name.{Labels, IsAtOrBelow}
-use Rattle.dnsv_denial.proofs.lemmas.unsigned_cuts.FindingLemmas.{ds_read, none_usable, some_number}
-use Rattle.dnsv_denial.proofs.lemmas.gathering.GatherLemmas.{is_not_false, not_true}
-use Rattle.dnsv_denial.proofs.unsigned_cuts.unusable_ds.is_unusable_ds.Goals as goal
+use Rattle.dnsv_chain.proofs.UnusableDsLemmas.{ds_read, none_usable, some_number}
+use Rattle.dnsv_chain.proofs.unusable_ds.is_unusable_ds.Goals as goal
 
 pub returns : goal.returns
 returns c =
@@ -18,8 +17,8 @@ returns c =
         secured = secured.1;
         records = c.ds_records.result.now;
         read = ds_read c.args.rrset.now c.ds_records.result.now rtype c.ds_records.ensures;
-        none = λ has. is_not_false c.has_usable.result yes (c.has_usable.ensures.1 has);
+        none = λ has. let fails = not-true c.has_usable.result yes in let holds = c.has_usable.ensures.1 has in cc;
       },
-      λ is. not_true c.has_usable.result
-          (λ some. none_usable (λ s. Contains c.args.secured.now s) c.args.rrset.now c.args.name.now c.ds_records.result.now c.ds_records.ensures is (c.has_usable.ensures.0 some)),
+      λ is. not_from_false c.has_usable.result (false_from_ne_true c.has_usable.result
+          (λ some. none_usable (λ s. Contains c.args.secured.now s) c.args.rrset.now c.args.name.now c.ds_records.result.now c.ds_records.ensures is (c.has_usable.ensures.0 some))),
     )
