@@ -9,7 +9,6 @@ pub mod MatchingLemmas
 pub mod SigningLemmas
 pub mod StepLemmas
 pub mod TrustedLemmas
-pub mod UnusableDsLemmas
 pub mod UsableLemmas
 pub mod WalkLemmas
 pub mod ZipLemmas

@@ -1,4 +1,5 @@
 -- The digest type that leads in a DS RRset, and the records that are usable beside it.
+pub mod UnusableDsLemmas
 use Rattle.std.proofs.Common.{◌≡◌, ℕ, ◌<◌, List, [], ◌∷◌, ◌++◌, Option, Some, None, refl, sym, ap, ◌∙◌, arith, subst, ◌⊎◌, inl, inr, Bool, true, false, cond, ◌==◌, ◌+◌, get_or, take, length}
 use Rattle.std.proofs.lemmas.Bool.Decides.{nat_tests}
 use Rattle.std.specs.Prelude.{IsTrue}

@@ -29,8 +29,8 @@ pub struct Grounds<'a> {
     pub trust: &'a Trust,
 }
 
-/// The verdict at the name, for the type. `hashed` grows by the SHA-1 digests that are
-/// worked out. The verifier isn't asked again.
+/// The verdict at the name, for the type. `hashed` grows by the SHA-1 digests that are worked out. The verifier isn't
+/// asked again.
 pub fn verdict_at(
     alloc: Global,
     grounds: &Grounds<'_>,
