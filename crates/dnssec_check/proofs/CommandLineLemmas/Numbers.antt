@@ -1,5 +1,5 @@
 -- Options whose value is a number within limits.
-use Rattle.std.proofs.Common.{subst, ◌≡◌}
+use Rattle.std.proofs.Common.{subst, true, ◌≡◌}
 use Rattle.std.specs.Prelude.{ℤ, Option, Some, pos}
 use Rattle.clap.specs.Words.{NarrowsTo, Rule}
 use Rattle.clap.specs.declared.builder.ValueParser.{ValueParser}

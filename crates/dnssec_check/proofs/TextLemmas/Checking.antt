@@ -30,20 +30,20 @@ IsOutcome anchors moment meaning name rtype outcome held =
     × (outcome.status ≡ verdict_status verdict)
     × (string_bytes outcome.text ≡ verdict_text name rtype held.rrsets links verdict)
 
-module _ (moment : ℕ) (files : Files) (opening : Opening) (opens : IsOpeningOf files.keys files.macs moment opening) (anchors : List Anchor) (meaning : Entry → Answer) where
-  -- the files are in order whose parts were all taken
-  pub all_in_order : (messages : List Contents) → Holds NewEvidence opening files.capture messages → HasAnchors (octets_or_none files.anchors) anchors
-      → IsMeaningOf (octets_or_none files.statements) meaning → AreInOrder moment files
-  all_in_order messages holds trusted said = record {
-    opening = opening;
-    opens = opens;
-    messages = messages;
-    holds = holds;
-    anchors = anchors;
-    trusted = trusted;
-    meaning = meaning;
-    said = said;
-  }
+-- the files are in order whose parts were all taken
+abbrev pub all_in_order : (moment : ℕ) (files : Files) (opening : Opening) → IsOpeningOf files.keys files.macs moment opening → (anchors : List Anchor)
+    (meaning : Entry → Answer) (messages : List Contents) → Holds NewEvidence opening files.capture messages
+    → HasAnchors (octets_or_none files.anchors) anchors → IsMeaningOf (octets_or_none files.statements) meaning → AreInOrder moment files
+all_in_order moment files opening opens anchors meaning messages holds trusted said = record {
+  opening = opening;
+  opens = opens;
+  messages = messages;
+  holds = holds;
+  anchors = anchors;
+  trusted = trusted;
+  meaning = meaning;
+  said = said;
+}
 
 module _ (name : Labels) (rtype moment : ℕ) (files : Files) (opening : Opening) (opens : IsOpeningOf files.keys files.macs moment opening) (held : Evidence) (anchors : List Anchor) (meaning : Entry → Answer) where
   pub all_checked : (result : Result Outcome Fault) {octets : Option (List ℕ)} → octets ≡ Some files.capture
