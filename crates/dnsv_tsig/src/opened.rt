@@ -106,8 +106,10 @@ fn answer(
     let right = right_mac(key.secret(), request_mac, octets, place, signature);
     signature.test(&right, now)?;
     let message = stripped(alloc, octets, place, signature.tsig.original_id)?;
-    let key = key.name().clone()?;
-    Ok(Opened { message, key })
+    Ok(Opened {
+        message,
+        key: key.name(),
+    })
 }
 
 /// Whether the algorithm's name is the supported one, without regard to case.
