@@ -1,13 +1,13 @@
 -- How trust is worked out, a step at a time. No public clause cites this module.
 use Rattle.std.specs.Prelude.{◌≡◌, ◌<◌, ◌⊎◌, ◌↔◌, ℕ, List, Contains, length, slice_index_or, true}
 use Rattle.std.specs.BTreeSet.{BTreeSet, contains}
-use Rattle.std.specs.Cmp.Lexicographic.{slice_cmp}
-use Rattle.std.specs.Ordering.{nat_cmp, ordering_then}
+use Rattle.std.specs.Ordering.{ordering_then}
 use Rattle.std.specs.declared.cmp.Ordering.{Ordering}
-use denote.Ref.{Bor}
 use Rattle.dnsv_names.specs.Name.{Labels, SameName}
 use Rattle.dnsv_names.specs.Order.ByWire.{search_cmp}
 use Rattle.dnsv_names.specs.declared.order.by_wire.ByWire.{ByWire}
+use Rattle.dnsv_records.specs.declared.dnskey.Dnskey.{Dnskey}
+use Rattle.dnsv_canonical.specs.Canonical.{rdata_cmp}
 use Rattle.dnsv_canonical.specs.Rrsets.{ReceivedRrset}
 use Rattle.dnsv_verifier.specs.Admissible.{DnskeyRecord}
 use Rattle.dnsv_verifier.specs.declared.answer.Answer.{Answer}
@@ -83,13 +83,13 @@ pub record IsDelegation
   pub signed : IsSignedUnder meaning moment ds above
 
 -- by owner, and by RDATA as unsigned octets
-abbrev pub known_cmp : ByWire × Bor (List ℕ) → ByWire × Bor (List ℕ) → Ordering
-known_cmp a b = ordering_then (search_cmp a.0.0.now b.0.0.now) (slice_cmp nat_cmp a.1.now b.1.now)
+abbrev pub known_cmp : ByWire × (List ℕ × Dnskey) → ByWire × (List ℕ × Dnskey) → Ordering
+known_cmp a b = ordering_then (search_cmp a.0.0.now b.0.0.now) (rdata_cmp a.1.0 b.1.0)
 
 -- each owner and RDATA is that of a key that is kept for the owner
-pub record AreKnown (known : BTreeSet (ByWire × Bor (List ℕ))) (keys : Labels → List DnskeyRecord) : Type 0 where
-  pub each : (key : ByWire × Bor (List ℕ)) → contains known_cmp known key ≡ true
-      → HasRdata (keys key.0.0.now) key.1.now
+pub record AreKnown (known : BTreeSet (ByWire × (List ℕ × Dnskey))) (keys : Labels → List DnskeyRecord) : Type 0 where
+  pub each : (key : ByWire × (List ℕ × Dnskey)) → contains known_cmp known key ≡ true
+      → HasRdata (keys key.0.0.now) key.1.0
 
 -- ---- the walk
 

@@ -32,14 +32,18 @@ impl<'a> Model for ByRdata<'a> {
 }
 
 impl<'a> ByRdata<'a> {
+    /// RDATA and the key that it says.
+    pub fn new(rdata: &'a [u8], dnskey: &'a Dnskey) -> ByRdata<'a>
+        ensures { result ≡ (rdata.now, dnskey.now) }
+    {
+        ByRdata { rdata, dnskey }
+    }
+
     /// The key of the record.
     pub fn of(key: &'a KeyRecord<'_>) -> ByRdata<'a>
         ensures { result ≡ (key.now.rdata, key.now.dnskey) }
     {
-        ByRdata {
-            rdata: key.rdata(),
-            dnskey: key.dnskey(),
-        }
+        ByRdata::new(key.rdata(), key.dnskey())
     }
 
     /// The key in memory of its own.

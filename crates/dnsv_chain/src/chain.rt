@@ -8,6 +8,7 @@ ghost use Rattle.dnsv_chain.specs.Chain.{AddsDelegation, AddsKeys, AddsTrusted, 
 
 use crate::anchors::Anchors;
 use crate::by_owner::{ByOwner, add, at};
+use crate::by_rdata::ByRdata;
 use crate::delegated::is_delegated;
 use crate::order::{Step, steps};
 use crate::signing::{TrustedKeys, good_numbers, is_signed_under_some};
@@ -37,7 +38,7 @@ pub fn trusted(
 type Delegations<'a> = ByOwner<'a, &'a Rrset>;
 
 /// Owner and RDATA of the keys that are kept, to find one again.
-type KnownKeys<'a> = BTreeSet<(ByWire<'a>, &'a [u8])>;
+type KnownKeys<'a> = BTreeSet<(ByWire<'a>, ByRdata<'a>)>;
 
 /// The keys of the trusted DNSKEY RRsets. One pass finds them: where a DS RRset is good, its signer is a proper
 /// ancestor, whose RRsets have been looked at before.
@@ -194,7 +195,7 @@ fn add_keys<'a>(
 {
     for (place, dnskey) in set.dnskeys().iter().enumerate() {
         let rdata = set.rdata(place);
-        if known.insert((ByWire(set.owner()), rdata))? {
+        if known.insert((ByWire(set.owner()), ByRdata::new(rdata, dnskey)))? {
             let key = KeyRecord::new(set.owner(), rdata, dnskey);
             add(alloc, keys, set.owner(), key)?;
         }

@@ -22,6 +22,7 @@ pub use order::{
     canonical_order_is_total, names_at_or_below_are_an_interval, names_at_or_below_begin_alike,
     names_come_before_those_below,
 };
+pub use stored_name::StoredName;
 pub use text::TEXT_LIMIT;
 pub use text::parse::{a_text_has_one_reading, names_are_spelled_by_their_text};
 pub use tree::ASTERISK_LABEL;
@@ -43,6 +44,7 @@ mod name;
 mod number;
 mod octets;
 mod order;
+mod stored_name;
 mod text;
 mod tree;
 mod wire;

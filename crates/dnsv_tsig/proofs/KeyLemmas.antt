@@ -3,6 +3,8 @@ use Rattle.std.proofs.Common.{◌≡◌, ◌⊎◌, ℕ, Result, Err, List, [], 
 use Rattle.base64.specs.Engines.{standard}
 use Rattle.base64.specs.GeneralPurpose.{encode_of}
 use Rattle.dnsv_names.proofs.LineFileLemmas.{SayTogether, first_fault, first_fault_told, say_more}
+use Rattle.dnsv_names.specs.Lines.LineFile.{SayEach}
+use Rattle.dnsv_names.specs.Lines.LineLaws.{HasLines-only}
 use Rattle.dnsv_names.specs.Lines.{HasLines, NumberedLine}
 use Rattle.dnsv_names.specs.Name.{Labels, IsName}
 use Rattle.dnsv_names.specs.Octets.{AreOctets}
@@ -10,7 +12,7 @@ use Rattle.dnsv_names.specs.Text.{IsTextOf}
 use Rattle.dnsv_tsig.specs.declared.error.KeyFileError.{KeyFileError}
 use Rattle.dnsv_tsig.specs.declared.error.KeyFileError.TheVariants.{DuplicateKey, OutOfMemory}
 use Rattle.dnsv_tsig.specs.Key.{SharedKey, key_named}
-use Rattle.dnsv_tsig.specs.KeyFile.{BeginsWithKey, HaveOwnNames, IsFaultOfLine, IsKeyFault, IsKeyLine}
+use Rattle.dnsv_tsig.specs.KeyFile.{BeginsWithKey, HaveOwnNames, IsFaultOfLine, IsKeyFault, IsKeyLine, IsRingOf}
 use Rattle.dnsv_tsig.specs.KeyReading.{IsKeyText}
 use Rattle.dnsv_tsig.proofs.KeyLaws.{key_file}
 
@@ -38,7 +40,7 @@ key_line {line} {name} {coded} key text (same, are, is) =
       secret = is;
     }
 
-some_key : {line : List ℕ} {name : Labels} {coded : List ℕ} → IsKeyText line name coded
+pub some_key : {line : List ℕ} {name : Labels} {coded : List ℕ} → IsKeyText line name coded
     → (key : SharedKey) × IsKeyLine line key × (key.name ≡ name)
 some_key {line} {name} {coded} text =
     let key : SharedKey = record { name = name; secret = text.is.octets } in
@@ -107,3 +109,42 @@ pub fault_told : {T : Type 0} (text : List ℕ) (before : List NumberedLine) (li
     → (◌≡◌ {A = Result T KeyFileError} (Err error) (Err fault)) ⊎ ((◌≡◌ {A = Result T KeyFileError} (Err error) (Err OutOfMemory)) × BeginsWithKey text)
 fault_told text before line after ring error has so_far (inl wanting) = first_fault_told key_file OutOfMemory text before line after ring error has so_far (inl (wanting.0, (wanting.1.0, wanting.1.1)))
 fault_told text before line after ring error has so_far (inr refused) = first_fault_told key_file OutOfMemory text before line after ring error has so_far (inr refused)
+
+-- ---- the keys of a text without a fault
+
+one_list : (lines : List NumberedLine) (a b : List SharedKey) → SayEach IsKeyLine lines a → SayEach IsKeyLine lines b → a ≡ b
+one_list [] [] [] first second = refl
+one_list [] [] (y ∷ b) first second = absurd second
+one_list [] (x ∷ a) b first second = absurd first
+one_list (line ∷ lines) [] b first second = absurd first
+one_list (line ∷ lines) (x ∷ a) [] first second = absurd second
+one_list (line ∷ lines) (x ∷ a) (y ∷ b) first second =
+    ap (λ z. z ∷ a) (key_file.one_value line.octets x y first.0 second.0) ∙ ap (λ zs. y ∷ zs) (one_list lines a b first.1 second.1)
+
+says_there : (before : List NumberedLine) (line : NumberedLine) (after : List NumberedLine) (ring : List SharedKey)
+    → SayEach IsKeyLine (before ++ line ∷ after) ring → (key : SharedKey) × IsKeyLine line.octets key
+says_there [] line after [] each = absurd each
+says_there [] line after (key ∷ ring) each = (key, each.0)
+says_there (l ∷ before) line after [] each = absurd each
+says_there (l ∷ before) line after (key ∷ ring) each = says_there before line after ring each.1
+
+-- each line says a key
+pub line_says : (text : List ℕ) (ring : List SharedKey) (before : List NumberedLine) (line : NumberedLine) (after : List NumberedLine)
+    → IsRingOf text ring → HasLines text (before ++ line ∷ after) → (key : SharedKey) × IsKeyLine line.octets key
+line_says text ring before line after is has =
+    says_there before line after ring
+    (subst (λ (lines : List NumberedLine). SayEach IsKeyLine lines ring) (HasLines-only text is.lines (before ++ line ∷ after) is.has has) is.each)
+
+-- keys that all lines say are those of the text
+pub ring_of : (text : List ℕ) (ring keys : List SharedKey) (lines : List NumberedLine) → IsRingOf text ring → HasLines text lines
+    → SayEach IsKeyLine lines keys → IsRingOf text keys
+ring_of text ring keys lines is has each =
+    let all : SayEach IsKeyLine lines ring = subst (λ (ls : List NumberedLine). SayEach IsKeyLine ls ring) (HasLines-only text is.lines lines is.has has) is.each in
+    subst (λ (found : List SharedKey). IsRingOf text found) (one_list lines ring keys all each) is
+
+-- a fault that is told again
+pub told_again : {A B : Type 0} (found : Result A KeyFileError) (error fault : KeyFileError) (text : List ℕ) → found ≡ Err error
+    → (found ≡ Err fault) ⊎ ((found ≡ Err OutOfMemory) × BeginsWithKey text)
+    → (◌≡◌ {A = Result B KeyFileError} (Err error) (Err fault)) ⊎ ((◌≡◌ {A = Result B KeyFileError} (Err error) (Err OutOfMemory)) × BeginsWithKey text)
+told_again found error fault text is (inl same) = let one : error ≡ fault = cc in inl (ap Err one)
+told_again found error fault text is (inr (same, begins)) = let one : error ≡ OutOfMemory = cc in inr (ap Err one, begins)

@@ -14,7 +14,10 @@ use Rattle.dnsv_names.specs.Name.{Labels, SameName, lower_case, same_name, wire}
 use Rattle.dnsv_names.specs.Order.ByWireLaws.{same_name_equiv, same_wire}
 use Rattle.dnsv_names.specs.Order.OrderLaws.{same_name_Decides}
 use Rattle.dnsv_tsig.specs.Key.{SharedKey, key_named}
+use Rattle.dnsv_tsig.specs.KeyFile.{IsKeyLine}
 use Rattle.dnsv_tsig.specs.KeyNames.{AreNamesOf, has_name}
+use Rattle.dnsv_tsig.specs.KeyReading.{IsKeyText}
+use Rattle.dnsv_tsig.proofs.KeyLemmas.{some_key}
 
 -- ---- a tree of octets
 
@@ -113,3 +116,16 @@ names_more old new ring name key are more same =
           ∙ ap (λ b. b || is_some (key_named each ring)) (same_name_equiv.symm each name ∙ ap (λ (own : Labels). same_name own each) (sym same))
           ∙ sym (found_more (λ (own : SharedKey). same_name own.name each) ring key);
     }
+
+-- the key of a line, whose name is a new one and then is there
+pub named_more : {Y : Type 0} (old new : BTreeSet (Vec ℕ Y)) (before : List SharedKey) {line : List ℕ} {name : Labels} {coded : List ℕ} → IsKeyText line name coded
+    → AreNamesOf old before → has_name old name ≡ false
+    → ((each : Labels) → has_name new each ≡ (same_name each name || has_name old each))
+    → (key : SharedKey) × IsKeyLine line key × (key_named key.name before ≡ None) × AreNamesOf new (before ++ key ∷ [])
+named_more old new before {line} {name} {coded} text are unseen more =
+    let some = some_key text in (
+      some.0,
+      some.1,
+      ap (λ (each : Labels). key_named each before) some.2 ∙ unnamed old before name are unseen,
+      names_more old new before name some.0 are more some.2,
+    )

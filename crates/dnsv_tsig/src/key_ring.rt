@@ -7,12 +7,13 @@ ghost use Rattle.dnsv_names.specs.Lines.Base64Field.{IsBase64};
 ghost use Rattle.dnsv_names.specs.Lines.{AreFields};
 ghost use Rattle.dnsv_names.specs.Octets.{AreOctets};
 ghost use Rattle.dnsv_tsig.specs.Key.{SharedKey, key_named};
-ghost use Rattle.dnsv_tsig.specs.KeyFile.{IsKeyLine};
+ghost use Rattle.dnsv_tsig.specs.KeyFile.{BeginsWithKey, IsFaultOfLine, IsKeyFault, IsKeyLine, IsRingOf};
+ghost use Rattle.dnsv_tsig.specs.KeyNames.{AreNamesOf};
 ghost use Rattle.dnsv_tsig.specs.KeyReading.{IsKeyText};
 
 use crate::error::KeyFileError;
 use crate::key_names::{KeyNames, add_name, has_name};
-use dnsv_names::{Line, Lines, Name, base64_octets, is_base64};
+use dnsv_names::{Line, Lines, Name, StoredName, base64_octets, is_base64};
 use std::alloc::{AllocError, Global};
 use std::collections::BTreeSet;
 use std::fmt;
@@ -21,7 +22,7 @@ use std::marker::Model;
 /// A key and its name (RFC 8945 5.2.1).
 #[derive(Drop)]
 pub struct Key {
-    name: Name,
+    name: StoredName,
     secret: Vec<u8>,
 }
 
@@ -44,10 +45,10 @@ impl fmt::Debug for Key {
 
 impl Key {
     /// The key's name, as its file spells it.
-    pub fn name(&self) -> &Name
-        ensures { result.now ≡ self.now.name }
+    pub fn name(&self) -> Name
+        ensures { result ≡ self.now.name }
     {
-        &self.name
+        self.name.to_name()
     }
 
     /// The key's octets.
@@ -58,11 +59,12 @@ impl Key {
     }
 
     /// The key of this name, whose octets the field has in base64.
-    fn of(alloc: Global, name: Name, coded: &[u8]) -> Result<Key, AllocError>
+    fn of(alloc: Global, name: &Name, coded: &[u8]) -> Result<Key, AllocError>
         requires { IsBase64 coded.now }
-        ensures { IfOk result (λ key. (key.name ≡ name) × AreOctets key.secret
+        ensures { IfOk result (λ key. (key.name ≡ name.now) × AreOctets key.secret
             × (coded.now ≡ encode_of standard key.secret)) }
     {
+        let name = StoredName::of(alloc, name)?;
         let secret = base64_octets(alloc, coded)?;
         Ok(Key { name, secret })
     }
@@ -84,8 +86,7 @@ impl Model for KeyRing {
 }
 
 impl KeyRing {
-    ghost use Rattle.dnsv_tsig.specs.KeyFile.{BeginsWithKey, IsFaultOfLine, IsKeyFault, IsRingOf};
-    ghost use Rattle.dnsv_tsig.specs.KeyNames.{AreNamesOf};
+    ghost use Rattle.dnsv_tsig.specs.KeyFile.{BeginsWithKey, IsKeyFault, IsRingOf};
 
     /// Reads a file of keys: a line each, the name and then the key in base64 with padding, with one space
     /// between them. Empty lines and lines that begin with `#` are passed over, but counted.
@@ -99,46 +100,68 @@ impl KeyRing {
         ensures every_fault { (fault : KeyFileError) → IsKeyFault text.now fault → (result ≡ Err fault)
             ⊎ ((result ≡ Err KeyFileError.OutOfMemory) × BeginsWithKey text.now) }
     {
-        let mut ring = KeyRing {
-            keys: Vec::new(alloc),
-        };
-        let mut names = BTreeSet::new(alloc);
-        for line in Lines::new(text) {
-            ring.add(alloc, &mut names, &line)?;
-        }
-        Ok(ring)
-    }
-
-    /// Adds the key of a line, and its name to those of the ring. Where memory is refused, the line is that of a key
-    /// with a new name.
-    #[tactic(auto, using(crate::proofs::KeyLemmas::key_line, crate::proofs::KeyLemmas::new_key, crate::proofs::KeyLemmas::named_again, crate::proofs::KeyNamesLemmas::unnamed, crate::proofs::KeyNamesLemmas::named, crate::proofs::KeyNamesLemmas::names_more))]
-    fn add(&mut self, alloc: Global, names: &mut KeyNames, line: &Line) -> Result<(), KeyFileError>
-        requires { AreNamesOf names.old self.old }
-        ensures names { OnOk result (AreNamesOf names.new self.new) }
-        ensures added { OnOk result ((key : SharedKey) × IsKeyLine line.now.octets key
-            × (key_named key.name self.old ≡ None) × (self.new ≡ self.old ++ key ∷ [])) }
-        ensures fault { IfErr result (λ error. ((error ≡ KeyFileError.OutOfMemory)
-            × ((key : SharedKey) × IsKeyLine line.now.octets key × (key_named key.name self.old ≡ None)))
-            ⊎ IsFaultOfLine error line.now self.old) }
-    {
-        let Some((name, coded)) = key_text(line) else {
-            return Err(KeyFileError::Syntax(line.number()));
-        };
-        if has_name(names, &name) {
-            return Err(KeyFileError::DuplicateKey(line.number()));
-        }
-        add_name(alloc, names, &name)?;
-        let key = Key::of(alloc, name, coded)?;
-        self.keys.push(key)?;
-        Ok(())
+        test_lines(alloc, text)?;
+        let keys = keys_of(alloc, text)?;
+        Ok(KeyRing { keys })
     }
 
     /// The key with this name, without regard to case.
     pub fn key_named(&self, name: &Name) -> Option<&Key>
         ensures { option_copied result ≡ key_named name.now self.now }
     {
-        self.keys.iter().find(|key| key.name == *name)
+        self.keys.iter().find(|key| key.name.is_same(name))
     }
+}
+
+/// Tests the lines of a file before a key is kept, so that the names that were seen and the keys never lie in memory
+/// together.
+fn test_lines(alloc: Global, text: &[u8]) -> Result<(), KeyFileError>
+    ensures ring { OnOk result ((ring : List SharedKey) × IsRingOf text.now ring) }
+    ensures fault { IfErr result (λ error. (error ≡ KeyFileError.OutOfMemory) ⊎ IsKeyFault text.now error) }
+    ensures every_fault { (fault : KeyFileError) → IsKeyFault text.now fault → (result ≡ Err fault)
+        ⊎ ((result ≡ Err KeyFileError.OutOfMemory) × BeginsWithKey text.now) }
+{
+    let mut names = BTreeSet::new(alloc);
+    for line in Lines::new(text) {
+        test_line(alloc, &mut names, &line)?;
+    }
+    Ok(())
+}
+
+/// Tests a line behind keys with these names, and adds its own. Where memory is refused, the line is that of a key with
+/// a new name.
+#[tactic(auto, using(crate::proofs::KeyLemmas::new_key, crate::proofs::KeyLemmas::named_again, crate::proofs::KeyNamesLemmas::unnamed, crate::proofs::KeyNamesLemmas::named))]
+fn test_line(alloc: Global, names: &mut KeyNames, line: &Line) -> Result<(), KeyFileError>
+    ensures added { OnOk result ((before : List SharedKey) → AreNamesOf names.old before
+        → (key : SharedKey) × IsKeyLine line.now.octets key × (key_named key.name before ≡ None)
+        × AreNamesOf names.new (before ++ key ∷ [])) }
+    ensures fault { IfErr result (λ error. (before : List SharedKey) → AreNamesOf names.old before
+        → ((error ≡ KeyFileError.OutOfMemory)
+        × ((key : SharedKey) × IsKeyLine line.now.octets key × (key_named key.name before ≡ None)))
+        ⊎ IsFaultOfLine error line.now before) }
+{
+    let Some((name, _coded)) = key_text(line) else {
+        return Err(KeyFileError::Syntax(line.number()));
+    };
+    if has_name(names, &name) {
+        return Err(KeyFileError::DuplicateKey(line.number()));
+    }
+    add_name(alloc, names, &name)?;
+    Ok(())
+}
+
+/// The keys of a file without a fault.
+fn keys_of(alloc: Global, text: &[u8]) -> Result<Vec<Key>, AllocError>
+    requires { (ring : List SharedKey) × IsRingOf text.now ring }
+    ensures { IfOk result (λ keys. IsRingOf text.now keys.items) }
+{
+    let mut keys = Vec::new(alloc);
+    for line in Lines::new(text) {
+        if let Some((name, coded)) = key_text(&line) {
+            keys.push(Key::of(alloc, &name, coded)?)?;
+        }
+    }
+    Ok(keys)
 }
 
 /// The name of the key that a line is, and its octets in base64; `None` where the line is no key's. It takes no memory.

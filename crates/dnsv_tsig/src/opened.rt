@@ -120,8 +120,10 @@ fn answer<'b>(
     signature.test(&right, now)?;
     let inside = stripped(alloc, octets, place, signature.tsig.original_id)?;
     let message: &[u8] = bump.try_alloc_slice_copy(&inside)?;
-    let key = key.name().clone()?;
-    Ok(Opened { message, key })
+    Ok(Opened {
+        message,
+        key: key.name(),
+    })
 }
 
 /// Whether the algorithm's name is the supported one, without regard to case.
