@@ -18,7 +18,7 @@ from .answers import has_answer, leaning_on, standing_at, steps_of
 from .bodies import Edit
 
 # How antt says that a term or a tactic meets its goal and fails.
-FAILS = re.compile(r"the two types|but this has type|found no proof|no proof of|the goal does not follow")
+FAILS = re.compile(r"the two types|the two indices|but this has type|found no proof|no proof of|the goal does not follow")
 # The shape of a term is wrong for its goal, or what it names isn't there.
 UNFIT = re.compile(r"has no field|is not in scope|has no `|was not admitted|nearest: |Goals`|is checked against")
 # What says that the body didn't reach the prover, or met a limit of the prover's own.

@@ -14,6 +14,7 @@ FAILS = (
     "as printed, the two types differ only where one has `c.args.x` (expected), right after `mathlib.Core.Path.◌≡◌ (Prim.Native.Nat.◌+◌ c.args.x 1)`\n"
     "  and the other has `(Prim.Native.Nat.◌+◌ c.args.x 1)` (found)",
     "as printed, the two types first differ where one has `20` (expected), right after `sha1 (take`, and the other has `(20 + c.min-beside.result)`",
+    "as printed, the two indices differ only where one has `Rattle.dnsv_tsig.specs.declared.error.TsigError.TheVariants.NoTsig`",
     "expected type `mathlib.Core.Path.◌≡◌ (Prim.Native.Nat.◌+◌ c.args.x 1) y`, but this has type `mathlib.Core.Path.◌≡◌ c.args.x y`",
     "`grind` found no proof. It did not look into whether `mathlib.Core.List.◌++◌ c.copy_from_slice.new.self` is false",
     "`grind`: the goal does not follow. The hypotheses hold, and the goal fails at `c.args.x` = `0`.",
