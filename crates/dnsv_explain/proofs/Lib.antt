@@ -1,0 +1,2 @@
+mod CircleLemmas
+mod HoldingLemmas
