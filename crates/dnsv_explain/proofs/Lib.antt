@@ -1,2 +1,3 @@
 mod CircleLemmas
+mod FollowingLemmas
 mod HoldingLemmas

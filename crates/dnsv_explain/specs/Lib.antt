@@ -1,3 +1,4 @@
+pub mod Following
 pub mod Holding
 pub mod Reach
 pub mod line

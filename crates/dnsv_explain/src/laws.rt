@@ -1,10 +1,29 @@
 //! Laws of explanations.
 //!
 //! Each is a function that does nothing and ensures the law, which its caller learns.
-ghost use Rattle.std.specs.Prelude.{◌≡◌, ℕ, List};
+ghost use Rattle.std.specs.Prelude.{◌≡◌, ℕ, [], List, Contains};
+ghost use Rattle.dnsv_canonical.specs.Rrsets.{ReceivedRrset};
+ghost use Rattle.dnsv_chain.specs.Trusted.{IsNumbered, IsSecured, IsTrusted};
+ghost use Rattle.dnsv_verdict.specs.Verdict.{Basis};
+ghost use Rattle.dnsv_explain.specs.Following.{EachFollows};
 ghost use Rattle.dnsv_explain.specs.Holding.{IsHolding};
 
 use crate::interval::{Interval, Times};
+use crate::line::Line;
+use crate::line::derivation::{SignedRrset, TrustedKeys};
+
+/// Lines of which each follows from those before it are true: what they call trusted is trusted, and what they call
+/// signed is good under a trusted key of its signer. So the rules suffice to check a text line by line.
+pub fn lines_that_follow_are_true()
+    ensures trusted { (basis : Basis) (lines : List Line) (keys : TrustedKeys) → EachFollows basis [] lines
+        → Contains lines (Line.Trusted keys)
+        → (set : ReceivedRrset) × IsNumbered basis.rrsets keys.signature.rrset set
+        × IsTrusted basis.meaning basis.moment basis.rrsets basis.anchors set }
+    ensures signed { (basis : Basis) (lines : List Line) (signed : SignedRrset) → EachFollows basis [] lines
+        → Contains lines (Line.Signed signed)
+        → IsSecured basis.meaning basis.moment basis.rrsets basis.anchors signed.signature.rrset
+        signed.signature.signature }
+{}
 
 /// Signatures hold in one greatest interval around a moment.
 pub fn signatures_hold_in_one_interval()

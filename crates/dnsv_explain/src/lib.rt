@@ -4,12 +4,10 @@
 #![tactic(auto)]
 
 pub use interval::{Interval, Times, holding};
-pub use laws::signatures_hold_in_one_interval;
+pub use laws::{lines_that_follow_are_true, signatures_hold_in_one_interval};
 pub use line::cut::{Cut, InsecureCase, UnusableDs, WhyUnusable};
 pub use line::denial::{Chain, Form, Part, Proof, RecordPlace, Relation, Role};
-pub use line::derivation::{
-    KeyName, SignatureNumber, SignedRrset, Todo, TrustedKeys, Voucher,
-};
+pub use line::derivation::{KeyName, SignatureNumber, SignedRrset, Todo, TrustedKeys, Voucher};
 pub use line::place::RrsetPlace;
 pub use line::{Kind, Line};
 
