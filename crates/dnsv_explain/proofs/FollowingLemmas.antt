@@ -2,7 +2,6 @@
 use Rattle.std.proofs.Common.{◌≡◌, ℕ, ◌-◌, ◌<◌, ◌≤◌, List, [], ◌∷◌, ◌++◌, length, sym, ◌∙◌, subst, arith, append_assoc, ⊎_elim}
 use Rattle.std.proofs.lemmas.List.Elements.{Contains-push_cases}
 use Rattle.std.proofs.lemmas.List.{append-nil}
-use Rattle.std.proofs.lemmas.Option.{get_or_from_slice_get, slice_get_within}
 use Rattle.std.specs.List.{Contains}
 use Rattle.dnsv_canonical.specs.Rrsets.{ReceivedRrset}
 use Rattle.dnsv_chain.specs.Anchor.{HasAnchorMatch, IsAnchorMatch}
@@ -15,6 +14,7 @@ use Rattle.dnsv_records.specs.declared.number.DigestType.{DigestType}
 use Rattle.dnsv_denial.specs.declared.records.number.RecordNumber.{RecordNumber}
 use Rattle.dnsv_verdict.specs.Verdict.{Basis}
 use Rattle.dnsv_explain.specs.Following.{EachFollows, Follows, FollowsSigned, FollowsTrusted, IsDelegatedBy, IsGoodUnder, IsSaidSigned, IsSaidTrusted, IsVouchedBy}
+use Rattle.dnsv_explain.proofs.NumberedLemmas.{among, same_number}
 use Rattle.dnsv_explain.specs.declared.line.Line.{Line}
 use Rattle.dnsv_explain.specs.declared.line.Line.TheVariants as line
 use Rattle.dnsv_explain.specs.declared.line.derivation.SignatureNumber.{SignatureNumber}
@@ -22,16 +22,6 @@ use Rattle.dnsv_explain.specs.declared.line.derivation.SignedRrset.{SignedRrset}
 use Rattle.dnsv_explain.specs.declared.line.derivation.TrustedKeys.{TrustedKeys}
 use Rattle.dnsv_explain.specs.declared.line.derivation.Voucher.{Voucher}
 use Rattle.dnsv_explain.specs.declared.line.derivation.Voucher.TheVariants as voucher
-
--- what has a number is a member
-among : {X : Type 0} (xs : List X) (number : ℕ) (x : X) → IsNumbered xs number x → Contains xs x
-among xs number x numbered =
-    (number - 1, slice_get_within xs (number - 1) x numbered.1, get_or_from_slice_get xs (number - 1) x x numbered.1)
-
--- a number is that of one member
-same_number : {X : Type 0} (xs : List X) (number : ℕ) (x y : X) → IsNumbered xs number x → IsNumbered xs number y → x ≡ y
-same_number xs number x y first second =
-    sym (get_or_from_slice_get xs (number - 1) x x first.1) ∙ get_or_from_slice_get xs (number - 1) y x second.1
 
 module _ (basis : Basis) where
   abbrev Trusted : ReceivedRrset → Type 0

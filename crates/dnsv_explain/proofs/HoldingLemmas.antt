@@ -6,7 +6,7 @@ use Rattle.std.proofs.lemmas.Bool.{cases_lt}
 use Rattle.std.proofs.lemmas.List.{take_more}
 use Rattle.std.proofs.lemmas.List.Elements.{All-contains, All-get_or, All-nil, All-push, All-same, All-take, Contains-append_right}
 use Rattle.dnsv_records.specs.Rrsig.Time.{ValidAt}
-use Rattle.dnsv_explain.specs.Holding.{AreValidFrom, IsHolding, last_moment}
+use Rattle.dnsv_explain.specs.Holding.{IsHolding, last_moment}
 use Rattle.dnsv_explain.specs.Reach.{IsReach, seconds_before, seconds_behind}
 use Rattle.dnsv_explain.specs.declared.interval.Interval.{Interval}
 use Rattle.dnsv_explain.specs.declared.interval.Times.{Times}
@@ -71,7 +71,7 @@ holding_none moment = record {
   begins = omega arith;
   ends = omega arith;
   last = omega arith;
-  valid = λ other from to. All-nil (λ times. IsValid times other);
+  holds = λ other from to. All-nil (λ times. IsValid times other);
   greatest = λ from to begins ends last valid. (omega arith, omega arith);
 }
 
@@ -84,8 +84,8 @@ holding_more before times moment interval reach both fits holding valid is from 
   begins = omega (arith, from, holding.begins, is.from);
   ends = omega (arith, to, holding.ends, is.to, fits);
   last = omega (arith, to, holding.last);
-  valid = λ other begins ends. All-push (λ each. IsValid each other) before times
-      (holding.valid other (omega (arith, from, begins)) (omega (arith, to, ends)))
+  holds = λ other begins ends. All-push (λ each. IsValid each other) before times
+      (holding.holds other (omega (arith, from, begins)) (omega (arith, to, ends)))
       (reach_valid times moment other reach valid is (omega (arith, from, begins)) (omega (arith, to, ends)));
   greatest = λ first final begins ends last each.
       let others = holding.greatest first final begins ends last (λ other a b.
@@ -111,8 +111,8 @@ holding_at all i other moment interval reach both below fits valid holding is fr
 pub one_holding : (signatures : List Times) (moment : ℕ) (a b : Interval) → IsHolding signatures moment a
     → IsHolding signatures moment b → a ≡ b
 one_holding signatures moment a b first second =
-    let inner = first.greatest b.from b.to second.begins second.ends second.last second.valid in
-    let outer = second.greatest a.from a.to first.begins first.ends first.last first.valid in
+    let inner = first.greatest b.from b.to second.begins second.ends second.last second.holds in
+    let outer = second.greatest a.from a.to first.begins first.ends first.last first.holds in
     let from : a.from ≡ b.from = omega (arith, inner.0, outer.0) in
     let to : a.to ≡ b.to = omega (arith, inner.1, outer.1) in
     λ i. record { from = from i; to = to i }

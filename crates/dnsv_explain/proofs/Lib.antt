@@ -1,3 +1,5 @@
 mod CircleLemmas
 mod FollowingLemmas
 mod HoldingLemmas
+mod NumberedLemmas
+mod ShownLemmas
