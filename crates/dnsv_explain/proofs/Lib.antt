@@ -1,5 +1,6 @@
 mod CircleLemmas
 mod FollowingLemmas
 mod HoldingLemmas
+mod MomentLemmas
 mod NumberedLemmas
 mod ShownLemmas

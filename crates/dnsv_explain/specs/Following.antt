@@ -142,3 +142,14 @@ abbrev pub EachFollows : Basis → List Line → List Line → Type 0
 EachFollows basis before [] = Unit {0}
 EachFollows basis before (line ∷ lines) =
     Follows basis before line × EachFollows basis (before ++ line ∷ []) lines
+
+-- ---- another moment
+
+-- the same evidence, anchors and answers at another moment
+abbrev pub at_moment : Basis → ℕ → Basis
+at_moment basis moment = record {
+  rrsets = basis.rrsets;
+  anchors = basis.anchors;
+  moment = moment;
+  meaning = basis.meaning;
+}

@@ -4,7 +4,9 @@
 #![tactic(auto)]
 
 pub use interval::{Interval, Times, holding};
-pub use laws::{lines_that_follow_are_true, signatures_hold_in_one_interval};
+pub use laws::{
+    lines_follow_as_long_as_they_hold, lines_that_follow_are_true, signatures_hold_in_one_interval,
+};
 pub use line::cut::{Cut, InsecureCase, UnusableDs, WhyUnusable};
 pub use line::denial::{Chain, Form, Part, Proof, RecordPlace, Relation, Role};
 pub use line::derivation::{KeyName, SignatureNumber, SignedRrset, Todo, TrustedKeys, Voucher};

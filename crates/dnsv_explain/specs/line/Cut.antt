@@ -5,7 +5,7 @@ use Rattle.dnsv_names.specs.Name.{Labels}
 use Rattle.dnsv_explain.specs.line.Derivation.{key_text, lower_text}
 use Rattle.dnsv_explain.specs.declared.line.cut.Cut.{Cut}
 use Rattle.dnsv_explain.specs.declared.line.cut.InsecureCase.{InsecureCase}
-use Rattle.dnsv_explain.specs.declared.line.cut.InsecureCase.TheVariants.{UnsignedDelegation, UnusableDs, OptOut, LooseWildcard}
+use Rattle.dnsv_explain.specs.declared.line.cut.InsecureCase.TheVariants.{UnsignedDelegation, UnusableDs, OptOut, OptOutWildcard}
 use Rattle.dnsv_explain.specs.declared.line.cut.UnusableDs as unusable
 use Rattle.dnsv_explain.specs.declared.line.cut.WhyUnusable.{WhyUnusable}
 use Rattle.dnsv_explain.specs.declared.line.cut.WhyUnusable.TheVariants.{Algorithm, DigestType, DigestIgnored}
@@ -15,7 +15,7 @@ abbrev pub case_number : InsecureCase → ℕ
 case_number UnsignedDelegation = 1
 case_number UnusableDs = 2
 case_number OptOut = 3
-case_number LooseWildcard = 4
+case_number OptOutWildcard = 4
 
 -- the zone whose records show it, where the case names one
 abbrev pub zone_text : Option Labels → List ℕ

@@ -18,7 +18,7 @@ pub enum InsecureCase {
     /// 3: an Opt-Out span may leave the name out (RFC 5155 6, 9.2).
     OptOut,
     /// 4: an Opt-Out span may leave out a name that is closer than a wildcard (RFC 5155 8.8).
-    LooseWildcard,
+    OptOutWildcard,
 }
 
 impl InsecureCase {
@@ -32,7 +32,7 @@ impl InsecureCase {
             InsecureCase::UnsignedDelegation => 1,
             InsecureCase::UnusableDs => 2,
             InsecureCase::OptOut => 3,
-            InsecureCase::LooseWildcard => 4,
+            InsecureCase::OptOutWildcard => 4,
         }
     }
 }
