@@ -3,4 +3,5 @@ mod FollowingLemmas
 mod HoldingLemmas
 mod MomentLemmas
 mod NumberedLemmas
+mod PlaceLemmas
 mod ShownLemmas

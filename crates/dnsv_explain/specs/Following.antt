@@ -125,7 +125,7 @@ pub record IsPlaceOf (rrsets : List ReceivedRrset) (place : RrsetPlace) : Type 0
   pub is_rrset : IsNumbered rrsets place.rrset rrset
   pub message : place.message ≡ rrset.message
   pub section : place.section ≡ rrset.section
-  pub owner : SameName rrset.owner place.owner
+  pub owner : place.owner ≡ rrset.owner
   pub rtype : place.rtype.0 ≡ rrset.rtype
 
 -- ---- lines one after another

@@ -12,9 +12,12 @@ pub use line::denial::{Chain, Form, Part, Proof, RecordPlace, Relation, Role};
 pub use line::derivation::{KeyName, SignatureNumber, SignedRrset, Todo, TrustedKeys, Voucher};
 pub use line::place::RrsetPlace;
 pub use line::{Kind, Line};
+pub use places::places_named;
 pub use shown::holding_of;
 
 mod interval;
 mod laws;
 mod line;
+mod numbered;
+mod places;
 mod shown;

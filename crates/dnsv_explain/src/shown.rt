@@ -1,12 +1,12 @@
 //! From when to when the signatures are valid that lines show.
 ghost use Rattle.std.specs.Prelude.{◌≡◌, [], IfOk, MatchOption, OnOk};
-ghost use Rattle.dnsv_chain.specs.Trusted.{IsNumbered};
 ghost use Rattle.dnsv_verifier.specs.Asking.{AddsJust, ComesOfSome};
 ghost use Rattle.dnsv_explain.specs.Holding.{AreShownValidAt, HasTimes, IsHoldingOf, ShowsTimes, signature_shown};
 
 use crate::interval::{Interval, Times, holding};
 use crate::line::Line;
 use crate::line::derivation::SignatureNumber;
+use crate::numbered::numbered;
 use dnsv_canonical::{Capture, Rrset};
 use std::alloc::{AllocError, Global};
 
@@ -75,15 +75,4 @@ fn times_of(rrsets: &[Rrset], number: SignatureNumber) -> Option<Times>
         inception: rrsig.inception,
         expiration: rrsig.expiration,
     })
-}
-
-/// The element with the number, from 1 on.
-fn numbered<T>(elements: &[T], number: usize) -> Option<&T>
-    ensures { MatchOption result ((each : T) → ¬ IsNumbered elements.now number each)
-        (λ found. IsNumbered elements.now number found.now) }
-{
-    if number == 0 {
-        return None;
-    }
-    elements.get(number - 1)
 }
