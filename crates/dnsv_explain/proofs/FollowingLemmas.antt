@@ -1,11 +1,11 @@
 -- Lines of which each follows from those before it are true.
-use Rattle.std.proofs.Common.{◌≡◌, ℕ, ◌-◌, ◌<◌, ◌≤◌, List, [], ◌∷◌, ◌++◌, length, sym, ◌∙◌, subst, arith, append_assoc, ⊎_elim}
+use Rattle.std.proofs.Common.{◌≡◌, ℕ, List, [], ◌∷◌, ◌++◌, sym, subst, arith, append_assoc, ⊎_elim}
 use Rattle.std.proofs.lemmas.List.Elements.{Contains-push_cases}
 use Rattle.std.proofs.lemmas.List.{append-nil}
 use Rattle.std.specs.List.{Contains}
 use Rattle.dnsv_canonical.specs.Rrsets.{ReceivedRrset}
-use Rattle.dnsv_chain.specs.Anchor.{HasAnchorMatch, IsAnchorMatch}
-use Rattle.dnsv_chain.specs.Trusted.{DelegatesTo, IsKeyOf, IsNumbered, IsSecured, IsSignedUnder, IsTrusted, SignsItsSet}
+use Rattle.dnsv_chain.specs.Anchor.{IsAnchorMatch}
+use Rattle.dnsv_chain.specs.Trusted.{IsNumbered, IsSecured, IsSignedUnder, IsTrusted, SignsItsSet}
 use Rattle.dnsv_chain.specs.Trusted.IsTrusted.{anchored, delegated}
 use Rattle.dnsv_chain.specs.declared.anchor.Anchor.{Anchor}
 use Rattle.dnsv_chain.specs.declared.anchor.Anchor.TheVariants as anchor
@@ -13,12 +13,11 @@ use Rattle.dnsv_verifier.specs.Admissible.{DnskeyRecord}
 use Rattle.dnsv_records.specs.declared.number.DigestType.{DigestType}
 use Rattle.dnsv_denial.specs.declared.records.number.RecordNumber.{RecordNumber}
 use Rattle.dnsv_verdict.specs.Verdict.{Basis}
-use Rattle.dnsv_explain.specs.Following.{EachFollows, Follows, FollowsSigned, FollowsTrusted, IsDelegatedBy, IsGoodUnder, IsSaidSigned, IsSaidTrusted, IsVouchedBy}
+use Rattle.dnsv_explain.specs.Following.{EachFollows, Follows, FollowsTrusted, IsDelegatedBy, IsGoodUnder, IsVouchedBy}
 use Rattle.dnsv_explain.proofs.NumberedLemmas.{among, same_number}
 use Rattle.dnsv_explain.specs.declared.line.Line.{Line}
 use Rattle.dnsv_explain.specs.declared.line.Line.TheVariants as line
 use Rattle.dnsv_explain.specs.declared.line.derivation.SignatureNumber.{SignatureNumber}
-use Rattle.dnsv_explain.specs.declared.line.derivation.SignedRrset.{SignedRrset}
 use Rattle.dnsv_explain.specs.declared.line.derivation.TrustedKeys.{TrustedKeys}
 use Rattle.dnsv_explain.specs.declared.line.derivation.Voucher.{Voucher}
 use Rattle.dnsv_explain.specs.declared.line.derivation.Voucher.TheVariants as voucher

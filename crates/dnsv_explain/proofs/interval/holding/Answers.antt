@@ -1,4 +1,3 @@
-use Rattle.std.proofs.Common.{rules}
 use Rattle.dnsv_explain.proofs.HoldingLemmas.{holding_at}
 use Rattle.dnsv_explain.proofs.interval.holding.Goals as goal
 

@@ -1,6 +1,4 @@
-use Rattle.std.proofs.Common.{◌≡◌, List, ℕ, sym, subst}
 use Rattle.std.proofs.lemmas.List.Filters.{dedup_is}
-use Rattle.std.specs.List.Sorted.{IsStrictlyIncreasing}
 use Rattle.dnsv_explain.proofs.PlaceLemmas.{each_once, once_rising}
 use Rattle.dnsv_explain.proofs.places.numbers_named.Goals as goal
 

@@ -1,4 +1,4 @@
-use Rattle.std.proofs.Common.{inl, inr, refl}
+use Rattle.std.proofs.Common.{inl, refl}
 use Rattle.dnsv_explain.proofs.places.push_place.Goals as goal
 
 pub returns-in_default : goal.returns-in_default

@@ -1,8 +1,3 @@
-use Rattle.std.proofs.Common.{◌≡◌, [], List, sym, subst}
-use Rattle.dnsv_canonical.specs.Rrsets.{ReceivedRrset}
-use Rattle.dnsv_verifier.specs.Asking.{AddsJust, ComesOfSome}
-use Rattle.dnsv_explain.specs.Holding.{ShowsTimes}
-use Rattle.dnsv_explain.specs.declared.interval.Times.{Times}
 use Rattle.dnsv_explain.proofs.ShownLemmas.{are_valid, holding_shown, shown_by}
 use Rattle.dnsv_explain.proofs.shown.holding_of.Goals as goal
 

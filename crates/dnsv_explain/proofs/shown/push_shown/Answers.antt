@@ -1,4 +1,4 @@
-use Rattle.std.proofs.Common.{List, ◌≡◌, sym, subst}
+use Rattle.std.proofs.Common.{List, sym, subst}
 use Rattle.dnsv_verifier.proofs.AskLemmas.{adds_nothing, adds_one}
 use Rattle.dnsv_verifier.specs.Asking.{AddsJust}
 use Rattle.dnsv_explain.specs.Holding.{ShowsTimes}
