@@ -1,0 +1,7 @@
+mod CircleLemmas
+mod FollowingLemmas
+mod HoldingLemmas
+mod MomentLemmas
+mod NumberedLemmas
+mod PlaceLemmas
+mod ShownLemmas

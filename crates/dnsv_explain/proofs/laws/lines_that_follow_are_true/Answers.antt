@@ -1,0 +1,16 @@
+use Rattle.std.proofs.Common.{[]}
+use Rattle.dnsv_explain.specs.declared.line.Line.TheVariants as line
+use Rattle.dnsv_explain.proofs.FollowingLemmas.{all_true, no_lines}
+use Rattle.dnsv_explain.proofs.MomentLemmas.{all_shown_valid}
+use Rattle.dnsv_explain.proofs.laws.lines_that_follow_are_true.Goals as goal
+
+pub returns-clause-trusted : goal.returns-clause-trusted
+returns-clause-trusted c = λ basis lines keys follows there.
+    all_true basis [] lines (no_lines basis) follows (line.Trusted keys) there
+
+pub returns-clause-signed : goal.returns-clause-signed
+returns-clause-signed c = λ basis lines signed follows there.
+    all_true basis [] lines (no_lines basis) follows (line.Signed signed) there
+
+pub returns-clause-valid : goal.returns-clause-valid
+returns-clause-valid c = all_shown_valid

@@ -1,0 +1,154 @@
+-- Which lines of an explanation follow from the evidence and the lines before them, each by one rule (RFC 4035 5). So a
+-- reader can check a text line by line.
+use Rattle.std.specs.Prelude.{◌≡◌, ℕ, List, [], ◌∷◌, ◌++◌, Contains}
+use Rattle.std.specs.List.{AllZip}
+use Rattle.dnsv_names.specs.Name.{Labels, SameName}
+use Rattle.dnsv_records.specs.Dnskey.KeyTag.{key_tag_of}
+use Rattle.dnsv_records.specs.Ds.{IsDs}
+use Rattle.dnsv_records.specs.Rrsig.{IsRrsig}
+use Rattle.dnsv_records.specs.declared.ds.Ds.{Ds}
+use Rattle.dnsv_records.specs.declared.number.DigestType.{DigestType}
+use Rattle.dnsv_records.specs.declared.rrsig.Rrsig.{Rrsig}
+use Rattle.dnsv_canonical.specs.Rrsets.{ReceivedRrset}
+use Rattle.dnsv_verifier.specs.Admissible.{DnskeyRecord, IsGood}
+use Rattle.dnsv_chain.specs.Anchor.{IsAnchorMatch}
+use Rattle.dnsv_chain.specs.Ds.{IsMatch, IsUsable}
+use Rattle.dnsv_chain.specs.Trusted.{IsKeyOf, IsNumbered}
+use Rattle.dnsv_chain.specs.declared.anchor.Anchor.TheVariants as anchor
+use Rattle.dnsv_denial.specs.gathering.Evidence.{IsRecordAt}
+use Rattle.dnsv_denial.specs.declared.records.number.RecordNumber.{RecordNumber}
+use Rattle.dnsv_verdict.specs.Verdict.{Basis}
+use Rattle.dnsv_explain.specs.declared.line.Line.{Line}
+use Rattle.dnsv_explain.specs.declared.line.Line.TheVariants as line
+use Rattle.dnsv_explain.specs.declared.line.derivation.KeyName.{KeyName}
+use Rattle.dnsv_explain.specs.declared.line.derivation.SignatureNumber.{SignatureNumber}
+use Rattle.dnsv_explain.specs.declared.line.derivation.SignedRrset.{SignedRrset}
+use Rattle.dnsv_explain.specs.declared.line.derivation.TrustedKeys.{TrustedKeys}
+use Rattle.dnsv_explain.specs.declared.line.derivation.Voucher.{Voucher}
+use Rattle.dnsv_explain.specs.declared.line.derivation.Voucher.TheVariants as voucher
+use Rattle.dnsv_explain.specs.declared.line.place.RrsetPlace.{RrsetPlace}
+
+-- ---- keys and signatures
+
+-- the key has the tag and the algorithm
+pub record IsNamed (key : DnskeyRecord) (name : KeyName) : Type 0 where
+  pub tag : name.tag.0 ≡ key_tag_of key.rdata
+  pub algorithm : name.algorithm.0 ≡ key.dnskey.algorithm.0
+
+-- the signature with the number, which is one of the RRset, is good under the key
+pub record IsGoodUnder (basis : Basis) (number : SignatureNumber) (rrset : ReceivedRrset) (key : DnskeyRecord)
+    : Type 0 where
+  pub is_rrset : IsNumbered basis.rrsets number.rrset rrset
+  pub rdata : List ℕ
+  pub is_signature : IsNumbered rrset.signatures number.signature rdata
+  pub rrsig : Rrsig
+  pub read : IsRrsig rdata rrsig
+  pub good : IsGood basis.meaning basis.moment rrset rrsig key
+
+-- ---- what a line before says
+
+-- that a signature of RRset k is good under a trusted key
+pub record IsSaidSigned (before : List Line) (k : ℕ) : Type 0 where
+  pub signed : SignedRrset
+  pub among : Contains before (line.Signed signed)
+  pub rrset : signed.signature.rrset ≡ k
+
+-- that DNSKEY RRset k is trusted
+pub record IsSaidTrusted (before : List Line) (k : ℕ) : Type 0 where
+  pub keys : TrustedKeys
+  pub among : Contains before (line.Trusted keys)
+  pub rrset : keys.signature.rrset ≡ k
+
+-- ---- what matches a key
+
+-- record K of a DS RRset, of which a line before says that it is signed, can be used and matches the key (RFC 4035 5.2,
+-- RFC 4509 3)
+pub record IsDelegatedBy
+    (basis : Basis) (before : List Line) (number : RecordNumber) (digest_type : DigestType) (key : DnskeyRecord)
+    : Type 0 where
+  pub rrset : ReceivedRrset
+  pub rdata : List ℕ
+  pub at : IsRecordAt basis.rrsets number rrset rdata
+  pub rtype : rrset.rtype ≡ 43
+  pub ds : Ds
+  pub read : IsDs rdata ds
+  pub records : List Ds
+  pub are_read : AllZip IsDs rrset.rdata records
+  pub among : Contains records ds
+  pub usable : IsUsable records ds
+  pub matching : IsMatch rrset.owner ds key
+  pub digest : digest_type.0 ≡ ds.digest_type.0
+  pub signed : IsSaidSigned before number.rrset
+
+-- the anchor with the number, or the record of a DS RRset, matches the key
+abbrev pub IsVouchedBy : Basis → List Line → Voucher → DnskeyRecord → Type 0
+IsVouchedBy basis before (voucher.KeyAnchor number) key =
+    (owner : Labels) × (rdata : List ℕ) × IsNumbered basis.anchors number (anchor.Key owner rdata)
+    × IsAnchorMatch (anchor.Key owner rdata) key
+IsVouchedBy basis before (voucher.DsAnchor number digest_type) key =
+    (owner : Labels) × (ds : Ds) × IsNumbered basis.anchors number (anchor.Ds owner ds)
+    × (digest_type.0 ≡ ds.digest_type.0) × IsAnchorMatch (anchor.Ds owner ds) key
+IsVouchedBy basis before (voucher.Ds number digest_type) key = IsDelegatedBy basis before number digest_type key
+
+-- ---- the rules
+
+-- DNSKEY RRset R at the zone is trusted: its signature S is good under a key of R, which an anchor or a DS record
+-- matches.
+pub record FollowsTrusted (basis : Basis) (before : List Line) (keys : TrustedKeys) : Type 0 where
+  pub set : ReceivedRrset
+  pub owner : SameName set.owner keys.zone
+  pub key : DnskeyRecord
+  pub stands : IsKeyOf set key
+  pub named : IsNamed key keys.key
+  pub good : IsGoodUnder basis keys.signature set key
+  pub vouched : IsVouchedBy basis before keys.voucher key
+
+-- Signature S of RRset R is good under a key of a DNSKEY RRset at the zone, of which a line before says that it is
+-- trusted.
+pub record FollowsSigned (basis : Basis) (before : List Line) (signed : SignedRrset) : Type 0 where
+  pub rrset : ReceivedRrset
+  pub owner : SameName rrset.owner signed.owner
+  pub rtype : signed.rtype.0 ≡ rrset.rtype
+  pub set : ReceivedRrset
+  pub is_set : IsNumbered basis.rrsets signed.keys set
+  pub zone : SameName set.owner signed.zone
+  pub key : DnskeyRecord
+  pub stands : IsKeyOf set key
+  pub named : IsNamed key signed.key
+  pub good : IsGoodUnder basis signed.signature rrset key
+  pub trusted : IsSaidTrusted before signed.keys
+
+-- RRset R stands in section S of message M, and has the owner and the type
+pub record IsPlaceOf (rrsets : List ReceivedRrset) (place : RrsetPlace) : Type 0 where
+  pub rrset : ReceivedRrset
+  pub is_rrset : IsNumbered rrsets place.rrset rrset
+  pub message : place.message ≡ rrset.message
+  pub section : place.section ≡ rrset.section
+  pub owner : place.owner ≡ rrset.owner
+  pub rtype : place.rtype.0 ≡ rrset.rtype
+
+-- ---- lines one after another
+
+-- a line that says what is trusted, what is signed or where an RRset stands follows from those before it
+abbrev pub Follows : Basis → List Line → Line → Type 0
+Follows basis before (line.Trusted keys) = FollowsTrusted basis before keys
+Follows basis before (line.Signed signed) = FollowsSigned basis before signed
+Follows basis before (line.Rrset place) = IsPlaceOf basis.rrsets place
+Follows basis before _ = Unit {0}
+
+-- each of the lines follows from those before it
+abbrev pub EachFollows : Basis → List Line → List Line → Type 0
+EachFollows basis before [] = Unit {0}
+EachFollows basis before (line ∷ lines) =
+    Follows basis before line × EachFollows basis (before ++ line ∷ []) lines
+
+-- ---- another moment
+
+-- the same evidence, anchors and answers at another moment
+abbrev pub at_moment : Basis → ℕ → Basis
+at_moment basis moment = record {
+  rrsets = basis.rrsets;
+  anchors = basis.anchors;
+  moment = moment;
+  meaning = basis.meaning;
+}

@@ -1,0 +1,5 @@
+pub mod Following
+pub mod Holding
+pub mod Places
+pub mod Reach
+pub mod line

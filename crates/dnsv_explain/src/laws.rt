@@ -1,0 +1,43 @@
+//! Laws of explanations.
+//!
+//! Each is a function that does nothing and ensures the law, which its caller learns.
+ghost use Rattle.std.specs.Prelude.{◌≡◌, ◌≤◌, ℕ, [], List, Contains};
+ghost use Rattle.dnsv_canonical.specs.Rrsets.{ReceivedRrset};
+ghost use Rattle.dnsv_chain.specs.Trusted.{IsNumbered, IsSecured, IsTrusted};
+ghost use Rattle.dnsv_verdict.specs.Verdict.{Basis};
+ghost use Rattle.dnsv_explain.specs.Following.{EachFollows, at_moment};
+ghost use Rattle.dnsv_explain.specs.Holding.{AreShownValidAt, IsHolding, IsHoldingOf};
+
+use crate::interval::{Interval, Times};
+use crate::line::Line;
+use crate::line::derivation::{SignedRrset, TrustedKeys};
+
+/// Lines of which each follows from those before it are true: what they call trusted is trusted, and what they call
+/// signed is good under a trusted key of its signer, and valid at the moment. So the rules suffice to check a text line
+/// by line.
+pub fn lines_that_follow_are_true()
+    ensures trusted { (basis : Basis) (lines : List Line) (keys : TrustedKeys) → EachFollows basis [] lines
+        → Contains lines (Line.Trusted keys)
+        → (set : ReceivedRrset) × IsNumbered basis.rrsets keys.signature.rrset set
+        × IsTrusted basis.meaning basis.moment basis.rrsets basis.anchors set }
+    ensures signed { (basis : Basis) (lines : List Line) (signed : SignedRrset) → EachFollows basis [] lines
+        → Contains lines (Line.Signed signed)
+        → IsSecured basis.meaning basis.moment basis.rrsets basis.anchors signed.signature.rrset
+        signed.signature.signature }
+    ensures valid { (basis : Basis) (lines : List Line) → EachFollows basis [] lines
+        → AreShownValidAt basis.rrsets lines basis.moment }
+{}
+
+/// Lines of which each follows from those before it do so at each moment of the interval in which the signatures that
+/// they show are valid: so what they call trusted is trusted then too.
+pub fn lines_follow_as_long_as_they_hold()
+    ensures { (basis : Basis) (lines : List Line) (interval : Interval) (moment : ℕ) → EachFollows basis [] lines
+        → IsHoldingOf basis.rrsets lines basis.moment interval → interval.from ≤ moment → moment ≤ interval.to
+        → EachFollows (at_moment basis moment) [] lines }
+{}
+
+/// Signatures hold in one greatest interval around a moment.
+pub fn signatures_hold_in_one_interval()
+    ensures { (signatures : List Times) (moment : ℕ) (a b : Interval) → IsHolding signatures moment a
+        → IsHolding signatures moment b → a ≡ b }
+{}

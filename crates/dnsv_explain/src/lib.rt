@@ -1,0 +1,23 @@
+//! Why a verdict stands: lines that each say a fact of the evidence.
+//!
+//! A `Line` is a fact, and its text is what `Display` writes. An `Interval` is how long signatures hold.
+#![tactic(auto)]
+
+pub use interval::{Interval, Times, holding};
+pub use laws::{
+    lines_follow_as_long_as_they_hold, lines_that_follow_are_true, signatures_hold_in_one_interval,
+};
+pub use line::cut::{Cut, InsecureCase, UnusableDs, WhyUnusable};
+pub use line::denial::{Chain, Form, Part, Proof, RecordPlace, Relation, Role};
+pub use line::derivation::{KeyName, SignatureNumber, SignedRrset, Todo, TrustedKeys, Voucher};
+pub use line::place::RrsetPlace;
+pub use line::{Kind, Line};
+pub use places::places_named;
+pub use shown::holding_of;
+
+mod interval;
+mod laws;
+mod line;
+mod numbered;
+mod places;
+mod shown;
