@@ -48,7 +48,8 @@ pub struct Inputs<R> {
     pub macs: Option<Counted<R>>,
 }
 
-/// Makes the whole text that the request asks for, and then writes it.
+/// Makes the whole text that the request asks for, and then writes it. The octets of the messages lie in an arena of its
+/// own.
 ///
 /// The answer is a status where the output got the whole text, and else the first fault in the order of the
 /// work: the question's name and type, the keys, the MACs of requests, reading the file of captured messages, its
@@ -84,18 +85,20 @@ pub fn run<R: Read, W: Write>(
     // Nothing is written unless the whole text is made.
     ensures untouched { IfErr result (λ fault. (fault ≡ Fault.WriteFailed → ⊥) → output.new ≡ output.old) }
 {
-    let outcome = outcome_of(alloc, request, inputs)?;
+    let bump = Bump::new(alloc);
+    let outcome = outcome_of(alloc, request, inputs, &bump)?;
     match output.write_all(outcome.text.as_bytes()) {
         Ok(()) => Ok(outcome.status),
         Err(_) => Err(Fault::WriteFailed),
     }
 }
 
-/// The text that the request asks for, and how it ends. The octets of the messages lie in an arena of its own.
+/// The text that the request asks for, and how it ends.
 fn outcome_of<R: Read>(
     alloc: Global,
     request: &Request,
     inputs: &mut Inputs<R>,
+    bump: &Bump,
 ) -> Result<Outcome, Fault>
     ensures text { (files : Files) → AreTold R.remaining inputs.old files
         → IfOk result (λ outcome. IsTextAskedFor request.now files outcome.status (string_bytes outcome.text)) }
@@ -104,17 +107,16 @@ fn outcome_of<R: Read>(
         → IfErr result (OfFailedRead (IsReached request.now files)) }
     ensures unwritten { IfErr result (λ fault. fault ≡ Fault.WriteFailed → ⊥) }
 {
-    let bump = Bump::new(alloc);
     match request {
-        Request::Show { .. } => Ok(done(show(alloc, inputs, &bump)?)),
-        Request::List { all: true, .. } => Ok(done(list_all(alloc, inputs, &bump)?)),
-        Request::List { moment, .. } => Ok(done(list(alloc, *moment, inputs, &bump)?)),
+        Request::Show { .. } => Ok(done(show(alloc, inputs, bump)?)),
+        Request::List { all: true, .. } => Ok(done(list_all(alloc, inputs, bump)?)),
+        Request::List { moment, .. } => Ok(done(list(alloc, *moment, inputs, bump)?)),
         Request::Check {
             name,
             rtype,
             moment,
             ..
-        } => check(alloc, name.as_bytes(), *rtype, *moment, inputs, &bump),
+        } => check(alloc, name.as_bytes(), *rtype, *moment, inputs, bump),
     }
 }
 

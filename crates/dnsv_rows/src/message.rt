@@ -4,6 +4,7 @@ use crate::row::{Row, RowError};
 use dnsv_message::{DecodeError, Message, Record, Section};
 use std::alloc::{AllocError, Global};
 
+mod names;
 mod streams;
 
 /// What the library answers, where it has the call.
@@ -19,6 +20,9 @@ pub fn answer(row: &Row) -> Result<Option<String>, RowError> {
     }
     if row.calls("cut_short") {
         return Ok(Some(cut_short(row)?));
+    }
+    if let Some(text) = names::answer(row)? {
+        return Ok(Some(text));
     }
     streams::answer(row)
 }

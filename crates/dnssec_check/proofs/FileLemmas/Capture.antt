@@ -148,8 +148,8 @@ pub EvidenceSoFar-all : (opening : Opening) (frames : List (List ℕ)) (done : �
 EvidenceSoFar-all opening frames done held all gathered = (gathered.messages, MessagesSoFar-all NewEvidence opening frames done gathered.messages all gathered.judged, gathered.same)
 
 -- the octets of the frame at a place
-pub frame_here : (frames : List (Bor (List ℕ))) (i : ℕ) (frame : Bor (List ℕ)) → i < length frames → frame ≡ get_or frames i frame → (i < length (octets_at_each frames)) × (get_or (octets_at_each frames) i [] ≡ frame.now)
-frame_here frames i frame within is = (
+pub frame_at : (frames : List (Bor (List ℕ))) (i : ℕ) (other : Bor (List ℕ)) → i < length frames → (i < length (octets_at_each frames)) × (get_or (octets_at_each frames) i [] ≡ (get_or frames i other).now)
+frame_at frames i other within = (
   omega (arith, within, length-map frames (λ (v : Bor (List ℕ)). v.now)),
-  get_or-map (λ (v : Bor (List ℕ)). v.now) frames i frame [] within ∙ ap (λ (v : Bor (List ℕ)). v.now) (sym is),
+  get_or-map (λ (v : Bor (List ℕ)). v.now) frames i other [] within,
 )

@@ -2,7 +2,6 @@
 
 use crate::row::{Row, RowError, printed};
 use dnsv_names::{ByWire, Hash20, Name, covers};
-use std::cmp::Ordering;
 
 /// What the library answers, where it has the call.
 pub fn answer(row: &Row) -> Result<Option<String>, RowError> {
@@ -45,23 +44,15 @@ fn canonical_cmp(row: &Row) -> Result<String, RowError> {
 /// Adds how the name compares with each of the row.
 fn push_comparisons(word: &mut String, row: &Row, name: &Name) -> Result<(), RowError> {
     for place in 0..row.count() {
-        word.push(sign(name.canonical_cmp(&row.name(place)?)))?;
+        word.push(printed::sign(name.canonical_cmp(&row.name(place)?)))?;
     }
     Ok(())
-}
-
-fn sign(order: Ordering) -> char {
-    match order {
-        Ordering::Less => '<',
-        Ordering::Equal => '=',
-        Ordering::Greater => '>',
-    }
 }
 
 /// `by_wire NAME NAME`: how the two compare as keys to search by.
 fn by_wire(row: &Row) -> Result<String, RowError> {
     let order = ByWire(&row.name(0)?).cmp(&ByWire(&row.name(1)?));
-    let sign = sign(order);
+    let sign = printed::sign(order);
     Ok(format!(in row.alloc(); "{sign}")?)
 }
 

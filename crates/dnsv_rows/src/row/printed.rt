@@ -2,6 +2,7 @@
 
 use crate::row::RowError;
 use std::alloc::{AllocError, Global};
+use std::cmp::Ordering;
 
 /// What is printed where there is no value.
 pub fn none(alloc: Global) -> Result<String, AllocError> {
@@ -41,4 +42,13 @@ pub fn octets_list(alloc: Global, all: &[Vec<u8>]) -> Result<String, RowError> {
         texts.push(octets(alloc, each.as_slice())?)?;
     }
     list(alloc, texts.as_slice())
+}
+
+/// The sign of an order: `<`, `=` or `>`.
+pub fn sign(order: Ordering) -> char {
+    match order {
+        Ordering::Less => '<',
+        Ordering::Equal => '=',
+        Ordering::Greater => '>',
+    }
 }
