@@ -3,9 +3,9 @@ use Rattle.std.proofs.Common.{◌≡◌, ℕ, List, [], ◌∷◌, ◌++◌, sym
 use Rattle.std.proofs.lemmas.List.Elements.{Contains-push_cases}
 use Rattle.std.proofs.lemmas.List.{append-nil}
 use Rattle.std.specs.List.{Contains}
-use Rattle.dnsv_canonical.specs.Rrsets.{ReceivedRrset}
+use Rattle.dnsv_canonical.specs.Rrsets.{IsNumbered, ReceivedRrset}
 use Rattle.dnsv_chain.specs.Anchor.{IsAnchorMatch}
-use Rattle.dnsv_chain.specs.Trusted.{IsNumbered, IsSecured, IsSignedUnder, IsTrusted, SignsItsSet}
+use Rattle.dnsv_chain.specs.Trusted.{IsSecured, IsSignedUnder, IsTrusted, SignsItsSet}
 use Rattle.dnsv_chain.specs.Trusted.IsTrusted.{anchored, delegated}
 use Rattle.dnsv_chain.specs.declared.anchor.Anchor.{Anchor}
 use Rattle.dnsv_chain.specs.declared.anchor.Anchor.TheVariants as anchor

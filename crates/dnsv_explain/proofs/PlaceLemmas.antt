@@ -10,8 +10,7 @@ use lib.Dec.{eqb}
 use Rattle.std.specs.List.{Contains, dedup, slice_get}
 use Rattle.std.specs.List.Sorted.{IsPermutation, IsSorted, IsStrictlyIncreasing}
 use Rattle.std.specs.Ordering.{nat_cmp}
-use Rattle.dnsv_canonical.specs.Rrsets.{ReceivedRrset}
-use Rattle.dnsv_chain.specs.Trusted.{IsNumbered}
+use Rattle.dnsv_canonical.specs.Rrsets.{IsNumbered, ReceivedRrset}
 use Rattle.dnsv_verifier.specs.Asking.{AddsJust, ComesOfSome}
 use Rattle.dnsv_explain.specs.Following.{IsPlaceOf}
 use Rattle.dnsv_explain.specs.Places.{AddsPlace, ArePlacedBy, ArePlacesOf, NamesRrset, has_number, named_rrsets, place_numbers}

@@ -8,8 +8,7 @@ use Rattle.dnsv_records.proofs.OneRecord.{one_rrsig}
 use Rattle.dnsv_records.specs.Rrsig.{IsRrsig}
 use Rattle.dnsv_records.specs.Rrsig.Time.{ValidAt}
 use Rattle.dnsv_records.specs.declared.rrsig.Rrsig.{Rrsig}
-use Rattle.dnsv_canonical.specs.Rrsets.{ReceivedRrset}
-use Rattle.dnsv_chain.specs.Trusted.{IsNumbered}
+use Rattle.dnsv_canonical.specs.Rrsets.{IsNumbered, ReceivedRrset}
 use Rattle.dnsv_verifier.specs.Asking.{AddsJust, ComesOfSome}
 use Rattle.dnsv_explain.specs.Holding.{AreShownValidAt, AreValidAt, HasTimes, IsGreatestAround, IsHolding, IsHoldingOf, ShowsTimes, signature_shown}
 use Rattle.dnsv_explain.specs.declared.interval.Interval.{Interval}

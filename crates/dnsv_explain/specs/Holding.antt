@@ -4,8 +4,7 @@ use Rattle.std.specs.Fmt.{decimal}
 use Rattle.dnsv_records.specs.Rrsig.{IsRrsig}
 use Rattle.dnsv_records.specs.Rrsig.Time.{ValidAt}
 use Rattle.dnsv_records.specs.declared.rrsig.Rrsig.{Rrsig}
-use Rattle.dnsv_canonical.specs.Rrsets.{ReceivedRrset}
-use Rattle.dnsv_chain.specs.Trusted.{IsNumbered}
+use Rattle.dnsv_canonical.specs.Rrsets.{IsNumbered, ReceivedRrset}
 use Rattle.dnsv_explain.specs.declared.interval.Interval.{Interval}
 use Rattle.dnsv_explain.specs.declared.interval.Times.{Times}
 use Rattle.dnsv_explain.specs.declared.line.Line.{Line}

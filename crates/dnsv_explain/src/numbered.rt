@@ -1,6 +1,6 @@
 //! Elements by their numbers.
 ghost use Rattle.std.specs.Prelude.{MatchOption};
-ghost use Rattle.dnsv_chain.specs.Trusted.{IsNumbered};
+ghost use Rattle.dnsv_canonical.specs.Rrsets.{IsNumbered};
 
 /// The element with the number, from 1 on.
 pub fn numbered<T>(elements: &[T], number: usize) -> Option<&T>
