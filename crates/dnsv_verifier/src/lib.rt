@@ -23,7 +23,6 @@ mod admissible;
 mod answer;
 mod ask;
 mod entry;
-mod entry_key;
 mod hex_field;
 mod key;
 mod laws;
