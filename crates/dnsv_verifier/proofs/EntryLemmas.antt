@@ -1,23 +1,17 @@
 -- The entries of one signature, of one RRset and of all evidence.
 use Rattle.std.proofs.Common.{◌≡◌, ◌↔◌, ℕ, ◌<◌, ⊎_elim, List, [], length, get_or, Some, refl, sym, ◌∙◌, subst, arith}
 use Rattle.std.proofs.lemmas.List.Elements.{Contains-get_or}
-use Rattle.std.proofs.lemmas.List.Kept.{Contains-dedup, Contains-from_dedup}
-use Rattle.std.proofs.lemmas.List.Sorted.{Contains-permutation, IsPermutation-sym}
-use Rattle.std.specs.List.{AllZip, Contains, dedup}
-use Rattle.std.specs.List.Sorted.{IsPermutation}
-use Rattle.std.specs.Ordering.{eq_by_cmp}
+use Rattle.std.specs.List.{AllZip, Contains}
 use Rattle.dnsv_canonical.specs.Rrsets.{ReceivedRrset}
 use Rattle.dnsv_canonical.proofs.SignedLemmas.{signed_data_unique}
 use Rattle.dnsv_records.specs.Rrsig.{IsRrsig}
 use Rattle.dnsv_records.specs.declared.rrsig.Rrsig.{Rrsig}
 use Rattle.dnsv_records.proofs.OneRecord.{one_rrsig}
-use Rattle.dnsv_verifier.specs.Admissible.{DnskeyRecord, IsAsked, IsEntryOf, IsSignatureOf, IsVerifiable, MayHaveMade}
-use Rattle.dnsv_verifier.specs.Asking.{AddsJust, AreKeysOf, ComesOfSome, IsAskedIn, IsAskedOf, IsEntryBy, IsPartOf, entry_with}
-use Rattle.dnsv_verifier.specs.Entry.{entry_cmp}
+use Rattle.dnsv_verifier.specs.Admissible.{DnskeyRecord, IsAsked, IsEntryOf, IsSignatureOf, MayHaveMade}
+use Rattle.dnsv_verifier.specs.Asking.{AddsJust, AreKeysOf, ComesOfSome, IsEntryBy, IsEntryOfMade, IsMadeIn, IsMadeOf, IsPartOf, MadeSignature}
 use Rattle.dnsv_verifier.specs.declared.entry.Entry.{Entry}
-use Rattle.dnsv_verifier.specs.declared.entry.shared_entry.SignaturePart.{SignaturePart}
+use Rattle.dnsv_verifier.specs.declared.entry.parts.SignaturePart.{SignaturePart}
 use Rattle.dnsv_verifier.proofs.AskLemmas.{adds_same, zip_at, zip_length}
-use Rattle.dnsv_verifier.proofs.TableLemmas.{exact_entries, same_entry_equiv}
 
 pub one_entry : (rrset : ReceivedRrset) (rrsig : Rrsig) (key : DnskeyRecord) (a b : Entry) → IsEntryOf rrset rrsig key a
     → IsEntryOf rrset rrsig key b → a ≡ b
@@ -32,45 +26,19 @@ one_entry rrset rrsig key a b first second =
       signature = (first.signature ∙ sym second.signature) i;
     }
 
-module _ (moment : ℕ) (rrset : ReceivedRrset) (rrsig : Rrsig) (keys : List DnskeyRecord) (verifiable : IsVerifiable moment rrset rrsig)
-    (part : SignaturePart) (of : IsPartOf rrset rrsig part) where
-  entry_of_key : (key : DnskeyRecord) → IsEntryOf rrset rrsig key (entry_with part key)
-  entry_of_key key = record { algorithm = of.algorithm; key_field = refl; signed_data = of.signed_data; signature = of.signature }
+-- a signature gives one part
+pub one_part : (rrset : ReceivedRrset) (rrsig : Rrsig) (a b : SignaturePart) → IsPartOf rrset rrsig a → IsPartOf rrset rrsig b → a ≡ b
+one_part rrset rrsig a b first second =
+    let somehow : Some a.signed_data ≡ Some b.signed_data =
+    signed_data_unique rrset.owner rrset.rtype rrset.rdata rrsig (Some a.signed_data) (Some b.signed_data) first.signed_data second.signed_data in
+    let same : a.signed_data ≡ b.signed_data = cc in
+    λ i. record { signed_data = same i; signature = (first.signature ∙ sym second.signature) i }
 
-  asked_by : (entry : Entry) → ComesOfSome (IsEntryBy rrsig part) keys entry → IsAskedOf moment keys rrset rrsig entry
-  asked_by entry comes = record {
-    key = comes.source;
-    among = comes.among;
-    admissible = record {
-      over = verifiable.over;
-      timely = verifiable.timely;
-      signer = verifiable.signer;
-      unexpanded = verifiable.unexpanded;
-      zone_key = comes.is.made.zone_key;
-      named = comes.is.made.named;
-    };
-    is = subst (λ (e : Entry). IsEntryOf rrset rrsig comes.source e) (sym comes.is.is) (entry_of_key comes.source);
-  }
-
-  by_asked : (entry : Entry) → IsAskedOf moment keys rrset rrsig entry → ComesOfSome (IsEntryBy rrsig part) keys entry
-  by_asked entry asked = record {
-    source = asked.key;
-    among = asked.among;
-    is = record {
-      made = record { zone_key = asked.admissible.zone_key; named = asked.admissible.named };
-      is = one_entry rrset rrsig asked.key entry (entry_with part asked.key) asked.is (entry_of_key asked.key);
-    };
-  }
-
-  -- the keys that the signature names are enough
-  pub adds_asked : (named : List DnskeyRecord) → ((key : DnskeyRecord) → Contains named key → Contains keys key)
-      → ((key : DnskeyRecord) → Contains keys key → MayHaveMade key rrsig → Contains named key)
-      → (a b : List Entry) → AddsJust (ComesOfSome (IsEntryBy rrsig part) named) a b
-      → AddsJust (IsAskedOf moment keys rrset rrsig) a b
-  adds_asked named among all a b adds =
-      adds_same (ComesOfSome (IsEntryBy rrsig part) named) (IsAskedOf moment keys rrset rrsig) a b adds
-      (λ entry comes. asked_by entry (record { source = comes.source; among = among comes.source comes.among; is = comes.is }))
-      (λ entry asked. let comes = by_asked entry asked in record { source = comes.source; among = all comes.source comes.among comes.is.made; is = comes.is })
+-- the signature that can be verified, and that some key may have made, is one
+pub only_made : (moment : ℕ) (keys : List DnskeyRecord) (rrset : ReceivedRrset) (rrsig : Rrsig) (a b : MadeSignature) → IsMadeOf moment keys rrset rrsig a → IsMadeOf moment keys rrset rrsig b → a ≡ b
+only_made moment keys rrset rrsig a b first second =
+    let part = one_part rrset rrsig a.part b.part first.part_of second.part_of in
+    λ i. record { rrsig = (first.same ∙ sym second.same) i; part = part i }
 
 -- the signatures as they were read
 module _ (rrset : ReceivedRrset) (signatures : List Rrsig) (are : AllZip IsRrsig rrset.signatures signatures) where
@@ -88,53 +56,96 @@ module _ (rrset : ReceivedRrset) (signatures : List Rrsig) (are : AllZip IsRrsig
       subst (λ (r : List ℕ). IsRrsig r (get_or signatures k rrsig)) at (zip_at IsRrsig rrset.signatures signatures k rdata rrsig are within) in
       (k, omega arith, one_rrsig rdata (get_or signatures k rrsig) rrsig there is)
 
-  pub adds_asked_in : (moment : ℕ) (keys : List DnskeyRecord) (a b : List Entry)
-      → AddsJust (ComesOfSome (IsAskedOf moment keys rrset) signatures) a b → AddsJust (IsAskedIn moment keys rrset) a b
-  adds_asked_in moment keys a b adds =
-      adds_same (ComesOfSome (IsAskedOf moment keys rrset) signatures) (IsAskedIn moment keys rrset) a b adds
-      (λ entry comes. record { rrsig = comes.source; its = signature_of comes.source comes.among; asked = comes.is })
-      (λ entry asked. record { source = asked.rrsig; among = of_signature asked.rrsig asked.its; is = asked.asked })
+  of_itself : (moment : ℕ) (keys : List DnskeyRecord) (made : MadeSignature) (rrsig : Rrsig) → IsMadeOf moment keys rrset rrsig made → IsMadeOf moment keys rrset made.rrsig made
+  of_itself moment keys made rrsig is = subst (λ (r : Rrsig). IsMadeOf moment keys rrset r made) (sym is.same) is
 
--- all entries of the evidence
-module _ (moment : ℕ) (rrsets : List ReceivedRrset) (keys : List DnskeyRecord) (are : AreKeysOf rrsets keys) where
-  asked_somewhere : (entry : Entry) → ComesOfSome (IsAskedIn moment keys) rrsets entry → IsAsked moment rrsets entry
-  asked_somewhere entry comes = record {
-    rrset = comes.source;
-    rrsig = comes.is.rrsig;
-    key = comes.is.asked.key;
-    among = comes.among;
-    its = comes.is.its;
-    key_among = (are comes.is.asked.key).0 comes.is.asked.among;
-    admissible = comes.is.asked.admissible;
-    is = comes.is.asked.is;
-  }
+  pub adds_made_in : (moment : ℕ) (keys : List DnskeyRecord) (a b : List MadeSignature)
+      → AddsJust (ComesOfSome (IsMadeOf moment keys rrset) signatures) a b → AddsJust (IsMadeIn moment keys rrset) a b
+  adds_made_in moment keys a b adds =
+      adds_same (ComesOfSome (IsMadeOf moment keys rrset) signatures) (IsMadeIn moment keys rrset) a b adds
+      (λ made comes. record { its = subst (λ (r : Rrsig). IsSignatureOf rrset r) (sym comes.is.same) (signature_of comes.source comes.among); is = of_itself moment keys made comes.source comes.is })
+      (λ made is. record { source = made.rrsig; among = of_signature made.rrsig is.its; is = is.is })
 
-  somewhere_asked : (entry : Entry) → IsAsked moment rrsets entry → ComesOfSome (IsAskedIn moment keys) rrsets entry
-  somewhere_asked entry asked = record {
-    source = asked.rrset;
-    among = asked.among;
-    is = record {
-      rrsig = asked.rrsig;
-      its = asked.its;
-      asked = record { key = asked.key; among = (are asked.key).1 asked.key_among; admissible = asked.admissible; is = asked.is };
-    };
-  }
+-- the entries of all signatures
+module _ (moment : ℕ) (rrsets : List ReceivedRrset) (keys : List DnskeyRecord) (are : AreKeysOf rrsets keys)
+    (mades : List MadeSignature) (all : AddsJust (ComesOfSome (IsMadeIn moment keys) rrsets) [] mades) where
+  asked_of : (entry : Entry) (made : MadeSignature) → ComesOfSome (IsMadeIn moment keys) rrsets made → IsEntryOfMade keys made entry → IsAsked moment rrsets entry
+  asked_of entry made from comes =
+      let verifiable = from.is.is.verifiable in
+      let by = comes.is in
+      record {
+        rrset = from.source;
+        rrsig = made.rrsig;
+        key = comes.source;
+        among = from.among;
+        its = from.is.its;
+        key_among = (are comes.source).0 comes.among;
+        admissible = record {
+          over = verifiable.over;
+          timely = verifiable.timely;
+          signer = verifiable.signer;
+          unexpanded = verifiable.unexpanded;
+          zone_key = by.made.zone_key;
+          named = by.made.named;
+        };
+        is = subst (λ (e : Entry). IsEntryOf from.source made.rrsig comes.source e) (sym by.is) (record {
+          algorithm = by.made.named.algorithm;
+          key_field = refl;
+          signed_data = from.is.is.part_of.signed_data;
+          signature = from.is.is.part_of.signature;
+        });
+      }
 
-  pub just_asked : (entries : List Entry) → AddsJust (ComesOfSome (IsAskedIn moment keys) rrsets) [] entries
+  made_by : (entry : Entry) → IsAsked moment rrsets entry → ComesOfSome (IsEntryOfMade keys) mades entry
+  made_by entry asked =
+      let made : MadeSignature = record { rrsig = asked.rrsig; part = record { signed_data = entry.signed_data; signature = entry.signature } } in
+      let may : MayHaveMade asked.key asked.rrsig = record { zone_key = asked.admissible.zone_key; named = asked.admissible.named } in
+      let among = (are asked.key).1 asked.key_among in
+      let from : ComesOfSome (IsMadeIn moment keys) rrsets made = record {
+        source = asked.rrset;
+        among = asked.among;
+        is = record {
+          its = asked.its;
+          is = record {
+            same = refl;
+            verifiable = record { over = asked.admissible.over; timely = asked.admissible.timely; signer = asked.admissible.signer; unexpanded = asked.admissible.unexpanded };
+            by_some = (asked.key, among, may);
+            part_of = record { signed_data = asked.is.signed_data; signature = asked.is.signature };
+          };
+        };
+      } in
+      record {
+        source = made;
+        among = all.added made from;
+        is = record {
+          source = asked.key;
+          among = among;
+          is = record {
+            made = may;
+            is = λ i. record {
+              algorithm = record { 0 = (asked.is.algorithm ∙ sym asked.admissible.named.algorithm) i };
+              key = asked.is.key_field i;
+              signed_data = entry.signed_data;
+              signature = entry.signature;
+            };
+          };
+        };
+      }
+
+  pub just_asked : (entries : List Entry) → AddsJust (ComesOfSome (IsEntryOfMade keys) mades) [] entries
       → (entry : Entry) → Contains entries entry ↔ IsAsked moment rrsets entry
-  just_asked entries adds entry =
-      (λ found. ⊎_elim (λ old. absurd (omega (arith, old.1))) (λ comes. asked_somewhere entry comes) (adds.only entry found), λ asked. adds.added entry (somewhere_asked entry asked))
+  just_asked entries adds entry = (
+    λ found. ⊎_elim (λ old. absurd (omega (arith, old.1)))
+        (λ comes. asked_of entry comes.source (⊎_elim (λ old. absurd (omega (arith, old.1))) (λ from. from) (all.only comes.source comes.among)) comes.is)
+        (adds.only entry found),
+    λ asked. adds.added entry (made_by entry asked),
+  )
 
--- putting entries in order and dropping repeats keeps them
-pub same_entries : (entries sorted distinct : List Entry) → IsPermutation entries sorted
-    → distinct ≡ dedup (eq_by_cmp entry_cmp) sorted → (entry : Entry) → Contains distinct entry ↔ Contains entries entry
-same_entries entries sorted distinct moves is entry = (
-  λ found. Contains-permutation sorted entries entry (IsPermutation-sym entries sorted moves) (Contains-from_dedup (eq_by_cmp entry_cmp) sorted entry (subst (λ (es : List Entry). Contains es entry) is found)),
-  λ found. subst (λ (es : List Entry). Contains es entry) (sym is) (Contains-dedup same_entry_equiv exact_entries sorted entry (Contains-permutation entries sorted entry moves found)),
-)
-
-pub just_moved : (P : Entry → Type 0) (entries moved : List Entry)
-    → ((entry : Entry) → Contains moved entry ↔ Contains entries entry) → ((entry : Entry) → Contains entries entry ↔ P entry)
-    → (entry : Entry) → Contains moved entry ↔ P entry
-just_moved P entries moved same just entry =
-    (λ found. (just entry).0 ((same entry).0 found), λ p. (same entry).1 ((just entry).1 p))
+-- the keys that a signature names are enough
+pub adds_named : (made : MadeSignature) (keys named : List DnskeyRecord) → ((key : DnskeyRecord) → Contains named key → Contains keys key)
+    → ((key : DnskeyRecord) → Contains keys key → MayHaveMade key made.rrsig → Contains named key)
+    → (a b : List Entry) → AddsJust (ComesOfSome (IsEntryBy made.rrsig made.part) named) a b → AddsJust (IsEntryOfMade keys made) a b
+adds_named made keys named among all a b adds =
+    adds_same (ComesOfSome (IsEntryBy made.rrsig made.part) named) (IsEntryOfMade keys made) a b adds
+    (λ entry comes. record { source = comes.source; among = among comes.source comes.among; is = comes.is })
+    (λ entry comes. record { source = comes.source; among = all comes.source comes.among comes.is.made; is = comes.is })

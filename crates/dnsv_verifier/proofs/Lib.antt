@@ -4,6 +4,7 @@ pub mod EntryLemmas
 pub mod HexFieldLemmas
 pub mod KeyLemmas
 pub mod NamedLemmas
+pub mod NumberLemmas
 pub mod PanelLemmas
 pub mod SearchLemmas
 pub mod StatementLemmas

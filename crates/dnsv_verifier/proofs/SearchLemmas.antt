@@ -1,5 +1,5 @@
 -- Looking for an entry by halves, in a list whose entries rise.
-use Rattle.std.proofs.Common.{◌≡◌, ℕ, ◌+◌, ◌<◌, false, ⊎_elim, List, length, get_or, Option, Some, None, map, refl, sym, ap, ◌∙◌, subst, arith}
+use Rattle.std.proofs.Common.{◌≡◌, ℕ, ◌+◌, ◌<◌, false, ⊎_elim, List, [], ◌∷◌, length, get_or, Option, Some, None, map, refl, sym, ap, ◌∙◌, subst, arith}
 use Rattle.std.proofs.lemmas.Bool.{cases_lt}
 use Rattle.std.proofs.lemmas.Cmp.{tied_itself}
 use Rattle.std.proofs.lemmas.List.{get_or-map, length-map}
@@ -15,53 +15,68 @@ use Rattle.std.specs.declared.cmp.Ordering.TheVariants.{Less, Equal, Greater}
 use Rattle.dnsv_verifier.specs.Entry.{entry_cmp}
 use Rattle.dnsv_verifier.specs.EntryLaws.{entry_cmp_total, entry_Equal}
 use Rattle.dnsv_verifier.specs.declared.entry.Entry.{Entry}
+use Rattle.dnsv_verifier.proofs.NumberLemmas.{contains_from_map, contains_map}
 use Rattle.dnsv_verifier.proofs.TableLemmas.{exact_entries, same_entry_equiv}
 
-module _ {X : Type 0} (listed : List (Entry × X)) (rising : IsStrictlySortedBy entry_cmp (map (λ each. each.0) listed)) (asked : Entry) where
-  less_next : (k : ℕ) (d : Entry × X) → k + 1 < length listed → entry_cmp (get_or listed k d).0 (get_or listed (k + 1) d).0 ≡ Less
+-- the entries of a list that is made of items
+pub entries_listed : {Y X : Type 0} (entry : Y → Entry) (value : Y → X) (items : List Y) → map (λ (each : Entry × X). each.0) (map (λ y. (entry y, value y)) items) ≡ map entry items
+entries_listed entry value [] = refl
+entries_listed entry value (y ∷ items) = ap (λ rest. entry y ∷ rest) (entries_listed entry value items)
+
+module _ {Y X : Type 0} (entry : Y → Entry) (value : Y → X) (items : List Y) (rising : IsStrictlySortedBy entry_cmp (map entry items)) (asked : Entry) where
+  less_next : (k : ℕ) (d : Y) → k + 1 < length items → entry_cmp (entry (get_or items k d)) (entry (get_or items (k + 1) d)) ≡ Less
   less_next k d within =
-      let count = length-map listed (λ (each : Entry × X). each.0) in
-      let here = get_or-map (λ (each : Entry × X). each.0) listed k d d.0 (omega (arith, within)) in
-      let next = get_or-map (λ (each : Entry × X). each.0) listed (k + 1) d d.0 within in
-      rw (← here, ← next) (Less-from_sorted entry_cmp (map (λ each. each.0) listed) k (k + 1) d.0 rising (omega arith) (rw count within))
+      let count = length-map items entry in
+      let here = get_or-map entry items k d (entry d) (omega (arith, within)) in
+      let next = get_or-map entry items (k + 1) d (entry d) within in
+      rw (← here, ← next) (Less-from_sorted entry_cmp (map entry items) k (k + 1) (entry d) rising (omega arith) (rw count within))
 
   not_less : (a b : Entry) → entry_cmp a b ≡ Less → is_lt (entry_cmp b a) ≡ false
   not_less a b less = ap is_lt (entry_cmp_total.antisymm b a ∙ ap ordering_reverse less)
 
-  sorted : IsSortedBy (λ a b. is_lt (entry_cmp a.0 b.0)) listed
-  sorted k d low within = not_less (get_or listed k d).0 (get_or listed (k + 1) d).0 (less_next k d within)
+  sorted : IsSortedBy (λ a b. is_lt (entry_cmp (entry a) (entry b))) items
+  sorted k d low within = not_less (entry (get_or items k d)) (entry (get_or items (k + 1) d)) (less_next k d within)
 
-  rises : IsNonDecreasingBy (λ (each : Entry × X). ordering_index (entry_cmp each.0 asked)) listed
-  rises = searchable_from_sorted entry_cmp_total (λ (each : Entry × X). each.0) listed asked sorted
+  rises : IsNonDecreasingBy (λ y. ordering_index (entry_cmp (entry y) asked)) items
+  rises = searchable_from_sorted entry_cmp_total entry items asked sorted
 
   -- the entry at the place is the one that was looked for
-  pub found_at : (place : ℕ) (item : Entry × X) → place < length listed → item ≡ get_or listed place item
-      → HoldsAt (λ each. entry_cmp each.0 asked ≡ Equal) listed place
-      → lookup (λ each. is_eq (entry_cmp asked each)) listed ≡ Some item.1
+  pub found_at : (place : ℕ) (item : Y) → place < length items → item ≡ get_or items place item
+      → HoldsAt (λ y. entry_cmp (entry y) asked ≡ Equal) items place
+      → lookup (λ each. is_eq (entry_cmp asked each)) (map (λ y. (entry y, value y)) items) ≡ Some (value item)
   found_at place item within is holds =
-      let same : item.0 ≡ asked = entry_Equal item.0 asked (ap (λ (each : Entry × X). entry_cmp each.0 asked) is ∙ holds item) in
-      let pair : item ≡ (asked, item.1) = λ i. (same i, item.1) in
-      let contains : Contains listed (asked, item.1) = subst (λ (each : Entry × X). Contains listed each) (sym is ∙ pair) (Contains-get_or listed place item within) in
-      lookup-from_Contains same_entry_equiv asked item.1 listed (IsDistinct-from_sorted entry_cmp (map (λ each. each.0) listed) rising) contains
+      let same : entry item ≡ asked = entry_Equal (entry item) asked (ap (λ y. entry_cmp (entry y) asked) is ∙ holds item) in
+      let its : Contains items item = subst (λ y. Contains items y) (sym is) (Contains-get_or items place item within) in
+      let contains : Contains (map (λ y. (entry y, value y)) items) (asked, value item) =
+      subst (λ (e : Entry). Contains {X = Entry × X} (map (λ y. (entry y, value y)) items) (e, value item)) same (contains_map (λ y. (entry y, value y)) items item its) in
+      lookup-from_Contains same_entry_equiv asked (value item) (map (λ y. (entry y, value y)) items)
+      (IsDistinct-from_sorted entry_cmp (map (λ each. each.0) (map (λ y. (entry y, value y)) items)) (subst (IsStrictlySortedBy entry_cmp) (sym (entries_listed entry value items)) rising)) contains
 
   found_none : (place : ℕ)
-      → IsPartitionPoint (λ each. entry_cmp each.0 asked ≡ Less) (λ each. entry_cmp each.0 asked ≡ Greater) listed place
-      → (found : Option X) → lookup (λ each. is_eq (entry_cmp asked each)) listed ≡ found → found ≡ None
+      → IsPartitionPoint (λ y. entry_cmp (entry y) asked ≡ Less) (λ y. entry_cmp (entry y) asked ≡ Greater) items place
+      → (found : Option X) → lookup (λ each. is_eq (entry_cmp asked each)) (map (λ y. (entry y, value y)) items) ≡ found → found ≡ None
   found_none place parted None e = refl
   found_none place parted (Some x) e =
-      let contains : Contains listed (asked, x) = Contains-from_lookup exact_entries asked x listed e in
-      let k = contains.0 in
-      let tied : entry_cmp (get_or listed k (asked, x)).0 asked ≡ Equal =
-      ap (λ (each : Entry × X). entry_cmp each.0 asked) contains.2 ∙ tied_itself entry_cmp_total asked in
+      let from = contains_from_map (λ y. (entry y, value y)) items (asked, x) (Contains-from_lookup exact_entries asked x (map (λ y. (entry y, value y)) items) e) in
+      let y = from.0 in
+      let k = from.1.0 in
+      let its : entry y ≡ asked = ap (λ (each : Entry × X). each.0) from.2 in
+      let tied : entry_cmp (entry (get_or items k y)) asked ≡ Equal =
+      ap (λ z. entry_cmp (entry z) asked) from.1.2 ∙ ap (λ (e : Entry). entry_cmp e asked) its ∙ tied_itself entry_cmp_total asked in
       ⊎_elim
-      (λ before. let less : entry_cmp (get_or listed k (asked, x)).0 asked ≡ Less = parted.0 k (asked, x) (omega arith) before in absurd (let clash : Less ≡ Equal = sym less ∙ tied in cc))
-      (λ from. let more : entry_cmp (get_or listed k (asked, x)).0 asked ≡ Greater = parted.1 k (asked, x) from contains.1 in absurd (let clash : Greater ≡ Equal = sym more ∙ tied in cc))
+      (λ before. let less : entry_cmp (entry (get_or items k y)) asked ≡ Less = parted.0 k y (omega arith) before in absurd (let clash : Less ≡ Equal = sym less ∙ tied in cc))
+      (λ behind. let more : entry_cmp (entry (get_or items k y)) asked ≡ Greater = parted.1 k y behind from.1.1 in absurd (let clash : Greater ≡ Equal = sym more ∙ tied in cc))
       (cases_lt k place)
 
   -- the entry would stand at the place, and doesn't
   pub absent_from : (place : ℕ)
-      → (IsNonDecreasingBy (λ (each : Entry × X). ordering_index (entry_cmp each.0 asked)) listed
-      → IsPartitionPoint (λ each. entry_cmp each.0 asked ≡ Less) (λ each. entry_cmp each.0 asked ≡ Greater) listed place)
-      → lookup (λ each. is_eq (entry_cmp asked each)) listed ≡ None
+      → (IsNonDecreasingBy (λ y. ordering_index (entry_cmp (entry y) asked)) items
+      → IsPartitionPoint (λ y. entry_cmp (entry y) asked ≡ Less) (λ y. entry_cmp (entry y) asked ≡ Greater) items place)
+      → lookup (λ each. is_eq (entry_cmp asked each)) (map (λ y. (entry y, value y)) items) ≡ None
   absent_from place parted =
-      found_none place (parted rises) (lookup (λ each. is_eq (entry_cmp asked each)) listed) refl
+      found_none place (parted rises) (lookup (λ each. is_eq (entry_cmp asked each)) (map (λ y. (entry y, value y)) items)) refl
+
+-- a list of pairs is made of its pairs
+pub pairs_again : {X : Type 0} (listed : List (Entry × X)) → map (λ (each : Entry × X). (each.0, each.1)) listed ≡ listed
+pairs_again [] = refl
+pairs_again (each ∷ listed) = ap (λ rest. each ∷ rest) (pairs_again listed)

@@ -9,9 +9,9 @@ use Rattle.dnsv_records.specs.Dnskey.KeyTag.{key_tag_of}
 use Rattle.dnsv_records.specs.declared.rrsig.Rrsig.{Rrsig}
 use Rattle.dnsv_canonical.specs.Rrsets.{ReceivedRrset}
 use Rattle.dnsv_canonical.specs.SignedData.{IsSignedData}
-use Rattle.dnsv_verifier.specs.Admissible.{DnskeyRecord, IsAdmissible, IsEntryOf, IsKeyAmong, IsSignatureOf, MayHaveMade}
+use Rattle.dnsv_verifier.specs.Admissible.{DnskeyRecord, IsKeyAmong, IsSignatureOf, IsVerifiable, MayHaveMade}
 use Rattle.dnsv_verifier.specs.declared.entry.Entry.{Entry}
-use Rattle.dnsv_verifier.specs.declared.entry.shared_entry.SignaturePart.{SignaturePart}
+use Rattle.dnsv_verifier.specs.declared.entry.parts.SignaturePart.{SignaturePart}
 
 -- the new list has what the old one has and what meets P, and nothing else
 pub record AddsJust {X : Type 0} (P : X → Type 0) (old new : List X) : Type 0 where
@@ -57,14 +57,13 @@ key_name_cmp a b =
 
 -- what the signature of the RRset gives to its entries
 pub record IsPartOf (rrset : ReceivedRrset) (rrsig : Rrsig) (part : SignaturePart) : Type 0 where
-  pub algorithm : part.algorithm.0 ≡ rrsig.algorithm.0
   pub signed_data : IsSignedData rrset.owner rrset.rtype rrset.rdata rrsig (Some part.signed_data)
   pub signature : part.signature ≡ rrsig.signature
 
 -- the entry of a key and what a signature gives
 abbrev pub entry_with : SignaturePart → DnskeyRecord → Entry
 entry_with part key = record {
-  algorithm = part.algorithm;
+  algorithm = key.dnskey.algorithm;
   key = key.dnskey.key;
   signed_data = part.signed_data;
   signature = part.signature;
@@ -75,16 +74,28 @@ pub record IsEntryBy (rrsig : Rrsig) (part : SignaturePart) (key : DnskeyRecord)
   pub made : MayHaveMade key rrsig
   pub is : entry ≡ entry_with part key
 
--- the entry is that of the signature and a key that may be used for it
-pub record IsAskedOf (moment : ℕ) (keys : List DnskeyRecord) (rrset : ReceivedRrset) (rrsig : Rrsig) (entry : Entry)
-    : Type 0 where
-  pub key : DnskeyRecord
-  pub among : Contains keys key
-  pub admissible : IsAdmissible moment rrset rrsig key
-  pub is : IsEntryOf rrset rrsig key entry
-
--- the entry is that of a signature of the RRset and a key that may be used for it
-pub record IsAskedIn (moment : ℕ) (keys : List DnskeyRecord) (rrset : ReceivedRrset) (entry : Entry) : Type 0 where
+-- a signature, and what it gives to its entries
+pub record MadeSignature : Type 0 where
   pub rrsig : Rrsig
-  pub its : IsSignatureOf rrset rrsig
-  pub asked : IsAskedOf moment keys rrset rrsig entry
+  pub part : SignaturePart
+
+-- one of the keys may have made the signature
+abbrev pub IsMadeBySome : List DnskeyRecord → Rrsig → Type 0
+IsMadeBySome keys rrsig = (key : DnskeyRecord) × Contains keys key × MayHaveMade key rrsig
+
+-- the signature of the RRset can be verified at the moment, and one of the keys may have made it
+pub record IsMadeOf (moment : ℕ) (keys : List DnskeyRecord) (rrset : ReceivedRrset) (rrsig : Rrsig)
+    (made : MadeSignature) : Type 0 where
+  pub same : made.rrsig ≡ rrsig
+  pub verifiable : IsVerifiable moment rrset rrsig
+  pub by_some : IsMadeBySome keys rrsig
+  pub part_of : IsPartOf rrset rrsig made.part
+
+-- the same of some signature of the RRset
+pub record IsMadeIn (moment : ℕ) (keys : List DnskeyRecord) (rrset : ReceivedRrset) (made : MadeSignature) : Type 0 where
+  pub its : IsSignatureOf rrset made.rrsig
+  pub is : IsMadeOf moment keys rrset made.rrsig made
+
+-- the entry is that of the signature and one of the keys, which may have made it
+abbrev pub IsEntryOfMade : List DnskeyRecord → MadeSignature → Entry → Type 0
+IsEntryOfMade keys made entry = ComesOfSome (IsEntryBy made.rrsig made.part) keys entry

@@ -4,6 +4,7 @@ pub mod Asking
 pub mod Entry
 pub mod EntryLaws
 pub mod HexField
+pub mod Numbers
 pub mod Panel
 pub mod Statements
 pub mod StatementsError

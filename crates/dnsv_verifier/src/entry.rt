@@ -2,7 +2,7 @@
 
 pub mod borrowed_entry;
 pub mod packed_entry;
-pub mod shared_entry;
+pub mod parts;
 
 ghost use Rattle.std.specs.Prelude.{◌≡◌, refl};
 ghost use Rattle.std.specs.Cmp.{partial_equiv_from_equiv, partial_order_from_agreeing_total};

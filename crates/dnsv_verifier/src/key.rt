@@ -2,12 +2,17 @@
 
 pub mod keys;
 
-ghost use Rattle.std.specs.Prelude.{◌≡◌};
+ghost use Rattle.std.specs.Prelude.{◌≡◌, ◌<◌, IfOk, length};
 ghost use Rattle.dnsv_records.specs.Dnskey.{IsDnskey};
 ghost use Rattle.dnsv_records.specs.Dnskey.KeyTag.{key_tag_of};
+ghost use Rattle.dnsv_verifier.specs.Asking.{key_name_cmp, name_of_key};
+ghost use Rattle.dnsv_verifier.specs.Numbers.{key_of};
 
+use crate::entry::parts::{KeyPart, Parts};
 use dnsv_names::Name;
-use dnsv_records::{Dnskey, KeyTag, key_tag};
+use dnsv_records::{Algorithm, Dnskey, KeyTag, Octets, key_tag};
+use std::alloc::{AllocError, Global};
+use std::cmp::Ordering;
 use std::marker::Model;
 
 /// A DNSKEY record that lies elsewhere: its owner, its RDATA as received, what that says, and its key tag, which is
@@ -77,5 +82,48 @@ impl<'a> KeyRecord<'a> {
         ensures { result.0 ≡ key_tag_of self.now.rdata }
     {
         self.key_tag
+    }
+
+    /// How the key stands to one of this tag, algorithm and owner, by these.
+    pub(crate) fn compared(&self, key_tag: KeyTag, algorithm: Algorithm, owner: &Name) -> Ordering
+        ensures { result ≡ key_name_cmp (name_of_key self.now) (record {
+          tag = key_tag.0;
+          algorithm = algorithm.0;
+          owner = owner.now;
+        }) }
+    {
+        let own_algorithm = self.dnskey.algorithm;
+        let own = self.owner;
+        self.key_tag
+            .0
+            .cmp(&key_tag.0)
+            .then_with(|| own_algorithm.0.cmp(&algorithm.0))
+            .then_with(|| own.cmp(owner))
+    }
+
+    /// How the key stands to the other by tag, algorithm and owner.
+    pub(crate) fn stands_to(&self, other: &KeyRecord<'_>) -> Ordering
+        ensures { result ≡ key_name_cmp (name_of_key self.now) (name_of_key other.now) }
+    {
+        self.compared(other.key_tag, other.dnskey.algorithm, other.owner)
+    }
+
+    /// What the key gives to its entries, in memory of its own.
+    pub(crate) fn part(&self, alloc: Global) -> Result<KeyPart, AllocError>
+        ensures { IfOk result (λ part. part ≡ record { algorithm = self.now.dnskey.algorithm; key = self.now.dnskey.key }) }
+    {
+        Ok(KeyPart {
+            algorithm: self.dnskey.algorithm,
+            key: Octets::copy_of(alloc, self.dnskey.key.as_slice())?,
+        })
+    }
+
+    /// The number of what the key gives to its entries.
+    pub(crate) fn number_in(&self, parts: &Parts) -> Result<u32, AllocError>
+        ensures value { IfOk result (λ number. key_of parts.now number
+            ≡ record { algorithm = self.now.dnskey.algorithm; key = self.now.dnskey.key }) }
+        ensures within { IfOk result (λ number. number < length parts.now.keys) }
+    {
+        parts.key_number(self.dnskey.algorithm, self.dnskey.key.as_slice())
     }
 }

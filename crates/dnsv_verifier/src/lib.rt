@@ -25,7 +25,6 @@ mod answer;
 mod ask;
 mod entries;
 mod entry;
-mod entry_key;
 mod hex_field;
 mod key;
 mod laws;

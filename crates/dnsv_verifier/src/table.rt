@@ -2,45 +2,57 @@
 ghost use Rattle.std.specs.Prelude.{◌≡◌, ◌↔◌, [], IfOk, IsTrue, length, map};
 ghost use Rattle.std.specs.List.Sorted.{IsStrictlySortedBy};
 ghost use Rattle.dnsv_verifier.specs.Entry.{entry_cmp};
+ghost use Rattle.dnsv_verifier.specs.Numbers.{answers_of};
 ghost use Rattle.dnsv_verifier.specs.Table.{hopeful, unknown_entries};
 
 use crate::answer::Answer;
 use crate::entry::Entry;
 use crate::entry::borrowed_entry::BorrowedEntry;
-use crate::entry::shared_entry::SharedEntry;
+use crate::entry::parts::{EntryNumbers, Parts};
 use crate::verifier::Verifier;
 use dnsv_records::Algorithm;
 use std::alloc::{AllocError, Global};
 use std::marker::Model;
+use std::rc::Rc;
 
 /// What a verifier says at a moment: the entries that it was asked, each once, with its answers. A table is itself a
 /// verifier, which says Unknown of any other entry.
 #[derive(Drop)]
 pub struct Table {
     moment: u64,
-    answers: Vec<(SharedEntry, Answer)>,
+    parts: Rc<Parts>,
+    answers: Vec<(EntryNumbers, Answer)>,
 }
 
 impl Model for Table {
     ghost use Rattle.std.specs.Prelude.{map};
     ghost use Rattle.std.specs.List.Sorted.{IsStrictlySortedBy};
     ghost use Rattle.dnsv_verifier.specs.Entry.{entry_cmp};
+    ghost use Rattle.dnsv_verifier.specs.Numbers.{answers_of};
     ghost use Rattle.dnsv_verifier.specs.Table.{TableContents};
 
     ghost Value = { TableContents };
 
-    ghost view = { λ table. record { moment = table.moment; answers = table.answers.items } };
+    ghost view = { λ table. record {
+      moment = table.moment;
+      answers = answers_of table.parts.value table.answers.items;
+    } };
 
-    ghost invariant = { λ table. IsStrictlySortedBy entry_cmp (map (λ each. each.0) table.answers.items) };
+    ghost invariant = { λ table. IsStrictlySortedBy entry_cmp
+        (map (λ each. each.0) (answers_of table.parts.value table.answers.items)) };
 }
 
 impl Table {
     /// The table of these answers, whose entries rise.
-    pub(crate) fn new(moment: u64, answers: Vec<(SharedEntry, Answer)>) -> Table
-        requires { IsStrictlySortedBy entry_cmp (map (λ each. each.0) answers.items) }
-        ensures { result ≡ record { moment = moment; answers = answers.items } }
+    pub(crate) fn new(moment: u64, parts: Rc<Parts>, answers: Vec<(EntryNumbers, Answer)>) -> Table
+        requires { IsStrictlySortedBy entry_cmp (map (λ each. each.0) (answers_of parts.value answers.items)) }
+        ensures { result ≡ record { moment = moment; answers = answers_of parts.value answers.items } }
     {
-        Table { moment, answers }
+        Table {
+            moment,
+            parts,
+            answers,
+        }
     }
 
     /// The moment, in seconds since 1970.
@@ -65,9 +77,9 @@ impl Table {
         ensures rising { IfOk result (λ entries. IsStrictlySortedBy entry_cmp entries.items) }
     {
         let mut entries = Vec::new(alloc);
-        for (entry, answer) in &self.answers {
+        for (numbers, answer) in &self.answers {
             if *answer == Answer::Unknown {
-                entries.push(entry.to_entry(alloc)?)?;
+                entries.push(self.parts.entry(*numbers).to_entry(alloc)?)?;
             }
         }
         Ok(entries)
@@ -79,9 +91,9 @@ impl Table {
         ensures rising { IfOk result (λ entries. IsStrictlySortedBy entry_cmp entries.items) }
     {
         let mut entries = Vec::new(alloc);
-        for (entry, said) in &self.answers {
+        for (numbers, said) in &self.answers {
             if *said == Answer::Unknown {
-                entries.push(entry.borrowed())?;
+                entries.push(self.parts.entry(*numbers))?;
             }
         }
         Ok(entries)
@@ -104,10 +116,10 @@ impl Table {
         ensures { IfOk result (λ table. table ≡ hopeful self.now) }
     {
         let mut answers = Vec::with_capacity(alloc, self.answers.len())?;
-        for (entry, answer) in &self.answers {
-            answers.push((entry.again()?, answer.hoped()))?;
+        for (numbers, answer) in &self.answers {
+            answers.push((*numbers, answer.hoped()))?;
         }
-        Ok(Table::new(self.moment, answers))
+        Ok(Table::new(self.moment, self.parts.clone()?, answers))
     }
 }
 
@@ -124,9 +136,10 @@ impl Verifier for Table {
         signature: &[u8],
     ) -> Answer {
         let asked = BorrowedEntry::of(algorithm, key, signed_data, signature);
+        let parts = &self.parts;
         let place = self
             .answers
-            .binary_search_by(|(entry, _)| entry.borrowed().stands_to(&asked));
+            .binary_search_by(|(numbers, _)| parts.entry(*numbers).stands_to(&asked));
         match place {
             Ok(place) => self.answers[place].1,
             Err(_) => Answer::Unknown,

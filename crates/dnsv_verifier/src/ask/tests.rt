@@ -1,4 +1,5 @@
 use super::*;
+use crate::answer::Answer;
 use crate::hex_field::hex_octets;
 use dnsv_message::Message;
 use dnsv_records::Algorithm;

@@ -2,7 +2,9 @@
 ghost use Rattle.std.specs.Prelude.{◌≡◌, IfOk};
 ghost use Rattle.dnsv_verifier.specs.Entry.{entry_cmp};
 
+use crate::answer::Answer;
 use crate::entry::Entry;
+use crate::verifier::Verifier;
 use dnsv_names::compare_octets;
 use dnsv_records::{Algorithm, Octets};
 use std::alloc::{AllocError, Global};
@@ -92,6 +94,13 @@ impl<'a> BorrowedEntry<'a> {
             signed_data: Octets::copy_of(alloc, self.signed_data)?,
             signature: Octets::copy_of(alloc, self.signature)?,
         })
+    }
+
+    /// What the verifier says of the entry.
+    pub(crate) fn answer_of<V: Verifier>(&self, verifier: &V) -> Answer
+        ensures { result ≡ V.meaning verifier.now self.now }
+    {
+        verifier.answer(self.algorithm, self.key, self.signed_data, self.signature)
     }
 
     /// How this entry stands to the other: by algorithm, key, signed data and signature.

@@ -3,7 +3,7 @@ ghost use Rattle.std.specs.Prelude.{◌≡◌, Contains, IfOk, OnOk};
 ghost use Rattle.dnsv_verifier.specs.Admissible.{DnskeyRecord, MayHaveMade};
 ghost use Rattle.dnsv_verifier.specs.Asking.{AddsJust, AreKeysOf, IsKeyOf};
 
-use crate::entry_key::EntryKey;
+use crate::key::KeyRecord;
 use dnsv_canonical::Rrset;
 use dnsv_records::Rrsig;
 use std::alloc::{AllocError, Global};
@@ -12,7 +12,7 @@ use std::marker::Model;
 /// The keys of the evidence by tag, algorithm and owner, which signatures name them by.
 #[derive(Drop)]
 pub(crate) struct Keys<'a> {
-    keys: Vec<EntryKey<'a>>,
+    keys: Vec<KeyRecord<'a>>,
 }
 
 impl<'a> Model for Keys<'a> {
@@ -38,8 +38,15 @@ impl<'a> Keys<'a> {
         Ok(Keys { keys })
     }
 
+    /// The keys.
+    pub(crate) fn as_slice(&self) -> &[KeyRecord<'a>]
+        ensures { result.now ≡ self.now }
+    {
+        self.keys.as_slice()
+    }
+
     /// The keys that the signature names.
-    pub(crate) fn named_by(&self, rrsig: &Rrsig) -> &[EntryKey<'a>]
+    pub(crate) fn named_by(&self, rrsig: &Rrsig) -> &[KeyRecord<'a>]
         ensures among { (key : DnskeyRecord) → Contains result.now key → Contains self.now key }
         ensures all { (key : DnskeyRecord) → Contains self.now key → MayHaveMade key rrsig.now
             → Contains result.now key }
@@ -59,26 +66,22 @@ impl<'a> Keys<'a> {
 }
 
 /// The keys of all RRsets, whatever message they came in.
-fn all_keys<'a>(alloc: Global, rrsets: &'a [Rrset]) -> Result<Vec<EntryKey<'a>>, AllocError>
+fn all_keys<'a>(alloc: Global, rrsets: &'a [Rrset]) -> Result<Vec<KeyRecord<'a>>, AllocError>
     ensures { IfOk result (λ keys. AreKeysOf rrsets.now keys.items) }
 {
     let mut keys = Vec::new(alloc);
     for rrset in rrsets {
-        add_keys(alloc, rrset, &mut keys)?;
+        add_keys(rrset, &mut keys)?;
     }
     Ok(keys)
 }
 
 /// Adds the keys of the RRset.
-fn add_keys<'a>(
-    alloc: Global,
-    rrset: &'a Rrset,
-    keys: &mut Vec<EntryKey<'a>>,
-) -> Result<(), AllocError>
+fn add_keys<'a>(rrset: &'a Rrset, keys: &mut Vec<KeyRecord<'a>>) -> Result<(), AllocError>
     ensures { OnOk result (AddsJust (IsKeyOf rrset.now) keys.old.items keys.new.items) }
 {
     for (place, dnskey) in rrset.dnskeys().iter().enumerate() {
-        keys.push(EntryKey::new(alloc, rrset.owner(), rrset.rdata(place), dnskey)?)?;
+        keys.push(KeyRecord::new(rrset.owner(), rrset.rdata(place), dnskey))?;
     }
     Ok(())
 }

@@ -13,9 +13,9 @@ new-requires c =
 
 pub loop-place-preserved : goal.loop-place-preserved
 loop-place-preserved c =
-    let made = c.in_ok-new.ensures in
+    let made = c.new.ensures in
     rw c.in_ok-push.ensures.items
-    (keys_more c.args.rrset.now c.dnskeys-dnskey-items.result.now c.dnskeys-dnskey-items.ensures c.loop-place.place c.dnskey-item.result c.in_ok-new.field-0 _ _ c.loop-place-test.true c.dnskey-item.is (ap (λ (key : DnskeyRecord). key.owner) made ∙ c.owner.ensures) (λ other. c.rdata.ensures.value other ∙ sym (ap (λ (key : DnskeyRecord). key.rdata) made)) (ap (λ (key : DnskeyRecord). key.dnskey) made) c.loop-place.invariant)
+    (keys_more c.args.rrset.now c.dnskeys-dnskey-items.result.now c.dnskeys-dnskey-items.ensures c.loop-place.place c.dnskey-item.result c.new.result _ _ c.loop-place-test.true c.dnskey-item.is (ap (λ (key : DnskeyRecord). key.owner) made ∙ c.owner.ensures) (λ other. c.rdata.ensures.value other ∙ sym (ap (λ (key : DnskeyRecord). key.rdata) made)) (ap (λ (key : DnskeyRecord). key.dnskey) made) c.loop-place.invariant)
 
 pub returns : goal.returns
 returns c =

@@ -1,0 +1,318 @@
+-- Entries by numbers: they rise as their numbers do, and have the members that their numbers stand for.
+use Rattle.std.proofs.Common.{◌≡◌, ◌↔◌, ◌⊎◌, ℕ, ◌+◌, ◌<◌, take, ⊎_elim, inl, inr, List, [], ◌∷◌, ◌++◌, ◌&&◌, length, get_or, zero, suc, cond, map, refl, sym, ap, ◌∙◌, subst, arith, true, false, Result, Ok, nat_eq}
+use Rattle.std.proofs.lemmas.Bool.{cases_order}
+use Rattle.std.proofs.lemmas.Bool.Decides.{nat_tests}
+use Rattle.std.proofs.lemmas.Cmp.{eq_by_cmp_equiv, nat_cmp_total, nat_list_cmp_total, on_total, then_total, tied_itself}
+use Rattle.std.proofs.lemmas.List.{append-nil, get_or-map, length-map, map-append, take_more}
+use Rattle.std.proofs.lemmas.List.Elements.{Contains-push_cases}
+use Rattle.std.proofs.lemmas.List.Kept.{Contains-dedup, Contains-from_dedup, IsStrictlySortedBy-dedup}
+use Rattle.std.proofs.lemmas.List.Sorted.{Contains-permutation, IsPermutation-sym}
+use Rattle.std.proofs.lemmas.Map.Keys.{Less-from_sorted}
+use Rattle.std.specs.Cmp.{IsTotalOrder, both_tied, nat_cmp_is}
+use Rattle.std.specs.Cmp.Lexicographic.{pointwise, texts_ties}
+use Rattle.std.specs.List.{AllByRecursion, Contains, HoldsAt, dedup, filter}
+use Rattle.std.specs.List.Sorted.{IsBinarySearchResult, IsPermutation, IsSearchInRange, IsSorted, IsStrictlySortedBy}
+use Rattle.std.specs.Ordering.{eq_by_cmp, is_eq, nat_cmp, ordering_then}
+use Rattle.std.specs.declared.cmp.Ordering.{Ordering}
+use Rattle.std.specs.declared.cmp.Ordering.TheVariants.{Less, Equal, Greater}
+use Rattle.dnsv_names.specs.Octets.{octets_cmp}
+use Rattle.dnsv_canonical.proofs.CanonicalLemmas.{IsMember, IsMember-from_contains, Contains-from_member}
+use Rattle.dnsv_verifier.specs.Entry.{entry_cmp}
+use Rattle.dnsv_verifier.specs.Numbers.{AllOfParts, AreOfParts, PartLists, answers_of, entry_of, key_cmp, key_of, numbers_cmp, signature_cmp, signature_of}
+use Rattle.dnsv_verifier.specs.Table.{hoped_answer, is_unknown}
+use Rattle.dnsv_verifier.specs.declared.answer.Answer.{Answer}
+use Rattle.dnsv_verifier.specs.declared.answer.Answer.TheVariants.{Unknown, Valid, Invalid}
+use Rattle.dnsv_verifier.specs.declared.entry.Entry.{Entry}
+use Rattle.dnsv_verifier.specs.declared.entry.parts.EntryNumbers.{EntryNumbers}
+use Rattle.dnsv_verifier.specs.declared.entry.parts.KeyPart.{KeyPart}
+use Rattle.dnsv_verifier.specs.declared.entry.parts.SignaturePart.{SignaturePart}
+use Rattle.dnsv_verifier.proofs.TableLemmas.{answered, member-map, unknown_stands}
+
+-- ---- members of mapped lists
+
+pub member_from_map : {X Y : Type 0} (f : X → Y) (xs : List X) (y : Y) → IsMember y (map f xs) → (x : X) × IsMember x xs × (f x ≡ y)
+member_from_map f [] y member = absurd member
+member_from_map f (x ∷ xs) y member =
+    ⊎_elim (λ (here : y ≡ f x). (x, inl refl, sym here))
+    (λ (later : IsMember y (map f xs)). let rest = member_from_map f xs y later in (rest.0, inr rest.1, rest.2)) member
+
+pub contains_from_map : {X Y : Type 0} (f : X → Y) (xs : List X) (y : Y) → Contains (map f xs) y → (x : X) × Contains xs x × (f x ≡ y)
+contains_from_map f xs y found =
+    let from = member_from_map f xs y (IsMember-from_contains (map f xs) y found) in
+    (from.0, Contains-from_member xs from.0 from.1, from.2)
+
+pub contains_map : {X Y : Type 0} (f : X → Y) (xs : List X) (x : X) → Contains xs x → Contains (map f xs) (f x)
+contains_map f xs x found = Contains-from_member (map f xs) (f x) (member-map f xs x (IsMember-from_contains xs x found))
+
+-- lists with the same members have the same mapped
+pub same_mapped : {X Y : Type 0} (f : X → Y) (a b : List X) → ((x : X) → Contains a x ↔ Contains b x) → (y : Y) → Contains (map f a) y ↔ Contains (map f b) y
+same_mapped {X} {Y} f a b same y =
+    let along : (c d : List X) → ((x : X) → Contains c x → Contains d x) → Contains (map f c) y → Contains (map f d) y =
+    λ c d to found. let from = contains_from_map f c y found in
+    subst (λ (z : Y). Contains (map f d) z) from.2 (contains_map f d from.0 (to from.0 from.1)) in
+    (along a b (λ x found. (same x).0 found), along b a (λ x found. (same x).1 found))
+
+at_front : {X : Type 0} (x : X) (xs : List X) → Contains (x ∷ xs) x
+at_front x xs = Contains-from_member (x ∷ xs) x (inl refl)
+
+further : {X : Type 0} (x : X) (xs : List X) (y : X) → Contains xs y → Contains (x ∷ xs) y
+further x xs y found = Contains-from_member (x ∷ xs) y (inr (IsMember-from_contains xs y found))
+
+-- ---- the orders
+
+pub key_cmp_total : IsTotalOrder key_cmp
+key_cmp_total =
+    then_total (on_total (λ (part : KeyPart). part.algorithm.0) nat_cmp_total) (on_total (λ (part : KeyPart). part.key) nat_list_cmp_total)
+
+pub signature_cmp_total : IsTotalOrder signature_cmp
+signature_cmp_total =
+    then_total (on_total (λ (part : SignaturePart). part.signed_data) nat_list_cmp_total) (on_total (λ (part : SignaturePart). part.signature) nat_list_cmp_total)
+
+pub numbers_cmp_total : IsTotalOrder numbers_cmp
+numbers_cmp_total =
+    then_total (on_total (λ (each : EntryNumbers). each.key) nat_cmp_total) (on_total (λ (each : EntryNumbers). each.signature) nat_cmp_total)
+
+then_assoc : (p q r : Ordering) → ordering_then p (ordering_then q r) ≡ ordering_then (ordering_then p q) r
+then_assoc Less q r = refl
+then_assoc Equal q r = refl
+then_assoc Greater q r = refl
+
+-- entries are ordered by their keys and then by their signatures
+by_parts : (parts : PartLists) (a b : EntryNumbers) → ordering_then (key_cmp (key_of parts a.key) (key_of parts b.key)) (signature_cmp (signature_of parts a.signature) (signature_of parts b.signature)) ≡ entry_cmp (entry_of parts a) (entry_of parts b)
+by_parts parts a b =
+    then_assoc (key_cmp (key_of parts a.key) (key_of parts b.key))
+    (octets_cmp (signature_of parts a.signature).signed_data (signature_of parts b.signature).signed_data)
+    (octets_cmp (signature_of parts a.signature).signature (signature_of parts b.signature).signature)
+
+then_less : (p q : Ordering) → (p ≡ Less) → ordering_then p q ≡ Less
+then_less p q less = ap (λ o. ordering_then o q) less
+
+nat_less : (x y : ℕ) → nat_cmp x y ≡ Less → x < y
+nat_less x y less = grind (arith, nat_tests)
+
+-- the numbers of the keys decide, and then those of the signatures
+either_less : (a b : EntryNumbers) → numbers_cmp a b ≡ Less → (a.key < b.key) ⊎ ((a.key ≡ b.key) × (a.signature < b.signature))
+either_less a b less =
+    ⊎_elim
+    (λ (same : a.key ≡ b.key). inr (same, nat_less a.signature b.signature (ap (λ o. ordering_then o (nat_cmp a.signature b.signature)) (nat_cmp_is a.key b.key Equal same) ∙ less)))
+    (⊎_elim (λ (below : a.key < b.key). inl below)
+    (λ (above : b.key < a.key). let clash : Greater ≡ Less = ap (λ o. ordering_then o (nat_cmp a.signature b.signature)) (nat_cmp_is a.key b.key Greater above) ∙ less in absurd (cc)))
+    (cases_order a.key b.key)
+
+module _ (parts : PartLists) (keys : IsStrictlySortedBy key_cmp parts.keys) (signatures : IsStrictlySortedBy signature_cmp parts.signatures) where
+  less_key : (a b : EntryNumbers) → AreOfParts parts b → a.key < b.key → entry_cmp (entry_of parts a) (entry_of parts b) ≡ Less
+  less_key a b of less =
+      sym (by_parts parts a b) ∙ then_less _ _ (Less-from_sorted key_cmp parts.keys a.key b.key _ keys less of.key)
+
+  less_signature : (a b : EntryNumbers) → AreOfParts parts b → a.key ≡ b.key → a.signature < b.signature → entry_cmp (entry_of parts a) (entry_of parts b) ≡ Less
+  less_signature a b of same less =
+      let key : key_cmp (key_of parts a.key) (key_of parts b.key) ≡ Equal =
+      ap (λ n. key_cmp (key_of parts a.key) (key_of parts n)) (sym same) ∙ tied_itself key_cmp_total (key_of parts a.key) in
+      sym (by_parts parts a b)
+      ∙ ap (λ o. ordering_then o (signature_cmp (signature_of parts a.signature) (signature_of parts b.signature))) key
+      ∙ Less-from_sorted signature_cmp parts.signatures a.signature b.signature _ signatures less of.signature
+
+  less_entry : (a b : EntryNumbers) → AreOfParts parts b → numbers_cmp a b ≡ Less → entry_cmp (entry_of parts a) (entry_of parts b) ≡ Less
+  less_entry a b of less =
+      ⊎_elim (λ (key : a.key < b.key). less_key a b of key) (λ (both : (a.key ≡ b.key) × (a.signature < b.signature)). less_signature a b of both.0 both.1) (either_less a b less)
+
+  rising_behind : (a : EntryNumbers) (numbers : List EntryNumbers) → AllOfParts parts numbers → AllByRecursion (λ b. numbers_cmp a b ≡ Less) numbers → AllByRecursion (λ e. entry_cmp (entry_of parts a) e ≡ Less) (map (entry_of parts) numbers)
+  rising_behind a [] all less = tt
+  rising_behind a (b ∷ numbers) all less =
+      (less_entry a b (all b (at_front b numbers)) less.0, rising_behind a numbers (λ n found. all n (further b numbers n found)) less.1)
+
+  -- entries rise as their numbers do
+  pub rising_entries : (numbers : List EntryNumbers) → AllOfParts parts numbers → IsStrictlySortedBy numbers_cmp numbers → IsStrictlySortedBy entry_cmp (map (entry_of parts) numbers)
+  unfolding IsStrictlySortedBy
+  rising_entries [] all rising = tt
+  rising_entries (a ∷ numbers) all rising =
+      let later : AllOfParts parts numbers = λ n found. all n (further a numbers n found) in
+      (rising_behind a numbers later rising.0, rising_entries numbers later rising.1)
+
+-- ---- putting numbers in order
+
+octet_Equal : (x y : ℕ) → nat_cmp x y ≡ Equal → x ≡ y
+octet_Equal x y e = grind (arith, nat_tests)
+
+then_Equal : (a b : Ordering) → ordering_then a b ≡ Equal → (a ≡ Equal) × (b ≡ Equal)
+then_Equal Equal b e = (refl, e)
+then_Equal Less b e = cc
+then_Equal Greater b e = cc
+
+octets_Equal : (xs ys : List ℕ) → octets_cmp xs ys ≡ Equal → xs ≡ ys
+octets_Equal [] [] e = refl
+octets_Equal [] (y ∷ ys) e = cc
+octets_Equal (x ∷ xs) [] e = cc
+octets_Equal (x ∷ xs) (y ∷ ys) e =
+    let both = then_Equal (nat_cmp x y) (octets_cmp xs ys) e in
+    ap (λ z. z ∷ xs) (octet_Equal x y both.0) ∙ ap (λ zs. y ∷ zs) (octets_Equal xs ys both.1)
+
+numbers_Equal : (a b : EntryNumbers) → numbers_cmp a b ≡ Equal → a ≡ b
+numbers_Equal a b e =
+    let both = then_Equal (nat_cmp a.key b.key) (nat_cmp a.signature b.signature) e in
+    λ i. record { key = octet_Equal a.key b.key both.0 i; signature = octet_Equal a.signature b.signature both.1 i }
+
+is_eq-Equal : (order : Ordering) → is_eq order ≡ true → order ≡ Equal
+is_eq-Equal Equal e = refl
+is_eq-Equal Less e = cc
+is_eq-Equal Greater e = cc
+
+exact_numbers : (a b : EntryNumbers) → eq_by_cmp numbers_cmp a b ≡ true → a ≡ b
+exact_numbers a b e = numbers_Equal a b (is_eq-Equal (numbers_cmp a b) e)
+
+-- dropping repeats of what is in order keeps each
+pub same_numbers : (numbers sorted distinct : List EntryNumbers) → IsPermutation numbers sorted → distinct ≡ dedup (eq_by_cmp numbers_cmp) sorted → (each : EntryNumbers) → Contains distinct each ↔ Contains numbers each
+same_numbers numbers sorted distinct moves is each = (
+  λ found. Contains-permutation sorted numbers each (IsPermutation-sym numbers sorted moves) (Contains-from_dedup (eq_by_cmp numbers_cmp) sorted each (subst (λ (ns : List EntryNumbers). Contains ns each) is found)),
+  λ found. subst (λ (ns : List EntryNumbers). Contains ns each) (sym is) (Contains-dedup (eq_by_cmp_equiv numbers_cmp_total) exact_numbers sorted each (Contains-permutation numbers sorted each moves found)),
+)
+
+pub all_moved : (parts : PartLists) (numbers moved : List EntryNumbers) → ((each : EntryNumbers) → Contains moved each ↔ Contains numbers each) → AllOfParts parts numbers → AllOfParts parts moved
+all_moved parts numbers moved same all each found = all each ((same each).0 found)
+
+pub all_pushed : (parts : PartLists) (numbers : List EntryNumbers) (more : EntryNumbers) → AreOfParts parts more → AllOfParts parts numbers → AllOfParts parts (numbers ++ more ∷ [])
+all_pushed parts numbers more of all each found =
+    ⊎_elim (λ (before : Contains numbers each). all each before) (λ (same : more ≡ each). subst (λ (n : EntryNumbers). AreOfParts parts n) same of) (Contains-push_cases numbers more each found)
+
+-- ---- looking for a part
+
+key_Equal : (a b : KeyPart) → key_cmp a b ≡ Equal → a ≡ b
+key_Equal a b e =
+    let both = then_Equal (nat_cmp a.algorithm.0 b.algorithm.0) (octets_cmp a.key b.key) e in
+    λ i. record { algorithm = record { 0 = octet_Equal a.algorithm.0 b.algorithm.0 both.0 i }; key = octets_Equal a.key b.key both.1 i }
+
+signature_Equal : (a b : SignaturePart) → signature_cmp a b ≡ Equal → a ≡ b
+signature_Equal a b e =
+    let both = then_Equal (octets_cmp a.signed_data b.signed_data) (octets_cmp a.signature b.signature) e in
+    λ i. record { signed_data = octets_Equal a.signed_data b.signed_data both.0 i; signature = octets_Equal a.signature b.signature both.1 i }
+
+-- what holds at a place holds of what is made of it
+held_mapped : {X Y : Type 0} (f : X → Y) (P : Y → Type 0) (xs : List X) (k : ℕ) (e : Y) → k < length xs → ((d : X) → P (f (get_or xs k d))) → P (get_or (map f xs) k e)
+held_mapped f P [] k e within holds = absurd (omega (arith, within))
+held_mapped f P (x ∷ xs) zero e within holds = holds x
+held_mapped f P (x ∷ xs) (suc k) e within holds = held_mapped f P xs k e (omega (arith, within)) holds
+
+pub key_found : (keys : List KeyPart) (asked : KeyPart) (result : Result ℕ ℕ) → IsBinarySearchResult (λ part. key_cmp part asked) keys result → (number : ℕ) (d : KeyPart) → result ≡ Ok number → get_or keys number d ≡ asked
+key_found keys asked result position number d is =
+    let holds : HoldsAt (λ part. key_cmp part asked ≡ Equal) keys number = subst (λ (r : Result ℕ ℕ). IsBinarySearchResult (λ part. key_cmp part asked) keys r) is position in
+    key_Equal (get_or keys number d) asked (holds d)
+
+pub signature_found : {X : Type 0} (value : X → SignaturePart) (signatures : List X) (asked : SignaturePart) (result : Result ℕ ℕ) → IsSearchInRange result (length signatures) → IsBinarySearchResult (λ x. signature_cmp (value x) asked) signatures result → (number : ℕ) (d : SignaturePart) → result ≡ Ok number → get_or (map value signatures) number d ≡ asked
+signature_found value signatures asked result bound position number d is =
+    let holds : HoldsAt (λ x. signature_cmp (value x) asked ≡ Equal) signatures number = subst (λ (r : Result ℕ ℕ). IsBinarySearchResult (λ x. signature_cmp (value x) asked) signatures r) is position in
+    let within : number < length signatures = subst (λ (r : Result ℕ ℕ). IsSearchInRange r (length signatures)) is bound in
+    signature_Equal (get_or (map value signatures) number d) asked (held_mapped value (λ part. signature_cmp part asked ≡ Equal) signatures number d within holds)
+
+pub found_within : {X : Type 0} (xs : List X) (result : Result ℕ ℕ) → IsSearchInRange result (length xs) → (number : ℕ) → result ≡ Ok number → number < length xs
+found_within xs result bound number is = subst (λ (r : Result ℕ ℕ). IsSearchInRange r (length xs)) is bound
+
+-- ---- putting parts in order
+
+each_mapped : {X Y : Type 0} (f : X → Y) (P : Y → Type 0) (xs : List X) → AllByRecursion (λ x. P (f x)) xs → AllByRecursion P (map f xs)
+each_mapped f P [] all = tt
+each_mapped f P (x ∷ xs) all = (all.0, each_mapped f P xs all.1)
+
+rising_mapped : {X Y : Type 0} (f : X → Y) (R : Y → Y → Ordering) (xs : List X) → IsStrictlySortedBy (λ a b. R (f a) (f b)) xs → IsStrictlySortedBy R (map f xs)
+unfolding IsStrictlySortedBy
+rising_mapped f R [] rises = tt
+rising_mapped f R (x ∷ xs) rises = (each_mapped f (λ y. R (f x) y ≡ Less) xs rises.0, rising_mapped f R xs rises.1)
+
+number_ties : (x y : ℕ) → nat_eq x y ≡ eq_by_cmp nat_cmp x y
+number_ties x y =
+    ⊎_elim
+    (λ (same : x ≡ y). let test : nat_eq x y ≡ true = grind (arith, nat_tests) in test ∙ ap is_eq (nat_cmp_is x y Equal same))
+    (⊎_elim
+    (λ (less : x < y). let test : nat_eq x y ≡ false = grind (arith, nat_tests) in test ∙ ap is_eq (nat_cmp_is x y Less less))
+    (λ (more : y < x). let test : nat_eq x y ≡ false = grind (arith, nat_tests) in test ∙ ap is_eq (nat_cmp_is x y Greater more)))
+    (cases_order x y)
+
+pub key_ties : (x y : KeyPart) → (nat_eq x.algorithm.0 y.algorithm.0 && pointwise nat_eq x.key y.key) ≡ eq_by_cmp key_cmp x y
+key_ties x y = both_tied _ _ _ _ (number_ties x.algorithm.0 y.algorithm.0) (texts_ties x.key y.key)
+
+pub signature_ties : (x y : SignaturePart) → (pointwise nat_eq x.signed_data y.signed_data && pointwise nat_eq x.signature y.signature) ≡ eq_by_cmp signature_cmp x y
+signature_ties x y = both_tied _ _ _ _ (texts_ties x.signed_data y.signed_data) (texts_ties x.signature y.signature)
+
+pub numbers_ties : (x y : EntryNumbers) → (nat_eq x.key y.key && nat_eq x.signature y.signature) ≡ eq_by_cmp numbers_cmp x y
+numbers_ties x y = both_tied _ _ _ _ (number_ties x.key y.key) (number_ties x.signature y.signature)
+
+pub rising_keys : (sorted kept : List KeyPart) → IsSorted key_cmp sorted → kept ≡ dedup (λ x y. nat_eq x.algorithm.0 y.algorithm.0 && pointwise nat_eq x.key y.key) sorted → IsStrictlySortedBy key_cmp kept
+rising_keys sorted kept ordered is = subst (IsStrictlySortedBy key_cmp) (sym is) (IsStrictlySortedBy-dedup key_cmp_total key_ties sorted ordered)
+
+pub rising_signatures : {X : Type 0} (value : X → SignaturePart) (sorted kept : List X) → IsSorted (λ a b. signature_cmp (value a) (value b)) sorted → kept ≡ dedup (λ x y. pointwise nat_eq (value x).signed_data (value y).signed_data && pointwise nat_eq (value x).signature (value y).signature) sorted → IsStrictlySortedBy signature_cmp (map value kept)
+rising_signatures value sorted kept ordered is =
+    rising_mapped value signature_cmp kept
+    (subst (IsStrictlySortedBy (λ a b. signature_cmp (value a) (value b))) (sym is) (IsStrictlySortedBy-dedup (on_total value signature_cmp_total) (λ x y. signature_ties (value x) (value y)) sorted ordered))
+
+pub rising_numbers : (sorted kept : List EntryNumbers) → IsSorted numbers_cmp sorted → kept ≡ dedup (λ x y. nat_eq x.key y.key && nat_eq x.signature y.signature) sorted → IsStrictlySortedBy numbers_cmp kept
+rising_numbers sorted kept ordered is = subst (IsStrictlySortedBy numbers_cmp) (sym is) (IsStrictlySortedBy-dedup numbers_cmp_total numbers_ties sorted ordered)
+
+pub kept_numbers : (sorted kept : List EntryNumbers) → kept ≡ dedup (λ x y. nat_eq x.key y.key && nat_eq x.signature y.signature) sorted → kept ≡ dedup (eq_by_cmp numbers_cmp) sorted
+kept_numbers sorted kept is = is ∙ (λ i. dedup (λ x y. numbers_ties x y i) sorted)
+
+-- ---- one entry more
+
+pub entry_is : (parts : PartLists) (number : EntryNumbers) (key : KeyPart) (part : SignaturePart) → key_of parts number.key ≡ key → signature_of parts number.signature ≡ part → entry_of parts number ≡ record { algorithm = key.algorithm; key = key.key; signed_data = part.signed_data; signature = part.signature }
+entry_is parts number key part its_key its_part =
+    λ i. record { algorithm = (its_key i).algorithm; key = (its_key i).key; signed_data = (its_part i).signed_data; signature = (its_part i).signature }
+
+-- ---- what a table says of its entries
+
+-- the unknown entries, by their numbers
+pub unknown_listed : (parts : PartLists) (answers : List (EntryNumbers × Answer)) → map (λ (each : EntryNumbers × Answer). entry_of parts each.0) (filter (λ (each : EntryNumbers × Answer). is_unknown each.1) answers) ≡ map (λ (each : Entry × Answer). each.0) (filter (λ (each : Entry × Answer). is_unknown each.1) (answers_of parts answers))
+unknown_listed parts [] = refl
+unknown_listed parts (a ∷ answers) =
+    elim (is_unknown a.1) as (λ b. map (λ (each : EntryNumbers × Answer). entry_of parts each.0) (cond b (a ∷ filter (λ (each : EntryNumbers × Answer). is_unknown each.1) answers) (filter (λ (each : EntryNumbers × Answer). is_unknown each.1) answers)) ≡ map (λ (each : Entry × Answer). each.0) (cond b ((entry_of parts a.0, a.1) ∷ filter (λ (each : Entry × Answer). is_unknown each.1) (answers_of parts answers)) (filter (λ (each : Entry × Answer). is_unknown each.1) (answers_of parts answers)))) [
+      | true ↦ ap (λ rest. entry_of parts a.0 ∷ rest) (unknown_listed parts answers)
+      | false ↦ unknown_listed parts answers
+    ]
+
+filter_pushed : (answers : List (EntryNumbers × Answer)) (a : EntryNumbers × Answer) → filter (λ (each : EntryNumbers × Answer). is_unknown each.1) (answers ++ a ∷ []) ≡ filter (λ (each : EntryNumbers × Answer). is_unknown each.1) answers ++ cond (is_unknown a.1) (a ∷ []) []
+filter_pushed [] a = refl
+filter_pushed (b ∷ answers) a =
+    elim (is_unknown b.1) as (λ t. cond t (b ∷ filter (λ (each : EntryNumbers × Answer). is_unknown each.1) (answers ++ a ∷ [])) (filter (λ (each : EntryNumbers × Answer). is_unknown each.1) (answers ++ a ∷ [])) ≡ cond t (b ∷ filter (λ (each : EntryNumbers × Answer). is_unknown each.1) answers) (filter (λ (each : EntryNumbers × Answer). is_unknown each.1) answers) ++ cond (is_unknown a.1) (a ∷ []) []) [
+      | true ↦ ap (λ rest. b ∷ rest) (filter_pushed answers a)
+      | false ↦ filter_pushed answers a
+    ]
+
+-- an answer more
+unknown_more : (parts : PartLists) (answers : List (EntryNumbers × Answer)) (i : ℕ) (d : EntryNumbers × Answer) → i < length answers → map (λ (each : EntryNumbers × Answer). entry_of parts each.0) (filter (λ (each : EntryNumbers × Answer). is_unknown each.1) (take (i + 1) answers)) ≡ map (λ (each : EntryNumbers × Answer). entry_of parts each.0) (filter (λ (each : EntryNumbers × Answer). is_unknown each.1) (take i answers)) ++ map (λ (each : EntryNumbers × Answer). entry_of parts each.0) (cond (is_unknown (get_or answers i d).1) (get_or answers i d ∷ []) [])
+unknown_more parts answers i d within =
+    ap (λ xs. map (λ (each : EntryNumbers × Answer). entry_of parts each.0) (filter (λ (each : EntryNumbers × Answer). is_unknown each.1) xs)) (take_more answers i d within)
+    ∙ ap (map (λ (each : EntryNumbers × Answer). entry_of parts each.0)) (filter_pushed (take i answers) (get_or answers i d))
+    ∙ map-append (λ (each : EntryNumbers × Answer). entry_of parts each.0) (filter (λ (each : EntryNumbers × Answer). is_unknown each.1) (take i answers)) (cond (is_unknown (get_or answers i d).1) (get_or answers i d ∷ []) [])
+
+module _ (parts : PartLists) (answers : List (EntryNumbers × Answer)) (i : ℕ) (d : EntryNumbers × Answer) (within : i < length answers) where
+  pub one_unknown_more : (get_or answers i d).1 ≡ Unknown → map (λ (each : EntryNumbers × Answer). entry_of parts each.0) (filter (λ (each : EntryNumbers × Answer). is_unknown each.1) (take i answers)) ++ entry_of parts (get_or answers i d).0 ∷ [] ≡ map (λ (each : EntryNumbers × Answer). entry_of parts each.0) (filter (λ (each : EntryNumbers × Answer). is_unknown each.1) (take (i + 1) answers))
+  one_unknown_more unknown =
+      sym (unknown_more parts answers i d within ∙ ap (λ t. map (λ (each : EntryNumbers × Answer). entry_of parts each.0) (filter (λ (each : EntryNumbers × Answer). is_unknown each.1) (take i answers)) ++ map (λ (each : EntryNumbers × Answer). entry_of parts each.0) (cond t (get_or answers i d ∷ []) [])) (ap is_unknown unknown))
+
+  pub none_unknown_more : is_unknown (get_or answers i d).1 ≡ false → map (λ (each : EntryNumbers × Answer). entry_of parts each.0) (filter (λ (each : EntryNumbers × Answer). is_unknown each.1) (take i answers)) ≡ map (λ (each : EntryNumbers × Answer). entry_of parts each.0) (filter (λ (each : EntryNumbers × Answer). is_unknown each.1) (take (i + 1) answers))
+  none_unknown_more known =
+      sym (unknown_more parts answers i d within ∙ ap (λ t. map (λ (each : EntryNumbers × Answer). entry_of parts each.0) (filter (λ (each : EntryNumbers × Answer). is_unknown each.1) (take i answers)) ++ map (λ (each : EntryNumbers × Answer). entry_of parts each.0) (cond t (get_or answers i d ∷ []) [])) known
+      ∙ append-nil (map (λ (each : EntryNumbers × Answer). entry_of parts each.0) (filter (λ (each : EntryNumbers × Answer). is_unknown each.1) (take i answers))))
+
+pub not_unknown : (a : Answer) → (a ≡ Unknown → ⊥) → is_unknown a ≡ false
+not_unknown Unknown other = absurd (other refl)
+not_unknown Valid other = refl
+not_unknown Invalid other = refl
+
+pub filter_answers : (parts : PartLists) (answers : List (EntryNumbers × Answer)) → filter (λ (each : EntryNumbers × Answer). is_unknown each.1) answers ≡ [] → filter (λ (each : Entry × Answer). is_unknown each.1) (answers_of parts answers) ≡ []
+filter_answers parts [] none = refl
+filter_answers parts (a ∷ answers) none =
+    elim (is_unknown a.1) as (λ b. cond b (a ∷ filter (λ (each : EntryNumbers × Answer). is_unknown each.1) answers) (filter (λ (each : EntryNumbers × Answer). is_unknown each.1) answers) ≡ [] → cond b ((entry_of parts a.0, a.1) ∷ filter (λ (each : Entry × Answer). is_unknown each.1) (answers_of parts answers)) (filter (λ (each : Entry × Answer). is_unknown each.1) (answers_of parts answers)) ≡ []) [
+      | true ↦ λ here. absurd (cc here)
+      | false ↦ λ here. filter_answers parts answers here
+    ] none
+
+pub unknown_among : (parts : PartLists) (answers : List (EntryNumbers × Answer)) (i : ℕ) (d : EntryNumbers × Answer) → i < length answers → (get_or answers i d).1 ≡ Unknown → map (λ (each : Entry × Answer). each.0) (filter (λ (each : Entry × Answer). is_unknown each.1) (answers_of parts answers)) ≡ [] → ⊥
+unknown_among parts answers i d within unknown none =
+    let f : EntryNumbers × Answer → Entry × Answer = λ each. (entry_of parts each.0, each.1) in
+    unknown_stands (map f answers) i (f (get_or answers i d)) (rw (length-map answers f) within) (sym (get_or-map f answers i d (f (get_or answers i d)) within)) unknown none
+
+pub hoped_answers : (parts : PartLists) (answers : List (EntryNumbers × Answer)) → answers_of parts (map (λ (each : EntryNumbers × Answer). (each.0, hoped_answer each.1)) answers) ≡ map (λ (each : Entry × Answer). (each.0, hoped_answer each.1)) (answers_of parts answers)
+hoped_answers parts [] = refl
+hoped_answers parts (a ∷ answers) = ap (λ rest. (entry_of parts a.0, hoped_answer a.1) ∷ rest) (hoped_answers parts answers)
+
+pub answered_numbers : (meaning : Entry → Answer) (parts : PartLists) (numbers : List EntryNumbers) → answers_of parts (map (λ each. (each, meaning (entry_of parts each))) numbers) ≡ answered meaning (map (entry_of parts) numbers)
+answered_numbers meaning parts [] = refl
+answered_numbers meaning parts (n ∷ numbers) = ap (λ rest. (entry_of parts n, meaning (entry_of parts n)) ∷ rest) (answered_numbers meaning parts numbers)

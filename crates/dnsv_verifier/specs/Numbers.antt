@@ -1,0 +1,61 @@
+-- Entries by the numbers of their parts. No public clause cites this module.
+use Rattle.std.specs.Prelude.{◌<◌, ℕ, List, [], Contains, length, map}
+use lib.ListN.{get_or}
+use Rattle.std.specs.Ordering.{nat_cmp, ordering_then}
+use Rattle.std.specs.declared.cmp.Ordering.{Ordering}
+use Rattle.dnsv_names.specs.Octets.{octets_cmp}
+use Rattle.dnsv_verifier.specs.declared.answer.Answer.{Answer}
+use Rattle.dnsv_verifier.specs.declared.entry.Entry.{Entry}
+use Rattle.dnsv_verifier.specs.declared.entry.parts.EntryNumbers.{EntryNumbers}
+use Rattle.dnsv_verifier.specs.declared.entry.parts.KeyPart.{KeyPart}
+use Rattle.dnsv_verifier.specs.declared.entry.parts.SignaturePart.{SignaturePart}
+
+-- by algorithm and key
+abbrev pub key_cmp : KeyPart → KeyPart → Ordering
+key_cmp a b = ordering_then (nat_cmp a.algorithm.0 b.algorithm.0) (octets_cmp a.key b.key)
+
+-- by signed data and signature
+abbrev pub signature_cmp : SignaturePart → SignaturePart → Ordering
+signature_cmp a b = ordering_then (octets_cmp a.signed_data b.signed_data) (octets_cmp a.signature b.signature)
+
+-- by the key's number and the signature's
+abbrev pub numbers_cmp : EntryNumbers → EntryNumbers → Ordering
+numbers_cmp a b = ordering_then (nat_cmp a.key b.key) (nat_cmp a.signature b.signature)
+
+-- the keys and the signatures that entries are made of
+pub record PartLists : Type 0 where
+  pub keys : List KeyPart
+  pub signatures : List SignaturePart
+
+-- the key at the place, and one without octets where none is
+abbrev pub key_of : PartLists → ℕ → KeyPart
+key_of parts place = get_or parts.keys place (record { algorithm = record { 0 = 0 }; key = [] })
+
+-- the same of signatures
+abbrev pub signature_of : PartLists → ℕ → SignaturePart
+signature_of parts place = get_or parts.signatures place (record { signed_data = []; signature = [] })
+
+-- the entry of the key and the signature with these numbers
+abbrev pub entry_of : PartLists → EntryNumbers → Entry
+entry_of parts numbers =
+    let key = key_of parts numbers.key in
+    let signature = signature_of parts numbers.signature in
+    record {
+      algorithm = key.algorithm;
+      key = key.key;
+      signed_data = signature.signed_data;
+      signature = signature.signature;
+    }
+
+-- the numbers are of a key and a signature
+pub record AreOfParts (parts : PartLists) (numbers : EntryNumbers) : Type 0 where
+  pub key : numbers.key < length parts.keys
+  pub signature : numbers.signature < length parts.signatures
+
+-- each of the numbers is of parts
+abbrev pub AllOfParts : PartLists → List EntryNumbers → Type 0
+AllOfParts parts numbers = (each : EntryNumbers) → Contains numbers each → AreOfParts parts each
+
+-- the entries with their answers
+abbrev pub answers_of : PartLists → List (EntryNumbers × Answer) → List (Entry × Answer)
+answers_of parts answers = map (λ each. (entry_of parts each.0, each.1)) answers

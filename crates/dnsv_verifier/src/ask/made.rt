@@ -1,0 +1,116 @@
+//! The signatures of the evidence that some key may have made.
+ghost use Rattle.std.specs.Prelude.{◌↔◌, ◌<◌, [], IfOk, IsTrue, MatchOption, OnOk};
+ghost use Rattle.dnsv_canonical.specs.SignedData.{signed_label_count};
+ghost use Rattle.dnsv_verifier.specs.Asking.{AddsJust, ComesOfSome, IsMadeBySome, IsMadeIn, IsMadeOf, IsPartOf};
+
+use crate::admissible::{is_verifiable, may_have_made};
+use crate::entry::parts::SignaturePart;
+use crate::key::KeyRecord;
+use crate::key::keys::Keys;
+use dnsv_canonical::{Rrset, signed_data};
+use dnsv_records::{Octets, Rrsig};
+use std::alloc::{AllocError, Global};
+use std::marker::Model;
+use std::rc::Rc;
+
+/// A signature that lies elsewhere, with what it gives to its entries.
+#[derive(Drop)]
+pub(crate) struct Made<'a> {
+    pub(crate) rrsig: &'a Rrsig,
+    pub(crate) part: Rc<SignaturePart>,
+}
+
+impl<'a> Model for Made<'a> {
+    ghost use Rattle.dnsv_verifier.specs.Asking.{MadeSignature};
+
+    ghost Value = { MadeSignature };
+
+    ghost view = { λ made. record { rrsig = made.rrsig.now; part = made.part.value } };
+}
+
+/// The signatures of the RRsets that can be verified at the moment, and that some key may have made.
+pub(crate) fn made_signatures<'a>(
+    alloc: Global,
+    moment: u64,
+    keys: &Keys<'_>,
+    rrsets: &'a [Rrset],
+) -> Result<Vec<Made<'a>>, AllocError>
+    ensures { IfOk result (λ made. AddsJust (ComesOfSome (IsMadeIn moment keys.now) rrsets.now) [] made.items) }
+{
+    let mut made = Vec::new(alloc);
+    for rrset in rrsets {
+        add_rrset(alloc, moment, keys, rrset, &mut made)?;
+    }
+    Ok(made)
+}
+
+/// Adds such signatures of the RRset.
+fn add_rrset<'a>(
+    alloc: Global,
+    moment: u64,
+    keys: &Keys<'_>,
+    rrset: &'a Rrset,
+    made: &mut Vec<Made<'a>>,
+) -> Result<(), AllocError>
+    ensures { OnOk result (AddsJust (IsMadeIn moment keys.now rrset.now) made.old.items made.new.items) }
+{
+    for rrsig in rrset.signatures() {
+        add_signature(alloc, moment, keys, rrset, rrsig, made)?;
+    }
+    Ok(())
+}
+
+/// Adds the signature if it is such.
+fn add_signature<'a>(
+    alloc: Global,
+    moment: u64,
+    keys: &Keys<'_>,
+    rrset: &Rrset,
+    rrsig: &'a Rrsig,
+    made: &mut Vec<Made<'a>>,
+) -> Result<(), AllocError>
+    ensures { OnOk result (AddsJust (IsMadeOf moment keys.now rrset.now rrsig.now) made.old.items made.new.items) }
+{
+    if !is_verifiable(moment, rrset, rrsig) {
+        return Ok(());
+    }
+    if !is_made_by_some(keys, rrsig) {
+        return Ok(());
+    }
+    let Some(part) = part_of(alloc, rrset, rrsig)? else {
+        return Ok(());
+    };
+    made.push(Made {
+        rrsig,
+        part: Rc::new(alloc, part)?,
+    })?;
+    Ok(())
+}
+
+/// Whether one of the keys may have made the signature.
+fn is_made_by_some(keys: &Keys<'_>, rrsig: &Rrsig) -> bool
+    ensures { IsTrue result ↔ IsMadeBySome keys.now rrsig.now }
+{
+    is_made_by_one(keys.named_by(rrsig), rrsig)
+}
+
+/// Whether one of these keys may have made the signature.
+fn is_made_by_one(keys: &[KeyRecord<'_>], rrsig: &Rrsig) -> bool
+    ensures { IsTrue result ↔ IsMadeBySome keys.now rrsig.now }
+{
+    keys.iter().any(|key| may_have_made(key, rrsig))
+}
+
+/// What the signature gives to its entries. `None` where Labels is above the owner's count of labels.
+fn part_of(alloc: Global, rrset: &Rrset, rrsig: &Rrsig) -> Result<Option<SignaturePart>, AllocError>
+    ensures { IfOk result (λ found. MatchOption found (signed_label_count rrset.now.owner < rrsig.now.labels)
+        (IsPartOf rrset.now rrsig.now)) }
+{
+    let Some(octets) = signed_data(alloc, rrset, rrsig)? else {
+        return Ok(None);
+    };
+    Ok(Some(SignaturePart {
+        signed_data: Octets::from_vec(octets),
+        signature: Octets::copy_of(alloc, rrsig.signature.as_slice())?,
+    }))
+}

@@ -1,0 +1,145 @@
+//! What entries are made of, each part kept once and numbered by its order.
+ghost use Rattle.std.specs.Prelude.{◌≡◌, ◌<◌, Ok, IfOk, length};
+ghost use Rattle.dnsv_verifier.specs.Numbers.{entry_of, key_cmp, key_of, signature_of};
+
+use crate::entry::borrowed_entry::BorrowedEntry;
+use dnsv_names::compare_octets;
+use dnsv_records::{Algorithm, Octets};
+use std::alloc::AllocError;
+use std::cmp::Ordering;
+use std::marker::Model;
+use std::rc::Rc;
+
+/// What a key gives to the entries that it has. Such parts are ordered by algorithm and key.
+#[derive(Debug, PartialEq, Eq, PartialOrd, Ord, Drop)]
+pub(crate) struct KeyPart {
+    pub(crate) algorithm: Algorithm,
+    pub(crate) key: Octets,
+}
+
+impl KeyPart {
+    /// How the part stands to one of this algorithm and key.
+    fn compared(&self, algorithm: Algorithm, key: &[u8]) -> Ordering
+        ensures { result ≡ key_cmp self.now (record { algorithm = algorithm; key = key.now }) }
+    {
+        let own = self.key.as_slice();
+        self.algorithm
+            .0
+            .cmp(&algorithm.0)
+            .then_with(|| compare_octets(own, key))
+    }
+}
+
+/// What a signature gives to the entries that it has, one for each key. Such parts are ordered by signed data and
+/// signature.
+#[derive(Debug, PartialEq, Eq, PartialOrd, Ord, Drop)]
+pub(crate) struct SignaturePart {
+    pub(crate) signed_data: Octets,
+    pub(crate) signature: Octets,
+}
+
+/// An entry by the numbers of its parts. Entries rise as their numbers do, that of the key first.
+#[derive(Clone, Copy, Debug, PartialEq, Eq, PartialOrd, Ord)]
+pub(crate) struct EntryNumbers {
+    pub(crate) key: u32,
+    pub(crate) signature: u32,
+}
+
+/// The parts of entries, each once. Both kinds rise, so that a part's number is its place.
+#[derive(Drop)]
+pub(crate) struct Parts {
+    keys: Vec<KeyPart>,
+    signatures: Vec<Rc<SignaturePart>>,
+}
+
+impl Model for Parts {
+    ghost use Rattle.std.specs.Prelude.{map};
+    ghost use Rattle.std.specs.List.Sorted.{IsStrictlySortedBy};
+    ghost use Rattle.dnsv_verifier.specs.Numbers.{PartLists, key_cmp, signature_cmp};
+
+    ghost Value = { PartLists };
+
+    ghost view = { λ parts. record {
+      keys = parts.keys.items;
+      signatures = map (λ part. part.value) parts.signatures.items;
+    } };
+
+    ghost invariant = { λ parts. IsStrictlySortedBy key_cmp parts.keys.items
+        × IsStrictlySortedBy signature_cmp (map (λ part. part.value) parts.signatures.items) };
+}
+
+impl Parts {
+    /// The parts of these lists, each once.
+    pub(crate) fn of(keys: Vec<KeyPart>, signatures: Vec<Rc<SignaturePart>>) -> Parts {
+        let mut keys = keys;
+        let mut signatures = signatures;
+        keys.sort_unstable();
+        keys.dedup();
+        signatures.sort_unstable();
+        signatures.dedup();
+        Parts { keys, signatures }
+    }
+
+    /// The number of a key. More than 2^32 keys are refused as want of memory.
+    pub(crate) fn key_number(&self, algorithm: Algorithm, key: &[u8]) -> Result<u32, AllocError>
+        ensures value { IfOk result (λ number. key_of self.now number ≡ record { algorithm = algorithm; key = key.now }) }
+        ensures within { IfOk result (λ number. number < length self.now.keys) }
+    {
+        let place = self
+            .keys
+            .binary_search_by(|part| part.compared(algorithm, key));
+        number_at(place)
+    }
+
+    /// The number of a signature. More than 2^32 of them are refused as want of memory.
+    pub(crate) fn signature_number(&self, part: &SignaturePart) -> Result<u32, AllocError>
+        ensures value { IfOk result (λ number. signature_of self.now number ≡ part.now) }
+        ensures within { IfOk result (λ number. number < length self.now.signatures) }
+    {
+        let place = self.signatures.binary_search_by(|each| (**each).cmp(part));
+        number_at(place)
+    }
+
+    /// The entry of the numbers, and one without octets where they are of nothing.
+    pub(crate) fn entry(&self, numbers: EntryNumbers) -> BorrowedEntry<'_>
+        ensures { result ≡ entry_of self.now numbers }
+    {
+        let (algorithm, key) = self.key_at(numbers.key as usize);
+        let (signed_data, signature) = self.signature_at(numbers.signature as usize);
+        BorrowedEntry::of(algorithm, key, signed_data, signature)
+    }
+
+    /// The key at the place.
+    fn key_at(&self, place: usize) -> (Algorithm, &[u8])
+        ensures { (result.0 ≡ (key_of self.now place).algorithm) × (result.1.now ≡ (key_of self.now place).key) }
+    {
+        match self.keys.get(place) {
+            Some(part) => (part.algorithm, part.key.as_slice()),
+            None => (Algorithm(0), &[]),
+        }
+    }
+
+    /// The signed data and the signature at the place.
+    fn signature_at(&self, place: usize) -> (&[u8], &[u8])
+        ensures { (result.0.now ≡ (signature_of self.now place).signed_data)
+            × (result.1.now ≡ (signature_of self.now place).signature) }
+    {
+        match self.signatures.get(place) {
+            Some(part) => (part.signed_data.as_slice(), part.signature.as_slice()),
+            None => (&[], &[]),
+        }
+    }
+}
+
+/// The place as a number.
+fn number_at(place: Result<usize, usize>) -> Result<u32, AllocError>
+    ensures { IfOk result (λ number. place ≡ Ok number) }
+{
+    let Ok(place) = place else {
+        return Err(AllocError);
+    };
+    match u32::try_from(place) {
+        Ok(number) => Ok(number),
+        Err(_) => Err(AllocError),
+    }
+}
