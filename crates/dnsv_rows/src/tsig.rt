@@ -4,7 +4,7 @@ use crate::row::{Row, RowError, printed};
 use bumpalo::Bump;
 use dnsv_message::DecodeError;
 use dnsv_names::Name;
-use dnsv_tsig::{KeyFileError, KeyRing, Opened, TsigError, open};
+use dnsv_tsig::{KeyFileError, KeyRing, TsigError, open};
 use std::alloc::{AllocError, Global};
 
 /// What the library answers, where it has the call.
@@ -29,7 +29,16 @@ pub fn answer(row: &Row) -> Result<Option<String>, RowError> {
 fn open_message(row: &Row) -> Result<String, RowError> {
     let alloc = row.alloc();
     let bump = Bump::new(alloc);
-    match answer_to(row, &bump)? {
+    let asked = asked_by(row)?;
+    let mac = asked.request_mac.as_ref();
+    match open(
+        row.alloc(),
+        &asked.octets,
+        &asked.keys,
+        asked.now,
+        mac,
+        &bump,
+    ) {
         Ok(opened) => {
             let octets = hex::encode(alloc, opened.message())?;
             Ok(format!(in alloc; "{} {octets}", opened.key())?)
@@ -42,7 +51,16 @@ fn open_message(row: &Row) -> Result<String, RowError> {
 fn opened(row: &Row) -> Result<String, RowError> {
     let inside = row.octets(4)?;
     let bump = Bump::new(row.alloc());
-    match answer_to(row, &bump)? {
+    let asked = asked_by(row)?;
+    let mac = asked.request_mac.as_ref();
+    match open(
+        row.alloc(),
+        &asked.octets,
+        &asked.keys,
+        asked.now,
+        mac,
+        &bump,
+    ) {
         Ok(opened) => {
             let is_so = opened.message() == inside.as_slice();
             Ok(format!(in row.alloc(); "{} {is_so}", opened.key())?)
@@ -51,19 +69,34 @@ fn opened(row: &Row) -> Result<String, RowError> {
     }
 }
 
-/// What `open` answers to the row's message.
-fn answer_to<'b>(row: &Row, bump: &'b Bump) -> Result<Result<Opened<'b>, TsigError>, RowError> {
+/// What `open` is asked with.
+#[derive(Drop)]
+struct Asked {
+    octets: Vec<u8>,
+    keys: KeyRing,
+    now: u64,
+    request_mac: Option<[u8; 32]>,
+}
+
+/// What the row asks `open` with.
+fn asked_by(row: &Row) -> Result<Asked, RowError> {
     let octets = row.octets(0)?;
     let Ok(keys) = KeyRing::parse(row.alloc(), &row.octets(1)?) else {
         return Err(RowError::Malformed);
     };
     let now = row.number(2)?;
-    let request_mac = row.octets(3)?;
-    if request_mac.is_empty() {
-        return Ok(open(row.alloc(), &octets, &keys, now, None, bump));
-    }
-    let mac = mac_of(&request_mac)?;
-    Ok(open(row.alloc(), &octets, &keys, now, Some(&mac), bump))
+    let mac = row.octets(3)?;
+    let request_mac = if mac.is_empty() {
+        None
+    } else {
+        Some(mac_of(&mac)?)
+    };
+    Ok(Asked {
+        octets,
+        keys,
+        now,
+        request_mac,
+    })
 }
 
 fn mac_of(octets: &[u8]) -> Result<[u8; 32], RowError> {

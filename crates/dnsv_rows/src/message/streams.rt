@@ -81,7 +81,7 @@ fn framed(row: &Row) -> Result<String, RowError> {
 
 /// Whether the messages are these.
 fn are_same(messages: &[&[u8]], wanted: &[Vec<u8>]) -> bool {
-    let pairs = messages.iter().zip(wanted.iter());
+    let mut pairs = messages.iter().zip(wanted.iter());
     messages.len() == wanted.len() && pairs.all(|(message, other)| *message == other.as_slice())
 }
 
