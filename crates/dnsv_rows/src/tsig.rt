@@ -4,7 +4,7 @@ use crate::row::{Row, RowError, printed};
 use bumpalo::Bump;
 use dnsv_message::DecodeError;
 use dnsv_names::Name;
-use dnsv_tsig::{KeyFileError, KeyRing, TsigError, open};
+use dnsv_tsig::{KeyFileError, KeyRing, Opened, TsigError, open};
 use std::alloc::{AllocError, Global};
 
 /// What the library answers, where it has the call.
@@ -27,18 +27,13 @@ pub fn answer(row: &Row) -> Result<Option<String>, RowError> {
 /// `open MESSAGE KEYS NOW MAC`: the name of the key that signed the message, and the octets of the message inside. The
 /// last is the MAC of the request, or `-`.
 fn open_message(row: &Row) -> Result<String, RowError> {
-    let alloc = row.alloc();
-    let bump = Bump::new(alloc);
     let asked = asked_by(row)?;
-    let mac = asked.request_mac.as_ref();
-    match open(
-        row.alloc(),
-        &asked.octets,
-        &asked.keys,
-        asked.now,
-        mac,
-        &bump,
-    ) {
+    let bump = Bump::new(row.alloc());
+    key_and_message(row.alloc(), &asked, &bump)
+}
+
+fn key_and_message(alloc: Global, asked: &Asked, bump: &Bump) -> Result<String, RowError> {
+    match opened_in(alloc, asked, bump) {
         Ok(opened) => {
             let octets = hex::encode(alloc, opened.message())?;
             Ok(format!(in alloc; "{} {octets}", opened.key())?)
@@ -50,23 +45,35 @@ fn open_message(row: &Row) -> Result<String, RowError> {
 /// `opened MESSAGE KEYS NOW MAC INSIDE`: the same, but whether the octets of the message inside are these.
 fn opened(row: &Row) -> Result<String, RowError> {
     let inside = row.octets(4)?;
-    let bump = Bump::new(row.alloc());
     let asked = asked_by(row)?;
-    let mac = asked.request_mac.as_ref();
-    match open(
-        row.alloc(),
+    let bump = Bump::new(row.alloc());
+    key_and_whether_inside(row.alloc(), &asked, &inside, &bump)
+}
+
+fn key_and_whether_inside(
+    alloc: Global,
+    asked: &Asked,
+    inside: &[u8],
+    bump: &Bump,
+) -> Result<String, RowError> {
+    match opened_in(alloc, asked, bump) {
+        Ok(opened) => {
+            let is_so = opened.message() == inside;
+            Ok(format!(in alloc; "{} {is_so}", opened.key())?)
+        }
+        Err(error) => refused(alloc, &error),
+    }
+}
+
+fn opened_in<'b>(alloc: Global, asked: &Asked, bump: &'b Bump) -> Result<Opened<'b>, TsigError> {
+    open(
+        alloc,
         &asked.octets,
         &asked.keys,
         asked.now,
-        mac,
-        &bump,
-    ) {
-        Ok(opened) => {
-            let is_so = opened.message() == inside.as_slice();
-            Ok(format!(in row.alloc(); "{} {is_so}", opened.key())?)
-        }
-        Err(error) => refused(row.alloc(), &error),
-    }
+        asked.request_mac.as_ref(),
+        bump,
+    )
 }
 
 /// What `open` is asked with.
