@@ -109,6 +109,15 @@ impl<'b> NameRef<'b> {
         name
     }
 
+    /// Whether the name is this one, without regard to case (RFC 4343).
+    pub fn is(&self, name: &Name) -> bool
+        ensures value { result ≡ same_name self.now name.now }
+        ensures same { IsTrue result ↔ SameName self.now name.now }
+    {
+        let other = NameRef::of(name);
+        *self == other
+    }
+
     /// Whether the name is `above` or stands below it: the labels of `above` end those of the name,
     /// without regard to case.
     pub fn is_at_or_below(&self, above: &NameRef<'_>) -> bool
