@@ -44,8 +44,8 @@ impl fmt::Display for Name {
     }
 }
 
-/// Adds the text of a label, and a dot.
-fn push_label(text: &mut ArrayString<TEXT_LIMIT>, label: &[u8])
+/// Adds the text of a label, and a dot. A name's text is that of its labels, one after another, but for the root.
+pub fn push_label(text: &mut ArrayString<TEXT_LIMIT>, label: &[u8])
     requires { array_string_len text.old + 4 * length label.now + 1 ≤ TEXT_LIMIT }
     ensures text { text.new.bytes ≡ text.old.bytes ++ (label_text label.now ++ 46 ∷ []) }
     ensures length { array_string_len text.new ≤ array_string_len text.old + 4 * length label.now + 1 }
