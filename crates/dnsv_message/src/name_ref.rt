@@ -2,6 +2,7 @@
 
 pub mod by_wire;
 mod following;
+mod text;
 
 ghost use Rattle.std.specs.Prelude.{◌≡◌, ◌↔◌, ◌≤◌, IsTrue, IfOk, IfErr, length, map};
 ghost use Rattle.std.specs.Cmp.{on_equiv, partial_equiv_from_equiv};
