@@ -8,8 +8,6 @@ pub mod Parts
 pub mod Fits
 pub mod Tail
 pub mod Encoding
-pub mod Steps
 pub mod Following
-pub mod Kept
 pub mod ReadError
 pub mod Streams

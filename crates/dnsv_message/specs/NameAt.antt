@@ -1,5 +1,6 @@
 -- Names in a message (RFC 1035 3.1, 4.1.4): which name the octets spell at a place, and the fault that comes first where
 -- they spell none.
+pub mod Steps
 use Rattle.std.specs.Prelude.{◌≡◌, ◌⊎◌, ℕ, suc, ◌+◌, ◌*◌, ◌^◌, ◌<◌, ◌≤◌, List, [], ◌∷◌, length, take, drop}
 use Rattle.dnsv_names.specs.Name.{Labels, IsLabel, wire}
 use Rattle.dnsv_names.specs.Octets.{number_at}

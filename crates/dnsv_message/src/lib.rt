@@ -19,7 +19,6 @@ pub use streams::framer::{Framer, any_cutting};
 
 mod encode;
 mod errors;
-mod following;
 mod laws;
 mod message;
 mod name_at;

@@ -2,7 +2,7 @@
 ghost use Rattle.std.specs.Prelude.{◌≡◌, ◌+◌, ◌<◌, ◌≤◌, ℕ, List, length, IfOk, IfErr};
 ghost use Rattle.dnsv_names.specs.Name.{Labels, wire};
 ghost use Rattle.dnsv_message.specs.NameAt.{NameFrom, NameFaultFrom, NumberAt, FaultHere};
-ghost use Rattle.dnsv_message.specs.Steps.{StepAt};
+ghost use Rattle.dnsv_message.specs.NameAt.Steps.{StepAt};
 
 use crate::errors::NameFault;
 use arrayvec::ArrayVec;

@@ -1,6 +1,8 @@
 //! Names where they stand in a message.
 
 pub mod by_wire;
+mod following;
+mod text;
 
 ghost use Rattle.std.specs.Prelude.{◌≡◌, ◌↔◌, ◌≤◌, IsTrue, IfOk, IfErr, length, map};
 ghost use Rattle.std.specs.Cmp.{on_equiv, partial_equiv_from_equiv};
@@ -12,7 +14,7 @@ ghost use Rattle.dnsv_names.specs.Tree.Keys.{is_at_or_below};
 ghost use Rattle.dnsv_message.specs.NameAt.{NameFrom, NameFaultFrom};
 
 use crate::errors::NameFault;
-use crate::following::{behind_pointers, label_count, label_start, labels_of, wire_order};
+use crate::name_ref::following::{behind_pointers, label_count, label_start, labels_of, wire_order};
 use crate::name_at::{name_at, name_end};
 use dnsv_names::{Name, lower_order};
 use std::cmp::Ordering;

@@ -146,7 +146,7 @@ pub struct RdataOctets<'b> {
 
 impl<'b> Model for RdataOctets<'b> {
     ghost use Rattle.std.specs.Prelude.{ℕ, List};
-    ghost use Rattle.dnsv_message.specs.Kept.{octets_kept};
+    ghost use Rattle.dnsv_message.specs.Following.Kept.{octets_kept};
 
     ghost Value = { List ℕ };
 

@@ -17,6 +17,9 @@ const QUESTION_TAIL: usize = 4;
 /// How many octets of a record stand between its name and its RDATA.
 const RECORD_TAIL: usize = 10;
 
+/// How many octets a record has at least: the root as its name, and no RDATA.
+const RECORD_MIN: usize = RECORD_TAIL + 1;
+
 /// Records that stand one after another in a message.
 #[derive(Drop)]
 pub struct Records<'b> {
@@ -66,7 +69,8 @@ pub fn records_at<'b>(
     ensures fault { IfErr result (λ error. (error ≡ DecodeError.OutOfMemory)
         ⊎ FirstFault (RecordAt octets.now) (RecordFaultAt octets.now) count first place error) }
 {
-    let mut records = Vec::new(alloc);
+    let room = count.min(octets.len() / RECORD_MIN);
+    let mut records = Vec::with_capacity(alloc, room)?;
     let mut tail = None;
     let mut end = place;
     for read in 0..count {

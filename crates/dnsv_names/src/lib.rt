@@ -23,7 +23,7 @@ pub use order::{
     names_come_before_those_below,
 };
 pub use stored_name::StoredName;
-pub use text::TEXT_LIMIT;
+pub use text::{TEXT_LIMIT, push_label};
 pub use text::parse::{a_text_has_one_reading, names_are_spelled_by_their_text};
 pub use tree::ASTERISK_LABEL;
 pub use tree::tree_laws::{

@@ -44,9 +44,9 @@ impl fmt::Display for Name {
     }
 }
 
-/// Adds the text of a label, and a dot.
-fn push_label(text: &mut ArrayString<TEXT_LIMIT>, label: &[u8])
-    requires { array_string_len text.old + 4 * length label.now + 1 ≤ TEXT_LIMIT }
+/// Adds the text of a label, and a dot. The text of a name other than the root is that of its labels.
+pub fn push_label<const N: usize>(text: &mut ArrayString<N>, label: &[u8])
+    requires { array_string_len text.old + 4 * length label.now + 1 ≤ N }
     ensures text { text.new.bytes ≡ text.old.bytes ++ (label_text label.now ++ 46 ∷ []) }
     ensures length { array_string_len text.new ≤ array_string_len text.old + 4 * length label.now + 1 }
 {
@@ -57,8 +57,8 @@ fn push_label(text: &mut ArrayString<TEXT_LIMIT>, label: &[u8])
 }
 
 /// Adds the text of an octet.
-fn push_octet(text: &mut ArrayString<TEXT_LIMIT>, octet: u8)
-    requires { array_string_len text.old + 4 ≤ TEXT_LIMIT }
+fn push_octet<const N: usize>(text: &mut ArrayString<N>, octet: u8)
+    requires { array_string_len text.old + 4 ≤ N }
     ensures text { text.new.bytes ≡ text.old.bytes ++ octet_text octet }
     ensures length { array_string_len text.new ≤ array_string_len text.old + 4 }
 {

@@ -8,7 +8,7 @@ use Rattle.dnsv_message.specs.declared.errors.NameFault.{NameFault}
 use Rattle.dnsv_message.specs.declared.name_at.Step.{Step}
 use Rattle.dnsv_message.specs.declared.name_at.Step.TheVariants.{Root, Label, Pointer}
 use Rattle.dnsv_message.specs.declared.name_at.Walk.{Walk}
-use Rattle.dnsv_message.specs.Steps.{StepAt}
+use Rattle.dnsv_message.specs.NameAt.Steps.{StepAt}
 use Rattle.dnsv_message.specs.NameAt.{NameFrom, NumberAt, PartAt, LabelAt, PointerAt, NameAt, root, label, pointer, NameFaultAt, after_label, after_pointer}
 
 -- `front` is read, its octets are written, and the name goes on at the place

@@ -51,3 +51,6 @@ impl PartialOrd for NameRefByWire<'_> {
         Some(self.cmp(other))
     }
 }
+
+#[cfg(test)]
+mod tests;

@@ -12,7 +12,7 @@ loop-read-preserved c = record {
 
 pub returns-in_err-record-clause-fault : goal.returns-in_err-record-clause-fault
 returns-in_err-record-clause-fault c =
-    let p = err_from_is_err_and c.from_residual.result c.from_residual.ensures.1 in
+    let p = err_from_is_err_and c.from_residual-in_err-record.result c.from_residual-in_err-record.ensures.1 in
     rw (p.1, p.2) (inr (Reading-fault c.loop-read.invariant.reading _ c.loop-read-test.true c.in_err-record.ensures.fault))
 
 pub returns-clause-found : goal.returns-clause-found

@@ -5,6 +5,6 @@ use Rattle.dnsv_names.proofs.text.push_label.Given as goal
 
 -- the octets so far are written, in four octets at most each
 abbrev pub invariant-loop-octet : goal.invariant-loop-octet
-invariant-loop-octet l =
+invariant-loop-octet g l =
     (l.text.bytes ≡ l.initial.text.bytes ++ label_text (take l.octet-index l.label))
     × (array_string_len l.text ≤ array_string_len l.initial.text + 4 * l.octet-index)

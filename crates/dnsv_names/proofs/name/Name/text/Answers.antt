@@ -14,9 +14,11 @@ pub first_label-requires : goal.first_label-requires
 first_label-requires c = label_in_front c.loop-rest.invariant c.loop-rest-test.true
 
 pub push_label-requires : goal.push_label-requires
-push_label-requires c =
-    (next_label c.args.self.now c.loop-rest.text.bytes (array_string_len c.loop-rest.text) c.loop-rest.rest.now c.first_label.result.now
-    (drop (1 + get_or c.loop-rest.rest.now 0 0) c.loop-rest.rest.now) c.loop-rest.invariant c.loop-rest-test.true c.first_label.ensures refl).room
+push_label-requires c = (
+  omega arith,
+  (next_label c.args.self.now c.loop-rest.text.bytes (array_string_len c.loop-rest.text) c.loop-rest.rest.now c.first_label.result.now
+      (drop (1 + get_or c.loop-rest.rest.now 0 0) c.loop-rest.rest.now) c.loop-rest.invariant c.loop-rest-test.true c.first_label.ensures refl).room,
+)
 
 pub behind_label-rest-requires : goal.behind_label-rest-requires
 behind_label-rest-requires c = label_in_front c.loop-rest.invariant c.loop-rest-test.true

@@ -1,6 +1,6 @@
 use Rattle.std.proofs.Common.{◌≡◌, ◌+◌, length}
 use Rattle.dnsv_message.specs.Following.{StandsAt, labels_at}
-use Rattle.dnsv_message.proofs.following.label_count.Given as goal
+use Rattle.dnsv_message.proofs.name_ref.following.label_count.Given as goal
 
 -- what stands at the place are the labels that are not counted yet
 abbrev pub invariant-loop-next : goal.invariant-loop-next

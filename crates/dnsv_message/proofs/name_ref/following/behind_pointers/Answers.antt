@@ -1,6 +1,6 @@
-use Rattle.std.proofs.Common.{◌∙◌, ◌-◌, arith}
+use Rattle.std.proofs.Common.{◌-◌, arith}
 use Rattle.dnsv_message.proofs.FollowLemmas.{named_within, has_pointer, HasPointer-next, stands_here}
-use Rattle.dnsv_message.proofs.following.behind_pointers.Goals as goal
+use Rattle.dnsv_message.proofs.name_ref.following.behind_pointers.Goals as goal
 
 pub bounds-octets-next : goal.bounds-octets-next
 bounds-octets-next c = named_within c.args.octets.now c.loop-next.next c.loop-next.invariant.0

@@ -2,7 +2,7 @@ use Rattle.std.proofs.Common.{◌≡◌, length}
 use Rattle.dnsv_names.specs.Name.{wire, lower_case}
 use Rattle.dnsv_names.specs.Octets.{octets_cmp}
 use Rattle.dnsv_message.specs.Following.{StandsAt, labels_at}
-use Rattle.dnsv_message.proofs.following.wire_order.Given as goal
+use Rattle.dnsv_message.proofs.name_ref.following.wire_order.Given as goal
 
 -- the labels so far are the same in lower case, so what is left decides
 abbrev pub invariant-loop-a_place : goal.invariant-loop-a_place

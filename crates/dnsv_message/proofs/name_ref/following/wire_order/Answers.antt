@@ -3,8 +3,8 @@ use Rattle.std.specs.Char.{to_ascii_lowercase}
 use Rattle.dnsv_names.specs.Octets.{octets_cmp}
 use Rattle.dnsv_names.proofs.LowerLemmas.{tied_by_test, untied_by_test}
 use Rattle.dnsv_message.proofs.FollowLemmas.Comparing.{octets_decide, tied_labels, untied_labels}
-use Rattle.dnsv_message.proofs.following.wire_order.Goals.{then-loop-a_place-test+else-a-a_place, else-loop-a_place-test}
-use Rattle.dnsv_message.proofs.following.wire_order.Goals as goal
+use Rattle.dnsv_message.proofs.name_ref.following.wire_order.Goals.{then-loop-a_place-test+else-a-a_place, else-loop-a_place-test}
+use Rattle.dnsv_message.proofs.name_ref.following.wire_order.Goals as goal
 
 pub returns-then-ne : goal.returns-then-ne
 returns-then-ne c =

@@ -1,7 +1,7 @@
 use Rattle.std.proofs.Common.{◌∷◌, ◌∙◌, sym, ap}
 use Rattle.dnsv_message.specs.Following.{label_at}
 use Rattle.dnsv_message.proofs.FollowLemmas.{has_label}
-use Rattle.dnsv_message.proofs.following.next_label.Goals as goal
+use Rattle.dnsv_message.proofs.name_ref.following.next_label.Goals as goal
 
 pub behind_pointers-requires : goal.behind_pointers-requires
 behind_pointers-requires c =

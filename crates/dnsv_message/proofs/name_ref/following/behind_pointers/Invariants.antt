@@ -1,6 +1,6 @@
 use Rattle.std.proofs.Common.{◌≡◌}
 use Rattle.dnsv_message.specs.Following.{IsNamed, labels_at}
-use Rattle.dnsv_message.proofs.following.behind_pointers.Given as goal
+use Rattle.dnsv_message.proofs.name_ref.following.behind_pointers.Given as goal
 
 -- the same name stands at the place
 abbrev pub invariant-loop-next : goal.invariant-loop-next

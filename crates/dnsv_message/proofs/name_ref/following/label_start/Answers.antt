@@ -1,7 +1,7 @@
 use Rattle.std.proofs.Common.{arith}
 use Rattle.dnsv_message.specs.Following.{labels_at}
 use Rattle.dnsv_message.proofs.FollowLemmas.{not_root, rest_of}
-use Rattle.dnsv_message.proofs.following.label_start.Goals as goal
+use Rattle.dnsv_message.proofs.name_ref.following.label_start.Goals as goal
 
 pub next_label-next-requires-clause-not_root : goal.next_label-next-requires-clause-not_root
 next_label-next-requires-clause-not_root c =

@@ -1,6 +1,6 @@
 use Rattle.std.proofs.Common.{length, ap, arith}
 use Rattle.dnsv_message.proofs.FollowLemmas.{at_most_127, has_root}
-use Rattle.dnsv_message.proofs.following.label_count.Goals as goal
+use Rattle.dnsv_message.proofs.name_ref.following.label_count.Goals as goal
 
 pub overflow_add-count : goal.overflow_add-count
 overflow_add-count c =

@@ -1,6 +1,6 @@
 use Rattle.std.proofs.Common.{◌≡◌, ◌++◌, length, map}
 use Rattle.dnsv_message.specs.Following.{StandsAt, labels_at}
-use Rattle.dnsv_message.proofs.following.labels_of.Given as goal
+use Rattle.dnsv_message.proofs.name_ref.following.labels_of.Given as goal
 
 -- what stands at the place are the labels that are not kept yet
 abbrev pub invariant-loop-next : goal.invariant-loop-next

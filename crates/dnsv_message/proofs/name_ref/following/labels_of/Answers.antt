@@ -1,7 +1,7 @@
 use Rattle.std.proofs.Common.{◌++◌, ◌∙◌, sym, ap, map, arith}
 use Rattle.std.proofs.lemmas.List.{append-nil, length-map}
 use Rattle.dnsv_message.proofs.FollowLemmas.{has_root, room_for_label}
-use Rattle.dnsv_message.proofs.following.labels_of.Goals as goal
+use Rattle.dnsv_message.proofs.name_ref.following.labels_of.Goals as goal
 
 pub push-requires : goal.push-requires
 push-requires c = (
