@@ -241,10 +241,10 @@ entry_is parts number key part its_key its_part =
 -- ---- what a table says of its entries
 
 -- the unknown entries, by their numbers
-pub unknown_listed : (parts : PartLists) (answers : List (EntryNumbers × Answer)) → map (λ (each : EntryNumbers × Answer). entry_of parts each.0) (filter (λ (each : EntryNumbers × Answer). is_unknown each.1) answers) ≡ map (λ (each : Entry × Answer). each.0) (filter (λ (each : Entry × Answer). is_unknown each.1) (answers_of parts answers))
+pub unknown_listed : (parts : PartLists) (answers : List (EntryNumbers × Answer)) → map (entry_of parts) (map (λ (each : EntryNumbers × Answer). each.0) (filter (λ (each : EntryNumbers × Answer). is_unknown each.1) answers)) ≡ map (λ (each : Entry × Answer). each.0) (filter (λ (each : Entry × Answer). is_unknown each.1) (answers_of parts answers))
 unknown_listed parts [] = refl
 unknown_listed parts (a ∷ answers) =
-    elim (is_unknown a.1) as (λ b. map (λ (each : EntryNumbers × Answer). entry_of parts each.0) (cond b (a ∷ filter (λ (each : EntryNumbers × Answer). is_unknown each.1) answers) (filter (λ (each : EntryNumbers × Answer). is_unknown each.1) answers)) ≡ map (λ (each : Entry × Answer). each.0) (cond b ((entry_of parts a.0, a.1) ∷ filter (λ (each : Entry × Answer). is_unknown each.1) (answers_of parts answers)) (filter (λ (each : Entry × Answer). is_unknown each.1) (answers_of parts answers)))) [
+    elim (is_unknown a.1) as (λ b. map (entry_of parts) (map (λ (each : EntryNumbers × Answer). each.0) (cond b (a ∷ filter (λ (each : EntryNumbers × Answer). is_unknown each.1) answers) (filter (λ (each : EntryNumbers × Answer). is_unknown each.1) answers))) ≡ map (λ (each : Entry × Answer). each.0) (cond b ((entry_of parts a.0, a.1) ∷ filter (λ (each : Entry × Answer). is_unknown each.1) (answers_of parts answers)) (filter (λ (each : Entry × Answer). is_unknown each.1) (answers_of parts answers)))) [
       | true ↦ ap (λ rest. entry_of parts a.0 ∷ rest) (unknown_listed parts answers)
       | false ↦ unknown_listed parts answers
     ]
@@ -258,21 +258,21 @@ filter_pushed (b ∷ answers) a =
     ]
 
 -- an answer more
-unknown_more : (parts : PartLists) (answers : List (EntryNumbers × Answer)) (i : ℕ) (d : EntryNumbers × Answer) → i < length answers → map (λ (each : EntryNumbers × Answer). entry_of parts each.0) (filter (λ (each : EntryNumbers × Answer). is_unknown each.1) (take (i + 1) answers)) ≡ map (λ (each : EntryNumbers × Answer). entry_of parts each.0) (filter (λ (each : EntryNumbers × Answer). is_unknown each.1) (take i answers)) ++ map (λ (each : EntryNumbers × Answer). entry_of parts each.0) (cond (is_unknown (get_or answers i d).1) (get_or answers i d ∷ []) [])
-unknown_more parts answers i d within =
-    ap (λ xs. map (λ (each : EntryNumbers × Answer). entry_of parts each.0) (filter (λ (each : EntryNumbers × Answer). is_unknown each.1) xs)) (take_more answers i d within)
-    ∙ ap (map (λ (each : EntryNumbers × Answer). entry_of parts each.0)) (filter_pushed (take i answers) (get_or answers i d))
-    ∙ map-append (λ (each : EntryNumbers × Answer). entry_of parts each.0) (filter (λ (each : EntryNumbers × Answer). is_unknown each.1) (take i answers)) (cond (is_unknown (get_or answers i d).1) (get_or answers i d ∷ []) [])
+module _ {X : Type 0} (f : EntryNumbers × Answer → X) (answers : List (EntryNumbers × Answer)) (i : ℕ) (d : EntryNumbers × Answer) (within : i < length answers) where
+  unknown_more : map f (filter (λ (each : EntryNumbers × Answer). is_unknown each.1) (take (i + 1) answers)) ≡ map f (filter (λ (each : EntryNumbers × Answer). is_unknown each.1) (take i answers)) ++ map f (cond (is_unknown (get_or answers i d).1) (get_or answers i d ∷ []) [])
+  unknown_more =
+      ap (λ xs. map f (filter (λ (each : EntryNumbers × Answer). is_unknown each.1) xs)) (take_more answers i d within)
+      ∙ ap (map f) (filter_pushed (take i answers) (get_or answers i d))
+      ∙ map-append f (filter (λ (each : EntryNumbers × Answer). is_unknown each.1) (take i answers)) (cond (is_unknown (get_or answers i d).1) (get_or answers i d ∷ []) [])
 
-module _ (parts : PartLists) (answers : List (EntryNumbers × Answer)) (i : ℕ) (d : EntryNumbers × Answer) (within : i < length answers) where
-  pub one_unknown_more : (get_or answers i d).1 ≡ Unknown → map (λ (each : EntryNumbers × Answer). entry_of parts each.0) (filter (λ (each : EntryNumbers × Answer). is_unknown each.1) (take i answers)) ++ entry_of parts (get_or answers i d).0 ∷ [] ≡ map (λ (each : EntryNumbers × Answer). entry_of parts each.0) (filter (λ (each : EntryNumbers × Answer). is_unknown each.1) (take (i + 1) answers))
+  pub one_unknown_more : (get_or answers i d).1 ≡ Unknown → map f (filter (λ (each : EntryNumbers × Answer). is_unknown each.1) (take i answers)) ++ f (get_or answers i d) ∷ [] ≡ map f (filter (λ (each : EntryNumbers × Answer). is_unknown each.1) (take (i + 1) answers))
   one_unknown_more unknown =
-      sym (unknown_more parts answers i d within ∙ ap (λ t. map (λ (each : EntryNumbers × Answer). entry_of parts each.0) (filter (λ (each : EntryNumbers × Answer). is_unknown each.1) (take i answers)) ++ map (λ (each : EntryNumbers × Answer). entry_of parts each.0) (cond t (get_or answers i d ∷ []) [])) (ap is_unknown unknown))
+      sym (unknown_more ∙ ap (λ t. map f (filter (λ (each : EntryNumbers × Answer). is_unknown each.1) (take i answers)) ++ map f (cond t (get_or answers i d ∷ []) [])) (ap is_unknown unknown))
 
-  pub none_unknown_more : is_unknown (get_or answers i d).1 ≡ false → map (λ (each : EntryNumbers × Answer). entry_of parts each.0) (filter (λ (each : EntryNumbers × Answer). is_unknown each.1) (take i answers)) ≡ map (λ (each : EntryNumbers × Answer). entry_of parts each.0) (filter (λ (each : EntryNumbers × Answer). is_unknown each.1) (take (i + 1) answers))
+  pub none_unknown_more : is_unknown (get_or answers i d).1 ≡ false → map f (filter (λ (each : EntryNumbers × Answer). is_unknown each.1) (take i answers)) ≡ map f (filter (λ (each : EntryNumbers × Answer). is_unknown each.1) (take (i + 1) answers))
   none_unknown_more known =
-      sym (unknown_more parts answers i d within ∙ ap (λ t. map (λ (each : EntryNumbers × Answer). entry_of parts each.0) (filter (λ (each : EntryNumbers × Answer). is_unknown each.1) (take i answers)) ++ map (λ (each : EntryNumbers × Answer). entry_of parts each.0) (cond t (get_or answers i d ∷ []) [])) known
-      ∙ append-nil (map (λ (each : EntryNumbers × Answer). entry_of parts each.0) (filter (λ (each : EntryNumbers × Answer). is_unknown each.1) (take i answers))))
+      sym (unknown_more ∙ ap (λ t. map f (filter (λ (each : EntryNumbers × Answer). is_unknown each.1) (take i answers)) ++ map f (cond t (get_or answers i d ∷ []) [])) known
+      ∙ append-nil (map f (filter (λ (each : EntryNumbers × Answer). is_unknown each.1) (take i answers))))
 
 pub not_unknown : (a : Answer) → (a ≡ Unknown → ⊥) → is_unknown a ≡ false
 not_unknown Unknown other = absurd (other refl)

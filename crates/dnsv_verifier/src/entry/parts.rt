@@ -51,7 +51,7 @@ pub(crate) struct EntryNumbers {
 }
 
 /// The parts of entries, each once. Both kinds rise, so that a part's number is its place.
-#[derive(Drop)]
+#[derive(Debug, Drop)]
 pub(crate) struct Parts {
     keys: Vec<KeyPart>,
     signatures: Vec<Rc<SignaturePart>>,
