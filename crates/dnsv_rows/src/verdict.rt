@@ -97,8 +97,8 @@ fn with_records(alloc: Global, word: &str, proof: &Proof) -> Result<String, RowE
 /// What is pending by the signatures of the entries.
 fn with_signatures(alloc: Global, entries: &Entries) -> Result<String, RowError> {
     let mut text = String::from_str(alloc, "Pending")?;
-    for entry in entries.as_slice() {
-        let signature = printed::octets(alloc, entry.signature.as_slice())?;
+    for place in 0..entries.len() {
+        let signature = printed::octets(alloc, entries.at(place).signature())?;
         text = format!(in alloc; "{text} {signature}")?;
     }
     Ok(text)

@@ -7,8 +7,8 @@ use dnsv_canonical::Rrset;
 use dnsv_names::Count;
 use dnsv_records::{Algorithm, Octets};
 use dnsv_verifier::{
-    Answer, Entry, KeyRecord, Panel, Statements, StatementsError, Table, Verifier, ask_all,
-    is_admissible, is_verifiable, may_have_made,
+    Answer, BorrowedEntry, Entry, KeyRecord, Panel, Statements, StatementsError, Table, Verifier,
+    ask_all, is_admissible, is_verifiable, may_have_made,
 };
 use std::alloc::Global;
 
@@ -84,17 +84,18 @@ fn table(row: &Row) -> Result<String, RowError> {
     let alloc = row.alloc();
     let table = table_of(row, &mut Count::new())?;
     let mut texts = Vec::new(alloc);
-    for entry in &table.unknown(alloc)? {
-        texts.push(text_of(alloc, entry)?)?;
+    let unknown = table.unknown(alloc)?;
+    for place in 0..unknown.len() {
+        texts.push(text_of(alloc, &unknown.at(place))?)?;
     }
     printed::list(alloc, texts.as_slice())
 }
 
-fn text_of(alloc: Global, entry: &Entry) -> Result<String, RowError> {
-    let algorithm = entry.algorithm.0;
-    let key = printed::octets(alloc, entry.key.as_slice())?;
-    let signed_data = printed::octets(alloc, entry.signed_data.as_slice())?;
-    let signature = printed::octets(alloc, entry.signature.as_slice())?;
+fn text_of(alloc: Global, entry: &BorrowedEntry<'_>) -> Result<String, RowError> {
+    let algorithm = entry.algorithm().0;
+    let key = printed::octets(alloc, entry.key())?;
+    let signed_data = printed::octets(alloc, entry.signed_data())?;
+    let signature = printed::octets(alloc, entry.signature())?;
     Ok(format!(in alloc; "{algorithm}:{key}:{signed_data}:{signature}")?)
 }
 

@@ -16,7 +16,7 @@ use dnsv_canonical::Capture;
 use dnsv_chain::{Anchors, Trust, trust_depends_on_what_is_asked, trusted};
 use dnsv_denial::{Hashes, View};
 use dnsv_names::{Count, Name, RecordType};
-use dnsv_verifier::{Entries, Table, a_table_is_its_verifier, unknown_entries_may_turn_out_valid};
+use dnsv_verifier::{Table, a_table_is_its_verifier, unknown_entries_may_turn_out_valid};
 use std::alloc::{AllocError, Global};
 
 /// What questions are judged by: the evidence, the trust anchors, and what the verifier says at the moment.
@@ -57,7 +57,7 @@ pub fn verdict_at(
     }
     if may_be_settled(alloc, grounds, &hashes, name, rtype)? {
         let unknown = grounds.table.unknown(alloc)?;
-        return Ok(Verdict::Pending(Entries::from_vec(unknown)));
+        return Ok(Verdict::Pending(unknown));
     }
     if has_anchor(grounds.anchors, name) {
         return Ok(Verdict::Bogus);

@@ -8,7 +8,7 @@ use Rattle.dnsv_records.specs.Rrsig.{IsRrsig}
 use Rattle.dnsv_records.specs.declared.rrsig.Rrsig.{Rrsig}
 use Rattle.dnsv_records.proofs.OneRecord.{one_rrsig}
 use Rattle.dnsv_verifier.specs.Admissible.{DnskeyRecord, IsAsked, IsEntryOf, IsSignatureOf, MayHaveMade}
-use Rattle.dnsv_verifier.specs.Asking.{AddsJust, AreKeysOf, ComesOfSome, IsEntryBy, IsEntryOfMade, IsMadeIn, IsMadeOf, IsPartOf, MadeSignature}
+use Rattle.dnsv_verifier.specs.Asking.{AddsJust, AreKeysOf, ComesOfSome, IsEntryOfMade, IsMadeIn, IsMadeOf, IsPartOf, MadeSignature}
 use Rattle.dnsv_verifier.specs.declared.entry.Entry.{Entry}
 use Rattle.dnsv_verifier.specs.declared.entry.parts.SignaturePart.{SignaturePart}
 use Rattle.dnsv_verifier.proofs.AskLemmas.{adds_same, zip_at, zip_length}
@@ -140,12 +140,3 @@ module _ (moment : ℕ) (rrsets : List ReceivedRrset) (keys : List DnskeyRecord)
         (adds.only entry found),
     λ asked. adds.added entry (made_by entry asked),
   )
-
--- the keys that a signature names are enough
-pub adds_named : (made : MadeSignature) (keys named : List DnskeyRecord) → ((key : DnskeyRecord) → Contains named key → Contains keys key)
-    → ((key : DnskeyRecord) → Contains keys key → MayHaveMade key made.rrsig → Contains named key)
-    → (a b : List Entry) → AddsJust (ComesOfSome (IsEntryBy made.rrsig made.part) named) a b → AddsJust (IsEntryOfMade keys made) a b
-adds_named made keys named among all a b adds =
-    adds_same (ComesOfSome (IsEntryBy made.rrsig made.part) named) (IsEntryOfMade keys made) a b adds
-    (λ entry comes. record { source = comes.source; among = among comes.source comes.among; is = comes.is })
-    (λ entry comes. record { source = comes.source; among = all comes.source comes.among comes.is.made; is = comes.is })

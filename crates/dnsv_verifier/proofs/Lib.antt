@@ -5,6 +5,7 @@ pub mod HexFieldLemmas
 pub mod KeyLemmas
 pub mod NamedLemmas
 pub mod NumberLemmas
+pub mod NumberedLemmas
 pub mod PanelLemmas
 pub mod SearchLemmas
 pub mod StatementLemmas

@@ -1,23 +1,24 @@
 -- Entries by numbers: they rise as their numbers do, and have the members that their numbers stand for.
-use Rattle.std.proofs.Common.{◌≡◌, ◌↔◌, ◌⊎◌, ℕ, ◌+◌, ◌<◌, take, ⊎_elim, inl, inr, List, [], ◌∷◌, ◌++◌, ◌&&◌, length, get_or, zero, suc, cond, map, refl, sym, ap, ◌∙◌, subst, arith, true, false, Result, Ok, nat_eq}
+use Rattle.std.proofs.Common.{◌≡◌, ◌↔◌, ◌⊎◌, ℕ, ◌+◌, ◌<◌, take, ⊎_elim, inl, inr, List, [], ◌∷◌, ◌++◌, ◌&&◌, length, get_or, zero, suc, cond, map, refl, sym, ap, ◌∙◌, subst, arith, true, false, nat_eq}
 use Rattle.std.proofs.lemmas.Bool.{cases_order}
 use Rattle.std.proofs.lemmas.Bool.Decides.{nat_tests}
 use Rattle.std.proofs.lemmas.Cmp.{eq_by_cmp_equiv, nat_cmp_total, nat_list_cmp_total, on_total, then_total, tied_itself}
-use Rattle.std.proofs.lemmas.List.{append-nil, get_or-map, length-map, map-append, take_more}
-use Rattle.std.proofs.lemmas.List.Elements.{Contains-push_cases}
-use Rattle.std.proofs.lemmas.List.Kept.{Contains-dedup, Contains-from_dedup, IsStrictlySortedBy-dedup}
+use Rattle.std.proofs.lemmas.List.{append-nil, get_or-map, length-map, map-append, map-id, take_more}
+use Rattle.std.proofs.lemmas.List.Kept.{Any-dedup, Contains-dedup, Contains-from_dedup, IsStrictlySortedBy-dedup}
 use Rattle.std.proofs.lemmas.List.Sorted.{Contains-permutation, IsPermutation-sym}
 use Rattle.std.proofs.lemmas.Map.Keys.{Less-from_sorted}
 use Rattle.std.specs.Cmp.{IsTotalOrder, both_tied, nat_cmp_is}
+use Rattle.std.specs.Cmp.Derive.{then_next}
 use Rattle.std.specs.Cmp.Lexicographic.{pointwise, texts_ties}
 use Rattle.std.specs.List.{AllByRecursion, Contains, HoldsAt, dedup, filter}
-use Rattle.std.specs.List.Sorted.{IsBinarySearchResult, IsPermutation, IsSearchInRange, IsSorted, IsStrictlySortedBy}
+use Rattle.std.specs.List.Sorted.{IsPermutation, IsSorted, IsStrictlySortedBy}
 use Rattle.std.specs.Ordering.{eq_by_cmp, is_eq, nat_cmp, ordering_then}
 use Rattle.std.specs.declared.cmp.Ordering.{Ordering}
 use Rattle.std.specs.declared.cmp.Ordering.TheVariants.{Less, Equal, Greater}
 use Rattle.dnsv_names.specs.Octets.{octets_cmp}
 use Rattle.dnsv_canonical.proofs.CanonicalLemmas.{IsMember, IsMember-from_contains, Contains-from_member}
 use Rattle.dnsv_verifier.specs.Entry.{entry_cmp}
+use Rattle.dnsv_verifier.specs.EntryLaws.{octet_Equal, octets_Equal, then_Equal}
 use Rattle.dnsv_verifier.specs.Numbers.{AllOfParts, AreOfParts, PartLists, answers_of, entry_of, key_cmp, key_of, numbers_cmp, signature_cmp, signature_of}
 use Rattle.dnsv_verifier.specs.Table.{hoped_answer, is_unknown}
 use Rattle.dnsv_verifier.specs.declared.answer.Answer.{Answer}
@@ -26,7 +27,7 @@ use Rattle.dnsv_verifier.specs.declared.entry.Entry.{Entry}
 use Rattle.dnsv_verifier.specs.declared.entry.parts.EntryNumbers.{EntryNumbers}
 use Rattle.dnsv_verifier.specs.declared.entry.parts.KeyPart.{KeyPart}
 use Rattle.dnsv_verifier.specs.declared.entry.parts.SignaturePart.{SignaturePart}
-use Rattle.dnsv_verifier.proofs.TableLemmas.{answered, member-map, unknown_stands}
+use Rattle.dnsv_verifier.proofs.TableLemmas.{answered, is_eq-Equal, member-map, unknown_stands}
 
 -- ---- members of mapped lists
 
@@ -72,17 +73,12 @@ pub numbers_cmp_total : IsTotalOrder numbers_cmp
 numbers_cmp_total =
     then_total (on_total (λ (each : EntryNumbers). each.key) nat_cmp_total) (on_total (λ (each : EntryNumbers). each.signature) nat_cmp_total)
 
-then_assoc : (p q r : Ordering) → ordering_then p (ordering_then q r) ≡ ordering_then (ordering_then p q) r
-then_assoc Less q r = refl
-then_assoc Equal q r = refl
-then_assoc Greater q r = refl
-
 -- entries are ordered by their keys and then by their signatures
 by_parts : (parts : PartLists) (a b : EntryNumbers) → ordering_then (key_cmp (key_of parts a.key) (key_of parts b.key)) (signature_cmp (signature_of parts a.signature) (signature_of parts b.signature)) ≡ entry_cmp (entry_of parts a) (entry_of parts b)
 by_parts parts a b =
-    then_assoc (key_cmp (key_of parts a.key) (key_of parts b.key))
+    then_next (key_cmp (key_of parts a.key) (key_of parts b.key))
     (octets_cmp (signature_of parts a.signature).signed_data (signature_of parts b.signature).signed_data)
-    (octets_cmp (signature_of parts a.signature).signature (signature_of parts b.signature).signature)
+    (octets_cmp (signature_of parts a.signature).signature (signature_of parts b.signature).signature) refl refl
 
 then_less : (p q : Ordering) → (p ≡ Less) → ordering_then p q ≡ Less
 then_less p q less = ap (λ o. ordering_then o q) less
@@ -131,31 +127,10 @@ module _ (parts : PartLists) (keys : IsStrictlySortedBy key_cmp parts.keys) (sig
 
 -- ---- putting numbers in order
 
-octet_Equal : (x y : ℕ) → nat_cmp x y ≡ Equal → x ≡ y
-octet_Equal x y e = grind (arith, nat_tests)
-
-then_Equal : (a b : Ordering) → ordering_then a b ≡ Equal → (a ≡ Equal) × (b ≡ Equal)
-then_Equal Equal b e = (refl, e)
-then_Equal Less b e = cc
-then_Equal Greater b e = cc
-
-octets_Equal : (xs ys : List ℕ) → octets_cmp xs ys ≡ Equal → xs ≡ ys
-octets_Equal [] [] e = refl
-octets_Equal [] (y ∷ ys) e = cc
-octets_Equal (x ∷ xs) [] e = cc
-octets_Equal (x ∷ xs) (y ∷ ys) e =
-    let both = then_Equal (nat_cmp x y) (octets_cmp xs ys) e in
-    ap (λ z. z ∷ xs) (octet_Equal x y both.0) ∙ ap (λ zs. y ∷ zs) (octets_Equal xs ys both.1)
-
 numbers_Equal : (a b : EntryNumbers) → numbers_cmp a b ≡ Equal → a ≡ b
 numbers_Equal a b e =
     let both = then_Equal (nat_cmp a.key b.key) (nat_cmp a.signature b.signature) e in
     λ i. record { key = octet_Equal a.key b.key both.0 i; signature = octet_Equal a.signature b.signature both.1 i }
-
-is_eq-Equal : (order : Ordering) → is_eq order ≡ true → order ≡ Equal
-is_eq-Equal Equal e = refl
-is_eq-Equal Less e = cc
-is_eq-Equal Greater e = cc
 
 exact_numbers : (a b : EntryNumbers) → eq_by_cmp numbers_cmp a b ≡ true → a ≡ b
 exact_numbers a b e = numbers_Equal a b (is_eq-Equal (numbers_cmp a b) e)
@@ -169,10 +144,6 @@ same_numbers numbers sorted distinct moves is each = (
 
 pub all_moved : (parts : PartLists) (numbers moved : List EntryNumbers) → ((each : EntryNumbers) → Contains moved each ↔ Contains numbers each) → AllOfParts parts numbers → AllOfParts parts moved
 all_moved parts numbers moved same all each found = all each ((same each).0 found)
-
-pub all_pushed : (parts : PartLists) (numbers : List EntryNumbers) (more : EntryNumbers) → AreOfParts parts more → AllOfParts parts numbers → AllOfParts parts (numbers ++ more ∷ [])
-all_pushed parts numbers more of all each found =
-    ⊎_elim (λ (before : Contains numbers each). all each before) (λ (same : more ≡ each). subst (λ (n : EntryNumbers). AreOfParts parts n) same of) (Contains-push_cases numbers more each found)
 
 -- ---- looking for a part
 
@@ -192,19 +163,12 @@ held_mapped f P [] k e within holds = absurd (omega (arith, within))
 held_mapped f P (x ∷ xs) zero e within holds = holds x
 held_mapped f P (x ∷ xs) (suc k) e within holds = held_mapped f P xs k e (omega (arith, within)) holds
 
-pub key_found : (keys : List KeyPart) (asked : KeyPart) (result : Result ℕ ℕ) → IsBinarySearchResult (λ part. key_cmp part asked) keys result → (number : ℕ) (d : KeyPart) → result ≡ Ok number → get_or keys number d ≡ asked
-key_found keys asked result position number d is =
-    let holds : HoldsAt (λ part. key_cmp part asked ≡ Equal) keys number = subst (λ (r : Result ℕ ℕ). IsBinarySearchResult (λ part. key_cmp part asked) keys r) is position in
-    key_Equal (get_or keys number d) asked (holds d)
+pub key_found : (keys : List KeyPart) (asked : KeyPart) (number : ℕ) (d : KeyPart) → HoldsAt (λ part. key_cmp part asked ≡ Equal) keys number → get_or keys number d ≡ asked
+key_found keys asked number d holds = key_Equal (get_or keys number d) asked (holds d)
 
-pub signature_found : {X : Type 0} (value : X → SignaturePart) (signatures : List X) (asked : SignaturePart) (result : Result ℕ ℕ) → IsSearchInRange result (length signatures) → IsBinarySearchResult (λ x. signature_cmp (value x) asked) signatures result → (number : ℕ) (d : SignaturePart) → result ≡ Ok number → get_or (map value signatures) number d ≡ asked
-signature_found value signatures asked result bound position number d is =
-    let holds : HoldsAt (λ x. signature_cmp (value x) asked ≡ Equal) signatures number = subst (λ (r : Result ℕ ℕ). IsBinarySearchResult (λ x. signature_cmp (value x) asked) signatures r) is position in
-    let within : number < length signatures = subst (λ (r : Result ℕ ℕ). IsSearchInRange r (length signatures)) is bound in
+pub signature_found : {X : Type 0} (value : X → SignaturePart) (signatures : List X) (asked : SignaturePart) (number : ℕ) (d : SignaturePart) → number < length signatures → HoldsAt (λ x. signature_cmp (value x) asked ≡ Equal) signatures number → get_or (map value signatures) number d ≡ asked
+signature_found value signatures asked number d within holds =
     signature_Equal (get_or (map value signatures) number d) asked (held_mapped value (λ part. signature_cmp part asked ≡ Equal) signatures number d within holds)
-
-pub found_within : {X : Type 0} (xs : List X) (result : Result ℕ ℕ) → IsSearchInRange result (length xs) → (number : ℕ) → result ≡ Ok number → number < length xs
-found_within xs result bound number is = subst (λ (r : Result ℕ ℕ). IsSearchInRange r (length xs)) is bound
 
 -- ---- putting parts in order
 
@@ -246,6 +210,25 @@ rising_signatures value sorted kept ordered is =
 pub rising_numbers : (sorted kept : List EntryNumbers) → IsSorted numbers_cmp sorted → kept ≡ dedup (λ x y. nat_eq x.key y.key && nat_eq x.signature y.signature) sorted → IsStrictlySortedBy numbers_cmp kept
 rising_numbers sorted kept ordered is = subst (IsStrictlySortedBy numbers_cmp) (sym is) (IsStrictlySortedBy-dedup numbers_cmp_total numbers_ties sorted ordered)
 
+-- sorting and dropping repeats keeps what each is seen as
+kept_value : {X K : Type 0} (cmp : K → K → Ordering) → IsTotalOrder cmp → ((a b : K) → cmp a b ≡ Equal → a ≡ b) → (value : X → K) (received sorted kept : List X) → IsPermutation received sorted → kept ≡ dedup (λ x y. eq_by_cmp cmp (value x) (value y)) sorted → (k : K) → Contains (map value received) k → Contains (map value kept) k
+kept_value {X} cmp total exact value received sorted kept moves is k found =
+    let from = contains_from_map value received k found in
+    let any = Any-dedup (eq_by_cmp_equiv (on_total value total)) sorted from.0 (Contains-permutation received sorted from.0 moves from.1) in
+    let same : value from.0 ≡ value any.1 = exact (value from.0) (value any.1) (is_eq-Equal (cmp (value from.0) (value any.1)) any.4) in
+    let there : Contains kept any.1 = subst (λ (xs : List X). Contains xs any.1) (sym is) (any.0, any.2, any.3) in
+    subst (λ v. Contains (map value kept) v) (sym same ∙ from.2) (contains_map value kept any.1 there)
+
+pub kept_keys : (received sorted kept : List KeyPart) → IsPermutation received sorted → kept ≡ dedup (λ x y. nat_eq x.algorithm.0 y.algorithm.0 && pointwise nat_eq x.key y.key) sorted → (part : KeyPart) → Contains received part → Contains kept part
+kept_keys received sorted kept moves is part found =
+    subst (λ (parts : List KeyPart). Contains parts part) (map-id kept)
+    (kept_value key_cmp key_cmp_total key_Equal (λ part. part) received sorted kept moves (is ∙ (λ i. dedup (λ x y. key_ties x y i) sorted)) part
+    (subst (λ (parts : List KeyPart). Contains parts part) (sym (map-id received)) found))
+
+pub kept_signatures : {X : Type 0} (value : X → SignaturePart) (received sorted kept : List X) → IsPermutation received sorted → kept ≡ dedup (λ x y. pointwise nat_eq (value x).signed_data (value y).signed_data && pointwise nat_eq (value x).signature (value y).signature) sorted → (part : SignaturePart) → Contains (map value received) part → Contains (map value kept) part
+kept_signatures value received sorted kept moves is =
+    kept_value signature_cmp signature_cmp_total signature_Equal value received sorted kept moves (is ∙ (λ i. dedup (λ x y. signature_ties (value x) (value y) i) sorted))
+
 pub kept_numbers : (sorted kept : List EntryNumbers) → kept ≡ dedup (λ x y. nat_eq x.key y.key && nat_eq x.signature y.signature) sorted → kept ≡ dedup (eq_by_cmp numbers_cmp) sorted
 kept_numbers sorted kept is = is ∙ (λ i. dedup (λ x y. numbers_ties x y i) sorted)
 
@@ -258,10 +241,10 @@ entry_is parts number key part its_key its_part =
 -- ---- what a table says of its entries
 
 -- the unknown entries, by their numbers
-pub unknown_listed : (parts : PartLists) (answers : List (EntryNumbers × Answer)) → map (λ (each : EntryNumbers × Answer). entry_of parts each.0) (filter (λ (each : EntryNumbers × Answer). is_unknown each.1) answers) ≡ map (λ (each : Entry × Answer). each.0) (filter (λ (each : Entry × Answer). is_unknown each.1) (answers_of parts answers))
+pub unknown_listed : (parts : PartLists) (answers : List (EntryNumbers × Answer)) → map (entry_of parts) (map (λ (each : EntryNumbers × Answer). each.0) (filter (λ (each : EntryNumbers × Answer). is_unknown each.1) answers)) ≡ map (λ (each : Entry × Answer). each.0) (filter (λ (each : Entry × Answer). is_unknown each.1) (answers_of parts answers))
 unknown_listed parts [] = refl
 unknown_listed parts (a ∷ answers) =
-    elim (is_unknown a.1) as (λ b. map (λ (each : EntryNumbers × Answer). entry_of parts each.0) (cond b (a ∷ filter (λ (each : EntryNumbers × Answer). is_unknown each.1) answers) (filter (λ (each : EntryNumbers × Answer). is_unknown each.1) answers)) ≡ map (λ (each : Entry × Answer). each.0) (cond b ((entry_of parts a.0, a.1) ∷ filter (λ (each : Entry × Answer). is_unknown each.1) (answers_of parts answers)) (filter (λ (each : Entry × Answer). is_unknown each.1) (answers_of parts answers)))) [
+    elim (is_unknown a.1) as (λ b. map (entry_of parts) (map (λ (each : EntryNumbers × Answer). each.0) (cond b (a ∷ filter (λ (each : EntryNumbers × Answer). is_unknown each.1) answers) (filter (λ (each : EntryNumbers × Answer). is_unknown each.1) answers))) ≡ map (λ (each : Entry × Answer). each.0) (cond b ((entry_of parts a.0, a.1) ∷ filter (λ (each : Entry × Answer). is_unknown each.1) (answers_of parts answers)) (filter (λ (each : Entry × Answer). is_unknown each.1) (answers_of parts answers)))) [
       | true ↦ ap (λ rest. entry_of parts a.0 ∷ rest) (unknown_listed parts answers)
       | false ↦ unknown_listed parts answers
     ]
@@ -275,21 +258,21 @@ filter_pushed (b ∷ answers) a =
     ]
 
 -- an answer more
-unknown_more : (parts : PartLists) (answers : List (EntryNumbers × Answer)) (i : ℕ) (d : EntryNumbers × Answer) → i < length answers → map (λ (each : EntryNumbers × Answer). entry_of parts each.0) (filter (λ (each : EntryNumbers × Answer). is_unknown each.1) (take (i + 1) answers)) ≡ map (λ (each : EntryNumbers × Answer). entry_of parts each.0) (filter (λ (each : EntryNumbers × Answer). is_unknown each.1) (take i answers)) ++ map (λ (each : EntryNumbers × Answer). entry_of parts each.0) (cond (is_unknown (get_or answers i d).1) (get_or answers i d ∷ []) [])
-unknown_more parts answers i d within =
-    ap (λ xs. map (λ (each : EntryNumbers × Answer). entry_of parts each.0) (filter (λ (each : EntryNumbers × Answer). is_unknown each.1) xs)) (take_more answers i d within)
-    ∙ ap (map (λ (each : EntryNumbers × Answer). entry_of parts each.0)) (filter_pushed (take i answers) (get_or answers i d))
-    ∙ map-append (λ (each : EntryNumbers × Answer). entry_of parts each.0) (filter (λ (each : EntryNumbers × Answer). is_unknown each.1) (take i answers)) (cond (is_unknown (get_or answers i d).1) (get_or answers i d ∷ []) [])
+module _ {X : Type 0} (f : EntryNumbers × Answer → X) (answers : List (EntryNumbers × Answer)) (i : ℕ) (d : EntryNumbers × Answer) (within : i < length answers) where
+  unknown_more : map f (filter (λ (each : EntryNumbers × Answer). is_unknown each.1) (take (i + 1) answers)) ≡ map f (filter (λ (each : EntryNumbers × Answer). is_unknown each.1) (take i answers)) ++ map f (cond (is_unknown (get_or answers i d).1) (get_or answers i d ∷ []) [])
+  unknown_more =
+      ap (λ xs. map f (filter (λ (each : EntryNumbers × Answer). is_unknown each.1) xs)) (take_more answers i d within)
+      ∙ ap (map f) (filter_pushed (take i answers) (get_or answers i d))
+      ∙ map-append f (filter (λ (each : EntryNumbers × Answer). is_unknown each.1) (take i answers)) (cond (is_unknown (get_or answers i d).1) (get_or answers i d ∷ []) [])
 
-module _ (parts : PartLists) (answers : List (EntryNumbers × Answer)) (i : ℕ) (d : EntryNumbers × Answer) (within : i < length answers) where
-  pub one_unknown_more : (get_or answers i d).1 ≡ Unknown → map (λ (each : EntryNumbers × Answer). entry_of parts each.0) (filter (λ (each : EntryNumbers × Answer). is_unknown each.1) (take i answers)) ++ entry_of parts (get_or answers i d).0 ∷ [] ≡ map (λ (each : EntryNumbers × Answer). entry_of parts each.0) (filter (λ (each : EntryNumbers × Answer). is_unknown each.1) (take (i + 1) answers))
+  pub one_unknown_more : (get_or answers i d).1 ≡ Unknown → map f (filter (λ (each : EntryNumbers × Answer). is_unknown each.1) (take i answers)) ++ f (get_or answers i d) ∷ [] ≡ map f (filter (λ (each : EntryNumbers × Answer). is_unknown each.1) (take (i + 1) answers))
   one_unknown_more unknown =
-      sym (unknown_more parts answers i d within ∙ ap (λ t. map (λ (each : EntryNumbers × Answer). entry_of parts each.0) (filter (λ (each : EntryNumbers × Answer). is_unknown each.1) (take i answers)) ++ map (λ (each : EntryNumbers × Answer). entry_of parts each.0) (cond t (get_or answers i d ∷ []) [])) (ap is_unknown unknown))
+      sym (unknown_more ∙ ap (λ t. map f (filter (λ (each : EntryNumbers × Answer). is_unknown each.1) (take i answers)) ++ map f (cond t (get_or answers i d ∷ []) [])) (ap is_unknown unknown))
 
-  pub none_unknown_more : is_unknown (get_or answers i d).1 ≡ false → map (λ (each : EntryNumbers × Answer). entry_of parts each.0) (filter (λ (each : EntryNumbers × Answer). is_unknown each.1) (take i answers)) ≡ map (λ (each : EntryNumbers × Answer). entry_of parts each.0) (filter (λ (each : EntryNumbers × Answer). is_unknown each.1) (take (i + 1) answers))
+  pub none_unknown_more : is_unknown (get_or answers i d).1 ≡ false → map f (filter (λ (each : EntryNumbers × Answer). is_unknown each.1) (take i answers)) ≡ map f (filter (λ (each : EntryNumbers × Answer). is_unknown each.1) (take (i + 1) answers))
   none_unknown_more known =
-      sym (unknown_more parts answers i d within ∙ ap (λ t. map (λ (each : EntryNumbers × Answer). entry_of parts each.0) (filter (λ (each : EntryNumbers × Answer). is_unknown each.1) (take i answers)) ++ map (λ (each : EntryNumbers × Answer). entry_of parts each.0) (cond t (get_or answers i d ∷ []) [])) known
-      ∙ append-nil (map (λ (each : EntryNumbers × Answer). entry_of parts each.0) (filter (λ (each : EntryNumbers × Answer). is_unknown each.1) (take i answers))))
+      sym (unknown_more ∙ ap (λ t. map f (filter (λ (each : EntryNumbers × Answer). is_unknown each.1) (take i answers)) ++ map f (cond t (get_or answers i d ∷ []) [])) known
+      ∙ append-nil (map f (filter (λ (each : EntryNumbers × Answer). is_unknown each.1) (take i answers))))
 
 pub not_unknown : (a : Answer) → (a ≡ Unknown → ⊥) → is_unknown a ≡ false
 not_unknown Unknown other = absurd (other refl)

@@ -28,7 +28,7 @@ answered meaning entries = map (λ entry. (entry, meaning entry)) entries
 pub same_entry_equiv : IsEquivalence (eq_by_cmp entry_cmp)
 same_entry_equiv = eq_by_cmp_equiv entry_cmp_total
 
-is_eq-Equal : (order : Ordering) → is_eq order ≡ true → order ≡ Equal
+pub is_eq-Equal : (order : Ordering) → is_eq order ≡ true → order ≡ Equal
 is_eq-Equal Equal e = refl
 is_eq-Equal Less e = cc
 is_eq-Equal Greater e = cc

@@ -1,9 +1,10 @@
 -- How the entries that are asked are found. No public clause cites this module.
-use Rattle.std.specs.Prelude.{◌≡◌, ◌↔◌, ◌⊎◌, ℕ, List, Contains, Some}
+use Rattle.std.specs.Prelude.{◌≡◌, ◌↔◌, ◌⊎◌, ⊤, ℕ, IsTrue, IsBitSet, List, Contains, Some}
 use Rattle.std.specs.Ordering.{nat_cmp, ordering_then}
 use Rattle.std.specs.declared.cmp.Ordering.{Ordering}
 use Rattle.dnsv_names.specs.Name.{Labels}
 use Rattle.dnsv_names.specs.Order.{canonical_cmp}
+use Rattle.dnsv_records.specs.Algorithm.{is_supported}
 use Rattle.dnsv_records.specs.Dnskey.{IsDnskey}
 use Rattle.dnsv_records.specs.Dnskey.KeyTag.{key_tag_of}
 use Rattle.dnsv_records.specs.declared.rrsig.Rrsig.{Rrsig}
@@ -24,6 +25,21 @@ pub record ComesOfSome {Y X : Type 0} (P : Y → X → Type 0) (ys : List Y) (x 
   pub source : Y
   pub among : Contains ys source
   pub is : P source x
+
+-- the new list has what the old one has, and besides only what y gives; it has something of y where Q asks for that
+pub record GivesMore {Y X : Type 0} (P : Y → X → Type 0) (Q : Y → Type 0) (y : Y) (old new : List X) : Type 0 where
+  pub kept : (x : X) → Contains old x → Contains new x
+  pub only : (x : X) → Contains new x → Contains old x ⊎ P y x
+  pub all : Q y → (x : X) × Contains new x × P y x
+
+-- each member of xs comes of one of ys, and has one for each of ys where Q asks for that
+pub record GivesEach {Y X : Type 0} (P : Y → X → Type 0) (Q : Y → Type 0) (ys : List Y) (xs : List X) : Type 0 where
+  pub only : (x : X) → Contains xs x → ComesOfSome P ys x
+  pub all : (y : Y) → Contains ys y → Q y → (x : X) × Contains xs x × P y x
+
+-- it is asked for of any
+abbrev pub IsAny : {Y : Type 0} → Y → Type 0
+IsAny y = ⊤
 
 -- the key is a record of the RRset
 pub record IsKeyOf (rrset : ReceivedRrset) (key : DnskeyRecord) : Type 0 where
@@ -54,6 +70,17 @@ abbrev pub key_name_cmp : KeyName → KeyName → Ordering
 key_name_cmp a b =
     ordering_then (ordering_then (nat_cmp a.tag b.tag) (nat_cmp a.algorithm b.algorithm))
     (canonical_cmp a.owner b.owner)
+
+-- what keys are named by, with a number
+pub record NumberedName : Type 0 where
+  pub name : KeyName
+  pub number : ℕ
+
+-- the key may have made some signature, as far as the key says (RFC 4034 2.1.1, 2.1.2)
+pub record CanSign (key : DnskeyRecord) : Type 0 where
+  pub protocol : key.dnskey.protocol ≡ 3
+  pub zone_key : IsBitSet key.dnskey.flags.0 8
+  pub supported : IsTrue (is_supported key.dnskey.algorithm.0)
 
 -- what the signature of the RRset gives to its entries
 pub record IsPartOf (rrset : ReceivedRrset) (rrsig : Rrsig) (part : SignaturePart) : Type 0 where

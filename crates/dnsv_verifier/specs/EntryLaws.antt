@@ -14,15 +14,15 @@ pub entry_cmp_total : IsTotalOrder entry_cmp
 entry_cmp_total =
     then_total (then_total (then_total (on_total (λ (e : Entry). e.algorithm.0) nat_cmp_total) (on_total (λ (e : Entry). e.key) nat_list_cmp_total)) (on_total (λ (e : Entry). e.signed_data) nat_list_cmp_total)) (on_total (λ (e : Entry). e.signature) nat_list_cmp_total)
 
-then_Equal : (a b : Ordering) → ordering_then a b ≡ Equal → (a ≡ Equal) × (b ≡ Equal)
+pub then_Equal : (a b : Ordering) → ordering_then a b ≡ Equal → (a ≡ Equal) × (b ≡ Equal)
 then_Equal Equal b e = (refl, e)
 then_Equal Less b e = cc
 then_Equal Greater b e = cc
 
-octet_Equal : (x y : ℕ) → nat_cmp x y ≡ Equal → x ≡ y
+pub octet_Equal : (x y : ℕ) → nat_cmp x y ≡ Equal → x ≡ y
 octet_Equal x y e = grind (arith, nat_tests)
 
-octets_Equal : (xs ys : List ℕ) → slice_cmp nat_cmp xs ys ≡ Equal → xs ≡ ys
+pub octets_Equal : (xs ys : List ℕ) → slice_cmp nat_cmp xs ys ≡ Equal → xs ≡ ys
 octets_Equal [] [] e = refl
 octets_Equal [] (y ∷ ys) e = cc
 octets_Equal (x ∷ xs) [] e = cc

@@ -1,9 +1,12 @@
 -- Entries by the numbers of their parts. No public clause cites this module.
-use Rattle.std.specs.Prelude.{◌<◌, ℕ, List, [], Contains, length, map}
+use Rattle.std.specs.Prelude.{◌≡◌, ◌<◌, ℕ, List, [], Contains, length, map}
 use lib.ListN.{get_or}
 use Rattle.std.specs.Ordering.{nat_cmp, ordering_then}
 use Rattle.std.specs.declared.cmp.Ordering.{Ordering}
+use Rattle.std.specs.declared.cmp.Ordering.TheVariants.{Equal}
 use Rattle.dnsv_names.specs.Octets.{octets_cmp}
+use Rattle.dnsv_verifier.specs.Admissible.{DnskeyRecord}
+use Rattle.dnsv_verifier.specs.Asking.{CanSign, ComesOfSome, MadeSignature, NumberedName, key_name_cmp, name_of_key, named_by}
 use Rattle.dnsv_verifier.specs.declared.answer.Answer.{Answer}
 use Rattle.dnsv_verifier.specs.declared.entry.Entry.{Entry}
 use Rattle.dnsv_verifier.specs.declared.entry.parts.EntryNumbers.{EntryNumbers}
@@ -59,3 +62,33 @@ AllOfParts parts numbers = (each : EntryNumbers) → Contains numbers each → A
 -- the entries with their answers
 abbrev pub answers_of : PartLists → List (EntryNumbers × Answer) → List (Entry × Answer)
 answers_of parts answers = map (λ each. (entry_of parts each.0, each.1)) answers
+
+-- what a key gives to its entries
+abbrev pub part_of_key : DnskeyRecord → KeyPart
+part_of_key key = record { algorithm = key.dnskey.algorithm; key = key.dnskey.key }
+
+-- the key can sign, and has this name and the number of its part
+pub record IsNumberedKey (parts : PartLists) (key : DnskeyRecord) (each : NumberedName) : Type 0 where
+  pub signs : CanSign key
+  pub same : each.name ≡ name_of_key key
+  pub value : key_of parts each.number ≡ part_of_key key
+  pub within : each.number < length parts.keys
+
+-- the signature names keys by this name, and has the number of its part
+pub record IsNumberedSignature (parts : PartLists) (made : MadeSignature) (each : NumberedName) : Type 0 where
+  pub same : each.name ≡ named_by made.rrsig
+  pub value : signature_of parts each.number ≡ made.part
+  pub within : each.number < length parts.signatures
+
+-- the pair of the key with the number and the signature
+abbrev pub IsPairOf : ℕ → NumberedName → EntryNumbers → Type 0
+IsPairOf key signature pair = pair ≡ record { key = key; signature = signature.number }
+
+-- the same, where the signature names the key
+pub record IsPairBy (key signature : NumberedName) (pair : EntryNumbers) : Type 0 where
+  pub named : key_name_cmp signature.name key.name ≡ Equal
+  pub is : IsPairOf key.number signature pair
+
+-- the pair is that of the key and one of the signatures that name it
+abbrev pub IsPairIn : List NumberedName → NumberedName → EntryNumbers → Type 0
+IsPairIn signatures key pair = ComesOfSome (IsPairBy key) signatures pair

@@ -6,15 +6,17 @@ mod numbers;
 ghost use Rattle.std.specs.Prelude.{◌≡◌, ◌↔◌, Contains, IfOk, OnErr, OnOk, length, map};
 ghost use Rattle.std.specs.List.Sorted.{IsStrictlySortedBy};
 ghost use Rattle.dnsv_names.specs.Count.{counted};
-ghost use Rattle.dnsv_verifier.specs.Admissible.{IsAsked};
+ghost use Rattle.dnsv_verifier.specs.Admissible.{DnskeyRecord, IsAsked};
+ghost use Rattle.dnsv_verifier.specs.Asking.{MadeSignature};
 ghost use Rattle.dnsv_verifier.specs.Entry.{entry_cmp};
-ghost use Rattle.dnsv_verifier.specs.Numbers.{entry_of};
+ghost use Rattle.dnsv_verifier.specs.Numbers.{entry_of, part_of_key};
 ghost use Rattle.dnsv_verifier.specs.Table.{IsTableOf};
 ghost use Rattle.dnsv_verifier.specs.declared.entry.Entry.{Entry};
 
 use crate::ask::made::{Made, made_signatures};
 use crate::ask::numbers::entry_numbers;
-use crate::entry::parts::{EntryNumbers, Parts};
+use crate::entry::parts::{EntryNumbers, KeyPart, Parts, SignaturePart};
+use crate::key::KeyRecord;
 use crate::key::keys::Keys;
 use crate::table::Table;
 use crate::verifier::Verifier;
@@ -71,8 +73,8 @@ fn asked_entries(alloc: Global, moment: u64, rrsets: &[Rrset]) -> Result<Asked, 
 {
     let keys = Keys::of(alloc, rrsets)?;
     let made = made_signatures(alloc, moment, &keys, rrsets)?;
-    let parts = parts_of(alloc, &keys, &made)?;
-    let numbers = entry_numbers(alloc, &keys, &made, &parts)?;
+    let parts = parts_of(alloc, keys.as_slice(), made.as_slice())?;
+    let numbers = entry_numbers(alloc, keys.as_slice(), made.as_slice(), &parts)?;
     Ok(Asked {
         parts: Rc::new(alloc, parts)?,
         numbers,
@@ -80,16 +82,37 @@ fn asked_entries(alloc: Global, moment: u64, rrsets: &[Rrset]) -> Result<Asked, 
 }
 
 /// The parts of the entries of these signatures under these keys.
-fn parts_of(alloc: Global, keys: &Keys<'_>, made: &[Made<'_>]) -> Result<Parts, AllocError> {
-    let mut key_parts = Vec::new(alloc);
-    for key in keys.as_slice() {
-        key_parts.push(key.part(alloc)?)?;
+fn parts_of(alloc: Global, keys: &[KeyRecord<'_>], made: &[Made<'_>]) -> Result<Parts, AllocError>
+    ensures keys { IfOk result (λ parts. (key : DnskeyRecord) → Contains keys.now key
+        → Contains parts.keys (part_of_key key)) }
+    ensures made { IfOk result (λ parts. (each : MadeSignature) → Contains made.now each
+        → Contains parts.signatures each.part) }
+{
+    let keys = key_parts(alloc, keys)?;
+    let signatures = signature_parts(alloc, made)?;
+    Parts::of(keys, signatures)
+}
+
+/// What the keys give to their entries.
+fn key_parts(alloc: Global, keys: &[KeyRecord<'_>]) -> Result<Vec<KeyPart>, AllocError>
+    ensures { IfOk result (λ parts. parts.items ≡ map part_of_key keys.now) }
+{
+    let mut parts = Vec::new(alloc);
+    for key in keys {
+        parts.push(key.part(alloc)?)?;
     }
-    let mut signature_parts = Vec::new(alloc);
+    Ok(parts)
+}
+
+/// What the signatures give to their entries.
+fn signature_parts(alloc: Global, made: &[Made<'_>]) -> Result<Vec<Rc<SignaturePart>>, AllocError>
+    ensures { IfOk result (λ parts. map (λ each. each.value) parts.items ≡ map (λ each. each.part) made.now) }
+{
+    let mut parts = Vec::new(alloc);
     for each in made {
-        signature_parts.push(each.part.clone()?)?;
+        parts.push(each.part.clone()?)?;
     }
-    Ok(Parts::of(key_parts, signature_parts))
+    Ok(parts)
 }
 
 #[cfg(test)]

@@ -1,43 +1,51 @@
 //! What a verifier would have to know.
-ghost use Rattle.std.specs.Prelude.{◌≡◌};
+ghost use Rattle.std.specs.Prelude.{◌≡◌, ◌<◌, length, map, slice_index_or};
+ghost use Rattle.dnsv_verifier.specs.Numbers.{entry_of};
+ghost use Rattle.dnsv_verifier.specs.declared.entry.Entry.{Entry};
 
-use crate::entry::Entry;
+use crate::entry::borrowed_entry::BorrowedEntry;
+use crate::entry::parts::{EntryNumbers, Parts};
 use std::marker::Model;
+use std::rc::Rc;
 
-/// What is asked of a verifier, one after another.
+/// What is asked of a verifier, one after another. The octets are those of the table that the entries come from, and
+/// are kept once however many entries have them.
 #[derive(Debug, Drop)]
 pub struct Entries {
-    entries: Vec<Entry>,
+    parts: Rc<Parts>,
+    numbers: Vec<EntryNumbers>,
 }
 
 impl Model for Entries {
-    ghost use Rattle.std.specs.Prelude.{List};
+    ghost use Rattle.std.specs.Prelude.{List, map};
+    ghost use Rattle.dnsv_verifier.specs.Numbers.{entry_of};
     ghost use Rattle.dnsv_verifier.specs.declared.entry.Entry.{Entry};
 
     ghost Value = { List Entry };
 
-    ghost view = { λ entries. entries.entries.items };
+    ghost view = { λ entries. map (entry_of entries.parts.value) entries.numbers.items };
 }
 
 impl Entries {
-    /// The entries of the vector, which takes no memory.
-    pub fn from_vec(entries: Vec<Entry>) -> Entries
-        ensures { result ≡ entries.items }
+    /// The entries of these numbers.
+    pub(crate) fn new(parts: Rc<Parts>, numbers: Vec<EntryNumbers>) -> Entries
+        ensures { result ≡ map (entry_of parts.value) numbers.items }
     {
-        Entries { entries }
+        Entries { parts, numbers }
     }
 
-    /// The vector of the entries, which takes no memory.
-    pub fn into_vec(self) -> Vec<Entry>
-        ensures { result.items ≡ self }
+    /// How many there are.
+    pub fn len(&self) -> usize
+        ensures { result ≡ length self.now }
     {
-        self.entries
+        self.numbers.len()
     }
 
-    /// The entries.
-    pub fn as_slice(&self) -> &[Entry]
-        ensures { result.now ≡ self.now }
+    /// The entry at the place, from 0 on.
+    pub fn at(&self, place: usize) -> BorrowedEntry<'_>
+        requires { place < length self.now }
+        ensures { (other : Entry) → slice_index_or self.now place other ≡ result }
     {
-        &self.entries
+        self.parts.entry(self.numbers[place])
     }
 }

@@ -1,14 +1,16 @@
 //! DNSKEY records with what is asked of them.
 
 pub mod keys;
+pub mod numbered;
 
-ghost use Rattle.std.specs.Prelude.{◌≡◌, ◌<◌, IfOk, length};
+ghost use Rattle.std.specs.Prelude.{◌≡◌, ◌↔◌, ◌<◌, Contains, IfOk, IsTrue, length};
 ghost use Rattle.dnsv_records.specs.Dnskey.{IsDnskey};
 ghost use Rattle.dnsv_records.specs.Dnskey.KeyTag.{key_tag_of};
-ghost use Rattle.dnsv_verifier.specs.Asking.{key_name_cmp, name_of_key};
-ghost use Rattle.dnsv_verifier.specs.Numbers.{key_of};
+ghost use Rattle.dnsv_verifier.specs.Asking.{CanSign, key_name_cmp, name_of_key};
+ghost use Rattle.dnsv_verifier.specs.Numbers.{key_of, part_of_key};
 
 use crate::entry::parts::{KeyPart, Parts};
+use crate::key::numbered::Numbered;
 use dnsv_names::Name;
 use dnsv_records::{Algorithm, Dnskey, KeyTag, Octets, key_tag};
 use std::alloc::{AllocError, Global};
@@ -108,9 +110,18 @@ impl<'a> KeyRecord<'a> {
         self.compared(other.key_tag, other.dnskey.algorithm, other.owner)
     }
 
+    /// Whether the key may have made some signature, as far as the key says (RFC 4034 2.1.1, 2.1.2).
+    pub(crate) fn can_sign(&self) -> bool
+        ensures { IsTrue result ↔ CanSign self.now }
+    {
+        self.dnskey.protocol == 3
+            && self.dnskey.flags.is_zone_key()
+            && self.dnskey.algorithm.is_supported()
+    }
+
     /// What the key gives to its entries, in memory of its own.
     pub(crate) fn part(&self, alloc: Global) -> Result<KeyPart, AllocError>
-        ensures { IfOk result (λ part. part ≡ record { algorithm = self.now.dnskey.algorithm; key = self.now.dnskey.key }) }
+        ensures { IfOk result (λ part. part ≡ part_of_key self.now) }
     {
         Ok(KeyPart {
             algorithm: self.dnskey.algorithm,
@@ -119,11 +130,18 @@ impl<'a> KeyRecord<'a> {
     }
 
     /// The number of what the key gives to its entries.
-    pub(crate) fn number_in(&self, parts: &Parts) -> Result<u32, AllocError>
-        ensures value { IfOk result (λ number. key_of parts.now number
-            ≡ record { algorithm = self.now.dnskey.algorithm; key = self.now.dnskey.key }) }
-        ensures within { IfOk result (λ number. number < length parts.now.keys) }
+    pub(crate) fn number_in(&self, parts: &Parts) -> u32
+        requires { Contains parts.now.keys (part_of_key self.now) }
+        ensures value { key_of parts.now result ≡ part_of_key self.now }
+        ensures within { result < length parts.now.keys }
     {
         parts.key_number(self.dnskey.algorithm, self.dnskey.key.as_slice())
+    }
+
+    /// The key by what signatures name it by, with a number.
+    pub(crate) fn with_number(&self, number: u32) -> Numbered<'a>
+        ensures { result ≡ record { name = name_of_key self.now; number = number } }
+    {
+        Numbered::new(self.key_tag, self.dnskey.algorithm, self.owner, number)
     }
 }

@@ -6,7 +6,7 @@ ghost use Rattle.dnsv_verifier.specs.Numbers.{answers_of};
 ghost use Rattle.dnsv_verifier.specs.Table.{hopeful, unknown_entries};
 
 use crate::answer::Answer;
-use crate::entry::Entry;
+use crate::entries::Entries;
 use crate::entry::borrowed_entry::BorrowedEntry;
 use crate::entry::parts::{EntryNumbers, Parts};
 use crate::verifier::Verifier;
@@ -71,32 +71,18 @@ impl Table {
     }
 
     /// The entries that are still to be verified: those whose answer is Unknown, by rising algorithm, key, signed data
-    /// and signature, octets as unsigned numbers.
-    pub fn unknown(&self, alloc: Global) -> Result<Vec<Entry>, AllocError>
-        ensures value { IfOk result (λ entries. entries.items ≡ unknown_entries self.now) }
-        ensures rising { IfOk result (λ entries. IsStrictlySortedBy entry_cmp entries.items) }
+    /// and signature, octets as unsigned numbers. Their octets stay the table's.
+    pub fn unknown(&self, alloc: Global) -> Result<Entries, AllocError>
+        ensures value { IfOk result (λ entries. entries ≡ unknown_entries self.now) }
+        ensures rising { IfOk result (λ entries. IsStrictlySortedBy entry_cmp entries) }
     {
-        let mut entries = Vec::new(alloc);
+        let mut unknown = Vec::new(alloc);
         for (numbers, answer) in &self.answers {
             if *answer == Answer::Unknown {
-                entries.push(self.parts.entry(*numbers).to_entry(alloc)?)?;
+                unknown.push(*numbers)?;
             }
         }
-        Ok(entries)
-    }
-
-    /// The same entries, whose octets stay in the table.
-    pub fn unknown_borrowed(&self, alloc: Global) -> Result<Vec<BorrowedEntry<'_>>, AllocError>
-        ensures value { IfOk result (λ entries. entries.items ≡ unknown_entries self.now) }
-        ensures rising { IfOk result (λ entries. IsStrictlySortedBy entry_cmp entries.items) }
-    {
-        let mut entries = Vec::new(alloc);
-        for (numbers, said) in &self.answers {
-            if *said == Answer::Unknown {
-                entries.push(self.parts.entry(*numbers))?;
-            }
-        }
-        Ok(entries)
+        Ok(Entries::new(self.parts.clone()?, unknown))
     }
 
     /// Whether there are no entries that are still to be verified. It takes no memory.

@@ -180,7 +180,7 @@ fn push_reason(
             push_proof(text, rrsets, proof.records())
         }
         Verdict::Insecure(cut) => push_cut(text, cut),
-        Verdict::Pending(entries) => push_entries(alloc, text, entries.as_slice()),
+        Verdict::Pending(entries) => push_entries(alloc, text, entries),
         Verdict::Bogus | Verdict::Indeterminate => Ok(()),
     }
 }

@@ -7,7 +7,7 @@ use crate::command_line::moment::Moment;
 use crate::texts::hex_text::hex_text;
 use dnsv_canonical::Capture;
 use dnsv_names::Count;
-use dnsv_verifier::{BorrowedEntry, Entry, Verifier, ask_all};
+use dnsv_verifier::{BorrowedEntry, Entries, Verifier, ask_all};
 use std::alloc::{AllocError, Global};
 
 /// A line for each entry that the verifier knows nothing of, of those that it is asked about the evidence.
@@ -23,32 +23,18 @@ pub fn still_to_check<V: Verifier>(
 {
     let mut asked = Count::new();
     let table = ask_all(alloc, held, moment.seconds(), verifier, &mut asked)?;
-    let unknown = table.unknown_borrowed(alloc)?;
+    let unknown = table.unknown(alloc)?;
     let mut text = String::new(alloc);
-    push_borrowed(alloc, &mut text, &unknown)?;
+    push_entries(alloc, &mut text, &unknown)?;
     Ok(text)
 }
 
-/// Adds a line for each entry, whose octets lie elsewhere.
-fn push_borrowed(
-    alloc: Global,
-    text: &mut String,
-    entries: &[BorrowedEntry<'_>],
-) -> Result<(), AllocError>
-    ensures { OnOk result (string_bytes text.new ≡ string_bytes text.old ++ flat_map todo_line entries.now) }
-{
-    for entry in entries {
-        push_entry(alloc, text, entry)?;
-    }
-    Ok(())
-}
-
 /// Adds a line for each entry.
-pub fn push_entries(alloc: Global, text: &mut String, entries: &[Entry]) -> Result<(), AllocError>
+pub fn push_entries(alloc: Global, text: &mut String, entries: &Entries) -> Result<(), AllocError>
     ensures { OnOk result (string_bytes text.new ≡ string_bytes text.old ++ flat_map todo_line entries.now) }
 {
-    for entry in entries {
-        push_entry(alloc, text, &entry.borrowed())?;
+    for place in 0..entries.len() {
+        push_entry(alloc, text, &entries.at(place))?;
     }
     Ok(())
 }

@@ -1,12 +1,13 @@
 //! The signatures of the evidence that some key may have made.
-ghost use Rattle.std.specs.Prelude.{◌↔◌, ◌<◌, [], IfOk, IsTrue, MatchOption, OnOk};
+ghost use Rattle.std.specs.Prelude.{◌≡◌, ◌↔◌, ◌<◌, [], IfOk, IsTrue, MatchOption, OnOk};
 ghost use Rattle.dnsv_canonical.specs.SignedData.{signed_label_count};
-ghost use Rattle.dnsv_verifier.specs.Asking.{AddsJust, ComesOfSome, IsMadeBySome, IsMadeIn, IsMadeOf, IsPartOf};
+ghost use Rattle.dnsv_verifier.specs.Asking.{AddsJust, ComesOfSome, IsMadeBySome, IsMadeIn, IsMadeOf, IsPartOf, named_by};
 
 use crate::admissible::{is_verifiable, may_have_made};
 use crate::entry::parts::SignaturePart;
 use crate::key::KeyRecord;
 use crate::key::keys::Keys;
+use crate::key::numbered::Numbered;
 use dnsv_canonical::{Rrset, signed_data};
 use dnsv_records::{Octets, Rrsig};
 use std::alloc::{AllocError, Global};
@@ -26,6 +27,16 @@ impl<'a> Model for Made<'a> {
     ghost Value = { MadeSignature };
 
     ghost view = { λ made. record { rrsig = made.rrsig.now; part = made.part.value } };
+}
+
+impl<'a> Made<'a> {
+    /// The signature by what it names keys by, with a number.
+    pub(crate) fn with_number(&self, number: u32) -> Numbered<'a>
+        ensures { result ≡ record { name = named_by self.now.rrsig; number = number } }
+    {
+        let rrsig = self.rrsig;
+        Numbered::new(rrsig.key_tag, rrsig.algorithm, &rrsig.signer, number)
+    }
 }
 
 /// The signatures of the RRsets that can be verified at the moment, and that some key may have made.

@@ -1,33 +1,115 @@
 //! The entries of signatures under keys, by the numbers of their parts.
-ghost use Rattle.std.specs.Prelude.{◌≡◌, ◌↔◌, ◌<◌, [], Contains, IfOk, OnOk, length, map};
-ghost use Rattle.std.specs.List.Sorted.{IsStrictlySortedBy};
-ghost use Rattle.dnsv_verifier.specs.Asking.{AddsJust, ComesOfSome, IsEntryBy, IsEntryOfMade};
-ghost use Rattle.dnsv_verifier.specs.Numbers.{AllOfParts, entry_of, numbers_cmp, signature_of};
+ghost use Rattle.std.specs.Prelude.{◌≡◌, ◌↔◌, ◌<◌, [], Contains, IfOk, OnOk, map};
+ghost use Rattle.std.specs.List.Sorted.{IsSortedByKey, IsStrictlySortedBy};
+ghost use Rattle.dnsv_verifier.specs.Admissible.{DnskeyRecord};
+ghost use Rattle.dnsv_verifier.specs.Asking.{AddsJust, CanSign, ComesOfSome, GivesEach, GivesMore, IsAny, IsEntryOfMade, MadeSignature, key_name_cmp};
+ghost use Rattle.dnsv_verifier.specs.Numbers.{AllOfParts, IsNumberedKey, IsNumberedSignature, IsPairIn, IsPairOf, entry_of, numbers_cmp, part_of_key};
 ghost use Rattle.dnsv_verifier.specs.declared.entry.parts.EntryNumbers.{EntryNumbers};
 
-use crate::admissible::may_have_made;
 use crate::ask::made::Made;
 use crate::entry::parts::{EntryNumbers, Parts};
 use crate::key::KeyRecord;
-use crate::key::keys::Keys;
+use crate::key::numbered::{Numbered, with_name};
 use std::alloc::{AllocError, Global};
 
 /// The numbers of the entries that the signatures have under the keys, each entry once, rising.
 pub(crate) fn entry_numbers(
     alloc: Global,
-    keys: &Keys<'_>,
+    keys: &[KeyRecord<'_>],
     made: &[Made<'_>],
     parts: &Parts,
 ) -> Result<Vec<EntryNumbers>, AllocError>
+    requires keys { (key : DnskeyRecord) → Contains keys.now key → Contains parts.now.keys (part_of_key key) }
+    requires made { (each : MadeSignature) → Contains made.now each → Contains parts.now.signatures each.part }
     ensures adds { IfOk result (λ numbers. AddsJust (ComesOfSome (IsEntryOfMade keys.now) made.now) []
         (map (entry_of parts.now) numbers.items)) }
     ensures all { IfOk result (λ numbers. AllOfParts parts.now numbers.items) }
     ensures rising { IfOk result (λ numbers. IsStrictlySortedBy numbers_cmp numbers.items) }
 {
+    let keys = numbered_keys(alloc, keys, parts)?;
+    let signatures = numbered_signatures(alloc, made, parts)?;
+    pairs(alloc, keys.as_slice(), signatures.as_slice())
+}
+
+/// The keys that can sign, by rising numbers, so that the entries under them come nearly in order.
+fn numbered_keys<'a>(
+    alloc: Global,
+    keys: &[KeyRecord<'a>],
+    parts: &Parts,
+) -> Result<Vec<Numbered<'a>>, AllocError>
+    requires { (key : DnskeyRecord) → Contains keys.now key → Contains parts.now.keys (part_of_key key) }
+    ensures { IfOk result (λ numbered. GivesEach (IsNumberedKey parts.now) CanSign keys.now numbered.items) }
+{
+    let mut numbered = Vec::new(alloc);
+    for key in keys {
+        add_key(key, parts, &mut numbered)?;
+    }
+    numbered.sort_unstable_by(|a, b| a.number().cmp(&b.number()));
+    Ok(numbered)
+}
+
+/// Adds the key if it can sign.
+fn add_key<'a>(
+    key: &KeyRecord<'a>,
+    parts: &Parts,
+    numbered: &mut Vec<Numbered<'a>>,
+) -> Result<(), AllocError>
+    requires { Contains parts.now.keys (part_of_key key.now) }
+    ensures { OnOk result (GivesMore (IsNumberedKey parts.now) CanSign key.now numbered.old.items numbered.new.items) }
+{
+    if !key.can_sign() {
+        return Ok(());
+    }
+    numbered.push(key.with_number(key.number_in(parts)))?;
+    Ok(())
+}
+
+/// The signatures by what they name keys by, those that name the same by rising numbers.
+fn numbered_signatures<'a>(
+    alloc: Global,
+    made: &[Made<'a>],
+    parts: &Parts,
+) -> Result<Vec<Numbered<'a>>, AllocError>
+    requires { (each : MadeSignature) → Contains made.now each → Contains parts.now.signatures each.part }
+    ensures are { IfOk result (λ numbered. GivesEach (IsNumberedSignature parts.now) IsAny made.now numbered.items) }
+    ensures sorted { IfOk result (λ numbered. IsSortedByKey (λ each. each.name) key_name_cmp numbered.items) }
+{
+    let mut numbered = Vec::new(alloc);
+    for each in made {
+        add_signature(each, parts, &mut numbered)?;
+    }
+    numbered.sort_unstable_by(|a, b| a.number().cmp(&b.number()));
+    numbered.sort_by(|a, b| a.stands_to(b))?;
+    Ok(numbered)
+}
+
+/// Adds the signature.
+fn add_signature<'a>(
+    made: &Made<'a>,
+    parts: &Parts,
+    numbered: &mut Vec<Numbered<'a>>,
+) -> Result<(), AllocError>
+    requires { Contains parts.now.signatures made.now.part }
+    ensures { OnOk result (GivesMore (IsNumberedSignature parts.now) IsAny made.now numbered.old.items numbered.new.items) }
+{
+    numbered.push(made.with_number(parts.signature_number(&made.part)))?;
+    Ok(())
+}
+
+/// The pairs of a key and a signature that names it, each once, rising.
+fn pairs(
+    alloc: Global,
+    keys: &[Numbered<'_>],
+    signatures: &[Numbered<'_>],
+) -> Result<Vec<EntryNumbers>, AllocError>
+    requires { IsSortedByKey (λ each. each.name) key_name_cmp signatures.now }
+    ensures adds { IfOk result (λ pairs. AddsJust (ComesOfSome (IsPairIn signatures.now) keys.now) [] pairs.items) }
+    ensures rising { IfOk result (λ pairs. IsStrictlySortedBy numbers_cmp pairs.items) }
+{
     let mut numbers = Vec::new(alloc);
     let mut distinct = 0;
-    for each in made {
-        add_made(keys, parts, each, &mut numbers)?;
+    for key in keys {
+        add_pairs(key, signatures, &mut numbers)?;
         distinct = drop_repeats(&mut numbers, distinct);
     }
     put_in_order(&mut numbers);
@@ -55,59 +137,29 @@ fn put_in_order(numbers: &mut Vec<EntryNumbers>)
     numbers.dedup();
 }
 
-/// Adds the entries of the signature under the keys that may have made it.
-fn add_made(
-    keys: &Keys<'_>,
-    parts: &Parts,
-    made: &Made<'_>,
+/// Adds the pairs of the key.
+fn add_pairs(
+    key: &Numbered<'_>,
+    signatures: &[Numbered<'_>],
     numbers: &mut Vec<EntryNumbers>,
 ) -> Result<(), AllocError>
-    ensures adds { OnOk result (AddsJust (IsEntryOfMade keys.now made.now)
-        (map (entry_of parts.now) numbers.old.items) (map (entry_of parts.now) numbers.new.items)) }
-    ensures all { OnOk result (AllOfParts parts.now numbers.old.items → AllOfParts parts.now numbers.new.items) }
+    requires { IsSortedByKey (λ each. each.name) key_name_cmp signatures.now }
+    ensures { OnOk result (AddsJust (IsPairIn signatures.now key.now) numbers.old.items numbers.new.items) }
 {
-    let signature = parts.signature_number(&made.part)?;
-    add_entries(keys.named_by(made.rrsig), parts, made, signature, numbers)
+    push_pairs(key.number(), with_name(signatures, key), numbers)
 }
 
-/// Adds the entries of the signature with this number under those of the keys that may have made it.
-fn add_entries(
-    keys: &[KeyRecord<'_>],
-    parts: &Parts,
-    made: &Made<'_>,
-    signature: u32,
+/// Adds the pairs of the key with this number and each of the signatures.
+fn push_pairs(
+    key: u32,
+    signatures: &[Numbered<'_>],
     numbers: &mut Vec<EntryNumbers>,
 ) -> Result<(), AllocError>
-    requires part { signature_of parts.now signature ≡ made.now.part }
-    requires within { signature < length parts.now.signatures }
-    ensures adds { OnOk result (AddsJust (ComesOfSome (IsEntryBy made.now.rrsig made.now.part) keys.now)
-        (map (entry_of parts.now) numbers.old.items) (map (entry_of parts.now) numbers.new.items)) }
-    ensures all { OnOk result (AllOfParts parts.now numbers.old.items → AllOfParts parts.now numbers.new.items) }
+    ensures { OnOk result (AddsJust (ComesOfSome (IsPairOf key) signatures.now) numbers.old.items numbers.new.items) }
 {
-    for key in keys {
-        add_entry(key, parts, made, signature, numbers)?;
+    for each in signatures {
+        let signature = each.number();
+        numbers.push(EntryNumbers { key, signature })?;
     }
-    Ok(())
-}
-
-/// Adds the entry of the signature with this number under the key, if that may have made it.
-fn add_entry(
-    key: &KeyRecord<'_>,
-    parts: &Parts,
-    made: &Made<'_>,
-    signature: u32,
-    numbers: &mut Vec<EntryNumbers>,
-) -> Result<(), AllocError>
-    requires part { signature_of parts.now signature ≡ made.now.part }
-    requires within { signature < length parts.now.signatures }
-    ensures adds { OnOk result (AddsJust (IsEntryBy made.now.rrsig made.now.part key.now)
-        (map (entry_of parts.now) numbers.old.items) (map (entry_of parts.now) numbers.new.items)) }
-    ensures all { OnOk result (AllOfParts parts.now numbers.old.items → AllOfParts parts.now numbers.new.items) }
-{
-    if !may_have_made(key, made.rrsig) {
-        return Ok(());
-    }
-    let key = key.number_in(parts)?;
-    numbers.push(EntryNumbers { key, signature })?;
     Ok(())
 }

@@ -1,6 +1,8 @@
 //! What entries are made of, each part kept once and numbered by its order.
-ghost use Rattle.std.specs.Prelude.{◌≡◌, ◌<◌, Ok, IfOk, length};
+ghost use Rattle.std.specs.Prelude.{◌≡◌, ◌<◌, Contains, IfOk, length, map};
 ghost use Rattle.dnsv_verifier.specs.Numbers.{entry_of, key_cmp, key_of, signature_of};
+ghost use Rattle.dnsv_verifier.specs.declared.entry.parts.KeyPart.{KeyPart};
+ghost use Rattle.dnsv_verifier.specs.declared.entry.parts.SignaturePart.{SignaturePart};
 
 use crate::entry::borrowed_entry::BorrowedEntry;
 use dnsv_names::compare_octets;
@@ -9,6 +11,9 @@ use std::alloc::AllocError;
 use std::cmp::Ordering;
 use std::marker::Model;
 use std::rc::Rc;
+
+/// The most parts of a kind that have numbers.
+const LIMIT: usize = 1 << 32;
 
 /// What a key gives to the entries that it has. Such parts are ordered by algorithm and key.
 #[derive(Debug, PartialEq, Eq, PartialOrd, Ord, Drop)]
@@ -46,14 +51,14 @@ pub(crate) struct EntryNumbers {
 }
 
 /// The parts of entries, each once. Both kinds rise, so that a part's number is its place.
-#[derive(Drop)]
+#[derive(Debug, Drop)]
 pub(crate) struct Parts {
     keys: Vec<KeyPart>,
     signatures: Vec<Rc<SignaturePart>>,
 }
 
 impl Model for Parts {
-    ghost use Rattle.std.specs.Prelude.{map};
+    ghost use Rattle.std.specs.Prelude.{◌≤◌, length, map};
     ghost use Rattle.std.specs.List.Sorted.{IsStrictlySortedBy};
     ghost use Rattle.dnsv_verifier.specs.Numbers.{PartLists, key_cmp, signature_cmp};
 
@@ -65,39 +70,59 @@ impl Model for Parts {
     } };
 
     ghost invariant = { λ parts. IsStrictlySortedBy key_cmp parts.keys.items
-        × IsStrictlySortedBy signature_cmp (map (λ part. part.value) parts.signatures.items) };
+        × IsStrictlySortedBy signature_cmp (map (λ part. part.value) parts.signatures.items)
+        × (length parts.keys.items ≤ 4294967296) × (length parts.signatures.items ≤ 4294967296) };
 }
 
 impl Parts {
-    /// The parts of these lists, each once.
-    pub(crate) fn of(keys: Vec<KeyPart>, signatures: Vec<Rc<SignaturePart>>) -> Parts {
+    /// The parts of these lists, each once. More than 2^32 of either are refused as want of memory.
+    pub(crate) fn of(
+        keys: Vec<KeyPart>,
+        signatures: Vec<Rc<SignaturePart>>,
+    ) -> Result<Parts, AllocError>
+        ensures keys { IfOk result (λ parts. (part : KeyPart) → Contains keys.items part
+            → Contains parts.keys part) }
+        ensures signatures { IfOk result (λ parts. (part : SignaturePart)
+            → Contains (map (λ each. each.value) signatures.items) part → Contains parts.signatures part) }
+    {
         let mut keys = keys;
         let mut signatures = signatures;
         keys.sort_unstable();
         keys.dedup();
         signatures.sort_unstable();
         signatures.dedup();
-        Parts { keys, signatures }
+        if keys.len() > LIMIT || signatures.len() > LIMIT {
+            return Err(AllocError);
+        }
+        Ok(Parts { keys, signatures })
     }
 
-    /// The number of a key. More than 2^32 keys are refused as want of memory.
-    pub(crate) fn key_number(&self, algorithm: Algorithm, key: &[u8]) -> Result<u32, AllocError>
-        ensures value { IfOk result (λ number. key_of self.now number ≡ record { algorithm = algorithm; key = key.now }) }
-        ensures within { IfOk result (λ number. number < length self.now.keys) }
+    /// The number of a key that is one of the parts.
+    pub(crate) fn key_number(&self, algorithm: Algorithm, key: &[u8]) -> u32
+        requires { Contains self.now.keys (record { algorithm = algorithm; key = key.now }) }
+        ensures value { key_of self.now result ≡ record { algorithm = algorithm; key = key.now } }
+        ensures within { result < length self.now.keys }
     {
         let place = self
             .keys
             .binary_search_by(|part| part.compared(algorithm, key));
-        number_at(place)
+        let Ok(place) = place else {
+            unreachable!();
+        };
+        place as u32
     }
 
-    /// The number of a signature. More than 2^32 of them are refused as want of memory.
-    pub(crate) fn signature_number(&self, part: &SignaturePart) -> Result<u32, AllocError>
-        ensures value { IfOk result (λ number. signature_of self.now number ≡ part.now) }
-        ensures within { IfOk result (λ number. number < length self.now.signatures) }
+    /// The number of what a signature gives, which is one of the parts.
+    pub(crate) fn signature_number(&self, part: &SignaturePart) -> u32
+        requires { Contains self.now.signatures part.now }
+        ensures value { signature_of self.now result ≡ part.now }
+        ensures within { result < length self.now.signatures }
     {
         let place = self.signatures.binary_search_by(|each| (**each).cmp(part));
-        number_at(place)
+        let Ok(place) = place else {
+            unreachable!();
+        };
+        place as u32
     }
 
     /// The entry of the numbers, and one without octets where they are of nothing.
@@ -128,18 +153,5 @@ impl Parts {
             Some(part) => (part.signed_data.as_slice(), part.signature.as_slice()),
             None => (&[], &[]),
         }
-    }
-}
-
-/// The place as a number.
-fn number_at(place: Result<usize, usize>) -> Result<u32, AllocError>
-    ensures { IfOk result (λ number. place ≡ Ok number) }
-{
-    let Ok(place) = place else {
-        return Err(AllocError);
-    };
-    match u32::try_from(place) {
-        Ok(number) => Ok(number),
-        Err(_) => Err(AllocError),
     }
 }

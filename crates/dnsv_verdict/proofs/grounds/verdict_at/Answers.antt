@@ -1,9 +1,8 @@
 -- what the trust settles, the verifier settles; else what hope would settle, and the anchors
-use Rattle.std.proofs.Common.{sym, subst}
 use Rattle.std.proofs.lemmas.Option.{MatchOption-at_none, MatchOption-at_some}
 use Rattle.dnsv_verdict.proofs.TrustLemmas.{settled_as_by_trust, settled_is_verdict, unsettled_on}
 use Rattle.dnsv_verdict.proofs.UnknownLemmas.{table_unknown}
-use Rattle.dnsv_verdict.specs.Verdict.{AreUnknown, Basis, basis_of}
+use Rattle.dnsv_verdict.specs.Verdict.{Basis, basis_of}
 use Rattle.dnsv_verdict.proofs.grounds.verdict_at.Goals as goal
 
 pub returns-in-Some-clause-value : goal.returns-in-Some-clause-value
@@ -24,8 +23,7 @@ returns-then-branch-clause-value c = λ meaning moment table.
     c.trust_depends_on_what_is_asked.ensures.numbers c.requires c.args.name.now c.args.rtype.0 (MatchOption-at_none _ _ c.in_default.is c.settled.ensures) in (
       never,
       (c.in_ok-may_be_settled.ensures meaning moment table never).0 c.if-branch.true,
-      subst (λ entries. AreUnknown judged entries) (sym c.from_vec.ensures)
-          (table_unknown judged grounds.table.now table c.in_ok-unknown.unknown.items c.in_ok-unknown.ensures.value c.in_ok-unknown.ensures.rising),
+      table_unknown judged grounds.table.now table c.in_ok-unknown.unknown c.in_ok-unknown.ensures.value c.in_ok-unknown.ensures.rising,
     )
 
 pub returns-then-has_anchor-clause-value : goal.returns-then-has_anchor-clause-value

@@ -3,5 +3,5 @@ use Rattle.dnssec_check.specs.Texts.Todo.{todo_line}
 use Rattle.dnssec_check.proofs.TextLemmas.Showing.{Joined}
 use Rattle.dnssec_check.proofs.texts.todo.push_entries.Given as goal
 
-abbrev pub invariant-loop-entry : goal.invariant-loop-entry
-invariant-loop-entry l = Joined todo_line l.entries l.entry-index (string_bytes l.fn.text) (string_bytes l.text)
+abbrev pub invariant-loop-place : goal.invariant-loop-place
+invariant-loop-place l = Joined todo_line l.entries l.place (string_bytes l.fn.text) (string_bytes l.text)

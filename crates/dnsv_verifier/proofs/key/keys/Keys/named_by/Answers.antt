@@ -21,8 +21,8 @@ returns-clause-all c = λ key found made.
     let rest = take_rest c.as_slice-keys.result.now c.partition_point-start.result in
     let sorted : IsSortedByKey name_of_key key_name_cmp c.as_slice-keys.result.now =
     subst (λ (ks : List DnskeyRecord). IsSortedByKey name_of_key key_name_cmp ks) (sym c.as_slice-keys.ensures.value) c.self.invariant in
-    let from = c.partition_point-start.ensures.partitioned (λ key. is_lt (key_name_cmp (name_of_key key) (named_by c.args.rrsig.now))) (always_returns_same _ _ _ (λ a r f called. search rules)) (lt_parts c.as_slice-keys.result.now sorted (named_by c.args.rrsig.now)) in
-    let parts = subst (λ (ks : List DnskeyRecord). IsPartitionedBy (λ key. is_le (key_name_cmp (name_of_key key) (named_by c.args.rrsig.now))) ks) (sym rest) (le_parts c.as_slice-keys.result.now sorted (named_by c.args.rrsig.now) c.partition_point-start.result) in
+    let from = c.partition_point-start.ensures.partitioned (λ key. is_lt (key_name_cmp (name_of_key key) (named_by c.args.rrsig.now))) (always_returns_same _ _ _ (λ a r f called. search rules)) (lt_parts name_of_key c.as_slice-keys.result.now sorted (named_by c.args.rrsig.now)) in
+    let parts = subst (λ (ks : List DnskeyRecord). IsPartitionedBy (λ key. is_le (key_name_cmp (name_of_key key) (named_by c.args.rrsig.now))) ks) (sym rest) (le_parts name_of_key c.as_slice-keys.result.now sorted (named_by c.args.rrsig.now) c.partition_point-start.result) in
     let to = subst (λ (ks : List DnskeyRecord). IsPartitionPoint (λ key. is_le (key_name_cmp (name_of_key key) (named_by c.args.rrsig.now)) ≡ true) (λ key. is_le (key_name_cmp (name_of_key key) (named_by c.args.rrsig.now)) ≡ false) ks c.partition_point-count.result) rest (c.partition_point-count.ensures.partitioned (λ key. is_le (key_name_cmp (name_of_key key) (named_by c.args.rrsig.now))) (always_returns_same _ _ _ (λ a r f called. search rules)) parts) in
     subst (λ (ks : List DnskeyRecord). Contains (take c.partition_point-count.result ks) key) (sym rest)
-    (named_all c.as_slice-keys.result.now (named_by c.args.rrsig.now) c.partition_point-start.result c.partition_point-count.result from to key (subst (λ (ks : List DnskeyRecord). Contains ks key) (sym keys_are) found) (named_key c.args.rrsig.now key made))
+    (named_all name_of_key c.as_slice-keys.result.now (named_by c.args.rrsig.now) c.partition_point-start.result c.partition_point-count.result from to key (subst (λ (ks : List DnskeyRecord). Contains ks key) (sym keys_are) found) (named_key c.args.rrsig.now key made))
