@@ -5,12 +5,14 @@ ghost use Rattle.std.specs.Cmp.Lexicographic.{lists_equiv, pointwise, texts_ties
 ghost use Rattle.std.specs.List.{AllByRecursion, AllZip};
 ghost use Rattle.std.specs.Ordering.{as_partial_cmp};
 ghost use Rattle.std.proofs.lemmas.Cmp.{nat_eq_equiv, nat_list_cmp_total};
+ghost use Rattle.dnsv_records.specs.Dnskey.{IsDnskey};
+ghost use Rattle.dnsv_records.specs.Ds.{IsDs};
 ghost use Rattle.dnsv_records.specs.Nsec.{IsNsec};
 ghost use Rattle.dnsv_records.specs.Nsec3.{IsNsec3};
 ghost use Rattle.dnsv_canonical.specs.Canonical.{IsCanonical, rdata_cmp};
 
 use crate::rrset::Rrset;
-use dnsv_records::{Nsec, Nsec3};
+use dnsv_records::{Dnskey, Ds, Nsec, Nsec3};
 use std::alloc::{AllocError, Global};
 use std::cmp::Ordering;
 
@@ -67,6 +69,14 @@ impl<T> PartialOrd for ReadRecord<'_, T> {
 pub trait ReadFrom {
     /// The RDATA is that of the record.
     ghost reads: { List ℕ → Self → Type 0 };
+}
+
+impl ReadFrom for Dnskey {
+    ghost reads = { IsDnskey };
+}
+
+impl ReadFrom for Ds {
+    ghost reads = { IsDs };
 }
 
 impl ReadFrom for Nsec {

@@ -7,6 +7,7 @@
 pub use anchor::Anchor;
 pub use anchors::{Anchors, AnchorsError, a_text_is_one_list_of_anchors};
 pub use chain::trusted;
+pub use good::is_good;
 pub use laws::{
     more_evidence_takes_no_trust_away, nothing_is_trusted_without_an_anchor,
     trust_depends_on_what_is_asked, trust_leads_down_from_an_anchor,
@@ -23,6 +24,7 @@ mod by_owner;
 mod by_rdata;
 mod chain;
 mod delegated;
+mod good;
 mod laws;
 mod matching;
 mod order;

@@ -93,7 +93,7 @@ fn is_valid_under_some(table: &Table, rrsig: &Rrsig, octets: &[u8], keys: &[KeyR
 }
 
 /// Whether the key may have made the signature, and the table says Valid of it over the octets.
-fn is_valid(table: &Table, rrsig: &Rrsig, octets: &[u8], key: &KeyRecord<'_>) -> bool
+pub(crate) fn is_valid(table: &Table, rrsig: &Rrsig, octets: &[u8], key: &KeyRecord<'_>) -> bool
     ensures { IsTrue result ↔ IsValidBy (table_answer table.now) rrsig.now octets.now key.now }
 {
     may_have_made(key, rrsig) && says_valid(table, rrsig, octets, key)
