@@ -8,7 +8,7 @@ ghost use Rattle.dnsv_denial.specs.proving.FirstProof.{CanProveNoCloser};
 ghost use Rattle.dnsv_denial.specs.unsigned_cuts.Cuts.{HasOptedOutNextCloser};
 
 use crate::proving::first_proof::no_closer;
-use crate::proving::zone_records::{NameHashes, ZoneRecords};
+use crate::records::zone_records::{NameHashes, ZoneRecords};
 use crate::unsigned_cuts::kept_cuts::opted_out_next_closer;
 use dnsv_canonical::{Capture, Rrset, is_expanded};
 use dnsv_chain::Trust;
