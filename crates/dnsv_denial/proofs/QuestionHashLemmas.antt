@@ -15,7 +15,7 @@ use Rattle.dnsv_zones.specs.chains.Nsec3Chain.{IsAsked, NameHash, Parameters}
 use Rattle.dnsv_zones.specs.chains.Nsec3Chain.IsAsked.{itself, wildcard}
 use Rattle.dnsv_denial.specs.QuestionHashes.{AreUsed}
 use Rattle.dnsv_zones.specs.chains.Rdata.{parameters_of}
-use Rattle.dnsv_denial.specs.declared.proving.zone_records.NameHashes.{NameHashes}
+use Rattle.dnsv_denial.specs.declared.records.zone_records.NameHashes.{NameHashes}
 
 -- ---- names
 

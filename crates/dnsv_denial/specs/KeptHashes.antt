@@ -9,7 +9,7 @@ use Rattle.dnsv_canonical.specs.Rrsets.{ReceivedRrset}
 use Rattle.dnsv_denial.specs.words.EvidenceWords.{parameters_cmp}
 use Rattle.dnsv_denial.specs.gathering.Kept.{IsSetOf}
 use Rattle.dnsv_zones.specs.chains.Rdata.{parameters_of}
-use Rattle.dnsv_denial.specs.declared.proving.zone_records.NameHashes.{NameHashes}
+use Rattle.dnsv_denial.specs.declared.records.zone_records.NameHashes.{NameHashes}
 
 -- the sets are of the name, in the order of their parameters, which are those of all usable NSEC3 records
 pub record AreKeptHashes (rrsets : List ReceivedRrset) (name : Labels) (sets : List NameHashes) : Type 0 where

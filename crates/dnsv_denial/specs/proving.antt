@@ -4,3 +4,4 @@ pub mod FirstProof
 pub mod Numbers
 pub mod ProofMeaning
 pub mod WholeChain
+pub mod ZoneChains

@@ -3,4 +3,4 @@ pub mod chain_proof;
 pub mod first_proof;
 pub mod numbers;
 pub mod proof;
-pub mod zone_records;
+pub mod zone_proof;

@@ -13,10 +13,10 @@ ghost use Rattle.dnsv_zones.specs.chains.Rdata.{parameters_of};
 ghost use Rattle.dnsv_denial.specs.KeptHashes.{AreKeptHashes};
 ghost use Rattle.dnsv_denial.specs.QuestionHashes.{IsAskedHash};
 ghost use Rattle.dnsv_denial.specs.gathering.Kept.{IsSetOf};
-ghost use Rattle.dnsv_denial.specs.declared.proving.zone_records.NameHashes.{NameHashes};
+ghost use Rattle.dnsv_denial.specs.declared.records.zone_records.NameHashes.{NameHashes};
 
 use crate::gathering::zones::sets_of;
-use crate::proving::zone_records::NameHashes;
+use crate::records::zone_records::NameHashes;
 use dnsv_canonical::Capture;
 use dnsv_names::{Count, Hash20, Name};
 use std::alloc::{AllocError, Global};

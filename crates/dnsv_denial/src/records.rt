@@ -3,5 +3,7 @@ pub mod chain_records;
 pub mod entry;
 pub mod hash_places;
 pub mod hashed_records;
+pub mod kept_chain;
 pub mod nsec3_entries;
 pub mod number;
+pub mod zone_records;

@@ -30,8 +30,8 @@ use crate::forms::denial::Denial;
 use crate::gathering::zones::zones_of;
 use crate::proving::first_proof::{first_proof, no_closer};
 use crate::proving::proof::Proof;
-use crate::proving::zone_records::{NameHashes, ZoneRecords};
 use crate::question_hashes::Hashes;
+use crate::records::zone_records::{NameHashes, ZoneRecords};
 use crate::unsigned_cuts::kept_cuts::{opted_out_next_closer, unsigned_cut};
 use crate::wildcard_answers::{
     WildcardAnswers, is_not_opted_out, may_have_closer, wildcard_answers,

@@ -8,12 +8,11 @@ ghost use Rattle.dnsv_denial.specs.proving.FirstProof.{CanProveNoCloser};
 ghost use Rattle.dnsv_denial.specs.unsigned_cuts.Cuts.{HasOptedOutNextCloser};
 
 use crate::proving::first_proof::no_closer;
-use crate::proving::zone_records::{NameHashes, ZoneRecords};
+use crate::records::zone_records::{NameHashes, ZoneRecords};
 use crate::unsigned_cuts::kept_cuts::opted_out_next_closer;
 use dnsv_canonical::{Capture, Rrset, is_expanded};
 use dnsv_chain::Trust;
 use dnsv_names::Name;
-use dnsv_records::Rrsig;
 use std::alloc::{AllocError, Global};
 use std::collections::BTreeMap;
 
@@ -58,7 +57,7 @@ pub fn wildcard_answers(
     Ok(answers)
 }
 
-/// Adds what is shown of the RRset by its signatures with these numbers, from 1 on.
+/// Adds what is shown of the RRset by its signatures with these numbers, from 1 on, unless that is there.
 fn add_answers(
     rrset: &Rrset,
     secured: &[usize],
@@ -75,34 +74,14 @@ fn add_answers(
         → AreAnswers (SecuredIn trust) rrsets name.now answers.new) }
 {
     for (place, rrsig) in rrset.signatures().iter().enumerate() {
-        if secured.contains(&(place + 1)) && is_expanded(rrset.owner(), rrsig) {
-            add_answer(rrsig, name, zones, sets, answers)?;
+        let zone = &rrsig.signer;
+        let labels = rrsig.labels as usize;
+        if !secured.contains(&(place + 1)) || !is_expanded(rrset.owner(), rrsig) {
+            continue;
         }
-    }
-    Ok(())
-}
-
-/// Adds what is shown of an answer by the signature, unless that is there.
-fn add_answer(
-    rrsig: &Rrsig,
-    name: &Name,
-    zones: &[ZoneRecords<'_>],
-    sets: &[NameHashes<'_>],
-    answers: &mut WildcardAnswers,
-) -> Result<(), AllocError>
-    requires { (trust : KeptTrust) × (rrsets : List ReceivedRrset)
-        × IsViewOf (SecuredIn trust) rrsets name.now sets.now zones.now }
-    ensures { OnOk result ((trust : KeptTrust) (rrsets : List ReceivedRrset)
-        → IsViewOf (SecuredIn trust) rrsets name.now sets.now zones.now
-        → AreAnswers (SecuredIn trust) rrsets name.now answers.old
-        → AreAnswers (SecuredIn trust) rrsets name.now answers.new) }
-{
-    let zone = &rrsig.signer;
-    let labels = rrsig.labels as usize;
-    if !name.is_at_or_below(zone) {
-        return Ok(());
-    }
-    if !answers.contains_key(&(zone.labels(), labels)) {
+        if !name.is_at_or_below(zone) || answers.contains_key(&(zone.labels(), labels)) {
+            continue;
+        }
         let shown = shown_by_records(name, zone, labels, zones, sets);
         answers.insert((zone.labels(), labels), shown)?;
     }

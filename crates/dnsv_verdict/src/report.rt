@@ -119,6 +119,7 @@ fn exact(asked: &Count, table: &Table) -> u64
     requires { asked.now ≡ counted 0 (length table.now.answers) }
     ensures { result ≡ length table.now.answers }
 {
+    // What is true of every table.
     let _entries = table.len();
     asked.value()
 }
@@ -132,6 +133,7 @@ fn exact_hashed(hashed: &Count, capture: &Capture, way: &Way) -> u64
     ensures exact { IsNumberHashedOn capture.now.rrsets (names_on way.now.links way.now.last) result }
     ensures few { IsFewHashedOn capture.now.rrsets (names_on way.now.links way.now.last) result }
 {
+    // What is true of every capture and of every way.
     let _limits = capture.rrsets();
     let _parameters = capture.nsec3_parameters();
     let _links = way.links.as_slice();

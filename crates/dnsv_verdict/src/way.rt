@@ -70,6 +70,7 @@ pub fn follow(
         (names_on followed.way.links followed.way.last)) }
 {
     counts_add_up();
+    // What is true of every count and of every name.
     let _ = hashed.value();
     let _ = name.wire();
     let mut way = Way {

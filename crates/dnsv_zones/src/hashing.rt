@@ -51,6 +51,7 @@ fn hash_above(
     ensures count { IfOk result (λ hashes. count.new
         ≡ counted count.old ((length name.now + 1) * (parameters.now.iterations.0 + 1))) }
 {
+    // What is true of every count.
     let _ = count.value();
     let mut hashes = Vec::new(alloc);
     for labels in 0..name.labels() + 1 {
@@ -79,6 +80,7 @@ fn hash_wildcards(
     ensures count { IfOk result (λ hashes. count.new
         ≡ counted count.old (length name.now * (parameters.now.iterations.0 + 1))) }
 {
+    // What is true of every count.
     let _ = count.value();
     let mut hashes = Vec::new(alloc);
     for labels in 0..name.labels() {

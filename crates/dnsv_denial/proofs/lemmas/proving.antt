@@ -4,4 +4,5 @@ pub mod RespelledZoneLemmas
 pub mod FirstProofLemmas
 pub mod NumberLemmas
 pub mod WholeChainLemmas
+pub mod ZoneChainLemmas
 pub mod ZoneProofLemmas

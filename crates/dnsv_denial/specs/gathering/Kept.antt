@@ -5,7 +5,7 @@ use Rattle.std.specs.declared.cmp.Ordering.TheVariants.{Less}
 use Rattle.dnsv_names.specs.Name.{Labels, rightmost}
 use Rattle.dnsv_zones.specs.Any.{Any}
 use Rattle.dnsv_zones.specs.chains.HashedNames.{sha1_hash, AreHashes}
-use Rattle.dnsv_zones.specs.chains.Nsec3Chain.{Nsec3Record, Parameters}
+use Rattle.dnsv_zones.specs.chains.Nsec3Chain.{Nsec3Record}
 use Rattle.dnsv_zones.specs.chains.Rdata.{parameters_of}
 use Rattle.dnsv_canonical.specs.Rrsets.{ReceivedRrset}
 use Rattle.dnsv_chain.specs.Trust.{KeptTrust, SecuredIn}
@@ -13,13 +13,12 @@ use Rattle.dnsv_denial.specs.forms.Denials.{DenialForm}
 use Rattle.dnsv_denial.specs.gathering.Evidence.{IsNsec3At}
 use Rattle.dnsv_denial.specs.gathering.Gathered.{AreNsecsOf, AreNsec3sOf}
 use Rattle.dnsv_denial.specs.proving.ChainOf.{IsProofBy}
-use Rattle.dnsv_denial.specs.proving.FirstProof.{IsFirstOfZone, ProofRecords, StandsBy}
+use Rattle.dnsv_denial.specs.proving.FirstProof.{IsFirstOfZone, ProofRecords}
 use Rattle.dnsv_denial.specs.words.EvidenceWords.{Chain, parameters_cmp}
-use Rattle.dnsv_denial.specs.words.EvidenceWords.Chain.{ByNsec3}
 use Rattle.dnsv_denial.specs.declared.forms.denial.Denial.{Denial}
 use Rattle.dnsv_denial.specs.declared.records.number.RecordNumber.{RecordNumber}
-use Rattle.dnsv_denial.specs.declared.proving.zone_records.NameHashes.{NameHashes}
-use Rattle.dnsv_denial.specs.declared.proving.zone_records.ZoneRecords.{ZoneRecords}
+use Rattle.dnsv_denial.specs.declared.records.zone_records.NameHashes.{NameHashes}
+use Rattle.dnsv_denial.specs.declared.records.zone_records.ZoneRecords.{ZoneRecords}
 
 -- ---- what is kept
 
@@ -65,14 +64,3 @@ pub record IsZoneProof
   pub chain : Chain
   pub by_chain : IsProofBy Secured rrsets denial name zone chain proof
   pub first : IsFirstOfZone Secured rrsets (DenialForm denial name) zone chain
-
--- the place is that of the first set with which the records of the zone prove the denial
-pub record IsFirstSet
-    (Secured : ℕ → ℕ → Type 0) (rrsets : List ReceivedRrset) (denial : Denial) (name zone : Labels)
-    (sets : List NameHashes) (proof : ProofRecords) : Type 0 where
-  pub place : ℕ
-  pub set : NameHashes
-  pub there : slice_get sets place ≡ Some set
-  pub by_set : IsProofBy Secured rrsets denial name zone (ByNsec3 (parameters_of set.parameters.now)) proof
-  pub none_before : (k : ℕ) (earlier : NameHashes) → k < place → slice_get sets k ≡ Some earlier
-      → ¬ StandsBy Secured rrsets (DenialForm denial name) zone (ByNsec3 (parameters_of earlier.parameters.now))

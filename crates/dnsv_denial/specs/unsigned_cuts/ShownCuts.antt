@@ -1,16 +1,13 @@
 -- Which cuts the chains of kept zones show. No public clause cites this module.
 use Rattle.std.specs.Prelude.{◌≡◌, ◌<◌, ◌≤◌, ℕ, List, Some, length, slice_get}
 use Rattle.dnsv_names.specs.Name.{Labels, rightmost}
-use Rattle.dnsv_zones.specs.chains.Rdata.{parameters_of}
 use Rattle.dnsv_zones.specs.forms.Forms.{UnsignedCutForm}
 use Rattle.dnsv_zones.specs.forms.Parts.{OptsOutNextCloser, OptsOut}
 use Rattle.dnsv_zones.specs.forms.RecordWords.{words}
 use Rattle.dnsv_canonical.specs.Rrsets.{ReceivedRrset}
 use Rattle.dnsv_denial.specs.unsigned_cuts.Findings.{IsFewestFound, IsGreater, IsLesser, IsMostFound}
 use Rattle.dnsv_denial.specs.words.EvidenceWords.{Chain, evidence_said}
-use Rattle.dnsv_denial.specs.words.EvidenceWords.Chain.{ByNsec3}
 use Rattle.dnsv_denial.specs.declared.unsigned_cuts.shown_cuts.ShownCuts.{ShownCuts}
-use Rattle.dnsv_denial.specs.declared.proving.zone_records.NameHashes.{NameHashes}
 
 -- ---- of a chain of a zone
 
@@ -25,15 +22,6 @@ pub record IsCutOf
 abbrev pub IsOptOutOf : (ℕ → ℕ → Type 0) → List ReceivedRrset → Labels → Labels → Chain → ℕ → Type 0
 IsOptOutOf Secured rrsets name zone chain labels =
     OptsOut (evidence_said Secured rrsets zone chain) zone name labels
-
--- the same of the chain of the zone's NSEC3 records with the set's parameters
-abbrev pub IsCutBySet : (ℕ → ℕ → Type 0) → List ReceivedRrset → Labels → Labels → NameHashes → ℕ → Type 0
-IsCutBySet Secured rrsets name zone set =
-    IsCutOf Secured rrsets name zone (ByNsec3 (parameters_of set.parameters.now))
-
-abbrev pub IsOptOutBySet : (ℕ → ℕ → Type 0) → List ReceivedRrset → Labels → Labels → NameHashes → ℕ → Type 0
-IsOptOutBySet Secured rrsets name zone set =
-    IsOptOutOf Secured rrsets name zone (ByNsec3 (parameters_of set.parameters.now))
 
 -- ---- of a zone
 

@@ -12,8 +12,8 @@ ghost use Rattle.dnsv_denial.specs.words.EvidenceWords.{parameters_cmp};
 
 use crate::gathering::nsec::nsecs_of;
 use crate::gathering::nsec3::nsec3s_of;
-use crate::proving::zone_records::{NameHashes, ZoneRecords};
 use crate::records::nsec3_entries::Nsec3Entries;
+use crate::records::zone_records::{NameHashes, ZoneRecords};
 use dnsv_canonical::Capture;
 use dnsv_chain::Trust;
 use dnsv_names::{Count, Name};
@@ -61,6 +61,7 @@ pub fn sets_of<'a>(
     ensures count { IfOk result (λ sets. count.new
         ≡ counted count.old (hashes_for name.now (map (λ set. set.parameters.now) sets.items))) }
 {
+    // What is true of every count.
     let _ = count.value();
     let ordered = in_order(alloc, all)?;
     let mut sets = Vec::new(alloc);

@@ -10,15 +10,16 @@ ghost use Rattle.dnsv_denial.specs.words.EvidenceWords.{number_cmp};
 
 use crate::forms::denial::Denial;
 use crate::proving::proof::Proof;
-use crate::proving::zone_records::{NameHashes, ZoneRecords, zone_proof};
+use crate::proving::zone_proof::zone_proof;
+use crate::records::zone_records::{NameHashes, ZoneRecords};
 use dnsv_names::Name;
 
 /// The first proof of the denial, by the zone with most labels that has one; or `None` where no zone has.
-pub fn first_proof(
+pub fn first_proof<'a>(
     denial: Denial,
-    name: &Name,
-    zones: &[ZoneRecords<'_>],
-    sets: &[NameHashes<'_>],
+    name: &'a Name,
+    zones: &'a [ZoneRecords<'a>],
+    sets: &'a [NameHashes<'a>],
 ) -> Option<Proof>
     requires { AllByRecursion (IsSetOf name.now) sets.now }
     ensures { (trust : KeptTrust) (rrsets : List ReceivedRrset) → AreSets (SecuredIn trust) rrsets sets.now

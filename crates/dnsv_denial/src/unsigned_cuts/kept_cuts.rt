@@ -6,7 +6,7 @@ ghost use Rattle.dnsv_chain.specs.Trust.{KeptTrust, SecuredIn};
 ghost use Rattle.dnsv_denial.specs.gathering.Kept.{IsViewOf};
 ghost use Rattle.dnsv_denial.specs.unsigned_cuts.Cuts.{HasOptedOutNextCloser, HasUnsignedCut, IsUnsignedCut};
 
-use crate::proving::zone_records::{NameHashes, ZoneRecords};
+use crate::records::zone_records::{NameHashes, ZoneRecords};
 use crate::unsigned_cuts::first_cut::{first_cut, next_closer};
 use crate::unsigned_cuts::shown_cuts::zones_cuts;
 use crate::unsigned_cuts::unusable_ds::highest_unusable_ds;

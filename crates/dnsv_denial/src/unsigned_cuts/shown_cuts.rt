@@ -1,30 +1,18 @@
 //! Where the records of kept zones show that names may be unsigned.
-ghost use Rattle.std.specs.Prelude.{List, length};
+ghost use Rattle.std.specs.Prelude.{List};
 ghost use Rattle.std.specs.List.{AllByRecursion};
-ghost use Rattle.dnsv_zones.specs.chains.Rdata.{parameters_of};
 ghost use Rattle.dnsv_canonical.specs.Rrsets.{ReceivedRrset};
 ghost use Rattle.dnsv_chain.specs.Trust.{KeptTrust, SecuredIn};
 ghost use Rattle.dnsv_denial.specs.gathering.Kept.{AreSets, AreZones, IsSetOf, IsZoneOf};
 ghost use Rattle.dnsv_denial.specs.proving.ChainOf.{IsChainOf};
 ghost use Rattle.dnsv_denial.specs.unsigned_cuts.Cuts.{IsOptOutCut, IsUnsignedDelegationCut};
-ghost use Rattle.dnsv_denial.specs.unsigned_cuts.ShownCuts.{
-  AreBoth,
-  AreShown,
-  IsCutBySet,
-  IsCutIn,
-  IsCutOf,
-  IsOfFirst,
-  IsOptOutBySet,
-  IsOptOutIn,
-  IsOptOutOf,
-};
+ghost use Rattle.dnsv_denial.specs.unsigned_cuts.ShownCuts.{AreBoth, AreShown, IsCutIn, IsCutOf, IsOptOutIn, IsOptOutOf};
 ghost use Rattle.dnsv_denial.specs.words.ChainSaid.{HasHashes};
 ghost use Rattle.dnsv_denial.specs.words.EvidenceWords.{Chain};
-ghost use Rattle.dnsv_denial.specs.words.EvidenceWords.Chain.{ByNsec3};
 
 use crate::forms::cuts::{opt_out, unsigned_delegation};
-use crate::proving::zone_records::{NameHashes, ZoneRecords, nsec3_records};
 use crate::records::chain_records::ChainRecords;
+use crate::records::zone_records::{NameHashes, ZoneRecords, zone_chain};
 use crate::unsigned_cuts::findings::{greater, lesser};
 use dnsv_names::Name;
 
@@ -38,7 +26,11 @@ pub struct ShownCuts {
 }
 
 /// What any chain of these zones shows.
-pub fn zones_cuts(zones: &[ZoneRecords<'_>], name: &Name, sets: &[NameHashes<'_>]) -> ShownCuts
+pub fn zones_cuts<'a>(
+    zones: &'a [ZoneRecords<'a>],
+    name: &'a Name,
+    sets: &'a [NameHashes<'a>],
+) -> ShownCuts
     requires { AllByRecursion (IsSetOf name.now) sets.now }
     ensures { (trust : KeptTrust) (rrsets : List ReceivedRrset)
         → AreZones (SecuredIn trust) rrsets name.now zones.now → AreSets (SecuredIn trust) rrsets sets.now
@@ -56,46 +48,22 @@ pub fn zones_cuts(zones: &[ZoneRecords<'_>], name: &Name, sets: &[NameHashes<'_>
 }
 
 /// What any chain of the zone shows.
-fn zone_cuts(zone: &ZoneRecords<'_>, name: &Name, sets: &[NameHashes<'_>]) -> ShownCuts
+fn zone_cuts<'a>(zone: &'a ZoneRecords<'a>, name: &'a Name, sets: &'a [NameHashes<'a>]) -> ShownCuts
     requires { AllByRecursion (IsSetOf name.now) sets.now }
     ensures { (trust : KeptTrust) (rrsets : List ReceivedRrset) → IsZoneOf (SecuredIn trust) rrsets zone.now
         → AreSets (SecuredIn trust) rrsets sets.now
         → AreShown (IsCutIn (SecuredIn trust) rrsets name.now zone.now.zone)
         (IsOptOutIn (SecuredIn trust) rrsets name.now zone.now.zone) result }
 {
-    let nsecs = ChainRecords::Nsec(&zone.nsecs);
-    let by_nsec = chain_cuts(&zone.zone, name, &nsecs);
-    both(by_nsec, sets_cuts(zone, name, sets))
-}
-
-/// What the zone's NSEC3 records show with any of the sets.
-fn sets_cuts(zone: &ZoneRecords<'_>, name: &Name, sets: &[NameHashes<'_>]) -> ShownCuts
-    requires { AllByRecursion (IsSetOf name.now) sets.now }
-    ensures { (trust : KeptTrust) (rrsets : List ReceivedRrset) → IsZoneOf (SecuredIn trust) rrsets zone.now
-        → AreShown
-        (IsOfFirst sets.now (IsCutBySet (SecuredIn trust) rrsets name.now zone.now.zone) (length sets.now))
-        (IsOfFirst sets.now (IsOptOutBySet (SecuredIn trust) rrsets name.now zone.now.zone) (length sets.now))
-        result }
-{
     let mut found = ShownCuts {
         no_ds: None,
         opt_out: None,
     };
-    for set in sets {
-        found = both(found, set_cuts(zone, name, set));
+    for number in 0..sets.len() + 1 {
+        let chain = zone_chain(number, name, zone, sets);
+        found = both(found, chain_cuts(&zone.zone, name, &chain.records()));
     }
     found
-}
-
-/// What the zone's NSEC3 records show with the set.
-fn set_cuts(zone: &ZoneRecords<'_>, name: &Name, set: &NameHashes<'_>) -> ShownCuts
-    requires { IsSetOf name.now set.now }
-    ensures { (trust : KeptTrust) (rrsets : List ReceivedRrset) → IsZoneOf (SecuredIn trust) rrsets zone.now
-        → AreShown (IsCutBySet (SecuredIn trust) rrsets name.now zone.now.zone set.now)
-        (IsOptOutBySet (SecuredIn trust) rrsets name.now zone.now.zone set.now) result }
-{
-    let hashed = nsec3_records(name, zone, set);
-    chain_cuts(&zone.zone, name, &ChainRecords::Nsec3(&hashed))
 }
 
 /// What the records of a chain of the zone show.

@@ -24,9 +24,9 @@ use Rattle.dnsv_canonical.proofs.CanonicalLemmas.{each_map}
 use Rattle.dnsv_canonical.specs.Rrsets.{ReceivedRrset}
 use Rattle.dnsv_denial.specs.gathering.Kept.{IsSetOf, IsZoneOf}
 use Rattle.dnsv_denial.specs.words.EvidenceWords.{parameters_cmp}
-use Rattle.dnsv_denial.specs.declared.proving.zone_records.NameHashes.{NameHashes}
-use Rattle.dnsv_denial.specs.declared.proving.zone_records.ZoneRecords.{ZoneRecords}
-use Rattle.dnsv_denial.proofs.lemmas.proving.ZoneProofLemmas.{parameters_total}
+use Rattle.dnsv_denial.specs.declared.records.zone_records.NameHashes.{NameHashes}
+use Rattle.dnsv_denial.specs.declared.records.zone_records.ZoneRecords.{ZoneRecords}
+use Rattle.dnsv_denial.proofs.lemmas.proving.ZoneChainLemmas.{parameters_total}
 
 -- ---- zones
 

@@ -1,6 +1,6 @@
 -- The first proof of a denial, zone by zone from the one with most labels.
 use Rattle.std.proofs.Common.{◌≡◌, ℕ, ◌+◌, ◌<◌, ◌≤◌, List, length, refl, sym, ap, ◌∙◌, subst, ⊎_elim, arith}
-use Rattle.std.specs.Prelude.{Some, slice_get, slice_index_or}
+use Rattle.std.specs.Prelude.{slice_index_or}
 use Rattle.std.proofs.lemmas.Bool.{cases_lt}
 use Rattle.std.proofs.lemmas.Option.{slice_get_read}
 use Rattle.dnsv_names.specs.Name.{Labels, rightmost}
@@ -10,7 +10,7 @@ use Rattle.dnsv_denial.specs.gathering.Kept.{AreZones, IsZoneOf, IsZoneProof}
 use Rattle.dnsv_denial.specs.proving.FirstProof.{CanBeProved, IsFirstProof, ProofRecords, StandsBy}
 use Rattle.dnsv_denial.specs.words.EvidenceWords.{Chain, evidence_said, number_cmp}
 use Rattle.dnsv_denial.specs.declared.forms.denial.Denial.{Denial}
-use Rattle.dnsv_denial.specs.declared.proving.zone_records.ZoneRecords.{ZoneRecords}
+use Rattle.dnsv_denial.specs.declared.records.zone_records.ZoneRecords.{ZoneRecords}
 use Rattle.dnsv_denial.proofs.lemmas.forms.DenialLemmas.{parts_stand}
 
 module _ (Secured : ℕ → ℕ → Type 0) (rrsets : List ReceivedRrset) (denial : Denial) (name : Labels) where

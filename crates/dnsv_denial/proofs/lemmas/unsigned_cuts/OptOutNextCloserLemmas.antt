@@ -1,18 +1,17 @@
--- Opt-Out against an answer from a wildcard, set by set, in a zone however it is spelled.
+-- Opt-Out against an answer from a wildcard, chain by chain, in a zone however it is spelled.
 use Rattle.std.proofs.Common.{◌≡◌, ℕ, ◌+◌, ◌≤◌, List, length, get_or, refl, sym, ap, ◌∙◌, subst, arith}
 use Rattle.std.specs.Prelude.{Some, slice_get}
 use Rattle.std.proofs.lemmas.Option.{slice_get_read}
 use Rattle.dnsv_names.specs.Name.{Labels, SameName, IsAtOrBelow, rightmost}
 use Rattle.dnsv_names.specs.Tree.AncestorLaws.{rightmost_above, rightmost_same}
 use Rattle.dnsv_names.specs.Tree.TreeLaws.{at_or_below_length, at_or_below_trans}
-use Rattle.dnsv_zones.specs.chains.Rdata.{parameters_of}
-use Rattle.dnsv_zones.specs.forms.Forms.{IsAbove}
 use Rattle.dnsv_zones.specs.forms.Parts.{OptsOutNextCloser}
 use Rattle.dnsv_zones.specs.forms.RecordWords.{RecordWords}
 use Rattle.dnsv_canonical.specs.Rrsets.{ReceivedRrset}
 use Rattle.dnsv_denial.specs.gathering.Kept.{AreSets, AreZones, IsZoneOf}
 use Rattle.dnsv_denial.specs.proving.ChainOf.{IsChainOf}
 use Rattle.dnsv_denial.specs.proving.Numbers.{numbers_of}
+use Rattle.dnsv_denial.specs.proving.ZoneChains.{chains_of}
 use Rattle.dnsv_denial.specs.unsigned_cuts.Cuts.{HasOptedOutNextCloser}
 use Rattle.dnsv_denial.specs.unsigned_cuts.ShownCuts.{OptsOutNextCloserOf}
 use Rattle.dnsv_denial.specs.words.ChainSaid.{chain_said}
@@ -20,10 +19,10 @@ use Rattle.dnsv_denial.specs.words.EvidenceWords.{Chain, evidence_said}
 use Rattle.dnsv_denial.specs.words.EvidenceWords.Chain.{ByNsec, ByNsec3}
 use Rattle.dnsv_denial.specs.declared.records.number.RecordNumber.{RecordNumber}
 use Rattle.dnsv_denial.specs.declared.records.chain_records.ChainRecords.{ChainRecords}
-use Rattle.dnsv_denial.specs.declared.proving.zone_records.NameHashes.{NameHashes}
-use Rattle.dnsv_denial.specs.declared.proving.zone_records.ZoneRecords.{ZoneRecords}
-use Rattle.dnsv_denial.proofs.lemmas.words.AlikeLemmas.{any_place}
+use Rattle.dnsv_denial.specs.declared.records.zone_records.NameHashes.{NameHashes}
+use Rattle.dnsv_denial.specs.declared.records.zone_records.ZoneRecords.{ZoneRecords}
 use Rattle.dnsv_denial.proofs.lemmas.proving.ChainProofLemmas.{chain_alike}
+use Rattle.dnsv_denial.proofs.lemmas.proving.ZoneChainLemmas.{HasOneOf, number_of}
 use Rattle.dnsv_denial.proofs.lemmas.proving.RespelledZoneLemmas.{above_as, opted_out_as}
 use Rattle.dnsv_denial.proofs.lemmas.words.IndexLemmas.{SayAlike}
 
@@ -50,26 +49,24 @@ chain_leaves Secured rrsets name zone labels chain records Test are to from =
 -- ---- a zone
 
 module _ (Secured : ℕ → ℕ → Type 0) (rrsets : List ReceivedRrset) (name zone : Labels) (labels : ℕ) (sets : List NameHashes) where
-  pub opt_out_by_set : (set : NameHashes) → OptsOutNextCloserOf Secured rrsets name labels zone (ByNsec3 (parameters_of set.parameters.now))
-      → HasOptedOutNextCloser Secured rrsets name labels zone
-  opt_out_by_set set leaves = record {
+  pub opt_out_by_chain : (chain : Chain) → OptsOutNextCloserOf Secured rrsets name labels zone chain → HasOptedOutNextCloser Secured rrsets name labels zone
+  opt_out_by_chain chain leaves = record {
     above = leaves.above;
-    chain = ByNsec3 (parameters_of set.parameters.now);
+    chain = chain;
     covering = leaves.opted_out.0;
     opted_out = leaves.opted_out.1;
   }
 
-  by_chain : AreSets Secured rrsets sets → IsAbove zone name labels → (chain : Chain) (n : RecordNumber) → (evidence_said Secured rrsets zone chain).OptedOut (rightmost name (labels + 1)) n
-      → (place : ℕ) × (set : NameHashes) × (slice_get sets place ≡ Some set) × OptsOutNextCloserOf Secured rrsets name labels zone (ByNsec3 (parameters_of set.parameters.now))
-  by_chain are above ByNsec n said = absurd said
-  by_chain are above (ByNsec3 parameters) n said =
-      let it = any_place (λ set. parameters_of set.parameters.now ≡ said.0.parameters) sets (are.all zone n said.0 said.1) in
-      (it.0, it.1, it.2, subst (λ p. OptsOutNextCloserOf Secured rrsets name labels zone (ByNsec3 p)) (sym said.2.0.same_parameters ∙ sym it.3) (record { above = above; opted_out = (n, said) }))
+  opt_out_has_one : (chain : Chain) (n : RecordNumber) (x : Labels) → (evidence_said Secured rrsets zone chain).OptedOut x n → HasOneOf Secured rrsets zone chain
+  opt_out_has_one ByNsec n x said = tt
+  opt_out_has_one (ByNsec3 parameters) n x said = record { number = n; nsec3 = said.0; is = said.1; same = said.2.0.same_parameters }
 
   pub none_opt_out : AreSets Secured rrsets sets
-      → ((k : ℕ) (set : NameHashes) → slice_get sets k ≡ Some set → ¬ OptsOutNextCloserOf Secured rrsets name labels zone (ByNsec3 (parameters_of set.parameters.now)))
+      → ((k : ℕ) (chain : Chain) → slice_get (chains_of sets) k ≡ Some chain → ¬ OptsOutNextCloserOf Secured rrsets name labels zone chain)
       → ¬ HasOptedOutNextCloser Secured rrsets name labels zone
-  none_opt_out are none has = let it = by_chain are has.above has.chain has.covering has.opted_out in none it.0 it.1 it.2 it.3
+  none_opt_out are none has =
+      let it = number_of Secured rrsets zone sets are has.chain (opt_out_has_one has.chain has.covering (rightmost name (labels + 1)) has.opted_out) in
+      none it.0 has.chain it.1 (record { above = has.above; opted_out = (has.covering, has.opted_out) })
 
 -- ---- a zone of the same name
 

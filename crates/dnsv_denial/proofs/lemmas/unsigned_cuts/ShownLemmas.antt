@@ -1,34 +1,33 @@
 -- What the chains of kept zones show of cuts, chain by chain and zone by zone.
-use Rattle.std.proofs.Common.{◌≡◌, ℕ, ◌+◌, ◌<◌, ◌≤◌, ◌⊎◌, Option, List, length, get_or, ◌∙◌, sym, subst, inl, inr, ⊎_elim, arith}
+use Rattle.std.proofs.Common.{◌≡◌, ℕ, ◌+◌, ◌<◌, ◌≤◌, ◌⊎◌, Option, List, length, get_or, sym, subst, inl, inr, ⊎_elim, arith}
 use Rattle.std.specs.Prelude.{Some, None, MatchOption, slice_get}
 use Rattle.std.proofs.lemmas.Bool.{cases_lt}
 use Rattle.std.proofs.lemmas.Option.{slice_get_cases, slice_get_within}
 use Rattle.dnsv_names.specs.Name.{Labels, rightmost}
 use Rattle.dnsv_names.specs.Tree.{wildcard_of}
-use Rattle.dnsv_zones.specs.chains.Nsec3Chain.{Nsec3Record, Parameters}
-use Rattle.dnsv_zones.specs.chains.Rdata.{parameters_of}
+use Rattle.dnsv_zones.specs.chains.Nsec3Chain.{Parameters}
 use Rattle.dnsv_zones.specs.forms.Forms.{UnsignedCutForm}
 use Rattle.dnsv_zones.specs.forms.Parts.{IsHighestCut, IsOptOutWithMostLabels, OptsOut}
 use Rattle.dnsv_zones.specs.forms.RecordWords.{RecordWords, words}
 use Rattle.dnsv_zones.proofs.lemmas.chains.MoreLemmas.{SayMore, unsigned_cut_more}
 use Rattle.dnsv_canonical.specs.Rrsets.{ReceivedRrset}
-use Rattle.dnsv_denial.specs.gathering.Evidence.{IsNsec3At}
 use Rattle.dnsv_denial.specs.gathering.Kept.{AreSets, AreZones}
 use Rattle.dnsv_denial.specs.proving.ChainOf.{IsChainOf}
 use Rattle.dnsv_denial.specs.proving.Numbers.{numbers_of}
+use Rattle.dnsv_denial.specs.proving.ZoneChains.{chains_of}
 use Rattle.dnsv_denial.specs.unsigned_cuts.Cuts.{IsUnsignedDelegationCut, IsOptOutCut}
 use Rattle.dnsv_denial.specs.unsigned_cuts.Findings.{IsFewestFound, IsMostFound}
-use Rattle.dnsv_denial.specs.unsigned_cuts.ShownCuts.{IsCutOf, IsOptOutOf, IsCutBySet, IsOptOutBySet, IsCutIn, IsOptOutIn, IsOfFirst, AreShown, AreBoth}
+use Rattle.dnsv_denial.specs.unsigned_cuts.ShownCuts.{IsCutOf, IsOptOutOf, IsCutIn, IsOptOutIn, IsOfFirst, AreShown, AreBoth}
 use Rattle.dnsv_denial.specs.words.ChainSaid.{chain_said}
 use Rattle.dnsv_denial.specs.words.EvidenceWords.{Chain, evidence_said, nsec3_said}
 use Rattle.dnsv_denial.specs.words.EvidenceWords.Chain.{ByNsec, ByNsec3}
 use Rattle.dnsv_denial.specs.declared.records.number.RecordNumber.{RecordNumber}
 use Rattle.dnsv_denial.specs.declared.records.chain_records.ChainRecords.{ChainRecords}
 use Rattle.dnsv_denial.specs.declared.unsigned_cuts.shown_cuts.ShownCuts.{ShownCuts}
-use Rattle.dnsv_denial.specs.declared.proving.zone_records.NameHashes.{NameHashes}
-use Rattle.dnsv_denial.specs.declared.proving.zone_records.ZoneRecords.{ZoneRecords}
-use Rattle.dnsv_denial.proofs.lemmas.words.AlikeLemmas.{any_place}
+use Rattle.dnsv_denial.specs.declared.records.zone_records.NameHashes.{NameHashes}
+use Rattle.dnsv_denial.specs.declared.records.zone_records.ZoneRecords.{ZoneRecords}
 use Rattle.dnsv_denial.proofs.lemmas.proving.ChainProofLemmas.{chain_alike}
+use Rattle.dnsv_denial.proofs.lemmas.proving.ZoneChainLemmas.{HasOne, HasOneOf, number_of}
 use Rattle.dnsv_denial.proofs.lemmas.unsigned_cuts.FindingLemmas.{fewest_as, most_as, fewest_of_both, most_of_both}
 use Rattle.dnsv_denial.proofs.lemmas.words.IndexLemmas.{SayAlike, words_to, words_from}
 
@@ -163,58 +162,43 @@ module _ (Secured : ℕ → ℕ → Type 0) (rrsets : List ReceivedRrset) (name 
 -- ---- a zone
 
 module _ (Secured : ℕ → ℕ → Type 0) (rrsets : List ReceivedRrset) (name zone : Labels) (sets : List NameHashes) (are : AreSets Secured rrsets sets) where
-  set_with : (number : RecordNumber) (nsec3 : Nsec3Record) → IsNsec3At Secured rrsets zone number nsec3 → (parameters : Parameters) → nsec3.parameters ≡ parameters
-      → (place : ℕ) × (set : NameHashes) × (slice_get sets place ≡ Some set) × (parameters ≡ parameters_of set.parameters.now)
-  set_with number nsec3 is parameters same =
-      let it = any_place (λ set. parameters_of set.parameters.now ≡ nsec3.parameters) sets (are.all zone number nsec3 is) in
-      (it.0, it.1, it.2, sym same ∙ sym it.3)
+  cut_has_one : (labels : ℕ) (chain : Chain) → IsCutOf Secured rrsets name zone chain labels → HasOneOf Secured rrsets zone chain
+  cut_has_one labels ByNsec cut = tt
+  cut_has_one labels (ByNsec3 parameters) cut =
+      let said = cut.form.types in record { number = said.0; nsec3 = said.1.0; is = said.1.1; same = said.1.2.0.same_parameters }
 
-  by_parameters : (P : Chain → ℕ → Type 0) (parameters : Parameters) (labels : ℕ) → P (ByNsec3 parameters) labels
-      → (place : ℕ) × (set : NameHashes) × (slice_get sets place ≡ Some set) × (parameters ≡ parameters_of set.parameters.now)
-      → IsOfFirst sets (λ set. P (ByNsec3 (parameters_of set.parameters.now))) (length sets) labels
-  by_parameters P parameters labels holds it = record {
-    place = it.0;
-    member = it.1;
-    early = slice_get_within sets it.0 it.1 it.2;
-    there = it.2;
-    holds = subst (λ (p : Parameters). P (ByNsec3 p) labels) it.3 holds;
-  }
+  out_one : (parameters : Parameters) (x y : Labels) → ((n : RecordNumber) × (nsec3_said Secured rrsets zone parameters).OptedOut x n) ⊎ ((n : RecordNumber) × (nsec3_said Secured rrsets zone parameters).OptedOut y n)
+      → HasOne Secured rrsets zone parameters
+  out_one parameters x y (inl said) = record { number = said.0; nsec3 = said.1.0; is = said.1.1; same = said.1.2.0.same_parameters }
+  out_one parameters x y (inr said) = record { number = said.0; nsec3 = said.1.0; is = said.1.1; same = said.1.2.0.same_parameters }
 
-  cut_by_chain : (labels : ℕ) (chain : Chain) → IsCutOf Secured rrsets name zone chain labels
-      → IsCutOf Secured rrsets name zone ByNsec labels ⊎ IsOfFirst sets (IsCutBySet Secured rrsets name zone) (length sets) labels
-  cut_by_chain labels ByNsec cut = inl cut
-  cut_by_chain labels (ByNsec3 parameters) cut =
-      let said = cut.form.types in
-      inr (by_parameters (IsCutOf Secured rrsets name zone) parameters labels cut (set_with said.0 said.1.0 said.1.1 parameters said.1.2.0.same_parameters))
+  out_has_one : (labels : ℕ) (chain : Chain) → IsOptOutOf Secured rrsets name zone chain labels → HasOneOf Secured rrsets zone chain
+  out_has_one labels ByNsec out = tt
+  out_has_one labels (ByNsec3 parameters) out = out_one parameters (rightmost name (labels + 1)) (wildcard_of (rightmost name labels)) out.opted_out
 
-  out_set : (parameters : Parameters) (x y : Labels) → ((n : RecordNumber) × (nsec3_said Secured rrsets zone parameters).OptedOut x n) ⊎ ((n : RecordNumber) × (nsec3_said Secured rrsets zone parameters).OptedOut y n)
-      → (place : ℕ) × (set : NameHashes) × (slice_get sets place ≡ Some set) × (parameters ≡ parameters_of set.parameters.now)
-  out_set parameters x y (inl said) = set_with said.0 said.1.0 said.1.1 parameters said.1.2.0.same_parameters
-  out_set parameters x y (inr said) = set_with said.0 said.1.0 said.1.1 parameters said.1.2.0.same_parameters
-
-  out_by_chain : (labels : ℕ) (chain : Chain) → IsOptOutOf Secured rrsets name zone chain labels
-      → IsOptOutOf Secured rrsets name zone ByNsec labels ⊎ IsOfFirst sets (IsOptOutBySet Secured rrsets name zone) (length sets) labels
-  out_by_chain labels ByNsec out = inl out
-  out_by_chain labels (ByNsec3 parameters) out =
-      inr (by_parameters (IsOptOutOf Secured rrsets name zone) parameters labels out (out_set parameters (rightmost name (labels + 1)) (wildcard_of (rightmost name labels)) out.opted_out))
-
-  pub zone_shown : (one other next : ShownCuts) → AreShown (IsCutOf Secured rrsets name zone ByNsec) (IsOptOutOf Secured rrsets name zone ByNsec) one
-      → AreShown (IsOfFirst sets (IsCutBySet Secured rrsets name zone) (length sets)) (IsOfFirst sets (IsOptOutBySet Secured rrsets name zone) (length sets)) other
-      → AreBoth one other next → AreShown (IsCutIn Secured rrsets name zone) (IsOptOutIn Secured rrsets name zone) next
-  zone_shown one other next by_nsec by_sets both =
-      shown_both (IsCutOf Secured rrsets name zone ByNsec) (IsOfFirst sets (IsCutBySet Secured rrsets name zone) (length sets)) (IsCutIn Secured rrsets name zone)
-      (IsOptOutOf Secured rrsets name zone ByNsec) (IsOfFirst sets (IsOptOutBySet Secured rrsets name zone) (length sets)) (IsOptOutIn Secured rrsets name zone)
-      (record {
-        one = λ n cut. record { chain = ByNsec; cut = cut };
-        other = λ n is. record { chain = ByNsec3 (parameters_of is.member.parameters.now); cut = is.holds };
-        back = λ n is. cut_by_chain n is.chain is.cut;
+  pub zone_shown : (found : ShownCuts)
+      → AreShown (IsOfFirst (chains_of sets) (IsCutOf Secured rrsets name zone) (length (chains_of sets))) (IsOfFirst (chains_of sets) (IsOptOutOf Secured rrsets name zone) (length (chains_of sets))) found
+      → AreShown (IsCutIn Secured rrsets name zone) (IsOptOutIn Secured rrsets name zone) found
+  zone_shown found is =
+      shown_as (IsOfFirst (chains_of sets) (IsCutOf Secured rrsets name zone) (length (chains_of sets))) (IsCutIn Secured rrsets name zone)
+      (IsOfFirst (chains_of sets) (IsOptOutOf Secured rrsets name zone) (length (chains_of sets))) (IsOptOutIn Secured rrsets name zone)
+      (λ n of. record { chain = of.member; cut = of.holds })
+      (λ n is. let it = number_of Secured rrsets zone sets are is.chain (cut_has_one n is.chain is.cut) in record {
+        place = it.0;
+        member = is.chain;
+        early = slice_get_within (chains_of sets) it.0 is.chain it.1;
+        there = it.1;
+        holds = is.cut;
       })
-      (record {
-        one = λ n out. record { chain = ByNsec; out = out };
-        other = λ n is. record { chain = ByNsec3 (parameters_of is.member.parameters.now); out = is.holds };
-        back = λ n is. out_by_chain n is.chain is.out;
+      (λ n of. record { chain = of.member; out = of.holds })
+      (λ n is. let it = number_of Secured rrsets zone sets are is.chain (out_has_one n is.chain is.out) in record {
+        place = it.0;
+        member = is.chain;
+        early = slice_get_within (chains_of sets) it.0 is.chain it.1;
+        there = it.1;
+        holds = is.out;
       })
-      one other next by_nsec by_sets both
+      found is
 
 -- ---- all zones
 

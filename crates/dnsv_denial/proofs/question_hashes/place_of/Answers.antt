@@ -2,7 +2,7 @@ use Rattle.std.proofs.Common.{◌≡◌, length, refl, arith}
 use Rattle.std.proofs.lemmas.Option.{slice_get_read, slice_get_within}
 use Rattle.dnsv_denial.proofs.lemmas.words.FirstLemmas.{none_with}
 use Rattle.dnsv_zones.specs.chains.Rdata.{parameters_of}
-use Rattle.dnsv_denial.specs.declared.proving.zone_records.NameHashes.{NameHashes}
+use Rattle.dnsv_denial.specs.declared.records.zone_records.NameHashes.{NameHashes}
 use Rattle.dnsv_denial.proofs.question_hashes.place_of.Goals as goal
 
 pub returns-then-has_parameters : goal.returns-then-has_parameters

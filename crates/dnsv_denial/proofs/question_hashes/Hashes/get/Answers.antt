@@ -9,7 +9,7 @@ use Rattle.dnsv_denial.specs.gathering.Kept.{IsSetOf}
 use Rattle.dnsv_zones.specs.chains.Nsec3Chain.{Parameters}
 use Rattle.dnsv_denial.specs.QuestionHashes.{AreUsed, HashedQuestion, IsAskedHash}
 use Rattle.dnsv_zones.specs.chains.Rdata.{parameters_of}
-use Rattle.dnsv_denial.specs.declared.proving.zone_records.NameHashes.{NameHashes}
+use Rattle.dnsv_denial.specs.declared.records.zone_records.NameHashes.{NameHashes}
 use Rattle.dnsv_denial.proofs.question_hashes.Hashes.get.Goals as goal
 
 pub returns-in_default : goal.returns-in_default

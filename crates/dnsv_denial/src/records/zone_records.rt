@@ -1,0 +1,77 @@
+//! The records of one zone, and its chains one after another.
+ghost use Rattle.std.specs.Prelude.{◌≡◌, ◌≤◌, List, length};
+ghost use Rattle.std.specs.List.{AllByRecursion};
+ghost use Rattle.dnsv_canonical.specs.Rrsets.{ReceivedRrset};
+ghost use Rattle.dnsv_chain.specs.Trust.{KeptTrust, SecuredIn};
+ghost use Rattle.dnsv_denial.specs.gathering.Kept.{IsSetOf, IsZoneOf};
+ghost use Rattle.dnsv_denial.specs.proving.ZoneChains.{HasKeptHashes, IsKeptOf, chain_at};
+ghost use Rattle.dnsv_denial.specs.records.AskedHash.{HasHashesOf};
+
+use crate::records::entry::NsecEntry;
+use crate::records::hashed_records::HashedRecords;
+use crate::records::kept_chain::KeptChain;
+use crate::records::nsec3_entries::Nsec3Entries;
+use dnsv_names::Name;
+use dnsv_records::Nsec3Parameters;
+use dnsv_zones::HashedNames;
+
+/// Parameters of NSEC3 records, and the hashes with them of the names that a question asks for.
+#[derive(Debug, Drop)]
+pub struct NameHashes<'a> {
+    /// What the hashes are made with.
+    pub parameters: &'a Nsec3Parameters,
+    /// The hashes.
+    pub hashed: HashedNames,
+}
+
+/// The records of a zone that evidence has.
+#[derive(Debug, Drop)]
+pub struct ZoneRecords<'a> {
+    /// The zone's name, as the question's name spells it.
+    pub zone: Name,
+    /// Its NSEC records, in the order of their numbers.
+    pub nsecs: Vec<NsecEntry<'a>>,
+    /// Its NSEC3 records, whatever their parameters.
+    pub nsec3s: Nsec3Entries<'a>,
+}
+
+/// The records of the zone's chain with this number, in the order in which chains are asked: NSEC is 0, and NSEC3 with
+/// the parameters of each set follows, in the order of the sets.
+pub fn zone_chain<'a>(
+    number: usize,
+    name: &'a Name,
+    zone: &'a ZoneRecords<'a>,
+    sets: &'a [NameHashes<'a>],
+) -> KeptChain<'a>
+    requires number { number ≤ length sets.now }
+    requires hashed { AllByRecursion (IsSetOf name.now) sets.now }
+    ensures hashes { HasKeptHashes name.now result }
+    ensures chain { (trust : KeptTrust) (rrsets : List ReceivedRrset) → IsZoneOf (SecuredIn trust) rrsets zone.now
+        → IsKeptOf (SecuredIn trust) rrsets zone.now.zone (chain_at sets.now number) result }
+{
+    if number == 0 {
+        return KeptChain::Nsec(&zone.nsecs);
+    }
+    KeptChain::Nsec3(nsec3_records(name, zone, &sets[number - 1]))
+}
+
+/// The zone's NSEC3 records, with the set's hashes of the names that a question of the name asks for.
+fn nsec3_records<'a>(
+    name: &'a Name,
+    zone: &'a ZoneRecords<'a>,
+    set: &'a NameHashes<'a>,
+) -> HashedRecords<'a>
+    requires { IsSetOf name.now set.now }
+    ensures entries { result.entries.now ≡ zone.now.nsec3s }
+    ensures parameters { result.parameters.now ≡ set.now.parameters.now }
+    ensures name { result.name.now ≡ name.now }
+    ensures hashes { HasHashesOf result }
+{
+    HashedRecords {
+        entries: &zone.nsec3s,
+        name,
+        parameters: set.parameters,
+        above: &set.hashed.above,
+        wildcards: &set.hashed.wildcards,
+    }
+}
