@@ -1,5 +1,5 @@
 -- What the evidence proves where it has a zone's whole chain.
-use Rattle.std.proofs.Common.{◌≡◌, ◌≢◌, ◌⊎◌, ℕ, ◌≤◌, length, sym, subst, inl, inr, ⊎_elim, List}
+use Rattle.std.proofs.Common.{◌≢◌, ◌⊎◌, ℕ, length, sym, inl, inr, ⊎_elim, List}
 use Rattle.dnsv_names.specs.Tree.AncestorLaws.{rightmost_above, rightmost_same}
 use Rattle.dnsv_names.specs.Name.{Labels, SameName, IsAtOrBelow, rightmost}
 use Rattle.dnsv_names.specs.Tree.TreeLaws.{at_or_below_length}
@@ -10,7 +10,7 @@ use Rattle.dnsv_zones.specs.forms.Nsec3.{nsec3_words, OptOutForm}
 use Rattle.dnsv_zones.specs.forms.RecordWords.{words}
 use Rattle.dnsv_zones.specs.zones.Lookup.{IsLookup}
 use Rattle.dnsv_zones.specs.zones.Lookup.Answer.{NoData, NoName}
-use Rattle.dnsv_zones.specs.zones.TypeNumbers.{ns, soa, ds, rrsig, nsec}
+use Rattle.dnsv_zones.specs.zones.TypeNumbers.{ds, rrsig, nsec}
 use Rattle.dnsv_zones.specs.zones.Types.{IsUnsignedDelegation}
 use Rattle.dnsv_zones.specs.zones.Zone.{Zone, Holds}
 use Rattle.dnsv_zones.proofs.lemmas.chains.MoreLemmas.{SayMore, no_name_more, no_data_more, unsigned_cut_more}

@@ -12,7 +12,7 @@ use Rattle.dnsv_records.specs.Rrsig.{IsRrsig}
 use Rattle.dnsv_records.specs.declared.nsec.Nsec.{Nsec}
 use Rattle.dnsv_records.specs.declared.nsec3.Nsec3.{Nsec3}
 use Rattle.dnsv_records.specs.declared.rrsig.Rrsig.{Rrsig}
-use Rattle.dnsv_zones.specs.chains.Nsec3Chain.{Nsec3Record, Parameters}
+use Rattle.dnsv_zones.specs.chains.Nsec3Chain.{Nsec3Record}
 use Rattle.dnsv_zones.specs.chains.NsecChain.{NsecRecord}
 use Rattle.dnsv_zones.specs.chains.Rdata.{nsec_record, parameters_of}
 use Rattle.dnsv_canonical.specs.Canonical.{IsCanonical}

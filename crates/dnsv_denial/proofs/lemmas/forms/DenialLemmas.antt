@@ -1,14 +1,13 @@
 -- Denials by places are denials by numbers, and the parts of a denial carry its form.
-use Rattle.std.proofs.Common.{◌≡◌, ℕ, ◌+◌, ◌<◌, List, [], ◌∷◌, ◌++◌, length, map, refl, sym, ap, subst, inl, inr}
-use Rattle.std.proofs.lemmas.Option.{slice_get_within}
+use Rattle.std.proofs.Common.{ℕ, ◌+◌, ◌<◌, List, [], ◌∷◌, ◌++◌, map, ap, inl, inr}
 use Rattle.std.specs.List.{AllByRecursion}
 use Rattle.std.specs.Ordering.{nat_cmp}
 use Rattle.std.specs.declared.cmp.Ordering.{Ordering}
 use Rattle.dnsv_names.specs.Name.{Labels, rightmost}
 use Rattle.dnsv_names.specs.Tree.{wildcard_of}
 use Rattle.dnsv_records.specs.OctetLaws.{recursion-append}
-use Rattle.dnsv_zones.specs.forms.Forms.{Words, EndsAt}
-use Rattle.dnsv_zones.specs.forms.Parts.{IsFirstToSay, IsEncloserPart, AreEndParts, AreWildcardParts, AreNoDataParts}
+use Rattle.dnsv_zones.specs.forms.Forms.{EndsAt}
+use Rattle.dnsv_zones.specs.forms.Parts.{IsEncloserPart, AreEndParts, AreWildcardParts, AreNoDataParts}
 use Rattle.dnsv_zones.specs.forms.Parts.AreNoDataParts.{at_name, empty, at_wildcard, empty_wildcard}
 use Rattle.dnsv_zones.specs.forms.Parts.IsEncloserPart.{no_record, a_record}
 use Rattle.dnsv_zones.specs.forms.RecordWords.{RecordWords, words}
@@ -20,7 +19,7 @@ use Rattle.dnsv_denial.specs.words.EvidenceWords.{number_cmp}
 use Rattle.dnsv_denial.specs.declared.forms.denial.Denial.{Denial}
 use Rattle.dnsv_denial.specs.declared.forms.denial.Denial.TheVariants.{NoName, NoData, NoCloser}
 use Rattle.dnsv_denial.specs.declared.records.number.RecordNumber.{RecordNumber}
-use Rattle.dnsv_denial.proofs.lemmas.words.IndexLemmas.{AreInOrder, SaysAlike, SayAlike, words_from, no_name_parts, no_data_parts, no_closer_part}
+use Rattle.dnsv_denial.proofs.lemmas.words.IndexLemmas.{AreInOrder, SayAlike, words_from, no_name_parts, no_data_parts, no_closer_part}
 
 -- ---- the parts carry the form
 

@@ -19,7 +19,6 @@ use Rattle.dnsv_denial.specs.forms.EndLimits.{DeniesNoFewer, HoldsOfFirst, Shows
 use Rattle.dnsv_denial.specs.records.Record.{read_entry}
 use Rattle.dnsv_denial.specs.words.SaidAt.{IsSaidAt}
 use Rattle.dnsv_denial.specs.declared.records.entry.NsecEntry.{NsecEntry}
-use Rattle.dnsv_denial.proofs.lemmas.forms.WildcardLemmas.{no_fewer_labels}
 
 module _ (r : NsecRecord) (a x : Labels) (under : IsAtOrBelow x a) where
   pub node_higher : IsNodeBy r x → IsNodeBy r a

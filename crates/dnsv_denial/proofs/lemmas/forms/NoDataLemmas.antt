@@ -1,5 +1,5 @@
 -- The forms of a proof that a type isn't there, in their order.
-use Rattle.std.proofs.Common.{◌≡◌, ℕ, List, Option, length, subst, sym, inl, inr}
+use Rattle.std.proofs.Common.{ℕ, List, Option, inl, inr}
 use Rattle.std.specs.Prelude.{Some, None, MatchOption}
 use Rattle.std.specs.Ordering.{nat_cmp}
 use Rattle.dnsv_names.specs.declared.number.RecordType.{RecordType}
@@ -7,12 +7,11 @@ use Rattle.dnsv_names.specs.Name.{Labels, IsAtOrBelow, rightmost}
 use Rattle.dnsv_names.specs.Tree.TreeLaws.{at_or_below_trans}
 use Rattle.dnsv_names.specs.Tree.AncestorLaws.{rightmost_above}
 use Rattle.dnsv_zones.specs.forms.Forms.{Words, IsAbove, NoDataForm, EmptyForm, NoWildcardDataForm, EmptyWildcardForm, NoDataForms}
-use Rattle.dnsv_zones.specs.forms.Parts.{AreNoDataParts, AreWildcardDataParts, AreEmptyWildcardParts}
+use Rattle.dnsv_zones.specs.forms.Parts.{AreNoDataParts}
 use Rattle.dnsv_zones.specs.forms.Parts.AreNoDataParts.{at_wildcard, empty_wildcard}
 use Rattle.dnsv_zones.specs.forms.RecordWords.{RecordWords, words}
 use Rattle.dnsv_zones.specs.zones.Types.{Denies}
-use Rattle.dnsv_denial.specs.declared.words.asked.AskedWildcard.{AskedWildcard}
-use Rattle.dnsv_denial.specs.declared.words.asked.AskedWildcard.TheVariants.{Absent, Empty, Without}
+use Rattle.dnsv_denial.specs.declared.words.asked.AskedWildcard.TheVariants.{Empty, Without}
 use Rattle.dnsv_denial.specs.forms.ByWildcard.{StandsAt, ArePartsWithMostLabels}
 
 -- a name with an ancestor within the zone is within it

@@ -1,17 +1,16 @@
 -- The forms that ask something of the wildcard at the closest encloser, by its number of labels.
-use Rattle.std.proofs.Common.{◌≡◌, ℕ, ◌+◌, ◌-◌, ◌<◌, ◌≤◌, List, Option, length, subst, sym, arith, ⊎_elim}
+use Rattle.std.proofs.Common.{◌≡◌, ℕ, ◌+◌, ◌-◌, ◌<◌, ◌≤◌, List, Option, length, subst, arith, ⊎_elim}
 use Rattle.std.specs.Prelude.{Some, None, MatchOption}
 use Rattle.std.specs.Ordering.{nat_cmp}
 use Rattle.std.proofs.lemmas.Bool.{cases_lt}
 use Rattle.dnsv_names.specs.Name.{Labels, rightmost}
-use Rattle.dnsv_names.specs.Tree.{wildcard_of}
 use Rattle.dnsv_names.specs.Tree.TreeLaws.{at_or_below_length}
 use Rattle.dnsv_names.specs.Tree.AncestorLaws.{rightmost_length}
 use Rattle.dnsv_zones.specs.forms.Forms.{IsAbove, NoNameForm, NoCloserForm}
 use Rattle.dnsv_zones.specs.forms.Parts.{AreNoNameParts, IsNoCloserPart}
 use Rattle.dnsv_zones.specs.forms.RecordWords.{RecordWords, words}
 use Rattle.dnsv_denial.specs.declared.words.asked.AskedWildcard.{AskedWildcard}
-use Rattle.dnsv_denial.specs.declared.words.asked.AskedWildcard.TheVariants.{Absent, Empty, Without}
+use Rattle.dnsv_denial.specs.declared.words.asked.AskedWildcard.TheVariants.{Absent}
 use Rattle.dnsv_denial.specs.forms.ByWildcard.{StandsAt, ArePartsWithMostLabels}
 use Rattle.dnsv_denial.specs.words.SaidAt.{IsFirstPlace}
 

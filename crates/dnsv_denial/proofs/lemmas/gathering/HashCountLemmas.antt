@@ -1,5 +1,5 @@
 -- How many hashes are made: a sum over parameters, each once, whatever their order.
-use Rattle.std.proofs.Common.{◌≡◌, ◌↔◌, ◌⊎◌, ℕ, suc, ◌+◌, ◌-◌, ◌*◌, ◌≤◌, List, [], ◌∷◌, ◌++◌, length, map, refl, sym, ap, ◌∙◌, subst, inl, inr, ⊎_elim, arith}
+use Rattle.std.proofs.Common.{◌≡◌, ◌↔◌, ◌⊎◌, ℕ, ◌+◌, ◌*◌, ◌≤◌, List, [], ◌∷◌, ◌++◌, length, map, refl, sym, ap, ◌∙◌, subst, inl, inr, ⊎_elim, arith}
 use Rattle.std.proofs.lemmas.Cmp.{tied_itself}
 use Rattle.std.proofs.lemmas.List.{map-append}
 use Rattle.std.proofs.lemmas.List.Sums.{sum_by-append, sum_by-cons}
@@ -14,7 +14,7 @@ use Rattle.dnsv_zones.specs.chains.HashedNames.{hashes_for}
 use Rattle.dnsv_zones.specs.chains.Nsec3Chain.{Parameters}
 use Rattle.dnsv_zones.specs.chains.Rdata.{parameters_of}
 use Rattle.dnsv_canonical.proofs.CanonicalLemmas.{IsMember, IsMember-from_contains, Contains-from_member}
-use Rattle.dnsv_canonical.specs.Evidence.{AreParameters, AreParametersAmong, IsDistinct}
+use Rattle.dnsv_canonical.specs.Evidence.{AreParameters, IsDistinct}
 use Rattle.dnsv_denial.specs.words.EvidenceWords.{parameters_cmp}
 use Rattle.dnsv_denial.specs.declared.proving.zone_records.NameHashes.{NameHashes}
 use Rattle.dnsv_denial.proofs.lemmas.proving.ZoneProofLemmas.{parameters_total}

@@ -4,7 +4,7 @@ use Rattle.std.proofs.Common.{◌≡◌, ℕ, zero, suc, ◌++◌, ◌+◌, ◌-
 use Rattle.std.specs.Prelude.{Some, slice_get, IsTrue}
 use Rattle.std.proofs.lemmas.Option.{slice_get_within}
 use Rattle.dnsv_names.specs.Name.{Labels}
-use Rattle.dnsv_records.specs.Base32Hex.{IsHash, Spells}
+use Rattle.dnsv_records.specs.Base32Hex.{Spells}
 use Rattle.dnsv_records.specs.Nsec3.{IsNsec3, IsUsable}
 use Rattle.dnsv_records.specs.declared.nsec3.Nsec3.{Nsec3}
 use Rattle.dnsv_records.proofs.Base32Lemmas.{same_octets}

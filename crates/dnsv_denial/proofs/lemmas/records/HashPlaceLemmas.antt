@@ -4,7 +4,7 @@ use Rattle.dnsv_denial.specs.records.HashIndex.{IsListed, IsPlaceOf, ArePlacesOf
 use Rattle.dnsv_denial.specs.declared.records.entry.Nsec3Entry.{Nsec3Entry}
 use Rattle.dnsv_denial.specs.declared.records.hash_places.HashPlace.{HashPlace}
 use Rattle.dnsv_names.specs.Octets.{octets_cmp}
-use Rattle.std.proofs.Common.{◌≡◌, ◌≢◌, ◌⊎◌, ℕ, ◌+◌, ◌-◌, ◌<◌, ◌≤◌, true, false, List, [], ◌∷◌, ◌++◌, Some, length, get_or, refl, sym, ap, ◌∙◌, subst, ⊎_elim, arith}
+use Rattle.std.proofs.Common.{◌≡◌, ◌≢◌, ℕ, ◌+◌, ◌-◌, ◌<◌, ◌≤◌, true, false, List, [], ◌∷◌, ◌++◌, Some, length, get_or, refl, sym, ap, ◌∙◌, subst, ⊎_elim, arith}
 use Rattle.std.proofs.lemmas.Bool.{cases_lt}
 use Rattle.std.proofs.lemmas.Cmp.{nat_list_cmp_total, tied_itself}
 use Rattle.std.proofs.lemmas.List.Elements.{Contains-push, Contains-push_cases}

@@ -1,5 +1,5 @@
 -- What no record says of any name, is said of none of the names that are asked for.
-use Rattle.std.proofs.Common.{◌≡◌, ◌≢◌, ℕ, ◌+◌, ◌<◌, Bool, true, false, List, Option, length, refl, sym, subst, inl, inr, arith}
+use Rattle.std.proofs.Common.{◌≡◌, ◌≢◌, ℕ, ◌+◌, ◌<◌, Bool, true, false, List, Option, refl, inl, inr, arith}
 use Rattle.std.specs.Prelude.{IsTrue, is_some}
 use Rattle.dnsv_names.specs.Name.{Labels, SameName, rightmost}
 use Rattle.dnsv_names.specs.Tree.{wildcard_of}
@@ -19,7 +19,6 @@ use Rattle.dnsv_denial.specs.declared.records.entry.Nsec3Entry.{Nsec3Entry}
 use Rattle.dnsv_denial.specs.declared.records.entry.NsecEntry.{NsecEntry}
 use Rattle.dnsv_denial.specs.declared.records.hashed_records.HashedRecords.{HashedRecords}
 use Rattle.dnsv_denial.specs.declared.records.chain_records.ChainRecords.{ChainRecords}
-use Rattle.dnsv_denial.specs.declared.records.chain_records.ChainRecords.TheVariants.{Nsec, Nsec3}
 use Rattle.dnsv_denial.proofs.lemmas.proving.ChainProofLemmas.{chain_bound}
 use Rattle.dnsv_denial.proofs.lemmas.words.FirstLemmas.{some_first}
 

@@ -3,8 +3,7 @@ use Rattle.dnsv_denial.specs.records.HashIndex.{IsListed}
 use Rattle.dnsv_denial.specs.words.SaidAt.{IsSaidAt, IsFirstPlace}
 use Rattle.dnsv_denial.specs.declared.records.entry.Nsec3Entry.{Nsec3Entry}
 use Rattle.dnsv_denial.specs.declared.records.hash_places.HashPlace.{HashPlace}
-use Rattle.dnsv_names.specs.Circle.{between}
-use Rattle.std.proofs.Common.{◌≡◌, ◌≢◌, ◌⊎◌, ℕ, ◌+◌, ◌-◌, ◌<◌, ◌≤◌, List, Option, Some, None, length, refl, sym, ap, ◌∙◌, subst, inl, inr, ⊎_elim, arith}
+use Rattle.std.proofs.Common.{◌≡◌, ◌≢◌, ◌⊎◌, ℕ, ◌+◌, ◌<◌, ◌≤◌, List, Option, Some, None, length, refl, sym, ap, ◌∙◌, subst, inl, inr, ⊎_elim, arith}
 use Rattle.std.proofs.lemmas.Bool.{cases_lt}
 use Rattle.std.proofs.lemmas.Cmp.{ranked}
 use Rattle.std.proofs.lemmas.Option.{slice_get-get_or, slice_get_within, get_or_from_slice_get}

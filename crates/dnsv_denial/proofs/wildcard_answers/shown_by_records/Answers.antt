@@ -1,5 +1,4 @@
 use Rattle.std.proofs.Common.{sym, ◌∙◌}
-use Rattle.dnsv_chain.specs.Trust.{SecuredIn}
 use Rattle.dnsv_denial.proofs.lemmas.WildcardAnswerLemmas.{none_of}
 use Rattle.dnsv_denial.proofs.wildcard_answers.shown_by_records.Goals as goal
 

@@ -1,4 +1,4 @@
-use Rattle.std.proofs.Common.{◌∙◌, ◌-◌, arith}
+use Rattle.std.proofs.Common.{◌-◌, arith}
 use Rattle.dnsv_message.proofs.FollowLemmas.{named_within, has_pointer, HasPointer-next, stands_here}
 use Rattle.dnsv_message.proofs.following.behind_pointers.Goals as goal
 

@@ -1,4 +1,4 @@
-use Rattle.std.proofs.Common.{◌∙◌, sym, map, arith}
+use Rattle.std.proofs.Common.{◌∙◌, sym, arith}
 use Rattle.dnsv_names.proofs.LowerLemmas.{tied_by_test, untied_by_test}
 use Rattle.dnsv_message.proofs.FollowLemmas.Comparing.{ended_labels, tied_last, untied_last}
 use Rattle.dnsv_message.proofs.name_ref.order_from_the_right.Goals as goal

@@ -1,7 +1,7 @@
-use Rattle.std.proofs.Common.{ℕ, ◌-◌, arith}
+use Rattle.std.proofs.Common.{◌-◌, arith}
 use Rattle.dnsv_denial.specs.forms.ByWildcard.{StandsAt}
 use Rattle.dnsv_denial.specs.words.ChainSaid.{chain_said}
-use Rattle.dnsv_denial.proofs.lemmas.forms.WildcardLemmas.{fewer_yet, none_above_apex}
+use Rattle.dnsv_denial.proofs.lemmas.forms.WildcardLemmas.{fewer_yet}
 use Rattle.dnsv_denial.proofs.forms.by_wildcard.by_wildcard.Goals as goal
 
 pub loop-labels-init : goal.loop-labels-init

@@ -1,4 +1,4 @@
-use Rattle.std.proofs.Common.{ℕ, ◌+◌, ◌-◌, ⊎_elim, arith}
+use Rattle.std.proofs.Common.{ℕ, ◌+◌, ⊎_elim, arith}
 use Rattle.dnsv_names.specs.Name.{rightmost}
 use Rattle.dnsv_names.specs.Tree.{wildcard_of}
 use Rattle.dnsv_zones.specs.forms.Parts.{OptsOut}

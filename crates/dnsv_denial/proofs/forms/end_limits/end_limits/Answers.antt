@@ -1,4 +1,4 @@
-use Rattle.std.proofs.Common.{◌≡◌, ◌+◌, ◌-◌, ◌≤◌, ◌<◌, length, min, max, arith, subst}
+use Rattle.std.proofs.Common.{◌+◌, ◌≤◌, arith, subst}
 use Rattle.dnsv_zones.specs.forms.Forms.{EndsAt}
 use Rattle.dnsv_zones.specs.forms.RecordWords.{words}
 use Rattle.dnsv_denial.specs.words.ChainSaid.{chain_said}

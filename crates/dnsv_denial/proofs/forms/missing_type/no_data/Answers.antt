@@ -1,5 +1,5 @@
 -- The forms in their order: each later one where the earlier ones don't stand.
-use Rattle.std.proofs.Common.{◌≡◌, ℕ, [], ◌∷◌, length, subst, sym, arith}
+use Rattle.std.proofs.Common.{◌≡◌, ℕ, subst, sym, arith}
 use Rattle.std.specs.Ordering.{nat_cmp}
 use Rattle.dnsv_names.specs.Name.{Labels, rightmost}
 use Rattle.dnsv_names.specs.Tree.AncestorLaws.{rightmost_all}

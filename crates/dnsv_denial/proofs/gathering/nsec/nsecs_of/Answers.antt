@@ -1,9 +1,5 @@
-use Rattle.std.proofs.Common.{◌≡◌, ℕ, ◌+◌, ◌-◌, ◌<◌, ◌≤◌, List, length, refl, arith, sym, ap, ◌∙◌, subst, true, nat_eq}
-use Rattle.std.proofs.lemmas.Option.{slice_get_read}
-use Rattle.std.proofs.lemmas.Bool.{eqb-true}
-use Rattle.dnsv_canonical.specs.Rrsets.{IsNumbered, ReceivedRrset}
+use Rattle.std.proofs.Common.{◌≡◌, refl, ◌∙◌, true, nat_eq}
 use Rattle.dnsv_chain.specs.Trust.{SecuredIn}
-use Rattle.dnsv_denial.specs.gathering.Evidence.{HasZoneSignature}
 use Rattle.dnsv_denial.proofs.lemmas.gathering.EvidenceLemmas.{numbered_here}
 use Rattle.dnsv_denial.proofs.lemmas.gathering.NsecGather.{gather_begins, gather_passes, gather_adds, gather_ends, not_nsec, not_signed}
 use Rattle.dnsv_denial.proofs.gathering.nsec.nsecs_of.Goals as goal

@@ -1,4 +1,3 @@
-use Rattle.std.proofs.Common.{◌≡◌, ℕ, ◌+◌, ◌<◌, length, refl, arith, sym, ap, ◌∙◌}
 use Rattle.dnsv_chain.specs.Trust.{SecuredIn}
 use Rattle.dnsv_denial.proofs.lemmas.gathering.EvidenceLemmas.{numbered_here}
 use Rattle.dnsv_denial.proofs.lemmas.gathering.Nsec3Gather.{gather3_begins, gather3_passes, gather3_adds, gather3_ends}

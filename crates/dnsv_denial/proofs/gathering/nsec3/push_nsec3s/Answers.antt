@@ -1,4 +1,4 @@
-use Rattle.std.proofs.Common.{◌≡◌, ℕ, ◌<◌, length, map, refl, arith, sym, ap, ◌∙◌}
+use Rattle.std.proofs.Common.{length, map, refl, arith, ap}
 use Rattle.std.proofs.lemmas.Option.{slice_get_read}
 use Rattle.dnsv_records.specs.Nsec3.{IsNsec3}
 use Rattle.dnsv_denial.proofs.lemmas.gathering.GatherLemmas.{mapped_at, each_at, mapped_length}

@@ -1,6 +1,5 @@
 -- the usable records so far are added
-use Rattle.std.proofs.Common.{◌≡◌, List, ℕ}
-use Rattle.std.specs.Prelude.{map}
+use Rattle.std.proofs.Common.{List}
 use Rattle.dnsv_canonical.specs.Rrsets.{IsNumbered, ReceivedRrset}
 use Rattle.dnsv_denial.specs.gathering.Evidence.{IsNsec3Of}
 use Rattle.dnsv_denial.specs.records.Record.{read_nsec3}

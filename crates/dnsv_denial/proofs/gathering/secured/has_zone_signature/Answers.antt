@@ -1,5 +1,4 @@
-use Rattle.std.proofs.Common.{ℕ, ◌≡◌, length, refl, arith}
-use Rattle.std.specs.Prelude.{Contains}
+use Rattle.std.proofs.Common.{◌≡◌, refl, arith}
 use Rattle.std.proofs.lemmas.Option.{slice_get-get_or}
 use Rattle.dnsv_denial.specs.gathering.Evidence.{HasZoneSignature}
 use Rattle.dnsv_denial.proofs.lemmas.words.FirstLemmas.{none_with}

@@ -1,5 +1,5 @@
-use Rattle.std.proofs.Common.{List, ℕ, ◌-◌, ◌<◌, ◌≤◌, ◌≡◌, ◌⊎◌, ⊎_elim, length, refl, arith, Bool, true, false, slice_index_or}
-use Rattle.std.specs.Prelude.{Some, slice_get, IsTrue}
+use Rattle.std.proofs.Common.{List, ℕ, ◌-◌, ◌<◌, ◌≤◌, ◌≡◌, ⊎_elim, length, refl, arith, slice_index_or}
+use Rattle.std.specs.Prelude.{Some, slice_get}
 use Rattle.std.proofs.lemmas.Option.{slice_get_read, slice_get_past}
 use Rattle.dnsv_records.specs.declared.rrsig.Rrsig.{Rrsig}
 use Rattle.dnsv_denial.proofs.lemmas.gathering.GatherLemmas.{zone_signature, its_zone_signature, no_zone_signature, unnumbered, is_not_false, not_true}

@@ -1,4 +1,4 @@
-use Rattle.std.proofs.Common.{◌≡◌, ◌+◌, length, arith}
+use Rattle.std.proofs.Common.{arith}
 use Rattle.dnsv_chain.specs.Trust.{SecuredIn}
 use Rattle.dnsv_denial.proofs.lemmas.gathering.GatherZoneLemmas.{no_zones, zone_more}
 use Rattle.dnsv_denial.proofs.gathering.zones.zones_of.Goals as goal

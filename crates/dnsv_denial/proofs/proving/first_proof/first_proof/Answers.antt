@@ -1,5 +1,4 @@
-use Rattle.std.proofs.Common.{◌≡◌, ℕ, ◌+◌, ◌-◌, ◌<◌, ◌≤◌, length, arith}
-use Rattle.std.specs.Prelude.{MatchOption}
+use Rattle.std.proofs.Common.{◌-◌, ◌<◌, length, arith}
 use Rattle.dnsv_chain.specs.Trust.{SecuredIn}
 use Rattle.dnsv_denial.proofs.lemmas.proving.FirstProofLemmas.{first_of_all, none_of_all, one_fewer, zone_at}
 use Rattle.dnsv_denial.proofs.proving.first_proof.first_proof.Goals as goal

@@ -1,4 +1,4 @@
-use Rattle.std.proofs.Common.{◌≡◌, ℕ, length, sym, ap, ◌∙◌, subst, arith}
+use Rattle.std.proofs.Common.{◌≡◌, length, sym, ap, ◌∙◌, subst, arith}
 use Rattle.dnsv_names.specs.Tree.AncestorLaws.{rightmost_above, rightmost_same}
 use Rattle.dnsv_names.specs.Name.{SameName, rightmost}
 use Rattle.dnsv_names.specs.Tree.TreeLaws.{at_or_below_length, at_or_below_trans}

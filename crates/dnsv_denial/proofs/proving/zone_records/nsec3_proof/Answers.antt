@@ -1,4 +1,4 @@
-use Rattle.std.proofs.Common.{ℕ, length, refl, arith}
+use Rattle.std.proofs.Common.{length, refl, arith}
 use Rattle.std.proofs.lemmas.Option.{slice_get_read, slice_get_within}
 use Rattle.dnsv_zones.specs.chains.Rdata.{parameters_of}
 use Rattle.dnsv_chain.specs.Trust.{SecuredIn}

@@ -1,5 +1,4 @@
-use Rattle.std.proofs.Common.{◌≡◌, ℕ, subst}
-use Rattle.dnsv_names.specs.Name.{Labels}
+use Rattle.std.proofs.Common.{ℕ, subst}
 use Rattle.dnsv_denial.specs.words.ChainSaid.{chain_said}
 use Rattle.dnsv_denial.proofs.lemmas.words.AnyNameLemmas.{nsec3_opt_out}
 use Rattle.dnsv_denial.proofs.words.any_name.has_opt_out.Goals as goal

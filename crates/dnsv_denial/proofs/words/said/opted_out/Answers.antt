@@ -1,7 +1,7 @@
-use Rattle.std.proofs.Common.{◌≡◌, ◌≢◌, subst, sym}
+use Rattle.std.proofs.Common.{◌≡◌, subst, sym}
 use Rattle.dnsv_zones.specs.forms.Nsec3.{Covers}
 use Rattle.dnsv_denial.specs.records.AskedHash.{hash_of}
-use Rattle.dnsv_denial.specs.records.Record.{read_nsec3, flags_of}
+use Rattle.dnsv_denial.specs.records.Record.{read_nsec3}
 use Rattle.dnsv_denial.specs.words.Asked.{asked_name}
 use Rattle.dnsv_denial.specs.words.ChainSaid.{chain_said, HasHashes}
 use Rattle.dnsv_denial.specs.words.SaidAt.{IsSaidAt, IsFirstPlace}

@@ -1,4 +1,4 @@
-use Rattle.std.proofs.Common.{◌∙◌, sym}
+use Rattle.std.proofs.Common.{◌∙◌}
 use Rattle.dnsv_message.proofs.FollowLemmas.{named_is_read, named_is_found}
 use Rattle.dnsv_message.proofs.name_ref.NameRef.to_name.Goals as goal
 
