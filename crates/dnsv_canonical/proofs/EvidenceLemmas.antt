@@ -1,11 +1,10 @@
 -- What a message adds to the evidence.
 use Rattle.std.proofs.Common.{◌≡◌, ◌⊎◌, inl, inr, ⊎_elim, ℕ, zero, suc, ◌+◌, ◌-◌, ◌<◌, ◌≤◌, Bool, true, false, cond, List, [], ◌∷◌, ◌++◌, length, get_or, map, refl, sym, ap, ◌∙◌, subst, arith, append_assoc, ◌↔◌, IsTrue}
 use Rattle.std.proofs.lemmas.List.{append-nil}
-use Rattle.std.proofs.lemmas.Bool.{and_parts, eqb-true, false≢true}
+use Rattle.std.proofs.lemmas.Bool.{eqb-true, false≢true}
 use Rattle.std.proofs.lemmas.Cmp.{nat_eq_equiv}
 use Rattle.std.specs.Prelude.{filter, flat_map, ◌==◌}
 use Rattle.std.specs.List.{AllByRecursion, AllZip, enumerate_from, fold}
-use Rattle.dnsv_names.specs.Name.{Labels}
 use Rattle.dnsv_message.specs.declared.record.Record.{Record}
 use Rattle.dnsv_message.specs.declared.record.Section.{Section}
 use Rattle.dnsv_message.specs.declared.record.Section.TheVariants.{Answer, Authority, Additional}
@@ -14,12 +13,11 @@ use Rattle.dnsv_names.specs.PartLaws.{recursion-append}
 use Rattle.dnsv_records.specs.declared.nsec3.Nsec3Parameters.{Nsec3Parameters}
 use Rattle.dnsv_records.specs.declared.rrsig.Rrsig.{Rrsig}
 use Rattle.dnsv_records.specs.Rrsig.{IsRrsig}
-use Rattle.dnsv_canonical.specs.Evidence.{AreParameters, Evidence, AtMost, IsReadable, IsWithinLimits, IsSmall, AreParametersAmong, nsec3_rdata, with_message, evidence_of, signatures_at}
+use Rattle.dnsv_canonical.specs.Evidence.{AreParameters, Evidence, AtMost, IsWithinLimits, IsSmall, AreParametersAmong, nsec3_rdata, with_message, evidence_of, signatures_at}
 use Rattle.dnsv_canonical.specs.Kept.{IsHeld}
 use Rattle.dnsv_canonical.specs.Rdata.{IsWellFormed}
-use Rattle.dnsv_canonical.specs.Rrsets.{ReceivedRrset, is_signature, appears_first, first_appearances, rrset_of, rrsets_in, message_rrsets, rrsets_from, rrsets_of}
-use Rattle.dnsv_canonical.proofs.CanonicalLemmas.{each_map}
-use Rattle.dnsv_canonical.proofs.ListLemmas.{each_front, each_behind, each_chosen}
+use Rattle.dnsv_canonical.specs.Rrsets.{ReceivedRrset, appears_first, first_appearances, rrset_of, rrsets_in, message_rrsets, rrsets_from, rrsets_of}
+use Rattle.dnsv_canonical.proofs.ListLemmas.{each_front, each_behind}
 use Rattle.dnsv_canonical.proofs.ParameterLemmas.{nsec3_rdata-append, few_pairs}
 
 -- the RRsets of a message's sections are its RRsets

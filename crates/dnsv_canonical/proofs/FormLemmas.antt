@@ -12,7 +12,7 @@ use Rattle.dnsv_names.specs.Name.WireLaws.{lower_case-wire}
 use Rattle.dnsv_message.specs.declared.record.Record.{Record}
 use Rattle.dnsv_message.specs.declared.record.Section.{Section}
 use Rattle.dnsv_message.specs.Grammar.{IsMessage, IsTail}
-use Rattle.dnsv_message.specs.Message.{Contents, records_of}
+use Rattle.dnsv_message.specs.Message.{Contents}
 use Rattle.dnsv_message.specs.Fits.{FitsMessage, FitsRecord}
 use Rattle.dnsv_message.specs.Parts.{AreParts, HasParts, head_size, rdata_of, tail_size}
 use Rattle.dnsv_names.specs.PartLaws.{recursion-append}

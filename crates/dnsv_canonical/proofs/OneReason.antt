@@ -1,5 +1,5 @@
 -- A message is evidence, or is refused for just one reason.
-use Rattle.std.proofs.Common.{◌≡◌, ◌≢◌, ◌⊎◌, inl, inr, ⊎_elim, ℕ, zero, suc, ◌+◌, ◌<◌, ◌≤◌, Bool, true, false, List, [], ◌∷◌, ◌++◌, length, get_or, map, take, drop, Option, Some, None, Ok, refl, sym, ap, ◌∙◌, subst, arith, append_assoc, length-append, ◌↔◌}
+use Rattle.std.proofs.Common.{◌≡◌, ◌≢◌, ◌⊎◌, inl, inr, ⊎_elim, ℕ, zero, suc, ◌+◌, ◌≤◌, Bool, true, false, List, [], ◌∷◌, ◌++◌, length, get_or, take, drop, Option, Some, None, Ok, refl, sym, ap, ◌∙◌, subst, arith, append_assoc, length-append, ◌↔◌}
 use Rattle.std.specs.Prelude.{Contains, bit_and, flat_map, nat_eq, ◌&&◌}
 use Rattle.std.specs.Cmp.Lexicographic.{pointwise}
 use Rattle.std.specs.List.{AllByRecursion, list_any}
@@ -27,7 +27,7 @@ use Rattle.dnsv_records.specs.Reading.{Gives}
 use Rattle.dnsv_records.specs.Rrsig.{IsRrsig}
 use Rattle.dnsv_canonical.specs.declared.capture.CaptureError.{CaptureError}
 use Rattle.dnsv_canonical.specs.declared.capture.CaptureError.TheVariants.{OutOfMemory, NotAResponse, Truncated, BadRdata, Limit}
-use Rattle.dnsv_canonical.specs.Evidence.{AreParameters, AreUsableParameters, AreParametersAmong, AtMost, Evidence, IsEvidence, IsFirstBad, IsReadable, IsReasonAgainst, IsSmall, IsWhole, IsWithinLimits, nsec3_rdata, with_message}
+use Rattle.dnsv_canonical.specs.Evidence.{AreParameters, AreUsableParameters, AreParametersAmong, AtMost, Evidence, IsEvidence, IsFirstBad, IsReadable, IsReasonAgainst, IsSmall, IsWithinLimits, nsec3_rdata, with_message}
 use Rattle.dnsv_canonical.specs.Rdata.{IsLaidOut}
 use Rattle.dnsv_canonical.specs.Rrsets.{ReceivedRrset}
 use Rattle.dnsv_canonical.proofs.CanonicalLemmas.{canonical_some}

@@ -1,5 +1,5 @@
 -- DS records that match a key, by the one digest that the key has of their digest type.
-use Rattle.std.proofs.Common.{◌≡◌, ◌↔◌, ℕ, List, Option, Some, None, sym, ap, ◌∙◌}
+use Rattle.std.proofs.Common.{◌≡◌, ◌↔◌, ℕ, List, Some, None, sym, ap, ◌∙◌}
 use Rattle.dnsv_names.specs.Name.{Labels, SameName}
 use Rattle.dnsv_digest.specs.Digest.{ds_digest_of}
 use Rattle.dnsv_records.specs.declared.ds.Ds.{Ds}

@@ -1,5 +1,5 @@
 -- Octets in base64, a group of four symbols at a time.
-use Rattle.std.proofs.Common.{◌≡◌, ◌<◌, ◌≤◌, ◌+◌, ◌-◌, ◌*◌, ◌/◌, ◌↔◌, ℕ, Bool, true, false, if◌then◌else◌, nat_lt, nat_eq, IsTrue, List, [], ◌∷◌, ◌++◌, length, take, drop, get_or, replicate, zero, suc, refl, sym, ap, ◌∙◌, subst, arith, rules, Option, Some, None, Result, Ok, Err, length-append}
+use Rattle.std.proofs.Common.{◌≡◌, ◌<◌, ◌≤◌, ◌+◌, ◌-◌, ◌*◌, ◌/◌, ◌↔◌, ℕ, Bool, true, false, if◌then◌else◌, nat_lt, nat_eq, IsTrue, List, ◌++◌, length, take, drop, get_or, replicate, refl, sym, ap, ◌∙◌, subst, arith, rules, Option, Some, None, Result, Ok, Err, length-append}
 use Rattle.std.proofs.lemmas.Bool.{false≢true, le-ltb}
 use Rattle.std.proofs.lemmas.Bool.Decides.{Decides-eqb}
 use Rattle.std.proofs.lemmas.List.{length-replicate, take-append-drop, length-take-le, take_at, drop_at}

@@ -1,8 +1,8 @@
 -- Whether octets are a record: for each there is an answer.
-use Rattle.std.proofs.Common.{◌≡◌, ◌≢◌, ◌⊎◌, inl, inr, ⊎_elim, ℕ, ◌+◌, ◌-◌, ◌<◌, ◌≤◌, Bool, true, false, List, [], ◌∷◌, ◌++◌, length, get_or, take, drop, refl, sym, ap, ◌∙◌, subst, arith}
+use Rattle.std.proofs.Common.{◌≡◌, inl, inr, ⊎_elim, ℕ, ◌+◌, ◌-◌, ◌<◌, Bool, true, false, List, [], ◌∷◌, ◌++◌, length, get_or, take, drop, refl, sym, ap, ◌∙◌, subst, arith}
 use Rattle.std.proofs.lemmas.List.{length-take-le, take-append-drop, length-append}
 use Rattle.std.proofs.lemmas.Slice.Eq.{bytes_eq-Decides}
-use Rattle.std.specs.List.{AllByRecursion, flat_map}
+use Rattle.std.specs.List.{flat_map}
 use Rattle.std.specs.Str.{bytes_eq}
 use Rattle.dnsv_names.specs.Octets.{number_at}
 use Rattle.dnsv_records.specs.declared.dnskey.Dnskey.{Dnskey}
@@ -13,7 +13,7 @@ use Rattle.dnsv_records.specs.Bitmap.Blocks.{blocks_of, IsGoodBlock, AreBlocks}
 use Rattle.dnsv_records.specs.DecisionLaws.{Or, all_or, at_most_or, less_or, number_or}
 use Rattle.dnsv_records.specs.Dnskey.{IsDnskey}
 use Rattle.dnsv_records.specs.Ds.{IsDs}
-use Rattle.dnsv_records.specs.Layout.{IsCounted, BeginsWithCounted}
+use Rattle.dnsv_records.specs.Layout.{BeginsWithCounted}
 use Rattle.dnsv_records.specs.Nsec3.{IsNsec3}
 use Rattle.dnsv_records.proofs.BitmapLemmas.{Bitmap-types_of, AreBlocks-Bitmap}
 use Rattle.dnsv_records.proofs.RecordLemmas.{same_counted}

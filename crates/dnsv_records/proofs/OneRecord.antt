@@ -1,5 +1,5 @@
 -- RDATA is read in one way.
-use Rattle.std.proofs.Common.{◌≡◌, ◌<◌, ◌≤◌, ℕ, List, length, drop, refl, sym, subst, ◌∙◌, arith}
+use Rattle.std.proofs.Common.{◌≡◌, ℕ, List, drop, refl, sym, subst, ◌∙◌, arith}
 use Rattle.dnsv_names.specs.Octets.{AreOctets}
 use Rattle.dnsv_names.specs.Name.WireLaws.{wire-front}
 use Rattle.dnsv_records.specs.declared.dnskey.Dnskey.{Dnskey}

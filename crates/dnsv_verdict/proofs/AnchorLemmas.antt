@@ -1,5 +1,5 @@
 -- What is settled at a name is settled from a trust anchor at or above it.
-use Rattle.std.proofs.Common.{◌≡◌, ◌⊎◌, ◌+◌, ◌-◌, ℕ, List, sym, ◌∙◌, subst, inl, inr, ⊎_elim}
+use Rattle.std.proofs.Common.{◌≡◌, ◌+◌, ◌-◌, ℕ, List, sym, ◌∙◌, subst, inl, inr, ⊎_elim}
 use Rattle.std.specs.Prelude.{Some, slice_get}
 use Rattle.dnsv_names.specs.Tree.AncestorLaws.{rightmost_above}
 use Rattle.dnsv_names.specs.Name.{Labels, SameName, IsAtOrBelow, rightmost}
@@ -30,7 +30,6 @@ use Rattle.dnsv_verdict.proofs.CaseLemmas.{some_is_one}
 use Rattle.dnsv_verdict.specs.Secure.{IsSecuredAt}
 use Rattle.dnsv_verdict.specs.Settled.{IsSettled}
 use Rattle.dnsv_verdict.specs.Verdict.{Basis, HasAnchor, IsVerdictAt, IsSettledBy, hopeful}
-use Rattle.dnsv_verdict.specs.declared.verdict.Verdict.{Verdict}
 use Rattle.dnsv_verdict.specs.declared.verdict.Verdict.TheVariants.{Indeterminate}
 
 -- an anchor at or above a name is at or above each name below it

@@ -1,5 +1,5 @@
 -- Which records say what decides which forms stand, and which records are chosen.
-use Rattle.std.proofs.Common.{◌⊎◌, ◌+◌, ℕ, List, inl, inr, ⊎_elim}
+use Rattle.std.proofs.Common.{◌+◌, ℕ, List, inl, inr, ⊎_elim}
 use Rattle.std.specs.declared.cmp.Ordering.{Ordering}
 use Rattle.dnsv_names.specs.Name.{Labels, rightmost}
 use Rattle.dnsv_names.specs.Tree.{wildcard_of}

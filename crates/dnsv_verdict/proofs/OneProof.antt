@@ -14,7 +14,7 @@ use Rattle.dnsv_zones.specs.forms.Forms.{Words, EndsAt, NoNameForm, NoWildcardDa
 use Rattle.dnsv_zones.specs.forms.Parts.{IsFirstToSay, IsEncloserPart, no_record, a_record, at_name, empty, at_wildcard, empty_wildcard, AreEndParts, AreWildcardParts, AreNoNameParts, AreWildcardDataParts, AreEmptyWildcardParts, AreNoDataParts}
 use Rattle.dnsv_zones.specs.forms.RecordWords.{RecordWords, words}
 use Rattle.dnsv_zones.specs.zones.Types.{Denies}
-use Rattle.dnsv_canonical.proofs.CanonicalLemmas.{rising_unique, IsMember, Contains-from_member, IsMember-from_contains}
+use Rattle.dnsv_canonical.proofs.CanonicalLemmas.{rising_unique, Contains-from_member, IsMember-from_contains}
 use Rattle.dnsv_canonical.specs.Rrsets.{ReceivedRrset}
 use Rattle.dnsv_denial.specs.proving.FirstProof.{AreRecordsOf, CanBeProved, IsFirstNoData, IsFirstNoName, IsFirstProof, ProofRecords, StandsBy}
 use Rattle.dnsv_denial.specs.unsigned_cuts.Cuts.{no_ds, no_usable_ds, opt_out, IsUnsignedDelegationCut, IsUnusableDsCut, IsOptOutCut, IsFewest, IsMost, IsUnsignedCut, HasUnsignedCut}

@@ -1,6 +1,6 @@
 -- The RRsets of a message that can be read are as those of a capture are.
-use Rattle.std.proofs.Common.{◌≡◌, ℕ, suc, ◌+◌, ◌<◌, ◌≤◌, ◌^◌, ◌==◌, Bool, true, false, cond, List, [], ◌∷◌, ◌++◌, length, map, take, drop, refl, sym, ap, ◌∙◌, subst, arith, length-append, inl, inr, ⊎_elim}
-use Rattle.std.specs.Prelude.{filter, flat_map, IsTrue}
+use Rattle.std.proofs.Common.{◌≡◌, ℕ, ◌<◌, ◌≤◌, ◌==◌, Bool, true, false, cond, List, [], ◌∷◌, ◌++◌, length, map, take, refl, sym, ap, ◌∙◌, subst, arith, inl, inr, ⊎_elim}
+use Rattle.std.specs.Prelude.{filter}
 use Rattle.std.specs.Int.{w16, to_be_bytes}
 use Rattle.std.specs.Int.Digits.{number_from_digits}
 use Rattle.std.specs.List.{AllByRecursion}
@@ -20,7 +20,7 @@ use Rattle.dnsv_records.specs.declared.rrsig.Rrsig.{Rrsig}
 use Rattle.dnsv_records.specs.Rrsig.{IsRrsig}
 use Rattle.dnsv_canonical.specs.Evidence.{IsReadable}
 use Rattle.dnsv_canonical.specs.Rdata.{IsLaidOut, IsRdata, IsSignatureOver, IsWellFormed}
-use Rattle.dnsv_canonical.specs.Rrsets.{ReceivedRrset, forms_rrsets, is_grouped, same_rrset, is_signature, first_appearances, rrset_of, rrsets_in, message_rrsets}
+use Rattle.dnsv_canonical.specs.Rrsets.{is_grouped, same_rrset, is_signature, first_appearances, rrset_of, rrsets_in, message_rrsets}
 use Rattle.dnsv_canonical.proofs.CanonicalLemmas.{IsMember, each_map}
 use Rattle.dnsv_canonical.proofs.ListLemmas.{each_behind, each_chosen, each_front}
 use Rattle.dnsv_canonical.proofs.GroupLemmas.{same_rrset_itself}

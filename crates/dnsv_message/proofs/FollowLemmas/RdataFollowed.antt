@@ -1,22 +1,21 @@
 -- What following octets finds of an RDATA is the RDATA that stands there.
-use Rattle.std.proofs.Common.{◌≡◌, ℕ, zero, suc, ◌+◌, ◌-◌, ◌<◌, ◌≤◌, List, [], ◌∷◌, ◌++◌, length, get_or, take, drop, refl, sym, ap, subst, ◌∙◌, arith, Bool, true, false, nat_lt, append_assoc, length-append, length-drop, Option, Some, None, Vec}
+use Rattle.std.proofs.Common.{◌≡◌, ℕ, zero, suc, ◌+◌, ◌-◌, ◌<◌, ◌≤◌, List, [], ◌∷◌, ◌++◌, length, get_or, take, drop, refl, sym, ap, subst, ◌∙◌, arith, Bool, false, nat_lt, append_assoc, Option, Some, None, Vec}
 use Rattle.std.specs.declared.alloc.Global.{Global}
 use Rattle.std.specs.Prelude.{flat_map, MatchOption, IsSome, IsTrue, IsFalse, nat_eq}
 use Rattle.std.proofs.lemmas.Bool.Decides.{nat_tests}
 use Rattle.std.proofs.lemmas.Option.{MatchOption-at_some}
-use Rattle.std.proofs.lemmas.List.{append-nil, drop-drop}
-use Rattle.dnsv_names.specs.Name.{Labels, IsName, wire}
+use Rattle.std.proofs.lemmas.List.{drop-drop}
+use Rattle.dnsv_names.specs.Name.{Labels, wire}
 use Rattle.dnsv_names.specs.Name.WireLaws.{length-wire}
 use Rattle.dnsv_names.specs.Octets.{AreOctets}
 use Rattle.dnsv_message.specs.declared.rdata.Layout.{Layout}
 use Rattle.dnsv_message.specs.declared.errors.NameFault.{NameFault}
 use Rattle.dnsv_message.specs.NameAt.{NameAt, root, label, pointer, NameFrom, NameFaultFrom, pointer_limit}
 use Rattle.dnsv_message.specs.Grammar.{InOrder, RdataNameAt, RdataAt, part_of}
-use Rattle.dnsv_message.specs.Following.{labels_at}
 use Rattle.dnsv_message.specs.Following.Rdata.{end_behind, end_by_octet, end_from, end_at, written_at, rdata_from, RdataStandsAt}
 use Rattle.dnsv_message.proofs.Numbers.{octet_fits, part_same}
 use Rattle.dnsv_message.proofs.NameLaws.{octet_of_number, octet_of_label, octet_of_pointer, NameAt_same, NameAt_sound}
-use Rattle.dnsv_message.proofs.RdataLemmas.{rdata_name, NamesRead, NamesRead-next, NamesRead-missing, NamesRead-tail, NamesRead-found}
+use Rattle.dnsv_message.proofs.RdataLemmas.{rdata_name}
 use Rattle.dnsv_message.proofs.RdataLemmas.RdataWritten.{labels_are}
 use Rattle.dnsv_message.proofs.FollowLemmas.{below_64, not_below_64, labels_found}
 

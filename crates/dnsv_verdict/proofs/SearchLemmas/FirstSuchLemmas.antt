@@ -1,5 +1,5 @@
 -- The first of pairs of numbers.
-use Rattle.std.proofs.Common.{◌≡◌, ◌↔◌, ◌⊎◌, ℕ, ◌<◌, ◌≤◌, ⊎_elim, arith}
+use Rattle.std.proofs.Common.{◌≡◌, ◌↔◌, ℕ, ◌<◌, ◌≤◌, ⊎_elim, arith}
 use Rattle.dnsv_verdict.specs.Secure.{IsFirstSuch}
 
 -- there is only one

@@ -16,7 +16,7 @@ use Rattle.dnsv_verdict.proofs.SettledLemmas.EvidenceLemmas.{no_name_can_to, no_
 use Rattle.dnsv_verdict.proofs.OneProof.{can_be}
 use Rattle.dnsv_verdict.proofs.SettledLemmas.{answer_to, alias_to, settled_to, unsigned_to}
 use Rattle.dnsv_verdict.specs.Insecure.{IsUnsigned}
-use Rattle.dnsv_verdict.specs.NoLess.{AnswersNoLess, IsNoLess, case_of}
+use Rattle.dnsv_verdict.specs.NoLess.{IsNoLess, case_of}
 use Rattle.dnsv_verdict.specs.Settled.{HasAlias, HasAnswer}
 use Rattle.dnsv_verdict.specs.Verdict.{Basis, HasAnchor, IsVerdictAt, MayBeSettledBy, hopeful}
 use Rattle.dnsv_verdict.specs.declared.verdict.Verdict.{Verdict}

@@ -1,6 +1,6 @@
 -- It can't be that a question has no verdict.
 use Rattle.std.proofs.Common.{◌≡◌, ◌+◌, ℕ, List, refl, sym, ap, ◌∙◌, subst, inl, inr}
-use Rattle.std.specs.Prelude.{Contains, Some}
+use Rattle.std.specs.Prelude.{Some}
 use Rattle.dnsv_names.specs.Name.{Labels, rightmost}
 use Rattle.dnsv_records.proofs.OneRecord.{one_dnskey, one_rrsig}
 use Rattle.dnsv_records.specs.Dnskey.{IsDnskey}

@@ -1,5 +1,5 @@
 -- A question is refused for one reason, and never where it has a verdict; and it can't be that it has neither.
-use Rattle.std.proofs.Common.{◌≡◌, ◌⊎◌, ◌+◌, ◌<◌, ◌≤◌, ℕ, zero, suc, List, [], ◌∷◌, ◌++◌, length, refl, sym, ap, ◌∙◌, inl, inr, ⊎_elim, subst, arith, length-append}
+use Rattle.std.proofs.Common.{◌≡◌, ◌⊎◌, ◌+◌, ℕ, zero, suc, List, [], ◌∷◌, ◌++◌, length, refl, sym, inl, inr, ⊎_elim, subst, arith, length-append}
 use Rattle.dnsv_names.specs.Name.{Labels}
 use Rattle.dnsv_canonical.specs.Rrsets.{IsQuestion, ReceivedRrset}
 use Rattle.dnsv_verdict.proofs.CaseLemmas.{one_verdict}

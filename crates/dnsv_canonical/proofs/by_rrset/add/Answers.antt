@@ -1,4 +1,4 @@
-use Rattle.std.proofs.Common.{[], if◌then◌else◌, Some, refl, sym, ap, ◌∙◌, map}
+use Rattle.std.proofs.Common.{if◌then◌else◌, Some, refl, sym, ap, ◌∙◌, map}
 use Rattle.dnsv_canonical.specs.ByRrset.{rdata_at}
 use Rattle.dnsv_canonical.proofs.ByRrsetLemmas.{Key, rdata_added, rdata_after, rdata_found, octets_of}
 use Rattle.dnsv_canonical.proofs.by_rrset.add.Goals as goal

@@ -1,10 +1,9 @@
-use Rattle.std.proofs.Common.{◌≡◌, ℕ, List, map, Bor, rules}
+use Rattle.std.proofs.Common.{ℕ, List, map, Bor, rules}
 use Rattle.std.proofs.lemmas.Cmp.{nat_list_cmp_total}
 use Rattle.std.proofs.lemmas.Fn.{always_returns_same}
 use Rattle.std.proofs.lemmas.List.Filters.{dedup_is}
 use Rattle.std.proofs.lemmas.List.Sorted.{ranks_by}
 use Rattle.std.specs.Ordering.{is_lt}
-use Rattle.std.specs.List.Sorted.{IsSorted}
 use Rattle.dnsv_canonical.specs.Canonical.{rdata_cmp}
 use Rattle.dnsv_canonical.proofs.CanonicalLemmas.{IsCanonical-sorted, canonical_unique}
 use Rattle.dnsv_canonical.proofs.canonical.canonical_rdata.Goals as goal

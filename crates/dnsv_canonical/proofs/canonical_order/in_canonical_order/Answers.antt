@@ -1,7 +1,5 @@
-use Rattle.std.proofs.Common.{◌≡◌, ℕ, ◌<◌, length, map, refl, arith, subst, sym, ap, ◌∙◌}
-use Rattle.std.specs.List.{AllByRecursion, AllZip}
-use Rattle.dnsv_canonical.specs.Canonical.{IsCanonical}
-use Rattle.dnsv_canonical.proofs.OrderLemmas.{GoTogether, together_more, zip_length, each_of, each_kept, whole_by_count, reordered}
+use Rattle.std.proofs.Common.{map, arith, ap, ◌∙◌}
+use Rattle.dnsv_canonical.proofs.OrderLemmas.{together_more, zip_length, each_of, each_kept, whole_by_count, reordered}
 use Rattle.dnsv_canonical.proofs.canonical_order.in_canonical_order.Goals as goal
 
 pub loop-place-init : goal.loop-place-init

@@ -1,5 +1,4 @@
 -- the records so far are those of the RDATA so far
-use Rattle.std.proofs.Common.{ℕ}
 use Rattle.dnsv_canonical.proofs.OrderLemmas.{GoTogether}
 use Rattle.dnsv_canonical.proofs.canonical_order.in_canonical_order.Given as goal
 

@@ -1,4 +1,4 @@
-use Rattle.std.proofs.Common.{arith, ◌≡◌, ◌++◌, take, drop, length, ◌+◌, ◌-◌, ◌≤◌, ℕ, List, ap, sym, ◌∙◌, add-one}
+use Rattle.std.proofs.Common.{arith, ◌≡◌, ◌++◌, length, ◌≤◌, ap, ◌∙◌, add-one}
 use Rattle.std.proofs.lemmas.List.{length-take-le}
 use Rattle.sha1.specs.Sha1.{sha1}
 use Rattle.std.proofs.lemmas.Grind.{common_steps}

@@ -1,5 +1,5 @@
 -- what the way comes to, and what it is refused for
-use Rattle.std.proofs.Common.{◌≡◌, ◌⊎◌, Err, ap, inl, inr, ⊎_elim}
+use Rattle.std.proofs.Common.{◌≡◌, Err, ap, inl, inr, ⊎_elim}
 use Rattle.std.proofs.lemmas.Result.{err_from_is_err_and}
 use Rattle.dnsv_canonical.specs.Rrsets.{IsQuestion}
 use Rattle.dnsv_verdict.proofs.MeaningLemmas.{verdict_means}
@@ -7,7 +7,6 @@ use Rattle.dnsv_verdict.proofs.WayLemmas.RefusalLemmas.{no_refusal, one_refusal}
 use Rattle.dnsv_verdict.proofs.WayLemmas.{last_is_question}
 use Rattle.dnsv_verdict.specs.Verdict.{Basis, basis_of}
 use Rattle.dnsv_verdict.specs.Way.{IsRefusedFor}
-use Rattle.dnsv_verdict.specs.declared.error.VerdictError.{VerdictError}
 use Rattle.dnsv_verdict.specs.declared.error.VerdictError.TheVariants.{OutOfMemory}
 use Rattle.dnsv_verdict.proofs.report.validate.Goals as goal
 

@@ -1,5 +1,5 @@
 -- the RRset that has one, those before it, and all of them where none has
-use Rattle.std.proofs.Common.{length, refl, sym, subst, Some, ◌≡◌, ◌+◌, ◌≤◌}
+use Rattle.std.proofs.Common.{length, refl, sym, subst, Some, ◌≡◌, ◌≤◌}
 use Rattle.std.specs.Prelude.{slice_get}
 use Rattle.std.proofs.lemmas.Option.{slice_get_read}
 use Rattle.dnsv_names.specs.Name.{SameName}

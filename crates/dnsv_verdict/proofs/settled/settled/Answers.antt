@@ -1,5 +1,5 @@
 -- the first case that holds, with those before it refuted
-use Rattle.std.proofs.Common.{ℕ, inl, inr, subst}
+use Rattle.std.proofs.Common.{inl, inr, subst}
 use Rattle.dnsv_chain.specs.Trust.{SecuredIn}
 use Rattle.dnsv_denial.specs.proving.FirstProof.{CanProveNoData, CanProveNoName, IsFirstNoData, IsFirstNoName}
 use Rattle.dnsv_denial.specs.unsigned_cuts.Cuts.{HasUnsignedCut, IsUnsignedCut}

@@ -1,5 +1,4 @@
-use Rattle.std.proofs.Common.{◌⊎◌, List, sym, subst, ⊎_elim}
-use Rattle.std.specs.Prelude.{Contains}
+use Rattle.std.proofs.Common.{List, sym, subst, ⊎_elim}
 use Rattle.dnsv_names.specs.Name.{SameName}
 use Rattle.dnsv_verdict.proofs.WayLemmas.{among_link, among_last, among_split, HasLinkAt}
 use Rattle.dnsv_verdict.specs.declared.link.Link.{Link}

@@ -1,4 +1,4 @@
-use Rattle.std.proofs.Common.{◌⊎◌, List, ⊎_elim}
+use Rattle.std.proofs.Common.{List, ⊎_elim}
 use Rattle.dnsv_names.specs.Name.{Labels}
 use Rattle.dnsv_verdict.proofs.WayLemmas.RefusalLemmas.{never_both, one_refused_for, some_answer}
 use Rattle.dnsv_verdict.proofs.WayLemmas.{one_way}

@@ -1,5 +1,4 @@
 use Rattle.dnsv_canonical.proofs.ReadableLemmas.{fails_alone}
-use Rattle.dnsv_records.specs.Nsec3.{IsNsec3}
 use Rattle.dnsv_canonical.proofs.records.Nsec3FromRdata.from_rdata.Goals as goal
 
 pub returns-clause-fails : goal.returns-clause-fails

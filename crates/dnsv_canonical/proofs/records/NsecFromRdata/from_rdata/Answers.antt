@@ -1,5 +1,4 @@
 use Rattle.dnsv_canonical.proofs.ReadableLemmas.{fails_alone}
-use Rattle.dnsv_records.specs.Nsec.{IsNsec}
 use Rattle.dnsv_canonical.proofs.records.NsecFromRdata.from_rdata.Goals as goal
 
 pub returns-clause-fails : goal.returns-clause-fails
