@@ -5,3 +5,4 @@ mod MomentLemmas
 mod NumberedLemmas
 mod PlaceLemmas
 mod ShownLemmas
+mod WayLemmas
