@@ -1,7 +1,6 @@
 -- Derivations, from the bottom up.
-use Rattle.std.proofs.Common.{◌≡◌, ◌≢◌, ◌<◌, ◌-◌, ℕ, List, [], ◌∷◌, ◌++◌, Some, None, Option, length, reverse, refl, sym, ap, ◌∙◌, subst, arith, append_assoc}
+use Rattle.std.proofs.Common.{◌≡◌, ◌<◌, ℕ, List, [], ◌∷◌, ◌++◌, Some, None, Option, length, reverse, refl, sym, ap, ◌∙◌, subst, arith, append_assoc}
 use Rattle.std.proofs.lemmas.List.{append-nil, reverse-append}
-use Rattle.std.specs.List.{slice_get}
 use Rattle.std.specs.Option.{option_map_or}
 use Rattle.dnsv_names.specs.Tree.TreeLaws.{below_length, same_labels}
 use Rattle.dnsv_canonical.specs.Rrsets.{IsNumbered, ReceivedRrset}
@@ -10,7 +9,7 @@ use Rattle.dnsv_denial.specs.declared.records.number.RecordNumber.{RecordNumber}
 use Rattle.dnsv_records.specs.declared.number.DigestType.{DigestType}
 use Rattle.dnsv_verdict.specs.Verdict.{Basis}
 use Rattle.dnsv_explain.specs.Climb.{Climbs, IsClimbed, IsUpTo, LeadsUp, labels_at}
-use Rattle.dnsv_explain.specs.Derivations.{IsByAnchor, IsDerivation, IsLowestSecured, IsSignatureSaid, Subject}
+use Rattle.dnsv_explain.specs.Derivations.{IsByAnchor, IsDerivation, IsLowestSecured, IsSignatureSaid}
 use Rattle.dnsv_explain.specs.Derivations.IsDerivation.{said_trusted as by_said_trust, anchored as by_anchored, delegated as by_delegated, said_signed as by_said_signature, signed as by_signature}
 use Rattle.dnsv_explain.specs.Derivations.Subject.{keys, signature}
 use Rattle.dnsv_explain.specs.Following.{IsMatchedBy, IsSaidTrusted}

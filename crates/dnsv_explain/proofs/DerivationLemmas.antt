@@ -1,16 +1,15 @@
 -- Each line of a derivation follows from those before it.
-use Rattle.std.proofs.Common.{◌≡◌, ℕ, List, [], ◌∷◌, ◌++◌, refl, sym, ap, ◌∙◌, subst, append_assoc}
+use Rattle.std.proofs.Common.{◌≡◌, ℕ, List, [], ◌∷◌, ◌++◌, refl, sym, ap, subst, append_assoc}
 use Rattle.std.proofs.lemmas.List.{append-nil}
 use Rattle.std.proofs.lemmas.List.Elements.{Contains-append_left, Contains-append_right, Contains-push}
 use Rattle.std.specs.List.{Contains}
 use Rattle.dnsv_names.specs.Name.{Labels, SameName}
 use Rattle.dnsv_names.specs.Tree.TreeLaws.{same_of_key}
-use Rattle.dnsv_canonical.specs.Rrsets.{ReceivedRrset}
 use Rattle.dnsv_denial.specs.declared.records.number.RecordNumber.{RecordNumber}
 use Rattle.dnsv_records.specs.declared.number.DigestType.{DigestType}
 use Rattle.dnsv_verifier.specs.Admissible.{DnskeyRecord}
 use Rattle.dnsv_verdict.specs.Verdict.{Basis}
-use Rattle.dnsv_explain.specs.Derivations.{IsByAnchor, IsDerivation, IsSignatureSaid, Subject}
+use Rattle.dnsv_explain.specs.Derivations.{IsByAnchor, IsDerivation, Subject}
 use Rattle.dnsv_explain.specs.Derivations.IsDerivation.{said_trusted, anchored, delegated, said_signed, signed}
 use Rattle.dnsv_explain.specs.Derivations.Subject.{keys, signature}
 use Rattle.dnsv_explain.specs.Following.{EachFollows, Follows, FollowsSigned, FollowsTrusted, IsGoodUnder, IsMatchedBy, IsSaidSigned, IsSaidTrusted, IsVouchedBy}

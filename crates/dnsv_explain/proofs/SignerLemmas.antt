@@ -1,10 +1,9 @@
 -- The first trusted key under which a signature is good.
-use Rattle.std.proofs.Common.{◌≡◌, ◌≢◌, ◌<◌, ◌≤◌, ◌+◌, ◌-◌, ◌⊎◌, ℕ, List, Option, Some, None, length, refl, sym, ap, ◌∙◌, subst, ⊎_elim, arith}
+use Rattle.std.proofs.Common.{◌≡◌, ◌≢◌, ◌<◌, ◌≤◌, ◌+◌, ◌-◌, ℕ, List, Option, Some, None, length, refl, sym, ap, ◌∙◌, subst, ⊎_elim, arith}
 use Rattle.std.proofs.lemmas.Bool.{cases_lt}
 use Rattle.std.proofs.lemmas.Cmp.{nat_list_cmp_total, tied_itself}
 use Rattle.std.proofs.lemmas.Option.{slice_get_within}
 use Rattle.std.specs.Ordering.{ordering_reverse}
-use Rattle.std.specs.declared.cmp.Ordering.{Ordering}
 use Rattle.std.specs.declared.cmp.Ordering.TheVariants.{Less, Equal, Greater}
 use Rattle.dnsv_records.proofs.OneRecord.{one_rrsig}
 use Rattle.dnsv_records.specs.declared.rrsig.Rrsig.{Rrsig}
@@ -15,7 +14,7 @@ use Rattle.dnsv_verifier.specs.Admissible.{DnskeyRecord, IsGood}
 use Rattle.dnsv_chain.specs.Trusted.{IsKeyOf, IsSecured, IsTrusted}
 use Rattle.dnsv_verdict.specs.Verdict.{Basis}
 use Rattle.dnsv_explain.specs.Following.{IsGoodUnder}
-use Rattle.dnsv_explain.specs.SignerSearch.{IsFirstAmong, IsFirstTo, IsLowestGoodKey, IsLowestIn, IsLowestOf, IsOfKey, IsSignatureAt}
+use Rattle.dnsv_explain.specs.SignerSearch.{IsFirstAmong, IsFirstTo, IsLowestGoodKey, IsLowestIn, IsSignatureAt}
 use Rattle.dnsv_explain.specs.Ways.{IsFirstSigner, IsSignedLine, IsSigner}
 use Rattle.dnsv_explain.specs.declared.line.derivation.SignatureNumber.{SignatureNumber}
 use Rattle.dnsv_explain.specs.declared.signers.Signer.{Signer}
@@ -24,7 +23,7 @@ use Rattle.dnsv_names.specs.Name.{Labels}
 use Rattle.dnsv_names.specs.declared.number.RecordType.{RecordType}
 use Rattle.dnsv_explain.proofs.NumberedLemmas.{same_number}
 use Rattle.dnsv_explain.proofs.ShownLemmas.{rdata_at, read_at}
-use Rattle.dnsv_explain.proofs.TrustedWayLemmas.{number_of, secured_by, trusted_among}
+use Rattle.dnsv_explain.proofs.TrustedWayLemmas.{number_of, trusted_among}
 
 -- ---- orders
 

@@ -10,7 +10,7 @@ use Rattle.dnsv_canonical.specs.CanonicalRdata.{canonical_form}
 use Rattle.dnsv_canonical.specs.Rrsets.{IsNumbered, ReceivedRrset}
 use Rattle.dnsv_verifier.specs.Admissible.{DnskeyRecord}
 use Rattle.dnsv_chain.proofs.ZipLemmas.{zip_at, zip_length}
-use Rattle.dnsv_chain.specs.Anchor.{HasAnchorMatch, IsAnchorMatch}
+use Rattle.dnsv_chain.specs.Anchor.{IsAnchorMatch}
 use Rattle.dnsv_chain.specs.Trusted.{DelegatesTo, IsKeyOf, IsSecured, IsSignedUnder, IsTrusted, SignsItsSet}
 use Rattle.dnsv_chain.specs.Trusted.IsTrusted.{anchored, delegated}
 use Rattle.dnsv_chain.specs.declared.anchor.Anchor.{Anchor}

@@ -1,4 +1,3 @@
-use Rattle.std.proofs.Common.{◌+◌}
 use Rattle.dnsv_explain.specs.Explained.{basis_in}
 use Rattle.dnsv_explain.proofs.NumberedLemmas.{all_passed, numbered_at}
 use Rattle.dnsv_explain.proofs.WayRankLemmas.{records_begin, records_end}

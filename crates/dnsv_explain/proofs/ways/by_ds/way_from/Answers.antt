@@ -1,5 +1,3 @@
-use Rattle.std.proofs.Common.{sym, ◌∙◌}
-use Rattle.std.proofs.lemmas.Bool.{false≢true}
 use Rattle.dnsv_explain.specs.Explained.{basis_in}
 use Rattle.dnsv_explain.proofs.WayRankLemmas.{record_skipped}
 use Rattle.dnsv_explain.proofs.ways.by_ds.way_from.Goals as goal

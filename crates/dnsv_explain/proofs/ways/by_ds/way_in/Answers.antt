@@ -5,7 +5,7 @@ use Rattle.dnsv_names.specs.Name.{Labels}
 use Rattle.dnsv_records.specs.Ds.{IsDs}
 use Rattle.dnsv_chain.specs.Ds.{IsMatch}
 use Rattle.dnsv_explain.specs.Explained.{basis_in}
-use Rattle.dnsv_explain.specs.WaySearch.{IsFirstUnder, IsNoneUnder}
+use Rattle.dnsv_explain.specs.WaySearch.{IsNoneUnder}
 use Rattle.dnsv_explain.proofs.KeysLemmas.{mapped_long, mapped_there, read_there}
 use Rattle.dnsv_explain.proofs.WayRankLemmas.{ds_read, places_begin, places_end, record_found, record_passed, record_there}
 use Rattle.dnsv_explain.proofs.ways.by_ds.way_in.Goals as goal

@@ -1,4 +1,4 @@
-use Rattle.std.proofs.Common.{List, map, subst, sym}
+use Rattle.std.proofs.Common.{List, subst, sym}
 use Rattle.dnsv_verifier.specs.Admissible.{DnskeyRecord}
 use Rattle.dnsv_explain.specs.WaySearch.{AreKeysInOrder, key_of}
 use Rattle.dnsv_explain.proofs.KeysLemmas.{all_made, keys_are}
