@@ -1,7 +1,16 @@
+mod AnswerLemmas
 mod CircleLemmas
+mod ClimbLemmas
+mod DerivationLemmas
 mod FollowingLemmas
 mod HoldingLemmas
+mod KeysLemmas
 mod MomentLemmas
 mod NumberedLemmas
 mod PlaceLemmas
 mod ShownLemmas
+mod SignerLemmas
+mod TrustedWayLemmas
+mod WayLemmas
+mod WayRankLemmas
+mod WaySearchLemmas

@@ -103,21 +103,23 @@ module _ (basis : Basis) where
         → IsVouchedBy (at_moment basis moment) before voucher key
     vouched_then before (voucher.KeyAnchor number) key vouched = vouched
     vouched_then before (voucher.DsAnchor number digest_type) key vouched = vouched
-    vouched_then before (voucher.Ds number digest_type) key vouched = record {
-      rrset = vouched.rrset;
-      rdata = vouched.rdata;
-      at = vouched.at;
-      rtype = vouched.rtype;
-      ds = vouched.ds;
-      read = vouched.read;
-      records = vouched.records;
-      are_read = vouched.are_read;
-      among = vouched.among;
-      usable = vouched.usable;
-      matching = vouched.matching;
-      digest = vouched.digest;
-      signed = vouched.signed;
-    }
+    vouched_then before (voucher.Ds number digest_type) key (ds, signed) = (
+      record {
+        rrset = ds.rrset;
+        rdata = ds.rdata;
+        at = ds.at;
+        rtype = ds.rtype;
+        ds = ds.ds;
+        read = ds.read;
+        records = ds.records;
+        are_read = ds.are_read;
+        among = ds.among;
+        usable = ds.usable;
+        matching = ds.matching;
+        digest = ds.digest;
+      },
+      signed,
+    )
 
     follows_then : (before : List Line) (each : Line)
         → ((times : Times) → ShowsTimes basis.rrsets each times → ValidAt times.inception.0 times.expiration.0 moment)

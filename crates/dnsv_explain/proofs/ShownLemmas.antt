@@ -25,7 +25,7 @@ zip_left P rrsigs rdata k octets None is some = absurd some
 zip_left P rrsigs rdata k octets (Some rrsig) is some = (rrsig, is, some)
 
 -- the value that is read of RDATA stands where the RDATA stands
-read_at : (rdata : List (List ℕ)) (rrsigs : List Rrsig) (k : ℕ) (octets : List ℕ) → AllZip IsRrsig rdata rrsigs
+pub read_at : (rdata : List (List ℕ)) (rrsigs : List Rrsig) (k : ℕ) (octets : List ℕ) → AllZip IsRrsig rdata rrsigs
     → slice_get rdata k ≡ Some octets → (rrsig : Rrsig) × (slice_get rrsigs k ≡ Some rrsig) × IsRrsig octets rrsig
 read_at rdata rrsigs k octets zip there =
     let Right : Option (List ℕ) → Type 0 =
@@ -39,7 +39,7 @@ rdata_right P rdata k None is some = absurd some
 rdata_right P rdata k (Some octets) is some = (octets, is, some)
 
 -- and the RDATA where the value stands
-rdata_at : (rdata : List (List ℕ)) (rrsigs : List Rrsig) (k : ℕ) (rrsig : Rrsig) → AllZip IsRrsig rdata rrsigs
+pub rdata_at : (rdata : List (List ℕ)) (rrsigs : List Rrsig) (k : ℕ) (rrsig : Rrsig) → AllZip IsRrsig rdata rrsigs
     → slice_get rrsigs k ≡ Some rrsig → (octets : List ℕ) × (slice_get rdata k ≡ Some octets) × IsRrsig octets rrsig
 rdata_at rdata rrsigs k rrsig zip there =
     let Left : Option Rrsig → Type 0 =

@@ -61,10 +61,8 @@ pub record IsSaidTrusted (before : List Line) (k : ℕ) : Type 0 where
 
 -- ---- what matches a key
 
--- record K of a DS RRset, of which a line before says that it is signed, can be used and matches the key (RFC 4035 5.2,
--- RFC 4509 3)
-pub record IsDelegatedBy
-    (basis : Basis) (before : List Line) (number : RecordNumber) (digest_type : DigestType) (key : DnskeyRecord)
+-- record K of a DS RRset can be used and matches the key (RFC 4035 5.2, RFC 4509 3)
+pub record IsDsMatch (basis : Basis) (number : RecordNumber) (digest_type : DigestType) (key : DnskeyRecord)
     : Type 0 where
   pub rrset : ReceivedRrset
   pub rdata : List ℕ
@@ -78,17 +76,21 @@ pub record IsDelegatedBy
   pub usable : IsUsable records ds
   pub matching : IsMatch rrset.owner ds key
   pub digest : digest_type.0 ≡ ds.digest_type.0
-  pub signed : IsSaidSigned before number.rrset
 
--- the anchor with the number, or the record of a DS RRset, matches the key
-abbrev pub IsVouchedBy : Basis → List Line → Voucher → DnskeyRecord → Type 0
-IsVouchedBy basis before (voucher.KeyAnchor number) key =
+-- the anchor with the number, or the record of a DS RRset whose number is such, matches the key
+abbrev pub IsMatchedBy : (ℕ → Type 0) → Basis → Voucher → DnskeyRecord → Type 0
+IsMatchedBy Signed basis (voucher.KeyAnchor number) key =
     (owner : Labels) × (rdata : List ℕ) × IsNumbered basis.anchors number (anchor.Key owner rdata)
     × IsAnchorMatch (anchor.Key owner rdata) key
-IsVouchedBy basis before (voucher.DsAnchor number digest_type) key =
+IsMatchedBy Signed basis (voucher.DsAnchor number digest_type) key =
     (owner : Labels) × (ds : Ds) × IsNumbered basis.anchors number (anchor.Ds owner ds)
     × (digest_type.0 ≡ ds.digest_type.0) × IsAnchorMatch (anchor.Ds owner ds) key
-IsVouchedBy basis before (voucher.Ds number digest_type) key = IsDelegatedBy basis before number digest_type key
+IsMatchedBy Signed basis (voucher.Ds number digest_type) key =
+    IsDsMatch basis number digest_type key × Signed number.rrset
+
+-- an anchor matches the key, or a record of a DS RRset of which a line before says that it is signed
+abbrev pub IsVouchedBy : Basis → List Line → Voucher → DnskeyRecord → Type 0
+IsVouchedBy basis before voucher key = IsMatchedBy (IsSaidSigned before) basis voucher key
 
 -- ---- the rules
 

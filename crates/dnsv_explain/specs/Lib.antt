@@ -1,5 +1,11 @@
+pub mod Climb
+pub mod Derivations
+pub mod Explained
 pub mod Following
 pub mod Holding
 pub mod Places
 pub mod Reach
+pub mod SignerSearch
+pub mod WaySearch
+pub mod Ways
 pub mod line

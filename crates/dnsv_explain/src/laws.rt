@@ -5,6 +5,7 @@ ghost use Rattle.std.specs.Prelude.{◌≡◌, ◌≤◌, ℕ, [], List, Contain
 ghost use Rattle.dnsv_canonical.specs.Rrsets.{IsNumbered, ReceivedRrset};
 ghost use Rattle.dnsv_chain.specs.Trusted.{IsSecured, IsTrusted};
 ghost use Rattle.dnsv_verdict.specs.Verdict.{Basis};
+ghost use Rattle.dnsv_explain.specs.Derivations.{IsDerivation, Subject};
 ghost use Rattle.dnsv_explain.specs.Following.{EachFollows, at_moment};
 ghost use Rattle.dnsv_explain.specs.Holding.{AreShownValidAt, IsHolding, IsHoldingOf};
 
@@ -40,4 +41,11 @@ pub fn lines_follow_as_long_as_they_hold()
 pub fn signatures_hold_in_one_interval()
     ensures { (signatures : List Times) (moment : ℕ) (a b : Interval) → IsHolding signatures moment a
         → IsHolding signatures moment b → a ≡ b }
+{}
+
+/// Each line of a derivation follows from those before it: from what was said before the derivation, and from the lines
+/// of it that come first. So what a derivation says is true.
+pub fn derivations_follow()
+    ensures { (basis : Basis) (before lines : List Line) (subject : Subject) → IsDerivation basis before subject lines
+        → EachFollows basis before lines }
 {}

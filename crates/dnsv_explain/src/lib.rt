@@ -3,9 +3,12 @@
 //! A `Line` is a fact, and its text is what `Display` writes. An `Interval` is how long signatures hold.
 #![tactic(auto)]
 
+pub use derivations::derivation;
+pub use evidence::Evidence;
 pub use interval::{Interval, Times, holding};
 pub use laws::{
-    lines_follow_as_long_as_they_hold, lines_that_follow_are_true, signatures_hold_in_one_interval,
+    derivations_follow, lines_follow_as_long_as_they_hold, lines_that_follow_are_true,
+    signatures_hold_in_one_interval,
 };
 pub use line::cut::{Cut, InsecureCase, UnusableDs, WhyUnusable};
 pub use line::denial::{Chain, Form, Part, Proof, RecordPlace, Relation, Role};
@@ -14,10 +17,16 @@ pub use line::place::RrsetPlace;
 pub use line::{Kind, Line};
 pub use places::places_named;
 pub use shown::holding_of;
+pub use signers::signed_line;
+pub use ways::trusted_line;
 
+mod derivations;
+mod evidence;
 mod interval;
 mod laws;
 mod line;
 mod numbered;
 mod places;
 mod shown;
+mod signers;
+mod ways;

@@ -1,0 +1,5 @@
+use Rattle.dnsv_explain.proofs.DerivationLemmas.{derivation_follows}
+use Rattle.dnsv_explain.proofs.laws.derivations_follow.Goals as goal
+
+pub returns : goal.returns
+returns c = λ basis before lines subject is. derivation_follows basis before subject lines is

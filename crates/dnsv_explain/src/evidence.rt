@@ -1,0 +1,95 @@
+//! What explanations stand on.
+ghost use Rattle.std.specs.Prelude.{◌≡◌, ◌↔◌, IfOk, IsTrue};
+ghost use Rattle.dnsv_verifier.specs.Admissible.{IsGood};
+ghost use Rattle.dnsv_verifier.specs.Table.{table_answer};
+ghost use Rattle.dnsv_chain.specs.Trust.{AreSecured, IsTrustOf};
+
+use dnsv_canonical::{Capture, Rrset};
+use dnsv_chain::{Anchor, Anchors, Trust, is_good};
+use dnsv_records::Rrsig;
+use dnsv_verifier::{KeyRecord, Table};
+use std::alloc::{AllocError, Global};
+use std::marker::Model;
+
+/// What is explained: the RRsets of a capture, the trust anchors, what the verifier says at the moment, and the trust
+/// that these give.
+#[derive(Drop)]
+pub struct Evidence<'a> {
+    capture: &'a Capture,
+    anchors: &'a Anchors,
+    table: &'a Table,
+    trust: &'a Trust,
+}
+
+impl<'a> Model for Evidence<'a> {
+    ghost use Rattle.dnsv_verifier.specs.Table.{table_answer};
+    ghost use Rattle.dnsv_chain.specs.Trust.{IsTrustOf};
+    ghost use Rattle.dnsv_explain.specs.Explained.{Explained};
+
+    ghost Value = { Explained };
+
+    ghost view = { λ evidence. record {
+      rrsets = evidence.capture.now.rrsets;
+      anchors = evidence.anchors.now;
+      table = evidence.table.now;
+    } };
+
+    ghost invariant = { λ evidence. IsTrustOf (table_answer evidence.table.now) evidence.table.now.moment
+        evidence.capture.now.rrsets evidence.anchors.now evidence.trust.now };
+}
+
+impl<'a> Evidence<'a> {
+    /// The evidence of the capture, with the trust that it gives under the anchors and the table's answers.
+    pub fn new(
+        capture: &'a Capture,
+        anchors: &'a Anchors,
+        table: &'a Table,
+        trust: &'a Trust,
+    ) -> Evidence<'a>
+        requires { IsTrustOf (table_answer table.now) table.now.moment capture.now.rrsets anchors.now trust.now }
+        ensures { result ≡ record { rrsets = capture.now.rrsets; anchors = anchors.now; table = table.now } }
+    {
+        Evidence {
+            capture,
+            anchors,
+            table,
+            trust,
+        }
+    }
+
+    /// The RRsets, which are numbered from 1.
+    pub(crate) fn rrsets(&self) -> &[Rrset]
+        ensures { result.now ≡ self.now.rrsets }
+    {
+        self.capture.rrsets()
+    }
+
+    /// The trust anchors, which are numbered from 1.
+    pub(crate) fn anchors(&self) -> &[Anchor]
+        ensures { result.now ≡ self.now.anchors }
+    {
+        self.anchors.as_slice()
+    }
+
+    /// The numbers of those signatures of the RRset with the number that are good under a trusted key, rising.
+    pub(crate) fn secured(&self, rrset: usize) -> &[usize]
+        ensures { AreSecured (table_answer self.now.table) self.now.table.moment self.now.rrsets self.now.anchors rrset
+            result.now }
+    {
+        self.trust.signed(rrset)
+    }
+
+    /// Whether the signature of the RRset is good under the key.
+    pub(crate) fn is_good(
+        &self,
+        alloc: Global,
+        rrset: &Rrset,
+        rrsig: &Rrsig,
+        key: &KeyRecord<'_>,
+    ) -> Result<bool, AllocError>
+        ensures { IfOk result (λ good. IsTrue good
+            ↔ IsGood (table_answer self.now.table) self.now.table.moment rrset.now rrsig.now key.now) }
+    {
+        Ok(is_good(alloc, self.table, rrset, rrsig, key)?)
+    }
+}

@@ -1,0 +1,77 @@
+//! The keys of a DNSKEY RRset, and the signatures of it that are good under them.
+ghost use Rattle.std.specs.Prelude.{◌≡◌, ℕ, IfOk, IsTrue, MatchOption};
+ghost use Rattle.dnsv_canonical.specs.Rrsets.{IsNumbered};
+ghost use Rattle.dnsv_explain.specs.Explained.{basis_in};
+ghost use Rattle.dnsv_explain.specs.Following.{IsGoodUnder, IsNamed};
+ghost use Rattle.dnsv_explain.specs.WaySearch.{AreKeysInOrder, IsLowestGood, signature_of};
+
+use crate::evidence::Evidence;
+use crate::line::derivation::KeyName;
+use dnsv_canonical::{ReadRecord, Rrset, in_canonical_order};
+use dnsv_records::Dnskey;
+use dnsv_verifier::KeyRecord;
+use std::alloc::{AllocError, Global};
+
+/// The keys of the DNSKEY RRset, each RDATA once, in the order of RDATA.
+pub fn keys_in_order(alloc: Global, set: &Rrset) -> Result<Vec<KeyRecord<'_>>, AllocError>
+    requires { set.now.rtype ≡ 48 }
+    ensures { IfOk result (λ keys. AreKeysInOrder set.now keys.items) }
+{
+    let records = in_canonical_order(alloc, set, set.dnskeys())?;
+    let mut keys = Vec::new(alloc);
+    for each in &records {
+        keys.push(KeyRecord::new(set.owner(), each.rdata, each.record))?;
+    }
+    Ok(keys)
+}
+
+/// The tag and the algorithm of the key.
+pub fn key_name(key: &KeyRecord<'_>) -> KeyName
+    ensures { IsNamed key.now result }
+{
+    KeyName {
+        tag: key.key_tag(),
+        algorithm: key.dnskey().algorithm,
+    }
+}
+
+/// The lowest number of a signature of the RRset, which has the number, that is good under the key.
+fn lowest_good(
+    alloc: Global,
+    evidence: &Evidence<'_>,
+    number: usize,
+    rrset: &Rrset,
+    key: &KeyRecord<'_>,
+) -> Result<Option<usize>, AllocError>
+    requires { IsNumbered evidence.now.rrsets number rrset.now }
+    ensures { IfOk result (λ lowest. MatchOption lowest
+        ((s : ℕ) → ¬ IsGoodUnder (basis_in evidence.now) (signature_of number s) rrset.now key.now)
+        (IsLowestGood (basis_in evidence.now) number rrset.now key.now)) }
+{
+    for (place, rrsig) in rrset.signatures().iter().enumerate() {
+        if evidence.is_good(alloc, rrset, rrsig, key)? {
+            return Ok(Some(place + 1));
+        }
+    }
+    Ok(None)
+}
+
+/// The lowest number of such a signature, if the key is one that matches.
+pub fn lowest_where(
+    alloc: Global,
+    evidence: &Evidence<'_>,
+    number: usize,
+    rrset: &Rrset,
+    key: &KeyRecord<'_>,
+    is_match: bool,
+) -> Result<Option<usize>, AllocError>
+    requires { IsNumbered evidence.now.rrsets number rrset.now }
+    ensures { IfOk result (λ lowest. MatchOption lowest
+        ((s : ℕ) → IsTrue is_match → ¬ IsGoodUnder (basis_in evidence.now) (signature_of number s) rrset.now key.now)
+        (λ s. IsTrue is_match × IsLowestGood (basis_in evidence.now) number rrset.now key.now s)) }
+{
+    if !is_match {
+        return Ok(None);
+    }
+    Ok(lowest_good(alloc, evidence, number, rrset, key)?)
+}
