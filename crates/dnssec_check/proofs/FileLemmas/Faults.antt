@@ -1,5 +1,5 @@
 -- Answers over files, from call to call.
-use Rattle.std.proofs.Common.{◌≡◌, ◌⊎◌, ◌-◌, ℕ, List, Option, Some, None, ap, subst, sym, ◌∙◌, inl, inr, arith}
+use Rattle.std.proofs.Common.{◌≡◌, ◌⊎◌, ℕ, List, Option, Some, None, ap, subst, sym, ◌∙◌, inl, inr, arith}
 use Rattle.std.specs.Prelude.{Result, Ok, Err, IfErr, IfSome, ⊤}
 use Rattle.dnsv_message.specs.Streams.Frames.{IsCapture}
 use Rattle.dnsv_message.specs.Message.{Contents}

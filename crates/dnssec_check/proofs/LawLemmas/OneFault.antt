@@ -1,5 +1,5 @@
 -- For its files a request has at most one first fault, and none where it has a text.
-use Rattle.std.proofs.Common.{◌≡◌, ℕ, List, Option, Some, None, refl, sym, ap, subst, ◌∙◌, inl, inr, ◌⊎◌, ⊎_elim}
+use Rattle.std.proofs.Common.{◌≡◌, ℕ, List, Option, Some, None, refl, sym, ap, subst, ◌∙◌, inl, inr, ⊎_elim}
 use Rattle.std.specs.Prelude.{string_bytes, true, false}
 use Rattle.dnsv_names.specs.Name.{Labels}
 use Rattle.dnsv_names.specs.Octets.{AreOctets}
