@@ -3,7 +3,7 @@ pub mod Anchors
 pub mod Capture
 pub mod Faults
 pub mod Statements
-use Rattle.std.specs.Prelude.{◌≡◌, ℕ, List, [], Option, Some, unwrap_or}
+use Rattle.std.specs.Prelude.{◌≡◌, ℕ, List, [], Option, Some, None, unwrap_or}
 use Rattle.std.specs.Option.{option_map, option_map_or}
 use Rattle.dnsv_message.specs.Streams.Counted.{inner_of, failures_of}
 use Rattle.dnsv_message.specs.declared.streams.counted.Counted.{Counted}
@@ -25,6 +25,12 @@ octets_or_none octets = unwrap_or octets []
 abbrev pub IsToldBy : {R : Type 0} → (R → Option (List ℕ)) → Option (Counted R) → Option (List ℕ) → Type 0
 IsToldBy remaining reader octets =
     option_map (λ each. remaining (inner_of each)) reader ≡ option_map (λ each. Some each) octets
+
+-- a file that may be given says this, or nothing where it isn't
+abbrev pub MayHave : {T : Type 0} → (List ℕ → T → Type 0) → Option (List ℕ) → Option T → Type 0
+MayHave Says None said = said ≡ None
+MayHave Says (Some text) None = ⊥
+MayHave Says (Some text) (Some said) = Says text said
 
 -- how many calls failed of the reader of a file that may be given
 abbrev pub given_failures : {R : Type 0} → Option (Counted R) → ℕ

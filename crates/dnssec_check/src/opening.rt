@@ -5,15 +5,14 @@ ghost use Rattle.dnsv_message.specs.Streams.Frames.{octets_at_each};
 ghost use Rattle.dnssec_check.specs.Opening.{HasItsMacs, request_mac};
 ghost use Rattle.dnssec_check.specs.Opening.Given.{IsOpeningOf, IsOpeningReached, IsFaultOfOpening};
 ghost use Rattle.dnssec_check.specs.Files.Faults.{IsAbout, OfFailedRead, OfOctets, TellsFailedReads};
-ghost use Rattle.dnssec_check.specs.Files.{IsToldBy, given_failures, octets_or_none};
-ghost use Rattle.dnssec_check.specs.Opening.Macs.{IsFaultOfMacs, MayHaveMacs};
+ghost use Rattle.dnssec_check.specs.Files.{IsToldBy, given_failures};
 
 pub mod keys;
 pub mod macs;
 
 use crate::command_line::moment::Moment;
-use crate::opening::keys::keys_in;
-use crate::opening::macs::{RequestMac, macs_in};
+use crate::files::text::given_text_in;
+use crate::opening::macs::RequestMac;
 use crate::status::{Fault, InputFile};
 use dnsv_message::Counted;
 use dnsv_tsig::KeyRing;
@@ -121,27 +120,9 @@ pub fn opening_in<R: Read>(
     ensures macs_reads { TellsFailedReads InputFile.Macs (given_failures macs.old) (given_failures macs.new) result }
     ensures about { IfErr result (λ told. IsAbout InputFile.Keys told ⊎ IsAbout InputFile.Macs told) }
 {
-    let Some(keys) = keys_in(alloc, keys)? else {
+    let Some(keys) = given_text_in(alloc, InputFile::Keys, keys)? else {
         return Ok(Opening::Plain);
     };
-    let macs = request_macs_in(alloc, macs)?;
+    let macs = given_text_in(alloc, InputFile::Macs, macs)?;
     Ok(Opening::Signed { keys, moment, macs })
-}
-
-/// The MACs of requests of the file; `None` where no file is given.
-fn request_macs_in<R: Read>(
-    alloc: Global,
-    file: &mut Option<Counted<R>>,
-) -> Result<Option<RequestMacs>, Fault>
-    ensures macs { (octets : Option (List ℕ)) → IsToldBy R.remaining file.old octets
-        → IfOk result (MayHaveMacs octets) }
-    ensures faults { (octets : Option (List ℕ)) → IsToldBy R.remaining file.old octets
-        → IfErr result (OfOctets (IsFaultOfMacs (octets_or_none octets))) }
-    ensures reads { TellsFailedReads InputFile.Macs (given_failures file.old) (given_failures file.new) result }
-    ensures about { IfErr result (IsAbout InputFile.Macs) }
-{
-    match macs_in(alloc, file)? {
-        Some(each) => Ok(Some(RequestMacs { each })),
-        None => Ok(None),
-    }
 }

@@ -18,11 +18,10 @@ ghost use Rattle.dnssec_check.specs.Texts.Todo.{IsTodo};
 use crate::command_line::moment::Moment;
 use crate::command_line::question::question_name;
 use crate::command_line::request::Request;
-use crate::files::anchors::anchors_in;
 use crate::files::capture::{evidence_in, messages_in};
-use crate::files::statements::statements_in;
+use crate::files::text::text_in;
 use crate::opening::{Opening, opening_in};
-use crate::status::{Fault, Status};
+use crate::status::{Fault, InputFile, Status};
 use crate::texts::checking::{Outcome, judge};
 use crate::texts::listing::listing;
 use crate::texts::showing::showing;
@@ -30,6 +29,7 @@ use crate::texts::todo::still_to_check;
 use bumpalo::Bump;
 use dnsv_message::Counted;
 use dnsv_names::{Name, RecordType};
+use dnsv_verifier::Statements;
 use std::alloc::Global;
 use std::io::{Read, Write};
 
@@ -173,7 +173,7 @@ fn list<R: Read>(
     ensures unwritten { IfErr result (λ fault. fault ≡ Fault.WriteFailed → ⊥) }
 {
     let held = evidence_in(alloc, &Opening::Plain, &mut inputs.capture, bump)?;
-    let statements = statements_in(alloc, &mut inputs.statements)?;
+    let statements: Statements = text_in(alloc, InputFile::Statements, &mut inputs.statements)?;
     Ok(still_to_check(alloc, &held, moment, &statements)?)
 }
 
@@ -218,7 +218,7 @@ fn check_question<R: Read>(
 {
     let opening = opening_in(alloc, moment, &mut inputs.keys, &mut inputs.macs)?;
     let held = evidence_in(alloc, &opening, &mut inputs.capture, bump)?;
-    let anchors = anchors_in(alloc, &mut inputs.anchors)?;
-    let statements = statements_in(alloc, &mut inputs.statements)?;
+    let anchors = text_in(alloc, InputFile::Anchors, &mut inputs.anchors)?;
+    let statements: Statements = text_in(alloc, InputFile::Statements, &mut inputs.statements)?;
     judge(alloc, &held, &anchors, moment, &statements, name, rtype)
 }

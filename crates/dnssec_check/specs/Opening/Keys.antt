@@ -1,5 +1,5 @@
 -- Files of keys: what they say, and what they are refused for.
-use Rattle.std.specs.Prelude.{◌≡◌, ◌≤◌, ℕ, List, Option, Some, None, length}
+use Rattle.std.specs.Prelude.{◌≡◌, ◌≤◌, ℕ, List, Option, length}
 use Rattle.dnsv_message.specs.Streams.Frames.{file_limit}
 use Rattle.dnsv_tsig.specs.Key.{SharedKey}
 use Rattle.dnsv_tsig.specs.KeyFile.{IsKeyFault, IsRingOf}
@@ -10,6 +10,7 @@ use Rattle.dnssec_check.specs.declared.status.InputFile.TheVariants.{Keys}
 use Rattle.dnssec_check.specs.declared.status.Place.{Place}
 use Rattle.dnssec_check.specs.declared.status.Refusal.{Refusal}
 use Rattle.dnssec_check.specs.declared.status.Refusal.TheVariants as refusal
+use Rattle.dnssec_check.specs.Files.{MayHave}
 use Rattle.dnssec_check.specs.Files.Faults.{IsTextFault}
 use Rattle.dnssec_check.specs.Files.Statements.{IsAtLine}
 
@@ -20,9 +21,7 @@ pub record HasKeys (text : List ℕ) (keys : List SharedKey) : Type 0 where
 
 -- the keys of a file that may be given: none where it isn't
 abbrev pub MayHaveKeys : Option (List ℕ) → Option (List SharedKey) → Type 0
-MayHaveKeys None keys = keys ≡ None
-MayHaveKeys (Some text) None = ⊥
-MayHaveKeys (Some text) (Some keys) = HasKeys text keys
+MayHaveKeys = MayHave HasKeys
 
 -- a fault of keys is told as this refusal, with the number of the line
 abbrev pub TellsKeysError : KeyFileError → Refusal → Place → Type 0

@@ -8,6 +8,7 @@ use Rattle.dnssec_check.specs.declared.status.InputFile.TheVariants.{Macs}
 use Rattle.dnssec_check.specs.declared.status.Place.{Place}
 use Rattle.dnssec_check.specs.declared.status.Refusal.{Refusal}
 use Rattle.dnssec_check.specs.declared.status.Refusal.TheVariants as refusal
+use Rattle.dnssec_check.specs.Files.{MayHave}
 use Rattle.dnssec_check.specs.Files.Faults.{IsTextFault}
 use Rattle.dnssec_check.specs.Files.Statements.{IsAtLine}
 
@@ -45,9 +46,7 @@ pub record HasMacs (text : List ℕ) (macs : List (Option (List ℕ))) : Type 0 
 
 -- the MACs of a file that may be given: none where it isn't
 abbrev pub MayHaveMacs : Option (List ℕ) → Option (List (Option (List ℕ))) → Type 0
-MayHaveMacs None macs = macs ≡ None
-MayHaveMacs (Some text) None = ⊥
-MayHaveMacs (Some text) (Some macs) = HasMacs text macs
+MayHaveMacs = MayHave HasMacs
 
 -- the text is refused for the first of its lines that is at fault
 abbrev pub AreMacsRefused : List ℕ → Refusal → Place → Type 0

@@ -1,19 +1,15 @@
 //! Files of the MACs of requests.
-ghost use Rattle.std.specs.Prelude.{◌≡◌, ◌≤◌, ◌↔◌, IsTrue, IfErr, IfOk, List, Option, ℕ, length};
-ghost use Rattle.std.specs.Option.{option_map};
+ghost use Rattle.std.specs.Prelude.{◌≡◌, ◌≤◌, ◌↔◌, IsTrue, IfErr, IfOk, List, ℕ, length};
 ghost use Rattle.dnsv_message.specs.Streams.Frames.{file_limit};
-ghost use Rattle.dnssec_check.specs.Files.Faults.{IsAbout, OfOctets, TellsFailedReads};
-ghost use Rattle.dnssec_check.specs.Files.{IsToldBy, given_failures, octets_or_none};
-ghost use Rattle.dnssec_check.specs.Opening.Macs.{AreMacsRefused, HasMacs, IsFaultOfMacs, IsMacLine, IsMacRefused, MayHaveMacs};
+ghost use Rattle.dnssec_check.specs.Opening.Macs.{AreMacsRefused, HasMacs, IsMacLine, IsMacRefused};
 ghost use Rattle.dnssec_check.specs.Told.{IsFaultOf};
 
-use crate::files::text::{octets_in, refused_line};
-use crate::status::{Fault, InputFile, Refusal};
-use dnsv_message::Counted;
+use crate::files::text::{FromText, refused_line};
+use crate::opening::RequestMacs;
+use crate::status::{Fault, Refusal};
 use dnsv_names::{Line, Lines};
 use hex::FromHex;
 use std::alloc::Global;
-use std::io::Read;
 use std::marker::Model;
 
 /// The MAC of a request that was signed, over which its answer is signed too (RFC 8945 4.3.1).
@@ -39,29 +35,21 @@ impl RequestMac {
     }
 }
 
-/// The MACs of the file, of one request after another, `None` for one that had none. No list where no file is given.
-///
-/// The fault is the first: reading the file, and then its first line that is neither 64 hex digits nor `-`.
-pub fn macs_in<R: Read>(
-    alloc: Global,
-    file: &mut Option<Counted<R>>,
-) -> Result<Option<Vec<Option<RequestMac>>>, Fault>
-    ensures macs { (octets : Option (List ℕ)) → IsToldBy R.remaining file.old octets
-        → IfOk result (λ macs. MayHaveMacs octets (option_map (λ each. each.items) macs)) }
-    ensures faults { (octets : Option (List ℕ)) → IsToldBy R.remaining file.old octets
-        → IfErr result (OfOctets (IsFaultOfMacs (octets_or_none octets))) }
-    ensures reads { TellsFailedReads InputFile.Macs (given_failures file.old) (given_failures file.new) result }
-    ensures about { IfErr result (IsAbout InputFile.Macs) }
-{
-    if file.is_none() {
-        return Ok(None);
+impl FromText for RequestMacs {
+    ghost use Rattle.dnssec_check.specs.Opening.Macs.{AreMacsRefused, HasMacs};
+
+    ghost says = { HasMacs };
+
+    ghost is_refused = { AreMacsRefused };
+
+    fn from_text(alloc: Global, text: &[u8]) -> Result<RequestMacs, Fault> {
+        let each = macs_of(alloc, text)?;
+        Ok(RequestMacs { each })
     }
-    let octets = octets_in(alloc, InputFile::Macs, file)?;
-    let macs = macs_of(alloc, &octets)?;
-    Ok(Some(macs))
 }
 
-/// The MACs of the text; the fault is that of its first line at fault.
+/// The MACs of the text, of one request after another, `None` for one that had none. The fault is that of its first line
+/// that is neither 64 hex digits nor `-`.
 fn macs_of(alloc: Global, text: &[u8]) -> Result<Vec<Option<RequestMac>>, Fault>
     ensures macs { IfOk result (λ macs. length text.now ≤ file_limit → HasMacs text.now macs.items) }
     ensures fault { IfErr result (IsFaultOf (AreMacsRefused text.now)) }

@@ -47,7 +47,7 @@ returns-in_err-statements-clause-faults g c =
     (reads_then c.in_ok-opening.opening _ c.in_ok-opening.ensures.keys_reads, reads_then c.in_ok-opening.opening _ c.in_ok-opening.ensures.macs_reads)
     c.in_ok-held.ensures.faults
     (has_evidence c.in_ok-opening.opening _ c.in_ok-held.held c.in_ok-held.ensures.evidence)
-    (λ octets is. (c.in_ok-anchors.anchors, c.in_ok-anchors.ensures.anchors octets is)) c.in_ok-anchors.ensures.reads
+    (λ octets is. (c.in_ok-anchors.anchors, c.in_ok-anchors.ensures.said octets is)) c.in_ok-anchors.ensures.reads
     c.in_err-statements.ensures.faults c.in_err-statements.ensures.reads c.in_err-statements.ensures.about))
 
 pub returns-clause-faults : goal.returns-clause-faults
@@ -60,8 +60,8 @@ returns-clause-faults g c =
     (λ files error are refused. stopped_there c.args.name.now c.args.rtype.0 c.args.moment files c.in_ok-opening.opening
     (c.in_ok-opening.ensures.opening files.keys files.macs are.keys are.macs) c.in_ok-held.held c.in_ok-anchors.anchors
     (listed_answer c.in_ok-statements.statements) are.capture c.in_ok-held.ensures.evidence
-    (c.in_ok-anchors.ensures.anchors files.anchors are.anchors)
-    (c.in_ok-statements.ensures.statements files.statements are.statements) error refused)
+    (c.in_ok-anchors.ensures.said files.anchors are.anchors)
+    (c.in_ok-statements.ensures.said files.statements are.statements) error refused)
     c.judge.ensures.only
 
 pub returns-clause-text : goal.returns-clause-text
@@ -69,8 +69,8 @@ returns-clause-text g c = λ files are.
     all_checked c.args.name.now c.args.rtype.0 c.args.moment files c.in_ok-opening.opening
     (c.in_ok-opening.ensures.opening files.keys files.macs are.keys are.macs) c.in_ok-held.held c.in_ok-anchors.anchors
     (listed_answer c.in_ok-statements.statements) c.judge.result are.capture c.in_ok-held.ensures.evidence
-    (c.in_ok-anchors.ensures.anchors files.anchors are.anchors)
-    (c.in_ok-statements.ensures.statements files.statements are.statements) c.judge.ensures.verdict
+    (c.in_ok-anchors.ensures.said files.anchors are.anchors)
+    (c.in_ok-statements.ensures.said files.statements are.statements) c.judge.ensures.verdict
 
 pub returns-in_err-opening-clause-reached : goal.returns-in_err-opening-clause-reached
 returns-in_err-opening-clause-reached g c = λ files are.
@@ -99,7 +99,7 @@ returns-in_err-statements-clause-reached g c = λ files are.
       c.in_ok-opening.opening,
       c.in_ok-opening.ensures.opening files.keys files.macs are.keys are.macs,
       has_evidence c.in_ok-opening.opening _ c.in_ok-held.held c.in_ok-held.ensures.evidence files.capture are.capture,
-      (c.in_ok-anchors.anchors, c.in_ok-anchors.ensures.anchors files.anchors are.anchors),
+      (c.in_ok-anchors.anchors, c.in_ok-anchors.ensures.said files.anchors are.anchors),
     ))
 
 pub returns-clause-reached : goal.returns-clause-reached
