@@ -4,13 +4,9 @@ mod ClimbLemmas
 mod DerivationLemmas
 mod FollowingLemmas
 mod HoldingLemmas
-mod KeysLemmas
 mod MomentLemmas
 mod NumberedLemmas
 mod PlaceLemmas
 mod ShownLemmas
 mod SignerLemmas
-mod TrustedWayLemmas
 mod WayLemmas
-mod WayRankLemmas
-mod WaySearchLemmas

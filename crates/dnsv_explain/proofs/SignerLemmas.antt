@@ -23,7 +23,7 @@ use Rattle.dnsv_names.specs.Name.{Labels}
 use Rattle.dnsv_names.specs.declared.number.RecordType.{RecordType}
 use Rattle.dnsv_explain.proofs.NumberedLemmas.{same_number}
 use Rattle.dnsv_explain.proofs.ShownLemmas.{rdata_at, read_at}
-use Rattle.dnsv_explain.proofs.TrustedWayLemmas.{number_of, trusted_among}
+use Rattle.dnsv_explain.proofs.WayLemmas.TrustedLemmas.{number_of, trusted_among}
 
 -- ---- orders
 

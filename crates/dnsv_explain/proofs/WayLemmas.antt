@@ -1,4 +1,9 @@
 -- What has a way in is trusted.
+pub mod FirstLemmas
+pub mod KeysLemmas
+pub mod RankLemmas
+pub mod SearchLemmas
+pub mod TrustedLemmas
 use Rattle.std.proofs.Common.{◌≡◌, ℕ, subst}
 use Rattle.dnsv_canonical.specs.Rrsets.{IsNumbered, ReceivedRrset}
 use Rattle.dnsv_verifier.specs.Admissible.{DnskeyRecord}

@@ -1,7 +1,7 @@
 use Rattle.std.proofs.lemmas.Option.{MatchOption-at_none, MatchOption-at_some}
 use Rattle.dnsv_chain.specs.Anchor.{IsAnchorMatch}
 use Rattle.dnsv_explain.specs.Explained.{basis_in}
-use Rattle.dnsv_explain.proofs.WaySearchLemmas.{none_of_all, none_yet, way_not_by, way_under}
+use Rattle.dnsv_explain.proofs.WayLemmas.SearchLemmas.{none_of_all, none_yet, way_not_by, way_under}
 use Rattle.dnsv_explain.specs.WaySearch.{SignsAs}
 use Rattle.dnsv_explain.proofs.ways.by_anchor.way_with.Goals as goal
 

@@ -1,5 +1,5 @@
 use Rattle.dnsv_explain.specs.Explained.{basis_in}
-use Rattle.dnsv_explain.proofs.WayRankLemmas.{record_skipped}
+use Rattle.dnsv_explain.proofs.WayLemmas.RankLemmas.{record_skipped}
 use Rattle.dnsv_explain.proofs.ways.by_ds.way_from.Goals as goal
 
 pub returns-then-not-may_delegate : goal.returns-then-not-may_delegate

@@ -6,8 +6,8 @@ use Rattle.dnsv_records.specs.Ds.{IsDs}
 use Rattle.dnsv_chain.specs.Ds.{IsMatch}
 use Rattle.dnsv_explain.specs.Explained.{basis_in}
 use Rattle.dnsv_explain.specs.WaySearch.{IsNoneUnder}
-use Rattle.dnsv_explain.proofs.KeysLemmas.{mapped_long, mapped_there, read_there}
-use Rattle.dnsv_explain.proofs.WayRankLemmas.{ds_read, places_begin, places_end, record_found, record_passed, record_there}
+use Rattle.dnsv_explain.proofs.WayLemmas.KeysLemmas.{mapped_long, mapped_there, read_there}
+use Rattle.dnsv_explain.proofs.WayLemmas.RankLemmas.{ds_read, places_begin, places_end, record_found, record_passed, record_there}
 use Rattle.dnsv_explain.proofs.ways.by_ds.way_in.Goals as goal
 
 pub loop-place-init : goal.loop-place-init

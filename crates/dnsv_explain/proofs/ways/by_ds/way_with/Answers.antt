@@ -1,7 +1,7 @@
 use Rattle.std.proofs.lemmas.Option.{MatchOption-at_none, MatchOption-at_some}
 use Rattle.dnsv_chain.specs.Ds.{IsMatch}
 use Rattle.dnsv_explain.specs.Explained.{basis_in}
-use Rattle.dnsv_explain.proofs.WaySearchLemmas.{none_of_all, none_yet, way_not_by, way_under}
+use Rattle.dnsv_explain.proofs.WayLemmas.SearchLemmas.{none_of_all, none_yet, way_not_by, way_under}
 use Rattle.dnsv_explain.specs.WaySearch.{SignsAs}
 use Rattle.dnsv_explain.specs.declared.line.derivation.Voucher.TheVariants as voucher
 use Rattle.dnsv_explain.proofs.ways.by_ds.way_with.Goals as goal

@@ -26,7 +26,7 @@ use Rattle.dnsv_explain.proofs.NumberedLemmas.{same_number}
 use Rattle.dnsv_explain.proofs.WayLemmas.{way_leads}
 use Rattle.dnsv_explain.specs.declared.line.derivation.Voucher.{Voucher}
 use Rattle.dnsv_explain.specs.declared.line.derivation.Voucher.TheVariants as voucher
-use Rattle.dnsv_explain.proofs.WayRankLemmas.{ds_forms}
+use Rattle.dnsv_explain.proofs.WayLemmas.RankLemmas.{ds_forms}
 
 -- what is a member has a number
 pub record HasNumber {X : Type 0} (xs : List X) (x : X) : Type 0 where

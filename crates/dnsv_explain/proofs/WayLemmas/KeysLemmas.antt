@@ -11,7 +11,7 @@ use Rattle.dnsv_canonical.specs.Rrsets.{ReceivedRrset}
 use Rattle.dnsv_verifier.specs.Admissible.{DnskeyRecord}
 use Rattle.dnsv_chain.specs.Trusted.{IsKeyOf}
 use Rattle.dnsv_explain.specs.WaySearch.{AreKeysInOrder, IsNoneYet, key_of}
-use Rattle.dnsv_explain.proofs.WaySearchLemmas.{lowest_of_all, none_more, none_of_all, stands_at}
+use Rattle.dnsv_explain.proofs.WayLemmas.SearchLemmas.{lowest_of_all, none_more, none_of_all, stands_at}
 
 -- what is so of each is so of the one at a place
 pub each_at : {X : Type 0} (P : X → Type 0) (xs : List X) (i : ℕ) (x : X) → AllByRecursion P xs → i < length xs
