@@ -14,8 +14,10 @@ ghost use Rattle.dnsv_names.specs.Tree.Keys.{is_at_or_below};
 ghost use Rattle.dnsv_message.specs.NameAt.{NameFrom, NameFaultFrom};
 
 use crate::errors::NameFault;
-use crate::name_ref::following::{behind_pointers, label_count, label_start, labels_of, wire_order};
 use crate::name_at::{name_at, name_end};
+use crate::name_ref::following::{
+    behind_pointers, label_count, label_start, labels_of, wire_order,
+};
 use dnsv_names::{Name, lower_order};
 use std::cmp::Ordering;
 use std::marker::Model;

@@ -23,8 +23,8 @@ pub use order::{
     names_come_before_those_below,
 };
 pub use stored_name::StoredName;
-pub use text::{TEXT_LIMIT, push_label};
 pub use text::parse::{a_text_has_one_reading, names_are_spelled_by_their_text};
+pub use text::{TEXT_LIMIT, push_label};
 pub use tree::ASTERISK_LABEL;
 pub use tree::tree_laws::{
     a_wire_form_is_one_name, ancestors_stand_in_one_line, at_or_below_is_tested,

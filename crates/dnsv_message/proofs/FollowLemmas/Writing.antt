@@ -26,8 +26,14 @@ module _ (octets : List ℕ) (place : ℕ) (before : List ℕ) (start : ℕ) (te
   pub room_for_text : (label : List ℕ) → label ≡ label_at octets next → size + 4 * length label + 1 ≤ start + 1016
   room_for_text label is =
       let has = has_label octets next so_far.stands.named some so_far.stands.plain in
-      omega (arith, so_far.room, ap length is, ap (λ labels. length (wire labels)) has.labels,
-      length-append (label_at octets next) (wire (labels_at octets (next + (1 + get_or octets next 0)))), wire_not_empty (labels_at octets (next + (1 + get_or octets next 0))))
+      omega (
+        arith,
+        so_far.room,
+        ap length is,
+        ap (λ labels. length (wire labels)) has.labels,
+        length-append (label_at octets next) (wire (labels_at octets (next + (1 + get_or octets next 0)))),
+        wire_not_empty (labels_at octets (next + (1 + get_or octets next 0))),
+      )
 
   pub Writes-label : (label more : List ℕ) (larger after : ℕ) → label ≡ label_at octets next → more ≡ text ++ (label_text label ++ 46 ∷ []) → larger ≤ size + 4 * length label + 1
       → StandsAt octets after → labels_at octets next ≡ label_at octets next ∷ labels_at octets after → Writes octets place before start more larger after

@@ -13,14 +13,18 @@ returns-then-octets-place-eq0-clause-text g c =
 pub push_label-requires : goal.push_label-requires
 push_label-requires g c = (
   search rules,
-  omega (arith, c.requires, room_for_text c.self.inside.octets.now c.self.inside.place c.args.text.now.bytes (array_string_len c.args.text.now) c.loop-place.text.bytes
-      (array_string_len c.loop-place.text) c.loop-place.place c.loop-place.invariant (omega (arith, c.loop-place-test.true)) c.label.result.now c.label.ensures),
+  omega (
+    arith,
+    c.requires,
+    room_for_text c.self.inside.octets.now c.self.inside.place c.args.text.now.bytes (array_string_len c.args.text.now) c.loop-place.text.bytes
+        (array_string_len c.loop-place.text) c.loop-place.place c.loop-place.invariant (omega (arith, c.loop-place-test.true)) c.label.result.now c.label.ensures,
+  ),
 )
 
 pub returns-clause-text : goal.returns-clause-text
 returns-clause-text g c =
     all_written c.self.inside.octets.now c.self.inside.place c.args.text.now.bytes (array_string_len c.args.text.now) c.loop-place.text.bytes (array_string_len c.loop-place.text)
-        c.loop-place.place c.loop-place.invariant c.loop-place-test.false c.self.invariant.0 (omega (arith, c.if-octets-place-eq0.false))
+    c.loop-place.place c.loop-place.invariant c.loop-place-test.false c.self.invariant.0 (omega (arith, c.if-octets-place-eq0.false))
     ∙ ap (λ labels. c.args.text.now.bytes ++ text_of labels) c.self.view_is
 
 pub returns-clause-length : goal.returns-clause-length
