@@ -1,4 +1,5 @@
 -- The texts that requests ask for.
 pub mod Checking
+pub mod Hex
 pub mod Listing
 pub mod Showing

@@ -18,7 +18,7 @@ ghost use Rattle.dnssec_check.specs.Texts.Todo.{IsTodo};
 use crate::command_line::moment::Moment;
 use crate::command_line::question::question_name;
 use crate::command_line::request::Request;
-use crate::files::capture::{evidence_in, messages_in};
+use crate::files::capture::evidence_in;
 use crate::files::text::text_in;
 use crate::opening::{Opening, opening_in};
 use crate::status::{Fault, InputFile, Status};
@@ -140,8 +140,7 @@ fn show<R: Read>(alloc: Global, inputs: &mut Inputs<R>, bump: &Bump) -> Result<S
         → IfErr result (OfFailedRead (IsCaptureReached)) }
     ensures unwritten { IfErr result (λ fault. fault ≡ Fault.WriteFailed → ⊥) }
 {
-    let messages = messages_in(alloc, &mut inputs.capture, bump)?;
-    Ok(showing(alloc, &messages)?)
+    showing(alloc, &mut inputs.capture, bump)
 }
 
 /// What each signature signs.

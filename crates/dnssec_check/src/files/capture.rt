@@ -11,7 +11,7 @@ ghost use Rattle.dnsv_canonical.specs.CaptureError.{capture_error_code};
 ghost use Rattle.dnsv_canonical.specs.Evidence.{evidence_of, no_evidence, with_message};
 ghost use Rattle.dnsv_tsig.specs.Answer.{tsig_answer_of};
 ghost use Rattle.dnsv_tsig.specs.Errors.{tsig_error_code};
-ghost use Rattle.dnssec_check.specs.Files.Capture.{Demand, AnyMessage, NewEvidence, AllTaken, Meets, Holds};
+ghost use Rattle.dnssec_check.specs.Files.Capture.{Demand, NewEvidence, AllTaken, Meets, Holds};
 ghost use Rattle.dnssec_check.specs.Files.Capture.{AreFramesRefused, FirstRefused, IsFaultOfCapture};
 ghost use Rattle.dnssec_check.specs.Opening.{HasItsMacs, IsInFrame};
 ghost use Rattle.dnssec_check.specs.Files.Faults.{TellsFileFaults};
@@ -19,7 +19,6 @@ ghost use Rattle.dnssec_check.specs.Status.{fault_number};
 ghost use Rattle.dnssec_check.specs.Told.{IsReadFault, IsDecodeFault, IsCaptureFault, IsFaultOf, IsRefusedAt};
 ghost use Rattle.dnssec_check.specs.Told.{IsNoMessageAt, IsTsigFault, IsUnopenedAt, IsUnreadableAt};
 ghost use Rattle.dnssec_check.specs.declared.opening.Opening.{Opening};
-ghost use Rattle.dnssec_check.specs.declared.opening.Opening.TheVariants.{Plain};
 ghost use Rattle.dnssec_check.specs.declared.status.Place.{Place};
 ghost use Rattle.dnssec_check.specs.declared.status.Refusal.{Refusal};
 
@@ -31,24 +30,6 @@ use dnsv_message::{Counted, DecodeError, Message, ReadError, read_capture};
 use dnsv_tsig::{KeyRing, Opened, TsigError, open};
 use std::alloc::Global;
 use std::io::Read;
-
-/// The messages of the file, whatever they are, whose octets are placed in the arena.
-///
-/// The fault is the first in the order of the work: reading the file, its framing, and then each message in
-/// turn.
-pub fn messages_in<'b, R: Read>(
-    alloc: Global,
-    capture: &mut Counted<R>,
-    bump: &'b Bump,
-) -> Result<Vec<Message<'b>>, Fault>
-    ensures messages { IfOk result (λ messages. IfSome (R.remaining (inner_of capture.old)) (λ file.
-        Holds AnyMessage Plain file messages.items)) }
-    ensures faults { TellsFileFaults InputFile.Capture (IsFaultOfCapture AnyMessage Plain)
-        (R.remaining (inner_of capture.old)) (failures_of capture.old) (failures_of capture.new) result }
-{
-    let frames = frames(alloc, capture, bump)?;
-    messages_of_frames(alloc, &frames, bump)
-}
 
 /// The evidence of the file's messages, whose frames are opened so, and whose octets are placed in the arena.
 ///
@@ -69,8 +50,8 @@ pub fn evidence_in<R: Read>(
     evidence_of_frames(alloc, opening, &frames, bump)
 }
 
-/// The octets of each frame of the file.
-fn frames<'b, R: Read>(
+/// The octets of each frame of the file, which are placed in the arena.
+pub fn frames<'b, R: Read>(
     alloc: Global,
     capture: &mut Counted<R>,
     bump: &'b Bump,
@@ -99,25 +80,6 @@ fn capture_read_fault(error: ReadError) -> Fault
         ReadError::ZeroLength => Fault::Refused(Refusal::ZeroLength, Place::NOWHERE),
         ReadError::TornFrame => Fault::Refused(Refusal::TornFrame, Place::NOWHERE),
     }
-}
-
-/// The messages of the frames; the fault is that of the first that is none.
-fn messages_of_frames<'b>(
-    alloc: Global,
-    frames: &[&'b [u8]],
-    bump: &'b Bump,
-) -> Result<Vec<Message<'b>>, Fault>
-    ensures taken { IfOk result (λ messages.
-        AllTaken AnyMessage Plain no_evidence 1 (octets_at_each frames.now) messages.items) }
-    ensures refused { IfErr result
-        (IsFaultOf (FirstRefused AnyMessage Plain no_evidence 1 (octets_at_each frames.now))) }
-{
-    let mut messages = Vec::new(alloc);
-    for (index, frame) in frames.iter().enumerate() {
-        let message = message_of(alloc, &Opening::Plain, frame, index + 1, bump)?;
-        messages.push(message)?;
-    }
-    Ok(messages)
 }
 
 /// The evidence of the frames' messages; the fault is that of the number of MACs, or of the first frame whose message
@@ -183,7 +145,7 @@ fn add_frame(
 }
 
 /// The message of the frame with this number.
-fn message_of<'b>(
+pub fn message_of<'b>(
     alloc: Global,
     opening: &Opening,
     frame: &'b [u8],

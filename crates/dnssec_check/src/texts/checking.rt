@@ -106,7 +106,7 @@ fn verdict_text(
     let mut text = String::new(alloc);
     push_verdict(&mut text, &report.verdict, name, rtype)?;
     push_aliases(&mut text, report.links.as_slice())?;
-    push_reason(alloc, &mut text, rrsets, &report.verdict)?;
+    push_reason(&mut text, rrsets, &report.verdict)?;
     Ok(text)
 }
 
@@ -163,12 +163,7 @@ fn verdict_word(verdict: &Verdict) -> &'static str
 }
 
 /// Adds the lines of what carries the verdict.
-fn push_reason(
-    alloc: Global,
-    text: &mut String,
-    rrsets: &[Rrset],
-    verdict: &Verdict,
-) -> Result<(), AllocError>
+fn push_reason(text: &mut String, rrsets: &[Rrset], verdict: &Verdict) -> Result<(), AllocError>
     ensures { OnOk result (string_bytes text.new
         ≡ string_bytes text.old ++ specs.reason_lines rrsets.now verdict.now) }
 {
@@ -180,7 +175,7 @@ fn push_reason(
             push_proof(text, rrsets, proof.records())
         }
         Verdict::Insecure(cut) => push_cut(text, cut),
-        Verdict::Pending(entries) => push_entries(alloc, text, entries),
+        Verdict::Pending(entries) => push_entries(text, entries),
         Verdict::Bogus | Verdict::Indeterminate => Ok(()),
     }
 }

@@ -3,6 +3,7 @@ ghost use Rattle.std.specs.Prelude.{◌≡◌, ◌++◌, List, ℕ, IfOk, OnOk, 
 ghost use Rattle.std.specs.Option.{option_map};
 ghost use Rattle.dnssec_check.specs.Texts.Listing.{RrsetLines, SignatureLines, data_line};
 
+use crate::texts::hex_text::push_hex;
 use dnsv_canonical::{Capture, Rrset, signed_data};
 use std::alloc::{AllocError, Global};
 
@@ -31,14 +32,13 @@ fn push_rrset(
     let signatures = rrset.signatures();
     for (index, rrsig) in signatures.iter().enumerate() {
         let octets = signed_data(alloc, rrset, rrsig)?;
-        push_line(alloc, text, number, index + 1, octets)?;
+        push_line(text, number, index + 1, octets)?;
     }
     Ok(())
 }
 
 /// Adds the line of a signature.
 fn push_line(
-    alloc: Global,
     text: &mut String,
     rrset: usize,
     signature: usize,
@@ -49,10 +49,10 @@ fn push_line(
 {
     match octets {
         Some(octets) => {
-            let data = hex::encode(alloc, octets)?;
-            writeln!(text, "data {rrset} {signature} {data}")?;
+            write!(text, "data {rrset} {signature} ")?;
+            push_hex(text, &octets)?;
+            text.push_str("\n")
         }
-        None => writeln!(text, "data {rrset} {signature} -")?,
+        None => writeln!(text, "data {rrset} {signature} -"),
     }
-    Ok(())
 }

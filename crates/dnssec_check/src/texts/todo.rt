@@ -4,7 +4,7 @@ ghost use Rattle.dnsv_verifier.specs.Table.{IsTableOf, TableContents, unknown_en
 ghost use Rattle.dnssec_check.specs.Texts.Todo.{todo_line};
 
 use crate::command_line::moment::Moment;
-use crate::texts::hex_text::hex_text;
+use crate::texts::hex_text::push_hex_text;
 use dnsv_canonical::Capture;
 use dnsv_names::Count;
 use dnsv_verifier::{BorrowedEntry, Entries, Verifier, ask_all};
@@ -25,29 +25,30 @@ pub fn still_to_check<V: Verifier>(
     let table = ask_all(alloc, held, moment.seconds(), verifier, &mut asked)?;
     let unknown = table.unknown(alloc)?;
     let mut text = String::new(alloc);
-    push_entries(alloc, &mut text, &unknown)?;
+    push_entries(&mut text, &unknown)?;
     Ok(text)
 }
 
 /// Adds a line for each entry.
-pub fn push_entries(alloc: Global, text: &mut String, entries: &Entries) -> Result<(), AllocError>
+pub fn push_entries(text: &mut String, entries: &Entries) -> Result<(), AllocError>
     ensures { OnOk result (string_bytes text.new ≡ string_bytes text.old ++ flat_map todo_line entries.now) }
 {
     for place in 0..entries.len() {
-        push_entry(alloc, text, &entries.at(place))?;
+        push_entry(text, &entries.at(place))?;
     }
     Ok(())
 }
 
 /// Adds the line of an entry.
-fn push_entry(alloc: Global, text: &mut String, entry: &BorrowedEntry<'_>) -> Result<(), AllocError>
+fn push_entry(text: &mut String, entry: &BorrowedEntry<'_>) -> Result<(), AllocError>
     ensures { OnOk result (string_bytes text.new ≡ string_bytes text.old ++ todo_line entry.now) }
 {
     let algorithm = entry.algorithm().0;
-    let key = hex_text(alloc, entry.key())?;
-    let signed_data = hex_text(alloc, entry.signed_data())?;
-    let signature = hex_text(alloc, entry.signature())?;
-    write!(text, "todo {algorithm} {key}")?;
-    writeln!(text, " {signed_data} {signature}")?;
-    Ok(())
+    write!(text, "todo {algorithm} ")?;
+    push_hex_text(text, entry.key())?;
+    text.push_str(" ")?;
+    push_hex_text(text, entry.signed_data())?;
+    text.push_str(" ")?;
+    push_hex_text(text, entry.signature())?;
+    text.push_str("\n")
 }

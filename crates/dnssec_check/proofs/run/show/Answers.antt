@@ -1,10 +1,8 @@
-use Rattle.std.proofs.lemmas.Result.{err_from_is_err_and}
+use Rattle.std.proofs.lemmas.Result.{IfErr-weaker}
 use Rattle.dnssec_check.specs.declared.status.InputFile.TheVariants.{Capture}
 use Rattle.dnssec_check.specs.Run.{IsCaptureReached}
 use Rattle.dnssec_check.proofs.ReachedLemmas.{reached_by}
 use Rattle.dnssec_check.proofs.run.show.Goals as goal
 
-pub returns-in_err-messages-clause-reached : goal.returns-in_err-messages-clause-reached
-returns-in_err-messages-clause-reached g c = λ files are.
-    let p = err_from_is_err_and c.from_residual.result c.from_residual.ensures.1 in
-    rw (p.1, p.2) (reached_by IsCaptureReached Capture c.in_err-messages.field-0.0 c.in_err-messages.ensures.faults.about tt)
+pub returns-clause-reached : goal.returns-clause-reached
+returns-clause-reached g c = λ files are. IfErr-weaker c.showing.result _ _ (λ told about. reached_by IsCaptureReached Capture told about tt) c.showing.ensures.faults.about

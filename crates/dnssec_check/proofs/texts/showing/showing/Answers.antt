@@ -3,7 +3,7 @@ use Rattle.std.proofs.lemmas.Result.{err_from_is_err_and}
 use Rattle.dnssec_check.specs.Files.Capture.{AnyMessage}
 use Rattle.dnssec_check.specs.declared.opening.Opening.TheVariants.{Plain}
 use Rattle.dnssec_check.proofs.FileLemmas.Faults.{TellsFileFaults-passed, TellsFileFaults-then, frames_refused}
-use Rattle.dnssec_check.proofs.files.capture.messages_in.Goals as goal
+use Rattle.dnssec_check.proofs.texts.showing.showing.Goals as goal
 
 pub returns-in_err-frames-clause-faults : goal.returns-in_err-frames-clause-faults
 returns-in_err-frames-clause-faults g c =
