@@ -1,4 +1,6 @@
 -- The texts that requests ask for.
 pub mod Checking
+pub mod Json
 pub mod Listing
+pub mod Objects
 pub mod Showing
