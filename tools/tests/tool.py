@@ -37,7 +37,7 @@ def run(name, *words, given=b""):
     return status, output.buffer.getvalue(), errors.buffer.getvalue().decode()
 
 
-def run_program(path, *words, given=b"", output=subprocess.PIPE):
-    """The same, by a process of its own."""
-    done = subprocess.run([str(path), *map(str, words)], input=given, stdout=output, stderr=subprocess.PIPE)
+def run_program(path, *words, given=b"", output=subprocess.PIPE, folder=None):
+    """The same, by a process of its own, in a folder."""
+    done = subprocess.run([str(path), *map(str, words)], input=given, stdout=output, stderr=subprocess.PIPE, cwd=folder)
     return done.returncode, done.stdout, done.stderr.decode()

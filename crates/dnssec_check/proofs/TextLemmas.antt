@@ -1,5 +1,7 @@
 -- The texts that requests ask for.
 pub mod Checking
 pub mod Hex
+pub mod Json
 pub mod Listing
+pub mod Objects
 pub mod Showing

@@ -40,12 +40,13 @@ flag_said (Some text) = bytes_eq text (codes "true")
 abbrev pub Asks : Text → List Row → Request → Type 0
 Asks name rows (request.Show capture) = (name ≡ codes "show")
     × (first_of (codes "capture") rows ≡ Some (string_bytes capture))
-Asks name rows (request.List capture moment statements all) = (name ≡ codes "list")
+Asks name rows (request.List capture moment statements all json) = (name ≡ codes "list")
     × (first_of (codes "capture") rows ≡ Some (string_bytes capture))
     × (option_and_then (number_said last_moment) (first_of (codes "moment") rows) ≡ Some moment)
     × (first_of (codes "statements") rows ≡ option_map string_bytes statements)
     × (flag_said (one_of (codes "all") rows) ≡ all)
-Asks name rows (request.Check capture anchors moment asked rtype statements keys macs) = (name ≡ codes "check")
+    × (flag_said (one_of (codes "json") rows) ≡ json)
+Asks name rows (request.Check capture anchors moment asked rtype statements keys macs json) = (name ≡ codes "check")
     × (first_of (codes "capture") rows ≡ Some (string_bytes capture))
     × (first_of (codes "anchors") rows ≡ Some (string_bytes anchors))
     × (option_and_then (number_said last_moment) (first_of (codes "moment") rows) ≡ Some moment)
@@ -54,6 +55,7 @@ Asks name rows (request.Check capture anchors moment asked rtype statements keys
     × (first_of (codes "statements") rows ≡ option_map string_bytes statements)
     × (first_of (codes "keys") rows ≡ option_map string_bytes keys)
     × (first_of (codes "macs") rows ≡ option_map string_bytes macs)
+    × (flag_said (one_of (codes "json") rows) ≡ json)
 
 -- the program takes the words, and their subcommand and its values ask for the request
 abbrev pub IsAccepted : List Text → Request → Type 0
@@ -111,8 +113,9 @@ IsFlag text = (text ≡ None) ⊎ ((text ≡ Some (codes "true")) ⊎ (text ≡ 
 
 abbrev pub HasListValues : List Row → Type 0
 HasListValues rows = HasCapture rows × HasNumber (codes "moment") last_moment rows × IsFlag (one_of (codes "all") rows)
+    × IsFlag (one_of (codes "json") rows)
 
 abbrev pub HasCheckValues : List Row → Type 0
 HasCheckValues rows = HasCapture rows × HasValue (codes "anchors") rows
     × HasNumber (codes "moment") last_moment rows × HasValue (codes "name") rows
-    × HasNumber (codes "type") 65535 rows
+    × HasNumber (codes "type") 65535 rows × IsFlag (one_of (codes "json") rows)

@@ -1,5 +1,5 @@
 -- What a request asks of its files, and what is their first fault.
-use Rattle.std.specs.Prelude.{◌≡◌, ◌⊎◌, ⊤, ℕ, true, false, List, string_bytes}
+use Rattle.std.specs.Prelude.{◌≡◌, ◌⊎◌, ⊤, ℕ, Bool, true, false, List, string_bytes}
 use Rattle.dnsv_names.specs.Name.{Labels}
 use Rattle.dnsv_message.specs.Message.{Contents}
 use Rattle.dnsv_canonical.specs.Rrsets.{IsQuestion}
@@ -28,17 +28,19 @@ use Rattle.dnssec_check.specs.Texts.Todo.{IsTodo}
 -- ---- the text
 
 -- the question is one that can be asked, and the end and the text are those of its check
-abbrev pub IsAnswered : List ℕ → ℕ → ℕ → Files → Status → List ℕ → Type 0
-IsAnswered asked rtype moment files end text =
-    (name : Labels) × Spells asked name × IsQuestion name rtype × IsCheck name rtype moment files end text
+abbrev pub IsAnswered : Bool → List ℕ → ℕ → ℕ → Files → Status → List ℕ → Type 0
+IsAnswered json asked rtype moment files end text =
+    (name : Labels) × Spells asked name × IsQuestion name rtype × IsCheck json name rtype moment files end text
 
--- over these files the request ends so, with this text
+-- over these files the request ends so, with this text: in JSON, where it asks for that
 abbrev pub IsTextAskedFor : Request → Files → Status → List ℕ → Type 0
 IsTextAskedFor (request.Show capture) files end text = (end ≡ Done) × IsShowing files.capture text
-IsTextAskedFor (request.List capture moment statements true) files end text = (end ≡ Done) × IsListing files.capture text
-IsTextAskedFor (request.List capture moment statements false) files end text = (end ≡ Done) × IsTodo moment files text
-IsTextAskedFor (request.Check capture anchors moment asked rtype statements keys macs) files end text =
-    IsAnswered (string_bytes asked) rtype.0 moment files end text
+IsTextAskedFor (request.List capture moment statements true json) files end text =
+    (end ≡ Done) × IsListing json moment files.capture text
+IsTextAskedFor (request.List capture moment statements false json) files end text =
+    (end ≡ Done) × IsTodo json moment files text
+IsTextAskedFor (request.Check capture anchors moment asked rtype statements keys macs json) files end text =
+    IsAnswered json (string_bytes asked) rtype.0 moment files end text
 
 -- ---- the first fault
 
@@ -91,10 +93,10 @@ IsFirstFaultOfCheck asked rtype moment files fault =
 -- the first fault, in the order of the work
 abbrev pub IsFirstFault : Request → Files → Fault → Type 0
 IsFirstFault (request.Show capture) files fault = IsFaultOfCapture AnyMessage Plain files.capture fault
-IsFirstFault (request.List capture moment statements true) files fault =
+IsFirstFault (request.List capture moment statements true json) files fault =
     IsFaultOfCapture NewEvidence Plain files.capture fault
-IsFirstFault (request.List capture moment statements false) files fault = IsFirstFaultOfTodo files fault
-IsFirstFault (request.Check capture anchors moment asked rtype statements keys macs) files fault =
+IsFirstFault (request.List capture moment statements false json) files fault = IsFirstFaultOfTodo files fault
+IsFirstFault (request.Check capture anchors moment asked rtype statements keys macs json) files fault =
     IsFirstFaultOfCheck (string_bytes asked) rtype.0 moment files fault
 
 -- ---- what a failed read comes behind
@@ -130,7 +132,7 @@ IsReachedByCheck asked rtype moment files file =
 -- The request reads the file, and what comes before it in the order of the work is in order.
 abbrev pub IsReached : Request → Files → InputFile → Type 0
 IsReached (request.Show capture) files file = IsCaptureReached file
-IsReached (request.List capture moment statements true) files file = IsCaptureReached file
-IsReached (request.List capture moment statements false) files file = IsReachedByTodo files file
-IsReached (request.Check capture anchors moment asked rtype statements keys macs) files file =
+IsReached (request.List capture moment statements true json) files file = IsCaptureReached file
+IsReached (request.List capture moment statements false json) files file = IsReachedByTodo files file
+IsReached (request.Check capture anchors moment asked rtype statements keys macs json) files file =
     IsReachedByCheck (string_bytes asked) rtype.0 moment files file

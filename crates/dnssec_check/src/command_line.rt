@@ -2,9 +2,9 @@
 ghost use Rattle.std.specs.Prelude.{◌≡◌, ◌≤◌, ⊤, IfErr, IfOk, codes, map, option_and_then, string_bytes};
 ghost use Rattle.std.specs.IoError.{error_kind as io_error_kind};
 ghost use Rattle.std.specs.Option.{option_map};
-ghost use Rattle.clap.specs.Words.{first_of, found_of, rows_of};
+ghost use Rattle.clap.specs.Words.{first_of, found_of, one_of, rows_of};
 ghost use Rattle.dnssec_check.specs.CommandLine.{Asks, HasCapture, HasCheckValues, HasListValues, HasNumber, HasValue};
-ghost use Rattle.dnssec_check.specs.CommandLine.{IsAccepted, IsRefused, command_line_code, command_line_error, number_said, words_error};
+ghost use Rattle.dnssec_check.specs.CommandLine.{IsAccepted, IsFlag, IsRefused, command_line_code, command_line_error, flag_said, number_said, words_error};
 ghost use Rattle.dnssec_check.specs.declared.command_line.CommandLineError.TheVariants.{OutOfMemory};
 
 pub mod commands;
@@ -88,9 +88,9 @@ impl From<clap::Error> for CommandLineError {
 /// Reads the words of the command line, of which the first is the program's name.
 ///
 /// Whatever `clap` takes for the commands `show --capture FILE`,
-/// `list --capture FILE --moment N [--statements FILE] [--all]` and
-/// `check --capture FILE --anchors FILE --moment N --name NAME --type N` with `[--statements FILE]`, `[--keys FILE]` and
-/// `[--macs FILE]` is a request, and each error is one that `clap` gives there, or the want of memory.
+/// `list --capture FILE --moment N [--statements FILE] [--all] [--json]` and
+/// `check --capture FILE --anchors FILE --moment N --name NAME --type N` with `[--statements FILE]`, `[--keys FILE]`,
+/// `[--macs FILE]` and `[--json]` is a request, and each error is one that `clap` gives there, or the want of memory.
 pub fn read_command_line<S: AsStr>(alloc: Global, words: &[S]) -> Result<Request, CommandLineError>
     ensures accepted { IfOk result (λ request. IsAccepted (map S.text words.now) request) }
     ensures refused { IfErr result (λ error. IsRefused (map S.text words.now) error) }
@@ -123,12 +123,14 @@ fn list_request(alloc: Global, list: &ArgMatches<'_>) -> Result<Request, AllocEr
     let capture = value(alloc, list, "capture")?;
     let moment = Moment::new(number(list, "moment", Moment::LAST)).unwrap();
     let statements = given_value(alloc, list, "statements")?;
-    let all = list.get_flag("all");
+    let all = flag(list, "all");
+    let json = flag(list, "json");
     Ok(Request::List {
         capture,
         moment,
         statements,
         all,
+        json,
     })
 }
 
@@ -145,6 +147,7 @@ fn check_request(alloc: Global, check: &ArgMatches<'_>) -> Result<Request, Alloc
     let statements = given_value(alloc, check, "statements")?;
     let keys = given_value(alloc, check, "keys")?;
     let macs = given_value(alloc, check, "macs")?;
+    let json = flag(check, "json");
     Ok(Request::Check {
         capture,
         anchors,
@@ -154,6 +157,7 @@ fn check_request(alloc: Global, check: &ArgMatches<'_>) -> Result<Request, Alloc
         statements,
         keys,
         macs,
+        json,
     })
 }
 
@@ -165,6 +169,14 @@ fn number(matches: &ArgMatches<'_>, option: &str, last: u64) -> u64
     ensures bound { result ≤ last }
 {
     matches.get_one::<u64>(option).unwrap()
+}
+
+/// Whether a flag was given.
+fn flag(matches: &ArgMatches<'_>, option: &str) -> bool
+    requires { IsFlag (one_of option.now (rows_of (found_of matches.now))) }
+    ensures { flag_said (one_of option.now (rows_of (found_of matches.now))) ≡ result }
+{
+    matches.get_flag(option)
 }
 
 /// The value of an option that is there.

@@ -1,5 +1,5 @@
 //! What the definitions of a request's text and of its first fault say of each other, for files of octets.
-ghost use Rattle.std.specs.Prelude.{◌≡◌, ◌⊎◌, List, Option, ℕ};
+ghost use Rattle.std.specs.Prelude.{◌≡◌, ◌⊎◌, Bool, List, Option, ℕ};
 ghost use Rattle.dnsv_names.specs.Octets.{AreOctets};
 ghost use Rattle.dnsv_message.specs.Streams.Frames.{IsTooLong};
 ghost use Rattle.dnssec_check.specs.Files.Capture.{AnyMessage, IsRefusal, NewEvidence};
@@ -95,7 +95,7 @@ pub fn every_file_is_shown_or_refused()
 
 /// A file of octets is listed, or refused, or has an octet too many.
 pub fn every_file_is_listed_or_refused()
-    ensures { (file : List ℕ) → AreOctets file → ((text : List ℕ) × IsListing file text)
+    ensures { (json : Bool) (moment : ℕ) (file : List ℕ) → AreOctets file → ((text : List ℕ) × IsListing json moment file text)
         ⊎ (((why : Refusal) × (place : Place) × IsRefusal NewEvidence Plain file why place) ⊎ IsTooLong file) }
 {
     one_answer();

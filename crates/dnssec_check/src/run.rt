@@ -109,14 +109,22 @@ fn outcome_of<R: Read>(
 {
     match request {
         Request::Show { .. } => Ok(done(show(alloc, inputs, bump)?)),
-        Request::List { all: true, .. } => Ok(done(list_all(alloc, inputs, bump)?)),
-        Request::List { moment, .. } => Ok(done(list(alloc, *moment, inputs, bump)?)),
+        Request::List {
+            all: true,
+            moment,
+            json,
+            ..
+        } => Ok(done(list_all(alloc, *json, *moment, inputs, bump)?)),
+        Request::List { moment, json, .. } => {
+            Ok(done(list(alloc, *json, *moment, inputs, bump)?))
+        }
         Request::Check {
             name,
             rtype,
             moment,
+            json,
             ..
-        } => check(alloc, name.as_bytes(), *rtype, *moment, inputs, bump),
+        } => check(alloc, *json, name.as_bytes(), *rtype, *moment, inputs, bump),
     }
 }
 
@@ -144,9 +152,15 @@ fn show<R: Read>(alloc: Global, inputs: &mut Inputs<R>, bump: &Bump) -> Result<S
 }
 
 /// What each signature signs.
-fn list_all<R: Read>(alloc: Global, inputs: &mut Inputs<R>, bump: &Bump) -> Result<String, Fault>
+fn list_all<R: Read>(
+    alloc: Global,
+    json: bool,
+    moment: Moment,
+    inputs: &mut Inputs<R>,
+    bump: &Bump,
+) -> Result<String, Fault>
     ensures text { (files : Files) → AreTold R.remaining inputs.old files
-        → IfOk result (λ text. IsListing files.capture (string_bytes text)) }
+        → IfOk result (λ text. IsListing json moment files.capture (string_bytes text)) }
     ensures faults { TellsFaults (λ files. IsFaultOfCapture NewEvidence Plain files.capture) R.remaining
         inputs.old inputs.new result }
     ensures reached { (files : Files) → AreTold R.remaining inputs.old files
@@ -154,18 +168,19 @@ fn list_all<R: Read>(alloc: Global, inputs: &mut Inputs<R>, bump: &Bump) -> Resu
     ensures unwritten { IfErr result (λ fault. fault ≡ Fault.WriteFailed → ⊥) }
 {
     let held = evidence_in(alloc, &Opening::Plain, &mut inputs.capture, bump)?;
-    Ok(listing(alloc, &held)?)
+    Ok(listing(alloc, json, moment, &held)?)
 }
 
 /// What a verifier still has to check.
 fn list<R: Read>(
     alloc: Global,
+    json: bool,
     moment: Moment,
     inputs: &mut Inputs<R>,
     bump: &Bump,
 ) -> Result<String, Fault>
     ensures text { (files : Files) → AreTold R.remaining inputs.old files
-        → IfOk result (λ text. IsTodo moment files (string_bytes text)) }
+        → IfOk result (λ text. IsTodo json moment files (string_bytes text)) }
     ensures faults { TellsFaults IsFirstFaultOfTodo R.remaining inputs.old inputs.new result }
     ensures reached { (files : Files) → AreTold R.remaining inputs.old files
         → IfErr result (OfFailedRead (IsReachedByTodo files)) }
@@ -173,12 +188,13 @@ fn list<R: Read>(
 {
     let held = evidence_in(alloc, &Opening::Plain, &mut inputs.capture, bump)?;
     let statements: Statements = text_in(alloc, InputFile::Statements, &mut inputs.statements)?;
-    Ok(still_to_check(alloc, &held, moment, &statements)?)
+    Ok(still_to_check(alloc, json, &held, moment, &statements)?)
 }
 
 /// The verdict on the question, if it is one that can be asked.
 fn check<R: Read>(
     alloc: Global,
+    json: bool,
     asked: &[u8],
     rtype: RecordType,
     moment: Moment,
@@ -186,7 +202,7 @@ fn check<R: Read>(
     bump: &Bump,
 ) -> Result<Outcome, Fault>
     ensures text { (files : Files) → AreTold R.remaining inputs.old files → IfOk result (λ outcome.
-        IsAnswered asked.now rtype.0 moment files outcome.status (string_bytes outcome.text)) }
+        IsAnswered json asked.now rtype.0 moment files outcome.status (string_bytes outcome.text)) }
     ensures faults { TellsFaults (IsFirstFaultOfCheck asked.now rtype.0 moment) R.remaining inputs.old inputs.new
         result }
     ensures reached { (files : Files) → AreTold R.remaining inputs.old files
@@ -194,12 +210,13 @@ fn check<R: Read>(
     ensures unwritten { IfErr result (λ fault. fault ≡ Fault.WriteFailed → ⊥) }
 {
     let name = question_name(asked, rtype)?;
-    check_question(alloc, &name, rtype, moment, inputs, bump)
+    check_question(alloc, json, &name, rtype, moment, inputs, bump)
 }
 
 /// The verdict on the question.
 fn check_question<R: Read>(
     alloc: Global,
+    json: bool,
     name: &Name,
     rtype: RecordType,
     moment: Moment,
@@ -208,7 +225,7 @@ fn check_question<R: Read>(
 ) -> Result<Outcome, Fault>
     requires { IsQuestion name.now rtype.0 }
     ensures text { (files : Files) → AreTold R.remaining inputs.old files → IfOk result (λ outcome.
-        IsCheck name.now rtype.0 moment files outcome.status (string_bytes outcome.text)) }
+        IsCheck json name.now rtype.0 moment files outcome.status (string_bytes outcome.text)) }
     ensures faults { TellsFaults (IsFirstFaultOfName name.now rtype.0 moment) R.remaining inputs.old inputs.new
         result }
     ensures reached { (files : Files) → AreTold R.remaining inputs.old files
@@ -219,5 +236,14 @@ fn check_question<R: Read>(
     let held = evidence_in(alloc, &opening, &mut inputs.capture, bump)?;
     let anchors = text_in(alloc, InputFile::Anchors, &mut inputs.anchors)?;
     let statements: Statements = text_in(alloc, InputFile::Statements, &mut inputs.statements)?;
-    judge(alloc, &held, &anchors, moment, &statements, name, rtype)
+    judge(
+        alloc,
+        json,
+        &held,
+        &anchors,
+        moment,
+        &statements,
+        name,
+        rtype,
+    )
 }

@@ -2,6 +2,7 @@
 
 pub mod checking;
 pub mod hex_text;
+pub mod json;
 pub mod listing;
 pub mod showing;
 pub mod todo;

@@ -14,7 +14,7 @@ use Rattle.clap.specs.Takes.{is_given, value_passes}
 use Rattle.clap.specs.Values.{read_as}
 use Rattle.clap.specs.Walk.{Row, Rule, first_of, one_of, reading_by}
 use Rattle.dnssec_check.proofs.CommandLineLemmas.Rows.{AreRowsIn, IsIn, IsRowIn, IsRowOf, StartsPassing}
-use Rattle.dnssec_check.specs.CommandLine.Commands.{all_rule, anchors_rule, capture_rule, check_app, list_app, moment_rule, name_rule, program_app, show_app, type_rule}
+use Rattle.dnssec_check.specs.CommandLine.Commands.{all_rule, anchors_rule, capture_rule, check_app, json_rule, list_app, moment_rule, name_rule, program_app, show_app, type_rule}
 use Rattle.dnssec_check.specs.CommandLine.{HasCapture, HasCheckValues, HasListValues, HasNumber, IsFlag}
 use Rattle.dnssec_check.specs.CommandLine.Moment.{last_moment}
 
@@ -139,6 +139,9 @@ built_moment = filled moment_rule
 abbrev built_all : Rule
 built_all = filled all_rule
 
+abbrev built_json : Rule
+built_json = filled json_rule
+
 abbrev built_anchors : Rule
 built_anchors = filled anchors_rule
 
@@ -170,8 +173,8 @@ flag_text text passes = go (bytes_eq text (codes "true")) (bytes_eq text (codes 
     go false true is_x is_y e = inr (inr (ap (λ t. Some t) ((bytes_eq-Decides text (codes "false")).0 is_y)))
     go false false is_x is_y e = cc
 
-flag_has : (rows : List Row) → IsOnly list_shape.rules (codes "all") built_all → AreRowsIn list_shape.rules rows → IsFlag (one_of (codes "all") rows)
-flag_has rows only all = go (find (λ r. bytes_eq r.id (codes "all")) rows) refl
+all_has : (rows : List Row) → IsOnly list_shape.rules (codes "all") built_all → AreRowsIn list_shape.rules rows → IsFlag (one_of (codes "all") rows)
+all_has rows only all = go (find (λ r. bytes_eq r.id (codes "all")) rows) refl
   where
     go : (o : Option Row) → find (λ r. bytes_eq r.id (codes "all")) rows ≡ o → IsFlag (one_of (codes "all") rows)
     go None is = inl (rw is refl)
@@ -179,17 +182,54 @@ flag_has rows only all = go (find (λ r. bytes_eq r.id (codes "all")) rows) refl
         let value = value_found list_shape (codes "all") built_all rows r only all is in
         subst IsFlag (sym value.2) (flag_text value.0 value.3)
 
+json_has : (s : Shape) (rows : List Row) → IsOnly s.rules (codes "json") built_json → AreRowsIn s.rules rows → IsFlag (one_of (codes "json") rows)
+json_has s rows only all = go (find (λ r. bytes_eq r.id (codes "json")) rows) refl
+  where
+    go : (o : Option Row) → find (λ r. bytes_eq r.id (codes "json")) rows ≡ o → IsFlag (one_of (codes "json") rows)
+    go None is = inl (rw is refl)
+    go (Some r) is =
+        let value = value_found s (codes "json") built_json rows r only all is in
+        subst IsFlag (sym value.2) (flag_text value.0 value.3)
+
 pub list_values : (rows : List Row) → AreRowsIn list_shape.rules rows → check_fault list_shape rows false ≡ [] → HasListValues rows
 list_values rows all fault =
-    let file = required_value list_shape built_capture rows (λ e. refl, (λ e. cc, (λ e. cc, (λ e. cc, (λ e. cc, tt))))) (inl refl) refl refl all fault in
-    let number = required_value list_shape built_moment rows (λ e. cc, (λ e. refl, (λ e. cc, (λ e. cc, (λ e. cc, tt))))) (inr (inl refl)) refl refl all fault in
-    (ap is_some file.1, moment_has rows number, flag_has rows (λ e. cc, (λ e. cc, (λ e. cc, (λ e. refl, (λ e. cc, tt))))) all)
+    let file = required_value list_shape built_capture rows (λ e. refl, (λ e. cc, (λ e. cc, (λ e. cc, (λ e. cc, (λ e. cc, tt)))))) (inl refl) refl refl all fault in
+    let number = required_value list_shape built_moment rows (λ e. cc, (λ e. refl, (λ e. cc, (λ e. cc, (λ e. cc, (λ e. cc, tt)))))) (inr (inl refl)) refl refl all fault in (
+      ap is_some file.1,
+      moment_has rows number,
+      all_has rows (λ e. cc, (λ e. cc, (λ e. cc, (λ e. refl, (λ e. cc, (λ e. cc, tt)))))) all,
+      json_has list_shape rows (λ e. cc, (λ e. cc, (λ e. cc, (λ e. cc, (λ e. refl, (λ e. cc, tt)))))) all,
+    )
+
+check_capture : (rows : List Row) → AreRowsIn check_shape.rules rows → check_fault check_shape rows false ≡ [] → HasValueOf built_capture built_capture.id rows
+check_capture rows all fault =
+    required_value check_shape built_capture rows (λ e. refl, (λ e. cc, (λ e. cc, (λ e. cc, (λ e. cc, (λ e. cc, (λ e. cc, (λ e. cc, (λ e. cc, (λ e. cc, tt)))))))))) (inl refl) refl refl all fault
+
+check_anchors : (rows : List Row) → AreRowsIn check_shape.rules rows → check_fault check_shape rows false ≡ [] → HasValueOf built_anchors built_anchors.id rows
+check_anchors rows all fault =
+    required_value check_shape built_anchors rows (λ e. cc, (λ e. refl, (λ e. cc, (λ e. cc, (λ e. cc, (λ e. cc, (λ e. cc, (λ e. cc, (λ e. cc, (λ e. cc, tt)))))))))) (inr (inl refl)) refl refl all fault
+
+check_moment : (rows : List Row) → AreRowsIn check_shape.rules rows → check_fault check_shape rows false ≡ [] → HasValueOf built_moment built_moment.id rows
+check_moment rows all fault =
+    required_value check_shape built_moment rows (λ e. cc, (λ e. cc, (λ e. refl, (λ e. cc, (λ e. cc, (λ e. cc, (λ e. cc, (λ e. cc, (λ e. cc, (λ e. cc, tt)))))))))) (inr (inr (inl refl))) refl refl all fault
+
+check_name : (rows : List Row) → AreRowsIn check_shape.rules rows → check_fault check_shape rows false ≡ [] → HasValueOf built_name built_name.id rows
+check_name rows all fault =
+    required_value check_shape built_name rows (λ e. cc, (λ e. cc, (λ e. cc, (λ e. refl, (λ e. cc, (λ e. cc, (λ e. cc, (λ e. cc, (λ e. cc, (λ e. cc, tt)))))))))) (inr (inr (inr (inl refl)))) refl refl all fault
+
+check_type : (rows : List Row) → AreRowsIn check_shape.rules rows → check_fault check_shape rows false ≡ [] → HasValueOf built_type built_type.id rows
+check_type rows all fault =
+    required_value check_shape built_type rows (λ e. cc, (λ e. cc, (λ e. cc, (λ e. cc, (λ e. refl, (λ e. cc, (λ e. cc, (λ e. cc, (λ e. cc, (λ e. cc, tt)))))))))) (inr (inr (inr (inr (inl refl))))) refl refl all fault
+
+check_json : (rows : List Row) → AreRowsIn check_shape.rules rows → IsFlag (one_of (codes "json") rows)
+check_json rows all = json_has check_shape rows (λ e. cc, (λ e. cc, (λ e. cc, (λ e. cc, (λ e. cc, (λ e. cc, (λ e. cc, (λ e. cc, (λ e. refl, (λ e. cc, tt)))))))))) all
 
 pub check_values : (rows : List Row) → AreRowsIn check_shape.rules rows → check_fault check_shape rows false ≡ [] → HasCheckValues rows
-check_values rows all fault =
-    let file = required_value check_shape built_capture rows (λ e. refl, (λ e. cc, (λ e. cc, (λ e. cc, (λ e. cc, (λ e. cc, (λ e. cc, (λ e. cc, (λ e. cc, tt))))))))) (inl refl) refl refl all fault in
-    let anchors = required_value check_shape built_anchors rows (λ e. cc, (λ e. refl, (λ e. cc, (λ e. cc, (λ e. cc, (λ e. cc, (λ e. cc, (λ e. cc, (λ e. cc, tt))))))))) (inr (inl refl)) refl refl all fault in
-    let moment = required_value check_shape built_moment rows (λ e. cc, (λ e. cc, (λ e. refl, (λ e. cc, (λ e. cc, (λ e. cc, (λ e. cc, (λ e. cc, (λ e. cc, tt))))))))) (inr (inr (inl refl))) refl refl all fault in
-    let name = required_value check_shape built_name rows (λ e. cc, (λ e. cc, (λ e. cc, (λ e. refl, (λ e. cc, (λ e. cc, (λ e. cc, (λ e. cc, (λ e. cc, tt))))))))) (inr (inr (inr (inl refl)))) refl refl all fault in
-    let rtype = required_value check_shape built_type rows (λ e. cc, (λ e. cc, (λ e. cc, (λ e. cc, (λ e. refl, (λ e. cc, (λ e. cc, (λ e. cc, (λ e. cc, tt))))))))) (inr (inr (inr (inr (inl refl))))) refl refl all fault in
-    (ap is_some file.1, ap is_some anchors.1, moment_has rows moment, ap is_some name.1, type_has rows rtype)
+check_values rows all fault = (
+  ap is_some (check_capture rows all fault).1,
+  ap is_some (check_anchors rows all fault).1,
+  moment_has rows (check_moment rows all fault),
+  ap is_some (check_name rows all fault).1,
+  type_has rows (check_type rows all fault),
+  check_json rows all,
+)

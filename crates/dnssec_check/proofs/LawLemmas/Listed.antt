@@ -1,5 +1,5 @@
 -- A file of messages that are evidence has the text of list.
-use Rattle.std.proofs.Common.{◌≡◌, ◌⊎◌, ◌↔◌, ◌<◌, ◌≤◌, ℕ, suc, List, [], ◌∷◌, ◌++◌, Option, Some, None, refl, inl, inr}
+use Rattle.std.proofs.Common.{◌≡◌, ◌⊎◌, ◌↔◌, ◌<◌, ◌≤◌, ℕ, suc, Bool, List, [], ◌∷◌, ◌++◌, Option, Some, None, refl, inl, inr}
 use Rattle.std.proofs.lemmas.Bool.{cases_lt}
 use Rattle.std.specs.List.{AllByRecursion, fold}
 use Rattle.dnsv_names.specs.Name.{Labels}
@@ -18,7 +18,7 @@ use Rattle.dnssec_check.specs.declared.status.Refusal.{Refusal}
 use Rattle.dnssec_check.specs.declared.status.Refusal.TheVariants as refusal
 use Rattle.dnssec_check.specs.declared.opening.Opening.TheVariants.{Plain}
 use Rattle.dnssec_check.specs.Files.Capture.{AllTaken, Fails, Holds, Meets, NewEvidence}
-use Rattle.dnssec_check.specs.Texts.Listing.{IsListing, RrsetLines, SignatureLines, data_line}
+use Rattle.dnssec_check.specs.Texts.Listing.{IsListing, ListsRrsets, ListsSignatures, SignedOctets, listing_text}
 use Rattle.dnssec_check.specs.Status.{TellsCaptureError}
 
 -- ---- a message is evidence, or is refused for a reason that is told
@@ -40,7 +40,7 @@ pub evidence_or_fails : (held : Evidence) (message : Contents)
 evidence_or_fails held message (inl evidence) = inl evidence
 evidence_or_fails held message (inr reason) = inr (reason_fails held message reason.0 reason.2 (reason_told reason.0 reason.1))
 
--- ---- the lines
+-- ---- the list
 
 -- what signatures sign, and what is true of the RRsets of a message
 module _
@@ -55,19 +55,19 @@ module _
   signed_or_none owner rtype received rrsig (inr within) =
       let octets = (signed owner rtype received rrsig).1 within in (Some octets.0, octets.1)
 
-  signature_lines : (number : ℕ) (rrset : ReceivedRrset) (signature : ℕ) (signatures : List (List ℕ))
-      → AllByRecursion (IsSignatureOver rrset.rtype) signatures → (text : List ℕ) × SignatureLines number rrset signature signatures text
-  signature_lines number rrset signature [] each = ([], refl)
-  signature_lines number rrset signature (rdata ∷ others) each =
-      let rest = signature_lines number rrset (suc signature) others each.1 in
+  signatures_listed : (number : ℕ) (rrset : ReceivedRrset) (signature : ℕ) (signatures : List (List ℕ))
+      → AllByRecursion (IsSignatureOver rrset.rtype) signatures → (listed : List SignedOctets) × ListsSignatures number rrset signature signatures listed
+  signatures_listed number rrset signature [] each = ([], refl)
+  signatures_listed number rrset signature (rdata ∷ others) each =
+      let rest = signatures_listed number rrset (suc signature) others each.1 in
       let octets = signed_or_none rrset.owner rrset.rtype rrset.rdata each.0.rrsig (cases_lt (signed_label_count rrset.owner) each.0.rrsig.labels) in
-      (data_line number signature octets.0 ++ rest.0, (each.0.rrsig, octets.0, rest.0, each.0.is, octets.1, rest.1, refl))
+      (record { rrset = number; signature = signature; octets = octets.0 } ∷ rest.0, (each.0.rrsig, octets.0, rest.0, each.0.is, octets.1, rest.1, refl))
 
-  rrset_lines : (number : ℕ) (rrsets : List ReceivedRrset) → AllByRecursion IsWellFormed rrsets → (text : List ℕ) × RrsetLines number rrsets text
-  rrset_lines number [] each = ([], refl)
-  rrset_lines number (rrset ∷ rrsets) each =
-      let front = signature_lines number rrset 1 rrset.signatures each.0.each_signature in
-      let rest = rrset_lines (suc number) rrsets each.1 in
+  rrsets_listed : (number : ℕ) (rrsets : List ReceivedRrset) → AllByRecursion IsWellFormed rrsets → (listed : List SignedOctets) × ListsRrsets number rrsets listed
+  rrsets_listed number [] each = ([], refl)
+  rrsets_listed number (rrset ∷ rrsets) each =
+      let front = signatures_listed number rrset 1 rrset.signatures each.0.each_signature in
+      let rest = rrsets_listed (suc number) rrsets each.1 in
       (front.0 ++ rest.0, (front.0, rest.0, front.1, rest.1, refl))
 
   append_each : (xs ys : List ReceivedRrset) → AllByRecursion IsWellFormed xs → AllByRecursion IsWellFormed ys → AllByRecursion IsWellFormed (xs ++ ys)
@@ -86,9 +86,9 @@ module _
       (formed (suc held.messages) message (octets, are.0, taken.0.0) taken.0.1.1))
 
   -- a file that holds evidence has the text of list
-  pub listed : (file : List ℕ) (Else : Type 0) → ((frames : List (List ℕ)) → IsCapture file frames → AllByRecursion AreOctets frames)
-      → ((messages : List Contents) × Holds NewEvidence Plain file messages) ⊎ Else → ((text : List ℕ) × IsListing file text) ⊎ Else
-  listed file Else are (inr otherwise) = inr otherwise
-  listed file Else are (inl held) =
-      let lines = rrset_lines 1 (evidence_of held.0).rrsets (all_formed no_evidence 1 held.1.frames held.0 (are held.1.frames held.1.framing) held.1.taken tt) in
-      inl (lines.0, (held.0, held.1, lines.1))
+  pub listed : (json : Bool) (moment : ℕ) (file : List ℕ) (Else : Type 0) → ((frames : List (List ℕ)) → IsCapture file frames → AllByRecursion AreOctets frames)
+      → ((messages : List Contents) × Holds NewEvidence Plain file messages) ⊎ Else → ((text : List ℕ) × IsListing json moment file text) ⊎ Else
+  listed json moment file Else are (inr otherwise) = inr otherwise
+  listed json moment file Else are (inl held) =
+      let lines = rrsets_listed 1 (evidence_of held.0).rrsets (all_formed no_evidence 1 held.1.frames held.0 (are held.1.frames held.1.framing) held.1.taken tt) in
+      inl (listing_text json moment lines.0, (held.0, held.1, lines.0, lines.1, refl))

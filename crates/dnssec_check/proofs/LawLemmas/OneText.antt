@@ -1,6 +1,5 @@
 -- For its files a request has at most one text.
-use Rattle.std.proofs.Common.{◌≡◌, ℕ, suc, List, [], ◌∷◌, ◌++◌, Option, Some, None, refl, sym, ap, subst, ◌∙◌}
-use Rattle.std.specs.List.{flat_map}
+use Rattle.std.proofs.Common.{◌≡◌, ℕ, suc, Bool, List, [], ◌∷◌, ◌++◌, Option, Some, None, refl, sym, ap, subst, ◌∙◌}
 use Rattle.std.specs.Prelude.{string_bytes, true, false}
 use Rattle.dnsv_names.specs.Name.{Labels}
 use Rattle.dnsv_names.specs.Octets.{AreOctets}
@@ -21,16 +20,16 @@ use Rattle.dnssec_check.specs.declared.command_line.request.Request.{Request}
 use Rattle.dnssec_check.specs.declared.command_line.request.Request.TheVariants as request
 use Rattle.dnssec_check.specs.declared.status.Status.{Status}
 use Rattle.dnssec_check.specs.Files.Capture.{AnyMessage, NewEvidence, Holds}
-use Rattle.dnssec_check.specs.Texts.Checking.{AreInOrder, IsCheck, basis_in, verdict_status, verdict_text}
+use Rattle.dnssec_check.specs.Texts.Checking.{AreInOrder, IsCheck, basis_in, check_text, verdict_status}
 use Rattle.dnssec_check.specs.Opening.Given.{IsOpeningOf}
 use Rattle.dnssec_check.specs.Files.{Files, octets_or_none}
 use Rattle.dnssec_check.specs.Opening.Keys.{MayHaveKeys}
 use Rattle.dnssec_check.specs.Layers.{LayerLaws}
-use Rattle.dnssec_check.specs.Texts.Listing.{data_line, SignatureLines, RrsetLines}
+use Rattle.dnssec_check.specs.Texts.Listing.{ListsRrsets, ListsSignatures, SignedOctets, listing_text}
 use Rattle.dnssec_check.specs.CommandLine.Question.{Spells}
 use Rattle.dnssec_check.specs.Run.{IsAnswered, IsTextAskedFor}
 use Rattle.dnssec_check.specs.Texts.Showing.{message_text, texts_from}
-use Rattle.dnssec_check.specs.Texts.Todo.{IsTodo, todo_line}
+use Rattle.dnssec_check.specs.Texts.Todo.{IsTodo, todo_text}
 use Rattle.dnssec_check.proofs.OpeningLemmas.Keys.{same_keys}
 use Rattle.dnssec_check.proofs.OpeningLemmas.Macs.{same_macs}
 use Rattle.dnssec_check.proofs.LawLemmas.OneCapture.{one_holding}
@@ -39,32 +38,32 @@ use Rattle.dnssec_check.proofs.FileLemmas.Statements.{one_meaning}
 module _ (laws : LayerLaws) where
   -- ---- list --all
 
-  one_front : (number : ℕ) (rrset : ReceivedRrset) (signature : ℕ) (signatures : List (List ℕ)) (a b : List ℕ)
-      → SignatureLines number rrset signature signatures a → SignatureLines number rrset signature signatures b → a ≡ b
+  one_front : (number : ℕ) (rrset : ReceivedRrset) (signature : ℕ) (signatures : List (List ℕ)) (a b : List SignedOctets)
+      → ListsSignatures number rrset signature signatures a → ListsSignatures number rrset signature signatures b → a ≡ b
   one_front number rrset signature [] a b x y = x ∙ sym y
   one_front number rrset signature (rdata ∷ others) a b x y =
       let signs : Rrsig → Type 0 = λ rrsig. IsSignedData rrset.owner rrset.rtype rrset.rdata rrsig x.1 in
       let octets : x.1 ≡ y.1 = laws.evidence.one_signed_data rrset.owner rrset.rtype rrset.rdata y.0 x.1 y.1 (subst signs (laws.evidence.one_rrsig rdata x.0 y.0 x.3 y.3) x.4) y.4 in
-      x.6 ∙ ap (λ octets. data_line number signature octets ++ x.2) octets
-      ∙ ap (λ rest. data_line number signature y.1 ++ rest) (one_front number rrset (suc signature) others x.2 y.2 x.5 y.5)
+      x.6 ∙ ap (λ (octets : Option (List ℕ)). record { rrset = number; signature = signature; octets = octets } ∷ x.2) octets
+      ∙ ap (λ (rest : List SignedOctets). record { rrset = number; signature = signature; octets = y.1 } ∷ rest) (one_front number rrset (suc signature) others x.2 y.2 x.5 y.5)
       ∙ sym y.6
 
-  one_lines : (number : ℕ) (rrsets : List ReceivedRrset) (a b : List ℕ) → RrsetLines number rrsets a → RrsetLines number rrsets b → a ≡ b
-  one_lines number [] a b x y = x ∙ sym y
-  one_lines number (rrset ∷ rrsets) a b x y =
+  one_list : (number : ℕ) (rrsets : List ReceivedRrset) (a b : List SignedOctets) → ListsRrsets number rrsets a → ListsRrsets number rrsets b → a ≡ b
+  one_list number [] a b x y = x ∙ sym y
+  one_list number (rrset ∷ rrsets) a b x y =
       x.4 ∙ ap (λ front. front ++ x.1) (one_front number rrset 1 rrset.signatures x.0 y.0 x.2 y.2)
-      ∙ ap (λ rest. y.0 ++ rest) (one_lines (suc number) rrsets x.1 y.1 x.3 y.3)
+      ∙ ap (λ rest. y.0 ++ rest) (one_list (suc number) rrsets x.1 y.1 x.3 y.3)
       ∙ sym y.4
 
   -- ---- list
 
-  one_todo : (moment : ℕ) (files : Files) → AreOctets files.capture → (a b : List ℕ) → IsTodo moment files a → IsTodo moment files b → a ≡ b
-  one_todo moment files are a b x y =
+  one_todo : (json : Bool) (moment : ℕ) (files : Files) → AreOctets files.capture → (a b : List ℕ) → IsTodo json moment files a → IsTodo json moment files b → a ≡ b
+  one_todo json moment files are a b x y =
       let messages = one_holding laws NewEvidence Plain files.capture are x.messages y.messages x.holds y.holds in
       let meanings = one_meaning (octets_or_none files.statements) x.meaning y.meaning x.said y.said in
       let first = subst (λ (meaning : Entry → Answer). IsTableOf meaning moment (evidence_of x.messages).rrsets x.table) meanings x.is_table in
       let second = subst (λ messages. IsTableOf y.meaning moment (evidence_of messages).rrsets x.table) messages first in
-      x.lines ∙ ap (λ table. flat_map todo_line (unknown_entries table)) (laws.verdicts.one_table y.meaning moment (evidence_of y.messages).rrsets x.table y.table second y.is_table) ∙ sym y.lines
+      x.lines ∙ ap (λ table. todo_text json moment (unknown_entries table)) (laws.verdicts.one_table y.meaning moment (evidence_of y.messages).rrsets x.table y.table second y.is_table) ∙ sym y.lines
 
   -- ---- check
 
@@ -101,19 +100,19 @@ module _ (laws : LayerLaws) where
         let meanings = one_meaning (octets_or_none files.statements) x.meaning y.meaning x.said y.said in
         λ i. basis_of (evidence_of (messages i)).rrsets (anchors i) moment (meanings i)
 
-    one_check : (name : Labels) (s t : Status) (a b : List ℕ) → IsCheck name rtype moment files s a → IsCheck name rtype moment files t b → (s ≡ t) × (a ≡ b)
-    one_check name s t a b x y =
+    one_check : (json : Bool) (name : Labels) (s t : Status) (a b : List ℕ) → IsCheck json name rtype moment files s a → IsCheck json name rtype moment files t b → (s ≡ t) × (a ≡ b)
+    one_check json name s t a b x y =
         let bases : basis_in x.given ≡ basis_in y.given = one_basis x.given y.given in
         let ways = laws.verdicts.one_way (basis_in y.given) name rtype x.links y.links x.last y.last x.verdict y.verdict
         (subst (λ (each : Basis). IsVerdictOf each name rtype x.links x.last x.verdict) bases x.is_verdict) y.is_verdict in (
           x.ends ∙ ap verdict_status ways.2 ∙ sym y.ends,
-          x.lines ∙ (λ i. verdict_text name rtype (bases i).rrsets (ways.0 i) (ways.2 i)) ∙ sym y.lines,
+          x.lines ∙ (λ i. check_text json name rtype moment (bases i).rrsets (ways.0 i) (ways.2 i)) ∙ sym y.lines,
         )
 
-    one_answer : (asked : List ℕ) (s t : Status) (a b : List ℕ) → IsAnswered asked rtype moment files s a → IsAnswered asked rtype moment files t b → (s ≡ t) × (a ≡ b)
-    one_answer asked s t a b x y =
-        one_check y.0 s t a b
-        (subst (λ (name : Labels). IsCheck name rtype moment files s a) (one_question asked x.0 y.0 x.1 y.1) x.3) y.3
+    one_answer : (json : Bool) (asked : List ℕ) (s t : Status) (a b : List ℕ) → IsAnswered json asked rtype moment files s a → IsAnswered json asked rtype moment files t b → (s ≡ t) × (a ≡ b)
+    one_answer json asked s t a b x y =
+        one_check json y.0 s t a b
+        (subst (λ (name : Labels). IsCheck json name rtype moment files s a) (one_question asked x.0 y.0 x.1 y.1) x.3) y.3
 
   -- ---- all requests
 
@@ -122,11 +121,11 @@ module _ (laws : LayerLaws) where
       → IsTextAskedFor asked files s a → IsTextAskedFor asked files t b → (s ≡ t) × (a ≡ b)
   one_text (request.Show capture) files are s t a b x y =
       (x.0 ∙ sym y.0, x.1.2 ∙ ap (texts_from message_text 1) (one_holding laws AnyMessage Plain files.capture are x.1.0 y.1.0 x.1.1 y.1.1) ∙ sym y.1.2)
-  one_text (request.List capture moment statements true) files are s t a b x y = (
+  one_text (request.List capture moment statements true json) files are s t a b x y = (
     x.0 ∙ sym y.0,
-    one_lines 1 (evidence_of x.1.0).rrsets a b x.1.2
-        (subst (λ messages. RrsetLines 1 (evidence_of messages).rrsets b) (one_holding laws NewEvidence Plain files.capture are y.1.0 x.1.0 y.1.1 x.1.1) y.1.2),
+    x.1.4 ∙ ap (listing_text json moment) (one_list 1 (evidence_of x.1.0).rrsets x.1.2 y.1.2 x.1.3
+        (subst (λ messages. ListsRrsets 1 (evidence_of messages).rrsets y.1.2) (one_holding laws NewEvidence Plain files.capture are y.1.0 x.1.0 y.1.1 x.1.1) y.1.3)) ∙ sym y.1.4,
   )
-  one_text (request.List capture moment statements false) files are s t a b x y = (x.0 ∙ sym y.0, one_todo moment files are a b x.1 y.1)
-  one_text (request.Check capture anchors moment asked rtype statements keys macs) files are s t a b x y =
-      one_answer rtype.0 moment files are (string_bytes asked) s t a b x y
+  one_text (request.List capture moment statements false json) files are s t a b x y = (x.0 ∙ sym y.0, one_todo json moment files are a b x.1 y.1)
+  one_text (request.Check capture anchors moment asked rtype statements keys macs json) files are s t a b x y =
+      one_answer rtype.0 moment files are json (string_bytes asked) s t a b x y

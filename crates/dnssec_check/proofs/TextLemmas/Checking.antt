@@ -1,5 +1,5 @@
 -- The check of a question over files that were all taken.
-use Rattle.std.proofs.Common.{◌≡◌, ℕ, List, Option, Some, subst, string_bytes}
+use Rattle.std.proofs.Common.{◌≡◌, ℕ, Bool, List, Option, Some, subst, string_bytes}
 use Rattle.std.specs.Prelude.{Result, Ok, Err, IfOk, IfSome}
 use Rattle.dnsv_names.specs.Name.{Labels}
 use Rattle.dnsv_message.specs.Message.{Contents}
@@ -15,7 +15,7 @@ use Rattle.dnssec_check.specs.Files.Anchors.{HasAnchors}
 use Rattle.dnssec_check.specs.declared.opening.Opening.{Opening}
 use Rattle.dnssec_check.specs.Files.Capture.{Holds, NewEvidence}
 use Rattle.dnssec_check.specs.Opening.Given.{IsOpeningOf}
-use Rattle.dnssec_check.specs.Texts.Checking.{AreInOrder, IsCheck, verdict_status, verdict_text}
+use Rattle.dnssec_check.specs.Texts.Checking.{AreInOrder, IsCheck, check_text, verdict_status}
 use Rattle.dnssec_check.specs.Files.{Files, octets_or_none}
 use Rattle.dnssec_check.specs.Files.Statements.{IsMeaningOf}
 use Rattle.dnssec_check.specs.declared.texts.checking.Outcome.{Outcome}
@@ -23,12 +23,12 @@ use Rattle.dnssec_check.specs.declared.status.Fault.{Fault}
 use Rattle.dnssec_check.proofs.FileLemmas.Faults.{of_told}
 
 -- the outcome is that of the verdict on this evidence
-abbrev pub IsOutcome : List Anchor → ℕ → (Entry → Answer) → Labels → ℕ → Outcome → Evidence → Type 0
-IsOutcome anchors moment meaning name rtype outcome held =
+abbrev pub IsOutcome : Bool → List Anchor → ℕ → (Entry → Answer) → Labels → ℕ → Outcome → Evidence → Type 0
+IsOutcome json anchors moment meaning name rtype outcome held =
     (links : List Link) × (last : Labels) × (verdict : Verdict)
     × IsVerdictOf (basis_of held.rrsets anchors moment meaning) name rtype links last verdict
     × (outcome.status ≡ verdict_status verdict)
-    × (string_bytes outcome.text ≡ verdict_text name rtype held.rrsets links verdict)
+    × (string_bytes outcome.text ≡ check_text json name rtype moment held.rrsets links verdict)
 
 -- the files are in order whose parts were all taken
 abbrev pub all_in_order : (moment : ℕ) (files : Files) (opening : Opening) → IsOpeningOf files.keys files.macs moment opening → (anchors : List Anchor)
@@ -45,16 +45,16 @@ all_in_order moment files opening opens anchors meaning messages holds trusted s
   said = said;
 }
 
-module _ (name : Labels) (rtype moment : ℕ) (files : Files) (opening : Opening) (opens : IsOpeningOf files.keys files.macs moment opening) (held : Evidence) (anchors : List Anchor) (meaning : Entry → Answer) where
+module _ (json : Bool) (name : Labels) (rtype moment : ℕ) (files : Files) (opening : Opening) (opens : IsOpeningOf files.keys files.macs moment opening) (held : Evidence) (anchors : List Anchor) (meaning : Entry → Answer) where
   pub all_checked : (result : Result Outcome Fault) {octets : Option (List ℕ)} → octets ≡ Some files.capture
       → IfSome octets (λ file. (messages : List Contents) × Holds NewEvidence opening file messages × (held ≡ evidence_of messages))
       → HasAnchors (octets_or_none files.anchors) anchors → IsMeaningOf (octets_or_none files.statements) meaning
-      → IfOk result (λ outcome. IsOutcome anchors moment meaning name rtype outcome held)
-      → IfOk result (λ outcome. IsCheck name rtype moment files outcome.status (string_bytes outcome.text))
+      → IfOk result (λ outcome. IsOutcome json anchors moment meaning name rtype outcome held)
+      → IfOk result (λ outcome. IsCheck json name rtype moment files outcome.status (string_bytes outcome.text))
   all_checked (Err told) is taken trusted said judged = tt
   all_checked (Ok outcome) is taken trusted said judged =
       let evidence = of_told (λ file. (messages : List Contents) × Holds NewEvidence opening file messages × (held ≡ evidence_of messages)) is taken in
-      let outcome_is = subst (IsOutcome anchors moment meaning name rtype outcome) evidence.2 judged in record {
+      let outcome_is = subst (IsOutcome json anchors moment meaning name rtype outcome) evidence.2 judged in record {
         given = all_in_order moment files opening opens anchors meaning evidence.0 evidence.1 trusted said;
         links = outcome_is.0;
         last = outcome_is.1;

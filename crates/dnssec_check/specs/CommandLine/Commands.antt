@@ -75,21 +75,28 @@ all_rule = record (new_rule (codes "all")) {
   action = Some SetTrue;
 }
 
+-- `--json`, which takes no value
+abbrev pub json_rule : Rule
+json_rule = record (new_rule (codes "json")) {
+  long = Some (codes "json");
+  action = Some SetTrue;
+}
+
 -- `show --capture FILE`
 abbrev pub show_app : App
 show_app = with_rule (new_app (codes "show")) capture_rule
 
--- `list --capture FILE --moment N [--statements FILE] [--all]`
+-- `list --capture FILE --moment N [--statements FILE] [--all] [--json]`
 abbrev pub list_app : App
-list_app = with_rule (with_rule (with_rule (with_rule (new_app (codes "list")) capture_rule) moment_rule)
-    statements_rule) all_rule
+list_app = with_rule (with_rule (with_rule (with_rule (with_rule (new_app (codes "list")) capture_rule) moment_rule)
+    statements_rule) all_rule) json_rule
 
 -- `check --capture FILE --anchors FILE --moment N --name NAME --type N [--statements FILE] [--keys FILE]
--- [--macs FILE]`
+-- [--macs FILE] [--json]`
 abbrev pub check_app : App
-check_app = with_rule (with_rule (with_rule (with_rule (with_rule (with_rule (with_rule (with_rule
+check_app = with_rule (with_rule (with_rule (with_rule (with_rule (with_rule (with_rule (with_rule (with_rule
     (new_app (codes "check")) capture_rule) anchors_rule) moment_rule) name_rule) type_rule) statements_rule)
-    keys_rule) macs_rule
+    keys_rule) macs_rule) json_rule
 
 -- the program, which wants one of its subcommands
 abbrev pub bare_app : App

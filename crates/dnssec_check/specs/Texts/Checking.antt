@@ -1,5 +1,5 @@
 -- The text of `check`: a question's verdict, and what carries it.
-use Rattle.std.specs.Prelude.{◌≡◌, ℕ, ◌-◌, List, [], ◌++◌, Option, Some, None, codes, slice_get}
+use Rattle.std.specs.Prelude.{◌≡◌, ℕ, ◌-◌, Bool, true, false, List, [], ◌∷◌, ◌++◌, Option, Some, None, codes, map, slice_get}
 use Rattle.std.specs.Fmt.{decimal}
 use Rattle.std.specs.List.{flat_map}
 use Rattle.dnsv_names.specs.Name.{Labels, lower_case}
@@ -24,7 +24,9 @@ use Rattle.dnssec_check.specs.Files.Capture.{Holds, NewEvidence}
 use Rattle.dnssec_check.specs.Opening.Given.{IsOpeningOf}
 use Rattle.dnssec_check.specs.Files.{Files, octets_or_none}
 use Rattle.dnssec_check.specs.Files.Statements.{IsMeaningOf}
-use Rattle.dnssec_check.specs.Texts.Todo.{todo_line}
+use Rattle.dnssec_check.specs.Status.{status_code}
+use Rattle.dnssec_check.specs.Texts.Json.{array, member, name_json, object, object_line, quoted}
+use Rattle.dnssec_check.specs.Texts.Todo.{todo_json, todo_line}
 use Rattle.dnssec_check.specs.Told.{nowhere}
 use Rattle.dnssec_check.specs.declared.status.Fault.{Fault}
 use Rattle.dnssec_check.specs.declared.status.Fault.TheVariants as fault
@@ -99,6 +101,71 @@ verdict_status verdict.Bogus = status.Bogus
 verdict_status verdict.Indeterminate = status.Indeterminate
 verdict_status _ = status.Done
 
+-- ---- the object
+
+-- the members for an RRset by its number, and its signature by its own
+abbrev pub signature_members : ℕ → ℕ → List (List ℕ)
+signature_members rrset signature =
+    member (codes "rrset") (decimal rrset) ∷ member (codes "signature") (decimal signature) ∷ []
+
+-- a name that is an alias, by an RRset and its signature
+abbrev pub alias_json : Link → List ℕ
+alias_json link =
+    object (member (codes "name") (name_json link.name) ∷ signature_members link.rrset link.signature)
+
+-- the owner and type of a record of the RRset
+abbrev pub record_json : ReceivedRrset → List ℕ
+record_json rrset = object (member (codes "owner") (name_json rrset.owner) ∷ member (codes "type") (decimal rrset.rtype) ∷ [])
+
+abbrev pub proof_record_json : Option ReceivedRrset → List (List ℕ)
+proof_record_json None = []
+proof_record_json (Some rrset) = record_json rrset ∷ []
+
+-- those of a record by its number
+abbrev pub proof_json : List ReceivedRrset → RecordNumber → List (List ℕ)
+proof_json rrsets number = proof_record_json (slice_get rrsets (number.rrset - 1))
+
+-- the records of a proof
+abbrev pub proof_member : List ReceivedRrset → List RecordNumber → List ℕ
+proof_member rrsets numbers = member (codes "records") (array (flat_map (proof_json rrsets) numbers))
+
+abbrev pub cut_member : Labels → List ℕ
+cut_member cut = member (codes "cut") (name_json cut)
+
+abbrev pub todo_member : List Entry → List ℕ
+todo_member entries = member (codes "todo") (array (map todo_json entries))
+
+-- the members for what carries the verdict
+abbrev pub reason_members : List ReceivedRrset → Verdict → List (List ℕ)
+reason_members rrsets (verdict.SecureAnswer k s) = signature_members k s
+reason_members rrsets (verdict.SecureAlias k s) = signature_members k s
+reason_members rrsets (verdict.SecureNoName proof) = proof_member rrsets proof.records ∷ []
+reason_members rrsets (verdict.SecureNoData proof) = proof_member rrsets proof.records ∷ []
+reason_members rrsets (verdict.Insecure cut) = cut_member cut ∷ []
+reason_members rrsets (verdict.Pending entries) = todo_member entries ∷ []
+reason_members rrsets verdict.Bogus = []
+reason_members rrsets verdict.Indeterminate = []
+
+-- the members for the question, and for the verdict with its exit status
+abbrev pub verdict_members : Labels → ℕ → ℕ → Verdict → List (List ℕ)
+verdict_members name rtype moment verdict =
+    member (codes "command") (quoted (codes "check")) ∷ member (codes "name") (name_json name)
+    ∷ member (codes "type") (decimal rtype) ∷ member (codes "moment") (decimal moment)
+    ∷ member (codes "verdict") (quoted (verdict_word verdict))
+    ∷ member (codes "status") (decimal (status_code (verdict_status verdict))) ∷ []
+
+-- the same as the text of lines, in JSON
+abbrev pub verdict_json : Labels → ℕ → ℕ → List ReceivedRrset → List Link → Verdict → List ℕ
+verdict_json name rtype moment rrsets links verdict = object_line (verdict_members name rtype moment verdict
+    ++ member (codes "aliases") (array (map alias_json links)) ∷ reason_members rrsets verdict)
+
+-- lines, or JSON
+abbrev pub check_text : Bool → Labels → ℕ → ℕ → List ReceivedRrset → List Link → Verdict → List ℕ
+check_text false name rtype moment rrsets links verdict = verdict_text name rtype rrsets links verdict
+check_text true name rtype moment rrsets links verdict = verdict_json name rtype moment rrsets links verdict
+
+-- ---- refusals
+
 -- how a question is refused that has no verdict
 abbrev pub verdict_fault : VerdictError → Fault
 verdict_fault error.OutOfMemory = fault.OutOfMemory
@@ -126,14 +193,14 @@ abbrev pub basis_in : {moment : ℕ} {files : Files} → AreInOrder moment files
 basis_in {moment} given = basis_of (evidence_of given.messages).rrsets given.anchors moment given.meaning
 
 -- The files are in order, and the end and the text are those of the verdict that they prove of the question.
-pub record IsCheck (name : Labels) (rtype moment : ℕ) (files : Files) (end : Status) (text : List ℕ) : Type 0 where
+pub record IsCheck (json : Bool) (name : Labels) (rtype moment : ℕ) (files : Files) (end : Status) (text : List ℕ) : Type 0 where
   pub given : AreInOrder moment files
   pub links : List Link
   pub last : Labels
   pub verdict : Verdict
   pub is_verdict : IsVerdictOf (basis_in given) name rtype links last verdict
   pub ends : end ≡ verdict_status verdict
-  pub lines : text ≡ verdict_text name rtype (basis_in given).rrsets links verdict
+  pub lines : text ≡ check_text json name rtype moment (basis_in given).rrsets links verdict
 
 -- The files are in order, and the question is refused: a way over aliases from its name ends at one that can't be
 -- followed. The refusal has no place.

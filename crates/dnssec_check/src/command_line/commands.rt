@@ -2,7 +2,7 @@
 ghost use Rattle.std.specs.Prelude.{◌≡◌, false, IfOk};
 ghost use Rattle.clap.specs.Words.{app_of, rule_of};
 ghost use Rattle.clap.specs.declared.Command.TheViews.{out-Command as fields_of};
-ghost use Rattle.dnssec_check.specs.CommandLine.Commands.{all_rule, capture_rule, keys_rule, macs_rule, moment_rule, statements_rule};
+ghost use Rattle.dnssec_check.specs.CommandLine.Commands.{all_rule, capture_rule, json_rule, keys_rule, macs_rule, moment_rule, statements_rule};
 ghost use Rattle.dnssec_check.specs.CommandLine.Commands.{anchors_rule, name_rule, type_rule};
 ghost use Rattle.dnssec_check.specs.CommandLine.Commands.{check_app, list_app, program_app, show_app};
 
@@ -86,7 +86,8 @@ fn list<'a>(alloc: Global) -> Result<Command<'a>, AllocError>
         .arg(capture_option(alloc))?
         .arg(moment_option(alloc))?
         .arg(statements_option(alloc))?
-        .arg(all_flag(alloc))
+        .arg(all_flag(alloc))?
+        .arg(json_flag(alloc))
 }
 
 /// The subcommand `check`.
@@ -104,7 +105,8 @@ fn check<'a>(alloc: Global) -> Result<Command<'a>, AllocError>
         .arg(type_option(alloc))?
         .arg(statements_option(alloc))?
         .arg(keys_option(alloc))?
-        .arg(macs_option(alloc))
+        .arg(macs_option(alloc))?
+        .arg(json_flag(alloc))
 }
 
 /// `--capture FILE`
@@ -210,5 +212,16 @@ fn all_flag<'a>(alloc: Global) -> Arg<'a>
     Arg::new(alloc, "all")
         .long("all")
         .help("Lists the signed octets of every signature, whatever was checked")
+        .action(ArgAction::SetTrue)
+}
+
+/// `--json`
+fn json_flag<'a>(alloc: Global) -> Arg<'a>
+    ensures rule { rule_of result ≡ json_rule }
+    ensures local { result.global ≡ false }
+{
+    Arg::new(alloc, "json")
+        .long("json")
+        .help("Writes one JSON object in place of lines")
         .action(ArgAction::SetTrue)
 }

@@ -23,6 +23,8 @@ pub enum Request {
         statements: Option<String>,
         /// List the signed octets of each signature of each RRset. No statements are read then.
         all: bool,
+        /// Write JSON in place of lines.
+        json: bool,
     },
     /// Say what the evidence proves of a question.
     Check {
@@ -41,6 +43,8 @@ pub enum Request {
         keys: Option<String>,
         /// The path of the file of the MACs of requests. It is read where keys are.
         macs: Option<String>,
+        /// Write JSON in place of lines.
+        json: bool,
     },
 }
 

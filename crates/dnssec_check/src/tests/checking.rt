@@ -19,6 +19,20 @@ Pending host.example. 1
 todo 13 010203 00010d0200000e10000007d0000003e8080f076578616d706c650004686f7374076578616d706c65000001000100000e100004c0000201 aabb
 todo 13 010203 00300d0100000e10000007d0000003e8080f076578616d706c6500076578616d706c65000030000100000e1000070100030d010203 cc
 
+# The same as JSON.
+c < KEYS HOST
+a = KEY example. 256 3 13 AQID;
+$ dnssec_check check --capture c --anchors a --moment 1500 --name host.example. --type 1 --json
+=> 4
+{\"command\":\"check\",\"name\":\"host.example.\",\"type\":1,\"moment\":1500,\"verdict\":\"Pending\",\"status\":4,\"aliases\":[],\"todo\":[{\"algorithm\":13,\"key\":\"010203\",\"data\":\"00010d0200000e10000007d0000003e8080f076578616d706c650004686f7374076578616d706c65000001000100000e100004c0000201\",\"signature\":\"aabb\"},{\"algorithm\":13,\"key\":\"010203\",\"data\":\"00300d0100000e10000007d0000003e8080f076578616d706c6500076578616d706c65000030000100000e1000070100030d010203\",\"signature\":\"cc\"}]}
+
+# In a name a quotation mark and a backslash are behind a backslash (RFC 8259 7); all else stands as in the text.
+c = 
+a = 
+$ dnssec_check check --capture c --anchors a --moment 7 --json --name A\\.\"b\\\\\\032. --type 65535
+=> 6
+{\"command\":\"check\",\"name\":\"a\\\\.\\\"b\\\\\\\\\\\\032.\",\"type\":65535,\"moment\":7,\"verdict\":\"Indeterminate\",\"status\":6,\"aliases\":[]}
+
 # A bad signature.
 c < KEYS HOST
 a = KEY example. 256 3 13 AQID;

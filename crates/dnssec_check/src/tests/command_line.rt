@@ -145,6 +145,11 @@ $ dnssec_check list --capture a --moment 1 --all=true
 ! 
 ~ help
 
+$ dnssec_check show --capture a --json
+=> 2
+! 
+~ help
+
 $ dnssec_check list --capture a --moment 1 --all --all
 => 2
 ! 

@@ -30,6 +30,22 @@ $ dnssec_check list --capture c --moment 1500 --all
 => 0
 data 1 1 00010d0100000e10000007d0000003e8080f076578616d706c6500012a076578616d706c65000001000100000e100004c0000201
 
+# The same as JSON, and both lists where nothing is in them.
+c < 006700028400000100030000000004486f7374074578616d706c650000010001c00c00010001000000050004c0000201c00c00010001000000050004c0000201c00c002e000100000005001d00010d0300000e10000007d0000003e8080f074578616d706c6500aabb HOST
+$ dnssec_check list --capture c --moment 1500 --all --json
+=> 0
+{\"command\":\"list\",\"moment\":1500,\"data\":[{\"rrset\":1,\"signature\":1,\"data\":null},{\"rrset\":2,\"signature\":1,\"data\":\"00010d0200000e10000007d0000003e8080f076578616d706c650004686f7374076578616d706c65000001000100000e100004c0000201\"}]}
+
+c = 
+$ dnssec_check list --json --capture c --moment 0 --all
+=> 0
+{\"command\":\"list\",\"moment\":0,\"data\":[]}
+
+c = 
+$ dnssec_check list --json --capture c --moment 281474976710655
+=> 0
+{\"command\":\"list\",\"moment\":281474976710655,\"todo\":[]}
+
 # A query, a truncated answer, an address of five octets, an NSEC3 record without a salt, a torn file.
 c < 006700020400000100030000000004486f7374074578616d706c650000010001c00c00010001000000050004c0000201c00c00010001000000050004c0000201c00c002e000100000005001d00010d0200000e10000007d0000003e8080f074578616d706c6500aabb
 $ dnssec_check list --capture c --moment 1500 --all

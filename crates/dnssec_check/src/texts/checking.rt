@@ -11,6 +11,7 @@ ghost use Rattle.dnssec_check.specs.Texts.Checking as specs;
 
 use crate::command_line::moment::Moment;
 use crate::status::{Fault, Place, Refusal, Status};
+use crate::texts::json::checking::verdict_json;
 use crate::texts::todo::push_entries;
 use dnsv_canonical::{Capture, Rrset};
 use dnsv_chain::Anchors;
@@ -27,11 +28,13 @@ pub struct Outcome {
     pub text: String,
 }
 
-/// The verdict on the question, the aliases that lead to the name where it stands, and what carries it.
+/// The verdict on the question, the aliases that lead to the name where it stands, and what carries it: in lines, or in
+/// JSON.
 ///
 /// An alias that can't be followed is refused, without a place.
 pub fn judge<V: Verifier>(
     alloc: Global,
+    json: bool,
     held: &Capture,
     anchors: &Anchors,
     moment: Moment,
@@ -43,7 +46,8 @@ pub fn judge<V: Verifier>(
     ensures verdict { IfOk result (λ outcome. (links : List Link) × (last : Labels) × (verdict : Verdict)
         × IsVerdictOf (basis_of held.now.rrsets anchors.now moment (V.meaning verifier.now)) name.now rtype.0 links
         last verdict × (outcome.status ≡ specs.verdict_status verdict)
-        × (string_bytes outcome.text ≡ specs.verdict_text name.now rtype.0 held.now.rrsets links verdict)) }
+        × (string_bytes outcome.text
+        ≡ specs.check_text json name.now rtype.0 moment held.now.rrsets links verdict)) }
     ensures only { IfErr result (λ told. (told ≡ Fault.OutOfMemory) ⊎ ((error : VerdictError)
         × IsRefusedFor (basis_of held.now.rrsets anchors.now moment (V.meaning verifier.now)) name.now rtype.0 error
         × (told ≡ specs.verdict_fault error))) }
@@ -59,9 +63,29 @@ pub fn judge<V: Verifier>(
     ) {
         Ok(report) => Ok(Outcome {
             status: status_of(&report.verdict),
-            text: verdict_text(alloc, name, rtype, held.rrsets(), &report)?,
+            text: text_of(alloc, json, name, rtype, moment, held.rrsets(), &report)?,
         }),
         Err(error) => Err(verdict_fault(error)),
+    }
+}
+
+/// The text of a report: in lines, or in JSON.
+fn text_of(
+    alloc: Global,
+    json: bool,
+    name: &Name,
+    rtype: RecordType,
+    moment: Moment,
+    rrsets: &[Rrset],
+    report: &Report,
+) -> Result<String, AllocError>
+    ensures { IfOk result (λ text. string_bytes text
+        ≡ specs.check_text json name.now rtype.0 moment rrsets.now report.now.links report.now.verdict) }
+{
+    if json {
+        verdict_json(alloc, name, rtype, moment, rrsets, report)
+    } else {
+        verdict_text(alloc, name, rtype, rrsets, report)
     }
 }
 
@@ -80,7 +104,7 @@ fn verdict_fault(error: VerdictError) -> Fault
 }
 
 /// The end of a run by the verdict.
-fn status_of(verdict: &Verdict) -> Status
+pub fn status_of(verdict: &Verdict) -> Status
     ensures { result ≡ specs.verdict_status verdict.now }
 {
     match verdict {
@@ -147,7 +171,7 @@ fn push_verdict(
 }
 
 /// The verdict's word.
-fn verdict_word(verdict: &Verdict) -> &'static str
+pub fn verdict_word(verdict: &Verdict) -> &'static str
     ensures { result.now ≡ specs.verdict_word verdict.now }
 {
     match verdict {

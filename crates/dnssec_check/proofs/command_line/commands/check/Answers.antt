@@ -4,7 +4,7 @@ use Rattle.std.proofs.lemmas.Result.{IfOk-weaker}
 use Rattle.clap.specs.Words.{app_of, new_app, with_rule}
 use Rattle.clap.specs.declared.Command.TheViews.{out-Command as fields_of}
 use Rattle.clap.specs.Simple.{app_of_fields}
-use Rattle.dnssec_check.specs.CommandLine.Commands.{anchors_rule, capture_rule, keys_rule, moment_rule, name_rule, statements_rule, type_rule}
+use Rattle.dnssec_check.specs.CommandLine.Commands.{anchors_rule, capture_rule, keys_rule, macs_rule, moment_rule, name_rule, statements_rule, type_rule}
 use Rattle.dnssec_check.proofs.command_line.commands.check.Goals as goal
 
 pub returns : goal.returns
@@ -41,7 +41,11 @@ returns c =
     c.in_ok-arg-7.ensures.shape c.keys_option.ensures.local ∙ ap₂ with_rule with_statements c.keys_option.ensures.rule in
     let after_keys : (fields_of c.in_ok-arg-7.field-0).has_globals ≡ false =
     c.in_ok-arg-7.ensures.globals ∙ ap₂ ◌||◌ after_statements c.keys_option.ensures.local in
-    IfOk-weaker c.arg-8.result _ _ (λ command adds. (
-      adds.shape c.macs_option.ensures.local ∙ ap₂ with_rule with_keys c.macs_option.ensures.rule,
-      adds.globals ∙ ap₂ ◌||◌ after_keys c.macs_option.ensures.local,
-    )) c.arg-8.ensures
+    let with_macs : app_of c.in_ok-arg-8.field-0 ≡ with_rule (with_rule (with_rule (with_rule (with_rule (with_rule (with_rule (with_rule (new_app (codes "check")) capture_rule) anchors_rule) moment_rule) name_rule) type_rule) statements_rule) keys_rule) macs_rule =
+    c.in_ok-arg-8.ensures.shape c.macs_option.ensures.local ∙ ap₂ with_rule with_keys c.macs_option.ensures.rule in
+    let after_macs : (fields_of c.in_ok-arg-8.field-0).has_globals ≡ false =
+    c.in_ok-arg-8.ensures.globals ∙ ap₂ ◌||◌ after_keys c.macs_option.ensures.local in
+    IfOk-weaker c.arg-9.result _ _ (λ command adds. (
+      adds.shape c.json_flag.ensures.local ∙ ap₂ with_rule with_macs c.json_flag.ensures.rule,
+      adds.globals ∙ ap₂ ◌||◌ after_macs c.json_flag.ensures.local,
+    )) c.arg-9.ensures

@@ -4,7 +4,7 @@ use Rattle.std.proofs.lemmas.Result.{IfOk-weaker}
 use Rattle.clap.specs.Words.{app_of, new_app, with_rule}
 use Rattle.clap.specs.declared.Command.TheViews.{out-Command as fields_of}
 use Rattle.clap.specs.Simple.{app_of_fields}
-use Rattle.dnssec_check.specs.CommandLine.Commands.{capture_rule, moment_rule, statements_rule}
+use Rattle.dnssec_check.specs.CommandLine.Commands.{all_rule, capture_rule, moment_rule, statements_rule}
 use Rattle.dnssec_check.proofs.command_line.commands.list.Goals as goal
 
 pub returns : goal.returns
@@ -25,7 +25,11 @@ returns c =
     c.in_ok-arg-2.ensures.globals ∙ ap₂ ◌||◌ after_one c.moment_option.ensures.local in
     let after_three : (fields_of c.in_ok-arg-3.field-0).has_globals ≡ false =
     c.in_ok-arg-3.ensures.globals ∙ ap₂ ◌||◌ after_two c.statements_option.ensures.local in
-    IfOk-weaker c.arg-4.result _ _ (λ command adds. (
-      adds.shape c.all_flag.ensures.local ∙ ap₂ with_rule three c.all_flag.ensures.rule,
-      adds.globals ∙ ap₂ ◌||◌ after_three c.all_flag.ensures.local,
-    )) c.arg-4.ensures
+    let four : app_of c.in_ok-arg-4.field-0 ≡ with_rule (with_rule (with_rule (with_rule (new_app (codes "list")) capture_rule) moment_rule) statements_rule) all_rule =
+    c.in_ok-arg-4.ensures.shape c.all_flag.ensures.local ∙ ap₂ with_rule three c.all_flag.ensures.rule in
+    let after_four : (fields_of c.in_ok-arg-4.field-0).has_globals ≡ false =
+    c.in_ok-arg-4.ensures.globals ∙ ap₂ ◌||◌ after_three c.all_flag.ensures.local in
+    IfOk-weaker c.arg-5.result _ _ (λ command adds. (
+      adds.shape c.json_flag.ensures.local ∙ ap₂ with_rule four c.json_flag.ensures.rule,
+      adds.globals ∙ ap₂ ◌||◌ after_four c.json_flag.ensures.local,
+    )) c.arg-5.ensures

@@ -6,14 +6,14 @@ use Rattle.dnsv_verdict.specs.declared.error.VerdictError.TheVariants.{BadQuesti
 use Rattle.dnssec_check.specs.Texts.Checking.{verdict_fault}
 use Rattle.dnssec_check.proofs.texts.checking.judge.Goals as goal
 
-pub returns-in_ok-verdict_text-in-Ok-clause-verdict : goal.returns-in_ok-verdict_text-in-Ok-clause-verdict
-returns-in_ok-verdict_text-in-Ok-clause-verdict g c = (
+pub returns-in_ok-text_of-in-Ok-clause-verdict : goal.returns-in_ok-text_of-in-Ok-clause-verdict
+returns-in_ok-text_of-in-Ok-clause-verdict g c = (
   c.in-Ok.report.links,
   c.in-Ok.report.last,
   c.in-Ok.report.verdict,
   rw (← c.seconds.ensures.value) c.in-Ok.ensures.verdict,
   c.status_of.ensures,
-  rw (← c.rrsets.ensures.value) c.in_ok-verdict_text-in-Ok.ensures,
+  rw (← c.rrsets.ensures.value) c.in_ok-text_of-in-Ok.ensures,
 )
 
 pub returns-in-Err-clause-only : goal.returns-in-Err-clause-only

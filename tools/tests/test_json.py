@@ -1,0 +1,95 @@
+"""Tests of `--json`: what the program writes on the examples says the same as its lines, by the schema."""
+import json
+import unittest
+
+from tool import DATA, PROGRAM, TOOLS, load, run_program
+
+try:
+    import jsonschema
+except ImportError:
+    jsonschema = None
+
+EXAMPLES = TOOLS.parent / "examples"
+
+
+def words_of(folder):
+    return (folder / "words").read_text().splitlines()
+
+
+def words_beside(folder):
+    """The words as a folder beside it has them."""
+    return [f"../{folder.name}/{word}" if "/" not in word and (folder / word).is_file() else word
+            for word in words_of(folder)]
+
+
+def text_of(folder):
+    return (folder / "stdout").read_text()
+
+
+def in_lines():
+    """The examples of `list` and `check` that print a text in lines."""
+    return [path for path in sorted(EXAMPLES.iterdir()) if path.is_dir() and text_of(path)
+            and words_of(path)[0] in ("list", "check") and "--json" not in words_of(path)]
+
+
+class Json(unittest.TestCase):
+    def setUp(self):
+        self.as_json = load("as-json").as_json
+
+    def assert_valid(self, line):
+        """It is one line of ASCII without spaces, which the schema takes."""
+        self.assertRegex(line, r"\A[!-~]+\n\Z")
+        if jsonschema is not None:
+            jsonschema.Draft7Validator(json.loads((DATA / "schema.json").read_text())).validate(json.loads(line))
+
+    def test_examples_in_json_say_what_those_in_lines_say(self):
+        folders = sorted(EXAMPLES.glob("*-json"))
+        self.assertGreaterEqual(len(folders), 8)
+        for folder in folders:
+            with self.subTest(folder.name):
+                lines = folder.with_name(folder.name.removesuffix("-json"))
+                self.assertEqual(words_of(folder), words_beside(lines) + ["--json"])
+                self.assertEqual(text_of(folder), self.as_json(words_of(lines), text_of(lines)))
+                self.assert_valid(text_of(folder))
+
+    def test_octets_and_names(self):
+        words = ["list", "--moment", "7"]
+        self.assertEqual(self.as_json(words, ""), '{"command":"list","moment":7,"todo":[]}\n')
+        self.assertEqual(self.as_json(words, "todo 8 - 00 -\n"), '{"command":"list","moment":7,"todo":['
+                         '{"algorithm":8,"key":"","data":"00","signature":""}]}\n')
+        self.assertEqual(self.as_json(words + ["--all"], "data 1 2 -\ndata 2 1 0a\n"), '{"command":"list","moment":7,'
+                         '"data":[{"rrset":1,"signature":2,"data":null},{"rrset":2,"signature":1,"data":"0a"}]}\n')
+        self.assertEqual(self.as_json(["check", "--moment", "7"], 'Bogus a\\."b\\\\\\032. 1\n'),
+                         '{"command":"check","name":"a\\\\.\\"b\\\\\\\\\\\\032.","type":1,"moment":7,'
+                         '"verdict":"Bogus","status":5,"aliases":[]}\n')
+
+    @unittest.skipIf(jsonschema is None, "needs python3-jsonschema")
+    def test_the_schema_is_closed(self):
+        line = '{"command":"list","moment":7,"todo":[%s]}\n'
+        entry = '{"algorithm":8,"key":"","data":"00","signature":""%s}'
+        self.assert_valid(line % entry % "")
+        for bad in (line % entry % ',"more":1', line % '{"algorithm":8,"key":"","data":"00"}',
+                    '{"command":"list","moment":7,"todo":null}\n'):
+            with self.subTest(bad), self.assertRaises(jsonschema.ValidationError):
+                self.assert_valid(bad)
+
+    @unittest.skipUnless(PROGRAM.exists(), "needs the built program")
+    def test_program_says_in_json_what_it_says_in_lines(self):
+        folders = in_lines()
+        self.assertGreater(len(folders), 100)
+        for folder in folders:
+            with self.subTest(folder.name):
+                words = words_of(folder)
+                status, output, errors = run_program(PROGRAM, *words, "--json", folder=folder)
+                self.assertEqual((status, errors), (int((folder / "status").read_text()), ""))
+                self.assertEqual(output.decode(), self.as_json(words, text_of(folder)))
+                self.assert_valid(output.decode())
+
+    @unittest.skipUnless(PROGRAM.exists(), "needs the built program")
+    def test_show_has_no_json(self):
+        status, output, _ = run_program(PROGRAM, "show", "--capture", EXAMPLES / "www-a-list-all" / "capture", "--json")
+        self.assertEqual((status, output), (2, b""))
+
+
+if __name__ == "__main__":
+    unittest.main()
