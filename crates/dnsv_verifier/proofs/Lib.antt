@@ -11,3 +11,4 @@ pub mod SearchLemmas
 pub mod StatementLemmas
 pub mod StatementsLemmas
 pub mod TableLemmas
+pub mod ZipLemmas

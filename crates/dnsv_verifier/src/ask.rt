@@ -44,32 +44,32 @@ pub fn ask_all<V: Verifier>(
     // What is true of every count.
     let _ = count.value();
     let asked = asked_entries(alloc, moment, capture.rrsets())?;
-    let Asked { parts, numbers } = asked;
-    let mut answers = Vec::with_capacity(alloc, numbers.len())?;
-    for each in numbers {
-        let answer = parts.entry(each).answer_of(verifier);
+    let Asked { parts, entries } = asked;
+    let mut answers = Vec::with_capacity(alloc, entries.len())?;
+    for each in entries.as_slice() {
+        let answer = parts.entry(*each).answer_of(verifier);
         count.add(1);
         // There is room for all.
-        let Ok(()) = answers.push((each, answer)) else {
+        let Ok(()) = answers.push(answer) else {
             unreachable!();
         };
     }
-    Ok(Table::new(moment, parts, answers))
+    Ok(Table::new(moment, parts, entries, answers))
 }
 
 /// The entries that are asked, each once, rising.
 #[derive(Drop)]
 struct Asked {
     parts: Rc<Parts>,
-    numbers: Vec<EntryNumbers>,
+    entries: Rc<Vec<EntryNumbers>>,
 }
 
 /// The entries that are asked of the RRsets.
 fn asked_entries(alloc: Global, moment: u64, rrsets: &[Rrset]) -> Result<Asked, AllocError>
     ensures rising { IfOk result (λ asked. IsStrictlySortedBy entry_cmp
-        (map (entry_of asked.parts.value) asked.numbers.items)) }
+        (map (entry_of asked.parts.value) asked.entries.value.items)) }
     ensures asked { IfOk result (λ asked. (entry : Entry)
-        → Contains (map (entry_of asked.parts.value) asked.numbers.items) entry ↔ IsAsked moment rrsets.now entry) }
+        → Contains (map (entry_of asked.parts.value) asked.entries.value.items) entry ↔ IsAsked moment rrsets.now entry) }
 {
     let keys = Keys::of(alloc, rrsets)?;
     let made = made_signatures(alloc, moment, &keys, rrsets)?;
@@ -77,7 +77,7 @@ fn asked_entries(alloc: Global, moment: u64, rrsets: &[Rrset]) -> Result<Asked, 
     let numbers = entry_numbers(alloc, keys.as_slice(), made.as_slice(), &parts)?;
     Ok(Asked {
         parts: Rc::new(alloc, parts)?,
-        numbers,
+        entries: Rc::new(alloc, numbers)?,
     })
 }
 

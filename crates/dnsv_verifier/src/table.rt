@@ -1,8 +1,9 @@
 //! What a verifier says of the evidence, worked out once.
 ghost use Rattle.std.specs.Prelude.{◌≡◌, ◌↔◌, [], IfOk, IsTrue, length, map};
+ghost use Rattle.std.specs.List.{zip};
 ghost use Rattle.std.specs.List.Sorted.{IsStrictlySortedBy};
 ghost use Rattle.dnsv_verifier.specs.Entry.{entry_cmp};
-ghost use Rattle.dnsv_verifier.specs.Numbers.{answers_of};
+ghost use Rattle.dnsv_verifier.specs.Numbers.{answers_of, entry_of};
 ghost use Rattle.dnsv_verifier.specs.Table.{hopeful, unknown_entries};
 
 use crate::answer::Answer;
@@ -21,36 +22,50 @@ use std::rc::Rc;
 pub struct Table {
     moment: u64,
     parts: Rc<Parts>,
-    answers: Vec<(EntryNumbers, Answer)>,
+    /// The entries, rising.
+    entries: Rc<Vec<EntryNumbers>>,
+    /// What was said of each.
+    answers: Vec<Answer>,
 }
 
 impl Model for Table {
-    ghost use Rattle.std.specs.Prelude.{map};
+    ghost use Rattle.std.specs.Prelude.{◌≡◌, length, map};
+    ghost use Rattle.std.specs.List.{zip};
     ghost use Rattle.std.specs.List.Sorted.{IsStrictlySortedBy};
     ghost use Rattle.dnsv_verifier.specs.Entry.{entry_cmp};
-    ghost use Rattle.dnsv_verifier.specs.Numbers.{answers_of};
+    ghost use Rattle.dnsv_verifier.specs.Numbers.{answers_of, entry_of};
     ghost use Rattle.dnsv_verifier.specs.Table.{TableContents};
 
     ghost Value = { TableContents };
 
     ghost view = { λ table. record {
       moment = table.moment;
-      answers = answers_of table.parts.value table.answers.items;
+      answers = answers_of table.parts.value (zip table.entries.value.items table.answers.items);
     } };
 
-    ghost invariant = { λ table. IsStrictlySortedBy entry_cmp
-        (map (λ each. each.0) (answers_of table.parts.value table.answers.items)) };
+    ghost invariant = { λ table. IsStrictlySortedBy entry_cmp (map (entry_of table.parts.value) table.entries.value.items)
+        × (length table.answers.items ≡ length table.entries.value.items) };
 }
 
 impl Table {
     /// The table of these answers, whose entries rise.
-    pub(crate) fn new(moment: u64, parts: Rc<Parts>, answers: Vec<(EntryNumbers, Answer)>) -> Table
-        requires { IsStrictlySortedBy entry_cmp (map (λ each. each.0) (answers_of parts.value answers.items)) }
-        ensures { result ≡ record { moment = moment; answers = answers_of parts.value answers.items } }
+    pub(crate) fn new(
+        moment: u64,
+        parts: Rc<Parts>,
+        entries: Rc<Vec<EntryNumbers>>,
+        answers: Vec<Answer>,
+    ) -> Table
+        requires rising { IsStrictlySortedBy entry_cmp (map (entry_of parts.value) entries.value.items) }
+        requires each { length answers.items ≡ length entries.value.items }
+        ensures { result ≡ record {
+          moment = moment;
+          answers = answers_of parts.value (zip entries.value.items answers.items);
+        } }
     {
         Table {
             moment,
             parts,
+            entries,
             answers,
         }
     }
@@ -77,9 +92,9 @@ impl Table {
         ensures rising { IfOk result (λ entries. IsStrictlySortedBy entry_cmp entries) }
     {
         let mut unknown = Vec::new(alloc);
-        for (numbers, answer) in &self.answers {
+        for (place, answer) in self.answers.iter().enumerate() {
             if *answer == Answer::Unknown {
-                unknown.push(*numbers)?;
+                unknown.push(self.entries[place])?;
             }
         }
         Ok(Entries::new(self.parts.clone()?, unknown))
@@ -89,8 +104,8 @@ impl Table {
     pub fn knows_all(&self) -> bool
         ensures { IsTrue result ↔ (unknown_entries self.now ≡ []) }
     {
-        for listed in &self.answers {
-            if listed.1 == Answer::Unknown {
+        for answer in &self.answers {
+            if *answer == Answer::Unknown {
                 return false;
             }
         }
@@ -102,10 +117,11 @@ impl Table {
         ensures { IfOk result (λ table. table ≡ hopeful self.now) }
     {
         let mut answers = Vec::with_capacity(alloc, self.answers.len())?;
-        for (numbers, answer) in &self.answers {
-            answers.push((*numbers, answer.hoped()))?;
+        for answer in &self.answers {
+            answers.push(answer.hoped())?;
         }
-        Ok(Table::new(self.moment, self.parts.clone()?, answers))
+        let (parts, entries) = (self.parts.clone()?, self.entries.clone()?);
+        Ok(Table::new(self.moment, parts, entries, answers))
     }
 }
 
@@ -124,10 +140,10 @@ impl Verifier for Table {
         let asked = BorrowedEntry::of(algorithm, key, signed_data, signature);
         let parts = &self.parts;
         let place = self
-            .answers
-            .binary_search_by(|(numbers, _)| parts.entry(*numbers).stands_to(&asked));
+            .entries
+            .binary_search_by(|numbers| parts.entry(*numbers).stands_to(&asked));
         match place {
-            Ok(place) => self.answers[place].1,
+            Ok(place) => self.answers[place],
             Err(_) => Answer::Unknown,
         }
     }
