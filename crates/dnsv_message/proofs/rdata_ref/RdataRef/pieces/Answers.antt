@@ -1,4 +1,4 @@
-use Rattle.std.proofs.Common.{◌+◌, ◌-◌, ◌++◌, take, drop, ap, ◌∙◌, arith, rules}
+use Rattle.std.proofs.Common.{◌+◌, ◌-◌, ◌++◌, take, drop, ap, ◌∙◌, rules}
 use Rattle.dnsv_message.specs.Layout.{layout_of}
 use Rattle.dnsv_message.proofs.FollowLemmas.PieceLemmas.{head_within, names_behind, pieces_are}
 use Rattle.dnsv_message.proofs.rdata_ref.RdataRef.pieces.Goals as goal

@@ -1,4 +1,4 @@
-use Rattle.std.proofs.Common.{◌≡◌, ◌++◌, length}
+use Rattle.std.proofs.Common.{◌++◌, length}
 use Rattle.dnsv_message.proofs.FollowLemmas.PieceLemmas.{LeaveIt}
 use Rattle.dnsv_message.proofs.rdata_ref.RdataRefPartialEq.eq.Given as goal
 

@@ -1,5 +1,4 @@
-use Rattle.std.proofs.Common.{◌≡◌, ◌<◌, arith}
-use Rattle.dnsv_message.specs.Following.Rdata.{end_at}
+use Rattle.std.proofs.Common.{◌<◌, arith}
 use Rattle.dnsv_message.proofs.FollowLemmas.{named_is_read}
 use Rattle.dnsv_message.proofs.FollowLemmas.PieceLemmas.{first_named, end_is, PiecesStand-new, pieces_from-new}
 use Rattle.dnsv_message.proofs.rdata_ref.pieces.Pieces.new.Goals as goal
