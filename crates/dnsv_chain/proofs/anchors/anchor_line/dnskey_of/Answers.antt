@@ -2,7 +2,7 @@ use Rattle.std.proofs.Common.{arith, sym, ◌∙◌}
 use Rattle.std.proofs.lemmas.Bool.{false≢true}
 use Rattle.std.proofs.lemmas.Result.{err_from_is_err_and}
 use Rattle.dnsv_chain.proofs.AnchorLaws.AnchorLineLemmas.{dnskey_said, no_base64, some_dnskey}
-use Rattle.dnsv_chain.proofs.anchor_line.dnskey_of.Goals as goal
+use Rattle.dnsv_chain.proofs.anchors.anchor_line.dnskey_of.Goals as goal
 
 pub returns-then-not-is_base64-clause-found : goal.returns-then-not-is_base64-clause-found
 returns-then-not-is_base64-clause-found c =

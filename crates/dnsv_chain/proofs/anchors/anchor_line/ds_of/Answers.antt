@@ -1,7 +1,7 @@
 use Rattle.std.proofs.Common.{arith}
 use Rattle.std.proofs.lemmas.Result.{err_from_is_err_and}
 use Rattle.dnsv_chain.proofs.AnchorLaws.AnchorLineLemmas.{some_ds_text}
-use Rattle.dnsv_chain.proofs.anchor_line.ds_of.Goals as goal
+use Rattle.dnsv_chain.proofs.anchors.anchor_line.ds_of.Goals as goal
 
 pub returns-in_err-digest-clause-refused : goal.returns-in_err-digest-clause-refused
 returns-in_err-digest-clause-refused c =

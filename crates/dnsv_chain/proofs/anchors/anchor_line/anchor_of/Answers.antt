@@ -2,7 +2,7 @@ use Rattle.std.proofs.Common.{◌≡◌, sym, ◌∙◌, true, false}
 use Rattle.std.proofs.lemmas.Option.{MatchOption-at_none}
 use Rattle.std.proofs.lemmas.Result.{err_from_is_err_and}
 use Rattle.dnsv_chain.proofs.AnchorLaws.AnchorLineLemmas.{no_name, no_ds, no_key, no_word, some_ds, some_key}
-use Rattle.dnsv_chain.proofs.anchor_line.anchor_of.Goals as goal
+use Rattle.dnsv_chain.proofs.anchors.anchor_line.anchor_of.Goals as goal
 
 false_true : false ≡ true → ⊥
 false_true e = cc

@@ -11,7 +11,7 @@ use std::alloc::{AllocError, Global};
 
 /// Whether the signature of the RRset is good under the key at the table's moment: the key may be used for it, and the
 /// table says Valid (RFC 4035 5.3). An entry that the table lacks counts as Unknown.
-#[tactic(auto, using(crate::proofs::GoodLemmas::not_admissible, crate::proofs::GoodLemmas::never_signed))]
+#[tactic(auto, using(crate::proofs::SigningLemmas::GoodLemmas::not_admissible, crate::proofs::SigningLemmas::GoodLemmas::never_signed))]
 pub fn is_good(
     alloc: Global,
     table: &Table,

@@ -2,8 +2,8 @@ use Rattle.std.proofs.Common.{Some, rules}
 use Rattle.dnsv_canonical.specs.SignedData.{IsSignedData}
 use Rattle.dnsv_verifier.specs.Admissible.{IsAdmissible}
 use Rattle.dnsv_verifier.specs.Table.{table_answer}
-use Rattle.dnsv_chain.proofs.GoodLemmas.{good_if_valid}
-use Rattle.dnsv_chain.proofs.good.is_good.Goals as goal
+use Rattle.dnsv_chain.proofs.SigningLemmas.GoodLemmas.{good_if_valid}
+use Rattle.dnsv_chain.proofs.signing.good.is_good.Goals as goal
 
 pub returns : goal.returns
 returns c =

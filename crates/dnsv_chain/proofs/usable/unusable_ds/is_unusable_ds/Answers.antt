@@ -3,7 +3,7 @@ use Rattle.std.specs.Prelude.{Contains}
 use Rattle.std.proofs.lemmas.Bool.{eqb-true, false_from_ne_true, not-false, not-true, not_from_false}
 use Rattle.dnsv_names.specs.Name.{Labels, IsAtOrBelow}
 use Rattle.dnsv_chain.proofs.UsableLemmas.UnusableDsLemmas.{ds_read, none_usable, some_number}
-use Rattle.dnsv_chain.proofs.unusable_ds.is_unusable_ds.Goals as goal
+use Rattle.dnsv_chain.proofs.usable.unusable_ds.is_unusable_ds.Goals as goal
 
 pub returns : goal.returns
 returns c =
