@@ -5,7 +5,7 @@ use Rattle.dnssec_check.specs.Texts.Checking.{proof_json}
 use Rattle.dnssec_check.specs.Texts.Json.{parted}
 use Rattle.dnssec_check.proofs.TextLemmas.Json.{Parted-all, Parted-next, any_default}
 use Rattle.dnssec_check.proofs.TextLemmas.Objects.{array_written}
-use Rattle.dnssec_check.proofs.texts.json.checking.push_proof.Goals as goal
+use Rattle.dnssec_check.proofs.texts.json.checking.push_records.Goals as goal
 
 abbrev nothing : RecordNumber
 nothing = record { rrset = 0; place = 0 }

@@ -1,7 +1,7 @@
 use Rattle.std.specs.Prelude.{◌++◌, codes, string_bytes, true}
 use Rattle.dnssec_check.specs.Texts.Checking.{proof_json}
 use Rattle.dnssec_check.proofs.TextLemmas.Json.{Parted}
-use Rattle.dnssec_check.proofs.texts.json.checking.push_proof.Given as goal
+use Rattle.dnssec_check.proofs.texts.json.checking.push_records.Given as goal
 
 abbrev pub invariant-loop-number : goal.invariant-loop-number
 invariant-loop-number l =
