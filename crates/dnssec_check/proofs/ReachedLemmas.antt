@@ -1,5 +1,5 @@
 -- What comes before a failed read.
-use Rattle.std.proofs.Common.{◌≡◌, ℕ, List, Bool, true, false, inl, subst, sym}
+use Rattle.std.proofs.Common.{◌≡◌, ℕ, Bool, true, false, inl, subst, sym}
 use Rattle.std.specs.Prelude.{Result, Ok, Err, IfErr}
 use Rattle.dnssec_check.specs.declared.status.Fault.{Fault}
 use Rattle.dnssec_check.specs.declared.status.Fault.TheVariants as fault

@@ -3,7 +3,7 @@ ghost use Rattle.std.specs.Prelude.{◌≡◌, ◌<◌, List, ℕ, IfErr, IfOk, 
 ghost use Rattle.std.specs.Io.KnownBytes.{Appends};
 ghost use Rattle.dnsv_canonical.specs.Rrsets.{IsQuestion};
 ghost use Rattle.dnsv_message.specs.Streams.Counted.{inner_of, failures_of, AppendsBeginning};
-ghost use Rattle.dnssec_check.specs.Files.Capture.{AnyMessage, NewEvidence, IsFaultOfCapture};
+ghost use Rattle.dnssec_check.specs.Files.Capture.{AnyMessage, IsFaultOfCapture};
 ghost use Rattle.dnssec_check.specs.declared.opening.Opening.TheVariants.{Plain};
 ghost use Rattle.dnssec_check.specs.Files.Faults.{OfFailedRead, TellsFaults};
 ghost use Rattle.dnssec_check.specs.Files.{AreTold, Files};

@@ -1,4 +1,4 @@
-use Rattle.std.proofs.Common.{◌≡◌, ap, map, ◌∙◌, codes, true, false, rules, Some}
+use Rattle.std.proofs.Common.{◌≡◌, ap, map, ◌∙◌, codes, true, rules, Some}
 use Rattle.std.proofs.lemmas.Slice.Eq.{bytes_eq-Decides}
 use Rattle.std.specs.Str.{bytes_eq}
 use Rattle.clap.specs.Words.{app_of, found_of, rows_of}

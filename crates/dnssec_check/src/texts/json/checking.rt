@@ -1,5 +1,5 @@
 //! The JSON of `check`: a question's verdict, and what carries it.
-ghost use Rattle.std.specs.Prelude.{◌≡◌, ◌++◌, ◌∷◌, [], Some, false, true, codes, flat_map, map, IfOk, OnOk, string_bytes};
+ghost use Rattle.std.specs.Prelude.{◌≡◌, ◌++◌, ◌∷◌, [], Some, false, true, codes, map, IfOk, OnOk, string_bytes};
 ghost use Rattle.dnssec_check.specs.Texts.Json.{array, parted, still_first};
 ghost use Rattle.dnssec_check.specs.Texts.Checking as specs;
 
