@@ -3,11 +3,7 @@ pub mod EvidenceLemmas
 pub mod FormLemmas
 pub mod GroupLemmas
 pub mod ByRrsetLemmas
-pub mod IndexOrder
-pub mod IndexLayout
-pub mod IndexSearch
-pub mod IndexMerge
-pub mod IndexGrown
+pub mod IndexLemmas
 pub mod LimitLemmas
 pub mod ListLemmas
 pub mod ParameterLemmas

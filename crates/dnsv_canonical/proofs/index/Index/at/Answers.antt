@@ -1,7 +1,7 @@
 use Rattle.std.proofs.Common.{◌∙◌, sym, subst, ap, map, arith}
 use Rattle.dnsv_canonical.specs.Index.Grouping.{IsFound, Numbered}
-use Rattle.dnsv_canonical.proofs.IndexSearch.{few_starts, found_numbers, no_numbers}
-use Rattle.dnsv_canonical.proofs.IndexLayout.{mapped_group}
+use Rattle.dnsv_canonical.proofs.IndexLemmas.Search.{few_starts, found_numbers, no_numbers}
+use Rattle.dnsv_canonical.proofs.IndexLemmas.Layout.{mapped_group}
 use Rattle.std.specs.List.{enumerate_from}
 use Rattle.dnsv_canonical.specs.Index.Grouping.{group_of}
 use Rattle.dnsv_canonical.proofs.index.Index.at.Goals as goal

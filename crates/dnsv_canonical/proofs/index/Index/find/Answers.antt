@@ -2,8 +2,8 @@ use Rattle.std.proofs.Common.{◌≡◌, ◌∙◌, ◌-◌, sym, refl, subst, a
 use Rattle.std.specs.List.{AllByRecursion}
 use Rattle.std.specs.declared.cmp.Ordering.TheVariants.{Greater}
 use Rattle.dnsv_canonical.specs.Index.Grouping.{Numbered, stands}
-use Rattle.dnsv_canonical.proofs.IndexLayout.{length-firsts}
-use Rattle.dnsv_canonical.proofs.IndexSearch.{greater_from, halved, less_up_to, none_behind}
+use Rattle.dnsv_canonical.proofs.IndexLemmas.Layout.{length-firsts}
+use Rattle.dnsv_canonical.proofs.IndexLemmas.Search.{greater_from, halved, less_up_to, none_behind}
 use Rattle.dnsv_canonical.proofs.index.Index.find.Goals as goal
 
 pub loop-low-init : goal.loop-low-init

@@ -1,6 +1,6 @@
 use Rattle.std.proofs.Common.{arith}
-use Rattle.dnsv_canonical.proofs.IndexLayout.{head_read}
-use Rattle.dnsv_canonical.proofs.IndexSearch.{first_is, within_rrsets}
+use Rattle.dnsv_canonical.proofs.IndexLemmas.Layout.{head_read}
+use Rattle.dnsv_canonical.proofs.IndexLemmas.Search.{first_is, within_rrsets}
 use Rattle.dnsv_canonical.proofs.index.Index.first.Goals as goal
 
 pub index-requires-2 : goal.index-requires-2

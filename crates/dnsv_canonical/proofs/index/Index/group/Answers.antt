@@ -1,5 +1,5 @@
 use Rattle.std.proofs.Common.{◌∙◌, ◌+◌, ◌-◌, ap, arith, drop, length, take}
-use Rattle.dnsv_canonical.proofs.IndexLayout.{group_numbers, reach, reach_all}
+use Rattle.dnsv_canonical.proofs.IndexLemmas.Layout.{group_numbers, reach, reach_all}
 use Rattle.dnsv_canonical.proofs.index.Index.group.Goals as goal
 
 pub between-requires-clause-order : goal.between-requires-clause-order

@@ -1,7 +1,7 @@
 use Rattle.std.proofs.Common.{subst, arith, Ok, Err}
 use Rattle.dnsv_canonical.specs.Index.Grouping.{IsFound}
-use Rattle.dnsv_canonical.proofs.IndexLayout.{length-firsts}
-use Rattle.dnsv_canonical.proofs.IndexOrder.{place_at_tie, place_between}
+use Rattle.dnsv_canonical.proofs.IndexLemmas.Layout.{length-firsts}
+use Rattle.dnsv_canonical.proofs.IndexLemmas.InOrder.{place_at_tie, place_between}
 use Rattle.dnsv_canonical.proofs.index.Index.place_behind.Goals as goal
 
 pub returns-in-Ok-clause-parted : goal.returns-in-Ok-clause-parted

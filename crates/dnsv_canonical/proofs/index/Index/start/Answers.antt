@@ -1,5 +1,5 @@
 use Rattle.std.proofs.Common.{arith}
-use Rattle.dnsv_canonical.proofs.IndexLayout.{start_past, start_read}
+use Rattle.dnsv_canonical.proofs.IndexLemmas.Layout.{start_past, start_read}
 use Rattle.dnsv_canonical.proofs.index.Index.start.Goals as goal
 
 pub returns-then-place-len : goal.returns-then-place-len

@@ -7,8 +7,8 @@ use Rattle.std.specs.Ordering.{is_lt}
 use Rattle.std.specs.declared.cmp.Ordering.TheVariants.{Greater}
 use Rattle.dnsv_canonical.specs.Index.Grouping.{AreInOrder, IsPlaceBehind, Key, Numbered, key_of, stands}
 use Rattle.dnsv_canonical.specs.Index.Merging.{IsMerged}
-use Rattle.dnsv_canonical.proofs.IndexGrown.{each_rest, earlier, grown_index, none_taken, one_taken, up_to_here}
-use Rattle.dnsv_canonical.proofs.IndexLayout.{length-firsts}
+use Rattle.dnsv_canonical.proofs.IndexLemmas.Growth.{each_rest, earlier, grown_index, none_taken, one_taken, up_to_here}
+use Rattle.dnsv_canonical.proofs.IndexLemmas.Layout.{length-firsts}
 use Rattle.dnsv_canonical.proofs.index.Index.with.Goals as goal
 
 pub loop-numbered-init : goal.loop-numbered-init

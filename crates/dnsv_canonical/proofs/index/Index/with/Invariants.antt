@@ -1,6 +1,6 @@
 use Rattle.std.specs.List.{enumerate_from}
 use Rattle.dnsv_canonical.specs.Index.Grouping.{IsIndexOf}
-use Rattle.dnsv_canonical.proofs.IndexGrown.{IsTaken}
+use Rattle.dnsv_canonical.proofs.IndexLemmas.Growth.{IsTaken}
 use Rattle.dnsv_canonical.proofs.index.Index.with.Given as goal
 
 -- the RRsets so far are taken

@@ -3,8 +3,8 @@ use Rattle.std.proofs.lemmas.Fn.{always_returns_same}
 use Rattle.std.proofs.lemmas.List.Sorted.{ranks_by}
 use Rattle.std.specs.Ordering.{is_lt}
 use Rattle.dnsv_canonical.specs.Index.Grouping.{AreInOrder, Numbered, key_of, stands}
-use Rattle.dnsv_canonical.proofs.IndexGrown.{in_order_from}
-use Rattle.dnsv_canonical.proofs.IndexOrder.{key_total}
+use Rattle.dnsv_canonical.proofs.IndexLemmas.Growth.{in_order_from}
+use Rattle.dnsv_canonical.proofs.IndexLemmas.InOrder.{key_total}
 use Rattle.dnsv_canonical.proofs.index.numbered.in_order.Goals as goal
 
 pub returns : goal.returns

@@ -1,6 +1,6 @@
 use Rattle.std.proofs.Common.{◌≡◌, ◌∙◌, ◌+◌, ◌++◌, ◌∷◌, [], sym, ap, length, refl}
 use Rattle.std.proofs.lemmas.Option.{slice_get_read}
-use Rattle.dnsv_canonical.proofs.IndexGrown.{numbered_more}
+use Rattle.dnsv_canonical.proofs.IndexLemmas.Growth.{numbered_more}
 use Rattle.dnsv_canonical.proofs.index.numbered.numbered.Goals as goal
 
 pub loop-place-preserved : goal.loop-place-preserved

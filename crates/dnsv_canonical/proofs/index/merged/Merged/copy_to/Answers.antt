@@ -2,8 +2,8 @@ use Rattle.std.proofs.Common.{◌≡◌, ◌∙◌, ◌+◌, ◌-◌, ◌<◌, �
 use Rattle.std.proofs.lemmas.List.Elements.{All-from_recursion}
 use Rattle.std.specs.List.{AllByRecursion, enumerate_from}
 use Rattle.dnsv_canonical.specs.Index.Grouping.{Numbered, group_of, numbers_of, starts_from}
-use Rattle.dnsv_canonical.proofs.IndexLayout.{part_numbers, reach, reach_all, starts_within}
-use Rattle.dnsv_canonical.proofs.IndexMerge.{Built, copied_last, copied_more, part_places}
+use Rattle.dnsv_canonical.proofs.IndexLemmas.Layout.{part_numbers, reach, reach_all, starts_within}
+use Rattle.dnsv_canonical.proofs.IndexLemmas.Merging.{Built, copied_last, copied_more, part_places}
 use Rattle.dnsv_canonical.proofs.index.merged.Merged.copy_to.Goals as goal
 
 pub between-requires-clause-order : goal.between-requires-clause-order

@@ -2,7 +2,7 @@ use Rattle.std.proofs.Common.{◌≡◌, ◌∙◌, sym, ap, subst, IsTrue}
 use Rattle.std.proofs.lemmas.Bool.{eqb-true}
 use Rattle.dnsv_canonical.specs.Index.Grouping.{key_of}
 use Rattle.dnsv_canonical.specs.Index.Merging.{EndsWith}
-use Rattle.dnsv_canonical.proofs.IndexOrder.{same_owner_ends}
+use Rattle.dnsv_canonical.proofs.IndexLemmas.InOrder.{same_owner_ends}
 use Rattle.dnsv_canonical.proofs.index.merged.Merged.ends_with.Goals as goal
 
 pub returns-then-eq : goal.returns-then-eq

@@ -10,8 +10,8 @@ use Rattle.dnsv_names.specs.Name.{Labels}
 use Rattle.dnsv_canonical.specs.Rrsets.{IsNumbered, ReceivedRrset}
 use Rattle.dnsv_canonical.specs.Index.{numbers_at}
 use Rattle.dnsv_canonical.specs.Index.Grouping.{AreLaid, AreRising, AreStarts, IsFirstAt, IsFound, IsIndexOf, Key, Numbered, group_at, group_of, key_cmp, key_of, stands}
-use Rattle.dnsv_canonical.proofs.IndexOrder.{group_at-same, no_group, none_by_place, numbers_at-group, rises_before, rises_behind}
-use Rattle.dnsv_canonical.proofs.IndexLayout.{IsHead, length-firsts}
+use Rattle.dnsv_canonical.proofs.IndexLemmas.InOrder.{group_at-same, no_group, none_by_place, numbers_at-group, rises_before, rises_behind}
+use Rattle.dnsv_canonical.proofs.IndexLemmas.Layout.{IsHead, length-firsts}
 
 pub within_rrsets : (rrsets : List ReceivedRrset) (number : ℕ) (rrset : ReceivedRrset) → IsNumbered rrsets number rrset → number ≤ length rrsets
 within_rrsets rrsets number rrset is = omega (arith, is.0, slice_get_within rrsets (number - 1) rrset is.1)

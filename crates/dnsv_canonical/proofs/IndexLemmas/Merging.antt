@@ -15,8 +15,8 @@ use Rattle.dnsv_canonical.specs.Index.Grouping.{AreFirsts, AreLaid, AreRising, H
 use Rattle.dnsv_canonical.specs.Index.Merging.{EndsWith, IsLast}
 use Rattle.dnsv_canonical.proofs.ListLemmas.{each_front, each_behind}
 use Rattle.dnsv_canonical.proofs.OrderLemmas.{each_kept, take_next}
-use Rattle.dnsv_canonical.proofs.IndexOrder.{each_drop, each_take, greater_not_equal, is_eq_false, key_total, less_equal, less_not_equal, less_or_equal, no_group, turned_back}
-use Rattle.dnsv_canonical.proofs.IndexLayout.{drop_starts, numbers-append, own, part_numbers, reach, starts-append, starts_moved, starts_within, take_starts}
+use Rattle.dnsv_canonical.proofs.IndexLemmas.InOrder.{each_drop, each_take, greater_not_equal, is_eq_false, key_total, less_equal, less_not_equal, less_or_equal, no_group, turned_back}
+use Rattle.dnsv_canonical.proofs.IndexLemmas.Layout.{drop_starts, numbers-append, own, part_numbers, reach, starts-append, starts_moved, starts_within, take_starts}
 
 -- what an index in the making has, and what is left of the other
 pub record Built (held kept all firsts : List Numbered) (copied : ℕ) (numbers starts : List ℕ) : Type 0 where

@@ -18,7 +18,7 @@ use Rattle.dnsv_canonical.specs.Index.Merging.{IsMerged}
 use Rattle.dnsv_canonical.specs.declared.index.merged.Merged.{Merged}
 use Rattle.dnsv_canonical.proofs.ListLemmas.{each_front, each_behind}
 use Rattle.dnsv_canonical.proofs.OrderLemmas.{each_kept, take_next}
-use Rattle.dnsv_canonical.proofs.IndexOrder.{each_drop, each_take, key_total, turned_back}
+use Rattle.dnsv_canonical.proofs.IndexLemmas.InOrder.{each_drop, each_take, key_total, turned_back}
 
 -- ---- numbers
 

@@ -11,7 +11,7 @@ use Rattle.dnsv_canonical.specs.Rrsets.{IsNumbered, ReceivedRrset}
 use Rattle.dnsv_canonical.specs.Index.Grouping.{AreFirsts, AreLaid, IsIndexOf, Numbered, group_of, key_of, numbers_of, stands, starts_from}
 use Rattle.dnsv_canonical.proofs.ListLemmas.{each_chosen}
 use Rattle.dnsv_canonical.proofs.OrderLemmas.{each_kept}
-use Rattle.dnsv_canonical.proofs.IndexOrder.{each_get, there_is}
+use Rattle.dnsv_canonical.proofs.IndexLemmas.InOrder.{each_get, there_is}
 
 abbrev number : Numbered → ℕ
 number x = x.0
