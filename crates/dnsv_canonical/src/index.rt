@@ -6,7 +6,7 @@ mod numbered;
 ghost use Rattle.std.specs.Prelude.{◌≡◌, ◌++◌, ◌<◌, ◌≤◌, ◌^◌, ◌-◌, [], ℕ, IfOk, drop, length, List, map, slice_get, Some, take};
 ghost use Rattle.dnsv_canonical.specs.Rrsets.{IsNumbered};
 ghost use Rattle.dnsv_canonical.specs.Index.{CountsDigits, numbers_at};
-ghost use Rattle.dnsv_canonical.specs.Index.Grouping.{AreLaid, AreStarts, IsFirstAt, IsFound, IsIndexOf, IsPlaceBehind, Numbered, numbers_of};
+ghost use Rattle.dnsv_canonical.specs.Index.Grouping.{AreLaid, AreStarts, IsFirstAt, IsFound, IsIndexOf, IsPlaceBehind, IsPlaceFrom, Numbered, key_of, numbers_of};
 
 use crate::index::merged::Merged;
 use crate::index::numbered::{compared, in_order};
@@ -48,8 +48,7 @@ impl Index {
         let added = in_order(alloc, held.len(), more)?;
         let mut merged = Merged::with_room(alloc, held.len() + more.len())?;
         for numbered in added.as_slice() {
-            let rrset = numbered.rrset;
-            let place = self.place_behind(held, rrset.owner(), rrset.rtype());
+            let place = self.place_from(held, merged.copied, numbered.rrset);
             merged.copy_to(self, held, place)?;
             merged.add(numbered)?;
         }
@@ -75,6 +74,24 @@ impl Index {
             Ok(place) => self.group(place),
             Err(_) => &[],
         }
+    }
+
+    /// How many groups don't stand behind the RRset, where those before the place are known not to.
+    fn place_from(&self, rrsets: &[Rrset], from: usize, rrset: &Rrset) -> usize
+        requires { IsIndexOf rrsets.now self.now.numbers.items self.now.starts.items }
+        ensures parted { (index : IsIndexOf rrsets.now self.now.numbers.items self.now.starts.items)
+            → IsPlaceFrom index.firsts (key_of rrset.now) from result }
+        ensures within { result ≤ length self.now.starts.items }
+    {
+        let groups = self.starts.len();
+        if from >= groups {
+            return groups;
+        }
+        // What comes in order mostly belongs right there.
+        if compared(self.first(rrsets, from), rrset.owner(), rrset.rtype()).is_gt() {
+            return from;
+        }
+        self.place_behind(rrsets, rrset.owner(), rrset.rtype())
     }
 
     /// How many groups don't stand behind the name and type.

@@ -13,7 +13,7 @@ use Rattle.std.specs.declared.cmp.Ordering.{Ordering}
 use Rattle.std.specs.declared.cmp.Ordering.TheVariants.{Less, Equal, Greater}
 use Rattle.dnsv_names.specs.PartLaws.{recursion-append}
 use Rattle.dnsv_canonical.specs.Rrsets.{ReceivedRrset}
-use Rattle.dnsv_canonical.specs.Index.Grouping.{AreFirsts, AreInOrder, AreLaid, HasTie, IsIndexOf, IsPlaceBehind, Key, Numbered, group_of, key_cmp, key_of, stands}
+use Rattle.dnsv_canonical.specs.Index.Grouping.{AreFirsts, AreInOrder, AreLaid, HasTie, IsIndexOf, IsPlaceBehind, IsPlaceFrom, Key, Numbered, group_of, key_cmp, key_of, stands}
 use Rattle.dnsv_canonical.specs.Index.Merging.{IsMerged}
 use Rattle.dnsv_canonical.specs.declared.index.merged.Merged.{Merged}
 use Rattle.dnsv_canonical.proofs.ListLemmas.{each_front, each_behind}
@@ -87,6 +87,27 @@ each_part P (suc c) zero xs each = let none : 0 ≡ 0 - suc c = omega arith in s
 each_part P (suc c) (suc p) [] each = each_take P (suc p - suc c) [] tt
 each_part P (suc c) (suc p) (x ∷ xs) each = let same : p - c ≡ suc p - suc c = omega arith in subst (λ n. AllByRecursion P (take n (drop c xs))) same (each_part P c p xs each.1)
 
+-- a place among all groups is one among those from another place on
+pub place_from_all : (kept : List Numbered) (key : Key) (c p : ℕ) → IsPlaceBehind kept key p → IsPlaceFrom kept key c p
+place_from_all kept key c p place = (each_part (λ (f : Numbered). stands f key ≢ Greater) c p kept place.0, place.1)
+
+-- behind all groups
+pub place_past : (kept : List Numbered) (key : Key) (c p : ℕ) → length kept ≤ c → length kept ≤ p → IsPlaceFrom kept key c p
+place_past kept key c p copied past = (
+  each_take (λ (f : Numbered). stands f key ≢ Greater) (p - c) (drop c kept) (subst (AllByRecursion (λ (f : Numbered). stands f key ≢ Greater)) (sym (drop_all c kept copied)) tt),
+  subst (AllByRecursion (λ (f : Numbered). stands f key ≡ Greater)) (sym (drop_all p kept past)) tt,
+)
+
+-- right behind those that are copied
+pub place_here : (kept : List Numbered) (key : Key) (c : ℕ) → AllByRecursion (λ f. stands f key ≡ Greater) (drop c kept) → IsPlaceFrom kept key c c
+place_here kept key c greater =
+    let none : 0 ≡ c - c = omega arith in (subst (λ n. AllByRecursion (λ (f : Numbered). stands f key ≢ Greater) (take n (drop c kept))) none tt, greater)
+
+pub is_greater : (r : Ordering) → is_gt r ≡ true → r ≡ Greater
+is_greater Less gt = let turn : false ≡ true = gt in cc
+is_greater Equal gt = let turn : false ≡ true = gt in cc
+is_greater Greater gt = refl
+
 pub each_rest : {X : Type 0} (P : X → Type 0) (p n : ℕ) (xs : List X) → p ≤ n → AllByRecursion P (drop p xs) → AllByRecursion P (drop n xs)
 each_rest P p n xs above each =
     let sum : p + (n - p) ≡ n = omega (arith, above) in
@@ -97,10 +118,10 @@ abbrev pub AreUpTo : List Numbered → List Numbered → Type 0
 AreUpTo items firsts =
     (y : Numbered) → AllByRecursion (λ x. stands x (key_of y.1) ≢ Greater) items → AllByRecursion (λ f. stands f (key_of y.1) ≢ Greater) firsts
 
-pub up_to_here : (items firsts kept : List Numbered) (c p : ℕ) (x : Numbered) → AreUpTo items firsts → AllByRecursion (λ y. stands y (key_of x.1) ≢ Greater) items → IsPlaceBehind kept (key_of x.1) p
+pub up_to_here : (items firsts kept : List Numbered) (c p : ℕ) (x : Numbered) → AreUpTo items firsts → AllByRecursion (λ y. stands y (key_of x.1) ≢ Greater) items → IsPlaceFrom kept (key_of x.1) c p
     → AllByRecursion (λ f. stands f (key_of x.1) ≢ Greater) (firsts ++ take (p - c) (drop c kept))
 up_to_here items firsts kept c p x up_to before place =
-    recursion-append (λ (f : Numbered). stands f (key_of x.1) ≢ Greater) firsts (take (p - c) (drop c kept)) (up_to x before) (each_part (λ (f : Numbered). stands f (key_of x.1) ≢ Greater) c p kept place.0)
+    recursion-append (λ (f : Numbered). stands f (key_of x.1) ≢ Greater) firsts (take (p - c) (drop c kept)) (up_to x before) place.0
 
 pub up_to_next : (items firsts : List Numbered) (x : Numbered) → AllByRecursion (λ f. stands f (key_of x.1) ≢ Greater) firsts → AreUpTo (items ++ x ∷ []) firsts
 up_to_next items firsts x here = λ y all.

@@ -1,5 +1,5 @@
 -- RRsets in groups of one owner and type, and how an index keeps them. No public clause cites this module.
-use Rattle.std.specs.Prelude.{◌≡◌, ◌≢◌, ◌⊎◌, ℕ, ◌+◌, ◌≤◌, ⊤, List, [], ◌∷◌, length, take, drop, map, filter, flat_map, Result, Ok, Err, Some, slice_get}
+use Rattle.std.specs.Prelude.{◌≡◌, ◌≢◌, ◌⊎◌, ℕ, ◌+◌, ◌-◌, ◌≤◌, ⊤, List, [], ◌∷◌, length, take, drop, map, filter, flat_map, Result, Ok, Err, Some, slice_get}
 use Rattle.std.specs.List.{AllByRecursion, enumerate_from}
 use Rattle.std.specs.List.Sorted.{IsPermutation, IsSortedBy}
 use Rattle.std.specs.Ordering.{is_eq, is_lt, nat_cmp, ordering_then}
@@ -98,4 +98,10 @@ AreStarts numbers starts = (groups : List (List Numbered)) × AreLaid groups num
 abbrev pub IsPlaceBehind : List Numbered → Key → ℕ → Type 0
 IsPlaceBehind firsts key place =
     AllByRecursion (λ first. stands first key ≢ Greater) (take place firsts)
+    × AllByRecursion (λ first. stands first key ≡ Greater) (drop place firsts)
+
+-- behind the groups before `from` so many more don't come behind the owner and type, up to the place
+abbrev pub IsPlaceFrom : List Numbered → Key → ℕ → ℕ → Type 0
+IsPlaceFrom firsts key from place =
+    AllByRecursion (λ first. stands first key ≢ Greater) (take (place - from) (drop from firsts))
     × AllByRecursion (λ first. stands first key ≡ Greater) (drop place firsts)

@@ -15,7 +15,7 @@ use std::alloc::{AllocError, Global};
 pub struct Merged<'a> {
     pub index: Index,
     /// So many groups of the index that it is made from stand in it.
-    copied: usize,
+    pub copied: usize,
     /// The first RRset of its last group.
     last: Option<&'a Rrset>,
 }

@@ -5,7 +5,7 @@ use Rattle.std.specs.List.{enumerate_from}
 use Rattle.std.specs.List.Sorted.{IsSortedBy}
 use Rattle.std.specs.Ordering.{is_lt}
 use Rattle.std.specs.declared.cmp.Ordering.TheVariants.{Greater}
-use Rattle.dnsv_canonical.specs.Index.Grouping.{AreInOrder, IsPlaceBehind, Key, Numbered, key_of, stands}
+use Rattle.dnsv_canonical.specs.Index.Grouping.{AreInOrder, IsPlaceFrom, Key, Numbered, key_of, stands}
 use Rattle.dnsv_canonical.specs.Index.Merging.{IsMerged}
 use Rattle.dnsv_canonical.proofs.IndexLemmas.Growth.{each_rest, earlier, grown_index, none_taken, one_taken, up_to_here}
 use Rattle.dnsv_canonical.proofs.IndexLemmas.Layout.{length-firsts}
@@ -25,15 +25,15 @@ loop-numbered-preserved c = λ of.
     let rising = subst (IsSortedBy (λ (a b : Numbered). is_lt (stands a (key_of b.1)))) (sym c.as_slice-numbered-items.ensures.value) c.in_ok-added.ensures.rising in
     let before = earlier items i x rising c.loop-numbered-test.true c.numbered-item.is in
     let same : key_of c.numbered.inside.rrset.now ≡ key_of c.numbered-item.result.1 = ap (λ (n : Numbered). key_of n.1) c.numbered.view_is in
-    let key : (c.owner.result.now, c.rtype.result.0) ≡ key_of c.numbered-item.result.1 = (λ j. (c.owner.ensures j, c.rtype.ensures j)) ∙ same in
-    let place : IsPlaceBehind of.firsts (key_of c.numbered-item.result.1) c.place_behind-place.result = subst (λ (k : Key). IsPlaceBehind of.firsts k c.place_behind-place.result) key (c.place_behind-place.ensures.parted of) in
-    let here = up_to_here (take i items) taken.firsts of.firsts c.loop-numbered.merged.copied c.place_behind-place.result x taken.up_to before place in
+    let place : IsPlaceFrom of.firsts (key_of c.numbered-item.result.1) c.loop-numbered.merged.copied c.place_from-place.result =
+    subst (λ (k : Key). IsPlaceFrom of.firsts k c.loop-numbered.merged.copied c.place_from-place.result) same (c.place_from-place.ensures.parted of) in
+    let here = up_to_here (take i items) taken.firsts of.firsts c.loop-numbered.merged.copied c.place_from-place.result x taken.up_to before place in
     let made = c.in_ok-copy_to.ensures.merged of (held ++ take i items) taken.firsts taken.made in
-    let above : c.place_behind-place.result ≤ c.copy_to.new.self.copied = omega (arith, c.in_ok-copy_to.ensures.copied) in
-    let greater = each_rest (λ (f : Numbered). stands f (key_of x.1) ≡ Greater) c.place_behind-place.result c.copy_to.new.self.copied of.firsts above place.1 in
-    one_taken held of.firsts items (taken.firsts ++ take (c.place_behind-place.result - c.loop-numbered.merged.copied) (drop c.loop-numbered.merged.copied of.firsts)) i x c.add.new.self
+    let above : c.place_from-place.result ≤ c.copy_to.new.self.copied = omega (arith, c.in_ok-copy_to.ensures.copied) in
+    let greater = each_rest (λ (f : Numbered). stands f (key_of x.1) ≡ Greater) c.place_from-place.result c.copy_to.new.self.copied of.firsts above place.1 in
+    one_taken held of.firsts items (taken.firsts ++ take (c.place_from-place.result - c.loop-numbered.merged.copied) (drop c.loop-numbered.merged.copied of.firsts)) i x c.add.new.self
     (slice_get_read items (length items) i x refl c.loop-numbered-test.true c.numbered-item.is) here
-    (c.in_ok-add.ensures.merged held of.firsts (held ++ take i items) (taken.firsts ++ take (c.place_behind-place.result - c.loop-numbered.merged.copied) (drop c.loop-numbered.merged.copied of.firsts)) made here greater)
+    (c.in_ok-add.ensures.merged held of.firsts (held ++ take i items) (taken.firsts ++ take (c.place_from-place.result - c.loop-numbered.merged.copied) (drop c.loop-numbered.merged.copied of.firsts)) made here greater)
 
 pub returns : goal.returns
 returns c =
