@@ -53,20 +53,20 @@ impl Denial {
         match self {
             Denial::NoName => no_name(apex, name, records),
             Denial::NoData(rtype) => no_data(apex, name, rtype, records),
-            Denial::NoCloser(labels) => closer_form(apex, name, labels, records),
+            Denial::NoCloser(labels) => closer_form(records, labels, apex, name),
             Denial::Delegation(labels) => delegation_at(apex, name, labels, records),
             Denial::OptOut(labels) => opt_out_at(apex, name, labels, records),
-            Denial::OptOutCloser(labels) => opt_out_closer(apex, name, labels, records),
+            Denial::OptOutCloser(labels) => opt_out_closer(labels, apex, name, records),
         }
     }
 }
 
 /// The form that leaves no closer name than the wildcard below the name's so many labels, or `None` where no record does.
 fn closer_form(
+    records: &ChainRecords<'_>,
+    labels: usize,
     apex: &Name,
     name: &Name,
-    labels: usize,
-    records: &ChainRecords<'_>,
 ) -> Option<ProofForm<usize>>
     requires { HasHashes name.now records.now }
     ensures { MatchOption result

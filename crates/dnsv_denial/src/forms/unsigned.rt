@@ -91,9 +91,9 @@ pub fn opt_out_at(
 /// The first record with the Opt-Out flag that covers the next closer name to the name's so many labels (RFC 5155 8.8),
 /// or `None` where none does or these labels are no proper ancestor of the name within the zone.
 pub fn opt_out_closer(
+    labels: usize,
     apex: &Name,
     name: &Name,
-    labels: usize,
     records: &ChainRecords<'_>,
 ) -> Option<ProofForm<usize>>
     requires { HasHashes name.now records.now }

@@ -77,11 +77,11 @@ pub fn shown_cut<'a>(
 /// How the zone shows that Opt-Out may leave out a delegation at the next closer name to the name's so many labels,
 /// against an answer from the wildcard (RFC 5155 8.8); `None` where it doesn't.
 pub fn shown_loose_closer(
+    zones: &[ZoneRecords<'_>],
+    sets: &[NameHashes<'_>],
     name: &Name,
     zone: &Name,
     labels: usize,
-    zones: &[ZoneRecords<'_>],
-    sets: &[NameHashes<'_>],
 ) -> Option<ShownDenial>
     requires hashed { AllByRecursion (IsSetOf name.now) sets.now }
     requires zones { length zones.now ≡ length name.now + 1 }

@@ -1,14 +1,8 @@
 //! How the evidence shows what a view says of its question.
 ghost use Rattle.std.specs.Prelude.{IfSome, MatchOption};
 ghost use Rattle.dnsv_chain.specs.Trust.{SecuredIn};
-ghost use Rattle.dnsv_denial.specs.proving.FirstProof.{
-  CanProveNoCloser,
-  CanProveNoData,
-  CanProveNoName,
-  IsFirstNoCloser,
-  IsFirstNoData,
-  IsFirstNoName,
-};
+ghost use Rattle.dnsv_denial.specs.proving.FirstProof.{CanProveNoCloser, CanProveNoData, CanProveNoName};
+ghost use Rattle.dnsv_denial.specs.proving.FirstProof.{IsFirstNoCloser, IsFirstNoData, IsFirstNoName};
 ghost use Rattle.dnsv_denial.specs.proving.ShownDenials.{IsShownNoCloser, IsShownNoData, IsShownNoName};
 ghost use Rattle.dnsv_denial.specs.unsigned_cuts.Cuts.{HasOptedOutNextCloser, HasUnsignedCut, IsUnsignedCut};
 ghost use Rattle.dnsv_denial.specs.unsigned_cuts.ShownCut.{IsShownCut, IsShownOptOutCloser, cut_name};
@@ -92,6 +86,6 @@ impl View<'_, '_> {
         if is_not_opted_out(&self.answers, &self.name, zone, labels) {
             return None;
         }
-        shown_loose_closer(&self.name, zone, labels, &self.zones, &self.sets)
+        shown_loose_closer(&self.zones, &self.sets, &self.name, zone, labels)
     }
 }
