@@ -6,6 +6,7 @@ mod FollowingLemmas
 mod HoldingLemmas
 mod MomentLemmas
 mod NumberedLemmas
+mod PartLemmas
 mod PlaceLemmas
 mod ShownLemmas
 mod SignerLemmas
