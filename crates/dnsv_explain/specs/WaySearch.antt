@@ -87,10 +87,10 @@ abbrev pub IsVoucherOf : ℕ → Anchor → Voucher → Type 0
 IsVoucherOf number (anchor.Ds owner ds) told = told ≡ voucher.DsAnchor number ds.digest_type
 IsVoucherOf number (anchor.Key owner rdata) told = told ≡ voucher.KeyAnchor number
 
--- the RRset, which has the number, is a DS RRset at the owner of the DNSKEY RRset, and has a secured signature
-pub record MayDelegate (basis : Basis) (number : ℕ) (ds set : ReceivedRrset) : Type 0 where
+-- the RRset, which has the number, is a DS RRset of the name, and has a secured signature
+pub record MayDelegate (basis : Basis) (number : ℕ) (ds : ReceivedRrset) (name : Labels) : Type 0 where
   pub rtype : ds.rtype ≡ 43
-  pub owner : SameName ds.owner set.owner
+  pub owner : SameName ds.owner name
   pub secured : HasSecured basis number
 
 -- ---- ways

@@ -19,7 +19,8 @@ use Rattle.dnsv_explain.proofs.WayLemmas.RankLemmas.{RecordAt, ds_read, places_e
 
 module _ {X : Type 0} (rdata : X → List ℕ) (record_of : X → Ds)
     (basis : Basis) (k : ℕ) (set : ReceivedRrset) (is_set : IsNumbered basis.rrsets k set)
-    (from : ℕ) (ds : ReceivedRrset) (is_ds : IsNumbered basis.rrsets from ds) (may : MayDelegate basis from ds set)
+    (from : ℕ) (ds : ReceivedRrset) (is_ds : IsNumbered basis.rrsets from ds)
+    {at : Labels} (may : MayDelegate basis from ds at)
     (values : List Ds) (read : AllZip IsDs (rdata_of_type 43 ds) values)
     (records items : List X) (same : items ≡ records) (canonical : IsCanonical ds.rdata (map rdata records))
     (are_read : AllByRecursion (λ x. IsDs (rdata x) (record_of x)) records) where

@@ -13,7 +13,7 @@ use crate::ways::matcher::{Matcher, way_with};
 use dnsv_canonical::{Rrset, in_canonical_order};
 use dnsv_chain::is_usable;
 use dnsv_denial::RecordNumber;
-use dnsv_names::RecordType;
+use dnsv_names::{Name, RecordType};
 use std::alloc::{AllocError, Global};
 
 /// The first way into the DNSKEY RRset by a DS record: by the DS RRset of lowest number that has a signature which is
@@ -51,7 +51,7 @@ fn way_in(
     ensures { IfOk result (λ way. MatchOption way (IsNoWayBefore (basis_in evidence.now) set.now.number (1, from + 1, 0))
         (IsFoundWay (basis_in evidence.now) set.now.number)) }
 {
-    if !may_delegate(evidence, from, ds, set.rrset) {
+    if !may_delegate(evidence, from, ds, set.rrset.owner()) {
         return Ok(None);
     }
     let values = ds.ds_records();
@@ -74,12 +74,12 @@ fn way_in(
     Ok(None)
 }
 
-/// Whether the RRset, which has the number, is a DS RRset at the owner of the DNSKEY RRset, and has a signature which is
-/// good under a trusted key.
-fn may_delegate(evidence: &Evidence<'_>, number: usize, ds: &Rrset, set: &Rrset) -> bool
-    ensures { IsTrue result ↔ MayDelegate (basis_in evidence.now) number ds.now set.now }
+/// Whether the RRset, which has the number, is a DS RRset of the name, and has a signature which is good under a trusted
+/// key.
+pub fn may_delegate(evidence: &Evidence<'_>, number: usize, ds: &Rrset, name: &Name) -> bool
+    ensures { IsTrue result ↔ MayDelegate (basis_in evidence.now) number ds.now name.now }
 {
-    ds.rtype() == RecordType::DS && *ds.owner() == *set.owner() && has_secured(evidence, number)
+    ds.rtype() == RecordType::DS && *ds.owner() == *name && has_secured(evidence, number)
 }
 
 /// Whether a signature of the RRset with the number is good under a trusted key.
