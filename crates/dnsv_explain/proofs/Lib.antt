@@ -6,7 +6,11 @@ mod FollowingLemmas
 mod HoldingLemmas
 mod MomentLemmas
 mod NumberedLemmas
+mod OwnLemmas
+mod PartLemmas
 mod PlaceLemmas
+mod SayingLemmas
 mod ShownLemmas
 mod SignerLemmas
+mod UnusableLemmas
 mod WayLemmas

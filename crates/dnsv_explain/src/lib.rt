@@ -18,6 +18,7 @@ pub use line::{Kind, Line};
 pub use places::places_named;
 pub use shown::holding_of;
 pub use signers::signed_line;
+pub use unsigned_cuts::add_unusable;
 pub use ways::trusted_line;
 
 mod derivations;
@@ -26,7 +27,9 @@ mod interval;
 mod laws;
 mod line;
 mod numbered;
+mod own_derivations;
 mod places;
 mod shown;
 mod signers;
+mod unsigned_cuts;
 mod ways;
