@@ -47,10 +47,10 @@ pub struct Hope<'a> {
 pub fn verdict_at<'a>(
     alloc: Global,
     grounds: &Grounds<'a>,
+    trail: &mut Trail<'a>,
     name: &Name,
     rtype: RecordType,
     hashed: &mut Count,
-    trail: &mut Trail<'a>,
 ) -> Result<Verdict, AllocError>
     requires { HasTrust grounds.now }
     ensures value { (meaning : Entry → Answer) (moment : ℕ)

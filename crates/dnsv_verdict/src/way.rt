@@ -85,7 +85,7 @@ pub fn follow<'a>(
         last: name.clone()?,
     };
     'links: loop {
-        let verdict = verdict_at(alloc, grounds, &way.last, rtype, hashed, trail)?;
+        let verdict = verdict_at(alloc, grounds, trail, &way.last, rtype, hashed)?;
         let Some((rrset, signature)) = alias_of(&verdict) else {
             return Ok(Followed { way, verdict });
         };
