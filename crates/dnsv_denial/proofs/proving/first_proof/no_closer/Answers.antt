@@ -3,9 +3,10 @@ use Rattle.dnsv_names.specs.Tree.AncestorLaws.{rightmost_above, rightmost_same}
 use Rattle.dnsv_names.specs.Name.{SameName, rightmost}
 use Rattle.dnsv_names.specs.Tree.TreeLaws.{at_or_below_length, at_or_below_trans}
 use Rattle.dnsv_chain.specs.Trust.{SecuredIn}
-use Rattle.dnsv_denial.specs.forms.Denials.{DenialForm}
 use Rattle.dnsv_denial.specs.gathering.Kept.{IsZoneProof}
-use Rattle.dnsv_denial.specs.proving.FirstProof.{CanProveNoCloser, IsFirstNoCloser, StandsBy}
+use Rattle.dnsv_denial.specs.proving.ChainOf.{StandsAs}
+use Rattle.dnsv_denial.specs.proving.FirstProof.{CanProveNoCloser}
+use Rattle.dnsv_denial.specs.proving.ShownDenials.{IsShownNoCloser}
 use Rattle.dnsv_denial.specs.words.EvidenceWords.{Chain}
 use Rattle.dnsv_denial.specs.declared.forms.denial.Denial.TheVariants.{NoCloser}
 use Rattle.dnsv_denial.proofs.lemmas.proving.RespelledZoneLemmas.{closer_as, first_closer}
@@ -29,10 +30,10 @@ returns c = λ trust rrsets sets zones.
     let same : SameName c.index-zones-labels.result.zone c.args.zone.now =
     subst (λ z. SameName z c.args.zone.now) (sym is) (rightmost_same c.args.name.now c.args.zone.now under) in
     option_leads c.zone_proof.result
-    ((chain : Chain) → ¬ StandsBy (SecuredIn trust) rrsets (DenialForm (NoCloser c.args.labels) c.args.name.now) c.index-zones-labels.result.zone chain)
+    ((chain : Chain) → ¬ StandsAs (SecuredIn trust) rrsets (NoCloser c.args.labels) c.args.name.now c.index-zones-labels.result.zone chain)
     (¬ CanProveNoCloser (SecuredIn trust) rrsets c.args.name.now c.args.labels c.args.zone.now)
     (IsZoneProof (SecuredIn trust) rrsets (NoCloser c.args.labels) c.args.name.now c.index-zones-labels.result.zone)
-    (IsFirstNoCloser (SecuredIn trust) rrsets c.args.name.now c.args.labels c.args.zone.now)
+    (IsShownNoCloser (SecuredIn trust) rrsets c.args.name.now c.args.labels c.args.zone.now)
     (λ none proved. none proved.0 (closer_as (SecuredIn trust) rrsets c.args.name.now c.args.labels c.args.zone.now c.index-zones-labels.result.zone (sym same) proved.0 proved.1))
-    (λ proof found. first_closer (SecuredIn trust) rrsets c.args.name.now c.args.labels c.index-zones-labels.result.zone c.args.zone.now proof same is found)
+    (λ shown found. first_closer (SecuredIn trust) rrsets c.args.name.now c.args.labels c.index-zones-labels.result.zone c.args.zone.now shown same is found)
     (c.zone_proof.ensures trust rrsets kept.1 sets)
