@@ -1,6 +1,7 @@
 mod AnswerLemmas
 mod CircleLemmas
 mod ClimbLemmas
+mod DenialLemmas
 mod DerivationLemmas
 mod FollowingLemmas
 mod HoldingLemmas

@@ -1,4 +1,5 @@
 pub mod Climb
+pub mod Denials
 pub mod Derivations
 pub mod Explained
 pub mod Following

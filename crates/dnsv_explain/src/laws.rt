@@ -7,6 +7,8 @@ ghost use Rattle.dnsv_canonical.specs.Rrsets.{IsNumbered, ReceivedRrset};
 ghost use Rattle.dnsv_chain.specs.Trusted.{IsSecured, IsTrusted};
 ghost use Rattle.dnsv_denial.specs.words.EvidenceWords.{Chain};
 ghost use Rattle.dnsv_verdict.specs.Verdict.{Basis};
+ghost use Rattle.dnsv_denial.specs.declared.proving.shown_denial.ShownDenial.{ShownDenial};
+ghost use Rattle.dnsv_explain.specs.Denials.{IsDenialTold, IsExpandedTold, IsShownDenial};
 ghost use Rattle.dnsv_explain.specs.Derivations.{IsDerivation, Subject};
 ghost use Rattle.dnsv_explain.specs.Following.{EachFollows, at_moment};
 ghost use Rattle.dnsv_explain.specs.Following.Parts.{IsPartOf, IsUnusableRecord};
@@ -17,7 +19,7 @@ use crate::interval::{Interval, Times};
 use crate::line::Line;
 use crate::line::cut::UnusableDs;
 use crate::line::denial::Part;
-use crate::line::derivation::{SignedRrset, TrustedKeys};
+use crate::line::derivation::{SignatureNumber, SignedRrset, TrustedKeys};
 
 /// Lines of which each follows from those before it are true: what they call trusted is trusted, and what they call
 /// signed is good under a trusted key of its signer, and valid at the moment; a part of a proof is what a record of the
@@ -61,5 +63,18 @@ pub fn signatures_hold_in_one_interval()
 /// of it that come first. So what a derivation says is true.
 pub fn derivations_follow()
     ensures { (basis : Basis) (before lines : List Line) (subject : Subject) → IsDerivation basis before subject lines
+        → EachFollows basis before lines }
+{}
+
+/// So does each line of a denial that the evidence shows.
+pub fn denials_follow()
+    ensures { (basis : Basis) (name : Labels) (shown : ShownDenial) (before lines : List Line)
+        → IsShownDenial basis name shown → IsDenialTold basis name shown before lines → EachFollows basis before lines }
+{}
+
+/// And so does each line of a signature behind which a wildcard is.
+pub fn expanded_signatures_follow()
+    ensures { (basis : Basis) (name : Labels) (number : SignatureNumber) (shown : ShownDenial) (before lines : List Line)
+        → IsShownDenial basis name shown → IsExpandedTold basis name number shown before lines
         → EachFollows basis before lines }
 {}
