@@ -100,7 +100,7 @@ module _ (Secured : ℕ → ℕ → Type 0) (rrsets : List ReceivedRrset) (name 
       (λ said zone. no_data_parts number_cmp said zone name rtype.0 shown.form) first
 
 -- the zone at the place
-zone_at : (Secured : ℕ → ℕ → Type 0) (rrsets : List ReceivedRrset) (name : Labels) (zones : List ZoneRecords) (n : ℕ) (kept : ZoneRecords)
+pub zone_at : (Secured : ℕ → ℕ → Type 0) (rrsets : List ReceivedRrset) (name : Labels) (zones : List ZoneRecords) (n : ℕ) (kept : ZoneRecords)
     → AreZones Secured rrsets name zones → n < length zones → kept ≡ slice_index_or zones n kept
     → (kept.zone ≡ rightmost name n) × IsZoneOf Secured rrsets kept
 zone_at Secured rrsets name zones n kept are within is = are.each n kept (slice_get_read zones (length zones) n kept refl within is)
