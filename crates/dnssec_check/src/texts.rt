@@ -4,5 +4,6 @@ pub mod checking;
 pub mod hex_text;
 pub mod json;
 pub mod listing;
+pub mod reason;
 pub mod showing;
 pub mod todo;
