@@ -15,6 +15,7 @@ ABOVE = pointer(HEADER_SIZE + 2 * (MOST_LABELS - SHARED))
 NSEC_COUNT, NSEC3_COUNT = 112, 120  # in a message
 A_RRSIG_NSEC = bytes([0, 6, 0x40, 0, 0, 0, 0, 3])
 SALTS = 8  # the most that the evidence may have
+LINKS = 8  # the most aliases that are followed
 LAST_HASH = 2**160 - 1
 
 
@@ -74,3 +75,27 @@ def hashes(labels):
     salts = [bytes([number]) * 255 for number in range(SALTS)]
     records = [record(hash_label(LAST_HASH) + ROOT, NSEC3, nsec3_rdata(500, salt, 0)) for salt in salts]
     return Shape({"capture": [response(0, ROOT, records)], "anchors": ANCHORS}, check("a." * labels))
+
+
+def aliases_of(draw, labels, rest, pairs):
+    """The root's key and eight aliases, each of the next of nine names of so many labels that differ in the leftmost, all
+    with a good signature; and the rest."""
+    names = [label(b"%d" % number) + label(b"a") * (labels - 1) + ROOT for number in range(LINKS + 1)]
+    records = [record(ROOT, DNSKEY, KEY), signature(draw, ROOT, DNSKEY, 0)]
+    for owner, target in zip(names, names[1:]):
+        records += [record(owner, CNAME, target), signature(draw, owner, CNAME, labels)]
+    capture = [response(0, ROOT, records), *rest]
+    files = {"capture": capture, "anchors": ANCHORS}
+    return Shape(files, check("0." + "a." * (labels - 1)), pairs=pairs, answered_from=0)
+
+
+def aliases(messages):
+    """Eight aliases of names of 127 labels, and so many messages of 112 NSEC records that say nothing of any of them."""
+    draw = random.Random(20261126)
+    rest = [response(number, DEEP, nsec_records(draw, number)) for number in range(1, messages)]
+    return aliases_of(draw, MOST_LABELS, rest, LINKS + messages)
+
+
+def alias_hashes(labels):
+    """Eight aliases of names of so many labels, and the records of `hashes`, so that nine names are hashed."""
+    return aliases_of(random.Random(20261126), labels, hashes(labels).files["capture"], LINKS + 1)

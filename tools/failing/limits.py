@@ -4,11 +4,13 @@ from .refusals import OUT_OF_MEMORY, RIGHT
 from .tally import Tally
 
 # In kilobytes: the first limit, the step, and how far beyond the first right answer it goes.
-LEAST, STEP, BEYOND = 1024, 16, 256
+LEAST, STEP, BEYOND = 2048, 8, 256
 MOST = 1 << 20
 SPAN = 64
-# What the loader says where a library of the program finds no room; the shell's status where the program isn't begun.
-LOADER, NOT_BEGUN = b"error while loading shared libraries", (126, 127)
+# What the loader says where a library of the program, or what belongs to its one thread, finds no room; the shell's status
+# where the program isn't begun.
+LOADER = b"error while loading shared libraries", b"cannot allocate TLS data structures"
+NOT_BEGUN = (126, 127)
 
 
 def under(bench, case, kilobytes):
@@ -58,4 +60,8 @@ def end_of(case, answer):
 
 def is_of_loader(answer):
     """Whether the program wasn't begun: the kernel killed it as it laid it out, or the loader or the shell says so."""
-    return not answer.output and (answer.status < 0 or (answer.status in NOT_BEGUN and LOADER in answer.errors))
+    return not answer.output and (answer.status < 0 or is_told_by_loader(answer))
+
+
+def is_told_by_loader(answer):
+    return answer.status in NOT_BEGUN and any(text in answer.errors for text in LOADER)

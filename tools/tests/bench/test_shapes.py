@@ -10,7 +10,8 @@ from shapes import SHAPES, denials, files, keys, signatures
 from wire import key_tag
 
 A, CNAME, TXT, NSEC, NSEC3 = 1, 5, 16, 47, 50
-OF_MESSAGES = ("long-data", "pairs", "digests", "alike", "expanded-nsec", "expanded-nsec3", "hashes")
+OF_MESSAGES = ("long-data", "pairs", "digests", "alike", "expanded-nsec", "expanded-nsec3", "hashes", "aliases",
+               "alias-hashes")
 
 Record = namedtuple("Record", "owner rtype rdata")
 
@@ -136,6 +137,24 @@ class Denials(unittest.TestCase):
         self.assertEqual(len({each.rdata for each in of_type(messages, NSEC3)}), 8)
         self.assertIn("a.a.a.", shape.words)
         self.assertEqual(name_text(name_at(denials.DEEP, 0)), "a." * 127)
+
+
+class Aliases(unittest.TestCase):
+    def assert_a_way_of_nine_names(self, messages, labels):
+        links = of_type(messages, CNAME)
+        names = [each.owner for each in links] + [lower(name_at(links[-1].rdata, 0))]
+        self.assertEqual((len(set(names)), {len(name) for name in names}), (9, {labels}))
+        self.assertEqual([lower(name_at(each.rdata, 0)) for each in links], names[1:])
+
+    def test_aliases_lead_over_eight_names_beside_records_that_say_nothing_of_them(self):
+        messages = messages_of(denials.aliases(4))
+        self.assert_a_way_of_nine_names(messages, 127)
+        self.assertEqual(len(of_type(messages, NSEC)), 3 * 112)
+
+    def test_alias_hashes_has_a_way_and_the_records_of_hashes(self):
+        messages = messages_of(denials.alias_hashes(3))
+        self.assert_a_way_of_nine_names(messages, 3)
+        self.assertEqual(messages[1:], messages_of(denials.hashes(3)))
 
 
 class Files(unittest.TestCase):

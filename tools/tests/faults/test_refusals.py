@@ -68,8 +68,11 @@ class Limits(Programs):
         self.assertEqual(tally.counts(), (22, 0))
 
     def test_what_the_loader_refuses_is_told_apart(self):
-        told = "echo ./it: error while loading shared libraries: libc.so.6 >&2; exit 127"
-        self.assertEqual(self.tally(self.answering(told)).counts(), (22, 0))
+        for text in ("./it: error while loading shared libraries: libc.so.6",
+                     "cannot allocate TLS data structures for initial thread"):
+            told = f"echo {text} >&2; exit 127"
+            self.assertEqual(self.tally(self.answering(told)).counts(), (22, 0), text)
+        self.assertEqual(self.tally(self.answering("echo no >&2; exit 127")).counts()[1], 16)
         first = 'if [ "$(ulimit -v)" -lt 20000 ]; then echo fault 90 >&2; exit 1; fi'
         self.assertEqual(self.tally(self.answering(f"{first}; kill -SEGV $$")).counts()[1], 12)
 
