@@ -39,7 +39,7 @@ def of_crate(files, name):
 
 
 def concerns_bodies(file):
-    return file.startswith(("src/", "specs/", "proofs/", "must-fail/", "wrong-bodies/")) and not is_test(file)
+    return file.startswith(("src/", "specs/", "proofs/", "must-fail/", "wrong-bodies/")) and not is_test(file) and file != "wrong-bodies/refused"
 
 
 def is_test(file):

@@ -26,7 +26,8 @@ class Changed(Room):
                 ("src/lib.rt", FUNCTION.replace("One", "First"), {"lower"}),
                 ("src/other.rt", FUNCTION, ALL_ABOVE), ("specs/Lib.antt", "pub mod One\n", ALL_ABOVE),
                 ("proofs/one/Answers.antt", "use One\n", {"lower"}), ("must-fail/one.edit", "file: src/lib.rt\n", {"lower"}),
-                ("wrong-bodies/one.edit", "file: src/lib.rt\n", {"lower"}), ("src/tests.rt", FUNCTION, set()),
+                ("wrong-bodies/one.edit", "file: src/lib.rt\n", {"lower"}), ("wrong-bodies/refused", "one 0\n", set()),
+                ("src/tests.rt", FUNCTION, set()),
                 ("src/one/tests/two.rt", FUNCTION, set()), ("README.md", "Lower.\n", set()))
         self.assertEqual(self.since(), set())
         for file, text, concerned in rows:

@@ -106,6 +106,19 @@ class WrongBodies(Room):
             status, lines, errors = self.told()
         self.assertEqual((status, lines, errors[:18]), (2, [], "SINCE=none: fatal:"))
 
+    def test_those_alone_of_which_nothing_is_told(self):
+        self.add("lower", "must-fail", "wrong", "fine")
+        self.add("lower", "wrong-bodies", "wrong")
+        self.git("init", "-q")
+        self.write(".gitignore", "__pycache__/\n")
+        self.git("add", ".")
+        self.git("commit", "-qm", "All")
+        self.assertEqual(self.told()[1][-1], "2 passed, 1 failed")
+        told = (self.room / "crates/lower/wrong-bodies/refused").read_text().splitlines()
+        self.assertEqual([line.split()[0] for line in told], ["must_fail_00", "wrong_bodies_00"])
+        with mock.patch.dict(os.environ, UNTOLD="1"):
+            self.assertEqual(self.told()[1][-1], "0 passed, 1 failed")
+
     def test_those_of_named_crates_alone(self):
         self.add("lower", "must-fail", "wrong")
         self.add("upper", "must-fail", "wrong", "wrong")
