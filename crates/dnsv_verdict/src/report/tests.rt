@@ -91,8 +91,8 @@ fn is_pending_after(alloc: Global, calls: u64) -> Result<bool, Fail> {
     }
 }
 
-/// Whether an answer is hoped for where the verdict is pending, and the hashes of the one name are kept.
-fn is_hoped_to_be_answered(alloc: Global) -> Result<bool, Fail> {
+/// Whether what a pending verdict hopes for is kept, and the hashes of the one name.
+fn is_kept_with_pending(alloc: Global) -> Result<bool, Fail> {
     let asked = address_of_host(alloc)?;
     let judged = judge(
         alloc,
@@ -104,13 +104,7 @@ fn is_hoped_to_be_answered(alloc: Global) -> Result<bool, Fail> {
         RecordType(1),
         true,
     )?;
-    let Some(hope) = judged.hope else {
-        return Ok(false);
-    };
-    match hope.verdict {
-        Verdict::SecureAnswer { .. } => Ok(judged.hashes.len() == 1),
-        _ => Ok(false),
-    }
+    Ok(judged.hope.is_some() && judged.hashes.len() == 1)
 }
 
 #[test]
@@ -123,6 +117,6 @@ fn what_depends_on_unknown_answers_is_judged_without_asking_again(
 
 #[test]
 fn what_a_pending_verdict_hopes_for_is_kept(rt: HostRuntime) -> Result<(), Fail> {
-    assert!(rt; is_hoped_to_be_answered(rt.alloc())?);
+    assert!(rt; is_kept_with_pending(rt.alloc())?);
     Ok(())
 }
