@@ -123,7 +123,7 @@ module _ (basis : Basis) where
     is = is.signature;
   }
 
-  signature_said : (before lines : List Line) (number : SignatureNumber) → IsDerivation basis before (signature number) lines
+  pub signature_said : (before lines : List Line) (number : SignatureNumber) → IsDerivation basis before (signature number) lines
       → IsSaidSigned (before ++ lines) number.rrset
   signature_said before lines number derivation =
       let said = number_said before lines number derivation in record {

@@ -1,6 +1,8 @@
 mod AnswerLemmas
 mod CircleLemmas
 mod ClimbLemmas
+mod CutFollowLemmas
+mod CutTellLemmas
 mod DenialLemmas
 mod DerivationLemmas
 mod FollowingLemmas

@@ -9,6 +9,7 @@ pub mod OwnSearch
 pub mod Places
 pub mod Reach
 pub mod Saying
+pub mod ShownCuts
 pub mod SignerSearch
 pub mod UnsignedCuts
 pub mod WaySearch

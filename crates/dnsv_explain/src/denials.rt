@@ -1,7 +1,7 @@
 //! The lines of denials: the derivation of their records, the proof and its parts.
 
-mod part;
-mod proof;
+pub mod part;
+pub mod proof;
 
 ghost use Rattle.std.specs.Prelude.{OnOk};
 ghost use Rattle.dnsv_explain.specs.Denials.{IsDenialTold, IsExpandedTold, IsShownDenial};

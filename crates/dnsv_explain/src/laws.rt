@@ -8,11 +8,15 @@ ghost use Rattle.dnsv_chain.specs.Trusted.{IsSecured, IsTrusted};
 ghost use Rattle.dnsv_denial.specs.words.EvidenceWords.{Chain};
 ghost use Rattle.dnsv_verdict.specs.Verdict.{Basis};
 ghost use Rattle.dnsv_denial.specs.declared.proving.shown_denial.ShownDenial.{ShownDenial};
+ghost use Rattle.dnsv_denial.specs.declared.unsigned_cuts.shown_cut.ShownCut.{ShownCut};
+ghost use Rattle.dnsv_denial.specs.unsigned_cuts.ShownCut.{IsShownCut};
 ghost use Rattle.dnsv_explain.specs.Denials.{IsDenialTold, IsExpandedTold, IsShownDenial};
 ghost use Rattle.dnsv_explain.specs.Derivations.{IsDerivation, Subject};
 ghost use Rattle.dnsv_explain.specs.Following.{EachFollows, at_moment};
 ghost use Rattle.dnsv_explain.specs.Following.Parts.{IsPartOf, IsUnusableRecord};
 ghost use Rattle.dnsv_explain.specs.Holding.{AreShownValidAt, IsHolding, IsHoldingOf};
+ghost use Rattle.dnsv_explain.specs.OwnDerivations.{SecuredIn};
+ghost use Rattle.dnsv_explain.specs.ShownCuts.{IsCutTold};
 ghost use Rattle.dnsv_explain.specs.Ways.{HasSecured};
 
 use crate::interval::{Interval, Times};
@@ -76,5 +80,12 @@ pub fn denials_follow()
 pub fn expanded_signatures_follow()
     ensures { (basis : Basis) (name : Labels) (number : SignatureNumber) (shown : ShownDenial) (before lines : List Line)
         → IsShownDenial basis name shown → IsExpandedTold basis name number shown before lines
+        → EachFollows basis before lines }
+{}
+
+/// And so does each line of the name from which on a name may be unsigned.
+pub fn unsigned_cuts_follow()
+    ensures { (basis : Basis) (name : Labels) (cut : ShownCut) (before lines : List Line)
+        → IsShownCut (SecuredIn basis) basis.rrsets name cut → IsCutTold basis name cut before lines
         → EachFollows basis before lines }
 {}

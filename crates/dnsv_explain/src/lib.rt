@@ -10,6 +10,7 @@ pub use interval::{Interval, Times, holding};
 pub use laws::{
     denials_follow, derivations_follow, expanded_signatures_follow,
     lines_follow_as_long_as_they_hold, lines_that_follow_are_true, signatures_hold_in_one_interval,
+    unsigned_cuts_follow,
 };
 pub use line::cut::{Cut, InsecureCase, UnusableDs, WhyUnusable};
 pub use line::denial::{Chain, Form, Part, Proof, RecordPlace, Relation, Role};
@@ -19,7 +20,7 @@ pub use line::{Kind, Line};
 pub use places::places_named;
 pub use shown::holding_of;
 pub use signers::signed_line;
-pub use unsigned_cuts::add_unusable;
+pub use unsigned_cuts::{add_cut, add_unusable};
 pub use ways::trusted_line;
 
 mod denials;

@@ -1,5 +1,51 @@
 //! The lines of a name that may be unsigned.
 
+mod shown;
 mod unusable;
 
+ghost use Rattle.std.specs.Prelude.{OnOk};
+ghost use Rattle.dnsv_denial.specs.unsigned_cuts.ShownCut.{IsShownCut};
+ghost use Rattle.dnsv_explain.specs.Explained.{basis_in};
+ghost use Rattle.dnsv_explain.specs.OwnDerivations.{SecuredIn};
+ghost use Rattle.dnsv_explain.specs.Saying.{Adds};
+ghost use Rattle.dnsv_explain.specs.ShownCuts.{IsCutTold};
+
+use crate::evidence::Evidence;
+use crate::line::Line;
+use crate::line::cut::InsecureCase;
+use crate::unsigned_cuts::shown::add_unsigned;
+use dnsv_denial::{PartName, ShownCut};
+use dnsv_names::Name;
+use std::alloc::{AllocError, Global};
 pub use unusable::add_unusable;
+
+/// Adds the lines of the name from which on the name may be unsigned: the derivation of what shows it, the case, and
+/// the parts of the proof, or why the records of a DS RRset can't be used.
+pub fn add_cut(
+    alloc: Global,
+    evidence: &Evidence<'_>,
+    lines: &mut Vec<Line>,
+    name: &Name,
+    cut: &ShownCut,
+) -> Result<(), AllocError>
+    requires { IsShownCut (SecuredIn (basis_in evidence.now)) evidence.now.rrsets name.now cut.now }
+    ensures { OnOk result (Adds (IsCutTold (basis_in evidence.now) name.now cut.now) lines.old.items lines.new.items) }
+{
+    match cut {
+        ShownCut::NoDs { labels, shown } => {
+            let at = PartName::Cut(*labels).of(name);
+            let case = InsecureCase::UnsignedDelegation;
+            add_unsigned(alloc, evidence, lines, name, shown, case, &at)?;
+        }
+        ShownCut::NoUsableDs { labels } => {
+            let at = PartName::Cut(*labels).of(name);
+            add_unusable(alloc, evidence, lines, &at)?;
+        }
+        ShownCut::OptOut { labels, shown } => {
+            let at = PartName::NextCloser(*labels).of(name);
+            let case = InsecureCase::OptOut;
+            add_unsigned(alloc, evidence, lines, name, shown, case, &at)?;
+        }
+    }
+    Ok(())
+}

@@ -24,8 +24,11 @@ use Rattle.dnsv_explain.specs.Following.{EachFollows, IsSignatureSaid}
 use Rattle.dnsv_explain.specs.Following.Parts.{IsOfKind, IsPartOf, IsSaidBy, IsWord, IsZoneNamed}
 use Rattle.dnsv_explain.specs.Following.Parts.IsZoneNamed.{by_case, by_proof}
 use Rattle.dnsv_explain.specs.Saying.{AreBoth, AreEach}
+use Rattle.dnsv_explain.specs.ShownCuts.{IsShownUnsigned, IsUnsignedTold}
+use Rattle.dnsv_explain.specs.UnsignedCuts.{IsCaseTold}
 use Rattle.dnsv_explain.specs.declared.line.Line.{Line}
 use Rattle.dnsv_explain.specs.declared.line.Line.TheVariants as line
+use Rattle.dnsv_explain.specs.declared.line.cut.InsecureCase.{InsecureCase}
 use Rattle.dnsv_explain.specs.declared.line.denial.Chain.{Chain as ToldChain}
 use Rattle.dnsv_explain.specs.declared.line.denial.Form.{Form}
 use Rattle.dnsv_explain.specs.declared.line.denial.Part.{Part}
@@ -34,6 +37,7 @@ use Rattle.dnsv_explain.specs.declared.line.denial.RecordPlace.{RecordPlace}
 use Rattle.dnsv_explain.specs.declared.line.denial.Relation.{Relation}
 use Rattle.dnsv_explain.specs.declared.line.denial.Role.{Role}
 use Rattle.dnsv_explain.specs.declared.line.derivation.SignatureNumber.{SignatureNumber}
+use Rattle.dnsv_explain.proofs.DenialLemmas.CutLemmas.{cut_facts}
 use Rattle.dnsv_explain.proofs.DenialLemmas.ShownLemmas.{IsListed, IsShownPart, PartSays, ShownFacts, each_member, has_form, part_listed, part_shown, shown_facts}
 use Rattle.dnsv_explain.proofs.DerivationLemmas.{derivation_follows, number_said}
 use Rattle.dnsv_explain.proofs.PartLemmas.{secured_too, word_by, zone_as}
@@ -139,6 +143,13 @@ module _ (basis : Basis) where
       (λ number all more said. own_stays zone number.rrset all more said)
       (λ number all more own. own_said zone number.rrset all more own) records before lines each
 
+  -- ---- a case
+
+  pub case_follows : (kind : InsecureCase) (cut : Labels) (of_zone : Option Labels) (before lines : List Line)
+      → IsCaseTold kind cut of_zone before lines → Follow before lines
+  case_follows kind cut of_zone before lines told =
+      let Lines : List Line → Type 0 = λ all. Follow before all in subst Lines (sym told.are) (tt, tt)
+
   module _ (name : Labels) (shown : ShownDenial) (facts : ShownFacts basis name shown) where
     -- ---- the proof
 
@@ -194,7 +205,8 @@ module _ (basis : Basis) where
         → IsZoneNamed (before ++ more) facts.apex facts.chain
     named_stays before more (by_proof proof there same kind) =
         by_proof proof (Contains-append_left before more (line.Proof proof) there) same kind
-    named_stays before more (by_case cut there zone) = by_case cut (Contains-append_left before more (line.Case cut) there) zone
+    named_stays before more (by_case cut named there zone same) =
+        by_case cut named (Contains-append_left before more (line.Case cut) there) zone same
 
     -- ---- its parts
 
@@ -258,16 +270,21 @@ module _ (basis : Basis) where
 
     -- ---- the denial
 
-    prepared_by : HasForm → (before records proof : List Line) → AreRecordsDerived basis shown.proof.zone shown.proof.records before records
-        → IsProofTold name shown (before ++ records) proof → Prepared ((before ++ records) ++ proof)
-    prepared_by has before records proof derived told = record {
-      named = proof_said has (before ++ records) proof told;
+    prepared_with : (before records more : List Line) → AreRecordsDerived basis shown.proof.zone shown.proof.records before records
+        → IsZoneNamed ((before ++ records) ++ more) facts.apex facts.chain → Prepared ((before ++ records) ++ more)
+    prepared_with before records more derived zone_named = record {
+      named = zone_named;
       own = λ number there.
-          own_stays facts.apex number.rrset (before ++ records) proof
+          own_stays facts.apex number.rrset (before ++ records) more
           (zone_as (Said (before ++ records)) basis.rrsets shown.proof.zone facts.apex number.rrset (sym facts.same)
           (each_member (λ (one : RecordNumber). OwnSaid shown.proof.zone (before ++ records) one.rrset) shown.proof.records number
           (records_said shown.proof.zone shown.proof.records before records derived) there));
     }
+
+    prepared_by : HasForm → (before records proof : List Line) → AreRecordsDerived basis shown.proof.zone shown.proof.records before records
+        → IsProofTold name shown (before ++ records) proof → Prepared ((before ++ records) ++ proof)
+    prepared_by has before records proof derived told =
+        prepared_with before records proof derived (proof_said has (before ++ records) proof told)
 
     told_follows : HasForm → (before lines : List Line) → IsDenialTold basis name shown before lines → Follow before lines
     told_follows has before lines told =
@@ -279,6 +296,38 @@ module _ (basis : Basis) where
         (each_follow (IsPartTold basis.rrsets name) Prepared prepared_stays (form_parts shown.chain shown.form) part_follows
         ((before ++ told.first) ++ rest.first) rest.second (prepared_by has before told.first rest.first told.says_first rest.says_first)
         rest.says_second))
+
+    -- ---- a name that may be unsigned
+
+    any_proof_follows : (form : Option Form) (before lines : List Line) → IsProofOf form name shown before lines → Follow before lines
+    any_proof_follows None before lines told =
+        let Lines : List Line → Type 0 = λ all. Follow before all in subst Lines (sym told) tt
+    any_proof_follows (Some form) before lines told = form_follows form before lines told
+
+    case_said : (kind : InsecureCase) (cut : Labels) (before lines : List Line)
+        → IsCaseTold kind cut (Some shown.proof.zone) before lines → IsZoneNamed (before ++ lines) facts.apex facts.chain
+    case_said kind cut before lines told =
+        let There : List Line → Type 0 = λ more. Contains (before ++ more) (line.Case told.cut) in
+        by_case told.cut shown.proof.zone (subst There (sym told.are) (Contains-push before (line.Case told.cut))) told.is_zone
+        (sym facts.same)
+
+    unsigned_told_follows : (kind : InsecureCase) (cut : Labels) (before lines : List Line)
+        → IsUnsignedTold basis name shown kind cut before lines → Follow before lines
+    unsigned_told_follows kind cut before lines told =
+        let rest = told.says_second in
+        let last = rest.says_second in
+        let cased : List Line = (before ++ told.first) ++ rest.first in
+        both_follow _ _ before lines told
+        (records_follow shown.proof.zone shown.proof.records before told.first told.says_first)
+        (both_follow _ _ (before ++ told.first) told.second rest
+        (case_follows kind cut (Some shown.proof.zone) (before ++ told.first) rest.first rest.says_first)
+        (both_follow _ _ cased rest.second last
+        (any_proof_follows (told_form shown.form) cased last.first last.says_first)
+        (each_follow (IsPartTold basis.rrsets name) Prepared prepared_stays (form_parts shown.chain shown.form) part_follows
+        (cased ++ last.first) last.second
+        (prepared_stays cased last.first (prepared_with before told.first rest.first told.says_first
+        (case_said kind cut (before ++ told.first) rest.first rest.says_first)))
+        last.says_second)))
 
   pub denial_follows : (name : Labels) (shown : ShownDenial) (before lines : List Line) → IsShownDenial basis name shown
       → IsDenialTold basis name shown before lines → Follow before lines
@@ -292,3 +341,8 @@ module _ (basis : Basis) where
   expanded_follows name number shown before lines is told =
       both_follow _ _ before lines told (derivation_follows basis before (signature number) told.first told.says_first)
       (denial_follows name shown (before ++ told.first) told.second is told.says_second)
+
+  pub unsigned_follows : (name : Labels) (shown : ShownDenial) (kind : InsecureCase) (cut : Labels) (before lines : List Line)
+      → IsShownUnsigned basis name shown kind cut → IsUnsignedTold basis name shown kind cut before lines → Follow before lines
+  unsigned_follows name shown kind cut before lines is told =
+      unsigned_told_follows name shown (cut_facts basis name shown kind cut is) kind cut before lines told

@@ -62,7 +62,7 @@ module _ (S : ℕ → ℕ → Type 0) (rrsets : List ReceivedRrset) (apex name :
 
   -- ---- forms that ask of the wildcard
 
-  encloser_says : (chain : Chain) (labels : ℕ) (by : Option RecordNumber) → labels < length name
+  pub encloser_says : (chain : Chain) (labels : ℕ) (by : Option RecordNumber) → labels < length name
       → ShowsEncloser number_cmp (evidence_said S rrsets apex chain) (rightmost name labels) by
       → IsShownPart chain (encloser_part (kind_of chain) labels by)
   encloser_says ByNsec labels None below shows = record { within = omega (arith, below); says = (refl, shows) }
@@ -71,7 +71,7 @@ module _ (S : ℕ → ℕ → Type 0) (rrsets : List ReceivedRrset) (apex name :
   encloser_says (ByNsec3 parameters) labels (Some number) below shows =
       record { within = omega (arith, below); says = shows.1.says }
 
-  wildcard_says : (chain : Chain) (Says : Labels → RecordNumber → Type 0) (last : PartRelation) (parts : WildcardParts RecordNumber)
+  pub wildcard_says : (chain : Chain) (Says : Labels → RecordNumber → Type 0) (last : PartRelation) (parts : WildcardParts RecordNumber)
       → ShowsWildcard number_cmp (evidence_said S rrsets apex chain) apex name Says parts
       → ((number : RecordNumber) → Says (wildcard_of (rightmost name parts.labels)) number
       → PartSays chain (part.Wildcard parts.labels) last (Some number))
@@ -84,11 +84,11 @@ module _ (S : ℕ → ℕ → Type 0) (rrsets : List ReceivedRrset) (apex name :
     ),
   )
 
-  abbrev EncloserSigned : Option RecordNumber → Type 0
+  abbrev pub EncloserSigned : Option RecordNumber → Type 0
   EncloserSigned None = Unit {0}
   EncloserSigned (Some number) = IsSigned number
 
-  encloser_signed : (chain : Chain) (encloser : Labels) (by : Option RecordNumber)
+  pub encloser_signed : (chain : Chain) (encloser : Labels) (by : Option RecordNumber)
       → ShowsEncloser number_cmp (evidence_said S rrsets apex chain) encloser by → EncloserSigned by
   encloser_signed chain encloser None shows = tt
   encloser_signed chain encloser (Some number) shows =
@@ -106,7 +106,7 @@ module _ (S : ℕ → ℕ → Type 0) (rrsets : List ReceivedRrset) (apex name :
     pub encloser : FitsEncloser name (form_encloser shape)
     pub records : AllByRecursion IsSigned (form_records shape)
 
-  wildcard_records_signed : (chain : Chain) (Says : Labels → RecordNumber → Type 0) (last : PartRelation)
+  pub wildcard_records_signed : (chain : Chain) (Says : Labels → RecordNumber → Type 0) (last : PartRelation)
       (parts : WildcardParts RecordNumber) → ShowsWildcard number_cmp (evidence_said S rrsets apex chain) apex name Says parts
       → ((number : RecordNumber) → Says (wildcard_of (rightmost name parts.labels)) number
       → PartSays chain (part.Wildcard parts.labels) last (Some number))

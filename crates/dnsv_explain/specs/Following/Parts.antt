@@ -82,7 +82,8 @@ IsOfKind told.Nsec3 (ByNsec3 parameters) = Unit {0}
 pub data IsZoneNamed (before : List Line) (zone : Labels) (chain : Chain) : Type 0 where
   by_proof : (proof : Proof) → Contains before (line.Proof proof) → SameName proof.zone zone → IsOfKind proof.chain chain
       → IsZoneNamed before zone chain
-  by_case : (cut : Cut) → Contains before (line.Case cut) → cut.zone ≡ Some zone → IsZoneNamed before zone chain
+  by_case : (cut : Cut) (named : Labels) → Contains before (line.Case cut) → cut.zone ≡ Some named → SameName named zone
+      → IsZoneNamed before zone chain
 
 -- The part is said by a chain of a zone that a line before names; `Said k s` says that a line before shows signature s
 -- of RRset k to be good.

@@ -72,7 +72,7 @@ fn is_unusable(evidence: &Evidence<'_>, number: usize, rrset: &Rrset, name: &Nam
 }
 
 /// Adds the line of the case.
-fn add_case(
+pub fn add_case(
     lines: &mut Vec<Line>,
     case: InsecureCase,
     name: &Name,

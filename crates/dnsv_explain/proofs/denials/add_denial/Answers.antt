@@ -7,7 +7,7 @@ use Rattle.dnsv_explain.proofs.denials.add_denial.Goals as goal
 pub add_records-requires : goal.add_records-requires
 add_records-requires c =
     its_records (basis_in c.args.evidence.now) c.args.name.now c.args.shown.now c.zone.result.now c.records.result.now
-    c.zone.ensures c.records.ensures c.requires
+    c.zone.ensures c.records.ensures (shown_facts (basis_in c.args.evidence.now) c.args.name.now c.args.shown.now c.requires)
 
 pub add_proof-requires : goal.add_proof-requires
 add_proof-requires c = (shown_facts (basis_in c.args.evidence.now) c.args.name.now c.args.shown.now c.requires).facts.encloser
@@ -15,7 +15,7 @@ add_proof-requires c = (shown_facts (basis_in c.args.evidence.now) c.args.name.n
 pub add_parts-requires : goal.add_parts-requires
 add_parts-requires c =
     its_parts (basis_in c.args.evidence.now) c.args.name.now c.args.shown.now c.deref.result.now
-    (c.deref.ensures.0 ∙ c.parts.ensures) c.requires
+    (c.deref.ensures.0 ∙ c.parts.ensures) (shown_facts (basis_in c.args.evidence.now) c.args.name.now c.args.shown.now c.requires)
 
 pub returns : goal.returns
 returns c =

@@ -1,0 +1,5 @@
+use Rattle.dnsv_explain.proofs.CutFollowLemmas.{cut_follows}
+use Rattle.dnsv_explain.proofs.laws.unsigned_cuts_follow.Goals as goal
+
+pub returns : goal.returns
+returns c = λ basis name cut before lines is told. cut_follows basis name cut before lines is told
