@@ -19,7 +19,7 @@ use Rattle.dnsv_denial.specs.declared.records.chain_kind.ChainKind.TheVariants a
 use Rattle.dnsv_denial.specs.declared.records.number.RecordNumber.{RecordNumber}
 use Rattle.dnsv_verdict.specs.Verdict.{Basis}
 use Rattle.dnsv_explain.specs.Following.Parts.{IsPlaceOfRecord}
-use Rattle.dnsv_explain.specs.OwnDerivations.{AreRecordsDerived, IsSignatureTold, SecuredIn}
+use Rattle.dnsv_explain.specs.derivations.OwnDerivations.{AreRecordsDerived, IsSignatureTold, SecuredIn}
 use Rattle.dnsv_explain.specs.Saying.{AreBoth, AreEach, IsOnce}
 use Rattle.dnsv_explain.specs.declared.line.Line.{Line}
 use Rattle.dnsv_explain.specs.declared.line.Line.TheVariants as line

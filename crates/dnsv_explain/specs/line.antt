@@ -4,7 +4,7 @@ pub mod Denial
 pub mod Derivation
 pub mod Place
 use Rattle.std.specs.Prelude.{ℕ, List, ◌++◌, codes}
-use Rattle.dnsv_explain.specs.Holding.{interval_text}
+use Rattle.dnsv_explain.specs.intervals.Holding.{interval_text}
 use Rattle.dnsv_explain.specs.line.Cut.{case_text, unusable_text}
 use Rattle.dnsv_explain.specs.line.Denial.{part_text, proof_text}
 use Rattle.dnsv_explain.specs.line.Derivation.{signed_text, trusted_text}

@@ -5,7 +5,7 @@ pub mod proof;
 
 ghost use Rattle.std.specs.Prelude.{OnOk};
 ghost use Rattle.dnsv_explain.specs.Denials.{IsDenialTold, IsExpandedTold, IsShownDenial};
-ghost use Rattle.dnsv_explain.specs.OwnDerivations.{SecuredIn};
+ghost use Rattle.dnsv_explain.specs.derivations.OwnDerivations.{SecuredIn};
 ghost use Rattle.dnsv_explain.specs.Explained.{basis_in};
 ghost use Rattle.dnsv_explain.specs.Saying.{Adds};
 

@@ -3,10 +3,10 @@ ghost use Rattle.std.specs.Prelude.{◌≡◌, ◌↔◌, ℕ, IfOk, IsTrue, Mat
 ghost use Rattle.dnsv_chain.specs.Trusted.{IsSecured};
 ghost use Rattle.dnsv_verifier.specs.Table.{table_answer};
 ghost use Rattle.dnsv_explain.specs.Explained.{basis_in};
-ghost use Rattle.dnsv_explain.specs.Climb.{Climbs, IsClimbed};
-ghost use Rattle.dnsv_explain.specs.Derivations.{IsDerivation, IsLowestSecured, Subject};
+ghost use Rattle.dnsv_explain.specs.derivations.Climb.{Climbs, IsClimbed};
+ghost use Rattle.dnsv_explain.specs.derivations.Derivations.{IsDerivation, IsLowestSecured, Subject};
 ghost use Rattle.dnsv_explain.specs.Following.{IsSaidTrusted, IsSignatureSaid};
-ghost use Rattle.dnsv_explain.specs.Ways.{IsTrustedSet};
+ghost use Rattle.dnsv_explain.specs.derivations.Ways.{IsTrustedSet};
 
 use crate::evidence::Evidence;
 use crate::line::Line;

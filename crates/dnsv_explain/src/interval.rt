@@ -1,8 +1,8 @@
 //! From when to when signatures are valid.
 ghost use Rattle.std.specs.Prelude.{◌≡◌, All, Some, max, min};
 ghost use Rattle.dnsv_records.specs.Rrsig.Time.{ValidAt, seconds_on};
-ghost use Rattle.dnsv_explain.specs.Holding.{IsHolding, interval_text};
-ghost use Rattle.dnsv_explain.specs.Reach.{IsReach};
+ghost use Rattle.dnsv_explain.specs.intervals.Holding.{IsHolding, interval_text};
+ghost use Rattle.dnsv_explain.specs.intervals.Reach.{IsReach};
 
 use dnsv_records::{Expiration, Inception};
 use std::fmt;

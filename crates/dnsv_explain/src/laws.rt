@@ -11,13 +11,13 @@ ghost use Rattle.dnsv_denial.specs.declared.proving.shown_denial.ShownDenial.{Sh
 ghost use Rattle.dnsv_denial.specs.declared.unsigned_cuts.shown_cut.ShownCut.{ShownCut};
 ghost use Rattle.dnsv_denial.specs.unsigned_cuts.ShownCut.{IsShownCut};
 ghost use Rattle.dnsv_explain.specs.Denials.{IsDenialTold, IsExpandedTold, IsShownDenial};
-ghost use Rattle.dnsv_explain.specs.Derivations.{IsDerivation, Subject};
+ghost use Rattle.dnsv_explain.specs.derivations.Derivations.{IsDerivation, Subject};
 ghost use Rattle.dnsv_explain.specs.Following.{EachFollows, at_moment};
 ghost use Rattle.dnsv_explain.specs.Following.Parts.{IsPartOf, IsUnusableRecord};
-ghost use Rattle.dnsv_explain.specs.Holding.{AreShownValidAt, IsHolding, IsHoldingOf};
-ghost use Rattle.dnsv_explain.specs.OwnDerivations.{SecuredIn};
-ghost use Rattle.dnsv_explain.specs.ShownCuts.{IsCutTold};
-ghost use Rattle.dnsv_explain.specs.Ways.{HasSecured};
+ghost use Rattle.dnsv_explain.specs.intervals.Holding.{AreShownValidAt, IsHolding, IsHoldingOf};
+ghost use Rattle.dnsv_explain.specs.derivations.OwnDerivations.{SecuredIn};
+ghost use Rattle.dnsv_explain.specs.unsigned_cuts.ShownCuts.{IsCutTold};
+ghost use Rattle.dnsv_explain.specs.derivations.Ways.{HasSecured};
 
 use crate::interval::{Interval, Times};
 use crate::line::Line;

@@ -2,7 +2,7 @@
 ghost use Rattle.std.specs.Prelude.{◌≡◌, ◌↔◌, ℕ, Contains, IsTrue, MatchOption, OnOk};
 ghost use Rattle.dnsv_denial.specs.declared.records.number.RecordNumber.{RecordNumber};
 ghost use Rattle.dnsv_denial.specs.gathering.Evidence.{HasZoneSignature, IsSecuredBy};
-ghost use Rattle.dnsv_explain.specs.OwnDerivations.{AreRecordsDerived, IsLowestOwn, IsOwnDerivation, IsOwnSignature, IsSignatureTold, SecuredIn};
+ghost use Rattle.dnsv_explain.specs.derivations.OwnDerivations.{AreRecordsDerived, IsLowestOwn, IsOwnDerivation, IsOwnSignature, IsSignatureTold, SecuredIn};
 ghost use Rattle.dnsv_explain.specs.Explained.{basis_in};
 ghost use Rattle.dnsv_explain.specs.Saying.{Adds};
 

@@ -1,7 +1,7 @@
 //! From when to when the signatures are valid that lines show.
 ghost use Rattle.std.specs.Prelude.{◌≡◌, [], IfOk, MatchOption, OnOk};
 ghost use Rattle.dnsv_verifier.specs.Asking.{AddsJust, ComesOfSome};
-ghost use Rattle.dnsv_explain.specs.Holding.{AreShownValidAt, HasTimes, IsHoldingOf, ShowsTimes, signature_shown};
+ghost use Rattle.dnsv_explain.specs.intervals.Holding.{AreShownValidAt, HasTimes, IsHoldingOf, ShowsTimes, signature_shown};
 
 use crate::interval::{Interval, Times, holding};
 use crate::line::Line;

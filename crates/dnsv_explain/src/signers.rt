@@ -6,8 +6,8 @@ ghost use Rattle.dnsv_verifier.specs.Admissible.{DnskeyRecord, IsGood};
 ghost use Rattle.dnsv_verdict.specs.Verdict.{Basis};
 ghost use Rattle.dnsv_verifier.specs.Table.{table_answer};
 ghost use Rattle.dnsv_explain.specs.Explained.{basis_in};
-ghost use Rattle.dnsv_explain.specs.SignerSearch.{IsFirstTo, IsLowestGoodKey, IsLowestOf, IsSignatureAt};
-ghost use Rattle.dnsv_explain.specs.Ways.{IsSignedLine};
+ghost use Rattle.dnsv_explain.specs.derivations.SignerSearch.{IsFirstTo, IsLowestGoodKey, IsLowestOf, IsSignatureAt};
+ghost use Rattle.dnsv_explain.specs.derivations.Ways.{IsSignedLine};
 
 use crate::evidence::Evidence;
 use crate::line::derivation::{KeyName, SignatureNumber, SignedRrset, Todo};

@@ -6,9 +6,9 @@ mod unusable;
 ghost use Rattle.std.specs.Prelude.{OnOk};
 ghost use Rattle.dnsv_denial.specs.unsigned_cuts.ShownCut.{IsShownCut};
 ghost use Rattle.dnsv_explain.specs.Explained.{basis_in};
-ghost use Rattle.dnsv_explain.specs.OwnDerivations.{SecuredIn};
+ghost use Rattle.dnsv_explain.specs.derivations.OwnDerivations.{SecuredIn};
 ghost use Rattle.dnsv_explain.specs.Saying.{Adds};
-ghost use Rattle.dnsv_explain.specs.ShownCuts.{IsCutTold};
+ghost use Rattle.dnsv_explain.specs.unsigned_cuts.ShownCuts.{IsCutTold};
 
 use crate::evidence::Evidence;
 use crate::line::Line;

@@ -8,8 +8,8 @@ pub mod matcher;
 ghost use Rattle.std.specs.Prelude.{◌≡◌, IfOk, MatchOption};
 ghost use Rattle.dnsv_canonical.specs.Rrsets.{IsNumbered};
 ghost use Rattle.dnsv_explain.specs.Explained.{basis_in};
-ghost use Rattle.dnsv_explain.specs.Ways.{IsTrustedLine, IsTrustedSet};
-ghost use Rattle.dnsv_explain.specs.WaySearch.{IsFoundWay, IsNoWay};
+ghost use Rattle.dnsv_explain.specs.derivations.Ways.{IsTrustedLine, IsTrustedSet};
+ghost use Rattle.dnsv_explain.specs.derivations.WaySearch.{IsFoundWay, IsNoWay};
 
 use crate::evidence::Evidence;
 use crate::line::derivation::{KeyName, SignatureNumber, Todo, TrustedKeys, Voucher};

@@ -2,7 +2,7 @@
 ghost use Rattle.std.specs.Prelude.{OnOk};
 ghost use Rattle.dnsv_explain.specs.Explained.{basis_in};
 ghost use Rattle.dnsv_explain.specs.Saying.{Adds};
-ghost use Rattle.dnsv_explain.specs.ShownCuts.{IsShownUnsigned, IsUnsignedTold};
+ghost use Rattle.dnsv_explain.specs.unsigned_cuts.ShownCuts.{IsShownUnsigned, IsUnsignedTold};
 
 use crate::denials::part::add_parts;
 use crate::denials::proof::add_proof;

@@ -6,7 +6,7 @@ ghost use Rattle.dnsv_chain.specs.Ds.{IsUsable};
 ghost use Rattle.dnsv_explain.specs.Explained.{basis_in};
 ghost use Rattle.dnsv_explain.specs.Following.Parts.{IsWhy};
 ghost use Rattle.dnsv_explain.specs.Saying.{Adds};
-ghost use Rattle.dnsv_explain.specs.UnsignedCuts.{AreAllTold, IsCaseTold, IsFirstUnusable, IsUnusableSet, IsUnusableTold};
+ghost use Rattle.dnsv_explain.specs.unsigned_cuts.UnsignedCuts.{AreAllTold, IsCaseTold, IsFirstUnusable, IsUnusableSet, IsUnusableTold};
 
 use crate::derivations::lowest_secured;
 use crate::evidence::Evidence;

@@ -1,7 +1,7 @@
 //! Ways into a DNSKEY RRset by trust anchors.
 ghost use Rattle.std.specs.Prelude.{◌≡◌, IfOk, MatchOption};
 ghost use Rattle.dnsv_explain.specs.Explained.{basis_in};
-ghost use Rattle.dnsv_explain.specs.WaySearch.{IsFoundWay, IsKeySet, IsNoWayBefore, IsVoucherOf};
+ghost use Rattle.dnsv_explain.specs.derivations.WaySearch.{IsFoundWay, IsKeySet, IsNoWayBefore, IsVoucherOf};
 
 use crate::evidence::Evidence;
 use crate::line::derivation::Voucher;

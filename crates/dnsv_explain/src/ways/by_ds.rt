@@ -2,8 +2,8 @@
 ghost use Rattle.std.specs.Prelude.{◌↔◌, ◌+◌, ◌≡◌, IfOk, IsTrue, MatchOption};
 ghost use Rattle.dnsv_canonical.specs.Rrsets.{IsNumbered};
 ghost use Rattle.dnsv_explain.specs.Explained.{basis_in};
-ghost use Rattle.dnsv_explain.specs.Ways.{HasSecured};
-ghost use Rattle.dnsv_explain.specs.WaySearch.{IsFoundWay, IsKeySet, IsNoWay, IsNoWayBefore, MayDelegate};
+ghost use Rattle.dnsv_explain.specs.derivations.Ways.{HasSecured};
+ghost use Rattle.dnsv_explain.specs.derivations.WaySearch.{IsFoundWay, IsKeySet, IsNoWay, IsNoWayBefore, MayDelegate};
 
 use crate::evidence::Evidence;
 use crate::line::derivation::Voucher;

@@ -3,7 +3,7 @@ ghost use Rattle.std.specs.Prelude.{◌≡◌, ℕ, IfOk, IsTrue, MatchOption};
 ghost use Rattle.dnsv_canonical.specs.Rrsets.{IsNumbered};
 ghost use Rattle.dnsv_explain.specs.Explained.{basis_in};
 ghost use Rattle.dnsv_explain.specs.Following.{IsGoodUnder, IsNamed};
-ghost use Rattle.dnsv_explain.specs.WaySearch.{AreKeysInOrder, IsLowestGood, signature_of};
+ghost use Rattle.dnsv_explain.specs.derivations.WaySearch.{AreKeysInOrder, IsLowestGood, signature_of};
 
 use crate::evidence::Evidence;
 use crate::line::derivation::KeyName;

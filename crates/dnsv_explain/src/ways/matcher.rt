@@ -1,7 +1,7 @@
 //! Ways into a DNSKEY RRset by one trust anchor, or by one record of a DS RRset.
 ghost use Rattle.std.specs.Prelude.{◌↔◌, IfOk, IsTrue, MatchOption};
 ghost use Rattle.dnsv_explain.specs.Explained.{basis_in};
-ghost use Rattle.dnsv_explain.specs.WaySearch.{IsFirstUnder, IsKeySet, IsNoneUnder, MatchesBy};
+ghost use Rattle.dnsv_explain.specs.derivations.WaySearch.{IsFirstUnder, IsKeySet, IsNoneUnder, MatchesBy};
 
 use crate::evidence::Evidence;
 use crate::line::derivation::Voucher;

@@ -1,7 +1,7 @@
 use Rattle.std.proofs.Common.{◌∙◌}
 use Rattle.dnsv_explain.specs.Explained.{basis_in}
-use Rattle.dnsv_explain.proofs.DenialLemmas.ShownLemmas.{shown_facts}
-use Rattle.dnsv_explain.proofs.DenialLemmas.TellingLemmas.{denial_told, its_parts, its_records}
+use Rattle.dnsv_explain.proofs.lemmas.denials.ShownLemmas.{shown_facts}
+use Rattle.dnsv_explain.proofs.lemmas.denials.TellingLemmas.{denial_told, its_parts, its_records}
 use Rattle.dnsv_explain.proofs.denials.add_denial.Goals as goal
 
 pub add_records-requires : goal.add_records-requires

@@ -1,7 +1,7 @@
 use Rattle.dnsv_explain.specs.Denials.{IsDenialTold}
-use Rattle.dnsv_explain.specs.OwnDerivations.{IsSignatureTold}
+use Rattle.dnsv_explain.specs.derivations.OwnDerivations.{IsSignatureTold}
 use Rattle.dnsv_explain.specs.Explained.{basis_in}
-use Rattle.dnsv_explain.proofs.SayingLemmas.{both_added}
+use Rattle.dnsv_explain.proofs.lemmas.SayingLemmas.{both_added}
 use Rattle.dnsv_explain.proofs.denials.add_expanded.Goals as goal
 
 pub returns : goal.returns

@@ -1,7 +1,7 @@
 use Rattle.std.proofs.Common.{◌+◌, ℕ}
 use Rattle.std.specs.Option.{option_map_or}
 use Rattle.dnsv_explain.specs.Explained.{basis_in}
-use Rattle.dnsv_explain.specs.Climb.{IsUpTo, labels_at}
+use Rattle.dnsv_explain.specs.derivations.Climb.{IsUpTo, labels_at}
 use Rattle.dnsv_explain.proofs.derivations.climb.Given as goal
 
 abbrev pub invariant-loop-next : goal.invariant-loop-next

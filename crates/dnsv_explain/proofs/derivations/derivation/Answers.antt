@@ -2,10 +2,10 @@ use Rattle.std.proofs.Common.{List, [], ◌∷◌, ◌++◌, ap, subst, sym, ◌
 use Rattle.std.proofs.lemmas.Bool.{false≢true}
 use Rattle.std.proofs.lemmas.Option.{MatchOption-at_some}
 use Rattle.dnsv_explain.specs.declared.line.Line.TheVariants as line
-use Rattle.dnsv_explain.proofs.ClimbLemmas.{whole}
-use Rattle.dnsv_explain.specs.Derivations.{IsDerivation}
-use Rattle.dnsv_explain.specs.Derivations.IsDerivation.{said_signed}
-use Rattle.dnsv_explain.specs.Derivations.Subject.{signature}
+use Rattle.dnsv_explain.proofs.lemmas.derivations.ClimbLemmas.{whole}
+use Rattle.dnsv_explain.specs.derivations.Derivations.{IsDerivation}
+use Rattle.dnsv_explain.specs.derivations.Derivations.IsDerivation.{said_signed}
+use Rattle.dnsv_explain.specs.derivations.Derivations.Subject.{signature}
 use Rattle.dnsv_explain.specs.Explained.{basis_in}
 use Rattle.dnsv_explain.specs.declared.line.Line.{Line}
 use Rattle.dnsv_explain.proofs.derivations.derivation.Goals as goal

@@ -1,6 +1,6 @@
 use Rattle.std.proofs.Common.{refl}
 use Rattle.std.proofs.lemmas.List.Elements.{Contains-get_or}
-use Rattle.dnsv_explain.proofs.AnswerLemmas.{first_lowest, long, none_there}
+use Rattle.dnsv_explain.proofs.lemmas.AnswerLemmas.{first_lowest, long, none_there}
 use Rattle.dnsv_explain.proofs.derivations.lowest_secured.Goals as goal
 
 pub returns-then-is_empty : goal.returns-then-is_empty

@@ -3,11 +3,11 @@ use Rattle.std.proofs.lemmas.Bool.{false≢true}
 use Rattle.std.proofs.lemmas.Option.{MatchOption-at_some}
 use Rattle.dnsv_explain.specs.Following.{IsSignatureSaid}
 use Rattle.dnsv_explain.specs.Explained.{basis_in}
-use Rattle.dnsv_explain.specs.Ways.{IsSignedLine}
+use Rattle.dnsv_explain.specs.derivations.Ways.{IsSignedLine}
 use Rattle.dnsv_explain.specs.declared.line.Line.{Line}
 use Rattle.dnsv_explain.specs.declared.line.Line.TheVariants as line
 use Rattle.dnsv_explain.specs.declared.line.derivation.SignatureNumber.{SignatureNumber}
-use Rattle.dnsv_explain.proofs.ClimbLemmas.{anchor_alone, by_anchor, by_said, by_signed, ds_secured, number_is, said_before}
+use Rattle.dnsv_explain.proofs.lemmas.derivations.ClimbLemmas.{anchor_alone, by_anchor, by_said, by_signed, ds_secured, number_is, said_before}
 use Rattle.dnsv_explain.proofs.derivations.step.Goals as goal
 
 pub returns-then-is_trust_said : goal.returns-then-is_trust_said

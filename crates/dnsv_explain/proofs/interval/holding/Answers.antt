@@ -1,4 +1,4 @@
-use Rattle.dnsv_explain.proofs.HoldingLemmas.{holding_at}
+use Rattle.dnsv_explain.proofs.lemmas.intervals.HoldingLemmas.{holding_at}
 use Rattle.dnsv_explain.proofs.interval.holding.Goals as goal
 
 pub loop-times-preserved : goal.loop-times-preserved

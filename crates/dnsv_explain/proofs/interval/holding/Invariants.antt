@@ -1,5 +1,5 @@
 use Rattle.std.proofs.Common.{take}
-use Rattle.dnsv_explain.specs.Holding.{IsHolding}
+use Rattle.dnsv_explain.specs.intervals.Holding.{IsHolding}
 use Rattle.dnsv_explain.proofs.interval.holding.Given as goal
 
 abbrev pub invariant-loop-times : goal.invariant-loop-times

@@ -1,4 +1,4 @@
-use Rattle.dnsv_explain.proofs.DenialLemmas.FollowLemmas.{denial_follows}
+use Rattle.dnsv_explain.proofs.lemmas.denials.FollowLemmas.{denial_follows}
 use Rattle.dnsv_explain.proofs.laws.denials_follow.Goals as goal
 
 pub returns : goal.returns

@@ -1,4 +1,4 @@
-use Rattle.dnsv_explain.proofs.DerivationLemmas.{derivation_follows}
+use Rattle.dnsv_explain.proofs.lemmas.derivations.DerivationLemmas.{derivation_follows}
 use Rattle.dnsv_explain.proofs.laws.derivations_follow.Goals as goal
 
 pub returns : goal.returns

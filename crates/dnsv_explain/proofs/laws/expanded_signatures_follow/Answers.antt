@@ -1,4 +1,4 @@
-use Rattle.dnsv_explain.proofs.DenialLemmas.FollowLemmas.{expanded_follows}
+use Rattle.dnsv_explain.proofs.lemmas.denials.FollowLemmas.{expanded_follows}
 use Rattle.dnsv_explain.proofs.laws.expanded_signatures_follow.Goals as goal
 
 pub returns : goal.returns

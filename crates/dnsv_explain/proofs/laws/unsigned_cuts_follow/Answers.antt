@@ -1,4 +1,4 @@
-use Rattle.dnsv_explain.proofs.CutFollowLemmas.{cut_follows}
+use Rattle.dnsv_explain.proofs.lemmas.unsigned_cuts.CutFollowLemmas.{cut_follows}
 use Rattle.dnsv_explain.proofs.laws.unsigned_cuts_follow.Goals as goal
 
 pub returns : goal.returns

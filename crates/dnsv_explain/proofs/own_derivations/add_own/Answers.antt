@@ -1,5 +1,5 @@
 use Rattle.dnsv_explain.specs.Explained.{basis_in}
-use Rattle.dnsv_explain.proofs.OwnLemmas.{its_number, lowest_secured, own_derived}
+use Rattle.dnsv_explain.proofs.lemmas.derivations.OwnLemmas.{its_number, lowest_secured, own_derived}
 use Rattle.dnsv_explain.proofs.own_derivations.add_own.Goals as goal
 
 pub returns-in_default : goal.returns-in_default

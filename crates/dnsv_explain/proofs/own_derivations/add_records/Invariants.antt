@@ -1,5 +1,5 @@
 use Rattle.std.proofs.Common.{take}
-use Rattle.dnsv_explain.specs.OwnDerivations.{AreRecordsDerived}
+use Rattle.dnsv_explain.specs.derivations.OwnDerivations.{AreRecordsDerived}
 use Rattle.dnsv_explain.specs.Explained.{basis_in}
 use Rattle.dnsv_explain.specs.Saying.{Adds}
 use Rattle.dnsv_explain.proofs.own_derivations.add_records.Given as goal

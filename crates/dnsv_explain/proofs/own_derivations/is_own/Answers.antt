@@ -1,8 +1,8 @@
 use Rattle.std.proofs.Common.{refl}
 use Rattle.std.proofs.lemmas.Bool.{false≢true}
 use Rattle.dnsv_canonical.specs.SignedData.{IsExpanded}
-use Rattle.dnsv_explain.proofs.AnswerLemmas.{not_so, so_not}
-use Rattle.dnsv_explain.proofs.OwnLemmas.{its_own, its_rrsig, none_numbered}
+use Rattle.dnsv_explain.proofs.lemmas.AnswerLemmas.{not_so, so_not}
+use Rattle.dnsv_explain.proofs.lemmas.derivations.OwnLemmas.{its_own, its_rrsig, none_numbered}
 use Rattle.dnsv_explain.proofs.own_derivations.is_own.Goals as goal
 
 pub returns-in_default : goal.returns-in_default

@@ -1,7 +1,7 @@
 use Rattle.std.proofs.Common.{refl}
 use Rattle.dnsv_explain.specs.Explained.{basis_in}
-use Rattle.dnsv_explain.proofs.OwnLemmas.{lowest_found, none_at_all}
-use Rattle.dnsv_explain.proofs.NumberedLemmas.{in_list}
+use Rattle.dnsv_explain.proofs.lemmas.derivations.OwnLemmas.{lowest_found, none_at_all}
+use Rattle.dnsv_explain.proofs.lemmas.NumberedLemmas.{in_list}
 use Rattle.dnsv_explain.proofs.own_derivations.lowest_own.Goals as goal
 
 pub returns-then-is_own : goal.returns-then-is_own

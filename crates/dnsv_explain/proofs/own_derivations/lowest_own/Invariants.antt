@@ -1,4 +1,4 @@
-use Rattle.dnsv_explain.specs.OwnSearch.{IsNoneOwn}
+use Rattle.dnsv_explain.specs.derivations.OwnSearch.{IsNoneOwn}
 use Rattle.dnsv_explain.proofs.own_derivations.lowest_own.Given as goal
 
 abbrev pub invariant-loop-signature : goal.invariant-loop-signature

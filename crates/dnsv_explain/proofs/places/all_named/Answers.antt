@@ -1,6 +1,6 @@
 use Rattle.std.proofs.Common.{arith}
 use Rattle.dnsv_verifier.proofs.AskLemmas.{some_all, some_more}
-use Rattle.dnsv_explain.proofs.PlaceLemmas.{Names, adds_named, are_named}
+use Rattle.dnsv_explain.proofs.lemmas.PlaceLemmas.{Names, adds_named, are_named}
 use Rattle.dnsv_explain.proofs.places.all_named.Goals as goal
 
 pub loop-line-preserved : goal.loop-line-preserved

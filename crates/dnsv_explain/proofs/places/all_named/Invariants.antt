@@ -1,6 +1,6 @@
 use Rattle.std.proofs.Common.{take, []}
 use Rattle.dnsv_verifier.specs.Asking.{AddsJust, ComesOfSome}
-use Rattle.dnsv_explain.proofs.PlaceLemmas.{Names}
+use Rattle.dnsv_explain.proofs.lemmas.PlaceLemmas.{Names}
 use Rattle.dnsv_explain.proofs.places.all_named.Given as goal
 
 abbrev pub invariant-loop-line : goal.invariant-loop-line

@@ -1,5 +1,5 @@
 use Rattle.std.proofs.lemmas.List.Filters.{dedup_is}
-use Rattle.dnsv_explain.proofs.PlaceLemmas.{each_once, once_rising}
+use Rattle.dnsv_explain.proofs.lemmas.PlaceLemmas.{each_once, once_rising}
 use Rattle.dnsv_explain.proofs.places.numbers_named.Goals as goal
 
 pub returns-clause-rising : goal.returns-clause-rising

@@ -1,7 +1,7 @@
 use Rattle.std.proofs.Common.{List, ℕ, subst}
 use Rattle.dnsv_canonical.specs.Rrsets.{ReceivedRrset}
 use Rattle.dnsv_explain.specs.Places.{ArePlacedBy}
-use Rattle.dnsv_explain.proofs.PlaceLemmas.{are_places}
+use Rattle.dnsv_explain.proofs.lemmas.PlaceLemmas.{are_places}
 use Rattle.dnsv_explain.proofs.places.places_named.Goals as goal
 
 pub returns : goal.returns

@@ -1,5 +1,5 @@
 use Rattle.std.proofs.Common.{refl}
-use Rattle.dnsv_explain.proofs.PlaceLemmas.{placed_more}
+use Rattle.dnsv_explain.proofs.lemmas.PlaceLemmas.{placed_more}
 use Rattle.dnsv_explain.proofs.places.places_of.Goals as goal
 
 pub loop-number-preserved : goal.loop-number-preserved

@@ -1,4 +1,4 @@
-use Rattle.dnsv_explain.proofs.ShownLemmas.{are_valid, holding_shown, shown_by}
+use Rattle.dnsv_explain.proofs.lemmas.intervals.ShownLemmas.{are_valid, holding_shown, shown_by}
 use Rattle.dnsv_explain.proofs.shown.holding_of.Goals as goal
 
 pub holding-requires : goal.holding-requires

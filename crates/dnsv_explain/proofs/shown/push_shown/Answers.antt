@@ -1,9 +1,9 @@
 use Rattle.std.proofs.Common.{List, sym, subst}
 use Rattle.dnsv_verifier.proofs.AskLemmas.{adds_nothing, adds_one}
 use Rattle.dnsv_verifier.specs.Asking.{AddsJust}
-use Rattle.dnsv_explain.specs.Holding.{ShowsTimes}
+use Rattle.dnsv_explain.specs.intervals.Holding.{ShowsTimes}
 use Rattle.dnsv_explain.specs.declared.interval.Times.{Times}
-use Rattle.dnsv_explain.proofs.ShownLemmas.{none_shown, one_shown}
+use Rattle.dnsv_explain.proofs.lemmas.intervals.ShownLemmas.{none_shown, one_shown}
 use Rattle.dnsv_explain.proofs.shown.push_shown.Goals as goal
 
 pub returns-in_default-times_of : goal.returns-in_default-times_of

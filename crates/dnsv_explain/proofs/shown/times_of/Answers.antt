@@ -1,4 +1,4 @@
-use Rattle.dnsv_explain.proofs.ShownLemmas.{no_times, some_times}
+use Rattle.dnsv_explain.proofs.lemmas.intervals.ShownLemmas.{no_times, some_times}
 use Rattle.dnsv_explain.proofs.shown.times_of.Goals as goal
 
 pub returns-in_default-numbered : goal.returns-in_default-numbered

@@ -1,4 +1,4 @@
-use Rattle.dnsv_explain.specs.Holding.{ShowsTimes}
+use Rattle.dnsv_explain.specs.intervals.Holding.{ShowsTimes}
 use Rattle.dnsv_verifier.proofs.AskLemmas.{some_more}
 use Rattle.dnsv_explain.proofs.shown.times_shown.Goals as goal
 

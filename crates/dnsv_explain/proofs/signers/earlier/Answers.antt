@@ -1,9 +1,9 @@
 use Rattle.std.proofs.Common.{◌≡◌, ◌+◌, Option, subst, sym, ◌∙◌}
 use Rattle.std.specs.declared.cmp.Ordering.TheVariants.{Equal, Greater}
 use Rattle.dnsv_canonical.specs.Canonical.{rdata_cmp}
-use Rattle.dnsv_explain.specs.SignerSearch.{IsFirstTo, IsLowestOf}
+use Rattle.dnsv_explain.specs.derivations.SignerSearch.{IsFirstTo, IsLowestOf}
 use Rattle.dnsv_explain.specs.declared.signers.Signer.{Signer}
-use Rattle.dnsv_explain.proofs.SignerLemmas.{lower_found, none_found, not_lower, only_found}
+use Rattle.dnsv_explain.proofs.lemmas.derivations.SignerLemmas.{lower_found, none_found, not_lower, only_found}
 use Rattle.dnsv_explain.proofs.signers.earlier.Goals as goal
 
 pub returns-in_default : goal.returns-in_default

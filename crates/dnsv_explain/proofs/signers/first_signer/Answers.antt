@@ -1,6 +1,6 @@
 use Rattle.std.proofs.Common.{◌≡◌, ℕ, length, subst, arith}
 use Rattle.dnsv_explain.specs.Explained.{basis_in}
-use Rattle.dnsv_explain.specs.SignerSearch.{IsFirstTo}
+use Rattle.dnsv_explain.specs.derivations.SignerSearch.{IsFirstTo}
 use Rattle.dnsv_explain.proofs.signers.first_signer.Goals as goal
 
 pub loop-place-preserved : goal.loop-place-preserved

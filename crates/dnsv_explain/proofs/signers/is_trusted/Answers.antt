@@ -1,5 +1,5 @@
 use Rattle.dnsv_explain.specs.Explained.{basis_in}
-use Rattle.dnsv_explain.proofs.WayLemmas.TrustedLemmas.{way_in_or_not}
+use Rattle.dnsv_explain.proofs.lemmas.derivations.WayLemmas.TrustedLemmas.{way_in_or_not}
 use Rattle.dnsv_explain.proofs.signers.is_trusted.Goals as goal
 
 pub returns : goal.returns

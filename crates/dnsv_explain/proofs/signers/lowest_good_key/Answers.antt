@@ -2,8 +2,8 @@ use Rattle.std.proofs.Common.{◌≡◌, sym, ap, ◌∙◌, refl}
 use Rattle.std.proofs.lemmas.Bool.{false≢true}
 use Rattle.dnsv_verifier.specs.Admissible.{DnskeyRecord, IsGood}
 use Rattle.dnsv_explain.specs.Explained.{basis_in}
-use Rattle.dnsv_explain.specs.WaySearch.{key_of}
-use Rattle.dnsv_explain.proofs.WayLemmas.KeysLemmas.{read_lowest, read_more, read_none, read_stands}
+use Rattle.dnsv_explain.specs.derivations.WaySearch.{key_of}
+use Rattle.dnsv_explain.proofs.lemmas.derivations.WayLemmas.KeysLemmas.{read_lowest, read_more, read_none, read_stands}
 use Rattle.dnsv_explain.proofs.signers.lowest_good_key.Goals as goal
 
 pub loop-each-preserved : goal.loop-each-preserved

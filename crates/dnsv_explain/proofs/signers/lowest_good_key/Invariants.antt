@@ -1,7 +1,7 @@
 use Rattle.std.proofs.Common.{map}
 use Rattle.dnsv_verifier.specs.Admissible.{IsGood}
 use Rattle.dnsv_explain.specs.Explained.{basis_in}
-use Rattle.dnsv_explain.specs.WaySearch.{IsNoneYet, key_of}
+use Rattle.dnsv_explain.specs.derivations.WaySearch.{IsNoneYet, key_of}
 use Rattle.dnsv_explain.proofs.signers.lowest_good_key.Given as goal
 
 abbrev pub invariant-loop-each : goal.invariant-loop-each

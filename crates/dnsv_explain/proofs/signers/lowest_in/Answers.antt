@@ -1,6 +1,6 @@
 use Rattle.std.proofs.lemmas.Option.{MatchOption-at_none, MatchOption-at_some}
 use Rattle.dnsv_explain.specs.Explained.{basis_in}
-use Rattle.dnsv_explain.proofs.SignerLemmas.{lowest_trusted, none_good}
+use Rattle.dnsv_explain.proofs.lemmas.derivations.SignerLemmas.{lowest_trusted, none_good}
 use Rattle.dnsv_explain.proofs.signers.lowest_in.Goals as goal
 
 pub returns-in_default : goal.returns-in_default

@@ -1,9 +1,9 @@
 use Rattle.std.proofs.Common.{◌≤◌, Option, length, subst, arith, ◌∙◌}
 use Rattle.dnsv_explain.specs.Explained.{basis_in}
-use Rattle.dnsv_explain.specs.SignerSearch.{IsFirstTo}
+use Rattle.dnsv_explain.specs.derivations.SignerSearch.{IsFirstTo}
 use Rattle.dnsv_explain.specs.declared.signers.Signer.{Signer}
-use Rattle.dnsv_explain.proofs.NumberedLemmas.{all_passed, in_list}
-use Rattle.dnsv_explain.proofs.SignerLemmas.{never_secured, no_signature, signature_there, the_line}
+use Rattle.dnsv_explain.proofs.lemmas.NumberedLemmas.{all_passed, in_list}
+use Rattle.dnsv_explain.proofs.lemmas.derivations.SignerLemmas.{never_secured, no_signature, signature_there, the_line}
 use Rattle.dnsv_explain.proofs.signers.signed_line.Goals as goal
 
 pub returns-in_default-numbered : goal.returns-in_default-numbered

@@ -3,10 +3,10 @@ use Rattle.dnsv_names.specs.Name.{Labels}
 use Rattle.dnsv_denial.specs.declared.unsigned_cuts.shown_cut.ShownCut.{ShownCut}
 use Rattle.dnsv_explain.specs.Explained.{basis_in}
 use Rattle.dnsv_explain.specs.Saying.{Adds}
-use Rattle.dnsv_explain.specs.ShownCuts.{IsCutTold, IsShownUnsigned, IsUnsignedTold}
-use Rattle.dnsv_explain.specs.UnsignedCuts.{IsUnusableSet, IsUnusableTold}
+use Rattle.dnsv_explain.specs.unsigned_cuts.ShownCuts.{IsCutTold, IsShownUnsigned, IsUnsignedTold}
+use Rattle.dnsv_explain.specs.unsigned_cuts.UnsignedCuts.{IsUnusableSet, IsUnusableTold}
 use Rattle.dnsv_explain.specs.declared.line.cut.InsecureCase.TheVariants as case
-use Rattle.dnsv_explain.proofs.CutTellLemmas.{IsCutShown, cut_shown}
+use Rattle.dnsv_explain.proofs.lemmas.unsigned_cuts.CutTellLemmas.{IsCutShown, cut_shown}
 use Rattle.dnsv_explain.proofs.unsigned_cuts.add_cut.Goals as goal
 
 pub add_unsigned-requires : goal.add_unsigned-requires

@@ -1,8 +1,8 @@
 use Rattle.std.proofs.Common.{◌∙◌}
 use Rattle.std.proofs.lemmas.Option.{MatchOption-at_none, MatchOption-at_some}
 use Rattle.dnsv_explain.specs.Explained.{basis_in}
-use Rattle.dnsv_explain.proofs.NumberedLemmas.{in_list}
-use Rattle.dnsv_explain.proofs.WayLemmas.TrustedLemmas.{not_trusted, the_line}
+use Rattle.dnsv_explain.proofs.lemmas.NumberedLemmas.{in_list}
+use Rattle.dnsv_explain.proofs.lemmas.derivations.WayLemmas.TrustedLemmas.{not_trusted, the_line}
 use Rattle.dnsv_explain.proofs.ways.trusted_line.Goals as goal
 
 pub returns-in_default-2 : goal.returns-in_default-2

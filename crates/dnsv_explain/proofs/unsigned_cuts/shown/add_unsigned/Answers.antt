@@ -1,7 +1,7 @@
 use Rattle.std.proofs.Common.{◌∙◌}
 use Rattle.dnsv_explain.specs.Explained.{basis_in}
-use Rattle.dnsv_explain.proofs.DenialLemmas.CutLemmas.{cut_facts}
-use Rattle.dnsv_explain.proofs.DenialLemmas.TellingLemmas.{its_parts, its_records, unsigned_told}
+use Rattle.dnsv_explain.proofs.lemmas.unsigned_cuts.CutLemmas.{cut_facts}
+use Rattle.dnsv_explain.proofs.lemmas.denials.TellingLemmas.{its_parts, its_records, unsigned_told}
 use Rattle.dnsv_explain.proofs.unsigned_cuts.shown.add_unsigned.Goals as goal
 
 pub add_records-requires : goal.add_records-requires

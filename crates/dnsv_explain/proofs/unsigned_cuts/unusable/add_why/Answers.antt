@@ -1,8 +1,8 @@
 use Rattle.std.proofs.Common.{◌+◌, ◌∙◌, refl}
 use Rattle.dnsv_explain.specs.Explained.{basis_in}
 use Rattle.dnsv_explain.specs.declared.line.cut.UnusableDs.{UnusableDs}
-use Rattle.dnsv_explain.proofs.NumberedLemmas.{in_list}
-use Rattle.dnsv_explain.proofs.UnusableLemmas.{all_told, never_usable, none_usable, one_told, set_delegates, set_read, unusable_at}
+use Rattle.dnsv_explain.proofs.lemmas.NumberedLemmas.{in_list}
+use Rattle.dnsv_explain.proofs.lemmas.unsigned_cuts.UnusableLemmas.{all_told, never_usable, none_usable, one_told, set_delegates, set_read, unusable_at}
 use Rattle.dnsv_explain.proofs.unsigned_cuts.unusable.add_why.Goals as goal
 
 pub loop-place-preserved : goal.loop-place-preserved

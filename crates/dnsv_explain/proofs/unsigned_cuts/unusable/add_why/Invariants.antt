@@ -1,5 +1,5 @@
 use Rattle.dnsv_explain.specs.Saying.{Adds}
-use Rattle.dnsv_explain.specs.UnsignedCuts.{AreFirstTold}
+use Rattle.dnsv_explain.specs.unsigned_cuts.UnsignedCuts.{AreFirstTold}
 use Rattle.dnsv_explain.proofs.unsigned_cuts.unusable.add_why.Given as goal
 
 abbrev pub invariant-loop-place : goal.invariant-loop-place

@@ -1,8 +1,8 @@
 use Rattle.std.proofs.Common.{sym, ◌∙◌}
 use Rattle.std.proofs.lemmas.Bool.{false≢true}
 use Rattle.dnsv_explain.specs.Explained.{basis_in}
-use Rattle.dnsv_explain.proofs.NumberedLemmas.{all_passed, numbered_at}
-use Rattle.dnsv_explain.proofs.UnusableLemmas.{first_found, none_at_all, none_at_first, none_to_next}
+use Rattle.dnsv_explain.proofs.lemmas.NumberedLemmas.{all_passed, numbered_at}
+use Rattle.dnsv_explain.proofs.lemmas.unsigned_cuts.UnusableLemmas.{first_found, none_at_all, none_at_first, none_to_next}
 use Rattle.dnsv_explain.proofs.unsigned_cuts.unusable.first_unusable.Goals as goal
 
 pub loop-place-init : goal.loop-place-init

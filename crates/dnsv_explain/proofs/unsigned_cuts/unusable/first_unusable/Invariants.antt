@@ -1,6 +1,6 @@
 use Rattle.std.proofs.Common.{◌≤◌, ℕ}
 use Rattle.dnsv_explain.specs.Explained.{basis_in}
-use Rattle.dnsv_explain.specs.UnsignedCuts.{IsUnusableSet}
+use Rattle.dnsv_explain.specs.unsigned_cuts.UnsignedCuts.{IsUnusableSet}
 use Rattle.dnsv_explain.proofs.unsigned_cuts.unusable.first_unusable.Given as goal
 
 -- none of the RRsets so far is such

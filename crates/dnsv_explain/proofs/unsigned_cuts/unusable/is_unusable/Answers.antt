@@ -1,8 +1,8 @@
 use Rattle.std.proofs.lemmas.Bool.{false≢true}
 use Rattle.dnsv_chain.specs.Ds.{HasUsable}
 use Rattle.dnsv_explain.specs.Explained.{basis_in}
-use Rattle.dnsv_explain.proofs.AnswerLemmas.{not_so, so_not}
-use Rattle.dnsv_explain.proofs.UnusableLemmas.{its_set, none_usable, set_delegates}
+use Rattle.dnsv_explain.proofs.lemmas.AnswerLemmas.{not_so, so_not}
+use Rattle.dnsv_explain.proofs.lemmas.unsigned_cuts.UnusableLemmas.{its_set, none_usable, set_delegates}
 use Rattle.dnsv_explain.proofs.unsigned_cuts.unusable.is_unusable.Goals as goal
 
 pub returns-then-not-may_delegate : goal.returns-then-not-may_delegate

@@ -2,7 +2,7 @@ use Rattle.std.proofs.Common.{rules}
 use Rattle.std.specs.Prelude.{IsTrue}
 use Rattle.dnsv_records.specs.Algorithm.{is_supported}
 use Rattle.dnsv_chain.specs.Ds.{IsSupported}
-use Rattle.dnsv_explain.proofs.UnusableLemmas.{ignored}
+use Rattle.dnsv_explain.proofs.lemmas.unsigned_cuts.UnusableLemmas.{ignored}
 use Rattle.dnsv_explain.proofs.unsigned_cuts.unusable.why_unusable.Goals as goal
 
 pub returns : goal.returns

@@ -1,8 +1,8 @@
 use Rattle.std.proofs.lemmas.Option.{MatchOption-at_none, MatchOption-at_some}
 use Rattle.std.proofs.Common.{◌+◌}
 use Rattle.dnsv_explain.specs.Explained.{basis_in}
-use Rattle.dnsv_explain.proofs.NumberedLemmas.{all_passed, numbered_at}
-use Rattle.dnsv_explain.proofs.WayLemmas.RankLemmas.{anchor_found, anchors_begin, anchors_end, anchors_more}
+use Rattle.dnsv_explain.proofs.lemmas.NumberedLemmas.{all_passed, numbered_at}
+use Rattle.dnsv_explain.proofs.lemmas.derivations.WayLemmas.RankLemmas.{anchor_found, anchors_begin, anchors_end, anchors_more}
 use Rattle.dnsv_explain.proofs.ways.by_anchor.way_by_anchor.Goals as goal
 
 pub loop-place-init : goal.loop-place-init

@@ -1,4 +1,4 @@
-use Rattle.dnsv_explain.proofs.AnswerLemmas.{not_none, some_there}
+use Rattle.dnsv_explain.proofs.lemmas.AnswerLemmas.{not_none, some_there}
 use Rattle.dnsv_explain.proofs.ways.by_ds.has_secured.Goals as goal
 
 pub returns : goal.returns

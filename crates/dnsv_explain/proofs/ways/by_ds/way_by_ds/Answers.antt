@@ -1,6 +1,6 @@
 use Rattle.dnsv_explain.specs.Explained.{basis_in}
-use Rattle.dnsv_explain.proofs.NumberedLemmas.{all_passed, numbered_at}
-use Rattle.dnsv_explain.proofs.WayLemmas.RankLemmas.{records_begin, records_end}
+use Rattle.dnsv_explain.proofs.lemmas.NumberedLemmas.{all_passed, numbered_at}
+use Rattle.dnsv_explain.proofs.lemmas.derivations.WayLemmas.RankLemmas.{records_begin, records_end}
 use Rattle.dnsv_explain.proofs.ways.by_ds.way_by_ds.Goals as goal
 
 pub loop-place-init : goal.loop-place-init

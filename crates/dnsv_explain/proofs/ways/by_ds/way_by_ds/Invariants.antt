@@ -1,6 +1,6 @@
 use Rattle.std.proofs.Common.{◌+◌}
 use Rattle.dnsv_explain.specs.Explained.{basis_in}
-use Rattle.dnsv_explain.specs.WaySearch.{IsNoWayBefore}
+use Rattle.dnsv_explain.specs.derivations.WaySearch.{IsNoWayBefore}
 use Rattle.dnsv_explain.proofs.ways.by_ds.way_by_ds.Given as goal
 
 abbrev pub invariant-loop-place : goal.invariant-loop-place

@@ -2,9 +2,9 @@ use Rattle.std.proofs.Common.{subst, sym}
 use Rattle.std.proofs.lemmas.Option.{MatchOption-at_none, MatchOption-at_some}
 use Rattle.dnsv_names.specs.Name.{Labels}
 use Rattle.dnsv_explain.specs.Explained.{basis_in}
-use Rattle.dnsv_explain.specs.WaySearch.{MayDelegate}
-use Rattle.dnsv_explain.proofs.WayLemmas.RankLemmas.{places_begin, record_skipped}
-use Rattle.dnsv_explain.proofs.WayLemmas.ReadLemmas.{all_passed, found_by, unmatched_passed, unusable_passed}
+use Rattle.dnsv_explain.specs.derivations.WaySearch.{MayDelegate}
+use Rattle.dnsv_explain.proofs.lemmas.derivations.WayLemmas.RankLemmas.{places_begin, record_skipped}
+use Rattle.dnsv_explain.proofs.lemmas.derivations.WayLemmas.ReadLemmas.{all_passed, found_by, unmatched_passed, unusable_passed}
 use Rattle.dnsv_explain.proofs.ways.by_ds.way_in.Goals as goal
 
 pub returns-then-not-may_delegate : goal.returns-then-not-may_delegate

@@ -1,7 +1,7 @@
 use Rattle.std.proofs.Common.{List, subst, sym}
 use Rattle.dnsv_verifier.specs.Admissible.{DnskeyRecord}
-use Rattle.dnsv_explain.specs.WaySearch.{AreKeysInOrder, key_of}
-use Rattle.dnsv_explain.proofs.WayLemmas.KeysLemmas.{all_made, keys_are}
+use Rattle.dnsv_explain.specs.derivations.WaySearch.{AreKeysInOrder, key_of}
+use Rattle.dnsv_explain.proofs.lemmas.derivations.WayLemmas.KeysLemmas.{all_made, keys_are}
 use Rattle.dnsv_explain.proofs.ways.keys.keys_in_order.Goals as goal
 
 pub returns : goal.returns

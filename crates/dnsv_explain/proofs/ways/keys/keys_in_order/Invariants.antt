@@ -1,5 +1,5 @@
 use Rattle.std.proofs.Common.{◌≡◌, map, take}
-use Rattle.dnsv_explain.specs.WaySearch.{key_of}
+use Rattle.dnsv_explain.specs.derivations.WaySearch.{key_of}
 use Rattle.dnsv_explain.proofs.ways.keys.keys_in_order.Given as goal
 
 -- the keys so far

@@ -1,7 +1,7 @@
 use Rattle.std.proofs.Common.{sym, ◌∙◌}
 use Rattle.std.proofs.lemmas.Bool.{false≢true}
 use Rattle.dnsv_explain.specs.Explained.{basis_in}
-use Rattle.dnsv_explain.proofs.WayLemmas.SearchLemmas.{lowest_found, none_at_all, none_at_first, none_to_next}
+use Rattle.dnsv_explain.proofs.lemmas.derivations.WayLemmas.SearchLemmas.{lowest_found, none_at_all, none_at_first, none_to_next}
 use Rattle.dnsv_explain.proofs.ways.keys.lowest_good.Goals as goal
 
 pub loop-place-init : goal.loop-place-init

@@ -1,5 +1,5 @@
 use Rattle.dnsv_explain.specs.Explained.{basis_in}
-use Rattle.dnsv_explain.specs.WaySearch.{IsNoneTo}
+use Rattle.dnsv_explain.specs.derivations.WaySearch.{IsNoneTo}
 use Rattle.dnsv_explain.proofs.ways.keys.lowest_good.Given as goal
 
 abbrev pub invariant-loop-place : goal.invariant-loop-place

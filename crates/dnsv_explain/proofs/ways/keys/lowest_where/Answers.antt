@@ -2,8 +2,8 @@ use Rattle.std.proofs.Common.{ℕ}
 use Rattle.std.specs.Prelude.{IsTrue}
 use Rattle.dnsv_explain.specs.Explained.{basis_in}
 use Rattle.dnsv_explain.specs.Following.{IsGoodUnder}
-use Rattle.dnsv_explain.specs.WaySearch.{IsLowestGood, signature_of}
-use Rattle.dnsv_explain.proofs.AnswerLemmas.{match_both}
+use Rattle.dnsv_explain.specs.derivations.WaySearch.{IsLowestGood, signature_of}
+use Rattle.dnsv_explain.proofs.lemmas.AnswerLemmas.{match_both}
 use Rattle.dnsv_explain.proofs.ways.keys.lowest_where.Goals as goal
 
 pub returns : goal.returns

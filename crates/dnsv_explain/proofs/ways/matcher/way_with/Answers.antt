@@ -1,7 +1,7 @@
 use Rattle.std.proofs.lemmas.Option.{MatchOption-at_none, MatchOption-at_some}
 use Rattle.dnsv_explain.specs.Explained.{basis_in}
-use Rattle.dnsv_explain.proofs.WayLemmas.SearchLemmas.{none_of_all, none_yet, same_keys, way_not_by, way_under}
-use Rattle.dnsv_explain.specs.WaySearch.{MatchesBy, SignsAs}
+use Rattle.dnsv_explain.proofs.lemmas.derivations.WayLemmas.SearchLemmas.{none_of_all, none_yet, same_keys, way_not_by, way_under}
+use Rattle.dnsv_explain.specs.derivations.WaySearch.{MatchesBy, SignsAs}
 use Rattle.dnsv_explain.proofs.ways.matcher.way_with.Goals as goal
 
 pub loop-key-init : goal.loop-key-init

@@ -1,5 +1,5 @@
 use Rattle.dnsv_explain.specs.Explained.{basis_in}
-use Rattle.dnsv_explain.specs.WaySearch.{IsNoneYet, MatchesBy, SignsAs}
+use Rattle.dnsv_explain.specs.derivations.WaySearch.{IsNoneYet, MatchesBy, SignsAs}
 use Rattle.dnsv_explain.proofs.ways.matcher.way_with.Given as goal
 
 abbrev pub invariant-loop-key : goal.invariant-loop-key

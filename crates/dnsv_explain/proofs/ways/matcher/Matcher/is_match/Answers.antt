@@ -1,6 +1,6 @@
 use Rattle.std.proofs.Common.{◌↔◌, sym, subst}
 use Rattle.std.specs.Prelude.{IsTrue}
-use Rattle.dnsv_explain.specs.WaySearch.{MatchesBy}
+use Rattle.dnsv_explain.specs.derivations.WaySearch.{MatchesBy}
 use Rattle.dnsv_explain.specs.declared.ways.matcher.Matcher.{Matcher}
 use Rattle.dnsv_explain.proofs.ways.matcher.Matcher.is_match.Goals as goal
 

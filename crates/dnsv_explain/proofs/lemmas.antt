@@ -1,0 +1,10 @@
+-- What proofs of functions and laws rest on.
+pub mod AnswerLemmas
+pub mod FollowingLemmas
+pub mod NumberedLemmas
+pub mod PlaceLemmas
+pub mod SayingLemmas
+pub mod denials
+pub mod derivations
+pub mod intervals
+pub mod unsigned_cuts

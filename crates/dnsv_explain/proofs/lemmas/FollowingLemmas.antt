@@ -1,0 +1,115 @@
+-- Lines of which each follows from those before it are true.
+use Rattle.std.proofs.Common.{◌≡◌, ℕ, List, [], ◌∷◌, ◌++◌, sym, subst, arith, append_assoc, ⊎_elim}
+use Rattle.std.proofs.lemmas.List.Elements.{Contains-push_cases}
+use Rattle.std.proofs.lemmas.List.{append-nil}
+use Rattle.std.specs.List.{Contains}
+use Rattle.dnsv_names.specs.Name.{Labels}
+use Rattle.dnsv_canonical.specs.Rrsets.{IsNumbered, ReceivedRrset}
+use Rattle.dnsv_chain.specs.Trusted.{IsSecured, IsTrusted}
+use Rattle.dnsv_verifier.specs.Admissible.{DnskeyRecord}
+use Rattle.dnsv_denial.specs.words.EvidenceWords.{Chain}
+use Rattle.dnsv_verdict.specs.Verdict.{Basis}
+use Rattle.dnsv_explain.specs.Following.{EachFollows, Follows, FollowsTrusted, IsMatchedBy, IsSaidSigned, IsSignatureSaid}
+use Rattle.dnsv_explain.specs.Following.Parts.{IsPartOf, IsUnusableRecord}
+use Rattle.dnsv_explain.specs.derivations.Ways.{HasSecured, IsWayInto}
+use Rattle.dnsv_explain.proofs.lemmas.NumberedLemmas.{same_number}
+use Rattle.dnsv_explain.proofs.lemmas.denials.PartLemmas.{said_too}
+use Rattle.dnsv_explain.proofs.lemmas.derivations.WayLemmas.{way_leads}
+use Rattle.dnsv_explain.specs.declared.line.Line.{Line}
+use Rattle.dnsv_explain.specs.declared.line.Line.TheVariants as line
+use Rattle.dnsv_explain.specs.declared.line.derivation.SignatureNumber.{SignatureNumber}
+use Rattle.dnsv_explain.specs.declared.line.derivation.TrustedKeys.{TrustedKeys}
+use Rattle.dnsv_explain.specs.declared.line.derivation.Voucher.{Voucher}
+use Rattle.dnsv_explain.specs.declared.line.derivation.Voucher.TheVariants as voucher
+
+module _ (basis : Basis) where
+  abbrev Trusted : ReceivedRrset → Type 0
+  Trusted set = IsTrusted basis.meaning basis.moment basis.rrsets basis.anchors set
+
+  abbrev Secured : ℕ → ℕ → Type 0
+  Secured = IsSecured basis.meaning basis.moment basis.rrsets basis.anchors
+
+  -- what a line says is so
+  abbrev IsTrue : Line → Type 0
+  IsTrue (line.Trusted keys) = (set : ReceivedRrset) × IsNumbered basis.rrsets keys.signature.rrset set × Trusted set
+  IsTrue (line.Signed signed) = Secured signed.signature.rrset signed.signature.signature
+  IsTrue (line.Part part) = (zone : Labels) × (chain : Chain) × IsPartOf Secured basis.rrsets zone chain part
+  IsTrue (line.Unusable unusable) = IsUnusableRecord basis.rrsets unusable × HasSecured basis unusable.number.rrset
+  IsTrue _ = Unit {0}
+
+  abbrev AreTrue : List Line → Type 0
+  AreTrue lines = (line : Line) → Contains lines line → IsTrue line
+
+  -- what is said to be signed has a signature that is good by trust
+  secured_said : (before : List Line) → AreTrue before → (k : ℕ) → IsSaidSigned before k → HasSecured basis k
+  secured_said before all k said =
+      let Numbered : ℕ → Type 0 = λ n. Secured n said.signed.signature.signature in
+      (said.signed.signature.signature, subst Numbered said.rrset (all (line.Signed said.signed) said.among))
+
+  -- and a signature that is said to be good is
+  said_secured : (before : List Line) → AreTrue before → (k s : ℕ) → IsSignatureSaid before (record { rrset = k; signature = s })
+      → Secured k s
+  said_secured before all k s said =
+      let Good : SignatureNumber → Type 0 = λ number. Secured number.rrset number.signature in
+      subst Good said.is (all (line.Signed said.signed) said.among)
+
+  matched_then : (P Q : ℕ → Type 0) → ((k : ℕ) → P k → Q k) → (voucher : Voucher) (key : DnskeyRecord)
+      → IsMatchedBy P basis voucher key → IsMatchedBy Q basis voucher key
+  matched_then P Q then (voucher.KeyAnchor number) key matched = matched
+  matched_then P Q then (voucher.DsAnchor number digest_type) key matched = matched
+  matched_then P Q then (voucher.Ds number digest_type) key (ds, signed) = (ds, then number.rrset signed)
+
+  abbrev way_followed : (before : List Line) → AreTrue before → (keys : TrustedKeys) (follows : FollowsTrusted basis before keys)
+      → IsWayInto basis keys.signature.rrset (record { voucher = keys.voucher; key = follows.key; signature = keys.signature.signature })
+  way_followed before all keys follows = record {
+    set = follows.set;
+    stands = follows.stands;
+    good = follows.good;
+    matched = matched_then (IsSaidSigned before) (HasSecured basis) (secured_said before all) keys.voucher follows.key follows.vouched;
+  }
+
+  -- what follows is true, where the lines before are
+  true_line : (before : List Line) → AreTrue before → (each : Line) → Follows basis before each → IsTrue each
+  true_line before all (line.Trusted keys) follows =
+      (follows.set, follows.good.is_rrset, way_leads basis keys.signature.rrset _ (way_followed before all keys follows))
+  true_line before all (line.Signed signed) follows =
+      let said = all (line.Trusted follows.trusted.keys) follows.trusted.among in
+      let Numbered : ℕ → Type 0 = λ k. IsNumbered basis.rrsets k said.0 in
+      let same : said.0 ≡ follows.set =
+      same_number basis.rrsets signed.keys said.0 follows.set (subst Numbered follows.trusted.rrset said.1) follows.is_set in
+      record {
+        rrset = follows.rrset;
+        numbered = follows.good.is_rrset;
+        rdata = follows.good.rdata;
+        signature = follows.good.is_signature;
+        rrsig = follows.good.rrsig;
+        is = follows.good.read;
+        good = record { set = follows.set; trusted = subst Trusted same said.2; key = follows.key; stands = follows.stands; good = follows.good.good };
+      }
+  true_line before all (line.Proof proof) follows = tt
+  true_line before all (line.Part part) follows = (
+    follows.zone,
+    follows.chain,
+    said_too (λ k s. IsSignatureSaid before (record { rrset = k; signature = s })) Secured basis.rrsets follows.zone follows.chain
+        part.role part.relation part.name part.by (said_secured before all) follows.says,
+  )
+  true_line before all (line.Case cut) follows = tt
+  true_line before all (line.Unusable ds) follows = (follows.0, secured_said before all ds.number.rrset follows.1)
+  true_line before all (line.Hope kind) follows = tt
+  true_line before all (line.Holds interval) follows = tt
+  true_line before all (line.Rrset place) follows = tt
+
+  more_true : (before : List Line) (each : Line) → AreTrue before → IsTrue each → AreTrue (before ++ each ∷ [])
+  more_true before each all one = λ other there.
+      ⊎_elim (λ (earlier : Contains before other). all other earlier)
+      (λ (last : each ≡ other). subst IsTrue last one)
+      (Contains-push_cases before each other there)
+
+  pub all_true : (before lines : List Line) → AreTrue before → EachFollows basis before lines → AreTrue (before ++ lines)
+  all_true before [] all follows = subst AreTrue (sym (append-nil before)) all
+  all_true before (each ∷ lines) all follows =
+      subst AreTrue (append_assoc before (each ∷ []) lines)
+      (all_true (before ++ each ∷ []) lines (more_true before each all (true_line before all each follows.0)) follows.1)
+
+  pub no_lines : AreTrue []
+  no_lines = λ each there. absurd (omega (arith, there.1))

@@ -1,0 +1,6 @@
+-- Derivations, and how they are looked for.
+pub mod ClimbLemmas
+pub mod DerivationLemmas
+pub mod OwnLemmas
+pub mod SignerLemmas
+pub mod WayLemmas

@@ -1,0 +1,179 @@
+-- Lines follow at each moment at which the signatures that they show are valid.
+use Rattle.std.proofs.Common.{◌≡◌, ℕ, List, [], ◌∷◌, ◌++◌, refl, sym, subst, ◌⊎◌, inl, inr, ⊎_elim, arith}
+use Rattle.std.proofs.lemmas.List.Elements.{Contains-append_cases, Contains-append_right, Contains-push_cases}
+use Rattle.std.specs.List.{Contains}
+use Rattle.dnsv_records.specs.Rrsig.Time.{ValidAt}
+use Rattle.dnsv_canonical.specs.Rrsets.{ReceivedRrset}
+use Rattle.dnsv_verifier.specs.Admissible.{DnskeyRecord}
+use Rattle.dnsv_verdict.specs.Verdict.{Basis}
+use Rattle.dnsv_explain.specs.Following.{EachFollows, Follows, IsGoodUnder, IsVouchedBy, at_moment}
+use Rattle.dnsv_explain.specs.intervals.Holding.{AreShownValidAt, HasTimes, ShowsTimes}
+use Rattle.dnsv_explain.specs.declared.interval.Times.{Times}
+use Rattle.dnsv_explain.specs.declared.line.Line.{Line}
+use Rattle.dnsv_explain.specs.declared.line.Line.TheVariants as line
+use Rattle.dnsv_explain.specs.declared.line.derivation.SignatureNumber.{SignatureNumber}
+use Rattle.dnsv_explain.specs.declared.line.derivation.Voucher.{Voucher}
+use Rattle.dnsv_explain.specs.declared.line.derivation.Voucher.TheVariants as voucher
+use Rattle.dnsv_explain.proofs.lemmas.intervals.ShownLemmas.{one_times}
+
+-- ---- members of a list
+
+is_first : {X : Type 0} (x : X) (xs : List X) → Contains (x ∷ xs) x
+is_first x xs = (0, omega arith, refl)
+
+is_behind : {X : Type 0} (x : X) (xs : List X) (y : X) → Contains xs y → Contains (x ∷ xs) y
+is_behind x xs y there = Contains-append_right (x ∷ []) xs y there
+
+first_or_behind : {X : Type 0} (x : X) (xs : List X) (y : X) → Contains (x ∷ xs) y → (x ≡ y) ⊎ Contains xs y
+first_or_behind x xs y there =
+    ⊎_elim (λ (first : Contains (x ∷ []) y).
+    ⊎_elim (λ (none : Contains [] y). absurd (omega (arith, none.1))) (λ (same : x ≡ y). inl same) (Contains-push_cases [] x y first))
+    (λ (behind : Contains xs y). inr behind) (Contains-append_cases (x ∷ []) xs y there)
+
+-- ---- signatures of lines
+
+module _ (basis : Basis) where
+  -- the times of a signature that is good
+  times_of : (number : SignatureNumber) (rrset : ReceivedRrset) (key : DnskeyRecord) (good : IsGoodUnder basis number rrset key)
+      → HasTimes basis.rrsets number (record { inception = good.rrsig.inception; expiration = good.rrsig.expiration })
+  times_of number rrset key good = record {
+    rrset = rrset;
+    is_rrset = good.is_rrset;
+    rdata = good.rdata;
+    is_signature = good.is_signature;
+    rrsig = good.rrsig;
+    read = good.read;
+    inception = refl;
+    expiration = refl;
+  }
+
+  -- it is valid at the moment
+  good_is_valid : (number : SignatureNumber) (rrset : ReceivedRrset) (key : DnskeyRecord) → IsGoodUnder basis number rrset key
+      → (times : Times) → HasTimes basis.rrsets number times
+      → ValidAt times.inception.0 times.expiration.0 basis.moment
+  good_is_valid number rrset key good times has =
+      let Valid : Times → Type 0 = λ each. ValidAt each.inception.0 each.expiration.0 basis.moment in
+      subst Valid (one_times basis.rrsets number _ times (times_of number rrset key good) has) good.good.admissible.timely
+
+  shown_is_valid : (before : List Line) (each : Line) → Follows basis before each → (times : Times)
+      → ShowsTimes basis.rrsets each times → ValidAt times.inception.0 times.expiration.0 basis.moment
+  shown_is_valid before (line.Trusted keys) follows times (number, is, has) =
+      let same : number ≡ keys.signature = cc in
+      let Has : SignatureNumber → Type 0 = λ one. HasTimes basis.rrsets one times in
+      good_is_valid keys.signature follows.set follows.key follows.good times (subst Has same has)
+  shown_is_valid before (line.Signed signed) follows times (number, is, has) =
+      let same : number ≡ signed.signature = cc in
+      let Has : SignatureNumber → Type 0 = λ one. HasTimes basis.rrsets one times in
+      good_is_valid signed.signature follows.rrset follows.key follows.good times (subst Has same has)
+  shown_is_valid before (line.Proof proof) follows times (number, is, has) = cc
+  shown_is_valid before (line.Part part) follows times (number, is, has) = cc
+  shown_is_valid before (line.Case cut) follows times (number, is, has) = cc
+  shown_is_valid before (line.Unusable ds) follows times (number, is, has) = cc
+  shown_is_valid before (line.Hope kind) follows times (number, is, has) = cc
+  shown_is_valid before (line.Holds interval) follows times (number, is, has) = cc
+  shown_is_valid before (line.Rrset place) follows times (number, is, has) = cc
+
+  -- ---- another moment
+
+  module _ (moment : ℕ) where
+    good_then : (number : SignatureNumber) (rrset : ReceivedRrset) (key : DnskeyRecord) (good : IsGoodUnder basis number rrset key)
+        → ValidAt good.rrsig.inception.0 good.rrsig.expiration.0 moment → IsGoodUnder (at_moment basis moment) number rrset key
+    good_then number rrset key good timely = record {
+      is_rrset = good.is_rrset;
+      rdata = good.rdata;
+      is_signature = good.is_signature;
+      rrsig = good.rrsig;
+      read = good.read;
+      good = record {
+        admissible = record {
+          over = good.good.admissible.over;
+          timely = timely;
+          signer = good.good.admissible.signer;
+          unexpanded = good.good.admissible.unexpanded;
+          zone_key = good.good.admissible.zone_key;
+          named = good.good.admissible.named;
+        };
+        entry = good.good.entry;
+        is = good.good.is;
+        valid = good.good.valid;
+      };
+    }
+
+    vouched_then : (before : List Line) (voucher : Voucher) (key : DnskeyRecord) → IsVouchedBy basis before voucher key
+        → IsVouchedBy (at_moment basis moment) before voucher key
+    vouched_then before (voucher.KeyAnchor number) key vouched = vouched
+    vouched_then before (voucher.DsAnchor number digest_type) key vouched = vouched
+    vouched_then before (voucher.Ds number digest_type) key (ds, signed) = (
+      record {
+        rrset = ds.rrset;
+        rdata = ds.rdata;
+        at = ds.at;
+        rtype = ds.rtype;
+        ds = ds.ds;
+        read = ds.read;
+        records = ds.records;
+        are_read = ds.are_read;
+        among = ds.among;
+        usable = ds.usable;
+        matching = ds.matching;
+        digest = ds.digest;
+      },
+      signed,
+    )
+
+    follows_then : (before : List Line) (each : Line)
+        → ((times : Times) → ShowsTimes basis.rrsets each times → ValidAt times.inception.0 times.expiration.0 moment)
+        → Follows basis before each → Follows (at_moment basis moment) before each
+    follows_then before (line.Trusted keys) valid follows = record {
+      set = follows.set;
+      owner = follows.owner;
+      key = follows.key;
+      stands = follows.stands;
+      named = follows.named;
+      good = good_then keys.signature follows.set follows.key follows.good
+          (valid _ (keys.signature, refl, times_of keys.signature follows.set follows.key follows.good));
+      vouched = vouched_then before keys.voucher follows.key follows.vouched;
+    }
+    follows_then before (line.Signed signed) valid follows = record {
+      rrset = follows.rrset;
+      owner = follows.owner;
+      rtype = follows.rtype;
+      set = follows.set;
+      is_set = follows.is_set;
+      zone = follows.zone;
+      key = follows.key;
+      stands = follows.stands;
+      named = follows.named;
+      good = good_then signed.signature follows.rrset follows.key follows.good
+          (valid _ (signed.signature, refl, times_of signed.signature follows.rrset follows.key follows.good));
+      trusted = follows.trusted;
+    }
+    follows_then before (line.Proof proof) valid follows = tt
+    follows_then before (line.Part part) valid follows = follows
+    follows_then before (line.Case cut) valid follows = tt
+    follows_then before (line.Unusable ds) valid follows = follows
+    follows_then before (line.Hope kind) valid follows = tt
+    follows_then before (line.Holds interval) valid follows = tt
+    follows_then before (line.Rrset place) valid follows = follows
+
+    pub each_follows_then : (before lines : List Line) → AreShownValidAt basis.rrsets lines moment
+        → EachFollows basis before lines → EachFollows (at_moment basis moment) before lines
+    each_follows_then before [] valid follows = tt
+    each_follows_then before (each ∷ lines) valid follows = (
+      follows_then before each (λ times shows. valid each times (is_first each lines) shows) follows.0,
+      each_follows_then (before ++ each ∷ []) lines (λ other times there shows. valid other times (is_behind each lines other there) shows) follows.1,
+    )
+
+  one_shown_valid : (before lines : List Line) → EachFollows basis before lines → (each : Line) (times : Times)
+      → Contains lines each → ShowsTimes basis.rrsets each times
+      → ValidAt times.inception.0 times.expiration.0 basis.moment
+  one_shown_valid before [] follows each times there shows = absurd (omega (arith, there.1))
+  one_shown_valid before (first ∷ lines) follows each times there shows =
+      ⊎_elim (λ (same : first ≡ each). let Shows : Line → Type 0 = λ one. ShowsTimes basis.rrsets one times in
+      shown_is_valid before first follows.0 times (subst Shows (sym same) shows))
+      (λ (behind : Contains lines each). one_shown_valid (before ++ first ∷ []) lines follows.1 each times behind shows)
+      (first_or_behind first lines each there)
+
+  pub all_shown_valid : (lines : List Line) → EachFollows basis [] lines
+      → AreShownValidAt basis.rrsets lines basis.moment
+  all_shown_valid lines follows = λ each times there shows. one_shown_valid [] lines follows each times there shows

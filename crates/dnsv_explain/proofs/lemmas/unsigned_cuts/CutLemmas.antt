@@ -1,0 +1,78 @@
+-- What is so of names that may be unsigned by what records of a zone say.
+use Rattle.std.proofs.Common.{◌≡◌, ◌≤◌, ◌+◌, ℕ, List, [], ◌∷◌, ◌++◌, Option, Some, None, length, refl, arith}
+use Rattle.std.specs.List.{AllByRecursion, Contains}
+use Rattle.dnsv_names.specs.Name.{Labels, rightmost}
+use Rattle.dnsv_canonical.specs.Rrsets.{ReceivedRrset}
+use Rattle.dnsv_denial.specs.forms.ShownUnsigned.{ShowsDelegation, ShowsOptOut}
+use Rattle.dnsv_denial.specs.forms.ShownUnsigned.ShowsDelegation.{delegation}
+use Rattle.dnsv_denial.specs.forms.ShownUnsigned.ShowsOptOut.{opt_out, wildcard_opt_out}
+use Rattle.dnsv_denial.specs.records.RecordsAt.{listed}
+use Rattle.dnsv_denial.specs.words.EvidenceWords.{Chain, evidence_said, number_cmp}
+use Rattle.dnsv_denial.specs.declared.forms.proof_form.ProofForm.{ProofForm}
+use Rattle.dnsv_denial.specs.declared.proving.proof_part.PartRelation.TheVariants as related
+use Rattle.dnsv_denial.specs.declared.proving.shown_denial.ShownDenial.{ShownDenial}
+use Rattle.dnsv_denial.specs.declared.records.number.RecordNumber.{RecordNumber}
+use Rattle.dnsv_verdict.specs.Verdict.{Basis}
+use Rattle.dnsv_explain.specs.derivations.OwnDerivations.{SecuredIn}
+use Rattle.dnsv_explain.specs.unsigned_cuts.ShownCuts.{IsShownUnsigned}
+use Rattle.dnsv_explain.specs.unsigned_cuts.ShownCuts.IsShownUnsigned.{no_ds, opted_out}
+use Rattle.dnsv_explain.specs.declared.line.cut.InsecureCase.{InsecureCase}
+use Rattle.dnsv_explain.specs.declared.line.denial.Relation.TheVariants as relation
+use Rattle.dnsv_explain.specs.declared.line.denial.Role.TheVariants as role
+use Rattle.dnsv_explain.proofs.lemmas.denials.ShownLemmas.{EncloserSigned, FormFacts, IsSigned, ShownFacts, encloser_says, encloser_signed, wildcard_records_signed, wildcard_says}
+use Rattle.dnsv_explain.proofs.lemmas.denials.PartLemmas.{word_signed}
+
+module _ (S : ℕ → ℕ → Type 0) (rrsets : List ReceivedRrset) (apex name : Labels) where
+  delegation_facts : (chain : Chain) (labels : ℕ) (shape : ProofForm RecordNumber)
+      → ShowsDelegation number_cmp (evidence_said S rrsets apex chain) apex name labels shape
+      → FormFacts S rrsets apex name chain shape
+  delegation_facts chain labels shape (delegation number shows) = record {
+    parts = (record { within = shows.fits; says = shows.types.says }, tt);
+    encloser = tt;
+    records = (word_signed S rrsets apex number chain role.Cut relation.Matched (rightmost name labels) shows.types.says, tt);
+  }
+
+  opt_out_signed : (by : Option RecordNumber) (next_closer : RecordNumber) → EncloserSigned S rrsets apex name by
+      → IsSigned S rrsets apex name next_closer → AllByRecursion (IsSigned S rrsets apex name) (listed by ++ next_closer ∷ [])
+  opt_out_signed None next_closer first second = (second, tt)
+  opt_out_signed (Some number) next_closer first second = (first, (second, tt))
+
+  opt_out_facts : (chain : Chain) (labels : ℕ) (shape : ProofForm RecordNumber)
+      → ShowsOptOut number_cmp (evidence_said S rrsets apex chain) apex name labels shape → FormFacts S rrsets apex name chain shape
+  opt_out_facts chain labels shape (opt_out by number shows) =
+      let below = shows.above.proper in record {
+        parts = (
+          encloser_says S rrsets apex name chain labels by below shows.encloser,
+          (record { within = below; says = shows.next_closer.says }, tt),
+        );
+        encloser = omega (arith, below);
+        records = opt_out_signed by number (encloser_signed S rrsets apex name chain (rightmost name labels) by shows.encloser)
+            (word_signed S rrsets apex number chain role.NextCloser relation.OptOut (rightmost name (labels + 1)) shows.next_closer.says);
+      }
+  opt_out_facts chain labels shape (wildcard_opt_out parts same shows) =
+      let below = shows.shows.above.proper in record {
+        parts = wildcard_says S rrsets apex name chain _ related.OptOut parts shows.shows (λ number says. says);
+        encloser = omega (arith, below);
+        records = wildcard_records_signed S rrsets apex name chain _ related.OptOut parts shows.shows (λ number says. says);
+      }
+
+module _ (basis : Basis) (name : Labels) (shown : ShownDenial) where
+  pub cut_facts : (kind : InsecureCase) (cut : Labels) → IsShownUnsigned basis name shown kind cut → ShownFacts basis name shown
+  cut_facts kind cut (no_ds labels is) = record {
+    apex = shown.proof.zone;
+    same = refl;
+    chain = is.chain;
+    kind = is.kind;
+    facts = delegation_facts (SecuredIn basis) basis.rrsets shown.proof.zone name is.chain labels shown.form is.shows;
+    records = λ number there. (is.records.members number).0 there;
+    named = λ number there. (is.records.members number).1 there;
+  }
+  cut_facts kind cut (opted_out labels is) = record {
+    apex = shown.proof.zone;
+    same = refl;
+    chain = is.chain;
+    kind = is.kind;
+    facts = opt_out_facts (SecuredIn basis) basis.rrsets shown.proof.zone name is.chain labels shown.form is.shows;
+    records = λ number there. (is.records.members number).0 there;
+    named = λ number there. (is.records.members number).1 there;
+  }

@@ -1,0 +1,8 @@
+-- What derives a DNSKEY RRset or a signature, and how that is looked for.
+pub mod Climb
+pub mod Derivations
+pub mod OwnDerivations
+pub mod OwnSearch
+pub mod SignerSearch
+pub mod WaySearch
+pub mod Ways

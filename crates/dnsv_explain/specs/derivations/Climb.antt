@@ -1,0 +1,35 @@
+-- A derivation as it is worked out, from the bottom up. No public clause cites this module.
+use Rattle.std.specs.Prelude.{◌≡◌, ◌<◌, ◌-◌, ℕ, List, ◌++◌, Option, Some, None, length, reverse, slice_get}
+use Rattle.std.specs.Option.{option_map_or}
+use Rattle.dnsv_canonical.specs.Rrsets.{ReceivedRrset}
+use Rattle.dnsv_verdict.specs.Verdict.{Basis}
+use Rattle.dnsv_explain.specs.derivations.Derivations.{IsDerivation}
+use Rattle.dnsv_explain.specs.derivations.Derivations.Subject.{keys}
+use Rattle.dnsv_explain.specs.derivations.Ways.{IsTrustedSet}
+use Rattle.dnsv_explain.specs.declared.line.Line.{Line}
+
+-- how many labels the owner of RRset k has
+abbrev pub labels_at : List ReceivedRrset → ℕ → ℕ
+labels_at rrsets k = option_map_or (λ (rrset : ReceivedRrset). length rrset.owner) (slice_get rrsets (k - 1)) 0
+
+-- the lines derive DNSKEY RRset k, the last one first
+abbrev pub IsClimbed : Basis → List Line → ℕ → List Line → Type 0
+IsClimbed basis before k lines = IsDerivation basis before (keys k) (reverse lines)
+
+-- whatever derives DNSKEY RRset `next` derives with these lines behind it, the last one first, DNSKEY RRset k
+pub record LeadsUp (basis : Basis) (before : List Line) (k : ℕ) (lines : List Line) (next : ℕ) : Type 0 where
+  pub derives : (above : List Line) → IsDerivation basis before (keys next) above
+      → IsDerivation basis before (keys k) (above ++ reverse lines)
+  pub trusted : IsTrustedSet basis next
+
+-- lines are added: those that are left, or those that lead up to another DNSKEY RRset, which has fewer labels
+abbrev pub Climbs : Basis → List Line → ℕ → List Line → List Line → Option ℕ → Type 0
+Climbs basis before k old new None = (more : List Line) × (new ≡ old ++ more) × IsClimbed basis before k more
+Climbs basis before k old new (Some next) =
+    (more : List Line) × (new ≡ old ++ more) × LeadsUp basis before k more next
+    × (labels_at basis.rrsets next < labels_at basis.rrsets k)
+
+-- the lines derive DNSKEY RRset k, or lead up from it to another one
+abbrev pub IsUpTo : Basis → List Line → ℕ → List Line → Option ℕ → Type 0
+IsUpTo basis before k lines None = IsClimbed basis before k lines
+IsUpTo basis before k lines (Some next) = LeadsUp basis before k lines next

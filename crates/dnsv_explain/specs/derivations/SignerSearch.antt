@@ -1,0 +1,64 @@
+-- How the first key of a signature is looked for. No public clause cites this module.
+use Rattle.std.specs.Prelude.{◌≡◌, ◌≢◌, ◌≤◌, ℕ, List, Option, Some, None}
+use Rattle.std.specs.declared.cmp.Ordering.TheVariants.{Less}
+use Rattle.dnsv_records.specs.Rrsig.{IsRrsig}
+use Rattle.dnsv_records.specs.declared.rrsig.Rrsig.{Rrsig}
+use Rattle.dnsv_canonical.specs.Canonical.{rdata_cmp}
+use Rattle.dnsv_canonical.specs.Rrsets.{IsNumbered, ReceivedRrset}
+use Rattle.dnsv_verifier.specs.Admissible.{DnskeyRecord, IsGood}
+use Rattle.dnsv_chain.specs.Trusted.{IsKeyOf}
+use Rattle.dnsv_verdict.specs.Verdict.{Basis}
+use Rattle.dnsv_explain.specs.Following.{IsNamed}
+use Rattle.dnsv_explain.specs.derivations.Ways.{IsSigner}
+use Rattle.dnsv_explain.specs.declared.line.derivation.SignatureNumber.{SignatureNumber}
+use Rattle.dnsv_explain.specs.declared.signers.Signer.{Signer}
+
+-- the signature with the number is this one
+pub record IsSignatureAt (rrset : ReceivedRrset) (s : ℕ) (rrsig : Rrsig) : Type 0 where
+  pub rdata : List ℕ
+  pub is_signature : IsNumbered rrset.signatures s rdata
+  pub read : IsRrsig rdata rrsig
+
+-- it is this key of DNSKEY RRset k
+pub record IsOfKey (k : ℕ) (key : DnskeyRecord) (signer : Signer) : Type 0 where
+  pub set : signer.set ≡ k
+  pub rdata : signer.rdata.now ≡ key.rdata
+  pub named : IsNamed key signer.key
+
+-- it is the lowest key of DNSKEY RRset k under which the signature of the RRset is good
+pub record IsLowestGoodKey
+    (basis : Basis) (rrset : ReceivedRrset) (rrsig : Rrsig) (k : ℕ) (set : ReceivedRrset) (signer : Signer) : Type 0 where
+  pub key : DnskeyRecord
+  pub of : IsOfKey k key signer
+  pub stands : IsKeyOf set key
+  pub good : IsGood basis.meaning basis.moment rrset rrsig key
+  pub lowest : (other : DnskeyRecord) → IsKeyOf set other → IsGood basis.meaning basis.moment rrset rrsig other
+      → rdata_cmp other.rdata key.rdata ≢ Less
+
+-- it is the lowest of those that stand in DNSKEY RRset k
+pub record IsLowestIn (basis : Basis) (number : SignatureNumber) (k : ℕ) (signer : Signer) : Type 0 where
+  pub key : DnskeyRecord
+  pub of : IsOfKey k key signer
+  pub is : IsSigner basis number k key
+  pub lowest : (other : DnskeyRecord) → IsSigner basis number k other → rdata_cmp other.rdata key.rdata ≢ Less
+
+-- or there is none in it
+abbrev pub IsLowestOf : Basis → SignatureNumber → ℕ → Option Signer → Type 0
+IsLowestOf basis number k None = (other : DnskeyRecord) → ¬ IsSigner basis number k other
+IsLowestOf basis number k (Some signer) = IsLowestIn basis number k signer
+
+-- it is the first of those of the RRsets up to the number
+pub record IsFirstAmong (basis : Basis) (number : SignatureNumber) (n : ℕ) (signer : Signer) : Type 0 where
+  pub key : DnskeyRecord
+  pub of : IsOfKey signer.set key signer
+  pub is : IsSigner basis number signer.set key
+  pub within : signer.set ≤ n
+  pub lowest : (k : ℕ) (other : DnskeyRecord) → k ≤ n → IsSigner basis number k other
+      → rdata_cmp other.rdata key.rdata ≢ Less
+  pub earliest : (k : ℕ) (other : DnskeyRecord) → k ≤ n → IsSigner basis number k other
+      → other.rdata ≡ key.rdata → signer.set ≤ k
+
+-- or there is none
+abbrev pub IsFirstTo : Basis → SignatureNumber → ℕ → Option Signer → Type 0
+IsFirstTo basis number n None = (k : ℕ) (other : DnskeyRecord) → k ≤ n → ¬ IsSigner basis number k other
+IsFirstTo basis number n (Some signer) = IsFirstAmong basis number n signer

@@ -1,0 +1,109 @@
+-- How the first way is looked for. No public clause cites this module.
+use Rattle.std.specs.Prelude.{◌≡◌, ◌≢◌, ◌<◌, ◌≤◌, ℕ, List, Contains, get_or, length, map}
+use Rattle.std.specs.declared.cmp.Ordering.TheVariants.{Less}
+use Rattle.dnsv_names.specs.Name.{Labels, SameName}
+use Rattle.dnsv_records.specs.declared.dnskey.Dnskey.{Dnskey}
+use Rattle.dnsv_canonical.specs.Canonical.{IsCanonical, rdata_cmp}
+use Rattle.dnsv_canonical.specs.Rrsets.{IsNumbered, ReceivedRrset}
+use Rattle.dnsv_verifier.specs.Admissible.{DnskeyRecord}
+use Rattle.dnsv_chain.specs.Anchor.{IsAnchorMatch}
+use Rattle.dnsv_chain.specs.Ds.{IsMatch}
+use Rattle.dnsv_chain.specs.Trusted.{IsKeyOf}
+use Rattle.dnsv_chain.specs.declared.anchor.Anchor.{Anchor}
+use Rattle.dnsv_chain.specs.declared.anchor.Anchor.TheVariants as anchor
+use Rattle.dnsv_verdict.specs.Verdict.{Basis}
+use Rattle.dnsv_explain.specs.Following.{IsGoodUnder, IsNamed}
+use Rattle.dnsv_explain.specs.derivations.Ways.{HasSecured, IsFirstWay, IsLess, IsWayInto, Way, voucher_rank}
+use Rattle.dnsv_explain.specs.declared.line.derivation.SignatureNumber.{SignatureNumber}
+use Rattle.dnsv_explain.specs.declared.line.derivation.Voucher.{Voucher}
+use Rattle.dnsv_explain.specs.declared.line.derivation.Voucher.TheVariants as voucher
+use Rattle.dnsv_explain.specs.declared.ways.FoundWay.{FoundWay}
+use Rattle.dnsv_explain.specs.declared.ways.keys.KeySet.{KeySet}
+use Rattle.dnsv_explain.specs.declared.ways.matcher.Matcher.{Matcher}
+use Rattle.dnsv_explain.specs.declared.ways.matcher.Matcher.TheVariants as matcher
+
+-- ---- keys and signatures of an RRset
+
+abbrev pub signature_of : ℕ → ℕ → SignatureNumber
+signature_of k s = record { rrset = k; signature = s }
+
+-- the keys of the DNSKEY RRset, in the order of their RDATA
+pub record AreKeysInOrder (set : ReceivedRrset) (keys : List DnskeyRecord) : Type 0 where
+  pub canonical : IsCanonical set.rdata (map (λ key. key.rdata) keys)
+  pub each : (key : DnskeyRecord) → Contains keys key → IsKeyOf set key
+
+-- the RRset has the number, and these are its keys in order
+pub record IsKeySet (basis : Basis) (set : KeySet) : Type 0 where
+  pub numbered : IsNumbered basis.rrsets set.number set.rrset.now
+  pub in_order : AreKeysInOrder set.rrset.now set.keys.items
+
+-- no signature of RRset k with a lower number is good under the key
+pub record IsLowestGood (basis : Basis) (k : ℕ) (rrset : ReceivedRrset) (key : DnskeyRecord) (s : ℕ) : Type 0 where
+  pub good : IsGoodUnder basis (signature_of k s) rrset key
+  pub lowest : (t : ℕ) → IsGoodUnder basis (signature_of k t) rrset key → s ≤ t
+
+-- none of the signatures up to the number is
+abbrev pub IsNoneTo : Basis → ℕ → ReceivedRrset → DnskeyRecord → ℕ → Type 0
+IsNoneTo basis k rrset key n = (s : ℕ) → s ≤ n → ¬ IsGoodUnder basis (signature_of k s) rrset key
+
+-- the key of the owner that the RDATA is
+abbrev pub key_of : Labels → List ℕ → Dnskey → DnskeyRecord
+key_of owner rdata dnskey = record { owner = owner; rdata = rdata; dnskey = dnskey }
+
+-- none of the first n keys is such
+abbrev pub IsNoneYet : List DnskeyRecord → (DnskeyRecord → Type 0) → ℕ → Type 0
+IsNoneYet keys Such n = (j : ℕ) (d : DnskeyRecord) → j < n → j < length keys → ¬ Such (get_or keys j d)
+
+-- ---- by what matches
+
+-- the key is such, and signs DNSKEY RRset k
+abbrev pub SignsAs : Basis → ℕ → ReceivedRrset → (DnskeyRecord → Type 0) → DnskeyRecord → Type 0
+SignsAs basis k set Matches key = (t : ℕ) × Matches key × IsGoodUnder basis (signature_of k t) set key
+
+-- the way found is by the lowest key that is such and signs the RRset, and its lowest signature
+pub record IsFirstUnder
+    (basis : Basis) (k : ℕ) (set : ReceivedRrset) (Matches : DnskeyRecord → Type 0) (voucher : Voucher)
+    (found : FoundWay) : Type 0 where
+  pub voucher_is : found.voucher ≡ voucher
+  pub key : DnskeyRecord
+  pub named : IsNamed key found.key
+  pub stands : IsKeyOf set key
+  pub matched : Matches key
+  pub good : IsLowestGood basis k set key found.signature
+  pub lowest : (other : DnskeyRecord) → IsKeyOf set other → SignsAs basis k set Matches other
+      → rdata_cmp other.rdata key.rdata ≢ Less
+
+-- no key that is such signs the RRset
+abbrev pub IsNoneUnder : Basis → ℕ → ReceivedRrset → (DnskeyRecord → Type 0) → Type 0
+IsNoneUnder basis k set Matches = (other : DnskeyRecord) → IsKeyOf set other → ¬ SignsAs basis k set Matches other
+
+-- the anchor, or the record of a DS RRset with the owner, matches the key
+abbrev pub MatchesBy : Matcher → DnskeyRecord → Type 0
+MatchesBy (matcher.Anchor anchor) = IsAnchorMatch anchor.now
+MatchesBy (matcher.Ds owner ds) = IsMatch owner.now ds.now
+
+-- the anchor, which has the number, is told so
+abbrev pub IsVoucherOf : ℕ → Anchor → Voucher → Type 0
+IsVoucherOf number (anchor.Ds owner ds) told = told ≡ voucher.DsAnchor number ds.digest_type
+IsVoucherOf number (anchor.Key owner rdata) told = told ≡ voucher.KeyAnchor number
+
+-- the RRset, which has the number, is a DS RRset of the name, and has a secured signature
+pub record MayDelegate (basis : Basis) (number : ℕ) (ds : ReceivedRrset) (name : Labels) : Type 0 where
+  pub rtype : ds.rtype ≡ 43
+  pub owner : SameName ds.owner name
+  pub secured : HasSecured basis number
+
+-- ---- ways
+
+-- the way found is the first
+pub record IsFoundWay (basis : Basis) (k : ℕ) (found : FoundWay) : Type 0 where
+  pub key : DnskeyRecord
+  pub named : IsNamed key found.key
+  pub first : IsFirstWay basis k (record { voucher = found.voucher; key = key; signature = found.signature })
+
+abbrev pub IsNoWay : Basis → ℕ → Type 0
+IsNoWay basis k = (way : Way) → ¬ IsWayInto basis k way
+
+-- no way goes before this rank
+abbrev pub IsNoWayBefore : Basis → ℕ → ℕ × ℕ × ℕ → Type 0
+IsNoWayBefore basis k rank = (way : Way) → IsWayInto basis k way → ¬ IsLess (voucher_rank way.voucher) rank

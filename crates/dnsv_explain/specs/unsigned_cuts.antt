@@ -1,0 +1,3 @@
+-- The lines of a name that may be unsigned.
+pub mod ShownCuts
+pub mod UnsignedCuts
