@@ -5,5 +5,6 @@ pub mod explaining;
 pub mod hex_text;
 pub mod json;
 pub mod listing;
+pub mod reason;
 pub mod showing;
 pub mod todo;
