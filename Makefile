@@ -35,7 +35,8 @@ faults: | $(program)
 	tools/faults
 
 # Every wrong body, those that the gate leaves out too, of all crates or of those named, as CRATES="dnsv_names"; with
-# SINCE=COMMIT, of those that a change since that commit concerns. And every program that must not compile.
+# SINCE=COMMIT, of those that a change since that commit concerns; with UNTOLD=1, those that no file wrong-bodies/refused
+# names. And every program that must not compile.
 wrong-bodies:
 	tools/wrong-bodies $(CRATES)
 	tools/does-not-compile $(CRATES)
