@@ -118,6 +118,8 @@ class WrongBodies(Room):
         self.assertEqual([line.split()[0] for line in told], ["must_fail_00", "wrong_bodies_00"])
         with mock.patch.dict(os.environ, UNTOLD="1"):
             self.assertEqual(self.told()[1][-1], "0 passed, 1 failed")
+        self.assertEqual(self.told("--told"), (0, ["lower: 3, of which 2 were refused as they are", "upper: 0, of which 0 were refused as they are"], ""))
+        self.assertEqual(self.told("--told", "lower")[1], ["lower: 3, of which 2 were refused as they are"])
 
     def test_those_of_named_crates_alone(self):
         self.add("lower", "must-fail", "wrong")
