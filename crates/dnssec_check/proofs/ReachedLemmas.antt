@@ -1,5 +1,5 @@
 -- What comes before a failed read.
-use Rattle.std.proofs.Common.{ℕ, subst, sym}
+use Rattle.std.proofs.Common.{◌≡◌, ℕ, Bool, true, false, inl, subst, sym}
 use Rattle.std.specs.Prelude.{Result, Ok, Err, IfErr}
 use Rattle.dnssec_check.specs.declared.status.Fault.{Fault}
 use Rattle.dnssec_check.specs.declared.status.Fault.TheVariants as fault
@@ -8,7 +8,10 @@ use Rattle.dnssec_check.specs.declared.status.InputFile.TheVariants.{Anchors, Ca
 use Rattle.dnssec_check.specs.Opening.Given.{IsOpeningReached}
 use Rattle.dnssec_check.specs.Files.Faults.{IsAbout, OfFailedRead}
 use Rattle.dnssec_check.specs.Files.{Files}
-use Rattle.dnssec_check.specs.Run.{IsReachedOfFiles}
+use Rattle.dnssec_check.specs.Files.Capture.{NewEvidence, IsFaultOfCapture}
+use Rattle.dnssec_check.specs.declared.opening.Opening.TheVariants.{Plain}
+use Rattle.dnssec_check.specs.Run.{HasEvidence, IsFirstFaultOfList, IsReachedByList, IsReachedOfFiles}
+use Rattle.std.proofs.lemmas.Bool.{false≢true}
 
 -- where a fault is about one file, what holds of that file is enough
 pub reached_by : (Holds : InputFile → Type 0) (file : InputFile) (told : Fault) → IsAbout file told → Holds file → OfFailedRead Holds told
@@ -43,3 +46,17 @@ in_files moment files Statements holds = absurd holds
 -- the keys and the MACs are read first
 pub reached_sealed : (moment : ℕ) (files : Files) (told : Fault) → OfFailedRead (IsOpeningReached files.keys) told → OfFailedRead (IsReachedOfFiles moment files) told
 reached_sealed moment files told = weaker_told (IsOpeningReached files.keys) (IsReachedOfFiles moment files) told (in_files moment files)
+
+-- a list reads the file of captured messages first
+pub list_captured : (all : Bool) (files : Files) (told : Fault) → IsFaultOfCapture NewEvidence Plain files.capture told → IsFirstFaultOfList all files told
+list_captured true files told holds = holds
+list_captured false files told holds = inl holds
+
+pub list_reached : (all : Bool) (files : Files) → IsReachedByList all files Capture
+list_reached true files = tt
+list_reached false files = tt
+
+-- and the statements behind evidence, where they are read
+pub list_stated : (all : Bool) (files : Files) → all ≡ false → HasEvidence Plain files.capture → IsReachedByList all files Statements
+list_stated true files none has = absurd (false≢true (sym none))
+list_stated false files none has = has

@@ -32,13 +32,16 @@ abbrev pub IsAnswered : Bool → List ℕ → ℕ → ℕ → Files → Status �
 IsAnswered json asked rtype moment files end text =
     (name : Labels) × Spells asked name × IsQuestion name rtype × IsCheck json name rtype moment files end text
 
+-- what each signature signs, or what a verifier still has to check
+abbrev pub IsListed : Bool → Bool → ℕ → Files → List ℕ → Type 0
+IsListed true json moment files text = IsListing json moment files.capture text
+IsListed false json moment files text = IsTodo json moment files text
+
 -- over these files the request ends so, with this text: in JSON, where it asks for that
 abbrev pub IsTextAskedFor : Request → Files → Status → List ℕ → Type 0
 IsTextAskedFor (request.Show capture) files end text = (end ≡ Done) × IsShowing files.capture text
-IsTextAskedFor (request.List capture moment statements true json) files end text =
-    (end ≡ Done) × IsListing json moment files.capture text
-IsTextAskedFor (request.List capture moment statements false json) files end text =
-    (end ≡ Done) × IsTodo json moment files text
+IsTextAskedFor (request.List capture moment statements all json) files end text =
+    (end ≡ Done) × IsListed all json moment files text
 IsTextAskedFor (request.Check capture anchors moment asked rtype statements keys macs json) files end text =
     IsAnswered json (string_bytes asked) rtype.0 moment files end text
 
@@ -53,6 +56,11 @@ abbrev pub IsFirstFaultOfTodo : Files → Fault → Type 0
 IsFirstFaultOfTodo files fault =
     IsFaultOfCapture NewEvidence Plain files.capture fault
     ⊎ (HasEvidence Plain files.capture × IsFaultOfStatements (octets_or_none files.statements) fault)
+
+-- where only the file of captured messages is read, that has this fault
+abbrev pub IsFirstFaultOfList : Bool → Files → Fault → Type 0
+IsFirstFaultOfList true files fault = IsFaultOfCapture NewEvidence Plain files.capture fault
+IsFirstFaultOfList false files fault = IsFirstFaultOfTodo files fault
 
 -- behind the file of captured messages, the first fault is in the trust anchors, and then in the statements
 abbrev pub IsFirstFaultBehind : Files → Fault → Type 0
@@ -93,9 +101,7 @@ IsFirstFaultOfCheck asked rtype moment files fault =
 -- the first fault, in the order of the work
 abbrev pub IsFirstFault : Request → Files → Fault → Type 0
 IsFirstFault (request.Show capture) files fault = IsFaultOfCapture AnyMessage Plain files.capture fault
-IsFirstFault (request.List capture moment statements true json) files fault =
-    IsFaultOfCapture NewEvidence Plain files.capture fault
-IsFirstFault (request.List capture moment statements false json) files fault = IsFirstFaultOfTodo files fault
+IsFirstFault (request.List capture moment statements all json) files fault = IsFirstFaultOfList all files fault
 IsFirstFault (request.Check capture anchors moment asked rtype statements keys macs json) files fault =
     IsFirstFaultOfCheck (string_bytes asked) rtype.0 moment files fault
 
@@ -111,6 +117,10 @@ abbrev pub IsReachedByTodo : Files → InputFile → Type 0
 IsReachedByTodo files Capture = ⊤
 IsReachedByTodo files Statements = HasEvidence Plain files.capture
 IsReachedByTodo files _ = ⊥
+
+abbrev pub IsReachedByList : Bool → Files → InputFile → Type 0
+IsReachedByList true files file = IsCaptureReached file
+IsReachedByList false files file = IsReachedByTodo files file
 
 -- the file of captured messages is read behind the keys and MACs, the anchors behind evidence, and the statements
 -- behind the anchors
@@ -132,7 +142,6 @@ IsReachedByCheck asked rtype moment files file =
 -- The request reads the file, and what comes before it in the order of the work is in order.
 abbrev pub IsReached : Request → Files → InputFile → Type 0
 IsReached (request.Show capture) files file = IsCaptureReached file
-IsReached (request.List capture moment statements true json) files file = IsCaptureReached file
-IsReached (request.List capture moment statements false json) files file = IsReachedByTodo files file
+IsReached (request.List capture moment statements all json) files file = IsReachedByList all files file
 IsReached (request.Check capture anchors moment asked rtype statements keys macs json) files file =
     IsReachedByCheck (string_bytes asked) rtype.0 moment files file

@@ -3,17 +3,15 @@ ghost use Rattle.std.specs.Prelude.{◌≡◌, ◌<◌, List, ℕ, IfErr, IfOk, 
 ghost use Rattle.std.specs.Io.KnownBytes.{Appends};
 ghost use Rattle.dnsv_canonical.specs.Rrsets.{IsQuestion};
 ghost use Rattle.dnsv_message.specs.Streams.Counted.{inner_of, failures_of, AppendsBeginning};
-ghost use Rattle.dnssec_check.specs.Files.Capture.{AnyMessage, NewEvidence, IsFaultOfCapture};
+ghost use Rattle.dnssec_check.specs.Files.Capture.{AnyMessage, IsFaultOfCapture};
 ghost use Rattle.dnssec_check.specs.declared.opening.Opening.TheVariants.{Plain};
 ghost use Rattle.dnssec_check.specs.Files.Faults.{OfFailedRead, TellsFaults};
 ghost use Rattle.dnssec_check.specs.Files.{AreTold, Files};
-ghost use Rattle.dnssec_check.specs.Texts.Listing.{IsListing};
 ghost use Rattle.dnssec_check.specs.Texts.Checking.{IsCheck};
 ghost use Rattle.dnssec_check.specs.Run.{IsAnswered, IsTextAskedFor, IsFirstFault, IsFirstFaultOfCheck};
-ghost use Rattle.dnssec_check.specs.Run.{IsFirstFaultOfName, IsFirstFaultOfTodo};
-ghost use Rattle.dnssec_check.specs.Run.{IsCaptureReached, IsReached, IsReachedByCheck, IsReachedByTodo, IsReachedOfFiles};
+ghost use Rattle.dnssec_check.specs.Run.{IsFirstFaultOfName, IsFirstFaultOfList, IsListed};
+ghost use Rattle.dnssec_check.specs.Run.{IsCaptureReached, IsReached, IsReachedByCheck, IsReachedByList, IsReachedOfFiles};
 ghost use Rattle.dnssec_check.specs.Texts.Showing.{IsShowing};
-ghost use Rattle.dnssec_check.specs.Texts.Todo.{IsTodo};
 
 use crate::command_line::moment::Moment;
 use crate::command_line::question::question_name;
@@ -110,14 +108,11 @@ fn outcome_of<R: Read>(
     match request {
         Request::Show { .. } => Ok(done(show(alloc, inputs, bump)?)),
         Request::List {
-            all: true,
+            all,
             moment,
             json,
             ..
-        } => Ok(done(list_all(alloc, *json, *moment, inputs, bump)?)),
-        Request::List { moment, json, .. } => {
-            Ok(done(list(alloc, *json, *moment, inputs, bump)?))
-        }
+        } => Ok(done(list(alloc, *all, *json, *moment, inputs, bump)?)),
         Request::Check {
             name,
             rtype,
@@ -151,42 +146,26 @@ fn show<R: Read>(alloc: Global, inputs: &mut Inputs<R>, bump: &Bump) -> Result<S
     showing(alloc, &mut inputs.capture, bump)
 }
 
-/// What each signature signs.
-fn list_all<R: Read>(
-    alloc: Global,
-    json: bool,
-    moment: Moment,
-    inputs: &mut Inputs<R>,
-    bump: &Bump,
-) -> Result<String, Fault>
-    ensures text { (files : Files) → AreTold R.remaining inputs.old files
-        → IfOk result (λ text. IsListing json moment files.capture (string_bytes text)) }
-    ensures faults { TellsFaults (λ files. IsFaultOfCapture NewEvidence Plain files.capture) R.remaining
-        inputs.old inputs.new result }
-    ensures reached { (files : Files) → AreTold R.remaining inputs.old files
-        → IfErr result (OfFailedRead (IsCaptureReached)) }
-    ensures unwritten { IfErr result (λ fault. fault ≡ Fault.WriteFailed → ⊥) }
-{
-    let held = evidence_in(alloc, &Opening::Plain, &mut inputs.capture, bump)?;
-    Ok(listing(alloc, json, moment, &held)?)
-}
-
-/// What a verifier still has to check.
+/// What each signature signs, or what a verifier still has to check.
 fn list<R: Read>(
     alloc: Global,
+    all: bool,
     json: bool,
     moment: Moment,
     inputs: &mut Inputs<R>,
     bump: &Bump,
 ) -> Result<String, Fault>
     ensures text { (files : Files) → AreTold R.remaining inputs.old files
-        → IfOk result (λ text. IsTodo json moment files (string_bytes text)) }
-    ensures faults { TellsFaults IsFirstFaultOfTodo R.remaining inputs.old inputs.new result }
+        → IfOk result (λ text. IsListed all json moment files (string_bytes text)) }
+    ensures faults { TellsFaults (IsFirstFaultOfList all) R.remaining inputs.old inputs.new result }
     ensures reached { (files : Files) → AreTold R.remaining inputs.old files
-        → IfErr result (OfFailedRead (IsReachedByTodo files)) }
+        → IfErr result (OfFailedRead (IsReachedByList all files)) }
     ensures unwritten { IfErr result (λ fault. fault ≡ Fault.WriteFailed → ⊥) }
 {
     let held = evidence_in(alloc, &Opening::Plain, &mut inputs.capture, bump)?;
+    if all {
+        return Ok(listing(alloc, json, moment, &held)?);
+    }
     let statements: Statements = text_in(alloc, InputFile::Statements, &mut inputs.statements)?;
     Ok(still_to_check(alloc, json, &held, moment, &statements)?)
 }

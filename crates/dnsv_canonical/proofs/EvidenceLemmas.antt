@@ -14,6 +14,7 @@ use Rattle.dnsv_records.specs.declared.nsec3.Nsec3Parameters.{Nsec3Parameters}
 use Rattle.dnsv_records.specs.declared.rrsig.Rrsig.{Rrsig}
 use Rattle.dnsv_records.specs.Rrsig.{IsRrsig}
 use Rattle.dnsv_canonical.specs.Evidence.{AreParameters, Evidence, AtMost, IsWithinLimits, IsSmall, AreParametersAmong, nsec3_rdata, with_message, evidence_of, signatures_at}
+use Rattle.dnsv_canonical.specs.Index.Grouping.{IsIndexOf}
 use Rattle.dnsv_canonical.specs.Kept.{IsHeld}
 use Rattle.dnsv_canonical.specs.Rdata.{IsWellFormed}
 use Rattle.dnsv_canonical.specs.Rrsets.{ReceivedRrset, appears_first, first_appearances, rrset_of, rrsets_in, message_rrsets, rrsets_from, rrsets_of}
@@ -71,11 +72,11 @@ pub not_small : (drafts : List ReceivedRrset) (answer : Bool) → (IsTrue answer
 not_small drafts answer decides none small = let turned : true ≡ false = sym (decides.1 small) ∙ none in cc
 
 -- what is kept with a message more
-pub grown : (messages records total : ℕ) (old : List ReceivedRrset) (message : Contents) (kept fresh : List Nsec3Parameters) (drafts : List ReceivedRrset)
-    → IsHeld (record { messages = messages; records = records; rrsets = old }) kept → messages < 64 → total ≤ 4096 → AllByRecursion IsWellFormed drafts → AllByRecursion IsSmall drafts
-    → AreParameters (nsec3_rdata old ++ nsec3_rdata drafts) (kept ++ fresh) → length (kept ++ fresh) ≤ 8
-    → IsHeld (record { messages = messages + 1; records = total; rrsets = old ++ drafts }) (kept ++ fresh)
-grown messages records total old message kept fresh drafts held few_messages few_records formed small are few = record {
+pub grown : (messages records total : ℕ) (old : List ReceivedRrset) (message : Contents) (kept fresh : List Nsec3Parameters) (drafts : List ReceivedRrset) (numbers starts more_numbers more_starts : List ℕ)
+    → IsHeld (record { messages = messages; records = records; rrsets = old }) kept numbers starts → messages < 64 → total ≤ 4096 → AllByRecursion IsWellFormed drafts → AllByRecursion IsSmall drafts
+    → AreParameters (nsec3_rdata old ++ nsec3_rdata drafts) (kept ++ fresh) → length (kept ++ fresh) ≤ 8 → IsIndexOf (old ++ drafts) more_numbers more_starts
+    → IsHeld (record { messages = messages + 1; records = total; rrsets = old ++ drafts }) (kept ++ fresh) more_numbers more_starts
+grown messages records total old message kept fresh drafts numbers starts more_numbers more_starts held few_messages few_records formed small are few index = record {
   limits = record {
     messages = omega (arith, few_messages);
     records = few_records;
@@ -84,6 +85,7 @@ grown messages records total old message kept fresh drafts held few_messages few
   };
   well_formed = recursion-append IsWellFormed old drafts held.well_formed formed;
   parameters = AreParameters-joined old drafts (kept ++ fresh) are;
+  index = index;
 }
 
 numbered : (held : Evidence) (message : Contents) (drafts : List ReceivedRrset) → drafts ≡ message_rrsets (held.messages + 1) message → drafts ≡ message_rrsets (suc held.messages) message

@@ -3,6 +3,7 @@ pub mod EvidenceLemmas
 pub mod FormLemmas
 pub mod GroupLemmas
 pub mod ByRrsetLemmas
+pub mod IndexLemmas
 pub mod LimitLemmas
 pub mod ListLemmas
 pub mod ParameterLemmas

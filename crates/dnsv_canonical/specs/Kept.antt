@@ -10,6 +10,7 @@ use Rattle.dnsv_canonical.specs.declared.capture.CaptureError.{CaptureError}
 use Rattle.dnsv_canonical.specs.declared.capture.CaptureError.TheVariants.{OutOfMemory, BadRdata, Limit}
 use Rattle.dnsv_records.specs.declared.nsec3.Nsec3Parameters.{Nsec3Parameters}
 use Rattle.dnsv_canonical.specs.Evidence.{Evidence, AtMost, IsFirstBad, AreParameters, AreParametersAmong, IsWithinLimits, nsec3_rdata}
+use Rattle.dnsv_canonical.specs.Index.Grouping.{IsIndexOf}
 use Rattle.dnsv_canonical.specs.Rdata.{IsWellFormed}
 
 -- whether something was read, unless memory ran out
@@ -31,8 +32,9 @@ IsParametersRefusal received Limit = ¬ AtMost 8 (AreParametersAmong received)
 IsParametersRefusal received _ = ⊥
 
 -- what a capture keeps with what it holds: its RRsets are well formed and within their limits, and these are the
--- parameters of their usable NSEC3 records
-pub record IsHeld (held : Evidence) (all : List Nsec3Parameters) : Type 0 where
+-- parameters of their usable NSEC3 records, and their index
+pub record IsHeld (held : Evidence) (all : List Nsec3Parameters) (numbers starts : List ℕ) : Type 0 where
   pub limits : IsWithinLimits held
   pub well_formed : AllByRecursion IsWellFormed held.rrsets
   pub parameters : AreParameters (nsec3_rdata held.rrsets) all
+  pub index : IsIndexOf held.rrsets numbers starts

@@ -2,6 +2,7 @@ pub mod Canonical
 pub mod CanonicalRdata
 pub mod CaptureError
 pub mod Evidence
+pub mod Index
 pub mod Kept
 pub mod SignedData
 pub mod Rrsets

@@ -1,18 +1,21 @@
 //! Captures: evidence in memory of its own.
-ghost use Rattle.std.specs.Prelude.{◌≡◌, IfErr, List, OnErr, OnOk};
+ghost use Rattle.std.specs.Prelude.{◌≡◌, IfErr, List, OnErr, OnOk, length};
 ghost use Rattle.std.specs.List.{AllByRecursion, AllZip};
 ghost use Rattle.dnsv_message.specs.Message.{Contents, records_of};
 ghost use Rattle.dnsv_records.specs.Rrsig.{IsRrsig};
 ghost use Rattle.dnsv_canonical.specs.Evidence.{AreParameters, Evidence, IsReadable, IsReasonAgainst, IsWhole, IsWithinLimits, no_evidence, nsec3_rdata, signatures_at, with_message};
+ghost use Rattle.dnsv_canonical.specs.Index.{CountsDigits, numbers_at};
 ghost use Rattle.dnsv_canonical.specs.Rdata.{IsWellFormed};
 ghost use Rattle.dnsv_canonical.specs.declared.capture.CaptureError.TheVariants.{OutOfMemory};
 
 use crate::draft::message_rrsets;
 use crate::expanded::Sections;
+use crate::index::Index;
 use crate::limits::{MESSAGE_LIMIT, are_small, fresh_parameters, records_with};
 use crate::readable::check_rdata;
 use crate::rrset::{Rrset, to_rrsets};
 use dnsv_message::{Message, messages_fit};
+use dnsv_names::{Count, Name, RecordType};
 use dnsv_records::{Nsec3Parameters, Rrsig};
 use std::alloc::{AllocError, AllocFailed, Global};
 use std::marker::Model;
@@ -81,6 +84,8 @@ pub struct Capture {
     rrsets: Vec<Rrset>,
     /// The parameters of the NSEC3 records that can be used, each once.
     parameters: Vec<Nsec3Parameters>,
+    /// The RRsets by owner and type.
+    index: Index,
 }
 
 impl Model for Capture {
@@ -99,7 +104,7 @@ impl Model for Capture {
       messages = capture.messages;
       records = capture.records;
       rrsets = capture.rrsets.items;
-    }) capture.parameters.items };
+    }) capture.parameters.items capture.index.numbers.items capture.index.starts.items };
 }
 
 impl Capture {
@@ -113,6 +118,7 @@ impl Capture {
             records: 0,
             rrsets: Vec::new(alloc),
             parameters: Vec::new(alloc),
+            index: Index::new(alloc),
         }
     }
 
@@ -150,12 +156,16 @@ impl Capture {
         message.is_of_octets();
         messages_fit();
         let mut rrsets = to_rrsets(self.alloc, drafts.as_slice())?;
+        let index = self
+            .index
+            .with(self.alloc, self.rrsets.as_slice(), rrsets.as_slice())?;
         self.parameters.reserve(parameters.len())?;
         self.rrsets.append(&mut rrsets)?;
         // There is room for the parameters, so nothing fails from here on.
         let Ok(()) = self.parameters.append(&mut parameters) else {
             unreachable!();
         };
+        self.index = index;
         self.messages += 1;
         self.records = records;
         Ok(())
@@ -175,6 +185,16 @@ impl Capture {
         ensures { AreParameters (nsec3_rdata self.now.rrsets) result.now }
     {
         &self.parameters
+    }
+
+    /// The numbers of the RRsets of the name, without regard to case, and of the type, rising. It takes no memory.
+    /// The count grows by one for each pair of name and type that is compared with these: at most by as many as the
+    /// number of RRsets has binary digits.
+    pub fn at(&self, name: &Name, rtype: RecordType, count: &mut Count) -> &[usize]
+        ensures numbers { result.now ≡ numbers_at self.now.rrsets name.now rtype.0 }
+        ensures count { CountsDigits (length self.now.rrsets) count.old count.new }
+    {
+        self.index.at(self.rrsets(), name, rtype, count)
     }
 
     /// The signatures of the RRset with the number, from 1 on; none where no RRset has it. They are numbered

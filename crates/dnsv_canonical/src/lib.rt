@@ -21,6 +21,7 @@ mod capture;
 mod draft;
 mod expanded;
 mod form;
+mod index;
 mod laws;
 mod limits;
 mod readable;

@@ -3,9 +3,7 @@ pub mod ByOwnerLemmas
 pub mod ChainLemmas
 pub mod DelegatedLemmas
 pub mod DerivationLemmas
-pub mod GoodLemmas
 pub mod KeptLemmas
-pub mod KnownLemmas
 pub mod MatchingLemmas
 pub mod SigningLemmas
 pub mod StepLemmas

@@ -4,7 +4,7 @@ use Rattle.dnsv_names.specs.Name.{Labels, SameName}
 use Rattle.dnsv_digest.specs.Digest.{ds_digest_of}
 use Rattle.dnsv_records.specs.declared.ds.Ds.{Ds}
 use Rattle.dnsv_verifier.specs.Admissible.{DnskeyRecord}
-use Rattle.dnsv_chain.specs.DsReading.{HasLeadingMatch, HasNamed, HasNamedDigest}
+use Rattle.dnsv_chain.specs.Ds.DsReading.{HasLeadingMatch, HasNamed, HasNamedDigest}
 
 module _ (owner : Labels) (records : List Ds) (number : ℕ) (key : DnskeyRecord) where
   pub match_is_named : HasLeadingMatch owner records number key → HasNamed records number key

@@ -15,7 +15,7 @@ use Rattle.dnsv_digest.specs.DigestAlgorithm.{IsStronger, digest_algorithm_of}
 use Rattle.dnsv_digest.specs.declared.digest_algorithm.DigestAlgorithm.{DigestAlgorithm as Supported}
 use Rattle.dnsv_digest.specs.declared.digest_algorithm.DigestAlgorithm.TheVariants.{Sha1, Sha256, Sha384}
 use Rattle.dnsv_chain.specs.Ds.{GoesBefore, HasUsable, HasUsableMatch, IsSupported, IsUsable}
-use Rattle.dnsv_chain.specs.DsReading.{HasLeadingMatch, HasSupported, IsLeading, Leads, TakesOver}
+use Rattle.dnsv_chain.specs.Ds.DsReading.{HasLeadingMatch, HasSupported, IsLeading, Leads, TakesOver}
 
 some_only : {X : Type 0} {o : Option X} {a b : X} → o ≡ Some a → o ≡ Some b → a ≡ b
 some_only p q = cc

@@ -1,4 +1,5 @@
 -- Which records of a DS RRset count (RFC 4509 3), and which keys they match (RFC 4034 5.2, RFC 4035 5.2).
+pub mod DsReading
 use Rattle.std.specs.Prelude.{◌≡◌, ℕ, List, Some, Contains, IsTrue}
 use Rattle.dnsv_names.specs.Name.{Labels, SameName}
 use Rattle.dnsv_records.specs.Algorithm.{is_supported}

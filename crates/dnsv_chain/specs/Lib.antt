@@ -5,7 +5,6 @@ pub mod ByOwner
 pub mod Chain
 pub mod Derivation
 pub mod Ds
-pub mod DsReading
 pub mod Kept
 pub mod Order
 pub mod Signing

@@ -1,11 +1,14 @@
 //! Files of trust anchors.
+
+mod anchor_line;
+
 ghost use Rattle.std.specs.Prelude.{◌≡◌, ◌<◌, ◌≤◌, ◌⊎◌, ◌↔◌, ◌++◌, ◌∷◌, [], Err, List, ℕ, length, IsTrue, IfOk, IfErr, OnOk};
 ghost use Rattle.dnsv_chain.specs.AnchorFile.{AreAnchorsOf, BeginsWithAnchor, IsAnchorLine, IsFaultOf, IsFaultOfLine};
 ghost use Rattle.dnsv_chain.specs.declared.anchor.Anchor.{Anchor};
 ghost use Rattle.dnsv_chain.specs.declared.anchors.AnchorsError.{AnchorsError};
 
 use crate::anchor::Anchor;
-use crate::anchor_line::anchor_of;
+use crate::anchors::anchor_line::anchor_of;
 use dnsv_names::{Line, Lines};
 use dnsv_verifier::KeyRecord;
 use std::alloc::{AllocError, AllocFailed, Global};

@@ -1,7 +1,7 @@
 //! Which keys are delegated to by DS RRsets.
 ghost use Rattle.std.specs.Prelude.{◌↔◌, IsTrue, map};
 ghost use Rattle.dnsv_chain.specs.Chain.{IsDelegatedBySome};
-ghost use Rattle.dnsv_chain.specs.DsReading.{DelegatesByDigest, DelegatesByType, HasSome, Leads, NamesByType};
+ghost use Rattle.dnsv_chain.specs.Ds.DsReading.{DelegatesByDigest, DelegatesByType, HasSome, Leads, NamesByType};
 
 use crate::matching::{digest_of, has_named, has_named_digest, is_owner};
 use crate::usable::leading_digest_type;

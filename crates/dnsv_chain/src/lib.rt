@@ -7,28 +7,25 @@
 pub use anchor::Anchor;
 pub use anchors::{Anchors, AnchorsError, a_text_is_one_list_of_anchors};
 pub use chain::trusted;
-pub use good::is_good;
 pub use laws::{
     more_evidence_takes_no_trust_away, nothing_is_trusted_without_an_anchor,
     trust_depends_on_what_is_asked, trust_leads_down_from_an_anchor,
 };
 pub use matching::{has_usable_match, is_match};
+pub use signing::good::is_good;
 pub use trust::Trust;
-pub use unusable_ds::is_unusable_ds;
+pub use usable::unusable_ds::is_unusable_ds;
 pub use usable::{goes_before, has_usable, is_usable};
 
 mod anchor;
-mod anchor_line;
 mod anchors;
 mod by_owner;
 mod by_rdata;
 mod chain;
 mod delegated;
-mod good;
 mod laws;
 mod matching;
 mod order;
 mod signing;
 mod trust;
-mod unusable_ds;
 mod usable;

@@ -3,7 +3,7 @@ ghost use Rattle.std.specs.Prelude.{◌≡◌, ◌↔◌, IsTrue};
 ghost use Rattle.dnsv_names.specs.Name.{SameName};
 ghost use Rattle.dnsv_digest.specs.Digest.{ds_digest_of};
 ghost use Rattle.dnsv_chain.specs.Ds.{HasDigestOf, HasUsableMatch, IsMatch};
-ghost use Rattle.dnsv_chain.specs.DsReading.{HasLeadingMatch, HasNamed, HasNamedDigest, NamesKey};
+ghost use Rattle.dnsv_chain.specs.Ds.DsReading.{HasLeadingMatch, HasNamed, HasNamedDigest, NamesKey};
 
 use crate::usable::leading_digest_type;
 use dnsv_digest::{Digest, ds_digest};

@@ -1,4 +1,7 @@
 //! Which signatures are good under which keys.
+
+pub mod good;
+
 ghost use Rattle.std.specs.Prelude.{◌↔◌, ◌≡◌, IfOk, IsTrue};
 ghost use Rattle.dnsv_verifier.specs.Table.{table_answer};
 ghost use Rattle.dnsv_chain.specs.ByOwner.{values_at};

@@ -1,7 +1,10 @@
 //! Which records of a DS RRset count.
+
+pub mod unusable_ds;
+
 ghost use Rattle.std.specs.Prelude.{◌↔◌, IsTrue};
 ghost use Rattle.dnsv_chain.specs.Ds.{GoesBefore, HasUsable, IsIgnored, IsSupported, IsUsable};
-ghost use Rattle.dnsv_chain.specs.DsReading.{HasSupported, IsLeading, TakesOver};
+ghost use Rattle.dnsv_chain.specs.Ds.DsReading.{HasSupported, IsLeading, TakesOver};
 
 use dnsv_records::{DigestType, Ds};
 

@@ -3,3 +3,5 @@ pub mod ByWildcard
 pub mod Denials
 pub mod EndLimits
 pub mod EndPlace
+pub mod ProofForms
+pub mod ShownUnsigned

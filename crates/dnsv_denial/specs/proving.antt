@@ -3,5 +3,7 @@ pub mod ChainOf
 pub mod FirstProof
 pub mod Numbers
 pub mod ProofMeaning
+pub mod ProofParts
+pub mod ShownDenials
 pub mod WholeChain
 pub mod ZoneChains

@@ -2,4 +2,5 @@
 pub mod CutMeaning
 pub mod Cuts
 pub mod Findings
+pub mod ShownCut
 pub mod ShownCuts

@@ -5,4 +5,7 @@ pub mod denial;
 pub mod end_limits;
 pub mod ends;
 pub mod missing_type;
+pub mod places;
+pub mod proof_form;
+pub mod unsigned;
 pub mod wildcard_answer;

@@ -26,22 +26,21 @@ ghost use Rattle.dnsv_denial.specs.unsigned_cuts.CutMeaning.{IsCoveredEnd, Means
 ghost use Rattle.dnsv_denial.specs.unsigned_cuts.Cuts.{HasOptedOutNextCloser, HasUnsignedCut, IsUnsignedCut};
 ghost use Rattle.dnsv_denial.specs.words.EvidenceWords.{Chain, evidence_said};
 
-use crate::forms::denial::Denial;
 use crate::gathering::zones::zones_of;
-use crate::proving::first_proof::{first_proof, no_closer};
 use crate::proving::proof::Proof;
+use crate::proving::shown_denial::proof_of;
 use crate::question_hashes::Hashes;
 use crate::records::zone_records::{NameHashes, ZoneRecords};
 use crate::unsigned_cuts::kept_cuts::{opted_out_next_closer, unsigned_cut};
-use crate::wildcard_answers::{
-    WildcardAnswers, is_not_opted_out, may_have_closer, wildcard_answers,
-};
+use crate::wildcard_answers::{WildcardAnswers, is_not_opted_out, wildcard_answers};
 use dnsv_canonical::Capture;
 use dnsv_chain::Trust;
 use dnsv_names::{Count, Name, RecordType};
 use std::alloc::{AllocError, Global};
 use std::marker::Model;
 use std::rc::Rc;
+
+mod shown;
 
 /// The secured NSEC and NSEC3 records of a capture that can speak of a question's name: those of the zones at or above
 /// it.
@@ -143,7 +142,7 @@ impl<'c, 't> View<'c, 't> {
             → HasWholeChainWithoutOptOut (SecuredIn self.now.trust) self.now.rrsets self.now.name zone
             → IsLookup zone self.now.name t NoName → IsSome result }
     {
-        first_proof(Denial::NoName, &self.name, &self.zones, &self.sets)
+        proof_of(self.shown_no_name())
     }
 
     /// The first proof that the type isn't at the name, nor at a wildcard that stands for it (RFC 4035 5.4, RFC 5155
@@ -167,7 +166,7 @@ impl<'c, 't> View<'c, 't> {
             → HasWholeChainWithoutOptOut (SecuredIn self.now.trust) self.now.rrsets self.now.name zone
             → IsLookup zone self.now.name rtype.0 (NoData source) → IsSome result }
     {
-        first_proof(Denial::NoData(rtype), &self.name, &self.zones, &self.sets)
+        proof_of(self.shown_no_data(rtype))
     }
 
     /// The first proof that an answer of the zone from the wildcard below the name's so many rightmost labels has no
@@ -184,10 +183,7 @@ impl<'c, 't> View<'c, 't> {
             → Holds signer (wildcard_of (rightmost self.now.name labels)) t
             → IsLookup signer self.now.name t (Held (wildcard_of (rightmost self.now.name labels)))) }
     {
-        if may_have_closer(&self.answers, &self.name, zone, labels) {
-            return None;
-        }
-        no_closer(&self.name, zone, labels, &self.zones, &self.sets)
+        proof_of(self.shown_no_closer(zone, labels))
     }
 
     /// The name from which on the question's name may be unsigned: the highest delegation without DS; else the highest

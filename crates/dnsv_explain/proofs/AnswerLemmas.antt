@@ -6,7 +6,7 @@ use Rattle.std.proofs.lemmas.List.{get_or_default}
 use Rattle.std.proofs.lemmas.Map.Keys.{below_from_sorted, sorted_from_strictly_increasing}
 use Rattle.std.specs.List.{Contains}
 use Rattle.std.specs.List.Sorted.{IsStrictlyIncreasing}
-use Rattle.std.specs.Prelude.{MatchOption, ◌==◌}
+use Rattle.std.specs.Prelude.{MatchOption, IsTrue, ◌==◌, ◌↔◌}
 
 pub match_both : {A : Type 0} (o : Option A) (P R : Type 0) (Q S : A → Type 0) → (P → R) → ((x : A) → Q x → S x) → MatchOption o P Q
     → MatchOption o R S
@@ -46,3 +46,13 @@ first_lowest xs d s rising there =
     let first : get_or xs 0 d ≡ s = subst At zero at in
     let most : get_or xs 0 d ≤ s = omega (arith, first) in most)
     (cases_lt 0 there.0)
+
+-- ---- tests
+
+pub not_so : (b : Bool) (P : Type 0) → (IsTrue b ↔ P) → not b ≡ true → ¬ P
+not_so true P test is = absurd (false≢true is)
+not_so false P test is = λ p. false≢true (test.1 p)
+
+pub so_not : (b : Bool) (P : Type 0) → (IsTrue b ↔ P) → ¬ P → not b ≡ true
+so_not true P test never = absurd (never (test.0 refl))
+so_not false P test never = refl

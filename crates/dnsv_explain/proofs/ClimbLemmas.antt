@@ -9,10 +9,10 @@ use Rattle.dnsv_denial.specs.declared.records.number.RecordNumber.{RecordNumber}
 use Rattle.dnsv_records.specs.declared.number.DigestType.{DigestType}
 use Rattle.dnsv_verdict.specs.Verdict.{Basis}
 use Rattle.dnsv_explain.specs.Climb.{Climbs, IsClimbed, IsUpTo, LeadsUp, labels_at}
-use Rattle.dnsv_explain.specs.Derivations.{IsByAnchor, IsDerivation, IsLowestSecured, IsSignatureSaid}
+use Rattle.dnsv_explain.specs.Derivations.{IsByAnchor, IsDerivation, IsLowestSecured}
 use Rattle.dnsv_explain.specs.Derivations.IsDerivation.{said_trusted as by_said_trust, anchored as by_anchored, delegated as by_delegated, said_signed as by_said_signature, signed as by_signature}
 use Rattle.dnsv_explain.specs.Derivations.Subject.{keys, signature}
-use Rattle.dnsv_explain.specs.Following.{IsMatchedBy, IsSaidTrusted}
+use Rattle.dnsv_explain.specs.Following.{IsMatchedBy, IsSaidTrusted, IsSignatureSaid}
 use Rattle.dnsv_explain.specs.Ways.{HasSecured, IsSignedLine, IsTrustedLine, IsTrustedSet}
 use Rattle.dnsv_explain.specs.declared.line.Line.{Line}
 use Rattle.dnsv_explain.specs.declared.line.Line.TheVariants as line

@@ -12,7 +12,7 @@ use Rattle.dnsv_verdict.specs.Verdict.{Basis}
 use Rattle.dnsv_explain.specs.Derivations.{IsByAnchor, IsDerivation, Subject}
 use Rattle.dnsv_explain.specs.Derivations.IsDerivation.{said_trusted, anchored, delegated, said_signed, signed}
 use Rattle.dnsv_explain.specs.Derivations.Subject.{keys, signature}
-use Rattle.dnsv_explain.specs.Following.{EachFollows, Follows, FollowsSigned, FollowsTrusted, IsGoodUnder, IsMatchedBy, IsSaidSigned, IsSaidTrusted, IsVouchedBy}
+use Rattle.dnsv_explain.specs.Following.{EachFollows, Follows, FollowsSigned, FollowsTrusted, IsGoodUnder, IsMatchedBy, IsSaidSigned, IsSaidTrusted, IsSignatureSaid, IsVouchedBy}
 use Rattle.dnsv_explain.specs.Ways.{HasSecured, IsSignedLine, IsTrustedLine}
 use Rattle.dnsv_explain.specs.declared.line.Line.{Line}
 use Rattle.dnsv_explain.specs.declared.line.Line.TheVariants as line
@@ -110,18 +110,27 @@ module _ (basis : Basis) where
   keys_said before lines k (delegated {trusted = trusted} {lines = above} unsaid is voucher lowest derivation) =
       trusted_said before above k trusted is
 
-  signature_said : (before lines : List Line) (number : SignatureNumber) → IsDerivation basis before (signature number) lines
-      → IsSaidSigned (before ++ lines) number.rrset
-  signature_said before lines number (said_signed said) = record {
+  pub number_said : (before lines : List Line) (number : SignatureNumber) → IsDerivation basis before (signature number) lines
+      → IsSignatureSaid (before ++ lines) number
+  number_said before lines number (said_signed said) = record {
     signed = said.signed;
     among = Contains-append_left before [] (line.Signed said.signed) said.among;
-    rrset = ap (λ (each : SignatureNumber). each.rrset) said.is;
+    is = said.is;
   }
-  signature_said before lines number (signed {signed = this} {lines = above} unsaid is derivation) = record {
+  number_said before lines number (signed {signed = this} {lines = above} unsaid is derivation) = record {
     signed = this;
     among = last_line before above (line.Signed this);
-    rrset = ap (λ (each : SignatureNumber). each.rrset) is.signature;
+    is = is.signature;
   }
+
+  signature_said : (before lines : List Line) (number : SignatureNumber) → IsDerivation basis before (signature number) lines
+      → IsSaidSigned (before ++ lines) number.rrset
+  signature_said before lines number derivation =
+      let said = number_said before lines number derivation in record {
+        signed = said.signed;
+        among = said.among;
+        rrset = ap (λ (each : SignatureNumber). each.rrset) said.is;
+      }
 
   pub derivation_follows : (before : List Line) (subject : Subject) (lines : List Line) → IsDerivation basis before subject lines
       → EachFollows basis before lines

@@ -3,16 +3,21 @@ use Rattle.std.proofs.Common.{◌≡◌, ℕ, List, [], ◌∷◌, ◌++◌, sym
 use Rattle.std.proofs.lemmas.List.Elements.{Contains-push_cases}
 use Rattle.std.proofs.lemmas.List.{append-nil}
 use Rattle.std.specs.List.{Contains}
+use Rattle.dnsv_names.specs.Name.{Labels}
 use Rattle.dnsv_canonical.specs.Rrsets.{IsNumbered, ReceivedRrset}
 use Rattle.dnsv_chain.specs.Trusted.{IsSecured, IsTrusted}
 use Rattle.dnsv_verifier.specs.Admissible.{DnskeyRecord}
+use Rattle.dnsv_denial.specs.words.EvidenceWords.{Chain}
 use Rattle.dnsv_verdict.specs.Verdict.{Basis}
-use Rattle.dnsv_explain.specs.Following.{EachFollows, Follows, FollowsTrusted, IsMatchedBy, IsSaidSigned}
+use Rattle.dnsv_explain.specs.Following.{EachFollows, Follows, FollowsTrusted, IsMatchedBy, IsSaidSigned, IsSignatureSaid}
+use Rattle.dnsv_explain.specs.Following.Parts.{IsPartOf, IsUnusableRecord}
 use Rattle.dnsv_explain.specs.Ways.{HasSecured, IsWayInto}
 use Rattle.dnsv_explain.proofs.NumberedLemmas.{same_number}
+use Rattle.dnsv_explain.proofs.PartLemmas.{said_too}
 use Rattle.dnsv_explain.proofs.WayLemmas.{way_leads}
 use Rattle.dnsv_explain.specs.declared.line.Line.{Line}
 use Rattle.dnsv_explain.specs.declared.line.Line.TheVariants as line
+use Rattle.dnsv_explain.specs.declared.line.derivation.SignatureNumber.{SignatureNumber}
 use Rattle.dnsv_explain.specs.declared.line.derivation.TrustedKeys.{TrustedKeys}
 use Rattle.dnsv_explain.specs.declared.line.derivation.Voucher.{Voucher}
 use Rattle.dnsv_explain.specs.declared.line.derivation.Voucher.TheVariants as voucher
@@ -28,6 +33,8 @@ module _ (basis : Basis) where
   abbrev IsTrue : Line → Type 0
   IsTrue (line.Trusted keys) = (set : ReceivedRrset) × IsNumbered basis.rrsets keys.signature.rrset set × Trusted set
   IsTrue (line.Signed signed) = Secured signed.signature.rrset signed.signature.signature
+  IsTrue (line.Part part) = (zone : Labels) × (chain : Chain) × IsPartOf Secured basis.rrsets zone chain part
+  IsTrue (line.Unusable unusable) = IsUnusableRecord basis.rrsets unusable × HasSecured basis unusable.number.rrset
   IsTrue _ = Unit {0}
 
   abbrev AreTrue : List Line → Type 0
@@ -38,6 +45,13 @@ module _ (basis : Basis) where
   secured_said before all k said =
       let Numbered : ℕ → Type 0 = λ n. Secured n said.signed.signature.signature in
       (said.signed.signature.signature, subst Numbered said.rrset (all (line.Signed said.signed) said.among))
+
+  -- and a signature that is said to be good is
+  said_secured : (before : List Line) → AreTrue before → (k s : ℕ) → IsSignatureSaid before (record { rrset = k; signature = s })
+      → Secured k s
+  said_secured before all k s said =
+      let Good : SignatureNumber → Type 0 = λ number. Secured number.rrset number.signature in
+      subst Good said.is (all (line.Signed said.signed) said.among)
 
   matched_then : (P Q : ℕ → Type 0) → ((k : ℕ) → P k → Q k) → (voucher : Voucher) (key : DnskeyRecord)
       → IsMatchedBy P basis voucher key → IsMatchedBy Q basis voucher key
@@ -73,9 +87,14 @@ module _ (basis : Basis) where
         good = record { set = follows.set; trusted = subst Trusted same said.2; key = follows.key; stands = follows.stands; good = follows.good.good };
       }
   true_line before all (line.Proof proof) follows = tt
-  true_line before all (line.Part part) follows = tt
+  true_line before all (line.Part part) follows = (
+    follows.zone,
+    follows.chain,
+    said_too (λ k s. IsSignatureSaid before (record { rrset = k; signature = s })) Secured basis.rrsets follows.zone follows.chain
+        part.role part.relation part.name part.by (said_secured before all) follows.says,
+  )
   true_line before all (line.Case cut) follows = tt
-  true_line before all (line.Unusable ds) follows = tt
+  true_line before all (line.Unusable ds) follows = (follows.0, secured_said before all ds.number.rrset follows.1)
   true_line before all (line.Hope kind) follows = tt
   true_line before all (line.Holds interval) follows = tt
   true_line before all (line.Rrset place) follows = tt

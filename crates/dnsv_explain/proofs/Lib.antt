@@ -1,12 +1,17 @@
 mod AnswerLemmas
 mod CircleLemmas
 mod ClimbLemmas
+mod DenialLemmas
 mod DerivationLemmas
 mod FollowingLemmas
 mod HoldingLemmas
 mod MomentLemmas
 mod NumberedLemmas
+mod OwnLemmas
+mod PartLemmas
 mod PlaceLemmas
+mod SayingLemmas
 mod ShownLemmas
 mod SignerLemmas
+mod UnusableLemmas
 mod WayLemmas

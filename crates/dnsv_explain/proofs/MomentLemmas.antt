@@ -149,9 +149,9 @@ module _ (basis : Basis) where
       trusted = follows.trusted;
     }
     follows_then before (line.Proof proof) valid follows = tt
-    follows_then before (line.Part part) valid follows = tt
+    follows_then before (line.Part part) valid follows = follows
     follows_then before (line.Case cut) valid follows = tt
-    follows_then before (line.Unusable ds) valid follows = tt
+    follows_then before (line.Unusable ds) valid follows = follows
     follows_then before (line.Hope kind) valid follows = tt
     follows_then before (line.Holds interval) valid follows = tt
     follows_then before (line.Rrset place) valid follows = follows

@@ -2,6 +2,7 @@
 pub mod FirstLemmas
 pub mod KeysLemmas
 pub mod RankLemmas
+pub mod ReadLemmas
 pub mod SearchLemmas
 pub mod TrustedLemmas
 use Rattle.std.proofs.Common.{◌≡◌, ℕ, subst}

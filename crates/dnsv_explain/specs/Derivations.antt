@@ -1,11 +1,11 @@
 -- The derivation of a signature or of a DNSKEY RRset: the lines from a trust anchor down to it, but for what was said
 -- before (RFC 4035 5).
-use Rattle.std.specs.Prelude.{◌≡◌, ◌≤◌, ℕ, List, [], ◌∷◌, ◌++◌, Contains}
+use Rattle.std.specs.Prelude.{◌≡◌, ◌≤◌, ℕ, List, [], ◌∷◌, ◌++◌}
 use Rattle.dnsv_chain.specs.Trusted.{IsSecured}
 use Rattle.dnsv_denial.specs.declared.records.number.RecordNumber.{RecordNumber}
 use Rattle.dnsv_records.specs.declared.number.DigestType.{DigestType}
 use Rattle.dnsv_verdict.specs.Verdict.{Basis}
-use Rattle.dnsv_explain.specs.Following.{IsSaidTrusted}
+use Rattle.dnsv_explain.specs.Following.{IsSaidTrusted, IsSignatureSaid}
 use Rattle.dnsv_explain.specs.Ways.{IsSignedLine, IsTrustedLine}
 use Rattle.dnsv_explain.specs.declared.line.Line.{Line}
 use Rattle.dnsv_explain.specs.declared.line.Line.TheVariants as line
@@ -14,12 +14,6 @@ use Rattle.dnsv_explain.specs.declared.line.derivation.SignedRrset.{SignedRrset}
 use Rattle.dnsv_explain.specs.declared.line.derivation.TrustedKeys.{TrustedKeys}
 use Rattle.dnsv_explain.specs.declared.line.derivation.Voucher.{Voucher}
 use Rattle.dnsv_explain.specs.declared.line.derivation.Voucher.TheVariants as voucher
-
--- a line before says that the signature is good under a trusted key
-pub record IsSignatureSaid (before : List Line) (number : SignatureNumber) : Type 0 where
-  pub signed : SignedRrset
-  pub among : Contains before (line.Signed signed)
-  pub is : signed.signature ≡ number
 
 -- s is the lowest number of a signature of RRset k that is good under a trusted key
 pub record IsLowestSecured (basis : Basis) (k s : ℕ) : Type 0 where

@@ -1,5 +1,6 @@
 -- Which lines of an explanation follow from the evidence and the lines before them, each by one rule (RFC 4035 5). So a
 -- reader can check a text line by line.
+pub mod Parts
 use Rattle.std.specs.Prelude.{◌≡◌, ℕ, List, [], ◌∷◌, ◌++◌, Contains}
 use Rattle.std.specs.List.{AllZip}
 use Rattle.dnsv_names.specs.Name.{Labels, SameName}
@@ -18,8 +19,11 @@ use Rattle.dnsv_chain.specs.declared.anchor.Anchor.TheVariants as anchor
 use Rattle.dnsv_denial.specs.gathering.Evidence.{IsRecordAt}
 use Rattle.dnsv_denial.specs.declared.records.number.RecordNumber.{RecordNumber}
 use Rattle.dnsv_verdict.specs.Verdict.{Basis}
+use Rattle.dnsv_explain.specs.Following.Parts.{FollowsPart, IsUnusableRecord}
 use Rattle.dnsv_explain.specs.declared.line.Line.{Line}
 use Rattle.dnsv_explain.specs.declared.line.Line.TheVariants as line
+use Rattle.dnsv_explain.specs.declared.line.cut.UnusableDs.{UnusableDs}
+use Rattle.dnsv_explain.specs.declared.line.denial.Part.{Part}
 use Rattle.dnsv_explain.specs.declared.line.derivation.KeyName.{KeyName}
 use Rattle.dnsv_explain.specs.declared.line.derivation.SignatureNumber.{SignatureNumber}
 use Rattle.dnsv_explain.specs.declared.line.derivation.SignedRrset.{SignedRrset}
@@ -52,6 +56,12 @@ pub record IsSaidSigned (before : List Line) (k : ℕ) : Type 0 where
   pub signed : SignedRrset
   pub among : Contains before (line.Signed signed)
   pub rrset : signed.signature.rrset ≡ k
+
+-- that the signature is good under a trusted key
+pub record IsSignatureSaid (before : List Line) (number : SignatureNumber) : Type 0 where
+  pub signed : SignedRrset
+  pub among : Contains before (line.Signed signed)
+  pub is : signed.signature ≡ number
 
 -- that DNSKEY RRset k is trusted
 pub record IsSaidTrusted (before : List Line) (k : ℕ) : Type 0 where
@@ -129,12 +139,25 @@ pub record IsPlaceOf (rrsets : List ReceivedRrset) (place : RrsetPlace) : Type 0
   pub owner : place.owner ≡ rrset.owner
   pub rtype : place.rtype.0 ≡ rrset.rtype
 
+-- A record of a zone's chain says so, of which lines before name the zone and say that the record's signature is good.
+abbrev pub FollowsAsPart : Basis → List Line → Part → Type 0
+FollowsAsPart basis before part =
+    FollowsPart (λ k s. IsSignatureSaid before (record { rrset = k; signature = s })) basis.rrsets before part
+
+-- the record can't be used, and a line before says that its RRset is signed
+abbrev pub FollowsUnusable : Basis → List Line → UnusableDs → Type 0
+FollowsUnusable basis before unusable =
+    IsUnusableRecord basis.rrsets unusable × IsSaidSigned before unusable.number.rrset
+
 -- ---- lines one after another
 
--- a line that says what is trusted, what is signed or where an RRset stands follows from those before it
+-- A line that says what is trusted, what is signed, a part of a proof, a record that can't be used or where an RRset
+-- stands follows from those before it.
 abbrev pub Follows : Basis → List Line → Line → Type 0
 Follows basis before (line.Trusted keys) = FollowsTrusted basis before keys
 Follows basis before (line.Signed signed) = FollowsSigned basis before signed
+Follows basis before (line.Part part) = FollowsAsPart basis before part
+Follows basis before (line.Unusable unusable) = FollowsUnusable basis before unusable
 Follows basis before (line.Rrset place) = IsPlaceOf basis.rrsets place
 Follows basis before _ = Unit {0}
 

@@ -1,11 +1,16 @@
 pub mod Climb
+pub mod Denials
 pub mod Derivations
 pub mod Explained
 pub mod Following
 pub mod Holding
+pub mod OwnDerivations
+pub mod OwnSearch
 pub mod Places
 pub mod Reach
+pub mod Saying
 pub mod SignerSearch
+pub mod UnsignedCuts
 pub mod WaySearch
 pub mod Ways
 pub mod line

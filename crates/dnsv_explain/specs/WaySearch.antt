@@ -4,8 +4,10 @@ use Rattle.std.specs.declared.cmp.Ordering.TheVariants.{Less}
 use Rattle.dnsv_names.specs.Name.{Labels, SameName}
 use Rattle.dnsv_records.specs.declared.dnskey.Dnskey.{Dnskey}
 use Rattle.dnsv_canonical.specs.Canonical.{IsCanonical, rdata_cmp}
-use Rattle.dnsv_canonical.specs.Rrsets.{ReceivedRrset}
+use Rattle.dnsv_canonical.specs.Rrsets.{IsNumbered, ReceivedRrset}
 use Rattle.dnsv_verifier.specs.Admissible.{DnskeyRecord}
+use Rattle.dnsv_chain.specs.Anchor.{IsAnchorMatch}
+use Rattle.dnsv_chain.specs.Ds.{IsMatch}
 use Rattle.dnsv_chain.specs.Trusted.{IsKeyOf}
 use Rattle.dnsv_chain.specs.declared.anchor.Anchor.{Anchor}
 use Rattle.dnsv_chain.specs.declared.anchor.Anchor.TheVariants as anchor
@@ -16,6 +18,9 @@ use Rattle.dnsv_explain.specs.declared.line.derivation.SignatureNumber.{Signatur
 use Rattle.dnsv_explain.specs.declared.line.derivation.Voucher.{Voucher}
 use Rattle.dnsv_explain.specs.declared.line.derivation.Voucher.TheVariants as voucher
 use Rattle.dnsv_explain.specs.declared.ways.FoundWay.{FoundWay}
+use Rattle.dnsv_explain.specs.declared.ways.keys.KeySet.{KeySet}
+use Rattle.dnsv_explain.specs.declared.ways.matcher.Matcher.{Matcher}
+use Rattle.dnsv_explain.specs.declared.ways.matcher.Matcher.TheVariants as matcher
 
 -- ---- keys and signatures of an RRset
 
@@ -26,6 +31,11 @@ signature_of k s = record { rrset = k; signature = s }
 pub record AreKeysInOrder (set : ReceivedRrset) (keys : List DnskeyRecord) : Type 0 where
   pub canonical : IsCanonical set.rdata (map (λ key. key.rdata) keys)
   pub each : (key : DnskeyRecord) → Contains keys key → IsKeyOf set key
+
+-- the RRset has the number, and these are its keys in order
+pub record IsKeySet (basis : Basis) (set : KeySet) : Type 0 where
+  pub numbered : IsNumbered basis.rrsets set.number set.rrset.now
+  pub in_order : AreKeysInOrder set.rrset.now set.keys.items
 
 -- no signature of RRset k with a lower number is good under the key
 pub record IsLowestGood (basis : Basis) (k : ℕ) (rrset : ReceivedRrset) (key : DnskeyRecord) (s : ℕ) : Type 0 where
@@ -67,15 +77,20 @@ pub record IsFirstUnder
 abbrev pub IsNoneUnder : Basis → ℕ → ReceivedRrset → (DnskeyRecord → Type 0) → Type 0
 IsNoneUnder basis k set Matches = (other : DnskeyRecord) → IsKeyOf set other → ¬ SignsAs basis k set Matches other
 
+-- the anchor, or the record of a DS RRset with the owner, matches the key
+abbrev pub MatchesBy : Matcher → DnskeyRecord → Type 0
+MatchesBy (matcher.Anchor anchor) = IsAnchorMatch anchor.now
+MatchesBy (matcher.Ds owner ds) = IsMatch owner.now ds.now
+
 -- the anchor, which has the number, is told so
 abbrev pub IsVoucherOf : ℕ → Anchor → Voucher → Type 0
 IsVoucherOf number (anchor.Ds owner ds) told = told ≡ voucher.DsAnchor number ds.digest_type
 IsVoucherOf number (anchor.Key owner rdata) told = told ≡ voucher.KeyAnchor number
 
--- the RRset, which has the number, is a DS RRset at the owner of the DNSKEY RRset, and has a secured signature
-pub record MayDelegate (basis : Basis) (number : ℕ) (ds set : ReceivedRrset) : Type 0 where
+-- the RRset, which has the number, is a DS RRset of the name, and has a secured signature
+pub record MayDelegate (basis : Basis) (number : ℕ) (ds : ReceivedRrset) (name : Labels) : Type 0 where
   pub rtype : ds.rtype ≡ 43
-  pub owner : SameName ds.owner set.owner
+  pub owner : SameName ds.owner name
   pub secured : HasSecured basis number
 
 -- ---- ways

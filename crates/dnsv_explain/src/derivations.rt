@@ -4,8 +4,8 @@ ghost use Rattle.dnsv_chain.specs.Trusted.{IsSecured};
 ghost use Rattle.dnsv_verifier.specs.Table.{table_answer};
 ghost use Rattle.dnsv_explain.specs.Explained.{basis_in};
 ghost use Rattle.dnsv_explain.specs.Climb.{Climbs, IsClimbed};
-ghost use Rattle.dnsv_explain.specs.Derivations.{IsDerivation, IsLowestSecured, IsSignatureSaid, Subject};
-ghost use Rattle.dnsv_explain.specs.Following.{IsSaidTrusted};
+ghost use Rattle.dnsv_explain.specs.Derivations.{IsDerivation, IsLowestSecured, Subject};
+ghost use Rattle.dnsv_explain.specs.Following.{IsSaidTrusted, IsSignatureSaid};
 ghost use Rattle.dnsv_explain.specs.Ways.{IsTrustedSet};
 
 use crate::evidence::Evidence;
@@ -116,7 +116,7 @@ fn step(
 }
 
 /// The lowest signature of the RRset with the number that is good under a trusted key.
-fn lowest_secured(evidence: &Evidence<'_>, rrset: usize) -> Option<SignatureNumber>
+pub fn lowest_secured(evidence: &Evidence<'_>, rrset: usize) -> Option<SignatureNumber>
     ensures { MatchOption result
         ((s : ℕ) → ¬ IsSecured (table_answer evidence.now.table) evidence.now.table.moment evidence.now.rrsets evidence.now.anchors rrset s)
         (λ number. (number.rrset ≡ rrset) × IsLowestSecured (basis_in evidence.now) rrset number.signature) }

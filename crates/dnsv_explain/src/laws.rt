@@ -2,20 +2,29 @@
 //!
 //! Each is a function that does nothing and ensures the law, which its caller learns.
 ghost use Rattle.std.specs.Prelude.{◌≡◌, ◌≤◌, ℕ, [], List, Contains};
+ghost use Rattle.dnsv_names.specs.Name.{Labels};
 ghost use Rattle.dnsv_canonical.specs.Rrsets.{IsNumbered, ReceivedRrset};
 ghost use Rattle.dnsv_chain.specs.Trusted.{IsSecured, IsTrusted};
+ghost use Rattle.dnsv_denial.specs.words.EvidenceWords.{Chain};
 ghost use Rattle.dnsv_verdict.specs.Verdict.{Basis};
+ghost use Rattle.dnsv_denial.specs.declared.proving.shown_denial.ShownDenial.{ShownDenial};
+ghost use Rattle.dnsv_explain.specs.Denials.{IsDenialTold, IsExpandedTold, IsShownDenial};
 ghost use Rattle.dnsv_explain.specs.Derivations.{IsDerivation, Subject};
 ghost use Rattle.dnsv_explain.specs.Following.{EachFollows, at_moment};
+ghost use Rattle.dnsv_explain.specs.Following.Parts.{IsPartOf, IsUnusableRecord};
 ghost use Rattle.dnsv_explain.specs.Holding.{AreShownValidAt, IsHolding, IsHoldingOf};
+ghost use Rattle.dnsv_explain.specs.Ways.{HasSecured};
 
 use crate::interval::{Interval, Times};
 use crate::line::Line;
-use crate::line::derivation::{SignedRrset, TrustedKeys};
+use crate::line::cut::UnusableDs;
+use crate::line::denial::Part;
+use crate::line::derivation::{SignatureNumber, SignedRrset, TrustedKeys};
 
 /// Lines of which each follows from those before it are true: what they call trusted is trusted, and what they call
-/// signed is good under a trusted key of its signer, and valid at the moment. So the rules suffice to check a text line
-/// by line.
+/// signed is good under a trusted key of its signer, and valid at the moment; a part of a proof is what a record of the
+/// zone's chain says; and a record that they call unusable is one of a DS RRset that has a good signature. So the rules
+/// suffice to check a text line by line.
 pub fn lines_that_follow_are_true()
     ensures trusted { (basis : Basis) (lines : List Line) (keys : TrustedKeys) → EachFollows basis [] lines
         → Contains lines (Line.Trusted keys)
@@ -25,6 +34,13 @@ pub fn lines_that_follow_are_true()
         → Contains lines (Line.Signed signed)
         → IsSecured basis.meaning basis.moment basis.rrsets basis.anchors signed.signature.rrset
         signed.signature.signature }
+    ensures part { (basis : Basis) (lines : List Line) (part : Part) → EachFollows basis [] lines
+        → Contains lines (Line.Part part)
+        → (zone : Labels) × (chain : Chain)
+        × IsPartOf (IsSecured basis.meaning basis.moment basis.rrsets basis.anchors) basis.rrsets zone chain part }
+    ensures unusable { (basis : Basis) (lines : List Line) (unusable : UnusableDs) → EachFollows basis [] lines
+        → Contains lines (Line.Unusable unusable)
+        → IsUnusableRecord basis.rrsets unusable × HasSecured basis unusable.number.rrset }
     ensures valid { (basis : Basis) (lines : List Line) → EachFollows basis [] lines
         → AreShownValidAt basis.rrsets lines basis.moment }
 {}
@@ -47,5 +63,18 @@ pub fn signatures_hold_in_one_interval()
 /// of it that come first. So what a derivation says is true.
 pub fn derivations_follow()
     ensures { (basis : Basis) (before lines : List Line) (subject : Subject) → IsDerivation basis before subject lines
+        → EachFollows basis before lines }
+{}
+
+/// So does each line of a denial that the evidence shows.
+pub fn denials_follow()
+    ensures { (basis : Basis) (name : Labels) (shown : ShownDenial) (before lines : List Line)
+        → IsShownDenial basis name shown → IsDenialTold basis name shown before lines → EachFollows basis before lines }
+{}
+
+/// And so does each line of a signature behind which a wildcard is.
+pub fn expanded_signatures_follow()
+    ensures { (basis : Basis) (name : Labels) (number : SignatureNumber) (shown : ShownDenial) (before lines : List Line)
+        → IsShownDenial basis name shown → IsExpandedTold basis name number shown before lines
         → EachFollows basis before lines }
 {}

@@ -3,12 +3,13 @@
 //! A `Line` is a fact, and its text is what `Display` writes. An `Interval` is how long signatures hold.
 #![tactic(auto)]
 
+pub use denials::{add_denial, add_expanded};
 pub use derivations::derivation;
 pub use evidence::Evidence;
 pub use interval::{Interval, Times, holding};
 pub use laws::{
-    derivations_follow, lines_follow_as_long_as_they_hold, lines_that_follow_are_true,
-    signatures_hold_in_one_interval,
+    denials_follow, derivations_follow, expanded_signatures_follow,
+    lines_follow_as_long_as_they_hold, lines_that_follow_are_true, signatures_hold_in_one_interval,
 };
 pub use line::cut::{Cut, InsecureCase, UnusableDs, WhyUnusable};
 pub use line::denial::{Chain, Form, Part, Proof, RecordPlace, Relation, Role};
@@ -18,15 +19,19 @@ pub use line::{Kind, Line};
 pub use places::places_named;
 pub use shown::holding_of;
 pub use signers::signed_line;
+pub use unsigned_cuts::add_unusable;
 pub use ways::trusted_line;
 
+mod denials;
 mod derivations;
 mod evidence;
 mod interval;
 mod laws;
 mod line;
 mod numbered;
+mod own_derivations;
 mod places;
 mod shown;
 mod signers;
+mod unsigned_cuts;
 mod ways;

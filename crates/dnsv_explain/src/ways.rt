@@ -3,6 +3,7 @@
 pub mod by_anchor;
 pub mod by_ds;
 pub mod keys;
+pub mod matcher;
 
 ghost use Rattle.std.specs.Prelude.{◌≡◌, IfOk, MatchOption};
 ghost use Rattle.dnsv_canonical.specs.Rrsets.{IsNumbered};
@@ -15,7 +16,7 @@ use crate::line::derivation::{KeyName, SignatureNumber, Todo, TrustedKeys, Vouch
 use crate::numbered::numbered;
 use crate::ways::by_anchor::way_by_anchor;
 use crate::ways::by_ds::way_by_ds;
-use crate::ways::keys::keys_in_order;
+use crate::ways::keys::{KeySet, keys_in_order};
 use dnsv_canonical::Rrset;
 use dnsv_names::RecordType;
 use std::alloc::{AllocError, Global};
@@ -65,15 +66,20 @@ pub fn first_way(
     alloc: Global,
     evidence: &Evidence<'_>,
     number: usize,
-    set: &Rrset,
+    rrset: &Rrset,
 ) -> Result<Option<FoundWay>, AllocError>
-    requires numbered { IsNumbered evidence.now.rrsets number set.now }
-    requires rtype { set.now.rtype ≡ 48 }
+    requires numbered { IsNumbered evidence.now.rrsets number rrset.now }
+    requires rtype { rrset.now.rtype ≡ 48 }
     ensures { IfOk result (λ way. MatchOption way (IsNoWay (basis_in evidence.now) number) (IsFoundWay (basis_in evidence.now) number)) }
 {
-    let keys = keys_in_order(alloc, set)?;
-    if let Some(way) = way_by_anchor(alloc, evidence, number, set, &keys)? {
+    let keys = keys_in_order(alloc, rrset)?;
+    let set = KeySet {
+        number,
+        rrset,
+        keys,
+    };
+    if let Some(way) = way_by_anchor(alloc, evidence, &set)? {
         return Ok(Some(way));
     }
-    Ok(way_by_ds(alloc, evidence, number, set, &keys)?)
+    Ok(way_by_ds(alloc, evidence, &set)?)
 }

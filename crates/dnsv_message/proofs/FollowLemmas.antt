@@ -1,5 +1,6 @@
 -- What following octets from a place finds is the name that stands there.
 pub mod Comparing
+pub mod PieceLemmas
 pub mod RdataFollowed
 pub mod Writing
 use Rattle.std.proofs.Common.{◌≡◌, ℕ, zero, suc, ◌+◌, ◌-◌, ◌*◌, ◌^◌, ◌<◌, ◌≤◌, List, [], ◌∷◌, ◌++◌, length, get_or, take, drop, refl, sym, ap, subst, ◌∙◌, arith, length-append, length-drop, ⊎_elim, Result, Ok, Err, Bool, true, false, nat_lt}
@@ -222,7 +223,7 @@ wire_stands octets labels form name =
     first_small (first ∷ rest) each = omega (arith, each.0.at_most_63)
 
 -- a name that stands is read
-pub named_is_read : (octets : List ℕ) (place : ℕ) → IsNamed octets place → (answer : Result (Labels × ℕ) NameFault) → IfErr answer (NameFaultFrom octets place) → IsOk answer
+pub named_is_read : {X : Type 0} (octets : List ℕ) (place : ℕ) → IsNamed octets place → (answer : Result X NameFault) → IfErr answer (NameFaultFrom octets place) → IsOk answer
 named_is_read octets place named (Ok found) fault = refl
 named_is_read octets place named (Err wrong) fault =
     absurd (NameAt_sound octets (octet_fits octets named.fit) place place pointer_limit 0 (labels_at octets place) named.end wrong (omega (arith, named.name.1)) named.name.0 fault)

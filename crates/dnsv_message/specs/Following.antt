@@ -1,5 +1,6 @@
 -- Names read by following octets from a place on: how a `NameRef` is seen. No public clause cites this module.
 pub mod Kept
+pub mod Pieces
 pub mod Rdata
 use Rattle.std.specs.Prelude.{◌≡◌, ℕ, zero, suc, ◌+◌, ◌-◌, ◌*◌, ◌^◌, ◌<◌, ◌≤◌, Bool, true, false, nat_lt, List, [], ◌∷◌, length, get_or, take, drop}
 use Rattle.dnsv_names.specs.Name.{Labels}

@@ -1,7 +1,7 @@
 //! Names where they stand in a message.
 
 pub mod by_wire;
-mod following;
+pub mod following;
 mod text;
 
 ghost use Rattle.std.specs.Prelude.{◌≡◌, ◌↔◌, ◌≤◌, IsTrue, IfOk, IfErr, length, map};

@@ -1,5 +1,11 @@
 //! The RDATA of a record where it stands in a message.
-ghost use Rattle.std.specs.Prelude.{◌≡◌, ◌≤◌, ◌+◌, [], ℕ, List, length, IsFalse, IsTrue, IfOk, MatchOption};
+
+mod pieces;
+
+ghost use Rattle.std.specs.Prelude.{◌≡◌, ◌↔◌, ◌≤◌, ◌+◌, ◌++◌, [], ℕ, List, length, nat_eq, IsFalse, IsTrue, IfOk, MatchOption};
+ghost use Rattle.std.specs.Cmp.{partial_equiv_from_equiv};
+ghost use Rattle.std.specs.Cmp.Lexicographic.{lists_equiv, pointwise};
+ghost use Rattle.std.proofs.lemmas.Cmp.{nat_eq_equiv};
 ghost use Rattle.dnsv_names.specs.Name.{Labels};
 ghost use Rattle.dnsv_message.specs.Layout.{layout_of};
 ghost use Rattle.dnsv_message.specs.Grammar.{RdataNameAt, RdataAt};
@@ -7,6 +13,7 @@ ghost use Rattle.dnsv_message.specs.Grammar.{RdataNameAt, RdataAt};
 use crate::name_at::name_end;
 use crate::number::Class;
 use crate::rdata::{Layout, rdata_at};
+use crate::rdata_ref::pieces::Pieces;
 use dnsv_names::{Name, RecordType};
 use std::alloc::{AllocError, Global};
 use std::marker::Model;
@@ -129,6 +136,52 @@ impl<'b> RdataRef<'b> {
     }
 }
 
+impl<'b> RdataRef<'b> {
+    /// The octets before the names, and the pieces behind them.
+    fn pieces(&self) -> (&'b [u8], Pieces<'b>)
+        ensures { result.0.now ++ result.1 ≡ self.now }
+    {
+        let layout = Layout::of(self.rtype, self.class);
+        let names = self.start + layout.head;
+        let limit = self.start + self.size as usize;
+        let head = &self.octets[self.start..names];
+        (head, Pieces::new(self.octets, names, layout.names, limit))
+    }
+}
+
+/// RDATA is equal where its octets are, with every name written out uncompressed as it is spelled. Names that
+/// differ in case are other octets.
+impl PartialEq for RdataRef<'_> {
+    ghost eq = { pointwise nat_eq };
+
+    ghost laws = { partial_equiv_from_equiv (lists_equiv nat_eq_equiv) };
+
+    fn eq(&self, other: &Self) -> bool
+        ensures value { result ≡ pointwise nat_eq self.now other.now }
+        ensures same { IsTrue result ↔ (self.now ≡ other.now) }
+    {
+        let (mut own, mut own_rest) = self.pieces();
+        let (mut others, mut others_rest) = other.pieces();
+        'pieces: loop {
+            own = own_rest.filled(own);
+            others = others_rest.filled(others);
+            let both = own.len().min(others.len());
+            if both == 0 {
+                return own.len() == others.len();
+            }
+            if own[..both] != others[..both] {
+                return false;
+            }
+            own = &own[both..];
+            others = &others[both..];
+        }
+    }
+}
+
+impl Eq for RdataRef<'_> {
+    ghost laws = { lists_equiv nat_eq_equiv };
+}
+
 /// Where the octets of an RDATA are kept.
 #[derive(Debug, Drop)]
 enum Kept<'b> {
@@ -173,3 +226,6 @@ impl<'b> RdataOctets<'b> {
         }
     }
 }
+
+#[cfg(test)]
+mod tests;

@@ -50,16 +50,16 @@ module _ (meaning : Entry → Answer) (moment : ℕ) (rrsets : List ReceivedRrse
 
 -- what the trust of these grounds doesn't settle, the verifier doesn't
 pub unsettled_on : (grounds : Grounds) (meaning : Entry → Answer) (moment : ℕ)
-    → IsTableOf meaning moment grounds.capture.now.rrsets grounds.table.now
-    → ((entry : Entry) → IsAsked moment grounds.capture.now.rrsets entry → table_answer grounds.table.now entry ≡ meaning entry)
+    → IsTableOf meaning moment grounds.capture.now.rrsets grounds.table
+    → ((entry : Entry) → IsAsked moment grounds.capture.now.rrsets entry → table_answer grounds.table entry ≡ meaning entry)
     → ((first second : Entry → Answer) (moment : ℕ) (rrsets : List ReceivedRrset) (anchors : List Anchor)
     → ((entry : Entry) → IsAsked moment rrsets entry → first entry ≡ second entry)
     → (k s : ℕ) → IsSecured first moment rrsets anchors k s → IsSecured second moment rrsets anchors k s)
-    → IsTrustOf (table_answer grounds.table.now) grounds.table.now.moment grounds.capture.now.rrsets grounds.anchors.now grounds.trust.now
-    → (name : Labels) (t : ℕ) → ¬ IsSettled (SecuredIn grounds.trust.now) grounds.capture.now.rrsets name t
+    → IsTrustOf (table_answer grounds.table) grounds.table.moment grounds.capture.now.rrsets grounds.anchors.now grounds.trust
+    → (name : Labels) (t : ℕ) → ¬ IsSettled (SecuredIn grounds.trust) grounds.capture.now.rrsets name t
     → ¬ IsSettledBy (basis_of grounds.capture.now.rrsets grounds.anchors.now moment meaning) name t
 unsettled_on grounds meaning moment table says depends is name t none =
-    unsettled_by_trust meaning moment grounds.capture.now.rrsets grounds.anchors.now grounds.table.now grounds.trust.now
+    unsettled_by_trust meaning moment grounds.capture.now.rrsets grounds.anchors.now grounds.table grounds.trust
     table.of_moment says depends is name t none
 
 -- what is settled is the verdict

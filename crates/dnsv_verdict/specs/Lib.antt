@@ -1,11 +1,14 @@
 pub mod Complete
+pub mod Grounds
 pub mod Hashed
 pub mod Insecure
 pub mod Meaning
 pub mod NoLess
+pub mod Report
 pub mod Search
 pub mod Secure
 pub mod Settled
+pub mod Trail
 pub mod Verdict
 pub mod VerdictError
 pub mod Way

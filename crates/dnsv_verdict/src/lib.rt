@@ -4,13 +4,14 @@
 
 pub use complete::a_whole_chain_is_told_by_the_verdict;
 pub use error::VerdictError;
+pub use grounds::{Grounds, Hope};
 pub use laws::{
     a_question_has_a_verdict, a_question_has_one_verdict,
     a_question_is_indeterminate_without_an_anchor_above, more_evidence_makes_no_verdict_worse,
     valid_answers_settle_what_depends_on_them,
 };
 pub use link::{Link, Links};
-pub use report::{Report, validate};
+pub use report::{Judged, Report, judge, validate};
 pub use verdict::Verdict;
 pub use ways::a_question_leads_one_way;
 
@@ -23,6 +24,7 @@ mod report;
 mod search;
 mod settled;
 mod target;
+mod trail;
 mod verdict;
 mod way;
 mod ways;

@@ -1,5 +1,5 @@
 //! The verdict on a question, and what it took.
-ghost use Rattle.std.specs.Prelude.{◌≡◌, ◌⊎◌, List, IfErr, IfOk, IsErrOf, length};
+ghost use Rattle.std.specs.Prelude.{◌≡◌, ◌⊎◌, List, IfErr, IfOk, IsErrOf, IsTrue, length};
 ghost use Rattle.std.specs.List.{AllByRecursion};
 ghost use Rattle.dnsv_names.specs.Count.{counted};
 ghost use Rattle.dnsv_names.specs.Name.{IsName};
@@ -9,8 +9,10 @@ ghost use Rattle.dnsv_canonical.specs.Evidence.{AreParameters, nsec3_rdata};
 ghost use Rattle.dnsv_canonical.specs.Rrsets.{IsQuestion};
 ghost use Rattle.dnsv_chain.specs.Trusted.{IsSecured};
 ghost use Rattle.dnsv_verdict.specs.Complete.{TellsWholeChains};
+ghost use Rattle.dnsv_verdict.specs.Grounds.{AreGroundsOf, basis_by};
 ghost use Rattle.dnsv_verdict.specs.Hashed.{IsFewHashedOn, IsNumberHashedOn, hashes_on};
 ghost use Rattle.dnsv_verdict.specs.Meaning.{IsTrueOfZones};
+ghost use Rattle.dnsv_verdict.specs.Report.{IsKept, IsReport, Refuses};
 ghost use Rattle.dnsv_verifier.specs.Asked.{IsNumberAsked};
 ghost use Rattle.dnsv_verdict.specs.Verdict.{basis_of};
 ghost use Rattle.dnsv_verdict.specs.Way.{IsRefusal, IsVerdictOf, names_on};
@@ -18,15 +20,17 @@ ghost use Rattle.dnsv_verdict.specs.declared.error.VerdictError.{VerdictError};
 
 use crate::complete::a_whole_chain_is_told_by_the_verdict;
 use crate::error::VerdictError;
-use crate::grounds::Grounds;
+use crate::grounds::{Grounds, Hope};
 use crate::link::Links;
+use crate::trail::Trail;
 use crate::verdict::Verdict;
 use crate::way::{Way, follow};
 use crate::ways::a_question_leads_one_way;
 use dnsv_canonical::{Capture, is_question};
 use dnsv_chain::{Anchors, trusted};
+use dnsv_denial::Hashes;
 use dnsv_names::{Count, Name, RecordType};
-use dnsv_verifier::{Table, Verifier, ask_all};
+use dnsv_verifier::{Table, Verifier, a_table_is_its_verifier, ask_all};
 use std::alloc::Global;
 
 /// The verdict on a question, and what it took.
@@ -42,6 +46,18 @@ pub struct Report {
     pub asked: u64,
     /// How many SHA-1 digests were worked out to hash names for NSEC3 (RFC 5155 5).
     pub hashed: u64,
+}
+
+/// The report on a question, and what the verdicts on its way were found by. A view of what the evidence says at a name
+/// of the way is made of its hashes and the trust of the grounds, and by the trust of the hope where it is Pending.
+#[derive(Drop)]
+pub struct Judged<'a> {
+    pub report: Report,
+    pub grounds: Grounds<'a>,
+    /// Those for the name of each link, in order, and for the last name. They are empty where nothing is kept.
+    pub hashes: Vec<Hashes<'a>>,
+    /// There is one just where the verdict is Pending, and where anything is kept.
+    pub hope: Option<Hope<'a>>,
 }
 
 /// The verdict on the question of a name and a type: what the evidence of the capture proves from the trust anchors, at
@@ -88,29 +104,68 @@ pub fn validate<V: Verifier>(
         verifier.now)) name.now rtype.0 error
         → IsErrOf result error ⊎ IsErrOf result VerdictError.OutOfMemory }
 {
+    let judged = judge(
+        alloc, capture, anchors, moment, verifier, name, rtype, false,
+    )?;
+    Ok(judged.report)
+}
+
+/// The report on a question, which is that of `validate`, with what the verdicts on its way were found by, where that
+/// is kept. Nothing is asked, hashed or worked out more than there; where nothing is kept, no more memory is taken
+/// either.
+pub fn judge<'a, V: Verifier>(
+    alloc: Global,
+    capture: &'a Capture,
+    anchors: &'a Anchors,
+    moment: u64,
+    verifier: &V,
+    name: &Name,
+    rtype: RecordType,
+    keeps: bool,
+) -> Result<Judged<'a>, VerdictError>
+    ensures report { IfOk result (λ judged. IsReport (basis_of capture.now.rrsets anchors.now moment (V.meaning
+        verifier.now)) name.now rtype.0 judged.report) }
+    ensures refused { Refuses (basis_of capture.now.rrsets anchors.now moment (V.meaning verifier.now)) name.now rtype.0
+        result }
+    ensures grounds { IfOk result (λ judged. AreGroundsOf (basis_of capture.now.rrsets anchors.now moment (V.meaning
+        verifier.now)) judged.grounds) }
+    // The table leads to the verdict by itself.
+    ensures by_table { IfOk result (λ judged. IsVerdictOf (basis_by judged.grounds) name.now rtype.0
+        judged.report.links judged.report.last judged.report.verdict) }
+    ensures kept { IsTrue keeps → IfOk result (λ judged. IsKept judged.grounds rtype.0 judged.report.links
+        judged.report.last judged.report.verdict judged.hashes.items judged.hope) }
+{
     if !is_question(name, rtype) {
         return Err(VerdictError::BadQuestion);
     }
     a_question_leads_one_way();
     a_whole_chain_is_told_by_the_verdict();
+    a_table_is_its_verifier();
     let mut asked = Count::new();
     let table = ask_all(alloc, capture, moment, verifier, &mut asked)?;
     let trust = trusted(alloc, capture, anchors, &table)?;
     let grounds = Grounds {
         capture,
         anchors,
-        table: &table,
-        trust: &trust,
+        table,
+        trust,
     };
     let mut hashed = Count::new();
-    let followed = follow(alloc, &grounds, name, rtype, &mut hashed)?;
+    let mut trail = Trail::new(alloc, keeps);
+    let followed = follow(alloc, &grounds, name, rtype, &mut hashed, &mut trail)?;
     let hashed = exact_hashed(&hashed, capture, &followed.way);
-    Ok(Report {
+    let report = Report {
         links: followed.way.links,
         last: followed.way.last,
         verdict: followed.verdict,
-        asked: exact(&asked, &table),
+        asked: exact(&asked, &grounds.table),
         hashed,
+    };
+    Ok(Judged {
+        report,
+        grounds,
+        hashes: trail.hashes,
+        hope: trail.hope,
     })
 }
 

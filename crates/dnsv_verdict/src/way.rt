@@ -6,11 +6,13 @@ ghost use Rattle.dnsv_names.specs.Name.{IsName, SameName};
 ghost use Rattle.dnsv_records.specs.declared.nsec3.Nsec3Parameters.{Nsec3Parameters};
 ghost use Rattle.dnsv_canonical.specs.Evidence.{AreParameters, nsec3_rdata};
 ghost use Rattle.dnsv_canonical.specs.Rrsets.{IsQuestion};
-ghost use Rattle.dnsv_chain.specs.Trust.{IsTrustOf};
-ghost use Rattle.dnsv_verifier.specs.Table.{IsTableOf, table_answer};
+ghost use Rattle.dnsv_verifier.specs.Table.{IsTableOf};
 ghost use Rattle.dnsv_verifier.specs.declared.answer.Answer.{Answer};
 ghost use Rattle.dnsv_verifier.specs.declared.entry.Entry.{Entry};
+ghost use Rattle.dnsv_verdict.specs.Grounds.{HasTrust};
 ghost use Rattle.dnsv_verdict.specs.Hashed.{hashes_on};
+ghost use Rattle.dnsv_verdict.specs.Report.{IsKept};
+ghost use Rattle.dnsv_verdict.specs.Trail.{IsEmpty};
 ghost use Rattle.dnsv_verdict.specs.Way.{IsAlias, IsAmong, IsRefusedFor, IsTarget, IsVerdictOf, IsWay, Stops, most_links, names_on};
 ghost use Rattle.dnsv_verdict.specs.declared.error.VerdictError.TheVariants.{OutOfMemory};
 ghost use Rattle.dnsv_verdict.specs.declared.link.Link.{Link};
@@ -21,6 +23,7 @@ use crate::error::VerdictError;
 use crate::grounds::{Grounds, verdict_at};
 use crate::link::{LINK_LIMIT, Link, Links};
 use crate::target::target_of;
+use crate::trail::Trail;
 use crate::verdict::Verdict;
 use dnsv_canonical::is_question;
 use dnsv_names::{Count, Name, RecordType, counts_add_up};
@@ -41,26 +44,27 @@ pub struct Followed {
 }
 
 /// Follows secure aliases from the name on, and gives the verdict at the last name, which is none. `hashed` grows by
-/// the SHA-1 digests that are worked out, at each name.
+/// the SHA-1 digests that are worked out, at each name, and the trail, if it keeps anything, by what each verdict is
+/// found by.
 ///
 /// An alias that can't be followed is refused: `AliasTargets` where it has no one target, `AliasLoop` where the target
 /// is a name of the way, `TooManyLinks` where it would be the ninth link, `BadQuestion` where the type can't be asked
 /// at the target; the first of these, in this order.
-pub fn follow(
+pub fn follow<'a>(
     alloc: Global,
-    grounds: &Grounds<'_>,
+    grounds: &Grounds<'a>,
     name: &Name,
     rtype: RecordType,
     hashed: &mut Count,
+    trail: &mut Trail<'a>,
 ) -> Result<Followed, VerdictError>
-    requires { IsTrustOf (table_answer grounds.now.table.now) grounds.now.table.now.moment
-        grounds.now.capture.now.rrsets grounds.now.anchors.now grounds.now.trust.now }
+    requires { HasTrust grounds.now }
     ensures value { (meaning : Entry → Answer) (moment : ℕ)
-        → IsTableOf meaning moment grounds.now.capture.now.rrsets grounds.now.table.now
+        → IsTableOf meaning moment grounds.now.capture.now.rrsets grounds.now.table
         → IfOk result (λ followed. IsVerdictOf (basis_of grounds.now.capture.now.rrsets grounds.now.anchors.now moment
         meaning) name.now rtype.0 followed.way.links followed.way.last followed.verdict) }
     ensures refused { (meaning : Entry → Answer) (moment : ℕ)
-        → IsTableOf meaning moment grounds.now.capture.now.rrsets grounds.now.table.now
+        → IsTableOf meaning moment grounds.now.capture.now.rrsets grounds.now.table
         → IfErr result (λ error. (error ≡ OutOfMemory) ⊎ IsRefusedFor (basis_of grounds.now.capture.now.rrsets
         grounds.now.anchors.now moment meaning) name.now rtype.0 error) }
     ensures hashed { IfOk result (λ followed. (all : List Nsec3Parameters)
@@ -68,6 +72,9 @@ pub fn follow(
         → hashed.new ≡ counted hashed.old (hashes_on (names_on followed.way.links followed.way.last) all)) }
     ensures names { IfOk result (λ followed. AllByRecursion IsName
         (names_on followed.way.links followed.way.last)) }
+    ensures kept { IfOk result (λ followed. IsTrue trail.old.keeps → IsEmpty trail.old
+        → IsKept grounds.now rtype.0 followed.way.links followed.way.last followed.verdict trail.new.hashes.items
+        trail.new.hope) }
 {
     counts_add_up();
     // What is true of every count and of every name.
@@ -78,7 +85,7 @@ pub fn follow(
         last: name.clone()?,
     };
     'links: loop {
-        let verdict = verdict_at(alloc, grounds, &way.last, rtype, hashed)?;
+        let verdict = verdict_at(alloc, grounds, trail, &way.last, rtype, hashed)?;
         let Some((rrset, signature)) = alias_of(&verdict) else {
             return Ok(Followed { way, verdict });
         };

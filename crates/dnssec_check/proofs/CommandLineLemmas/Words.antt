@@ -233,16 +233,16 @@ is_list {words} {name} {rows} at same = go at.has where
   go (inr (inl list)) = list.1
   go (inr (inr check)) = absurd (other_name (codes "check") (codes "list") (λ e. omega (arith, e)) (sym check.0 ∙ same))
 
-pub is_check : {words : List Text} {name : Text} {rows : List Row} → Sees words name rows → (name ≡ codes "show" → ⊥) → (name ≡ codes "list" → ⊥)
-    → (name ≡ codes "check") × HasCheckValues rows
-is_check {words} {name} {rows} at no_show no_list = go at.has where
-  go : IsCommand name rows → (name ≡ codes "check") × HasCheckValues rows
-  go (inl show) = absurd (no_show show.0)
-  go (inr (inl list)) = absurd (no_list list.0)
-  go (inr (inr check)) = check
-
 -- a name that fails the test of another isn't that
-pub not_named : (name other : Text) → bytes_eq name other ≡ false → name ≡ other → ⊥
+not_named : (name other : Text) → bytes_eq name other ≡ false → name ≡ other → ⊥
 not_named name other test same =
     let yes = (bytes_eq-Decides name other).1 same in
     let bad : true ≡ false = sym yes ∙ test in cc
+
+pub is_neither : {words : List Text} {name : Text} {rows : List Row} → Sees words name rows → bytes_eq name (codes "show") ≡ false → bytes_eq name (codes "list") ≡ false
+    → (name ≡ codes "check") × HasCheckValues rows
+is_neither {words} {name} {rows} at no_show no_list = go at.has where
+  go : IsCommand name rows → (name ≡ codes "check") × HasCheckValues rows
+  go (inl show) = absurd (not_named name (codes "show") no_show show.0)
+  go (inr (inl list)) = absurd (not_named name (codes "list") no_list list.0)
+  go (inr (inr check)) = check

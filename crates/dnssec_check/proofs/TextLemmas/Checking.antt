@@ -1,23 +1,26 @@
 -- The check of a question over files that were all taken.
-use Rattle.std.proofs.Common.{◌≡◌, ℕ, Bool, List, Option, Some, subst, string_bytes}
+use Rattle.std.proofs.Common.{◌≡◌, ℕ, Bool, true, false, List, Option, Some, refl, subst, string_bytes}
 use Rattle.std.specs.Prelude.{Result, Ok, Err, IfOk, IfSome}
 use Rattle.dnsv_names.specs.Name.{Labels}
 use Rattle.dnsv_message.specs.Message.{Contents}
 use Rattle.dnsv_canonical.specs.Evidence.{Evidence, evidence_of}
+use Rattle.dnsv_canonical.specs.Rrsets.{ReceivedRrset}
 use Rattle.dnsv_verifier.specs.declared.answer.Answer.{Answer}
 use Rattle.dnsv_verifier.specs.declared.entry.Entry.{Entry}
 use Rattle.dnsv_chain.specs.declared.anchor.Anchor.{Anchor}
 use Rattle.dnsv_verdict.specs.Way.{IsVerdictOf}
 use Rattle.dnsv_verdict.specs.declared.link.Link.{Link}
 use Rattle.dnsv_verdict.specs.declared.verdict.Verdict.{Verdict}
+use Rattle.dnsv_verdict.specs.declared.verdict.Verdict.TheVariants as verdict
 use Rattle.dnsv_verdict.specs.Verdict.{basis_of}
 use Rattle.dnssec_check.specs.Files.Anchors.{HasAnchors}
 use Rattle.dnssec_check.specs.declared.opening.Opening.{Opening}
 use Rattle.dnssec_check.specs.Files.Capture.{Holds, NewEvidence}
 use Rattle.dnssec_check.specs.Opening.Given.{IsOpeningOf}
-use Rattle.dnssec_check.specs.Texts.Checking.{AreInOrder, IsCheck, check_text, verdict_status}
+use Rattle.dnssec_check.specs.Texts.Checking.{AreInOrder, IsCheck, check_text, reason_members, reason_text, verdict_status}
 use Rattle.dnssec_check.specs.Files.{Files, octets_or_none}
 use Rattle.dnssec_check.specs.Files.Statements.{IsMeaningOf}
+use Rattle.dnssec_check.specs.Texts.Json.{parted}
 use Rattle.dnssec_check.specs.declared.texts.checking.Outcome.{Outcome}
 use Rattle.dnssec_check.specs.declared.status.Fault.{Fault}
 use Rattle.dnssec_check.proofs.FileLemmas.Faults.{of_told}
@@ -63,3 +66,14 @@ module _ (json : Bool) (name : Labels) (rtype moment : ℕ) (files : Files) (ope
         ends = outcome_is.4;
         lines = outcome_is.5;
       }
+
+-- what is added in JSON for what carries the verdict are the members for it, behind others
+pub members_are : (rrsets : List ReceivedRrset) (verdict : Verdict) → reason_text true rrsets verdict ≡ parted false (reason_members rrsets verdict)
+members_are rrsets (verdict.SecureAnswer k s) = refl
+members_are rrsets (verdict.SecureAlias k s) = refl
+members_are rrsets (verdict.SecureNoName proof) = refl
+members_are rrsets (verdict.SecureNoData proof) = refl
+members_are rrsets (verdict.Insecure cut) = refl
+members_are rrsets (verdict.Pending entries) = refl
+members_are rrsets verdict.Bogus = refl
+members_are rrsets verdict.Indeterminate = refl

@@ -25,7 +25,7 @@ use Rattle.dnssec_check.specs.Opening.Given.{IsOpeningOf}
 use Rattle.dnssec_check.specs.Files.{Files, octets_or_none}
 use Rattle.dnssec_check.specs.Files.Statements.{IsMeaningOf}
 use Rattle.dnssec_check.specs.Status.{status_code}
-use Rattle.dnssec_check.specs.Texts.Json.{array, member, name_json, object, object_line, quoted}
+use Rattle.dnssec_check.specs.Texts.Json.{array, member, name_json, object, object_line, parted, quoted}
 use Rattle.dnssec_check.specs.Texts.Todo.{todo_json, todo_line}
 use Rattle.dnssec_check.specs.Told.{nowhere}
 use Rattle.dnssec_check.specs.declared.status.Fault.{Fault}
@@ -77,16 +77,26 @@ proof_line rrsets number = proof_record_line (slice_get rrsets (number.rrset - 1
 abbrev pub alias_line : Link → List ℕ
 alias_line link = codes "alias " ++ lower_text link.name ++ codes " " ++ signature_line link.rrset link.signature
 
--- what carries the verdict
+-- what carries the verdict, if this is told of an RRset with its signature, of a proof, of a cut and of entries
+abbrev pub reason_by : {X : Type 0} → (ℕ → ℕ → List X) → (List RecordNumber → List X) → (Labels → List X) → (List Entry → List X) → Verdict → List X
+reason_by signature proof cut todo (verdict.SecureAnswer k s) = signature k s
+reason_by signature proof cut todo (verdict.SecureAlias k s) = signature k s
+reason_by signature proof cut todo (verdict.SecureNoName denial) = proof denial.records
+reason_by signature proof cut todo (verdict.SecureNoData denial) = proof denial.records
+reason_by signature proof cut todo (verdict.Insecure name) = cut name
+reason_by signature proof cut todo (verdict.Pending entries) = todo entries
+reason_by signature proof cut todo verdict.Bogus = []
+reason_by signature proof cut todo verdict.Indeterminate = []
+
+abbrev pub proof_lines : List ReceivedRrset → List RecordNumber → List ℕ
+proof_lines rrsets numbers = flat_map (proof_line rrsets) numbers
+
+abbrev pub todo_lines : List Entry → List ℕ
+todo_lines entries = flat_map todo_line entries
+
+-- the lines for what carries the verdict
 abbrev pub reason_lines : List ReceivedRrset → Verdict → List ℕ
-reason_lines rrsets (verdict.SecureAnswer k s) = signature_line k s
-reason_lines rrsets (verdict.SecureAlias k s) = signature_line k s
-reason_lines rrsets (verdict.SecureNoName proof) = flat_map (proof_line rrsets) proof.records
-reason_lines rrsets (verdict.SecureNoData proof) = flat_map (proof_line rrsets) proof.records
-reason_lines rrsets (verdict.Insecure cut) = cut_line cut
-reason_lines rrsets (verdict.Pending entries) = flat_map todo_line entries
-reason_lines rrsets verdict.Bogus = []
-reason_lines rrsets verdict.Indeterminate = []
+reason_lines rrsets verdict = reason_by signature_line (proof_lines rrsets) cut_line todo_lines verdict
 
 -- the verdict, the aliases that lead to the name where it stands, and what carries it
 abbrev pub verdict_text : Labels → ℕ → List ReceivedRrset → List Link → Verdict → List ℕ
@@ -137,14 +147,8 @@ todo_member entries = member (codes "todo") (array (map todo_json entries))
 
 -- the members for what carries the verdict
 abbrev pub reason_members : List ReceivedRrset → Verdict → List (List ℕ)
-reason_members rrsets (verdict.SecureAnswer k s) = signature_members k s
-reason_members rrsets (verdict.SecureAlias k s) = signature_members k s
-reason_members rrsets (verdict.SecureNoName proof) = proof_member rrsets proof.records ∷ []
-reason_members rrsets (verdict.SecureNoData proof) = proof_member rrsets proof.records ∷ []
-reason_members rrsets (verdict.Insecure cut) = cut_member cut ∷ []
-reason_members rrsets (verdict.Pending entries) = todo_member entries ∷ []
-reason_members rrsets verdict.Bogus = []
-reason_members rrsets verdict.Indeterminate = []
+reason_members rrsets verdict = reason_by signature_members (λ numbers. proof_member rrsets numbers ∷ [])
+    (λ cut. cut_member cut ∷ []) (λ entries. todo_member entries ∷ []) verdict
 
 -- the members for the question, and for the verdict with its exit status
 abbrev pub verdict_members : Labels → ℕ → ℕ → Verdict → List (List ℕ)
@@ -163,6 +167,28 @@ verdict_json name rtype moment rrsets links verdict = object_line (verdict_membe
 abbrev pub check_text : Bool → Labels → ℕ → ℕ → List ReceivedRrset → List Link → Verdict → List ℕ
 check_text false name rtype moment rrsets links verdict = verdict_text name rtype rrsets links verdict
 check_text true name rtype moment rrsets links verdict = verdict_json name rtype moment rrsets links verdict
+
+-- ---- what is added for a part of it, to lines or behind other members
+
+abbrev pub signature_text : Bool → ℕ → ℕ → List ℕ
+signature_text false rrset signature = signature_line rrset signature
+signature_text true rrset signature = parted false (signature_members rrset signature)
+
+abbrev pub proof_text : Bool → List ReceivedRrset → List RecordNumber → List ℕ
+proof_text false rrsets numbers = proof_lines rrsets numbers
+proof_text true rrsets numbers = parted false (proof_member rrsets numbers ∷ [])
+
+abbrev pub cut_text : Bool → Labels → List ℕ
+cut_text false cut = cut_line cut
+cut_text true cut = parted false (cut_member cut ∷ [])
+
+abbrev pub entries_text : Bool → List Entry → List ℕ
+entries_text false entries = todo_lines entries
+entries_text true entries = parted false (todo_member entries ∷ [])
+
+abbrev pub reason_text : Bool → List ReceivedRrset → Verdict → List ℕ
+reason_text json rrsets verdict =
+    reason_by (signature_text json) (proof_text json rrsets) (cut_text json) (entries_text json) verdict
 
 -- ---- refusals
 

@@ -12,7 +12,7 @@ ghost use Rattle.dnssec_check.specs.Texts.Checking as specs;
 use crate::command_line::moment::Moment;
 use crate::status::{Fault, Place, Refusal, Status};
 use crate::texts::json::checking::verdict_json;
-use crate::texts::todo::push_entries;
+use crate::texts::reason::push_reason;
 use dnsv_canonical::{Capture, Rrset};
 use dnsv_chain::Anchors;
 use dnsv_denial::RecordNumber;
@@ -26,6 +26,14 @@ use std::alloc::{AllocError, Global};
 pub struct Outcome {
     pub status: Status,
     pub text: String,
+}
+
+/// What is asked, and the moment that the verdict speaks of.
+#[derive(Clone, Copy, Debug)]
+pub struct Asked<'a> {
+    pub name: &'a Name,
+    pub rtype: RecordType,
+    pub moment: Moment,
 }
 
 /// The verdict on the question, the aliases that lead to the name where it stands, and what carries it: in lines, or in
@@ -52,6 +60,11 @@ pub fn judge<V: Verifier>(
         × IsRefusedFor (basis_of held.now.rrsets anchors.now moment (V.meaning verifier.now)) name.now rtype.0 error
         × (told ≡ specs.verdict_fault error))) }
 {
+    let asked = Asked {
+        name,
+        rtype,
+        moment,
+    };
     match validate(
         alloc,
         held,
@@ -63,7 +76,7 @@ pub fn judge<V: Verifier>(
     ) {
         Ok(report) => Ok(Outcome {
             status: status_of(&report.verdict),
-            text: text_of(alloc, json, name, rtype, moment, held.rrsets(), &report)?,
+            text: text_of(alloc, json, &asked, held.rrsets(), &report)?,
         }),
         Err(error) => Err(verdict_fault(error)),
     }
@@ -73,19 +86,18 @@ pub fn judge<V: Verifier>(
 fn text_of(
     alloc: Global,
     json: bool,
-    name: &Name,
-    rtype: RecordType,
-    moment: Moment,
+    asked: &Asked<'_>,
     rrsets: &[Rrset],
     report: &Report,
 ) -> Result<String, AllocError>
     ensures { IfOk result (λ text. string_bytes text
-        ≡ specs.check_text json name.now rtype.0 moment rrsets.now report.now.links report.now.verdict) }
+        ≡ specs.check_text json asked.now.name.now asked.now.rtype.0 asked.now.moment rrsets.now report.now.links
+        report.now.verdict) }
 {
     if json {
-        verdict_json(alloc, name, rtype, moment, rrsets, report)
+        verdict_json(alloc, asked, rrsets, report)
     } else {
-        verdict_text(alloc, name, rtype, rrsets, report)
+        verdict_text(alloc, asked.name, asked.rtype, rrsets, report)
     }
 }
 
@@ -130,7 +142,7 @@ fn verdict_text(
     let mut text = String::new(alloc);
     push_verdict(&mut text, &report.verdict, name, rtype)?;
     push_aliases(&mut text, report.links.as_slice())?;
-    push_reason(&mut text, rrsets, &report.verdict)?;
+    push_reason(&mut text, false, rrsets, &report.verdict)?;
     Ok(text)
 }
 
@@ -186,26 +198,8 @@ pub fn verdict_word(verdict: &Verdict) -> &'static str
     }
 }
 
-/// Adds the lines of what carries the verdict.
-fn push_reason(text: &mut String, rrsets: &[Rrset], verdict: &Verdict) -> Result<(), AllocError>
-    ensures { OnOk result (string_bytes text.new
-        ≡ string_bytes text.old ++ specs.reason_lines rrsets.now verdict.now) }
-{
-    match verdict {
-        Verdict::SecureAnswer { rrset, signature } | Verdict::SecureAlias { rrset, signature } => {
-            push_signature(text, *rrset, *signature)
-        }
-        Verdict::SecureNoName(proof) | Verdict::SecureNoData(proof) => {
-            push_proof(text, rrsets, proof.records())
-        }
-        Verdict::Insecure(cut) => push_cut(text, cut),
-        Verdict::Pending(entries) => push_entries(text, entries),
-        Verdict::Bogus | Verdict::Indeterminate => Ok(()),
-    }
-}
-
 /// Adds the numbers of an RRset and of its signature.
-fn push_signature(text: &mut String, rrset: usize, signature: usize) -> Result<(), AllocError>
+pub fn push_signature(text: &mut String, rrset: usize, signature: usize) -> Result<(), AllocError>
     ensures { OnOk result (string_bytes text.new ≡ string_bytes text.old ++ specs.signature_line rrset signature) }
 {
     writeln!(text, "rrset {rrset} signature {signature}")?;
@@ -213,7 +207,7 @@ fn push_signature(text: &mut String, rrset: usize, signature: usize) -> Result<(
 }
 
 /// Adds the name at which a zone that isn't signed may begin.
-fn push_cut(text: &mut String, cut: &Name) -> Result<(), AllocError>
+pub fn push_cut(text: &mut String, cut: &Name) -> Result<(), AllocError>
     ensures { OnOk result (string_bytes text.new ≡ string_bytes text.old ++ specs.cut_line cut.now) }
 {
     let name = cut.to_lower();
@@ -222,7 +216,7 @@ fn push_cut(text: &mut String, cut: &Name) -> Result<(), AllocError>
 }
 
 /// Adds a line for each record of a proof.
-fn push_proof(
+pub fn push_proof(
     text: &mut String,
     rrsets: &[Rrset],
     records: &[RecordNumber],

@@ -5,4 +5,5 @@ pub mod EndLimitLemmas
 pub mod MeaningAt
 pub mod NoDataLemmas
 pub mod PartsForm
+pub mod ShowsLemmas
 pub mod WildcardLemmas

@@ -1,12 +1,13 @@
 -- The forms that ask something of the wildcard at the closest encloser (RFC 4035 5.4, RFC 5155 8.4, 8.7).
-use Rattle.std.specs.Prelude.{ℕ, ◌≤◌, List}
+use Rattle.std.specs.Prelude.{ℕ, ◌≤◌}
 use Rattle.std.specs.Ordering.{nat_cmp}
 use Rattle.dnsv_names.specs.Name.{Labels, rightmost}
 use Rattle.dnsv_names.specs.Tree.{wildcard_of}
 use Rattle.dnsv_zones.specs.forms.Forms.{EndsAt}
-use Rattle.dnsv_zones.specs.forms.Parts.{AreWildcardParts}
 use Rattle.dnsv_zones.specs.forms.RecordWords.{RecordWords, words}
 use Rattle.dnsv_zones.specs.zones.Types.{Denies}
+use Rattle.dnsv_denial.specs.forms.ProofForms.{ShowsWildcard}
+use Rattle.dnsv_denial.specs.declared.forms.proof_form.WildcardParts.{WildcardParts}
 use Rattle.dnsv_denial.specs.declared.words.asked.AskedWildcard.{AskedWildcard}
 use Rattle.dnsv_denial.specs.declared.words.asked.AskedWildcard.TheVariants.{Absent, Empty, Without}
 
@@ -22,9 +23,7 @@ pub record StandsAt (asked : AskedWildcard) (said : RecordWords ℕ) (apex name 
   pub wildcard : (place : ℕ) × wildcard_said asked said (wildcard_of (rightmost name labels)) place
 
 -- these are its records, by the closest encloser with most labels
-pub record ArePartsWithMostLabels (asked : AskedWildcard) (said : RecordWords ℕ) (apex name : Labels) (parts : List ℕ)
-    : Type 0 where
-  pub labels : ℕ
-  pub are : AreWildcardParts nat_cmp said apex name labels
-      (wildcard_said asked said (wildcard_of (rightmost name labels))) parts
-  pub most_labels : (more : ℕ) → StandsAt asked said apex name more → more ≤ labels
+pub record ShowsWithMostLabels
+    (asked : AskedWildcard) (said : RecordWords ℕ) (apex name : Labels) (parts : WildcardParts ℕ) : Type 0 where
+  pub shows : ShowsWildcard nat_cmp said apex name (wildcard_said asked said) parts
+  pub most_labels : (more : ℕ) → StandsAt asked said apex name more → more ≤ parts.labels

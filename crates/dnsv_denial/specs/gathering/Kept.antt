@@ -9,13 +9,12 @@ use Rattle.dnsv_zones.specs.chains.Nsec3Chain.{Nsec3Record}
 use Rattle.dnsv_zones.specs.chains.Rdata.{parameters_of}
 use Rattle.dnsv_canonical.specs.Rrsets.{ReceivedRrset}
 use Rattle.dnsv_chain.specs.Trust.{KeptTrust, SecuredIn}
-use Rattle.dnsv_denial.specs.forms.Denials.{DenialForm}
 use Rattle.dnsv_denial.specs.gathering.Evidence.{IsNsec3At}
 use Rattle.dnsv_denial.specs.gathering.Gathered.{AreNsecsOf, AreNsec3sOf}
-use Rattle.dnsv_denial.specs.proving.ChainOf.{IsProofBy}
-use Rattle.dnsv_denial.specs.proving.FirstProof.{IsFirstOfZone, ProofRecords}
-use Rattle.dnsv_denial.specs.words.EvidenceWords.{Chain, parameters_cmp}
+use Rattle.dnsv_denial.specs.proving.ChainOf.{IsShownBy, StandsAs}
+use Rattle.dnsv_denial.specs.words.EvidenceWords.{Chain, GoesBefore, parameters_cmp}
 use Rattle.dnsv_denial.specs.declared.forms.denial.Denial.{Denial}
+use Rattle.dnsv_denial.specs.declared.proving.shown_denial.ShownDenial.{ShownDenial}
 use Rattle.dnsv_denial.specs.declared.records.number.RecordNumber.{RecordNumber}
 use Rattle.dnsv_denial.specs.declared.records.zone_records.NameHashes.{NameHashes}
 use Rattle.dnsv_denial.specs.declared.records.zone_records.ZoneRecords.{ZoneRecords}
@@ -60,7 +59,7 @@ pub record IsViewOf
 -- it is the first of the zone's
 pub record IsZoneProof
     (Secured : ℕ → ℕ → Type 0) (rrsets : List ReceivedRrset) (denial : Denial) (name zone : Labels)
-    (proof : ProofRecords) : Type 0 where
+    (shown : ShownDenial) : Type 0 where
   pub chain : Chain
-  pub by_chain : IsProofBy Secured rrsets denial name zone chain proof
-  pub first : IsFirstOfZone Secured rrsets (DenialForm denial name) zone chain
+  pub by_chain : IsShownBy Secured rrsets denial name zone chain shown
+  pub first : (other : Chain) → GoesBefore other chain → ¬ StandsAs Secured rrsets denial name zone other

@@ -1,10 +1,9 @@
 -- Which cuts the chains of kept zones show. No public clause cites this module.
-use Rattle.std.specs.Prelude.{◌≡◌, ◌<◌, ◌≤◌, ℕ, List, Some, length, slice_get}
-use Rattle.dnsv_names.specs.Name.{Labels, rightmost}
-use Rattle.dnsv_zones.specs.forms.Forms.{UnsignedCutForm}
+use Rattle.std.specs.Prelude.{◌≡◌, ◌<◌, ℕ, List, Some, slice_get}
+use Rattle.dnsv_names.specs.Name.{Labels}
 use Rattle.dnsv_zones.specs.forms.Parts.{OptsOutNextCloser, OptsOut}
-use Rattle.dnsv_zones.specs.forms.RecordWords.{words}
 use Rattle.dnsv_canonical.specs.Rrsets.{ReceivedRrset}
+use Rattle.dnsv_denial.specs.forms.Denials.{IsDelegationAt}
 use Rattle.dnsv_denial.specs.unsigned_cuts.Findings.{IsFewestFound, IsGreater, IsLesser, IsMostFound}
 use Rattle.dnsv_denial.specs.words.EvidenceWords.{Chain, evidence_said}
 use Rattle.dnsv_denial.specs.declared.unsigned_cuts.shown_cuts.ShownCuts.{ShownCuts}
@@ -12,11 +11,9 @@ use Rattle.dnsv_denial.specs.declared.unsigned_cuts.shown_cuts.ShownCuts.{ShownC
 -- ---- of a chain of a zone
 
 -- the zone's chain shows the name's so many rightmost labels to be a delegation without DS
-pub record IsCutOf
-    (Secured : ℕ → ℕ → Type 0) (rrsets : List ReceivedRrset) (name zone : Labels) (chain : Chain) (labels : ℕ)
-    : Type 0 where
-  pub fits : labels ≤ length name
-  pub form : UnsignedCutForm (words (evidence_said Secured rrsets zone chain)) zone name (rightmost name labels)
+abbrev pub IsCutOf : (ℕ → ℕ → Type 0) → List ReceivedRrset → Labels → Labels → Chain → ℕ → Type 0
+IsCutOf Secured rrsets name zone chain labels =
+    IsDelegationAt (evidence_said Secured rrsets zone chain) zone name labels
 
 -- the zone's chain may leave out an unsigned delegation, for the closest encloser of so many labels
 abbrev pub IsOptOutOf : (ℕ → ℕ → Type 0) → List ReceivedRrset → Labels → Labels → Chain → ℕ → Type 0

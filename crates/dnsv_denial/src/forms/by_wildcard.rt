@@ -1,39 +1,35 @@
 //! The forms that ask something of the wildcard at the closest encloser.
-ghost use Rattle.std.specs.Prelude.{ℕ, ◌<◌, IfSome, MatchOption, length};
+ghost use Rattle.std.specs.Prelude.{ℕ, ◌≡◌, ◌<◌, MatchOption, length};
 ghost use Rattle.std.specs.Ordering.{nat_cmp};
 ghost use Rattle.dnsv_names.specs.Name.{Labels, rightmost};
 ghost use Rattle.dnsv_names.specs.Tree.{wildcard_of};
 ghost use Rattle.dnsv_zones.specs.forms.Forms.{NoNameForm};
-ghost use Rattle.dnsv_zones.specs.forms.Parts.{AreNoNameParts, AreWildcardParts};
 ghost use Rattle.dnsv_zones.specs.forms.RecordWords.{words};
-ghost use Rattle.dnsv_zones.specs.zones.Lookup.{IsLookup};
-ghost use Rattle.dnsv_zones.specs.zones.Lookup.Answer.{NoName};
-ghost use Rattle.dnsv_zones.specs.zones.Zone.{Zone};
-ghost use Rattle.dnsv_denial.specs.forms.ByWildcard.{wildcard_said, StandsAt, ArePartsWithMostLabels};
-ghost use Rattle.dnsv_denial.specs.records.RecordsAt.{HasRecordsAt, HasNoCollisionBy};
+ghost use Rattle.dnsv_denial.specs.forms.ByWildcard.{wildcard_said, StandsAt, ShowsWithMostLabels};
+ghost use Rattle.dnsv_denial.specs.forms.ProofForms.{ShowsNoName, ShowsWildcard};
 ghost use Rattle.dnsv_denial.specs.words.ChainSaid.{chain_said, HasHashes};
 ghost use Rattle.dnsv_denial.specs.words.SaidAt.{IsFirstPlace};
 
 use crate::forms::end_limits::end_limits;
-use crate::forms::ends::{Places, end_at};
+use crate::forms::ends::end_at;
+use crate::forms::proof_form::{ProofForm, WildcardParts};
 use crate::records::chain_records::ChainRecords;
 use crate::words::asked::{AskedName, AskedTypes, AskedWildcard};
 use crate::words::said::{absent, empty_non_terminal, types_at};
 use dnsv_names::Name;
 
-/// The records that show that there is no such name (RFC 4035 5.4, RFC 5155 8.4), or `None` where none do. The closest
-/// encloser has as many labels as records show, and of each word the first record is taken: of the closest encloser
-/// if it needs one, of the next closer name, and of the wildcard at the closest encloser.
-pub fn no_name(apex: &Name, name: &Name, records: &ChainRecords<'_>) -> Option<Places>
+/// The form that shows that there is no such name (RFC 4035 5.4, RFC 5155 8.4), or `None` where no records do. The
+/// closest encloser has as many labels as records show, and of each word the first record is taken: of the closest
+/// encloser if it needs one, of the next closer name, and of the wildcard at the closest encloser.
+pub fn no_name(apex: &Name, name: &Name, records: &ChainRecords<'_>) -> Option<ProofForm<usize>>
     requires { HasHashes name.now records.now }
-    ensures first { MatchOption result (¬ NoNameForm (words (chain_said apex.now records.now)) apex.now name.now)
-        (λ places. AreNoNameParts nat_cmp (chain_said apex.now records.now) apex.now name.now places.items) }
-    // In each zone that has the records in its chain there is no such name, whatever type is asked.
-    ensures meaning { IfSome result (λ places. (zone : Zone) (t : ℕ)
-        → HasRecordsAt zone apex.now records.now places.items → HasNoCollisionBy zone name.now records.now
-        → IsLookup zone name.now t NoName) }
+    ensures { MatchOption result (¬ NoNameForm (words (chain_said apex.now records.now)) apex.now name.now)
+        (ShowsNoName nat_cmp (chain_said apex.now records.now) apex.now name.now) }
 {
-    by_wildcard(apex, name, AskedWildcard::Absent, records)
+    let Some(parts) = by_wildcard(apex, name, AskedWildcard::Absent, records) else {
+        return None;
+    };
+    Some(ProofForm::NoName(parts))
 }
 
 /// The records of such a form by the closest encloser with most labels.
@@ -42,18 +38,18 @@ pub fn by_wildcard(
     name: &Name,
     asked: AskedWildcard,
     records: &ChainRecords<'_>,
-) -> Option<Places>
+) -> Option<WildcardParts<usize>>
     requires { HasHashes name.now records.now }
     ensures { MatchOption result
         ((labels : ℕ) → ¬ StandsAt asked (chain_said apex.now records.now) apex.now name.now labels)
-        (λ places. ArePartsWithMostLabels asked (chain_said apex.now records.now) apex.now name.now places.items) }
+        (ShowsWithMostLabels asked (chain_said apex.now records.now) apex.now name.now) }
 {
     let limits = end_limits(apex, name, records);
     let mut labels = limits.limit;
     while labels > limits.fewest {
         labels -= 1;
-        if let Some(places) = by_wildcard_at(apex, name, labels, asked, records) {
-            return Some(places);
+        if let Some(parts) = by_wildcard_at(apex, name, labels, asked, records) {
+            return Some(parts);
         }
     }
     None
@@ -66,17 +62,21 @@ fn by_wildcard_at(
     labels: usize,
     asked: AskedWildcard,
     records: &ChainRecords<'_>,
-) -> Option<Places>
+) -> Option<WildcardParts<usize>>
     requires { HasHashes name.now records.now }
     ensures { MatchOption result
         (¬ StandsAt asked (chain_said apex.now records.now) apex.now name.now labels)
-        (λ places. AreWildcardParts nat_cmp (chain_said apex.now records.now) apex.now name.now labels
-        (wildcard_said asked (chain_said apex.now records.now) (wildcard_of (rightmost name.now labels)))
-        places.items) }
+        (λ parts. (parts.labels ≡ labels) × ShowsWildcard nat_cmp (chain_said apex.now records.now) apex.now name.now
+        (wildcard_said asked (chain_said apex.now records.now)) parts) }
 {
     let ends = end_at(apex, name, labels, records)?;
-    let last = at_wildcard(name, labels, asked, records)?;
-    Some(ends.with(last))
+    let wildcard = at_wildcard(name, labels, asked, records)?;
+    Some(WildcardParts {
+        labels,
+        encloser: ends.encloser,
+        next_closer: ends.next_closer,
+        wildcard,
+    })
 }
 
 /// The place of the first record that says it of the wildcard right below so many of the name's labels.

@@ -1,10 +1,8 @@
 //! Where the search for a name ends: the closest encloser, and the next closer name that isn't there.
 ghost use Rattle.std.specs.Prelude.{◌≡◌, ◌↔◌, ◌++◌, ◌<◌, [], ◌∷◌, IsTrue, MatchOption};
-ghost use Rattle.std.specs.Ordering.{nat_cmp};
 ghost use Rattle.dnsv_zones.specs.forms.Forms.{IsAbove, EndsAt};
-ghost use Rattle.dnsv_zones.specs.forms.Parts.{AreEndParts};
 ghost use Rattle.dnsv_zones.specs.forms.RecordWords.{words};
-ghost use Rattle.dnsv_denial.specs.forms.EndPlace.{end_places};
+ghost use Rattle.dnsv_denial.specs.forms.EndPlace.{end_places, ShowsEnd};
 ghost use Rattle.dnsv_denial.specs.words.ChainSaid.{chain_said, HasHashes};
 
 use crate::records::chain_records::ChainRecords;
@@ -62,7 +60,7 @@ pub fn end_at(
     requires { HasHashes name.now records.now }
     ensures { MatchOption result
         (¬ EndsAt (words (chain_said apex.now records.now)) apex.now name.now labels)
-        (λ ends. AreEndParts nat_cmp (chain_said apex.now records.now) apex.now name.now labels (end_places ends)) }
+        (ShowsEnd (chain_said apex.now records.now) apex.now name.now labels) }
 {
     if !is_above(apex, name, labels) {
         return None;

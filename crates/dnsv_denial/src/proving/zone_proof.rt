@@ -3,14 +3,13 @@ ghost use Rattle.std.specs.Prelude.{List, MatchOption};
 ghost use Rattle.std.specs.List.{AllByRecursion};
 ghost use Rattle.dnsv_canonical.specs.Rrsets.{ReceivedRrset};
 ghost use Rattle.dnsv_chain.specs.Trust.{KeptTrust, SecuredIn};
-ghost use Rattle.dnsv_denial.specs.forms.Denials.{DenialForm};
 ghost use Rattle.dnsv_denial.specs.gathering.Kept.{AreSets, IsSetOf, IsZoneOf, IsZoneProof};
-ghost use Rattle.dnsv_denial.specs.proving.FirstProof.{StandsBy};
+ghost use Rattle.dnsv_denial.specs.proving.ChainOf.{StandsAs};
 ghost use Rattle.dnsv_denial.specs.words.EvidenceWords.{Chain};
 
 use crate::forms::denial::Denial;
 use crate::proving::chain_proof::chain_proof;
-use crate::proving::proof::Proof;
+use crate::proving::shown_denial::ShownDenial;
 use crate::records::zone_records::{NameHashes, ZoneRecords, zone_chain};
 use dnsv_names::Name;
 
@@ -21,18 +20,18 @@ pub fn zone_proof<'a>(
     name: &'a Name,
     zone: &'a ZoneRecords<'a>,
     sets: &'a [NameHashes<'a>],
-) -> Option<Proof>
+) -> Option<ShownDenial>
     requires { AllByRecursion (IsSetOf name.now) sets.now }
     ensures { (trust : KeptTrust) (rrsets : List ReceivedRrset) → IsZoneOf (SecuredIn trust) rrsets zone.now
         → AreSets (SecuredIn trust) rrsets sets.now
         → MatchOption result
-        ((chain : Chain) → ¬ StandsBy (SecuredIn trust) rrsets (DenialForm denial name.now) zone.now.zone chain)
+        ((chain : Chain) → ¬ StandsAs (SecuredIn trust) rrsets denial name.now zone.now.zone chain)
         (IsZoneProof (SecuredIn trust) rrsets denial name.now zone.now.zone) }
 {
     for number in 0..sets.len() + 1 {
         let chain = zone_chain(number, name, zone, sets);
-        if let Some(proof) = chain_proof(denial, &zone.zone, name, &chain.records()) {
-            return Some(proof);
+        if let Some(shown) = chain_proof(denial, &zone.zone, name, &chain.records()) {
+            return Some(shown);
         }
     }
     None

@@ -213,7 +213,7 @@ module _ (basis : Basis) (k : ℕ) where
 
   -- the DS RRset of a way stands at the owner of the DNSKEY RRset, and is signed
   pub record_skipped : (set ds : ReceivedRrset) (number : ℕ) → IsNumbered basis.rrsets k set → IsNumbered basis.rrsets number ds
-      → ¬ MayDelegate basis number ds set → IsNoWayBefore basis k (1, number, 0) → IsNoWayBefore basis k (1, number + 1, 0)
+      → ¬ MayDelegate basis number ds set.owner → IsNoWayBefore basis k (1, number, 0) → IsNoWayBefore basis k (1, number + 1, 0)
   record_skipped set ds number is_set is_ds never none = records_then number 0 (number + 1) 0 none (λ way rrset place is by before less.
       ⊎_elim (λ (below : rrset < number + 1). ⊎_elim
       (λ (earlier : rrset < number). before (inr (refl, inl earlier)))
@@ -240,7 +240,7 @@ pub ds_forms : (received : List (List ℕ)) → map (canonical_form 43) received
 ds_forms [] = refl
 ds_forms (x ∷ xs) = ap (λ rest. x ∷ rest) (ds_forms xs)
 
-forms_of : (rrset : ReceivedRrset) (canonical : List (List ℕ)) → rrset.rtype ≡ 43 → IsCanonical rrset.rdata canonical
+pub forms_of : (rrset : ReceivedRrset) (canonical : List (List ℕ)) → rrset.rtype ≡ 43 → IsCanonical rrset.rdata canonical
     → IsCanonical (map (canonical_form rrset.rtype) rrset.rdata) canonical
 forms_of rrset canonical rtype is =
     subst (λ t. IsCanonical (map (canonical_form t) rrset.rdata) canonical) (sym rtype)

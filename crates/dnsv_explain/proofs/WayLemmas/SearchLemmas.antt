@@ -96,6 +96,12 @@ one_key set a b first second rdata =
     let dnskey : a.dnskey ≡ b.dnskey = one_dnskey b.rdata a.dnskey b.dnskey (subst Read rdata first.is) second.is in
     λ i. record { owner = owner i; rdata = rdata i; dnskey = dnskey i }
 
+-- the same keys under another name
+pub same_keys : (set : ReceivedRrset) (keys items : List DnskeyRecord) → items ≡ keys → AreKeysInOrder set keys
+    → AreKeysInOrder set items
+same_keys set keys items same in_order =
+    let InOrder : List DnskeyRecord → Type 0 = λ each. AreKeysInOrder set each in subst InOrder (sym same) in_order
+
 -- what stands behind doesn't go before
 not_before : (xs : List (List ℕ)) (i j : ℕ) (d : List ℕ) → IsStrictlySortedBy rdata_cmp xs → i ≤ j → j < length xs
     → rdata_cmp (get_or xs j d) (get_or xs i d) ≢ Less

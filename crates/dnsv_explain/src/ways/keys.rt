@@ -12,6 +12,16 @@ use dnsv_records::Dnskey;
 use dnsv_verifier::KeyRecord;
 use std::alloc::{AllocError, Global};
 
+/// A DNSKEY RRset that ways are looked for into.
+#[derive(Drop)]
+pub struct KeySet<'a> {
+    /// The number of the RRset.
+    pub number: usize,
+    pub rrset: &'a Rrset,
+    /// Its keys, each RDATA once, in the order of RDATA.
+    pub keys: Vec<KeyRecord<'a>>,
+}
+
 /// The keys of the DNSKEY RRset, each RDATA once, in the order of RDATA.
 pub fn keys_in_order(alloc: Global, set: &Rrset) -> Result<Vec<KeyRecord<'_>>, AllocError>
     requires { set.now.rtype ≡ 48 }

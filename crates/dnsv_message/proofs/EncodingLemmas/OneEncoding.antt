@@ -22,6 +22,10 @@ use Rattle.dnsv_message.proofs.RdataLemmas.{head_fits}
 use Rattle.dnsv_message.proofs.RecordParts.{up_to_type, up_to_class, up_to_ttl, up_to_size, length-up_to_type, length-up_to_class, length-up_to_ttl, length-up_to_size}
 use Rattle.dnsv_message.proofs.RdataLemmas.RdataWritten.{Stands, name_is, name_stands}
 
+-- the identifier and the flags of a message
+abbrev begun_by : Contents → List ℕ
+begun_by message = to_be_bytes w16 message.id ++ to_be_bytes w16 message.flags
+
 module _ (octets : List ℕ) where
   -- a part behind a part
   pub Stands-join : (place : ℕ) (a b : List ℕ) (here : ℕ) → place + length a ≡ here → Stands octets place a → Stands octets here b → Stands octets place (a ++ b)
@@ -114,37 +118,31 @@ module _ (octets : List ℕ) (fit : (i : ℕ) → get_or octets i 0 < 256) where
       let ttl = to_be_bytes w32 resource.ttl.0 in
       let size = to_be_bytes w16 (length resource.rdata) in
       let one = wire resource.name in
-      let two = up_to_type resource in
-      let three = up_to_class resource in
-      let four = up_to_ttl resource in
-      let five = up_to_size resource in
       let first : Stands octets place one = record { form = at.name } in
       let after : head.after_name ≡ place + length one = name_ends place resource.name head.after_name head.named first in
       let rdata = rdata_spelled octets (layout_of resource.rtype.0 resource.class.0) at.stands.start at.stands.size resource.rdata at.rdata at.stands.whole in
       let sized : NumberAt octets (head.after_name + 8) 2 (length resource.rdata) = rw rdata.1 head.sized in
       let second = Stands-join octets place one rtype head.after_name (sym after) first (u16_spelled head.after_name resource.rtype.0 head.typed) in
-      let third = Stands-join octets place two class (head.after_name + 2) (omega (arith, after, length-up_to_type resource)) second (u16_spelled (head.after_name + 2) resource.class.0 head.classed) in
-      let fourth = Stands-join octets place three ttl (head.after_name + 4) (omega (arith, after, length-up_to_class resource)) third (u32_spelled (head.after_name + 4) resource.ttl.0 head.timed) in
-      let fifth = Stands-join octets place four size (head.after_name + 8) (omega (arith, after, length-up_to_ttl resource)) fourth (u16_spelled (head.after_name + 8) (length resource.rdata) sized) in
-      let sixth = Stands-join octets place five resource.rdata at.stands.start (omega (arith, after, length-up_to_size resource, head.starts)) fifth rdata.0 in
-      (sixth, omega (arith, at.stands.ends, head.starts, after, length-up_to_size resource, rdata.1, length-append five resource.rdata))
+      let third = Stands-join octets place (up_to_type resource) class (head.after_name + 2) (omega (arith, after, length-up_to_type resource)) second (u16_spelled (head.after_name + 2) resource.class.0 head.classed) in
+      let fourth = Stands-join octets place (up_to_class resource) ttl (head.after_name + 4) (omega (arith, after, length-up_to_class resource)) third (u32_spelled (head.after_name + 4) resource.ttl.0 head.timed) in
+      let fifth = Stands-join octets place (up_to_ttl resource) size (head.after_name + 8) (omega (arith, after, length-up_to_ttl resource)) fourth (u16_spelled (head.after_name + 8) (length resource.rdata) sized) in
+      let sixth = Stands-join octets place (up_to_size resource) resource.rdata at.stands.start (omega (arith, after, length-up_to_size resource, head.starts)) fifth rdata.0 in
+      (sixth, omega (arith, at.stands.ends, head.starts, after, length-up_to_size resource, rdata.1, length-append (up_to_size resource) resource.rdata))
 
   -- the octets of a message without pointers
   pub PlainMessageOf-written : (message : Contents) → PlainMessageOf octets message → octets ≡ message_octets message
   unfolding Spelled
   PlainMessageOf-written message at =
       let numbers = at.whole.header in
-      let id = to_be_bytes w16 message.id in
-      let flags = to_be_bytes w16 message.flags in
       let question_count = to_be_bytes w16 (length message.questions) in
       let answer_count = to_be_bytes w16 (length message.answer) in
       let authority_count = to_be_bytes w16 (length message.authority) in
       let additional_count = to_be_bytes w16 (length message.additional) in
-      let two = Stands-join octets 0 id flags 2 refl (u16_spelled 0 message.id numbers.identifier) (u16_spelled 2 message.flags numbers.flag_bits) in
-      let three = Stands-join octets 0 (id ++ flags) question_count 4 refl two (u16_spelled 4 (length message.questions) numbers.question_count) in
-      let four = Stands-join octets 0 (id ++ flags ++ question_count) answer_count 6 refl three (u16_spelled 6 (length message.answer) numbers.answer_count) in
-      let five = Stands-join octets 0 (id ++ flags ++ question_count ++ answer_count) authority_count 8 refl four (u16_spelled 8 (length message.authority) numbers.authority_count) in
-      let six = Stands-join octets 0 (id ++ flags ++ question_count ++ answer_count ++ authority_count) additional_count 10 refl five (u16_spelled 10 (length message.additional) numbers.additional_count) in
+      let two = Stands-join octets 0 (to_be_bytes w16 message.id) (to_be_bytes w16 message.flags) 2 refl (u16_spelled 0 message.id numbers.identifier) (u16_spelled 2 message.flags numbers.flag_bits) in
+      let three = Stands-join octets 0 (begun_by message) question_count 4 refl two (u16_spelled 4 (length message.questions) numbers.question_count) in
+      let four = Stands-join octets 0 (begun_by message ++ question_count) answer_count 6 refl three (u16_spelled 6 (length message.answer) numbers.answer_count) in
+      let five = Stands-join octets 0 (begun_by message ++ question_count ++ answer_count) authority_count 8 refl four (u16_spelled 8 (length message.authority) numbers.authority_count) in
+      let six = Stands-join octets 0 (begun_by message ++ question_count ++ answer_count ++ authority_count) additional_count 10 refl five (u16_spelled 10 (length message.additional) numbers.additional_count) in
       let header = header_octets message in
       let questions = flat_map question_octets message.questions in
       let records = flat_map record_octets (records_of message) in

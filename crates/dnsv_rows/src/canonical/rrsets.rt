@@ -1,9 +1,11 @@
 //! Which RRsets captures have, and what they refuse.
 
+use crate::canonical::record_type;
 use crate::evidence::{capture, capture_or_refusal, frames, messages};
 use crate::row::{Row, RowError, printed};
 use dnsv_canonical::{Capture, CaptureError, Rrset};
 use dnsv_message::Section;
+use dnsv_names::Count;
 use std::alloc::Global;
 
 /// What the library answers, where it has the call.
@@ -16,6 +18,12 @@ pub fn answer(row: &Row) -> Result<Option<String>, RowError> {
     }
     if row.calls("totals") {
         return Ok(Some(totals(row)?));
+    }
+    if row.calls("at") {
+        return Ok(Some(at(row)?));
+    }
+    if row.calls("each-at") {
+        return Ok(Some(each_at(row)?));
     }
     Ok(None)
 }
@@ -49,6 +57,42 @@ fn totals(row: &Row) -> Result<String, RowError> {
     }
     let (rrsets, parameters) = (capture.rrsets().len(), capture.nsec3_parameters().len());
     Ok(format!(in row.alloc(); "{rrsets} {records} {signatures} {parameters}")?)
+}
+
+/// `at CAPTURE NAME TYPE MOST`: the numbers of the RRsets of the name and type, and whether no more than so many pairs
+/// of a name and a type were compared with these.
+fn at(row: &Row) -> Result<String, RowError> {
+    let capture = capture(row, 0)?;
+    let mut count = Count::new();
+    let numbers = capture.at(&row.name(1)?, record_type(row, 2)?, &mut count);
+    let mut texts = Vec::new(row.alloc());
+    for number in numbers {
+        texts.push(format!(in row.alloc(); "{number}")?)?;
+    }
+    texts.push(printed::truth(row.alloc(), count.value() <= row.number(3)?)?)?;
+    printed::list(row.alloc(), texts.as_slice())
+}
+
+/// `each-at CAPTURE MOST`: how many RRsets are found alone by their owner and type, with no more than so many
+/// compared.
+fn each_at(row: &Row) -> Result<String, RowError> {
+    let capture = capture(row, 0)?;
+    let most = row.number(1)?;
+    let mut found = 0usize;
+    for (place, rrset) in capture.rrsets().iter().enumerate() {
+        if is_alone(&capture, place.saturating_add(1), rrset, most) {
+            found = found.saturating_add(1);
+        }
+    }
+    Ok(format!(in row.alloc(); "{found}")?)
+}
+
+fn is_alone(capture: &Capture, number: usize, rrset: &Rrset, most: u64) -> bool {
+    let mut count = Count::new();
+    let [found] = capture.at(rrset.owner(), rrset.rtype(), &mut count) else {
+        return false;
+    };
+    *found == number && count.value() <= most
 }
 
 fn list(alloc: Global, capture: &Capture) -> Result<String, RowError> {

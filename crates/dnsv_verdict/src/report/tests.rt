@@ -1,4 +1,4 @@
-//! How often a verifier is asked, which no clause says.
+//! How often a verifier is asked, which no clause says, and that something is kept.
 use super::*;
 use dnsv_message::Message;
 use dnsv_records::Algorithm;
@@ -52,25 +52,63 @@ fn evidence(alloc: Global) -> Result<Capture, Fail> {
     Ok(capture)
 }
 
-/// Whether the verdict on the host's address is pending, and the verifier was asked so often.
+/// What is asked about the address of the host.
+#[derive(Drop)]
+struct Asked {
+    capture: Capture,
+    anchors: Anchors,
+    name: Name,
+    unknown: Counting,
+}
+
+/// The question, of which the verifier was asked nothing yet.
+fn address_of_host(alloc: Global) -> Result<Asked, Fail> {
+    Ok(Asked {
+        capture: evidence(alloc)?,
+        anchors: Anchors::parse(alloc, ANCHOR)?,
+        name: Name::parse(b"host.example.")?,
+        unknown: Counting {
+            calls: Cell::new(0),
+        },
+    })
+}
+
+/// Whether the verdict is pending, and the verifier was asked so often.
 fn is_pending_after(alloc: Global, calls: u64) -> Result<bool, Fail> {
-    let capture = evidence(alloc)?;
-    let anchors = Anchors::parse(alloc, ANCHOR)?;
-    let name = Name::parse(b"host.example.")?;
-    let unknown = Counting {
-        calls: Cell::new(0),
-    };
+    let asked = address_of_host(alloc)?;
     let report = validate(
         alloc,
-        &capture,
-        &anchors,
+        &asked.capture,
+        &asked.anchors,
         1500,
-        &unknown,
-        &name,
+        &asked.unknown,
+        &asked.name,
         RecordType(1),
     )?;
     match report.verdict {
-        Verdict::Pending(_) => Ok(unknown.calls.get() == calls),
+        Verdict::Pending(_) => Ok(asked.unknown.calls.get() == calls),
+        _ => Ok(false),
+    }
+}
+
+/// Whether an answer is hoped for where the verdict is pending, and the hashes of the one name are kept.
+fn is_hoped_to_be_answered(alloc: Global) -> Result<bool, Fail> {
+    let asked = address_of_host(alloc)?;
+    let judged = judge(
+        alloc,
+        &asked.capture,
+        &asked.anchors,
+        1500,
+        &asked.unknown,
+        &asked.name,
+        RecordType(1),
+        true,
+    )?;
+    let Some(hope) = judged.hope else {
+        return Ok(false);
+    };
+    match hope.verdict {
+        Verdict::SecureAnswer { .. } => Ok(judged.hashes.len() == 1),
         _ => Ok(false),
     }
 }
@@ -80,5 +118,11 @@ fn what_depends_on_unknown_answers_is_judged_without_asking_again(
     rt: HostRuntime,
 ) -> Result<(), Fail> {
     assert!(rt; is_pending_after(rt.alloc(), 2)?);
+    Ok(())
+}
+
+#[test]
+fn what_a_pending_verdict_hopes_for_is_kept(rt: HostRuntime) -> Result<(), Fail> {
+    assert!(rt; is_hoped_to_be_answered(rt.alloc())?);
     Ok(())
 }

@@ -1,8 +1,8 @@
-use Rattle.std.proofs.Common.{◌≡◌, ap, map, ◌∙◌, codes, true, false, rules, Some}
+use Rattle.std.proofs.Common.{◌≡◌, ap, map, ◌∙◌, codes, true, rules, Some}
 use Rattle.std.proofs.lemmas.Slice.Eq.{bytes_eq-Decides}
 use Rattle.std.specs.Str.{bytes_eq}
 use Rattle.clap.specs.Words.{app_of, found_of, rows_of}
-use Rattle.dnssec_check.proofs.CommandLineLemmas.Words.{Sees, is_check, is_list, is_show, not_named, passed_up, sees}
+use Rattle.dnssec_check.proofs.CommandLineLemmas.Words.{Sees, is_list, is_neither, is_show, passed_up, sees}
 use Rattle.dnssec_check.proofs.command_line.read_command_line.Goals as goal
 
 pub returns-in_err-matches-clause-refused : goal.returns-in_err-matches-clause-refused
@@ -51,17 +51,12 @@ check_request-requires g c =
     let at : Sees (map g.S.AsStr.text c.args.words.now) c.unwrap.result.0.now (rows_of (found_of c.unwrap.result.1.now)) =
     sees (λ p. p.0.now) (λ p. rows_of (found_of p.1.now)) c.subcommand.result c.unwrap.result (app_of c.in_ok-program.field-0) (map g.S.AsStr.text c.args.words.now) c.in_ok-matches.matches
     c.in_ok-program.ensures c.in_ok-matches.ensures.matches c.in_ok-matches.ensures.kinds c.unwrap.ensures c.subcommand.ensures.name c.subcommand.ensures.rows in
-    let test : bytes_eq c.unwrap.result.0.now (codes "show") ≡ false = search rules in
-    let other : bytes_eq c.unwrap.result.0.now (codes "list") ≡ false = search rules in
-    let check = is_check at (λ same. not_named c.unwrap.result.0.now (codes "show") test same) (λ same. not_named c.unwrap.result.0.now (codes "list") other same) in
-    check.1
+    (is_neither at (search rules) (search rules)).1
 
 pub returns-clause-accepted : goal.returns-clause-accepted
 returns-clause-accepted g c =
     let at : Sees (map g.S.AsStr.text c.args.words.now) c.unwrap.result.0.now (rows_of (found_of c.unwrap.result.1.now)) =
     sees (λ p. p.0.now) (λ p. rows_of (found_of p.1.now)) c.subcommand.result c.unwrap.result (app_of c.in_ok-program.field-0) (map g.S.AsStr.text c.args.words.now) c.in_ok-matches.matches
     c.in_ok-program.ensures c.in_ok-matches.ensures.matches c.in_ok-matches.ensures.kinds c.unwrap.ensures c.subcommand.ensures.name c.subcommand.ensures.rows in
-    let test : bytes_eq c.unwrap.result.0.now (codes "show") ≡ false = search rules in
-    let other : bytes_eq c.unwrap.result.0.now (codes "list") ≡ false = search rules in
-    let check = is_check at (λ same. not_named c.unwrap.result.0.now (codes "show") test same) (λ same. not_named c.unwrap.result.0.now (codes "list") other same) in
+    let check = is_neither at (search rules) (search rules) in
     (at.none, (codes "check", _, at.met ∙ ap (λ n. Some (n, rows_of (found_of c.unwrap.result.1.now))) check.0, c.in_ok-check_request.ensures))

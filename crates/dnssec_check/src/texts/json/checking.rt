@@ -1,15 +1,15 @@
 //! The JSON of `check`: a question's verdict, and what carries it.
-ghost use Rattle.std.specs.Prelude.{◌≡◌, ◌++◌, ◌∷◌, [], Some, false, true, codes, flat_map, map, IfOk, OnOk, string_bytes};
+ghost use Rattle.std.specs.Prelude.{◌≡◌, ◌++◌, ◌∷◌, [], Some, false, true, codes, map, IfOk, OnOk, string_bytes};
 ghost use Rattle.dnssec_check.specs.Texts.Json.{array, parted, still_first};
 ghost use Rattle.dnssec_check.specs.Texts.Checking as specs;
 
-use crate::command_line::moment::Moment;
-use crate::texts::checking::{status_of, verdict_word};
+use crate::texts::checking::{Asked, status_of, verdict_word};
 use crate::texts::json::todo::push_entries;
 use crate::texts::json::{push_comma, push_name};
+use crate::texts::reason::push_reason;
 use dnsv_canonical::Rrset;
 use dnsv_denial::RecordNumber;
-use dnsv_names::{Name, RecordType};
+use dnsv_names::Name;
 use dnsv_verdict::{Link, Report, Verdict};
 use dnsv_verifier::Entries;
 use std::alloc::{AllocError, Global};
@@ -17,41 +17,35 @@ use std::alloc::{AllocError, Global};
 /// The object of the question, its verdict, the aliases, and what carries the verdict.
 pub fn verdict_json(
     alloc: Global,
-    name: &Name,
-    rtype: RecordType,
-    moment: Moment,
+    asked: &Asked<'_>,
     rrsets: &[Rrset],
     report: &Report,
 ) -> Result<String, AllocError>
     ensures { IfOk result (λ text. string_bytes text
-        ≡ specs.verdict_json name.now rtype.0 moment rrsets.now report.now.links report.now.verdict) }
+        ≡ specs.verdict_json asked.now.name.now asked.now.rtype.0 asked.now.moment rrsets.now report.now.links
+        report.now.verdict) }
 {
     let mut text = String::new(alloc);
-    push_verdict(&mut text, name, rtype, moment, &report.verdict)?;
+    push_verdict(&mut text, asked, &report.verdict)?;
     text.push_str(",\"aliases\":")?;
     push_aliases(&mut text, report.links.as_slice())?;
-    push_reason(&mut text, rrsets, &report.verdict)?;
+    push_reason(&mut text, true, rrsets, &report.verdict)?;
     text.push_str("}\n")?;
     Ok(text)
 }
 
 /// Begins the object with the members for the question and its verdict.
-fn push_verdict(
-    text: &mut String,
-    name: &Name,
-    rtype: RecordType,
-    moment: Moment,
-    verdict: &Verdict,
-) -> Result<(), AllocError>
+fn push_verdict(text: &mut String, asked: &Asked<'_>, verdict: &Verdict) -> Result<(), AllocError>
     ensures { OnOk result (string_bytes text.new ≡ string_bytes text.old
-        ++ (codes "{" ++ parted true (specs.verdict_members name.now rtype.0 moment verdict.now))) }
+        ++ (codes "{" ++ parted true (specs.verdict_members asked.now.name.now asked.now.rtype.0 asked.now.moment
+        verdict.now))) }
 {
-    let rtype = rtype.0;
-    let seconds = moment.seconds();
+    let rtype = asked.rtype.0;
+    let seconds = asked.moment.seconds();
     let word = verdict_word(verdict);
     let code = status_of(verdict).code();
     text.push_str("{\"command\":\"check\",\"name\":")?;
-    push_name(text, name)?;
+    push_name(text, asked.name)?;
     write!(text, ",\"type\":{rtype},\"moment\":{seconds}")?;
     write!(text, ",\"verdict\":\"{word}\",\"status\":{code}")?;
     Ok(())
@@ -93,26 +87,8 @@ fn push_link(text: &mut String, link: &Link) -> Result<(), AllocError>
     Ok(())
 }
 
-/// Adds the members for what carries the verdict, behind others.
-fn push_reason(text: &mut String, rrsets: &[Rrset], verdict: &Verdict) -> Result<(), AllocError>
-    ensures { OnOk result (string_bytes text.new
-        ≡ string_bytes text.old ++ parted false (specs.reason_members rrsets.now verdict.now)) }
-{
-    match verdict {
-        Verdict::SecureAnswer { rrset, signature } | Verdict::SecureAlias { rrset, signature } => {
-            push_signature(text, *rrset, *signature)
-        }
-        Verdict::SecureNoName(proof) | Verdict::SecureNoData(proof) => {
-            push_proof(text, rrsets, proof.records())
-        }
-        Verdict::Insecure(cut) => push_cut(text, cut),
-        Verdict::Pending(entries) => push_todo(text, entries),
-        Verdict::Bogus | Verdict::Indeterminate => Ok(()),
-    }
-}
-
 /// Adds the numbers of an RRset and of its signature.
-fn push_signature(text: &mut String, rrset: usize, signature: usize) -> Result<(), AllocError>
+pub fn push_signature(text: &mut String, rrset: usize, signature: usize) -> Result<(), AllocError>
     ensures { OnOk result (string_bytes text.new
         ≡ string_bytes text.old ++ parted false (specs.signature_members rrset signature)) }
 {
@@ -121,7 +97,7 @@ fn push_signature(text: &mut String, rrset: usize, signature: usize) -> Result<(
 }
 
 /// Adds the name at which a zone that isn't signed may begin.
-fn push_cut(text: &mut String, cut: &Name) -> Result<(), AllocError>
+pub fn push_cut(text: &mut String, cut: &Name) -> Result<(), AllocError>
     ensures { OnOk result (string_bytes text.new
         ≡ string_bytes text.old ++ parted false (specs.cut_member cut.now ∷ [])) }
 {
@@ -131,7 +107,7 @@ fn push_cut(text: &mut String, cut: &Name) -> Result<(), AllocError>
 }
 
 /// Adds the entries that are still to be checked.
-fn push_todo(text: &mut String, entries: &Entries) -> Result<(), AllocError>
+pub fn push_todo(text: &mut String, entries: &Entries) -> Result<(), AllocError>
     ensures { OnOk result (string_bytes text.new
         ≡ string_bytes text.old ++ parted false (specs.todo_member entries.now ∷ [])) }
 {
@@ -141,7 +117,7 @@ fn push_todo(text: &mut String, entries: &Entries) -> Result<(), AllocError>
 }
 
 /// Adds the records of a proof.
-fn push_proof(
+pub fn push_records(
     text: &mut String,
     rrsets: &[Rrset],
     records: &[RecordNumber],

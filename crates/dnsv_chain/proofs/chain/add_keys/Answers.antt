@@ -10,7 +10,7 @@ use Rattle.dnsv_chain.specs.ByOwner.{values_at}
 use Rattle.dnsv_chain.specs.Chain.{HasRdata}
 use Rattle.dnsv_chain.proofs.ByOwnerLemmas.{values_same}
 use Rattle.dnsv_chain.proofs.ChainLemmas.{place_within, all_places, key_stands, key_added, key_there, all_added}
-use Rattle.dnsv_chain.proofs.KnownLemmas.{found_known, added_key, known_more, known_unchanged}
+use Rattle.dnsv_chain.proofs.ChainLemmas.KnownLemmas.{found_known, added_key, known_more, known_unchanged}
 use Rattle.dnsv_chain.proofs.chain.add_keys.Goals as goal
 use Rattle.dnsv_chain.proofs.chain.add_keys.Goals.{then-branch+in_ok-add, else-branch}
 

@@ -1,5 +1,5 @@
 use Rattle.std.proofs.lemmas.Bool.{false≢true}
-use Rattle.dnsv_chain.specs.DsReading.{DelegatesByDigest}
+use Rattle.dnsv_chain.specs.Ds.DsReading.{DelegatesByDigest}
 use Rattle.dnsv_chain.proofs.DelegatedLemmas.{none_found}
 use Rattle.dnsv_chain.proofs.delegated.has_digest.Goals as goal
 

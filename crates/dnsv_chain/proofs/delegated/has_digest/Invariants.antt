@@ -1,6 +1,6 @@
 use Rattle.std.proofs.Common.{◌<◌, ℕ, Bor, get_or}
 use Rattle.dnsv_canonical.specs.Rrsets.{ReceivedRrset}
-use Rattle.dnsv_chain.specs.DsReading.{DelegatesByDigest}
+use Rattle.dnsv_chain.specs.Ds.DsReading.{DelegatesByDigest}
 use Rattle.dnsv_chain.proofs.delegated.has_digest.Given as goal
 
 -- none of the DS RRsets so far has the digest

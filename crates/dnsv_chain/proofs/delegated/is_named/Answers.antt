@@ -1,5 +1,5 @@
 use Rattle.std.proofs.lemmas.Bool.{false≢true}
-use Rattle.dnsv_chain.specs.DsReading.{NamesByType}
+use Rattle.dnsv_chain.specs.Ds.DsReading.{NamesByType}
 use Rattle.dnsv_chain.proofs.DelegatedLemmas.{none_found}
 use Rattle.dnsv_chain.proofs.delegated.is_named.Goals as goal
 

@@ -1,5 +1,5 @@
 use Rattle.std.proofs.Common.{take}
-use Rattle.dnsv_chain.specs.DsReading.{IsLeading}
+use Rattle.dnsv_chain.specs.Ds.DsReading.{IsLeading}
 use Rattle.dnsv_chain.proofs.usable.leading_digest_type.Given as goal
 
 abbrev pub invariant-loop-ds : goal.invariant-loop-ds

@@ -2,12 +2,15 @@
 use Rattle.std.proofs.Common.{◌≡◌, ℕ, ◌+◌, ◌<◌, ◌≤◌, length, subst, sym, ◌∙◌, arith, ⊎_elim}
 use Rattle.std.proofs.lemmas.Bool.{cases_lt}
 use Rattle.dnsv_names.specs.Name.{Labels, SameName, IsAtOrBelow, rightmost}
+use Rattle.dnsv_names.specs.Tree.{wildcard_of}
 use Rattle.dnsv_names.specs.Tree.TreeLaws.{ancestors_in_line, at_or_below_length, at_or_below_trans, below_by_length, below_length}
 use Rattle.dnsv_names.specs.Tree.AncestorLaws.{rightmost_above, rightmost_length, rightmost_same}
 use Rattle.dnsv_zones.specs.forms.Forms.{UnsignedCutForm}
-use Rattle.dnsv_zones.specs.forms.Parts.{IsHighestCut}
+use Rattle.dnsv_zones.specs.forms.Parts.{IsFirstToSay, IsHighestCut, OptsOut}
 use Rattle.dnsv_zones.specs.forms.RecordWords.{RecordWords, words}
 use Rattle.dnsv_zones.specs.zones.Types.{IsUnsignedDelegation}
+use Rattle.std.specs.Ordering.{nat_cmp}
+use Rattle.dnsv_denial.specs.forms.ShownUnsigned.{ShowsDelegationBy}
 use Rattle.dnsv_denial.specs.declared.records.chain_records.ChainRecords.{ChainRecords}
 use Rattle.dnsv_denial.specs.declared.records.chain_records.ChainRecords.TheVariants.{Nsec, Nsec3}
 use Rattle.dnsv_denial.specs.records.AskedHash.{hash_of}
@@ -75,6 +78,19 @@ module _ (apex name : Labels) (records : ChainRecords) where
     fewest = λ fewer less. no_cut_fewer labels fewer less fits none;
   }
 
+  -- the first record that shows it at the name's so many labels
+  pub delegation_shown : (labels place : ℕ) → IsAtOrBelow name apex → length apex < labels → labels ≤ length name
+      → IsFirstToSay nat_cmp ((chain_said apex records).TypesAt (rightmost name labels) IsUnsignedDelegation) place
+      → ShowsDelegationBy nat_cmp (chain_said apex records) apex name labels place
+  delegation_shown labels place within more fits first = record {
+    fits = fits;
+    at_or_above = rightmost_above name labels;
+    below_apex = below_by_length (rightmost name labels) apex
+        (ancestors_in_line name apex (rightmost name labels) within (rightmost_above name labels) (omega (arith, rightmost_length name labels fits)))
+        (omega (arith, rightmost_length name labels fits));
+    types = first;
+  }
+
   -- with one number of labels more
   pub none_up_to : (n : ℕ) → ((k : ℕ) → length apex < k → k < n → NoCut (chain_said apex records) name k)
       → NoCut (chain_said apex records) name n
@@ -82,3 +98,11 @@ module _ (apex name : Labels) (records : ChainRecords) where
   none_up_to n before last k more small =
       ⊎_elim (λ (less : k < n). before k more less)
       (λ (not_less : n ≤ k). let same : n ≡ k = omega arith in subst (NoCut (chain_said apex records) name) same last) (cases_lt k n)
+
+-- NSEC records have no Opt-Out flag
+pub none_out_by_nsec : (apex name : Labels) (records : ChainRecords) (labels : ℕ) → (chain_said apex records).NeedsNone (rightmost name labels)
+    → ¬ OptsOut (chain_said apex records) apex name labels
+none_out_by_nsec apex name (Nsec entries) labels needs out =
+    ⊎_elim (λ (next : (place : ℕ) × (chain_said apex (Nsec entries)).OptedOut (rightmost name (labels + 1)) place). next.1)
+    (λ (star : (place : ℕ) × (chain_said apex (Nsec entries)).OptedOut (wildcard_of (rightmost name labels)) place). star.1) out.opted_out
+none_out_by_nsec apex name (Nsec3 hashed) labels needs out = needs

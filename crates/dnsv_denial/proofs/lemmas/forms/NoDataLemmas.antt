@@ -1,18 +1,17 @@
 -- The forms of a proof that a type isn't there, in their order.
-use Rattle.std.proofs.Common.{ℕ, List, Option, inl, inr}
-use Rattle.std.specs.Prelude.{Some, None, MatchOption}
+use Rattle.std.proofs.Common.{ℕ, inl, inr}
 use Rattle.std.specs.Ordering.{nat_cmp}
 use Rattle.dnsv_names.specs.declared.number.RecordType.{RecordType}
 use Rattle.dnsv_names.specs.Name.{Labels, IsAtOrBelow, rightmost}
 use Rattle.dnsv_names.specs.Tree.TreeLaws.{at_or_below_trans}
 use Rattle.dnsv_names.specs.Tree.AncestorLaws.{rightmost_above}
 use Rattle.dnsv_zones.specs.forms.Forms.{Words, IsAbove, NoDataForm, EmptyForm, NoWildcardDataForm, EmptyWildcardForm, NoDataForms}
-use Rattle.dnsv_zones.specs.forms.Parts.{AreNoDataParts}
-use Rattle.dnsv_zones.specs.forms.Parts.AreNoDataParts.{at_wildcard, empty_wildcard}
 use Rattle.dnsv_zones.specs.forms.RecordWords.{RecordWords, words}
 use Rattle.dnsv_zones.specs.zones.Types.{Denies}
 use Rattle.dnsv_denial.specs.declared.words.asked.AskedWildcard.TheVariants.{Empty, Without}
-use Rattle.dnsv_denial.specs.forms.ByWildcard.{StandsAt, ArePartsWithMostLabels}
+use Rattle.dnsv_denial.specs.forms.ByWildcard.{StandsAt, ShowsWithMostLabels}
+use Rattle.dnsv_denial.specs.forms.ProofForms.{ShowsEmptyWildcard, ShowsWildcardNoData}
+use Rattle.dnsv_denial.specs.declared.forms.proof_form.WildcardParts.{WildcardParts}
 
 -- a name with an ancestor within the zone is within it
 pub within_by : (apex name : Labels) (labels : ℕ) → IsAbove apex name labels → IsAtOrBelow name apex
@@ -48,23 +47,24 @@ module _ (said : RecordWords ℕ) (apex name : Labels) where
       → ¬ NoWildcardDataForm (words said) apex name rtype.0
   none_at_wildcard rtype none form = none form.labels (data_stands rtype form)
 
-  pub by_wildcard_data : (rtype : RecordType) (parts : List ℕ) → ¬ NoDataForm (words said) apex name rtype.0 → ¬ EmptyForm (words said) apex name
-      → ArePartsWithMostLabels (Without rtype) said apex name parts → AreNoDataParts nat_cmp said apex name rtype.0 parts
-  by_wildcard_data rtype parts not_at_name not_empty most = at_wildcard parts not_at_name not_empty (record {
-    labels = most.labels;
-    are = most.are;
+  pub by_wildcard_data : (rtype : RecordType) (parts : WildcardParts ℕ) → ¬ NoDataForm (words said) apex name rtype.0 → ¬ EmptyForm (words said) apex name
+      → ShowsWithMostLabels (Without rtype) said apex name parts → ShowsWildcardNoData nat_cmp said apex name rtype.0 parts
+  by_wildcard_data rtype parts not_at_name not_empty most = record {
+    not_at_name = not_at_name;
+    not_empty = not_empty;
+    shows = record { above = most.shows.above; encloser = most.shows.encloser; next_closer = most.shows.next_closer; wildcard = most.shows.wildcard };
     most_labels = λ form. most.most_labels form.labels (data_stands rtype form);
-  })
+  }
 
-  pub last_found : {P : Type 0} (t : ℕ) (items : P → List ℕ) (found : Option P) → ¬ NoDataForm (words said) apex name t
-      → ¬ EmptyForm (words said) apex name → ¬ NoWildcardDataForm (words said) apex name t
-      → MatchOption found ((labels : ℕ) → ¬ StandsAt Empty said apex name labels) (λ places. ArePartsWithMostLabels Empty said apex name (items places))
-      → MatchOption found (¬ NoDataForms (words said) apex name t) (λ places. AreNoDataParts nat_cmp said apex name t (items places))
-  last_found t items None not_at_name not_empty not_at_wildcard none =
-      none_of_four (words said) apex name t not_at_name not_empty not_at_wildcard (λ form. none form.labels (empty_stands form))
-  last_found t items (Some places) not_at_name not_empty not_at_wildcard most =
-      empty_wildcard (items places) not_at_name not_empty not_at_wildcard (record {
-        labels = most.labels;
-        are = most.are;
-        most_labels = λ form. most.most_labels form.labels (empty_stands form);
-      })
+  module _ (t : ℕ) (not_at_name : ¬ NoDataForm (words said) apex name t) (not_empty : ¬ EmptyForm (words said) apex name) (not_at_wildcard : ¬ NoWildcardDataForm (words said) apex name t) where
+    pub none_at_all : ((labels : ℕ) → ¬ StandsAt Empty said apex name labels) → ¬ NoDataForms (words said) apex name t
+    none_at_all none = none_of_four (words said) apex name t not_at_name not_empty not_at_wildcard (λ form. none form.labels (empty_stands form))
+
+    pub empty_wildcard_shown : (parts : WildcardParts ℕ) → ShowsWithMostLabels Empty said apex name parts → ShowsEmptyWildcard nat_cmp said apex name t parts
+    empty_wildcard_shown parts most = record {
+      not_at_name = not_at_name;
+      not_empty = not_empty;
+      not_at_wildcard = not_at_wildcard;
+      shows = record { above = most.shows.above; encloser = most.shows.encloser; next_closer = most.shows.next_closer; wildcard = most.shows.wildcard };
+      most_labels = λ form. most.most_labels form.labels (empty_stands form);
+    }

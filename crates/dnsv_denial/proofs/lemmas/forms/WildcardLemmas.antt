@@ -1,5 +1,5 @@
 -- The forms that ask something of the wildcard at the closest encloser, by its number of labels.
-use Rattle.std.proofs.Common.{◌≡◌, ℕ, ◌+◌, ◌-◌, ◌<◌, ◌≤◌, List, Option, length, subst, arith, ⊎_elim}
+use Rattle.std.proofs.Common.{◌≡◌, ℕ, ◌+◌, ◌-◌, ◌<◌, ◌≤◌, Option, length, subst, arith, ⊎_elim}
 use Rattle.std.specs.Prelude.{Some, None, MatchOption}
 use Rattle.std.specs.Ordering.{nat_cmp}
 use Rattle.std.proofs.lemmas.Bool.{cases_lt}
@@ -7,11 +7,13 @@ use Rattle.dnsv_names.specs.Name.{Labels, rightmost}
 use Rattle.dnsv_names.specs.Tree.TreeLaws.{at_or_below_length}
 use Rattle.dnsv_names.specs.Tree.AncestorLaws.{rightmost_length}
 use Rattle.dnsv_zones.specs.forms.Forms.{IsAbove, NoNameForm, NoCloserForm}
-use Rattle.dnsv_zones.specs.forms.Parts.{AreNoNameParts, IsNoCloserPart}
+use Rattle.dnsv_zones.specs.forms.Parts.{IsNoCloserPart}
 use Rattle.dnsv_zones.specs.forms.RecordWords.{RecordWords, words}
 use Rattle.dnsv_denial.specs.declared.words.asked.AskedWildcard.{AskedWildcard}
 use Rattle.dnsv_denial.specs.declared.words.asked.AskedWildcard.TheVariants.{Absent}
-use Rattle.dnsv_denial.specs.forms.ByWildcard.{StandsAt, ArePartsWithMostLabels}
+use Rattle.dnsv_denial.specs.forms.ByWildcard.{StandsAt, ShowsWithMostLabels}
+use Rattle.dnsv_denial.specs.forms.ProofForms.{ShowsNoNameBy}
+use Rattle.dnsv_denial.specs.declared.forms.proof_form.WildcardParts.{WildcardParts}
 use Rattle.dnsv_denial.specs.words.SaidAt.{IsFirstPlace}
 
 -- what holds of fewer than n only, and not of the last before n
@@ -35,14 +37,13 @@ module _ (said : RecordWords ℕ) (apex name : Labels) where
   no_name_stands : (form : NoNameForm (words said) apex name) → StandsAt Absent said apex name form.labels
   no_name_stands form = record { ends = form.ends; wildcard = form.wildcard }
 
-  pub no_name_found : {P : Type 0} (items : P → List ℕ) (found : Option P)
-      → MatchOption found ((labels : ℕ) → ¬ StandsAt Absent said apex name labels) (λ places. ArePartsWithMostLabels Absent said apex name (items places))
-      → MatchOption found (¬ NoNameForm (words said) apex name) (λ places. AreNoNameParts nat_cmp said apex name (items places))
-  no_name_found items None none = λ form. none form.labels (no_name_stands form)
-  no_name_found items (Some places) parts = record {
-    labels = parts.labels;
-    are = parts.are;
-    most_labels = λ form. parts.most_labels form.labels (no_name_stands form);
+  pub no_name_none : ((labels : ℕ) → ¬ StandsAt Absent said apex name labels) → ¬ NoNameForm (words said) apex name
+  no_name_none none form = none form.labels (no_name_stands form)
+
+  pub no_name_shown : (parts : WildcardParts ℕ) → ShowsWithMostLabels Absent said apex name parts → ShowsNoNameBy nat_cmp said apex name parts
+  no_name_shown parts most = record {
+    shows = record { above = most.shows.above; encloser = most.shows.encloser; next_closer = most.shows.next_closer; wildcard = most.shows.wildcard };
+    most_labels = λ form. most.most_labels form.labels (no_name_stands form);
   }
 
   pub no_closer_found : (labels : ℕ) (found : Option ℕ) → IsAbove apex name labels → IsFirstPlace (said.Absent (rightmost name (labels + 1))) found

@@ -3,8 +3,9 @@ use Rattle.std.proofs.Common.{◌≡◌, ℕ, ◌-◌, List, length, drop, refl,
 use Rattle.std.proofs.lemmas.Option.{slice_get_within}
 use Rattle.dnsv_names.specs.Name.{Labels, rightmost}
 use Rattle.dnsv_canonical.specs.Rrsets.{ReceivedRrset}
-use Rattle.dnsv_denial.specs.proving.ChainOf.{IsChainOf}
+use Rattle.dnsv_denial.specs.proving.ChainOf.{IsChainOf, kind_of_records}
 use Rattle.dnsv_denial.specs.proving.Numbers.{numbers_of, record_count}
+use Rattle.dnsv_denial.specs.proving.ShownDenials.{kind_of}
 use Rattle.dnsv_denial.specs.words.ChainSaid.{chain_said}
 use Rattle.dnsv_denial.specs.words.EvidenceWords.{Chain, evidence_said}
 use Rattle.dnsv_denial.specs.words.EvidenceWords.Chain.{ByNsec, ByNsec3}
@@ -30,18 +31,27 @@ module _ (Secured : ℕ → ℕ → Type 0) (rrsets : List ReceivedRrset) (zone 
       subst (λ p. SayAlike (numbers_of (Nsec3 hashed)) (chain_said zone (Nsec3 hashed)) (evidence_said Secured rrsets zone (ByNsec3 p))) are.1
       (nsec3_alike Secured rrsets zone hashed.now.entries.now are.0 hashed refl)
 
+  -- the records are of the chain's kind
+  pub chain_kinds : (chain : Chain) (records : ChainRecords) → IsChainOf Secured rrsets zone chain records → kind_of_records records ≡ kind_of chain
+  chain_kinds ByNsec (Nsec entries) are = refl
+  chain_kinds ByNsec (Nsec3 hashed) are = absurd are
+  chain_kinds (ByNsec3 parameters) (Nsec entries) are = absurd are
+  chain_kinds (ByNsec3 parameters) (Nsec3 hashed) are = refl
+
 pub chain_bound : (apex : Labels) (records : ChainRecords) → AreBound (record_count records) (chain_said apex records)
 chain_bound apex (Nsec entries) = record {
   encloser = λ name place said. slice_get_within entries.now place said.entry said.there;
   absent = λ name place said. slice_get_within entries.now place said.entry said.there;
   empty_non_terminal = λ name place said. slice_get_within entries.now place said.entry said.there;
   types_at = λ name Says place said. slice_get_within entries.now place said.entry said.there;
+  opted_out = λ name place none. absurd none;
 }
 chain_bound apex (Nsec3 hashed) = record {
   encloser = λ name place said. slice_get_within hashed.now.entries.now place said.entry said.there;
   absent = λ name place said. slice_get_within hashed.now.entries.now place said.entry said.there;
   empty_non_terminal = λ name place none. absurd none;
   types_at = λ name Says place said. slice_get_within hashed.now.entries.now place said.entry said.there;
+  opted_out = λ name place said. slice_get_within hashed.now.entries.now place said.entry said.there;
 }
 
 pub all_labels : (zone : Labels) → rightmost zone (length zone) ≡ zone

@@ -8,14 +8,25 @@ use Rattle.dnsv_names.specs.Tree.TreeLaws.{at_or_below_respects}
 use Rattle.dnsv_zones.specs.chains.Nsec3Chain.{Nsec3Record}
 use Rattle.dnsv_zones.specs.chains.NsecChain.{NsecRecord}
 use Rattle.dnsv_zones.specs.forms.Forms.{IsAbove, NoCloserForm}
+use Rattle.dnsv_zones.specs.forms.Parts.{OptsOutNextCloser}
 use Rattle.dnsv_canonical.specs.Rrsets.{ReceivedRrset}
 use Rattle.dnsv_canonical.proofs.CanonicalLemmas.{IsMember, IsMember-from_contains, Contains-from_member}
+use Rattle.dnsv_denial.specs.forms.ProofForms.{ShowsNoCloser, form_records}
+use Rattle.dnsv_denial.specs.forms.ProofForms.ShowsNoCloser.{no_closer}
+use Rattle.dnsv_denial.specs.forms.ShownUnsigned.{ShowsOptOutCloser}
+use Rattle.dnsv_denial.specs.forms.ShownUnsigned.ShowsOptOutCloser.{opt_out_closer}
 use Rattle.dnsv_denial.specs.gathering.Evidence.{IsNsecAt, IsNsec3At, IsSecuredBy}
 use Rattle.dnsv_denial.specs.gathering.Kept.{IsZoneProof}
-use Rattle.dnsv_denial.specs.proving.FirstProof.{AreRecordsOf, IsFirstNoCloser, ProofRecords, StandsBy}
+use Rattle.dnsv_denial.specs.proving.FirstProof.{AreRecordsOf, IsFirstNoCloser, IsFirstOfZone, ProofRecords, StandsBy}
+use Rattle.dnsv_denial.specs.proving.ShownDenials.{IsShownNoCloser}
+use Rattle.dnsv_denial.specs.unsigned_cuts.Cuts.{HasOptedOutNextCloser}
+use Rattle.dnsv_denial.specs.unsigned_cuts.ShownCut.{IsShownOptOutCloser}
 use Rattle.dnsv_denial.specs.words.EvidenceWords.{Chain, evidence_said, number_cmp}
 use Rattle.dnsv_denial.specs.words.EvidenceWords.Chain.{ByNsec, ByNsec3}
-use Rattle.dnsv_denial.specs.declared.forms.denial.Denial.TheVariants.{NoCloser}
+use Rattle.dnsv_denial.specs.declared.forms.denial.Denial.TheVariants as denied
+use Rattle.dnsv_denial.specs.declared.forms.proof_form.ProofForm.{ProofForm}
+use Rattle.dnsv_denial.specs.declared.forms.proof_form.ProofForm.TheVariants.{NoCloser, OptOutCloser}
+use Rattle.dnsv_denial.specs.declared.proving.shown_denial.ShownDenial.{ShownDenial}
 use Rattle.dnsv_denial.specs.declared.records.number.RecordNumber.{RecordNumber}
 use Rattle.dnsv_denial.proofs.lemmas.proving.NumberLemmas.{number_cmp_total}
 
@@ -113,24 +124,79 @@ module _ (Secured : ℕ → ℕ → Type 0) (rrsets : List ReceivedRrset) (name 
     next_closer = (form.next_closer.0, absent_as a b same chain (rightmost name (labels + 1)) form.next_closer.0 form.next_closer.1);
   }
 
-  -- the first proof of the kept zone is that of the zone in the other spelling
-  pub first_closer : (a b : Labels) (proof : ProofRecords) → SameName a b → a ≡ rightmost name (length b)
-      → IsZoneProof Secured rrsets (NoCloser labels) name a proof → IsFirstNoCloser Secured rrsets name labels b proof
-  first_closer a b proof same is found =
-      let part = found.by_chain.chosen.0 in
-      let chosen = found.by_chain.chosen.2 in
-      record {
-        zone = found.by_chain.its_zone ∙ is;
-        chain = found.chain;
-        stands = closer_as a b same found.chain (record { above = chosen.above; next_closer = (part, chosen.next_closer.says) });
-        first = λ other before stands. found.first other before (closer_as b a (sym same) other stands);
-        part = part;
-        chosen = record {
-          above = above_as a b same chosen.above;
-          next_closer = record {
-            says = absent_as a b same found.chain (rightmost name (labels + 1)) part chosen.next_closer.says;
-            earliest = λ other said less. chosen.next_closer.earliest other (absent_as b a (sym same) found.chain (rightmost name (labels + 1)) other said) less;
-          };
-        };
-        records = one_alone part proof.records (subst (λ parts. AreRecordsOf parts proof.records) found.by_chain.chosen.1 found.by_chain.records);
-      }
+  shows_as : (a b : Labels) → SameName a b → (chain : Chain) (form : ProofForm RecordNumber)
+      → ShowsNoCloser number_cmp (evidence_said Secured rrsets a chain) a name labels form → ShowsNoCloser number_cmp (evidence_said Secured rrsets b chain) b name labels form
+  shows_as a b same chain whole (no_closer number part) = no_closer number (record {
+    above = above_as a b same part.above;
+    next_closer = record {
+      says = absent_as a b same chain (rightmost name (labels + 1)) number part.next_closer.says;
+      earliest = λ other said less. part.next_closer.earliest other (absent_as b a (sym same) chain (rightmost name (labels + 1)) other said) less;
+    };
+  })
+
+  records_alone : (apex : Labels) (chain : Chain) (shown : ProofForm RecordNumber) (records : List RecordNumber)
+      → ShowsNoCloser number_cmp (evidence_said Secured rrsets apex chain) apex name labels shown → AreRecordsOf (form_records shown) records → records ≡ form_records shown
+  records_alone apex chain whole records (no_closer number part) are = one_alone number records are
+
+  -- the first of the kept zone is that of the zone in the other spelling
+  pub first_closer : (a b : Labels) (shown : ShownDenial) → SameName a b → a ≡ rightmost name (length b)
+      → IsZoneProof Secured rrsets (denied.NoCloser labels) name a shown → IsShownNoCloser Secured rrsets name labels b shown
+  first_closer a b shown same is found = record {
+    zone = found.by_chain.its_zone ∙ is;
+    chain = found.chain;
+    kind = found.by_chain.kind;
+    first = λ other before stands. found.first other before (closer_as b a (sym same) other stands);
+    shows = shows_as a b same found.chain shown.form found.by_chain.shows;
+    records = records_alone a found.chain shown.form shown.proof.records found.by_chain.shows found.by_chain.records;
+  }
+
+  -- what is shown is the first proof, by its one record
+  proof_by : (b : Labels) (proof : ProofRecords) (chain : Chain) (form : ProofForm RecordNumber)
+      → proof.zone ≡ rightmost name (length b) → IsFirstOfZone Secured rrsets (λ said each. NoCloserForm said each name labels) b chain
+      → ShowsNoCloser number_cmp (evidence_said Secured rrsets b chain) b name labels form → proof.records ≡ form_records form
+      → IsFirstNoCloser Secured rrsets name labels b proof
+  proof_by b proof chain whole zone first (no_closer number part) records = record {
+    zone = zone;
+    chain = chain;
+    stands = record { above = part.above; next_closer = (number, part.next_closer.says) };
+    first = first;
+    part = number;
+    chosen = part;
+    records = records;
+  }
+
+  pub closer_of_shown : (b : Labels) (shown : ShownDenial) → IsShownNoCloser Secured rrsets name labels b shown → IsFirstNoCloser Secured rrsets name labels b shown.proof
+  closer_of_shown b shown first = proof_by b shown.proof first.chain shown.form first.zone first.first first.shows first.records
+
+  -- ---- the same of Opt-Out
+
+  out_as : (a b : Labels) → SameName a b → (chain : Chain)
+      → OptsOutNextCloser (evidence_said Secured rrsets a chain) a name labels → OptsOutNextCloser (evidence_said Secured rrsets b chain) b name labels
+  out_as a b same chain out = record {
+    above = above_as a b same out.above;
+    opted_out = (out.opted_out.0, opted_out_as a b same chain (rightmost name (labels + 1)) out.opted_out.0 out.opted_out.1);
+  }
+
+  shows_out_as : (a b : Labels) → SameName a b → (chain : Chain) (form : ProofForm RecordNumber)
+      → ShowsOptOutCloser number_cmp (evidence_said Secured rrsets a chain) a name labels form → ShowsOptOutCloser number_cmp (evidence_said Secured rrsets b chain) b name labels form
+  shows_out_as a b same chain whole (opt_out_closer number shows) = opt_out_closer number (record {
+    above = above_as a b same shows.above;
+    next_closer = record {
+      says = opted_out_as a b same chain (rightmost name (labels + 1)) number shows.next_closer.says;
+      earliest = λ other said less. shows.next_closer.earliest other (opted_out_as b a (sym same) chain (rightmost name (labels + 1)) other said) less;
+    };
+  })
+
+  pub first_out : (a b : Labels) (shown : ShownDenial) → SameName a b → a ≡ rightmost name (length b)
+      → IsZoneProof Secured rrsets (denied.OptOutCloser labels) name a shown → IsShownOptOutCloser Secured rrsets name labels b shown
+  first_out a b shown same is found = record {
+    zone = found.by_chain.its_zone ∙ is;
+    chain = found.chain;
+    kind = found.by_chain.kind;
+    first = λ other before out. found.first other before (out_as b a (sym same) other out);
+    shows = shows_out_as a b same found.chain shown.form found.by_chain.shows;
+  }
+
+  pub none_out : (a b : Labels) → SameName a b → ((chain : Chain) → ¬ OptsOutNextCloser (evidence_said Secured rrsets a chain) a name labels)
+      → ¬ HasOptedOutNextCloser Secured rrsets name labels b
+  none_out a b same none has = none has.chain (out_as b a (sym same) has.chain (record { above = has.above; opted_out = (has.covering, has.opted_out) }))

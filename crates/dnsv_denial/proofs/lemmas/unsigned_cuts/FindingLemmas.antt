@@ -142,13 +142,13 @@ module _ (Secured : ℕ → ℕ → Type 0) (rrsets : List ReceivedRrset) (name 
 -- a list that isn't empty has a member
 -- ---- the first of the three kinds
 
-fewest_at : (Holds : ℕ → Type 0) (found : Option ℕ) (n : ℕ) → found ≡ Some n → IsFewestFound Holds found → IsFewest Holds n
+pub fewest_at : (Holds : ℕ → Type 0) (found : Option ℕ) (n : ℕ) → found ≡ Some n → IsFewestFound Holds found → IsFewest Holds n
 fewest_at Holds found n is so = subst (IsFewestFound Holds) is so
 
-none_at : (Holds : ℕ → Type 0) (found : Option ℕ) → found ≡ None → IsFewestFound Holds found → (n : ℕ) → ¬ Holds n
+pub none_at : (Holds : ℕ → Type 0) (found : Option ℕ) → found ≡ None → IsFewestFound Holds found → (n : ℕ) → ¬ Holds n
 none_at Holds found is so = subst (IsFewestFound Holds) is so
 
-most_at : (Holds : ℕ → Type 0) (found : Option ℕ) (n : ℕ) → found ≡ Some n → IsMostFound Holds found → IsMost Holds n
+pub most_at : (Holds : ℕ → Type 0) (found : Option ℕ) (n : ℕ) → found ≡ Some n → IsMostFound Holds found → IsMost Holds n
 most_at Holds found n is so = subst (IsMostFound Holds) is so
 
 no_most_at : (Holds : ℕ → Type 0) (found : Option ℕ) → found ≡ None → IsMostFound Holds found → (n : ℕ) → ¬ Holds n

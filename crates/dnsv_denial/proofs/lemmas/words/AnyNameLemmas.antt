@@ -1,11 +1,10 @@
 -- What no record says of any name, is said of none of the names that are asked for.
-use Rattle.std.proofs.Common.{◌≡◌, ◌≢◌, ℕ, ◌+◌, ◌<◌, Bool, true, false, List, Option, refl, inl, inr, arith}
+use Rattle.std.proofs.Common.{◌≡◌, ◌≢◌, ℕ, ◌+◌, ◌<◌, Bool, true, false, List, Option, refl, inl, inr, ⊎_elim, arith}
 use Rattle.std.specs.Prelude.{IsTrue, is_some}
 use Rattle.dnsv_names.specs.Name.{Labels, SameName, rightmost}
 use Rattle.dnsv_names.specs.Tree.{wildcard_of}
 use Rattle.dnsv_zones.specs.chains.NsecChain.{IsInBitmap}
 use Rattle.dnsv_zones.specs.forms.Nsec3.{Matches, Covers}
-use Rattle.dnsv_zones.specs.forms.RecordWords.{words}
 use Rattle.dnsv_zones.specs.zones.Types.{Denies, IsUnsignedDelegation}
 use Rattle.dnsv_denial.specs.forms.Denials.{DenialForm}
 use Rattle.dnsv_denial.specs.proving.Numbers.{record_count}
@@ -14,7 +13,7 @@ use Rattle.dnsv_denial.specs.records.Record.{read_entry, read_nsec3, flags_of}
 use Rattle.dnsv_denial.specs.words.ChainSaid.{chain_said}
 use Rattle.dnsv_denial.specs.words.SaidAt.{IsSaidAt, IsFirstPlace}
 use Rattle.dnsv_denial.specs.declared.forms.denial.Denial.{Denial}
-use Rattle.dnsv_denial.specs.declared.forms.denial.Denial.TheVariants.{NoName, NoData, NoCloser}
+use Rattle.dnsv_denial.specs.declared.forms.denial.Denial.TheVariants.{NoName, NoData, NoCloser, Delegation, OptOut, OptOutCloser}
 use Rattle.dnsv_denial.specs.declared.records.entry.Nsec3Entry.{Nsec3Entry}
 use Rattle.dnsv_denial.specs.declared.records.entry.NsecEntry.{NsecEntry}
 use Rattle.dnsv_denial.specs.declared.records.hashed_records.HashedRecords.{HashedRecords}
@@ -28,7 +27,7 @@ module _ (apex name : Labels) (records : ChainRecords) where
   none_there : ¬ (0 < record_count records) → (Says : ℕ → Type 0) → ((place : ℕ) → Says place → place < record_count records) → ((place : ℕ) × Says place) → ⊥
   none_there empty Says bound some = let within = bound some.0 some.1 in empty (omega (arith, within))
 
-  pub nothing_denied : ¬ (0 < record_count records) → (denial : Denial) → ¬ DenialForm denial name (words (chain_said apex records)) apex
+  pub nothing_denied : ¬ (0 < record_count records) → (denial : Denial) → ¬ DenialForm denial name (chain_said apex records) apex
   nothing_denied empty NoName form =
       none_there empty ((chain_said apex records).Absent (wildcard_of (rightmost name form.labels)))
       ((chain_bound apex records).absent (wildcard_of (rightmost name form.labels))) form.wildcard
@@ -46,6 +45,19 @@ module _ (apex name : Labels) (records : ChainRecords) where
   nothing_denied empty (NoData rtype) (inr (inr (inr form))) =
       none_there empty ((chain_said apex records).EmptyNonTerminal (wildcard_of (rightmost name form.labels)))
       ((chain_bound apex records).empty_non_terminal (wildcard_of (rightmost name form.labels))) form.empty_non_terminal
+  nothing_denied empty (Delegation labels) delegation =
+      none_there empty ((chain_said apex records).TypesAt (rightmost name labels) IsUnsignedDelegation)
+      ((chain_bound apex records).types_at (rightmost name labels) IsUnsignedDelegation) delegation.form.types
+  nothing_denied empty (OptOut labels) out =
+      ⊎_elim
+      (λ (next : (place : ℕ) × (chain_said apex records).OptedOut (rightmost name (labels + 1)) place).
+      none_there empty ((chain_said apex records).OptedOut (rightmost name (labels + 1))) ((chain_bound apex records).opted_out (rightmost name (labels + 1))) next)
+      (λ (star : (place : ℕ) × (chain_said apex records).OptedOut (wildcard_of (rightmost name labels)) place).
+      none_there empty ((chain_said apex records).OptedOut (wildcard_of (rightmost name labels))) ((chain_bound apex records).opted_out (wildcard_of (rightmost name labels))) star)
+      out.opted_out
+  nothing_denied empty (OptOutCloser labels) out =
+      none_there empty ((chain_said apex records).OptedOut (rightmost name (labels + 1)))
+      ((chain_bound apex records).opted_out (rightmost name (labels + 1))) out.opted_out
 
 -- ---- what some record says
 

@@ -8,6 +8,7 @@ use Rattle.std.proofs.lemmas.Option.{slice_get_within}
 use Rattle.std.specs.Ordering.{nat_cmp}
 use Rattle.std.specs.declared.cmp.Ordering.TheVariants.{Less}
 use Rattle.dnsv_zones.specs.forms.Parts.{IsFirstToSay}
+use Rattle.dnsv_denial.specs.forms.ProofForms.{option_by}
 use Rattle.dnsv_denial.specs.words.SaidAt.{IsSaidAt, IsFirstPlace}
 
 less : (k n : ℕ) → k < n + 1 → k ≢ n → k < n
@@ -58,3 +59,8 @@ some_first Says (Some place) test is first = (λ yes. (place, first.says), λ so
 pub if_some : {X : Type 0} (N : Type 0) (F G : X → Type 0) (found : Option X) → ((x : X) → F x → G x) → MatchOption found N F → IfSome found G
 if_some N F G None to holds = tt
 if_some N F G (Some x) to holds = to x holds
+
+pub match_by : {X Y : Type 0} (N : Type 0) (P : X → Type 0) (Q : Y → Type 0) (f : X → Y) (found : Option X) (of : Option Y)
+    → of ≡ option_by f found → ((x : X) → P x → Q (f x)) → MatchOption found N P → MatchOption of N Q
+match_by N P Q f None of is to holds = subst (λ y. MatchOption y N Q) (sym is) holds
+match_by N P Q f (Some x) of is to holds = subst (λ y. MatchOption y N Q) (sym is) (to x holds)

@@ -1,7 +1,7 @@
 use Rattle.std.proofs.Common.{◌++◌, ◌∷◌, [], List, sym, ap, subst, ◌∙◌}
 use Rattle.std.proofs.lemmas.Bool.{false≢true}
 use Rattle.std.proofs.lemmas.Option.{MatchOption-at_some}
-use Rattle.dnsv_explain.specs.Derivations.{IsSignatureSaid}
+use Rattle.dnsv_explain.specs.Following.{IsSignatureSaid}
 use Rattle.dnsv_explain.specs.Explained.{basis_in}
 use Rattle.dnsv_explain.specs.Ways.{IsSignedLine}
 use Rattle.dnsv_explain.specs.declared.line.Line.{Line}

@@ -12,5 +12,13 @@ pub returns-clause-signed : goal.returns-clause-signed
 returns-clause-signed c = λ basis lines signed follows there.
     all_true basis [] lines (no_lines basis) follows (line.Signed signed) there
 
+pub returns-clause-part : goal.returns-clause-part
+returns-clause-part c = λ basis lines part follows there.
+    all_true basis [] lines (no_lines basis) follows (line.Part part) there
+
+pub returns-clause-unusable : goal.returns-clause-unusable
+returns-clause-unusable c = λ basis lines unusable follows there.
+    all_true basis [] lines (no_lines basis) follows (line.Unusable unusable) there
+
 pub returns-clause-valid : goal.returns-clause-valid
 returns-clause-valid c = all_shown_valid

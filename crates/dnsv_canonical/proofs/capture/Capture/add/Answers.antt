@@ -5,6 +5,7 @@ use Rattle.dnsv_message.specs.Message.{Contents, records_of}
 use Rattle.dnsv_canonical.specs.declared.capture.CaptureError.{CaptureError}
 use Rattle.dnsv_canonical.specs.declared.capture.CaptureError.TheVariants.{OutOfMemory, NotAResponse, Truncated, BadRdata, Limit}
 use Rattle.dnsv_canonical.specs.Evidence.{AreParameters, AtMost, Evidence, AreParametersAmong, IsReadable, IsReasonAgainst, IsSmall, IsWhole, IsWithinLimits, nsec3_rdata, with_message}
+use Rattle.dnsv_canonical.specs.Index.Grouping.{IsIndexOf}
 use Rattle.dnsv_canonical.specs.Kept.{IsHeld, IsParametersRefusal}
 use Rattle.dnsv_canonical.specs.Rdata.{IsWellFormed}
 use Rattle.dnsv_canonical.specs.Rrsets.{ReceivedRrset}
@@ -56,14 +57,18 @@ to_rrsets-requires c =
     subst (AllByRecursion IsWellFormed) (sym (c.as_slice-4.ensures.value ∙ (drafts_are _ c.args.message.now _ _ _ _ c.in_ok-sections.ensures.answer c.in_ok-sections.ensures.authority c.in_ok-sections.ensures.additional c.in_ok-drafts.ensures)))
     (message_well_formed (c.self.inside.messages + 1) c.args.message.now (c.messages_fit.ensures c.args.message.now c.is_of_octets.ensures) c.in_ok-check_rdata.ensures.ok)
 
+pub with-requires : goal.with-requires
+with-requires c = subst (λ (rrsets : List ReceivedRrset). IsIndexOf rrsets c.self.inside.index.numbers.items c.self.inside.index.starts.items) (sym c.as_slice-5.ensures.value) c.self.invariant.index
+
 pub invariant_of-self-in_err-append : goal.invariant_of-self-in_err-append
 invariant_of-self-in_err-append c = rw (c.in_err-append.ensures.items, c.in_ok-reserve.ensures.items) c.self.invariant
 
 -- what is kept with the message
 after : (c : goal.After-drop-sections-4) → IsHeld (record { messages = c.self.inside.messages + 1; records = c.in-Some.records; rrsets = c.self.inside.rrsets.items ++ c.in_ok-drafts.drafts.items })
-    (c.self.inside.parameters.items ++ c.in_ok-parameters.parameters.items)
+    (c.self.inside.parameters.items ++ c.in_ok-parameters.parameters.items) c.in_ok-index.index.numbers.items c.in_ok-index.index.starts.items
 after c =
     grown c.self.inside.messages c.self.inside.records c.in-Some.records c.self.inside.rrsets.items c.args.message.now c.self.inside.parameters.items c.in_ok-parameters.parameters.items c.in_ok-drafts.drafts.items
+    c.self.inside.index.numbers.items c.self.inside.index.starts.items c.in_ok-index.index.numbers.items c.in_ok-index.index.starts.items
     c.self.invariant (omega arith) c.in-Some.ensures.1
     (subst (AllByRecursion IsWellFormed) (sym (drafts_are _ c.args.message.now _ _ _ _ c.in_ok-sections.ensures.answer c.in_ok-sections.ensures.authority c.in_ok-sections.ensures.additional c.in_ok-drafts.ensures))
     (message_well_formed (c.self.inside.messages + 1) c.args.message.now (c.messages_fit.ensures c.args.message.now c.is_of_octets.ensures) c.in_ok-check_rdata.ensures.ok))
@@ -72,6 +77,8 @@ after c =
     (pairs_so_far c.self.inside.rrsets.items c.as_slice-3.result.now c.self.inside.parameters.items c.as_slice-2.result.now c.in_ok-parameters.parameters.items c.self.invariant.parameters c.as_slice-2.ensures.value c.in_ok-parameters.ensures.all))
     (rw (← c.as_slice-2.ensures.value) (c.in_ok-parameters.ensures.few (rw c.as_slice-2.ensures.value
     ((few_pairs 8 (nsec3_rdata c.self.inside.rrsets.items) c.self.inside.parameters.items c.self.invariant.parameters).1 c.self.invariant.limits.parameters))))
+    (subst (λ (rrsets : List ReceivedRrset). IsIndexOf rrsets c.in_ok-index.index.numbers.items c.in_ok-index.index.starts.items)
+    (λ i. c.as_slice-5.ensures.value i ++ (c.as_slice-6.ensures.value ∙ c.in_ok-rrsets.ensures ∙ c.as_slice-4.ensures.value) i) c.in_ok-index.ensures)
 
 pub invariant_of-self-2 : goal.invariant_of-self-2
 invariant_of-self-2 c =

@@ -1,4 +1,4 @@
-use Rattle.std.proofs.Common.{◌-◌, arith}
+use Rattle.std.proofs.Common.{arith}
 use Rattle.dnsv_denial.specs.forms.ByWildcard.{StandsAt}
 use Rattle.dnsv_denial.specs.words.ChainSaid.{chain_said}
 use Rattle.dnsv_denial.proofs.lemmas.forms.WildcardLemmas.{fewer_yet}
@@ -14,9 +14,8 @@ loop-labels-preserved c =
 
 pub returns-in-Some : goal.returns-in-Some
 returns-in-Some c = record {
-  labels = c.loop-labels.labels - 1;
-  are = c.in-Some.ensures;
-  most_labels = λ more stands. omega (arith, c.loop-labels.invariant more stands, c.loop-labels-test.true);
+  shows = c.in-Some.ensures.1;
+  most_labels = λ more stands. omega (arith, c.loop-labels.invariant more stands, c.loop-labels-test.true, c.in-Some.ensures.0);
 }
 
 pub returns : goal.returns

@@ -13,7 +13,7 @@ pub returns-in-Some : goal.returns-in-Some
 returns-in-Some c = λ trust rrsets sets zones.
     let within : c.loop-labels.labels - 1 < length c.args.zones.now = omega (arith, c.loop-labels.invariant.0, c.loop-labels-test.true) in
     let kept = zone_at (SecuredIn trust) rrsets c.args.name.now c.args.zones.now (c.loop-labels.labels - 1) c.index-zones-labels.result zones within c.index-zones-labels.is in
-    first_of_all (SecuredIn trust) rrsets c.args.denial c.args.name.now (c.loop-labels.labels - 1) c.loop-labels.labels c.index-zones-labels.result.zone c.in-Some.proof
+    first_of_all (SecuredIn trust) rrsets c.args.denial c.args.name.now (c.loop-labels.labels - 1) c.loop-labels.labels c.index-zones-labels.result.zone c.in-Some.shown
     (omega (arith, c.loop-labels-test.true)) (omega (arith, within, zones.count)) kept.0 (c.loop-labels.invariant.1 trust rrsets sets zones)
     (c.in-Some.ensures trust rrsets kept.1 sets)
 

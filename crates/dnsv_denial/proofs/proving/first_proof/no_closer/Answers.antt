@@ -1,15 +1,16 @@
-use Rattle.std.proofs.Common.{◌≡◌, length, sym, ap, ◌∙◌, subst, arith}
-use Rattle.dnsv_names.specs.Tree.AncestorLaws.{rightmost_above, rightmost_same}
-use Rattle.dnsv_names.specs.Name.{SameName, rightmost}
-use Rattle.dnsv_names.specs.Tree.TreeLaws.{at_or_below_length, at_or_below_trans}
+use Rattle.std.proofs.Common.{sym}
+use Rattle.dnsv_names.specs.Tree.AncestorLaws.{rightmost_above}
+use Rattle.dnsv_names.specs.Name.{rightmost}
+use Rattle.dnsv_names.specs.Tree.TreeLaws.{at_or_below_trans}
 use Rattle.dnsv_chain.specs.Trust.{SecuredIn}
-use Rattle.dnsv_denial.specs.forms.Denials.{DenialForm}
 use Rattle.dnsv_denial.specs.gathering.Kept.{IsZoneProof}
-use Rattle.dnsv_denial.specs.proving.FirstProof.{CanProveNoCloser, IsFirstNoCloser, StandsBy}
+use Rattle.dnsv_denial.specs.proving.ChainOf.{StandsAs}
+use Rattle.dnsv_denial.specs.proving.FirstProof.{CanProveNoCloser}
+use Rattle.dnsv_denial.specs.proving.ShownDenials.{IsShownNoCloser}
 use Rattle.dnsv_denial.specs.words.EvidenceWords.{Chain}
 use Rattle.dnsv_denial.specs.declared.forms.denial.Denial.TheVariants.{NoCloser}
 use Rattle.dnsv_denial.proofs.lemmas.proving.RespelledZoneLemmas.{closer_as, first_closer}
-use Rattle.dnsv_denial.proofs.lemmas.proving.FirstProofLemmas.{zone_at}
+use Rattle.dnsv_denial.proofs.lemmas.proving.FirstProofLemmas.{kept_at}
 use Rattle.dnsv_denial.proofs.lemmas.proving.ZoneProofLemmas.{option_leads}
 use Rattle.dnsv_denial.proofs.proving.first_proof.no_closer.Goals as goal
 
@@ -22,17 +23,14 @@ returns-then-not-is_at_or_below c = λ trust rrsets sets zones proved.
 
 pub returns : goal.returns
 returns c = λ trust rrsets sets zones.
-    let count = c.labels.ensures.count in
     let under = c.is_at_or_below.ensures.at_or_below.0 c.if-not-is_at_or_below.false in
-    let kept = zone_at (SecuredIn trust) rrsets c.args.name.now c.args.zones.now c.labels.result c.index-zones-labels.result zones (omega (arith, count, at_or_below_length c.args.name.now c.args.zone.now under, c.requires.zones)) c.index-zones-labels.is in
-    let is : c.index-zones-labels.result.zone ≡ rightmost c.args.name.now (length c.args.zone.now) = kept.0 ∙ ap (rightmost c.args.name.now) count in
-    let same : SameName c.index-zones-labels.result.zone c.args.zone.now =
-    subst (λ z. SameName z c.args.zone.now) (sym is) (rightmost_same c.args.name.now c.args.zone.now under) in
+    let at = kept_at (SecuredIn trust) rrsets c.args.name.now c.args.zone.now c.args.zones.now c.labels.result c.index-zones-labels.result zones
+    c.requires.zones under c.labels.ensures.count c.index-zones-labels.is in
     option_leads c.zone_proof.result
-    ((chain : Chain) → ¬ StandsBy (SecuredIn trust) rrsets (DenialForm (NoCloser c.args.labels) c.args.name.now) c.index-zones-labels.result.zone chain)
+    ((chain : Chain) → ¬ StandsAs (SecuredIn trust) rrsets (NoCloser c.args.labels) c.args.name.now c.index-zones-labels.result.zone chain)
     (¬ CanProveNoCloser (SecuredIn trust) rrsets c.args.name.now c.args.labels c.args.zone.now)
     (IsZoneProof (SecuredIn trust) rrsets (NoCloser c.args.labels) c.args.name.now c.index-zones-labels.result.zone)
-    (IsFirstNoCloser (SecuredIn trust) rrsets c.args.name.now c.args.labels c.args.zone.now)
-    (λ none proved. none proved.0 (closer_as (SecuredIn trust) rrsets c.args.name.now c.args.labels c.args.zone.now c.index-zones-labels.result.zone (sym same) proved.0 proved.1))
-    (λ proof found. first_closer (SecuredIn trust) rrsets c.args.name.now c.args.labels c.index-zones-labels.result.zone c.args.zone.now proof same is found)
-    (c.zone_proof.ensures trust rrsets kept.1 sets)
+    (IsShownNoCloser (SecuredIn trust) rrsets c.args.name.now c.args.labels c.args.zone.now)
+    (λ none proved. none proved.0 (closer_as (SecuredIn trust) rrsets c.args.name.now c.args.labels c.args.zone.now c.index-zones-labels.result.zone (sym at.same) proved.0 proved.1))
+    (λ shown found. first_closer (SecuredIn trust) rrsets c.args.name.now c.args.labels c.index-zones-labels.result.zone c.args.zone.now shown at.same at.spelled found)
+    (c.zone_proof.ensures trust rrsets at.is sets)

@@ -1,8 +1,7 @@
 use Rattle.std.proofs.Common.{arith}
 use Rattle.std.proofs.lemmas.Option.{slice_get_within}
 use Rattle.dnsv_chain.specs.Trust.{SecuredIn}
-use Rattle.dnsv_denial.specs.forms.Denials.{DenialForm}
-use Rattle.dnsv_denial.specs.proving.FirstProof.{StandsBy}
+use Rattle.dnsv_denial.specs.proving.ChainOf.{StandsAs}
 use Rattle.dnsv_denial.specs.proving.ZoneChains.{chain_at, chains_of}
 use Rattle.dnsv_denial.proofs.lemmas.words.FirstLemmas.{none_with}
 use Rattle.dnsv_denial.proofs.lemmas.proving.ZoneChainLemmas.{chain_count, chain_there}
@@ -15,14 +14,14 @@ chain_proof-requires c = c.records.ensures.hashes c.args.name.now c.zone_chain-c
 pub returns-in-Some : goal.returns-in-Some
 returns-in-Some c = λ trust rrsets is sets.
     first_of_zone (SecuredIn trust) rrsets c.args.denial c.args.name.now c.args.zone.now.zone c.args.sets.now sets
-    c.loop-number.number (chain_at c.args.sets.now c.loop-number.number) c.in-Some.proof
+    c.loop-number.number (chain_at c.args.sets.now c.loop-number.number) c.in-Some.shown
     (chain_there c.args.sets.now c.loop-number.number (omega (arith, c.loop-number-test.true, c.loop-number.auto.number-end)))
     (c.in-Some.ensures trust rrsets (chain_at c.args.sets.now c.loop-number.number) (c.records.ensures.chain trust rrsets c.args.zone.now.zone (chain_at c.args.sets.now c.loop-number.number) (c.zone_chain-chain.ensures.chain trust rrsets is)))
     (c.loop-number.invariant trust rrsets is)
 
 pub loop-number-preserved : goal.loop-number-preserved
 loop-number-preserved c = λ trust rrsets is.
-    none_with (λ chain. StandsBy (SecuredIn trust) rrsets (DenialForm c.args.denial c.args.name.now) c.args.zone.now.zone chain)
+    none_with (λ chain. StandsAs (SecuredIn trust) rrsets c.args.denial c.args.name.now c.args.zone.now.zone chain)
     (chains_of c.args.sets.now) c.loop-number.number (chain_at c.args.sets.now c.loop-number.number)
     (chain_there c.args.sets.now c.loop-number.number (omega (arith, c.loop-number-test.true, c.loop-number.auto.number-end)))
     (c.in_default.ensures trust rrsets (chain_at c.args.sets.now c.loop-number.number) (c.records.ensures.chain trust rrsets c.args.zone.now.zone (chain_at c.args.sets.now c.loop-number.number) (c.zone_chain-chain.ensures.chain trust rrsets is)))

@@ -4,4 +4,4 @@ use Rattle.dnsv_explain.specs.WaySearch.{IsNoWayBefore}
 use Rattle.dnsv_explain.proofs.ways.by_ds.way_by_ds.Given as goal
 
 abbrev pub invariant-loop-place : goal.invariant-loop-place
-invariant-loop-place l = IsNoWayBefore (basis_in l.evidence) l.number (1, l.place + 1, 0)
+invariant-loop-place l = IsNoWayBefore (basis_in l.evidence) l.set.number (1, l.place + 1, 0)

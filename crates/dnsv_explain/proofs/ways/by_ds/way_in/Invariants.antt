@@ -4,4 +4,4 @@ use Rattle.dnsv_explain.specs.WaySearch.{IsNoWayBefore}
 use Rattle.dnsv_explain.proofs.ways.by_ds.way_in.Given as goal
 
 abbrev pub invariant-loop-place : goal.invariant-loop-place
-invariant-loop-place l = IsNoWayBefore (basis_in l.evidence) l.number (1, l.from, l.place + 1)
+invariant-loop-place l = IsNoWayBefore (basis_in l.evidence) l.set.number (1, l.from, l.place + 1)

@@ -10,13 +10,13 @@ pub returns : goal.returns
 returns c =
     let verdict = c.args.verdict.now in
     let s1 : string_bytes c.push_str.new.self ≡ string_bytes c.args.text.now ++ codes "{\"command\":\"check\",\"name\":" = c.in_ok-push_str.ensures.bytes in
-    let s2 : string_bytes c.push_name.new.text ≡ string_bytes c.push_str.new.self ++ name_json c.args.name.now = search rules in
+    let s2 : string_bytes c.push_name.new.text ≡ string_bytes c.push_str.new.self ++ name_json c.args.asked.now.name.now = search rules in
     let s3 : string_bytes c.write.new.self ≡ string_bytes c.push_name.new.text
-    ++ (codes ",\"type\":" ++ (decimal c.args.rtype.0 ++ (codes ",\"moment\":" ++ decimal c.args.moment))) = search rules in
+    ++ (codes ",\"type\":" ++ (decimal c.args.asked.now.rtype.0 ++ (codes ",\"moment\":" ++ decimal c.args.asked.now.moment))) = search rules in
     let s4 : string_bytes c.write-2.new.self ≡ string_bytes c.write.new.self
     ++ (codes ",\"verdict\":\"" ++ (verdict_word verdict ++ (codes "\",\"status\":" ++ decimal (status_code (verdict_status verdict))))) =
     c.in_ok-write-2.ensures.bytes ∙ ap₂ (λ (w : List ℕ) (k : ℕ). string_bytes c.write.new.self ++ (codes ",\"verdict\":\"" ++ (w ++ (codes "\",\"status\":" ++ decimal k))))
     c.verdict_word-word.ensures (c.code-code.ensures ∙ ap status_code c.status_of.ensures) in
     verdict_begun (string_bytes c.args.text.now) (string_bytes c.push_str.new.self) (string_bytes c.push_name.new.text) (string_bytes c.write.new.self)
-    (string_bytes c.write-2.new.self) (name_json c.args.name.now) (decimal c.args.rtype.0) (decimal c.args.moment) (verdict_word verdict)
+    (string_bytes c.write-2.new.self) (name_json c.args.asked.now.name.now) (decimal c.args.asked.now.rtype.0) (decimal c.args.asked.now.moment) (verdict_word verdict)
     (decimal (status_code (verdict_status verdict))) s1 s2 s3 s4

@@ -1,0 +1,19 @@
+use Rattle.std.proofs.Common.{Some, rules}
+use Rattle.dnsv_canonical.specs.SignedData.{IsSignedData}
+use Rattle.dnsv_verifier.specs.Admissible.{IsAdmissible}
+use Rattle.dnsv_verifier.specs.Table.{table_answer}
+use Rattle.dnsv_chain.proofs.SigningLemmas.GoodLemmas.{good_if_valid}
+use Rattle.dnsv_chain.proofs.signing.good.is_good.Goals as goal
+
+pub returns : goal.returns
+returns c =
+    let table = c.args.table.now in
+    let rrset = c.args.rrset.now in
+    let rrsig = c.args.rrsig.now in
+    let key = c.args.key.now in
+    let test = c.is_valid.ensures in
+    let admissible : IsAdmissible table.moment rrset rrsig key = search rules in
+    let signed : IsSignedData rrset.owner rrset.rtype rrset.rdata rrsig (Some c.as_slice.result.now) = search rules in
+    let same = good_if_valid (table_answer table) table.moment rrset rrsig key c.as_slice.result.now admissible signed
+    (λ a b. c.a_pair_has_one_entry.ensures.one rrset rrsig key a b) in
+    (λ valid. same.0 (test.0 valid), λ good. test.1 (same.1 good))

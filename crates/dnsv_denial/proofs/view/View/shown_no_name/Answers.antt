@@ -1,0 +1,17 @@
+use Rattle.dnsv_chain.specs.Trust.{SecuredIn}
+use Rattle.dnsv_denial.specs.proving.FirstProof.{CanProveNoName, IsFirstNoName}
+use Rattle.dnsv_denial.specs.proving.ShownDenials.{IsShownNoName}
+use Rattle.dnsv_denial.proofs.lemmas.proving.FirstProofLemmas.{proof_of_no_name}
+use Rattle.dnsv_denial.proofs.lemmas.words.FirstLemmas.{if_some}
+use Rattle.dnsv_denial.proofs.view.View.shown_no_name.Goals as goal
+
+pub returns-clause-first : goal.returns-clause-first
+returns-clause-first c = rw (← c.self.view_is)
+    (c.first_proof.ensures c.self.inside.trust.now c.self.inside.capture.now.rrsets (rw c.deref-3.ensures.value (rw c.deref-2.ensures (c.self.invariant.0.are_sets c.self.inside.trust.now))) (rw c.deref.ensures.value c.self.invariant.0.are_zones))
+
+pub returns-clause-proof : goal.returns-clause-proof
+returns-clause-proof c =
+    if_some (¬ CanProveNoName (SecuredIn c.args.self.now.trust) c.args.self.now.rrsets c.args.self.now.name) (IsShownNoName (SecuredIn c.args.self.now.trust) c.args.self.now.rrsets c.args.self.now.name)
+    (λ shown. IsFirstNoName (SecuredIn c.args.self.now.trust) c.args.self.now.rrsets c.args.self.now.name shown.proof) c.first_proof.result
+    (proof_of_no_name (SecuredIn c.args.self.now.trust) c.args.self.now.rrsets c.args.self.now.name)
+    (returns-clause-first c)

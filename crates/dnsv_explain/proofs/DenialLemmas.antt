@@ -1,0 +1,4 @@
+-- The lines of denials.
+pub mod FollowLemmas
+pub mod ShownLemmas
+pub mod TellingLemmas

@@ -1,0 +1,325 @@
+-- What the parts of a shown denial say, and that their records are signed by the zone.
+use Rattle.std.proofs.Common.{◌≡◌, ◌<◌, ◌≤◌, ◌+◌, ℕ, List, [], ◌∷◌, ◌++◌, Option, Some, None, length, refl, sym, ap, ◌∙◌, subst, arith}
+use Rattle.std.specs.List.{AllByRecursion, Contains}
+use Rattle.dnsv_names.specs.Name.{Labels, SameName, lower_case, rightmost}
+use Rattle.dnsv_names.specs.Tree.{wildcard_of}
+use Rattle.dnsv_names.specs.Tree.AncestorLaws.{rightmost_above, rightmost_same}
+use Rattle.dnsv_names.specs.Tree.TreeLaws.{at_or_below_trans}
+use Rattle.dnsv_zones.specs.forms.Forms.{IsAbove}
+use Rattle.dnsv_canonical.specs.Rrsets.{ReceivedRrset}
+use Rattle.dnsv_denial.specs.forms.ProofForms.{ShowsEncloser, ShowsNoCloser, ShowsNoData, ShowsNoName, ShowsWildcard, form_encloser, form_records, wildcard_records}
+use Rattle.dnsv_denial.specs.forms.ProofForms.ShowsNoCloser.{no_closer as closer_shown}
+use Rattle.dnsv_denial.specs.forms.ProofForms.ShowsNoData.{at_name, empty, at_wildcard, empty_wildcard}
+use Rattle.dnsv_denial.specs.forms.ProofForms.ShowsNoName.{no_name as name_shown}
+use Rattle.dnsv_denial.specs.gathering.Evidence.{IsSecuredBy}
+use Rattle.dnsv_denial.specs.records.RecordsAt.{listed}
+use Rattle.dnsv_denial.specs.proving.ProofParts.{IsPartName, encloser_part, form_parts, opt_out_parts, part_by, part_name, wildcard_parts}
+use Rattle.dnsv_denial.specs.proving.ShownDenials.{kind_of}
+use Rattle.dnsv_denial.specs.words.EvidenceWords.{Chain, evidence_said, number_cmp}
+use Rattle.dnsv_denial.specs.words.EvidenceWords.Chain.{ByNsec, ByNsec3}
+use Rattle.dnsv_denial.specs.declared.forms.proof_form.ProofForm.{ProofForm}
+use Rattle.dnsv_denial.specs.declared.forms.proof_form.ProofForm.TheVariants as form
+use Rattle.dnsv_denial.specs.declared.forms.proof_form.WildcardParts.{WildcardParts}
+use Rattle.dnsv_denial.specs.declared.proving.proof_part.PartName.{PartName}
+use Rattle.dnsv_denial.specs.declared.proving.proof_part.PartName.TheVariants as part
+use Rattle.dnsv_denial.specs.declared.proving.proof_part.PartRelation.{PartRelation}
+use Rattle.dnsv_denial.specs.declared.proving.proof_part.PartRelation.TheVariants as related
+use Rattle.dnsv_denial.specs.declared.proving.proof_part.ProofPart.{ProofPart}
+use Rattle.dnsv_denial.specs.declared.proving.shown_denial.ShownDenial.{ShownDenial}
+use Rattle.dnsv_denial.specs.declared.records.chain_kind.ChainKind.{ChainKind}
+use Rattle.dnsv_denial.specs.declared.records.number.RecordNumber.{RecordNumber}
+use Rattle.dnsv_verdict.specs.Verdict.{Basis}
+use Rattle.dnsv_explain.specs.Denials.{FitsEncloser, HasRrset, IsPartFit, IsShownDenial, told_form, told_relation, told_role}
+use Rattle.dnsv_explain.specs.OwnDerivations.{SecuredIn}
+use Rattle.dnsv_explain.specs.Denials.IsShownDenial.{no_name, no_data, no_closer}
+use Rattle.dnsv_explain.specs.Following.Parts.{IsWord}
+use Rattle.dnsv_explain.specs.declared.line.denial.Form.{Form}
+use Rattle.dnsv_explain.specs.declared.line.denial.Form.TheVariants as told
+use Rattle.dnsv_explain.specs.declared.line.denial.Relation.TheVariants as relation
+use Rattle.dnsv_explain.specs.declared.line.denial.Role.TheVariants as role
+use Rattle.dnsv_explain.proofs.PartLemmas.{word_signed, zone_as}
+use Rattle.dnsv_explain.proofs.WayLemmas.KeysLemmas.{each_at}
+
+pub each_member : {X : Type 0} (P : X → Type 0) (xs : List X) (x : X) → AllByRecursion P xs → Contains xs x → P x
+each_member P xs x all there = each_at P xs there.0 x all there.1 (sym there.2)
+
+module _ (S : ℕ → ℕ → Type 0) (rrsets : List ReceivedRrset) (apex name : Labels) where
+  -- the part says so, by a record of the zone's chain or of the zone itself
+  abbrev pub PartSays : Chain → PartName → PartRelation → Option RecordNumber → Type 0
+  PartSays chain of related None = (told_relation related ≡ relation.Apex) × SameName (part_name name of) apex
+  PartSays chain of related (Some number) =
+      IsWord (evidence_said S rrsets apex chain) (told_role of) (told_relation related) (part_name name of) number
+
+  pub record IsShownPart (chain : Chain) (shown : ProofPart) : Type 0 where
+    pub within : IsPartName (length name) shown.name
+    pub says : PartSays chain shown.name shown.relation shown.by
+
+  abbrev pub AreShownParts : Chain → List ProofPart → Type 0
+  AreShownParts chain parts = AllByRecursion (IsShownPart chain) parts
+
+  abbrev pub IsSigned : RecordNumber → Type 0
+  IsSigned number = IsSecuredBy S rrsets apex number.rrset
+
+  -- ---- forms that ask of the wildcard
+
+  encloser_says : (chain : Chain) (labels : ℕ) (by : Option RecordNumber) → labels < length name
+      → ShowsEncloser number_cmp (evidence_said S rrsets apex chain) (rightmost name labels) by
+      → IsShownPart chain (encloser_part (kind_of chain) labels by)
+  encloser_says ByNsec labels None below shows = record { within = omega (arith, below); says = (refl, shows) }
+  encloser_says ByNsec labels (Some number) below shows = record { within = omega (arith, below); says = shows.1.says }
+  encloser_says (ByNsec3 parameters) labels None below shows = absurd shows
+  encloser_says (ByNsec3 parameters) labels (Some number) below shows =
+      record { within = omega (arith, below); says = shows.1.says }
+
+  wildcard_says : (chain : Chain) (Says : Labels → RecordNumber → Type 0) (last : PartRelation) (parts : WildcardParts RecordNumber)
+      → ShowsWildcard number_cmp (evidence_said S rrsets apex chain) apex name Says parts
+      → ((number : RecordNumber) → Says (wildcard_of (rightmost name parts.labels)) number
+      → PartSays chain (part.Wildcard parts.labels) last (Some number))
+      → AreShownParts chain (wildcard_parts (kind_of chain) parts last)
+  wildcard_says chain Says last parts shows word = (
+    encloser_says chain parts.labels parts.encloser shows.above.proper shows.encloser,
+    (
+      record { within = shows.above.proper; says = shows.next_closer.says },
+      (record { within = shows.above.proper; says = word parts.wildcard shows.wildcard.says }, tt),
+    ),
+  )
+
+  abbrev EncloserSigned : Option RecordNumber → Type 0
+  EncloserSigned None = Unit {0}
+  EncloserSigned (Some number) = IsSigned number
+
+  encloser_signed : (chain : Chain) (encloser : Labels) (by : Option RecordNumber)
+      → ShowsEncloser number_cmp (evidence_said S rrsets apex chain) encloser by → EncloserSigned by
+  encloser_signed chain encloser None shows = tt
+  encloser_signed chain encloser (Some number) shows =
+      word_signed S rrsets apex number chain role.ClosestEncloser relation.Exists encloser shows.1.says
+
+  all_signed : (by : Option RecordNumber) (next_closer last : RecordNumber) → EncloserSigned by → IsSigned next_closer → IsSigned last
+      → AllByRecursion IsSigned ((listed by ++ next_closer ∷ []) ++ last ∷ [])
+  all_signed None next_closer last first second third = (second, (third, tt))
+  all_signed (Some number) next_closer last first second third = (first, (second, (third, tt)))
+
+  -- ---- what is so of a form that stands
+
+  pub record FormFacts (chain : Chain) (shape : ProofForm RecordNumber) : Type 0 where
+    pub parts : AreShownParts chain (form_parts (kind_of chain) shape)
+    pub encloser : FitsEncloser name (form_encloser shape)
+    pub records : AllByRecursion IsSigned (form_records shape)
+
+  wildcard_records_signed : (chain : Chain) (Says : Labels → RecordNumber → Type 0) (last : PartRelation)
+      (parts : WildcardParts RecordNumber) → ShowsWildcard number_cmp (evidence_said S rrsets apex chain) apex name Says parts
+      → ((number : RecordNumber) → Says (wildcard_of (rightmost name parts.labels)) number
+      → PartSays chain (part.Wildcard parts.labels) last (Some number))
+      → AllByRecursion IsSigned (wildcard_records parts)
+  wildcard_records_signed chain Says last parts shows word =
+      all_signed parts.encloser parts.next_closer parts.wildcard
+      (encloser_signed chain (rightmost name parts.labels) parts.encloser shows.encloser)
+      (word_signed S rrsets apex parts.next_closer chain role.NextCloser relation.Covered (rightmost name (parts.labels + 1))
+      shows.next_closer.says)
+      (word_signed S rrsets apex parts.wildcard chain role.Wildcard (told_relation last) (wildcard_of (rightmost name parts.labels))
+      (word parts.wildcard shows.wildcard.says))
+
+  no_name_facts : (chain : Chain) (shape : ProofForm RecordNumber)
+      → ShowsNoName number_cmp (evidence_said S rrsets apex chain) apex name shape → FormFacts chain shape
+  no_name_facts chain shape (name_shown parts shows) =
+      let below = shows.shows.above.proper in record {
+        parts = wildcard_says chain _ related.Covered parts shows.shows (λ number says. says);
+        encloser = omega (arith, below);
+        records = wildcard_records_signed chain _ related.Covered parts shows.shows (λ number says. says);
+      }
+
+  no_data_facts : (chain : Chain) (t : ℕ) (shape : ProofForm RecordNumber)
+      → ShowsNoData number_cmp (evidence_said S rrsets apex chain) apex name t shape → FormFacts chain shape
+  no_data_facts chain t shape (at_name number shows) = record {
+    parts = (record { within = tt; says = (t, shows.types.says) }, tt);
+    encloser = tt;
+    records = (word_signed S rrsets apex number chain role.Name relation.Matched name (t, shows.types.says), tt);
+  }
+  no_data_facts chain t shape (empty number shows) = record {
+    parts = (record { within = tt; says = shows.empty.says }, tt);
+    encloser = tt;
+    records = (word_signed S rrsets apex number chain role.Name relation.NonTerminal name shows.empty.says, tt);
+  }
+  no_data_facts chain t shape (at_wildcard parts shows) =
+      let below = shows.shows.above.proper in record {
+        parts = wildcard_says chain _ related.Matched parts shows.shows (λ number says. (t, says));
+        encloser = omega (arith, below);
+        records = wildcard_records_signed chain _ related.Matched parts shows.shows (λ number says. (t, says));
+      }
+  no_data_facts chain t shape (empty_wildcard parts shows) =
+      let below = shows.shows.above.proper in record {
+        parts = wildcard_says chain _ related.NonTerminal parts shows.shows (λ number says. says);
+        encloser = omega (arith, below);
+        records = wildcard_records_signed chain _ related.NonTerminal parts shows.shows (λ number says. says);
+      }
+
+  no_closer_facts : (chain : Chain) (labels : ℕ) (shape : ProofForm RecordNumber)
+      → ShowsNoCloser number_cmp (evidence_said S rrsets apex chain) apex name labels shape → FormFacts chain shape
+  no_closer_facts chain labels shape (closer_shown number shows) =
+      let below = shows.above.proper in record {
+        parts = (record { within = shows.above.proper; says = shows.next_closer.says }, tt);
+        encloser = omega (arith, below);
+        records = (
+          word_signed S rrsets apex number chain role.NextCloser relation.Covered (rightmost name (labels + 1)) shows.next_closer.says,
+          tt,
+        );
+      }
+
+-- ---- the records of parts
+
+-- the record is among these, if there is one
+abbrev pub IsListed : List RecordNumber → Option RecordNumber → Type 0
+IsListed records None = Unit {0}
+IsListed records (Some number) = Contains records number
+
+listed_too : (some others : List RecordNumber) (by : Option RecordNumber)
+    → ((number : RecordNumber) → Contains some number → Contains others number) → IsListed some by → IsListed others by
+listed_too some others None too there = tt
+listed_too some others (Some number) too there = too number there
+
+wildcard_listed : (kind : ChainKind) (labels : ℕ) (by : Option RecordNumber) (next_closer wildcard : RecordNumber) (last : PartRelation)
+    → AllByRecursion (λ (one : ProofPart). IsListed ((listed by ++ next_closer ∷ []) ++ wildcard ∷ []) one.by)
+    (encloser_part kind labels by ∷ part_by (part.NextCloser labels) related.Covered next_closer
+    ∷ part_by (part.Wildcard labels) last wildcard ∷ [])
+wildcard_listed kind labels None next_closer wildcard last =
+    (tt, ((0, omega arith, refl), ((1, omega arith, refl), tt)))
+wildcard_listed kind labels (Some number) next_closer wildcard last =
+    ((0, omega arith, refl), ((1, omega arith, refl), ((2, omega arith, refl), tt)))
+
+opt_out_listed : (kind : ChainKind) (labels : ℕ) (by : Option RecordNumber) (next_closer : RecordNumber)
+    → AllByRecursion (λ (one : ProofPart). IsListed (listed by ++ next_closer ∷ []) one.by) (opt_out_parts kind labels by next_closer)
+opt_out_listed kind labels None next_closer = (tt, ((0, omega arith, refl), tt))
+opt_out_listed kind labels (Some number) next_closer = ((0, omega arith, refl), ((1, omega arith, refl), tt))
+
+-- those of the parts are the records of the form
+parts_listed : (kind : ChainKind) (shape : ProofForm RecordNumber)
+    → AllByRecursion (λ (one : ProofPart). IsListed (form_records shape) one.by) (form_parts kind shape)
+parts_listed kind (form.NoName parts) =
+    wildcard_listed kind parts.labels parts.encloser parts.next_closer parts.wildcard related.Covered
+parts_listed kind (form.NoData number) = ((0, omega arith, refl), tt)
+parts_listed kind (form.EmptyNonTerminal number) = ((0, omega arith, refl), tt)
+parts_listed kind (form.WildcardNoData parts) =
+    wildcard_listed kind parts.labels parts.encloser parts.next_closer parts.wildcard related.Matched
+parts_listed kind (form.EmptyWildcard parts) =
+    wildcard_listed kind parts.labels parts.encloser parts.next_closer parts.wildcard related.NonTerminal
+parts_listed kind (form.NoCloser labels number) = ((0, omega arith, refl), tt)
+parts_listed kind (form.Delegation labels number) = ((0, omega arith, refl), tt)
+parts_listed kind (form.OptOut labels encloser number) = opt_out_listed kind labels encloser number
+parts_listed kind (form.WildcardOptOut parts) =
+    wildcard_listed kind parts.labels parts.encloser parts.next_closer parts.wildcard related.OptOut
+parts_listed kind (form.OptOutCloser labels number) = ((0, omega arith, refl), tt)
+
+-- the name of a zone as the name spells it
+spelled : (name zone : Labels) (labels : ℕ) → IsAbove zone name labels → SameName zone (rightmost name (length zone))
+spelled name zone labels above =
+    sym (rightmost_same name zone (at_or_below_trans name (rightmost name labels) zone (rightmost_above name labels) above.within))
+
+module _ (basis : Basis) (name : Labels) (shown : ShownDenial) where
+  -- a chain of the zone shows the denial by records that it signed
+  pub record ShownFacts : Type 0 where
+    pub apex : Labels
+    pub same : SameName apex shown.proof.zone
+    pub chain : Chain
+    pub kind : shown.chain ≡ kind_of chain
+    pub facts : FormFacts (SecuredIn basis) basis.rrsets apex name chain shown.form
+    pub records : (number : RecordNumber) → Contains shown.proof.records number → Contains (form_records shown.form) number
+    pub named : (number : RecordNumber) → Contains (form_records shown.form) number → Contains shown.proof.records number
+
+  closer_above : (labels : ℕ) (zone : Labels) (chain : Chain) (shape : ProofForm RecordNumber)
+      → ShowsNoCloser number_cmp (evidence_said (SecuredIn basis) basis.rrsets zone chain) zone name labels shape
+      → IsAbove zone name labels
+  closer_above labels zone chain shape (closer_shown number shows) = shows.above
+
+  pub shown_facts : IsShownDenial basis name shown → ShownFacts
+  shown_facts (no_name is) = record {
+    apex = shown.proof.zone;
+    same = refl;
+    chain = is.chain;
+    kind = is.kind;
+    facts = no_name_facts (SecuredIn basis) basis.rrsets shown.proof.zone name is.chain shown.form is.shows;
+    records = λ number there. (is.records.members number).0 there;
+    named = λ number there. (is.records.members number).1 there;
+  }
+  shown_facts (no_data t is) = record {
+    apex = shown.proof.zone;
+    same = refl;
+    chain = is.chain;
+    kind = is.kind;
+    facts = no_data_facts (SecuredIn basis) basis.rrsets shown.proof.zone name is.chain t shown.form is.shows;
+    records = λ number there. (is.records.members number).0 there;
+    named = λ number there. (is.records.members number).1 there;
+  }
+  shown_facts (no_closer labels zone is) =
+      let Among : RecordNumber → List RecordNumber → Type 0 = λ number each. Contains each number in record {
+        apex = zone;
+        same = spelled name zone labels (closer_above labels zone is.chain shown.form is.shows) ∙ sym (ap lower_case is.zone);
+        chain = is.chain;
+        kind = is.kind;
+        facts = no_closer_facts (SecuredIn basis) basis.rrsets zone name is.chain labels shown.form is.shows;
+        records = λ number there. subst (Among number) is.records there;
+        named = λ number there. subst (Among number) (sym is.records) there;
+      }
+
+  module _ (facts : ShownFacts) where
+    -- each record is signed by the zone
+    pub record_signed : (number : RecordNumber) → Contains shown.proof.records number
+        → IsSecuredBy (SecuredIn basis) basis.rrsets shown.proof.zone number.rrset
+    record_signed number there =
+        zone_as (SecuredIn basis) basis.rrsets facts.apex shown.proof.zone number.rrset facts.same
+        (each_member (IsSigned (SecuredIn basis) basis.rrsets facts.apex name) (form_records shown.form) number facts.facts.records
+        (facts.records number there))
+
+    -- each part says so
+    pub part_shown : (each : ProofPart) → Contains (form_parts shown.chain shown.form) each
+        → IsShownPart (SecuredIn basis) basis.rrsets facts.apex name facts.chain each
+    part_shown each there =
+        let Among : ChainKind → Type 0 = λ kind. Contains (form_parts kind shown.form) each in
+        each_member (IsShownPart (SecuredIn basis) basis.rrsets facts.apex name facts.chain)
+        (form_parts (kind_of facts.chain) shown.form) each facts.facts.parts (subst Among facts.kind there)
+
+    -- and its record is one of the proof's
+    pub part_listed : (each : ProofPart) → Contains (form_parts shown.chain shown.form) each → IsListed shown.proof.records each.by
+    part_listed each there =
+        listed_too (form_records shown.form) shown.proof.records each.by facts.named
+        (each_member (λ (one : ProofPart). IsListed (form_records shown.form) one.by) (form_parts shown.chain shown.form) each
+        (parts_listed shown.chain shown.form) there)
+
+    by_there : (of : PartName) (related : PartRelation) (by : Option RecordNumber)
+        → PartSays (SecuredIn basis) basis.rrsets facts.apex name facts.chain of related by → HasRrset basis.rrsets by
+    by_there of related None says = tt
+    by_there of related (Some number) says =
+        let signed = word_signed (SecuredIn basis) basis.rrsets facts.apex number facts.chain (told_role of) (told_relation related)
+        (part_name name of) says in
+        (signed.rrset, signed.is_rrset)
+
+    pub part_fits : (each : ProofPart) → Contains (form_parts shown.chain shown.form) each → IsPartFit basis.rrsets name each
+    part_fits each there =
+        let is = part_shown each there in
+        record { name = is.within; by = by_there each.name each.relation each.by is.says }
+
+-- a denial has a form that is told
+module _ (S : ℕ → ℕ → Type 0) (rrsets : List ReceivedRrset) (apex name : Labels) (chain : Chain) where
+  no_name_form : (shape : ProofForm RecordNumber) → ShowsNoName number_cmp (evidence_said S rrsets apex chain) apex name shape
+      → (told_as : Form) × (told_form shape ≡ Some told_as)
+  no_name_form shape (name_shown parts shows) = (told.NoName, refl)
+
+  no_data_form : (t : ℕ) (shape : ProofForm RecordNumber) → ShowsNoData number_cmp (evidence_said S rrsets apex chain) apex name t shape
+      → (told_as : Form) × (told_form shape ≡ Some told_as)
+  no_data_form t shape (at_name number shows) = (told.NoData1, refl)
+  no_data_form t shape (empty number shows) = (told.NoData2, refl)
+  no_data_form t shape (at_wildcard parts shows) = (told.NoData3, refl)
+  no_data_form t shape (empty_wildcard parts shows) = (told.NoData4, refl)
+
+  no_closer_form : (labels : ℕ) (shape : ProofForm RecordNumber)
+      → ShowsNoCloser number_cmp (evidence_said S rrsets apex chain) apex name labels shape
+      → (told_as : Form) × (told_form shape ≡ Some told_as)
+  no_closer_form labels shape (closer_shown number shows) = (told.NoCloser, refl)
+
+pub has_form : (basis : Basis) (name : Labels) (shown : ShownDenial) → IsShownDenial basis name shown
+    → (told_as : Form) × (told_form shown.form ≡ Some told_as)
+has_form basis name shown (no_name is) =
+    no_name_form (SecuredIn basis) basis.rrsets shown.proof.zone name is.chain shown.form is.shows
+has_form basis name shown (no_data t is) =
+    no_data_form (SecuredIn basis) basis.rrsets shown.proof.zone name is.chain t shown.form is.shows
+has_form basis name shown (no_closer labels zone is) =
+    no_closer_form (SecuredIn basis) basis.rrsets zone name is.chain labels shown.form is.shows

@@ -1,0 +1,64 @@
+//! The lines of denials: the derivation of their records, the proof and its parts.
+
+mod part;
+mod proof;
+
+ghost use Rattle.std.specs.Prelude.{OnOk};
+ghost use Rattle.dnsv_explain.specs.Denials.{IsDenialTold, IsExpandedTold, IsShownDenial};
+ghost use Rattle.dnsv_explain.specs.OwnDerivations.{SecuredIn};
+ghost use Rattle.dnsv_explain.specs.Explained.{basis_in};
+ghost use Rattle.dnsv_explain.specs.Saying.{Adds};
+
+use crate::denials::part::add_parts;
+use crate::denials::proof::add_proof;
+use crate::evidence::Evidence;
+use crate::line::Line;
+use crate::line::derivation::SignatureNumber;
+use crate::own_derivations::{add_derivation, add_records};
+use dnsv_denial::ShownDenial;
+use dnsv_names::Name;
+use std::alloc::{AllocError, Global};
+
+/// Adds the lines of a denial of the name: the derivation of each of its records, but for what was said before, the
+/// proof, and its parts in the order of the form.
+pub fn add_denial(
+    alloc: Global,
+    evidence: &Evidence<'_>,
+    lines: &mut Vec<Line>,
+    name: &Name,
+    shown: &ShownDenial,
+) -> Result<(), AllocError>
+    requires { IsShownDenial (basis_in evidence.now) name.now shown.now }
+    ensures { OnOk result (Adds (IsDenialTold (basis_in evidence.now) name.now shown.now) lines.old.items lines.new.items) }
+{
+    add_records(
+        alloc,
+        evidence,
+        lines,
+        shown.proof.zone(),
+        shown.proof.records(),
+    )?;
+    add_proof(lines, name, shown)?;
+    add_parts(evidence, lines, name, &shown.parts())?;
+    Ok(())
+}
+
+/// Adds the lines of a signature that is good under a trusted key and behind which a wildcard is: its derivation, and
+/// those of the proof that no closer name is there.
+pub fn add_expanded(
+    alloc: Global,
+    evidence: &Evidence<'_>,
+    lines: &mut Vec<Line>,
+    name: &Name,
+    number: SignatureNumber,
+    shown: &ShownDenial,
+) -> Result<(), AllocError>
+    requires secured { SecuredIn (basis_in evidence.now) number.rrset number.signature }
+    requires shown { IsShownDenial (basis_in evidence.now) name.now shown.now }
+    ensures { OnOk result (Adds (IsExpandedTold (basis_in evidence.now) name.now number shown.now) lines.old.items
+        lines.new.items) }
+{
+    add_derivation(alloc, evidence, lines, number)?;
+    add_denial(alloc, evidence, lines, name, shown)?;
+    Ok(())
+}

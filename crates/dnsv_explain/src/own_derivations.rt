@@ -1,0 +1,105 @@
+//! Derivations of the signatures by which a zone's records count.
+ghost use Rattle.std.specs.Prelude.{◌≡◌, ◌↔◌, ℕ, Contains, IsTrue, MatchOption, OnOk};
+ghost use Rattle.dnsv_denial.specs.declared.records.number.RecordNumber.{RecordNumber};
+ghost use Rattle.dnsv_denial.specs.gathering.Evidence.{HasZoneSignature, IsSecuredBy};
+ghost use Rattle.dnsv_explain.specs.OwnDerivations.{AreRecordsDerived, IsLowestOwn, IsOwnDerivation, IsOwnSignature, IsSignatureTold, SecuredIn};
+ghost use Rattle.dnsv_explain.specs.Explained.{basis_in};
+ghost use Rattle.dnsv_explain.specs.Saying.{Adds};
+
+use crate::derivations::derivation;
+use crate::evidence::Evidence;
+use crate::line::Line;
+use crate::line::derivation::SignatureNumber;
+use crate::numbered::numbered;
+use dnsv_canonical::{Rrset, is_expanded};
+use dnsv_denial::RecordNumber;
+use dnsv_names::Name;
+use std::alloc::{AllocError, Global};
+
+/// Adds the derivation of each record's RRset, but for what was said before.
+pub fn add_records(
+    alloc: Global,
+    evidence: &Evidence<'_>,
+    lines: &mut Vec<Line>,
+    zone: &Name,
+    records: &[RecordNumber],
+) -> Result<(), AllocError>
+    requires { (number : RecordNumber) → Contains records.now number
+        → IsSecuredBy (SecuredIn (basis_in evidence.now)) (basis_in evidence.now).rrsets zone.now number.rrset }
+    ensures { OnOk result (Adds (AreRecordsDerived (basis_in evidence.now) zone.now records.now) lines.old.items
+        lines.new.items) }
+{
+    for number in records {
+        add_own(alloc, evidence, lines, zone, number.rrset)?;
+    }
+    Ok(())
+}
+
+/// Adds the derivation of the lowest signature of the RRset with the number that is the zone's own.
+fn add_own(
+    alloc: Global,
+    evidence: &Evidence<'_>,
+    lines: &mut Vec<Line>,
+    zone: &Name,
+    rrset: usize,
+) -> Result<(), AllocError>
+    requires { IsSecuredBy (SecuredIn (basis_in evidence.now)) (basis_in evidence.now).rrsets zone.now rrset }
+    ensures { OnOk result (Adds (IsOwnDerivation (basis_in evidence.now) zone.now rrset) lines.old.items lines.new.items) }
+{
+    let Some(lowest) = lowest_own(evidence, zone, rrset) else {
+        return Ok(());
+    };
+    add_derivation(alloc, evidence, lines, lowest)?;
+    Ok(())
+}
+
+/// Adds the derivation of the signature with the number, but for what was said before.
+pub fn add_derivation(
+    alloc: Global,
+    evidence: &Evidence<'_>,
+    lines: &mut Vec<Line>,
+    number: SignatureNumber,
+) -> Result<(), AllocError>
+    requires { SecuredIn (basis_in evidence.now) number.rrset number.signature }
+    ensures { OnOk result (Adds (IsSignatureTold (basis_in evidence.now) number) lines.old.items lines.new.items) }
+{
+    let Some(mut more) = derivation(alloc, evidence, lines, number)? else {
+        return Ok(());
+    };
+    lines.append(&mut more)?;
+    Ok(())
+}
+
+/// The lowest signature of the RRset with the number that is good under a trusted key of the zone, which made it, and
+/// behind which no wildcard is (RFC 4035 5.3.1, 5.3.4).
+fn lowest_own(evidence: &Evidence<'_>, zone: &Name, rrset: usize) -> Option<SignatureNumber>
+    ensures { MatchOption result
+        ((s : ℕ) → ¬ IsOwnSignature (basis_in evidence.now) zone.now rrset s)
+        (λ number. (number.rrset ≡ rrset) × IsLowestOwn (basis_in evidence.now) zone.now rrset number.signature) }
+{
+    let Some(found) = numbered(evidence.rrsets(), rrset) else {
+        return None;
+    };
+    for signature in evidence.secured(rrset) {
+        if is_own(found, *signature, zone) {
+            return Some(SignatureNumber {
+                rrset,
+                signature: *signature,
+            });
+        }
+    }
+    None
+}
+
+/// Whether the signature of the RRset with the number is the zone's, and no wildcard is behind it.
+fn is_own(rrset: &Rrset, number: usize, zone: &Name) -> bool
+    ensures { IsTrue result ↔ HasZoneSignature (λ s. s ≡ number) rrset.now zone.now }
+{
+    let Some(rrsig) = numbered(rrset.signatures(), number) else {
+        return false;
+    };
+    if rrsig.signer == *zone {
+        return !is_expanded(rrset.owner(), rrsig);
+    }
+    false
+}

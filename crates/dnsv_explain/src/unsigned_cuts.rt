@@ -1,0 +1,5 @@
+//! The lines of a name that may be unsigned.
+
+mod unusable;
+
+pub use unusable::add_unusable;

@@ -1,0 +1,40 @@
+-- How what is kept of a way grows. No public clause cites this module.
+use Rattle.std.specs.Prelude.{◌≡◌, ◌++◌, ◌∷◌, [], ℕ, IsTrue, Some, None}
+use Rattle.dnsv_names.specs.Name.{Labels}
+use Rattle.dnsv_denial.specs.QuestionHashes.{HashedQuestion}
+use Rattle.dnsv_verdict.specs.Grounds.{HasHope}
+use Rattle.dnsv_verdict.specs.Report.{hashed_in}
+use Rattle.dnsv_verdict.specs.declared.grounds.Grounds.{Grounds}
+use Rattle.dnsv_verdict.specs.declared.grounds.Hope.{Hope}
+use Rattle.dnsv_verdict.specs.declared.trail.Trail.{Trail}
+use Rattle.dnsv_verdict.specs.declared.verdict.Verdict.{Verdict}
+
+-- nothing is kept yet
+pub record IsEmpty (trail : Trail) : Type 0 where
+  pub hashes : trail.hashes.items ≡ []
+  pub hope : trail.hope ≡ None
+
+-- the hashes of one name more, if anything is kept
+pub record AddsHashes (question : HashedQuestion) (before after : Trail) : Type 0 where
+  pub keeps : after.keeps ≡ before.keeps
+  pub hashes : IsTrue before.keeps → after.hashes.items ≡ before.hashes.items ++ question ∷ []
+  pub hope : after.hope ≡ before.hope
+
+-- the hope, if anything is kept
+pub record SetsHope (hoped : Hope) (before after : Trail) : Type 0 where
+  pub keeps : after.keeps ≡ before.keeps
+  pub hashes : after.hashes.items ≡ before.hashes.items
+  pub hope : IsTrue before.keeps → after.hope ≡ Some hoped
+
+-- the hope of the verdict at the name, if anything is kept
+pub record KeepsHope (grounds : Grounds) (name : Labels) (t : ℕ) (verdict : Verdict) (before after : Trail) : Type 0 where
+  pub keeps : after.keeps ≡ before.keeps
+  pub hashes : after.hashes.items ≡ before.hashes.items
+  pub hope : IsTrue before.keeps → before.hope ≡ None → HasHope grounds name t verdict after.hope
+
+-- that, and the hashes of the name
+pub record Trails (grounds : Grounds) (name : Labels) (t : ℕ) (verdict : Verdict) (before after : Trail) : Type 0 where
+  pub keeps : after.keeps ≡ before.keeps
+  pub hashes : IsTrue before.keeps → after.hashes.items
+      ≡ before.hashes.items ++ hashed_in grounds.capture.now.rrsets name ∷ []
+  pub hope : IsTrue before.keeps → before.hope ≡ None → HasHope grounds name t verdict after.hope
