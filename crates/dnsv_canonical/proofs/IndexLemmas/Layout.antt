@@ -1,6 +1,6 @@
 -- Groups one behind the other, and where each begins.
-use Rattle.std.proofs.Common.{◌≡◌, ℕ, zero, suc, ◌+◌, ◌-◌, ◌<◌, ◌≤◌, List, [], ◌∷◌, ◌++◌, length, map, take, drop, get_or, refl, sym, ap, ◌∙◌, subst, arith, length-append, append_assoc}
-use Rattle.std.proofs.lemmas.List.{append-nil, drop-drop, drop_all, drop_at, get_or-drop, length-drop, length-map, map-append, take-append-drop, take_all, take_at, take-map, drop-map}
+use Rattle.std.proofs.Common.{◌≡◌, ℕ, zero, suc, ◌+◌, ◌-◌, ◌<◌, ◌≤◌, List, [], ◌∷◌, ◌++◌, length, map, take, drop, get_or, refl, sym, ap, ◌∙◌, subst, arith, length-append}
+use Rattle.std.proofs.lemmas.List.{append-nil, drop_at, get_or-drop, length-drop, length-map, take-append-drop, take_all, take_at}
 use Rattle.std.proofs.lemmas.List.Concat.{flat_map-append}
 use Rattle.std.proofs.Math.Seq.{take-add}
 use Rattle.std.proofs.lemmas.Option.{slice_get_read}
@@ -8,7 +8,7 @@ use Rattle.std.specs.Prelude.{Some, slice_get}
 use Rattle.std.specs.List.{AllByRecursion, enumerate_from}
 use Rattle.std.specs.Ordering.{is_eq}
 use Rattle.dnsv_canonical.specs.Rrsets.{IsNumbered, ReceivedRrset}
-use Rattle.dnsv_canonical.specs.Index.Grouping.{AreFirsts, AreLaid, IsIndexOf, Numbered, group_of, key_of, numbers_of, stands, starts_from}
+use Rattle.dnsv_canonical.specs.Index.Grouping.{AreLaid, IsIndexOf, Numbered, group_of, key_of, numbers_of, stands, starts_from}
 use Rattle.dnsv_canonical.proofs.ListLemmas.{each_chosen}
 use Rattle.dnsv_canonical.proofs.OrderLemmas.{each_kept}
 use Rattle.dnsv_canonical.proofs.IndexLemmas.InOrder.{each_get, there_is}

@@ -1,17 +1,16 @@
 -- An index that grows: by groups of another, and by an RRset.
-use Rattle.std.proofs.Common.{◌≡◌, ◌≢◌, ◌⊎◌, inl, inr, ⊎_elim, ℕ, zero, suc, ◌+◌, ◌-◌, ◌<◌, ◌≤◌, Bool, true, false, cond, not, ◌&&◌, List, [], ◌∷◌, ◌++◌, length, get_or, map, take, drop, refl, sym, ap, ◌∙◌, subst, arith, append_assoc, length-append}
+use Rattle.std.proofs.Common.{◌≡◌, ◌≢◌, ◌⊎◌, inl, inr, ⊎_elim, ℕ, zero, suc, ◌+◌, ◌-◌, ◌<◌, ◌≤◌, cond, List, [], ◌∷◌, ◌++◌, length, map, take, drop, refl, sym, ap, ◌∙◌, subst, arith, append_assoc, length-append}
 use Rattle.std.proofs.lemmas.List.{append-nil, drop-drop, drop-map, length_push, map-append, take-append-drop, take-map}
 use Rattle.std.proofs.lemmas.List.Elements.{filter-append}
 use Rattle.std.proofs.lemmas.Cmp.{tied_back, tied_itself}
-use Rattle.std.specs.Prelude.{filter, Option, Some, None, slice_get}
+use Rattle.std.specs.Prelude.{Option, Some, None, slice_get}
 use denote.Ref.{Bor}
 use Rattle.std.specs.List.{AllByRecursion}
 use Rattle.std.specs.Ordering.{is_eq}
-use Rattle.std.specs.declared.cmp.Ordering.{Ordering}
 use Rattle.std.specs.declared.cmp.Ordering.TheVariants.{Less, Equal, Greater}
 use Rattle.dnsv_names.specs.PartLaws.{recursion-append}
 use Rattle.dnsv_canonical.specs.Rrsets.{ReceivedRrset}
-use Rattle.dnsv_canonical.specs.Index.Grouping.{AreFirsts, AreLaid, AreRising, HasTie, IsFirstAt, Key, Numbered, group_at, group_of, key_cmp, key_of, numbers_of, stands, starts_from}
+use Rattle.dnsv_canonical.specs.Index.Grouping.{AreFirsts, AreLaid, AreRising, HasTie, IsFirstAt, Numbered, group_of, key_of, numbers_of, stands, starts_from}
 use Rattle.dnsv_canonical.specs.Index.Merging.{EndsWith, IsLast}
 use Rattle.dnsv_canonical.proofs.ListLemmas.{each_front, each_behind}
 use Rattle.dnsv_canonical.proofs.OrderLemmas.{each_kept, take_next}

@@ -1,5 +1,5 @@
 -- The search by halves, and what it finds.
-use Rattle.std.proofs.Common.{◌≡◌, ℕ, zero, suc, ◌+◌, ◌-◌, ◌/◌, ◌<◌, ◌≤◌, ◌^◌, List, [], ◌∷◌, length, get_or, map, take, drop, refl, sym, ap, ◌∙◌, subst, arith}
+use Rattle.std.proofs.Common.{◌≡◌, ℕ, zero, suc, ◌+◌, ◌-◌, ◌/◌, ◌<◌, ◌≤◌, ◌^◌, List, [], length, get_or, map, take, drop, sym, ap, ◌∙◌, subst, arith}
 use Rattle.std.proofs.lemmas.Option.{slice_get_within}
 use Rattle.std.proofs.lemmas.List.{drop_all}
 use Rattle.std.proofs.lemmas.List.FromFn.{length-enumerate_from}
@@ -9,7 +9,7 @@ use Rattle.std.specs.declared.cmp.Ordering.TheVariants.{Less, Equal, Greater}
 use Rattle.dnsv_names.specs.Name.{Labels}
 use Rattle.dnsv_canonical.specs.Rrsets.{IsNumbered, ReceivedRrset}
 use Rattle.dnsv_canonical.specs.Index.{numbers_at}
-use Rattle.dnsv_canonical.specs.Index.Grouping.{AreLaid, AreRising, AreStarts, IsFirstAt, IsFound, IsIndexOf, Key, Numbered, group_at, group_of, key_cmp, key_of, stands}
+use Rattle.dnsv_canonical.specs.Index.Grouping.{AreRising, IsFirstAt, IsFound, IsIndexOf, Key, Numbered, group_of, key_cmp, key_of, stands}
 use Rattle.dnsv_canonical.proofs.IndexLemmas.InOrder.{group_at-same, no_group, none_by_place, numbers_at-group, rises_before, rises_behind}
 use Rattle.dnsv_canonical.proofs.IndexLemmas.Layout.{IsHead, length-firsts}
 

@@ -1,5 +1,5 @@
-use Rattle.std.proofs.Common.{◌∙◌, sym, subst, ap, map, arith}
-use Rattle.dnsv_canonical.specs.Index.Grouping.{IsFound, Numbered}
+use Rattle.std.proofs.Common.{◌∙◌, sym, subst, map, arith}
+use Rattle.dnsv_canonical.specs.Index.Grouping.{IsFound}
 use Rattle.dnsv_canonical.proofs.IndexLemmas.Search.{few_starts, found_numbers, no_numbers}
 use Rattle.dnsv_canonical.proofs.IndexLemmas.Layout.{mapped_group}
 use Rattle.std.specs.List.{enumerate_from}

@@ -1,4 +1,4 @@
-use Rattle.std.proofs.Common.{subst, arith, Ok, Err}
+use Rattle.std.proofs.Common.{subst, arith}
 use Rattle.dnsv_canonical.specs.Index.Grouping.{IsFound}
 use Rattle.dnsv_canonical.proofs.IndexLemmas.Layout.{length-firsts}
 use Rattle.dnsv_canonical.proofs.IndexLemmas.InOrder.{place_at_tie, place_between}

@@ -1,4 +1,4 @@
-use Rattle.std.proofs.Common.{◌≡◌, ◌∙◌, ◌+◌, ◌++◌, ◌∷◌, [], sym, ap, length, refl}
+use Rattle.std.proofs.Common.{◌∙◌, ◌+◌, ◌++◌, ◌∷◌, [], sym, ap, length, refl}
 use Rattle.std.proofs.lemmas.Option.{slice_get_read}
 use Rattle.dnsv_canonical.proofs.IndexLemmas.Growth.{numbered_more}
 use Rattle.dnsv_canonical.proofs.index.numbered.numbered.Goals as goal

@@ -1,8 +1,7 @@
-use Rattle.std.proofs.Common.{◌≡◌, ◌∙◌, ◌++◌, ◌∷◌, [], inl, inr, sym, ap, subst, arith, length, refl, List, ℕ, true, false}
-use Rattle.std.specs.Prelude.{Some}
-use Rattle.dnsv_canonical.specs.Index.Grouping.{Key, Numbered, key_of}
-use Rattle.dnsv_canonical.specs.Index.Merging.{EndsWith, IsMerged}
-use Rattle.dnsv_canonical.proofs.IndexLemmas.Merging.{Built, added, joined}
+use Rattle.std.proofs.Common.{◌≡◌, ◌∙◌, ◌++◌, ◌∷◌, [], inl, inr, sym, ap, subst, arith, length, true, false}
+use Rattle.dnsv_canonical.specs.Index.Grouping.{Numbered, key_of}
+use Rattle.dnsv_canonical.specs.Index.Merging.{EndsWith}
+use Rattle.dnsv_canonical.proofs.IndexLemmas.Merging.{added, joined}
 use Rattle.dnsv_canonical.proofs.index.merged.Merged.add.Goals as goal
 
 pub returns-then-ends_with-clause-merged : goal.returns-then-ends_with-clause-merged

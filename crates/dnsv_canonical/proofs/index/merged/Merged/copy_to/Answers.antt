@@ -1,9 +1,9 @@
-use Rattle.std.proofs.Common.{◌≡◌, ◌∙◌, ◌+◌, ◌-◌, ◌<◌, ◌≤◌, ◌++◌, sym, ap, subst, arith, length, length-append, length-take, refl, List, ℕ, take, drop, map}
+use Rattle.std.proofs.Common.{◌≡◌, ◌∙◌, ◌+◌, ◌-◌, ◌<◌, ◌≤◌, sym, ap, subst, arith, length, take, drop, map}
 use Rattle.std.proofs.lemmas.List.Elements.{All-from_recursion}
 use Rattle.std.specs.List.{AllByRecursion, enumerate_from}
-use Rattle.dnsv_canonical.specs.Index.Grouping.{Numbered, group_of, numbers_of, starts_from}
-use Rattle.dnsv_canonical.proofs.IndexLemmas.Layout.{part_numbers, reach, reach_all, starts_within}
-use Rattle.dnsv_canonical.proofs.IndexLemmas.Merging.{Built, copied_last, copied_more, part_places}
+use Rattle.dnsv_canonical.specs.Index.Grouping.{group_of, numbers_of}
+use Rattle.dnsv_canonical.proofs.IndexLemmas.Layout.{reach, reach_all}
+use Rattle.dnsv_canonical.proofs.IndexLemmas.Merging.{copied_last, copied_more, part_places}
 use Rattle.dnsv_canonical.proofs.index.merged.Merged.copy_to.Goals as goal
 
 pub between-requires-clause-order : goal.between-requires-clause-order

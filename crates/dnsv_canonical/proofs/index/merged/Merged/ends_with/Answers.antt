@@ -1,4 +1,4 @@
-use Rattle.std.proofs.Common.{◌≡◌, ◌∙◌, sym, ap, subst, IsTrue}
+use Rattle.std.proofs.Common.{◌∙◌, sym, subst, IsTrue}
 use Rattle.std.proofs.lemmas.Bool.{eqb-true}
 use Rattle.dnsv_canonical.specs.Index.Grouping.{key_of}
 use Rattle.dnsv_canonical.specs.Index.Merging.{EndsWith}
