@@ -3,6 +3,7 @@ use Rattle.std.specs.Prelude.{◌≡◌, ◌≤◌, ℕ, List, [], Option, Some,
 use Rattle.std.specs.Option.{option_map}
 use Rattle.dnsv_names.specs.Name.{Labels, SameName, rightmost}
 use Rattle.dnsv_canonical.specs.Rrsets.{IsNumbered, ReceivedRrset}
+use Rattle.dnsv_chain.specs.Trust.{KeptTrust, SecuredIn}
 use Rattle.dnsv_denial.specs.forms.ProofForms.{form_encloser}
 use Rattle.dnsv_denial.specs.proving.ProofParts.{IsPartName, form_parts, part_name}
 use Rattle.dnsv_denial.specs.proving.ShownDenials.{IsShownNoCloser, IsShownNoData, IsShownNoName}
@@ -19,7 +20,7 @@ use Rattle.dnsv_denial.specs.declared.records.chain_kind.ChainKind.TheVariants a
 use Rattle.dnsv_denial.specs.declared.records.number.RecordNumber.{RecordNumber}
 use Rattle.dnsv_verdict.specs.Verdict.{Basis}
 use Rattle.dnsv_explain.specs.Following.Parts.{IsPlaceOfRecord}
-use Rattle.dnsv_explain.specs.derivations.OwnDerivations.{AreRecordsDerived, IsSignatureTold, SecuredIn}
+use Rattle.dnsv_explain.specs.derivations.OwnDerivations.{AreRecordsDerived, IsSignatureTold, IsTrustIn}
 use Rattle.dnsv_explain.specs.Saying.{AreBoth, AreEach, IsOnce}
 use Rattle.dnsv_explain.specs.declared.line.Line.{Line}
 use Rattle.dnsv_explain.specs.declared.line.Line.TheVariants as line
@@ -38,12 +39,17 @@ use Rattle.dnsv_explain.specs.declared.line.derivation.SignatureNumber.{Signatur
 
 -- ---- what is shown
 
--- the evidence shows this of the name: that it isn't there, that a type isn't, or that no closer name is there
-pub data IsShownDenial (basis : Basis) (name : Labels) (shown : ShownDenial) : Type 0 where
-  no_name : IsShownNoName (SecuredIn basis) basis.rrsets name shown → IsShownDenial basis name shown
-  no_data : (t : ℕ) → IsShownNoData (SecuredIn basis) basis.rrsets name t shown → IsShownDenial basis name shown
-  no_closer : (labels : ℕ) (zone : Labels) → IsShownNoCloser (SecuredIn basis) basis.rrsets name labels zone shown
-      → IsShownDenial basis name shown
+-- the evidence shows this of the name, by the signatures that are good as the trust keeps them: that it isn't there,
+-- that a type isn't, or that no closer name is there
+pub data IsShownBy (trust : KeptTrust) (rrsets : List ReceivedRrset) (name : Labels) (shown : ShownDenial) : Type 0 where
+  no_name : IsShownNoName (SecuredIn trust) rrsets name shown → IsShownBy trust rrsets name shown
+  no_data : (t : ℕ) → IsShownNoData (SecuredIn trust) rrsets name t shown → IsShownBy trust rrsets name shown
+  no_closer : (labels : ℕ) (zone : Labels) → IsShownNoCloser (SecuredIn trust) rrsets name labels zone shown
+      → IsShownBy trust rrsets name shown
+
+-- by the trust of the basis
+abbrev pub IsShownDenial : Basis → Labels → ShownDenial → Type 0
+IsShownDenial basis name shown = (trust : KeptTrust) × IsTrustIn basis trust × IsShownBy trust basis.rrsets name shown
 
 -- ---- the proof
 

@@ -9,14 +9,12 @@ ghost use Rattle.dnsv_denial.specs.words.EvidenceWords.{Chain};
 ghost use Rattle.dnsv_verdict.specs.Verdict.{Basis};
 ghost use Rattle.dnsv_denial.specs.declared.proving.shown_denial.ShownDenial.{ShownDenial};
 ghost use Rattle.dnsv_denial.specs.declared.unsigned_cuts.shown_cut.ShownCut.{ShownCut};
-ghost use Rattle.dnsv_denial.specs.unsigned_cuts.ShownCut.{IsShownCut};
 ghost use Rattle.dnsv_explain.specs.Denials.{IsDenialTold, IsExpandedTold, IsShownDenial};
 ghost use Rattle.dnsv_explain.specs.derivations.Derivations.{IsDerivation, Subject};
 ghost use Rattle.dnsv_explain.specs.Following.{EachFollows, at_moment};
 ghost use Rattle.dnsv_explain.specs.Following.Parts.{IsPartOf, IsUnusableRecord};
 ghost use Rattle.dnsv_explain.specs.intervals.Holding.{AreShownValidAt, IsHolding, IsHoldingOf};
-ghost use Rattle.dnsv_explain.specs.derivations.OwnDerivations.{SecuredIn};
-ghost use Rattle.dnsv_explain.specs.unsigned_cuts.ShownCuts.{IsCutTold};
+ghost use Rattle.dnsv_explain.specs.unsigned_cuts.ShownCuts.{IsCutShownBy, IsCutTold};
 ghost use Rattle.dnsv_explain.specs.derivations.Ways.{HasSecured};
 
 use crate::interval::{Interval, Times};
@@ -86,6 +84,6 @@ pub fn expanded_signatures_follow()
 /// And so does each line of the name from which on a name may be unsigned.
 pub fn unsigned_cuts_follow()
     ensures { (basis : Basis) (name : Labels) (cut : ShownCut) (before lines : List Line)
-        → IsShownCut (SecuredIn basis) basis.rrsets name cut → IsCutTold basis name cut before lines
+        → IsCutShownBy basis name cut → IsCutTold basis name cut before lines
         → EachFollows basis before lines }
 {}

@@ -4,11 +4,9 @@ mod shown;
 mod unusable;
 
 ghost use Rattle.std.specs.Prelude.{OnOk};
-ghost use Rattle.dnsv_denial.specs.unsigned_cuts.ShownCut.{IsShownCut};
 ghost use Rattle.dnsv_explain.specs.Explained.{basis_in};
-ghost use Rattle.dnsv_explain.specs.derivations.OwnDerivations.{SecuredIn};
 ghost use Rattle.dnsv_explain.specs.Saying.{Adds};
-ghost use Rattle.dnsv_explain.specs.unsigned_cuts.ShownCuts.{IsCutTold};
+ghost use Rattle.dnsv_explain.specs.unsigned_cuts.ShownCuts.{IsCutShownBy, IsCutTold};
 
 use crate::evidence::Evidence;
 use crate::line::Line;
@@ -28,7 +26,7 @@ pub fn add_cut(
     name: &Name,
     cut: &ShownCut,
 ) -> Result<(), AllocError>
-    requires { IsShownCut (SecuredIn (basis_in evidence.now)) evidence.now.rrsets name.now cut.now }
+    requires { IsCutShownBy (basis_in evidence.now) name.now cut.now }
     ensures { OnOk result (Adds (IsCutTold (basis_in evidence.now) name.now cut.now) lines.old.items lines.new.items) }
 {
     match cut {

@@ -1,6 +1,7 @@
 -- The derivation of the signatures by which a zone's records count (RFC 4035 5.3.1, 5.3.4).
 use Rattle.std.specs.Prelude.{◌≡◌, ◌≤◌, ℕ, List}
 use Rattle.dnsv_names.specs.Name.{Labels}
+use Rattle.dnsv_chain.specs.Trust.{IsTrustOf, KeptTrust}
 use Rattle.dnsv_chain.specs.Trusted.{IsSecured}
 use Rattle.dnsv_denial.specs.gathering.Evidence.{IsSecuredBy}
 use Rattle.dnsv_denial.specs.declared.records.number.RecordNumber.{RecordNumber}
@@ -14,6 +15,10 @@ use Rattle.dnsv_explain.specs.declared.line.derivation.SignatureNumber.{Signatur
 -- signature s of RRset k is good under a trusted key of its signer
 abbrev pub SecuredIn : Basis → ℕ → ℕ → Type 0
 SecuredIn basis = IsSecured basis.meaning basis.moment basis.rrsets basis.anchors
+
+-- the trust keeps which signatures are so, and the trusted keys of each zone
+abbrev pub IsTrustIn : Basis → KeptTrust → Type 0
+IsTrustIn basis trust = IsTrustOf basis.meaning basis.moment basis.rrsets basis.anchors trust
 
 -- the signature is derived
 abbrev pub IsSignatureTold : Basis → SignatureNumber → List Line → List Line → Type 0

@@ -3,16 +3,18 @@
 use Rattle.std.specs.Prelude.{◌+◌, ℕ, List, Some}
 use Rattle.dnsv_names.specs.Name.{Labels, rightmost}
 use Rattle.dnsv_zones.specs.forms.Parts.{OptsOut}
+use Rattle.dnsv_chain.specs.Trust.{KeptTrust, SecuredIn}
 use Rattle.dnsv_denial.specs.forms.Denials.{IsDelegationAt}
 use Rattle.dnsv_denial.specs.forms.ShownUnsigned.{ShowsDelegation, ShowsOptOut}
 use Rattle.dnsv_denial.specs.proving.ShownDenials.{IsFirstShown}
+use Rattle.dnsv_denial.specs.unsigned_cuts.ShownCut.{IsShownCut}
 use Rattle.dnsv_denial.specs.words.EvidenceWords.{number_cmp}
 use Rattle.dnsv_denial.specs.declared.proving.shown_denial.ShownDenial.{ShownDenial}
 use Rattle.dnsv_denial.specs.declared.unsigned_cuts.shown_cut.ShownCut.{ShownCut}
 use Rattle.dnsv_denial.specs.declared.unsigned_cuts.shown_cut.ShownCut.TheVariants as cut
 use Rattle.dnsv_verdict.specs.Verdict.{Basis}
 use Rattle.dnsv_explain.specs.Denials.{IsProofWithParts}
-use Rattle.dnsv_explain.specs.derivations.OwnDerivations.{AreRecordsDerived, SecuredIn}
+use Rattle.dnsv_explain.specs.derivations.OwnDerivations.{AreRecordsDerived, IsTrustIn}
 use Rattle.dnsv_explain.specs.Saying.{AreBoth}
 use Rattle.dnsv_explain.specs.unsigned_cuts.UnsignedCuts.{IsCaseTold, IsUnusableTold}
 use Rattle.dnsv_explain.specs.declared.line.Line.{Line}
@@ -22,11 +24,12 @@ use Rattle.dnsv_explain.specs.declared.line.cut.InsecureCase.TheVariants as case
 -- Records of a zone show that a delegation without DS is at the name's so many rightmost labels, or that Opt-Out may
 -- leave one out below a closest encloser of so many.
 pub data IsShownUnsigned (basis : Basis) (name : Labels) (shown : ShownDenial) : InsecureCase → Labels → Type 0 where
-  no_ds : (labels : ℕ) → IsFirstShown (SecuredIn basis) basis.rrsets name
+  no_ds : (trust : KeptTrust) → IsTrustIn basis trust → (labels : ℕ) → IsFirstShown (SecuredIn trust) basis.rrsets name
       (λ said zone. IsDelegationAt said zone name labels)
       (λ said zone. ShowsDelegation number_cmp said zone name labels) shown
       → IsShownUnsigned basis name shown case.UnsignedDelegation (rightmost name labels)
-  opted_out : (labels : ℕ) → IsFirstShown (SecuredIn basis) basis.rrsets name (λ said zone. OptsOut said zone name labels)
+  opted_out : (trust : KeptTrust) → IsTrustIn basis trust → (labels : ℕ)
+      → IsFirstShown (SecuredIn trust) basis.rrsets name (λ said zone. OptsOut said zone name labels)
       (λ said zone. ShowsOptOut number_cmp said zone name labels) shown
       → IsShownUnsigned basis name shown case.OptOut (rightmost name (labels + 1))
 
@@ -35,6 +38,11 @@ abbrev pub IsUnsignedTold : Basis → Labels → ShownDenial → InsecureCase �
 IsUnsignedTold basis name shown kind at =
     AreBoth (AreRecordsDerived basis shown.proof.zone shown.proof.records)
     (AreBoth (IsCaseTold kind at (Some shown.proof.zone)) (IsProofWithParts basis.rrsets name shown))
+
+-- the evidence shows from which name on the name may be unsigned, by the trust of the basis
+abbrev pub IsCutShownBy : Basis → Labels → ShownCut → Type 0
+IsCutShownBy basis name shown =
+    (trust : KeptTrust) × IsTrustIn basis trust × IsShownCut (SecuredIn trust) basis.rrsets name shown
 
 -- from which name on the name may be unsigned, and what shows it
 abbrev pub IsCutTold : Basis → Labels → ShownCut → List Line → List Line → Type 0

@@ -38,16 +38,17 @@ use Rattle.dnsv_explain.specs.declared.line.denial.Relation.{Relation}
 use Rattle.dnsv_explain.specs.declared.line.denial.Role.{Role}
 use Rattle.dnsv_explain.specs.declared.line.derivation.SignatureNumber.{SignatureNumber}
 use Rattle.dnsv_explain.proofs.lemmas.unsigned_cuts.CutLemmas.{cut_facts}
-use Rattle.dnsv_explain.proofs.lemmas.denials.ShownLemmas.{IsListed, IsShownPart, PartSays, ShownFacts, each_member, has_form, part_listed, part_shown, shown_facts}
+use Rattle.dnsv_explain.proofs.lemmas.denials.FormLemmas.{IsShownPart, PartSays, each_member}
+use Rattle.dnsv_explain.proofs.lemmas.denials.ShownLemmas.{IsListed, ShownFacts, has_form, part_listed, part_shown, shown_facts}
 use Rattle.dnsv_explain.proofs.lemmas.derivations.DerivationLemmas.{derivation_follows, number_said}
 use Rattle.dnsv_explain.proofs.lemmas.denials.PartLemmas.{secured_too, word_by, zone_as}
 
 -- ---- steps one after another
 
-first_of : {X : Type 0} (x : X) (xs : List X) → Contains (x ∷ xs) x
+pub first_of : {X : Type 0} (x : X) (xs : List X) → Contains (x ∷ xs) x
 first_of x xs = (0, omega arith, refl)
 
-behind : {X : Type 0} (x : X) (xs : List X) (y : X) → Contains xs y → Contains (x ∷ xs) y
+pub behind : {X : Type 0} (x : X) (xs : List X) (y : X) → Contains xs y → Contains (x ∷ xs) y
 behind x xs y there = let within = there.1 in (suc there.0, omega (arith, within), there.2)
 
 -- what is so of each step's element behind it, and stays so, is so of all behind them
@@ -82,7 +83,7 @@ module _ (basis : Basis) where
       let Lines : List Line → Type 0 = λ all. Follow before all in
       subst Lines (sym both.parts) (follows_append before both.first both.second first second)
 
-  each_follow : {X : Type 0} (Says : X → List Line → List Line → Type 0) (Given : List Line → Type 0)
+  pub each_follow : {X : Type 0} (Says : X → List Line → List Line → Type 0) (Given : List Line → Type 0)
       → ((before more : List Line) → Given before → Given (before ++ more))
       → (xs : List X)
       → ((x : X) → Contains xs x → (before lines : List Line) → Given before → Says x before lines → Follow before lines)

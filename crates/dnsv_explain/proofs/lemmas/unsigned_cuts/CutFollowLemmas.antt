@@ -2,6 +2,7 @@
 use Rattle.std.proofs.Common.{◌≡◌, ◌+◌, ℕ, List, [], ◌∷◌, ◌++◌, None, map, sym, ap, subst}
 use Rattle.std.proofs.lemmas.List.Elements.{Contains-append_left}
 use Rattle.dnsv_names.specs.Name.{Labels, rightmost}
+use Rattle.dnsv_chain.specs.Trust.{KeptTrust, SecuredIn}
 use Rattle.dnsv_denial.specs.unsigned_cuts.ShownCut.{IsShownCut}
 use Rattle.dnsv_denial.specs.unsigned_cuts.ShownCut.IsShownCut.{no_ds, no_usable_ds, opt_out}
 use Rattle.dnsv_denial.specs.declared.records.number.RecordNumber.{RecordNumber}
@@ -9,8 +10,8 @@ use Rattle.dnsv_denial.specs.declared.unsigned_cuts.shown_cut.ShownCut.{ShownCut
 use Rattle.dnsv_verdict.specs.Verdict.{Basis}
 use Rattle.dnsv_explain.specs.derivations.Derivations.Subject.{signature}
 use Rattle.dnsv_explain.specs.Following.{EachFollows, IsSaidSigned}
-use Rattle.dnsv_explain.specs.derivations.OwnDerivations.{SecuredIn}
-use Rattle.dnsv_explain.specs.unsigned_cuts.ShownCuts.{IsCutTold, IsShownUnsigned}
+use Rattle.dnsv_explain.specs.derivations.OwnDerivations.{IsTrustIn}
+use Rattle.dnsv_explain.specs.unsigned_cuts.ShownCuts.{IsCutShownBy, IsCutTold}
 use Rattle.dnsv_explain.specs.unsigned_cuts.ShownCuts.IsShownUnsigned.{no_ds as delegation_shown, opted_out}
 use Rattle.dnsv_explain.specs.unsigned_cuts.UnsignedCuts.{AreAllTold, AreToldFrom, IsUnusableTold}
 use Rattle.dnsv_explain.specs.declared.line.Line.{Line}
@@ -58,11 +59,15 @@ module _ (basis : Basis) where
       (signature_said basis before told.told.first (record { rrset = told.k; signature = told.s }) told.told.says_first))
       rest.says_second))
 
-  pub cut_follows : (name : Labels) (cut : ShownCut) (before lines : List Line) → IsShownCut (SecuredIn basis) basis.rrsets name cut
-      → IsCutTold basis name cut before lines → EachFollows basis before lines
-  cut_follows name cut before lines (no_ds labels shown fewest is) told =
-      unsigned_follows basis name shown case.UnsignedDelegation (rightmost name labels) before lines (delegation_shown labels is) told
-  cut_follows name cut before lines (no_usable_ds labels none fewest) told =
+  shown_follows : (trust : KeptTrust) → IsTrustIn basis trust → (name : Labels) (cut : ShownCut) (before lines : List Line)
+      → IsShownCut (SecuredIn trust) basis.rrsets name cut → IsCutTold basis name cut before lines → EachFollows basis before lines
+  shown_follows trust good name cut before lines (no_ds labels shown fewest is) told =
+      unsigned_follows basis name shown case.UnsignedDelegation (rightmost name labels) before lines (delegation_shown trust good labels is) told
+  shown_follows trust good name cut before lines (no_usable_ds labels none fewest) told =
       unusable_follows (rightmost name labels) before lines told
-  cut_follows name cut before lines (opt_out labels shown no_delegation no_unusable most is) told =
-      unsigned_follows basis name shown case.OptOut (rightmost name (labels + 1)) before lines (opted_out labels is) told
+  shown_follows trust good name cut before lines (opt_out labels shown no_delegation no_unusable most is) told =
+      unsigned_follows basis name shown case.OptOut (rightmost name (labels + 1)) before lines (opted_out trust good labels is) told
+
+  pub cut_follows : (name : Labels) (cut : ShownCut) (before lines : List Line) → IsCutShownBy basis name cut
+      → IsCutTold basis name cut before lines → EachFollows basis before lines
+  cut_follows name cut before lines is told = shown_follows is.0 is.1 name cut before lines is.2 told

@@ -3,6 +3,7 @@ use Rattle.std.proofs.Common.{◌≡◌, ◌≤◌, ◌+◌, ℕ, List, [], ◌�
 use Rattle.std.specs.List.{AllByRecursion, Contains}
 use Rattle.dnsv_names.specs.Name.{Labels, rightmost}
 use Rattle.dnsv_canonical.specs.Rrsets.{ReceivedRrset}
+use Rattle.dnsv_chain.specs.Trust.{SecuredIn as KeptIn}
 use Rattle.dnsv_denial.specs.forms.ShownUnsigned.{ShowsDelegation, ShowsOptOut}
 use Rattle.dnsv_denial.specs.forms.ShownUnsigned.ShowsDelegation.{delegation}
 use Rattle.dnsv_denial.specs.forms.ShownUnsigned.ShowsOptOut.{opt_out, wildcard_opt_out}
@@ -13,13 +14,13 @@ use Rattle.dnsv_denial.specs.declared.proving.proof_part.PartRelation.TheVariant
 use Rattle.dnsv_denial.specs.declared.proving.shown_denial.ShownDenial.{ShownDenial}
 use Rattle.dnsv_denial.specs.declared.records.number.RecordNumber.{RecordNumber}
 use Rattle.dnsv_verdict.specs.Verdict.{Basis}
-use Rattle.dnsv_explain.specs.derivations.OwnDerivations.{SecuredIn}
 use Rattle.dnsv_explain.specs.unsigned_cuts.ShownCuts.{IsShownUnsigned}
 use Rattle.dnsv_explain.specs.unsigned_cuts.ShownCuts.IsShownUnsigned.{no_ds, opted_out}
 use Rattle.dnsv_explain.specs.declared.line.cut.InsecureCase.{InsecureCase}
 use Rattle.dnsv_explain.specs.declared.line.denial.Relation.TheVariants as relation
 use Rattle.dnsv_explain.specs.declared.line.denial.Role.TheVariants as role
-use Rattle.dnsv_explain.proofs.lemmas.denials.ShownLemmas.{EncloserSigned, FormFacts, IsSigned, ShownFacts, encloser_says, encloser_signed, wildcard_records_signed, wildcard_says}
+use Rattle.dnsv_explain.proofs.lemmas.denials.FormLemmas.{EncloserSigned, FormFacts, IsSigned, encloser_says, encloser_signed, wildcard_records_signed, wildcard_says}
+use Rattle.dnsv_explain.proofs.lemmas.denials.ShownLemmas.{ShownFacts, good_facts}
 use Rattle.dnsv_explain.proofs.lemmas.denials.PartLemmas.{word_signed}
 
 module _ (S : ℕ → ℕ → Type 0) (rrsets : List ReceivedRrset) (apex name : Labels) where
@@ -58,21 +59,23 @@ module _ (S : ℕ → ℕ → Type 0) (rrsets : List ReceivedRrset) (apex name :
 
 module _ (basis : Basis) (name : Labels) (shown : ShownDenial) where
   pub cut_facts : (kind : InsecureCase) (cut : Labels) → IsShownUnsigned basis name shown kind cut → ShownFacts basis name shown
-  cut_facts kind cut (no_ds labels is) = record {
+  cut_facts kind cut (no_ds trust good labels is) = record {
     apex = shown.proof.zone;
     same = refl;
     chain = is.chain;
     kind = is.kind;
-    facts = delegation_facts (SecuredIn basis) basis.rrsets shown.proof.zone name is.chain labels shown.form is.shows;
+    facts = good_facts basis name shown trust good shown.proof.zone is.chain
+        (delegation_facts (KeptIn trust) basis.rrsets shown.proof.zone name is.chain labels shown.form is.shows);
     records = λ number there. (is.records.members number).0 there;
     named = λ number there. (is.records.members number).1 there;
   }
-  cut_facts kind cut (opted_out labels is) = record {
+  cut_facts kind cut (opted_out trust good labels is) = record {
     apex = shown.proof.zone;
     same = refl;
     chain = is.chain;
     kind = is.kind;
-    facts = opt_out_facts (SecuredIn basis) basis.rrsets shown.proof.zone name is.chain labels shown.form is.shows;
+    facts = good_facts basis name shown trust good shown.proof.zone is.chain
+        (opt_out_facts (KeptIn trust) basis.rrsets shown.proof.zone name is.chain labels shown.form is.shows);
     records = λ number there. (is.records.members number).0 there;
     named = λ number there. (is.records.members number).1 there;
   }
