@@ -1,5 +1,6 @@
 pub mod Denials
 pub mod Explained
+pub mod Explanation
 pub mod Following
 pub mod Places
 pub mod Saying

@@ -57,6 +57,19 @@ impl<'a> Evidence<'a> {
         }
     }
 
+    pub(crate) fn capture(&self) -> &Capture
+        ensures { result.now.rrsets ≡ self.now.rrsets }
+    {
+        self.capture
+    }
+
+    /// The moment that is asked of, in seconds since 1970.
+    pub(crate) fn moment(&self) -> u64
+        ensures { result ≡ self.now.table.moment }
+    {
+        self.table.moment()
+    }
+
     /// The RRsets, which are numbered from 1.
     pub(crate) fn rrsets(&self) -> &[Rrset]
         ensures { result.now ≡ self.now.rrsets }

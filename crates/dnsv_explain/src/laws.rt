@@ -11,6 +11,9 @@ ghost use Rattle.dnsv_denial.specs.declared.proving.shown_denial.ShownDenial.{Sh
 ghost use Rattle.dnsv_denial.specs.declared.unsigned_cuts.shown_cut.ShownCut.{ShownCut};
 ghost use Rattle.dnsv_explain.specs.Denials.{IsDenialTold, IsExpandedTold, IsShownDenial};
 ghost use Rattle.dnsv_explain.specs.derivations.Derivations.{IsDerivation, Subject};
+ghost use Rattle.dnsv_verdict.specs.declared.link.Link.{Link};
+ghost use Rattle.dnsv_verdict.specs.declared.verdict.Verdict.{Verdict};
+ghost use Rattle.dnsv_explain.specs.Explanation.{IsExplanation};
 ghost use Rattle.dnsv_explain.specs.Following.{EachFollows, at_moment};
 ghost use Rattle.dnsv_explain.specs.Following.Parts.{IsPartOf, IsUnusableRecord};
 ghost use Rattle.dnsv_explain.specs.intervals.Holding.{AreShownValidAt, IsHolding, IsHoldingOf};
@@ -86,4 +89,10 @@ pub fn unsigned_cuts_follow()
     ensures { (basis : Basis) (name : Labels) (cut : ShownCut) (before lines : List Line)
         → IsCutShownBy basis name cut → IsCutTold basis name cut before lines
         → EachFollows basis before lines }
+{}
+
+/// Each line of an explanation follows from those before it, so what it says is true.
+pub fn explanations_follow()
+    ensures { (basis : Basis) (t : ℕ) (links : List Link) (last : Labels) (verdict : Verdict) (lines : List Line)
+        → IsExplanation basis t links last verdict lines → EachFollows basis [] lines }
 {}

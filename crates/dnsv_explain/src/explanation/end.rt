@@ -1,0 +1,41 @@
+//! The last lines of an explanation.
+ghost use Rattle.std.specs.Prelude.{◌≡◌, ◌++◌, [], OnOk, map};
+ghost use Rattle.dnsv_explain.specs.Explained.{basis_in};
+ghost use Rattle.dnsv_explain.specs.Explanation.{IsEnd};
+ghost use Rattle.dnsv_explain.specs.Following.{EachFollows};
+ghost use Rattle.dnsv_explain.specs.Saying.{Adds};
+
+use crate::evidence::Evidence;
+use crate::laws::lines_that_follow_are_true;
+use crate::line::Line;
+use crate::line::place::RrsetPlace;
+use crate::places::places_named;
+use crate::shown::holding_of;
+use std::alloc::{AllocError, Global};
+
+/// Adds from when to when the signatures that the lines show are valid, and where the RRsets stand that they name.
+pub fn add_end(
+    alloc: Global,
+    evidence: &Evidence<'_>,
+    lines: &mut Vec<Line>,
+) -> Result<(), AllocError>
+    requires { EachFollows (basis_in evidence.now) [] lines.now.items }
+    ensures { OnOk result (Adds (IsEnd evidence.now.rrsets evidence.now.table.moment) lines.old.items lines.new.items) }
+{
+    lines_that_follow_are_true();
+    let interval = holding_of(alloc, evidence.capture(), lines, evidence.moment())?;
+    let places = places_named(alloc, evidence.capture(), lines)?;
+    lines.push(Line::Holds(interval))?;
+    add_places(lines, places)?;
+    Ok(())
+}
+
+/// Adds where the RRsets stand.
+fn add_places(lines: &mut Vec<Line>, places: Vec<RrsetPlace>) -> Result<(), AllocError>
+    ensures { OnOk result (lines.new.items ≡ lines.old.items ++ map (λ place. Line.Rrset place) places.items) }
+{
+    for place in places {
+        lines.push(Line::Rrset(place))?;
+    }
+    Ok(())
+}
