@@ -4,7 +4,6 @@ use Rattle.std.proofs.lemmas.List.{append-nil}
 use Rattle.std.proofs.lemmas.List.Elements.{Contains-append_left, Contains-push}
 use Rattle.std.specs.List.{AllByRecursion, Contains}
 use Rattle.dnsv_names.specs.Name.{Labels, SameName, lower_case}
-use Rattle.dnsv_canonical.specs.Rrsets.{ReceivedRrset}
 use Rattle.dnsv_denial.specs.gathering.Evidence.{IsSecuredBy}
 use Rattle.dnsv_denial.specs.proving.ProofParts.{form_parts, part_name}
 use Rattle.dnsv_denial.specs.proving.ShownDenials.{kind_of}
@@ -14,7 +13,6 @@ use Rattle.dnsv_denial.specs.declared.proving.proof_part.PartName.{PartName}
 use Rattle.dnsv_denial.specs.declared.proving.proof_part.PartRelation.{PartRelation}
 use Rattle.dnsv_denial.specs.declared.proving.proof_part.ProofPart.{ProofPart}
 use Rattle.dnsv_denial.specs.declared.proving.shown_denial.ShownDenial.{ShownDenial}
-use Rattle.dnsv_denial.specs.declared.records.chain_kind.ChainKind.{ChainKind}
 use Rattle.dnsv_denial.specs.declared.records.number.RecordNumber.{RecordNumber}
 use Rattle.dnsv_verdict.specs.Verdict.{Basis}
 use Rattle.dnsv_explain.specs.Denials.{IsDenialTold, IsExpandedTold, IsPartLine, IsPartSaid, IsPartTold, IsFormTold, IsProofOf, IsProofSaid, IsProofTold, IsShownDenial, IsTellingOf, told_chain, told_form, told_relation, told_role}
@@ -38,7 +36,7 @@ use Rattle.dnsv_explain.specs.declared.line.denial.Relation.{Relation}
 use Rattle.dnsv_explain.specs.declared.line.denial.Role.{Role}
 use Rattle.dnsv_explain.specs.declared.line.derivation.SignatureNumber.{SignatureNumber}
 use Rattle.dnsv_explain.proofs.lemmas.unsigned_cuts.CutLemmas.{cut_facts}
-use Rattle.dnsv_explain.proofs.lemmas.denials.FormLemmas.{IsShownPart, PartSays, each_member}
+use Rattle.dnsv_explain.proofs.lemmas.denials.FormLemmas.{PartSays, each_member}
 use Rattle.dnsv_explain.proofs.lemmas.denials.ShownLemmas.{IsListed, ShownFacts, has_form, part_listed, part_shown, shown_facts}
 use Rattle.dnsv_explain.proofs.lemmas.derivations.DerivationLemmas.{derivation_follows, number_said}
 use Rattle.dnsv_explain.proofs.lemmas.denials.PartLemmas.{secured_too, word_by, zone_as}

@@ -16,7 +16,7 @@ use Rattle.dnsv_denial.specs.declared.records.number.RecordNumber.{RecordNumber}
 use Rattle.dnsv_verdict.specs.Verdict.{Basis}
 use Rattle.dnsv_explain.specs.Denials.{told_relation, told_role}
 use Rattle.dnsv_explain.specs.derivations.OwnDerivations.{IsTrustIn, SecuredIn}
-use Rattle.dnsv_explain.proofs.lemmas.denials.FormLemmas.{AreShownParts, FormFacts, IsShownPart, IsSigned, PartSays}
+use Rattle.dnsv_explain.proofs.lemmas.denials.FormLemmas.{AreShownParts, FormFacts, IsSigned, PartSays}
 use Rattle.dnsv_explain.proofs.lemmas.denials.PartLemmas.{secured_too, word_by, word_signed}
 
 pub kept_good : (basis : Basis) (trust : KeptTrust) → IsTrustIn basis trust → (k s : ℕ) → KeptIn trust k s → SecuredIn basis k s

@@ -1,6 +1,5 @@
-use Rattle.std.proofs.Common.{List, Option, Some, None, [], ◌∷◌, refl, sym, subst, inl, inr, ◌∙◌}
+use Rattle.std.proofs.Common.{Option, None, [], ◌∷◌, refl, sym, subst, inl, inr, ◌∙◌}
 use Rattle.std.proofs.lemmas.Bool.{false≢true}
-use Rattle.std.proofs.lemmas.List.{append-nil}
 use Rattle.dnsv_explain.specs.Denials.{IsFormTold, IsProofOf, IsProofSaid}
 use Rattle.dnsv_explain.specs.Saying.{Adds}
 use Rattle.dnsv_explain.specs.declared.line.Line.TheVariants as line

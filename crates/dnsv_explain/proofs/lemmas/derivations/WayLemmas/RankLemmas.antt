@@ -19,13 +19,12 @@ use Rattle.dnsv_chain.proofs.ChainLemmas.{its_rdata, same_ds}
 use Rattle.dnsv_chain.proofs.ZipLemmas.{zip_at, zip_length}
 use Rattle.dnsv_chain.specs.Anchor.{IsAnchorMatch}
 use Rattle.dnsv_chain.specs.Ds.{IsMatch, IsUsable}
-use Rattle.dnsv_chain.specs.Trusted.{IsKeyOf}
 use Rattle.dnsv_chain.specs.declared.anchor.Anchor.{Anchor}
 use Rattle.dnsv_chain.specs.declared.anchor.Anchor.TheVariants as anchor
 use Rattle.dnsv_denial.specs.declared.records.number.RecordNumber.{RecordNumber}
 use Rattle.dnsv_verdict.specs.Verdict.{Basis}
-use Rattle.dnsv_explain.specs.Following.{IsDsMatch, IsGoodUnder, IsMatchedBy}
-use Rattle.dnsv_explain.specs.derivations.WaySearch.{IsFirstUnder, IsFoundWay, IsNoWay, IsNoWayBefore, IsNoneUnder, IsVoucherOf, MayDelegate, signature_of}
+use Rattle.dnsv_explain.specs.Following.{IsDsMatch, IsMatchedBy}
+use Rattle.dnsv_explain.specs.derivations.WaySearch.{IsFirstUnder, IsFoundWay, IsNoWay, IsNoWayBefore, IsNoneUnder, IsVoucherOf, MayDelegate}
 use Rattle.dnsv_explain.specs.derivations.Ways.{HasSecured, IsLess, IsWayInto, Way, voucher_rank}
 use Rattle.dnsv_explain.specs.declared.line.derivation.Voucher.{Voucher}
 use Rattle.dnsv_explain.specs.declared.line.derivation.Voucher.TheVariants as voucher

@@ -1,4 +1,3 @@
-use Rattle.std.proofs.lemmas.Option.{MatchOption-at_none, MatchOption-at_some}
 use Rattle.dnsv_explain.specs.Explained.{basis_in}
 use Rattle.dnsv_explain.proofs.lemmas.unsigned_cuts.UnusableLemmas.{lowest_good, unusable_told}
 use Rattle.dnsv_explain.proofs.unsigned_cuts.unusable.add_unusable.Goals as goal
