@@ -4,7 +4,9 @@ pub mod ExplanationLemmas
 pub mod FollowingLemmas
 pub mod NumberedLemmas
 pub mod PlaceLemmas
+pub mod RefusalLemmas
 pub mod SayingLemmas
+pub mod TellLemmas
 pub mod denials
 pub mod derivations
 pub mod intervals

@@ -10,8 +10,10 @@ use Rattle.dnsv_chain.specs.Trust.{KeptTrust, SecuredIn}
 use Rattle.dnsv_denial.specs.proving.ShownDenials.{IsShownNoCloser, IsShownNoData, IsShownNoName}
 use Rattle.dnsv_denial.specs.declared.proving.shown_denial.ShownDenial.{ShownDenial}
 use Rattle.dnsv_denial.specs.declared.unsigned_cuts.shown_cut.ShownCut.{ShownCut}
-use Rattle.dnsv_verdict.specs.Verdict.{Basis}
+use Rattle.dnsv_verifier.specs.Table.{IsTableOf, TableContents, table_answer}
+use Rattle.dnsv_verdict.specs.Verdict.{Basis, basis_of}
 use Rattle.dnsv_verdict.specs.declared.link.Link.{Link}
+use Rattle.dnsv_verdict.specs.declared.report.Report.{Report}
 use Rattle.dnsv_verdict.specs.declared.verdict.Verdict.{Verdict}
 use Rattle.dnsv_verdict.specs.declared.verdict.Verdict.TheVariants.{SecureAnswer, SecureAlias, SecureNoName, SecureNoData, Insecure, Pending, Bogus, Indeterminate}
 use Rattle.dnsv_explain.specs.Denials.{IsDenialTold, IsExpandedTold}
@@ -110,3 +112,11 @@ pub record IsEnd (rrsets : List ReceivedRrset) (moment : ℕ) (told lines : List
 abbrev pub IsExplanation : Basis → ℕ → List Link → Labels → Verdict → List Line → Type 0
 IsExplanation basis t links last verdict =
     AreBoth (IsWayTold basis t links last verdict) (IsEnd basis.rrsets basis.moment) []
+
+-- The explanation of the report on a question: that of the table of what the verifier says, which leads to the verdict
+-- by itself.
+pub record IsExplanationOf (basis : Basis) (t : ℕ) (report : Report) (lines : List Line) : Type 0 where
+  pub table : TableContents
+  pub of : IsTableOf basis.meaning basis.moment basis.rrsets table
+  pub is : IsExplanation (basis_of basis.rrsets basis.anchors table.moment (table_answer table)) t report.links report.last
+      report.verdict lines

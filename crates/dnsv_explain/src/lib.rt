@@ -6,6 +6,7 @@
 pub use denials::{add_denial, add_expanded};
 pub use derivations::derivation;
 pub use evidence::Evidence;
+pub use explanation::{Explanation, explain};
 pub use interval::{Interval, Times, holding};
 pub use laws::{
     denials_follow, derivations_follow, expanded_signatures_follow, explanations_follow,
