@@ -140,3 +140,6 @@ fn add_links(alloc: Global, judged: &Judged<'_>, lines: &mut Vec<Line>) -> Resul
     }
     Ok(true)
 }
+
+#[cfg(test)]
+mod tests;
