@@ -5,3 +5,4 @@ pub mod Json
 pub mod Listing
 pub mod Showing
 pub mod Todo
+pub mod Why

@@ -1,6 +1,7 @@
 //! The texts that requests ask for.
 
 pub mod checking;
+pub mod explaining;
 pub mod hex_text;
 pub mod json;
 pub mod listing;

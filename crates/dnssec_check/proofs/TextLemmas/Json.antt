@@ -19,7 +19,7 @@ pub still_first-append : {X : Type 0} (first : Bool) (xs ys : List X) → still_
 still_first-append first [] ys = refl
 still_first-append first (x ∷ xs) ys = sym (never_first ys)
 
-parted_behind : (xs ys : List (List ℕ)) → parted false (xs ++ ys) ≡ parted false xs ++ parted false ys
+pub parted_behind : (xs ys : List (List ℕ)) → parted false (xs ++ ys) ≡ parted false xs ++ parted false ys
 parted_behind [] ys = refl
 parted_behind (x ∷ xs) ys =
     ap (λ rest. codes "," ++ x ++ rest) (parted_behind xs ys)

@@ -1,5 +1,5 @@
 -- JSON as the program writes it (RFC 8259): a value and a newline, without any space, of ASCII alone.
-use Rattle.std.specs.Prelude.{ℕ, ◌<◌, Bool, true, false, List, [], ◌∷◌, ◌++◌, ◌==◌, ◌||◌, if◌then◌else◌, codes}
+use Rattle.std.specs.Prelude.{◌≡◌, ℕ, ◌<◌, Bool, true, false, List, [], ◌∷◌, ◌++◌, ◌==◌, ◌||◌, if◌then◌else◌, codes}
 use Rattle.std.specs.List.{AllByRecursion, flat_map}
 use Rattle.hex.specs.Hex.{encode_lower}
 use Rattle.dnsv_names.specs.Name.{Labels, lower_case}
@@ -62,3 +62,7 @@ object members = codes "{" ++ parted true members ++ codes "}"
 -- what is written: one object on one line
 abbrev pub object_line : List (List ℕ) → List ℕ
 object_line members = object members ++ codes "\n"
+
+-- the text grows by these members, behind others
+pub record AddsMembers (members : List (List ℕ)) (before after : List ℕ) : Type 0 where
+  pub text : after ≡ before ++ parted false members

@@ -4,6 +4,8 @@ ghost use Rattle.dnsv_names.specs.Text.{text_of};
 ghost use Rattle.dnssec_check.specs.Texts.Json as specs;
 
 pub mod checking;
+pub mod lines;
+pub mod members;
 pub mod todo;
 
 use crate::texts::hex_text::push_hex;

@@ -18,26 +18,28 @@ pub struct RrsetPlace {
     pub rtype: RecordType,
 }
 
+impl RrsetPlace {
+    /// The number of the section: 1 for the answer, 2 for the authority and 3 for the additional section.
+    pub fn section_number(&self) -> u8
+        ensures { result ≡ section_number self.now.section }
+    {
+        match self.section {
+            Section::Answer => 1,
+            Section::Authority => 2,
+            Section::Additional => 3,
+        }
+    }
+}
+
 impl fmt::Display for RrsetPlace {
     ghost output = { λ place. Some (place_text place) };
 
     fn fmt<W: fmt::Write>(&self, f: &mut fmt::Formatter<W>) -> fmt::Result {
         let (rrset, message) = (self.rrset, self.message);
-        let section = section_number(self.section);
+        let section = self.section_number();
         let owner = self.owner.to_lower();
         let rtype = self.rtype.0;
         write!(f, "rrset {rrset} message {message}")?;
         write!(f, " section {section} {owner} {rtype}")
-    }
-}
-
-/// The number of the section: 1 for the answer, 2 for the authority and 3 for the additional section.
-fn section_number(section: Section) -> u8
-    ensures { result ≡ section_number section }
-{
-    match section {
-        Section::Answer => 1,
-        Section::Authority => 2,
-        Section::Additional => 3,
     }
 }

@@ -1,0 +1,78 @@
+"""The objects of `why`: what each line of an explanation says, by its words."""
+
+
+def numbers(fields, *keys):
+    return dict(zip(keys, map(int, fields)))
+
+
+def signature(fields):
+    """OWNER TYPE rrset R signature S key TAG ALG zone SIGNER, and what follows."""
+    owner, rtype, _, rrset, _, number, _, tag, algorithm, _, signer, *rest = fields
+    return ({"owner": owner, **numbers((rtype, rrset, number, tag, algorithm), "type", "rrset", "signature", "tag",
+                                       "algorithm"), "signer": signer}, rest)
+
+
+def options(fields, keys):
+    """Members that may be left out: each a word, and as many numbers as `keys` has for it."""
+    said = {}
+    while fields:
+        word, *fields = fields
+        said |= numbers(fields, *keys[word])
+        fields = fields[len(keys[word]):]
+    return said
+
+
+def trusted(fields):
+    zone, _, rrset, _, number, _, tag, algorithm, *rest = fields
+    said = {"zone": zone, **numbers((rrset, number, tag, algorithm), "rrset", "signature", "tag", "algorithm")}
+    return said | options(rest, {"anchor": ["anchor"], "ds": ["ds_rrset", "ds_record"], "digest": ["digest_type"],
+                                 "todo": ["todo"]})
+
+
+def signed(fields):
+    said, rest = signature(fields)
+    return said | options(rest, {"keys": ["keys"], "todo": ["todo"]})
+
+
+def proof(fields):
+    form, kind, _, zone, *rest = fields
+    return {"form": form, "kind": kind, "zone": zone} | ({"encloser": rest[1]} if rest else {})
+
+
+def part(fields):
+    role, relation, name, *rest = fields
+    said = {"role": role, "relation": relation, "name": name}
+    if rest:
+        _, owner, rtype, _, rrset, _, place = rest
+        said |= {"owner": owner, **numbers((rtype, rrset, place), "type", "rrset", "record")}
+    return said
+
+
+def case(fields):
+    number, _, cut, *rest = fields
+    return {"case": int(number), "cut": cut} | ({"zone": rest[1]} if rest else {})
+
+
+def unusable(fields):
+    why, owner, _, rrset, _, place, _, tag, algorithm, _, digest = fields
+    return {"why": why, "owner": owner,
+            **numbers((rrset, place, tag, algorithm, digest), "rrset", "record", "tag", "algorithm", "digest_type")}
+
+
+def place(fields):
+    rrset, _, message, _, section, owner, rtype = fields
+    return {**numbers((rrset, message, section), "rrset", "message", "section"), "owner": owner, "type": int(rtype)}
+
+
+LINES = {
+    "trusted": trusted, "signed": signed, "proof": proof, "part": part, "case": case, "unusable": unusable,
+    "hope": lambda fields: {"kind": fields[0]},
+    "holds": lambda fields: {"from": int(fields[1]), "to": int(fields[3])},
+    "rrset": place,
+}
+
+
+def why(line):
+    """The object of a line, from its words."""
+    word, *fields = line
+    return {"line": word} | LINES[word](fields)
