@@ -1,10 +1,11 @@
 -- The steps in which members are written behind others.
-use Rattle.std.proofs.Common.{◌≡◌, false, List, [], ◌∷◌, ◌++◌, ℕ, refl, sym, ap, ◌∙◌, append_assoc, codes}
+use Rattle.std.proofs.Common.{◌≡◌, false, List, [], ◌∷◌, ◌++◌, ℕ, refl, sym, ap, ◌∙◌, append_assoc, codes, subst}
+use Rattle.std.specs.Fmt.{decimal}
 use Rattle.std.proofs.lemmas.List.{append-nil}
 use Rattle.dnssec_check.specs.Texts.Json.{AddsMembers, member, object, parted, quoted}
 use Rattle.dnssec_check.proofs.TextLemmas.Json.{parted_behind}
 
-keyed : (s c q k v : List ℕ) → (s ++ (c ++ (q ++ k))) ++ v ≡ s ++ (c ++ ((q ++ (k ++ v)) ++ []))
+keyed : (s c q k v : List ℕ) → (s ++ (c ++ (q ++ k))) ++ v ≡ s ++ ((c ++ ((q ++ k) ++ v)) ++ [])
 keyed s c q k v = simp append_assoc (ap (λ end. s ++ (c ++ (q ++ (k ++ end)))) (sym (append-nil v)))
 
 -- a key, and then its value
@@ -13,6 +14,10 @@ pub one_member : (s s1 s2 key v : List ℕ) → s1 ≡ s ++ (codes "," ++ (quote
 one_member s s1 s2 key v is1 is2 = record {
   text = is2 ∙ ap (λ t. t ++ v) is1 ∙ keyed s (codes ",") (quoted key) (codes ":") v;
 }
+
+-- the same of a number by its value
+pub renumbered : (key : List ℕ) {a b : List ℕ} {n m : ℕ} → n ≡ m → AddsMembers (member key (decimal n) ∷ []) a b → AddsMembers (member key (decimal m) ∷ []) a b
+renumbered key {a} {b} {n} {m} is adds = subst (λ (k : ℕ). AddsMembers (member key (decimal k) ∷ []) a b) is adds
 
 pub no_members : (s : List ℕ) → AddsMembers [] s s
 no_members s = record { text = sym (append-nil s) }
