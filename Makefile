@@ -3,6 +3,7 @@
 .PHONY: all try test demo examples faults wrong-bodies test-tools pages install deb
 
 program = crates/dnssec_check/out/dnssec_check
+rows = crates/dnsv_rows/out/dnsv_rows
 PREFIX = /usr/local
 
 # Proves and builds the program, and shows its help.
@@ -30,8 +31,8 @@ examples: | $(program)
 	tools/examples
 
 # What the built program does where memory, a file or a write fails it, and on captures that are cut, changed or
-# incomplete; needs python3 and cc.
-faults: | $(program)
+# incomplete, and what the libraries do that are called again; needs python3 and cc.
+faults: | $(program) $(rows)
 	tools/faults
 
 # Every wrong body, those that the gate leaves out too, of all crates or of those named, as CRATES="dnsv_names"; with
@@ -83,3 +84,6 @@ deb: | $(program)
 
 $(program):
 	$(MAKE) all
+
+$(rows):
+	cd crates/dnsv_rows && rt run < /dev/null

@@ -1,4 +1,5 @@
 """The library that refuses a program its calls (`refuse.c`): how it is built, and what it is asked for."""
+import os
 import pathlib
 import shutil
 import struct
@@ -38,9 +39,9 @@ class Refusal(namedtuple("Refusal", "kind first last file size", defaults=(None,
         return " ".join(f"{name}={value}" for name, value in self.environment().items())
 
 
-def refused(bench, words, refusal):
-    """What comes of the words, and how many calls there were and were refused."""
+def refused(bench, words, refusal, given=os.devnull):
+    """What comes of the words and the input, and how many calls there were and were refused."""
     counts = bench.file("counts", bytes(16))
     environment = {**refusal.environment(), "LD_PRELOAD": str(bench.tried.library), "REFUSE_COUNTS": str(counts)}
-    answer = bench.answer(words, environment)
+    answer = bench.answer(words, environment, given)
     return (answer, *struct.unpack("=QQ", counts.read_bytes()))

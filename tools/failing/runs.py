@@ -69,13 +69,13 @@ class Bench:
         path.write_bytes(octets)
         return path
 
-    def answer(self, words, environment=None):
-        """What comes of these words."""
-        return self.answer_of([str(self.tried.program), *words], environment)
+    def answer(self, words, environment=None, given=os.devnull):
+        """What comes of these words, and of the file that it is given as its input."""
+        return self.answer_of([str(self.tried.program), *words], environment, given)
 
-    def answer_of(self, command, environment=None):
+    def answer_of(self, command, environment=None, given=os.devnull):
         created = os.O_WRONLY | os.O_CREAT | os.O_TRUNC
-        streams = [(0, os.devnull, os.O_RDONLY), (1, str(self.output), created), (2, str(self.errors), created)]
+        streams = [(0, str(given), os.O_RDONLY), (1, str(self.output), created), (2, str(self.errors), created)]
         opened = [(os.POSIX_SPAWN_OPEN, number, path, flags, 0o600) for number, path, flags in streams]
         process = os.posix_spawn(command[0], command, environment or {}, file_actions=opened)
         return Answer(waited(process), self.output.read_bytes(), self.errors.read_bytes())

@@ -10,7 +10,7 @@ import unittest
 from tool import TOOLS, load
 
 TOP = TOOLS.parent
-PROGRAM = "crates/dnssec_check/out/dnssec_check"
+PROGRAM, ROWS = (f"crates/{name}/out/{name}" for name in ("dnssec_check", "dnsv_rows"))
 SAYS = '#!/bin/sh\nprintf "%s\\n" "$(basename "$0")" "$@"\n'
 NEED_NO_RT = ("demo", "examples", "faults", "pages", "install", "deb")
 
@@ -26,7 +26,8 @@ class Targets(unittest.TestCase):
         shutil.copy(TOP / "Makefile", self.room)
         for name in ("examples", "tools"):
             (self.room / name).symlink_to(TOP / name)
-        (self.room / "crates" / "dnssec_check").mkdir(parents=True)
+        for name in ("dnssec_check", "dnsv_rows"):
+            (self.room / "crates" / name).mkdir(parents=True)
         self.command("bin/rt")
 
     def command(self, name):
@@ -44,6 +45,7 @@ class Targets(unittest.TestCase):
 
     def test_the_program_that_is_built_is_run_without_rt(self):
         self.command(PROGRAM)
+        self.command(ROWS)
         self.assertEqual(self.make("demo")[:2], ["dnssec_check", "list"])
         for target in NEED_NO_RT:
             with self.subTest(target):

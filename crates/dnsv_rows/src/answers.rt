@@ -1,7 +1,9 @@
 //! What is printed for a line of the input.
 
 use crate::row::{Row, RowError};
-use crate::{canonical, chain, denial, digest, message, names, records, tsig, verdict, verifier};
+use crate::{
+    again, canonical, chain, denial, digest, message, names, records, tsig, verdict, verifier,
+};
 use std::alloc::AllocError;
 
 /// What is printed for the line: a title as it stands, what a library answers to a row, and nothing for comments, empty
@@ -56,6 +58,9 @@ fn answer(row: &Row) -> Result<Option<String>, RowError> {
 
 /// The same of the libraries that stand on `dnsv_records`.
 fn answer_above(row: &Row) -> Result<Option<String>, RowError> {
+    if let Some(text) = again::answer(row)? {
+        return Ok(Some(text));
+    }
     if let Some(text) = canonical::answer(row)? {
         return Ok(Some(text));
     }

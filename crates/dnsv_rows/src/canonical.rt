@@ -5,7 +5,7 @@ use dnsv_canonical::{forms_rrsets, is_question, signed_label_count};
 use dnsv_names::RecordType;
 
 mod records;
-mod rrsets;
+pub mod rrsets;
 mod signing;
 
 /// What the library answers, where it has the call.

@@ -64,7 +64,7 @@ pub fn capture_of(alloc: Global, messages: &[Message<'_>]) -> Result<Capture, Re
 pub fn messages(alloc: Global, frames: &[Vec<u8>]) -> Result<Vec<Message<'_>>, RowError> {
     let mut messages = Vec::new(alloc);
     for octets in frames {
-        messages.push(message_of(alloc, octets.as_slice())?)?;
+        messages.push(Message::decode(alloc, octets.as_slice())?)?;
     }
     Ok(messages)
 }
@@ -93,25 +93,14 @@ pub fn signature<'a>(row: &Row, place: usize, rrset: &'a Rrset) -> Result<&'a Rr
     }
 }
 
-fn message_of(alloc: Global, octets: &[u8]) -> Result<Message<'_>, RowError> {
-    match Message::decode(alloc, octets) {
-        Ok(message) => Ok(message),
-        Err(_) => Err(RowError::Malformed),
-    }
-}
-
 /// The octets of the messages that the argument writes.
 pub fn frames(row: &Row, place: usize) -> Result<Vec<Vec<u8>>, RowError> {
     let octets = row.octets(place)?;
     let mut frames = Vec::new(row.alloc());
     let mut framer = Framer::new(row.alloc());
-    let Ok(()) = framer.feed(octets.as_slice(), &mut frames) else {
-        return Err(RowError::Malformed);
-    };
-    match framer.finish() {
-        Ok(()) => Ok(frames),
-        Err(_) => Err(RowError::Malformed),
-    }
+    framer.feed(octets.as_slice(), &mut frames)?;
+    framer.finish()?;
+    Ok(frames)
 }
 
 /// What the RDATA of a DNSKEY record says.

@@ -1,6 +1,7 @@
 //! `dnsv_rows`: worked examples of the libraries, a row each, and what the libraries answer.
 #![tactic(auto)]
 
+mod again;
 mod answers;
 mod canonical;
 mod chain;

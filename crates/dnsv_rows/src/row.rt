@@ -3,6 +3,7 @@
 pub mod printed;
 pub mod written;
 
+use dnsv_message::{DecodeError, ReadError};
 use dnsv_names::Name;
 use std::alloc::{AllocError, AllocFailed, Global};
 use std::collections::BTreeMap;
@@ -24,6 +25,24 @@ impl From<AllocError> for RowError {
 impl<T: Drop> From<AllocFailed<T>> for RowError {
     fn from(_: AllocFailed<T>) -> RowError {
         RowError::OutOfMemory
+    }
+}
+
+impl From<ReadError> for RowError {
+    fn from(error: ReadError) -> RowError {
+        match error {
+            ReadError::OutOfMemory => RowError::OutOfMemory,
+            _ => RowError::Malformed,
+        }
+    }
+}
+
+impl From<DecodeError> for RowError {
+    fn from(error: DecodeError) -> RowError {
+        match error {
+            DecodeError::OutOfMemory => RowError::OutOfMemory,
+            _ => RowError::Malformed,
+        }
     }
 }
 

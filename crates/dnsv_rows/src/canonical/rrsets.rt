@@ -95,7 +95,8 @@ fn is_alone(capture: &Capture, number: usize, rrset: &Rrset, most: u64) -> bool 
     *found == number && count.value() <= most
 }
 
-fn list(alloc: Global, capture: &Capture) -> Result<String, RowError> {
+/// Of each RRset what `rrsets` prints.
+pub fn list(alloc: Global, capture: &Capture) -> Result<String, RowError> {
     let mut texts = Vec::new(alloc);
     for rrset in capture.rrsets() {
         texts.push(text_of(alloc, rrset)?)?;

@@ -1,0 +1,83 @@
+"""Calls of the libraries that are refused memory and then made again: rows of `dnsv_rows` that say what came of them.
+
+`add-again` adds a message again that wasn't added for want of memory, and looks at the capture in between; `feed-again`
+feeds a framer on. A row that finds something wrong there says so, and that is no right answer here."""
+from .refusal import Refusal, refused
+from .runs import Bench
+from .tally import Tally
+
+# What a row says that was refused memory for its own work.
+OWN = b"out of memory\n"
+AGAIN, FOR_EVER = "added again, and then the first answer", "refused from then on, behind a beginning"
+GRANTED, OTHERS = "not refused", "refused beside the call"
+
+
+class Adding:
+    """`add-again`: the first answer, but that one `add` was refused."""
+
+    def __init__(self, name, octets):
+        self.name, self.row, self.wanted = f"again: add, {name}", f"add-again {octets.hex()}\n", AGAIN
+
+    def is_whole(self, text):
+        return text.startswith(b"refused 0, ")
+
+    def end_of(self, right, text):
+        return AGAIN if text == right.replace(b"refused 0, ", b"refused 1, ", 1) else None
+
+
+class Feeding:
+    """`feed-again`, the stream in pieces of this size and a message behind it: a beginning of the messages."""
+
+    def __init__(self, name, octets, size):
+        pieces = [octets[place:place + size].hex() for place in range(0, len(octets), size)]
+        self.name, self.row, self.wanted = f"again: feed, {name}", f"feed-again {' '.join(pieces)} 0001aa\n", FOR_EVER
+
+    def is_whole(self, text):
+        return text.startswith(b"ok, ")
+
+    def end_of(self, right, text):
+        word, _, told = text.partition(b", ")
+        messages = [] if told == b"none\n" else told.split()
+        is_beginning = messages == right.split()[1:][:len(messages)]
+        return FOR_EVER if word == b"refused 90" and is_beginning else None
+
+
+def calls_of(case):
+    """What is tried of its capture."""
+    octets = case.files["capture"].read_bytes()
+    return (Adding(case.name, octets), Feeding(case.name, octets, len(octets)),
+            Feeding(f"{case.name}, in pieces", octets, 1 + len(octets) // 3))
+
+
+def jobs(cases):
+    """A job for each row, which is refused some hundred calls for memory."""
+    for case in cases:
+        yield from ((each, call) for call in calls_of(case))
+
+
+def each(tried, call):
+    """Refuses each call for memory of the row alone; some of them have to be of the call that is made again."""
+    tally, kinds = Tally(), set()
+    with Bench(tried) as bench:
+        row = bench.file("row", call.row.encode())
+        right, calls, _ = refused(bench, [], Refusal("memory"), row)
+        is_right = right.status == 0 and call.is_whole(right.output)
+        tally.take(call.name, GRANTED if is_right else None, f"where none of {calls} calls is refused", right)
+        for number in range(1, calls + 1):
+            asked = Refusal("memory", number, number)
+            answer, _, count = refused(bench, [], asked, row)
+            end = end_of(call, right.output, answer) if count else None
+            kinds.add(end)
+            tally.take(call.name, end, f"{asked}, {count} refused", answer)
+    if call.wanted not in kinds:
+        tally.failed(call.name, f"none was {call.wanted}")
+    return tally
+
+
+def end_of(call, right, answer):
+    """How the row ended: its own work may be refused too, and the program's, which then ends with status 1."""
+    if answer.status:
+        return OTHERS if answer.status == 1 and not answer.output else None
+    if answer.output == right:
+        return GRANTED
+    return OTHERS if answer.output == OWN else call.end_of(right, answer.output)
