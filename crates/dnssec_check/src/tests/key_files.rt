@@ -91,6 +91,64 @@ m < 780a !
 => 1
 ! fault 210 macs
 
+# Of what is refused and what can't be read the first in the order of the work is told. Each file fails within a line or
+# a frame, and at its end.
+k < 4b !
+m = x
+=> 1
+! fault 210 keys
+
+k = x
+m < 2d0a !
+=> 7
+! refused 301 line 1
+
+m < 31 !
+c < 0000
+=> 1
+! fault 210 macs
+
+m = x
+c < SIGNED_KEYS !
+=> 7
+! refused 801 line 1
+
+c < SIGNED_KEYS 00 !
+a = x
+=> 1
+! fault 210 capture
+
+c < SIGNED_KEYS SIGNED_HOST !
+a = x
+=> 1
+! fault 210 capture
+
+c < SIGNED_KEYS 0000
+a < 23 !
+=> 7
+! refused 208
+
+a < 4b45 !
+=> 1
+! fault 210 anchors
+
+a < 4b4559206578616d706c652e20323536203320313320415149440a !
+=> 1
+! fault 210 anchors
+
+a = x
+s < 23 !
+=> 7
+! refused 601 line 1
+
+s < 676f !
+=> 1
+! fault 210 statements
+
+s < 230a !
+=> 1
+! fault 210 statements
+
 $ dnssec_check check --capture c --anchors a --statements s --keys z --macs m --moment 1500 --name host.example. --type 1
 => 1
 ! fault 811 keys
