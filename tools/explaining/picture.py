@@ -1,0 +1,73 @@
+"""A picture of the chain as SVG, which Graphviz lays out."""
+import re
+import shutil
+import subprocess
+
+from asking.faults import Failure
+
+from .chain import FAILS, FOLLOWS, HOLDS, MISSING
+
+DOT = "dot"
+# How a box or an edge is drawn so that it can be told without colour; colours are given by the page, by class.
+BOX_STYLES = {FAILS: "style=bold penwidth=2.5", MISSING: "style=dashed", FOLLOWS: "style=dotted"}
+EDGE_STYLES = {FAILS: "style=bold penwidth=2.5", MISSING: "style=dashed penwidth=1.5", FOLLOWS: "style=dotted"}
+FRONT = """digraph chain {
+graph [rankdir=TB nodesep=0.25 ranksep=0.35 margin=0 bgcolor=transparent fontname="Helvetica" fontsize=12]
+node [shape=box margin="0.1,0.05" height=0.3 fontname="Helvetica" fontsize=11]
+edge [arrowsize=0.7 fontname="Helvetica" fontsize=10]
+"""
+# A frame's name stands at its left, where no edge comes in.
+FRAME = "class=zone style=rounded labeljust=l margin=10"
+# What Graphviz writes besides the picture: what is before it, comments, and titles, which would be numbers of nodes.
+BESIDES = re.compile(r"\A.*?(?=<svg)|<!--.*?-->\n?|<title>.*?</title>\n?", re.DOTALL)
+WIDE = 26  # a longer name is broken at a dot
+
+
+def quoted(lines):
+    """Lines as the text of DOT, in which a backslash and an ampersand begin something."""
+    text = (line.replace("&", "&amp;").replace("\\", "\\\\").replace('"', '\\"') for line in lines)
+    return '"' + "\\n".join(text) + '"'
+
+
+def broken(line):
+    """The line in pieces that aren't wide, parted behind dots of names and at blanks."""
+    pieces, rest = [], line
+    while len(rest) > WIDE:
+        place = max(rest.rfind(".", 0, WIDE), rest.rfind(" ", 0, WIDE)) + 1
+        place = place if place > 1 else WIDE
+        pieces.append(rest[:place].rstrip(" "))
+        rest = rest[place:]
+    return pieces + [rest] if rest else pieces
+
+
+def dot_of(chain):
+    """The chain as the text of DOT. Its nodes have numbers, so only quoted texts are what strangers wrote."""
+    numbers = {key: f"n{number}" for number, key in enumerate(chain.boxes)}
+    text = FRONT
+    for number, (zone, boxes) in enumerate(chain.zones().items()):
+        text += f"subgraph cluster_{number} {{\nlabel={quoted(broken('zone ' + zone))} {FRAME}\n"
+        text += "".join(node(numbers, box) for box in boxes) + "}\n"
+    text += "".join(node(numbers, box) for box in chain.boxes.values() if box.zone is None)
+    return text + "".join(edge(numbers, each) for each in chain.edges.values()) + "}\n"
+
+
+def node(numbers, box):
+    lines = [piece for line in box.lines for piece in broken(line)]
+    return f"{numbers[box.key]} [label={quoted(lines)} class={box.state} {BOX_STYLES.get(box.state, '')}]\n"
+
+
+def edge(numbers, each):
+    label = f" label={quoted(f' {piece}' for piece in broken(each.text))}" if each.text else ""
+    style = EDGE_STYLES.get(each.state, "")
+    return f"{numbers[each.tail]} -> {numbers[each.head]} [class={each.state} {style}{label}]\n"
+
+
+def svg_of(chain):
+    """The picture, as an element of HTML."""
+    program = shutil.which(DOT)
+    if program is None:
+        raise Failure("a picture needs the program dot (Debian: graphviz)")
+    done = subprocess.run([program, "-Tsvg"], input=dot_of(chain).encode(), capture_output=True, check=False)
+    if done.returncode:
+        raise Failure(f"{DOT}: {done.stderr.decode(errors='replace').strip()}")
+    return BESIDES.sub("", done.stdout.decode())
