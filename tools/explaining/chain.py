@@ -4,10 +4,11 @@ from collections import namedtuple
 from .missing import DS, DNSKEY
 from .values import algorithm_name, digest_name, owned
 
-# How a box or an edge stands: it holds; it fails; it isn't there; it follows from what fails; or it just is.
-HOLDS, FAILS, MISSING, FOLLOWS, PLAIN = "holds", "fails", "missing", "follows", "plain"
+# How a box or an edge stands: it holds; it fails; it isn't there; it follows from what fails; or it just is. An edge may
+# only say what stands under what.
+HOLDS, FAILS, MISSING, FOLLOWS, PLAIN, UNDER = "holds", "fails", "missing", "follows", "plain", "under"
 # Of several that are said of one, the first of these counts.
-FROM_WORST = (FAILS, MISSING, HOLDS, PLAIN, FOLLOWS)
+FROM_WORST = (FAILS, MISSING, HOLDS, PLAIN, FOLLOWS, UNDER)
 
 # `zone` is the name of the frame that it stands in, None for what stands in none; `lines` is its text.
 Box = namedtuple("Box", "key zone lines state")

@@ -1,11 +1,14 @@
 """The boxes and edges that each line of an explanation puts into the picture of the chain."""
-from .chain import FAILS, FOLLOWS, HOLDS, MISSING, PLAIN, Chain, anchor_box, ds_box, key_box, keys_box, rrset_box
+from .chain import (FAILS, FOLLOWS, HOLDS, MISSING, PLAIN, UNDER, Chain, anchor_box, ds_box, key_box, keys_box,
+                    rrset_box)
 from .holding import UNUSABLE
-from .missing import DS, DNAME, ROLES
+from .missing import DNAME, DNSKEY, DS, ROLES
 from .values import date, flag_names, owned
 from .vouchers import is_voucher
 
 QUESTION = ("question",)
+# The types that only lead on to a zone; all others are what is asked for, or deny it.
+OF_ZONES = (DS, DNSKEY)
 
 
 def chain_of(told):
@@ -40,6 +43,18 @@ class Scene:
         for box, state, text in self.leading:
             if box in self.chain.boxes:
                 self.chain.join(box, QUESTION, state, text)
+        self.lay_under()
+
+    def lay_under(self):
+        """What no edge leads to stands under the last link of the chain, and the question under all."""
+        links = [line["rrset"] for line in self.told.of("trusted")]
+        heads = {each.head for each in self.chain.edges.values()}
+        last = ("rrset", links[-1]) if links else None
+        for key, box in list(self.chain.boxes.items()):
+            if last and key not in heads and key != last and box.state in (FAILS, MISSING):
+                self.chain.join(last, key, UNDER)
+        if last:
+            self.chain.join(last, QUESTION, UNDER)
 
     def voucher(self, line, zone, state):
         """The box of the anchor or DS record that a line names by `anchor`, or by `ds_rrset` and `ds_record`."""
@@ -52,13 +67,9 @@ class Scene:
         """The edge from the key that signs to the RRset, whichever zone that is in."""
         tail = key_box(self.chain, line["signer"], line, FOLLOWS if state == FOLLOWS else PLAIN)
         head = rrset_box(self.chain, line["signer"], line["rrset"], line["owner"], line["type"], state)
-        if self.is_question(line):
+        if line["type"] not in OF_ZONES:
             self.lead(head, state)
         self.chain.join(tail, head, state, text)
-
-    def is_question(self, line):
-        """Whether the RRset is what is asked for."""
-        return (line["owner"], line["type"]) == (self.told.value["name"], self.told.value["type"])
 
 
 def trusted(scene, line):
@@ -102,23 +113,22 @@ def proof(_scene, _line):
 
 def part(scene, line):
     if "owner" in line:
-        text = f"{ROLES[line['role']]}: {line['relation']}"
-        scene.lead(("rrset", line["rrset"]), HOLDS, text)
+        scene.lead(("rrset", line["rrset"]), HOLDS, f"{ROLES[line['role']]}\n{line['relation']}")
 
 
 def cut_box(scene, name, zone):
     """The name from which on nothing has to be signed."""
-    return scene.chain.add(("cut", name), zone, (name, "may be unsigned"), MISSING)
+    return scene.chain.add(("cut", name), zone, (name, "may be unsigned"), PLAIN)
 
 
 def case(scene, line):
-    scene.lead(cut_box(scene, line["cut"], line.get("zone")), MISSING)
+    scene.lead(cut_box(scene, line["cut"], line.get("zone")), PLAIN)
 
 
 def unusable(scene, line):
     place, zone = (line["rrset"], line["record"]), scene.signers.get(line["rrset"])
-    box = ds_box(scene.chain, scene.signers, place, line["owner"], FAILS, line)
-    scene.chain.join(box, cut_box(scene, line["owner"], zone), FAILS, UNUSABLE[line["why"]])
+    box = ds_box(scene.chain, scene.signers, place, line["owner"], PLAIN, line)
+    scene.chain.join(box, cut_box(scene, line["owner"], zone), PLAIN, UNUSABLE[line["why"]])
 
 
 def unseen(_scene, _line):
@@ -175,8 +185,9 @@ def not_self_signed(scene, line):
 
 
 def unsigned(scene, line):
-    box = rrset_box(scene.chain, None, line["rrset"], line["owner"], line["type"], FAILS, ("unsigned",))
-    if scene.is_question(line):
+    zone = line["owner"] if line["type"] == DNSKEY else None
+    box = rrset_box(scene.chain, zone, line["rrset"], line["owner"], line["type"], FAILS, ("unsigned",))
+    if line["type"] not in OF_ZONES:
         scene.lead(box, FAILS)
 
 
@@ -190,7 +201,7 @@ def at_name(scene, line):
     role = (ROLES[line["role"]],) if "role" in line else ()
     box = scene.chain.add((line["word"], line["zone"], line["name"]), line["zone"],
                           (f"no {line['kind'].upper()}", line["name"], *role), MISSING)
-    scene.lead(box, MISSING, line["word"])
+    scene.lead(box, MISSING)
 
 
 def record(scene, line):
@@ -208,7 +219,7 @@ def dname(scene, line):
 
 def question(scene, line):
     box = scene.chain.add((line["word"],), line.get("zone"), (ABSENT[line["word"]],), MISSING)
-    scene.lead(box, MISSING, line["word"])
+    scene.lead(box, MISSING)
 
 
 def follows(scene, line):

@@ -1,6 +1,7 @@
 """One page of HTML for verdicts: the sentences, a picture of each chain, and the records. It loads nothing, and what
 strangers wrote is text in it."""
 import pkgutil
+from collections import namedtuple
 from html import escape
 
 from asking.faults import escaped
@@ -8,9 +9,11 @@ from asking.moments import moment_text
 
 from .drawn import chain_of
 from .picture import svg_of
-from .sentences import sentence, verdict, why
-from .values import owned
+from .sentences import sentence, why
 
+# A verdict: what is asked, the verdict in words, the capture's name and the moment, and what explains it (`Told`, or None
+# where there is no verdict).
+Entry = namedtuple("Entry", "question said capture moment told")
 POLICY = "default-src 'none'; style-src 'unsafe-inline'"
 LEGEND = ("From the trust anchor down: a frame is a zone, an arrow leads from what names or signs to what is named or signed. "
           "Thick: it fails. Dashed: it isn't there. Dotted: it follows from what fails. All else holds, or is there and "
@@ -22,10 +25,11 @@ def text(words):
     return escape(escaped(words))
 
 
-def page_of(entries):
-    """The page: an entry for each verdict, which is what `told` explains, in which capture, and what records that has."""
+def page_of(entries, captures):
+    """The page: its entries, and the records of each capture, a line each, by the capture's name."""
     style = pkgutil.get_data(__name__, "page.css").decode()
-    body = "".join(entry(number, *each) for number, each in enumerate(entries, 1))
+    body = "".join(section(number, each) for number, each in enumerate(entries, 1))
+    body += "".join(details(f"Records of {text(name)}", listing(lines)) for name, lines in captures)
     return ("<!DOCTYPE html>\n<html lang=\"en\">\n<head>\n<meta charset=\"utf-8\">\n"
             "<meta name=\"viewport\" content=\"width=device-width, initial-scale=1\">\n"
             f"<meta http-equiv=\"Content-Security-Policy\" content=\"{escape(POLICY)}\">\n"
@@ -33,15 +37,13 @@ def page_of(entries):
             f"<h1>Verdicts of DNSSEC</h1>\n{body}</main>\n</body>\n</html>\n")
 
 
-def entry(number, capture, told, records):
-    """One verdict: its sentences, the picture, each link of the chain, and the records."""
-    value, name = told.value, f"v{number}"
-    question = owned(value["name"], value["type"])
-    head = f"<h2 id=\"{name}\">{text(question)}: {text(verdict(told))}</h2>\n"
-    place = f"<p class=\"place\">{text(capture)}, at {moment_text(told.now)}</p>\n"
-    said = items("ul", "why", why(told))
-    return (f"<section aria-labelledby=\"{name}\">\n{head}{place}{said}{figure(told, question)}"
-            f"{details('Each line', links(told))}{details('Records', listing(records))}</section>\n")
+def section(number, entry):
+    """One verdict: its sentences, the picture, and what each line of the explanation says."""
+    name, told = f"v{number}", entry.told
+    head = f"<h2 id=\"{name}\">{text(entry.question)}: {text(entry.said)}</h2>\n"
+    place = f"<p class=\"place\">{text(entry.capture)}, at {moment_text(entry.moment)}</p>\n"
+    shown = items("ul", "why", why(told)) + figure(told, entry.question) + details("Each line", links(told)) if told else ""
+    return f"<section aria-labelledby=\"{name}\">\n{head}{place}{shown}</section>\n"
 
 
 def items(tag, kind, sentences):
@@ -68,11 +70,8 @@ def links(told):
 
 
 def listing(records):
-    return f"<pre tabindex=\"0\">{text_of(records)}</pre>\n" if records else ""
-
-
-def text_of(lines):
-    return "\n".join(map(text, lines))
+    lines = "\n".join(map(text, records))
+    return f"<pre tabindex=\"0\">{lines}</pre>\n" if lines else ""
 
 
 def details(title, inner):

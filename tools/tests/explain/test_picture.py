@@ -3,7 +3,7 @@ import html.parser
 import shutil
 import unittest
 
-from explaining import chain, drawn, page, picture
+from explaining import chain, drawn, page, picture, sentences
 from judge.helper import needs_dns_here
 from .helper import FORMS, lines_of, told_by, told_of
 
@@ -91,8 +91,9 @@ class Read(html.parser.HTMLParser):
 @needs_dns_here
 @needs_dot
 class Pages(unittest.TestCase):
-    def page(self, told, *records):
-        return page.page_of([("a.cap", told, records)])
+    def page(self, told, *records, capture="a.cap"):
+        entry = page.Entry(told.value["name"] + " A", sentences.verdict(told), capture, told.now, told)
+        return page.page_of([entry], [(capture, records)])
 
     def test_it_has_the_sentences_the_records_and_the_picture(self):
         read = Read(self.page(told_of("roll-gone"), "message 1 record 1 (answer) RRset 1: example.test. 60 IN A 192.0.2.1"))
@@ -116,7 +117,7 @@ class Pages(unittest.TestCase):
                     "name": name}
             told = told_by(line, {"line": "reason", "word": "no-anchor", "ede": 5, "zone": name})
             told.value["name"] = name
-            read = Read(page.page_of([(f"{name}.cap", told, [f"record {name}"])]))
+            read = Read(self.page(told, f"record {name}", capture=f"{name}.cap"))
             with self.subTest(name):
                 self.assertEqual(read.tags - plain.tags, set())
                 self.assertEqual(read.names - plain.names - {"stroke-dasharray"}, set())
@@ -126,7 +127,7 @@ class Pages(unittest.TestCase):
                 self.assertIn(name, words.split("From the trust anchor down")[0].replace("\n", "").split(".cap, at")[1])
 
     def test_captures_whose_names_are_no_text(self):
-        read = Read(page.page_of([("octet\udcff\x1b.cap", told_by(), [])]))
+        read = Read(self.page(told_by(), capture="octet\udcff\x1b.cap"))
         self.assertIn("octet\\xff\\x1b.cap", "".join(read.words))
 
 
