@@ -59,7 +59,8 @@ def error(said):
 
 def figure(told, question):
     """The picture. It is as wide as it has to be, so that its text can be read, and moves within its frame."""
-    drawn = svg_of(chain_of(told)).replace("<svg ", f"<svg role=\"img\" aria-label=\"{text('The chain of ' + question)}\" ", 1)
+    name = text(f"The chain of {question}")
+    drawn = svg_of(chain_of(told)).replace("<svg ", f"<svg role=\"img\" aria-label=\"{name}\" ", 1)
     return (f"<figure>\n<div class=\"picture\" tabindex=\"0\">\n{drawn}</div>\n<figcaption>{LEGEND} The lines below say the same "
             "in words.</figcaption>\n</figure>\n")
 

@@ -23,7 +23,8 @@ def named(line):
 
 
 def algorithm(_told, line):
-    return itself(line), f"{voucher(line)} names key {line['tag']} of {algorithm_name(line['algorithm'])}, which isn't supported"
+    name = algorithm_name(line["algorithm"])
+    return itself(line), f"{voucher(line)} names key {line['tag']} of {name}, which isn't supported"
 
 
 def digest_type(_told, line):
