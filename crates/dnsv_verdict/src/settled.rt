@@ -107,10 +107,28 @@ fn opt_out_wildcard_cut(
         ((k s : ℕ) → ¬ IsOptOutWildcardSet (SecuredIn trust.now) capture.now.rrsets name.now rtype.0 k s)
         (IsOptOutWildcardCut (SecuredIn trust.now) capture.now.rrsets name.now rtype.0) }
 {
-    let Some(found) = first_such(capture, trust, name, &IsOptOutWildcard { view, rtype }) else {
+    let Some(found) = opt_out_wildcard(capture, trust, name, rtype, view) else {
         return None;
     };
     Some(name.suffix(found.rrsig.labels as usize + 1))
+}
+
+/// The first RRset of the name, and of the type or CNAME, and its first signature, that come from a wildcard and against
+/// which an unsigned delegation may stand (RFC 5155 8.8). The view is of the name, over the same evidence and trust.
+pub fn opt_out_wildcard<'a>(
+    capture: &'a Capture,
+    trust: &Trust,
+    name: &Name,
+    rtype: RecordType,
+    view: &View<'_, '_>,
+) -> Option<Found<'a>>
+    requires { view.now ≡ record { rrsets = capture.now.rrsets; trust = trust.now; name = name.now } }
+    ensures { MatchOption result
+        ((k s : ℕ) → ¬ IsOptOutWildcardSet (SecuredIn trust.now) capture.now.rrsets name.now rtype.0 k s)
+        (λ found. (is : IsFirstSuch (IsOptOutWildcardSet (SecuredIn trust.now) capture.now.rrsets name.now rtype.0)
+        found.rrset found.signature) × (is.such.rrsig ≡ found.rrsig.now)) }
+{
+    first_such(capture, trust, name, &IsOptOutWildcard { view, rtype })
 }
 
 /// That an RRset of the type holds for the view's name by the signature: no wildcard is behind it, or there is a proof
