@@ -36,7 +36,7 @@ def options_of(path, *words):
 @unittest.skipUnless(shutil.which("bash"), "needs bash")
 class Completion(unittest.TestCase):
     def test_subcommands_and_options(self):
-        self.assertEqual(offered("dnssec_check", ""), ["show", "list", "check", "--help"])
+        self.assertEqual(offered("dnssec_check", ""), ["show", "list", "check", "explain", "--help"])
         self.assertEqual(offered("dnssec_check", "ch"), ["check"])
         self.assertEqual(offered("dnssec_check", "show", "--c"), ["--capture"])
         self.assertEqual(offered("dnssec_check", "check", "--capture", "x", "--ma"), ["--macs"])
@@ -69,7 +69,7 @@ class Completion(unittest.TestCase):
 
     @unittest.skipUnless(PROGRAM.exists(), "needs the built program")
     def test_every_option_of_the_program_is_offered(self):
-        for name in ("show", "list", "check"):
+        for name in ("show", "list", "check", "explain"):
             with self.subTest(name):
                 self.assertEqual(set(offered("dnssec_check", name, "--")), options_of(PROGRAM, name))
 

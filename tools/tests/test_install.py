@@ -86,7 +86,8 @@ class Manual(unittest.TestCase):
     def test_the_manual_page_has_each_option_of_the_program(self):
         told = set(re.findall(r"\.(?:It|Op) Fl -([a-z]+)", MANUAL.read_text()))
         helps = [run_program(PROGRAM, *words)[1].decode() for words in (["--help"], ["show", "--help"],
-                                                                       ["list", "--help"], ["check", "--help"])]
+                                                                       ["list", "--help"], ["check", "--help"],
+                                                                       ["explain", "--help"])]
         options = {option for text in helps for option in re.findall(r"^ +(?:-\w, )?--([a-z-]+)", text, re.MULTILINE)}
         self.assertLessEqual({"capture", "moment", "all", "help"}, options)
         self.assertEqual(options - told, set())

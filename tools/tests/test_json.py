@@ -27,9 +27,9 @@ def text_of(folder):
 
 
 def in_lines():
-    """The examples of `list` and `check` that print a text in lines."""
+    """The examples of `list`, `check` and `explain` that print a text in lines."""
     return [path for path in sorted(EXAMPLES.iterdir()) if path.is_dir() and text_of(path)
-            and words_of(path)[0] in ("list", "check") and "--json" not in words_of(path)]
+            and words_of(path)[0] in ("list", "check", "explain") and "--json" not in words_of(path)]
 
 
 class Json(unittest.TestCase):
@@ -44,7 +44,7 @@ class Json(unittest.TestCase):
 
     def test_examples_in_json_say_what_those_in_lines_say(self):
         folders = sorted(EXAMPLES.glob("*-json"))
-        self.assertGreaterEqual(len(folders), 8)
+        self.assertGreaterEqual(len(folders), 48)
         for folder in folders:
             with self.subTest(folder.name):
                 lines = folder.with_name(folder.name.removesuffix("-json"))
@@ -62,6 +62,16 @@ class Json(unittest.TestCase):
         self.assertEqual(self.as_json(["check", "--moment", "7"], 'Bogus a\\."b\\\\\\032. 1\n'),
                          '{"command":"check","name":"a\\\\.\\"b\\\\\\\\\\\\032.","type":1,"moment":7,'
                          '"verdict":"Bogus","status":5,"aliases":[]}\n')
+
+    def test_an_explanation_has_an_object_for_each_line(self):
+        words = ["explain", "--moment", "7"]
+        self.assertEqual(self.as_json(words, "SecureAnswer a. 1\nrrset 2 signature 1\n"
+                                      "trusted a. rrset 1 signature 3 key 5 8 ds 4 2 digest 2 todo 6\n"
+                                      "rrset 1 message 2 section 3 a. 48\n"),
+                         '{"command":"explain","name":"a.","type":1,"moment":7,"verdict":"SecureAnswer","status":0,'
+                         '"aliases":[],"rrset":2,"signature":1,"why":[{"line":"trusted","zone":"a.","rrset":1,'
+                         '"signature":3,"tag":5,"algorithm":8,"ds_rrset":4,"ds_record":2,"digest_type":2,"todo":6},'
+                         '{"line":"rrset","rrset":1,"message":2,"section":3,"owner":"a.","type":48}]}\n')
 
     def test_what_fails(self):
         """Lines that the manual page will have: of a signature, a DS record, a denial and a key."""

@@ -16,7 +16,7 @@ use Rattle.clap.specs.declared.error.kind.ErrorKind.{ErrorKind}
 use Rattle.clap.specs.declared.error.kind.ErrorKind.TheVariants as kind
 use Rattle.std.specs.declared.io.ErrorKind.{ErrorKind as IoErrorKind}
 use Rattle.std.specs.declared.io.ErrorKind.TheVariants as io
-use Rattle.dnssec_check.specs.CommandLine.Commands.{program_app}
+use Rattle.dnssec_check.specs.CommandLine.Commands.{program_app, question_word}
 use Rattle.dnssec_check.specs.CommandLine.Moment.{last_moment}
 use Rattle.dnssec_check.specs.declared.command_line.request.Request.{Request}
 use Rattle.dnssec_check.specs.declared.command_line.request.Request.TheVariants as request
@@ -46,7 +46,7 @@ Asks name rows (request.List capture moment statements all json) = (name ≡ cod
     × (first_of (codes "statements") rows ≡ option_map string_bytes statements)
     × (flag_said (one_of (codes "all") rows) ≡ all)
     × (flag_said (one_of (codes "json") rows) ≡ json)
-Asks name rows (request.Check capture anchors moment asked rtype statements keys macs json) = (name ≡ codes "check")
+Asks name rows (request.Check capture anchors moment asked rtype statements keys macs json why) = (name ≡ question_word why)
     × (first_of (codes "capture") rows ≡ Some (string_bytes capture))
     × (first_of (codes "anchors") rows ≡ Some (string_bytes anchors))
     × (option_and_then (number_said last_moment) (first_of (codes "moment") rows) ≡ Some moment)

@@ -28,22 +28,28 @@ use Rattle.dnssec_check.specs.Texts.Todo.{IsTodo}
 -- ---- the text
 
 -- the question is one that can be asked, and the end and the text are those of its check
-abbrev pub IsAnswered : Bool → List ℕ → ℕ → ℕ → Files → Status → List ℕ → Type 0
-IsAnswered json asked rtype moment files end text =
-    (name : Labels) × Spells asked name × IsQuestion name rtype × IsCheck json name rtype moment files end text
+abbrev pub IsAnswered : Bool → Bool → List ℕ → ℕ → ℕ → Files → Status → List ℕ → Type 0
+IsAnswered json why asked rtype moment files end text =
+    (name : Labels) × Spells asked name × IsQuestion name rtype × IsCheck json why name rtype moment files end text
 
 -- what each signature signs, or what a verifier still has to check
 abbrev pub IsListed : Bool → Bool → ℕ → Files → List ℕ → Type 0
 IsListed true json moment files text = IsListing json moment files.capture text
 IsListed false json moment files text = IsTodo json moment files text
 
--- over these files the request ends so, with this text: in JSON, where it asks for that
+-- over these files the request ends so, with this text: in JSON, and with why the verdict stands, where it asks for that
 abbrev pub IsTextAskedFor : Request → Files → Status → List ℕ → Type 0
 IsTextAskedFor (request.Show capture) files end text = (end ≡ Done) × IsShowing files.capture text
 IsTextAskedFor (request.List capture moment statements all json) files end text =
     (end ≡ Done) × IsListed all json moment files text
-IsTextAskedFor (request.Check capture anchors moment asked rtype statements keys macs json) files end text =
-    IsAnswered json (string_bytes asked) rtype.0 moment files end text
+IsTextAskedFor (request.Check capture anchors moment asked rtype statements keys macs json why) files end text =
+    IsAnswered json why (string_bytes asked) rtype.0 moment files end text
+
+-- the request doesn't ask why a verdict stands
+abbrev pub AsksNotWhy : Request → Type 0
+AsksNotWhy (request.Show capture) = ⊤
+AsksNotWhy (request.List capture moment statements all json) = ⊤
+AsksNotWhy (request.Check capture anchors moment asked rtype statements keys macs json why) = why ≡ false
 
 -- ---- the first fault
 
@@ -102,7 +108,7 @@ IsFirstFaultOfCheck asked rtype moment files fault =
 abbrev pub IsFirstFault : Request → Files → Fault → Type 0
 IsFirstFault (request.Show capture) files fault = IsFaultOfCapture AnyMessage Plain files.capture fault
 IsFirstFault (request.List capture moment statements all json) files fault = IsFirstFaultOfList all files fault
-IsFirstFault (request.Check capture anchors moment asked rtype statements keys macs json) files fault =
+IsFirstFault (request.Check capture anchors moment asked rtype statements keys macs json why) files fault =
     IsFirstFaultOfCheck (string_bytes asked) rtype.0 moment files fault
 
 -- ---- what a failed read comes behind
@@ -143,5 +149,5 @@ IsReachedByCheck asked rtype moment files file =
 abbrev pub IsReached : Request → Files → InputFile → Type 0
 IsReached (request.Show capture) files file = IsCaptureReached file
 IsReached (request.List capture moment statements all json) files file = IsReachedByList all files file
-IsReached (request.Check capture anchors moment asked rtype statements keys macs json) files file =
+IsReached (request.Check capture anchors moment asked rtype statements keys macs json why) files file =
     IsReachedByCheck (string_bytes asked) rtype.0 moment files file

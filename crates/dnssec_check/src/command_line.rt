@@ -3,6 +3,7 @@ ghost use Rattle.std.specs.Prelude.{◌≡◌, ◌≤◌, ⊤, IfErr, IfOk, code
 ghost use Rattle.std.specs.IoError.{error_kind as io_error_kind};
 ghost use Rattle.std.specs.Option.{option_map};
 ghost use Rattle.clap.specs.Words.{first_of, found_of, one_of, rows_of};
+ghost use Rattle.dnssec_check.specs.CommandLine.Commands.{question_word};
 ghost use Rattle.dnssec_check.specs.CommandLine.{Asks, HasCapture, HasCheckValues, HasListValues, HasNumber, HasValue};
 ghost use Rattle.dnssec_check.specs.CommandLine.{IsAccepted, IsFlag, IsRefused, command_line_code, command_line_error, flag_said, number_said, words_error};
 ghost use Rattle.dnssec_check.specs.declared.command_line.CommandLineError.TheVariants.{OutOfMemory};
@@ -90,7 +91,8 @@ impl From<clap::Error> for CommandLineError {
 /// Whatever `clap` takes for the commands `show --capture FILE`,
 /// `list --capture FILE --moment N [--statements FILE] [--all] [--json]` and
 /// `check --capture FILE --anchors FILE --moment N --name NAME --type N` with `[--statements FILE]`, `[--keys FILE]`,
-/// `[--macs FILE]` and `[--json]` is a request, and each error is one that `clap` gives there, or the want of memory.
+/// `[--macs FILE]` and `[--json]`, and for `explain` with the words of `check`, is a request, and each error is one that
+/// `clap` gives there, or the want of memory.
 pub fn read_command_line<S: AsStr>(alloc: Global, words: &[S]) -> Result<Request, CommandLineError>
     ensures accepted { IfOk result (λ request. IsAccepted (map S.text words.now) request) }
     ensures refused { IfErr result (λ error. IsRefused (map S.text words.now) error) }
@@ -102,7 +104,7 @@ pub fn read_command_line<S: AsStr>(alloc: Global, words: &[S]) -> Result<Request
     } else if name == "list" {
         Ok(list_request(alloc, values)?)
     } else {
-        Ok(check_request(alloc, values)?)
+        Ok(check_request(alloc, values, name == "explain")?)
     }
 }
 
@@ -134,10 +136,10 @@ fn list_request(alloc: Global, list: &ArgMatches<'_>) -> Result<Request, AllocEr
     })
 }
 
-/// The request of the matches of `check`.
-fn check_request(alloc: Global, check: &ArgMatches<'_>) -> Result<Request, AllocError>
+/// The request of the matches of `check`, or of `explain`.
+fn check_request(alloc: Global, check: &ArgMatches<'_>, why: bool) -> Result<Request, AllocError>
     requires { HasCheckValues (rows_of (found_of check.now)) }
-    ensures { IfOk result (Asks (codes "check") (rows_of (found_of check.now))) }
+    ensures { IfOk result (Asks (question_word why) (rows_of (found_of check.now))) }
 {
     let capture = value(alloc, check, "capture")?;
     let anchors = value(alloc, check, "anchors")?;
@@ -158,6 +160,7 @@ fn check_request(alloc: Global, check: &ArgMatches<'_>) -> Result<Request, Alloc
         keys,
         macs,
         json,
+        why,
     })
 }
 

@@ -9,7 +9,7 @@ ghost use Rattle.dnssec_check.specs.Texts.Showing.{IsShowing};
 ghost use Rattle.dnssec_check.specs.Files.{Files};
 ghost use Rattle.dnssec_check.specs.Layers.{LayerLaws};
 ghost use Rattle.dnssec_check.specs.Opening.Macs.{HasMacs, IsFaultOfMacs};
-ghost use Rattle.dnssec_check.specs.Run.{IsTextAskedFor, IsFirstFault};
+ghost use Rattle.dnssec_check.specs.Run.{AsksNotWhy, IsFirstFault, IsTextAskedFor};
 ghost use Rattle.dnssec_check.specs.declared.status.Status.{Status};
 ghost use Rattle.dnssec_check.specs.declared.status.Fault.{Fault};
 ghost use Rattle.dnssec_check.specs.declared.command_line.request.Request.{Request};
@@ -46,10 +46,11 @@ fn layers()
     a_question_leads_one_way();
 }
 
-/// A request has at most one text for its files, and one end.
+/// A request has at most one end for its files, and one text where it doesn't ask why a verdict stands.
 pub fn one_text()
     ensures { (asked : Request) (files : Files) → AreOctets files.capture
-        → (s t : Status) (a b : List ℕ) → IsTextAskedFor asked files s a → IsTextAskedFor asked files t b → (s ≡ t) × (a ≡ b) }
+        → (s t : Status) (a b : List ℕ) → IsTextAskedFor asked files s a → IsTextAskedFor asked files t b
+        → (s ≡ t) × (AsksNotWhy asked → a ≡ b) }
 {
     layers();
 }

@@ -118,8 +118,18 @@ fn outcome_of<R: Read>(
             rtype,
             moment,
             json,
+            why,
             ..
-        } => check(alloc, *json, name.as_bytes(), *rtype, *moment, inputs, bump),
+        } => check(
+            alloc,
+            *json,
+            *why,
+            name.as_bytes(),
+            *rtype,
+            *moment,
+            inputs,
+            bump,
+        ),
     }
 }
 
@@ -170,10 +180,11 @@ fn list<R: Read>(
     Ok(still_to_check(alloc, json, &held, moment, &statements)?)
 }
 
-/// The verdict on the question, if it is one that can be asked.
+/// The verdict on the question, if it is one that can be asked, and why it stands, where that is asked for.
 fn check<R: Read>(
     alloc: Global,
     json: bool,
+    why: bool,
     asked: &[u8],
     rtype: RecordType,
     moment: Moment,
@@ -181,7 +192,7 @@ fn check<R: Read>(
     bump: &Bump,
 ) -> Result<Outcome, Fault>
     ensures text { (files : Files) → AreTold R.remaining inputs.old files → IfOk result (λ outcome.
-        IsAnswered json asked.now rtype.0 moment files outcome.status (string_bytes outcome.text)) }
+        IsAnswered json why asked.now rtype.0 moment files outcome.status (string_bytes outcome.text)) }
     ensures faults { TellsFaults (IsFirstFaultOfCheck asked.now rtype.0 moment) R.remaining inputs.old inputs.new
         result }
     ensures reached { (files : Files) → AreTold R.remaining inputs.old files
@@ -189,13 +200,14 @@ fn check<R: Read>(
     ensures unwritten { IfErr result (λ fault. fault ≡ Fault.WriteFailed → ⊥) }
 {
     let name = question_name(asked, rtype)?;
-    check_question(alloc, json, &name, rtype, moment, inputs, bump)
+    check_question(alloc, json, why, &name, rtype, moment, inputs, bump)
 }
 
-/// The verdict on the question.
+/// The verdict on the question, and why it stands, where that is asked for.
 fn check_question<R: Read>(
     alloc: Global,
     json: bool,
+    why: bool,
     name: &Name,
     rtype: RecordType,
     moment: Moment,
@@ -204,7 +216,7 @@ fn check_question<R: Read>(
 ) -> Result<Outcome, Fault>
     requires { IsQuestion name.now rtype.0 }
     ensures text { (files : Files) → AreTold R.remaining inputs.old files → IfOk result (λ outcome.
-        IsCheck json name.now rtype.0 moment files outcome.status (string_bytes outcome.text)) }
+        IsCheck json why name.now rtype.0 moment files outcome.status (string_bytes outcome.text)) }
     ensures faults { TellsFaults (IsFirstFaultOfName name.now rtype.0 moment) R.remaining inputs.old inputs.new
         result }
     ensures reached { (files : Files) → AreTold R.remaining inputs.old files
@@ -218,6 +230,7 @@ fn check_question<R: Read>(
     judge(
         alloc,
         json,
+        why,
         &held,
         &anchors,
         moment,

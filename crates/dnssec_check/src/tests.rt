@@ -16,6 +16,7 @@ use std::test::Fail;
 mod captures;
 mod checking;
 mod command_line;
+mod explaining;
 mod key_files;
 mod listing;
 mod showing;
@@ -37,6 +38,11 @@ fn shows_as_the_rows_say(rt: HostRuntime) -> Result<(), Fail> {
 #[test]
 fn checks_as_the_rows_say(rt: HostRuntime) -> Result<(), Fail> {
     meets(&rt, "", checking::ROWS)
+}
+
+#[test]
+fn explains_as_the_rows_say(rt: HostRuntime) -> Result<(), Fail> {
+    meets(&rt, "", explaining::ROWS)
 }
 
 #[test]

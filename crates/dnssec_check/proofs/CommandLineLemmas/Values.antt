@@ -14,7 +14,7 @@ use Rattle.clap.specs.Takes.{is_given, value_passes}
 use Rattle.clap.specs.Values.{read_as}
 use Rattle.clap.specs.Walk.{Row, Rule, first_of, one_of, reading_by}
 use Rattle.dnssec_check.proofs.CommandLineLemmas.Rows.{AreRowsIn, IsIn, IsRowIn, IsRowOf, StartsPassing}
-use Rattle.dnssec_check.specs.CommandLine.Commands.{all_rule, anchors_rule, capture_rule, check_app, json_rule, list_app, moment_rule, name_rule, program_app, show_app, type_rule}
+use Rattle.dnssec_check.specs.CommandLine.Commands.{all_rule, anchors_rule, capture_rule, json_rule, list_app, moment_rule, name_rule, program_app, question_app, show_app, type_rule}
 use Rattle.dnssec_check.specs.CommandLine.{HasCapture, HasCheckValues, HasListValues, HasNumber, IsFlag}
 use Rattle.dnssec_check.specs.CommandLine.Moment.{last_moment}
 
@@ -31,11 +31,11 @@ show_shape = leaf show_app
 abbrev pub list_shape : Shape
 list_shape = leaf list_app
 
-abbrev pub check_shape : Shape
-check_shape = leaf check_app
+abbrev pub question_shape : Bool → Shape
+question_shape why = leaf (question_app why)
 
 abbrev pub sub_shapes : List Shape
-sub_shapes = show_shape ∷ list_shape ∷ check_shape ∷ []
+sub_shapes = show_shape ∷ list_shape ∷ question_shape false ∷ question_shape true ∷ []
 
 -- an argument has a value that it takes
 abbrev HasValueOf : Rule → Text → List Row → Type 0
@@ -201,35 +201,35 @@ list_values rows all fault =
       json_has list_shape rows (λ e. cc, (λ e. cc, (λ e. cc, (λ e. cc, (λ e. refl, (λ e. cc, tt)))))) all,
     )
 
-check_capture : (rows : List Row) → AreRowsIn check_shape.rules rows → check_fault check_shape rows false ≡ [] → HasValueOf built_capture built_capture.id rows
-check_capture rows all fault =
-    required_value check_shape built_capture rows (λ e. refl, (λ e. cc, (λ e. cc, (λ e. cc, (λ e. cc, (λ e. cc, (λ e. cc, (λ e. cc, (λ e. cc, (λ e. cc, tt)))))))))) (inl refl) refl refl all fault
+check_capture : (why : Bool) (rows : List Row) → AreRowsIn (question_shape why).rules rows → check_fault (question_shape why) rows false ≡ [] → HasValueOf built_capture built_capture.id rows
+check_capture why rows all fault =
+    required_value (question_shape why) built_capture rows (λ e. refl, (λ e. cc, (λ e. cc, (λ e. cc, (λ e. cc, (λ e. cc, (λ e. cc, (λ e. cc, (λ e. cc, (λ e. cc, tt)))))))))) (inl refl) refl refl all fault
 
-check_anchors : (rows : List Row) → AreRowsIn check_shape.rules rows → check_fault check_shape rows false ≡ [] → HasValueOf built_anchors built_anchors.id rows
-check_anchors rows all fault =
-    required_value check_shape built_anchors rows (λ e. cc, (λ e. refl, (λ e. cc, (λ e. cc, (λ e. cc, (λ e. cc, (λ e. cc, (λ e. cc, (λ e. cc, (λ e. cc, tt)))))))))) (inr (inl refl)) refl refl all fault
+check_anchors : (why : Bool) (rows : List Row) → AreRowsIn (question_shape why).rules rows → check_fault (question_shape why) rows false ≡ [] → HasValueOf built_anchors built_anchors.id rows
+check_anchors why rows all fault =
+    required_value (question_shape why) built_anchors rows (λ e. cc, (λ e. refl, (λ e. cc, (λ e. cc, (λ e. cc, (λ e. cc, (λ e. cc, (λ e. cc, (λ e. cc, (λ e. cc, tt)))))))))) (inr (inl refl)) refl refl all fault
 
-check_moment : (rows : List Row) → AreRowsIn check_shape.rules rows → check_fault check_shape rows false ≡ [] → HasValueOf built_moment built_moment.id rows
-check_moment rows all fault =
-    required_value check_shape built_moment rows (λ e. cc, (λ e. cc, (λ e. refl, (λ e. cc, (λ e. cc, (λ e. cc, (λ e. cc, (λ e. cc, (λ e. cc, (λ e. cc, tt)))))))))) (inr (inr (inl refl))) refl refl all fault
+check_moment : (why : Bool) (rows : List Row) → AreRowsIn (question_shape why).rules rows → check_fault (question_shape why) rows false ≡ [] → HasValueOf built_moment built_moment.id rows
+check_moment why rows all fault =
+    required_value (question_shape why) built_moment rows (λ e. cc, (λ e. cc, (λ e. refl, (λ e. cc, (λ e. cc, (λ e. cc, (λ e. cc, (λ e. cc, (λ e. cc, (λ e. cc, tt)))))))))) (inr (inr (inl refl))) refl refl all fault
 
-check_name : (rows : List Row) → AreRowsIn check_shape.rules rows → check_fault check_shape rows false ≡ [] → HasValueOf built_name built_name.id rows
-check_name rows all fault =
-    required_value check_shape built_name rows (λ e. cc, (λ e. cc, (λ e. cc, (λ e. refl, (λ e. cc, (λ e. cc, (λ e. cc, (λ e. cc, (λ e. cc, (λ e. cc, tt)))))))))) (inr (inr (inr (inl refl)))) refl refl all fault
+check_name : (why : Bool) (rows : List Row) → AreRowsIn (question_shape why).rules rows → check_fault (question_shape why) rows false ≡ [] → HasValueOf built_name built_name.id rows
+check_name why rows all fault =
+    required_value (question_shape why) built_name rows (λ e. cc, (λ e. cc, (λ e. cc, (λ e. refl, (λ e. cc, (λ e. cc, (λ e. cc, (λ e. cc, (λ e. cc, (λ e. cc, tt)))))))))) (inr (inr (inr (inl refl)))) refl refl all fault
 
-check_type : (rows : List Row) → AreRowsIn check_shape.rules rows → check_fault check_shape rows false ≡ [] → HasValueOf built_type built_type.id rows
-check_type rows all fault =
-    required_value check_shape built_type rows (λ e. cc, (λ e. cc, (λ e. cc, (λ e. cc, (λ e. refl, (λ e. cc, (λ e. cc, (λ e. cc, (λ e. cc, (λ e. cc, tt)))))))))) (inr (inr (inr (inr (inl refl))))) refl refl all fault
+check_type : (why : Bool) (rows : List Row) → AreRowsIn (question_shape why).rules rows → check_fault (question_shape why) rows false ≡ [] → HasValueOf built_type built_type.id rows
+check_type why rows all fault =
+    required_value (question_shape why) built_type rows (λ e. cc, (λ e. cc, (λ e. cc, (λ e. cc, (λ e. refl, (λ e. cc, (λ e. cc, (λ e. cc, (λ e. cc, (λ e. cc, tt)))))))))) (inr (inr (inr (inr (inl refl))))) refl refl all fault
 
-check_json : (rows : List Row) → AreRowsIn check_shape.rules rows → IsFlag (one_of (codes "json") rows)
-check_json rows all = json_has check_shape rows (λ e. cc, (λ e. cc, (λ e. cc, (λ e. cc, (λ e. cc, (λ e. cc, (λ e. cc, (λ e. cc, (λ e. refl, (λ e. cc, tt)))))))))) all
+check_json : (why : Bool) (rows : List Row) → AreRowsIn (question_shape why).rules rows → IsFlag (one_of (codes "json") rows)
+check_json why rows all = json_has (question_shape why) rows (λ e. cc, (λ e. cc, (λ e. cc, (λ e. cc, (λ e. cc, (λ e. cc, (λ e. cc, (λ e. cc, (λ e. refl, (λ e. cc, tt)))))))))) all
 
-pub check_values : (rows : List Row) → AreRowsIn check_shape.rules rows → check_fault check_shape rows false ≡ [] → HasCheckValues rows
-check_values rows all fault = (
-  ap is_some (check_capture rows all fault).1,
-  ap is_some (check_anchors rows all fault).1,
-  moment_has rows (check_moment rows all fault),
-  ap is_some (check_name rows all fault).1,
-  type_has rows (check_type rows all fault),
-  check_json rows all,
+pub check_values : (why : Bool) (rows : List Row) → AreRowsIn (question_shape why).rules rows → check_fault (question_shape why) rows false ≡ [] → HasCheckValues rows
+check_values why rows all fault = (
+  ap is_some (check_capture why rows all fault).1,
+  ap is_some (check_anchors why rows all fault).1,
+  moment_has rows (check_moment why rows all fault),
+  ap is_some (check_name why rows all fault).1,
+  type_has rows (check_type why rows all fault),
+  check_json why rows all,
 )

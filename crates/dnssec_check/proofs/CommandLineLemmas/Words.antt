@@ -28,7 +28,7 @@ use Rattle.dnssec_check.proofs.CommandLineLemmas.Rows.{AreRowsIn}
 use Rattle.dnssec_check.proofs.CommandLineLemmas.Values.{check_values, list_values, program_shape, show_values, sub_shapes}
 use Rattle.dnssec_check.proofs.CommandLineLemmas.Walks.{AllLeaveValues, level_in}
 use Rattle.clap.proofs.ValueTestLemmas.{accepts-Accepts}
-use Rattle.dnssec_check.specs.CommandLine.Commands.{program_app}
+use Rattle.dnssec_check.specs.CommandLine.Commands.{program_app, question_word}
 use Rattle.dnssec_check.specs.CommandLine.{HasCapture, HasCheckValues, HasListValues, IsFlag, IsRefused, error_of_kind, flag_said, command_line_error, number_said}
 use Rattle.std.specs.Option.{SomeIff}
 use Rattle.dnssec_check.specs.CommandLine.Moment.{IsMoment}
@@ -136,20 +136,21 @@ flag_read text given (inr (inr is)) none some other = ap flag_said is ∙ sym (o
 -- a name and rows are those of one of the subcommands, with its values
 abbrev pub IsCommand : Text → List Row → Type 0
 IsCommand name rows = ((name ≡ codes "show") × HasCapture rows)
-    ⊎ (((name ≡ codes "list") × HasListValues rows) ⊎ ((name ≡ codes "check") × HasCheckValues rows))
+    ⊎ (((name ≡ codes "list") × HasListValues rows) ⊎ ((why : Bool) × (name ≡ question_word why) × HasCheckValues rows))
 
 -- whatever the program takes is a subcommand with its values
 pub taken : (words : List Text) → fault_of program_app words ≡ []
     → (name : Text) × (rows : List Row) × (subcommand_of program_app words ≡ Some (name, rows)) × IsCommand name rows
 taken words none =
-    of (one_entered program_shape sub_shapes (argument_words program_app words) refl (refl, (refl, (refl, tt))) refl none)
+    of (one_entered program_shape sub_shapes (argument_words program_app words) refl (refl, (refl, (refl, (refl, tt)))) refl none)
   where
     of : EntersOneOf (subcommand_of program_app words) sub_shapes
         → (name : Text) × (rows : List Row) × (subcommand_of program_app words ≡ Some (name, rows)) × IsCommand name rows
     of (inl show) = (codes "show", show.0, show.1, inl (refl, show_values show.0 show.2 show.3))
     of (inr (inl list)) = (codes "list", list.0, list.1, inr (inl (refl, list_values list.0 list.2 list.3)))
-    of (inr (inr (inl check))) = (codes "check", check.0, check.1, inr (inr (refl, check_values check.0 check.2 check.3)))
-    of (inr (inr (inr none))) = absurd none
+    of (inr (inr (inl check))) = (codes "check", check.0, check.1, inr (inr (false, refl, check_values false check.0 check.2 check.3)))
+    of (inr (inr (inr (inl explain)))) = (codes "explain", explain.0, explain.1, inr (inr (true, refl, check_values true explain.0 explain.2 explain.3)))
+    of (inr (inr (inr (inr none)))) = absurd none
 
 -- an error of `clap` at the words, as the program tells it
 pub refused_as : (words : List Text) (e : Error) → HasKind (fault_of program_app words) e → IsRefused words (command_line_error e)
@@ -219,19 +220,24 @@ sees name rows o x a words m is matched kinds found names same = of (taken words
 other_name : (a b : Text) → (slice_index a 0 ≡ slice_index b 0 → ⊥) → a ≡ b → ⊥
 other_name a b differ same = differ (ap (λ t. slice_index t 0) same)
 
+other_question : (why : Bool) (b : Text) → (slice_index (codes "check") 0 ≡ slice_index b 0 → ⊥)
+    → (slice_index (codes "explain") 0 ≡ slice_index b 0 → ⊥) → question_word why ≡ b → ⊥
+other_question false b check explain same = other_name (codes "check") b check same
+other_question true b check explain same = other_name (codes "explain") b explain same
+
 pub is_show : {words : List Text} {name : Text} {rows : List Row} → Sees words name rows → name ≡ codes "show" → HasCapture rows
 is_show {words} {name} {rows} at same = go at.has where
   go : IsCommand name rows → HasCapture rows
   go (inl show) = show.1
   go (inr (inl list)) = absurd (other_name (codes "list") (codes "show") (λ e. omega (arith, e)) (sym list.0 ∙ same))
-  go (inr (inr check)) = absurd (other_name (codes "check") (codes "show") (λ e. omega (arith, e)) (sym check.0 ∙ same))
+  go (inr (inr question)) = absurd (other_question question.0 (codes "show") (λ e. omega (arith, e)) (λ e. omega (arith, e)) (sym question.1 ∙ same))
 
 pub is_list : {words : List Text} {name : Text} {rows : List Row} → Sees words name rows → name ≡ codes "list" → HasListValues rows
 is_list {words} {name} {rows} at same = go at.has where
   go : IsCommand name rows → HasListValues rows
   go (inl show) = absurd (other_name (codes "show") (codes "list") (λ e. omega (arith, e)) (sym show.0 ∙ same))
   go (inr (inl list)) = list.1
-  go (inr (inr check)) = absurd (other_name (codes "check") (codes "list") (λ e. omega (arith, e)) (sym check.0 ∙ same))
+  go (inr (inr question)) = absurd (other_question question.0 (codes "list") (λ e. omega (arith, e)) (λ e. omega (arith, e)) (sym question.1 ∙ same))
 
 -- a name that fails the test of another isn't that
 not_named : (name other : Text) → bytes_eq name other ≡ false → name ≡ other → ⊥
@@ -239,10 +245,16 @@ not_named name other test same =
     let yes = (bytes_eq-Decides name other).1 same in
     let bad : true ≡ false = sym yes ∙ test in cc
 
+-- whether it is the subcommand that says why
+explains : (why : Bool) → bytes_eq (question_word why) (codes "explain") ≡ why
+explains false = refl
+explains true = refl
+
 pub is_neither : {words : List Text} {name : Text} {rows : List Row} → Sees words name rows → bytes_eq name (codes "show") ≡ false → bytes_eq name (codes "list") ≡ false
-    → (name ≡ codes "check") × HasCheckValues rows
+    → (name ≡ question_word (bytes_eq name (codes "explain"))) × HasCheckValues rows
 is_neither {words} {name} {rows} at no_show no_list = go at.has where
-  go : IsCommand name rows → (name ≡ codes "check") × HasCheckValues rows
+  go : IsCommand name rows → (name ≡ question_word (bytes_eq name (codes "explain"))) × HasCheckValues rows
   go (inl show) = absurd (not_named name (codes "show") no_show show.0)
   go (inr (inl list)) = absurd (not_named name (codes "list") no_list list.0)
-  go (inr (inr check)) = check
+  go (inr (inr question)) =
+      (question.1 ∙ ap question_word (sym (ap (λ n. bytes_eq n (codes "explain")) question.1 ∙ explains question.0)), question.2)

@@ -177,19 +177,19 @@ module _ (laws : LayerLaws) where
     todo_stands json moment text told x (inr stated) = no_statements_fault (octets_or_none files.statements) x.meaning told x.said stated.1
 
     -- a question with a verdict isn't refused
-    verdict_stands : (json : Bool) (name : Labels) (rtype moment : ℕ) (end : Status) (text : List ℕ) → IsCheck json name rtype moment files end text
+    verdict_stands : (json why : Bool) (name : Labels) (rtype moment : ℕ) (end : Status) (text : List ℕ) → IsCheck json why name rtype moment files end text
         → (told : Fault) → IsStopped name rtype moment files told → ⊥
-    verdict_stands json name rtype moment end text x told y =
+    verdict_stands json why name rtype moment end text x told y =
         let bases = one_basis laws rtype moment files are x.given y.given in
-        laws.verdicts.verdict_apart (basis_in y.given) name rtype x.links x.last x.verdict y.error
-        (subst (λ (each : Basis). IsVerdictOf each name rtype x.links x.last x.verdict) bases x.is_verdict) y.refused
+        laws.verdicts.verdict_apart (basis_in y.given) name rtype x.report.links x.report.last x.report.verdict y.error
+        (subst (λ (each : Basis). IsVerdictOf each name rtype x.report.links x.report.last x.report.verdict) bases x.is_verdict) y.refused
 
-    answer_stands : (json : Bool) (asked : List ℕ) (rtype moment : ℕ) (end : Status) (text : List ℕ) (told : Fault)
-        → IsAnswered json asked rtype moment files end text → IsFirstFaultOfCheck asked rtype moment files told → ⊥
-    answer_stands json asked rtype moment end text told x (inl bad) = question_stands asked rtype x.0 told x.1 x.2 bad
-    answer_stands json asked rtype moment end text told x (inr bad) =
+    answer_stands : (json why : Bool) (asked : List ℕ) (rtype moment : ℕ) (end : Status) (text : List ℕ) (told : Fault)
+        → IsAnswered json why asked rtype moment files end text → IsFirstFaultOfCheck asked rtype moment files told → ⊥
+    answer_stands json why asked rtype moment end text told x (inl bad) = question_stands asked rtype x.0 told x.1 x.2 bad
+    answer_stands json why asked rtype moment end text told x (inr bad) =
         ⊎_elim (λ (files_bad : IsFirstFaultOfFiles moment files told). order_stands moment x.3.given told files_bad)
-        (λ (stopped : IsStopped bad.0 rtype moment files told). verdict_stands json x.0 rtype moment end text x.3 told
+        (λ (stopped : IsStopped bad.0 rtype moment files told). verdict_stands json why x.0 rtype moment end text x.3 told
         (subst (λ (name : Labels). IsStopped name rtype moment files told) (one_question laws asked bad.0 x.0 bad.1 x.1) stopped)) bad.3
 
   -- ---- all requests
@@ -200,13 +200,13 @@ module _ (laws : LayerLaws) where
   text_stands (request.Show capture) files are end text told x bad = no_capture_fault laws AnyMessage Plain files.capture are x.1.0 told x.1.1 bad
   text_stands (request.List capture moment statements true json) files are end text told x bad = no_capture_fault laws NewEvidence Plain files.capture are x.1.0 told x.1.1 bad
   text_stands (request.List capture moment statements false json) files are end text told x bad = todo_stands files are json moment text told x.1 bad
-  text_stands (request.Check capture anchors moment asked rtype statements keys macs json) files are end text told x bad =
-      answer_stands files are json (string_bytes asked) rtype.0 moment end text told x bad
+  text_stands (request.Check capture anchors moment asked rtype statements keys macs json why) files are end text told x bad =
+      answer_stands files are json why (string_bytes asked) rtype.0 moment end text told x bad
 
   -- files have one first fault
   pub one_first_fault : (asked : Request) (files : Files) → AreOctets files.capture → (a b : Fault) → IsFirstFault asked files a → IsFirstFault asked files b → a ≡ b
   one_first_fault (request.Show capture) files are a b x y = one_capture_fault laws AnyMessage Plain files.capture are a b x y
   one_first_fault (request.List capture moment statements true json) files are a b x y = one_capture_fault laws NewEvidence Plain files.capture are a b x y
   one_first_fault (request.List capture moment statements false json) files are a b x y = one_todo_fault files are a b x y
-  one_first_fault (request.Check capture anchors moment asked rtype statements keys macs json) files are a b x y =
+  one_first_fault (request.Check capture anchors moment asked rtype statements keys macs json why) files are a b x y =
       one_fault_of_check files are (string_bytes asked) rtype.0 moment a b x y

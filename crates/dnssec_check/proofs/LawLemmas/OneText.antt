@@ -14,20 +14,22 @@ use Rattle.dnsv_verifier.specs.declared.answer.Answer.{Answer}
 use Rattle.dnsv_verifier.specs.declared.entry.Entry.{Entry}
 use Rattle.dnsv_verdict.specs.Verdict.{Basis, basis_of}
 use Rattle.dnsv_verdict.specs.Way.{IsVerdictOf}
+use Rattle.dnsv_verdict.specs.declared.report.Report.{Report}
+use Rattle.dnsv_explain.specs.declared.line.Line.{Line}
 use Rattle.dnssec_check.specs.declared.opening.Opening.{Opening}
 use Rattle.dnssec_check.specs.declared.opening.Opening.TheVariants.{Plain, Signed}
 use Rattle.dnssec_check.specs.declared.command_line.request.Request.{Request}
 use Rattle.dnssec_check.specs.declared.command_line.request.Request.TheVariants as request
 use Rattle.dnssec_check.specs.declared.status.Status.{Status}
 use Rattle.dnssec_check.specs.Files.Capture.{AnyMessage, NewEvidence, Holds}
-use Rattle.dnssec_check.specs.Texts.Checking.{AreInOrder, IsCheck, basis_in, check_text, verdict_status}
+use Rattle.dnssec_check.specs.Texts.Checking.{AreInOrder, IsCheck, IsWhy, basis_in, check_text, verdict_status}
 use Rattle.dnssec_check.specs.Opening.Given.{IsOpeningOf}
 use Rattle.dnssec_check.specs.Files.{Files, octets_or_none}
 use Rattle.dnssec_check.specs.Opening.Keys.{MayHaveKeys}
 use Rattle.dnssec_check.specs.Layers.{LayerLaws}
 use Rattle.dnssec_check.specs.Texts.Listing.{ListsRrsets, ListsSignatures, SignedOctets, listing_text}
 use Rattle.dnssec_check.specs.CommandLine.Question.{Spells}
-use Rattle.dnssec_check.specs.Run.{IsAnswered, IsTextAskedFor}
+use Rattle.dnssec_check.specs.Run.{AsksNotWhy, IsAnswered, IsTextAskedFor}
 use Rattle.dnssec_check.specs.Texts.Showing.{message_text, texts_from}
 use Rattle.dnssec_check.specs.Texts.Todo.{IsTodo, todo_text}
 use Rattle.dnssec_check.proofs.OpeningLemmas.Keys.{same_keys}
@@ -100,32 +102,42 @@ module _ (laws : LayerLaws) where
         let meanings = one_meaning (octets_or_none files.statements) x.meaning y.meaning x.said y.said in
         λ i. basis_of (evidence_of (messages i)).rrsets (anchors i) moment (meanings i)
 
-    one_check : (json : Bool) (name : Labels) (s t : Status) (a b : List ℕ) → IsCheck json name rtype moment files s a → IsCheck json name rtype moment files t b → (s ≡ t) × (a ≡ b)
-    one_check json name s t a b x y =
+    -- where it isn't asked why a verdict stands, nothing of that is told
+    none_told : (why : Bool) (basis : Basis) (report : Report) (told : Option (List Line)) → why ≡ false → IsWhy why basis rtype report told → told ≡ None
+    none_told false basis report None without is = refl
+    none_told false basis report (Some lines) without is = absurd is
+    none_told true basis report told without is = cc
+
+    one_check : (json why : Bool) (name : Labels) (s t : Status) (a b : List ℕ) → IsCheck json why name rtype moment files s a → IsCheck json why name rtype moment files t b
+        → (s ≡ t) × (why ≡ false → a ≡ b)
+    one_check json why name s t a b x y =
         let bases : basis_in x.given ≡ basis_in y.given = one_basis x.given y.given in
-        let ways = laws.verdicts.one_way (basis_in y.given) name rtype x.links y.links x.last y.last x.verdict y.verdict
-        (subst (λ (each : Basis). IsVerdictOf each name rtype x.links x.last x.verdict) bases x.is_verdict) y.is_verdict in (
+        let ways = laws.verdicts.one_way (basis_in y.given) name rtype x.report.links y.report.links x.report.last y.report.last x.report.verdict y.report.verdict
+        (subst (λ (each : Basis). IsVerdictOf each name rtype x.report.links x.report.last x.report.verdict) bases x.is_verdict) y.is_verdict in (
           x.ends ∙ ap verdict_status ways.2 ∙ sym y.ends,
-          x.lines ∙ (λ i. check_text json name rtype moment (bases i).rrsets (ways.0 i) (ways.2 i)) ∙ sym y.lines,
+          λ without.
+              let tolds : x.told ≡ y.told = none_told why (basis_in x.given) x.report x.told without x.is_told ∙ sym (none_told why (basis_in y.given) y.report y.told without y.is_told) in
+              x.lines ∙ (λ i. check_text json name rtype moment (bases i).rrsets (ways.0 i) (ways.2 i) (tolds i)) ∙ sym y.lines,
         )
 
-    one_answer : (json : Bool) (asked : List ℕ) (s t : Status) (a b : List ℕ) → IsAnswered json asked rtype moment files s a → IsAnswered json asked rtype moment files t b → (s ≡ t) × (a ≡ b)
-    one_answer json asked s t a b x y =
-        one_check json y.0 s t a b
-        (subst (λ (name : Labels). IsCheck json name rtype moment files s a) (one_question asked x.0 y.0 x.1 y.1) x.3) y.3
+    one_answer : (json why : Bool) (asked : List ℕ) (s t : Status) (a b : List ℕ) → IsAnswered json why asked rtype moment files s a → IsAnswered json why asked rtype moment files t b
+        → (s ≡ t) × (why ≡ false → a ≡ b)
+    one_answer json why asked s t a b x y =
+        one_check json why y.0 s t a b
+        (subst (λ (name : Labels). IsCheck json why name rtype moment files s a) (one_question asked x.0 y.0 x.1 y.1) x.3) y.3
 
   -- ---- all requests
 
-  -- a request has one text for its files
+  -- a request has one end for its files, and one text where it doesn't ask why a verdict stands
   pub one_text : (asked : Request) (files : Files) → AreOctets files.capture → (s t : Status) (a b : List ℕ)
-      → IsTextAskedFor asked files s a → IsTextAskedFor asked files t b → (s ≡ t) × (a ≡ b)
+      → IsTextAskedFor asked files s a → IsTextAskedFor asked files t b → (s ≡ t) × (AsksNotWhy asked → a ≡ b)
   one_text (request.Show capture) files are s t a b x y =
-      (x.0 ∙ sym y.0, x.1.2 ∙ ap (texts_from message_text 1) (one_holding laws AnyMessage Plain files.capture are x.1.0 y.1.0 x.1.1 y.1.1) ∙ sym y.1.2)
+      (x.0 ∙ sym y.0, λ without. x.1.2 ∙ ap (texts_from message_text 1) (one_holding laws AnyMessage Plain files.capture are x.1.0 y.1.0 x.1.1 y.1.1) ∙ sym y.1.2)
   one_text (request.List capture moment statements true json) files are s t a b x y = (
     x.0 ∙ sym y.0,
-    x.1.4 ∙ ap (listing_text json moment) (one_list 1 (evidence_of x.1.0).rrsets x.1.2 y.1.2 x.1.3
+    λ without. x.1.4 ∙ ap (listing_text json moment) (one_list 1 (evidence_of x.1.0).rrsets x.1.2 y.1.2 x.1.3
         (subst (λ messages. ListsRrsets 1 (evidence_of messages).rrsets y.1.2) (one_holding laws NewEvidence Plain files.capture are y.1.0 x.1.0 y.1.1 x.1.1) y.1.3)) ∙ sym y.1.4,
   )
-  one_text (request.List capture moment statements false json) files are s t a b x y = (x.0 ∙ sym y.0, one_todo json moment files are a b x.1 y.1)
-  one_text (request.Check capture anchors moment asked rtype statements keys macs json) files are s t a b x y =
-      one_answer rtype.0 moment files are json (string_bytes asked) s t a b x y
+  one_text (request.List capture moment statements false json) files are s t a b x y = (x.0 ∙ sym y.0, λ without. one_todo json moment files are a b x.1 y.1)
+  one_text (request.Check capture anchors moment asked rtype statements keys macs json why) files are s t a b x y =
+      one_answer rtype.0 moment files are json why (string_bytes asked) s t a b x y

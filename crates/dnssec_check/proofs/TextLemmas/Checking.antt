@@ -9,15 +9,16 @@ use Rattle.dnsv_verifier.specs.declared.answer.Answer.{Answer}
 use Rattle.dnsv_verifier.specs.declared.entry.Entry.{Entry}
 use Rattle.dnsv_chain.specs.declared.anchor.Anchor.{Anchor}
 use Rattle.dnsv_verdict.specs.Way.{IsVerdictOf}
-use Rattle.dnsv_verdict.specs.declared.link.Link.{Link}
+use Rattle.dnsv_verdict.specs.declared.report.Report.{Report}
 use Rattle.dnsv_verdict.specs.declared.verdict.Verdict.{Verdict}
 use Rattle.dnsv_verdict.specs.declared.verdict.Verdict.TheVariants as verdict
 use Rattle.dnsv_verdict.specs.Verdict.{basis_of}
+use Rattle.dnsv_explain.specs.declared.line.Line.{Line}
 use Rattle.dnssec_check.specs.Files.Anchors.{HasAnchors}
 use Rattle.dnssec_check.specs.declared.opening.Opening.{Opening}
 use Rattle.dnssec_check.specs.Files.Capture.{Holds, NewEvidence}
 use Rattle.dnssec_check.specs.Opening.Given.{IsOpeningOf}
-use Rattle.dnssec_check.specs.Texts.Checking.{AreInOrder, IsCheck, check_text, reason_members, reason_text, verdict_status}
+use Rattle.dnssec_check.specs.Texts.Checking.{AreInOrder, IsCheck, IsWhy, check_text, reason_members, reason_text, verdict_status}
 use Rattle.dnssec_check.specs.Files.{Files, octets_or_none}
 use Rattle.dnssec_check.specs.Files.Statements.{IsMeaningOf}
 use Rattle.dnssec_check.specs.Texts.Json.{parted}
@@ -26,12 +27,13 @@ use Rattle.dnssec_check.specs.declared.status.Fault.{Fault}
 use Rattle.dnssec_check.proofs.FileLemmas.Faults.{of_told}
 
 -- the outcome is that of the verdict on this evidence
-abbrev pub IsOutcome : Bool → List Anchor → ℕ → (Entry → Answer) → Labels → ℕ → Outcome → Evidence → Type 0
-IsOutcome json anchors moment meaning name rtype outcome held =
-    (links : List Link) × (last : Labels) × (verdict : Verdict)
-    × IsVerdictOf (basis_of held.rrsets anchors moment meaning) name rtype links last verdict
-    × (outcome.status ≡ verdict_status verdict)
-    × (string_bytes outcome.text ≡ check_text json name rtype moment held.rrsets links verdict)
+abbrev pub IsOutcome : Bool → Bool → List Anchor → ℕ → (Entry → Answer) → Labels → ℕ → Outcome → Evidence → Type 0
+IsOutcome json why anchors moment meaning name rtype outcome held =
+    (report : Report) × (told : Option (List Line))
+    × IsVerdictOf (basis_of held.rrsets anchors moment meaning) name rtype report.links report.last report.verdict
+    × IsWhy why (basis_of held.rrsets anchors moment meaning) rtype report told
+    × (outcome.status ≡ verdict_status report.verdict)
+    × (string_bytes outcome.text ≡ check_text json name rtype moment held.rrsets report.links report.verdict told)
 
 -- the files are in order whose parts were all taken
 abbrev pub all_in_order : (moment : ℕ) (files : Files) (opening : Opening) → IsOpeningOf files.keys files.macs moment opening → (anchors : List Anchor)
@@ -48,21 +50,21 @@ all_in_order moment files opening opens anchors meaning messages holds trusted s
   said = said;
 }
 
-module _ (json : Bool) (name : Labels) (rtype moment : ℕ) (files : Files) (opening : Opening) (opens : IsOpeningOf files.keys files.macs moment opening) (held : Evidence) (anchors : List Anchor) (meaning : Entry → Answer) where
+module _ (json why : Bool) (name : Labels) (rtype moment : ℕ) (files : Files) (opening : Opening) (opens : IsOpeningOf files.keys files.macs moment opening) (held : Evidence) (anchors : List Anchor) (meaning : Entry → Answer) where
   pub all_checked : (result : Result Outcome Fault) {octets : Option (List ℕ)} → octets ≡ Some files.capture
       → IfSome octets (λ file. (messages : List Contents) × Holds NewEvidence opening file messages × (held ≡ evidence_of messages))
       → HasAnchors (octets_or_none files.anchors) anchors → IsMeaningOf (octets_or_none files.statements) meaning
-      → IfOk result (λ outcome. IsOutcome json anchors moment meaning name rtype outcome held)
-      → IfOk result (λ outcome. IsCheck json name rtype moment files outcome.status (string_bytes outcome.text))
+      → IfOk result (λ outcome. IsOutcome json why anchors moment meaning name rtype outcome held)
+      → IfOk result (λ outcome. IsCheck json why name rtype moment files outcome.status (string_bytes outcome.text))
   all_checked (Err told) is taken trusted said judged = tt
   all_checked (Ok outcome) is taken trusted said judged =
       let evidence = of_told (λ file. (messages : List Contents) × Holds NewEvidence opening file messages × (held ≡ evidence_of messages)) is taken in
-      let outcome_is = subst (IsOutcome json anchors moment meaning name rtype outcome) evidence.2 judged in record {
+      let outcome_is = subst (IsOutcome json why anchors moment meaning name rtype outcome) evidence.2 judged in record {
         given = all_in_order moment files opening opens anchors meaning evidence.0 evidence.1 trusted said;
-        links = outcome_is.0;
-        last = outcome_is.1;
-        verdict = outcome_is.2;
-        is_verdict = outcome_is.3;
+        report = outcome_is.0;
+        told = outcome_is.1;
+        is_verdict = outcome_is.2;
+        is_told = outcome_is.3;
         ends = outcome_is.4;
         lines = outcome_is.5;
       }

@@ -51,27 +51,27 @@ record_written s s1 s2 s3 n t is1 is2 is3 =
 
 -- ---- a question and its verdict
 
-six_members : (s p0 n p1 t p2 m p3 w q p4 c : List ℕ)
-    → (((s ++ p0) ++ n) ++ (p1 ++ (t ++ (p2 ++ m)))) ++ (p3 ++ (w ++ ((q ++ p4) ++ c)))
-    ≡ s ++ (p0 ++ (n ++ (p1 ++ (t ++ (p2 ++ (m ++ (p3 ++ ((w ++ q) ++ (p4 ++ (c ++ []))))))))))
-six_members s p0 n p1 t p2 m p3 w q p4 c =
-    simp append_assoc (ap (λ end. s ++ (p0 ++ (n ++ (p1 ++ (t ++ (p2 ++ (m ++ (p3 ++ (w ++ (q ++ (p4 ++ end))))))))))) (sym (append-nil c)))
+six_members : (s p0 d q p n p1 t p2 m p3 w p4 c : List ℕ)
+    → (((s ++ (p0 ++ (d ++ (q ++ p)))) ++ n) ++ (p1 ++ (t ++ (p2 ++ m)))) ++ (p3 ++ (w ++ ((q ++ p4) ++ c)))
+    ≡ s ++ (p0 ++ ((d ++ q) ++ (p ++ (n ++ (p1 ++ (t ++ (p2 ++ (m ++ (p3 ++ ((w ++ q) ++ (p4 ++ (c ++ []))))))))))))
+six_members s p0 d q p n p1 t p2 m p3 w p4 c =
+    simp append_assoc (ap (λ end. s ++ (p0 ++ (d ++ (q ++ (p ++ (n ++ (p1 ++ (t ++ (p2 ++ (m ++ (p3 ++ (w ++ (q ++ (p4 ++ end)))))))))))))) (sym (append-nil c)))
 
-pub verdict_begun : (s s1 s2 s3 s4 n t m w c : List ℕ) → s1 ≡ s ++ codes "{\"command\":\"check\",\"name\":" → s2 ≡ s1 ++ n
+pub verdict_begun : (s s1 s2 s3 s4 d n t m w c : List ℕ) → s1 ≡ s ++ (codes "{\"command\":\"" ++ (d ++ codes "\",\"name\":")) → s2 ≡ s1 ++ n
     → s3 ≡ s2 ++ (codes ",\"type\":" ++ (t ++ (codes ",\"moment\":" ++ m)))
     → s4 ≡ s3 ++ (codes ",\"verdict\":\"" ++ (w ++ (codes "\",\"status\":" ++ c)))
-    → s4 ≡ s ++ (codes "{" ++ parted true (member (codes "command") (quoted (codes "check")) ∷ member (codes "name") n ∷ member (codes "type") t
+    → s4 ≡ s ++ (codes "{" ++ parted true (member (codes "command") (quoted d) ∷ member (codes "name") n ∷ member (codes "type") t
     ∷ member (codes "moment") m ∷ member (codes "verdict") (quoted w) ∷ member (codes "status") c ∷ []))
-verdict_begun s s1 s2 s3 s4 n t m w c is1 is2 is3 is4 =
+verdict_begun s s1 s2 s3 s4 d n t m w c is1 is2 is3 is4 =
     is4 ∙ ap (λ x. x ++ (codes ",\"verdict\":\"" ++ (w ++ (codes "\",\"status\":" ++ c))))
     (is3 ∙ ap (λ x. x ++ (codes ",\"type\":" ++ (t ++ (codes ",\"moment\":" ++ m)))) (is2 ∙ ap (λ x. x ++ n) is1))
-    ∙ six_members s (codes "{\"command\":\"check\",\"name\":") n (codes ",\"type\":") t (codes ",\"moment\":") m (codes ",\"verdict\":\"") w
-    (codes "\"") (codes ",\"status\":") c
+    ∙ six_members s (codes "{\"command\":\"") d (codes "\"") (codes ",\"name\":") n (codes ",\"type\":") t (codes ",\"moment\":") m
+    (codes ",\"verdict\":\"") w (codes ",\"status\":") c
 
 whole : (o p l a r e n : List ℕ) → ((((o ++ p) ++ l) ++ a) ++ r) ++ (e ++ n) ≡ (o ++ ((p ++ (l ++ (a ++ r))) ++ e)) ++ n
 whole o p l a r e n = simp append_assoc refl
 
--- the first members, the aliases, and what carries the verdict
+-- the first members, the aliases, and what carries the verdict and explains it
 pub verdict_written : (s1 s2 s3 s4 s5 a first : List ℕ) (front others : List (List ℕ)) → s1 ≡ codes "{" ++ parted true (first ∷ front)
     → s2 ≡ s1 ++ codes ",\"aliases\":" → s3 ≡ s2 ++ a → s4 ≡ s3 ++ parted false others → s5 ≡ s4 ++ codes "}\n"
     → s5 ≡ object_line ((first ∷ front) ++ member (codes "aliases") a ∷ others)

@@ -1,5 +1,5 @@
 -- The commands of the program as `clap` sees them.
-use Rattle.std.specs.Prelude.{true, codes, Some}
+use Rattle.std.specs.Prelude.{ℕ, Bool, true, false, List, codes, Some}
 use Rattle.clap.specs.Words.{App, Rule, new_app, new_rule, with_rule, with_subcommand}
 use Rattle.clap.specs.declared.builder.action.ArgAction.TheVariants.{SetTrue}
 use Rattle.clap.specs.declared.builder.value_parser.ValueParser.TheVariants as parser
@@ -91,12 +91,20 @@ abbrev pub list_app : App
 list_app = with_rule (with_rule (with_rule (with_rule (with_rule (new_app (codes "list")) capture_rule) moment_rule)
     statements_rule) all_rule) json_rule
 
--- `check --capture FILE --anchors FILE --moment N --name NAME --type N [--statements FILE] [--keys FILE]
+-- the subcommands for a question: that for its verdict, and the one that says besides why it stands
+abbrev pub question_word : Bool → List ℕ
+question_word false = codes "check"
+question_word true = codes "explain"
+
+-- this word, and `--capture FILE --anchors FILE --moment N --name NAME --type N [--statements FILE] [--keys FILE]
 -- [--macs FILE] [--json]`
-abbrev pub check_app : App
-check_app = with_rule (with_rule (with_rule (with_rule (with_rule (with_rule (with_rule (with_rule (with_rule
-    (new_app (codes "check")) capture_rule) anchors_rule) moment_rule) name_rule) type_rule) statements_rule)
+abbrev pub asking_app : List ℕ → App
+asking_app word = with_rule (with_rule (with_rule (with_rule (with_rule (with_rule (with_rule (with_rule (with_rule
+    (new_app word) capture_rule) anchors_rule) moment_rule) name_rule) type_rule) statements_rule)
     keys_rule) macs_rule) json_rule
+
+abbrev pub question_app : Bool → App
+question_app why = asking_app (question_word why)
 
 -- the program, which wants one of its subcommands
 abbrev pub bare_app : App
@@ -108,4 +116,5 @@ bare_app = record (new_app (codes "dnssec_check")) {
 }
 
 abbrev pub program_app : App
-program_app = with_subcommand (with_subcommand (with_subcommand bare_app show_app.top) list_app.top) check_app.top
+program_app = with_subcommand (with_subcommand (with_subcommand (with_subcommand bare_app show_app.top) list_app.top)
+    (question_app false).top) (question_app true).top

@@ -1,5 +1,5 @@
--- The text of `check`: a question's verdict, and what carries it.
-use Rattle.std.specs.Prelude.{◌≡◌, ℕ, ◌-◌, Bool, true, false, List, [], ◌∷◌, ◌++◌, Option, Some, None, codes, map, slice_get}
+-- The text of `check` and of `explain`: a question's verdict, what carries it, and why it stands.
+use Rattle.std.specs.Prelude.{◌≡◌, ⊤, ℕ, ◌-◌, Bool, true, false, List, [], ◌∷◌, ◌++◌, Option, Some, None, codes, is_some, map, slice_get}
 use Rattle.std.specs.Fmt.{decimal}
 use Rattle.std.specs.List.{flat_map}
 use Rattle.dnsv_names.specs.Name.{Labels, lower_case}
@@ -18,6 +18,10 @@ use Rattle.dnsv_verdict.specs.declared.link.Link.{Link}
 use Rattle.dnsv_verdict.specs.declared.verdict.Verdict.{Verdict}
 use Rattle.dnsv_verdict.specs.declared.verdict.Verdict.TheVariants as verdict
 use Rattle.dnsv_verdict.specs.Verdict.{Basis, basis_of}
+use Rattle.dnsv_verdict.specs.declared.report.Report.{Report}
+use Rattle.dnsv_explain.specs.Explanation.{IsExplanationOf}
+use Rattle.dnsv_explain.specs.declared.line.Line.{Line}
+use Rattle.dnssec_check.specs.CommandLine.Commands.{question_word}
 use Rattle.dnssec_check.specs.Files.Anchors.{HasAnchors}
 use Rattle.dnssec_check.specs.declared.opening.Opening.{Opening}
 use Rattle.dnssec_check.specs.Files.Capture.{Holds, NewEvidence}
@@ -27,6 +31,7 @@ use Rattle.dnssec_check.specs.Files.Statements.{IsMeaningOf}
 use Rattle.dnssec_check.specs.Status.{status_code}
 use Rattle.dnssec_check.specs.Texts.Json.{array, member, name_json, object, object_line, parted, quoted}
 use Rattle.dnssec_check.specs.Texts.Todo.{todo_json, todo_line}
+use Rattle.dnssec_check.specs.Texts.Why.{why_lines, why_members}
 use Rattle.dnssec_check.specs.Told.{nowhere}
 use Rattle.dnssec_check.specs.declared.status.Fault.{Fault}
 use Rattle.dnssec_check.specs.declared.status.Fault.TheVariants as fault
@@ -151,22 +156,22 @@ reason_members rrsets verdict = reason_by signature_members (λ numbers. proof_m
     (λ cut. cut_member cut ∷ []) (λ entries. todo_member entries ∷ []) verdict
 
 -- the members for the question, and for the verdict with its exit status
-abbrev pub verdict_members : Labels → ℕ → ℕ → Verdict → List (List ℕ)
-verdict_members name rtype moment verdict =
-    member (codes "command") (quoted (codes "check")) ∷ member (codes "name") (name_json name)
+abbrev pub verdict_members : Bool → Labels → ℕ → ℕ → Verdict → List (List ℕ)
+verdict_members why name rtype moment verdict =
+    member (codes "command") (quoted (question_word why)) ∷ member (codes "name") (name_json name)
     ∷ member (codes "type") (decimal rtype) ∷ member (codes "moment") (decimal moment)
     ∷ member (codes "verdict") (quoted (verdict_word verdict))
     ∷ member (codes "status") (decimal (status_code (verdict_status verdict))) ∷ []
 
--- the same as the text of lines, in JSON
-abbrev pub verdict_json : Labels → ℕ → ℕ → List ReceivedRrset → List Link → Verdict → List ℕ
-verdict_json name rtype moment rrsets links verdict = object_line (verdict_members name rtype moment verdict
-    ++ member (codes "aliases") (array (map alias_json links)) ∷ reason_members rrsets verdict)
+-- the same as the text of lines, in JSON, and why the verdict stands, where that is told
+abbrev pub verdict_json : Labels → ℕ → ℕ → List ReceivedRrset → List Link → Verdict → Option (List Line) → List ℕ
+verdict_json name rtype moment rrsets links verdict why = object_line (verdict_members (is_some why) name rtype moment verdict
+    ++ member (codes "aliases") (array (map alias_json links)) ∷ (reason_members rrsets verdict ++ why_members why))
 
--- lines, or JSON
-abbrev pub check_text : Bool → Labels → ℕ → ℕ → List ReceivedRrset → List Link → Verdict → List ℕ
-check_text false name rtype moment rrsets links verdict = verdict_text name rtype rrsets links verdict
-check_text true name rtype moment rrsets links verdict = verdict_json name rtype moment rrsets links verdict
+-- lines, or JSON: behind the verdict and what carries it why it stands, where that is told
+abbrev pub check_text : Bool → Labels → ℕ → ℕ → List ReceivedRrset → List Link → Verdict → Option (List Line) → List ℕ
+check_text false name rtype moment rrsets links verdict why = verdict_text name rtype rrsets links verdict ++ why_lines why
+check_text true name rtype moment rrsets links verdict why = verdict_json name rtype moment rrsets links verdict why
 
 -- ---- what is added for a part of it, to lines or behind other members
 
@@ -218,15 +223,23 @@ pub record AreInOrder (moment : ℕ) (files : Files) : Type 0 where
 abbrev pub basis_in : {moment : ℕ} {files : Files} → AreInOrder moment files → Basis
 basis_in {moment} given = basis_of (evidence_of given.messages).rrsets given.anchors moment given.meaning
 
--- The files are in order, and the end and the text are those of the verdict that they prove of the question.
-pub record IsCheck (json : Bool) (name : Labels) (rtype moment : ℕ) (files : Files) (end : Status) (text : List ℕ) : Type 0 where
+-- where it is asked why the verdict stands, the lines that explain it are told, and else none
+abbrev pub IsWhy : Bool → Basis → ℕ → Report → Option (List Line) → Type 0
+IsWhy false basis rtype report None = ⊤
+IsWhy false basis rtype report (Some lines) = ⊥
+IsWhy true basis rtype report None = ⊥
+IsWhy true basis rtype report (Some lines) = IsExplanationOf basis rtype report lines
+
+-- The files are in order, and the end and the text are those of the verdict that they prove of the question, and of why
+-- it stands, where that is asked for.
+pub record IsCheck (json why : Bool) (name : Labels) (rtype moment : ℕ) (files : Files) (end : Status) (text : List ℕ) : Type 0 where
   pub given : AreInOrder moment files
-  pub links : List Link
-  pub last : Labels
-  pub verdict : Verdict
-  pub is_verdict : IsVerdictOf (basis_in given) name rtype links last verdict
-  pub ends : end ≡ verdict_status verdict
-  pub lines : text ≡ check_text json name rtype moment (basis_in given).rrsets links verdict
+  pub report : Report
+  pub is_verdict : IsVerdictOf (basis_in given) name rtype report.links report.last report.verdict
+  pub told : Option (List Line)
+  pub is_told : IsWhy why (basis_in given) rtype report told
+  pub ends : end ≡ verdict_status report.verdict
+  pub lines : text ≡ check_text json name rtype moment (basis_in given).rrsets report.links report.verdict told
 
 -- The files are in order, and the question is refused: a way over aliases from its name ends at one that can't be
 -- followed. The refusal has no place.

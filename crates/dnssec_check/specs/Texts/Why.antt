@@ -25,7 +25,7 @@ use Rattle.dnsv_explain.specs.declared.line.derivation.TrustedKeys.{TrustedKeys}
 use Rattle.dnsv_explain.specs.declared.line.derivation.Voucher.{Voucher}
 use Rattle.dnsv_explain.specs.declared.line.derivation.Voucher.TheVariants.{KeyAnchor, DsAnchor, Ds}
 use Rattle.dnsv_explain.specs.declared.line.place.RrsetPlace.{RrsetPlace}
-use Rattle.dnssec_check.specs.Texts.Json.{member, name_json, object, quoted}
+use Rattle.dnssec_check.specs.Texts.Json.{array, member, name_json, object, quoted}
 
 -- ---- lines
 
@@ -174,3 +174,15 @@ line_members (line.Rrset place) = rrset_members place
 -- a line as an object
 abbrev pub line_json : Line → List ℕ
 line_json line = object (member (codes "line") (quoted (line_word line)) ∷ line_members line)
+
+-- ---- the whole, where it is asked for
+
+-- a line on its own for each
+abbrev pub why_lines : Option (List Line) → List ℕ
+why_lines None = []
+why_lines (Some lines) = flat_map why_line lines
+
+-- an object for each
+abbrev pub why_members : Option (List Line) → List (List ℕ)
+why_members None = []
+why_members (Some lines) = member (codes "why") (array (map line_json lines)) ∷ []

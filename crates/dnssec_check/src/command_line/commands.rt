@@ -1,10 +1,10 @@
 //! The commands of the program.
-ghost use Rattle.std.specs.Prelude.{◌≡◌, false, IfOk};
+ghost use Rattle.std.specs.Prelude.{◌≡◌, false, true, IfOk};
 ghost use Rattle.clap.specs.Words.{app_of, rule_of};
 ghost use Rattle.clap.specs.declared.Command.TheViews.{out-Command as fields_of};
 ghost use Rattle.dnssec_check.specs.CommandLine.Commands.{all_rule, capture_rule, json_rule, keys_rule, macs_rule, moment_rule, statements_rule};
 ghost use Rattle.dnssec_check.specs.CommandLine.Commands.{anchors_rule, name_rule, type_rule};
-ghost use Rattle.dnssec_check.specs.CommandLine.Commands.{check_app, list_app, program_app, show_app};
+ghost use Rattle.dnssec_check.specs.CommandLine.Commands.{asking_app, list_app, program_app, question_app, show_app};
 
 use crate::command_line::moment::Moment;
 use clap::{Arg, ArgAction, Command, value_parser};
@@ -50,6 +50,14 @@ Example:
 Next, where the verdict is Pending and the output was written to the file pending:
   dnssec_check-verify --from-check pending >> statements";
 
+/// How `explain` ends, and a command line of it.
+const AFTER_EXPLAIN: &str = "\
+Exit status: that of check
+
+Example:
+  dnssec_check explain --capture www.cap --anchors root.anchors --statements statements \
+--moment 1795348800 --name www.example. --type 1";
+
 /// The program with its subcommands.
 pub fn program<'a>(alloc: Global) -> Result<Command<'a>, AllocError>
     ensures { IfOk result (λ command. app_of command ≡ program_app) }
@@ -61,7 +69,8 @@ pub fn program<'a>(alloc: Global) -> Result<Command<'a>, AllocError>
         .subcommand_required(true)
         .subcommand(show(alloc)?)?
         .subcommand(list(alloc)?)?
-        .subcommand(check(alloc)?)
+        .subcommand(check(alloc)?)?
+        .subcommand(explain(alloc)?)
 }
 
 /// The subcommand `show`.
@@ -92,12 +101,43 @@ fn list<'a>(alloc: Global) -> Result<Command<'a>, AllocError>
 
 /// The subcommand `check`.
 fn check<'a>(alloc: Global) -> Result<Command<'a>, AllocError>
-    ensures { IfOk result (λ command. (app_of command ≡ check_app)
+    ensures { IfOk result (λ command. (app_of command ≡ question_app false)
         × ((fields_of command).has_globals ≡ false)) }
 {
-    Command::new(alloc, "check")
-        .about("Says what the captured messages prove of a name and a type")
-        .after_help(AFTER_CHECK)
+    question(
+        alloc,
+        "check",
+        "Says what the captured messages prove of a name and a type",
+        AFTER_CHECK,
+    )
+}
+
+/// The subcommand `explain`.
+fn explain<'a>(alloc: Global) -> Result<Command<'a>, AllocError>
+    ensures { IfOk result (λ command. (app_of command ≡ question_app true)
+        × ((fields_of command).has_globals ≡ false)) }
+{
+    question(
+        alloc,
+        "explain",
+        "Says what check says, and then why that stands",
+        AFTER_EXPLAIN,
+    )
+}
+
+/// A subcommand for a question by its word, with what its help says.
+fn question<'a>(
+    alloc: Global,
+    word: &'a str,
+    about: &'a str,
+    after: &'a str,
+) -> Result<Command<'a>, AllocError>
+    ensures { IfOk result (λ command. (app_of command ≡ asking_app word.now)
+        × ((fields_of command).has_globals ≡ false)) }
+{
+    Command::new(alloc, word)
+        .about(about)
+        .after_help(after)
         .arg(capture_option(alloc))?
         .arg(anchors_option(alloc))?
         .arg(moment_option(alloc))?

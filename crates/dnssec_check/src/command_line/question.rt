@@ -1,12 +1,20 @@
 //! Questions on the command line.
-ghost use Rattle.std.specs.Prelude.{IfErr, IfOk};
+ghost use Rattle.std.specs.Prelude.{◌≡◌, IfErr, IfOk};
 ghost use Rattle.dnsv_canonical.specs.Rrsets.{IsQuestion};
+ghost use Rattle.dnssec_check.specs.CommandLine.Commands as specs;
 ghost use Rattle.dnssec_check.specs.CommandLine.Question.{IsQuestionRefused, Spells};
 ghost use Rattle.dnssec_check.specs.Told.{IsFaultOf};
 
 use crate::status::{Fault, Place, Refusal};
 use dnsv_canonical::is_question;
 use dnsv_names::{Name, RecordType};
+
+/// The subcommand for a question: that for its verdict, or the one that says besides why it stands.
+pub fn question_word(why: bool) -> &'static str
+    ensures { result.now ≡ specs.question_word why }
+{
+    if why { "explain" } else { "check" }
+}
 
 /// The name of a question, whose type can be asked for at it.
 ///

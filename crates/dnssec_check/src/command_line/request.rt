@@ -26,7 +26,7 @@ pub enum Request {
         /// Write JSON in place of lines.
         json: bool,
     },
-    /// Say what the evidence proves of a question.
+    /// Say what the evidence proves of a question, and why that stands.
     Check {
         /// The path of the file of captured messages.
         capture: String,
@@ -45,6 +45,8 @@ pub enum Request {
         macs: Option<String>,
         /// Write JSON in place of lines.
         json: bool,
+        /// Say besides why the verdict stands.
+        why: bool,
     },
 }
 

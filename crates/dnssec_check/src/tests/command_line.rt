@@ -44,6 +44,17 @@ $ dnssec_check check --macs e --statements f --keys d --type 65535 --name c. --m
 => 6
 Indeterminate c. 65535
 
+a = 
+$ dnssec_check explain --capture a --anchors b --moment 1 --name c. --type 65536
+=> 2
+! 
+~ help
+
+$ dnssec_check explain --capture a --anchors b --moment 1 --name c. --type 1 --all
+=> 2
+! 
+~ help
+
 # Words that are no command: status 2, nothing on the output, a text on the errors.
 $ 
 => 2
@@ -219,6 +230,7 @@ $ dnssec_check --help
 ~ list
 ~ show
 ~ check
+~ explain
 ~ dnssec_check-judge does all three
 
 $ dnssec_check show --help
@@ -248,6 +260,14 @@ $ dnssec_check check --help
 ~ --keys <FILE>
 ~ --macs <FILE>
 ~ dnssec_check-verify --from-check pending >> statements
+
+$ dnssec_check explain --help
+=> 0
+~ Says what check says, and then why that stands
+~ --anchors <FILE>
+~ --json
+~ Exit status: that of check
+~ dnssec_check explain --capture
 
 # Help that can't be written is a fault as a text's is.
 full

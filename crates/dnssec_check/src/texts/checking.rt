@@ -1,23 +1,24 @@
-//! The text of `check`: a question's verdict, and what carries it.
-ghost use Rattle.std.specs.Prelude.{◌≡◌, ◌⊎◌, ◌++◌, IfErr, IfOk, List, OnOk, Some, flat_map, string_bytes};
-ghost use Rattle.dnsv_names.specs.Name.{Labels};
+//! The text of `check` and of `explain`: a question's verdict, what carries it, and why it stands.
+ghost use Rattle.std.specs.Prelude.{◌≡◌, ◌⊎◌, ◌++◌, IfErr, IfOk, List, OnOk, Option, Some, flat_map, string_bytes};
 ghost use Rattle.dnsv_canonical.specs.Rrsets.{IsQuestion};
 ghost use Rattle.dnsv_verdict.specs.Way.{IsRefusedFor, IsVerdictOf};
 ghost use Rattle.dnsv_verdict.specs.declared.error.VerdictError.{VerdictError};
-ghost use Rattle.dnsv_verdict.specs.declared.link.Link.{Link};
-ghost use Rattle.dnsv_verdict.specs.declared.verdict.Verdict.{Verdict};
+ghost use Rattle.dnsv_verdict.specs.declared.report.Report.{Report};
 ghost use Rattle.dnsv_verdict.specs.Verdict.{basis_of};
+ghost use Rattle.dnsv_explain.specs.declared.line.Line.{Line};
 ghost use Rattle.dnssec_check.specs.Texts.Checking as specs;
 
 use crate::command_line::moment::Moment;
 use crate::status::{Fault, Place, Refusal, Status};
+use crate::texts::explaining::{push_why, report_and_why};
 use crate::texts::json::checking::verdict_json;
 use crate::texts::reason::push_reason;
 use dnsv_canonical::{Capture, Rrset};
 use dnsv_chain::Anchors;
 use dnsv_denial::RecordNumber;
+use dnsv_explain::Explanation;
 use dnsv_names::{Name, RecordType};
-use dnsv_verdict::{Link, Report, Verdict, VerdictError, validate};
+use dnsv_verdict::{Link, Report, Verdict, VerdictError};
 use dnsv_verifier::Verifier;
 use std::alloc::{AllocError, Global};
 
@@ -36,13 +37,14 @@ pub struct Asked<'a> {
     pub moment: Moment,
 }
 
-/// The verdict on the question, the aliases that lead to the name where it stands, and what carries it: in lines, or in
-/// JSON.
+/// The verdict on the question, the aliases that lead to the name where it stands, what carries it, and where that is
+/// asked for, why it stands: in lines, or in JSON.
 ///
 /// An alias that can't be followed is refused, without a place.
 pub fn judge<V: Verifier>(
     alloc: Global,
     json: bool,
+    why: bool,
     held: &Capture,
     anchors: &Anchors,
     moment: Moment,
@@ -51,11 +53,13 @@ pub fn judge<V: Verifier>(
     rtype: RecordType,
 ) -> Result<Outcome, Fault>
     requires { IsQuestion name.now rtype.0 }
-    ensures verdict { IfOk result (λ outcome. (links : List Link) × (last : Labels) × (verdict : Verdict)
-        × IsVerdictOf (basis_of held.now.rrsets anchors.now moment (V.meaning verifier.now)) name.now rtype.0 links
-        last verdict × (outcome.status ≡ specs.verdict_status verdict)
+    ensures verdict { IfOk result (λ outcome. (report : Report) × (told : Option (List Line))
+        × IsVerdictOf (basis_of held.now.rrsets anchors.now moment (V.meaning verifier.now)) name.now rtype.0
+        report.links report.last report.verdict
+        × specs.IsWhy why (basis_of held.now.rrsets anchors.now moment (V.meaning verifier.now)) rtype.0 report told
+        × (outcome.status ≡ specs.verdict_status report.verdict)
         × (string_bytes outcome.text
-        ≡ specs.check_text json name.now rtype.0 moment held.now.rrsets links verdict)) }
+        ≡ specs.check_text json name.now rtype.0 moment held.now.rrsets report.links report.verdict told)) }
     ensures only { IfErr result (λ told. (told ≡ Fault.OutOfMemory) ⊎ ((error : VerdictError)
         × IsRefusedFor (basis_of held.now.rrsets anchors.now moment (V.meaning verifier.now)) name.now rtype.0 error
         × (told ≡ specs.verdict_fault error))) }
@@ -65,40 +69,35 @@ pub fn judge<V: Verifier>(
         rtype,
         moment,
     };
-    match validate(
-        alloc,
-        held,
-        anchors,
-        moment.seconds(),
-        verifier,
-        name,
-        rtype,
-    ) {
-        Ok(report) => Ok(Outcome {
+    let seconds = moment.seconds();
+    match report_and_why(alloc, why, held, anchors, seconds, verifier, name, rtype) {
+        Ok((report, told)) => Ok(Outcome {
             status: status_of(&report.verdict),
-            text: text_of(alloc, json, &asked, held.rrsets(), &report)?,
+            text: text_of(alloc, json, &asked, held.rrsets(), &report, &told)?,
         }),
         Err(error) => Err(verdict_fault(error)),
     }
 }
 
-/// The text of a report: in lines, or in JSON.
+/// The text of a report, and of why its verdict stands: in lines, or in JSON.
 fn text_of(
     alloc: Global,
     json: bool,
     asked: &Asked<'_>,
     rrsets: &[Rrset],
     report: &Report,
+    why: &Option<Explanation>,
 ) -> Result<String, AllocError>
     ensures { IfOk result (λ text. string_bytes text
         ≡ specs.check_text json asked.now.name.now asked.now.rtype.0 asked.now.moment rrsets.now report.now.links
-        report.now.verdict) }
+        report.now.verdict why.now) }
 {
     if json {
-        verdict_json(alloc, asked, rrsets, report)
-    } else {
-        verdict_text(alloc, asked.name, asked.rtype, rrsets, report)
+        return verdict_json(alloc, asked, rrsets, report, why);
     }
+    let mut text = verdict_text(alloc, asked.name, asked.rtype, rrsets, report)?;
+    push_why(&mut text, why)?;
+    Ok(text)
 }
 
 /// The fault by which it is told that a question has no verdict. It has no place.

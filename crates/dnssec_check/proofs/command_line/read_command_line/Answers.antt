@@ -2,6 +2,7 @@ use Rattle.std.proofs.Common.{◌≡◌, ap, map, ◌∙◌, codes, true, rules,
 use Rattle.std.proofs.lemmas.Slice.Eq.{bytes_eq-Decides}
 use Rattle.std.specs.Str.{bytes_eq}
 use Rattle.clap.specs.Words.{app_of, found_of, rows_of}
+use Rattle.dnssec_check.specs.CommandLine.Commands.{question_word}
 use Rattle.dnssec_check.proofs.CommandLineLemmas.Words.{Sees, is_list, is_neither, is_show, passed_up, sees}
 use Rattle.dnssec_check.proofs.command_line.read_command_line.Goals as goal
 
@@ -58,5 +59,6 @@ returns-clause-accepted g c =
     let at : Sees (map g.S.AsStr.text c.args.words.now) c.unwrap.result.0.now (rows_of (found_of c.unwrap.result.1.now)) =
     sees (λ p. p.0.now) (λ p. rows_of (found_of p.1.now)) c.subcommand.result c.unwrap.result (app_of c.in_ok-program.field-0) (map g.S.AsStr.text c.args.words.now) c.in_ok-matches.matches
     c.in_ok-program.ensures c.in_ok-matches.ensures.matches c.in_ok-matches.ensures.kinds c.unwrap.ensures c.subcommand.ensures.name c.subcommand.ensures.rows in
-    let check = is_neither at (search rules) (search rules) in
-    (at.none, (codes "check", _, at.met ∙ ap (λ n. Some (n, rows_of (found_of c.unwrap.result.1.now))) check.0, c.in_ok-check_request.ensures))
+    let question = is_neither at (search rules) (search rules) in
+    let why : question_word (bytes_eq c.unwrap.result.0.now (codes "explain")) ≡ question_word c.eq-3.result = search rules in
+    (at.none, (question_word c.eq-3.result, _, at.met ∙ ap (λ n. Some (n, rows_of (found_of c.unwrap.result.1.now))) (question.0 ∙ why), c.in_ok-check_request.ensures))

@@ -1,50 +1,61 @@
-//! The JSON of `check`: a question's verdict, and what carries it.
-ghost use Rattle.std.specs.Prelude.{◌≡◌, ◌++◌, ◌∷◌, [], Some, false, true, codes, map, IfOk, OnOk, string_bytes};
+//! The JSON of `check` and of `explain`: a question's verdict, what carries it, and why it stands.
+ghost use Rattle.std.specs.Prelude.{◌≡◌, ◌++◌, ◌∷◌, [], Some, false, true, codes, is_some, map, IfOk, OnOk, string_bytes};
 ghost use Rattle.dnssec_check.specs.Texts.Json.{array, parted, still_first};
 ghost use Rattle.dnssec_check.specs.Texts.Checking as specs;
 
+use crate::command_line::question::question_word;
 use crate::texts::checking::{Asked, status_of, verdict_word};
+use crate::texts::json::lines::push_why;
 use crate::texts::json::todo::push_entries;
 use crate::texts::json::{push_comma, push_name};
 use crate::texts::reason::push_reason;
 use dnsv_canonical::Rrset;
 use dnsv_denial::RecordNumber;
+use dnsv_explain::Explanation;
 use dnsv_names::Name;
 use dnsv_verdict::{Link, Report, Verdict};
 use dnsv_verifier::Entries;
 use std::alloc::{AllocError, Global};
 
-/// The object of the question, its verdict, the aliases, and what carries the verdict.
+/// The object of the question, its verdict, the aliases, what carries the verdict, and why it stands.
 pub fn verdict_json(
     alloc: Global,
     asked: &Asked<'_>,
     rrsets: &[Rrset],
     report: &Report,
+    why: &Option<Explanation>,
 ) -> Result<String, AllocError>
     ensures { IfOk result (λ text. string_bytes text
         ≡ specs.verdict_json asked.now.name.now asked.now.rtype.0 asked.now.moment rrsets.now report.now.links
-        report.now.verdict) }
+        report.now.verdict why.now) }
 {
     let mut text = String::new(alloc);
-    push_verdict(&mut text, asked, &report.verdict)?;
+    push_verdict(&mut text, why.is_some(), asked, &report.verdict)?;
     text.push_str(",\"aliases\":")?;
     push_aliases(&mut text, report.links.as_slice())?;
     push_reason(&mut text, true, rrsets, &report.verdict)?;
+    push_why(&mut text, why)?;
     text.push_str("}\n")?;
     Ok(text)
 }
 
 /// Begins the object with the members for the question and its verdict.
-fn push_verdict(text: &mut String, asked: &Asked<'_>, verdict: &Verdict) -> Result<(), AllocError>
+fn push_verdict(
+    text: &mut String,
+    why: bool,
+    asked: &Asked<'_>,
+    verdict: &Verdict,
+) -> Result<(), AllocError>
     ensures { OnOk result (string_bytes text.new ≡ string_bytes text.old
-        ++ (codes "{" ++ parted true (specs.verdict_members asked.now.name.now asked.now.rtype.0 asked.now.moment
+        ++ (codes "{" ++ parted true (specs.verdict_members why asked.now.name.now asked.now.rtype.0 asked.now.moment
         verdict.now))) }
 {
+    let command = question_word(why);
     let rtype = asked.rtype.0;
     let seconds = asked.moment.seconds();
     let word = verdict_word(verdict);
     let code = status_of(verdict).code();
-    text.push_str("{\"command\":\"check\",\"name\":")?;
+    write!(text, "{{\"command\":\"{command}\",\"name\":")?;
     push_name(text, asked.name)?;
     write!(text, ",\"type\":{rtype},\"moment\":{seconds}")?;
     write!(text, ",\"verdict\":\"{word}\",\"status\":{code}")?;

@@ -1,5 +1,5 @@
 //! The JSON of an explanation's lines.
-ghost use Rattle.std.specs.Prelude.{◌≡◌, ◌++◌, ◌∷◌, [], false, map, OnOk, string_bytes};
+ghost use Rattle.std.specs.Prelude.{◌≡◌, ◌++◌, ◌∷◌, [], Some, false, map, OnOk, string_bytes};
 ghost use Rattle.dnssec_check.specs.Texts.Json.{AddsMembers, array, parted};
 ghost use Rattle.dnssec_check.specs.Texts.Why as specs;
 
@@ -10,11 +10,33 @@ use crate::texts::json::lines::denial::{push_cut, push_part, push_proof, push_un
 use crate::texts::json::lines::derivation::{push_signed, push_trusted};
 use crate::texts::json::members::{push_key, push_named, push_number, push_place};
 use crate::texts::json::push_comma;
-use dnsv_explain::{Interval, Kind, Line, RrsetPlace};
+use dnsv_explain::{Explanation, Interval, Kind, Line, RrsetPlace};
 use std::alloc::AllocError;
 
+/// Adds a member with the lines that say why, where there are such.
+#[tactic(auto, using(crate::proofs::TextLemmas::Members::no_members))]
+pub fn push_why(text: &mut String, why: &Option<Explanation>) -> Result<(), AllocError>
+    ensures { OnOk result (AddsMembers (specs.why_members why.now) (string_bytes text.old)
+        (string_bytes text.new)) }
+{
+    match why {
+        Some(explanation) => push_explanation(text, explanation.lines()),
+        None => Ok(()),
+    }
+}
+
+/// Adds a member with an array of the lines.
+fn push_explanation(text: &mut String, lines: &[Line]) -> Result<(), AllocError>
+    ensures { OnOk result (AddsMembers (specs.why_members (Some lines.now)) (string_bytes text.old)
+        (string_bytes text.new)) }
+{
+    push_key(text, "why")?;
+    push_lines(text, lines)?;
+    Ok(())
+}
+
 /// Adds an array with an object for each line.
-pub fn push_lines(text: &mut String, lines: &[Line]) -> Result<(), AllocError>
+fn push_lines(text: &mut String, lines: &[Line]) -> Result<(), AllocError>
     ensures { OnOk result (string_bytes text.new
         ≡ string_bytes text.old ++ array (map specs.line_json lines.now)) }
 {

@@ -1,8 +1,8 @@
-use Rattle.std.proofs.Common.{ap, ap₂, codes, true, ◌≡◌, ◌∙◌}
+use Rattle.std.proofs.Common.{ap, ap₂, codes, false, true, ◌≡◌, ◌∙◌}
 use Rattle.std.proofs.lemmas.Result.{IfOk-weaker}
 use Rattle.clap.specs.Words.{App, app_of, new_app, with_subcommand}
 use Rattle.clap.specs.Simple.{app_of_fields}
-use Rattle.dnssec_check.specs.CommandLine.Commands.{bare_app, list_app, show_app}
+use Rattle.dnssec_check.specs.CommandLine.Commands.{bare_app, list_app, question_app, show_app}
 use Rattle.dnssec_check.proofs.command_line.commands.program.Goals as goal
 
 -- a command that stays without its subcommand `help`, and one that has to have a subcommand
@@ -23,4 +23,6 @@ returns c =
     c.in_ok-subcommand.ensures.shape c.in_ok-show.ensures.1 ∙ ap₂ with_subcommand bare_is (ap (λ (a : App). a.top) c.in_ok-show.ensures.0) in
     let listed_is : app_of c.in_ok-subcommand-2.field-0 ≡ with_subcommand (with_subcommand bare_app show_app.top) list_app.top =
     c.in_ok-subcommand-2.ensures.shape c.in_ok-list.ensures.1 ∙ ap₂ with_subcommand shown_is (ap (λ (a : App). a.top) c.in_ok-list.ensures.0) in
-    IfOk-weaker c.subcommand-3.result _ _ (λ command adds. adds.shape c.in_ok-check.ensures.1 ∙ ap₂ with_subcommand listed_is (ap (λ (a : App). a.top) c.in_ok-check.ensures.0)) c.subcommand-3.ensures
+    let checked_is : app_of c.in_ok-subcommand-3.field-0 ≡ with_subcommand (with_subcommand (with_subcommand bare_app show_app.top) list_app.top) (question_app false).top =
+    c.in_ok-subcommand-3.ensures.shape c.in_ok-check.ensures.1 ∙ ap₂ with_subcommand listed_is (ap (λ (a : App). a.top) c.in_ok-check.ensures.0) in
+    IfOk-weaker c.subcommand-4.result _ _ (λ command adds. adds.shape c.in_ok-explain.ensures.1 ∙ ap₂ with_subcommand checked_is (ap (λ (a : App). a.top) c.in_ok-explain.ensures.0)) c.subcommand-4.ensures

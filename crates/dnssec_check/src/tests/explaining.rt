@@ -1,0 +1,91 @@
+//! `explain`: the text of `check`, and why the verdict stands.
+
+pub const ROWS: &str = "\
+# A secure answer, and why it stands; the same as JSON.
+c < KEYS HOST
+a = KEY example. 256 3 13 AQID;
+s = good 13 010203 00010d0200000e10000007d0000003e8080f076578616d706c650004686f7374076578616d706c65000001000100000e100004c0000201 aabb;good 13 010203 00300d0100000e10000007d0000003e8080f076578616d706c6500076578616d706c65000030000100000e1000070100030d010203 cc;
+$ dnssec_check explain --capture c --anchors a --statements s --moment 1500 --name Host.example. --type 1
+=> 0
+SecureAnswer host.example. 1
+rrset 2 signature 1
+trusted example. rrset 1 signature 1 key 2063 13 anchor 1
+signed host.example. 1 rrset 2 signature 1 key 2063 13 zone example. keys 1
+holds from 1000 to 2000
+rrset 1 message 1 section 1 example. 48
+rrset 2 message 2 section 1 host.example. 1
+
+c < KEYS HOST
+a = KEY example. 256 3 13 AQID;
+s = good 13 010203 00010d0200000e10000007d0000003e8080f076578616d706c650004686f7374076578616d706c65000001000100000e100004c0000201 aabb;good 13 010203 00300d0100000e10000007d0000003e8080f076578616d706c6500076578616d706c65000030000100000e1000070100030d010203 cc;
+$ dnssec_check explain --capture c --anchors a --statements s --moment 1500 --name Host.example. --type 1 --json
+=> 0
+{\"command\":\"explain\",\"name\":\"host.example.\",\"type\":1,\"moment\":1500,\"verdict\":\"SecureAnswer\",\"status\":0,\"aliases\":[],\"rrset\":2,\"signature\":1,\"why\":[{\"line\":\"trusted\",\"zone\":\"example.\",\"rrset\":1,\"signature\":1,\"tag\":2063,\"algorithm\":13,\"anchor\":1},{\"line\":\"signed\",\"owner\":\"host.example.\",\"type\":1,\"rrset\":2,\"signature\":1,\"tag\":2063,\"algorithm\":13,\"signer\":\"example.\",\"keys\":1},{\"line\":\"holds\",\"from\":1000,\"to\":2000},{\"line\":\"rrset\",\"rrset\":1,\"message\":1,\"section\":1,\"owner\":\"example.\",\"type\":48},{\"line\":\"rrset\",\"rrset\":2,\"message\":2,\"section\":1,\"owner\":\"host.example.\",\"type\":1}]}
+
+# What is still to check, what is hoped for, and why that would stand.
+c < KEYS HOST
+a = KEY example. 256 3 13 AQID;
+$ dnssec_check explain --capture c --anchors a --moment 1500 --name host.example. --type 1
+=> 4
+Pending host.example. 1
+todo 13 010203 00010d0200000e10000007d0000003e8080f076578616d706c650004686f7374076578616d706c65000001000100000e100004c0000201 aabb
+todo 13 010203 00300d0100000e10000007d0000003e8080f076578616d706c6500076578616d706c65000030000100000e1000070100030d010203 cc
+hope SecureAnswer
+trusted example. rrset 1 signature 1 key 2063 13 anchor 1 todo 2
+signed host.example. 1 rrset 2 signature 1 key 2063 13 zone example. keys 1 todo 1
+rrset 1 message 1 section 1 example. 48
+rrset 2 message 2 section 1 host.example. 1
+
+c < KEYS HOST
+a = KEY example. 256 3 13 AQID;
+$ dnssec_check explain --capture c --anchors a --moment 1500 --name host.example. --type 1 --json
+=> 4
+{\"command\":\"explain\",\"name\":\"host.example.\",\"type\":1,\"moment\":1500,\"verdict\":\"Pending\",\"status\":4,\"aliases\":[],\"todo\":[{\"algorithm\":13,\"key\":\"010203\",\"data\":\"00010d0200000e10000007d0000003e8080f076578616d706c650004686f7374076578616d706c65000001000100000e100004c0000201\",\"signature\":\"aabb\"},{\"algorithm\":13,\"key\":\"010203\",\"data\":\"00300d0100000e10000007d0000003e8080f076578616d706c6500076578616d706c65000030000100000e1000070100030d010203\",\"signature\":\"cc\"}],\"why\":[{\"line\":\"hope\",\"kind\":\"SecureAnswer\"},{\"line\":\"trusted\",\"zone\":\"example.\",\"rrset\":1,\"signature\":1,\"tag\":2063,\"algorithm\":13,\"anchor\":1,\"todo\":2},{\"line\":\"signed\",\"owner\":\"host.example.\",\"type\":1,\"rrset\":2,\"signature\":1,\"tag\":2063,\"algorithm\":13,\"signer\":\"example.\",\"keys\":1,\"todo\":1},{\"line\":\"rrset\",\"rrset\":1,\"message\":1,\"section\":1,\"owner\":\"example.\",\"type\":48},{\"line\":\"rrset\",\"rrset\":2,\"message\":2,\"section\":1,\"owner\":\"host.example.\",\"type\":1}]}
+
+# The question is refused as `check` refuses it: by its name, by its type, and by an alias that leads back.
+c < KEYS HOST
+a = KEY example. 256 3 13 AQID;
+$ dnssec_check explain --capture c --anchors a --moment 1500 --name host --type 1
+=> 7
+! refused 105
+
+c < KEYS HOST
+a = KEY example. 256 3 13 AQID;
+$ dnssec_check explain --capture c --anchors a --moment 1500 --name . --type 43 --json
+=> 7
+! refused 701
+
+c < KEYS 005a0003840000010002000000000143076578616d706c650000010001c00c0005000100000e10000b0163074578616d706c6500c00c002e000100000e10001c00050d0200000e10000007d0000003e8080f076578616d706c6500dd
+a = KEY example. 256 3 13 AQID;
+s = good 13 010203 00050d0200000e10000007d0000003e8080f076578616d706c65000163076578616d706c65000005000100000e10000b0163076578616d706c6500 dd;good 13 010203 00300d0100000e10000007d0000003e8080f076578616d706c6500076578616d706c65000030000100000e1000070100030d010203 cc;
+$ dnssec_check explain --capture c --anchors a --statements s --moment 1500 --name c.example. --type 1
+=> 7
+! refused 702
+
+# So are messages that none of the keys has signed.
+c < KEYS HOST
+a = KEY example. 256 3 13 AQID;
+k = k. AQID;
+$ dnssec_check explain --capture c --anchors a --keys k --moment 1500 --name host.example. --type 1
+=> 7
+! refused 310 message 1
+
+# A read that fails, a file that doesn't open, and an output that takes nothing.
+c < KEYS HOST
+a < 23 !
+$ dnssec_check explain --capture c --anchors a --moment 1500 --name host.example. --type 1
+=> 1
+! fault 210 anchors
+
+c < KEYS HOST
+$ dnssec_check explain --capture c --anchors a --moment 1500 --name host.example. --type 1
+=> 1
+! fault 811 anchors
+
+full
+c < KEYS HOST
+a = KEY example. 256 3 13 AQID;
+s = good 13 010203 00010d0200000e10000007d0000003e8080f076578616d706c650004686f7374076578616d706c65000001000100000e100004c0000201 aabb;good 13 010203 00300d0100000e10000007d0000003e8080f076578616d706c6500076578616d706c65000030000100000e1000070100030d010203 cc;
+$ dnssec_check explain --capture c --anchors a --statements s --moment 1500 --name Host.example. --type 1
+=> 1
+! fault 812";
