@@ -36,9 +36,15 @@ def digest_ignored(_told, line):
 
 
 def key_missing(told, line):
+    return owned(line["zone"], DNSKEY), f"{voucher(line)} names key {line['tag']}; {beside(told, line)}"
+
+
+def beside(told, line):
+    """The keys that the zone has; one that an anchor writes out may have the tag, and be another."""
     tags = told.tags(line["zone"])
-    beside = f"the zone has {all_of(map(str, tags))}" if tags else "the zone has no such key"
-    return owned(line["zone"], DNSKEY), f"{voucher(line)} names key {line['tag']}; {beside}"
+    if line["tag"] in tags:
+        return f"the zone's key {line['tag']} is another"
+    return f"the zone has {all_of(map(str, tags))}" if tags else "the zone has no such key"
 
 
 def key_algorithm(told, line):

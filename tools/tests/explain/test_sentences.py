@@ -2,8 +2,9 @@
 import json
 import unittest
 
-from explaining import holding, reasons, sentences
-from judge.helper import needs_dns_here
+from explaining import drawn, holding, reasons, sentences
+from explaining.evidence import Told
+from judge.helper import EXAMPLES, needs_dns_here
 from .helper import FORMS, NOON, DAY, lines_of, told_by, told_of
 
 try:
@@ -51,6 +52,23 @@ class Words(unittest.TestCase):
 
 
 @needs_dns_here
+class Examples(unittest.TestCase):
+    def test_each_has_its_sentences_and_a_picture(self):
+        folders = sorted(EXAMPLES.glob("*-explain-json"))
+        for folder in folders:
+            with self.subTest(folder.name):
+                told = Told(json.loads((folder / "stdout").read_text()))
+                self.assertEqual(sentences.holds_until(told) is not None, told.value["status"] in (0, 3))
+                for line in told.lines:
+                    self.assertTrue(str(sentences.sentence(told, line)).isprintable())
+                if told.value["status"] in (0, 3):
+                    self.assertEqual(bool(texts(told)), told.value["status"] == 3)
+                boxes = drawn.chain_of(told).boxes
+                self.assertIn(drawn.QUESTION, boxes)
+                self.assertGreaterEqual(len(boxes), 2)
+
+
+@needs_dns_here
 class Verdicts(unittest.TestCase):
     def verdict(self, word, *lines, **others):
         return sentences.verdict(told_by(*lines, verdict=word, **others))
@@ -86,6 +104,11 @@ class Samples(unittest.TestCase):
             "THEN www.shop.example.test. A: signed by key 45316 of shop.example.test., which isn't trusted",
             "HOLDS shop.example.test. DS: signed by example.test.; the chain holds down to here, from anchor 1 of "
             "example.test. on"])
+
+    def test_an_anchor_that_is_another_key_of_the_same_tag(self):
+        reason = {"line": "reason", "word": "key-missing", "ede": 9, "zone": "b.", "anchor": 1, "tag": 9, "algorithm": 13}
+        key = {"line": "key", "zone": "b.", "rrset": 1, "record": 1, "tag": 9, "algorithm": 13, "flags": 257, "signature": 1}
+        self.assertEqual(texts(told_by(reason, key))[0], "FAIL b. DNSKEY: anchor 1 names key 9; the zone's key 9 is another [EDE 9]")
 
     def test_a_rollover_too_early(self):
         first, *_ = texts(told_of("roll-early"))
