@@ -38,9 +38,10 @@ def first_reason(told):
 
 
 def why(told):
-    """Why the verdict isn't secure; nothing of one that is."""
+    """Why the verdict isn't secure; nothing of one that is. RRsets that came several times may have equal sentences, each of
+    which is said once."""
     words = ("reason", "key", "follows") if told.value["verdict"] in FAILING else ("case", "unusable", "hope")
-    said = [sentence(told, line) for word in words for line in told.of(word)]
+    said = list(dict.fromkeys(sentence(told, line) for word in words for line in told.of(word)))
     return said + how_far(told) if said and told.value["verdict"] in FAILING else said
 
 

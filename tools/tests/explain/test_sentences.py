@@ -138,6 +138,12 @@ class Samples(unittest.TestCase):
             "WHY b.example.: it is delegated without DS, says example.",
             "WHY b.example. DS: it names key 9 (ECDSAP256SHA256) by GOST R 34.11-94; the digest type isn't supported"])
 
+    def test_equal_sentences_are_said_once(self):
+        reason = {"line": "reason", "word": "key-missing", "ede": 9, "zone": "b.", "rrset": 5, "record": 1, "tag": 9,
+                  "algorithm": 13, "digest_type": 2}
+        self.assertEqual(texts(told_by(reason, {**reason, "rrset": 7})),
+                         ["FAIL b. DNSKEY: the DS names key 9; the zone has no such key [EDE 9]"])
+
     def test_the_first_reason(self):
         self.assertEqual(sentences.first_reason(told_of("roll-gone")).ede, 9)
         self.assertIsNone(sentences.first_reason(told_by()))
