@@ -30,20 +30,24 @@ class Scene:
     def __init__(self, told, chain, signers):
         self.told, self.chain, self.signers, self.leading = told, chain, signers, []
 
-    def lead(self, box, state, text=""):
-        """An edge to the question."""
-        self.leading.append((box, state, text))
+    def lead(self, box, state, text="", head=QUESTION):
+        """An edge to the question, or to what leads to it."""
+        self.leading.append((box, state, text, head))
 
     def join_question(self):
-        value = self.told.value
-        for link in value["aliases"]:
-            self.lead(("rrset", link["rrset"]), HOLDS, "alias")
-        if "rrset" in value:
-            self.lead(("rrset", value["rrset"]), HOLDS)
-        for box, state, text in self.leading:
-            if box in self.chain.boxes:
-                self.chain.join(box, QUESTION, state, text)
+        self.lead_over_aliases()
+        for box, state, text, head in self.leading:
+            if box in self.chain.boxes and head in self.chain.boxes:
+                self.chain.join(box, head, state, text)
         self.lay_under()
+
+    def lead_over_aliases(self):
+        """From each link of the way to the next, and from the last, or the answer, to the question."""
+        value = self.told.value
+        way = [("rrset", link["rrset"]) for link in value["aliases"]]
+        way += [("rrset", value["rrset"])] if "rrset" in value else []
+        for place, box in enumerate(way):
+            self.lead(box, HOLDS, "alias" if place < len(value["aliases"]) else "", (way + [QUESTION])[place + 1])
 
     def lay_under(self):
         """What no edge leads to stands under the last link of the chain, and the question under all."""
@@ -113,22 +117,23 @@ def proof(_scene, _line):
 
 def part(scene, line):
     if "owner" in line:
-        scene.lead(("rrset", line["rrset"]), HOLDS, f"{ROLES[line['role']]}\n{line['relation']}")
+        cuts = [("cut", each["cut"]) for each in scene.told.of("case")]
+        text = f"{ROLES[line['role']]}\n{line['relation']}"
+        scene.lead(("rrset", line["rrset"]), HOLDS, text, cuts[0] if cuts else QUESTION)
 
 
-def cut_box(scene, name, zone):
+def cut_box(scene, name):
     """The name from which on nothing has to be signed."""
-    return scene.chain.add(("cut", name), zone, (name, "may be unsigned"), PLAIN)
+    return scene.chain.add(("cut", name), None, (name, "may be unsigned"), PLAIN)
 
 
 def case(scene, line):
-    scene.lead(cut_box(scene, line["cut"], line.get("zone")), PLAIN)
+    scene.lead(cut_box(scene, line["cut"]), PLAIN)
 
 
 def unusable(scene, line):
-    place, zone = (line["rrset"], line["record"]), scene.signers.get(line["rrset"])
-    box = ds_box(scene.chain, scene.signers, place, line["owner"], PLAIN, line)
-    scene.chain.join(box, cut_box(scene, line["owner"], zone), PLAIN, UNUSABLE[line["why"]])
+    box = ds_box(scene.chain, scene.signers, (line["rrset"], line["record"]), line["owner"], PLAIN, line)
+    scene.chain.join(box, cut_box(scene, line["owner"]), PLAIN, UNUSABLE[line["why"]])
 
 
 def unseen(_scene, _line):
