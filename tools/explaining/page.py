@@ -11,7 +11,7 @@ from .drawn import chain_of
 from .picture import svg_of
 from .sentences import sentence, why
 
-# A verdict: what is asked, the verdict in words, the capture's name and the moment, and what explains it (`Told`, or None
+# A verdict: what is asked, the verdict in words, the capture's name and the moment, and what explains it (`Explanation`, or None
 # where there is no verdict).
 Entry = namedtuple("Entry", "question said capture moment told")
 POLICY = "default-src 'none'; style-src 'unsafe-inline'"

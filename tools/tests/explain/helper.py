@@ -2,7 +2,7 @@
 import itertools
 import json
 
-from explaining.evidence import Told
+from explaining.explanation import Explanation
 from tool import DATA
 
 NOON = 1795348800  # 2026-11-22T12:00:00Z
@@ -15,12 +15,12 @@ NUMBERS = {"case": (1, 2, 3, 4), "flags": (0, 256, 257, 385), "type": (1, 65280)
 
 
 def told_of(name):
-    return Told(json.loads((DATA / "explain" / f"{name}.json").read_text()))
+    return Explanation(json.loads((DATA / "explain" / f"{name}.json").read_text()))
 
 
 def told_by(*lines, verdict="Bogus", moment=NOON, **others):
     """An explanation of these lines."""
-    return Told({"command": "explain", "name": "www.example.", "type": 1, "moment": moment, "verdict": verdict, "status": 5,
+    return Explanation({"command": "explain", "name": "www.example.", "type": 1, "moment": moment, "verdict": verdict, "status": 5,
                  "aliases": [], **others, "why": list(lines)})
 
 

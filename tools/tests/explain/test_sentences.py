@@ -3,7 +3,7 @@ import json
 import unittest
 
 from explaining import drawn, holding, reasons, sentences
-from explaining.evidence import Told
+from explaining.explanation import Explanation
 from judge.helper import EXAMPLES, needs_dns_here
 from .helper import FORMS, NOON, DAY, lines_of, told_by, told_of
 
@@ -57,7 +57,7 @@ class Examples(unittest.TestCase):
         folders = sorted(EXAMPLES.glob("*-explain-json"))
         for folder in folders:
             with self.subTest(folder.name):
-                told = Told(json.loads((folder / "stdout").read_text()))
+                told = Explanation(json.loads((folder / "stdout").read_text()))
                 self.assertEqual(sentences.holds_until(told) is not None, told.value["status"] in (0, 3))
                 for line in told.lines:
                     self.assertTrue(str(sentences.sentence(told, line)).isprintable())

@@ -1,7 +1,7 @@
 """What a JSON object of `explain` says besides its lines, and what its lines say of keys."""
 
 
-class Told:
+class Explanation:
     """An object of `explain --json`."""
 
     def __init__(self, value):
