@@ -60,7 +60,7 @@ pages: | $(program)
 
 # The program, the tools as dnssec_check-capture, -verify and -judge, their manual pages and bash's completions.
 tools = capture verify judge
-modules = capturing verifying asking judging
+modules = capturing verifying asking explaining judging
 lib = $(DESTDIR)$(PREFIX)/lib/dnssec_check
 man = $(DESTDIR)$(PREFIX)/share/man/man1
 completions = $(DESTDIR)$(PREFIX)/share/bash-completion/completions
@@ -71,6 +71,7 @@ install: | $(program)
 	install -m 644 tools/command.py $(lib)
 	for folder in $(modules); do install -m 644 tools/$$folder/*.py $(lib)/$$folder; done
 	install -m 644 tools/judging/numbers.tsv $(lib)/judging
+	install -m 644 tools/explaining/page.css $(lib)/explaining
 	install -m 644 docs/dnssec_check.1 $(tools:%=docs/dnssec_check-%.1) $(man)
 	install -m 644 tools/completion/dnssec_check $(completions)
 	for tool in $(tools); do \

@@ -1,4 +1,5 @@
 """The program `dnssec_check`: where it is, how it's run, and what it says."""
+import json
 import os
 import shutil
 import subprocess
@@ -10,11 +11,9 @@ NAME = "dnssec_check"
 BUILT = os.path.join("crates", NAME, "out", NAME)
 SECURE, INSECURE, PENDING, BOGUS, INDETERMINATE, REFUSED, FAILED, WRONG = 0, 3, 4, 5, 6, 7, 1, 2
 
-# What a run of `check` says: its status, the verdict's word (`refused` or `fault` where there is none), the aliases
-# that were followed, and the lines below theirs, or the words behind `refused` and `fault`.
-Told = namedtuple("Told", "status word aliases lines")
-# A name that is an alias, by an RRset and one of its signatures, each by its number.
-Alias = namedtuple("Alias", "name rrset signature")
+# What a run of `explain` says: its status, the verdict's word with the object that explains it, or `refused` or `fault`
+# with the words behind it.
+Told = namedtuple("Told", "status word value said")
 
 
 def program_of(given, tool):
@@ -47,26 +46,16 @@ def todo_lines(program, folder, moment):
     return output.splitlines() if status == 0 else []
 
 
-def parted(lines):
-    """The aliases, and the lines behind theirs."""
-    aliases = []
-    for word, *fields in (line.split(" ") for line in lines):
-        if word != "alias":
-            break
-        aliases.append(Alias(fields[0], int(fields[2]), int(fields[4])))
-    return aliases, lines[len(aliases):]
-
-
 def told_of(program, folder, files, moment, question):
-    """What `check` says of the question; the folder has these files by the names of the options."""
-    words = ["check", *(f"--{name}={name}" for name in files), f"--moment={moment}", f"--name={question.name}",
-             f"--type={question.kind}"]
+    """What `explain` says of the question; the folder has these files by the names of the options."""
+    words = ["explain", *(f"--{name}={name}" for name in files), f"--moment={moment}", f"--name={question.name}",
+             f"--type={question.kind}", "--json"]
     status, output, errors = run(program, words, folder)
     if status in (SECURE, INSECURE, PENDING, BOGUS, INDETERMINATE) and output:
-        first, *lines = output.splitlines()
-        return Told(status, first.split(" ")[0], *parted(lines))
+        value = json.loads(output)
+        return Told(status, value["verdict"], value, None)
     first = (errors.splitlines() or [f"status {status}"])[0]
     word, _, rest = first.partition(" ")
     if word in ("refused", "fault") and status in (REFUSED, FAILED):
-        return Told(status, word, [], [rest])
-    return Told(FAILED, "fault", [], [f"- {first}"])
+        return Told(status, word, None, rest)
+    return Told(FAILED, "fault", None, f"- {first}")

@@ -1,24 +1,31 @@
-"""Verdicts in words, a line each, and as the rows of tables."""
+"""Verdicts in words, with why they stand, and as the rows of tables."""
 import json
 
 from asking.faults import escaped
 from asking.kinds import mnemonic_of
 from asking.moments import moment_text
+from explaining.explanation import Explanation
+from explaining.sentences import holds_until, verdict, why
 
 from .advice import UNKNOWN
 from .numbers import fault_text
 
-COLUMNS = ("capture", "moment", "name", "type", "status", "verdict", "evidence")
-NOT_VERIFIED = "Pending on {count} signature{s} that could not be verified here"
+COLUMNS = ("capture", "moment", "name", "type", "status", "verdict", "evidence", "until")
 NO_ANCHOR = "Indeterminate; no anchor is at or above the name: give one by --anchors"
 PLACES = ("message", "record", "line", "file")
+INDENT = "  "
 
 
 def fields_of(capture, row):
     """The values of a row, by column."""
     kind = mnemonic_of(row.question.kind)
-    values = (capture, row.moment, row.question.name, kind, row.status, row.word, row.evidence)
+    values = (capture, row.moment, row.question.name, kind, row.status, row.word, row.evidence, until(row))
     return dict(zip(COLUMNS, values))
+
+
+def until(row):
+    """The last moment of those in which the verdict holds; None where nothing is said of it."""
+    return holds_until(Explanation(row.explained)) if row.explained else None
 
 
 def json_line(capture, row):
@@ -26,8 +33,8 @@ def json_line(capture, row):
 
 
 def tsv_line(capture, row):
-    fields = fields_of(capture, row)
-    return "\t".join(escaped(str(value)) for value in [*list(fields.values())[:-1], evidence_words(row.evidence)])
+    fields = {**fields_of(capture, row), "evidence": evidence_words(row.evidence)}
+    return "\t".join("" if value is None else escaped(str(value)) for value in fields.values())
 
 
 def tsv_head():
@@ -62,7 +69,8 @@ class Lines:
         front = f"{capture}: " if self.has_captures else ""
         at = f" at {moment_text(row.moment)}" if self.has_moments else ""
         question = f"{row.question.name} {mnemonic_of(row.question.kind)}"
-        return escaped(f"{front}{question}{at}: {self.said(capture, row)}")
+        lines = [f"{front}{question}{at}: {self.said(capture, row)}", *(f"{INDENT}{each}" for each in reasons_of(row))]
+        return "\n".join(map(escaped, lines))
 
     def said(self, capture, row):
         if row.word in ("refused", "fault"):
@@ -70,21 +78,16 @@ class Lines:
         return "; ".join([verdict_text(row), *aliases_texts(row.evidence)])
 
 
+def reasons_of(row):
+    """The sentences that say why the verdict isn't secure."""
+    return why(Explanation(row.explained)) if row.explained else []
+
+
 def verdict_text(row):
-    """The verdict at the last name, and what carries it."""
-    evidence = row.evidence
-    if row.word == "Bogus":
-        return "Bogus; " + ("; ".join(row.advice) or UNKNOWN)
-    if row.word == "Indeterminate":
-        return NO_ANCHOR
-    if row.word == "Pending":
-        return NOT_VERIFIED.format(count=evidence["todo"], s="" if evidence["todo"] == 1 else "s")
-    if row.word == "Insecure":
-        return f"Insecure from {evidence['cut']} on"
-    if "records" in evidence:
-        return f"{row.word} by " + " and ".join(f"{kind} of {owner}" for owner, kind in evidence["records"])
-    signed = f", signed by {evidence['signer']} key {evidence['key']}" if "signer" in evidence else ""
-    return f"{row.word} by RRset {evidence['rrset']}{signed}"
+    """The verdict at the last name, and until when it holds; where nothing says why it isn't secure, what to look at."""
+    if reasons_of(row) or row.word not in ("Bogus", "Indeterminate"):
+        return verdict(Explanation(row.explained))
+    return NO_ANCHOR if row.word == "Indeterminate" else "Bogus; " + ("; ".join(row.advice) or UNKNOWN)
 
 
 def aliases_texts(evidence):

@@ -11,12 +11,13 @@ from .program import todo_lines, told_of
 
 # What is the same for all captures; `keys` and `macs` are octets or None.
 Common = namedtuple("Common", "anchors keys macs moments")
-# A verdict: `told` is its word, `evidence` what carries it by name, `advice` what to look at.
-Row = namedtuple("Row", "moment question status word evidence advice")
+# A verdict: its word, `evidence` what carries it by name, `advice` what to look at where nothing says why, `explained` the
+# object that says why, None where there is no verdict.
+Row = namedtuple("Row", "moment question status word evidence advice explained")
 # The verdicts of a capture, and why signatures could not be verified.
 Judged = namedtuple("Judged", "rows notes")
 
-SECURE_BY_RECORDS = ("SecureNoName", "SecureNoData")
+DENYING = {47: "NSEC", 50: "NSEC3"}
 
 
 def write_files(folder, files):
@@ -66,26 +67,25 @@ class View:
         return self.kept
 
     def row(self, moment, question, told):
-        advice, evidence = [], self.evidence_of(told)
-        if told.aliases:
-            evidence = {"aliases": [self.of_alias(each) for each in told.aliases], **evidence}
-        if told.word == "Bogus":
-            last = self.last_name(question, told.aliases)
+        if told.value is None:
+            return Row(moment, question, told.status, told.word, of_fault(told.said), [], None)
+        aliases, advice = told.value["aliases"], []
+        evidence = {"aliases": [self.of_alias(each) for each in aliases]} if aliases else {}
+        if told.word == "Bogus" and not has_reason(told.value):
+            last = self.last_name(question, aliases)
             advice = advice_for(question._replace(name=last), moment, self.evidence, self.anchors, self.bad_count)
-        return Row(moment, question, told.status, told.word, evidence, advice)
+        evidence.update(self.evidence_of(told.value))
+        return Row(moment, question, told.status, told.word, evidence, advice, told.value)
 
-    def evidence_of(self, told):
-        if told.word == "SecureAnswer":
-            _, rrset, _, signature = told.lines[0].split(" ")
-            return self.of_signature(int(rrset), int(signature))
-        if told.word in SECURE_BY_RECORDS:
-            fields = [line.split(" ") for line in told.lines]
-            return {"records": [[owner, {"47": "NSEC", "50": "NSEC3"}.get(kind, kind)] for _, owner, kind in fields]}
-        if told.word == "Insecure":
-            return {"cut": told.lines[0].split(" ")[1]}
-        if told.word == "Pending":
-            return {"todo": len(told.lines)}
-        return of_fault(told.lines[0]) if told.word in ("refused", "fault") else {}
+    def evidence_of(self, value):
+        """What carries the verdict, besides the aliases."""
+        if "rrset" in value:
+            return self.of_signature(value["rrset"], value["signature"])
+        if "records" in value:
+            return {"records": [[each["owner"], DENYING.get(each["type"], each["type"])] for each in value["records"]]}
+        if "cut" in value:
+            return {"cut": value["cut"]}
+        return {"todo": len(value["todo"])} if "todo" in value else {}
 
     def of_signature(self, rrset, signature):
         """The numbers, and who signed."""
@@ -94,14 +94,18 @@ class View:
 
     def of_alias(self, alias):
         """The same, between the name and its target."""
-        target = self.evidence.target(alias.rrset)
-        found = {"name": alias.name, **self.of_signature(alias.rrset, alias.signature)}
+        target = self.evidence.target(alias["rrset"])
+        found = {"name": alias["name"], **self.of_signature(alias["rrset"], alias["signature"])}
         return {**found, "target": target} if target else found
 
     def last_name(self, question, aliases):
         """The name that the verdict is at: the one that is asked for, or the one that the last alias leads to."""
-        target = self.evidence.target(aliases[-1].rrset) if aliases else None
+        target = self.evidence.target(aliases[-1]["rrset"]) if aliases else None
         return target or question.name
+
+
+def has_reason(value):
+    return any(line["line"] == "reason" for line in value["why"])
 
 
 def of_fault(line):

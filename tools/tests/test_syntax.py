@@ -17,7 +17,7 @@ PACKAGES = {
     "judge": {"command", "asking", "judging"},
     "asking": {"command", "capturing", "dns"},
     "explaining": {"asking"},
-    "judging": {"asking", "capturing", "verifying", "dns"},
+    "judging": {"asking", "capturing", "explaining", "verifying", "dns"},
     "judging/cluster.py": {"asking", "distributed"},
     "judging/progress.py": {"rich"},
     "pages": {"command"},

@@ -7,14 +7,15 @@ import subprocess
 import tempfile
 import unittest
 
-from tool import PROGRAM, TOOLS, run_program
+from tool import PROGRAM, TOOLS, load, run_program
 
 EXAMPLES = TOOLS.parent / "examples"
 NOON = "1795348800"
 ANCHORS = EXAMPLES / "bind-www-a-check" / "anchors"
 DEBIAN = "/usr/bin/python3"
 
-# Answers as the examples do. Whatever no example asks is Bogus.
+# Answers as the examples do. Whatever no example asks is Bogus, and nothing says why.
+BOGUS = {"command": "explain", "name": ".", "type": 0, "moment": 0, "verdict": "Bogus", "status": 5, "aliases": [], "why": []}
 DOUBLE = """#!/usr/bin/env python3
 import hashlib, json, sys
 told = json.load(open(INDEX))
@@ -24,7 +25,9 @@ def value(word):
         text = hashlib.sha256(open(text, "rb").read()).hexdigest()
     return [name, text]
 words = sorted(value(word) for word in sys.argv[2:] if not word.startswith("--statements"))
-status, output, errors = told.get(json.dumps([sys.argv[1], words]), [5, "Bogus . 0\\n", ""])
+bogus = dict(BOGUS, **{name[2:]: text for name, text in words if name == "--name"},
+             **{name[2:]: int(text) for name, text in words if name in ("--type", "--moment")})
+status, output, errors = told.get(json.dumps([sys.argv[1], words]), [5, json.dumps(bogus), ""])
 sys.stdout.write(output)
 sys.stderr.write(errors)
 sys.exit(status)
@@ -57,6 +60,8 @@ class Example:
     def __init__(self, folder):
         self.name = folder.name
         words = (folder / "words").read_text().splitlines()
+        self.is_json = "--json" in words
+        words = [word for word in words if word != "--json"]
         self.kind, self.options = words[0], {}
         for option, text in zip(words[1::2], words[2::2]):
             self.options[option[2:]] = folder / text if (folder / text).exists() else text
@@ -75,13 +80,26 @@ def digest_of(value):
     return hashlib.sha256(value.read_bytes()).hexdigest() if isinstance(value, pathlib.Path) else value
 
 
+def explained(example):
+    """What `explain --json` says where `check` says what the example has: of what fails, not why."""
+    if not example.output:
+        return example.output
+    words = ["explain", "--moment", example.options["moment"]]
+    return load("as-json").as_json(words, example.output)
+
+
 def index():
     """What the double answers, by subcommand and options."""
     told = {}
-    for example in [*examples("check"), *examples("list")]:
+    for example in [*examples("check"), *examples("list"), *examples("explain-json")]:
         words = sorted([f"--{name}", digest_of(value)] for name, value in example.options.items() if name != "statements")
+        kind, output = example.kind, example.output
+        if kind == "check":
+            kind, output = "explain", explained(example)
+        if kind == "explain":
+            words = sorted([*words, ["--json", ""]])
         if example.is_plain:
-            told[json.dumps([example.kind, words])] = [example.status, example.output, example.errors]
+            told[json.dumps([kind, words])] = [example.status, output, example.errors]
     return told
 
 
@@ -98,7 +116,7 @@ class Judging(unittest.TestCase):
         path = self.room / "bin" / "dnssec_check"
         path.parent.mkdir()
         (self.room / "bin" / "index").write_text(json.dumps(index()))
-        path.write_text(DOUBLE.replace("INDEX", repr(str(self.room / "bin" / "index"))))
+        path.write_text(DOUBLE.replace("INDEX", repr(str(self.room / "bin" / "index"))).replace("BOGUS", repr(BOGUS)))
         path.chmod(0o755)
         return path
 

@@ -8,6 +8,7 @@ from asking.questions import Question
 from judging.text import Lines, evidence_words
 from judging.work import Common, judged
 
+from tool import load
 from .helper import EXAMPLES, examples
 from .test_examples import lines_of
 
@@ -17,7 +18,7 @@ NOON = 1795348800
 SAYS = """#!/usr/bin/env python3
 import sys
 status, output, errors = TOLD
-if sys.argv[1] == "check":
+if sys.argv[1] == "explain":
     sys.stdout.write(output)
     sys.stderr.write(errors)
     sys.exit(status)
@@ -36,7 +37,8 @@ class Aliases(unittest.TestCase):
 
     def row(self, status, *lines, errors="", capture=CAPTURE, question=QUESTION):
         """The verdict that the tool makes of what the program says."""
-        output = "".join(line + "\n" for line in lines)
+        words, text = ["explain", "--moment", str(NOON)], "".join(line + "\n" for line in lines)
+        output = load("as-json").as_json(words, text) if lines else ""
         self.program.write_text(SAYS.replace("TOLD", repr((status, output, errors))))
         self.program.chmod(0o755)
         common = Common(ANCHORS.read_bytes(), None, None, [NOON])
@@ -50,8 +52,7 @@ class Aliases(unittest.TestCase):
         row = self.row(0, "SecureAnswer alias.bind.test. 1", ALIAS, "rrset 7 signature 1")
         carried = {"aliases": [LINK], "rrset": 7, "signature": 1, "signer": "bind.test.", "key": 11133}
         self.assertEqual((row.status, row.word, row.evidence), (0, "SecureAnswer", carried))
-        self.assertEqual(self.said(row), "SecureAnswer by RRset 7, signed by bind.test. key 11133; "
-                                         "by way of the alias to www.bind.test. (RRset 6)")
+        self.assertEqual(self.said(row), "SecureAnswer; by way of the alias to www.bind.test. (RRset 6)")
         self.assertEqual(evidence_words(row.evidence),
                          f"{ALIAS}; rrset 7 signature 1 signer bind.test. key 11133")
         json.dumps(row.evidence)
@@ -59,8 +60,7 @@ class Aliases(unittest.TestCase):
     def test_denials_and_cuts_behind_an_alias(self):
         row = self.row(0, "SecureNoData alias.bind.test. 1", ALIAS, "record www.bind.test. 47")
         self.assertEqual(row.evidence, {"aliases": [LINK], "records": [["www.bind.test.", "NSEC"]]})
-        self.assertEqual(self.said(row), "SecureNoData by NSEC of www.bind.test.; "
-                                         "by way of the alias to www.bind.test. (RRset 6)")
+        self.assertEqual(self.said(row), "SecureNoData; by way of the alias to www.bind.test. (RRset 6)")
         row = self.row(3, "Insecure alias.bind.test. 1", ALIAS, "cut www.bind.test.")
         self.assertEqual(row.evidence, {"aliases": [LINK], "cut": "www.bind.test."})
         self.assertEqual(evidence_words(row.evidence), f"{ALIAS}; cut www.bind.test.")

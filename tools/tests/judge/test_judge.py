@@ -14,12 +14,16 @@ BAD_NAMES = ("a b", "it's", "*", "a;touch X", "$(touch X)", "`touch X`", "back\\
 
 @needs_dns
 class Lines(Judging):
-    def test_a_line_says_what_carries_the_verdict(self):
-        answer = "www.bind.test. A: SecureAnswer by RRset 6, signed by bind.test. key 11133"
+    def test_a_line_says_the_verdict_and_until_when_it_holds(self):
+        answer = "www.bind.test. A: SecureAnswer, until 2027-03-01 (98 days)"
         self.assertEqual(self.noon(WWW, "www.bind.test/A"), (0, [answer], ""))
-        denied = "nosuch.bind.test. A: SecureNoName by NSEC of nodatalias.bind.test. and NSEC of bind.test."
+        denied = "nosuch.bind.test. A: SecureNoName, until 2027-03-01 (98 days)"
         self.assertEqual(self.noon("nosuch.bind.test./1", NOSUCH), (0, [denied], ""))
-        self.assertEqual(self.noon(CUT, "www.ins.bind.test/a"), (3, ["www.ins.bind.test. A: Insecure from ins.bind.test. on"], ""))
+
+    def test_what_is_insecure_says_why(self):
+        lines = ["www.ins.bind.test. A: Insecure from ins.bind.test. on, until 2027-03-01 (98 days)",
+                 "  WHY ins.bind.test.: it is delegated without DS, says bind.test."]
+        self.assertEqual(self.noon(CUT, "www.ins.bind.test/a"), (3, lines, ""))
 
     def test_what_is_bogus_says_what_to_look_at(self):
         status, lines, _ = self.noon(capture_of("expired-www-a"), "www.expired.test/A")
@@ -39,21 +43,23 @@ class Lines(Judging):
         status, lines, _ = self.judge("--at", "2026-11-22T12:00:00Z", "--at", "2026-11-22T13:00:00+01:00", "--anchors", ANCHORS,
                                       WWW, CUT, "www.bind.test/A")
         self.assertEqual(status, 5)
-        self.assertEqual(lines[0], f"{WWW}: www.bind.test. A: SecureAnswer by RRset 6, signed by bind.test. key 11133")
+        self.assertEqual(lines[0], f"{WWW}: www.bind.test. A: SecureAnswer, until 2027-03-01 (98 days)")
         self.assertEqual(len(lines), 2)
         _, lines, _ = self.judge("--at", "0", "--at", NOON, "--anchors", ANCHORS, WWW, "www.bind.test/A")
         self.assertTrue(lines[0].startswith("www.bind.test. A at 1970-01-01T00:00:00Z: Bogus; "))
-        self.assertTrue(lines[1].startswith("www.bind.test. A at 2026-11-22T12:00:00Z: SecureAnswer "))
+        self.assertTrue(lines[1].startswith("www.bind.test. A at 2026-11-22T12:00:00Z: SecureAnswer, until "))
 
     def test_tables(self):
         status, lines, _ = self.noon("--tsv", NOSUCH, WWW, "nosuch.bind.test/A")
-        head = "capture\tmoment\tname\ttype\tstatus\tverdict\tevidence"
-        row = f"{NOSUCH}\t{NOON}\tnosuch.bind.test.\tA\t0\tSecureNoName\trecord nodatalias.bind.test. NSEC; record bind.test. NSEC"
-        self.assertEqual((status, lines), (5, [head, row, f"{WWW}\t{NOON}\tnosuch.bind.test.\tA\t5\tBogus\t"]))
+        head = "capture\tmoment\tname\ttype\tstatus\tverdict\tevidence\tuntil"
+        row = (f"{NOSUCH}\t{NOON}\tnosuch.bind.test.\tA\t0\tSecureNoName\trecord nodatalias.bind.test. NSEC; record bind.test. NSEC"
+               "\t1803859200")
+        self.assertEqual((status, lines), (5, [head, row, f"{WWW}\t{NOON}\tnosuch.bind.test.\tA\t5\tBogus\t\t"]))
         _, lines, _ = self.noon("--jsonl", WWW, "www.bind.test/A")
         carried = {"rrset": 6, "signature": 1, "signer": "bind.test.", "key": 11133}
         self.assertEqual(json.loads(lines[0]), {"capture": str(WWW), "moment": int(NOON), "name": "www.bind.test.", "type": "A",
-                                                "status": 0, "verdict": "SecureAnswer", "evidence": carried})
+                                                "status": 0, "verdict": "SecureAnswer", "evidence": carried,
+                                                "until": 1803859200})
 
     def test_several_at_once_give_the_same(self):
         for number in range(7):
@@ -96,7 +102,7 @@ class Words(Judging):
         for words, count in (((WWW, "--questions", questions), len(asked)), ((self.room, "www.bind.test/A"), len(BAD_NAMES))):
             status, lines, errors = self.noon("--tsv", *words)
             self.assertEqual((status in (0, 5, 7), errors, len(lines)), (True, "", 1 + count))
-            self.assertTrue(all(line.count("\t") == 6 and line.replace("\t", "").isprintable() for line in lines))
+            self.assertTrue(all(line.count("\t") == 7 and line.replace("\t", "").isprintable() for line in lines))
         told = {os.fsencode(json.loads(line)["capture"]) for line in self.noon("--jsonl", self.room, "www.bind.test/A")[1]}
         self.assertEqual(told, {os.fsencode(self.room / f"{name}.cap") for name in BAD_NAMES})
         self.assertFalse((self.room / "X").exists() or os.path.exists("X"))
@@ -121,13 +127,14 @@ class Ends(Judging):
         self.assertIn("given twice", self.wrong(WWW, "a.test/A", "--anchors", ANCHORS, "--anchors", ANCHORS))
         self.assertIn("exclude each other", self.wrong(WWW, "a.test/A", "--tsv", "--jsonl"))
         self.assertIn("--macs needs --keys", self.wrong(WWW, "a.test/A", "--macs", ANCHORS))
+        self.assertIn("--html is given twice", self.wrong(WWW, "a.test/A", "--html", "a", "--html", "b"))
 
     def test_a_capture_that_cannot_be_read(self):
         path = self.room / "x.cap"
         path.symlink_to(self.room / "nowhere")
         status, lines, _ = self.noon("--tsv", path, WWW, "www.bind.test/A")
         self.assertEqual((status, len(lines)), (1, 3))
-        self.assertEqual(lines[1], f"{path}\t{NOON}\twww.bind.test.\tA\t1\tfault\t811 capture")
+        self.assertEqual(lines[1], f"{path}\t{NOON}\twww.bind.test.\tA\t1\tfault\t811 capture\t")
 
     def test_what_is_not_there(self):
         words = ("--at", NOON, WWW, "www.bind.test/A")

@@ -1,0 +1,30 @@
+"""The page of HTML that --html writes."""
+from asking.kinds import mnemonic_of
+from explaining.explanation import Explanation
+from explaining.page import Entry, page_of
+from explaining.picture import program
+
+from .records import lines_of
+from .text import Lines
+
+
+class Page:
+    """What is judged, in its order, and the records of the captures."""
+
+    def __init__(self, paths):
+        program()  # without it that is told before anything is judged
+        self.entries, self.records, self.lines = [], {}, Lines(False, False, paths)
+
+    def read(self, number, path, octets):
+        """The capture with this number."""
+        self.records[number] = path, list(lines_of(octets))
+
+    def add(self, path, row):
+        """A verdict."""
+        question = f"{row.question.name} {mnemonic_of(row.question.kind)}"
+        told = Explanation(row.explained) if row.explained else None
+        self.entries.append(Entry(question, self.lines.said(path, row), path, row.moment, told))
+
+    def octets(self):
+        captures = [self.records[number] for number in sorted(self.records)]
+        return page_of(self.entries, captures).encode()
