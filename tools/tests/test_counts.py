@@ -11,6 +11,8 @@ BEGINS = re.compile(r"\bCount::(?:new|default)\(\)")
 NAMED = {
     "dnsv_names/src/count.rt": "the default of a count, and its test",
     "dnsv_verdict/src/report.rt": "the two numbers that a report tells",
+    "dnsv_verdict/src/search.rt": "pairs compared by a capture's index, which no report tells",
+    "dnsv_explain/src/explanation/held.rt": "pairs compared by a capture's index, which no line tells",
     "dnssec_check/src/texts/todo.rt": "`list` asks a verifier, and prints no number",
 }
 
