@@ -60,5 +60,5 @@ returns-clause-accepted g c =
     sees (λ p. p.0.now) (λ p. rows_of (found_of p.1.now)) c.subcommand.result c.unwrap.result (app_of c.in_ok-program.field-0) (map g.S.AsStr.text c.args.words.now) c.in_ok-matches.matches
     c.in_ok-program.ensures c.in_ok-matches.ensures.matches c.in_ok-matches.ensures.kinds c.unwrap.ensures c.subcommand.ensures.name c.subcommand.ensures.rows in
     let question = is_neither at (search rules) (search rules) in
-    let why : question_word (bytes_eq c.unwrap.result.0.now (codes "explain")) ≡ question_word c.eq-3.result = search rules in
-    (at.none, (question_word c.eq-3.result, _, at.met ∙ ap (λ n. Some (n, rows_of (found_of c.unwrap.result.1.now))) (question.0 ∙ why), c.in_ok-check_request.ensures))
+    let why : question_word (bytes_eq c.unwrap.result.0.now (codes "explain")) ≡ question_word c.eq-else-eq-2.result = search rules in
+    (at.none, (question_word c.eq-else-eq-2.result, _, at.met ∙ ap (λ n. Some (n, rows_of (found_of c.unwrap.result.1.now))) (question.0 ∙ why), c.in_ok-check_request.ensures))
