@@ -1,4 +1,4 @@
-use Rattle.std.proofs.Common.{◌++◌, codes, string_bytes}
+use Rattle.std.proofs.Common.{codes, string_bytes}
 use Rattle.dnsv_explain.specs.line.Cut.{why_text}
 use Rattle.dnssec_check.specs.Texts.Json.{quoted}
 use Rattle.dnssec_check.proofs.TextLemmas.Members.{more_members, one_member, renumbered}
