@@ -6,17 +6,30 @@ from .refusal import Refusal, refused
 from .runs import Bench
 from .tally import Tally
 
-# What a row says that was refused memory for its own work.
-OWN = b"out of memory\n"
+# What a row says that was refused memory for its own work; and what is said of a row that names octets (`let`) where it was
+# refused memory, which it tells of hex as of a bad digit, and then of the row that asks for these octets.
+OWN, UNREAD = b"out of memory\n", b"malformed row\n"
+UNNAMED = (OWN + UNREAD, UNREAD + UNREAD)
 AGAIN, FOR_EVER = "added again, and then the first answer", "refused from then on, behind a beginning"
 GRANTED, OTHERS = "not refused", "refused beside the call"
+
+
+# A message behind the stream, with its length.
+BEHIND = bytes.fromhex("0001aa")
+
+
+def rows(call, pieces):
+    """Rows that name octets, and one that calls by these names: so want of memory for reading hex has a line of its own, and
+    isn't taken for what the call does wrong."""
+    named = "".join(f"let P{number} {octets.hex()}\n" for number, octets in enumerate(pieces))
+    return f"{named}{call} {' '.join(f'$P{number}' for number in range(len(pieces)))}\n"
 
 
 class Adding:
     """`add-again`: the first answer, but that one `add` was refused."""
 
     def __init__(self, name, octets):
-        self.name, self.row, self.wanted = f"again: add, {name}", f"add-again {octets.hex()}\n", AGAIN
+        self.name, self.rows, self.wanted = f"again: add, {name}", rows("add-again", [octets]), AGAIN
 
     def is_whole(self, text):
         return text.startswith(b"refused 0, ")
@@ -29,8 +42,8 @@ class Feeding:
     """`feed-again`, the stream in pieces of this size and a message behind it: a beginning of the messages."""
 
     def __init__(self, name, octets, size):
-        pieces = [octets[place:place + size].hex() for place in range(0, len(octets), size)]
-        self.name, self.row, self.wanted = f"again: feed, {name}", f"feed-again {' '.join(pieces)} 0001aa\n", FOR_EVER
+        pieces = [octets[place:place + size] for place in range(0, len(octets), size)]
+        self.name, self.rows, self.wanted = f"again: feed, {name}", rows("feed-again", [*pieces, BEHIND]), FOR_EVER
 
     def is_whole(self, text):
         return text.startswith(b"ok, ")
@@ -59,7 +72,7 @@ def each(tried, call):
     """Refuses each call for memory of the row alone; some of them have to be of the call that is made again."""
     tally, kinds = Tally(), set()
     with Bench(tried) as bench:
-        row = bench.file("row", call.row.encode())
+        row = bench.file("row", call.rows.encode())
         right, calls, _ = refused(bench, [], Refusal("memory"), row)
         is_right = right.status == 0 and call.is_whole(right.output)
         tally.take(call.name, GRANTED if is_right else None, f"where none of {calls} calls is refused", right)
@@ -80,4 +93,4 @@ def end_of(call, right, answer):
         return OTHERS if answer.status == 1 and not answer.output else None
     if answer.output == right:
         return GRANTED
-    return OTHERS if answer.output == OWN else call.end_of(right, answer.output)
+    return OTHERS if answer.output in (OWN, *UNNAMED) else call.end_of(right, answer.output)
