@@ -1,5 +1,5 @@
 #!/usr/bin/env bash
-# Measures `list`, `list --all`, `show` and `check` over a transfer of a signed zone (transfer.cap) and over captures
+# Measures `list`, `list --all`, `show`, `check` and `explain` over a transfer of a signed zone (transfer.cap) and over captures
 # that it makes, and prints the rows of the tables in docs/PERFORMANCE.md. It needs the built program (make), python3,
 # valgrind and GNU time.
 set -euo pipefail
@@ -68,6 +68,11 @@ report_verdict() { # CAPTURE MOMENT ANCHOR NAME TYPE
   head -n 1 "$room/text"
 }
 
+report_explanation() { # CAPTURE MOMENT NAME TYPE, over the files of the verdict before it
+  measure "$room/files" explain --capture "$1" --anchors "$room/anchors" --moment "$2" --name "$3" --type "$4" \
+    --statements "$room/statements"
+}
+
 report_signed() { # CAPTURE MOMENT ANCHOR NAME TYPE
   "$program" list --capture "$1" --moment "$2" | sed 's/^todo/good/' > "$room/statements"
   echo "$3" > "$room/anchors"
@@ -90,7 +95,9 @@ for messages in 16 64; do report_list keyed "$messages" 64; done
 for messages in 1 4 16 64; do report_list tagged "$messages" 64; done
 report_check tree 16 64 z127.z15.z1.bench.example.
 report_check tree 64 64 z511.z63.z7.bench.example.
-report_check chain 60 8 "$(printf 'z.%.0s' {1..59})bench.example."
+deepest="$(printf 'z.%.0s' {1..59})bench.example."
+report_check chain 60 8 "$deepest"
+report_explanation "$room/capture" 1500 "$deepest" 1
 for messages in 4 16; do report_check collide "$messages" 64 sub.bench.example.; done
 for kind in near far hashed; do for records in 1024 4096; do report_denial $kind $records; done; done
 report_denial hashed 18
@@ -98,7 +105,10 @@ report_denial hashed 18
 bench_key="KEY bench.example. 257 3 13 AAAD6AABAgMEBQYHCAkKCwwNDg8QERITFBUWFxgZGhscHR4fICEiIyQlJicoKSorLC0uLzAxMjM0NTY3ODk6Ow=="
 root_key="DS . 36374 8 2 bff03ea84f03157df9e68034cc09e1c5af266002a79a6b553de579542aa33f96"
 echo "verdicts on names of transfer.cap"
-for name in host-0500 nosuch; do report_verdict transfer.cap 1795348800 "$root_key" "$name.big.test." 1; done
+for name in host-0500 nosuch; do
+  report_verdict transfer.cap 1795348800 "$root_key" "$name.big.test." 1
+  report_explanation transfer.cap 1795348800 "$name.big.test." 1
+done
 echo "the same, each message signed for its receiver"
 report_signed transfer.cap 1795348800 "$root_key" host-0500.big.test. 1
 for kind in keyed tagged vouched; do
