@@ -9,5 +9,6 @@ pub mod SayingLemmas
 pub mod TellLemmas
 pub mod denials
 pub mod derivations
+pub mod faults
 pub mod intervals
 pub mod unsigned_cuts

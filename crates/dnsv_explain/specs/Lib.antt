@@ -5,6 +5,7 @@ pub mod Following
 pub mod Places
 pub mod Saying
 pub mod derivations
+pub mod faults
 pub mod intervals
 pub mod line
 pub mod unsigned_cuts

@@ -3,9 +3,12 @@ ghost use Rattle.std.specs.Prelude.{◌≡◌, ◌↔◌, IfOk, IsTrue};
 ghost use Rattle.dnsv_verifier.specs.Admissible.{IsGood};
 ghost use Rattle.dnsv_verifier.specs.Table.{table_answer};
 ghost use Rattle.dnsv_chain.specs.Trust.{AreSecured, IsTrustOf};
+ghost use Rattle.dnsv_explain.specs.Explained.{basis_in};
+ghost use Rattle.dnsv_explain.specs.faults.Keys.{IsTrustedZone};
 
 use dnsv_canonical::{Capture, Rrset};
 use dnsv_chain::{Anchor, Anchors, Trust, is_good};
+use dnsv_names::Name;
 use dnsv_records::Rrsig;
 use dnsv_verifier::{KeyRecord, Table};
 use std::alloc::{AllocError, Global};
@@ -68,6 +71,20 @@ impl<'a> Evidence<'a> {
         ensures { result ≡ self.now.table.moment }
     {
         self.table.moment()
+    }
+
+    /// What the verifier says.
+    pub(crate) fn table(&self) -> &Table
+        ensures { result.now ≡ self.now.table }
+    {
+        self.table
+    }
+
+    /// Whether a DNSKEY RRset of the zone is trusted.
+    pub(crate) fn is_trusted_zone(&self, zone: &Name) -> bool
+        ensures { IsTrue result ↔ IsTrustedZone (basis_in self.now) zone.now }
+    {
+        !self.trust.keys(zone).is_empty()
     }
 
     /// The RRsets, which are numbered from 1.

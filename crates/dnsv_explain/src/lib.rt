@@ -7,6 +7,8 @@ pub use denials::{add_denial, add_expanded};
 pub use derivations::derivation;
 pub use evidence::Evidence;
 pub use explanation::{Explanation, explain};
+pub use faults::add_rrset_faults;
+pub use faults::shown_keys::add_keys_in_question;
 pub use interval::{Interval, Times, holding};
 pub use laws::{
     denials_follow, derivations_follow, expanded_signatures_follow, explanations_follow,
@@ -16,6 +18,19 @@ pub use laws::{
 pub use line::cut::{Cut, InsecureCase, UnusableDs, WhyUnusable};
 pub use line::denial::{Chain, Form, Part, Proof, RecordPlace, Relation, Role};
 pub use line::derivation::{KeyName, SignatureNumber, SignedRrset, Todo, TrustedKeys, Voucher};
+pub use line::fault::Reason;
+pub use line::fault::denial::{
+    DenialUnproved, DnameAbove, MissingAnswer, Source, SourceFault, UnusableNsec3, WhyNsec3,
+    WhySource,
+};
+pub use line::fault::key::ShownKey;
+pub use line::fault::signature::{
+    CloserName, ShownSignature, SignatureFault, SignatureTimes, UnsignedRrset, UntrustedSigner,
+    WhySignature,
+};
+pub use line::fault::zone::{
+    Entry, EntryFault, EntryNumber, KeyWithoutSignature, WhyEntry, WhyZone, ZoneFault,
+};
 pub use line::place::RrsetPlace;
 pub use line::{Kind, Line};
 pub use places::places_named;
@@ -28,6 +43,7 @@ mod denials;
 mod derivations;
 mod evidence;
 mod explanation;
+mod faults;
 mod interval;
 mod laws;
 mod line;
