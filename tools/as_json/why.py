@@ -1,25 +1,6 @@
 """The objects of `why`: what each line of an explanation says, by its words."""
-
-
-def numbers(fields, *keys):
-    return dict(zip(keys, map(int, fields)))
-
-
-def signature(fields):
-    """OWNER TYPE rrset R signature S key TAG ALG zone SIGNER, and what follows."""
-    owner, rtype, _, rrset, _, number, _, tag, algorithm, _, signer, *rest = fields
-    return ({"owner": owner, **numbers((rtype, rrset, number, tag, algorithm), "type", "rrset", "signature", "tag",
-                                       "algorithm"), "signer": signer}, rest)
-
-
-def options(fields, keys):
-    """Members that may be left out: each a word, and as many numbers as `keys` has for it."""
-    said = {}
-    while fields:
-        word, *fields = fields
-        said |= numbers(fields, *keys[word])
-        fields = fields[len(keys[word]):]
-    return said
+from .fails import follows, key, reason
+from .fields import numbers, options, signature
 
 
 def trusted(fields):
@@ -68,7 +49,7 @@ LINES = {
     "trusted": trusted, "signed": signed, "proof": proof, "part": part, "case": case, "unusable": unusable,
     "hope": lambda fields: {"kind": fields[0]},
     "holds": lambda fields: {"from": int(fields[1]), "to": int(fields[3])},
-    "rrset": place,
+    "rrset": place, "reason": reason, "follows": follows, "key": key,
 }
 
 

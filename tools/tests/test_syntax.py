@@ -5,7 +5,7 @@ import unittest
 
 from tool import TOOLS
 
-FOLDERS = ("capturing", "verifying", "asking", "judging", "failing")
+FOLDERS = ("capturing", "verifying", "asking", "explaining", "judging", "failing")
 NAMES = ["verify", "capture", "judge", "pages", "faults", "command.py"]
 NAMES += [str(path.relative_to(TOOLS)) for folder in FOLDERS for path in sorted((TOOLS / folder).glob("*.py"))]
 # What each imports besides; dnspython (`dns`), distributed and rich only where they're needed.
@@ -16,6 +16,7 @@ PACKAGES = {
     "capture": {"command", "capturing"},
     "judge": {"command", "asking", "judging"},
     "asking": {"command", "capturing", "dns"},
+    "explaining": {"asking"},
     "judging": {"asking", "capturing", "verifying", "dns"},
     "judging/cluster.py": {"asking", "distributed"},
     "judging/progress.py": {"rich"},

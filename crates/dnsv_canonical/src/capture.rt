@@ -1,4 +1,9 @@
-//! Captures: evidence in memory of its own.
+//! Captures: evidence in memory of its own. What may be read of a message, the limits, and the index of the RRsets.
+
+mod index;
+mod limits;
+mod readable;
+
 ghost use Rattle.std.specs.Prelude.{◌≡◌, IfErr, List, OnErr, OnOk, length};
 ghost use Rattle.std.specs.List.{AllByRecursion, AllZip};
 ghost use Rattle.dnsv_message.specs.Message.{Contents, records_of};
@@ -8,11 +13,11 @@ ghost use Rattle.dnsv_canonical.specs.Index.{CountsDigits, numbers_at};
 ghost use Rattle.dnsv_canonical.specs.Rdata.{IsWellFormed};
 ghost use Rattle.dnsv_canonical.specs.declared.capture.CaptureError.TheVariants.{OutOfMemory};
 
+use crate::capture::index::Index;
+use crate::capture::limits::{MESSAGE_LIMIT, are_small, fresh_parameters, records_with};
+use crate::capture::readable::check_rdata;
 use crate::draft::message_rrsets;
 use crate::expanded::Sections;
-use crate::index::Index;
-use crate::limits::{MESSAGE_LIMIT, are_small, fresh_parameters, records_with};
-use crate::readable::check_rdata;
 use crate::rrset::{Rrset, to_rrsets};
 use dnsv_message::{Message, messages_fit};
 use dnsv_names::{Count, Name, RecordType};

@@ -2,4 +2,5 @@
 pub mod nsec;
 pub mod nsec3;
 pub mod secured;
+pub mod signers;
 pub mod zones;

@@ -18,7 +18,7 @@ use Rattle.dnsv_denial.specs.declared.proving.shown_denial.ShownDenial.{ShownDen
 use Rattle.dnsv_denial.specs.declared.records.chain_kind.ChainKind.{ChainKind}
 use Rattle.dnsv_denial.specs.declared.records.chain_kind.ChainKind.TheVariants as kind
 use Rattle.dnsv_denial.specs.declared.records.number.RecordNumber.{RecordNumber}
-use Rattle.dnsv_verdict.specs.Verdict.{Basis}
+use Rattle.dnsv_explain.specs.Explained.{Setting}
 use Rattle.dnsv_explain.specs.Following.Parts.{IsPlaceOfRecord}
 use Rattle.dnsv_explain.specs.derivations.OwnDerivations.{AreRecordsDerived, IsSignatureTold, IsTrustIn}
 use Rattle.dnsv_explain.specs.Saying.{AreBoth, AreEach, IsOnce}
@@ -47,9 +47,9 @@ pub data IsShownBy (trust : KeptTrust) (rrsets : List ReceivedRrset) (name : Lab
   no_closer : (labels : ℕ) (zone : Labels) → IsShownNoCloser (SecuredIn trust) rrsets name labels zone shown
       → IsShownBy trust rrsets name shown
 
--- by the trust of the basis
-abbrev pub IsShownDenial : Basis → Labels → ShownDenial → Type 0
-IsShownDenial basis name shown = (trust : KeptTrust) × IsTrustIn basis trust × IsShownBy trust basis.rrsets name shown
+-- by the trust of the setting
+abbrev pub IsShownDenial : Setting → Labels → ShownDenial → Type 0
+IsShownDenial setting name shown = (trust : KeptTrust) × IsTrustIn setting trust × IsShownBy trust setting.rrsets name shown
 
 -- ---- the proof
 
@@ -188,10 +188,10 @@ IsProofWithParts rrsets name shown =
     AreBoth (IsProofTold name shown) (AreEach (IsPartTold rrsets name) (form_parts shown.chain shown.form))
 
 -- the records are derived, in the order of their numbers, and the proof is told with its parts
-abbrev pub IsDenialTold : Basis → Labels → ShownDenial → List Line → List Line → Type 0
-IsDenialTold basis name shown =
-    AreBoth (AreRecordsDerived basis shown.proof.zone shown.proof.records) (IsProofWithParts basis.rrsets name shown)
+abbrev pub IsDenialTold : Setting → Labels → ShownDenial → List Line → List Line → Type 0
+IsDenialTold setting name shown =
+    AreBoth (AreRecordsDerived setting shown.proof.zone shown.proof.records) (IsProofWithParts setting.rrsets name shown)
 
 -- The signature is derived, and it is told that no closer name is there than the wildcard behind it (RFC 4035 5.3.4).
-abbrev pub IsExpandedTold : Basis → Labels → SignatureNumber → ShownDenial → List Line → List Line → Type 0
-IsExpandedTold basis name number shown = AreBoth (IsSignatureTold basis number) (IsDenialTold basis name shown)
+abbrev pub IsExpandedTold : Setting → Labels → SignatureNumber → ShownDenial → List Line → List Line → Type 0
+IsExpandedTold setting name number shown = AreBoth (IsSignatureTold setting number) (IsDenialTold setting name shown)

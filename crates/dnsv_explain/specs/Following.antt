@@ -18,7 +18,7 @@ use Rattle.dnsv_chain.specs.Trusted.{IsKeyOf}
 use Rattle.dnsv_chain.specs.declared.anchor.Anchor.TheVariants as anchor
 use Rattle.dnsv_denial.specs.gathering.Evidence.{IsRecordAt}
 use Rattle.dnsv_denial.specs.declared.records.number.RecordNumber.{RecordNumber}
-use Rattle.dnsv_verdict.specs.Verdict.{Basis}
+use Rattle.dnsv_explain.specs.Explained.{Setting}
 use Rattle.dnsv_explain.specs.Following.Parts.{FollowsPart, IsUnusableRecord}
 use Rattle.dnsv_explain.specs.declared.line.Line.{Line}
 use Rattle.dnsv_explain.specs.declared.line.Line.TheVariants as line
@@ -40,14 +40,14 @@ pub record IsNamed (key : DnskeyRecord) (name : KeyName) : Type 0 where
   pub algorithm : name.algorithm.0 ≡ key.dnskey.algorithm.0
 
 -- the signature with the number, which is one of the RRset, is good under the key
-pub record IsGoodUnder (basis : Basis) (number : SignatureNumber) (rrset : ReceivedRrset) (key : DnskeyRecord)
+pub record IsGoodUnder (setting : Setting) (number : SignatureNumber) (rrset : ReceivedRrset) (key : DnskeyRecord)
     : Type 0 where
-  pub is_rrset : IsNumbered basis.rrsets number.rrset rrset
+  pub is_rrset : IsNumbered setting.rrsets number.rrset rrset
   pub rdata : List ℕ
   pub is_signature : IsNumbered rrset.signatures number.signature rdata
   pub rrsig : Rrsig
   pub read : IsRrsig rdata rrsig
-  pub good : IsGood basis.meaning basis.moment rrset rrsig key
+  pub good : IsGood setting.meaning setting.moment rrset rrsig key
 
 -- ---- what a line before says
 
@@ -72,11 +72,11 @@ pub record IsSaidTrusted (before : List Line) (k : ℕ) : Type 0 where
 -- ---- what matches a key
 
 -- record K of a DS RRset can be used and matches the key (RFC 4035 5.2, RFC 4509 3)
-pub record IsDsMatch (basis : Basis) (number : RecordNumber) (digest_type : DigestType) (key : DnskeyRecord)
+pub record IsDsMatch (setting : Setting) (number : RecordNumber) (digest_type : DigestType) (key : DnskeyRecord)
     : Type 0 where
   pub rrset : ReceivedRrset
   pub rdata : List ℕ
-  pub at : IsRecordAt basis.rrsets number rrset rdata
+  pub at : IsRecordAt setting.rrsets number rrset rdata
   pub rtype : rrset.rtype ≡ 43
   pub ds : Ds
   pub read : IsDs rdata ds
@@ -88,46 +88,46 @@ pub record IsDsMatch (basis : Basis) (number : RecordNumber) (digest_type : Dige
   pub digest : digest_type.0 ≡ ds.digest_type.0
 
 -- the anchor with the number, or the record of a DS RRset whose number is such, matches the key
-abbrev pub IsMatchedBy : (ℕ → Type 0) → Basis → Voucher → DnskeyRecord → Type 0
-IsMatchedBy Signed basis (voucher.KeyAnchor number) key =
-    (owner : Labels) × (rdata : List ℕ) × IsNumbered basis.anchors number (anchor.Key owner rdata)
+abbrev pub IsMatchedBy : (ℕ → Type 0) → Setting → Voucher → DnskeyRecord → Type 0
+IsMatchedBy Signed setting (voucher.KeyAnchor number) key =
+    (owner : Labels) × (rdata : List ℕ) × IsNumbered setting.anchors number (anchor.Key owner rdata)
     × IsAnchorMatch (anchor.Key owner rdata) key
-IsMatchedBy Signed basis (voucher.DsAnchor number digest_type) key =
-    (owner : Labels) × (ds : Ds) × IsNumbered basis.anchors number (anchor.Ds owner ds)
+IsMatchedBy Signed setting (voucher.DsAnchor number digest_type) key =
+    (owner : Labels) × (ds : Ds) × IsNumbered setting.anchors number (anchor.Ds owner ds)
     × (digest_type.0 ≡ ds.digest_type.0) × IsAnchorMatch (anchor.Ds owner ds) key
-IsMatchedBy Signed basis (voucher.Ds number digest_type) key =
-    IsDsMatch basis number digest_type key × Signed number.rrset
+IsMatchedBy Signed setting (voucher.Ds number digest_type) key =
+    IsDsMatch setting number digest_type key × Signed number.rrset
 
 -- an anchor matches the key, or a record of a DS RRset of which a line before says that it is signed
-abbrev pub IsVouchedBy : Basis → List Line → Voucher → DnskeyRecord → Type 0
-IsVouchedBy basis before voucher key = IsMatchedBy (IsSaidSigned before) basis voucher key
+abbrev pub IsVouchedBy : Setting → List Line → Voucher → DnskeyRecord → Type 0
+IsVouchedBy setting before voucher key = IsMatchedBy (IsSaidSigned before) setting voucher key
 
 -- ---- the rules
 
 -- DNSKEY RRset R at the zone is trusted: its signature S is good under a key of R, which an anchor or a DS record
 -- matches.
-pub record FollowsTrusted (basis : Basis) (before : List Line) (keys : TrustedKeys) : Type 0 where
+pub record FollowsTrusted (setting : Setting) (before : List Line) (keys : TrustedKeys) : Type 0 where
   pub set : ReceivedRrset
   pub owner : SameName set.owner keys.zone
   pub key : DnskeyRecord
   pub stands : IsKeyOf set key
   pub named : IsNamed key keys.key
-  pub good : IsGoodUnder basis keys.signature set key
-  pub vouched : IsVouchedBy basis before keys.voucher key
+  pub good : IsGoodUnder setting keys.signature set key
+  pub vouched : IsVouchedBy setting before keys.voucher key
 
 -- Signature S of RRset R is good under a key of a DNSKEY RRset at the zone, of which a line before says that it is
 -- trusted.
-pub record FollowsSigned (basis : Basis) (before : List Line) (signed : SignedRrset) : Type 0 where
+pub record FollowsSigned (setting : Setting) (before : List Line) (signed : SignedRrset) : Type 0 where
   pub rrset : ReceivedRrset
   pub owner : SameName rrset.owner signed.owner
   pub rtype : signed.rtype.0 ≡ rrset.rtype
   pub set : ReceivedRrset
-  pub is_set : IsNumbered basis.rrsets signed.keys set
+  pub is_set : IsNumbered setting.rrsets signed.keys set
   pub zone : SameName set.owner signed.zone
   pub key : DnskeyRecord
   pub stands : IsKeyOf set key
   pub named : IsNamed key signed.key
-  pub good : IsGoodUnder basis signed.signature rrset key
+  pub good : IsGoodUnder setting signed.signature rrset key
   pub trusted : IsSaidTrusted before signed.keys
 
 -- RRset R stands in section S of message M, and has the owner and the type
@@ -140,40 +140,41 @@ pub record IsPlaceOf (rrsets : List ReceivedRrset) (place : RrsetPlace) : Type 0
   pub rtype : place.rtype.0 ≡ rrset.rtype
 
 -- A record of a zone's chain says so, of which lines before name the zone and say that the record's signature is good.
-abbrev pub FollowsAsPart : Basis → List Line → Part → Type 0
-FollowsAsPart basis before part =
-    FollowsPart (λ k s. IsSignatureSaid before (record { rrset = k; signature = s })) basis.rrsets before part
+abbrev pub FollowsAsPart : Setting → List Line → Part → Type 0
+FollowsAsPart setting before part =
+    FollowsPart (λ k s. IsSignatureSaid before (record { rrset = k; signature = s })) setting.rrsets before part
 
 -- the record can't be used, and a line before says that its RRset is signed
-abbrev pub FollowsUnusable : Basis → List Line → UnusableDs → Type 0
-FollowsUnusable basis before unusable =
-    IsUnusableRecord basis.rrsets unusable × IsSaidSigned before unusable.number.rrset
+abbrev pub FollowsUnusable : Setting → List Line → UnusableDs → Type 0
+FollowsUnusable setting before unusable =
+    IsUnusableRecord setting.rrsets unusable × IsSaidSigned before unusable.number.rrset
 
 -- ---- lines one after another
 
 -- A line that says what is trusted, what is signed, a part of a proof, a record that can't be used or where an RRset
 -- stands follows from those before it.
-abbrev pub Follows : Basis → List Line → Line → Type 0
-Follows basis before (line.Trusted keys) = FollowsTrusted basis before keys
-Follows basis before (line.Signed signed) = FollowsSigned basis before signed
-Follows basis before (line.Part part) = FollowsAsPart basis before part
-Follows basis before (line.Unusable unusable) = FollowsUnusable basis before unusable
-Follows basis before (line.Rrset place) = IsPlaceOf basis.rrsets place
-Follows basis before _ = Unit {0}
+abbrev pub Follows : Setting → List Line → Line → Type 0
+Follows setting before (line.Trusted keys) = FollowsTrusted setting before keys
+Follows setting before (line.Signed signed) = FollowsSigned setting before signed
+Follows setting before (line.Part part) = FollowsAsPart setting before part
+Follows setting before (line.Unusable unusable) = FollowsUnusable setting before unusable
+Follows setting before (line.Rrset place) = IsPlaceOf setting.rrsets place
+Follows setting before _ = Unit {0}
 
 -- each of the lines follows from those before it
-abbrev pub EachFollows : Basis → List Line → List Line → Type 0
-EachFollows basis before [] = Unit {0}
-EachFollows basis before (line ∷ lines) =
-    Follows basis before line × EachFollows basis (before ++ line ∷ []) lines
+abbrev pub EachFollows : Setting → List Line → List Line → Type 0
+EachFollows setting before [] = Unit {0}
+EachFollows setting before (line ∷ lines) =
+    Follows setting before line × EachFollows setting (before ++ line ∷ []) lines
 
 -- ---- another moment
 
 -- the same evidence, anchors and answers at another moment
-abbrev pub at_moment : Basis → ℕ → Basis
-at_moment basis moment = record {
-  rrsets = basis.rrsets;
-  anchors = basis.anchors;
+abbrev pub at_moment : Setting → ℕ → Setting
+at_moment setting moment = record {
+  rrsets = setting.rrsets;
+  anchors = setting.anchors;
   moment = moment;
-  meaning = basis.meaning;
+  meaning = setting.meaning;
+  todo = setting.todo;
 }

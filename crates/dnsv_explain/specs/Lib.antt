@@ -1,3 +1,4 @@
+pub mod At
 pub mod Denials
 pub mod Explained
 pub mod Explanation

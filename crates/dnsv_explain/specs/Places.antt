@@ -90,6 +90,12 @@ pub record ArePlacesOf (rrsets : List ReceivedRrset) (lines : List Line) (places
   pub every : (number : ℕ) (rrset : ReceivedRrset) → NamesRrset lines number → IsNumbered rrsets number rrset
       → Contains (place_numbers places) number
 
+-- they are told
+pub record ArePlacesTold (rrsets : List ReceivedRrset) (told lines : List Line) : Type 0 where
+  pub places : List RrsetPlace
+  pub stand : ArePlacesOf rrsets told places
+  pub are : lines ≡ map (λ place. line.Rrset place) places
+
 -- ---- one after another: no public clause cites what follows
 
 -- the place of the RRset with the number is added, if there is one

@@ -4,17 +4,15 @@ pub mod part;
 pub mod proof;
 
 ghost use Rattle.std.specs.Prelude.{OnOk};
-ghost use Rattle.dnsv_explain.specs.Denials.{IsDenialTold, IsExpandedTold, IsShownDenial};
-ghost use Rattle.dnsv_explain.specs.derivations.OwnDerivations.{SecuredIn};
-ghost use Rattle.dnsv_explain.specs.Explained.{basis_in};
+ghost use Rattle.dnsv_explain.specs.Denials.{IsDenialTold, IsShownDenial};
+ghost use Rattle.dnsv_explain.specs.Explained.{setting_in};
 ghost use Rattle.dnsv_explain.specs.Saying.{Adds};
 
 use crate::denials::part::add_parts;
 use crate::denials::proof::add_proof;
 use crate::evidence::Evidence;
 use crate::line::Line;
-use crate::line::derivation::SignatureNumber;
-use crate::own_derivations::{add_derivation, add_records};
+use crate::own_derivations::add_records;
 use dnsv_denial::ShownDenial;
 use dnsv_names::Name;
 use std::alloc::{AllocError, Global};
@@ -28,8 +26,8 @@ pub fn add_denial(
     name: &Name,
     shown: &ShownDenial,
 ) -> Result<(), AllocError>
-    requires { IsShownDenial (basis_in evidence.now) name.now shown.now }
-    ensures { OnOk result (Adds (IsDenialTold (basis_in evidence.now) name.now shown.now) lines.old.items lines.new.items) }
+    requires { IsShownDenial (setting_in evidence.now) name.now shown.now }
+    ensures { OnOk result (Adds (IsDenialTold (setting_in evidence.now) name.now shown.now) lines.old.items lines.new.items) }
 {
     add_records(
         alloc,
@@ -40,25 +38,5 @@ pub fn add_denial(
     )?;
     add_proof(lines, name, shown)?;
     add_parts(evidence, lines, name, &shown.parts())?;
-    Ok(())
-}
-
-/// Adds the lines of a signature that is good under a trusted key and behind which a wildcard is: its derivation, and
-/// those of the proof that no closer name is there.
-pub fn add_expanded(
-    alloc: Global,
-    evidence: &Evidence<'_>,
-    lines: &mut Vec<Line>,
-    name: &Name,
-    number: SignatureNumber,
-    shown: &ShownDenial,
-) -> Result<(), AllocError>
-    requires secured { SecuredIn (basis_in evidence.now) number.rrset number.signature }
-    requires shown { IsShownDenial (basis_in evidence.now) name.now shown.now }
-    ensures { OnOk result (Adds (IsExpandedTold (basis_in evidence.now) name.now number shown.now) lines.old.items
-        lines.new.items) }
-{
-    add_derivation(alloc, evidence, lines, number)?;
-    add_denial(alloc, evidence, lines, name, shown)?;
     Ok(())
 }

@@ -2,7 +2,7 @@
 ghost use Rattle.std.specs.Prelude.{◌≡◌, ◌↔◌, ℕ, IfOk, IsTrue, MatchOption, OnOk};
 ghost use Rattle.dnsv_chain.specs.Trusted.{IsSecured};
 ghost use Rattle.dnsv_verifier.specs.Table.{table_answer};
-ghost use Rattle.dnsv_explain.specs.Explained.{basis_in};
+ghost use Rattle.dnsv_explain.specs.Explained.{setting_in};
 ghost use Rattle.dnsv_explain.specs.derivations.Climb.{Climbs, IsClimbed};
 ghost use Rattle.dnsv_explain.specs.derivations.Derivations.{IsDerivation, IsLowestSecured, Subject};
 ghost use Rattle.dnsv_explain.specs.Following.{IsSaidTrusted, IsSignatureSaid};
@@ -26,7 +26,7 @@ pub fn derivation(
     ensures { IfOk result (λ lines. MatchOption lines
         (¬ IsSecured (table_answer evidence.now.table) evidence.now.table.moment evidence.now.rrsets evidence.now.anchors number.rrset
         number.signature)
-        (λ lines. IsDerivation (basis_in evidence.now) before.now (Subject.signature number) lines.items)) }
+        (λ lines. IsDerivation (setting_in evidence.now) before.now (Subject.signature number) lines.items)) }
 {
     let Some(signed) = signed_line(alloc, evidence, number)? else {
         return Ok(None);
@@ -34,8 +34,7 @@ pub fn derivation(
     if is_signature_said(before, number) {
         return Ok(Some(Vec::new(alloc)));
     }
-    let mut lines = climb(alloc, evidence, before, signed.keys)?;
-    lines.reverse();
+    let mut lines = derive_keys(alloc, evidence, before, signed.keys)?;
     lines.push(Line::Signed(signed))?;
     Ok(Some(lines))
 }
@@ -60,6 +59,22 @@ fn is_trust_said(lines: &[Line], number: usize) -> bool
     })
 }
 
+/// The lines that derive that the DNSKEY RRset with the number is trusted, from a trust anchor down, but for what was said
+/// before.
+pub fn derive_keys(
+    alloc: Global,
+    evidence: &Evidence<'_>,
+    before: &[Line],
+    number: usize,
+) -> Result<Vec<Line>, AllocError>
+    requires { IsTrustedSet (setting_in evidence.now) number }
+    ensures { IfOk result (λ lines. IsDerivation (setting_in evidence.now) before.now (Subject.keys number) lines.items) }
+{
+    let mut lines = climb(alloc, evidence, before, number)?;
+    lines.reverse();
+    Ok(lines)
+}
+
 /// The lines that derive that the DNSKEY RRset with the number is trusted, the last one first.
 fn climb(
     alloc: Global,
@@ -67,8 +82,8 @@ fn climb(
     before: &[Line],
     number: usize,
 ) -> Result<Vec<Line>, AllocError>
-    requires { IsTrustedSet (basis_in evidence.now) number }
-    ensures { IfOk result (λ lines. IsClimbed (basis_in evidence.now) before.now number lines.items) }
+    requires { IsTrustedSet (setting_in evidence.now) number }
+    ensures { IfOk result (λ lines. IsClimbed (setting_in evidence.now) before.now number lines.items) }
 {
     let mut lines = Vec::new(alloc);
     let mut next = Some(number);
@@ -87,8 +102,8 @@ fn step(
     lines: &mut Vec<Line>,
     number: usize,
 ) -> Result<Option<usize>, AllocError>
-    requires { IsTrustedSet (basis_in evidence.now) number }
-    ensures { IfOk result (Climbs (basis_in evidence.now) before.now number lines.old.items lines.new.items) }
+    requires { IsTrustedSet (setting_in evidence.now) number }
+    ensures { IfOk result (Climbs (setting_in evidence.now) before.now number lines.old.items lines.new.items) }
 {
     if is_trust_said(before, number) {
         return Ok(None);
@@ -119,7 +134,7 @@ fn step(
 pub fn lowest_secured(evidence: &Evidence<'_>, rrset: usize) -> Option<SignatureNumber>
     ensures { MatchOption result
         ((s : ℕ) → ¬ IsSecured (table_answer evidence.now.table) evidence.now.table.moment evidence.now.rrsets evidence.now.anchors rrset s)
-        (λ number. (number.rrset ≡ rrset) × IsLowestSecured (basis_in evidence.now) rrset number.signature) }
+        (λ number. (number.rrset ≡ rrset) × IsLowestSecured (setting_in evidence.now) rrset number.signature) }
 {
     let numbers = evidence.secured(rrset);
     if numbers.is_empty() {

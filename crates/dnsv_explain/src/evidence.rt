@@ -1,30 +1,36 @@
 //! What explanations stand on.
-ghost use Rattle.std.specs.Prelude.{◌≡◌, ◌↔◌, IfOk, IsTrue};
+ghost use Rattle.std.specs.Prelude.{◌≡◌, ◌↔◌, [], IfOk, IsTrue};
+ghost use Rattle.std.specs.Option.{option_map_or};
 ghost use Rattle.dnsv_verifier.specs.Admissible.{IsGood};
 ghost use Rattle.dnsv_verifier.specs.Table.{table_answer};
 ghost use Rattle.dnsv_chain.specs.Trust.{AreSecured, IsTrustOf};
-ghost use Rattle.dnsv_explain.specs.Explained.{basis_in};
+ghost use Rattle.dnsv_explain.specs.Explained.{IsTodo, setting_in};
 ghost use Rattle.dnsv_explain.specs.faults.Keys.{IsTrustedZone};
 
+use crate::line::derivation::Todo;
+use crate::todo::number_among;
 use dnsv_canonical::{Capture, Rrset};
 use dnsv_chain::{Anchor, Anchors, Trust, is_good};
 use dnsv_names::Name;
 use dnsv_records::Rrsig;
-use dnsv_verifier::{KeyRecord, Table};
+use dnsv_verifier::{Entries, KeyRecord, Table};
 use std::alloc::{AllocError, Global};
 use std::marker::Model;
 
-/// What is explained: the RRsets of a capture, the trust anchors, what the verifier says at the moment, and the trust
-/// that these give.
+/// What is explained: the RRsets of a capture, the trust anchors, what the verifier says at the moment, the trust that
+/// these give, and the entries of which lines tell the numbers.
 #[derive(Drop)]
 pub struct Evidence<'a> {
     capture: &'a Capture,
     anchors: &'a Anchors,
     table: &'a Table,
     trust: &'a Trust,
+    todo: Option<&'a Entries>,
 }
 
 impl<'a> Model for Evidence<'a> {
+    ghost use Rattle.std.specs.Prelude.{[]};
+    ghost use Rattle.std.specs.Option.{option_map_or};
     ghost use Rattle.dnsv_verifier.specs.Table.{table_answer};
     ghost use Rattle.dnsv_chain.specs.Trust.{IsTrustOf};
     ghost use Rattle.dnsv_explain.specs.Explained.{Explained};
@@ -35,6 +41,7 @@ impl<'a> Model for Evidence<'a> {
       rrsets = evidence.capture.now.rrsets;
       anchors = evidence.anchors.now;
       table = evidence.table.now;
+      todo = option_map_or (λ entries. entries.now) evidence.todo [];
     } };
 
     ghost invariant = { λ evidence. IsTrustOf (table_answer evidence.table.now) evidence.table.now.moment
@@ -42,21 +49,29 @@ impl<'a> Model for Evidence<'a> {
 }
 
 impl<'a> Evidence<'a> {
-    /// The evidence of the capture, with the trust that it gives under the anchors and the table's answers.
+    /// The evidence of the capture, with the trust that it gives under the anchors and the table's answers. Lines tell
+    /// the numbers of the entries, if there are any.
     pub fn new(
         capture: &'a Capture,
         anchors: &'a Anchors,
         table: &'a Table,
         trust: &'a Trust,
+        todo: Option<&'a Entries>,
     ) -> Evidence<'a>
         requires { IsTrustOf (table_answer table.now) table.now.moment capture.now.rrsets anchors.now trust.now }
-        ensures { result ≡ record { rrsets = capture.now.rrsets; anchors = anchors.now; table = table.now } }
+        ensures { result ≡ record {
+          rrsets = capture.now.rrsets;
+          anchors = anchors.now;
+          table = table.now;
+          todo = option_map_or (λ entries. entries.now) todo.entry [];
+        } }
     {
         Evidence {
             capture,
             anchors,
             table,
             trust,
+            todo,
         }
     }
 
@@ -82,7 +97,7 @@ impl<'a> Evidence<'a> {
 
     /// Whether a DNSKEY RRset of the zone is trusted.
     pub(crate) fn is_trusted_zone(&self, zone: &Name) -> bool
-        ensures { IsTrue result ↔ IsTrustedZone (basis_in self.now) zone.now }
+        ensures { IsTrue result ↔ IsTrustedZone (setting_in self.now) zone.now }
     {
         !self.trust.keys(zone).is_empty()
     }
@@ -121,5 +136,23 @@ impl<'a> Evidence<'a> {
             ↔ IsGood (table_answer self.now.table) self.now.table.moment rrset.now rrsig.now key.now) }
     {
         Ok(is_good(alloc, self.table, rrset, rrsig, key)?)
+    }
+
+    /// The number of what is asked of the signature of the RRset under the key, among the entries of which lines tell the
+    /// numbers.
+    pub(crate) fn todo_of(
+        &self,
+        alloc: Global,
+        rrset: &Rrset,
+        rrsig: &Rrsig,
+        key: &KeyRecord<'_>,
+    ) -> Result<Todo, AllocError>
+        ensures { IfOk result (λ todo. (good : IsGood (table_answer self.now.table) self.now.table.moment rrset.now rrsig.now
+            key.now) → IsTodo self.now.todo good.entry todo.0) }
+    {
+        let Some(entries) = self.todo else {
+            return Ok(Todo(None));
+        };
+        Ok(Todo(number_among(alloc, entries, rrset, rrsig, key)?))
     }
 }

@@ -1,18 +1,27 @@
 //! Why a verdict stands.
 
+mod at;
 mod end;
+mod held;
 mod told;
+mod verdict;
+mod wildcard_cut;
 
-ghost use Rattle.std.specs.Prelude.{◌≡◌, IfOk, IfSome, IsTrue, map};
+ghost use Rattle.std.specs.Prelude.{◌≡◌, [], IfOk, OnOk};
+ghost use Rattle.dnsv_names.specs.Name.{Labels};
 ghost use Rattle.dnsv_verdict.specs.Grounds.{HasTrust, basis_by};
-ghost use Rattle.dnsv_verdict.specs.Report.{IsReport, Refuses, hashed_in};
+ghost use Rattle.dnsv_verdict.specs.Report.{IsKept, IsReport, Refuses};
 ghost use Rattle.dnsv_verdict.specs.Verdict.{basis_of};
-ghost use Rattle.dnsv_verdict.specs.Way.{names_on};
-ghost use Rattle.dnsv_explain.specs.Explanation.{IsExplanation, IsExplanationOf, IsLinkTold, IsWayTold};
+ghost use Rattle.dnsv_verdict.specs.Way.{IsVerdictOf};
+ghost use Rattle.dnsv_explain.specs.Explained.{explained_by, setting_in};
+ghost use Rattle.dnsv_explain.specs.Explanation.{IsExplanation, IsExplanationOf, IsLinkTold};
 ghost use Rattle.dnsv_explain.specs.Saying.{Adds, AreEach};
 
-use crate::explanation::end::add_end;
-use crate::explanation::told::{add_set, add_verdict, evidence_of};
+use crate::evidence::Evidence;
+use crate::explanation::at::{At, evidence_of};
+use crate::explanation::end::{add_end, add_places_named};
+use crate::explanation::told::add_set;
+use crate::explanation::verdict::{add_verdict, is_settled};
 use crate::line::Line;
 use crate::line::derivation::SignatureNumber;
 use dnsv_canonical::Capture;
@@ -48,8 +57,8 @@ impl Explanation {
 }
 
 /// The verdict on a question, as `validate` gives it, and why it stands: what holds for each link of the way and for the
-/// verdict at the last name, how long the signatures hold that show it, and where the RRsets stand. `None` where the
-/// verdict needs more answers, and where an unsigned name may be closer than the wildcard that answers.
+/// verdict at the last name, and where the RRsets stand. Of a verdict that needs no more answers it is told how long the
+/// signatures hold that show it, of one that depends on answers what may be hoped, and of others how far trust holds.
 pub fn explain<V: Verifier>(
     alloc: Global,
     capture: &Capture,
@@ -58,11 +67,11 @@ pub fn explain<V: Verifier>(
     verifier: &V,
     name: &Name,
     rtype: RecordType,
-) -> Result<(Report, Option<Explanation>), VerdictError>
+) -> Result<(Report, Explanation), VerdictError>
     ensures report { IfOk result (λ told. IsReport (basis_of capture.now.rrsets anchors.now moment (V.meaning
         verifier.now)) name.now rtype.0 told.0) }
-    ensures explanation { IfOk result (λ told. IfSome told.1 (IsExplanationOf (basis_of capture.now.rrsets anchors.now
-        moment (V.meaning verifier.now)) rtype.0 told.0)) }
+    ensures explanation { IfOk result (λ told. IsExplanationOf (basis_of capture.now.rrsets anchors.now moment (V.meaning
+        verifier.now)) rtype.0 told.0 told.1) }
     ensures refused { Refuses (basis_of capture.now.rrsets anchors.now moment (V.meaning verifier.now)) name.now rtype.0
         result }
 {
@@ -76,57 +85,45 @@ fn explanation_of(
     alloc: Global,
     judged: &Judged<'_>,
     rtype: RecordType,
-) -> Result<Option<Explanation>, AllocError>
+) -> Result<Explanation, AllocError>
     requires trust { HasTrust judged.now.grounds }
-    requires hashes { judged.now.hashes.items ≡ map (hashed_in judged.now.grounds.capture.now.rrsets)
-        (names_on judged.now.report.links judged.now.report.last) }
-    ensures { IfOk result (λ found. IfSome found (IsExplanation (basis_by judged.now.grounds) rtype.0
-        judged.now.report.links judged.now.report.last judged.now.report.verdict)) }
+    requires kept { IsKept judged.now.grounds rtype.0 judged.now.report.links judged.now.report.last
+        judged.now.report.verdict judged.now.hashes.items judged.now.hope }
+    requires verdict { (name : Labels) × IsVerdictOf (basis_by judged.now.grounds) name rtype.0 judged.now.report.links
+        judged.now.report.last judged.now.report.verdict }
+    ensures { IfOk result (IsExplanation (explained_by judged.now.grounds []) rtype.0 judged.now.report.links
+        judged.now.report.last judged.now.report.verdict) }
 {
+    let evidence = evidence_of(&judged.grounds, None);
     let mut lines = Vec::new(alloc);
-    if !add_way(alloc, judged, &mut lines, rtype)? {
-        return Ok(None);
+    // What fails is told before these.
+    add_links(alloc, &evidence, judged, &mut lines, rtype)?;
+    let hashes = &judged.hashes[judged.report.links.as_slice().len()];
+    add_verdict(alloc, &evidence, judged, hashes, &mut lines, rtype)?;
+    if !is_settled(&judged.report.verdict) {
+        add_places_named(alloc, &evidence, &mut lines)?;
+        return Ok(Explanation { lines });
     }
-    add_end(alloc, &evidence_of(&judged.grounds), &mut lines)?;
-    Ok(Some(Explanation { lines }))
+    add_end(alloc, &evidence, &mut lines)?;
+    Ok(Explanation { lines })
 }
 
-/// Adds what holds for each link of the way, and for the verdict. Whether it was told of all.
-fn add_way(
+/// Adds what holds for each link, in order.
+fn add_links(
     alloc: Global,
+    evidence: &Evidence<'_>,
     judged: &Judged<'_>,
     lines: &mut Vec<Line>,
     rtype: RecordType,
-) -> Result<bool, AllocError>
+) -> Result<(), AllocError>
     requires trust { HasTrust judged.now.grounds }
-    requires hashes { judged.now.hashes.items ≡ map (hashed_in judged.now.grounds.capture.now.rrsets)
-        (names_on judged.now.report.links judged.now.report.last) }
-    ensures { IfOk result (λ told. IsTrue told → Adds (IsWayTold (basis_by judged.now.grounds) rtype.0
-        judged.now.report.links judged.now.report.last judged.now.report.verdict) lines.old.items lines.new.items) }
-{
-    if !add_links(alloc, judged, lines)? {
-        return Ok(false);
-    }
-    let report = &judged.report;
-    let hashes = &judged.hashes[report.links.as_slice().len()];
-    Ok(add_verdict(
-        alloc,
-        &judged.grounds,
-        hashes,
-        lines,
-        &report.last,
-        rtype,
-        &report.verdict,
-    )?)
-}
-
-/// Adds what holds for each link, in order. Whether it was told of all.
-fn add_links(alloc: Global, judged: &Judged<'_>, lines: &mut Vec<Line>) -> Result<bool, AllocError>
-    requires trust { HasTrust judged.now.grounds }
-    requires hashes { judged.now.hashes.items ≡ map (hashed_in judged.now.grounds.capture.now.rrsets)
-        (names_on judged.now.report.links judged.now.report.last) }
-    ensures { IfOk result (λ told. IsTrue told → Adds (AreEach (IsLinkTold (basis_by judged.now.grounds))
-        judged.now.report.links) lines.old.items lines.new.items) }
+    requires evidence { evidence.now ≡ explained_by judged.now.grounds [] }
+    requires kept { IsKept judged.now.grounds rtype.0 judged.now.report.links judged.now.report.last
+        judged.now.report.verdict judged.now.hashes.items judged.now.hope }
+    requires verdict { (name : Labels) × IsVerdictOf (basis_by judged.now.grounds) name rtype.0 judged.now.report.links
+        judged.now.report.last judged.now.report.verdict }
+    ensures { OnOk result (Adds (AreEach (IsLinkTold (setting_in evidence.now)) judged.now.report.links) lines.old.items
+        lines.new.items) }
 {
     for (place, link) in judged.report.links.as_slice().iter().enumerate() {
         let number = SignatureNumber {
@@ -134,11 +131,14 @@ fn add_links(alloc: Global, judged: &Judged<'_>, lines: &mut Vec<Line>) -> Resul
             signature: link.signature,
         };
         let hashes = &judged.hashes[place];
-        if !add_set(alloc, &judged.grounds, hashes, lines, &link.name, number)? {
-            return Ok(false);
-        }
+        let at = At {
+            grounds: &judged.grounds,
+            hashes,
+            name: &link.name,
+        };
+        add_set(alloc, evidence, &at, lines, number)?;
     }
-    Ok(true)
+    Ok(())
 }
 
 #[cfg(test)]

@@ -11,7 +11,7 @@ mod words;
 ghost use Rattle.std.specs.Prelude.{◌≡◌, ◌++◌, ◌∷◌, [], OnOk};
 ghost use Rattle.dnsv_canonical.specs.Rrsets.{IsNumbered};
 ghost use Rattle.dnsv_verifier.specs.Asking.{AreKeysOf};
-ghost use Rattle.dnsv_explain.specs.Explained.{basis_in};
+ghost use Rattle.dnsv_explain.specs.Explained.{setting_in};
 ghost use Rattle.dnsv_explain.specs.derivations.Ways.{HasSecured};
 ghost use Rattle.dnsv_explain.specs.faults.Listing.{AddsThose};
 ghost use Rattle.dnsv_explain.specs.faults.RrsetLines.{AreLinesOfEach, AreLinesOfNumber, AreRrsetLines, unsigned_line};
@@ -36,7 +36,7 @@ pub fn add_rrset_faults(
     lines: &mut Vec<Line>,
     number: usize,
 ) -> Result<(), AllocError>
-    ensures { OnOk result (AddsThose (AreLinesOfNumber (basis_in evidence.now) number) lines.old.items lines.new.items) }
+    ensures { OnOk result (AddsThose (AreLinesOfNumber (setting_in evidence.now) number) lines.old.items lines.new.items) }
 {
     let Some(rrset) = numbered(evidence.rrsets(), number) else {
         return Ok(());
@@ -57,7 +57,7 @@ fn add_rrset(
 ) -> Result<(), AllocError>
     requires keys { AreKeysOf evidence.now.rrsets keys.now }
     requires rrset { IsNumbered evidence.now.rrsets number rrset.now }
-    ensures { OnOk result (AddsThose (AreRrsetLines (basis_in evidence.now) number rrset.now) lines.old.items
+    ensures { OnOk result (AddsThose (AreRrsetLines (setting_in evidence.now) number rrset.now) lines.old.items
         lines.new.items) }
 {
     if !evidence.secured(number).is_empty() {
@@ -94,8 +94,8 @@ fn add_signatures(
 ) -> Result<(), AllocError>
     requires keys { AreKeysOf evidence.now.rrsets keys.now }
     requires rrset { IsNumbered evidence.now.rrsets number rrset.now }
-    requires unsecured { ¬ HasSecured (basis_in evidence.now) number }
-    ensures { OnOk result (AddsThose (AreLinesOfEach (basis_in evidence.now) number rrset.now) lines.old.items
+    requires unsecured { ¬ HasSecured (setting_in evidence.now) number }
+    ensures { OnOk result (AddsThose (AreLinesOfEach (setting_in evidence.now) number rrset.now) lines.old.items
         lines.new.items) }
 {
     for (place, rrsig) in rrset.signatures().iter().enumerate() {

@@ -6,14 +6,14 @@ ghost use Rattle.dnsv_names.specs.Name.{Labels};
 ghost use Rattle.dnsv_canonical.specs.Rrsets.{IsNumbered, ReceivedRrset};
 ghost use Rattle.dnsv_chain.specs.Trusted.{IsSecured, IsTrusted};
 ghost use Rattle.dnsv_denial.specs.words.EvidenceWords.{Chain};
-ghost use Rattle.dnsv_verdict.specs.Verdict.{Basis};
+ghost use Rattle.dnsv_explain.specs.Explained.{Explained, Setting};
 ghost use Rattle.dnsv_denial.specs.declared.proving.shown_denial.ShownDenial.{ShownDenial};
 ghost use Rattle.dnsv_denial.specs.declared.unsigned_cuts.shown_cut.ShownCut.{ShownCut};
 ghost use Rattle.dnsv_explain.specs.Denials.{IsDenialTold, IsExpandedTold, IsShownDenial};
 ghost use Rattle.dnsv_explain.specs.derivations.Derivations.{IsDerivation, Subject};
 ghost use Rattle.dnsv_verdict.specs.declared.link.Link.{Link};
 ghost use Rattle.dnsv_verdict.specs.declared.verdict.Verdict.{Verdict};
-ghost use Rattle.dnsv_explain.specs.Explanation.{IsExplanation};
+ghost use Rattle.dnsv_explain.specs.Explanation.{IsExplanation, its_setting};
 ghost use Rattle.dnsv_explain.specs.Following.{EachFollows, at_moment};
 ghost use Rattle.dnsv_explain.specs.Following.Parts.{IsPartOf, IsUnusableRecord};
 ghost use Rattle.dnsv_explain.specs.intervals.Holding.{AreShownValidAt, IsHolding, IsHoldingOf};
@@ -31,31 +31,31 @@ use crate::line::derivation::{SignatureNumber, SignedRrset, TrustedKeys};
 /// zone's chain says; and a record that they call unusable is one of a DS RRset that has a good signature. So the rules
 /// suffice to check a text line by line.
 pub fn lines_that_follow_are_true()
-    ensures trusted { (basis : Basis) (lines : List Line) (keys : TrustedKeys) → EachFollows basis [] lines
+    ensures trusted { (setting : Setting) (lines : List Line) (keys : TrustedKeys) → EachFollows setting [] lines
         → Contains lines (Line.Trusted keys)
-        → (set : ReceivedRrset) × IsNumbered basis.rrsets keys.signature.rrset set
-        × IsTrusted basis.meaning basis.moment basis.rrsets basis.anchors set }
-    ensures signed { (basis : Basis) (lines : List Line) (signed : SignedRrset) → EachFollows basis [] lines
+        → (set : ReceivedRrset) × IsNumbered setting.rrsets keys.signature.rrset set
+        × IsTrusted setting.meaning setting.moment setting.rrsets setting.anchors set }
+    ensures signed { (setting : Setting) (lines : List Line) (signed : SignedRrset) → EachFollows setting [] lines
         → Contains lines (Line.Signed signed)
-        → IsSecured basis.meaning basis.moment basis.rrsets basis.anchors signed.signature.rrset
+        → IsSecured setting.meaning setting.moment setting.rrsets setting.anchors signed.signature.rrset
         signed.signature.signature }
-    ensures part { (basis : Basis) (lines : List Line) (part : Part) → EachFollows basis [] lines
+    ensures part { (setting : Setting) (lines : List Line) (part : Part) → EachFollows setting [] lines
         → Contains lines (Line.Part part)
         → (zone : Labels) × (chain : Chain)
-        × IsPartOf (IsSecured basis.meaning basis.moment basis.rrsets basis.anchors) basis.rrsets zone chain part }
-    ensures unusable { (basis : Basis) (lines : List Line) (unusable : UnusableDs) → EachFollows basis [] lines
+        × IsPartOf (IsSecured setting.meaning setting.moment setting.rrsets setting.anchors) setting.rrsets zone chain part }
+    ensures unusable { (setting : Setting) (lines : List Line) (unusable : UnusableDs) → EachFollows setting [] lines
         → Contains lines (Line.Unusable unusable)
-        → IsUnusableRecord basis.rrsets unusable × HasSecured basis unusable.number.rrset }
-    ensures valid { (basis : Basis) (lines : List Line) → EachFollows basis [] lines
-        → AreShownValidAt basis.rrsets lines basis.moment }
+        → IsUnusableRecord setting.rrsets unusable × HasSecured setting unusable.number.rrset }
+    ensures valid { (setting : Setting) (lines : List Line) → EachFollows setting [] lines
+        → AreShownValidAt setting.rrsets lines setting.moment }
 {}
 
 /// Lines of which each follows from those before it do so at each moment of the interval in which the signatures that
 /// they show are valid: so what they call trusted is trusted then too.
 pub fn lines_follow_as_long_as_they_hold()
-    ensures { (basis : Basis) (lines : List Line) (interval : Interval) (moment : ℕ) → EachFollows basis [] lines
-        → IsHoldingOf basis.rrsets lines basis.moment interval → interval.from ≤ moment → moment ≤ interval.to
-        → EachFollows (at_moment basis moment) [] lines }
+    ensures { (setting : Setting) (lines : List Line) (interval : Interval) (moment : ℕ) → EachFollows setting [] lines
+        → IsHoldingOf setting.rrsets lines setting.moment interval → interval.from ≤ moment → moment ≤ interval.to
+        → EachFollows (at_moment setting moment) [] lines }
 {}
 
 /// Signatures hold in one greatest interval around a moment.
@@ -67,32 +67,33 @@ pub fn signatures_hold_in_one_interval()
 /// Each line of a derivation follows from those before it: from what was said before the derivation, and from the lines
 /// of it that come first. So what a derivation says is true.
 pub fn derivations_follow()
-    ensures { (basis : Basis) (before lines : List Line) (subject : Subject) → IsDerivation basis before subject lines
-        → EachFollows basis before lines }
+    ensures { (setting : Setting) (before lines : List Line) (subject : Subject) → IsDerivation setting before subject lines
+        → EachFollows setting before lines }
 {}
 
 /// So does each line of a denial that the evidence shows.
 pub fn denials_follow()
-    ensures { (basis : Basis) (name : Labels) (shown : ShownDenial) (before lines : List Line)
-        → IsShownDenial basis name shown → IsDenialTold basis name shown before lines → EachFollows basis before lines }
+    ensures { (setting : Setting) (name : Labels) (shown : ShownDenial) (before lines : List Line)
+        → IsShownDenial setting name shown → IsDenialTold setting name shown before lines → EachFollows setting before lines }
 {}
 
 /// And so does each line of a signature behind which a wildcard is.
 pub fn expanded_signatures_follow()
-    ensures { (basis : Basis) (name : Labels) (number : SignatureNumber) (shown : ShownDenial) (before lines : List Line)
-        → IsShownDenial basis name shown → IsExpandedTold basis name number shown before lines
-        → EachFollows basis before lines }
+    ensures { (setting : Setting) (name : Labels) (number : SignatureNumber) (shown : ShownDenial) (before lines : List Line)
+        → IsShownDenial setting name shown → IsExpandedTold setting name number shown before lines
+        → EachFollows setting before lines }
 {}
 
 /// And so does each line of the name from which on a name may be unsigned.
 pub fn unsigned_cuts_follow()
-    ensures { (basis : Basis) (name : Labels) (cut : ShownCut) (before lines : List Line)
-        → IsCutShownBy basis name cut → IsCutTold basis name cut before lines
-        → EachFollows basis before lines }
+    ensures { (setting : Setting) (name : Labels) (cut : ShownCut) (before lines : List Line)
+        → IsCutShownBy setting name cut → IsCutTold setting name cut before lines
+        → EachFollows setting before lines }
 {}
 
-/// Each line of an explanation follows from those before it, so what it says is true.
+/// Each line of an explanation follows from those before it, so what it says is true; where the verdict needs more answers,
+/// with each entry valid that the verifier doesn't know.
 pub fn explanations_follow()
-    ensures { (basis : Basis) (t : ℕ) (links : List Link) (last : Labels) (verdict : Verdict) (lines : List Line)
-        → IsExplanation basis t links last verdict lines → EachFollows basis [] lines }
+    ensures { (explained : Explained) (t : ℕ) (links : List Link) (last : Labels) (verdict : Verdict) (lines : List Line)
+        → IsExplanation explained t links last verdict lines → EachFollows (its_setting explained verdict) [] lines }
 {}

@@ -3,7 +3,7 @@ ghost use Rattle.std.specs.Prelude.{◌≡◌, ◌↔◌, ℕ, Contains, IsTrue,
 ghost use Rattle.dnsv_denial.specs.declared.records.number.RecordNumber.{RecordNumber};
 ghost use Rattle.dnsv_denial.specs.gathering.Evidence.{HasZoneSignature, IsSecuredBy};
 ghost use Rattle.dnsv_explain.specs.derivations.OwnDerivations.{AreRecordsDerived, IsLowestOwn, IsOwnDerivation, IsOwnSignature, IsSignatureTold, SecuredIn};
-ghost use Rattle.dnsv_explain.specs.Explained.{basis_in};
+ghost use Rattle.dnsv_explain.specs.Explained.{setting_in};
 ghost use Rattle.dnsv_explain.specs.Saying.{Adds};
 
 use crate::derivations::derivation;
@@ -25,8 +25,8 @@ pub fn add_records(
     records: &[RecordNumber],
 ) -> Result<(), AllocError>
     requires { (number : RecordNumber) → Contains records.now number
-        → IsSecuredBy (SecuredIn (basis_in evidence.now)) (basis_in evidence.now).rrsets zone.now number.rrset }
-    ensures { OnOk result (Adds (AreRecordsDerived (basis_in evidence.now) zone.now records.now) lines.old.items
+        → IsSecuredBy (SecuredIn (setting_in evidence.now)) (setting_in evidence.now).rrsets zone.now number.rrset }
+    ensures { OnOk result (Adds (AreRecordsDerived (setting_in evidence.now) zone.now records.now) lines.old.items
         lines.new.items) }
 {
     for number in records {
@@ -43,8 +43,8 @@ fn add_own(
     zone: &Name,
     rrset: usize,
 ) -> Result<(), AllocError>
-    requires { IsSecuredBy (SecuredIn (basis_in evidence.now)) (basis_in evidence.now).rrsets zone.now rrset }
-    ensures { OnOk result (Adds (IsOwnDerivation (basis_in evidence.now) zone.now rrset) lines.old.items lines.new.items) }
+    requires { IsSecuredBy (SecuredIn (setting_in evidence.now)) (setting_in evidence.now).rrsets zone.now rrset }
+    ensures { OnOk result (Adds (IsOwnDerivation (setting_in evidence.now) zone.now rrset) lines.old.items lines.new.items) }
 {
     let Some(lowest) = lowest_own(evidence, zone, rrset) else {
         return Ok(());
@@ -60,8 +60,8 @@ pub fn add_derivation(
     lines: &mut Vec<Line>,
     number: SignatureNumber,
 ) -> Result<(), AllocError>
-    requires { SecuredIn (basis_in evidence.now) number.rrset number.signature }
-    ensures { OnOk result (Adds (IsSignatureTold (basis_in evidence.now) number) lines.old.items lines.new.items) }
+    requires { SecuredIn (setting_in evidence.now) number.rrset number.signature }
+    ensures { OnOk result (Adds (IsSignatureTold (setting_in evidence.now) number) lines.old.items lines.new.items) }
 {
     let Some(mut more) = derivation(alloc, evidence, lines, number)? else {
         return Ok(());
@@ -74,8 +74,8 @@ pub fn add_derivation(
 /// behind which no wildcard is (RFC 4035 5.3.1, 5.3.4).
 fn lowest_own(evidence: &Evidence<'_>, zone: &Name, rrset: usize) -> Option<SignatureNumber>
     ensures { MatchOption result
-        ((s : ℕ) → ¬ IsOwnSignature (basis_in evidence.now) zone.now rrset s)
-        (λ number. (number.rrset ≡ rrset) × IsLowestOwn (basis_in evidence.now) zone.now rrset number.signature) }
+        ((s : ℕ) → ¬ IsOwnSignature (setting_in evidence.now) zone.now rrset s)
+        (λ number. (number.rrset ≡ rrset) × IsLowestOwn (setting_in evidence.now) zone.now rrset number.signature) }
 {
     let Some(found) = numbered(evidence.rrsets(), rrset) else {
         return None;

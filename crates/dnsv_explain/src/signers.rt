@@ -3,9 +3,8 @@ ghost use Rattle.std.specs.Prelude.{◌≡◌, ◌↔◌, ◌+◌, ◌≤◌, �
 ghost use Rattle.dnsv_canonical.specs.Rrsets.{IsNumbered};
 ghost use Rattle.dnsv_chain.specs.Trusted.{IsKeyOf, IsSecured, IsTrusted};
 ghost use Rattle.dnsv_verifier.specs.Admissible.{DnskeyRecord, IsGood};
-ghost use Rattle.dnsv_verdict.specs.Verdict.{Basis};
 ghost use Rattle.dnsv_verifier.specs.Table.{table_answer};
-ghost use Rattle.dnsv_explain.specs.Explained.{basis_in};
+ghost use Rattle.dnsv_explain.specs.Explained.{Setting, setting_in};
 ghost use Rattle.dnsv_explain.specs.derivations.SignerSearch.{IsFirstTo, IsLowestGoodKey, IsLowestOf, IsSignatureAt};
 ghost use Rattle.dnsv_explain.specs.derivations.Ways.{IsSignedLine};
 
@@ -29,6 +28,8 @@ pub struct Signer<'a> {
     /// The RDATA of the key.
     pub rdata: &'a [u8],
     pub key: KeyName,
+    /// The number of what was asked of the signature under the key.
+    pub todo: Todo,
 }
 
 /// What is to be said of the signature with the number: that it is good under the lowest of the trusted keys of its
@@ -42,7 +43,7 @@ pub fn signed_line(
     ensures { IfOk result (λ line. MatchOption line
         (¬ IsSecured (table_answer evidence.now.table) evidence.now.table.moment evidence.now.rrsets evidence.now.anchors number.rrset
         number.signature)
-        (IsSignedLine (basis_in evidence.now) number)) }
+        (IsSignedLine (setting_in evidence.now) number)) }
 {
     let rrsets = evidence.rrsets();
     let Some(rrset) = numbered(rrsets, number.rrset) else {
@@ -64,7 +65,7 @@ pub fn signed_line(
         key: signer.key,
         zone: set.owner().clone()?,
         keys: signer.set,
-        todo: Todo(None),
+        todo: signer.todo,
     }))
 }
 
@@ -80,7 +81,7 @@ fn first_signer<'a>(
     requires all { rrsets.now ≡ evidence.now.rrsets }
     requires rrset { IsNumbered evidence.now.rrsets number.rrset rrset.now }
     requires rrsig { IsSignatureAt rrset.now number.signature rrsig.now }
-    ensures { IfOk result (IsFirstTo (basis_in evidence.now) number (length rrsets.now)) }
+    ensures { IfOk result (IsFirstTo (setting_in evidence.now) number (length rrsets.now)) }
 {
     let mut first = None;
     for (place, set) in rrsets.iter().enumerate() {
@@ -92,8 +93,8 @@ fn first_signer<'a>(
 
 /// The earlier of two keys: by RDATA, of equal ones the first.
 fn earlier<'a>(first: Option<Signer<'a>>, found: Option<Signer<'a>>) -> Option<Signer<'a>>
-    ensures { (basis : Basis) (number : SignatureNumber) (n : ℕ) → IsFirstTo basis number n first.entry
-        → IsLowestOf basis number (n + 1) found.entry → IsFirstTo basis number (n + 1) result }
+    ensures { (setting : Setting) (number : SignatureNumber) (n : ℕ) → IsFirstTo setting number n first.entry
+        → IsLowestOf setting number (n + 1) found.entry → IsFirstTo setting number (n + 1) result }
 {
     let Some(found) = found else {
         return first;
@@ -121,7 +122,7 @@ fn lowest_in<'a>(
     requires set { IsNumbered evidence.now.rrsets k set.now }
     requires rrset { IsNumbered evidence.now.rrsets number.rrset rrset.now }
     requires rrsig { IsSignatureAt rrset.now number.signature rrsig.now }
-    ensures { IfOk result (IsLowestOf (basis_in evidence.now) number k) }
+    ensures { IfOk result (IsLowestOf (setting_in evidence.now) number k) }
 {
     if set.rtype() != RecordType::DNSKEY {
         return Ok(None);
@@ -148,16 +149,18 @@ fn lowest_good_key<'a>(
     ensures { IfOk result (λ lowest. MatchOption lowest
         ((key : DnskeyRecord) → IsKeyOf set.now key
         → ¬ IsGood (table_answer evidence.now.table) evidence.now.table.moment rrset.now rrsig.now key)
-        (IsLowestGoodKey (basis_in evidence.now) rrset.now rrsig.now k set.now)) }
+        (IsLowestGoodKey (setting_in evidence.now) rrset.now rrsig.now k set.now)) }
 {
     let records = in_canonical_order(alloc, set, set.dnskeys())?;
     for each in &records {
         let key = KeyRecord::new(set.owner(), each.rdata, each.record);
         if evidence.is_good(alloc, rrset, rrsig, &key)? {
+            let todo = evidence.todo_of(alloc, rrset, rrsig, &key)?;
             return Ok(Some(Signer {
                 set: k,
                 rdata: each.rdata,
                 key: key_name(&key),
+                todo,
             }));
         }
     }

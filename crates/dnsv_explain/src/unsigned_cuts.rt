@@ -1,10 +1,10 @@
 //! The lines of a name that may be unsigned.
 
-mod shown;
+pub mod shown;
 mod unusable;
 
 ghost use Rattle.std.specs.Prelude.{OnOk};
-ghost use Rattle.dnsv_explain.specs.Explained.{basis_in};
+ghost use Rattle.dnsv_explain.specs.Explained.{setting_in};
 ghost use Rattle.dnsv_explain.specs.Saying.{Adds};
 ghost use Rattle.dnsv_explain.specs.unsigned_cuts.ShownCuts.{IsCutShownBy, IsCutTold};
 
@@ -12,10 +12,10 @@ use crate::evidence::Evidence;
 use crate::line::Line;
 use crate::line::cut::InsecureCase;
 use crate::unsigned_cuts::shown::add_unsigned;
+use crate::unsigned_cuts::unusable::add_unusable;
 use dnsv_denial::{PartName, ShownCut};
 use dnsv_names::Name;
 use std::alloc::{AllocError, Global};
-pub use unusable::add_unusable;
 
 /// Adds the lines of the name from which on the name may be unsigned: the derivation of what shows it, the case, and
 /// the parts of the proof, or why the records of a DS RRset can't be used.
@@ -26,8 +26,8 @@ pub fn add_cut(
     name: &Name,
     cut: &ShownCut,
 ) -> Result<(), AllocError>
-    requires { IsCutShownBy (basis_in evidence.now) name.now cut.now }
-    ensures { OnOk result (Adds (IsCutTold (basis_in evidence.now) name.now cut.now) lines.old.items lines.new.items) }
+    requires { IsCutShownBy (setting_in evidence.now) name.now cut.now }
+    ensures { OnOk result (Adds (IsCutTold (setting_in evidence.now) name.now cut.now) lines.old.items lines.new.items) }
 {
     match cut {
         ShownCut::NoDs { labels, shown } => {

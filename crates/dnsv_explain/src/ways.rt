@@ -7,27 +7,26 @@ pub mod matcher;
 
 ghost use Rattle.std.specs.Prelude.{◌≡◌, IfOk, MatchOption};
 ghost use Rattle.dnsv_canonical.specs.Rrsets.{IsNumbered};
-ghost use Rattle.dnsv_explain.specs.Explained.{basis_in};
+ghost use Rattle.dnsv_explain.specs.Explained.{setting_in};
 ghost use Rattle.dnsv_explain.specs.derivations.Ways.{IsTrustedLine, IsTrustedSet};
 ghost use Rattle.dnsv_explain.specs.derivations.WaySearch.{IsFoundWay, IsNoWay};
 
 use crate::evidence::Evidence;
-use crate::line::derivation::{KeyName, SignatureNumber, Todo, TrustedKeys, Voucher};
+use crate::line::derivation::{KeyName, SignatureNumber, TrustedKeys, Voucher};
 use crate::numbered::numbered;
 use crate::ways::by_anchor::way_by_anchor;
 use crate::ways::by_ds::way_by_ds;
-use crate::ways::keys::{KeySet, keys_in_order};
+use crate::ways::keys::{GoodSignature, KeySet, keys_in_order};
 use dnsv_canonical::Rrset;
 use dnsv_names::RecordType;
 use std::alloc::{AllocError, Global};
 
 /// A way into a DNSKEY RRset, by the names of what it goes by.
-#[derive(Clone, Copy, Debug, PartialEq, Eq)]
+#[derive(Clone, Copy, Debug)]
 pub struct FoundWay {
     pub voucher: Voucher,
     pub key: KeyName,
-    /// The number of the signature.
-    pub signature: usize,
+    pub signature: GoodSignature,
 }
 
 /// What is to be said of the DNSKEY RRset with the number: its first way, by the anchor of lowest number, else by the DS
@@ -37,8 +36,8 @@ pub fn trusted_line(
     evidence: &Evidence<'_>,
     number: usize,
 ) -> Result<Option<TrustedKeys>, AllocError>
-    ensures { IfOk result (λ line. MatchOption line (¬ IsTrustedSet (basis_in evidence.now) number)
-        (IsTrustedLine (basis_in evidence.now) number)) }
+    ensures { IfOk result (λ line. MatchOption line (¬ IsTrustedSet (setting_in evidence.now) number)
+        (IsTrustedLine (setting_in evidence.now) number)) }
 {
     let Some(set) = numbered(evidence.rrsets(), number) else {
         return Ok(None);
@@ -53,11 +52,11 @@ pub fn trusted_line(
         zone: set.owner().clone()?,
         signature: SignatureNumber {
             rrset: number,
-            signature: way.signature,
+            signature: way.signature.number,
         },
         key: way.key,
         voucher: way.voucher,
-        todo: Todo(None),
+        todo: way.signature.todo,
     }))
 }
 
@@ -70,7 +69,7 @@ pub fn first_way(
 ) -> Result<Option<FoundWay>, AllocError>
     requires numbered { IsNumbered evidence.now.rrsets number rrset.now }
     requires rtype { rrset.now.rtype ≡ 48 }
-    ensures { IfOk result (λ way. MatchOption way (IsNoWay (basis_in evidence.now) number) (IsFoundWay (basis_in evidence.now) number)) }
+    ensures { IfOk result (λ way. MatchOption way (IsNoWay (setting_in evidence.now) number) (IsFoundWay (setting_in evidence.now) number)) }
 {
     let keys = keys_in_order(alloc, rrset)?;
     let set = KeySet {

@@ -1,12 +1,12 @@
 mod AnchorLemmas
 mod CaseLemmas
-mod FormLemmas
+pub mod FormLemmas
 mod HashedLemmas
 mod MeaningLemmas
-mod OneProof
+pub mod OneProof
 pub mod ReportLemmas
 mod SearchLemmas
-mod SettledLemmas
+pub mod SettledLemmas
 mod SureLemmas
 mod TrailLemmas
 mod TrustLemmas

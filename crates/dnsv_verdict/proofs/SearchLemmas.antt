@@ -1,16 +1,23 @@
 -- The first signature that is such, and the first RRset.
 pub mod FirstSuchLemmas
+pub mod NumberLemmas
+pub mod OptOutLemmas
 pub mod ViewLemmas
-use Rattle.std.proofs.Common.{◌≡◌, ◌≢◌, ◌⊎◌, ℕ, zero, suc, ◌+◌, ◌-◌, ◌<◌, ◌≤◌, true, false, List, [], ◌∷◌, refl, sym, subst, arith, length, inl, inr, ⊎_elim}
+use Rattle.std.proofs.Common.{◌≡◌, ◌≢◌, ◌⊎◌, ℕ, zero, suc, ◌+◌, ◌-◌, ◌<◌, ◌≤◌, true, false, List, [], ◌∷◌, refl, sym, subst, arith, length, get_or, inl, inr, ⊎_elim}
+use Rattle.std.proofs.lemmas.Bool.{cases_lt}
 use Rattle.std.proofs.lemmas.Bool.Decides.{eqb_tells}
+use Rattle.std.proofs.lemmas.List.Elements.{All-from_recursion, All-get_or}
+use Rattle.std.proofs.lemmas.Option.{slice_get_read}
 use lib.Dec.{eqb}
 use Rattle.std.specs.Prelude.{Contains, Some, slice_get}
-use Rattle.std.specs.List.{AllZip}
+use Rattle.std.specs.List.{AllByRecursion, AllZip}
 use Rattle.dnsv_names.specs.Name.{Labels, SameName}
 use Rattle.dnsv_records.proofs.OneRecord.{one_rrsig}
 use Rattle.dnsv_records.specs.Rrsig.{IsRrsig}
 use Rattle.dnsv_records.specs.declared.rrsig.Rrsig.{Rrsig}
-use Rattle.dnsv_canonical.specs.Rrsets.{ReceivedRrset}
+use Rattle.dnsv_canonical.specs.Index.{numbers_at}
+use Rattle.dnsv_canonical.specs.Rrsets.{IsNumbered, ReceivedRrset}
+use Rattle.dnsv_verdict.proofs.SearchLemmas.NumberLemmas.{IsOneAt, each_number, has_number, numbers_rise}
 use Rattle.dnsv_verdict.specs.Secure.{IsFirstSuch, IsSecuredAt}
 use Rattle.dnsv_chain.specs.Trust.{KeptTrust, SecuredIn, signed_of}
 use Rattle.dnsv_verdict.specs.Search.{IsFirstFound, IsFound}
@@ -125,59 +132,92 @@ found_in Such trust name rrsets k s at = record {
   such = at.such;
 }
 
--- none of the RRsets so far has one
-abbrev pub NoneSoFarAt : (ReceivedRrset → Rrsig → Type 0) → KeptTrust → Labels → List ReceivedRrset → ℕ → Type 0
-NoneSoFarAt Such trust name rrsets count =
-    (n : ℕ) (rrset : ReceivedRrset) → n < count → slice_get rrsets n ≡ Some rrset → SameName rrset.owner name
-    → (s : ℕ) → ¬ IsFound Such rrset (signed_of trust (n + 1)) s
+-- the numbers are those of the RRsets of the name and type, rising
+pub record AreNumbersAt (rrsets : List ReceivedRrset) (name : Labels) (rtype : ℕ) (numbers : List ℕ) : Type 0 where
+  pub each : AllByRecursion (IsOneAt rrsets name rtype) numbers
+  pub all : (k : ℕ) → IsOneAt rrsets name rtype k → Contains numbers k
+  pub rising : (i p k j : ℕ) → slice_get numbers i ≡ Some k → slice_get numbers p ≡ Some j → i ≤ p → k ≤ j
 
-not_so_far_at : (Such : ReceivedRrset → Rrsig → Type 0) (trust : KeptTrust) (name : Labels) (rrsets : List ReceivedRrset)
-    (count : ℕ) → NoneSoFarAt Such trust name rrsets count
-    → (k s : ℕ) → IsSecuredAt (SecuredIn trust) rrsets name Such k s → ¬ (k - 1 < count)
-not_so_far_at Such trust name rrsets count none k s at early =
-    let number : k ≡ k - 1 + 1 = omega (arith, at.is_rrset.0) in
-    none (k - 1) at.rrset early at.is_rrset.1 at.owner s
-    (subst (λ n. IsFound Such at.rrset (signed_of trust n) s) number (found_in Such trust name rrsets k s at))
+pub numbers_are : (rrsets : List ReceivedRrset) (name : Labels) (rtype : ℕ) (numbers : List ℕ) → numbers ≡ numbers_at rrsets name rtype → AreNumbersAt rrsets name rtype numbers
+numbers_are rrsets name rtype numbers is =
+    subst (AreNumbersAt rrsets name rtype) (sym is)
+    (record { each = each_number rrsets name rtype; all = has_number rrsets name rtype; rising = numbers_rise rrsets name rtype })
 
--- where none of all has one, there is none
-pub none_found_at : (Such : ReceivedRrset → Rrsig → Type 0) (trust : KeptTrust) (name : Labels)
-    (rrsets : List ReceivedRrset) (count : ℕ) → length rrsets ≤ count → NoneSoFarAt Such trust name rrsets count
-    → (k s : ℕ) → ¬ IsSecuredAt (SecuredIn trust) rrsets name Such k s
-none_found_at Such trust name rrsets count all none k s at =
-    let early = within rrsets (k - 1) at.rrset at.is_rrset.1 in
-    not_so_far_at Such trust name rrsets count none k s at (omega (arith, all, early))
+-- the RRset of the number at a place
+pub one_at : (rrsets : List ReceivedRrset) (name : Labels) (rtype : ℕ) (numbers : List ℕ) (place : ℕ)
+    → AreNumbersAt rrsets name rtype numbers → place < length numbers → IsOneAt rrsets name rtype (get_or numbers place 0)
+one_at rrsets name rtype numbers place are within =
+    All-get_or (IsOneAt rrsets name rtype) numbers place 0 within (All-from_recursion (IsOneAt rrsets name rtype) numbers are.each)
 
--- k is behind those so far, or is the next
-behind_or_next : (k count : ℕ) → 1 ≤ k → ¬ (k - 1 < count) → (count + 1 < k) ⊎ (count + 1 ≡ k)
-behind_or_next k count some late =
-    ⊎_elim (λ (same : (eqb k (count + 1) ≡ true) × (k ≡ count + 1)). inr (sym same.1))
-    (λ (other : (eqb k (count + 1) ≡ false) × (k ≢ count + 1)). inl (omega (arith, some, late, other.1)))
-    (eqb_tells k (count + 1))
+module _ (Such : ReceivedRrset → Rrsig → Type 0) (trust : KeptTrust) (rrsets : List ReceivedRrset) where
+  -- none of the RRsets of the numbers so far has one
+  abbrev pub NoneSoFarAt : List ℕ → ℕ → Type 0
+  NoneSoFarAt numbers count =
+      (place k : ℕ) (rrset : ReceivedRrset) → place < count → slice_get numbers place ≡ Some k → IsNumbered rrsets k rrset
+      → (s : ℕ) → ¬ IsFound Such rrset (signed_of trust k) s
 
--- what is found in the RRset of the next number is found in this one
-next_found : (Such : ReceivedRrset → Rrsig → Type 0) (trust : KeptTrust) (name : Labels) (rrsets : List ReceivedRrset)
-    (count : ℕ) (rrset : ReceivedRrset) (j r : ℕ) → slice_get rrsets count ≡ Some rrset → count + 1 ≡ j
-    → IsSecuredAt (SecuredIn trust) rrsets name Such j r → IsFound Such rrset (signed_of trust (count + 1)) r
-next_found Such trust name rrsets count rrset j r there same at =
-    let place : j - 1 ≡ count = omega (arith, same) in
-    let is : slice_get rrsets count ≡ Some at.rrset = subst (λ n. slice_get rrsets n ≡ Some at.rrset) place at.is_rrset.1 in
-    let equal : at.rrset ≡ rrset = cc in
-    subst (λ x. IsFound Such x (signed_of trust (count + 1)) r) equal
-    (subst (λ n. IsFound Such at.rrset (signed_of trust n) r) (sym same) (found_in Such trust name rrsets j r at))
+  -- with one more that has none
+  pub none_with : (numbers : List ℕ) (count k : ℕ) (rrset : ReceivedRrset) → NoneSoFarAt numbers count
+      → slice_get numbers count ≡ Some k → IsNumbered rrsets k rrset → ((s : ℕ) → ¬ IsFound Such rrset (signed_of trust k) s)
+      → NoneSoFarAt numbers (count + 1)
+  none_with numbers count k rrset none there is last place j other early at numbered s found =
+      ⊎_elim (λ (same : (eqb place count ≡ true) × (place ≡ count)).
+      let here : slice_get numbers count ≡ Some j = subst (λ m. slice_get numbers m ≡ Some j) same.1 at in
+      let number : j ≡ k = cc in
+      let moved : IsNumbered rrsets k other = subst (λ n. IsNumbered rrsets n other) number numbered in
+      let one : slice_get rrsets (k - 1) ≡ Some other = moved.1 in
+      let two : slice_get rrsets (k - 1) ≡ Some rrset = is.1 in
+      let equal : other ≡ rrset = cc in
+      last s (subst (λ x. IsFound Such x (signed_of trust k) s) equal (subst (λ n. IsFound Such other (signed_of trust n) s) number found)))
+      (λ (less : (eqb place count ≡ false) × (place ≢ count)). none place j other (omega (arith, early, less.1)) at numbered s found)
+      (eqb_tells place count)
 
--- the RRset that the search stops at is the first
-pub first_such_found : (Such : ReceivedRrset → Rrsig → Type 0) (trust : KeptTrust) (name : Labels)
-    (rrsets : List ReceivedRrset) (count : ℕ) (rrset : ReceivedRrset) (s : ℕ) (rrsig : Rrsig)
-    → NoneSoFarAt Such trust name rrsets count → slice_get rrsets count ≡ Some rrset → SameName rrset.owner name
-    → IsFirstFound Such rrset (signed_of trust (count + 1)) s rrsig
-    → (is : IsFirstSuch (IsSecuredAt (SecuredIn trust) rrsets name Such) (count + 1) s) × (is.such.rrsig ≡ rrsig)
-first_such_found Such trust name rrsets count rrset s rrsig none there owner first =
-    let place : count ≡ count + 1 - 1 = omega arith in (
+  its_owner : (name : Labels) (rtype k : ℕ) (rrset : ReceivedRrset) → IsOneAt rrsets name rtype k → IsNumbered rrsets k rrset → SameName rrset.owner name
+  its_owner name rtype k rrset one numbered =
+      let first : slice_get rrsets (k - 1) ≡ Some one.rrset = one.is_rrset.1 in
+      let second : slice_get rrsets (k - 1) ≡ Some rrset = numbered.1 in
+      let equal : one.rrset ≡ rrset = cc in
+      subst (λ (x : ReceivedRrset). SameName x.owner name) equal one.owner
+
+  -- what is found in the RRset with the number
+  found_here : (name : Labels) (k : ℕ) (rrset : ReceivedRrset) (j r : ℕ) → IsNumbered rrsets k rrset → k ≡ j
+      → IsSecuredAt (SecuredIn trust) rrsets name Such j r → IsFound Such rrset (signed_of trust k) r
+  found_here name k rrset j r numbered same at =
+      let one : slice_get rrsets (k - 1) ≡ Some at.rrset = subst (λ n. slice_get rrsets (n - 1) ≡ Some at.rrset) (sym same) at.is_rrset.1 in
+      let two : slice_get rrsets (k - 1) ≡ Some rrset = numbered.1 in
+      let equal : at.rrset ≡ rrset = cc in
+      subst (λ x. IsFound Such x (signed_of trust k) r) equal
+      (subst (λ n. IsFound Such at.rrset (signed_of trust n) r) (sym same) (found_in Such trust name rrsets j r at))
+
+  module _ (name : Labels) (rtype : ℕ) (numbers : List ℕ) (are : AreNumbersAt rrsets name rtype numbers) (only : (rrset : ReceivedRrset) (rrsig : Rrsig) → Such rrset rrsig → rrset.rtype ≡ rtype) where
+    -- where its number stands, which isn't among those so far
+    not_so_far_at : (count : ℕ) → NoneSoFarAt numbers count → (k s : ℕ) → IsSecuredAt (SecuredIn trust) rrsets name Such k s
+        → (place : ℕ) × (slice_get numbers place ≡ Some k) × (count ≤ place) × (place < length numbers)
+    not_so_far_at count none k s at =
+        let there = are.all k (record { rrset = at.rrset; is_rrset = at.is_rrset; owner = at.owner; same_type = only at.rrset at.rrsig at.such }) in
+        let stands : slice_get numbers there.0 ≡ Some k = slice_get_read numbers (length numbers) there.0 k refl there.1 (sym there.2) in
+        ⊎_elim (λ (early : there.0 < count). absurd (none there.0 k at.rrset early stands at.is_rrset s (found_in Such trust name rrsets k s at)))
+        (λ (late : count ≤ there.0). (there.0, stands, late, there.1))
+        (cases_lt there.0 count)
+
+    -- where none of all has one, there is none
+    pub none_found_at : (count : ℕ) → length numbers ≤ count → NoneSoFarAt numbers count
+        → (k s : ℕ) → ¬ IsSecuredAt (SecuredIn trust) rrsets name Such k s
+    none_found_at count all none k s at =
+        let place = not_so_far_at count none k s at in
+        let late = place.2 in let within = place.3 in omega (arith, all, late, within)
+
+    -- the RRset that the search stops at is the first
+    pub first_such_found : (count k : ℕ) (rrset : ReceivedRrset) (s : ℕ) (rrsig : Rrsig) → NoneSoFarAt numbers count
+        → slice_get numbers count ≡ Some k → IsOneAt rrsets name rtype k → IsNumbered rrsets k rrset
+        → IsFirstFound Such rrset (signed_of trust k) s rrsig
+        → (is : IsFirstSuch (IsSecuredAt (SecuredIn trust) rrsets name Such) k s) × (is.such.rrsig ≡ rrsig)
+    first_such_found count k rrset s rrsig none there one numbered first = (
       record {
         such = record {
           rrset = rrset;
-          is_rrset = (omega arith, subst (λ n. slice_get rrsets n ≡ Some rrset) place there);
-          owner = owner;
+          is_rrset = numbered;
+          owner = its_owner name rtype k rrset one numbered;
           rdata = first.found.rdata;
           is_signature = first.found.is_signature;
           rrsig = first.found.rrsig;
@@ -186,24 +226,11 @@ first_such_found Such trust name rrsets count rrset s rrsig none there owner fir
           such = first.found.such;
         };
         earliest = λ j r other.
-            ⊎_elim (λ (later : count + 1 < j). inl later)
-            (λ (same : count + 1 ≡ j). inr (same, first.first r (next_found Such trust name rrsets count rrset j r there same other)))
-            (behind_or_next j count other.is_rrset.0 (not_so_far_at Such trust name rrsets count none j r other));
+            let place = not_so_far_at count none j r other in
+            let order : k ≤ j = are.rising count place.0 k j there place.1 place.2 in
+            ⊎_elim (λ (later : k < j). inl later)
+            (λ (same : j ≤ k). let equal : k ≡ j = omega (arith, same, order) in inr (equal, first.first r (found_here name k rrset j r numbered equal other)))
+            (cases_lt k j);
       },
       first.is,
     )
-
--- with one more that has none
-pub none_with : (Such : ReceivedRrset → Rrsig → Type 0) (trust : KeptTrust) (name : Labels)
-    (rrsets : List ReceivedRrset) (count : ℕ) (rrset : ReceivedRrset) → NoneSoFarAt Such trust name rrsets count
-    → slice_get rrsets count ≡ Some rrset
-    → (SameName rrset.owner name → (s : ℕ) → ¬ IsFound Such rrset (signed_of trust (count + 1)) s)
-    → NoneSoFarAt Such trust name rrsets (count + 1)
-none_with Such trust name rrsets count rrset none there last n other early at owner s found =
-    ⊎_elim (λ (same : (eqb n count ≡ true) × (n ≡ count)).
-    let is : slice_get rrsets count ≡ Some other = subst (λ m. slice_get rrsets m ≡ Some other) same.1 at in
-    let equal : other ≡ rrset = cc in
-    last (subst (λ x. SameName x.owner name) equal owner) s
-    (subst (λ x. IsFound Such x (signed_of trust (count + 1)) s) equal (subst (λ m. IsFound Such other (signed_of trust (m + 1)) s) same.1 found)))
-    (λ (less : (eqb n count ≡ false) × (n ≢ count)). none n other (omega (arith, early, less.1)) at owner s found)
-    (eqb_tells n count)

@@ -12,6 +12,8 @@ pub use laws::{
 };
 pub use link::{Link, Links};
 pub use report::{Judged, Report, judge, validate};
+pub use search::Found;
+pub use settled::opt_out_wildcard;
 pub use verdict::Verdict;
 pub use ways::a_question_leads_one_way;
 

@@ -1,14 +1,14 @@
 //! The first RRset of a name, and its first signature, that pass a test.
-ghost use Rattle.std.specs.Prelude.{◌≡◌, ◌↔◌, ℕ, Contains, IsTrue, MatchOption};
+ghost use Rattle.std.specs.Prelude.{◌≡◌, ◌↔◌, ◌<◌, ◌≤◌, ℕ, Contains, IsTrue, MatchOption, length};
 ghost use Rattle.dnsv_records.specs.declared.rrsig.Rrsig.{Rrsig};
-ghost use Rattle.dnsv_canonical.specs.Rrsets.{ReceivedRrset};
+ghost use Rattle.dnsv_canonical.specs.Rrsets.{IsNumbered, ReceivedRrset};
 ghost use Rattle.dnsv_chain.specs.Trust.{SecuredIn};
-ghost use Rattle.dnsv_verdict.specs.Search.{IsFirstFound, IsFound};
+ghost use Rattle.dnsv_verdict.specs.Search.{IsEarlier, IsFirstFound, IsFound};
 ghost use Rattle.dnsv_verdict.specs.Secure.{IsFirstSuch, IsSecuredAt};
 
 use dnsv_canonical::{Capture, Rrset};
 use dnsv_chain::Trust;
-use dnsv_names::Name;
+use dnsv_names::{Count, Name, RecordType};
 use dnsv_records::Rrsig;
 
 /// What is asked of an RRset with one of its signatures.
@@ -32,33 +32,60 @@ pub struct Found<'a> {
     pub rrsig: &'a Rrsig,
 }
 
-/// The first RRset of the name that has a trusted signature with which it passes the test, and the first such
-/// signature; `None` where there is none. It goes over the RRsets once.
+/// The first RRset of the name and type that has a trusted signature with which it passes the test, and the first such
+/// signature; `None` where there is none. RRsets of other types pass none.
 pub fn first_such<'a, T: Test>(
     capture: &'a Capture,
     trust: &Trust,
     name: &Name,
+    rtype: RecordType,
     test: &T,
 ) -> Option<Found<'a>>
+    requires { (rrset : ReceivedRrset) (rrsig : Rrsig) → T.passes test.now rrset rrsig → rrset.rtype ≡ rtype.0 }
     ensures { MatchOption result
         ((k s : ℕ) → ¬ IsSecuredAt (SecuredIn trust.now) capture.now.rrsets name.now (T.passes test.now) k s)
         (λ found. (is : IsFirstSuch (IsSecuredAt (SecuredIn trust.now) capture.now.rrsets name.now (T.passes test.now))
         found.rrset found.signature) × (is.such.rrsig ≡ found.rrsig.now)) }
 {
     let rrsets = capture.rrsets();
-    for (place, rrset) in rrsets.iter().enumerate() {
-        if *rrset.owner() == *name {
-            let numbers = trust.signed(place + 1);
-            if let Some((signature, rrsig)) = first_signature(rrset, numbers, test) {
-                return Some(Found {
-                    rrset: place + 1,
-                    signature,
-                    rrsig,
-                });
-            }
+    let mut compared = Count::new();
+    let at_name = capture.at(name, rtype, &mut compared);
+    for number in at_name {
+        let rrset = rrset_at(rrsets, *number);
+        if let Some((signature, rrsig)) = first_signature(rrset, trust.signed(*number), test) {
+            return Some(Found {
+                rrset: *number,
+                signature,
+                rrsig,
+            });
         }
     }
     None
+}
+
+/// The RRset with the number.
+fn rrset_at(rrsets: &[Rrset], number: usize) -> &Rrset
+    requires some { 0 < number }
+    requires within { number ≤ length rrsets.now }
+    ensures { IsNumbered rrsets.now number result.now }
+{
+    &rrsets[number - 1]
+}
+
+/// What was found in the RRset that comes first; in one RRset, the one.
+pub fn earlier<'a>(one: Option<Found<'a>>, other: Option<Found<'a>>) -> Option<Found<'a>>
+    ensures { IsEarlier one.entry other.entry result }
+{
+    let Some(found) = one else {
+        return other;
+    };
+    let Some(another) = other else {
+        return Some(found);
+    };
+    if another.rrset < found.rrset {
+        return Some(another);
+    }
+    Some(found)
 }
 
 /// The first of the RRset's signatures with one of these numbers with which it passes the test, behind its number.

@@ -3,10 +3,11 @@ ghost use Rattle.std.specs.Prelude.{◌≡◌, ◌≢◌, ℕ, MatchOption};
 ghost use Rattle.dnsv_zones.specs.zones.TypeNumbers.{cname};
 ghost use Rattle.dnsv_chain.specs.Trust.{SecuredIn};
 ghost use Rattle.dnsv_verdict.specs.Insecure.{IsOptOutWildcardCut, IsOptOutWildcardSet};
+ghost use Rattle.dnsv_verdict.specs.Search.{IsOptOutSetOf};
 ghost use Rattle.dnsv_verdict.specs.Secure.{IsFirstSuch, IsSecureSet};
 ghost use Rattle.dnsv_verdict.specs.Settled.{HasAlias, IsSettled, IsSettledAs};
 
-use crate::search::{Found, Test, first_such};
+use crate::search::{Found, Test, earlier, first_such};
 use crate::verdict::Verdict;
 use dnsv_canonical::{Capture, Rrset, is_expanded};
 use dnsv_chain::Trust;
@@ -68,7 +69,7 @@ fn secure_set<'a>(
         (λ found. (is : IsFirstSuch (IsSecureSet (SecuredIn trust.now) capture.now.rrsets name.now rtype.0)
         found.rrset found.signature) × (is.such.rrsig ≡ found.rrsig.now)) }
 {
-    first_such(capture, trust, name, &HoldsForName { view, rtype })
+    first_such(capture, trust, name, rtype, &HoldsForName { view, rtype })
 }
 
 /// The same for CNAME, where another type is asked.
@@ -107,10 +108,53 @@ fn opt_out_wildcard_cut(
         ((k s : ℕ) → ¬ IsOptOutWildcardSet (SecuredIn trust.now) capture.now.rrsets name.now rtype.0 k s)
         (IsOptOutWildcardCut (SecuredIn trust.now) capture.now.rrsets name.now rtype.0) }
 {
-    let Some(found) = first_such(capture, trust, name, &IsOptOutWildcard { view, rtype }) else {
+    let Some(found) = opt_out_wildcard(capture, trust, name, rtype, view) else {
         return None;
     };
     Some(name.suffix(found.rrsig.labels as usize + 1))
+}
+
+/// The first RRset of the name, and of the type or CNAME, and its first signature, that come from a wildcard and against
+/// which an unsigned delegation may stand (RFC 5155 8.8). The view is of the name, over the same evidence and trust.
+pub fn opt_out_wildcard<'a>(
+    capture: &'a Capture,
+    trust: &Trust,
+    name: &Name,
+    rtype: RecordType,
+    view: &View<'_, '_>,
+) -> Option<Found<'a>>
+    requires { view.now ≡ record { rrsets = capture.now.rrsets; trust = trust.now; name = name.now } }
+    ensures { MatchOption result
+        ((k s : ℕ) → ¬ IsOptOutWildcardSet (SecuredIn trust.now) capture.now.rrsets name.now rtype.0 k s)
+        (λ found. (is : IsFirstSuch (IsOptOutWildcardSet (SecuredIn trust.now) capture.now.rrsets name.now rtype.0)
+        found.rrset found.signature) × (is.such.rrsig ≡ found.rrsig.now)) }
+{
+    let of_type = opt_out_wildcard_set(capture, trust, name, rtype, view);
+    let alias = opt_out_wildcard_set(capture, trust, name, RecordType::CNAME, view);
+    earlier(of_type, alias)
+}
+
+/// The first such RRset and signature of the name and of just this type.
+fn opt_out_wildcard_set<'a>(
+    capture: &'a Capture,
+    trust: &Trust,
+    name: &Name,
+    rtype: RecordType,
+    view: &View<'_, '_>,
+) -> Option<Found<'a>>
+    requires { view.now ≡ record { rrsets = capture.now.rrsets; trust = trust.now; name = name.now } }
+    ensures { MatchOption result
+        ((k s : ℕ) → ¬ IsOptOutSetOf (SecuredIn trust.now) capture.now.rrsets name.now rtype.0 k s)
+        (λ found. (is : IsFirstSuch (IsOptOutSetOf (SecuredIn trust.now) capture.now.rrsets name.now rtype.0)
+        found.rrset found.signature) × (is.such.rrsig ≡ found.rrsig.now)) }
+{
+    first_such(
+        capture,
+        trust,
+        name,
+        rtype,
+        &IsOptOutWildcard { view, rtype },
+    )
 }
 
 /// That an RRset of the type holds for the view's name by the signature: no wildcard is behind it, or there is a proof
@@ -142,8 +186,8 @@ impl Test for HoldsForName<'_, '_, '_> {
     }
 }
 
-/// That a wildcard is behind the signature of an RRset of the type, or of CNAME, and an unsigned delegation may be
-/// closer to the view's name (RFC 5155 8.8).
+/// That a wildcard is behind the signature of an RRset of the type, and an unsigned delegation may be closer to the
+/// view's name (RFC 5155 8.8).
 #[derive(Drop)]
 struct IsOptOutWildcard<'v, 'c, 't> {
     view: &'v View<'c, 't>,
@@ -151,19 +195,15 @@ struct IsOptOutWildcard<'v, 'c, 't> {
 }
 
 impl Test for IsOptOutWildcard<'_, '_, '_> {
-    ghost use Rattle.std.specs.Prelude.{◌≡◌, ◌⊎◌};
-    ghost use Rattle.dnsv_zones.specs.zones.TypeNumbers.{cname};
+    ghost use Rattle.std.specs.Prelude.{◌≡◌};
     ghost use Rattle.dnsv_chain.specs.Trust.{SecuredIn};
     ghost use Rattle.dnsv_verdict.specs.Insecure.{IsOptOutWildcard};
 
-    ghost passes = { λ test rrset rrsig. ((rrset.rtype ≡ test.rtype.0) ⊎ (rrset.rtype ≡ cname))
+    ghost passes = { λ test rrset rrsig. (rrset.rtype ≡ test.rtype.0)
         × IsOptOutWildcard (SecuredIn test.view.now.trust) test.view.now.rrsets test.view.now.name rrset rrsig };
 
     fn is_passed_by(&self, rrset: &Rrset, rrsig: &Rrsig) -> bool {
-        if rrset.rtype() != self.rtype && rrset.rtype() != RecordType::CNAME {
-            return false;
-        }
-        if !is_expanded(rrset.owner(), rrsig) {
+        if rrset.rtype() != self.rtype || !is_expanded(rrset.owner(), rrsig) {
             return false;
         }
         self.view

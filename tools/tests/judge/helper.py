@@ -47,6 +47,8 @@ def needs(name, package):
 
 
 needs_dns = needs("dns", "dnspython")
+# What is tested in this process needs it in this Python.
+needs_dns_here = unittest.skipUnless(importlib.util.find_spec("dns"), "needs the Python package dnspython in this Python")
 
 
 class Example:

@@ -7,9 +7,7 @@ from unittest import mock
 from asking import anchors, faults, kinds, moments, questions
 from judging import advice, evidence
 
-from .helper import EXAMPLES, examples, has_package
-
-HERE = has_package("dns") and __import__("importlib.util").util.find_spec("dns")
+from .helper import EXAMPLES, examples, needs_dns_here
 
 
 class Names(unittest.TestCase):
@@ -76,7 +74,7 @@ class Rrsets(unittest.TestCase):
                 evidence.Evidence(octets[:place] + bytes([value]) + octets[place + 1:])
 
 
-@unittest.skipUnless(HERE, "needs the Python package dnspython in this Python")
+@needs_dns_here
 class Types(unittest.TestCase):
     def test_mnemonics_and_numbers(self):
         for text, number in (("A", 1), ("aaaa", 28), ("DS", 43), ("28", 28), ("TYPE65280", 65280), ("https", 65), ("NSAP-PTR", 23), ("ANY", 255), ("0", 0)):
@@ -86,7 +84,7 @@ class Types(unittest.TestCase):
         self.assertEqual([kinds.mnemonic_of(number) for number in (1, 65280, 23)], ["A", "TYPE65280", "NSAP-PTR"])
 
 
-@unittest.skipUnless(HERE, "needs the Python package dnspython in this Python")
+@needs_dns_here
 class Anchors(unittest.TestCase):
     DS = "DS example. 10520 13 2 1ca1593db1dd5784d0fb6c3998b920daec3e4315dd30fce0313fb3a497b54c68\n"
 

@@ -15,7 +15,7 @@ use Rattle.dnsv_names.specs.PartLaws.{recursion-append}
 use Rattle.dnsv_canonical.specs.Rrsets.{ReceivedRrset}
 use Rattle.dnsv_canonical.specs.Index.Grouping.{AreFirsts, AreInOrder, AreLaid, HasTie, IsIndexOf, IsPlaceBehind, IsPlaceFrom, Key, Numbered, group_of, key_cmp, key_of, stands}
 use Rattle.dnsv_canonical.specs.Index.Merging.{IsMerged}
-use Rattle.dnsv_canonical.specs.declared.index.merged.Merged.{Merged}
+use Rattle.dnsv_canonical.specs.declared.capture.index.merged.Merged.{Merged}
 use Rattle.dnsv_canonical.proofs.ListLemmas.{each_front, each_behind}
 use Rattle.dnsv_canonical.proofs.OrderLemmas.{each_kept, take_next}
 use Rattle.dnsv_canonical.proofs.IndexLemmas.InOrder.{each_drop, each_take, key_total, turned_back}

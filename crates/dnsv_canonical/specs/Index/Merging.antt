@@ -5,7 +5,7 @@ use Rattle.std.specs.List.{AllByRecursion}
 use Rattle.std.specs.declared.cmp.Ordering.TheVariants.{Equal}
 use Rattle.dnsv_canonical.specs.Rrsets.{ReceivedRrset}
 use Rattle.dnsv_canonical.specs.Index.Grouping.{AreFirsts, AreLaid, Key, Numbered, group_of, key_cmp, key_of}
-use Rattle.dnsv_canonical.specs.declared.index.merged.Merged.{Merged}
+use Rattle.dnsv_canonical.specs.declared.capture.index.merged.Merged.{Merged}
 
 -- the RRset is that of the last of the firsts, if there is one
 abbrev pub IsLast : List Numbered → Option (Bor ReceivedRrset) → Type 0

@@ -8,3 +8,4 @@ pub mod Nsec3Gather
 pub mod NsecGather
 pub mod NumberedLemmas
 pub mod NameHashesLemmas
+pub mod SignerLemmas

@@ -1,5 +1,5 @@
 -- How a view keeps the records of a zone. No public clause cites this module.
-use Rattle.std.specs.Prelude.{◌≡◌, ◌↔◌, ⊤, IsTrue, ℕ, List, map}
+use Rattle.std.specs.Prelude.{◌≡◌, ◌↔◌, ◌⊎◌, ⊤, Contains, IsTrue, ℕ, List, length, map}
 use Rattle.std.specs.List.{AllByRecursion}
 use Rattle.std.specs.List.Sorted.{IsStrictlySortedBy}
 use Rattle.dnsv_names.specs.Name.{Labels}
@@ -7,7 +7,7 @@ use Rattle.dnsv_records.specs.Nsec3.{IsUsable}
 use Rattle.dnsv_records.specs.declared.nsec3.Nsec3.{Nsec3}
 use Rattle.dnsv_zones.specs.Any.{Any}
 use Rattle.dnsv_canonical.specs.Rrsets.{ReceivedRrset}
-use Rattle.dnsv_denial.specs.gathering.Evidence.{HasZoneSignature, IsHashedOwner, IsNsecAt, IsNsecOf, IsNsec3At, IsNsec3Of}
+use Rattle.dnsv_denial.specs.gathering.Evidence.{HasZoneSignature, IsHashedOwner, IsNsecAt, IsNsecOf, IsNsec3At, IsNsec3Of, IsSecuredBy}
 use Rattle.dnsv_denial.specs.records.Record.{read_entry, read_nsec3}
 use Rattle.dnsv_denial.specs.words.EvidenceWords.{number_cmp}
 use Rattle.dnsv_denial.specs.declared.records.entry.NsecEntry.{NsecEntry}
@@ -57,3 +57,13 @@ pub record IsEntryOf (number : RecordNumber) (owner : Labels) (hash : List ℕ) 
   pub parameters : entry.parameters.now ≡ nsec3.parameters
   pub next_hash : entry.next_hash ≡ nsec3.next_hash
   pub types : entry.types.now ≡ nsec3.types
+
+-- NSEC and NSEC3
+abbrev pub IsDenialType : ℕ → Type 0
+IsDenialType rtype = (rtype ≡ 47) ⊎ (rtype ≡ 50)
+
+-- each zone that secured an RRset of NSEC or NSEC3 records has such a number of labels
+abbrev pub HaveLabels : (ℕ → ℕ → Type 0) → List ReceivedRrset → List ℕ → Type 0
+HaveLabels Secured rrsets labels =
+    (zone : Labels) (k : ℕ) (by : IsSecuredBy Secured rrsets zone k) → IsDenialType by.rrset.rtype
+    → Contains labels (length zone)

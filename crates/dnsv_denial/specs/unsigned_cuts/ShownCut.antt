@@ -4,6 +4,7 @@ use Rattle.dnsv_names.specs.Name.{Labels, rightmost}
 use Rattle.dnsv_zones.specs.forms.Parts.{OptsOut, OptsOutNextCloser}
 use Rattle.dnsv_canonical.specs.Rrsets.{ReceivedRrset}
 use Rattle.dnsv_denial.specs.forms.Denials.{IsDelegationAt}
+use Rattle.dnsv_denial.specs.forms.ProofForms.{form_records}
 use Rattle.dnsv_denial.specs.forms.ShownUnsigned.{ShowsDelegation, ShowsOptOut, ShowsOptOutCloser}
 use Rattle.dnsv_denial.specs.proving.ShownDenials.{IsFirstShown, kind_of}
 use Rattle.dnsv_denial.specs.unsigned_cuts.Cuts.{IsFewest, IsMost, IsOptOutCut, IsUnsignedDelegationCut, IsUnusableDsCut}
@@ -46,3 +47,4 @@ pub record IsShownOptOutCloser
   pub first : (other : Chain) → GoesBefore other chain
       → ¬ OptsOutNextCloser (evidence_said Secured rrsets apex other) apex name labels
   pub shows : ShowsOptOutCloser number_cmp (evidence_said Secured rrsets apex chain) apex name labels shown.form
+  pub records : shown.proof.records ≡ form_records shown.form

@@ -7,11 +7,13 @@ ghost use Rattle.dnsv_records.specs.declared.nsec3.Nsec3Parameters.{Nsec3Paramet
 ghost use Rattle.dnsv_zones.specs.chains.HashedNames.{hashes_for};
 ghost use Rattle.dnsv_zones.specs.chains.Rdata.{parameters_of};
 ghost use Rattle.dnsv_chain.specs.Trust.{SecuredIn};
-ghost use Rattle.dnsv_denial.specs.gathering.Kept.{AreZones, IsSetOf};
+ghost use Rattle.dnsv_denial.specs.gathering.Gathered.{HaveLabels};
+ghost use Rattle.dnsv_denial.specs.gathering.Kept.{AreZones, IsSetOf, IsZoneOf};
 ghost use Rattle.dnsv_denial.specs.words.EvidenceWords.{parameters_cmp};
 
 use crate::gathering::nsec::nsecs_of;
 use crate::gathering::nsec3::nsec3s_of;
+use crate::gathering::signers::{labels_of_signers, may_sign};
 use crate::records::nsec3_entries::Nsec3Entries;
 use crate::records::zone_records::{NameHashes, ZoneRecords};
 use dnsv_canonical::Capture;
@@ -30,19 +32,43 @@ pub fn zones_of<'a>(
 ) -> Result<Vec<ZoneRecords<'a>>, AllocError>
     ensures { IfOk result (λ zones. AreZones (SecuredIn trust.now) capture.now.rrsets name.now zones.items) }
 {
+    let signers = labels_of_signers(alloc, capture, trust)?;
     let mut zones = Vec::new(alloc);
     for labels in 0..name.labels() + 1 {
         let zone = name.suffix(labels);
+        let records = zone_records(alloc, capture, trust, &signers, zone)?;
+        zones.push(records)?;
+    }
+    Ok(zones)
+}
+
+/// The records of the zone. They are looked for only where it has as many labels as one of the signers.
+fn zone_records<'a>(
+    alloc: Global,
+    capture: &'a Capture,
+    trust: &Trust,
+    signers: &[usize],
+    zone: Name,
+) -> Result<ZoneRecords<'a>, AllocError>
+    requires { HaveLabels (SecuredIn trust.now) capture.now.rrsets signers.now }
+    ensures zone { IfOk result (λ kept. kept.zone ≡ zone) }
+    ensures records { IfOk result (λ kept. IsZoneOf (SecuredIn trust.now) capture.now.rrsets kept) }
+{
+    if may_sign(signers, &zone) {
         let nsecs = nsecs_of(alloc, capture, trust, &zone)?;
         let records = nsec3s_of(alloc, capture, trust, &zone)?;
         let nsec3s = Nsec3Entries::new(alloc, records)?;
-        zones.push(ZoneRecords {
+        return Ok(ZoneRecords {
             zone,
             nsecs,
             nsec3s,
-        })?;
+        });
     }
-    Ok(zones)
+    Ok(ZoneRecords {
+        zone,
+        nsecs: Vec::new(alloc),
+        nsec3s: Nsec3Entries::new(alloc, Vec::new(alloc))?,
+    })
 }
 
 /// The hashes of the names that a question of the name asks for, for each of the parameters in their order, each once.

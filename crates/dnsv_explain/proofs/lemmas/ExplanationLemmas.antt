@@ -1,77 +1,150 @@
 -- Each line of an explanation follows from those before it.
-use Rattle.std.proofs.Common.{◌≡◌, ◌∙◌, ℕ, List, [], ◌∷◌, ◌++◌, append_assoc, ap, map, refl, sym, subst}
+use Rattle.std.proofs.Common.{◌≡◌, ◌+◌, ◌∙◌, ℕ, List, [], ◌∷◌, ◌++◌, append_assoc, ap, map, refl, sym, subst}
 use Rattle.std.specs.List.{Contains}
-use Rattle.dnsv_names.specs.Name.{Labels}
+use Rattle.dnsv_names.specs.Name.{Labels, rightmost}
 use Rattle.dnsv_canonical.specs.Rrsets.{ReceivedRrset}
-use Rattle.dnsv_verdict.specs.Verdict.{Basis}
+use Rattle.dnsv_verifier.specs.declared.entry.Entry.{Entry}
 use Rattle.dnsv_verdict.specs.declared.link.Link.{Link}
 use Rattle.dnsv_verdict.specs.declared.verdict.Verdict.{Verdict}
 use Rattle.dnsv_verdict.specs.declared.verdict.Verdict.TheVariants.{SecureAnswer, SecureAlias, SecureNoName, SecureNoData, Insecure, Pending, Bogus, Indeterminate}
 use Rattle.dnsv_explain.specs.Denials.IsShownBy.{no_name, no_data, no_closer}
-use Rattle.dnsv_explain.specs.Explanation.{IsEnd, IsExplanation, IsLinkTold, IsSetTold, IsVerdictTold, IsWayTold, signature_of}
+use Rattle.dnsv_explain.specs.Explained.{Explained, Setting, hoped, setting_in}
+use Rattle.dnsv_explain.specs.Explanation.{IsEnd, IsEndTold, IsExplanation, IsHopeTold, IsLinkTold, IsSetTold, IsSettledTold, IsUnsignedFromTold, IsVerdictTold, IsWayTold, its_setting, signature_of}
 use Rattle.dnsv_explain.specs.Explanation.IsSetTold.{as_owned, by_wildcard}
+use Rattle.dnsv_explain.specs.Explanation.IsUnsignedFromTold.{by_cut, by_wildcard as by_open_wildcard}
 use Rattle.dnsv_explain.specs.Following.{EachFollows, IsPlaceOf}
-use Rattle.dnsv_explain.specs.Places.{ArePlacesOf}
-use Rattle.dnsv_explain.specs.Saying.{Adds}
+use Rattle.dnsv_explain.specs.Places.{ArePlacesOf, ArePlacesTold}
+use Rattle.dnsv_explain.specs.Saying.{Adds, AreEach}
 use Rattle.dnsv_explain.specs.derivations.Derivations.Subject.{signature}
 use Rattle.dnsv_explain.specs.intervals.Holding.{AreShownValidAt, IsHoldingOf}
+use Rattle.dnsv_explain.specs.unsigned_cuts.ShownCuts.IsShownUnsigned.{closer_opted_out}
 use Rattle.dnsv_explain.specs.declared.interval.Interval.{Interval}
 use Rattle.dnsv_explain.specs.declared.line.Line.{Line}
 use Rattle.dnsv_explain.specs.declared.line.Line.TheVariants as line
+use Rattle.dnsv_explain.specs.declared.line.cut.InsecureCase.TheVariants as case
 use Rattle.dnsv_explain.specs.declared.line.derivation.SignatureNumber.{SignatureNumber}
 use Rattle.dnsv_explain.specs.declared.line.place.RrsetPlace.{RrsetPlace}
-use Rattle.dnsv_explain.proofs.lemmas.denials.FollowLemmas.{behind, both_follow, denial_follows, each_follow, expanded_follows, first_of}
+use Rattle.dnsv_explain.proofs.lemmas.HeldLemmas.{held_follows}
+use Rattle.dnsv_explain.proofs.lemmas.HopeLemmas.{still_follow}
+use Rattle.dnsv_explain.proofs.lemmas.denials.FollowLemmas.{behind, both_follow, denial_follows, each_follow, expanded_follows, first_of, unsigned_follows}
 use Rattle.dnsv_explain.proofs.lemmas.derivations.DerivationLemmas.{derivation_follows}
 use Rattle.dnsv_explain.proofs.lemmas.unsigned_cuts.CutFollowLemmas.{cut_follows}
 
-module _ (basis : Basis) where
-  set_follows : (name : Labels) (number : SignatureNumber) (before lines : List Line) → IsSetTold basis name number before lines
-      → EachFollows basis before lines
+-- ---- a verdict that needs no more answers
+
+module _ (setting : Setting) where
+  set_follows : (name : Labels) (number : SignatureNumber) (before lines : List Line) → IsSetTold setting name number before lines
+      → EachFollows setting before lines
   set_follows name number before lines (as_owned rrset rrsig at plain told) =
-      derivation_follows basis before (signature number) lines told
+      derivation_follows setting before (signature number) lines told
   set_follows name number before lines (by_wildcard rrset rrsig trust shown at expanded good is told) =
-      expanded_follows basis name number shown before lines (trust, good, no_closer rrsig.labels rrsig.signer is) told
+      expanded_follows setting name number shown before lines (trust, good, no_closer rrsig.labels rrsig.signer is) told
 
-  verdict_follows : (name : Labels) (t : ℕ) (verdict : Verdict) (before lines : List Line)
-      → IsVerdictTold basis name t verdict before lines → EachFollows basis before lines
-  verdict_follows name t (SecureAnswer k s) before lines told = set_follows name (signature_of k s) before lines told
-  verdict_follows name t (SecureAlias k s) before lines told = set_follows name (signature_of k s) before lines told
-  verdict_follows name t (SecureNoName proof) before lines told =
-      denial_follows basis name told.shown before lines (told.trust, told.good, no_name told.is) told.told
-  verdict_follows name t (SecureNoData proof) before lines told =
-      denial_follows basis name told.shown before lines (told.trust, told.good, no_data t told.is) told.told
-  verdict_follows name t (Insecure cut) before lines told = cut_follows basis name told.shown before lines told.is told.told
-  verdict_follows name t (Pending entries) before lines told = absurd told
-  verdict_follows name t Bogus before lines told = absurd told
-  verdict_follows name t Indeterminate before lines told = absurd told
+  links_follow : (links : List Link) (before lines : List Line) → AreEach (IsLinkTold setting) links before lines
+      → EachFollows setting before lines
+  links_follow links before lines told =
+      each_follow setting (IsLinkTold setting) (λ all. Unit {0}) (λ all more given. tt) links
+      (λ link there all more given one. set_follows link.name (signature_of link.rrset link.signature) all more one) before lines tt
+      told
 
-  pub way_follows : (t : ℕ) (links : List Link) (last : Labels) (verdict : Verdict) (before lines : List Line)
-      → IsWayTold basis t links last verdict before lines → EachFollows basis before lines
-  way_follows t links last verdict before lines told =
-      both_follow basis _ _ before lines told
-      (each_follow basis (IsLinkTold basis) (λ all. Unit {0}) (λ all more given. tt) links
-      (λ link there all more given one. set_follows link.name (signature_of link.rrset link.signature) all more one) before told.first tt
-      told.says_first)
-      (verdict_follows last t verdict (before ++ told.first) told.second told.says_second)
+  unsigned_from_follows : (name : Labels) (t : ℕ) (before lines : List Line) → IsUnsignedFromTold setting name t before lines
+      → EachFollows setting before lines
+  unsigned_from_follows name t before lines (by_cut shown is told) = cut_follows setting name shown before lines is told
+  unsigned_from_follows name t before lines (by_open_wildcard trust good none k s first shown is told) =
+      let labels = first.such.rrsig.labels in
+      both_follow setting _ _ before lines told
+      (derivation_follows setting before (signature (signature_of k s)) told.first told.says_first)
+      (unsigned_follows setting name shown case.OptOutWildcard (rightmost name (labels + 1)) (before ++ told.first) told.second
+      (closer_opted_out trust good labels first.such.rrsig.signer is) told.says_second)
 
-  places_follow : (places : List RrsetPlace) → ((place : RrsetPlace) → Contains places place → IsPlaceOf basis.rrsets place)
-      → (before : List Line) → EachFollows basis before (map (λ place. line.Rrset place) places)
+  settled_follows : (name : Labels) (t : ℕ) (verdict : Verdict) (before lines : List Line)
+      → IsSettledTold setting name t verdict before lines → EachFollows setting before lines
+  settled_follows name t (SecureAnswer k s) before lines told = set_follows name (signature_of k s) before lines told
+  settled_follows name t (SecureAlias k s) before lines told = set_follows name (signature_of k s) before lines told
+  settled_follows name t (SecureNoName proof) before lines told =
+      denial_follows setting name told.shown before lines (told.trust, told.good, no_name told.is) told.told
+  settled_follows name t (SecureNoData proof) before lines told =
+      denial_follows setting name told.shown before lines (told.trust, told.good, no_data t told.is) told.told
+  settled_follows name t (Insecure cut) before lines told = unsigned_from_follows name t before lines told
+  settled_follows name t (Pending unknown) before lines told = absurd told
+  settled_follows name t Bogus before lines told = absurd told
+  settled_follows name t Indeterminate before lines told = absurd told
+
+  places_follow : (places : List RrsetPlace) → ((place : RrsetPlace) → Contains places place → IsPlaceOf setting.rrsets place)
+      → (before : List Line) → EachFollows setting before (map (λ place. line.Rrset place) places)
   places_follow [] each before = tt
   places_follow (place ∷ places) each before = (
     each place (first_of place places),
     places_follow places (λ other there. each other (behind place places other there)) (before ++ line.Rrset place ∷ []),
   )
 
-  end_follows : (told lines : List Line) → IsEnd basis.rrsets basis.moment told lines → EachFollows basis told lines
+  end_follows : (told lines : List Line) → IsEnd setting.rrsets setting.moment told lines → EachFollows setting told lines
   end_follows told lines is =
-      let Lines : List Line → Type 0 = λ all. EachFollows basis told all in
+      let Lines : List Line → Type 0 = λ all. EachFollows setting told all in
       subst Lines (sym is.are) (tt, places_follow is.places is.stand.each (told ++ line.Holds is.interval ∷ []))
 
+  told_places_follow : (told lines : List Line) → ArePlacesTold setting.rrsets told lines → EachFollows setting told lines
+  told_places_follow told lines is =
+      let Lines : List Line → Type 0 = λ all. EachFollows setting told all in
+      subst Lines (sym is.are) (places_follow is.places is.stand.each told)
+
+-- ---- any verdict
+
+module _ (explained : Explained) where
+  hope_follows : (name : Labels) (t : ℕ) (unknown : List Entry) (before lines : List Line) → IsHopeTold explained name t unknown before lines
+      → EachFollows (setting_in (hoped explained unknown)) before lines
+  hope_follows name t unknown before lines told =
+      let then : Setting = setting_in (hoped explained unknown) in
+      let Lines : List Line → Type 0 = λ all. EachFollows then before all in
+      both_follow then _ _ before lines told.told (subst Lines (sym told.told.says_first) (tt, tt))
+      (settled_follows then name t told.verdict (before ++ told.told.first) told.told.second told.told.says_second)
+
+  verdict_follows : (name : Labels) (t : ℕ) (verdict : Verdict) (before lines : List Line)
+      → IsVerdictTold explained name t verdict before lines → EachFollows (its_setting explained verdict) before lines
+  verdict_follows name t (SecureAnswer k s) before lines told = settled_follows (setting_in explained) name t (SecureAnswer k s) before lines told
+  verdict_follows name t (SecureAlias k s) before lines told = settled_follows (setting_in explained) name t (SecureAlias k s) before lines told
+  verdict_follows name t (SecureNoName proof) before lines told = settled_follows (setting_in explained) name t (SecureNoName proof) before lines told
+  verdict_follows name t (SecureNoData proof) before lines told = settled_follows (setting_in explained) name t (SecureNoData proof) before lines told
+  verdict_follows name t (Insecure cut) before lines told = settled_follows (setting_in explained) name t (Insecure cut) before lines told
+  verdict_follows name t (Pending unknown) before lines told = hope_follows name t unknown before lines told
+  verdict_follows name t Bogus before lines told = held_follows (setting_in explained) name before lines told
+  verdict_follows name t Indeterminate before lines told = held_follows (setting_in explained) name before lines told
+
+  -- what follows, follows under hope too
+  in_its_setting : (verdict : Verdict) (before lines : List Line) → EachFollows (setting_in explained) before lines
+      → EachFollows (its_setting explained verdict) before lines
+  in_its_setting (SecureAnswer k s) before lines follows = follows
+  in_its_setting (SecureAlias k s) before lines follows = follows
+  in_its_setting (SecureNoName proof) before lines follows = follows
+  in_its_setting (SecureNoData proof) before lines follows = follows
+  in_its_setting (Insecure cut) before lines follows = follows
+  in_its_setting (Pending unknown) before lines follows = still_follow explained unknown before lines follows
+  in_its_setting Bogus before lines follows = follows
+  in_its_setting Indeterminate before lines follows = follows
+
+  pub way_follows : (t : ℕ) (links : List Link) (last : Labels) (verdict : Verdict) (before lines : List Line)
+      → IsWayTold explained t links last verdict before lines → EachFollows (its_setting explained verdict) before lines
+  way_follows t links last verdict before lines told =
+      both_follow (its_setting explained verdict) _ _ before lines told
+      (in_its_setting verdict before told.first (links_follow (setting_in explained) links before told.first told.says_first))
+      (verdict_follows last t verdict (before ++ told.first) told.second told.says_second)
+
+  last_follows : (verdict : Verdict) (told lines : List Line) → IsEndTold explained verdict told lines
+      → EachFollows (its_setting explained verdict) told lines
+  last_follows (SecureAnswer k s) told lines is = end_follows (setting_in explained) told lines is
+  last_follows (SecureAlias k s) told lines is = end_follows (setting_in explained) told lines is
+  last_follows (SecureNoName proof) told lines is = end_follows (setting_in explained) told lines is
+  last_follows (SecureNoData proof) told lines is = end_follows (setting_in explained) told lines is
+  last_follows (Insecure cut) told lines is = end_follows (setting_in explained) told lines is
+  last_follows (Pending unknown) told lines is = told_places_follow (setting_in (hoped explained unknown)) told lines is
+  last_follows Bogus told lines is = told_places_follow (setting_in explained) told lines is
+  last_follows Indeterminate told lines is = told_places_follow (setting_in explained) told lines is
+
   pub explanation_follows : (t : ℕ) (links : List Link) (last : Labels) (verdict : Verdict) (lines : List Line)
-      → IsExplanation basis t links last verdict lines → EachFollows basis [] lines
+      → IsExplanation explained t links last verdict lines → EachFollows (its_setting explained verdict) [] lines
   explanation_follows t links last verdict lines is =
-      both_follow basis _ _ [] lines is (way_follows t links last verdict [] is.first is.says_first)
-      (end_follows is.first is.second is.says_second)
+      both_follow (its_setting explained verdict) _ _ [] lines is (way_follows t links last verdict [] is.first is.says_first)
+      (last_follows verdict is.first is.second is.says_second)
 
 -- ---- the last lines
 
@@ -106,4 +179,15 @@ end_added rrsets held_rrsets placed_rrsets moment its_moment old held_lines plac
         stand = subst Of same_placed_lines (subst In same_placed stand);
         are = refl;
       };
+    }
+
+pub places_added : (rrsets placed_rrsets : List ReceivedRrset) (old placed_lines new : List Line) (places : List RrsetPlace)
+    → placed_rrsets ≡ rrsets → placed_lines ≡ old → ArePlacesOf placed_rrsets placed_lines places
+    → new ≡ old ++ map (λ place. line.Rrset place) places → Adds (ArePlacesTold rrsets) old new
+places_added rrsets placed_rrsets old placed_lines new places same_placed same_placed_lines stand adds =
+    let In : List ReceivedRrset → Type 0 = λ each. ArePlacesOf each placed_lines places in
+    let Of : List Line → Type 0 = λ each. ArePlacesOf rrsets each places in record {
+      more = map (λ place. line.Rrset place) places;
+      is = adds;
+      says = record { places = places; stand = subst Of same_placed_lines (subst In same_placed stand); are = refl };
     }

@@ -8,7 +8,7 @@ use Rattle.dnsv_canonical.specs.Rrsets.{IsNumbered, ReceivedRrset}
 use Rattle.dnsv_chain.specs.Trusted.{IsSecured, IsTrusted}
 use Rattle.dnsv_verifier.specs.Admissible.{DnskeyRecord}
 use Rattle.dnsv_denial.specs.words.EvidenceWords.{Chain}
-use Rattle.dnsv_verdict.specs.Verdict.{Basis}
+use Rattle.dnsv_explain.specs.Explained.{Setting}
 use Rattle.dnsv_explain.specs.Following.{EachFollows, Follows, FollowsTrusted, IsMatchedBy, IsSaidSigned, IsSignatureSaid}
 use Rattle.dnsv_explain.specs.Following.Parts.{IsPartOf, IsUnusableRecord}
 use Rattle.dnsv_explain.specs.derivations.Ways.{HasSecured, IsWayInto}
@@ -22,26 +22,26 @@ use Rattle.dnsv_explain.specs.declared.line.derivation.TrustedKeys.{TrustedKeys}
 use Rattle.dnsv_explain.specs.declared.line.derivation.Voucher.{Voucher}
 use Rattle.dnsv_explain.specs.declared.line.derivation.Voucher.TheVariants as voucher
 
-module _ (basis : Basis) where
+module _ (setting : Setting) where
   abbrev Trusted : ReceivedRrset → Type 0
-  Trusted set = IsTrusted basis.meaning basis.moment basis.rrsets basis.anchors set
+  Trusted set = IsTrusted setting.meaning setting.moment setting.rrsets setting.anchors set
 
   abbrev Secured : ℕ → ℕ → Type 0
-  Secured = IsSecured basis.meaning basis.moment basis.rrsets basis.anchors
+  Secured = IsSecured setting.meaning setting.moment setting.rrsets setting.anchors
 
   -- what a line says is so
   abbrev IsTrue : Line → Type 0
-  IsTrue (line.Trusted keys) = (set : ReceivedRrset) × IsNumbered basis.rrsets keys.signature.rrset set × Trusted set
+  IsTrue (line.Trusted keys) = (set : ReceivedRrset) × IsNumbered setting.rrsets keys.signature.rrset set × Trusted set
   IsTrue (line.Signed signed) = Secured signed.signature.rrset signed.signature.signature
-  IsTrue (line.Part part) = (zone : Labels) × (chain : Chain) × IsPartOf Secured basis.rrsets zone chain part
-  IsTrue (line.Unusable unusable) = IsUnusableRecord basis.rrsets unusable × HasSecured basis unusable.number.rrset
+  IsTrue (line.Part part) = (zone : Labels) × (chain : Chain) × IsPartOf Secured setting.rrsets zone chain part
+  IsTrue (line.Unusable unusable) = IsUnusableRecord setting.rrsets unusable × HasSecured setting unusable.number.rrset
   IsTrue _ = Unit {0}
 
   abbrev AreTrue : List Line → Type 0
   AreTrue lines = (line : Line) → Contains lines line → IsTrue line
 
   -- what is said to be signed has a signature that is good by trust
-  secured_said : (before : List Line) → AreTrue before → (k : ℕ) → IsSaidSigned before k → HasSecured basis k
+  secured_said : (before : List Line) → AreTrue before → (k : ℕ) → IsSaidSigned before k → HasSecured setting k
   secured_said before all k said =
       let Numbered : ℕ → Type 0 = λ n. Secured n said.signed.signature.signature in
       (said.signed.signature.signature, subst Numbered said.rrset (all (line.Signed said.signed) said.among))
@@ -54,29 +54,29 @@ module _ (basis : Basis) where
       subst Good said.is (all (line.Signed said.signed) said.among)
 
   matched_then : (P Q : ℕ → Type 0) → ((k : ℕ) → P k → Q k) → (voucher : Voucher) (key : DnskeyRecord)
-      → IsMatchedBy P basis voucher key → IsMatchedBy Q basis voucher key
+      → IsMatchedBy P setting voucher key → IsMatchedBy Q setting voucher key
   matched_then P Q then (voucher.KeyAnchor number) key matched = matched
   matched_then P Q then (voucher.DsAnchor number digest_type) key matched = matched
   matched_then P Q then (voucher.Ds number digest_type) key (ds, signed) = (ds, then number.rrset signed)
 
-  abbrev way_followed : (before : List Line) → AreTrue before → (keys : TrustedKeys) (follows : FollowsTrusted basis before keys)
-      → IsWayInto basis keys.signature.rrset (record { voucher = keys.voucher; key = follows.key; signature = keys.signature.signature })
+  abbrev way_followed : (before : List Line) → AreTrue before → (keys : TrustedKeys) (follows : FollowsTrusted setting before keys)
+      → IsWayInto setting keys.signature.rrset (record { voucher = keys.voucher; key = follows.key; signature = keys.signature.signature })
   way_followed before all keys follows = record {
     set = follows.set;
     stands = follows.stands;
     good = follows.good;
-    matched = matched_then (IsSaidSigned before) (HasSecured basis) (secured_said before all) keys.voucher follows.key follows.vouched;
+    matched = matched_then (IsSaidSigned before) (HasSecured setting) (secured_said before all) keys.voucher follows.key follows.vouched;
   }
 
   -- what follows is true, where the lines before are
-  true_line : (before : List Line) → AreTrue before → (each : Line) → Follows basis before each → IsTrue each
+  true_line : (before : List Line) → AreTrue before → (each : Line) → Follows setting before each → IsTrue each
   true_line before all (line.Trusted keys) follows =
-      (follows.set, follows.good.is_rrset, way_leads basis keys.signature.rrset _ (way_followed before all keys follows))
+      (follows.set, follows.good.is_rrset, way_leads setting keys.signature.rrset _ (way_followed before all keys follows))
   true_line before all (line.Signed signed) follows =
       let said = all (line.Trusted follows.trusted.keys) follows.trusted.among in
-      let Numbered : ℕ → Type 0 = λ k. IsNumbered basis.rrsets k said.0 in
+      let Numbered : ℕ → Type 0 = λ k. IsNumbered setting.rrsets k said.0 in
       let same : said.0 ≡ follows.set =
-      same_number basis.rrsets signed.keys said.0 follows.set (subst Numbered follows.trusted.rrset said.1) follows.is_set in
+      same_number setting.rrsets signed.keys said.0 follows.set (subst Numbered follows.trusted.rrset said.1) follows.is_set in
       record {
         rrset = follows.rrset;
         numbered = follows.good.is_rrset;
@@ -90,7 +90,7 @@ module _ (basis : Basis) where
   true_line before all (line.Part part) follows = (
     follows.zone,
     follows.chain,
-    said_too (λ k s. IsSignatureSaid before (record { rrset = k; signature = s })) Secured basis.rrsets follows.zone follows.chain
+    said_too (λ k s. IsSignatureSaid before (record { rrset = k; signature = s })) Secured setting.rrsets follows.zone follows.chain
         part.role part.relation part.name part.by (said_secured before all) follows.says,
   )
   true_line before all (line.Case cut) follows = tt
@@ -105,7 +105,7 @@ module _ (basis : Basis) where
       (λ (last : each ≡ other). subst IsTrue last one)
       (Contains-push_cases before each other there)
 
-  pub all_true : (before lines : List Line) → AreTrue before → EachFollows basis before lines → AreTrue (before ++ lines)
+  pub all_true : (before lines : List Line) → AreTrue before → EachFollows setting before lines → AreTrue (before ++ lines)
   all_true before [] all follows = subst AreTrue (sym (append-nil before)) all
   all_true before (each ∷ lines) all follows =
       subst AreTrue (append_assoc before (each ∷ []) lines)

@@ -1,37 +1,29 @@
 -- What an explanation is of, and what is refused in its place.
-use Rattle.std.proofs.Common.{ℕ, List, Option, Some, None, Ok, Err, inl, inr, refl, subst}
-use Rattle.std.specs.Prelude.{IfSome}
+use Rattle.std.proofs.Common.{ℕ, List, [], Ok, Err, inl, inr, refl, subst}
 use Rattle.dnsv_names.specs.Name.{Labels}
 use Rattle.dnsv_canonical.specs.Rrsets.{ReceivedRrset}
 use Rattle.dnsv_chain.specs.declared.anchor.Anchor.{Anchor}
-use Rattle.dnsv_verifier.specs.Table.{table_answer}
 use Rattle.dnsv_verdict.proofs.ReportLemmas.{no_error}
-use Rattle.dnsv_verdict.specs.Grounds.{AreGroundsOf, basis_by}
+use Rattle.dnsv_verdict.specs.Grounds.{AreGroundsOf}
 use Rattle.dnsv_verdict.specs.Report.{Refuses}
-use Rattle.dnsv_verdict.specs.Verdict.{Basis, basis_of}
+use Rattle.dnsv_verdict.specs.Verdict.{Basis}
 use Rattle.dnsv_verdict.specs.declared.error.VerdictError.TheVariants.{BadQuestion, OutOfMemory}
 use Rattle.dnsv_verdict.specs.declared.grounds.Grounds.{Grounds}
 use Rattle.dnsv_verdict.specs.declared.report.Report.{Report}
+use Rattle.dnsv_explain.specs.Explained.{explained_by}
 use Rattle.dnsv_explain.specs.Explanation.{IsExplanation, IsExplanationOf}
 use Rattle.dnsv_explain.specs.declared.line.Line.{Line}
 
 -- what is explained by the grounds of the question is so of it
 pub explained_of : (basis : Basis) (grounds : Grounds) (t : ℕ) (report : Report) (lines : List Line) → AreGroundsOf basis grounds
-    → IsExplanation (basis_by grounds) t report.links report.last report.verdict lines → IsExplanationOf basis t report lines
+    → IsExplanation (explained_by grounds []) t report.links report.last report.verdict lines → IsExplanationOf basis t report lines
 explained_of basis grounds t report lines are is =
-    let Rrsets : List ReceivedRrset → Type 0 = λ each.
-    IsExplanation (basis_of each grounds.anchors.now grounds.table.moment (table_answer grounds.table)) t report.links report.last
+    let By : List ReceivedRrset → List Anchor → Type 0 = λ rrsets anchors.
+    IsExplanation (record { rrsets = rrsets; anchors = anchors; table = grounds.table; todo = [] }) t report.links report.last
     report.verdict lines in
-    let Anchors : List Anchor → Type 0 = λ each.
-    IsExplanation (basis_of basis.rrsets each grounds.table.moment (table_answer grounds.table)) t report.links report.last
-    report.verdict lines in
+    let Rrsets : List ReceivedRrset → Type 0 = λ each. By each grounds.anchors.now in
+    let Anchors : List Anchor → Type 0 = λ each. By basis.rrsets each in
     record { table = grounds.table; of = are.table; is = subst Anchors are.anchors (subst Rrsets are.rrsets is) }
-
-pub explained_if : (basis : Basis) (grounds : Grounds) (t : ℕ) (report : Report) (found : Option (List Line)) → AreGroundsOf basis grounds
-    → IfSome found (IsExplanation (basis_by grounds) t report.links report.last report.verdict)
-    → IfSome found (IsExplanationOf basis t report)
-explained_if basis grounds t report None are is = is
-explained_if basis grounds t report (Some lines) are is = explained_of basis grounds t report lines are is
 
 module _ {T U : Type 0} (basis : Basis) (name : Labels) (t : ℕ) (value : T) (refuses : Refuses {T = T} basis name t (Ok value)) where
   -- a question that isn't refused still isn't

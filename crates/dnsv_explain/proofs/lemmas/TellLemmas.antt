@@ -1,7 +1,7 @@
 -- What is told at one name of a way, by a view of what the evidence says there.
-use Rattle.std.proofs.Common.{◌≡◌, ◌<◌, ◌∙◌, ◌-◌, ℕ, zero, suc, List, [], ◌∷◌, ◌++◌, arith, get_or, length, map, refl, sym, ap, subst}
+use Rattle.std.proofs.Common.{◌≡◌, ◌⊎◌, ◌<◌, ◌∙◌, ◌+◌, ◌-◌, ℕ, zero, suc, List, [], ◌∷◌, ◌++◌, arith, get_or, length, map, refl, sym, ap, subst, ⊎_elim}
 use Rattle.std.specs.List.{AllZip}
-use Rattle.dnsv_names.specs.Name.{Labels}
+use Rattle.dnsv_names.specs.Name.{Labels, rightmost}
 use Rattle.dnsv_records.specs.Rrsig.{IsRrsig}
 use Rattle.dnsv_records.specs.declared.rrsig.Rrsig.{Rrsig}
 use Rattle.dnsv_canonical.specs.Rrsets.{IsNumbered, ReceivedRrset}
@@ -9,30 +9,37 @@ use Rattle.dnsv_canonical.specs.SignedData.{IsExpanded}
 use Rattle.dnsv_chain.specs.Trust.{SecuredIn}
 use Rattle.dnsv_denial.specs.QuestionHashes.{HashedQuestion}
 use Rattle.dnsv_denial.specs.Viewed.{Viewed}
+use Rattle.dnsv_denial.specs.proving.FirstProof.{CanProveNoCloser, CanProveNoData, CanProveNoName}
 use Rattle.dnsv_denial.specs.proving.ShownDenials.{IsShownNoCloser, IsShownNoData, IsShownNoName}
-use Rattle.dnsv_denial.specs.unsigned_cuts.ShownCut.{IsShownCut}
+use Rattle.dnsv_denial.specs.unsigned_cuts.Cuts.{HasOptedOutNextCloser, HasUnsignedCut}
+use Rattle.dnsv_denial.specs.unsigned_cuts.ShownCut.{IsShownCut, IsShownOptOutCloser}
 use Rattle.dnsv_denial.specs.declared.proving.shown_denial.ShownDenial.{ShownDenial}
 use Rattle.dnsv_denial.specs.declared.unsigned_cuts.shown_cut.ShownCut.{ShownCut}
-use Rattle.dnsv_verdict.specs.Grounds.{HasTrust, basis_by}
+use Rattle.dnsv_verifier.specs.declared.entry.Entry.{Entry}
+use Rattle.dnsv_verdict.proofs.SettledLemmas.{unsigned_to}
+use Rattle.dnsv_verdict.proofs.SettledLemmas.EvidenceLemmas.{no_closer_can_to, no_data_can_to, no_name_can_to}
+use Rattle.dnsv_verdict.specs.Grounds.{HasTrust}
+use Rattle.dnsv_verdict.specs.Insecure.{IsOptOutWildcardSet, IsUnsigned}
 use Rattle.dnsv_verdict.specs.Report.{hashed_in}
-use Rattle.dnsv_verdict.specs.Verdict.{Basis}
+use Rattle.dnsv_verdict.specs.Secure.{IsFirstSuch}
 use Rattle.dnsv_verdict.specs.Way.{names_on}
 use Rattle.dnsv_verdict.specs.declared.grounds.Grounds.{Grounds}
 use Rattle.dnsv_verdict.specs.declared.link.Link.{Link}
-use Rattle.dnsv_verdict.specs.declared.verdict.Verdict.{Verdict}
 use Rattle.dnsv_explain.specs.Denials.{IsDenialTold, IsShownDenial}
 use Rattle.dnsv_explain.specs.Denials.IsShownBy.{no_name, no_data, no_closer}
-use Rattle.dnsv_explain.specs.Explained.{Explained, basis_in, explained_by}
-use Rattle.dnsv_explain.specs.Explanation.{IsNoDataTold, IsNoNameTold, IsSetTold, IsSignatureAt, IsUnsignedFromTold, IsWayTold}
+use Rattle.dnsv_explain.specs.Explained.{Explained, Setting, explained_by, setting_in}
+use Rattle.dnsv_explain.specs.Explanation.{IsNoDataTold, IsNoNameTold, IsSetTold, IsSignatureAt, IsUnsignedFromTold, signature_of}
 use Rattle.dnsv_explain.specs.Explanation.IsSetTold.{as_owned, by_wildcard}
-use Rattle.dnsv_explain.specs.Following.{EachFollows}
+use Rattle.dnsv_explain.specs.Explanation.IsUnsignedFromTold.{by_cut, by_wildcard as by_open_wildcard}
 use Rattle.dnsv_explain.specs.Saying.{Adds}
-use Rattle.dnsv_explain.specs.derivations.OwnDerivations.{IsSignatureTold, IsTrustIn}
-use Rattle.dnsv_explain.specs.unsigned_cuts.ShownCuts.{IsCutShownBy, IsCutTold}
+use Rattle.dnsv_explain.specs.derivations.OwnDerivations.{IsSignatureTold, IsTrustIn, SecuredIn as GoodIn}
+use Rattle.dnsv_explain.specs.unsigned_cuts.ShownCuts.{IsCutShownBy, IsCutTold, IsShownUnsigned, IsUnsignedTold}
+use Rattle.dnsv_explain.specs.unsigned_cuts.ShownCuts.IsShownUnsigned.{closer_opted_out}
 use Rattle.dnsv_explain.specs.declared.line.Line.{Line}
+use Rattle.dnsv_explain.specs.declared.line.cut.InsecureCase.TheVariants as case
 use Rattle.dnsv_explain.specs.declared.line.derivation.SignatureNumber.{SignatureNumber}
-use Rattle.dnsv_explain.proofs.lemmas.ExplanationLemmas.{way_follows}
 use Rattle.dnsv_explain.proofs.lemmas.SayingLemmas.{both_added}
+use Rattle.dnsv_explain.proofs.lemmas.denials.TrustLemmas.{kept_good}
 use Rattle.dnsv_explain.proofs.lemmas.intervals.ShownLemmas.{rdata_at}
 
 pub signature_at : (rrsets : List ReceivedRrset) (number : SignatureNumber) (rrset : ReceivedRrset) (rrsigs : List Rrsig) (rrsig : Rrsig)
@@ -42,109 +49,202 @@ signature_at rrsets number rrset rrsigs rrsig is_rrset zip numbered =
     let there = rdata_at rrset.signatures rrsigs (number.signature - 1) rrsig zip numbered.1 in
     record { is_rrset = is_rrset; rdata = there.0; is_signature = (numbered.0, there.1); read = there.2 }
 
-module _ (grounds : Grounds) (explained : Explained) (same : explained ≡ explained_by grounds) where
-  by_grounds : (Says : Basis → List Line → List Line → Type 0) (old new : List Line) → Adds (Says (basis_in explained)) old new
-      → Adds (Says (basis_by grounds)) old new
-  by_grounds Says old new = subst (λ (each : Explained). Adds (Says (basis_in each)) old new) same
+-- what is explained with some entries is so with its own
+pub todo_same : (grounds : Grounds) (explained : Explained) (todo : List Entry) → explained ≡ explained_by grounds todo
+    → explained ≡ explained_by grounds explained.todo
+todo_same grounds explained todo same =
+    same ∙ ap (λ (each : List Entry). explained_by grounds each) (sym (ap (λ (each : Explained). each.todo) same))
 
-  pub owned_added : (name : Labels) (number : SignatureNumber) (rrset : ReceivedRrset) (rrsig : Rrsig) (old more new : List Line)
-      → IsSignatureAt explained.rrsets number rrset rrsig → ¬ IsExpanded rrset.owner rrsig
-      → IsSignatureTold (basis_in explained) number old more → new ≡ old ++ more → Adds (IsSetTold (basis_by grounds) name number) old new
-  owned_added name number rrset rrsig old more new at plain told is =
-      by_grounds (λ basis. IsSetTold basis name number) old new
-      (record { more = more; is = is; says = as_owned rrset rrsig at plain told })
+pub owned_added : (setting : Setting) (name : Labels) (number : SignatureNumber) (rrset : ReceivedRrset) (rrsig : Rrsig)
+    (old more new : List Line) → IsSignatureAt setting.rrsets number rrset rrsig → ¬ IsExpanded rrset.owner rrsig
+    → IsSignatureTold setting number old more → new ≡ old ++ more → Adds (IsSetTold setting name number) old new
+owned_added setting name number rrset rrsig old more new at plain told is =
+    record { more = more; is = is; says = as_owned rrset rrsig at plain told }
 
-  module _ (trusted : HasTrust grounds) (view : Viewed) (hashed : HashedQuestion) (name : Labels)
-      (is_view : view ≡ record { rrsets = grounds.capture.now.rrsets; trust = grounds.trust; name = hashed.name })
-      (is_hashed : hashed ≡ hashed_in grounds.capture.now.rrsets name) where
-    good : IsTrustIn (basis_in explained) grounds.trust
-    good = subst (λ (each : Explained). IsTrustIn (basis_in each) grounds.trust) (sym same) trusted
+module _ (grounds : Grounds) (explained : Explained) (same : explained ≡ explained_by grounds explained.todo) (trusted : HasTrust grounds)
+    (view : Viewed) (name : Labels)
+    (is_view : view ≡ record { rrsets = grounds.capture.now.rrsets; trust = grounds.trust; name = name }) where
+  abbrev Its : Setting
+  Its = setting_in explained
 
-    abbrev its_view : Viewed
-    its_view = record { rrsets = explained.rrsets; trust = grounds.trust; name = name }
+  good : IsTrustIn Its grounds.trust
+  good = subst (λ (each : Explained). IsTrustIn (setting_in each) grounds.trust) (sym same) trusted
 
-    viewed : view ≡ its_view
-    viewed = is_view ∙ (λ i. record {
-      rrsets = sym (ap (λ (each : Explained). each.rrsets) same) i;
-      trust = grounds.trust;
-      name = ap (λ (each : HashedQuestion). each.name) is_hashed i;
-    })
+  abbrev its_view : Viewed
+  its_view = record { rrsets = explained.rrsets; trust = grounds.trust; name = name }
 
-    its_no_closer : (labels : ℕ) (zone : Labels) (shown : ShownDenial)
-        → IsShownNoCloser (SecuredIn view.trust) view.rrsets view.name labels zone shown
-        → IsShownNoCloser (SecuredIn grounds.trust) explained.rrsets name labels zone shown
-    its_no_closer labels zone shown =
-        subst (λ (each : Viewed). IsShownNoCloser (SecuredIn each.trust) each.rrsets each.name labels zone shown) viewed
+  viewed : view ≡ its_view
+  viewed = is_view ∙ (λ i. record {
+    rrsets = sym (ap (λ (each : Explained). each.rrsets) same) i;
+    trust = grounds.trust;
+    name = name;
+  })
 
-    pub no_closer_shown : (labels : ℕ) (zone : Labels) (shown : ShownDenial)
-        → IsShownNoCloser (SecuredIn view.trust) view.rrsets view.name labels zone shown → IsShownDenial (basis_in explained) name shown
-    no_closer_shown labels zone shown is = (grounds.trust, good, no_closer labels zone (its_no_closer labels zone shown is))
+  -- what is good is kept
+  kept : (k s : ℕ) → GoodIn Its k s → SecuredIn grounds.trust k s
+  kept k s is = ((good.signed k).members s).1 is
 
-    pub wildcard_added : (number : SignatureNumber) (rrset : ReceivedRrset) (rrsig : Rrsig) (shown : ShownDenial) (old more mid new : List Line)
-        → IsSignatureAt explained.rrsets number rrset rrsig → IsExpanded rrset.owner rrsig
-        → IsShownNoCloser (SecuredIn view.trust) view.rrsets view.name rrsig.labels rrsig.signer shown
-        → IsSignatureTold (basis_in explained) number old more → mid ≡ old ++ more
-        → Adds (IsDenialTold (basis_in explained) name shown) mid new → Adds (IsSetTold (basis_by grounds) name number) old new
-    wildcard_added number rrset rrsig shown old more mid new at expanded is told pushed denial =
-        let both = both_added (IsSignatureTold (basis_in explained) number) (IsDenialTold (basis_in explained) name shown) old mid new
-        (record { more = more; is = pushed; says = told }) denial in
-        by_grounds (λ basis. IsSetTold basis name number) old new (record {
+  stays : (k : ℕ) (rrset : ReceivedRrset) → IsNumbered explained.rrsets k rrset → IsNumbered explained.rrsets k rrset
+  stays k rrset is = is
+
+  -- ---- no closer name
+
+  its_no_closer : (labels : ℕ) (zone : Labels) (shown : ShownDenial)
+      → IsShownNoCloser (SecuredIn view.trust) view.rrsets view.name labels zone shown
+      → IsShownNoCloser (SecuredIn grounds.trust) explained.rrsets name labels zone shown
+  its_no_closer labels zone shown =
+      subst (λ (each : Viewed). IsShownNoCloser (SecuredIn each.trust) each.rrsets each.name labels zone shown) viewed
+
+  pub closer_there : (labels : ℕ) (zone : Labels) → CanProveNoCloser (GoodIn Its) explained.rrsets name labels zone
+      → CanProveNoCloser (SecuredIn view.trust) view.rrsets view.name labels zone
+  closer_there labels zone can =
+      subst (λ (each : Viewed). CanProveNoCloser (SecuredIn each.trust) each.rrsets each.name labels zone) (sym viewed)
+      (no_closer_can_to (GoodIn Its) (SecuredIn grounds.trust) kept explained.rrsets explained.rrsets stays name labels zone can)
+
+  pub no_closer_shown : (labels : ℕ) (zone : Labels) (shown : ShownDenial)
+      → IsShownNoCloser (SecuredIn view.trust) view.rrsets view.name labels zone shown → IsShownDenial Its name shown
+  no_closer_shown labels zone shown is = (grounds.trust, good, no_closer labels zone (its_no_closer labels zone shown is))
+
+  pub wildcard_added : (number : SignatureNumber) (rrset : ReceivedRrset) (rrsig : Rrsig) (shown : ShownDenial) (old more mid new : List Line)
+      → IsSignatureAt explained.rrsets number rrset rrsig → IsExpanded rrset.owner rrsig
+      → IsShownNoCloser (SecuredIn view.trust) view.rrsets view.name rrsig.labels rrsig.signer shown
+      → IsSignatureTold Its number old more → mid ≡ old ++ more
+      → Adds (IsDenialTold Its name shown) mid new → Adds (IsSetTold Its name number) old new
+  wildcard_added number rrset rrsig shown old more mid new at expanded is told pushed denial =
+      let both = both_added (IsSignatureTold Its number) (IsDenialTold Its name shown) old mid new
+      (record { more = more; is = pushed; says = told }) denial in record {
+        more = both.more;
+        is = both.is;
+        says = by_wildcard rrset rrsig grounds.trust shown at expanded good (its_no_closer rrsig.labels rrsig.signer shown is) both.says;
+      }
+
+  -- ---- no such name
+
+  its_no_name : (shown : ShownDenial) → IsShownNoName (SecuredIn view.trust) view.rrsets view.name shown
+      → IsShownNoName (SecuredIn grounds.trust) explained.rrsets name shown
+  its_no_name shown = subst (λ (each : Viewed). IsShownNoName (SecuredIn each.trust) each.rrsets each.name shown) viewed
+
+  pub name_there : CanProveNoName (GoodIn Its) explained.rrsets name → CanProveNoName (SecuredIn view.trust) view.rrsets view.name
+  name_there can =
+      subst (λ (each : Viewed). CanProveNoName (SecuredIn each.trust) each.rrsets each.name) (sym viewed)
+      (no_name_can_to (GoodIn Its) (SecuredIn grounds.trust) kept explained.rrsets explained.rrsets stays name can)
+
+  pub no_name_shown : (shown : ShownDenial) → IsShownNoName (SecuredIn view.trust) view.rrsets view.name shown
+      → IsShownDenial Its name shown
+  no_name_shown shown is = (grounds.trust, good, no_name (its_no_name shown is))
+
+  pub no_name_added : (shown : ShownDenial) (old new : List Line) → IsShownNoName (SecuredIn view.trust) view.rrsets view.name shown
+      → Adds (IsDenialTold Its name shown) old new → Adds (IsNoNameTold Its name) old new
+  no_name_added shown old new is denial = record {
+    more = denial.more;
+    is = denial.is;
+    says = record { trust = grounds.trust; good = good; shown = shown; is = its_no_name shown is; told = denial.says };
+  }
+
+  -- ---- no data
+
+  its_no_data : (t : ℕ) (shown : ShownDenial) → IsShownNoData (SecuredIn view.trust) view.rrsets view.name t shown
+      → IsShownNoData (SecuredIn grounds.trust) explained.rrsets name t shown
+  its_no_data t shown = subst (λ (each : Viewed). IsShownNoData (SecuredIn each.trust) each.rrsets each.name t shown) viewed
+
+  pub data_there : (t : ℕ) → CanProveNoData (GoodIn Its) explained.rrsets name t
+      → CanProveNoData (SecuredIn view.trust) view.rrsets view.name t
+  data_there t can =
+      subst (λ (each : Viewed). CanProveNoData (SecuredIn each.trust) each.rrsets each.name t) (sym viewed)
+      (no_data_can_to (GoodIn Its) (SecuredIn grounds.trust) kept explained.rrsets explained.rrsets stays name t can)
+
+  pub no_data_shown : (t : ℕ) (shown : ShownDenial) → IsShownNoData (SecuredIn view.trust) view.rrsets view.name t shown
+      → IsShownDenial Its name shown
+  no_data_shown t shown is = (grounds.trust, good, no_data t (its_no_data t shown is))
+
+  pub no_data_added : (t : ℕ) (shown : ShownDenial) (old new : List Line)
+      → IsShownNoData (SecuredIn view.trust) view.rrsets view.name t shown
+      → Adds (IsDenialTold Its name shown) old new → Adds (IsNoDataTold Its name t) old new
+  no_data_added t shown old new is denial = record {
+    more = denial.more;
+    is = denial.is;
+    says = record { trust = grounds.trust; good = good; shown = shown; is = its_no_data t shown is; told = denial.says };
+  }
+
+  -- ---- a name that may be unsigned
+
+  pub cut_shown_by : (cut : ShownCut) → IsShownCut (SecuredIn view.trust) view.rrsets view.name cut → IsCutShownBy Its name cut
+  cut_shown_by cut is = (
+    grounds.trust,
+    good,
+    subst (λ (each : Viewed). IsShownCut (SecuredIn each.trust) each.rrsets each.name cut) viewed is,
+  )
+
+  pub cut_added : (t : ℕ) (cut : ShownCut) (old new : List Line) → IsShownCut (SecuredIn view.trust) view.rrsets view.name cut
+      → Adds (IsCutTold Its name cut) old new → Adds (IsUnsignedFromTold Its name t) old new
+  cut_added t cut old new is told =
+      record { more = told.more; is = told.is; says = by_cut cut (cut_shown_by cut is) told.says }
+
+  its_none : ¬ HasUnsignedCut (SecuredIn view.trust) view.rrsets view.name → ¬ HasUnsignedCut (SecuredIn grounds.trust) explained.rrsets name
+  its_none none has =
+      none (subst (λ (each : Viewed). HasUnsignedCut (SecuredIn each.trust) each.rrsets each.name) (sym viewed) has)
+
+  -- what may be unsigned, and not by records of the zones above it, is so by an answer from a wildcard
+  pub open_there : (t : ℕ) → ¬ HasUnsignedCut (SecuredIn view.trust) view.rrsets view.name → IsUnsigned (GoodIn Its) explained.rrsets name t
+      → ((k s : ℕ) → ¬ IsOptOutWildcardSet (SecuredIn grounds.trust) grounds.capture.now.rrsets name t k s) → ⊥
+  open_there t none unsigned never =
+      let In : List ReceivedRrset → Type 0 = λ all. (k s : ℕ) → ¬ IsOptOutWildcardSet (SecuredIn grounds.trust) all name t k s in
+      let kept_unsigned : IsUnsigned (SecuredIn grounds.trust) explained.rrsets name t =
+      unsigned_to (GoodIn Its) (SecuredIn grounds.trust) kept explained.rrsets explained.rrsets stays name t unsigned in
+      ⊎_elim (λ (cut : HasUnsignedCut (SecuredIn grounds.trust) explained.rrsets name). its_none none cut)
+      (λ (found : (k : ℕ) × (s : ℕ) × IsOptOutWildcardSet (SecuredIn grounds.trust) explained.rrsets name t k s).
+      subst In (sym (ap (λ (each : Explained). each.rrsets) same)) never found.0 found.1 found.2) kept_unsigned
+
+  module _ (t : ℕ) (k s : ℕ) (first : IsFirstSuch (IsOptOutWildcardSet (SecuredIn grounds.trust) grounds.capture.now.rrsets name t) k s)
+      (rrsig : Rrsig) (is : first.such.rrsig ≡ rrsig) where
+    -- the next closer name is covered with the Opt-Out flag
+    pub covered_there : HasOptedOutNextCloser (SecuredIn view.trust) view.rrsets view.name rrsig.labels rrsig.signer
+    covered_there =
+        let Of : Rrsig → Type 0 = λ each. HasOptedOutNextCloser (SecuredIn grounds.trust) grounds.capture.now.rrsets name each.labels each.signer in
+        subst (λ (each : Viewed). HasOptedOutNextCloser (SecuredIn each.trust) each.rrsets each.name rrsig.labels rrsig.signer)
+        (sym is_view)
+        (subst Of is first.such.such.1.1)
+
+    abbrev ItsFirst : List ReceivedRrset → Type 0
+    ItsFirst all = (its : IsFirstSuch (IsOptOutWildcardSet (SecuredIn grounds.trust) all name t) k s) × (its.such.rrsig ≡ rrsig)
+
+    its_first : ItsFirst explained.rrsets
+    its_first = subst ItsFirst (sym (ap (λ (each : Explained). each.rrsets) same)) (first, is)
+
+    pub its_secured : GoodIn Its k s
+    its_secured = kept_good Its grounds.trust good k s its_first.0.such.secured
+
+    pub its_covered : (shown : ShownDenial) → IsShownOptOutCloser (SecuredIn view.trust) view.rrsets view.name rrsig.labels rrsig.signer shown
+        → IsShownOptOutCloser (SecuredIn grounds.trust) explained.rrsets name rrsig.labels rrsig.signer shown
+    its_covered shown =
+        subst (λ (each : Viewed). IsShownOptOutCloser (SecuredIn each.trust) each.rrsets each.name rrsig.labels rrsig.signer shown) viewed
+
+    proper : rrsig.labels < length name
+    proper = let Of : Rrsig → Type 0 = λ each. each.labels < length name in subst Of is first.such.such.1.1.above.proper
+
+    pub open_shown : (shown : ShownDenial) → IsShownOptOutCloser (SecuredIn view.trust) view.rrsets view.name rrsig.labels rrsig.signer shown
+        → (rrsig.labels < length name) × IsShownUnsigned Its name shown case.OptOutWildcard (rightmost name (rrsig.labels + 1))
+    open_shown shown covers =
+        (proper, closer_opted_out grounds.trust good rrsig.labels rrsig.signer (its_covered shown covers))
+
+    pub open_added : (shown : ShownDenial) (cut : Labels) (old mid new : List Line)
+        → IsShownOptOutCloser (SecuredIn view.trust) view.rrsets view.name rrsig.labels rrsig.signer shown
+        → ¬ HasUnsignedCut (SecuredIn view.trust) view.rrsets view.name → cut ≡ rightmost name (rrsig.labels + 1)
+        → Adds (IsSignatureTold Its (signature_of k s)) old mid
+        → Adds (IsUnsignedTold Its name shown case.OptOutWildcard cut) mid new → Adds (IsUnsignedFromTold Its name t) old new
+    open_added shown cut old mid new covers none at derived told =
+        let Cut : Labels → Type 0 = λ each. Adds (IsUnsignedTold Its name shown case.OptOutWildcard each) mid new in
+        let Of : Rrsig → Type 0 = λ each. IsShownOptOutCloser (SecuredIn grounds.trust) explained.rrsets name each.labels each.signer shown in
+        let same_cut : cut ≡ rightmost name (its_first.0.such.rrsig.labels + 1) =
+        at ∙ ap (λ (each : Rrsig). rightmost name (each.labels + 1)) (sym its_first.1) in
+        let both = both_added (IsSignatureTold Its (signature_of k s))
+        (IsUnsignedTold Its name shown case.OptOutWildcard (rightmost name (its_first.0.such.rrsig.labels + 1))) old mid new
+        derived (subst Cut same_cut told) in record {
           more = both.more;
           is = both.is;
-          says = by_wildcard rrset rrsig grounds.trust shown at expanded good (its_no_closer rrsig.labels rrsig.signer shown is) both.says;
-        })
-
-    its_no_name : (shown : ShownDenial) → IsShownNoName (SecuredIn view.trust) view.rrsets view.name shown
-        → IsShownNoName (SecuredIn grounds.trust) explained.rrsets name shown
-    its_no_name shown = subst (λ (each : Viewed). IsShownNoName (SecuredIn each.trust) each.rrsets each.name shown) viewed
-
-    pub no_name_shown : (shown : ShownDenial) → IsShownNoName (SecuredIn view.trust) view.rrsets view.name shown
-        → IsShownDenial (basis_in explained) name shown
-    no_name_shown shown is = (grounds.trust, good, no_name (its_no_name shown is))
-
-    pub no_name_added : (shown : ShownDenial) (old new : List Line) → IsShownNoName (SecuredIn view.trust) view.rrsets view.name shown
-        → Adds (IsDenialTold (basis_in explained) name shown) old new → Adds (IsNoNameTold (basis_by grounds) name) old new
-    no_name_added shown old new is denial =
-        by_grounds (λ basis. IsNoNameTold basis name) old new (record {
-          more = denial.more;
-          is = denial.is;
-          says = record { trust = grounds.trust; good = good; shown = shown; is = its_no_name shown is; told = denial.says };
-        })
-
-    its_no_data : (t : ℕ) (shown : ShownDenial) → IsShownNoData (SecuredIn view.trust) view.rrsets view.name t shown
-        → IsShownNoData (SecuredIn grounds.trust) explained.rrsets name t shown
-    its_no_data t shown = subst (λ (each : Viewed). IsShownNoData (SecuredIn each.trust) each.rrsets each.name t shown) viewed
-
-    pub no_data_shown : (t : ℕ) (shown : ShownDenial) → IsShownNoData (SecuredIn view.trust) view.rrsets view.name t shown
-        → IsShownDenial (basis_in explained) name shown
-    no_data_shown t shown is = (grounds.trust, good, no_data t (its_no_data t shown is))
-
-    pub no_data_added : (t : ℕ) (shown : ShownDenial) (old new : List Line)
-        → IsShownNoData (SecuredIn view.trust) view.rrsets view.name t shown
-        → Adds (IsDenialTold (basis_in explained) name shown) old new → Adds (IsNoDataTold (basis_by grounds) name t) old new
-    no_data_added t shown old new is denial =
-        by_grounds (λ basis. IsNoDataTold basis name t) old new (record {
-          more = denial.more;
-          is = denial.is;
-          says = record { trust = grounds.trust; good = good; shown = shown; is = its_no_data t shown is; told = denial.says };
-        })
-
-    pub cut_shown_by : (cut : ShownCut) → IsShownCut (SecuredIn view.trust) view.rrsets view.name cut
-        → IsCutShownBy (basis_in explained) name cut
-    cut_shown_by cut is = (
-      grounds.trust,
-      good,
-      subst (λ (each : Viewed). IsShownCut (SecuredIn each.trust) each.rrsets each.name cut) viewed is,
-    )
-
-    pub cut_added : (cut : ShownCut) (old new : List Line) → IsShownCut (SecuredIn view.trust) view.rrsets view.name cut
-        → Adds (IsCutTold (basis_in explained) name cut) old new → Adds (IsUnsignedFromTold (basis_by grounds) name) old new
-    cut_added cut old new is told =
-        by_grounds (λ basis. IsUnsignedFromTold basis name) old new (record {
-          more = told.more;
-          is = told.is;
-          says = record { shown = cut; is = cut_shown_by cut is; told = told.says };
-        })
+          says = by_open_wildcard grounds.trust good (its_none none) k s its_first.0 shown
+              (subst Of (sym its_first.1) (its_covered shown covers)) both.says;
+        }
 
 -- ---- the hashes of the names of a way
 
@@ -173,15 +273,3 @@ module _ (rrsets : List ReceivedRrset) where
       is ∙ ap (λ each. get_or each place found) are
       ∙ hashed_at_link links last place found link (within_same xs links place same within)
       ∙ ap (λ (each : Link). hashed_in rrsets each.name) (sym (at_same xs links place link same at))
-
--- ---- the way
-
-pub way_added_follows : (grounds : Grounds) (explained : Explained) → explained ≡ explained_by grounds → (t : ℕ) (links : List Link)
-    (last : Labels) (verdict : Verdict) (old new : List Line) → old ≡ []
-    → Adds (IsWayTold (basis_by grounds) t links last verdict) old new → EachFollows (basis_in explained) [] new
-way_added_follows grounds explained same t links last verdict old new empty added =
-    let Lines : List Line → Type 0 = λ each. EachFollows (basis_by grounds) [] each in
-    let Before : List Line → Type 0 = λ each. IsWayTold (basis_by grounds) t links last verdict each added.more in
-    subst (λ (each : Explained). EachFollows (basis_in each) [] new) (sym same)
-    (subst Lines (sym (added.is ∙ ap (λ front. front ++ added.more) empty))
-    (way_follows (basis_by grounds) t links last verdict [] added.more (subst Before empty added.says)))

@@ -4,7 +4,7 @@ use Rattle.std.specs.Prelude.{◌≡◌, ◌≤◌, ℕ, List, [], ◌∷◌, �
 use Rattle.dnsv_chain.specs.Trusted.{IsSecured}
 use Rattle.dnsv_denial.specs.declared.records.number.RecordNumber.{RecordNumber}
 use Rattle.dnsv_records.specs.declared.number.DigestType.{DigestType}
-use Rattle.dnsv_verdict.specs.Verdict.{Basis}
+use Rattle.dnsv_explain.specs.Explained.{Setting}
 use Rattle.dnsv_explain.specs.Following.{IsSaidTrusted, IsSignatureSaid}
 use Rattle.dnsv_explain.specs.derivations.Ways.{IsSignedLine, IsTrustedLine}
 use Rattle.dnsv_explain.specs.declared.line.Line.{Line}
@@ -16,9 +16,9 @@ use Rattle.dnsv_explain.specs.declared.line.derivation.Voucher.{Voucher}
 use Rattle.dnsv_explain.specs.declared.line.derivation.Voucher.TheVariants as voucher
 
 -- s is the lowest number of a signature of RRset k that is good under a trusted key
-pub record IsLowestSecured (basis : Basis) (k s : ℕ) : Type 0 where
-  pub secured : IsSecured basis.meaning basis.moment basis.rrsets basis.anchors k s
-  pub lowest : (t : ℕ) → IsSecured basis.meaning basis.moment basis.rrsets basis.anchors k t → s ≤ t
+pub record IsLowestSecured (setting : Setting) (k s : ℕ) : Type 0 where
+  pub secured : IsSecured setting.meaning setting.moment setting.rrsets setting.anchors k s
+  pub lowest : (t : ℕ) → IsSecured setting.meaning setting.moment setting.rrsets setting.anchors k t → s ≤ t
 
 -- it is an anchor that matches
 abbrev pub IsByAnchor : Voucher → Type 0
@@ -33,24 +33,24 @@ pub data Subject : Type 0 where
 -- The lines that derive it. Of what was said before there are none. Before the line of a DNSKEY RRset that a DS record
 -- leads to stands the derivation of the DS RRset's lowest signature, and before the line of a signature that of the
 -- DNSKEY RRset with its key.
-pub data IsDerivation (basis : Basis) (before : List Line) : Subject → List Line → Type 0 where
-  said_trusted : {k : ℕ} → IsSaidTrusted before k → IsDerivation basis before (keys k) []
+pub data IsDerivation (setting : Setting) (before : List Line) : Subject → List Line → Type 0 where
+  said_trusted : {k : ℕ} → IsSaidTrusted before k → IsDerivation setting before (keys k) []
   anchored : {k : ℕ} {trusted : TrustedKeys}
       → ¬ IsSaidTrusted before k
-      → IsTrustedLine basis k trusted
+      → IsTrustedLine setting k trusted
       → IsByAnchor trusted.voucher
-      → IsDerivation basis before (keys k) (line.Trusted trusted ∷ [])
+      → IsDerivation setting before (keys k) (line.Trusted trusted ∷ [])
   delegated : {k s : ℕ} {trusted : TrustedKeys} {number : RecordNumber} {digest_type : DigestType} {lines : List Line}
       → ¬ IsSaidTrusted before k
-      → IsTrustedLine basis k trusted
+      → IsTrustedLine setting k trusted
       → trusted.voucher ≡ voucher.Ds number digest_type
-      → IsLowestSecured basis number.rrset s
-      → IsDerivation basis before (signature (record { rrset = number.rrset; signature = s })) lines
-      → IsDerivation basis before (keys k) (lines ++ line.Trusted trusted ∷ [])
+      → IsLowestSecured setting number.rrset s
+      → IsDerivation setting before (signature (record { rrset = number.rrset; signature = s })) lines
+      → IsDerivation setting before (keys k) (lines ++ line.Trusted trusted ∷ [])
   said_signed : {number : SignatureNumber} → IsSignatureSaid before number
-      → IsDerivation basis before (signature number) []
+      → IsDerivation setting before (signature number) []
   signed : {number : SignatureNumber} {signed : SignedRrset} {lines : List Line}
       → ¬ IsSignatureSaid before number
-      → IsSignedLine basis number signed
-      → IsDerivation basis before (keys signed.keys) lines
-      → IsDerivation basis before (signature number) (lines ++ line.Signed signed ∷ [])
+      → IsSignedLine setting number signed
+      → IsDerivation setting before (keys signed.keys) lines
+      → IsDerivation setting before (signature number) (lines ++ line.Signed signed ∷ [])

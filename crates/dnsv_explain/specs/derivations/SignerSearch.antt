@@ -7,7 +7,7 @@ use Rattle.dnsv_canonical.specs.Canonical.{rdata_cmp}
 use Rattle.dnsv_canonical.specs.Rrsets.{IsNumbered, ReceivedRrset}
 use Rattle.dnsv_verifier.specs.Admissible.{DnskeyRecord, IsGood}
 use Rattle.dnsv_chain.specs.Trusted.{IsKeyOf}
-use Rattle.dnsv_verdict.specs.Verdict.{Basis}
+use Rattle.dnsv_explain.specs.Explained.{IsTodo, Setting}
 use Rattle.dnsv_explain.specs.Following.{IsNamed}
 use Rattle.dnsv_explain.specs.derivations.Ways.{IsSigner}
 use Rattle.dnsv_explain.specs.declared.line.derivation.SignatureNumber.{SignatureNumber}
@@ -27,38 +27,41 @@ pub record IsOfKey (k : ℕ) (key : DnskeyRecord) (signer : Signer) : Type 0 whe
 
 -- it is the lowest key of DNSKEY RRset k under which the signature of the RRset is good
 pub record IsLowestGoodKey
-    (basis : Basis) (rrset : ReceivedRrset) (rrsig : Rrsig) (k : ℕ) (set : ReceivedRrset) (signer : Signer) : Type 0 where
+    (setting : Setting) (rrset : ReceivedRrset) (rrsig : Rrsig) (k : ℕ) (set : ReceivedRrset) (signer : Signer) : Type 0 where
   pub key : DnskeyRecord
   pub of : IsOfKey k key signer
   pub stands : IsKeyOf set key
-  pub good : IsGood basis.meaning basis.moment rrset rrsig key
-  pub lowest : (other : DnskeyRecord) → IsKeyOf set other → IsGood basis.meaning basis.moment rrset rrsig other
+  pub good : IsGood setting.meaning setting.moment rrset rrsig key
+  pub todo : IsTodo setting.todo good.entry signer.todo.0
+  pub lowest : (other : DnskeyRecord) → IsKeyOf set other → IsGood setting.meaning setting.moment rrset rrsig other
       → rdata_cmp other.rdata key.rdata ≢ Less
 
 -- it is the lowest of those that stand in DNSKEY RRset k
-pub record IsLowestIn (basis : Basis) (number : SignatureNumber) (k : ℕ) (signer : Signer) : Type 0 where
+pub record IsLowestIn (setting : Setting) (number : SignatureNumber) (k : ℕ) (signer : Signer) : Type 0 where
   pub key : DnskeyRecord
   pub of : IsOfKey k key signer
-  pub is : IsSigner basis number k key
-  pub lowest : (other : DnskeyRecord) → IsSigner basis number k other → rdata_cmp other.rdata key.rdata ≢ Less
+  pub is : IsSigner setting number k key
+  pub todo : IsTodo setting.todo is.good.good.entry signer.todo.0
+  pub lowest : (other : DnskeyRecord) → IsSigner setting number k other → rdata_cmp other.rdata key.rdata ≢ Less
 
 -- or there is none in it
-abbrev pub IsLowestOf : Basis → SignatureNumber → ℕ → Option Signer → Type 0
-IsLowestOf basis number k None = (other : DnskeyRecord) → ¬ IsSigner basis number k other
-IsLowestOf basis number k (Some signer) = IsLowestIn basis number k signer
+abbrev pub IsLowestOf : Setting → SignatureNumber → ℕ → Option Signer → Type 0
+IsLowestOf setting number k None = (other : DnskeyRecord) → ¬ IsSigner setting number k other
+IsLowestOf setting number k (Some signer) = IsLowestIn setting number k signer
 
 -- it is the first of those of the RRsets up to the number
-pub record IsFirstAmong (basis : Basis) (number : SignatureNumber) (n : ℕ) (signer : Signer) : Type 0 where
+pub record IsFirstAmong (setting : Setting) (number : SignatureNumber) (n : ℕ) (signer : Signer) : Type 0 where
   pub key : DnskeyRecord
   pub of : IsOfKey signer.set key signer
-  pub is : IsSigner basis number signer.set key
+  pub is : IsSigner setting number signer.set key
+  pub todo : IsTodo setting.todo is.good.good.entry signer.todo.0
   pub within : signer.set ≤ n
-  pub lowest : (k : ℕ) (other : DnskeyRecord) → k ≤ n → IsSigner basis number k other
+  pub lowest : (k : ℕ) (other : DnskeyRecord) → k ≤ n → IsSigner setting number k other
       → rdata_cmp other.rdata key.rdata ≢ Less
-  pub earliest : (k : ℕ) (other : DnskeyRecord) → k ≤ n → IsSigner basis number k other
+  pub earliest : (k : ℕ) (other : DnskeyRecord) → k ≤ n → IsSigner setting number k other
       → other.rdata ≡ key.rdata → signer.set ≤ k
 
 -- or there is none
-abbrev pub IsFirstTo : Basis → SignatureNumber → ℕ → Option Signer → Type 0
-IsFirstTo basis number n None = (k : ℕ) (other : DnskeyRecord) → k ≤ n → ¬ IsSigner basis number k other
-IsFirstTo basis number n (Some signer) = IsFirstAmong basis number n signer
+abbrev pub IsFirstTo : Setting → SignatureNumber → ℕ → Option Signer → Type 0
+IsFirstTo setting number n None = (k : ℕ) (other : DnskeyRecord) → k ≤ n → ¬ IsSigner setting number k other
+IsFirstTo setting number n (Some signer) = IsFirstAmong setting number n signer

@@ -11,13 +11,14 @@ use Rattle.dnsv_chain.specs.Ds.{IsMatch}
 use Rattle.dnsv_chain.specs.Trusted.{IsKeyOf}
 use Rattle.dnsv_chain.specs.declared.anchor.Anchor.{Anchor}
 use Rattle.dnsv_chain.specs.declared.anchor.Anchor.TheVariants as anchor
-use Rattle.dnsv_verdict.specs.Verdict.{Basis}
+use Rattle.dnsv_explain.specs.Explained.{IsTodo, Setting}
 use Rattle.dnsv_explain.specs.Following.{IsGoodUnder, IsNamed}
 use Rattle.dnsv_explain.specs.derivations.Ways.{HasSecured, IsFirstWay, IsLess, IsWayInto, Way, voucher_rank}
 use Rattle.dnsv_explain.specs.declared.line.derivation.SignatureNumber.{SignatureNumber}
 use Rattle.dnsv_explain.specs.declared.line.derivation.Voucher.{Voucher}
 use Rattle.dnsv_explain.specs.declared.line.derivation.Voucher.TheVariants as voucher
 use Rattle.dnsv_explain.specs.declared.ways.FoundWay.{FoundWay}
+use Rattle.dnsv_explain.specs.declared.ways.keys.GoodSignature.{GoodSignature}
 use Rattle.dnsv_explain.specs.declared.ways.keys.KeySet.{KeySet}
 use Rattle.dnsv_explain.specs.declared.ways.matcher.Matcher.{Matcher}
 use Rattle.dnsv_explain.specs.declared.ways.matcher.Matcher.TheVariants as matcher
@@ -33,18 +34,20 @@ pub record AreKeysInOrder (set : ReceivedRrset) (keys : List DnskeyRecord) : Typ
   pub each : (key : DnskeyRecord) → Contains keys key → IsKeyOf set key
 
 -- the RRset has the number, and these are its keys in order
-pub record IsKeySet (basis : Basis) (set : KeySet) : Type 0 where
-  pub numbered : IsNumbered basis.rrsets set.number set.rrset.now
+pub record IsKeySet (setting : Setting) (set : KeySet) : Type 0 where
+  pub numbered : IsNumbered setting.rrsets set.number set.rrset.now
   pub in_order : AreKeysInOrder set.rrset.now set.keys.items
 
 -- no signature of RRset k with a lower number is good under the key
-pub record IsLowestGood (basis : Basis) (k : ℕ) (rrset : ReceivedRrset) (key : DnskeyRecord) (s : ℕ) : Type 0 where
-  pub good : IsGoodUnder basis (signature_of k s) rrset key
-  pub lowest : (t : ℕ) → IsGoodUnder basis (signature_of k t) rrset key → s ≤ t
+pub record IsLowestGood
+    (setting : Setting) (k : ℕ) (rrset : ReceivedRrset) (key : DnskeyRecord) (found : GoodSignature) : Type 0 where
+  pub good : IsGoodUnder setting (signature_of k found.number) rrset key
+  pub todo : IsTodo setting.todo good.good.entry found.todo.0
+  pub lowest : (t : ℕ) → IsGoodUnder setting (signature_of k t) rrset key → found.number ≤ t
 
 -- none of the signatures up to the number is
-abbrev pub IsNoneTo : Basis → ℕ → ReceivedRrset → DnskeyRecord → ℕ → Type 0
-IsNoneTo basis k rrset key n = (s : ℕ) → s ≤ n → ¬ IsGoodUnder basis (signature_of k s) rrset key
+abbrev pub IsNoneTo : Setting → ℕ → ReceivedRrset → DnskeyRecord → ℕ → Type 0
+IsNoneTo setting k rrset key n = (s : ℕ) → s ≤ n → ¬ IsGoodUnder setting (signature_of k s) rrset key
 
 -- the key of the owner that the RDATA is
 abbrev pub key_of : Labels → List ℕ → Dnskey → DnskeyRecord
@@ -57,25 +60,25 @@ IsNoneYet keys Such n = (j : ℕ) (d : DnskeyRecord) → j < n → j < length ke
 -- ---- by what matches
 
 -- the key is such, and signs DNSKEY RRset k
-abbrev pub SignsAs : Basis → ℕ → ReceivedRrset → (DnskeyRecord → Type 0) → DnskeyRecord → Type 0
-SignsAs basis k set Matches key = (t : ℕ) × Matches key × IsGoodUnder basis (signature_of k t) set key
+abbrev pub SignsAs : Setting → ℕ → ReceivedRrset → (DnskeyRecord → Type 0) → DnskeyRecord → Type 0
+SignsAs setting k set Matches key = (t : ℕ) × Matches key × IsGoodUnder setting (signature_of k t) set key
 
 -- the way found is by the lowest key that is such and signs the RRset, and its lowest signature
 pub record IsFirstUnder
-    (basis : Basis) (k : ℕ) (set : ReceivedRrset) (Matches : DnskeyRecord → Type 0) (voucher : Voucher)
+    (setting : Setting) (k : ℕ) (set : ReceivedRrset) (Matches : DnskeyRecord → Type 0) (voucher : Voucher)
     (found : FoundWay) : Type 0 where
   pub voucher_is : found.voucher ≡ voucher
   pub key : DnskeyRecord
   pub named : IsNamed key found.key
   pub stands : IsKeyOf set key
   pub matched : Matches key
-  pub good : IsLowestGood basis k set key found.signature
-  pub lowest : (other : DnskeyRecord) → IsKeyOf set other → SignsAs basis k set Matches other
+  pub good : IsLowestGood setting k set key found.signature
+  pub lowest : (other : DnskeyRecord) → IsKeyOf set other → SignsAs setting k set Matches other
       → rdata_cmp other.rdata key.rdata ≢ Less
 
 -- no key that is such signs the RRset
-abbrev pub IsNoneUnder : Basis → ℕ → ReceivedRrset → (DnskeyRecord → Type 0) → Type 0
-IsNoneUnder basis k set Matches = (other : DnskeyRecord) → IsKeyOf set other → ¬ SignsAs basis k set Matches other
+abbrev pub IsNoneUnder : Setting → ℕ → ReceivedRrset → (DnskeyRecord → Type 0) → Type 0
+IsNoneUnder setting k set Matches = (other : DnskeyRecord) → IsKeyOf set other → ¬ SignsAs setting k set Matches other
 
 -- the anchor, or the record of a DS RRset with the owner, matches the key
 abbrev pub MatchesBy : Matcher → DnskeyRecord → Type 0
@@ -88,22 +91,23 @@ IsVoucherOf number (anchor.Ds owner ds) told = told ≡ voucher.DsAnchor number 
 IsVoucherOf number (anchor.Key owner rdata) told = told ≡ voucher.KeyAnchor number
 
 -- the RRset, which has the number, is a DS RRset of the name, and has a secured signature
-pub record MayDelegate (basis : Basis) (number : ℕ) (ds : ReceivedRrset) (name : Labels) : Type 0 where
+pub record MayDelegate (setting : Setting) (number : ℕ) (ds : ReceivedRrset) (name : Labels) : Type 0 where
   pub rtype : ds.rtype ≡ 43
   pub owner : SameName ds.owner name
-  pub secured : HasSecured basis number
+  pub secured : HasSecured setting number
 
 -- ---- ways
 
 -- the way found is the first
-pub record IsFoundWay (basis : Basis) (k : ℕ) (found : FoundWay) : Type 0 where
+pub record IsFoundWay (setting : Setting) (k : ℕ) (found : FoundWay) : Type 0 where
   pub key : DnskeyRecord
   pub named : IsNamed key found.key
-  pub first : IsFirstWay basis k (record { voucher = found.voucher; key = key; signature = found.signature })
+  pub first : IsFirstWay setting k (record { voucher = found.voucher; key = key; signature = found.signature.number })
+  pub todo : IsTodo setting.todo first.is.good.good.entry found.signature.todo.0
 
-abbrev pub IsNoWay : Basis → ℕ → Type 0
-IsNoWay basis k = (way : Way) → ¬ IsWayInto basis k way
+abbrev pub IsNoWay : Setting → ℕ → Type 0
+IsNoWay setting k = (way : Way) → ¬ IsWayInto setting k way
 
 -- no way goes before this rank
-abbrev pub IsNoWayBefore : Basis → ℕ → ℕ × ℕ × ℕ → Type 0
-IsNoWayBefore basis k rank = (way : Way) → IsWayInto basis k way → ¬ IsLess (voucher_rank way.voucher) rank
+abbrev pub IsNoWayBefore : Setting → ℕ → ℕ × ℕ × ℕ → Type 0
+IsNoWayBefore setting k rank = (way : Way) → IsWayInto setting k way → ¬ IsLess (voucher_rank way.voucher) rank

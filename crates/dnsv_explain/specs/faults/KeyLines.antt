@@ -8,7 +8,7 @@ use Rattle.dnsv_chain.specs.declared.anchor.Anchor.{Anchor}
 use Rattle.dnsv_denial.specs.gathering.Evidence.{IsRecordAt}
 use Rattle.dnsv_denial.specs.words.EvidenceWords.{number_cmp}
 use Rattle.dnsv_denial.specs.declared.records.number.RecordNumber.{RecordNumber}
-use Rattle.dnsv_verdict.specs.Verdict.{Basis}
+use Rattle.dnsv_explain.specs.Explained.{Setting}
 use Rattle.dnsv_verifier.specs.Admissible.{DnskeyRecord}
 use Rattle.std.specs.declared.cmp.Ordering.TheVariants.{Less}
 use Rattle.dnsv_explain.specs.Following.{IsDsMatch, IsGoodUnder, IsNamed}
@@ -67,45 +67,45 @@ IsLowestOf Such None = (n : ℕ) → ¬ Such n
 IsLowestOf Such (Some n) = Such n × ((other : ℕ) → Such other → n ≤ other)
 
 -- anchor A matches the key
-abbrev pub IsMatchedByAnchor : Basis → DnskeyRecord → ℕ → Type 0
-IsMatchedByAnchor basis key number =
-    (anchor : Anchor) × IsNumbered basis.anchors number anchor × IsAnchorMatch anchor key
+abbrev pub IsMatchedByAnchor : Setting → DnskeyRecord → ℕ → Type 0
+IsMatchedByAnchor setting key number =
+    (anchor : Anchor) × IsNumbered setting.anchors number anchor × IsAnchorMatch anchor key
 
 -- a usable DS record, signed or not, matches the key
-abbrev pub IsMatchedByDs : Basis → DnskeyRecord → RecordNumber → Type 0
-IsMatchedByDs basis key number = (digest_type : DigestType) × IsDsMatch basis number digest_type key
+abbrev pub IsMatchedByDs : Setting → DnskeyRecord → RecordNumber → Type 0
+IsMatchedByDs setting key number = (digest_type : DigestType) × IsDsMatch setting number digest_type key
 
 -- the lowest such record, if one is
-abbrev pub IsLowestDs : Basis → DnskeyRecord → Option RecordNumber → Type 0
-IsLowestDs basis key None = (number : RecordNumber) → ¬ IsMatchedByDs basis key number
-IsLowestDs basis key (Some number) =
-    IsMatchedByDs basis key number
-    × ((other : RecordNumber) → IsMatchedByDs basis key other → number_cmp other number ≢ Less)
+abbrev pub IsLowestDs : Setting → DnskeyRecord → Option RecordNumber → Type 0
+IsLowestDs setting key None = (number : RecordNumber) → ¬ IsMatchedByDs setting key number
+IsLowestDs setting key (Some number) =
+    IsMatchedByDs setting key number
+    × ((other : RecordNumber) → IsMatchedByDs setting key other → number_cmp other number ≢ Less)
 
 -- the key of DNSKEY RRset k at the place, with what is good under it and what matches it
-pub record IsShownKey (basis : Basis) (k place : ℕ) (set : ReceivedRrset) (key : DnskeyRecord) (shown : ShownKey)
+pub record IsShownKey (setting : Setting) (k place : ℕ) (set : ReceivedRrset) (key : DnskeyRecord) (shown : ShownKey)
     : Type 0 where
   pub zone : shown.zone ≡ set.owner
   pub number : shown.number ≡ record_of k place
   pub named : IsNamed key shown.key
   pub flags : shown.flags.0 ≡ key.dnskey.flags.0
-  pub signature : IsLowestOf (λ s. IsGoodUnder basis (signature_of k s) set key) shown.signature
-  pub anchor : IsLowestOf (IsMatchedByAnchor basis key) shown.anchor
-  pub ds : IsLowestDs basis key shown.ds
+  pub signature : IsLowestOf (λ s. IsGoodUnder setting (signature_of k s) set key) shown.signature
+  pub anchor : IsLowestOf (IsMatchedByAnchor setting key) shown.anchor
+  pub ds : IsLowestDs setting key shown.ds
 
 -- ---- the lines
 
 -- of the key of RRset k at the place
-abbrev pub IsKeyLine : Basis → ℕ → ReceivedRrset → ℕ → DnskeyRecord → List Line → Type 0
-IsKeyLine basis k set place key lines =
-    (shown : ShownKey) × IsShownKey basis k place set key shown × (lines ≡ line.Key shown ∷ [])
+abbrev pub IsKeyLine : Setting → ℕ → ReceivedRrset → ℕ → DnskeyRecord → List Line → Type 0
+IsKeyLine setting k set place key lines =
+    (shown : ShownKey) × IsShownKey setting k place set key shown × (lines ≡ line.Key shown ∷ [])
 
 -- of RRset k, if it is a DNSKEY RRset of a zone in question
-abbrev pub AreLinesOfSet : Basis → List Line → ℕ → ReceivedRrset → List Line → Type 0
-AreLinesOfSet basis reasons k set =
+abbrev pub AreLinesOfSet : Setting → List Line → ℕ → ReceivedRrset → List Line → Type 0
+AreLinesOfSet setting reasons k set =
     AreWhere ((set.rtype ≡ 48) × IsInQuestion reasons set.owner)
-    (λ lines. (keys : List DnskeyRecord) × AreKeysInOrder set keys × AreOfNumbered (IsKeyLine basis k set) 1 keys lines)
+    (λ lines. (keys : List DnskeyRecord) × AreKeysInOrder set keys × AreOfNumbered (IsKeyLine setting k set) 1 keys lines)
 
 -- a line for each DNSKEY record of the zones in question, by RRset and place
-abbrev pub AreLinesOfKeysAsked : Basis → List Line → List Line → Type 0
-AreLinesOfKeysAsked basis reasons = AreOfNumbered (AreLinesOfSet basis reasons) 1 basis.rrsets
+abbrev pub AreLinesOfKeysAsked : Setting → List Line → List Line → Type 0
+AreLinesOfKeysAsked setting reasons = AreOfNumbered (AreLinesOfSet setting reasons) 1 setting.rrsets

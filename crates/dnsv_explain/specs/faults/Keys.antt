@@ -5,7 +5,7 @@ use Rattle.dnsv_records.specs.declared.rrsig.Rrsig.{Rrsig}
 use Rattle.dnsv_canonical.specs.Rrsets.{ReceivedRrset}
 use Rattle.dnsv_verifier.specs.Admissible.{DnskeyRecord, IsKeyAmong}
 use Rattle.dnsv_chain.specs.Trusted.{IsTrusted}
-use Rattle.dnsv_verdict.specs.Verdict.{Basis}
+use Rattle.dnsv_explain.specs.Explained.{Setting}
 use Rattle.dnsv_explain.specs.Following.{IsNamed}
 use Rattle.dnsv_explain.specs.declared.line.derivation.KeyName.{KeyName}
 
@@ -32,7 +32,7 @@ pub record IsNamedBy (rrsets : List ReceivedRrset) (rrsig : Rrsig) (key : Dnskey
   pub named : IsNamed key (named_by rrsig)
 
 -- a DNSKEY RRset of the zone is trusted
-pub record IsTrustedZone (basis : Basis) (zone : Labels) : Type 0 where
+pub record IsTrustedZone (setting : Setting) (zone : Labels) : Type 0 where
   pub set : ReceivedRrset
-  pub trusted : IsTrusted basis.meaning basis.moment basis.rrsets basis.anchors set
+  pub trusted : IsTrusted setting.meaning setting.moment setting.rrsets setting.anchors set
   pub owner : SameName set.owner zone

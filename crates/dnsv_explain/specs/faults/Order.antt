@@ -22,7 +22,8 @@ use Rattle.dnsv_denial.specs.gathering.Evidence.{IsNsecAt, IsNsec3At}
 use Rattle.dnsv_denial.specs.words.EvidenceWords.{Chain, GoesBefore, evidence_said}
 use Rattle.dnsv_denial.specs.words.EvidenceWords.Chain.{ByNsec, ByNsec3}
 use Rattle.dnsv_denial.specs.declared.records.number.RecordNumber.{RecordNumber}
-use Rattle.dnsv_verdict.specs.Verdict.{Basis, HasAnchor}
+use Rattle.dnsv_verdict.specs.Verdict.{HasAnchor}
+use Rattle.dnsv_explain.specs.Explained.{Setting}
 use Rattle.dnsv_explain.specs.derivations.OwnDerivations.{SecuredIn}
 use Rattle.dnsv_explain.specs.faults.Keys.{IsTrustedZone}
 use Rattle.dnsv_explain.specs.faults.Listing.{AreOfEach, AreOfNumbered, AreParted, AreThose, AreWhere}
@@ -48,15 +49,15 @@ names_down [] = [] ∷ []
 names_down (label ∷ labels) = names_down labels ++ (label ∷ labels) ∷ []
 
 -- what is said of the zone, if it is needed and not trusted
-abbrev pub AreNeededLines : Basis → Labels → ℕ → Labels → List Line → Type 0
-AreNeededLines basis name t zone =
-    AreWhere (IsNeeded basis name t zone × (¬ IsTrustedZone basis zone)) (AreZoneLines basis zone)
+abbrev pub AreNeededLines : Setting → Labels → ℕ → Labels → List Line → Type 0
+AreNeededLines setting name t zone =
+    AreWhere (IsNeeded setting name t zone × (¬ IsTrustedZone setting zone)) (AreZoneLines setting zone)
 
 -- that no anchor is at or above the name, or what is said of the zones that it needs, from few labels to many
-abbrev pub AreLinesOfZones : Basis → Labels → ℕ → List Line → Type 0
-AreLinesOfZones basis name t lines =
-    ((¬ HasAnchor basis.anchors name) × (lines ≡ zone_line zone_why.NoAnchor name ∷ []))
-    ⊎ (HasAnchor basis.anchors name × AreOfEach (AreNeededLines basis name t) (names_down name) lines)
+abbrev pub AreLinesOfZones : Setting → Labels → ℕ → List Line → Type 0
+AreLinesOfZones setting name t lines =
+    ((¬ HasAnchor setting.anchors name) × (lines ≡ zone_line zone_why.NoAnchor name ∷ []))
+    ⊎ (HasAnchor setting.anchors name × AreOfEach (AreNeededLines setting name t) (names_down name) lines)
 
 -- ---- 3: DNAME
 
@@ -82,45 +83,45 @@ HasDnameAbove rrsets name = (above : Labels) × IsBelow name above × HasRrset r
 -- ---- 4: what may answer
 
 -- what is said of RRset k, if it may answer
-abbrev pub AreGoalLines : Basis → Labels → ℕ → ℕ → ReceivedRrset → List Line → Type 0
-AreGoalLines basis name t k rrset = AreWhere (IsGoal basis.rrsets name t k rrset) (AreRrsetLines basis k rrset)
+abbrev pub AreGoalLines : Setting → Labels → ℕ → ℕ → ReceivedRrset → List Line → Type 0
+AreGoalLines setting name t k rrset = AreWhere (IsGoal setting.rrsets name t k rrset) (AreRrsetLines setting k rrset)
 
 -- ---- 6: answers from a wildcard
 
 -- a closer name than the wildcard behind the signature may be there: no chain of the signer shows that it isn't
 -- (RFC 4035 5.3.4, RFC 5155 8.8)
-pub record IsCloserOpen (basis : Basis) (name : Labels) (rrset : ReceivedRrset) (rrsig : Rrsig) : Type 0 where
+pub record IsCloserOpen (setting : Setting) (name : Labels) (rrset : ReceivedRrset) (rrsig : Rrsig) : Type 0 where
   pub expanded : IsExpanded rrset.owner rrsig
   pub unproved : (chain : Chain)
-      → ¬ NoCloserForm (words (evidence_said (SecuredIn basis) basis.rrsets rrsig.signer chain)) rrsig.signer name rrsig.labels
+      → ¬ NoCloserForm (words (evidence_said (SecuredIn setting) setting.rrsets rrsig.signer chain)) rrsig.signer name rrsig.labels
 
 -- what is said of signature s of RRset k, if its signer is at or above the name
-abbrev pub AreCloserLines : Basis → Labels → ℕ → ReceivedRrset → ℕ → List ℕ → List Line → Type 0
-AreCloserLines basis name k rrset s rdata lines =
+abbrev pub AreCloserLines : Setting → Labels → ℕ → ReceivedRrset → ℕ → List ℕ → List Line → Type 0
+AreCloserLines setting name k rrset s rdata lines =
     (rrsig : Rrsig) × IsRrsig rdata rrsig
-    × AreWhere (IsAtOrBelow name rrsig.signer × IsCloserOpen basis name rrset rrsig) (λ said. said
+    × AreWhere (IsAtOrBelow name rrsig.signer × IsCloserOpen setting name rrset rrsig) (λ said. said
     ≡ line.Reason (reason.NoCloser (record {
       signature = shown_of k s rrset rrsig;
       name = rightmost name (rrsig.labels + 1);
     })) ∷ []) lines
 
 -- of the signatures of RRset k, if it may answer
-abbrev pub AreGoalClosers : Basis → Labels → ℕ → ℕ → ReceivedRrset → List Line → Type 0
-AreGoalClosers basis name t k rrset =
-    AreWhere (IsGoal basis.rrsets name t k rrset) (AreOfNumbered (AreCloserLines basis name k rrset) 1 rrset.signatures)
+abbrev pub AreGoalClosers : Setting → Labels → ℕ → ℕ → ReceivedRrset → List Line → Type 0
+AreGoalClosers setting name t k rrset =
+    AreWhere (IsGoal setting.rrsets name t k rrset) (AreOfNumbered (AreCloserLines setting name k rrset) 1 rrset.signatures)
 
 -- ---- 5: what may deny
 
 -- the line doesn't say that the signer of a zone that isn't needed isn't trusted
-abbrev pub IsOfNeeded : Basis → Labels → ℕ → Line → Type 0
-IsOfNeeded basis name t (line.Follows untrusted) = IsNeeded basis name t untrusted.signature.signer
-IsOfNeeded basis name t _ = Unit {0}
+abbrev pub IsOfNeeded : Setting → Labels → ℕ → Line → Type 0
+IsOfNeeded setting name t (line.Follows untrusted) = IsNeeded setting name t untrusted.signature.signer
+IsOfNeeded setting name t _ = Unit {0}
 
 -- what is said of RRset k, if it may deny
-abbrev pub AreDenialLines : Basis → Labels → ℕ → ℕ → ReceivedRrset → List Line → Type 0
-AreDenialLines basis name t k rrset =
-    AreWhere (IsDenial basis.rrsets name k rrset)
-    (λ lines. (all : List Line) × AreRrsetLines basis k rrset all × AreThose (IsOfNeeded basis name t) all lines)
+abbrev pub AreDenialLines : Setting → Labels → ℕ → ℕ → ReceivedRrset → List Line → Type 0
+AreDenialLines setting name t k rrset =
+    AreWhere (IsDenial setting.rrsets name k rrset)
+    (λ lines. (all : List Line) × AreRrsetLines setting k rrset all × AreThose (IsOfNeeded setting name t) all lines)
 
 -- the owner's first label spells a hash
 abbrev pub IsHashLabel : Labels → Type 0
@@ -159,107 +160,107 @@ AreNsec3sLines rrsets name k rrset =
     × AreNsec3Lines rrset (record_of k place) fields said) 1 canonical lines)
 
 -- what is said of all that may deny
-abbrev pub AreLinesOfDenials : Basis → Labels → ℕ → List Line → Type 0
-AreLinesOfDenials basis name t =
-    AreParted (AreOfNumbered (AreDenialLines basis name t) 1 basis.rrsets)
-    (AreOfNumbered (AreNsec3sLines basis.rrsets name) 1 basis.rrsets)
+abbrev pub AreLinesOfDenials : Setting → Labels → ℕ → List Line → Type 0
+AreLinesOfDenials setting name t =
+    AreParted (AreOfNumbered (AreDenialLines setting name t) 1 setting.rrsets)
+    (AreOfNumbered (AreNsec3sLines setting.rrsets name) 1 setting.rrsets)
 
 -- ---- 7: what the zones lack
 
 -- the zone has records of the chain
-abbrev pub HasRecords : Basis → Labels → Chain → Type 0
-HasRecords basis zone ByNsec =
-    (number : RecordNumber) × (nsec : NsecRecord) × IsNsecAt (SecuredIn basis) basis.rrsets zone number nsec
-HasRecords basis zone (ByNsec3 parameters) =
-    (number : RecordNumber) × (nsec3 : Nsec3Record) × IsNsec3At (SecuredIn basis) basis.rrsets zone number nsec3
+abbrev pub HasRecords : Setting → Labels → Chain → Type 0
+HasRecords setting zone ByNsec =
+    (number : RecordNumber) × (nsec : NsecRecord) × IsNsecAt (SecuredIn setting) setting.rrsets zone number nsec
+HasRecords setting zone (ByNsec3 parameters) =
+    (number : RecordNumber) × (nsec3 : Nsec3Record) × IsNsec3At (SecuredIn setting) setting.rrsets zone number nsec3
     × (nsec3.parameters ≡ parameters)
 
 -- the chains of the zone of which records are there, NSEC before NSEC3, and these by their parameters
-pub record AreSources (basis : Basis) (zone : Labels) (chains : List Chain) : Type 0 where
+pub record AreSources (setting : Setting) (zone : Labels) (chains : List Chain) : Type 0 where
   pub ordered : (i j : ℕ) (a b : Chain) → IsNumbered chains i a → IsNumbered chains j b → i < j → GoesBefore a b
-  pub members : (chain : Chain) → Contains chains chain ↔ HasRecords basis zone chain
+  pub members : (chain : Chain) → Contains chains chain ↔ HasRecords setting zone chain
 
 -- what is said of a chain of the zone that should speak, and of one above it the first case alone
-abbrev pub AreLinesOfChain : Basis → Labels → ℕ → Labels → Labels → Chain → List Line → Type 0
-AreLinesOfChain basis name t speaker zone chain lines =
+abbrev pub AreLinesOfChain : Setting → Labels → ℕ → Labels → Labels → Chain → List Line → Type 0
+AreLinesOfChain setting name t speaker zone chain lines =
     (source : Source) × IsSourceOf zone chain source
-    × AreWhere (SameName zone speaker ⊎ HasClosedAbove (evidence_said (SecuredIn basis) basis.rrsets zone chain) zone name)
-    (AreSourceLines (evidence_said (SecuredIn basis) basis.rrsets zone chain) source zone name t) lines
+    × AreWhere (SameName zone speaker ⊎ HasClosedAbove (evidence_said (SecuredIn setting) setting.rrsets zone chain) zone name)
+    (AreSourceLines (evidence_said (SecuredIn setting) setting.rrsets zone chain) source zone name t) lines
 
 -- of the zone, if it is the one that should speak or above it
-abbrev pub AreLinesOfSources : Basis → Labels → ℕ → Labels → Labels → List Line → Type 0
-AreLinesOfSources basis name t speaker zone =
+abbrev pub AreLinesOfSources : Setting → Labels → ℕ → Labels → Labels → List Line → Type 0
+AreLinesOfSources setting name t speaker zone =
     AreWhere (IsAtOrBelow speaker zone)
-    (λ lines. (chains : List Chain) × AreSources basis zone chains
-    × AreOfEach (AreLinesOfChain basis name t speaker zone) chains lines)
+    (λ lines. (chains : List Chain) × AreSources setting zone chains
+    × AreOfEach (AreLinesOfChain setting name t speaker zone) chains lines)
 
 -- of the zone that should speak, and then of those above it
-abbrev pub AreLacking : Basis → Labels → ℕ → List Line → Type 0
-AreLacking basis name t =
-    AreWhere ((zone : Labels) × IsSpeaker basis name t zone) (λ lines. (speaker : Labels) × IsSpeaker basis name t speaker
-    × AreOfEach (AreLinesOfSources basis name t speaker) (reverse (names_down name)) lines)
+abbrev pub AreLacking : Setting → Labels → ℕ → List Line → Type 0
+AreLacking setting name t =
+    AreWhere ((zone : Labels) × IsSpeaker setting name t zone) (λ lines. (speaker : Labels) × IsSpeaker setting name t speaker
+    × AreOfEach (AreLinesOfSources setting name t speaker) (reverse (names_down name)) lines)
 
 -- ---- 8: the question
 
 -- the zone that should speak, as the name spells it, if there is one
-pub data IsSpeakerOf (basis : Basis) (name : Labels) (t : ℕ) : Option Labels → Type 0 where
-  speaker : (labels : ℕ) → labels ≤ length name → IsSpeaker basis name t (rightmost name labels)
-      → IsSpeakerOf basis name t (Some (rightmost name labels))
-  none : ((zone : Labels) → ¬ IsSpeaker basis name t zone) → IsSpeakerOf basis name t None
+pub data IsSpeakerOf (setting : Setting) (name : Labels) (t : ℕ) : Option Labels → Type 0 where
+  speaker : (labels : ℕ) → labels ≤ length name → IsSpeaker setting name t (rightmost name labels)
+      → IsSpeakerOf setting name t (Some (rightmost name labels))
+  none : ((zone : Labels) → ¬ IsSpeaker setting name t zone) → IsSpeakerOf setting name t None
 
 -- the zone has no denials, if there is one
-abbrev pub HasNoDenial : Basis → Labels → Option Labels → Type 0
-HasNoDenial basis name None = Unit {0}
-HasNoDenial basis name (Some zone) = ¬ HasDenial basis.rrsets name zone
+abbrev pub HasNoDenial : Setting → Labels → Option Labels → Type 0
+HasNoDenial setting name None = Unit {0}
+HasNoDenial setting name (Some zone) = ¬ HasDenial setting.rrsets name zone
 
 -- nothing answers: the denials of the zone that should speak prove nothing, or there are none
-pub data IsEndLine (basis : Basis) (name : Labels) (t : ℕ) : Line → Type 0 where
-  denied : (zone : Labels) → IsSpeakerOf basis name t (Some zone) → HasDenial basis.rrsets name zone
-      → IsEndLine basis name t
+pub data IsEndLine (setting : Setting) (name : Labels) (t : ℕ) : Line → Type 0 where
+  denied : (zone : Labels) → IsSpeakerOf setting name t (Some zone) → HasDenial setting.rrsets name zone
+      → IsEndLine setting name t
       (line.Reason (reason.DenialUnproved (record { name = name; rtype = record { 0 = t }; zone = zone })))
-  missing : (zone : Option Labels) → IsSpeakerOf basis name t zone → HasNoDenial basis name zone
-      → IsEndLine basis name t
+  missing : (zone : Option Labels) → IsSpeakerOf setting name t zone → HasNoDenial setting name zone
+      → IsEndLine setting name t
       (line.Reason (reason.AnswerMissing (record { name = name; rtype = record { 0 = t }; zone = zone })))
 
 -- ---- all of it
 
 -- neither what may answer is signed nor a DNAME is above the name
-abbrev pub IsLackingAsked : Basis → Labels → ℕ → Type 0
-IsLackingAsked basis name t = (¬ HasSignedGoal basis.rrsets name t) × (¬ HasDnameAbove basis.rrsets name)
+abbrev pub IsLackingAsked : Setting → Labels → ℕ → Type 0
+IsLackingAsked setting name t = (¬ HasSignedGoal setting.rrsets name t) × (¬ HasDnameAbove setting.rrsets name)
 
 -- the parts, one after another
-pub record AreFaultParts (basis : Basis) (name : Labels) (t : ℕ) (lines : List Line) : Type 0 where
+pub record AreFaultParts (setting : Setting) (name : Labels) (t : ℕ) (lines : List Line) : Type 0 where
   pub zones : List Line
-  pub of_zones : AreLinesOfZones basis name t zones
+  pub of_zones : AreLinesOfZones setting name t zones
   pub dnames : List Line
-  pub of_dnames : AreOfEach (AreDnameLines basis.rrsets name) (names_down name) dnames
+  pub of_dnames : AreOfEach (AreDnameLines setting.rrsets name) (names_down name) dnames
   pub goals : List Line
-  pub of_goals : AreOfNumbered (AreGoalLines basis name t) 1 basis.rrsets goals
+  pub of_goals : AreOfNumbered (AreGoalLines setting name t) 1 setting.rrsets goals
   pub closers : List Line
-  pub of_closers : AreOfNumbered (AreGoalClosers basis name t) 1 basis.rrsets closers
+  pub of_closers : AreOfNumbered (AreGoalClosers setting name t) 1 setting.rrsets closers
   pub denials : List Line
-  pub of_denials : AreWhere ((¬ HasSignedGoal basis.rrsets name t) ⊎ (closers ≢ [])) (AreLinesOfDenials basis name t)
+  pub of_denials : AreWhere ((¬ HasSignedGoal setting.rrsets name t) ⊎ (closers ≢ [])) (AreLinesOfDenials setting name t)
       denials
   pub lacking : List Line
-  pub of_lacking : AreWhere (IsLackingAsked basis name t) (AreLacking basis name t) lacking
+  pub of_lacking : AreWhere (IsLackingAsked setting name t) (AreLacking setting name t) lacking
   pub ends : List Line
-  pub of_ends : AreWhere (¬ HasGoal basis.rrsets name t)
-      (λ last. (end : Line) × IsEndLine basis name t end × (last ≡ end ∷ [])) ends
+  pub of_ends : AreWhere (¬ HasGoal setting.rrsets name t)
+      (λ last. (end : Line) × IsEndLine setting name t end × (last ≡ end ∷ [])) ends
   pub all : lines ≡ zones ++ dnames ++ goals ++ denials ++ closers ++ lacking ++ ends
 
 -- where no anchor is at or above the name, it isn't said that signers aren't trusted
-abbrev pub IsSaid : Basis → Labels → Line → Type 0
-IsSaid basis name (line.Follows untrusted) = HasAnchor basis.anchors name
-IsSaid basis name _ = Unit {0}
+abbrev pub IsSaid : Setting → Labels → Line → Type 0
+IsSaid setting name (line.Follows untrusted) = HasAnchor setting.anchors name
+IsSaid setting name _ = Unit {0}
 
 -- whether two lines have one text
 abbrev pub same_text : Line → Line → Bool
 same_text a b = bytes_eq (line_text a) (line_text b)
 
 -- what fails: of equal lines the first
-pub record AreFaultLines (basis : Basis) (name : Labels) (t : ℕ) (lines : List Line) : Type 0 where
+pub record AreFaultLines (setting : Setting) (name : Labels) (t : ℕ) (lines : List Line) : Type 0 where
   pub parts : List Line
-  pub are_parts : AreFaultParts basis name t parts
+  pub are_parts : AreFaultParts setting name t parts
   pub said : List Line
-  pub are_said : AreThose (IsSaid basis name) parts said
+  pub are_said : AreThose (IsSaid setting name) parts said
   pub once : lines ≡ first_appearances same_text said

@@ -5,7 +5,7 @@ use Rattle.dnsv_records.specs.declared.rrsig.Rrsig.{Rrsig}
 use Rattle.dnsv_canonical.specs.Rrsets.{ReceivedRrset}
 use Rattle.dnsv_verifier.specs.declared.answer.Answer.{Answer}
 use Rattle.dnsv_verifier.specs.declared.answer.Answer.TheVariants.{Valid, Invalid, Unknown}
-use Rattle.dnsv_verdict.specs.Verdict.{Basis}
+use Rattle.dnsv_explain.specs.Explained.{Setting}
 use Rattle.dnsv_explain.specs.faults.Keys.{IsTrustedZone}
 use Rattle.dnsv_explain.specs.faults.RrsetLines.{IsRemark, fault_line, follows_line}
 use Rattle.dnsv_explain.specs.declared.faults.remark.Remark.{Remark}
@@ -21,10 +21,10 @@ remark_lines shown Untrusted = follows_line shown ∷ []
 remark_lines shown (Fault why) = fault_line shown why ∷ []
 
 -- of one that is good under no trusted key
-abbrev pub IsGoodRemark : Basis → Labels → Remark → Type 0
-IsGoodRemark basis zone Nothing = ⊥
-IsGoodRemark basis zone Untrusted = ¬ IsTrustedZone basis zone
-IsGoodRemark basis zone (Fault word) = (word ≡ why.KeyUntrusted) × IsTrustedZone basis zone
+abbrev pub IsGoodRemark : Setting → Labels → Remark → Type 0
+IsGoodRemark setting zone Nothing = ⊥
+IsGoodRemark setting zone Untrusted = ¬ IsTrustedZone setting zone
+IsGoodRemark setting zone (Fault word) = (word ≡ why.KeyUntrusted) × IsTrustedZone setting zone
 
 -- what is said where this is the best answer, and of one that is good this
 abbrev pub remark_for : Option Answer → Remark → Remark
@@ -34,6 +34,6 @@ remark_for (Some Unknown) good = Fault why.Unanswered
 remark_for (Some Valid) good = good
 
 -- what is told is the remark on the signature
-abbrev pub IsRemarkOf : Basis → ReceivedRrset → Rrsig → Remark → Type 0
-IsRemarkOf basis rrset rrsig remark =
-    (shown : ShownSignature) → IsRemark basis rrset rrsig shown (remark_lines shown remark)
+abbrev pub IsRemarkOf : Setting → ReceivedRrset → Rrsig → Remark → Type 0
+IsRemarkOf setting rrset rrsig remark =
+    (shown : ShownSignature) → IsRemark setting rrset rrsig shown (remark_lines shown remark)

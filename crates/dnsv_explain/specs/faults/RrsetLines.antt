@@ -4,7 +4,7 @@ use Rattle.dnsv_records.specs.Rrsig.{IsRrsig}
 use Rattle.dnsv_records.specs.declared.rrsig.Rrsig.{Rrsig}
 use Rattle.dnsv_canonical.specs.Rrsets.{IsNumbered, ReceivedRrset}
 use Rattle.dnsv_verifier.specs.Admissible.{IsGoodAmong}
-use Rattle.dnsv_verdict.specs.Verdict.{Basis}
+use Rattle.dnsv_explain.specs.Explained.{Setting}
 use Rattle.dnsv_explain.specs.derivations.Ways.{HasSecured}
 use Rattle.dnsv_explain.specs.faults.Keys.{HasKeys, IsNamedBy, IsTrustedZone, named_by}
 use Rattle.dnsv_explain.specs.faults.Listing.{AreOfNumbered}
@@ -44,14 +44,14 @@ unsigned_line k rrset = line.Reason (reason.Unsigned (record {
 -- ---- a signature
 
 -- the word is true of the signature, by the keys that it names
-abbrev pub IsTrueOf : Basis → ReceivedRrset → Rrsig → WhySignature → Type 0
-IsTrueOf basis rrset rrsig =
-    IsFaultOf (IsNamedBy basis.rrsets rrsig) (HasKeys basis.rrsets rrsig.signer) basis rrset rrsig
+abbrev pub IsTrueOf : Setting → ReceivedRrset → Rrsig → WhySignature → Type 0
+IsTrueOf setting rrset rrsig =
+    IsFaultOf (IsNamedBy setting.rrsets rrsig) (HasKeys setting.rrsets rrsig.signer) setting rrset rrsig
 
 -- these are all that is wrong before a verifier is asked
-abbrev pub AreFaults : Basis → ReceivedRrset → Rrsig → List WhySignature → Type 0
-AreFaults basis rrset rrsig =
-    AreFaultsOf (IsNamedBy basis.rrsets rrsig) (HasKeys basis.rrsets rrsig.signer) basis rrset rrsig
+abbrev pub AreFaults : Setting → ReceivedRrset → Rrsig → List WhySignature → Type 0
+AreFaults setting rrset rrsig =
+    AreFaultsOf (IsNamedBy setting.rrsets rrsig) (HasKeys setting.rrsets rrsig.signer) setting rrset rrsig
 
 -- what is known of a signature by a verifier's answers
 abbrev pub IsOfAnswers : WhySignature → Type 0
@@ -62,46 +62,46 @@ IsOfAnswers _ = ⊥
 
 -- What is said of a signature of which nothing is wrong before: that its signer isn't trusted, or what the verifier says;
 -- the first of these that is so, or nothing.
-pub data IsRemark (basis : Basis) (rrset : ReceivedRrset) (rrsig : Rrsig) (shown : ShownSignature)
+pub data IsRemark (setting : Setting) (rrset : ReceivedRrset) (rrsig : Rrsig) (shown : ShownSignature)
     : List Line → Type 0 where
-  no_keys : ¬ HasKeys basis.rrsets rrsig.signer → IsRemark basis rrset rrsig shown (follows_line shown ∷ [])
-  of_answers : (answered : WhySignature) → HasKeys basis.rrsets rrsig.signer → IsOfAnswers answered
-      → IsTrueOf basis rrset rrsig answered → IsRemark basis rrset rrsig shown (fault_line shown answered ∷ [])
-  untrusted : IsGoodAmong basis.meaning basis.moment basis.rrsets rrset rrsig → ¬ IsTrustedZone basis rrsig.signer
-      → IsRemark basis rrset rrsig shown (follows_line shown ∷ [])
-  nothing : HasKeys basis.rrsets rrsig.signer
-      → ((answered : WhySignature) → IsOfAnswers answered → ¬ IsTrueOf basis rrset rrsig answered)
-      → (IsGoodAmong basis.meaning basis.moment basis.rrsets rrset rrsig → IsTrustedZone basis rrsig.signer)
-      → IsRemark basis rrset rrsig shown []
+  no_keys : ¬ HasKeys setting.rrsets rrsig.signer → IsRemark setting rrset rrsig shown (follows_line shown ∷ [])
+  of_answers : (answered : WhySignature) → HasKeys setting.rrsets rrsig.signer → IsOfAnswers answered
+      → IsTrueOf setting rrset rrsig answered → IsRemark setting rrset rrsig shown (fault_line shown answered ∷ [])
+  untrusted : IsGoodAmong setting.meaning setting.moment setting.rrsets rrset rrsig → ¬ IsTrustedZone setting rrsig.signer
+      → IsRemark setting rrset rrsig shown (follows_line shown ∷ [])
+  nothing : HasKeys setting.rrsets rrsig.signer
+      → ((answered : WhySignature) → IsOfAnswers answered → ¬ IsTrueOf setting rrset rrsig answered)
+      → (IsGoodAmong setting.meaning setting.moment setting.rrsets rrset rrsig → IsTrustedZone setting rrsig.signer)
+      → IsRemark setting rrset rrsig shown []
 
 -- what is said of signature s of RRset k: all that is wrong with it, or else a remark
-pub data AreSignatureLines (basis : Basis) (k s : ℕ) (rrset : ReceivedRrset) (rrsig : Rrsig) : List Line → Type 0 where
-  faulty : (faults : List WhySignature) → AreFaults basis rrset rrsig faults → faults ≢ []
-      → AreSignatureLines basis k s rrset rrsig (map (fault_line (shown_of k s rrset rrsig)) faults)
-  without_faults : (lines : List Line) → AreFaults basis rrset rrsig []
-      → IsRemark basis rrset rrsig (shown_of k s rrset rrsig) lines → AreSignatureLines basis k s rrset rrsig lines
+pub data AreSignatureLines (setting : Setting) (k s : ℕ) (rrset : ReceivedRrset) (rrsig : Rrsig) : List Line → Type 0 where
+  faulty : (faults : List WhySignature) → AreFaults setting rrset rrsig faults → faults ≢ []
+      → AreSignatureLines setting k s rrset rrsig (map (fault_line (shown_of k s rrset rrsig)) faults)
+  without_faults : (lines : List Line) → AreFaults setting rrset rrsig []
+      → IsRemark setting rrset rrsig (shown_of k s rrset rrsig) lines → AreSignatureLines setting k s rrset rrsig lines
 
 -- of the signature with this RDATA
-abbrev pub AreLinesAt : Basis → ℕ → ReceivedRrset → ℕ → List ℕ → List Line → Type 0
-AreLinesAt basis k rrset s rdata lines =
-    (rrsig : Rrsig) × IsRrsig rdata rrsig × AreSignatureLines basis k s rrset rrsig lines
+abbrev pub AreLinesAt : Setting → ℕ → ReceivedRrset → ℕ → List ℕ → List Line → Type 0
+AreLinesAt setting k rrset s rdata lines =
+    (rrsig : Rrsig) × IsRrsig rdata rrsig × AreSignatureLines setting k s rrset rrsig lines
 
 -- of each signature of RRset k, in order
-abbrev pub AreLinesOfEach : Basis → ℕ → ReceivedRrset → List Line → Type 0
-AreLinesOfEach basis k rrset = AreOfNumbered (AreLinesAt basis k rrset) 1 rrset.signatures
+abbrev pub AreLinesOfEach : Setting → ℕ → ReceivedRrset → List Line → Type 0
+AreLinesOfEach setting k rrset = AreOfNumbered (AreLinesAt setting k rrset) 1 rrset.signatures
 
 -- ---- an RRset
 
 -- What is said of RRset k: nothing where a signature of it is good under a trusted key, that it has none, or what is said
 -- of each.
-pub data AreRrsetLines (basis : Basis) (k : ℕ) (rrset : ReceivedRrset) : List Line → Type 0 where
-  secured : HasSecured basis k → AreRrsetLines basis k rrset []
-  unsigned : rrset.signatures ≡ [] → AreRrsetLines basis k rrset (unsigned_line k rrset ∷ [])
-  unproved : (lines : List Line) → ¬ HasSecured basis k → rrset.signatures ≢ []
-      → AreLinesOfEach basis k rrset lines → AreRrsetLines basis k rrset lines
+pub data AreRrsetLines (setting : Setting) (k : ℕ) (rrset : ReceivedRrset) : List Line → Type 0 where
+  secured : HasSecured setting k → AreRrsetLines setting k rrset []
+  unsigned : rrset.signatures ≡ [] → AreRrsetLines setting k rrset (unsigned_line k rrset ∷ [])
+  unproved : (lines : List Line) → ¬ HasSecured setting k → rrset.signatures ≢ []
+      → AreLinesOfEach setting k rrset lines → AreRrsetLines setting k rrset lines
 
 -- of the RRset with the number, if there is one
-pub data AreLinesOfNumber (basis : Basis) (k : ℕ) : List Line → Type 0 where
-  no_rrset : ((rrset : ReceivedRrset) → ¬ IsNumbered basis.rrsets k rrset) → AreLinesOfNumber basis k []
-  of_rrset : (rrset : ReceivedRrset) (lines : List Line) → IsNumbered basis.rrsets k rrset
-      → AreRrsetLines basis k rrset lines → AreLinesOfNumber basis k lines
+pub data AreLinesOfNumber (setting : Setting) (k : ℕ) : List Line → Type 0 where
+  no_rrset : ((rrset : ReceivedRrset) → ¬ IsNumbered setting.rrsets k rrset) → AreLinesOfNumber setting k []
+  of_rrset : (rrset : ReceivedRrset) (lines : List Line) → IsNumbered setting.rrsets k rrset
+      → AreRrsetLines setting k rrset lines → AreLinesOfNumber setting k lines

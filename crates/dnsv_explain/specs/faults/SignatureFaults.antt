@@ -11,7 +11,7 @@ use Rattle.dnsv_verifier.specs.declared.answer.Answer.{Answer}
 use Rattle.dnsv_verifier.specs.declared.answer.Answer.TheVariants.{Valid, Invalid, Unknown}
 use Rattle.dnsv_verifier.specs.declared.entry.Entry.{Entry}
 use Rattle.dnsv_chain.specs.Trusted.{IsGoodByTrust}
-use Rattle.dnsv_verdict.specs.Verdict.{Basis}
+use Rattle.dnsv_explain.specs.Explained.{Setting}
 use Rattle.dnsv_explain.specs.faults.Keys.{IsTrustedZone, IsZoneKey}
 use Rattle.dnsv_explain.specs.faults.Listing.{AreThose}
 use Rattle.dnsv_explain.specs.declared.line.fault.signature.SignatureTimes.{SignatureTimes}
@@ -22,14 +22,14 @@ use Rattle.dnsv_explain.specs.declared.line.fault.signature.WhySignature.TheVari
 
 -- the verifier answers so of the signature under a key that may have made it
 pub record IsAnswered
-    (Named : DnskeyRecord → Type 0) (basis : Basis) (rrset : ReceivedRrset) (rrsig : Rrsig) (answer : Answer)
+    (Named : DnskeyRecord → Type 0) (setting : Setting) (rrset : ReceivedRrset) (rrsig : Rrsig) (answer : Answer)
     : Type 0 where
   pub key : DnskeyRecord
   pub named : Named key
-  pub admissible : IsAdmissible basis.moment rrset rrsig key
+  pub admissible : IsAdmissible setting.moment rrset rrsig key
   pub entry : Entry
   pub is : IsEntryOf rrset rrsig key entry
-  pub says : basis.meaning entry ≡ answer
+  pub says : setting.meaning entry ≡ answer
 
 -- ---- times
 
@@ -49,36 +49,36 @@ expired moment rrsig = times_of rrsig (seconds_on rrsig.expiration.0 moment)
 
 -- true exactly where
 abbrev pub IsFaultOf
-    : (DnskeyRecord → Type 0) → Type 0 → Basis → ReceivedRrset → Rrsig → WhySignature → Type 0
+    : (DnskeyRecord → Type 0) → Type 0 → Setting → ReceivedRrset → Rrsig → WhySignature → Type 0
 -- it counts more labels than the owner has (RFC 4034 3.1.3)
-IsFaultOf Named Known basis rrset rrsig why.Labels = signed_label_count rrset.owner < rrsig.labels
+IsFaultOf Named Known setting rrset rrsig why.Labels = signed_label_count rrset.owner < rrsig.labels
 -- the signer can't be the zone of the RRset (RFC 4035 2.1, 2.2, 2.4)
-IsFaultOf Named Known basis rrset rrsig why.Signer = ¬ MaySign rrsig.signer rrset.rtype rrset.owner
+IsFaultOf Named Known setting rrset rrsig why.Signer = ¬ MaySign rrsig.signer rrset.rtype rrset.owner
 -- it is one of a wildcard, which stands for no RRset of the type
-IsFaultOf Named Known basis rrset rrsig why.Expanded =
+IsFaultOf Named Known setting rrset rrsig why.Expanded =
     IsTrue (is_unexpanded rrset.rtype) × IsExpanded rrset.owner rrsig
-IsFaultOf Named Known basis rrset rrsig why.Algorithm = ¬ IsTrue (is_supported rrsig.algorithm.0)
+IsFaultOf Named Known setting rrset rrsig why.Algorithm = ¬ IsTrue (is_supported rrsig.algorithm.0)
 -- (RFC 1982 3.2, RFC 4034 3.1.5)
-IsFaultOf Named Known basis rrset rrsig (why.NotYet times) =
-    (2 ^ 31 ≤ seconds_on rrsig.inception.0 basis.moment) × (times ≡ not_yet basis.moment rrsig)
-IsFaultOf Named Known basis rrset rrsig (why.Expired times) =
-    (2 ^ 31 ≤ seconds_on basis.moment rrsig.expiration.0) × (times ≡ expired basis.moment rrsig)
+IsFaultOf Named Known setting rrset rrsig (why.NotYet times) =
+    (2 ^ 31 ≤ seconds_on rrsig.inception.0 setting.moment) × (times ≡ not_yet setting.moment rrsig)
+IsFaultOf Named Known setting rrset rrsig (why.Expired times) =
+    (2 ^ 31 ≤ seconds_on setting.moment rrsig.expiration.0) × (times ≡ expired setting.moment rrsig)
 -- the signer has keys, and none of them may have made it
-IsFaultOf Named Known basis rrset rrsig why.KeyMissing = Known × ((key : DnskeyRecord) → ¬ Named key)
+IsFaultOf Named Known setting rrset rrsig why.KeyMissing = Known × ((key : DnskeyRecord) → ¬ Named key)
 -- keys may have made it, none of which a zone may sign with
-IsFaultOf Named Known basis rrset rrsig why.NotZoneKey =
+IsFaultOf Named Known setting rrset rrsig why.NotZoneKey =
     ((key : DnskeyRecord) × Named key) × ((key : DnskeyRecord) → Named key → ¬ IsZoneKey key)
 -- the verifier says Invalid, and nothing else
-IsFaultOf Named Known basis rrset rrsig why.Bad =
-    IsAnswered Named basis rrset rrsig Invalid × (¬ IsAnswered Named basis rrset rrsig Unknown)
-    × (¬ IsAnswered Named basis rrset rrsig Valid)
+IsFaultOf Named Known setting rrset rrsig why.Bad =
+    IsAnswered Named setting rrset rrsig Invalid × (¬ IsAnswered Named setting rrset rrsig Unknown)
+    × (¬ IsAnswered Named setting rrset rrsig Valid)
 -- it knows no answer, and doesn't say Valid
-IsFaultOf Named Known basis rrset rrsig why.Unanswered =
-    IsAnswered Named basis rrset rrsig Unknown × (¬ IsAnswered Named basis rrset rrsig Valid)
+IsFaultOf Named Known setting rrset rrsig why.Unanswered =
+    IsAnswered Named setting rrset rrsig Unknown × (¬ IsAnswered Named setting rrset rrsig Valid)
 -- it is good under a key of the trusted signer, and under none that a trusted RRset holds
-IsFaultOf Named Known basis rrset rrsig why.KeyUntrusted =
-    IsGoodAmong basis.meaning basis.moment basis.rrsets rrset rrsig × IsTrustedZone basis rrsig.signer
-    × (¬ IsGoodByTrust basis.meaning basis.moment basis.rrsets basis.anchors rrset rrsig)
+IsFaultOf Named Known setting rrset rrsig why.KeyUntrusted =
+    IsGoodAmong setting.meaning setting.moment setting.rrsets rrset rrsig × IsTrustedZone setting rrsig.signer
+    × (¬ IsGoodByTrust setting.meaning setting.moment setting.rrsets setting.anchors rrset rrsig)
 
 -- ---- the faults
 
@@ -90,9 +90,9 @@ asked_before moment rrsig =
 
 -- all that is
 abbrev pub AreFaultsOf
-    : (DnskeyRecord → Type 0) → Type 0 → Basis → ReceivedRrset → Rrsig → List WhySignature → Type 0
-AreFaultsOf Named Known basis rrset rrsig =
-    AreThose (IsFaultOf Named Known basis rrset rrsig) (asked_before basis.moment rrsig)
+    : (DnskeyRecord → Type 0) → Type 0 → Setting → ReceivedRrset → Rrsig → List WhySignature → Type 0
+AreFaultsOf Named Known setting rrset rrsig =
+    AreThose (IsFaultOf Named Known setting rrset rrsig) (asked_before setting.moment rrsig)
 
 -- what a verifier's answers say of a signature of which nothing is wrong before
 abbrev pub IsVerifierWord : WhySignature → Type 0

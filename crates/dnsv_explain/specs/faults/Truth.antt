@@ -12,7 +12,8 @@ use Rattle.dnsv_chain.specs.Trusted.{IsKeyOf}
 use Rattle.dnsv_denial.specs.gathering.Evidence.{IsRecordAt}
 use Rattle.dnsv_denial.specs.words.EvidenceWords.{Chain, evidence_said}
 use Rattle.dnsv_denial.specs.declared.records.number.RecordNumber.{RecordNumber}
-use Rattle.dnsv_verdict.specs.Verdict.{Basis, HasAnchor}
+use Rattle.dnsv_verdict.specs.Verdict.{HasAnchor}
+use Rattle.dnsv_explain.specs.Explained.{Setting}
 use Rattle.dnsv_verifier.specs.Admissible.{DnskeyRecord}
 use Rattle.dnsv_explain.specs.Following.{IsNamed}
 use Rattle.dnsv_explain.specs.derivations.OwnDerivations.{SecuredIn}
@@ -41,26 +42,26 @@ use Rattle.dnsv_explain.specs.declared.line.fault.zone.WhyZone.TheVariants as zo
 
 -- ---- of a zone
 
-abbrev pub IsZoneFault : Basis → Labels → WhyZone → Type 0
-IsZoneFault basis zone zone_why.NoAnchor = ¬ HasAnchor basis.anchors zone
-IsZoneFault basis zone zone_why.DnskeyMissing = ¬ HasRrset basis.rrsets zone 48
-IsZoneFault basis zone zone_why.DsMissing = HasNoWay basis zone
+abbrev pub IsZoneFault : Setting → Labels → WhyZone → Type 0
+IsZoneFault setting zone zone_why.NoAnchor = ¬ HasAnchor setting.anchors zone
+IsZoneFault setting zone zone_why.DnskeyMissing = ¬ HasRrset setting.rrsets zone 48
+IsZoneFault setting zone zone_why.DsMissing = HasNoWay setting zone
 
 -- it is a trust anchor or a DS record that leads into the zone, of which the word is true
-pub record IsTrueOfEntry (basis : Basis) (fault : EntryFault) : Type 0 where
+pub record IsTrueOfEntry (setting : Setting) (fault : EntryFault) : Type 0 where
   pub groups : List (List Wanted)
-  pub are_groups : AreGroups basis fault.entry.zone groups
+  pub are_groups : AreGroups setting fault.entry.zone groups
   pub group : List Wanted
   pub among : Contains groups group
   pub wanted : Wanted
   pub is_wanted : Contains group wanted
   pub told : fault.entry ≡ told_entry fault.entry.zone wanted
-  pub is : IsEntryFault basis.rrsets fault.entry.zone wanted fault.why
+  pub is : IsEntryFault setting.rrsets fault.entry.zone wanted fault.why
 
 -- the DNSKEY RRset of the zone holds such a key and has signatures, none of which has its tag and algorithm
-pub record IsWithoutSignature (basis : Basis) (without : KeyWithoutSignature) : Type 0 where
+pub record IsWithoutSignature (setting : Setting) (without : KeyWithoutSignature) : Type 0 where
   pub set : ReceivedRrset
-  pub numbered : IsNumbered basis.rrsets without.rrset set
+  pub numbered : IsNumbered setting.rrsets without.rrset set
   pub owner : SameName set.owner without.zone
   pub key : DnskeyRecord
   pub stands : IsKeyOf set key
@@ -70,52 +71,52 @@ pub record IsWithoutSignature (basis : Basis) (without : KeyWithoutSignature) : 
 
 -- ---- of an RRset
 
-pub record IsUnsigned (basis : Basis) (unsigned : UnsignedRrset) : Type 0 where
+pub record IsUnsigned (setting : Setting) (unsigned : UnsignedRrset) : Type 0 where
   pub rrset : ReceivedRrset
-  pub numbered : IsNumbered basis.rrsets unsigned.rrset rrset
+  pub numbered : IsNumbered setting.rrsets unsigned.rrset rrset
   pub owner : unsigned.owner ≡ rrset.owner
   pub rtype : unsigned.rtype.0 ≡ rrset.rtype
   pub none : rrset.signatures ≡ []
 
 -- the word is true of the signature by the keys that it names, or by one key of its zone that something leads to
-abbrev pub IsTrueByKeys : Basis → ReceivedRrset → Rrsig → SignatureFault → Type 0
-IsTrueByKeys basis rrset rrsig fault =
-    IsTrueOf basis rrset rrsig fault.why
-    ⊎ ((key : DnskeyRecord) × IsKeyOf rrset key × IsFaultOf (MayBeBy basis rrset.owner key rrsig)
-    (HasKeys basis.rrsets rrsig.signer) basis rrset rrsig fault.why)
+abbrev pub IsTrueByKeys : Setting → ReceivedRrset → Rrsig → SignatureFault → Type 0
+IsTrueByKeys setting rrset rrsig fault =
+    IsTrueOf setting rrset rrsig fault.why
+    ⊎ ((key : DnskeyRecord) × IsKeyOf rrset key × IsFaultOf (MayBeBy setting rrset.owner key rrsig)
+    (HasKeys setting.rrsets rrsig.signer) setting rrset rrsig fault.why)
 
-pub record IsTrueOfSignature (basis : Basis) (fault : SignatureFault) : Type 0 where
+pub record IsTrueOfSignature (setting : Setting) (fault : SignatureFault) : Type 0 where
   pub rrset : ReceivedRrset
-  pub numbered : IsNumbered basis.rrsets fault.signature.number.rrset rrset
+  pub numbered : IsNumbered setting.rrsets fault.signature.number.rrset rrset
   pub rdata : List ℕ
   pub is_signature : IsNumbered rrset.signatures fault.signature.number.signature rdata
   pub rrsig : Rrsig
   pub read : IsRrsig rdata rrsig
   pub shown : fault.signature
       ≡ shown_of fault.signature.number.rrset fault.signature.number.signature rrset rrsig
-  pub is : IsTrueByKeys basis rrset rrsig fault
+  pub is : IsTrueByKeys setting rrset rrsig fault
 
 -- a closer name than the wildcard behind the signature may be there, and is this one
-pub record IsTrueOfCloser (basis : Basis) (name : Labels) (closer : CloserName) : Type 0 where
+pub record IsTrueOfCloser (setting : Setting) (name : Labels) (closer : CloserName) : Type 0 where
   pub rrset : ReceivedRrset
-  pub numbered : IsNumbered basis.rrsets closer.signature.number.rrset rrset
+  pub numbered : IsNumbered setting.rrsets closer.signature.number.rrset rrset
   pub rdata : List ℕ
   pub is_signature : IsNumbered rrset.signatures closer.signature.number.signature rdata
   pub rrsig : Rrsig
   pub read : IsRrsig rdata rrsig
-  pub open_name : IsCloserOpen basis name rrset rrsig
+  pub open_name : IsCloserOpen setting name rrset rrsig
   pub is : SameName closer.name (rightmost name (rrsig.labels + 1))
 
 -- ---- of denials
 
 -- the RRset is one of DNAME at the name, which is above the question's; or the record is at the name in some source, and
 -- holds DNAME
-abbrev pub IsTrueOfDname : Basis → Labels → DnameAbove → Option ℕ → Type 0
-IsTrueOfDname basis name above None =
-    (rrset : ReceivedRrset) × IsNumbered basis.rrsets above.rrset rrset × SameName rrset.owner above.name
+abbrev pub IsTrueOfDname : Setting → Labels → DnameAbove → Option ℕ → Type 0
+IsTrueOfDname setting name above None =
+    (rrset : ReceivedRrset) × IsNumbered setting.rrsets above.rrset rrset × SameName rrset.owner above.name
     × (rrset.rtype ≡ dname) × IsBelow name above.name
-IsTrueOfDname basis name above (Some place) =
-    (zone : Labels) × (chain : Chain) × (evidence_said (SecuredIn basis) basis.rrsets zone chain).TypesAt above.name
+IsTrueOfDname setting name above (Some place) =
+    (zone : Labels) × (chain : Chain) × (evidence_said (SecuredIn setting) setting.rrsets zone chain).TypesAt above.name
     (λ has. has dname) (record { rrset = above.rrset; place = place })
 
 -- the record asks for too many iterations, or can't be used for another reason
@@ -124,10 +125,10 @@ IsTrueOfNsec3 rrset fields (nsec3.Iterations iterations) =
     (500 < iterations.0) × (fields.parameters.iterations.0 ≡ iterations.0)
 IsTrueOfNsec3 rrset fields nsec3.Unusable = IsUnusableNsec3 rrset fields
 
-pub record IsUnusable (basis : Basis) (unusable : UnusableNsec3) : Type 0 where
+pub record IsUnusable (setting : Setting) (unusable : UnusableNsec3) : Type 0 where
   pub rrset : ReceivedRrset
   pub rdata : List ℕ
-  pub at : IsRecordAt basis.rrsets unusable.number rrset rdata
+  pub at : IsRecordAt setting.rrsets unusable.number rrset rdata
   pub rtype : rrset.rtype ≡ 50
   pub owner : unusable.owner ≡ rrset.owner
   pub fields : Nsec3
@@ -135,31 +136,31 @@ pub record IsUnusable (basis : Basis) (unusable : UnusableNsec3) : Type 0 where
   pub is : IsTrueOfNsec3 rrset fields unusable.why
 
 -- the word is true of what the records of the source say
-pub record IsTrueOfSource (basis : Basis) (fault : SourceFault) : Type 0 where
+pub record IsTrueOfSource (setting : Setting) (fault : SourceFault) : Type 0 where
   pub chain : Chain
   pub its : IsSourceOf fault.source.zone chain fault.source
-  pub is : IsSourceFault (evidence_said (SecuredIn basis) basis.rrsets fault.source.zone chain) fault.source.zone fault.name
+  pub is : IsSourceFault (evidence_said (SecuredIn setting) setting.rrsets fault.source.zone chain) fault.source.zone fault.name
       fault.why
 
 -- ---- of the question
 
 -- the zone should speak, if there is one
-abbrev pub MaySpeak : Basis → Labels → ℕ → Option Labels → Type 0
-MaySpeak basis name t None = (zone : Labels) → ¬ IsSpeaker basis name t zone
-MaySpeak basis name t (Some zone) = IsSpeaker basis name t zone
+abbrev pub MaySpeak : Setting → Labels → ℕ → Option Labels → Type 0
+MaySpeak setting name t None = (zone : Labels) → ¬ IsSpeaker setting name t zone
+MaySpeak setting name t (Some zone) = IsSpeaker setting name t zone
 
 -- what fails is so, for the question
-abbrev pub IsReasonTrue : Basis → Labels → ℕ → Reason → Type 0
-IsReasonTrue basis name t (reason.Zone fault) = IsZoneFault basis fault.zone fault.why
-IsReasonTrue basis name t (reason.Entry fault) = IsTrueOfEntry basis fault
-IsReasonTrue basis name t (reason.NotSelfSigned without) = IsWithoutSignature basis without
-IsReasonTrue basis name t (reason.Unsigned unsigned) = IsUnsigned basis unsigned
-IsReasonTrue basis name t (reason.Signature fault) = IsTrueOfSignature basis fault
-IsReasonTrue basis name t (reason.NoCloser closer) = IsTrueOfCloser basis name closer
-IsReasonTrue basis name t (reason.Dname above) = IsTrueOfDname basis name above above.place
-IsReasonTrue basis name t (reason.Nsec3 unusable) = IsUnusable basis unusable
-IsReasonTrue basis name t (reason.Source fault) = IsTrueOfSource basis fault
-IsReasonTrue basis name t (reason.AnswerMissing missing) =
-    (¬ HasGoal basis.rrsets name t) × MaySpeak basis name t missing.zone × HasNoDenial basis name missing.zone
-IsReasonTrue basis name t (reason.DenialUnproved denial) =
-    (¬ HasGoal basis.rrsets name t) × IsSpeaker basis name t denial.zone × HasDenial basis.rrsets name denial.zone
+abbrev pub IsReasonTrue : Setting → Labels → ℕ → Reason → Type 0
+IsReasonTrue setting name t (reason.Zone fault) = IsZoneFault setting fault.zone fault.why
+IsReasonTrue setting name t (reason.Entry fault) = IsTrueOfEntry setting fault
+IsReasonTrue setting name t (reason.NotSelfSigned without) = IsWithoutSignature setting without
+IsReasonTrue setting name t (reason.Unsigned unsigned) = IsUnsigned setting unsigned
+IsReasonTrue setting name t (reason.Signature fault) = IsTrueOfSignature setting fault
+IsReasonTrue setting name t (reason.NoCloser closer) = IsTrueOfCloser setting name closer
+IsReasonTrue setting name t (reason.Dname above) = IsTrueOfDname setting name above above.place
+IsReasonTrue setting name t (reason.Nsec3 unusable) = IsUnusable setting unusable
+IsReasonTrue setting name t (reason.Source fault) = IsTrueOfSource setting fault
+IsReasonTrue setting name t (reason.AnswerMissing missing) =
+    (¬ HasGoal setting.rrsets name t) × MaySpeak setting name t missing.zone × HasNoDenial setting name missing.zone
+IsReasonTrue setting name t (reason.DenialUnproved denial) =
+    (¬ HasGoal setting.rrsets name t) × IsSpeaker setting name t denial.zone × HasDenial setting.rrsets name denial.zone

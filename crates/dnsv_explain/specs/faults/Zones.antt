@@ -9,7 +9,8 @@ use Rattle.dnsv_canonical.specs.Rrsets.{IsNumbered, ReceivedRrset}
 use Rattle.dnsv_chain.specs.Anchor.{anchor_owner}
 use Rattle.dnsv_chain.specs.declared.anchor.Anchor.{Anchor}
 use Rattle.dnsv_verifier.specs.Admissible.{IsSignatureOf}
-use Rattle.dnsv_verdict.specs.Verdict.{Basis, HasAnchor}
+use Rattle.dnsv_verdict.specs.Verdict.{HasAnchor}
+use Rattle.dnsv_explain.specs.Explained.{Setting}
 use Rattle.dnsv_explain.specs.faults.Keys.{IsTrustedZone}
 
 -- ---- RRsets at a name, and their signers
@@ -70,17 +71,17 @@ HasDenialSigner rrsets name zone =
 
 -- A zone is known at or above the name (for DS above it): an anchor's owner, the owner of a DS or DNSKEY RRset, or the
 -- signer of what may answer; where none of that is signed, of what may deny.
-pub record IsKnownZone (basis : Basis) (name : Labels) (t : ℕ) (zone : Labels) : Type 0 where
+pub record IsKnownZone (setting : Setting) (name : Labels) (t : ℕ) (zone : Labels) : Type 0 where
   pub above : IsAtOrBelow name zone
   pub properly : t ≡ ds → IsBelow name zone
-  pub known : HasOwnAnchor basis.anchors zone ⊎ HasRrset basis.rrsets zone ds ⊎ HasRrset basis.rrsets zone 48
-      ⊎ HasGoalSigner basis.rrsets name t zone
-      ⊎ ((¬ HasSignedGoal basis.rrsets name t) × HasDenialSigner basis.rrsets name zone)
+  pub known : HasOwnAnchor setting.anchors zone ⊎ HasRrset setting.rrsets zone ds ⊎ HasRrset setting.rrsets zone 48
+      ⊎ HasGoalSigner setting.rrsets name t zone
+      ⊎ ((¬ HasSignedGoal setting.rrsets name t) × HasDenialSigner setting.rrsets name zone)
 
 -- of those it has most labels
-pub record IsSpeaker (basis : Basis) (name : Labels) (t : ℕ) (zone : Labels) : Type 0 where
-  pub known : IsKnownZone basis name t zone
-  pub most : (other : Labels) → IsKnownZone basis name t other → length other ≤ length zone
+pub record IsSpeaker (setting : Setting) (name : Labels) (t : ℕ) (zone : Labels) : Type 0 where
+  pub known : IsKnownZone setting name t zone
+  pub most : (other : Labels) → IsKnownZone setting name t other → length other ≤ length zone
 
 -- RRset k may deny the name for the zone: it has a signature by it, or is stray at or below it
 pub record IsDenialOf (rrsets : List ReceivedRrset) (name zone : Labels) (k : ℕ) (rrset : ReceivedRrset) : Type 0 where
@@ -93,29 +94,29 @@ HasDenial rrsets name zone = (k : ℕ) × (rrset : ReceivedRrset) × IsDenialOf 
 -- ---- the zones above
 
 -- the parent signs a DS RRset of the zone, from above; of a zone with an anchor one that has an anchor at or above it
-pub record IsParent (basis : Basis) (zone parent : Labels) : Type 0 where
+pub record IsParent (setting : Setting) (zone parent : Labels) : Type 0 where
   pub ds : ReceivedRrset
-  pub among : Contains basis.rrsets ds
+  pub among : Contains setting.rrsets ds
   pub rtype : ds.rtype ≡ 43
   pub owner : SameName ds.owner zone
   pub signer : HasSigner ds parent
   pub above : IsBelow zone parent
-  pub anchored : HasOwnAnchor basis.anchors zone → HasAnchor basis.anchors parent
+  pub anchored : HasOwnAnchor setting.anchors zone → HasAnchor setting.anchors parent
 
 -- DS RRset k leads into the zone; where the zone has an anchor, only if a parent signs it
-pub record IsDsWay (basis : Basis) (zone : Labels) (k : ℕ) (rrset : ReceivedRrset) : Type 0 where
-  pub numbered : IsNumbered basis.rrsets k rrset
+pub record IsDsWay (setting : Setting) (zone : Labels) (k : ℕ) (rrset : ReceivedRrset) : Type 0 where
+  pub numbered : IsNumbered setting.rrsets k rrset
   pub rtype : rrset.rtype ≡ 43
   pub owner : SameName rrset.owner zone
-  pub by_parent : HasOwnAnchor basis.anchors zone
-      → (parent : Labels) × HasSigner rrset parent × IsParent basis zone parent
+  pub by_parent : HasOwnAnchor setting.anchors zone
+      → (parent : Labels) × HasSigner rrset parent × IsParent setting zone parent
 
 -- of the known zones above that have an anchor at or above them it has most labels
-pub record IsAnchoredAbove (basis : Basis) (name : Labels) (t : ℕ) (zone above : Labels) : Type 0 where
-  pub known : IsKnownZone basis name t above
-  pub anchored : HasAnchor basis.anchors above
+pub record IsAnchoredAbove (setting : Setting) (name : Labels) (t : ℕ) (zone above : Labels) : Type 0 where
+  pub known : IsKnownZone setting name t above
+  pub anchored : HasAnchor setting.anchors above
   pub below : IsBelow zone above
-  pub most : (other : Labels) → IsKnownZone basis name t other → HasAnchor basis.anchors other → IsBelow zone other
+  pub most : (other : Labels) → IsKnownZone setting name t other → HasAnchor setting.anchors other → IsBelow zone other
       → length other ≤ length above
 
 -- ---- the zones that a question needs
@@ -127,15 +128,15 @@ HasSignerAbove rrsets name t zone = HasGoalSigner rrsets name t zone × IsAtOrBe
 -- The signers of what may answer. Where there is none, the zone that should speak, and where nothing that may answer is
 -- signed, the signers of what may deny, if they have an anchor at or above them. Of each that isn't trusted the parents,
 -- or, where nothing leads into it, the next known zone above.
-pub data IsNeeded (basis : Basis) (name : Labels) (t : ℕ) : Labels → Type 0 where
-  signer : {zone : Labels} → HasSignerAbove basis.rrsets name t zone → IsNeeded basis name t zone
-  speaker : {zone : Labels} → ((other : Labels) → ¬ HasSignerAbove basis.rrsets name t other)
-      → IsSpeaker basis name t zone → HasAnchor basis.anchors zone → IsNeeded basis name t zone
-  denying : {zone : Labels} → ((other : Labels) → ¬ HasGoalSigner basis.rrsets name t other)
-      → HasDenialSigner basis.rrsets name zone → IsAtOrBelow name zone → HasAnchor basis.anchors zone
-      → IsNeeded basis name t zone
-  parent : {zone above : Labels} → IsNeeded basis name t zone → ¬ IsTrustedZone basis zone → IsParent basis zone above
-      → IsNeeded basis name t above
-  known_above : {zone above : Labels} → IsNeeded basis name t zone → ¬ IsTrustedZone basis zone
-      → ¬ HasRrset basis.rrsets zone ds → ¬ HasOwnAnchor basis.anchors zone
-      → IsAnchoredAbove basis name t zone above → IsNeeded basis name t above
+pub data IsNeeded (setting : Setting) (name : Labels) (t : ℕ) : Labels → Type 0 where
+  signer : {zone : Labels} → HasSignerAbove setting.rrsets name t zone → IsNeeded setting name t zone
+  speaker : {zone : Labels} → ((other : Labels) → ¬ HasSignerAbove setting.rrsets name t other)
+      → IsSpeaker setting name t zone → HasAnchor setting.anchors zone → IsNeeded setting name t zone
+  denying : {zone : Labels} → ((other : Labels) → ¬ HasGoalSigner setting.rrsets name t other)
+      → HasDenialSigner setting.rrsets name zone → IsAtOrBelow name zone → HasAnchor setting.anchors zone
+      → IsNeeded setting name t zone
+  parent : {zone above : Labels} → IsNeeded setting name t zone → ¬ IsTrustedZone setting zone → IsParent setting zone above
+      → IsNeeded setting name t above
+  known_above : {zone above : Labels} → IsNeeded setting name t zone → ¬ IsTrustedZone setting zone
+      → ¬ HasRrset setting.rrsets zone ds → ¬ HasOwnAnchor setting.anchors zone
+      → IsAnchoredAbove setting name t zone above → IsNeeded setting name t above

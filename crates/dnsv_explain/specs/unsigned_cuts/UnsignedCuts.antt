@@ -8,7 +8,7 @@ use Rattle.dnsv_canonical.specs.Rrsets.{IsNumbered, ReceivedRrset}
 use Rattle.dnsv_chain.specs.Ds.{HasUsable}
 use Rattle.dnsv_denial.specs.gathering.Evidence.{IsRecordAt}
 use Rattle.dnsv_denial.specs.declared.records.number.RecordNumber.{RecordNumber}
-use Rattle.dnsv_verdict.specs.Verdict.{Basis}
+use Rattle.dnsv_explain.specs.Explained.{Setting}
 use Rattle.dnsv_explain.specs.derivations.OwnDerivations.{IsSignatureTold}
 use Rattle.dnsv_explain.specs.derivations.Derivations.{IsLowestSecured}
 use Rattle.dnsv_explain.specs.Following.Parts.{IsUnusableRecord}
@@ -33,20 +33,20 @@ pub record IsCaseTold (kind : InsecureCase) (name : Labels) (zone : Option Label
 
 -- RRset k is a DS RRset of the name, which has a signature that is good under a trusted key and no record that can be
 -- used
-pub record IsUnusableSet (basis : Basis) (name : Labels) (k : ℕ) : Type 0 where
+pub record IsUnusableSet (setting : Setting) (name : Labels) (k : ℕ) : Type 0 where
   pub ds : ReceivedRrset
-  pub is_ds : IsNumbered basis.rrsets k ds
+  pub is_ds : IsNumbered setting.rrsets k ds
   pub rtype : ds.rtype ≡ 43
   pub owner : SameName ds.owner name
-  pub secured : HasSecured basis k
+  pub secured : HasSecured setting k
   pub records : List Ds
   pub read : AllZip IsDs ds.rdata records
   pub none : ¬ HasUsable records
 
 -- none with a lower number is such
-pub record IsFirstUnusable (basis : Basis) (name : Labels) (k : ℕ) : Type 0 where
-  pub is : IsUnusableSet basis name k
-  pub first : (j : ℕ) → IsUnusableSet basis name j → k ≤ j
+pub record IsFirstUnusable (setting : Setting) (name : Labels) (k : ℕ) : Type 0 where
+  pub is : IsUnusableSet setting name k
+  pub first : (j : ℕ) → IsUnusableSet setting name j → k ≤ j
 
 -- the record of RRset k at a place, from 1 on
 abbrev pub record_of : ℕ → ℕ → RecordNumber
@@ -73,10 +73,10 @@ pub record AreAllTold (rrsets : List ReceivedRrset) (k : ℕ) (before lines : Li
       → place ≤ n
 
 -- of the first such RRset its lowest signature is derived, the case is told, and then why its records can't be used
-pub record IsUnusableTold (basis : Basis) (name : Labels) (before lines : List Line) : Type 0 where
+pub record IsUnusableTold (setting : Setting) (name : Labels) (before lines : List Line) : Type 0 where
   pub k : ℕ
-  pub first : IsFirstUnusable basis name k
+  pub first : IsFirstUnusable setting name k
   pub s : ℕ
-  pub lowest : IsLowestSecured basis k s
-  pub told : AreBoth (IsSignatureTold basis (record { rrset = k; signature = s }))
-      (AreBoth (IsCaseTold case.UnusableDs name None) (AreAllTold basis.rrsets k)) before lines
+  pub lowest : IsLowestSecured setting k s
+  pub told : AreBoth (IsSignatureTold setting (record { rrset = k; signature = s }))
+      (AreBoth (IsCaseTold case.UnusableDs name None) (AreAllTold setting.rrsets k)) before lines

@@ -1,8 +1,9 @@
 //! The last lines of an explanation.
 ghost use Rattle.std.specs.Prelude.{◌≡◌, ◌++◌, [], OnOk, map};
-ghost use Rattle.dnsv_explain.specs.Explained.{basis_in};
+ghost use Rattle.dnsv_explain.specs.Explained.{setting_in};
 ghost use Rattle.dnsv_explain.specs.Explanation.{IsEnd};
 ghost use Rattle.dnsv_explain.specs.Following.{EachFollows};
+ghost use Rattle.dnsv_explain.specs.Places.{ArePlacesTold};
 ghost use Rattle.dnsv_explain.specs.Saying.{Adds};
 
 use crate::evidence::Evidence;
@@ -19,7 +20,7 @@ pub fn add_end(
     evidence: &Evidence<'_>,
     lines: &mut Vec<Line>,
 ) -> Result<(), AllocError>
-    requires { EachFollows (basis_in evidence.now) [] lines.now.items }
+    requires { EachFollows (setting_in evidence.now) [] lines.now.items }
     ensures { OnOk result (Adds (IsEnd evidence.now.rrsets evidence.now.table.moment) lines.old.items lines.new.items) }
 {
     lines_that_follow_are_true();
@@ -28,6 +29,18 @@ pub fn add_end(
     lines.push(Line::Holds(interval))?;
     add_places(lines, places)?;
     Ok(())
+}
+
+/// Adds where the RRsets stand that the lines name.
+pub fn add_places_named(
+    alloc: Global,
+    evidence: &Evidence<'_>,
+    lines: &mut Vec<Line>,
+) -> Result<(), AllocError>
+    ensures { OnOk result (Adds (ArePlacesTold evidence.now.rrsets) lines.old.items lines.new.items) }
+{
+    let places = places_named(alloc, evidence.capture(), lines)?;
+    Ok(add_places(lines, places)?)
 }
 
 /// Adds where the RRsets stand.

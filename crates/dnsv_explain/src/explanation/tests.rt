@@ -20,14 +20,14 @@ const HOST: &[u8] =
 
 const ANCHOR: &[u8] = b"KEY example. 256 3 13 AQID\n";
 
-/// Takes every signature for valid.
+/// Says this of every signature.
 #[derive(Drop)]
-struct Trusting;
+struct Saying {
+    answer: Answer,
+}
 
-impl Verifier for Trusting {
-    ghost use Rattle.dnsv_verifier.specs.declared.answer.Answer.TheVariants.{Valid};
-
-    ghost meaning = { λ _ _. Valid };
+impl Verifier for Saying {
+    ghost meaning = { λ verifier _. verifier.answer };
 
     fn answer(
         &self,
@@ -36,23 +36,25 @@ impl Verifier for Trusting {
         _signed_data: &[u8],
         _signature: &[u8],
     ) -> Answer {
-        Answer::Valid
+        self.answer
     }
 }
 
-/// What explains the verdict on the address of the host.
-fn explained(alloc: Global) -> Result<Option<Explanation>, Fail> {
+/// The lines of the verdict on the address of the host, by these messages and what is said of each signature.
+fn explained(alloc: Global, messages: &[&[u8]], answer: Answer) -> Result<Explanation, Fail> {
     let mut capture = Capture::new(alloc);
-    capture.add(&Message::decode(alloc, KEYS)?)?;
-    capture.add(&Message::decode(alloc, HOST)?)?;
+    for message in messages {
+        capture.add(&Message::decode(alloc, message)?)?;
+    }
     let anchors = Anchors::parse(alloc, ANCHOR)?;
     let name = Name::parse(b"host.example.")?;
+    let verifier = Saying { answer };
     let (_report, explanation) = explain(
         alloc,
         &capture,
         &anchors,
         1500,
-        &Trusting,
+        &verifier,
         &name,
         RecordType(1),
     )?;
@@ -68,19 +70,9 @@ fn is_line(alloc: Global, lines: &[Line], place: usize, text: &str) -> Result<bo
     Ok(written.as_str() == text)
 }
 
-/// Whether the lines are those of the sample.
-fn are_lines_of_host(alloc: Global) -> Result<bool, Fail> {
-    let Some(explanation) = explained(alloc)? else {
-        return Ok(false);
-    };
+/// Whether the lines have these texts, with no other behind them.
+fn are_lines(alloc: Global, explanation: &Explanation, texts: &[&str]) -> Result<bool, Fail> {
     let lines = explanation.lines();
-    let texts = [
-        "trusted example. rrset 1 signature 1 key 2063 13 anchor 1",
-        "signed host.example. 1 rrset 2 signature 1 key 2063 13 zone example. keys 1",
-        "holds from 1000 to 2000",
-        "rrset 1 message 1 section 1 example. 48",
-        "rrset 2 message 2 section 1 host.example. 1",
-    ];
     for (place, text) in texts.iter().enumerate() {
         if !is_line(alloc, lines, place, text)? {
             return Ok(false);
@@ -89,8 +81,61 @@ fn are_lines_of_host(alloc: Global) -> Result<bool, Fail> {
     Ok(lines.len() == texts.len())
 }
 
+/// Whether the lines of an answer are those of the sample.
+fn are_lines_of_host(alloc: Global) -> Result<bool, Fail> {
+    let texts = [
+        "trusted example. rrset 1 signature 1 key 2063 13 anchor 1",
+        "signed host.example. 1 rrset 2 signature 1 key 2063 13 zone example. keys 1",
+        "holds from 1000 to 2000",
+        "rrset 1 message 1 section 1 example. 48",
+        "rrset 2 message 2 section 1 host.example. 1",
+    ];
+    are_lines(
+        alloc,
+        &explained(alloc, &[KEYS, HOST], Answer::Valid)?,
+        &texts,
+    )
+}
+
+/// Whether those of one that needs answers are.
+fn are_lines_of_hope(alloc: Global) -> Result<bool, Fail> {
+    let texts = [
+        "hope SecureAnswer",
+        "trusted example. rrset 1 signature 1 key 2063 13 anchor 1 todo 2",
+        "signed host.example. 1 rrset 2 signature 1 key 2063 13 zone example. keys 1 todo 1",
+        "rrset 1 message 1 section 1 example. 48",
+        "rrset 2 message 2 section 1 host.example. 1",
+    ];
+    are_lines(
+        alloc,
+        &explained(alloc, &[KEYS, HOST], Answer::Unknown)?,
+        &texts,
+    )
+}
+
+/// Whether, where nothing answers, it is told how far trust holds.
+fn are_lines_of_nothing(alloc: Global) -> Result<bool, Fail> {
+    let texts = [
+        "trusted example. rrset 1 signature 1 key 2063 13 anchor 1",
+        "rrset 1 message 1 section 1 example. 48",
+    ];
+    are_lines(alloc, &explained(alloc, &[KEYS], Answer::Valid)?, &texts)
+}
+
 #[test]
 fn the_lines_of_an_answer_are_those_of_the_sample(rt: HostRuntime) -> Result<(), Fail> {
     assert!(rt; are_lines_of_host(rt.alloc())?);
+    Ok(())
+}
+
+#[test]
+fn the_lines_of_a_pending_answer_are_those_of_the_sample(rt: HostRuntime) -> Result<(), Fail> {
+    assert!(rt; are_lines_of_hope(rt.alloc())?);
+    Ok(())
+}
+
+#[test]
+fn where_nothing_answers_it_is_told_how_far_trust_holds(rt: HostRuntime) -> Result<(), Fail> {
+    assert!(rt; are_lines_of_nothing(rt.alloc())?);
     Ok(())
 }

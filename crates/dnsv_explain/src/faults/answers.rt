@@ -1,7 +1,7 @@
 //! What a verifier says of a signature under the keys that may have made it.
 ghost use Rattle.std.specs.Prelude.{◌≡◌, ◌↔◌, IfOk, IsTrue};
 ghost use Rattle.dnsv_verifier.specs.Table.{table_answer};
-ghost use Rattle.dnsv_explain.specs.Explained.{basis_in};
+ghost use Rattle.dnsv_explain.specs.Explained.{setting_in};
 ghost use Rattle.dnsv_explain.specs.faults.AnswerSearch.{IsAnsweredBy, IsAnsweredBySome, IsBestOf, entry_over};
 ghost use Rattle.dnsv_explain.specs.faults.KeySearch.{IsNamedIn};
 ghost use Rattle.dnsv_explain.specs.faults.SignatureFaults.{IsAnswered};
@@ -23,7 +23,7 @@ pub fn best_answer(
     rrset: &Rrset,
     rrsig: &Rrsig,
 ) -> Result<Option<Answer>, AllocError>
-    ensures { IfOk result (IsBestOf (IsAnswered (IsNamedIn keys.now rrsig.now) (basis_in evidence.now) rrset.now
+    ensures { IfOk result (IsBestOf (IsAnswered (IsNamedIn keys.now rrsig.now) (setting_in evidence.now) rrset.now
         rrsig.now)) }
 {
     if !is_verifiable(evidence.moment(), rrset, rrsig) {

@@ -2,7 +2,7 @@
 ghost use Rattle.std.specs.Prelude.{◌≡◌, ◌↔◌, IfOk, IsTrue};
 ghost use Rattle.dnsv_verifier.specs.Asking.{AreKeysOf};
 ghost use Rattle.dnsv_chain.specs.Trusted.{IsGoodByTrust};
-ghost use Rattle.dnsv_explain.specs.Explained.{basis_in};
+ghost use Rattle.dnsv_explain.specs.Explained.{setting_in};
 ghost use Rattle.dnsv_explain.specs.faults.KeySearch.{HasKeyAt};
 ghost use Rattle.dnsv_explain.specs.faults.RemarkSearch.{IsGoodRemark, IsRemarkOf, remark_for};
 
@@ -35,9 +35,9 @@ pub fn remark_of(
 ) -> Result<Remark, AllocError>
     requires all { AreKeysOf evidence.now.rrsets keys.now }
     requires known { IsTrue known ↔ HasKeyAt keys.now rrsig.now.signer }
-    requires unsecured { ¬ IsGoodByTrust (basis_in evidence.now).meaning (basis_in evidence.now).moment
-        (basis_in evidence.now).rrsets (basis_in evidence.now).anchors rrset.now rrsig.now }
-    ensures { IfOk result (IsRemarkOf (basis_in evidence.now) rrset.now rrsig.now) }
+    requires unsecured { ¬ IsGoodByTrust (setting_in evidence.now).meaning (setting_in evidence.now).moment
+        (setting_in evidence.now).rrsets (setting_in evidence.now).anchors rrset.now rrsig.now }
+    ensures { IfOk result (IsRemarkOf (setting_in evidence.now) rrset.now rrsig.now) }
 {
     if !known {
         return Ok(Remark::Untrusted);
@@ -60,7 +60,7 @@ fn remark_for(best: Option<Answer>, good: Remark) -> Remark
 
 /// What is said of a signature that is good under a key, and under no trusted one.
 fn good_remark(evidence: &Evidence<'_>, rrsig: &Rrsig) -> Remark
-    ensures { IsGoodRemark (basis_in evidence.now) rrsig.now.signer result }
+    ensures { IsGoodRemark (setting_in evidence.now) rrsig.now.signer result }
 {
     if evidence.is_trusted_zone(&rrsig.signer) {
         return Remark::Fault(WhySignature::KeyUntrusted);

@@ -3,7 +3,7 @@ ghost use Rattle.std.specs.Prelude.{◌≡◌, ◌↔◌, IfOk, IsTrue, OnOk};
 ghost use Rattle.dnsv_canonical.specs.Rrsets.{IsNumbered};
 ghost use Rattle.dnsv_chain.specs.Trusted.{IsKeyOf};
 ghost use Rattle.dnsv_chain.specs.Ds.{IsMatch, IsUsable};
-ghost use Rattle.dnsv_explain.specs.Explained.{basis_in};
+ghost use Rattle.dnsv_explain.specs.Explained.{setting_in};
 ghost use Rattle.dnsv_explain.specs.faults.KeyLines.{AreLinesOfKeysAsked, AreLinesOfSet, IsLowestDs, IsLowestOf, IsMatchedByAnchor, IsMatchedByDs, IsShownKey};
 ghost use Rattle.dnsv_explain.specs.faults.Listing.{AddsThose};
 ghost use Rattle.dnsv_explain.specs.unsigned_cuts.UnsignedCuts.{record_of};
@@ -28,7 +28,7 @@ pub fn add_keys_in_question(
     reasons: &[Line],
     lines: &mut Vec<Line>,
 ) -> Result<(), AllocError>
-    ensures { OnOk result (AddsThose (AreLinesOfKeysAsked (basis_in evidence.now) reasons.now) lines.old.items
+    ensures { OnOk result (AddsThose (AreLinesOfKeysAsked (setting_in evidence.now) reasons.now) lines.old.items
         lines.new.items) }
 {
     for (place, set) in evidence.rrsets().iter().enumerate() {
@@ -47,7 +47,7 @@ fn add_set(
     set: &Rrset,
 ) -> Result<(), AllocError>
     requires { IsNumbered evidence.now.rrsets number set.now }
-    ensures { OnOk result (AddsThose (AreLinesOfSet (basis_in evidence.now) reasons.now number set.now) lines.old.items
+    ensures { OnOk result (AddsThose (AreLinesOfSet (setting_in evidence.now) reasons.now number set.now) lines.old.items
         lines.new.items) }
 {
     if set.rtype() != RecordType::DNSKEY {
@@ -77,7 +77,7 @@ fn shown_key(
 ) -> Result<ShownKey, AllocError>
     requires numbered { IsNumbered evidence.now.rrsets number.rrset set.now }
     requires stands { IsKeyOf set.now key.now }
-    ensures { IfOk result (IsShownKey (basis_in evidence.now) number.rrset number.place set.now key.now) }
+    ensures { IfOk result (IsShownKey (setting_in evidence.now) number.rrset number.place set.now key.now) }
 {
     Ok(ShownKey {
         zone: set.owner().clone()?,
@@ -92,7 +92,7 @@ fn shown_key(
 
 /// The number of the lowest trust anchor that matches the key.
 fn lowest_anchor(evidence: &Evidence<'_>, key: &KeyRecord<'_>) -> Option<usize>
-    ensures { IsLowestOf (IsMatchedByAnchor (basis_in evidence.now) key.now) result }
+    ensures { IsLowestOf (IsMatchedByAnchor (setting_in evidence.now) key.now) result }
 {
     for (place, anchor) in evidence.anchors().iter().enumerate() {
         if anchor.is_match(key) {
@@ -108,7 +108,7 @@ fn lowest_ds(
     evidence: &Evidence<'_>,
     key: &KeyRecord<'_>,
 ) -> Result<Option<RecordNumber>, AllocError>
-    ensures { IfOk result (IsLowestDs (basis_in evidence.now) key.now) }
+    ensures { IfOk result (IsLowestDs (setting_in evidence.now) key.now) }
 {
     for (before, ds) in evidence.rrsets().iter().enumerate() {
         if let Some(place) = lowest_in(alloc, evidence, before + 1, ds, key)? {
@@ -130,7 +130,7 @@ fn lowest_in(
     key: &KeyRecord<'_>,
 ) -> Result<Option<usize>, AllocError>
     requires { IsNumbered evidence.now.rrsets number ds.now }
-    ensures { IfOk result (IsLowestOf (λ place. IsMatchedByDs (basis_in evidence.now) key.now (record_of number place))) }
+    ensures { IfOk result (IsLowestOf (λ place. IsMatchedByDs (setting_in evidence.now) key.now (record_of number place))) }
 {
     if ds.rtype() != RecordType::DS {
         return Ok(None);

@@ -2,7 +2,7 @@
 ghost use Rattle.std.specs.Prelude.{◌≡◌, ◌++◌, ◌∷◌, [], IfOk, OnOk, map};
 ghost use Rattle.dnsv_canonical.specs.Rrsets.{IsNumbered};
 ghost use Rattle.dnsv_verifier.specs.Asking.{AreKeysOf};
-ghost use Rattle.dnsv_explain.specs.Explained.{basis_in};
+ghost use Rattle.dnsv_explain.specs.Explained.{setting_in};
 ghost use Rattle.dnsv_explain.specs.derivations.SignerSearch.{IsSignatureAt};
 ghost use Rattle.dnsv_explain.specs.derivations.Ways.{HasSecured};
 ghost use Rattle.dnsv_explain.specs.faults.Listing.{AddsThose};
@@ -36,10 +36,10 @@ pub fn add_signature(
     rrsig: &Rrsig,
 ) -> Result<(), AllocError>
     requires keys { AreKeysOf evidence.now.rrsets keys.now }
-    requires unsecured { ¬ HasSecured (basis_in evidence.now) number.rrset }
+    requires unsecured { ¬ HasSecured (setting_in evidence.now) number.rrset }
     requires rrset { IsNumbered evidence.now.rrsets number.rrset rrset.now }
     requires its { IsSignatureAt rrset.now number.signature rrsig.now }
-    ensures { OnOk result (AddsThose (AreSignatureLines (basis_in evidence.now) number.rrset number.signature rrset.now
+    ensures { OnOk result (AddsThose (AreSignatureLines (setting_in evidence.now) number.rrset number.signature rrset.now
         rrsig.now) lines.old.items lines.new.items) }
 {
     let known = has_keys(keys, &rrsig.signer);

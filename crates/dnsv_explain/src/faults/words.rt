@@ -4,7 +4,7 @@ ghost use Rattle.dnsv_records.specs.Algorithm.{is_supported};
 ghost use Rattle.dnsv_records.specs.Rrsig.Time.{seconds_on};
 ghost use Rattle.dnsv_canonical.specs.SignedData.{IsExpanded, signed_label_count};
 ghost use Rattle.dnsv_verifier.specs.Admissible.{MaySign, is_unexpanded};
-ghost use Rattle.dnsv_explain.specs.Explained.{basis_in};
+ghost use Rattle.dnsv_explain.specs.Explained.{setting_in};
 ghost use Rattle.dnsv_explain.specs.faults.KeySearch.{HasNamed, HasNamedZoneKey, IsNamedIn};
 ghost use Rattle.dnsv_explain.specs.faults.SignatureFaults.{AreFaultsOf, expired, not_yet};
 
@@ -28,7 +28,7 @@ pub fn faults_of(
     rrset: &Rrset,
     rrsig: &Rrsig,
 ) -> Result<Vec<WhySignature>, AllocError>
-    ensures { IfOk result (λ faults. AreFaultsOf (IsNamedIn keys.now rrsig.now) (IsTrue known) (basis_in evidence.now)
+    ensures { IfOk result (λ faults. AreFaultsOf (IsNamedIn keys.now rrsig.now) (IsTrue known) (setting_in evidence.now)
         rrset.now rrsig.now faults.items) }
 {
     let moment = evidence.moment();

@@ -1,6 +1,6 @@
 //! The lines of a name that may be unsigned by what records of a zone say.
 ghost use Rattle.std.specs.Prelude.{OnOk};
-ghost use Rattle.dnsv_explain.specs.Explained.{basis_in};
+ghost use Rattle.dnsv_explain.specs.Explained.{setting_in};
 ghost use Rattle.dnsv_explain.specs.Saying.{Adds};
 ghost use Rattle.dnsv_explain.specs.unsigned_cuts.ShownCuts.{IsShownUnsigned, IsUnsignedTold};
 
@@ -26,8 +26,8 @@ pub fn add_unsigned(
     case: InsecureCase,
     cut: &Name,
 ) -> Result<(), AllocError>
-    requires { IsShownUnsigned (basis_in evidence.now) name.now shown.now case cut.now }
-    ensures { OnOk result (Adds (IsUnsignedTold (basis_in evidence.now) name.now shown.now case cut.now) lines.old.items
+    requires { IsShownUnsigned (setting_in evidence.now) name.now shown.now case cut.now }
+    ensures { OnOk result (Adds (IsUnsignedTold (setting_in evidence.now) name.now shown.now case cut.now) lines.old.items
         lines.new.items) }
 {
     let zone = shown.proof.zone();

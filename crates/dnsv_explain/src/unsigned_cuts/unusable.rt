@@ -3,7 +3,7 @@ ghost use Rattle.std.specs.Prelude.{◌≡◌, ◌↔◌, ◌+◌, ℕ, IfOk, Is
 ghost use Rattle.dnsv_names.specs.Name.{Labels};
 ghost use Rattle.dnsv_canonical.specs.Rrsets.{IsNumbered};
 ghost use Rattle.dnsv_chain.specs.Ds.{IsUsable};
-ghost use Rattle.dnsv_explain.specs.Explained.{basis_in};
+ghost use Rattle.dnsv_explain.specs.Explained.{setting_in};
 ghost use Rattle.dnsv_explain.specs.Following.Parts.{IsWhy};
 ghost use Rattle.dnsv_explain.specs.Saying.{Adds};
 ghost use Rattle.dnsv_explain.specs.unsigned_cuts.UnsignedCuts.{AreAllTold, IsCaseTold, IsFirstUnusable, IsUnusableSet, IsUnusableTold};
@@ -32,8 +32,8 @@ pub fn add_unusable(
     lines: &mut Vec<Line>,
     name: &Name,
 ) -> Result<(), AllocError>
-    requires { (k : ℕ) × IsUnusableSet (basis_in evidence.now) name.now k }
-    ensures { OnOk result (Adds (IsUnusableTold (basis_in evidence.now) name.now) lines.old.items lines.new.items) }
+    requires { (k : ℕ) × IsUnusableSet (setting_in evidence.now) name.now k }
+    ensures { OnOk result (Adds (IsUnusableTold (setting_in evidence.now) name.now) lines.old.items lines.new.items) }
 {
     let Some(number) = first_unusable(evidence, name) else {
         return Ok(());
@@ -49,8 +49,8 @@ pub fn add_unusable(
 
 /// The first DS RRset of the name that has a signature which is good under a trusted key and no record that can be used.
 fn first_unusable(evidence: &Evidence<'_>, name: &Name) -> Option<usize>
-    ensures { MatchOption result ((k : ℕ) → ¬ IsUnusableSet (basis_in evidence.now) name.now k)
-        (IsFirstUnusable (basis_in evidence.now) name.now) }
+    ensures { MatchOption result ((k : ℕ) → ¬ IsUnusableSet (setting_in evidence.now) name.now k)
+        (IsFirstUnusable (setting_in evidence.now) name.now) }
 {
     for (place, rrset) in evidence.rrsets().iter().enumerate() {
         if is_unusable(evidence, place + 1, rrset, name) {
@@ -63,7 +63,7 @@ fn first_unusable(evidence: &Evidence<'_>, name: &Name) -> Option<usize>
 /// Whether the RRset, which has the number, is such.
 fn is_unusable(evidence: &Evidence<'_>, number: usize, rrset: &Rrset, name: &Name) -> bool
     requires { IsNumbered evidence.now.rrsets number rrset.now }
-    ensures { IsTrue result ↔ IsUnusableSet (basis_in evidence.now) name.now number }
+    ensures { IsTrue result ↔ IsUnusableSet (setting_in evidence.now) name.now number }
 {
     if !may_delegate(evidence, number, rrset, name) {
         return false;
@@ -96,7 +96,7 @@ fn add_why(
     lines: &mut Vec<Line>,
     number: usize,
 ) -> Result<(), AllocError>
-    requires { (name : Labels) × IsUnusableSet (basis_in evidence.now) name number }
+    requires { (name : Labels) × IsUnusableSet (setting_in evidence.now) name number }
     ensures { OnOk result (Adds (AreAllTold evidence.now.rrsets number) lines.old.items lines.new.items) }
 {
     let Some(rrset) = numbered(evidence.rrsets(), number) else {

@@ -1,6 +1,6 @@
 //! Ways into a DNSKEY RRset by trust anchors.
 ghost use Rattle.std.specs.Prelude.{◌≡◌, IfOk, MatchOption};
-ghost use Rattle.dnsv_explain.specs.Explained.{basis_in};
+ghost use Rattle.dnsv_explain.specs.Explained.{setting_in};
 ghost use Rattle.dnsv_explain.specs.derivations.WaySearch.{IsFoundWay, IsKeySet, IsNoWayBefore, IsVoucherOf};
 
 use crate::evidence::Evidence;
@@ -17,9 +17,9 @@ pub fn way_by_anchor(
     evidence: &Evidence<'_>,
     set: &KeySet<'_>,
 ) -> Result<Option<FoundWay>, AllocError>
-    requires { IsKeySet (basis_in evidence.now) set.now }
-    ensures { IfOk result (λ way. MatchOption way (IsNoWayBefore (basis_in evidence.now) set.now.number (1, 0, 0))
-        (IsFoundWay (basis_in evidence.now) set.now.number)) }
+    requires { IsKeySet (setting_in evidence.now) set.now }
+    ensures { IfOk result (λ way. MatchOption way (IsNoWayBefore (setting_in evidence.now) set.now.number (1, 0, 0))
+        (IsFoundWay (setting_in evidence.now) set.now.number)) }
 {
     for (place, anchor) in evidence.anchors().iter().enumerate() {
         let voucher = voucher_of(place + 1, anchor);

@@ -1,7 +1,7 @@
 //! Ways into a DNSKEY RRset by DS records.
 ghost use Rattle.std.specs.Prelude.{◌↔◌, ◌+◌, ◌≡◌, IfOk, IsTrue, MatchOption};
 ghost use Rattle.dnsv_canonical.specs.Rrsets.{IsNumbered};
-ghost use Rattle.dnsv_explain.specs.Explained.{basis_in};
+ghost use Rattle.dnsv_explain.specs.Explained.{setting_in};
 ghost use Rattle.dnsv_explain.specs.derivations.Ways.{HasSecured};
 ghost use Rattle.dnsv_explain.specs.derivations.WaySearch.{IsFoundWay, IsKeySet, IsNoWay, IsNoWayBefore, MayDelegate};
 
@@ -23,10 +23,10 @@ pub fn way_by_ds(
     evidence: &Evidence<'_>,
     set: &KeySet<'_>,
 ) -> Result<Option<FoundWay>, AllocError>
-    requires set { IsKeySet (basis_in evidence.now) set.now }
-    requires before { IsNoWayBefore (basis_in evidence.now) set.now.number (1, 0, 0) }
-    ensures { IfOk result (λ way. MatchOption way (IsNoWay (basis_in evidence.now) set.now.number)
-        (IsFoundWay (basis_in evidence.now) set.now.number)) }
+    requires set { IsKeySet (setting_in evidence.now) set.now }
+    requires before { IsNoWayBefore (setting_in evidence.now) set.now.number (1, 0, 0) }
+    ensures { IfOk result (λ way. MatchOption way (IsNoWay (setting_in evidence.now) set.now.number)
+        (IsFoundWay (setting_in evidence.now) set.now.number)) }
 {
     for (place, ds) in evidence.rrsets().iter().enumerate() {
         if let Some(way) = way_in(alloc, evidence, set, place + 1, ds)? {
@@ -45,11 +45,11 @@ fn way_in(
     from: usize,
     ds: &Rrset,
 ) -> Result<Option<FoundWay>, AllocError>
-    requires set { IsKeySet (basis_in evidence.now) set.now }
+    requires set { IsKeySet (setting_in evidence.now) set.now }
     requires ds { IsNumbered evidence.now.rrsets from ds.now }
-    requires before { IsNoWayBefore (basis_in evidence.now) set.now.number (1, from, 0) }
-    ensures { IfOk result (λ way. MatchOption way (IsNoWayBefore (basis_in evidence.now) set.now.number (1, from + 1, 0))
-        (IsFoundWay (basis_in evidence.now) set.now.number)) }
+    requires before { IsNoWayBefore (setting_in evidence.now) set.now.number (1, from, 0) }
+    ensures { IfOk result (λ way. MatchOption way (IsNoWayBefore (setting_in evidence.now) set.now.number (1, from + 1, 0))
+        (IsFoundWay (setting_in evidence.now) set.now.number)) }
 {
     if !may_delegate(evidence, from, ds, set.rrset.owner()) {
         return Ok(None);
@@ -77,14 +77,14 @@ fn way_in(
 /// Whether the RRset, which has the number, is a DS RRset of the name, and has a signature which is good under a trusted
 /// key.
 pub fn may_delegate(evidence: &Evidence<'_>, number: usize, ds: &Rrset, name: &Name) -> bool
-    ensures { IsTrue result ↔ MayDelegate (basis_in evidence.now) number ds.now name.now }
+    ensures { IsTrue result ↔ MayDelegate (setting_in evidence.now) number ds.now name.now }
 {
     ds.rtype() == RecordType::DS && *ds.owner() == *name && has_secured(evidence, number)
 }
 
 /// Whether a signature of the RRset with the number is good under a trusted key.
 fn has_secured(evidence: &Evidence<'_>, number: usize) -> bool
-    ensures { IsTrue result ↔ HasSecured (basis_in evidence.now) number }
+    ensures { IsTrue result ↔ HasSecured (setting_in evidence.now) number }
 {
     !evidence.secured(number).is_empty()
 }

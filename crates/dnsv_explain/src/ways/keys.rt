@@ -1,12 +1,12 @@
 //! The keys of a DNSKEY RRset, and the signatures of it that are good under them.
 ghost use Rattle.std.specs.Prelude.{◌≡◌, ℕ, IfOk, IsTrue, MatchOption};
 ghost use Rattle.dnsv_canonical.specs.Rrsets.{IsNumbered};
-ghost use Rattle.dnsv_explain.specs.Explained.{basis_in};
+ghost use Rattle.dnsv_explain.specs.Explained.{setting_in};
 ghost use Rattle.dnsv_explain.specs.Following.{IsGoodUnder, IsNamed};
 ghost use Rattle.dnsv_explain.specs.derivations.WaySearch.{AreKeysInOrder, IsLowestGood, signature_of};
 
 use crate::evidence::Evidence;
-use crate::line::derivation::KeyName;
+use crate::line::derivation::{KeyName, Todo};
 use dnsv_canonical::{ReadRecord, Rrset, in_canonical_order};
 use dnsv_records::Dnskey;
 use dnsv_verifier::KeyRecord;
@@ -20,6 +20,15 @@ pub struct KeySet<'a> {
     pub rrset: &'a Rrset,
     /// Its keys, each RDATA once, in the order of RDATA.
     pub keys: Vec<KeyRecord<'a>>,
+}
+
+/// A signature that is good under a key.
+#[derive(Clone, Copy, Debug)]
+pub struct GoodSignature {
+    /// The number of the signature.
+    pub number: usize,
+    /// The number of what was asked of the two.
+    pub todo: Todo,
 }
 
 /// The keys of the DNSKEY RRset, each RDATA once, in the order of RDATA.
@@ -45,28 +54,32 @@ pub fn key_name(key: &KeyRecord<'_>) -> KeyName
     }
 }
 
-/// The lowest number of a signature of the RRset, which has the number, that is good under the key.
+/// The signature of lowest number of the RRset, which has the number, that is good under the key.
 pub fn lowest_good(
     alloc: Global,
     evidence: &Evidence<'_>,
     number: usize,
     rrset: &Rrset,
     key: &KeyRecord<'_>,
-) -> Result<Option<usize>, AllocError>
+) -> Result<Option<GoodSignature>, AllocError>
     requires { IsNumbered evidence.now.rrsets number rrset.now }
     ensures { IfOk result (λ lowest. MatchOption lowest
-        ((s : ℕ) → ¬ IsGoodUnder (basis_in evidence.now) (signature_of number s) rrset.now key.now)
-        (IsLowestGood (basis_in evidence.now) number rrset.now key.now)) }
+        ((s : ℕ) → ¬ IsGoodUnder (setting_in evidence.now) (signature_of number s) rrset.now key.now)
+        (IsLowestGood (setting_in evidence.now) number rrset.now key.now)) }
 {
     for (place, rrsig) in rrset.signatures().iter().enumerate() {
         if evidence.is_good(alloc, rrset, rrsig, key)? {
-            return Ok(Some(place + 1));
+            let todo = evidence.todo_of(alloc, rrset, rrsig, key)?;
+            return Ok(Some(GoodSignature {
+                number: place + 1,
+                todo,
+            }));
         }
     }
     Ok(None)
 }
 
-/// The lowest number of such a signature, if the key is one that matches.
+/// The lowest such signature, if the key is one that matches.
 pub fn lowest_where(
     alloc: Global,
     evidence: &Evidence<'_>,
@@ -74,11 +87,11 @@ pub fn lowest_where(
     rrset: &Rrset,
     key: &KeyRecord<'_>,
     is_match: bool,
-) -> Result<Option<usize>, AllocError>
+) -> Result<Option<GoodSignature>, AllocError>
     requires { IsNumbered evidence.now.rrsets number rrset.now }
     ensures { IfOk result (λ lowest. MatchOption lowest
-        ((s : ℕ) → IsTrue is_match → ¬ IsGoodUnder (basis_in evidence.now) (signature_of number s) rrset.now key.now)
-        (λ s. IsTrue is_match × IsLowestGood (basis_in evidence.now) number rrset.now key.now s)) }
+        ((s : ℕ) → IsTrue is_match → ¬ IsGoodUnder (setting_in evidence.now) (signature_of number s) rrset.now key.now)
+        (λ found. IsTrue is_match × IsLowestGood (setting_in evidence.now) number rrset.now key.now found)) }
 {
     if !is_match {
         return Ok(None);

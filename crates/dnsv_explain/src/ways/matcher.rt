@@ -1,6 +1,6 @@
 //! Ways into a DNSKEY RRset by one trust anchor, or by one record of a DS RRset.
 ghost use Rattle.std.specs.Prelude.{◌↔◌, IfOk, IsTrue, MatchOption};
-ghost use Rattle.dnsv_explain.specs.Explained.{basis_in};
+ghost use Rattle.dnsv_explain.specs.Explained.{setting_in};
 ghost use Rattle.dnsv_explain.specs.derivations.WaySearch.{IsFirstUnder, IsKeySet, IsNoneUnder, MatchesBy};
 
 use crate::evidence::Evidence;
@@ -40,10 +40,10 @@ pub fn way_with(
     matcher: Matcher<'_>,
     voucher: Voucher,
 ) -> Result<Option<FoundWay>, AllocError>
-    requires { IsKeySet (basis_in evidence.now) set.now }
+    requires { IsKeySet (setting_in evidence.now) set.now }
     ensures { IfOk result (λ way. MatchOption way
-        (IsNoneUnder (basis_in evidence.now) set.now.number set.now.rrset.now (MatchesBy matcher.entry))
-        (IsFirstUnder (basis_in evidence.now) set.now.number set.now.rrset.now (MatchesBy matcher.entry) voucher)) }
+        (IsNoneUnder (setting_in evidence.now) set.now.number set.now.rrset.now (MatchesBy matcher.entry))
+        (IsFirstUnder (setting_in evidence.now) set.now.number set.now.rrset.now (MatchesBy matcher.entry) voucher)) }
 {
     for key in &set.keys {
         let is_match = matcher.is_match(key);

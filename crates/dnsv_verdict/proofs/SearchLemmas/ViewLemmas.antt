@@ -1,7 +1,6 @@
 -- What a search finds for a view is found for what the view is of.
-use Rattle.std.proofs.Common.{◌≡◌, ◌⊎◌, ℕ}
+use Rattle.std.proofs.Common.{◌≡◌, ℕ}
 use Rattle.dnsv_records.specs.declared.rrsig.Rrsig.{Rrsig}
-use Rattle.dnsv_zones.specs.zones.TypeNumbers.{cname}
 use Rattle.dnsv_canonical.specs.Rrsets.{ReceivedRrset}
 use Rattle.dnsv_chain.specs.Trust.{SecuredIn}
 use Rattle.dnsv_denial.specs.Viewed.{Viewed}
@@ -12,10 +11,10 @@ use Rattle.dnsv_verdict.specs.Secure.{HoldsForName, IsFirstSuch, IsSecuredAt}
 abbrev pub HoldsForView : ℕ → Viewed → ReceivedRrset → Rrsig → Type 0
 HoldsForView t view rrset rrsig = (rrset.rtype ≡ t) × HoldsForName (SecuredIn view.trust) view.rrsets view.name rrset rrsig
 
--- Opt-Out leaves the signature's answer open for the view's name
+-- the RRset is of the type, and Opt-Out leaves the signature's answer open for the view's name
 abbrev pub IsOptOutWildcardForView : ℕ → Viewed → ReceivedRrset → Rrsig → Type 0
 IsOptOutWildcardForView t view rrset rrsig =
-    ((rrset.rtype ≡ t) ⊎ (rrset.rtype ≡ cname)) × IsOptOutWildcard (SecuredIn view.trust) view.rrsets view.name rrset rrsig
+    (rrset.rtype ≡ t) × IsOptOutWildcard (SecuredIn view.trust) view.rrsets view.name rrset rrsig
 
 -- numbers of a signature that is such, of the evidence that a view is of
 abbrev pub AtNumbers : Viewed → (ReceivedRrset → Rrsig → Type 0) → ℕ → ℕ → Type 0

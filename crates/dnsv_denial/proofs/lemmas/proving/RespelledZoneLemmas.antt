@@ -187,6 +187,10 @@ module _ (Secured : ℕ → ℕ → Type 0) (rrsets : List ReceivedRrset) (name 
     };
   })
 
+  out_alone : (apex : Labels) (chain : Chain) (shown : ProofForm RecordNumber) (records : List RecordNumber)
+      → ShowsOptOutCloser number_cmp (evidence_said Secured rrsets apex chain) apex name labels shown → AreRecordsOf (form_records shown) records → records ≡ form_records shown
+  out_alone apex chain whole records (opt_out_closer number shows) are = one_alone number records are
+
   pub first_out : (a b : Labels) (shown : ShownDenial) → SameName a b → a ≡ rightmost name (length b)
       → IsZoneProof Secured rrsets (denied.OptOutCloser labels) name a shown → IsShownOptOutCloser Secured rrsets name labels b shown
   first_out a b shown same is found = record {
@@ -195,6 +199,7 @@ module _ (Secured : ℕ → ℕ → Type 0) (rrsets : List ReceivedRrset) (name 
     kind = found.by_chain.kind;
     first = λ other before out. found.first other before (out_as b a (sym same) other out);
     shows = shows_out_as a b same found.chain shown.form found.by_chain.shows;
+    records = out_alone a found.chain shown.form shown.proof.records found.by_chain.shows found.by_chain.records;
   }
 
   pub none_out : (a b : Labels) → SameName a b → ((chain : Chain) → ¬ OptsOutNextCloser (evidence_said Secured rrsets a chain) a name labels)

@@ -1,5 +1,5 @@
 use Rattle.std.proofs.Common.{take}
-use Rattle.dnsv_verdict.specs.Grounds.{basis_by}
+use Rattle.dnsv_explain.specs.Explained.{setting_in}
 use Rattle.dnsv_explain.specs.Explanation.{IsLinkTold}
 use Rattle.dnsv_explain.specs.Saying.{Adds, AreEach}
 use Rattle.dnsv_explain.proofs.explanation.add_links.Given as goal
@@ -7,5 +7,5 @@ use Rattle.dnsv_explain.proofs.explanation.add_links.Given as goal
 -- what holds for each link so far
 abbrev pub invariant-loop-place : goal.invariant-loop-place
 invariant-loop-place l =
-    Adds (AreEach (IsLinkTold (basis_by l.judged.grounds)) (take l.place l.judged.report.links)) l.initial.lines.items
+    Adds (AreEach (IsLinkTold (setting_in l.evidence)) (take l.place l.judged.report.links)) l.initial.lines.items
     l.lines.items

@@ -1,8 +1,11 @@
 use Rattle.std.proofs.lemmas.Result.{err_from_is_err_and}
 use Rattle.dnsv_verdict.proofs.ReportLemmas.{same_refusal}
 use Rattle.dnsv_verdict.specs.Verdict.{Basis, basis_of}
-use Rattle.dnsv_explain.proofs.lemmas.RefusalLemmas.{explained_if, not_refused, without_memory}
+use Rattle.dnsv_explain.proofs.lemmas.RefusalLemmas.{explained_of, not_refused, without_memory}
 use Rattle.dnsv_explain.proofs.explanation.explain.Goals as goal
+
+pub explanation_of-requires-clause-verdict : goal.explanation_of-requires-clause-verdict
+explanation_of-requires-clause-verdict g c = (c.args.name.now, c.in_ok-judged.ensures.by_table)
 
 pub returns-in_err-judged-clause-refused : goal.returns-in_err-judged-clause-refused
 returns-in_err-judged-clause-refused g c =
@@ -19,7 +22,7 @@ returns-in_err-explanation-clause-refused g c =
 pub returns-clause-explanation : goal.returns-clause-explanation
 returns-clause-explanation g c =
     let basis : Basis = basis_of c.args.capture.now.rrsets c.args.anchors.now c.args.moment (g.V.Verifier.meaning c.args.verifier.now) in
-    explained_if basis c.in_ok-judged.judged.grounds c.args.rtype.0 c.in_ok-judged.judged.report _ c.in_ok-judged.ensures.grounds
+    explained_of basis c.in_ok-judged.judged.grounds c.args.rtype.0 c.in_ok-judged.judged.report _ c.in_ok-judged.ensures.grounds
     c.in_ok-explanation.ensures
 
 pub returns-clause-refused : goal.returns-clause-refused

@@ -1,9 +1,31 @@
-use Rattle.dnsv_explain.proofs.lemmas.TellLemmas.{way_added_follows}
+use Rattle.dnsv_explain.proofs.lemmas.WholeLemmas.{open_ended, settled_ended, settled_way_follows, way_added}
 use Rattle.dnsv_explain.proofs.explanation.explanation_of.Goals as goal
 
 pub add_end-requires : goal.add_end-requires
 add_end-requires c =
-    let judged = c.args.judged.now in
-    way_added_follows judged.grounds c.evidence_of.result c.evidence_of.ensures c.args.rtype.0 judged.report.links judged.report.last
-    judged.report.verdict c.new-lines.result.items c.add_way.new.lines.items c.new-lines.ensures.items
-    (c.in_ok-add_way.ensures c.if-not-branch.false)
+    let report = c.args.judged.now.report in
+    settled_way_follows c.evidence_of-evidence.result c.args.rtype.0 report.links report.last report.verdict
+    c.new-lines.result.items c.add_verdict.new.lines.items c.new-lines.ensures.items
+    (c.is_settled.ensures.0 c.if-not-is_settled.false)
+    (way_added c.evidence_of-evidence.result c.args.rtype.0 report.links report.last report.verdict c.new-lines.result.items _ _
+    c.in_ok-add_links.ensures c.in_ok-add_verdict.ensures)
+
+pub returns-then-not-is_settled : goal.returns-then-not-is_settled
+returns-then-not-is_settled c =
+    let report = c.args.judged.now.report in
+    open_ended c.evidence_of-evidence.result c.args.judged.now.grounds c.evidence_of-evidence.ensures c.args.rtype.0
+    report.links report.last report.verdict c.new-lines.result.items _ _ c.new-lines.ensures.items
+    (λ settled. let holds = c.is_settled.ensures.1 settled in let fails = c.if-not-is_settled.true in cc)
+    (way_added c.evidence_of-evidence.result c.args.rtype.0 report.links report.last report.verdict c.new-lines.result.items _ _
+    c.in_ok-add_links.ensures c.in_ok-add_verdict.ensures)
+    c.in_ok-add_places_named.ensures
+
+pub returns : goal.returns
+returns c =
+    let report = c.args.judged.now.report in
+    settled_ended c.evidence_of-evidence.result c.args.judged.now.grounds c.evidence_of-evidence.ensures c.args.rtype.0
+    report.links report.last report.verdict c.new-lines.result.items _ _ c.new-lines.ensures.items
+    (c.is_settled.ensures.0 c.if-not-is_settled.false)
+    (way_added c.evidence_of-evidence.result c.args.rtype.0 report.links report.last report.verdict c.new-lines.result.items _ _
+    c.in_ok-add_links.ensures c.in_ok-add_verdict.ensures)
+    c.in_ok-add_end.ensures

@@ -2,4 +2,4 @@ use Rattle.dnsv_explain.proofs.lemmas.denials.FollowLemmas.{denial_follows}
 use Rattle.dnsv_explain.proofs.laws.denials_follow.Goals as goal
 
 pub returns : goal.returns
-returns c = λ basis name shown before lines is told. denial_follows basis name shown before lines is told
+returns c = λ setting name shown before lines is told. denial_follows setting name shown before lines is told

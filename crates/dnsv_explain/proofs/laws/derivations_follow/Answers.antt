@@ -2,4 +2,4 @@ use Rattle.dnsv_explain.proofs.lemmas.derivations.DerivationLemmas.{derivation_f
 use Rattle.dnsv_explain.proofs.laws.derivations_follow.Goals as goal
 
 pub returns : goal.returns
-returns c = λ basis before lines subject is. derivation_follows basis before subject lines is
+returns c = λ setting before lines subject is. derivation_follows setting before subject lines is

@@ -2,4 +2,4 @@ use Rattle.dnsv_explain.proofs.lemmas.ExplanationLemmas.{explanation_follows}
 use Rattle.dnsv_explain.proofs.laws.explanations_follow.Goals as goal
 
 pub returns : goal.returns
-returns c = λ basis t links last verdict lines is. explanation_follows basis t links last verdict lines is
+returns c = λ explained t links last verdict lines is. explanation_follows explained t links last verdict lines is

@@ -5,20 +5,20 @@ use Rattle.dnsv_explain.proofs.lemmas.intervals.MomentLemmas.{all_shown_valid}
 use Rattle.dnsv_explain.proofs.laws.lines_that_follow_are_true.Goals as goal
 
 pub returns-clause-trusted : goal.returns-clause-trusted
-returns-clause-trusted c = λ basis lines keys follows there.
-    all_true basis [] lines (no_lines basis) follows (line.Trusted keys) there
+returns-clause-trusted c = λ setting lines keys follows there.
+    all_true setting [] lines (no_lines setting) follows (line.Trusted keys) there
 
 pub returns-clause-signed : goal.returns-clause-signed
-returns-clause-signed c = λ basis lines signed follows there.
-    all_true basis [] lines (no_lines basis) follows (line.Signed signed) there
+returns-clause-signed c = λ setting lines signed follows there.
+    all_true setting [] lines (no_lines setting) follows (line.Signed signed) there
 
 pub returns-clause-part : goal.returns-clause-part
-returns-clause-part c = λ basis lines part follows there.
-    all_true basis [] lines (no_lines basis) follows (line.Part part) there
+returns-clause-part c = λ setting lines part follows there.
+    all_true setting [] lines (no_lines setting) follows (line.Part part) there
 
 pub returns-clause-unusable : goal.returns-clause-unusable
-returns-clause-unusable c = λ basis lines unusable follows there.
-    all_true basis [] lines (no_lines basis) follows (line.Unusable unusable) there
+returns-clause-unusable c = λ setting lines unusable follows there.
+    all_true setting [] lines (no_lines setting) follows (line.Unusable unusable) there
 
 pub returns-clause-valid : goal.returns-clause-valid
 returns-clause-valid c = all_shown_valid

@@ -14,7 +14,7 @@ use Rattle.dnsv_denial.specs.declared.proving.proof_part.PartRelation.{PartRelat
 use Rattle.dnsv_denial.specs.declared.proving.proof_part.ProofPart.{ProofPart}
 use Rattle.dnsv_denial.specs.declared.proving.shown_denial.ShownDenial.{ShownDenial}
 use Rattle.dnsv_denial.specs.declared.records.number.RecordNumber.{RecordNumber}
-use Rattle.dnsv_verdict.specs.Verdict.{Basis}
+use Rattle.dnsv_explain.specs.Explained.{Setting}
 use Rattle.dnsv_explain.specs.Denials.{IsDenialTold, IsExpandedTold, IsPartLine, IsPartSaid, IsPartTold, IsFormTold, IsProofOf, IsProofSaid, IsProofTold, IsShownDenial, IsTellingOf, told_chain, told_form, told_relation, told_role}
 use Rattle.dnsv_explain.specs.derivations.OwnDerivations.{AreRecordsDerived, IsOwnDerivation, SecuredIn}
 use Rattle.dnsv_explain.specs.derivations.Derivations.Subject.{signature}
@@ -64,9 +64,9 @@ each_said Says P stays then (x ∷ xs) before lines each =
       subst All joined (each_said Says P stays then xs (before ++ each.first) each.second each.says_second),
     )
 
-module _ (basis : Basis) where
+module _ (setting : Setting) where
   abbrev Follow : List Line → List Line → Type 0
-  Follow before lines = EachFollows basis before lines
+  Follow before lines = EachFollows setting before lines
 
   follows_append : (before xs ys : List Line) → Follow before xs → Follow (before ++ xs) ys → Follow before (xs ++ ys)
   follows_append before [] ys first second =
@@ -109,35 +109,35 @@ module _ (basis : Basis) where
 
   -- a signature of the zone over the RRset was said to be good
   abbrev OwnSaid : Labels → List Line → ℕ → Type 0
-  OwnSaid zone before k = IsSecuredBy (Said before) basis.rrsets zone k
+  OwnSaid zone before k = IsSecuredBy (Said before) setting.rrsets zone k
 
   own_stays : (zone : Labels) (k : ℕ) (before more : List Line) → OwnSaid zone before k → OwnSaid zone (before ++ more) k
   own_stays zone k before more said =
-      secured_too (Said before) (Said (before ++ more)) basis.rrsets zone k
+      secured_too (Said before) (Said (before ++ more)) setting.rrsets zone k
       (λ s one. said_stays before more (record { rrset = k; signature = s }) one) said
 
-  own_said : (zone : Labels) (k : ℕ) (before lines : List Line) → IsOwnDerivation basis zone k before lines
+  own_said : (zone : Labels) (k : ℕ) (before lines : List Line) → IsOwnDerivation setting zone k before lines
       → OwnSaid zone (before ++ lines) k
   own_said zone k before lines own =
-      secured_too (λ j t. (t ≡ own.s) × SecuredIn basis j t) (Said (before ++ lines)) basis.rrsets zone k
+      secured_too (λ j t. (t ≡ own.s) × SecuredIn setting j t) (Said (before ++ lines)) setting.rrsets zone k
       (λ t is.
       let There : ℕ → Type 0 = λ s. Said (before ++ lines) k s in
-      subst There (sym is.0) (number_said basis before lines (record { rrset = k; signature = own.s }) own.derivation))
+      subst There (sym is.0) (number_said setting before lines (record { rrset = k; signature = own.s }) own.derivation))
       own.lowest.own
 
   records_follow : (zone : Labels) (records : List RecordNumber) (before lines : List Line)
-      → AreRecordsDerived basis zone records before lines → Follow before lines
+      → AreRecordsDerived setting zone records before lines → Follow before lines
   records_follow zone records before lines each =
-      each_follow (λ (number : RecordNumber). IsOwnDerivation basis zone number.rrset) (λ all. Unit {0}) (λ all more given. tt) records
+      each_follow (λ (number : RecordNumber). IsOwnDerivation setting zone number.rrset) (λ all. Unit {0}) (λ all more given. tt) records
       (λ number there all more given own.
-      derivation_follows basis all (signature (record { rrset = number.rrset; signature = own.s })) more own.derivation)
+      derivation_follows setting all (signature (record { rrset = number.rrset; signature = own.s })) more own.derivation)
       before lines tt each
 
   records_said : (zone : Labels) (records : List RecordNumber) (before lines : List Line)
-      → AreRecordsDerived basis zone records before lines
+      → AreRecordsDerived setting zone records before lines
       → AllByRecursion (λ (number : RecordNumber). OwnSaid zone (before ++ lines) number.rrset) records
   records_said zone records before lines each =
-      each_said (λ (number : RecordNumber). IsOwnDerivation basis zone number.rrset)
+      each_said (λ (number : RecordNumber). IsOwnDerivation setting zone number.rrset)
       (λ all number. OwnSaid zone all number.rrset)
       (λ number all more said. own_stays zone number.rrset all more said)
       (λ number all more own. own_said zone number.rrset all more own) records before lines each
@@ -149,7 +149,7 @@ module _ (basis : Basis) where
   case_follows kind cut of_zone before lines told =
       let Lines : List Line → Type 0 = λ all. Follow before all in subst Lines (sym told.are) (tt, tt)
 
-  module _ (name : Labels) (shown : ShownDenial) (facts : ShownFacts basis name shown) where
+  module _ (name : Labels) (shown : ShownDenial) (facts : ShownFacts setting name shown) where
     -- ---- the proof
 
     of_kind : (chain : Chain) → IsOfKind (told_chain (kind_of chain)) chain
@@ -221,36 +221,36 @@ module _ (basis : Basis) where
     }
 
     part_says : (before : List Line) → Prepared before → (of : PartName) (related : PartRelation) (by : Option RecordNumber)
-        (told : Option RecordPlace) → PartSays (SecuredIn basis) basis.rrsets facts.apex name facts.chain of related by
-        → IsListed shown.proof.records by → IsTellingOf basis.rrsets by told
-        → IsSaidBy (Said before) basis.rrsets facts.apex facts.chain (told_role of) (told_relation related) (part_name name of) told
+        (told : Option RecordPlace) → PartSays (SecuredIn setting) setting.rrsets facts.apex name facts.chain of related by
+        → IsListed shown.proof.records by → IsTellingOf setting.rrsets by told
+        → IsSaidBy (Said before) setting.rrsets facts.apex facts.chain (told_role of) (told_relation related) (part_name name of) told
     part_says before prepared of related None None says there telling = says
     part_says before prepared of related None (Some place) says there telling = absurd telling
     part_says before prepared of related (Some number) None says there telling = absurd telling
     part_says before prepared of related (Some number) (Some place) says there telling =
-        let Says : RecordNumber → Type 0 = λ each. IsWord (evidence_said (Said before) basis.rrsets facts.apex facts.chain) (told_role of)
+        let Says : RecordNumber → Type 0 = λ each. IsWord (evidence_said (Said before) setting.rrsets facts.apex facts.chain) (told_role of)
         (told_relation related) (part_name name of) each in (
           telling.1,
           subst Says (sym telling.0)
-              (word_by (SecuredIn basis) basis.rrsets facts.apex number (Said before) (prepared.own number there) facts.chain
+              (word_by (SecuredIn setting) setting.rrsets facts.apex number (Said before) (prepared.own number there) facts.chain
               (told_role of) (told_relation related) (part_name name of) says),
         )
 
     part_is : (before : List Line) → Prepared before → (each : ProofPart) → Contains (form_parts shown.chain shown.form) each
-        → (told : Part) → IsPartLine basis.rrsets name each told
-        → IsPartOf (Said before) basis.rrsets facts.apex facts.chain told
+        → (told : Part) → IsPartLine setting.rrsets name each told
+        → IsPartOf (Said before) setting.rrsets facts.apex facts.chain told
     part_is before prepared each there told is =
         let By : Role → Relation → Labels → Type 0 =
-        λ as_role as_relation as_name. IsSaidBy (Said before) basis.rrsets facts.apex facts.chain as_role as_relation as_name told.by in
+        λ as_role as_relation as_name. IsSaidBy (Said before) setting.rrsets facts.apex facts.chain as_role as_relation as_name told.by in
         let says : By (told_role each.name) (told_relation each.relation) (part_name name each.name) =
         part_says before prepared each.name each.relation each.by told.by
-        (part_shown basis name shown facts each there).says (part_listed basis name shown facts each there) is.by in
+        (part_shown setting name shown facts each there).says (part_listed setting name shown facts each there) is.by in
         subst (λ as_role. By as_role told.relation told.name) (sym is.role)
         (subst (λ as_relation. By (told_role each.name) as_relation told.name) (sym is.relation)
         (subst (λ as_name. By (told_role each.name) (told_relation each.relation) as_name) (sym is.name) says))
 
     part_follows : (each : ProofPart) → Contains (form_parts shown.chain shown.form) each → (before lines : List Line)
-        → Prepared before → IsPartTold basis.rrsets name each before lines → Follow before lines
+        → Prepared before → IsPartTold setting.rrsets name each before lines → Follow before lines
     part_follows each there before lines prepared told =
         let Lines : List Line → Type 0 = λ all. Follow before all in
         ⊎_elim
@@ -269,30 +269,30 @@ module _ (basis : Basis) where
 
     -- ---- the denial
 
-    prepared_with : (before records more : List Line) → AreRecordsDerived basis shown.proof.zone shown.proof.records before records
+    prepared_with : (before records more : List Line) → AreRecordsDerived setting shown.proof.zone shown.proof.records before records
         → IsZoneNamed ((before ++ records) ++ more) facts.apex facts.chain → Prepared ((before ++ records) ++ more)
     prepared_with before records more derived zone_named = record {
       named = zone_named;
       own = λ number there.
           own_stays facts.apex number.rrset (before ++ records) more
-          (zone_as (Said (before ++ records)) basis.rrsets shown.proof.zone facts.apex number.rrset (sym facts.same)
+          (zone_as (Said (before ++ records)) setting.rrsets shown.proof.zone facts.apex number.rrset (sym facts.same)
           (each_member (λ (one : RecordNumber). OwnSaid shown.proof.zone (before ++ records) one.rrset) shown.proof.records number
           (records_said shown.proof.zone shown.proof.records before records derived) there));
     }
 
-    prepared_by : HasForm → (before records proof : List Line) → AreRecordsDerived basis shown.proof.zone shown.proof.records before records
+    prepared_by : HasForm → (before records proof : List Line) → AreRecordsDerived setting shown.proof.zone shown.proof.records before records
         → IsProofTold name shown (before ++ records) proof → Prepared ((before ++ records) ++ proof)
     prepared_by has before records proof derived told =
         prepared_with before records proof derived (proof_said has (before ++ records) proof told)
 
-    told_follows : HasForm → (before lines : List Line) → IsDenialTold basis name shown before lines → Follow before lines
+    told_follows : HasForm → (before lines : List Line) → IsDenialTold setting name shown before lines → Follow before lines
     told_follows has before lines told =
         let rest = told.says_second in
         both_follow _ _ before lines told
         (records_follow shown.proof.zone shown.proof.records before told.first told.says_first)
         (both_follow _ _ (before ++ told.first) told.second rest
         (proof_follows has (before ++ told.first) rest.first rest.says_first)
-        (each_follow (IsPartTold basis.rrsets name) Prepared prepared_stays (form_parts shown.chain shown.form) part_follows
+        (each_follow (IsPartTold setting.rrsets name) Prepared prepared_stays (form_parts shown.chain shown.form) part_follows
         ((before ++ told.first) ++ rest.first) rest.second (prepared_by has before told.first rest.first told.says_first rest.says_first)
         rest.says_second))
 
@@ -311,7 +311,7 @@ module _ (basis : Basis) where
         (sym facts.same)
 
     unsigned_told_follows : (kind : InsecureCase) (cut : Labels) (before lines : List Line)
-        → IsUnsignedTold basis name shown kind cut before lines → Follow before lines
+        → IsUnsignedTold setting name shown kind cut before lines → Follow before lines
     unsigned_told_follows kind cut before lines told =
         let rest = told.says_second in
         let last = rest.says_second in
@@ -322,26 +322,26 @@ module _ (basis : Basis) where
         (case_follows kind cut (Some shown.proof.zone) (before ++ told.first) rest.first rest.says_first)
         (both_follow _ _ cased rest.second last
         (any_proof_follows (told_form shown.form) cased last.first last.says_first)
-        (each_follow (IsPartTold basis.rrsets name) Prepared prepared_stays (form_parts shown.chain shown.form) part_follows
+        (each_follow (IsPartTold setting.rrsets name) Prepared prepared_stays (form_parts shown.chain shown.form) part_follows
         (cased ++ last.first) last.second
         (prepared_stays cased last.first (prepared_with before told.first rest.first told.says_first
         (case_said kind cut (before ++ told.first) rest.first rest.says_first)))
         last.says_second)))
 
-  pub denial_follows : (name : Labels) (shown : ShownDenial) (before lines : List Line) → IsShownDenial basis name shown
-      → IsDenialTold basis name shown before lines → Follow before lines
+  pub denial_follows : (name : Labels) (shown : ShownDenial) (before lines : List Line) → IsShownDenial setting name shown
+      → IsDenialTold setting name shown before lines → Follow before lines
   denial_follows name shown before lines is told =
-      let facts = shown_facts basis name shown is in
-      let form = has_form basis name shown is in
+      let facts = shown_facts setting name shown is in
+      let form = has_form setting name shown is in
       told_follows name shown facts (record { form = form.0; is = form.1 }) before lines told
 
   pub expanded_follows : (name : Labels) (number : SignatureNumber) (shown : ShownDenial) (before lines : List Line)
-      → IsShownDenial basis name shown → IsExpandedTold basis name number shown before lines → Follow before lines
+      → IsShownDenial setting name shown → IsExpandedTold setting name number shown before lines → Follow before lines
   expanded_follows name number shown before lines is told =
-      both_follow _ _ before lines told (derivation_follows basis before (signature number) told.first told.says_first)
+      both_follow _ _ before lines told (derivation_follows setting before (signature number) told.first told.says_first)
       (denial_follows name shown (before ++ told.first) told.second is told.says_second)
 
   pub unsigned_follows : (name : Labels) (shown : ShownDenial) (kind : InsecureCase) (cut : Labels) (before lines : List Line)
-      → IsShownUnsigned basis name shown kind cut → IsUnsignedTold basis name shown kind cut before lines → Follow before lines
+      → IsShownUnsigned setting name shown kind cut → IsUnsignedTold setting name shown kind cut before lines → Follow before lines
   unsigned_follows name shown kind cut before lines is told =
-      unsigned_told_follows name shown (cut_facts basis name shown kind cut is) kind cut before lines told
+      unsigned_told_follows name shown (cut_facts setting name shown kind cut is) kind cut before lines told

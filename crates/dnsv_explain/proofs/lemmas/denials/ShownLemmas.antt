@@ -25,7 +25,7 @@ use Rattle.dnsv_denial.specs.declared.proving.proof_part.ProofPart.{ProofPart}
 use Rattle.dnsv_denial.specs.declared.proving.shown_denial.ShownDenial.{ShownDenial}
 use Rattle.dnsv_denial.specs.declared.records.chain_kind.ChainKind.{ChainKind}
 use Rattle.dnsv_denial.specs.declared.records.number.RecordNumber.{RecordNumber}
-use Rattle.dnsv_verdict.specs.Verdict.{Basis}
+use Rattle.dnsv_explain.specs.Explained.{Setting}
 use Rattle.dnsv_explain.specs.Denials.{HasRrset, IsPartFit, IsShownBy, IsShownDenial, told_form, told_relation, told_role}
 use Rattle.dnsv_explain.specs.derivations.OwnDerivations.{IsTrustIn, SecuredIn}
 use Rattle.dnsv_explain.specs.Denials.IsShownBy.{no_name, no_data, no_closer}
@@ -81,39 +81,39 @@ parts_listed kind (form.WildcardOptOut parts) =
 parts_listed kind (form.OptOutCloser labels number) = ((0, omega arith, refl), tt)
 
 -- the name of a zone as the name spells it
-spelled : (name zone : Labels) (labels : ℕ) → IsAbove zone name labels → SameName zone (rightmost name (length zone))
+pub spelled : (name zone : Labels) (labels : ℕ) → IsAbove zone name labels → SameName zone (rightmost name (length zone))
 spelled name zone labels above =
     sym (rightmost_same name zone (at_or_below_trans name (rightmost name labels) zone (rightmost_above name labels) above.within))
 
-module _ (basis : Basis) (name : Labels) (shown : ShownDenial) where
+module _ (setting : Setting) (name : Labels) (shown : ShownDenial) where
   -- a chain of the zone shows the denial by records that it signed
   pub record ShownFacts : Type 0 where
     pub apex : Labels
     pub same : SameName apex shown.proof.zone
     pub chain : Chain
     pub kind : shown.chain ≡ kind_of chain
-    pub facts : FormFacts (SecuredIn basis) basis.rrsets apex name chain shown.form
+    pub facts : FormFacts (SecuredIn setting) setting.rrsets apex name chain shown.form
     pub records : (number : RecordNumber) → Contains shown.proof.records number → Contains (form_records shown.form) number
     pub named : (number : RecordNumber) → Contains (form_records shown.form) number → Contains shown.proof.records number
 
   closer_above : (trust : KeptTrust) (labels : ℕ) (zone : Labels) (chain : Chain) (shape : ProofForm RecordNumber)
-      → ShowsNoCloser number_cmp (evidence_said (KeptIn trust) basis.rrsets zone chain) zone name labels shape
+      → ShowsNoCloser number_cmp (evidence_said (KeptIn trust) setting.rrsets zone chain) zone name labels shape
       → IsAbove zone name labels
   closer_above trust labels zone chain shape (closer_shown number shows) = shows.above
 
-  pub good_facts : (trust : KeptTrust) → IsTrustIn basis trust → (apex : Labels) (chain : Chain)
-      → FormFacts (KeptIn trust) basis.rrsets apex name chain shown.form → FormFacts (SecuredIn basis) basis.rrsets apex name chain shown.form
+  pub good_facts : (trust : KeptTrust) → IsTrustIn setting trust → (apex : Labels) (chain : Chain)
+      → FormFacts (KeptIn trust) setting.rrsets apex name chain shown.form → FormFacts (SecuredIn setting) setting.rrsets apex name chain shown.form
   good_facts trust good apex chain facts =
-      facts_too (KeptIn trust) (SecuredIn basis) (kept_good basis trust good) basis.rrsets apex name chain shown.form facts
+      facts_too (KeptIn trust) (SecuredIn setting) (kept_good setting trust good) setting.rrsets apex name chain shown.form facts
 
-  facts_by : (trust : KeptTrust) → IsTrustIn basis trust → IsShownBy trust basis.rrsets name shown → ShownFacts
+  facts_by : (trust : KeptTrust) → IsTrustIn setting trust → IsShownBy trust setting.rrsets name shown → ShownFacts
   facts_by trust good (no_name is) = record {
     apex = shown.proof.zone;
     same = refl;
     chain = is.chain;
     kind = is.kind;
     facts = good_facts trust good shown.proof.zone is.chain
-        (no_name_facts (KeptIn trust) basis.rrsets shown.proof.zone name is.chain shown.form is.shows);
+        (no_name_facts (KeptIn trust) setting.rrsets shown.proof.zone name is.chain shown.form is.shows);
     records = λ number there. (is.records.members number).0 there;
     named = λ number there. (is.records.members number).1 there;
   }
@@ -123,7 +123,7 @@ module _ (basis : Basis) (name : Labels) (shown : ShownDenial) where
     chain = is.chain;
     kind = is.kind;
     facts = good_facts trust good shown.proof.zone is.chain
-        (no_data_facts (KeptIn trust) basis.rrsets shown.proof.zone name is.chain t shown.form is.shows);
+        (no_data_facts (KeptIn trust) setting.rrsets shown.proof.zone name is.chain t shown.form is.shows);
     records = λ number there. (is.records.members number).0 there;
     named = λ number there. (is.records.members number).1 there;
   }
@@ -134,29 +134,29 @@ module _ (basis : Basis) (name : Labels) (shown : ShownDenial) where
         chain = is.chain;
         kind = is.kind;
         facts = good_facts trust good zone is.chain
-            (no_closer_facts (KeptIn trust) basis.rrsets zone name is.chain labels shown.form is.shows);
+            (no_closer_facts (KeptIn trust) setting.rrsets zone name is.chain labels shown.form is.shows);
         records = λ number there. subst (Among number) is.records there;
         named = λ number there. subst (Among number) (sym is.records) there;
       }
 
-  pub shown_facts : IsShownDenial basis name shown → ShownFacts
+  pub shown_facts : IsShownDenial setting name shown → ShownFacts
   shown_facts is = facts_by is.0 is.1 is.2
 
   module _ (facts : ShownFacts) where
     -- each record is signed by the zone
     pub record_signed : (number : RecordNumber) → Contains shown.proof.records number
-        → IsSecuredBy (SecuredIn basis) basis.rrsets shown.proof.zone number.rrset
+        → IsSecuredBy (SecuredIn setting) setting.rrsets shown.proof.zone number.rrset
     record_signed number there =
-        zone_as (SecuredIn basis) basis.rrsets facts.apex shown.proof.zone number.rrset facts.same
-        (each_member (IsSigned (SecuredIn basis) basis.rrsets facts.apex name) (form_records shown.form) number facts.facts.records
+        zone_as (SecuredIn setting) setting.rrsets facts.apex shown.proof.zone number.rrset facts.same
+        (each_member (IsSigned (SecuredIn setting) setting.rrsets facts.apex name) (form_records shown.form) number facts.facts.records
         (facts.records number there))
 
     -- each part says so
     pub part_shown : (each : ProofPart) → Contains (form_parts shown.chain shown.form) each
-        → IsShownPart (SecuredIn basis) basis.rrsets facts.apex name facts.chain each
+        → IsShownPart (SecuredIn setting) setting.rrsets facts.apex name facts.chain each
     part_shown each there =
         let Among : ChainKind → Type 0 = λ kind. Contains (form_parts kind shown.form) each in
-        each_member (IsShownPart (SecuredIn basis) basis.rrsets facts.apex name facts.chain)
+        each_member (IsShownPart (SecuredIn setting) setting.rrsets facts.apex name facts.chain)
         (form_parts (kind_of facts.chain) shown.form) each facts.facts.parts (subst Among facts.kind there)
 
     -- and its record is one of the proof's
@@ -167,14 +167,14 @@ module _ (basis : Basis) (name : Labels) (shown : ShownDenial) where
         (parts_listed shown.chain shown.form) there)
 
     by_there : (of : PartName) (related : PartRelation) (by : Option RecordNumber)
-        → PartSays (SecuredIn basis) basis.rrsets facts.apex name facts.chain of related by → HasRrset basis.rrsets by
+        → PartSays (SecuredIn setting) setting.rrsets facts.apex name facts.chain of related by → HasRrset setting.rrsets by
     by_there of related None says = tt
     by_there of related (Some number) says =
-        let signed = word_signed (SecuredIn basis) basis.rrsets facts.apex number facts.chain (told_role of) (told_relation related)
+        let signed = word_signed (SecuredIn setting) setting.rrsets facts.apex number facts.chain (told_role of) (told_relation related)
         (part_name name of) says in
         (signed.rrset, signed.is_rrset)
 
-    pub part_fits : (each : ProofPart) → Contains (form_parts shown.chain shown.form) each → IsPartFit basis.rrsets name each
+    pub part_fits : (each : ProofPart) → Contains (form_parts shown.chain shown.form) each → IsPartFit setting.rrsets name each
     part_fits each there =
         let is = part_shown each there in
         record { name = is.within; by = by_there each.name each.relation each.by is.says }
@@ -204,6 +204,6 @@ form_by trust rrsets name shown (no_data t is) = no_data_form (KeptIn trust) rrs
 form_by trust rrsets name shown (no_closer labels zone is) =
     no_closer_form (KeptIn trust) rrsets zone name is.chain labels shown.form is.shows
 
-pub has_form : (basis : Basis) (name : Labels) (shown : ShownDenial) → IsShownDenial basis name shown
+pub has_form : (setting : Setting) (name : Labels) (shown : ShownDenial) → IsShownDenial setting name shown
     → (told_as : Form) × (told_form shown.form ≡ Some told_as)
-has_form basis name shown is = form_by is.0 basis.rrsets name shown is.2
+has_form setting name shown is = form_by is.0 setting.rrsets name shown is.2

@@ -13,14 +13,14 @@ use Rattle.dnsv_denial.specs.declared.proving.proof_part.PartName.{PartName}
 use Rattle.dnsv_denial.specs.declared.proving.proof_part.PartRelation.{PartRelation}
 use Rattle.dnsv_denial.specs.declared.proving.proof_part.ProofPart.{ProofPart}
 use Rattle.dnsv_denial.specs.declared.records.number.RecordNumber.{RecordNumber}
-use Rattle.dnsv_verdict.specs.Verdict.{Basis}
+use Rattle.dnsv_explain.specs.Explained.{Setting}
 use Rattle.dnsv_explain.specs.Denials.{told_relation, told_role}
 use Rattle.dnsv_explain.specs.derivations.OwnDerivations.{IsTrustIn, SecuredIn}
 use Rattle.dnsv_explain.proofs.lemmas.denials.FormLemmas.{AreShownParts, FormFacts, IsSigned, PartSays}
 use Rattle.dnsv_explain.proofs.lemmas.denials.PartLemmas.{secured_too, word_by, word_signed}
 
-pub kept_good : (basis : Basis) (trust : KeptTrust) → IsTrustIn basis trust → (k s : ℕ) → KeptIn trust k s → SecuredIn basis k s
-kept_good basis trust is k s kept = ((is.signed k).members s).0 kept
+pub kept_good : (setting : Setting) (trust : KeptTrust) → IsTrustIn setting trust → (k s : ℕ) → KeptIn trust k s → SecuredIn setting k s
+kept_good setting trust is k s kept = ((is.signed k).members s).0 kept
 
 module _ (S T : ℕ → ℕ → Type 0) (more : (k s : ℕ) → S k s → T k s) (rrsets : List ReceivedRrset) (apex name : Labels) (chain : Chain) where
   says_too : (of : PartName) (related : PartRelation) (by : Option RecordNumber) → PartSays S rrsets apex name chain of related by

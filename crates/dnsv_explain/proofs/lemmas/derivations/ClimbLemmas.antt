@@ -7,8 +7,8 @@ use Rattle.dnsv_canonical.specs.Rrsets.{IsNumbered, ReceivedRrset}
 use Rattle.dnsv_chain.specs.Trusted.{IsSecured}
 use Rattle.dnsv_denial.specs.declared.records.number.RecordNumber.{RecordNumber}
 use Rattle.dnsv_records.specs.declared.number.DigestType.{DigestType}
-use Rattle.dnsv_verdict.specs.Verdict.{Basis}
-use Rattle.dnsv_explain.specs.derivations.Climb.{Climbs, IsClimbed, IsUpTo, LeadsUp, labels_at}
+use Rattle.dnsv_explain.specs.Explained.{Setting}
+use Rattle.dnsv_explain.specs.derivations.Climb.{Climbs, IsUpTo, LeadsUp, labels_at}
 use Rattle.dnsv_explain.specs.derivations.Derivations.{IsByAnchor, IsDerivation, IsLowestSecured}
 use Rattle.dnsv_explain.specs.derivations.Derivations.IsDerivation.{said_trusted as by_said_trust, anchored as by_anchored, delegated as by_delegated, said_signed as by_said_signature, signed as by_signature}
 use Rattle.dnsv_explain.specs.derivations.Derivations.Subject.{keys, signature}
@@ -23,35 +23,35 @@ use Rattle.dnsv_explain.specs.declared.line.derivation.Voucher.{Voucher}
 use Rattle.dnsv_explain.specs.declared.line.derivation.Voucher.TheVariants as voucher
 use Rattle.dnsv_explain.proofs.lemmas.NumberedLemmas.{same_number}
 
-module _ (basis : Basis) (before : List Line) where
-  labels_are : (k : ℕ) (rrset : ReceivedRrset) → IsNumbered basis.rrsets k rrset → labels_at basis.rrsets k ≡ length rrset.owner
+module _ (setting : Setting) (before : List Line) where
+  labels_are : (k : ℕ) (rrset : ReceivedRrset) → IsNumbered setting.rrsets k rrset → labels_at setting.rrsets k ≡ length rrset.owner
   labels_are k rrset numbered =
       ap (λ found. option_map_or (λ (each : ReceivedRrset). length each.owner) found 0) numbered.1
 
   -- what a DS record leads to, by the line
-  by_ds : (k : ℕ) (trusted : TrustedKeys) (number : RecordNumber) (digest_type : DigestType) (is : IsTrustedLine basis k trusted)
-      → trusted.voucher ≡ voucher.Ds number digest_type → IsMatchedBy (HasSecured basis) basis (voucher.Ds number digest_type) is.way.key
+  by_ds : (k : ℕ) (trusted : TrustedKeys) (number : RecordNumber) (digest_type : DigestType) (is : IsTrustedLine setting k trusted)
+      → trusted.voucher ≡ voucher.Ds number digest_type → IsMatchedBy (HasSecured setting) setting (voucher.Ds number digest_type) is.way.key
   by_ds k trusted number digest_type is voucher =
-      let By : Voucher → Type 0 = λ each. IsMatchedBy (HasSecured basis) basis each is.way.key in
+      let By : Voucher → Type 0 = λ each. IsMatchedBy (HasSecured setting) setting each is.way.key in
       subst By (sym is.voucher ∙ voucher) is.first.is.matched
 
-  pub ds_secured : (k : ℕ) (trusted : TrustedKeys) (number : RecordNumber) (digest_type : DigestType) → IsTrustedLine basis k trusted
+  pub ds_secured : (k : ℕ) (trusted : TrustedKeys) (number : RecordNumber) (digest_type : DigestType) → IsTrustedLine setting k trusted
       → trusted.voucher ≡ voucher.Ds number digest_type
-      → ((s : ℕ) → ¬ IsSecured basis.meaning basis.moment basis.rrsets basis.anchors number.rrset s) → ⊥
+      → ((s : ℕ) → ¬ IsSecured setting.meaning setting.moment setting.rrsets setting.anchors number.rrset s) → ⊥
   ds_secured k trusted number digest_type is voucher none =
       let by = by_ds k trusted number digest_type is voucher in none by.1.0 by.1.1
 
   -- the RRset of the signer's keys has fewer labels
   fewer_labels : (k s : ℕ) (trusted : TrustedKeys) (number : RecordNumber) (digest_type : DigestType) (signed : SignedRrset)
-      → IsTrustedLine basis k trusted → trusted.voucher ≡ voucher.Ds number digest_type
-      → IsSignedLine basis (record { rrset = number.rrset; signature = s }) signed
-      → labels_at basis.rrsets signed.keys < labels_at basis.rrsets k
+      → IsTrustedLine setting k trusted → trusted.voucher ≡ voucher.Ds number digest_type
+      → IsSignedLine setting (record { rrset = number.rrset; signature = s }) signed
+      → labels_at setting.rrsets signed.keys < labels_at setting.rrsets k
   fewer_labels k s trusted number digest_type signed is voucher line =
       let by = by_ds k trusted number digest_type is voucher in
       let way = is.first.is in
       let signer = line.first.is in
       let same : by.0.rrset ≡ signer.rrset =
-      same_number basis.rrsets number.rrset by.0.rrset signer.rrset by.0.at.is_rrset signer.good.is_rrset in
+      same_number setting.rrsets number.rrset by.0.rrset signer.rrset by.0.at.is_rrset signer.good.is_rrset in
       let owner : ReceivedRrset → ℕ = λ each. length each.owner in
       let below = below_length signer.rrset.owner signer.good.rrsig.signer
       (signer.good.good.admissible.signer.ds (sym (ap (λ (each : ReceivedRrset). each.rtype) same) ∙ by.0.rtype)) in
@@ -66,38 +66,38 @@ module _ (basis : Basis) (before : List Line) where
       let this = labels_are k way.set way.good.is_rrset in
       omega (arith, below, at_signer, at_set, at_ds, at_key, at_same, next, this)
 
-  pub signer_trusted : (number : SignatureNumber) (signed : SignedRrset) → IsSignedLine basis number signed → IsTrustedSet basis signed.keys
+  pub signer_trusted : (number : SignatureNumber) (signed : SignedRrset) → IsSignedLine setting number signed → IsTrustedSet setting signed.keys
   signer_trusted number signed line = (line.first.is.set, line.first.is.is_set, line.first.is.trusted)
 
   -- ---- a step up
 
   module _ (k : ℕ) (old : List Line) where
-    pub said_before : IsSaidTrusted before k → Climbs basis before k old old None
+    pub said_before : IsSaidTrusted before k → Climbs setting before k old old None
     said_before said = ([], sym (append-nil old), by_said_trust said)
 
     one_more : (new : List Line) (trusted : TrustedKeys) → new ≡ old ++ line.Trusted trusted ∷ []
-        → IsDerivation basis before (keys k) (line.Trusted trusted ∷ []) → Climbs basis before k old new None
+        → IsDerivation setting before (keys k) (line.Trusted trusted ∷ []) → Climbs setting before k old new None
     one_more new trusted pushed derivation = (line.Trusted trusted ∷ [], pushed, derivation)
 
     pub by_anchor : (new : List Line) (trusted : TrustedKeys) → new ≡ old ++ line.Trusted trusted ∷ [] → ¬ IsSaidTrusted before k
-        → IsTrustedLine basis k trusted → IsByAnchor trusted.voucher → Climbs basis before k old new None
+        → IsTrustedLine setting k trusted → IsByAnchor trusted.voucher → Climbs setting before k old new None
     by_anchor new trusted pushed unsaid is anchor = one_more new trusted pushed (by_anchored unsaid is anchor)
 
     pub by_said : (new : List Line) (trusted : TrustedKeys) (number : RecordNumber) (digest_type : DigestType) (s : ℕ)
-        → new ≡ old ++ line.Trusted trusted ∷ [] → ¬ IsSaidTrusted before k → IsTrustedLine basis k trusted
-        → trusted.voucher ≡ voucher.Ds number digest_type → IsLowestSecured basis number.rrset s
-        → IsSignatureSaid before (record { rrset = number.rrset; signature = s }) → Climbs basis before k old new None
+        → new ≡ old ++ line.Trusted trusted ∷ [] → ¬ IsSaidTrusted before k → IsTrustedLine setting k trusted
+        → trusted.voucher ≡ voucher.Ds number digest_type → IsLowestSecured setting number.rrset s
+        → IsSignatureSaid before (record { rrset = number.rrset; signature = s }) → Climbs setting before k old new None
     by_said new trusted number digest_type s pushed unsaid is voucher lowest said =
         one_more new trusted pushed (by_delegated unsaid is voucher lowest (by_said_signature said))
 
     pub by_signed : (new : List Line) (trusted : TrustedKeys) (number : RecordNumber) (digest_type : DigestType) (s : ℕ) (signed : SignedRrset)
-        → new ≡ (old ++ line.Trusted trusted ∷ []) ++ line.Signed signed ∷ [] → ¬ IsSaidTrusted before k → IsTrustedLine basis k trusted
-        → trusted.voucher ≡ voucher.Ds number digest_type → IsLowestSecured basis number.rrset s
+        → new ≡ (old ++ line.Trusted trusted ∷ []) ++ line.Signed signed ∷ [] → ¬ IsSaidTrusted before k → IsTrustedLine setting k trusted
+        → trusted.voucher ≡ voucher.Ds number digest_type → IsLowestSecured setting number.rrset s
         → ¬ IsSignatureSaid before (record { rrset = number.rrset; signature = s })
-        → IsSignedLine basis (record { rrset = number.rrset; signature = s }) signed → Climbs basis before k old new (Some signed.keys)
+        → IsSignedLine setting (record { rrset = number.rrset; signature = s }) signed → Climbs setting before k old new (Some signed.keys)
     by_signed new trusted number digest_type s signed pushed unsaid is voucher lowest unsaid_too its =
         let more : List Line = line.Trusted trusted ∷ line.Signed signed ∷ [] in
-        let Derives : List Line → Type 0 = λ lines. IsDerivation basis before (keys k) lines in (
+        let Derives : List Line → Type 0 = λ lines. IsDerivation setting before (keys k) lines in (
           more,
           pushed ∙ append_assoc old (line.Trusted trusted ∷ []) (line.Signed signed ∷ []),
           record {
@@ -111,21 +111,21 @@ module _ (basis : Basis) (before : List Line) where
 
   -- ---- steps one after another
 
-  pub at_the_bottom : (k : ℕ) → IsTrustedSet basis k → LeadsUp basis before k [] k
+  pub at_the_bottom : (k : ℕ) → IsTrustedSet setting k → LeadsUp setting before k [] k
   at_the_bottom k trusted =
-      let Derives : List Line → Type 0 = λ lines. IsDerivation basis before (keys k) lines in record {
+      let Derives : List Line → Type 0 = λ lines. IsDerivation setting before (keys k) lines in record {
         derives = λ above is. subst Derives (sym (append-nil above)) is;
         trusted = trusted;
       }
 
-  pub further_up : (k next : ℕ) (lines after : List Line) (then : Option ℕ) → LeadsUp basis before k lines next
-      → Climbs basis before next lines after then → IsUpTo basis before k after then
+  pub further_up : (k next : ℕ) (lines after : List Line) (then : Option ℕ) → LeadsUp setting before k lines next
+      → Climbs setting before next lines after then → IsUpTo setting before k after then
   further_up k next lines after None leads (more, grown, climbed) =
-      let Derives : List Line → Type 0 = λ each. IsDerivation basis before (keys k) each in
+      let Derives : List Line → Type 0 = λ each. IsDerivation setting before (keys k) each in
       let turned : reverse after ≡ reverse more ++ reverse lines = ap reverse grown ∙ reverse-append lines more in
       subst Derives (sym turned) (leads.derives (reverse more) climbed)
   further_up k next lines after (Some further) leads (more, grown, up, fewer) =
-      let Derives : List Line → Type 0 = λ each. IsDerivation basis before (keys k) each in
+      let Derives : List Line → Type 0 = λ each. IsDerivation setting before (keys k) each in
       let turned : reverse after ≡ reverse more ++ reverse lines = ap reverse grown ∙ reverse-append lines more in record {
         derives = λ above is.
             let joined : above ++ reverse after ≡ (above ++ reverse more) ++ reverse lines =
@@ -134,17 +134,17 @@ module _ (basis : Basis) (before : List Line) where
         trusted = up.trusted;
       }
 
-  pub fewer_left : (k next : ℕ) (lines after : List Line) → Climbs basis before k lines after (Some next)
-      → labels_at basis.rrsets next < labels_at basis.rrsets k
+  pub fewer_left : (k next : ℕ) (lines after : List Line) → Climbs setting before k lines after (Some next)
+      → labels_at setting.rrsets next < labels_at setting.rrsets k
   fewer_left k next lines after (more, grown, up, fewer) = fewer
 
   -- ---- a signature
 
-  pub whole : (number : SignatureNumber) (signed : SignedRrset) (climbed lines : List Line) → ¬ IsSignatureSaid before number
-      → IsSignedLine basis number signed → IsClimbed basis before signed.keys climbed
-      → lines ≡ reverse climbed ++ line.Signed signed ∷ [] → IsDerivation basis before (signature number) lines
-  whole number signed climbed lines unsaid its is pushed =
-      let Derives : List Line → Type 0 = λ each. IsDerivation basis before (signature number) each in
+  pub whole : (number : SignatureNumber) (signed : SignedRrset) (above lines : List Line) → ¬ IsSignatureSaid before number
+      → IsSignedLine setting number signed → IsDerivation setting before (keys signed.keys) above
+      → lines ≡ above ++ line.Signed signed ∷ [] → IsDerivation setting before (signature number) lines
+  whole number signed above lines unsaid its is pushed =
+      let Derives : List Line → Type 0 = λ each. IsDerivation setting before (signature number) each in
       subst Derives (sym pushed) (by_signature unsaid its is)
 
 -- what isn't a DS record is an anchor

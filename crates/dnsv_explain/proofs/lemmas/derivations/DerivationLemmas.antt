@@ -8,7 +8,7 @@ use Rattle.dnsv_names.specs.Tree.TreeLaws.{same_of_key}
 use Rattle.dnsv_denial.specs.declared.records.number.RecordNumber.{RecordNumber}
 use Rattle.dnsv_records.specs.declared.number.DigestType.{DigestType}
 use Rattle.dnsv_verifier.specs.Admissible.{DnskeyRecord}
-use Rattle.dnsv_verdict.specs.Verdict.{Basis}
+use Rattle.dnsv_explain.specs.Explained.{Setting}
 use Rattle.dnsv_explain.specs.derivations.Derivations.{IsByAnchor, IsDerivation, Subject}
 use Rattle.dnsv_explain.specs.derivations.Derivations.IsDerivation.{said_trusted, anchored, delegated, said_signed, signed}
 use Rattle.dnsv_explain.specs.derivations.Derivations.Subject.{keys, signature}
@@ -25,35 +25,35 @@ use Rattle.dnsv_explain.specs.declared.line.derivation.Voucher.TheVariants as vo
 same_as : (a b : Labels) → b ≡ a → SameName a b
 same_as a b same = let As : Labels → Type 0 = λ each. SameName a each in subst As (sym same) (same_of_key a a refl)
 
-module _ (basis : Basis) where
-  follows_push : (before xs : List Line) (y : Line) → EachFollows basis before xs → Follows basis (before ++ xs) y
-      → EachFollows basis before (xs ++ y ∷ [])
+module _ (setting : Setting) where
+  follows_push : (before xs : List Line) (y : Line) → EachFollows setting before xs → Follows setting (before ++ xs) y
+      → EachFollows setting before (xs ++ y ∷ [])
   follows_push before [] y each one =
-      let Then : List Line → Type 0 = λ all. Follows basis all y in (subst Then (append-nil before) one, tt)
+      let Then : List Line → Type 0 = λ all. Follows setting all y in (subst Then (append-nil before) one, tt)
   follows_push before (x ∷ xs) y each one =
-      let Then : List Line → Type 0 = λ all. Follows basis all y in
+      let Then : List Line → Type 0 = λ all. Follows setting all y in
       (each.0, follows_push (before ++ x ∷ []) xs y each.1 (subst Then (sym (append_assoc before (x ∷ []) xs)) one))
 
   -- what matches by trust matches by what was said
   by_anchor : (before : List Line) (voucher : Voucher) (key : DnskeyRecord) → IsByAnchor voucher
-      → IsMatchedBy (HasSecured basis) basis voucher key → IsVouchedBy basis before voucher key
+      → IsMatchedBy (HasSecured setting) setting voucher key → IsVouchedBy setting before voucher key
   by_anchor before (voucher.KeyAnchor number) key is matched = matched
   by_anchor before (voucher.DsAnchor number digest_type) key is matched = matched
   by_anchor before (voucher.Ds number digest_type) key is matched = absurd is
 
   by_ds : (before : List Line) (told : Voucher) (number : RecordNumber) (digest_type : DigestType) (key : DnskeyRecord)
       → told ≡ voucher.Ds number digest_type → IsSaidSigned before number.rrset
-      → IsMatchedBy (HasSecured basis) basis told key → IsVouchedBy basis before told key
+      → IsMatchedBy (HasSecured setting) setting told key → IsVouchedBy setting before told key
   by_ds before told number digest_type key is said matched =
-      let By : Voucher → Type 0 = λ each. IsMatchedBy (HasSecured basis) basis each key in
-      let Vouched : Voucher → Type 0 = λ each. IsVouchedBy basis before each key in
+      let By : Voucher → Type 0 = λ each. IsMatchedBy (HasSecured setting) setting each key in
+      let Vouched : Voucher → Type 0 = λ each. IsVouchedBy setting before each key in
       let there : By (voucher.Ds number digest_type) = subst By is matched in
       subst Vouched (sym is) (there.0, said)
 
-  trusted_follows : (before : List Line) (k : ℕ) (trusted : TrustedKeys) (is : IsTrustedLine basis k trusted)
-      → IsVouchedBy basis before trusted.voucher is.way.key → FollowsTrusted basis before trusted
+  trusted_follows : (before : List Line) (k : ℕ) (trusted : TrustedKeys) (is : IsTrustedLine setting k trusted)
+      → IsVouchedBy setting before trusted.voucher is.way.key → FollowsTrusted setting before trusted
   trusted_follows before k trusted is vouched =
-      let Good : SignatureNumber → Type 0 = λ number. IsGoodUnder basis number is.first.is.set is.way.key in record {
+      let Good : SignatureNumber → Type 0 = λ number. IsGoodUnder setting number is.first.is.set is.way.key in record {
         set = is.first.is.set;
         owner = same_as is.first.is.set.owner trusted.zone is.zone;
         key = is.way.key;
@@ -63,17 +63,17 @@ module _ (basis : Basis) where
         vouched = vouched;
       }
 
-  matched_line : (k : ℕ) (trusted : TrustedKeys) (is : IsTrustedLine basis k trusted)
-      → IsMatchedBy (HasSecured basis) basis trusted.voucher is.way.key
+  matched_line : (k : ℕ) (trusted : TrustedKeys) (is : IsTrustedLine setting k trusted)
+      → IsMatchedBy (HasSecured setting) setting trusted.voucher is.way.key
   matched_line k trusted is =
-      let By : Voucher → Type 0 = λ each. IsMatchedBy (HasSecured basis) basis each is.way.key in
+      let By : Voucher → Type 0 = λ each. IsMatchedBy (HasSecured setting) setting each is.way.key in
       subst By (sym is.voucher) is.first.is.matched
 
-  signed_follows : (before : List Line) (number : SignatureNumber) (this : SignedRrset) → IsSignedLine basis number this
-      → IsSaidTrusted before this.keys → FollowsSigned basis before this
+  signed_follows : (before : List Line) (number : SignatureNumber) (this : SignedRrset) → IsSignedLine setting number this
+      → IsSaidTrusted before this.keys → FollowsSigned setting before this
   signed_follows before number this is said =
       let signer = is.first.is in
-      let Good : SignatureNumber → Type 0 = λ each. IsGoodUnder basis each signer.rrset is.key in record {
+      let Good : SignatureNumber → Type 0 = λ each. IsGoodUnder setting each signer.rrset is.key in record {
         rrset = signer.rrset;
         owner = same_as signer.rrset.owner this.owner is.owner;
         rtype = is.rtype;
@@ -92,7 +92,7 @@ module _ (basis : Basis) where
   last_line : (before lines : List Line) (each : Line) → Contains (before ++ (lines ++ each ∷ [])) each
   last_line before lines each = Contains-append_right before (lines ++ each ∷ []) each (Contains-push lines each)
 
-  trusted_said : (before lines : List Line) (k : ℕ) (trusted : TrustedKeys) → IsTrustedLine basis k trusted
+  trusted_said : (before lines : List Line) (k : ℕ) (trusted : TrustedKeys) → IsTrustedLine setting k trusted
       → IsSaidTrusted (before ++ (lines ++ line.Trusted trusted ∷ [])) k
   trusted_said before lines k trusted is = record {
     keys = trusted;
@@ -100,7 +100,7 @@ module _ (basis : Basis) where
     rrset = ap (λ (number : SignatureNumber). number.rrset) is.signature;
   }
 
-  keys_said : (before lines : List Line) (k : ℕ) → IsDerivation basis before (keys k) lines → IsSaidTrusted (before ++ lines) k
+  keys_said : (before lines : List Line) (k : ℕ) → IsDerivation setting before (keys k) lines → IsSaidTrusted (before ++ lines) k
   keys_said before lines k (said_trusted said) = record {
     keys = said.keys;
     among = Contains-append_left before [] (line.Trusted said.keys) said.among;
@@ -110,7 +110,7 @@ module _ (basis : Basis) where
   keys_said before lines k (delegated {trusted = trusted} {lines = above} unsaid is voucher lowest derivation) =
       trusted_said before above k trusted is
 
-  pub number_said : (before lines : List Line) (number : SignatureNumber) → IsDerivation basis before (signature number) lines
+  pub number_said : (before lines : List Line) (number : SignatureNumber) → IsDerivation setting before (signature number) lines
       → IsSignatureSaid (before ++ lines) number
   number_said before lines number (said_signed said) = record {
     signed = said.signed;
@@ -123,7 +123,7 @@ module _ (basis : Basis) where
     is = is.signature;
   }
 
-  pub signature_said : (before lines : List Line) (number : SignatureNumber) → IsDerivation basis before (signature number) lines
+  pub signature_said : (before lines : List Line) (number : SignatureNumber) → IsDerivation setting before (signature number) lines
       → IsSaidSigned (before ++ lines) number.rrset
   signature_said before lines number derivation =
       let said = number_said before lines number derivation in record {
@@ -132,8 +132,8 @@ module _ (basis : Basis) where
         rrset = ap (λ (each : SignatureNumber). each.rrset) said.is;
       }
 
-  pub derivation_follows : (before : List Line) (subject : Subject) (lines : List Line) → IsDerivation basis before subject lines
-      → EachFollows basis before lines
+  pub derivation_follows : (before : List Line) (subject : Subject) (lines : List Line) → IsDerivation setting before subject lines
+      → EachFollows setting before lines
   derivation_follows before subject lines (said_trusted said) = tt
   derivation_follows before subject lines (said_signed said) = tt
   derivation_follows before subject lines (anchored {k = k} {trusted = trusted} unsaid is anchor) =

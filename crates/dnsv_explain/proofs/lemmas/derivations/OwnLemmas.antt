@@ -13,7 +13,7 @@ use Rattle.dnsv_canonical.specs.Rrsets.{IsNumbered, ReceivedRrset}
 use Rattle.dnsv_canonical.specs.SignedData.{IsExpanded}
 use Rattle.dnsv_chain.specs.Trust.{AreSecured}
 use Rattle.dnsv_denial.specs.gathering.Evidence.{HasZoneSignature, IsSecuredBy}
-use Rattle.dnsv_verdict.specs.Verdict.{Basis}
+use Rattle.dnsv_explain.specs.Explained.{Setting}
 use Rattle.dnsv_explain.specs.derivations.OwnDerivations.{IsLowestOwn, IsOwnDerivation, IsOwnSignature, IsSignatureTold, SecuredIn}
 use Rattle.dnsv_explain.specs.derivations.OwnSearch.{IsNoneOwn}
 use Rattle.dnsv_explain.specs.Saying.{Adds}
@@ -24,50 +24,50 @@ use Rattle.dnsv_explain.proofs.lemmas.NumberedLemmas.{same_number}
 use Rattle.dnsv_explain.proofs.lemmas.denials.PartLemmas.{signature_too}
 use Rattle.dnsv_explain.proofs.lemmas.intervals.ShownLemmas.{rdata_at, read_at}
 
-module _ (basis : Basis) (zone : Labels) (k : ℕ) where
-  pub not_there : ((rrset : ReceivedRrset) → ¬ IsNumbered basis.rrsets k rrset) → (s : ℕ) → ¬ IsOwnSignature basis zone k s
+module _ (setting : Setting) (zone : Labels) (k : ℕ) where
+  pub not_there : ((rrset : ReceivedRrset) → ¬ IsNumbered setting.rrsets k rrset) → (s : ℕ) → ¬ IsOwnSignature setting zone k s
   not_there none s own = none own.rrset own.is_rrset
 
   -- some signature of the zone is one with a number
-  pub its_number : (by : IsSecuredBy (SecuredIn basis) basis.rrsets zone k) → IsOwnSignature basis zone k by.signed.signature
+  pub its_number : (by : IsSecuredBy (SecuredIn setting) setting.rrsets zone k) → IsOwnSignature setting zone k by.signed.signature
   its_number by = record {
     rrset = by.rrset;
     is_rrset = by.is_rrset;
-    signed = signature_too (SecuredIn basis k) (λ t. (t ≡ by.signed.signature) × SecuredIn basis k t) by.rrset zone by.signed
+    signed = signature_too (SecuredIn setting k) (λ t. (t ≡ by.signed.signature) × SecuredIn setting k t) by.rrset zone by.signed
         (λ i. by.signed.signature, by.signed.secured);
   }
 
-  pub own_secured : (s : ℕ) → IsOwnSignature basis zone k s → SecuredIn basis k s
+  pub own_secured : (s : ℕ) → IsOwnSignature setting zone k s → SecuredIn setting k s
   own_secured s own =
-      let Secured : ℕ → Type 0 = λ t. SecuredIn basis k t in subst Secured own.signed.secured.0 own.signed.secured.1
+      let Secured : ℕ → Type 0 = λ t. SecuredIn setting k t in subst Secured own.signed.secured.0 own.signed.secured.1
 
-  pub lowest_secured : (number : SignatureNumber) → number.rrset ≡ k → IsLowestOwn basis zone k number.signature
-      → SecuredIn basis number.rrset number.signature
+  pub lowest_secured : (number : SignatureNumber) → number.rrset ≡ k → IsLowestOwn setting zone k number.signature
+      → SecuredIn setting number.rrset number.signature
   lowest_secured number same lowest =
-      let Secured : ℕ → Type 0 = λ n. SecuredIn basis n number.signature in
+      let Secured : ℕ → Type 0 = λ n. SecuredIn setting n number.signature in
       subst Secured (sym same) (own_secured number.signature lowest.own)
 
   -- what is derived of the lowest is what is asked for
-  pub own_derived : (number : SignatureNumber) (old new : List Line) → number.rrset ≡ k → IsLowestOwn basis zone k number.signature
-      → Adds (IsSignatureTold basis number) old new → Adds (IsOwnDerivation basis zone k) old new
+  pub own_derived : (number : SignatureNumber) (old new : List Line) → number.rrset ≡ k → IsLowestOwn setting zone k number.signature
+      → Adds (IsSignatureTold setting number) old new → Adds (IsOwnDerivation setting zone k) old new
   own_derived number old new same lowest added =
-      let Derives : SignatureNumber → Type 0 = λ each. IsSignatureTold basis each old added.more in record {
+      let Derives : SignatureNumber → Type 0 = λ each. IsSignatureTold setting each old added.more in record {
         more = added.more;
         is = added.is;
         says = record { s = number.signature; lowest = lowest; derivation = subst Derives (number_is number k same) added.says };
       }
 
-  module _ (rrset : ReceivedRrset) (numbered : IsNumbered basis.rrsets k rrset) (numbers : List ℕ)
-      (are : AreSecured basis.meaning basis.moment basis.rrsets basis.anchors k numbers) where
+  module _ (rrset : ReceivedRrset) (numbered : IsNumbered setting.rrsets k rrset) (numbers : List ℕ)
+      (are : AreSecured setting.meaning setting.moment setting.rrsets setting.anchors k numbers) where
     own_at : (i : ℕ) → i < length numbers → HasZoneSignature (λ s. s ≡ get_or numbers i 0) rrset zone
-        → IsOwnSignature basis zone k (get_or numbers i 0)
+        → IsOwnSignature setting zone k (get_or numbers i 0)
     own_at i within has =
-        let Secured : ℕ → Type 0 = λ t. SecuredIn basis k t in
+        let Secured : ℕ → Type 0 = λ t. SecuredIn setting k t in
         let secured : Secured (get_or numbers i 0) = (are.members (get_or numbers i 0)).0 (Contains-get_or numbers i 0 within) in
         record {
           rrset = rrset;
           is_rrset = numbered;
-          signed = signature_too (λ s. s ≡ get_or numbers i 0) (λ t. (t ≡ get_or numbers i 0) × SecuredIn basis k t) rrset zone has
+          signed = signature_too (λ s. s ≡ get_or numbers i 0) (λ t. (t ≡ get_or numbers i 0) × SecuredIn setting k t) rrset zone has
               (has.secured, subst Secured (sym has.secured) secured);
         }
 
@@ -78,9 +78,9 @@ module _ (basis : Basis) (zone : Labels) (k : ℕ) where
       is : get_or numbers place 0 ≡ s
       has : HasZoneSignature (λ t. t ≡ get_or numbers place 0) rrset zone
 
-    own_place : (s : ℕ) → IsOwnSignature basis zone k s → OwnPlace s
+    own_place : (s : ℕ) → IsOwnSignature setting zone k s → OwnPlace s
     own_place s own =
-        let Secured : ℕ → Type 0 = λ t. SecuredIn basis k t in
+        let Secured : ℕ → Type 0 = λ t. SecuredIn setting k t in
         let there : Contains numbers s = (are.members s).1 (subst Secured own.signed.secured.0 own.signed.secured.1) in
         let is : get_or numbers there.0 0 ≡ s = get_or_default numbers there.0 0 s there.1 ∙ there.2 in
         let Has : ReceivedRrset → Type 0 = λ each. HasZoneSignature (λ t. t ≡ get_or numbers there.0 0) each zone in
@@ -88,8 +88,8 @@ module _ (basis : Basis) (zone : Labels) (k : ℕ) where
           place = there.0;
           within = there.1;
           is = is;
-          has = subst Has (same_number basis.rrsets k own.rrset rrset own.is_rrset numbered)
-              (signature_too (λ t. (t ≡ s) × SecuredIn basis k t) (λ t. t ≡ get_or numbers there.0 0) own.rrset zone own.signed
+          has = subst Has (same_number setting.rrsets k own.rrset rrset own.is_rrset numbered)
+              (signature_too (λ t. (t ≡ s) × SecuredIn setting k t) (λ t. t ≡ get_or numbers there.0 0) own.rrset zone own.signed
               (own.signed.secured.0 ∙ sym is));
         }
 
@@ -107,7 +107,7 @@ module _ (basis : Basis) (zone : Labels) (k : ℕ) where
         (cases_lt j i)
 
     pub lowest_found : (i : ℕ) → i < length numbers → HasZoneSignature (λ s. s ≡ get_or numbers i 0) rrset zone
-        → IsNoneOwn rrset zone numbers i → IsLowestOwn basis zone k (get_or numbers i 0)
+        → IsNoneOwn rrset zone numbers i → IsLowestOwn setting zone k (get_or numbers i 0)
     lowest_found i within has none = record {
       own = own_at i within has;
       lowest = λ t own.
@@ -130,7 +130,7 @@ module _ (basis : Basis) (zone : Labels) (k : ℕ) where
           (cases_lt at.place i);
     }
 
-    pub none_at_all : (n : ℕ) → length numbers ≤ n → IsNoneOwn rrset zone numbers n → (s : ℕ) → ¬ IsOwnSignature basis zone k s
+    pub none_at_all : (n : ℕ) → length numbers ≤ n → IsNoneOwn rrset zone numbers n → (s : ℕ) → ¬ IsOwnSignature setting zone k s
     none_at_all n past none = λ s own.
         let at = own_place s own in
         let within = at.within in

@@ -12,7 +12,7 @@ use Rattle.dnsv_canonical.specs.Canonical.{rdata_cmp}
 use Rattle.dnsv_canonical.specs.Rrsets.{IsNumbered, ReceivedRrset}
 use Rattle.dnsv_verifier.specs.Admissible.{DnskeyRecord, IsGood}
 use Rattle.dnsv_chain.specs.Trusted.{IsKeyOf, IsSecured, IsTrusted}
-use Rattle.dnsv_verdict.specs.Verdict.{Basis}
+use Rattle.dnsv_explain.specs.Explained.{Setting}
 use Rattle.dnsv_explain.specs.Following.{IsGoodUnder}
 use Rattle.dnsv_explain.specs.derivations.SignerSearch.{IsFirstAmong, IsFirstTo, IsLowestGoodKey, IsLowestIn, IsSignatureAt}
 use Rattle.dnsv_explain.specs.derivations.Ways.{IsFirstSigner, IsSignedLine, IsSigner}
@@ -41,7 +41,7 @@ itself_not_less a b same less =
     let turned : rdata_cmp a a ≡ Less = subst To (sym same) less in
     let tied : rdata_cmp a a ≡ Equal = tied_itself nat_list_cmp_total a in cc
 
-module _ (basis : Basis) (number : SignatureNumber) (n : ℕ) where
+module _ (setting : Setting) (number : SignatureNumber) (n : ℕ) where
   -- of the first n + 1 RRsets one is among the first n, or is the last
   one_more : (P : ℕ → Type 0) (k : ℕ) → k ≤ n + 1 → ((k ≤ n) → P k) → P (n + 1) → P k
   one_more P k below earlier last = ⊎_elim
@@ -49,50 +49,59 @@ module _ (basis : Basis) (number : SignatureNumber) (n : ℕ) where
       (λ (within : k ≤ n). earlier within)
       (cases_lt n k)
 
-  pub none_found : (first : Option Signer) → IsFirstTo basis number n first
-      → ((other : DnskeyRecord) → ¬ IsSigner basis number (n + 1) other) → IsFirstTo basis number (n + 1) first
+  pub none_found : (first : Option Signer) → IsFirstTo setting number n first
+      → ((other : DnskeyRecord) → ¬ IsSigner setting number (n + 1) other) → IsFirstTo setting number (n + 1) first
   none_found None none last = λ k other below.
-      one_more (λ m. ¬ IsSigner basis number m other) k below (λ within. none k other within) (last other)
+      one_more (λ m. ¬ IsSigner setting number m other) k below (λ within. none k other within) (last other)
   none_found (Some signer) first last =
       let within = first.within in record {
         key = first.key;
         of = first.of;
         is = first.is;
+        todo = first.todo;
         within = omega (arith, within);
         lowest = λ k other below.
-            one_more (λ m. IsSigner basis number m other → rdata_cmp other.rdata first.key.rdata ≢ Less) k below
+            one_more (λ m. IsSigner setting number m other → rdata_cmp other.rdata first.key.rdata ≢ Less) k below
             (λ inside. first.lowest k other inside) (λ is less. last other is);
         earliest = λ k other below.
-            one_more (λ m. IsSigner basis number m other → other.rdata ≡ first.key.rdata → signer.set ≤ m) k below
+            one_more (λ m. IsSigner setting number m other → other.rdata ≡ first.key.rdata → signer.set ≤ m) k below
             (λ inside. first.earliest k other inside) (λ is same. absurd (last other is));
       }
 
   -- a key of the last is the first, where none before it has an RDATA that isn't above
-  is_first : (found : Signer) (lowest : IsLowestIn basis number (n + 1) found)
-      → ((k : ℕ) (other : DnskeyRecord) → k ≤ n → IsSigner basis number k other
+  is_first : (found : Signer) (lowest : IsLowestIn setting number (n + 1) found)
+      → ((k : ℕ) (other : DnskeyRecord) → k ≤ n → IsSigner setting number k other
       → (rdata_cmp other.rdata lowest.key.rdata ≢ Less) × (other.rdata ≢ lowest.key.rdata))
-      → IsFirstTo basis number (n + 1) (Some found)
+      → IsFirstTo setting number (n + 1) (Some found)
   is_first found lowest above =
       let set : found.set ≡ n + 1 = lowest.of.set in
-      let Signs : ℕ → Type 0 = λ m. IsSigner basis number m lowest.key in record {
+      let Numbered : ℕ → Type 0 = λ m. IsNumbered setting.rrsets m lowest.is.set in record {
         key = lowest.key;
         of = record { set = refl; rdata = lowest.of.rdata; named = lowest.of.named };
-        is = subst Signs (sym set) lowest.is;
+        is = record {
+          rrset = lowest.is.rrset;
+          good = lowest.is.good;
+          set = lowest.is.set;
+          is_set = subst Numbered (sym set) lowest.is.is_set;
+          stands = lowest.is.stands;
+          trusted = lowest.is.trusted;
+        };
+        todo = lowest.todo;
         within = omega (arith, set);
         lowest = λ k other below.
-            one_more (λ m. IsSigner basis number m other → rdata_cmp other.rdata lowest.key.rdata ≢ Less) k below
+            one_more (λ m. IsSigner setting number m other → rdata_cmp other.rdata lowest.key.rdata ≢ Less) k below
             (λ inside is. (above k other inside is).0) (λ is. lowest.lowest other is);
         earliest = λ k other below.
-            one_more (λ m. IsSigner basis number m other → other.rdata ≡ lowest.key.rdata → found.set ≤ m) k below
+            one_more (λ m. IsSigner setting number m other → other.rdata ≡ lowest.key.rdata → found.set ≤ m) k below
             (λ inside is same. absurd ((above k other inside is).1 same)) (λ is same. omega (arith, set));
       }
 
-  pub only_found : (found : Signer) → ((k : ℕ) (other : DnskeyRecord) → k ≤ n → ¬ IsSigner basis number k other)
-      → IsLowestIn basis number (n + 1) found → IsFirstTo basis number (n + 1) (Some found)
+  pub only_found : (found : Signer) → ((k : ℕ) (other : DnskeyRecord) → k ≤ n → ¬ IsSigner setting number k other)
+      → IsLowestIn setting number (n + 1) found → IsFirstTo setting number (n + 1) (Some found)
   only_found found none lowest = is_first found lowest (λ k other within is. absurd (none k other within is))
 
-  pub lower_found : (first found : Signer) → IsFirstAmong basis number n first → IsLowestIn basis number (n + 1) found
-      → rdata_cmp found.rdata.now first.rdata.now ≡ Less → IsFirstTo basis number (n + 1) (Some found)
+  pub lower_found : (first found : Signer) → IsFirstAmong setting number n first → IsLowestIn setting number (n + 1) found
+      → rdata_cmp found.rdata.now first.rdata.now ≡ Less → IsFirstTo setting number (n + 1) (Some found)
   lower_found first found before lowest less =
       let lower : rdata_cmp lowest.key.rdata before.key.rdata ≡ Less = let a = lowest.of.rdata in let b = before.of.rdata in cc in
       is_first found lowest (λ k other within is.
@@ -101,8 +110,8 @@ module _ (basis : Basis) (number : SignatureNumber) (n : ℕ) where
         λ same. let Under : List ℕ → Type 0 = λ each. rdata_cmp each before.key.rdata ≡ Less in above (subst Under (sym same) lower),
       ))
 
-  pub not_lower : (first found : Signer) → IsFirstAmong basis number n first → IsLowestIn basis number (n + 1) found
-      → rdata_cmp found.rdata.now first.rdata.now ≢ Less → IsFirstTo basis number (n + 1) (Some first)
+  pub not_lower : (first found : Signer) → IsFirstAmong setting number n first → IsLowestIn setting number (n + 1) found
+      → rdata_cmp found.rdata.now first.rdata.now ≢ Less → IsFirstTo setting number (n + 1) (Some first)
   not_lower first found before lowest never =
       let within = before.within in
       let at_least : rdata_cmp lowest.key.rdata before.key.rdata ≢ Less =
@@ -110,25 +119,26 @@ module _ (basis : Basis) (number : SignatureNumber) (n : ℕ) where
         key = before.key;
         of = before.of;
         is = before.is;
+        todo = before.todo;
         within = omega (arith, within);
         lowest = λ k other below.
-            one_more (λ m. IsSigner basis number m other → rdata_cmp other.rdata before.key.rdata ≢ Less) k below
+            one_more (λ m. IsSigner setting number m other → rdata_cmp other.rdata before.key.rdata ≢ Less) k below
             (λ inside. before.lowest k other inside)
             (λ is. not_less_chain other.rdata lowest.key.rdata before.key.rdata (lowest.lowest other is) at_least);
         earliest = λ k other below.
-            one_more (λ m. IsSigner basis number m other → other.rdata ≡ before.key.rdata → first.set ≤ m) k below
+            one_more (λ m. IsSigner setting number m other → other.rdata ≡ before.key.rdata → first.set ≤ m) k below
             (λ inside. before.earliest k other inside) (λ is same. omega (arith, within));
       }
 
 -- ---- one DNSKEY RRset
 
-module _ (basis : Basis) (number : SignatureNumber) (rrset : ReceivedRrset) (rrsig : Rrsig)
-    (is_rrset : IsNumbered basis.rrsets number.rrset rrset) (its : IsSignatureAt rrset number.signature rrsig)
-    (k : ℕ) (set : ReceivedRrset) (is_set : IsNumbered basis.rrsets k set) where
+module _ (setting : Setting) (number : SignatureNumber) (rrset : ReceivedRrset) (rrsig : Rrsig)
+    (is_rrset : IsNumbered setting.rrsets number.rrset rrset) (its : IsSignatureAt rrset number.signature rrsig)
+    (k : ℕ) (set : ReceivedRrset) (is_set : IsNumbered setting.rrsets k set) where
   abbrev Good : DnskeyRecord → Type 0
-  Good key = IsGood basis.meaning basis.moment rrset rrsig key
+  Good key = IsGood setting.meaning setting.moment rrset rrsig key
 
-  good_under : (key : DnskeyRecord) → Good key → IsGoodUnder basis number rrset key
+  abbrev good_under : (key : DnskeyRecord) → Good key → IsGoodUnder setting number rrset key
   good_under key good = record {
     is_rrset = is_rrset;
     rdata = its.rdata;
@@ -138,38 +148,38 @@ module _ (basis : Basis) (number : SignatureNumber) (rrset : ReceivedRrset) (rrs
     good = good;
   }
 
-  under_good : (other : ReceivedRrset) (key : DnskeyRecord) → IsGoodUnder basis number other key → Good key
+  under_good : (other : ReceivedRrset) (key : DnskeyRecord) → IsGoodUnder setting number other key → Good key
   under_good other key good =
-      let same : other ≡ rrset = same_number basis.rrsets number.rrset other rrset good.is_rrset is_rrset in
+      let same : other ≡ rrset = same_number setting.rrsets number.rrset other rrset good.is_rrset is_rrset in
       let Numbered : ReceivedRrset → Type 0 = λ each. IsNumbered each.signatures number.signature good.rdata in
       let rdata : good.rdata ≡ its.rdata =
       same_number rrset.signatures number.signature good.rdata its.rdata (subst Numbered same good.is_signature) its.is_signature in
       let Read : List ℕ → Type 0 = λ octets. IsRrsig octets good.rrsig in
       let one : good.rrsig ≡ rrsig = one_rrsig its.rdata good.rrsig rrsig (subst Read rdata good.read) its.read in
-      let By : Rrsig → Type 0 = λ each. IsGood basis.meaning basis.moment other each key in
-      let Over : ReceivedRrset → Type 0 = λ each. IsGood basis.meaning basis.moment each rrsig key in
+      let By : Rrsig → Type 0 = λ each. IsGood setting.meaning setting.moment other each key in
+      let Over : ReceivedRrset → Type 0 = λ each. IsGood setting.meaning setting.moment each rrsig key in
       subst Over same (subst By one good.good)
 
-  its_set : (key : DnskeyRecord) (is : IsSigner basis number k key) → is.set ≡ set
-  its_set key is = same_number basis.rrsets k is.set set is.is_set is_set
+  its_set : (key : DnskeyRecord) (is : IsSigner setting number k key) → is.set ≡ set
+  its_set key is = same_number setting.rrsets k is.set set is.is_set is_set
 
-  its_key : (key : DnskeyRecord) → IsSigner basis number k key → IsKeyOf set key
+  its_key : (key : DnskeyRecord) → IsSigner setting number k key → IsKeyOf set key
   its_key key is = let Stands : ReceivedRrset → Type 0 = λ each. IsKeyOf each key in subst Stands (its_set key is) is.stands
 
-  pub not_dnskey : set.rtype ≢ 48 → (key : DnskeyRecord) → ¬ IsSigner basis number k key
+  pub not_dnskey : set.rtype ≢ 48 → (key : DnskeyRecord) → ¬ IsSigner setting number k key
   not_dnskey never key is = never (its_key key is).rtype
 
-  pub none_good : ((key : DnskeyRecord) → IsKeyOf set key → ¬ Good key) → (key : DnskeyRecord) → ¬ IsSigner basis number k key
+  pub none_good : ((key : DnskeyRecord) → IsKeyOf set key → ¬ Good key) → (key : DnskeyRecord) → ¬ IsSigner setting number k key
   none_good none key is = none key (its_key key is) (under_good is.rrset key is.good)
 
-  pub not_trusted : ¬ IsTrusted basis.meaning basis.moment basis.rrsets basis.anchors set → (key : DnskeyRecord)
-      → ¬ IsSigner basis number k key
+  pub not_trusted : ¬ IsTrusted setting.meaning setting.moment setting.rrsets setting.anchors set → (key : DnskeyRecord)
+      → ¬ IsSigner setting number k key
   not_trusted never key is =
-      let Trusted : ReceivedRrset → Type 0 = λ each. IsTrusted basis.meaning basis.moment basis.rrsets basis.anchors each in
+      let Trusted : ReceivedRrset → Type 0 = λ each. IsTrusted setting.meaning setting.moment setting.rrsets setting.anchors each in
       never (subst Trusted (its_set key is) is.trusted)
 
-  pub lowest_trusted : (signer : Signer) → IsLowestGoodKey basis rrset rrsig k set signer
-      → IsTrusted basis.meaning basis.moment basis.rrsets basis.anchors set → IsLowestIn basis number k signer
+  pub lowest_trusted : (signer : Signer) → IsLowestGoodKey setting rrset rrsig k set signer
+      → IsTrusted setting.meaning setting.moment setting.rrsets setting.anchors set → IsLowestIn setting number k signer
   lowest_trusted signer lowest trusted = record {
     key = lowest.key;
     of = lowest.of;
@@ -181,21 +191,22 @@ module _ (basis : Basis) (number : SignatureNumber) (rrset : ReceivedRrset) (rrs
       stands = lowest.stands;
       trusted = trusted;
     };
+    todo = lowest.todo;
     lowest = λ other is. lowest.lowest other (its_key other is) (under_good is.rrset other is.good);
   }
 
 -- ---- all RRsets
 
-module _ (basis : Basis) (number : SignatureNumber) where
+module _ (setting : Setting) (number : SignatureNumber) where
   -- what is secured has a signer
   pub record HasSigner : Type 0 where
     pub set : ℕ
     pub key : DnskeyRecord
-    pub is : IsSigner basis number set key
+    pub is : IsSigner setting number set key
 
-  pub has_signer : IsSecured basis.meaning basis.moment basis.rrsets basis.anchors number.rrset number.signature → HasSigner
+  pub has_signer : IsSecured setting.meaning setting.moment setting.rrsets setting.anchors number.rrset number.signature → HasSigner
   has_signer secured =
-      let set = number_of basis.rrsets secured.good.set (trusted_among basis secured.good.set secured.good.trusted) in
+      let set = number_of setting.rrsets secured.good.set (trusted_among setting secured.good.set secured.good.trusted) in
       record {
         set = set.number;
         key = secured.good.key;
@@ -216,20 +227,20 @@ module _ (basis : Basis) (number : SignatureNumber) where
         };
       }
 
-  pub within : (k : ℕ) (key : DnskeyRecord) → IsSigner basis number k key → k ≤ length basis.rrsets
+  pub within : (k : ℕ) (key : DnskeyRecord) → IsSigner setting number k key → k ≤ length setting.rrsets
   within k key is =
-      let inside = slice_get_within basis.rrsets (k - 1) is.set is.is_set.1 in
+      let inside = slice_get_within setting.rrsets (k - 1) is.set is.is_set.1 in
       let from_one = is.is_set.0 in omega (arith, inside, from_one)
 
-  pub never_secured : (n : ℕ) → length basis.rrsets ≤ n → IsFirstTo basis number n None
-      → ¬ IsSecured basis.meaning basis.moment basis.rrsets basis.anchors number.rrset number.signature
+  pub never_secured : (n : ℕ) → length setting.rrsets ≤ n → IsFirstTo setting number n None
+      → ¬ IsSecured setting.meaning setting.moment setting.rrsets setting.anchors number.rrset number.signature
   never_secured n past none secured =
       let signer = has_signer secured in
       let inside = within signer.set signer.key signer.is in
       none signer.set signer.key (omega (arith, inside, past)) signer.is
 
-  abbrev pub first_of_all : (n : ℕ) (signer : Signer) → length basis.rrsets ≤ n → (first : IsFirstAmong basis number n signer)
-      → IsFirstSigner basis number signer.set first.key
+  abbrev pub first_of_all : (n : ℕ) (signer : Signer) → length setting.rrsets ≤ n → (first : IsFirstAmong setting number n signer)
+      → IsFirstSigner setting number signer.set first.key
   first_of_all n signer past first = record {
     is = first.is;
     lowest = λ k other is. let inside = within k other is in first.lowest k other (omega (arith, inside, past)) is;
@@ -238,7 +249,7 @@ module _ (basis : Basis) (number : SignatureNumber) where
 
 -- ---- the line of a signature
 
-module _ (basis : Basis) (number : SignatureNumber) (rrset : ReceivedRrset) (is_rrset : IsNumbered basis.rrsets number.rrset rrset) where
+module _ (setting : Setting) (number : SignatureNumber) (rrset : ReceivedRrset) (is_rrset : IsNumbered setting.rrsets number.rrset rrset) where
   -- the signature with the number
   pub signature_there : (rrsigs : List Rrsig) (rrsig : Rrsig) → AllZip IsRrsig rrset.signatures rrsigs
       → IsNumbered rrsigs number.signature rrsig → IsSignatureAt rrset number.signature rrsig
@@ -249,36 +260,36 @@ module _ (basis : Basis) (number : SignatureNumber) (rrset : ReceivedRrset) (is_
   -- or there is none, and then it isn't secured
   pub no_signature : (rrsigs : List Rrsig) → AllZip IsRrsig rrset.signatures rrsigs
       → ((rrsig : Rrsig) → ¬ IsNumbered rrsigs number.signature rrsig)
-      → ¬ IsSecured basis.meaning basis.moment basis.rrsets basis.anchors number.rrset number.signature
+      → ¬ IsSecured setting.meaning setting.moment setting.rrsets setting.anchors number.rrset number.signature
   no_signature rrsigs zip none secured =
-      let same : secured.rrset ≡ rrset = same_number basis.rrsets number.rrset secured.rrset rrset secured.numbered is_rrset in
+      let same : secured.rrset ≡ rrset = same_number setting.rrsets number.rrset secured.rrset rrset secured.numbered is_rrset in
       let Numbered : ReceivedRrset → Type 0 = λ each. IsNumbered each.signatures number.signature secured.rdata in
       let numbered : Numbered rrset = subst Numbered same secured.signature in
       let there = read_at rrset.signatures rrsigs (number.signature - 1) secured.rdata zip numbered.1 in
       none there.0 (numbered.0, there.1)
 
-  pub the_line : (n : ℕ) (signer : Signer) (set : ReceivedRrset) (owner zone : Labels) (rtype : RecordType) → length basis.rrsets ≤ n
-      → IsFirstAmong basis number n signer → IsNumbered basis.rrsets signer.set set → owner ≡ rrset.owner → rtype.0 ≡ rrset.rtype
+  pub the_line : (n : ℕ) (signer : Signer) (set : ReceivedRrset) (owner zone : Labels) (rtype : RecordType) → length setting.rrsets ≤ n
+      → IsFirstAmong setting number n signer → IsNumbered setting.rrsets signer.set set → owner ≡ rrset.owner → rtype.0 ≡ rrset.rtype
       → zone ≡ set.owner
-      → IsSignedLine basis number (record {
+      → IsSignedLine setting number (record {
         owner = owner;
         rtype = rtype;
         signature = number;
         key = signer.key;
         zone = zone;
         keys = signer.set;
-        todo = record { 0 = None };
+        todo = signer.todo;
       })
   the_line n signer set owner zone rtype past first is_set owner_is rtype_is zone_is =
       let same : rrset ≡ first.is.rrset =
-      same_number basis.rrsets number.rrset rrset first.is.rrset is_rrset first.is.good.is_rrset in
-      let set_same : set ≡ first.is.set = same_number basis.rrsets signer.set set first.is.set is_set first.is.is_set in record {
+      same_number setting.rrsets number.rrset rrset first.is.rrset is_rrset first.is.good.is_rrset in
+      let set_same : set ≡ first.is.set = same_number setting.rrsets signer.set set first.is.set is_set first.is.is_set in record {
         key = first.key;
-        first = first_of_all basis number n signer past first;
+        first = first_of_all setting number n signer past first;
         owner = owner_is ∙ ap (λ (each : ReceivedRrset). each.owner) same;
         rtype = rtype_is ∙ ap (λ (each : ReceivedRrset). each.rtype) same;
         signature = refl;
         named = first.of.named;
         zone = zone_is ∙ ap (λ (each : ReceivedRrset). each.owner) set_same;
-        todo = refl;
+        todo = first.todo;
       }

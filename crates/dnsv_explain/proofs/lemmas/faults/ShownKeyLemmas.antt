@@ -21,7 +21,7 @@ use Rattle.dnsv_chain.specs.Ds.{IsMatch, IsUsable}
 use Rattle.dnsv_chain.specs.declared.anchor.Anchor.{Anchor}
 use Rattle.dnsv_denial.specs.words.EvidenceWords.{number_cmp}
 use Rattle.dnsv_denial.specs.declared.records.number.RecordNumber.{RecordNumber}
-use Rattle.dnsv_verdict.specs.Verdict.{Basis}
+use Rattle.dnsv_explain.specs.Explained.{Setting}
 use Rattle.dnsv_verifier.specs.Admissible.{DnskeyRecord}
 use Rattle.std.specs.Prelude.{MatchOption}
 use Rattle.dnsv_explain.specs.Following.{IsGoodUnder}
@@ -32,31 +32,31 @@ use Rattle.dnsv_explain.proofs.lemmas.NumberedLemmas.{same_number}
 use Rattle.dnsv_explain.proofs.lemmas.derivations.WayLemmas.KeysLemmas.{mapped_there, read_there}
 use Rattle.dnsv_explain.proofs.lemmas.derivations.WayLemmas.RankLemmas.{RecordAt, ds_read, forms_of, record_said, record_there, same_record}
 
-module _ (basis : Basis) (key : DnskeyRecord) where
+module _ (setting : Setting) (key : DnskeyRecord) where
   -- ---- anchors
 
-  pub anchor_counted : (n : ℕ) → IsMatchedByAnchor basis key n → 1 ≤ n
+  pub anchor_counted : (n : ℕ) → IsMatchedByAnchor setting key n → 1 ≤ n
   anchor_counted n is = is.1.0
 
-  pub anchor_within : (n : ℕ) → IsMatchedByAnchor basis key n → n ≤ length basis.anchors
+  pub anchor_within : (n : ℕ) → IsMatchedByAnchor setting key n → n ≤ length setting.anchors
   anchor_within n is =
-      let within = slice_get_within basis.anchors (n - 1) is.0 is.1.1 in
+      let within = slice_get_within setting.anchors (n - 1) is.0 is.1.1 in
       let one = is.1.0 in omega (arith, within, one)
 
-  pub anchor_never : (i : ℕ) (anchor : Anchor) → IsNumbered basis.anchors (i + 1) anchor → ¬ IsAnchorMatch anchor key
-      → ¬ IsMatchedByAnchor basis key (i + 1)
+  pub anchor_never : (i : ℕ) (anchor : Anchor) → IsNumbered setting.anchors (i + 1) anchor → ¬ IsAnchorMatch anchor key
+      → ¬ IsMatchedByAnchor setting key (i + 1)
   anchor_never i anchor numbered never = λ is.
       let Matches : Anchor → Type 0 = λ each. IsAnchorMatch each key in
-      never (subst Matches (same_number basis.anchors (i + 1) is.0 anchor is.1 numbered) is.2)
+      never (subst Matches (same_number setting.anchors (i + 1) is.0 anchor is.1 numbered) is.2)
 
   -- ---- DS records
 
-  module _ (k : ℕ) (ds : ReceivedRrset) (is_ds : IsNumbered basis.rrsets k ds) where
+  module _ (k : ℕ) (ds : ReceivedRrset) (is_ds : IsNumbered setting.rrsets k ds) where
     abbrev ByDs : ℕ → Type 0
-    ByDs place = IsMatchedByDs basis key (record_of k place)
+    ByDs place = IsMatchedByDs setting key (record_of k place)
 
     its_rrset : (place : ℕ) (is : ByDs place) → is.1.rrset ≡ ds
-    its_rrset place is = same_number basis.rrsets k is.1.rrset ds is.1.at.is_rrset is_ds
+    its_rrset place is = same_number setting.rrsets k is.1.rrset ds is.1.at.is_rrset is_ds
 
     -- an RRset of another type has none
     pub other_type : ds.rtype ≢ 43 → (place : ℕ) → ¬ ByDs place
@@ -87,21 +87,21 @@ module _ (basis : Basis) (key : DnskeyRecord) where
           let one = is.1.at.is_rdata.0 in omega (arith, within, size, sizes, one)
 
       module _ (place : ℕ) (x : X) (within : place < length items) (at : x ≡ get_or items place x) where
-        there : RecordAt basis k ds is_ds k ds is_ds rtype (map rdata records) canonical values zip place (record_in x)
-        there = record_there basis k ds is_ds k ds is_ds rtype (map rdata records) canonical values zip place (rdata x) (record_in x)
+        there : RecordAt setting k ds is_ds k ds is_ds rtype (map rdata records) canonical values zip place (record_in x)
+        there = record_there setting k ds is_ds k ds is_ds rtype (map rdata records) canonical values zip place (rdata x) (record_in x)
             (mapped_there rdata items records place x same within at)
             (read_there (λ y. IsDs (rdata y) (record_in y)) items records place x same are_read within at)
 
         pub ds_found : IsUsable values (record_in x) → IsMatch ds.owner (record_in x) key → ByDs (place + 1)
         ds_found usable matching = (
           (record_in x).digest_type,
-          record_said basis k ds is_ds k ds is_ds rtype (map rdata records) canonical values zip place (record_in x) there key
+          record_said setting k ds is_ds k ds is_ds rtype (map rdata records) canonical values zip place (record_in x) there key
               usable matching,
         )
 
         pub ds_never : (IsUsable values (record_in x) → IsMatch ds.owner (record_in x) key → ⊥) → ¬ ByDs (place + 1)
         ds_never never = λ is.
-            let both = same_record basis k ds is_ds k ds is_ds rtype (map rdata records) canonical values zip place (record_in x)
+            let both = same_record setting k ds is_ds k ds is_ds rtype (map rdata records) canonical values zip place (record_in x)
             there (record_of k (place + 1)) is.0 key refl refl is.1 in never both.0 both.1
 
 -- ---- the lowest record
@@ -140,25 +140,25 @@ not_before k place other same behind = ⊎_elim
     λ less. itself (record_of k place) (subst Before is less))
     (cases_lt place other.place)
 
-module _ (basis : Basis) (key : DnskeyRecord) where
+module _ (setting : Setting) (key : DnskeyRecord) where
   -- no record of the RRsets up to the number matches
   abbrev NoneTo : ℕ → Type 0
-  NoneTo n = (number : RecordNumber) → number.rrset ≤ n → ¬ IsMatchedByDs basis key number
+  NoneTo n = (number : RecordNumber) → number.rrset ≤ n → ¬ IsMatchedByDs setting key number
 
   pub no_ds_first : NoneTo 0
   no_ds_first number below is = let one = is.1.at.is_rrset.0 in absurd (omega (arith, one, below))
 
-  pub no_ds_next : (n : ℕ) → IsLowestOf (λ place. IsMatchedByDs basis key (record_of (n + 1) place)) None → NoneTo n → NoneTo (n + 1)
+  pub no_ds_next : (n : ℕ) → IsLowestOf (λ place. IsMatchedByDs setting key (record_of (n + 1) place)) None → NoneTo n → NoneTo (n + 1)
   no_ds_next n last none number below is = ⊎_elim
       (λ (behind : n < number.rrset).
       let same : number.rrset ≡ n + 1 = omega (arith, behind, below) in
-      let By : ℕ → Type 0 = λ r. IsMatchedByDs basis key (record_of r number.place) in
+      let By : ℕ → Type 0 = λ r. IsMatchedByDs setting key (record_of r number.place) in
       last number.place (subst By same is))
       (λ (within : number.rrset ≤ n). none number within is)
       (cases_lt n number.rrset)
 
-  pub ds_lowest : (n place : ℕ) → IsLowestOf (λ p. IsMatchedByDs basis key (record_of (n + 1) p)) (Some place) → NoneTo n
-      → IsLowestDs basis key (Some (record_of (n + 1) place))
+  pub ds_lowest : (n place : ℕ) → IsLowestOf (λ p. IsMatchedByDs setting key (record_of (n + 1) p)) (Some place) → NoneTo n
+      → IsLowestDs setting key (Some (record_of (n + 1) place))
   ds_lowest n place lowest none = (
     lowest.0,
     λ other is. ⊎_elim
@@ -167,24 +167,24 @@ module _ (basis : Basis) (key : DnskeyRecord) where
         never_both (record_of (n + 1) place) other (earlier_rrset_less (record_of (n + 1) place) other later))
         (λ (here : other.rrset ≤ n + 1).
         let same : other.rrset ≡ n + 1 = omega (arith, behind, here) in
-        let By : ℕ → Type 0 = λ r. IsMatchedByDs basis key (record_of r other.place) in
+        let By : ℕ → Type 0 = λ r. IsMatchedByDs setting key (record_of r other.place) in
         not_before (n + 1) place other same (lowest.1 other.place (subst By same is)))
         (cases_lt (n + 1) other.rrset))
         (λ (within : other.rrset ≤ n). absurd (none other within is))
         (cases_lt n other.rrset),
   )
 
-  pub no_ds_at_all : (n : ℕ) → length basis.rrsets ≤ n → NoneTo n → IsLowestDs basis key None
+  pub no_ds_at_all : (n : ℕ) → length setting.rrsets ≤ n → NoneTo n → IsLowestDs setting key None
   no_ds_at_all n past none = λ number is.
-      let within = slice_get_within basis.rrsets (number.rrset - 1) is.1.rrset is.1.at.is_rrset.1 in
+      let within = slice_get_within setting.rrsets (number.rrset - 1) is.1.rrset is.1.at.is_rrset.1 in
       let one = is.1.at.is_rrset.0 in
       none number (omega (arith, within, one, past)) is
 
 -- ---- the lines
 
 -- the lowest signature that is good under the key
-pub good_lowest : (basis : Basis) (k : ℕ) (rrset : ReceivedRrset) (key : DnskeyRecord) (lowest : Option ℕ)
-    → MatchOption lowest ((s : ℕ) → ¬ IsGoodUnder basis (signature_of k s) rrset key) (IsLowestGood basis k rrset key)
-    → IsLowestOf (λ s. IsGoodUnder basis (signature_of k s) rrset key) lowest
-good_lowest basis k rrset key None none = none
-good_lowest basis k rrset key (Some s) lowest = (lowest.good, lowest.lowest)
+pub good_lowest : (setting : Setting) (k : ℕ) (rrset : ReceivedRrset) (key : DnskeyRecord) (lowest : Option ℕ)
+    → MatchOption lowest ((s : ℕ) → ¬ IsGoodUnder setting (signature_of k s) rrset key) (IsLowestGood setting k rrset key)
+    → IsLowestOf (λ s. IsGoodUnder setting (signature_of k s) rrset key) lowest
+good_lowest setting k rrset key None none = none
+good_lowest setting k rrset key (Some s) lowest = (lowest.good, lowest.lowest)

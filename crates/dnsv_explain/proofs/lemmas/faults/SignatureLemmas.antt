@@ -8,7 +8,7 @@ use Rattle.dnsv_canonical.specs.Rrsets.{IsNumbered, ReceivedRrset}
 use Rattle.dnsv_verifier.specs.Admissible.{DnskeyRecord}
 use Rattle.dnsv_verifier.specs.Asking.{AreKeysOf}
 use Rattle.dnsv_chain.specs.Trusted.{IsGoodByTrust}
-use Rattle.dnsv_verdict.specs.Verdict.{Basis}
+use Rattle.dnsv_explain.specs.Explained.{Setting}
 use Rattle.dnsv_explain.specs.derivations.SignerSearch.{IsSignatureAt}
 use Rattle.dnsv_explain.specs.derivations.Ways.{HasSecured}
 use Rattle.dnsv_explain.specs.faults.KeySearch.{HasKeyAt, IsNamedIn}
@@ -26,10 +26,10 @@ use Rattle.dnsv_explain.proofs.lemmas.faults.ListingLemmas.{those_added}
 use Rattle.dnsv_explain.proofs.lemmas.faults.WordLemmas.{faults_same}
 
 -- of an RRset without a good signature none is good by trust
-pub unsecured : (basis : Basis) (k s : ℕ) (rrset : ReceivedRrset) (rrsig : Rrsig) → ¬ HasSecured basis k
-    → IsNumbered basis.rrsets k rrset → IsSignatureAt rrset s rrsig
-    → ¬ IsGoodByTrust basis.meaning basis.moment basis.rrsets basis.anchors rrset rrsig
-unsecured basis k s rrset rrsig none numbered at = λ good.
+pub unsecured : (setting : Setting) (k s : ℕ) (rrset : ReceivedRrset) (rrsig : Rrsig) → ¬ HasSecured setting k
+    → IsNumbered setting.rrsets k rrset → IsSignatureAt rrset s rrsig
+    → ¬ IsGoodByTrust setting.meaning setting.moment setting.rrsets setting.anchors rrset rrsig
+unsecured setting k s rrset rrsig none numbered at = λ good.
     none (
       s,
       record {
@@ -43,31 +43,31 @@ unsecured basis k s rrset rrsig none numbered at = λ good.
       },
     )
 
-module _ (basis : Basis) (keys : List DnskeyRecord) (all : AreKeysOf basis.rrsets keys) (rrset : ReceivedRrset) (rrsig : Rrsig)
+module _ (setting : Setting) (keys : List DnskeyRecord) (all : AreKeysOf setting.rrsets keys) (rrset : ReceivedRrset) (rrsig : Rrsig)
     (known : Bool) (test : IsTrue known ↔ HasKeyAt keys rrsig.signer) where
   -- the faults, by all keys
-  pub named_faults : (faults : List WhySignature) → AreFaultsOf (IsNamedIn keys rrsig) (IsTrue known) basis rrset rrsig faults
-      → AreFaults basis rrset rrsig faults
+  pub named_faults : (faults : List WhySignature) → AreFaultsOf (IsNamedIn keys rrsig) (IsTrue known) setting rrset rrsig faults
+      → AreFaults setting rrset rrsig faults
   named_faults faults =
-      let same = keys_same basis.rrsets keys all rrsig.signer in
-      faults_same (IsNamedIn keys rrsig) (IsNamedBy basis.rrsets rrsig) (IsTrue known) (HasKeys basis.rrsets rrsig.signer)
-      (named_same basis.rrsets keys all rrsig) (λ is. same.0 (test.0 is), λ has. test.1 (same.1 has)) basis rrset rrsig faults
+      let same = keys_same setting.rrsets keys all rrsig.signer in
+      faults_same (IsNamedIn keys rrsig) (IsNamedBy setting.rrsets rrsig) (IsTrue known) (HasKeys setting.rrsets rrsig.signer)
+      (named_same setting.rrsets keys all rrsig) (λ is. same.0 (test.0 is), λ has. test.1 (same.1 has)) setting rrset rrsig faults
 
   pub faults_added : (k s : ℕ) (faults : List WhySignature) (old new : List Line)
-      → AreFaultsOf (IsNamedIn keys rrsig) (IsTrue known) basis rrset rrsig faults → faults ≢ []
+      → AreFaultsOf (IsNamedIn keys rrsig) (IsTrue known) setting rrset rrsig faults → faults ≢ []
       → new ≡ old ++ map (fault_line (shown_of k s rrset rrsig)) faults
-      → AddsThose (AreSignatureLines basis k s rrset rrsig) old new
+      → AddsThose (AreSignatureLines setting k s rrset rrsig) old new
   faults_added k s faults old new are some is =
-      those_added (AreSignatureLines basis k s rrset rrsig) old (map (fault_line (shown_of k s rrset rrsig)) faults) new is
+      those_added (AreSignatureLines setting k s rrset rrsig) old (map (fault_line (shown_of k s rrset rrsig)) faults) new is
       (faulty faults (named_faults faults are) some)
 
   pub remark_added : (k s : ℕ) (remark : Remark) (old new : List Line)
-      → AreFaultsOf (IsNamedIn keys rrsig) (IsTrue known) basis rrset rrsig []
-      → IsRemarkOf basis rrset rrsig remark → new ≡ old ++ remark_lines (shown_of k s rrset rrsig) remark
-      → AddsThose (AreSignatureLines basis k s rrset rrsig) old new
+      → AreFaultsOf (IsNamedIn keys rrsig) (IsTrue known) setting rrset rrsig []
+      → IsRemarkOf setting rrset rrsig remark → new ≡ old ++ remark_lines (shown_of k s rrset rrsig) remark
+      → AddsThose (AreSignatureLines setting k s rrset rrsig) old new
   remark_added k s remark old new none are is =
       let shown = shown_of k s rrset rrsig in
-      those_added (AreSignatureLines basis k s rrset rrsig) old (remark_lines shown remark) new is
+      those_added (AreSignatureLines setting k s rrset rrsig) old (remark_lines shown remark) new is
       (without_faults (remark_lines shown remark) (named_faults [] none) (are shown))
 
 -- ---- lists that may be empty

@@ -11,12 +11,12 @@ use Rattle.dnsv_verifier.proofs.AskLemmas.{zip_length}
 use Rattle.dnsv_chain.specs.Trust.{AreTrustedKeys}
 use Rattle.dnsv_chain.specs.Trusted.{IsTrusted}
 use Rattle.dnsv_chain.specs.Trusted.IsTrusted.{anchored, delegated}
-use Rattle.dnsv_verdict.specs.Verdict.{Basis}
+use Rattle.dnsv_explain.specs.Explained.{Setting}
 use Rattle.dnsv_explain.specs.faults.Keys.{IsTrustedZone}
 
-module _ (basis : Basis) (zone : Labels) where
+module _ (setting : Setting) (zone : Labels) where
   abbrev Trusted : ReceivedRrset → Type 0
-  Trusted set = IsTrusted basis.meaning basis.moment basis.rrsets basis.anchors set
+  Trusted set = IsTrusted setting.meaning setting.moment setting.rrsets setting.anchors set
 
   -- a trusted RRset has a key
   its_key : (set : ReceivedRrset) → Trusted set → (rdata : List ℕ) × Contains set.rdata rdata
@@ -41,8 +41,8 @@ module _ (basis : Basis) (zone : Labels) where
 
   -- the zone has trusted keys just where an RRset of it is trusted
   pub has_trusted_keys : (keys : List Dnskey) (b : Bool)
-      → AreTrustedKeys basis.meaning basis.moment basis.rrsets basis.anchors zone keys → b ≡ (length keys == 0)
-      → IsTrue (not b) ↔ IsTrustedZone basis zone
+      → AreTrustedKeys setting.meaning setting.moment setting.rrsets setting.anchors zone keys → b ≡ (length keys == 0)
+      → IsTrue (not b) ↔ IsTrustedZone setting zone
   has_trusted_keys keys b are is = (
     λ so.
         let there = some_read are.rdata keys b are.read is so in

@@ -8,7 +8,7 @@ use Rattle.dnsv_verifier.specs.Admissible.{DnskeyRecord, IsEntryOf, IsVerifiable
 use Rattle.dnsv_verifier.specs.declared.answer.Answer.{Answer}
 use Rattle.dnsv_verifier.specs.declared.answer.Answer.TheVariants.{Valid, Invalid, Unknown}
 use Rattle.dnsv_verifier.specs.declared.entry.Entry.{Entry}
-use Rattle.dnsv_verdict.specs.Verdict.{Basis}
+use Rattle.dnsv_explain.specs.Explained.{Setting}
 use Rattle.dnsv_explain.specs.faults.AnswerSearch.{IsAnsweredBySome, IsBestOf, entry_over}
 use Rattle.dnsv_explain.specs.faults.KeySearch.{IsNamedIn}
 use Rattle.dnsv_explain.specs.faults.SignatureFaults.{IsAnswered}
@@ -27,10 +27,10 @@ pub none_best : (Given : Answer → Type 0) → ¬ Given Valid → ¬ Given Unkn
 none_best Given valid unknown invalid = λ answer.
     elim answer as (λ each. ¬ Given each) [ Valid ↦ valid | Unknown ↦ unknown | Invalid ↦ invalid ]
 
-module _ (basis : Basis) (keys : List DnskeyRecord) (rrset : ReceivedRrset) (rrsig : Rrsig) where
+module _ (setting : Setting) (keys : List DnskeyRecord) (rrset : ReceivedRrset) (rrsig : Rrsig) where
   -- what can't be verified isn't answered
-  pub not_verifiable : ¬ IsVerifiable basis.moment rrset rrsig
-      → IsBestOf (IsAnswered (IsNamedIn keys rrsig) basis rrset rrsig) None
+  pub not_verifiable : ¬ IsVerifiable setting.moment rrset rrsig
+      → IsBestOf (IsAnswered (IsNamedIn keys rrsig) setting rrset rrsig) None
   not_verifiable never = λ answer answered.
       let admissible = answered.admissible in
       never (record {
@@ -41,15 +41,15 @@ module _ (basis : Basis) (keys : List DnskeyRecord) (rrset : ReceivedRrset) (rrs
       })
 
   -- nor is what signs nothing
-  pub never_signed : IsVerifiable basis.moment rrset rrsig → IsSignedData rrset.owner rrset.rtype rrset.rdata rrsig None → ⊥
+  pub never_signed : IsVerifiable setting.moment rrset rrsig → IsSignedData rrset.owner rrset.rtype rrset.rdata rrsig None → ⊥
   never_signed verifiable none = let labels = verifiable.over.labels in omega (arith, labels, none)
 
   -- over what it signs, the answers are those to the signature
-  pub answers_over : (octets : List ℕ) → IsVerifiable basis.moment rrset rrsig
+  pub answers_over : (octets : List ℕ) → IsVerifiable setting.moment rrset rrsig
       → IsSignedData rrset.owner rrset.rtype rrset.rdata rrsig (Some octets)
       → ((key : DnskeyRecord) (a b : Entry) → IsEntryOf rrset rrsig key a → IsEntryOf rrset rrsig key b → a ≡ b)
-      → (answer : Answer) → IsAnsweredBySome basis.meaning rrsig octets keys answer
-      ↔ IsAnswered (IsNamedIn keys rrsig) basis rrset rrsig answer
+      → (answer : Answer) → IsAnsweredBySome setting.meaning rrsig octets keys answer
+      ↔ IsAnswered (IsNamedIn keys rrsig) setting rrset rrsig answer
   answers_over octets verifiable signed one answer =
       let entry_is : (key : DnskeyRecord) → IsEntryOf rrset rrsig key (entry_over rrsig octets key) =
       λ key. record { algorithm = refl; key_field = refl; signed_data = signed; signature = refl } in (
@@ -76,7 +76,7 @@ module _ (basis : Basis) (keys : List DnskeyRecord) (rrset : ReceivedRrset) (rrs
           among = answered.named.among;
           answered = record {
             made = record { zone_key = answered.admissible.zone_key; named = answered.admissible.named };
-            says = ap basis.meaning
+            says = ap setting.meaning
                 (one answered.key (entry_over rrsig octets answered.key) answered.entry (entry_is answered.key) answered.is)
                 ∙ answered.says;
           };

@@ -7,7 +7,7 @@ use Rattle.dnsv_canonical.specs.Rrsets.{ReceivedRrset}
 use Rattle.dnsv_verifier.specs.Admissible.{DnskeyRecord}
 use Rattle.dnsv_verifier.specs.declared.answer.Answer.{Answer}
 use Rattle.dnsv_verifier.specs.declared.answer.Answer.TheVariants.{Valid, Invalid, Unknown}
-use Rattle.dnsv_verdict.specs.Verdict.{Basis}
+use Rattle.dnsv_explain.specs.Explained.{Setting}
 use Rattle.dnsv_explain.specs.faults.KeySearch.{HasNamed, HasNamedZoneKey, IsNamedIn}
 use Rattle.dnsv_explain.specs.faults.Keys.{IsZoneKey}
 use Rattle.dnsv_explain.specs.faults.Listing.{AreThose}
@@ -45,9 +45,9 @@ pub with_times : (b : Bool) (Holds : Type 0) (times these : SignatureTimes) → 
     → IsTrue b ↔ (Holds × (times ≡ these))
 with_times b Holds times these test are = (λ is. (test.0 is, are), λ both. test.1 both.0)
 
-module _ (keys : List DnskeyRecord) (known : Bool) (basis : Basis) (rrset : ReceivedRrset) (rrsig : Rrsig) where
+module _ (keys : List DnskeyRecord) (known : Bool) (setting : Setting) (rrset : ReceivedRrset) (rrsig : Rrsig) where
   abbrev Such : WhySignature → Type 0
-  Such = IsFaultOf (IsNamedIn keys rrsig) (IsTrue known) basis rrset rrsig
+  Such = IsFaultOf (IsNamedIn keys rrsig) (IsTrue known) setting rrset rrsig
 
   -- the words with these times
   abbrev words : SignatureTimes → SignatureTimes → List WhySignature
@@ -58,17 +58,17 @@ module _ (keys : List DnskeyRecord) (known : Bool) (basis : Basis) (rrset : Rece
   -- those of the words whose tests are true are the faults
   pub faults_are : (before behind : SignatureTimes) (labels signer wildcard algorithm early late missing unfit : Bool)
       (faults : List WhySignature)
-      → before ≡ not_yet basis.moment rrsig → behind ≡ expired basis.moment rrsig
+      → before ≡ not_yet setting.moment rrsig → behind ≡ expired setting.moment rrsig
       → (IsTrue labels ↔ Such why.Labels) → (IsTrue signer ↔ Such why.Signer) → (IsTrue wildcard ↔ Such why.Expanded)
       → (IsTrue algorithm ↔ Such why.Algorithm)
-      → (IsTrue early ↔ (2 ^ 31 ≤ seconds_on rrsig.inception.0 basis.moment))
-      → (IsTrue late ↔ (2 ^ 31 ≤ seconds_on basis.moment rrsig.expiration.0))
+      → (IsTrue early ↔ (2 ^ 31 ≤ seconds_on rrsig.inception.0 setting.moment))
+      → (IsTrue late ↔ (2 ^ 31 ≤ seconds_on setting.moment rrsig.expiration.0))
       → (IsTrue missing ↔ (IsTrue known × (¬ HasNamed keys rrsig)))
       → (IsTrue unfit ↔ (HasNamed keys rrsig × (¬ HasNamedZoneKey keys rrsig)))
       → faults ≡ map (λ (each : WhySignature × Bool). each.0) (filter (λ (each : WhySignature × Bool). each.1)
       ((why.Labels, labels) ∷ (why.Signer, signer) ∷ (why.Expanded, wildcard) ∷ (why.Algorithm, algorithm)
       ∷ (why.NotYet before, early) ∷ (why.Expired behind, late) ∷ (why.KeyMissing, missing) ∷ (why.NotZoneKey, unfit) ∷ []))
-      → AreFaultsOf (IsNamedIn keys rrsig) (IsTrue known) basis rrset rrsig faults
+      → AreFaultsOf (IsNamedIn keys rrsig) (IsTrue known) setting rrset rrsig faults
   faults_are before behind labels signer wildcard algorithm early late missing unfit faults is_before is_behind
       of_labels of_signer of_wildcard of_algorithm of_early of_late of_missing of_unfit is =
       let pairs : List (WhySignature × Bool) =
@@ -76,7 +76,7 @@ module _ (keys : List DnskeyRecord) (known : Bool) (basis : Basis) (rrset : Rece
       ∷ (why.NotYet before, early) ∷ (why.Expired behind, late) ∷ (why.KeyMissing, missing) ∷ (why.NotZoneKey, unfit) ∷ [] in
       let Those : List WhySignature → Type 0 = λ each. AreThose Such (words before behind) each in
       let Before : SignatureTimes → Type 0 = λ times. AreThose Such (words times behind) faults in
-      let Behind : SignatureTimes → Type 0 = λ times. AreThose Such (words (not_yet basis.moment rrsig) times) faults in
+      let Behind : SignatureTimes → Type 0 = λ times. AreThose Such (words (not_yet setting.moment rrsig) times) faults in
       let those = those_of Such pairs (
         of_labels,
         (
@@ -86,9 +86,9 @@ module _ (keys : List DnskeyRecord) (known : Bool) (basis : Basis) (rrset : Rece
             (
               of_algorithm,
               (
-                with_times early (2 ^ 31 ≤ seconds_on rrsig.inception.0 basis.moment) before (not_yet basis.moment rrsig) of_early is_before,
+                with_times early (2 ^ 31 ≤ seconds_on rrsig.inception.0 setting.moment) before (not_yet setting.moment rrsig) of_early is_before,
                 (
-                  with_times late (2 ^ 31 ≤ seconds_on basis.moment rrsig.expiration.0) behind (expired basis.moment rrsig) of_late is_behind,
+                  with_times late (2 ^ 31 ≤ seconds_on setting.moment rrsig.expiration.0) behind (expired setting.moment rrsig) of_late is_behind,
                   (key_missing keys rrsig known missing of_missing, (no_zone_key keys rrsig unfit of_unfit, tt)),
                 ),
               ),
@@ -101,14 +101,14 @@ module _ (keys : List DnskeyRecord) (known : Bool) (basis : Basis) (rrset : Rece
 -- ---- keys by another name
 
 module _ (N M : DnskeyRecord → Type 0) (K L : Type 0) (same : (key : DnskeyRecord) → N key ↔ M key) (known : K ↔ L)
-    (basis : Basis) (rrset : ReceivedRrset) (rrsig : Rrsig) where
-  pub answered_same : (answer : Answer) → IsAnswered N basis rrset rrsig answer ↔ IsAnswered M basis rrset rrsig answer
+    (setting : Setting) (rrset : ReceivedRrset) (rrsig : Rrsig) where
+  pub answered_same : (answer : Answer) → IsAnswered N setting rrset rrsig answer ↔ IsAnswered M setting rrset rrsig answer
   answered_same answer = (
     λ a. record { key = a.key; named = (same a.key).0 a.named; admissible = a.admissible; entry = a.entry; is = a.is; says = a.says },
     λ a. record { key = a.key; named = (same a.key).1 a.named; admissible = a.admissible; entry = a.entry; is = a.is; says = a.says },
   )
 
-  pub fault_same : (word : WhySignature) → IsFaultOf N K basis rrset rrsig word ↔ IsFaultOf M L basis rrset rrsig word
+  pub fault_same : (word : WhySignature) → IsFaultOf N K setting rrset rrsig word ↔ IsFaultOf M L setting rrset rrsig word
   fault_same why.Labels = (λ is. is, λ is. is)
   fault_same why.Signer = (λ is. is, λ is. is)
   fault_same why.Expanded = (λ is. is, λ is. is)
@@ -133,6 +133,6 @@ module _ (N M : DnskeyRecord → Type 0) (K L : Type 0) (same : (key : DnskeyRec
   )
   fault_same why.KeyUntrusted = (λ is. is, λ is. is)
 
-  pub faults_same : (faults : List WhySignature) → AreFaultsOf N K basis rrset rrsig faults → AreFaultsOf M L basis rrset rrsig faults
+  pub faults_same : (faults : List WhySignature) → AreFaultsOf N K setting rrset rrsig faults → AreFaultsOf M L setting rrset rrsig faults
   faults_same faults =
-      those_same (IsFaultOf N K basis rrset rrsig) (IsFaultOf M L basis rrset rrsig) fault_same (asked_before basis.moment rrsig) faults
+      those_same (IsFaultOf N K setting rrset rrsig) (IsFaultOf M L setting rrset rrsig) fault_same (asked_before setting.moment rrsig) faults

@@ -7,7 +7,7 @@ use Rattle.dnsv_denial.specs.unsigned_cuts.ShownCut.{IsShownCut}
 use Rattle.dnsv_denial.specs.unsigned_cuts.ShownCut.IsShownCut.{no_ds, no_usable_ds, opt_out}
 use Rattle.dnsv_denial.specs.declared.records.number.RecordNumber.{RecordNumber}
 use Rattle.dnsv_denial.specs.declared.unsigned_cuts.shown_cut.ShownCut.{ShownCut}
-use Rattle.dnsv_verdict.specs.Verdict.{Basis}
+use Rattle.dnsv_explain.specs.Explained.{Setting}
 use Rattle.dnsv_explain.specs.derivations.Derivations.Subject.{signature}
 use Rattle.dnsv_explain.specs.Following.{EachFollows, IsSaidSigned}
 use Rattle.dnsv_explain.specs.derivations.OwnDerivations.{IsTrustIn}
@@ -28,9 +28,9 @@ signed_stays before more k said = record {
   rrset = said.rrset;
 }
 
-module _ (basis : Basis) where
+module _ (setting : Setting) where
   each_unusable_follows : (k place : ℕ) (told : List UnusableDs) (before : List Line) → IsSaidSigned before k
-      → AreToldFrom basis.rrsets k place told → EachFollows basis before (map (λ unusable. line.Unusable unusable) told)
+      → AreToldFrom setting.rrsets k place told → EachFollows setting before (map (λ unusable. line.Unusable unusable) told)
   each_unusable_follows k place [] before said each = tt
   each_unusable_follows k place (unusable ∷ told) before said each =
       let Signed : ℕ → Type 0 = λ number. IsSaidSigned before number in (
@@ -39,35 +39,35 @@ module _ (basis : Basis) where
             (signed_stays before (line.Unusable unusable ∷ []) k said) each.2,
       )
 
-  all_unusable_follow : (k : ℕ) (before lines : List Line) → IsSaidSigned before k → AreAllTold basis.rrsets k before lines
-      → EachFollows basis before lines
+  all_unusable_follow : (k : ℕ) (before lines : List Line) → IsSaidSigned before k → AreAllTold setting.rrsets k before lines
+      → EachFollows setting before lines
   all_unusable_follow k before lines said all =
-      let Lines : List Line → Type 0 = λ each. EachFollows basis before each in
+      let Lines : List Line → Type 0 = λ each. EachFollows setting before each in
       subst Lines (sym all.first.are) (each_unusable_follows k 1 all.first.told before said all.first.each)
 
-  unusable_follows : (name : Labels) (before lines : List Line) → IsUnusableTold basis name before lines
-      → EachFollows basis before lines
+  unusable_follows : (name : Labels) (before lines : List Line) → IsUnusableTold setting name before lines
+      → EachFollows setting before lines
   unusable_follows name before lines told =
       let rest = told.told.says_second in
       let derived : List Line = before ++ told.told.first in
-      both_follow basis _ _ before lines told.told
-      (derivation_follows basis before (signature (record { rrset = told.k; signature = told.s })) told.told.first told.told.says_first)
-      (both_follow basis _ _ derived told.told.second rest
-      (case_follows basis case.UnusableDs name None derived rest.first rest.says_first)
+      both_follow setting _ _ before lines told.told
+      (derivation_follows setting before (signature (record { rrset = told.k; signature = told.s })) told.told.first told.told.says_first)
+      (both_follow setting _ _ derived told.told.second rest
+      (case_follows setting case.UnusableDs name None derived rest.first rest.says_first)
       (all_unusable_follow told.k (derived ++ rest.first) rest.second
       (signed_stays derived rest.first told.k
-      (signature_said basis before told.told.first (record { rrset = told.k; signature = told.s }) told.told.says_first))
+      (signature_said setting before told.told.first (record { rrset = told.k; signature = told.s }) told.told.says_first))
       rest.says_second))
 
-  shown_follows : (trust : KeptTrust) → IsTrustIn basis trust → (name : Labels) (cut : ShownCut) (before lines : List Line)
-      → IsShownCut (SecuredIn trust) basis.rrsets name cut → IsCutTold basis name cut before lines → EachFollows basis before lines
+  shown_follows : (trust : KeptTrust) → IsTrustIn setting trust → (name : Labels) (cut : ShownCut) (before lines : List Line)
+      → IsShownCut (SecuredIn trust) setting.rrsets name cut → IsCutTold setting name cut before lines → EachFollows setting before lines
   shown_follows trust good name cut before lines (no_ds labels shown fewest is) told =
-      unsigned_follows basis name shown case.UnsignedDelegation (rightmost name labels) before lines (delegation_shown trust good labels is) told
+      unsigned_follows setting name shown case.UnsignedDelegation (rightmost name labels) before lines (delegation_shown trust good labels is) told
   shown_follows trust good name cut before lines (no_usable_ds labels none fewest) told =
       unusable_follows (rightmost name labels) before lines told
   shown_follows trust good name cut before lines (opt_out labels shown no_delegation no_unusable most is) told =
-      unsigned_follows basis name shown case.OptOut (rightmost name (labels + 1)) before lines (opted_out trust good labels is) told
+      unsigned_follows setting name shown case.OptOut (rightmost name (labels + 1)) before lines (opted_out trust good labels is) told
 
-  pub cut_follows : (name : Labels) (cut : ShownCut) (before lines : List Line) → IsCutShownBy basis name cut
-      → IsCutTold basis name cut before lines → EachFollows basis before lines
+  pub cut_follows : (name : Labels) (cut : ShownCut) (before lines : List Line) → IsCutShownBy setting name cut
+      → IsCutTold setting name cut before lines → EachFollows setting before lines
   cut_follows name cut before lines is told = shown_follows is.0 is.1 name cut before lines is.2 told

@@ -1,26 +1,28 @@
 -- What is so of names that may be unsigned by what records of a zone say.
-use Rattle.std.proofs.Common.{◌+◌, ℕ, List, [], ◌∷◌, ◌++◌, Option, Some, None, refl, arith}
-use Rattle.std.specs.List.{AllByRecursion}
-use Rattle.dnsv_names.specs.Name.{Labels, rightmost}
+use Rattle.std.proofs.Common.{◌+◌, ◌∙◌, ℕ, List, [], ◌∷◌, ◌++◌, Option, Some, None, refl, sym, ap, subst, arith}
+use Rattle.std.specs.List.{AllByRecursion, Contains}
+use Rattle.dnsv_names.specs.Name.{Labels, lower_case, rightmost}
+use Rattle.dnsv_zones.specs.forms.Forms.{IsAbove}
 use Rattle.dnsv_canonical.specs.Rrsets.{ReceivedRrset}
 use Rattle.dnsv_chain.specs.Trust.{SecuredIn as KeptIn}
-use Rattle.dnsv_denial.specs.forms.ShownUnsigned.{ShowsDelegation, ShowsOptOut}
+use Rattle.dnsv_denial.specs.forms.ShownUnsigned.{ShowsDelegation, ShowsOptOut, ShowsOptOutCloser}
 use Rattle.dnsv_denial.specs.forms.ShownUnsigned.ShowsDelegation.{delegation}
 use Rattle.dnsv_denial.specs.forms.ShownUnsigned.ShowsOptOut.{opt_out, wildcard_opt_out}
+use Rattle.dnsv_denial.specs.forms.ShownUnsigned.ShowsOptOutCloser.{opt_out_closer}
 use Rattle.dnsv_denial.specs.records.RecordsAt.{listed}
 use Rattle.dnsv_denial.specs.words.EvidenceWords.{Chain, evidence_said, number_cmp}
 use Rattle.dnsv_denial.specs.declared.forms.proof_form.ProofForm.{ProofForm}
 use Rattle.dnsv_denial.specs.declared.proving.proof_part.PartRelation.TheVariants as related
 use Rattle.dnsv_denial.specs.declared.proving.shown_denial.ShownDenial.{ShownDenial}
 use Rattle.dnsv_denial.specs.declared.records.number.RecordNumber.{RecordNumber}
-use Rattle.dnsv_verdict.specs.Verdict.{Basis}
+use Rattle.dnsv_explain.specs.Explained.{Setting}
 use Rattle.dnsv_explain.specs.unsigned_cuts.ShownCuts.{IsShownUnsigned}
-use Rattle.dnsv_explain.specs.unsigned_cuts.ShownCuts.IsShownUnsigned.{no_ds, opted_out}
+use Rattle.dnsv_explain.specs.unsigned_cuts.ShownCuts.IsShownUnsigned.{closer_opted_out, no_ds, opted_out}
 use Rattle.dnsv_explain.specs.declared.line.cut.InsecureCase.{InsecureCase}
 use Rattle.dnsv_explain.specs.declared.line.denial.Relation.TheVariants as relation
 use Rattle.dnsv_explain.specs.declared.line.denial.Role.TheVariants as role
 use Rattle.dnsv_explain.proofs.lemmas.denials.FormLemmas.{EncloserSigned, FormFacts, IsSigned, encloser_says, encloser_signed, wildcard_records_signed, wildcard_says}
-use Rattle.dnsv_explain.proofs.lemmas.denials.ShownLemmas.{ShownFacts, good_facts}
+use Rattle.dnsv_explain.proofs.lemmas.denials.ShownLemmas.{ShownFacts, good_facts, spelled}
 use Rattle.dnsv_explain.proofs.lemmas.denials.PartLemmas.{word_signed}
 
 module _ (S : ℕ → ℕ → Type 0) (rrsets : List ReceivedRrset) (apex name : Labels) where
@@ -57,15 +59,28 @@ module _ (S : ℕ → ℕ → Type 0) (rrsets : List ReceivedRrset) (apex name :
         records = wildcard_records_signed S rrsets apex name chain _ related.OptOut parts shows.shows (λ number says. says);
       }
 
-module _ (basis : Basis) (name : Labels) (shown : ShownDenial) where
-  pub cut_facts : (kind : InsecureCase) (cut : Labels) → IsShownUnsigned basis name shown kind cut → ShownFacts basis name shown
+  closer_facts : (chain : Chain) (labels : ℕ) (shape : ProofForm RecordNumber)
+      → ShowsOptOutCloser number_cmp (evidence_said S rrsets apex chain) apex name labels shape → FormFacts S rrsets apex name chain shape
+  closer_facts chain labels shape (opt_out_closer number shows) =
+      let below = shows.above.proper in record {
+        parts = (record { within = below; says = shows.next_closer.says }, tt);
+        encloser = omega (arith, below);
+        records = (word_signed S rrsets apex number chain role.NextCloser relation.OptOut (rightmost name (labels + 1)) shows.next_closer.says, tt);
+      }
+
+  closer_above : (chain : Chain) (labels : ℕ) (shape : ProofForm RecordNumber)
+      → ShowsOptOutCloser number_cmp (evidence_said S rrsets apex chain) apex name labels shape → IsAbove apex name labels
+  closer_above chain labels shape (opt_out_closer number shows) = shows.above
+
+module _ (setting : Setting) (name : Labels) (shown : ShownDenial) where
+  pub cut_facts : (kind : InsecureCase) (cut : Labels) → IsShownUnsigned setting name shown kind cut → ShownFacts setting name shown
   cut_facts kind cut (no_ds trust good labels is) = record {
     apex = shown.proof.zone;
     same = refl;
     chain = is.chain;
     kind = is.kind;
-    facts = good_facts basis name shown trust good shown.proof.zone is.chain
-        (delegation_facts (KeptIn trust) basis.rrsets shown.proof.zone name is.chain labels shown.form is.shows);
+    facts = good_facts setting name shown trust good shown.proof.zone is.chain
+        (delegation_facts (KeptIn trust) setting.rrsets shown.proof.zone name is.chain labels shown.form is.shows);
     records = λ number there. (is.records.members number).0 there;
     named = λ number there. (is.records.members number).1 there;
   }
@@ -74,8 +89,20 @@ module _ (basis : Basis) (name : Labels) (shown : ShownDenial) where
     same = refl;
     chain = is.chain;
     kind = is.kind;
-    facts = good_facts basis name shown trust good shown.proof.zone is.chain
-        (opt_out_facts (KeptIn trust) basis.rrsets shown.proof.zone name is.chain labels shown.form is.shows);
+    facts = good_facts setting name shown trust good shown.proof.zone is.chain
+        (opt_out_facts (KeptIn trust) setting.rrsets shown.proof.zone name is.chain labels shown.form is.shows);
     records = λ number there. (is.records.members number).0 there;
     named = λ number there. (is.records.members number).1 there;
   }
+  cut_facts kind cut (closer_opted_out trust good labels zone is) =
+      let Among : RecordNumber → List RecordNumber → Type 0 = λ number each. Contains each number in record {
+        apex = zone;
+        same = spelled name zone labels (closer_above (KeptIn trust) setting.rrsets zone name is.chain labels shown.form is.shows)
+            ∙ sym (ap lower_case is.zone);
+        chain = is.chain;
+        kind = is.kind;
+        facts = good_facts setting name shown trust good zone is.chain
+            (closer_facts (KeptIn trust) setting.rrsets zone name is.chain labels shown.form is.shows);
+        records = λ number there. subst (Among number) is.records there;
+        named = λ number there. subst (Among number) (sym is.records) there;
+      }

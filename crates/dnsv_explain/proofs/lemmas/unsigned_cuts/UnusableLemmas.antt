@@ -17,7 +17,7 @@ use Rattle.dnsv_chain.proofs.ChainLemmas.{same_ds}
 use Rattle.dnsv_chain.proofs.ZipLemmas.{zip_at, zip_length}
 use Rattle.dnsv_denial.specs.gathering.Evidence.{IsRecordAt}
 use Rattle.dnsv_denial.specs.declared.records.number.RecordNumber.{RecordNumber}
-use Rattle.dnsv_verdict.specs.Verdict.{Basis}
+use Rattle.dnsv_explain.specs.Explained.{Setting}
 use Rattle.dnsv_explain.specs.derivations.OwnDerivations.{IsSignatureTold, SecuredIn}
 use Rattle.dnsv_explain.specs.derivations.Derivations.{IsLowestSecured}
 use Rattle.dnsv_explain.specs.Following.Parts.{IsUnusableRecord, IsWhy}
@@ -95,23 +95,23 @@ ignored records ds unusable algorithm digest_type = ⊎_elim
 
 -- ---- the first RRset without a usable record
 
-module _ (basis : Basis) (name : Labels) where
+module _ (setting : Setting) (name : Labels) where
   abbrev pub NoneTo : ℕ → Type 0
-  NoneTo n = (k : ℕ) → k ≤ n → ¬ IsUnusableSet basis name k
+  NoneTo n = (k : ℕ) → k ≤ n → ¬ IsUnusableSet setting name k
 
   pub none_at_first : NoneTo 0
   none_at_first = λ k below is. let from_one = is.is_ds.0 in absurd (omega (arith, below, from_one))
 
-  pub none_to_next : (n : ℕ) → ¬ IsUnusableSet basis name (n + 1) → NoneTo n → NoneTo (n + 1)
+  pub none_to_next : (n : ℕ) → ¬ IsUnusableSet setting name (n + 1) → NoneTo n → NoneTo (n + 1)
   none_to_next n never none = λ k below is. ⊎_elim
       (λ (later : n < k).
-      let Is : ℕ → Type 0 = λ each. IsUnusableSet basis name each in
+      let Is : ℕ → Type 0 = λ each. IsUnusableSet setting name each in
       let last : k ≡ n + 1 = omega (arith, later, below) in
       never (subst Is last is))
       (λ (earlier : k ≤ n). none k earlier is)
       (cases_lt n k)
 
-  pub first_found : (n : ℕ) → IsUnusableSet basis name (n + 1) → NoneTo n → IsFirstUnusable basis name (n + 1)
+  pub first_found : (n : ℕ) → IsUnusableSet setting name (n + 1) → NoneTo n → IsFirstUnusable setting name (n + 1)
   first_found n found none = record {
     is = found;
     first = λ k is. ⊎_elim
@@ -120,14 +120,14 @@ module _ (basis : Basis) (name : Labels) where
         (cases_lt n k);
   }
 
-  pub none_at_all : (n : ℕ) → length basis.rrsets ≤ n → NoneTo n → (k : ℕ) → ¬ IsUnusableSet basis name k
+  pub none_at_all : (n : ℕ) → length setting.rrsets ≤ n → NoneTo n → (k : ℕ) → ¬ IsUnusableSet setting name k
   none_at_all n past none = λ k is.
-      let within = slice_get_within basis.rrsets (k - 1) is.ds is.is_ds.1 in
+      let within = slice_get_within setting.rrsets (k - 1) is.ds is.is_ds.1 in
       none k (omega (arith, within, past)) is
 
-  module _ (k : ℕ) (ds : ReceivedRrset) (numbered : IsNumbered basis.rrsets k ds) where
-    pub its_set : (values : List Ds) → MayDelegate basis k ds name → AllZip IsDs (rdata_of_type 43 ds) values → ¬ HasUsable values
-        → IsUnusableSet basis name k
+  module _ (k : ℕ) (ds : ReceivedRrset) (numbered : IsNumbered setting.rrsets k ds) where
+    pub its_set : (values : List Ds) → MayDelegate setting k ds name → AllZip IsDs (rdata_of_type 43 ds) values → ¬ HasUsable values
+        → IsUnusableSet setting name k
     its_set values may read none = record {
       ds = ds;
       is_ds = numbered;
@@ -139,18 +139,18 @@ module _ (basis : Basis) (name : Labels) where
       none = none;
     }
 
-    same_set : (is : IsUnusableSet basis name k) → is.ds ≡ ds
-    same_set is = same_number basis.rrsets k is.ds ds is.is_ds numbered
+    same_set : (is : IsUnusableSet setting name k) → is.ds ≡ ds
+    same_set is = same_number setting.rrsets k is.ds ds is.is_ds numbered
 
-    pub set_delegates : IsUnusableSet basis name k → MayDelegate basis k ds name
+    pub set_delegates : IsUnusableSet setting name k → MayDelegate setting k ds name
     set_delegates is =
-        let May : ReceivedRrset → Type 0 = λ each. MayDelegate basis k each name in
+        let May : ReceivedRrset → Type 0 = λ each. MayDelegate setting k each name in
         subst May (same_set is) (record { rtype = is.rtype; owner = is.owner; secured = is.secured })
 
-    pub set_read : (values : List Ds) → IsUnusableSet basis name k → AllZip IsDs (rdata_of_type 43 ds) values → AllZip IsDs ds.rdata values
+    pub set_read : (values : List Ds) → IsUnusableSet setting name k → AllZip IsDs (rdata_of_type 43 ds) values → AllZip IsDs ds.rdata values
     set_read values is read = ds_read ds values (set_delegates is).rtype read
 
-    pub none_usable : (values : List Ds) → IsUnusableSet basis name k → AllZip IsDs (rdata_of_type 43 ds) values → ¬ HasUsable values
+    pub none_usable : (values : List Ds) → IsUnusableSet setting name k → AllZip IsDs (rdata_of_type 43 ds) values → ¬ HasUsable values
     none_usable values is read =
         let Read : ReceivedRrset → Type 0 = λ each. AllZip IsDs each.rdata is.records in
         let None : List Ds → Type 0 = λ each. ¬ HasUsable each in
@@ -280,23 +280,23 @@ module _ {X : Type 0} (rdata : X → List ℕ) (record_read : X → Ds) (rrsets 
 
 -- ---- the lines
 
-pub unusable_told : (basis : Basis) (name : Labels) (k : ℕ) (number : SignatureNumber) (old signed told new : List Line)
-    → IsFirstUnusable basis name k → number.rrset ≡ k → IsLowestSecured basis k number.signature
-    → Adds (IsSignatureTold basis number) old signed → Adds (IsCaseTold case.UnusableDs name None) signed told
-    → Adds (AreAllTold basis.rrsets k) told new → Adds (IsUnusableTold basis name) old new
-unusable_told basis name k number old signed told new first same lowest derived case_told all =
-    let Of : SignatureNumber → Type 0 = λ each. Adds (IsSignatureTold basis each) old signed in
+pub unusable_told : (setting : Setting) (name : Labels) (k : ℕ) (number : SignatureNumber) (old signed told new : List Line)
+    → IsFirstUnusable setting name k → number.rrset ≡ k → IsLowestSecured setting k number.signature
+    → Adds (IsSignatureTold setting number) old signed → Adds (IsCaseTold case.UnusableDs name None) signed told
+    → Adds (AreAllTold setting.rrsets k) told new → Adds (IsUnusableTold setting name) old new
+unusable_told setting name k number old signed told new first same lowest derived case_told all =
+    let Of : SignatureNumber → Type 0 = λ each. Adds (IsSignatureTold setting each) old signed in
     let its : SignatureNumber = record { rrset = k; signature = number.signature } in
-    let whole = both_added (IsSignatureTold basis its) (AreBoth (IsCaseTold case.UnusableDs name None) (AreAllTold basis.rrsets k)) old signed new
+    let whole = both_added (IsSignatureTold setting its) (AreBoth (IsCaseTold case.UnusableDs name None) (AreAllTold setting.rrsets k)) old signed new
     (subst Of (number_is number k same) derived)
-    (both_added (IsCaseTold case.UnusableDs name None) (AreAllTold basis.rrsets k) signed told new case_told all) in
+    (both_added (IsCaseTold case.UnusableDs name None) (AreAllTold setting.rrsets k) signed told new case_told all) in
     record {
       more = whole.more;
       is = whole.is;
       says = record { k = k; first = first; s = number.signature; lowest = lowest; told = whole.says };
     }
 
-pub lowest_good : (basis : Basis) (k : ℕ) (number : SignatureNumber) → number.rrset ≡ k → IsLowestSecured basis k number.signature
-    → SecuredIn basis number.rrset number.signature
-lowest_good basis k number same lowest =
-    let Secured : ℕ → Type 0 = λ n. SecuredIn basis n number.signature in subst Secured (sym same) lowest.secured
+pub lowest_good : (setting : Setting) (k : ℕ) (number : SignatureNumber) → number.rrset ≡ k → IsLowestSecured setting k number.signature
+    → SecuredIn setting number.rrset number.signature
+lowest_good setting k number same lowest =
+    let Secured : ℕ → Type 0 = λ n. SecuredIn setting n number.signature in subst Secured (sym same) lowest.secured

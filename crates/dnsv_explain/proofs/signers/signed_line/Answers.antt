@@ -1,5 +1,5 @@
 use Rattle.std.proofs.Common.{◌≤◌, Option, length, subst, arith, ◌∙◌}
-use Rattle.dnsv_explain.specs.Explained.{basis_in}
+use Rattle.dnsv_explain.specs.Explained.{setting_in}
 use Rattle.dnsv_explain.specs.derivations.SignerSearch.{IsFirstTo}
 use Rattle.dnsv_explain.specs.declared.signers.Signer.{Signer}
 use Rattle.dnsv_explain.proofs.lemmas.NumberedLemmas.{all_passed, in_list}
@@ -8,32 +8,32 @@ use Rattle.dnsv_explain.proofs.signers.signed_line.Goals as goal
 
 pub returns-in_default-numbered : goal.returns-in_default-numbered
 returns-in_default-numbered c =
-    no_signature (basis_in c.args.evidence.now) c.args.number c.in-Some.rrset.now
+    no_signature (setting_in c.args.evidence.now) c.args.number c.in-Some.rrset.now
     (in_list c.args.evidence.now.rrsets c.rrsets-rrsets.result.now c.args.number.rrset c.in-Some.rrset.now c.rrsets-rrsets.ensures c.in-Some.ensures)
     c.signatures.result.now c.signatures.ensures c.in_default-numbered.ensures
 
 pub first_signer-requires-clause-rrsig : goal.first_signer-requires-clause-rrsig
 first_signer-requires-clause-rrsig c =
-    signature_there (basis_in c.args.evidence.now) c.args.number c.in-Some.rrset.now
+    signature_there (setting_in c.args.evidence.now) c.args.number c.in-Some.rrset.now
     (in_list c.args.evidence.now.rrsets c.rrsets-rrsets.result.now c.args.number.rrset c.in-Some.rrset.now c.rrsets-rrsets.ensures c.in-Some.ensures)
     c.signatures.result.now c.in-Some-numbered.rrsig.now c.signatures.ensures c.in-Some-numbered.ensures
 
 pub returns-in_default-2 : goal.returns-in_default-2
 returns-in_default-2 c =
-    let basis = basis_in c.args.evidence.now in
+    let setting = setting_in c.args.evidence.now in
     let n = length c.rrsets-rrsets.result.now in
-    let First : Option Signer → Type 0 = λ first. IsFirstTo basis c.args.number n first in
+    let First : Option Signer → Type 0 = λ first. IsFirstTo setting c.args.number n first in
     let itself : n ≤ n = omega arith in
-    never_secured basis c.args.number n (all_passed c.args.evidence.now.rrsets c.rrsets-rrsets.result.now n c.rrsets-rrsets.ensures itself)
+    never_secured setting c.args.number n (all_passed c.args.evidence.now.rrsets c.rrsets-rrsets.result.now n c.rrsets-rrsets.ensures itself)
     (subst First c.in_default-2.is c.in_ok-signer.ensures)
 
 pub returns : goal.returns
 returns c =
-    let basis = basis_in c.args.evidence.now in
+    let setting = setting_in c.args.evidence.now in
     let n = length c.rrsets-rrsets.result.now in
-    let First : Option Signer → Type 0 = λ first. IsFirstTo basis c.args.number n first in
+    let First : Option Signer → Type 0 = λ first. IsFirstTo setting c.args.number n first in
     let itself : n ≤ n = omega arith in
-    the_line basis c.args.number c.in-Some.rrset.now
+    the_line setting c.args.number c.in-Some.rrset.now
     (in_list c.args.evidence.now.rrsets c.rrsets-rrsets.result.now c.args.number.rrset c.in-Some.rrset.now c.rrsets-rrsets.ensures c.in-Some.ensures)
     n c.in-Some-2.signer c.in-Some-numbered-2.set.now c.in_ok-clone.field-0 c.in_ok-clone-2.field-0 c.rtype.result
     (all_passed c.args.evidence.now.rrsets c.rrsets-rrsets.result.now n c.rrsets-rrsets.ensures itself)

@@ -2,5 +2,5 @@
 use Rattle.dnsv_verdict.proofs.SearchLemmas.{NoneSoFarAt}
 use Rattle.dnsv_verdict.proofs.search.first_such.Given as goal
 
-abbrev pub invariant-loop-place : goal.invariant-loop-place
-invariant-loop-place g l = NoneSoFarAt (g.T.Test.passes l.test) l.trust l.name l.rrsets l.place
+abbrev pub invariant-loop-number : goal.invariant-loop-number
+invariant-loop-number g l = NoneSoFarAt (g.T.Test.passes l.test) l.trust l.capture.rrsets l.at_name l.number-index

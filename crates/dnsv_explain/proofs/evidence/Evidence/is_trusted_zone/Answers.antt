@@ -2,7 +2,7 @@ use Rattle.std.proofs.Common.{List, subst, sym}
 use Rattle.dnsv_records.specs.declared.dnskey.Dnskey.{Dnskey}
 use Rattle.dnsv_verifier.specs.Table.{table_answer}
 use Rattle.dnsv_chain.specs.Trust.{AreTrustedKeys}
-use Rattle.dnsv_explain.specs.Explained.{Explained, basis_in}
+use Rattle.dnsv_explain.specs.Explained.{Explained, setting_in}
 use Rattle.dnsv_explain.proofs.lemmas.faults.TrustLemmas.{has_trusted_keys}
 use Rattle.dnsv_explain.proofs.evidence.Evidence.is_trusted_zone.Goals as goal
 
@@ -11,6 +11,6 @@ returns c =
     let Are : Explained → List Dnskey → Type 0 =
     λ all keys. AreTrustedKeys (table_answer all.table) all.table.moment all.rrsets all.anchors c.args.zone.now keys in
     let Of : Explained → Type 0 = λ all. Are all c.keys.result.now in
-    has_trusted_keys (basis_in c.args.self.now) c.args.zone.now c.keys.result.now c.is_empty.result
+    has_trusted_keys (setting_in c.args.self.now) c.args.zone.now c.keys.result.now c.is_empty.result
     (subst Of c.self.view_is (subst (Are _) (sym c.keys.ensures) (c.self.invariant.keys c.args.zone.now)))
     c.is_empty.ensures

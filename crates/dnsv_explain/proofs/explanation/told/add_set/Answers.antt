@@ -1,21 +1,40 @@
 use Rattle.std.proofs.Common.{◌∙◌, List, subst, sym}
 use Rattle.std.proofs.lemmas.Bool.{false≢true}
-use Rattle.std.proofs.lemmas.Option.{MatchOption-at_some}
-use Rattle.dnsv_explain.specs.Explained.{basis_in}
+use Rattle.std.proofs.lemmas.Option.{MatchOption-at_none, MatchOption-at_some}
+use Rattle.dnsv_canonical.specs.Rrsets.{IsNumbered}
+use Rattle.dnsv_explain.specs.Explained.{setting_in}
 use Rattle.dnsv_explain.specs.derivations.OwnDerivations.{IsSignatureTold}
 use Rattle.dnsv_explain.specs.declared.line.Line.{Line}
 use Rattle.dnsv_explain.proofs.lemmas.NumberedLemmas.{in_list}
-use Rattle.dnsv_explain.proofs.lemmas.TellLemmas.{no_closer_shown, owned_added, signature_at, wildcard_added}
+use Rattle.dnsv_explain.proofs.lemmas.SecureLemmas.{its_signature, must_hold, never_rrset, never_signature}
+use Rattle.dnsv_explain.proofs.lemmas.TellLemmas.{closer_there, no_closer_shown, owned_added, signature_at, wildcard_added}
 use Rattle.dnsv_explain.proofs.explanation.told.add_set.Goals as goal
 
+pub returns-in_default : goal.returns-in_default
+returns-in_default c =
+    absurd (never_rrset (setting_in c.args.evidence.now) c.args.at.now.name.now c.args.number c.requires.secure c.rrsets.result.now
+    c.rrsets.ensures c.in_default.ensures)
+
+pub returns-in_default-numbered : goal.returns-in_default-numbered
+returns-in_default-numbered c =
+    let rrsets = c.args.evidence.now.rrsets in
+    absurd (never_signature (setting_in c.args.evidence.now) c.args.at.now.name.now c.args.number c.requires.secure c.in-Some.rrset.now
+    (in_list rrsets c.rrsets.result.now c.args.number.rrset c.in-Some.rrset.now c.rrsets.ensures c.in-Some.ensures)
+    c.signatures.result.now c.signatures.ensures c.in_default-numbered.ensures)
+
+pub returns-in_default-2 : goal.returns-in_default-2
+returns-in_default-2 c =
+    absurd (MatchOption-at_none _ _ c.in_default-2.is c.in_ok-more.ensures
+    (its_signature (setting_in c.args.evidence.now) c.args.at.now.name.now c.args.number c.requires.secure))
+
 pub returns-then-not-is_expanded : goal.returns-then-not-is_expanded
-returns-then-not-is_expanded c = λ told.
-    let explained = c.evidence_of-evidence.result in
+returns-then-not-is_expanded c =
+    let explained = c.args.evidence.now in
     let rrset = c.in-Some.rrset.now in
     let rrsig = c.in-Some-numbered.rrsig.now in
     let test = rw c.owner.ensures at c.is_expanded.ensures in
-    let Told : List Line → Type 0 = λ before. IsSignatureTold (basis_in explained) c.args.number before c.in-Some-2.more.items in
-    owned_added c.args.grounds.now explained c.evidence_of-evidence.ensures c.args.name.now c.args.number rrset rrsig
+    let Told : List Line → Type 0 = λ before. IsSignatureTold (setting_in explained) c.args.number before c.in-Some-2.more.items in
+    owned_added (setting_in explained) c.args.at.now.name.now c.args.number rrset rrsig
     c.args.lines.now.items c.in-Some-2.more.items c.append.new.self.items
     (signature_at explained.rrsets c.args.number rrset c.signatures.result.now rrsig
     (in_list explained.rrsets c.rrsets.result.now c.args.number.rrset rrset c.rrsets.ensures c.in-Some.ensures)
@@ -24,21 +43,36 @@ returns-then-not-is_expanded c = λ told.
     (subst Told c.deref.ensures.value (MatchOption-at_some _ _ c.in-Some-2.more c.in-Some-2.is c.in_ok-more.ensures))
     c.in_ok-append.ensures.items
 
-pub add_denial-requires : goal.add_denial-requires
-add_denial-requires c =
-    no_closer_shown c.args.grounds.now c.evidence_of-evidence.result c.evidence_of-evidence.ensures c.requires.trust
-    c.in_ok-view.view c.args.hashes.now c.args.name.now c.in_ok-view.ensures c.requires.hashes _ _
-    c.in-Some-shown_no_closer.shown c.in-Some-shown_no_closer.ensures.first
-
-pub returns : goal.returns
-returns c = λ told.
-    let explained = c.evidence_of-evidence.result in
+pub returns-in_default-shown_no_closer : goal.returns-in_default-shown_no_closer
+returns-in_default-shown_no_closer c =
+    let explained = c.args.evidence.now in
     let rrset = c.in-Some.rrset.now in
     let rrsig = c.in-Some-numbered.rrsig.now in
     let test = rw c.owner.ensures at c.is_expanded.ensures in
-    let Told : List Line → Type 0 = λ before. IsSignatureTold (basis_in explained) c.args.number before c.in-Some-2.more.items in
-    wildcard_added c.args.grounds.now explained c.evidence_of-evidence.ensures c.requires.trust
-    c.in_ok-view.view c.args.hashes.now c.args.name.now c.in_ok-view.ensures c.requires.hashes c.args.number rrset rrsig
+    let is_rrset : IsNumbered explained.rrsets c.args.number.rrset rrset =
+    in_list explained.rrsets c.rrsets.result.now c.args.number.rrset rrset c.rrsets.ensures c.in-Some.ensures in
+    absurd (c.in_default-shown_no_closer.ensures.first
+    (closer_there c.args.at.now.grounds.now explained c.requires.at.evidence c.requires.at.trust c.in_ok-view.view c.args.at.now.name.now
+    c.in_ok-view.ensures rrsig.labels rrsig.signer
+    (must_hold (setting_in explained) c.args.at.now.name.now c.args.number c.requires.secure rrset is_rrset rrsig
+    (signature_at explained.rrsets c.args.number rrset c.signatures.result.now rrsig is_rrset c.signatures.ensures
+    c.in-Some-numbered.ensures) (test.0 c.if-not-is_expanded.false))))
+
+pub add_denial-requires : goal.add_denial-requires
+add_denial-requires c =
+    no_closer_shown c.args.at.now.grounds.now c.args.evidence.now c.requires.at.evidence c.requires.at.trust
+    c.in_ok-view.view c.args.at.now.name.now c.in_ok-view.ensures _ _
+    c.in-Some-shown_no_closer.shown c.in-Some-shown_no_closer.ensures.first
+
+pub returns : goal.returns
+returns c =
+    let explained = c.args.evidence.now in
+    let rrset = c.in-Some.rrset.now in
+    let rrsig = c.in-Some-numbered.rrsig.now in
+    let test = rw c.owner.ensures at c.is_expanded.ensures in
+    let Told : List Line → Type 0 = λ before. IsSignatureTold (setting_in explained) c.args.number before c.in-Some-2.more.items in
+    wildcard_added c.args.at.now.grounds.now explained c.requires.at.evidence c.requires.at.trust
+    c.in_ok-view.view c.args.at.now.name.now c.in_ok-view.ensures c.args.number rrset rrsig
     c.in-Some-shown_no_closer.shown c.args.lines.now.items c.in-Some-2.more.items _ _
     (signature_at explained.rrsets c.args.number rrset c.signatures.result.now rrsig
     (in_list explained.rrsets c.rrsets.result.now c.args.number.rrset rrset c.rrsets.ensures c.in-Some.ensures)

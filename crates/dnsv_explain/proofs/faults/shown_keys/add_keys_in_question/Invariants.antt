@@ -1,5 +1,5 @@
 use Rattle.std.proofs.Common.{take}
-use Rattle.dnsv_explain.specs.Explained.{basis_in}
+use Rattle.dnsv_explain.specs.Explained.{setting_in}
 use Rattle.dnsv_explain.specs.faults.KeyLines.{AreLinesOfSet}
 use Rattle.dnsv_explain.specs.faults.Listing.{AddsThose, AreOfNumbered}
 use Rattle.dnsv_explain.proofs.faults.shown_keys.add_keys_in_question.Given as goal
@@ -7,5 +7,5 @@ use Rattle.dnsv_explain.proofs.faults.shown_keys.add_keys_in_question.Given as g
 -- the lines of the RRsets so far
 abbrev pub invariant-loop-place : goal.invariant-loop-place
 invariant-loop-place l =
-    AddsThose (AreOfNumbered (AreLinesOfSet (basis_in l.evidence) l.reasons) 1 (take l.place l.evidence.rrsets))
+    AddsThose (AreOfNumbered (AreLinesOfSet (setting_in l.evidence) l.reasons) 1 (take l.place l.evidence.rrsets))
     l.initial.lines.items l.lines.items

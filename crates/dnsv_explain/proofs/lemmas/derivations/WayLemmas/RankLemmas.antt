@@ -22,7 +22,7 @@ use Rattle.dnsv_chain.specs.Ds.{IsMatch, IsUsable}
 use Rattle.dnsv_chain.specs.declared.anchor.Anchor.{Anchor}
 use Rattle.dnsv_chain.specs.declared.anchor.Anchor.TheVariants as anchor
 use Rattle.dnsv_denial.specs.declared.records.number.RecordNumber.{RecordNumber}
-use Rattle.dnsv_verdict.specs.Verdict.{Basis}
+use Rattle.dnsv_explain.specs.Explained.{Setting}
 use Rattle.dnsv_explain.specs.Following.{IsDsMatch, IsMatchedBy}
 use Rattle.dnsv_explain.specs.derivations.WaySearch.{IsFirstUnder, IsFoundWay, IsNoWay, IsNoWayBefore, IsNoneUnder, IsVoucherOf, MayDelegate}
 use Rattle.dnsv_explain.specs.derivations.Ways.{HasSecured, IsLess, IsWayInto, Way, voucher_rank}
@@ -32,13 +32,13 @@ use Rattle.dnsv_explain.specs.declared.ways.FoundWay.{FoundWay}
 use Rattle.dnsv_explain.proofs.lemmas.NumberedLemmas.{same_number}
 use Rattle.dnsv_explain.proofs.lemmas.derivations.WayLemmas.FirstLemmas.{found_first, none_by, under_too}
 
-module _ (basis : Basis) (k : ℕ) where
+module _ (setting : Setting) (k : ℕ) where
   abbrev Matched : Voucher → DnskeyRecord → Type 0
-  Matched = IsMatchedBy (HasSecured basis) basis
+  Matched = IsMatchedBy (HasSecured setting) setting
 
   -- ---- anchors
 
-  anchor_matches : (number : ℕ) (each : Anchor) (told : Voucher) → IsNumbered basis.anchors number each
+  anchor_matches : (number : ℕ) (each : Anchor) (told : Voucher) → IsNumbered setting.anchors number each
       → IsVoucherOf number each told → (key : DnskeyRecord) → IsAnchorMatch each key ↔ Matched told key
   anchor_matches number (anchor.Ds owner ds) told numbered is key =
       let By : Voucher → Type 0 = λ each. Matched each key in (
@@ -46,7 +46,7 @@ module _ (basis : Basis) (k : ℕ) where
         λ matched.
             let there : By (voucher.DsAnchor number ds.digest_type) = subst By is matched in
             let same : anchor.Ds there.0 there.1 ≡ anchor.Ds owner ds =
-            same_number basis.anchors number (anchor.Ds there.0 there.1) (anchor.Ds owner ds) there.2 numbered in
+            same_number setting.anchors number (anchor.Ds there.0 there.1) (anchor.Ds owner ds) there.2 numbered in
             let Match : Anchor → Type 0 = λ each. IsAnchorMatch each key in
             subst Match same there.4,
       )
@@ -56,7 +56,7 @@ module _ (basis : Basis) (k : ℕ) where
         λ matched.
             let there : By (voucher.KeyAnchor number) = subst By is matched in
             let same : anchor.Key there.0 there.1 ≡ anchor.Key owner rdata =
-            same_number basis.anchors number (anchor.Key there.0 there.1) (anchor.Key owner rdata) there.2 numbered in
+            same_number setting.anchors number (anchor.Key there.0 there.1) (anchor.Key owner rdata) there.2 numbered in
             let Match : Anchor → Type 0 = λ each. IsAnchorMatch each key in
             subst Match same there.3,
       )
@@ -69,7 +69,7 @@ module _ (basis : Basis) (k : ℕ) where
   -- a way by an anchor: the anchor has the number, and matches
   record ByAnchor (way : Way) (number : ℕ) : Type 0 where
     each : Anchor
-    numbered : IsNumbered basis.anchors number each
+    numbered : IsNumbered setting.anchors number each
     matching : IsAnchorMatch each way.key
 
   -- a way by a DS record
@@ -78,8 +78,8 @@ module _ (basis : Basis) (k : ℕ) where
     digest_type : DigestType
     rrset_is : number.rrset ≡ rrset
     place_is : number.place ≡ place
-    ds : IsDsMatch basis number digest_type way.key
-    secured : HasSecured basis number.rrset
+    ds : IsDsMatch setting number digest_type way.key
+    secured : HasSecured setting number.rrset
 
   by_rank : (way : Way) (voucher : Voucher) → Matched voucher way.key
       → ((number : ℕ) × ByAnchor way number × (voucher_rank voucher ≡ (0, number, 0)))
@@ -98,9 +98,9 @@ module _ (basis : Basis) (k : ℕ) where
 
   -- no way goes before a rank, if none by an anchor and none by a DS record does
   none_before : (rank : ℕ × ℕ × ℕ)
-      → ((way : Way) (number : ℕ) → IsWayInto basis k way → ByAnchor way number → (voucher_rank way.voucher ≡ (0, number, 0)) → ¬ IsLess (0, number, 0) rank)
-      → ((way : Way) (rrset place : ℕ) → IsWayInto basis k way → ByDs way rrset place → (voucher_rank way.voucher ≡ (1, rrset, place)) → ¬ IsLess (1, rrset, place) rank)
-      → IsNoWayBefore basis k rank
+      → ((way : Way) (number : ℕ) → IsWayInto setting k way → ByAnchor way number → (voucher_rank way.voucher ≡ (0, number, 0)) → ¬ IsLess (0, number, 0) rank)
+      → ((way : Way) (rrset place : ℕ) → IsWayInto setting k way → ByDs way rrset place → (voucher_rank way.voucher ≡ (1, rrset, place)) → ¬ IsLess (1, rrset, place) rank)
+      → IsNoWayBefore setting k rank
   none_before rank anchors records = λ way is less.
       let Less : ℕ × ℕ × ℕ → Type 0 = λ each. IsLess each rank in
       ⊎_elim
@@ -110,7 +110,7 @@ module _ (basis : Basis) (k : ℕ) where
       records way by.0 by.1 is by.2 by.3 (subst Less by.3 less))
       (by_rank way way.voucher is.matched)
 
-  before_at : (rank at : ℕ × ℕ × ℕ) → IsNoWayBefore basis k rank → (way : Way) → IsWayInto basis k way
+  before_at : (rank at : ℕ × ℕ × ℕ) → IsNoWayBefore setting k rank → (way : Way) → IsWayInto setting k way
       → voucher_rank way.voucher ≡ at → ¬ IsLess at rank
   before_at rank at none way is rank_is less =
       let Less : ℕ × ℕ × ℕ → Type 0 = λ each. IsLess each rank in
@@ -136,39 +136,39 @@ module _ (basis : Basis) (k : ℕ) where
       (λ (at : (1 ≡ 1) × ((r < s) ⊎ ((r ≡ s) × (p < q)))). at.1)
       less
 
-  pub anchors_begin : IsNoWayBefore basis k (0, 1, 0)
+  pub anchors_begin : IsNoWayBefore setting k (0, 1, 0)
   anchors_begin = none_before (0, 1, 0)
       (λ way number is by at less. let below = anchor_less number 1 less in let from_one = by.numbered.0 in absurd (omega (arith, below, from_one)))
       (λ way rrset place is by at less. record_not_less rrset place 1 0 less)
 
-  module _ (set : ReceivedRrset) (numbered : IsNumbered basis.rrsets k set) where
+  module _ (set : ReceivedRrset) (numbered : IsNumbered setting.rrsets k set) where
     pub anchor_found : (number : ℕ) (each : Anchor) (voucher : Voucher) (found : FoundWay)
-        → IsNumbered basis.anchors number each → IsVoucherOf number each voucher → IsNoWayBefore basis k (0, number, 0)
-        → IsFirstUnder basis k set (IsAnchorMatch each) voucher found → IsFoundWay basis k found
+        → IsNumbered setting.anchors number each → IsVoucherOf number each voucher → IsNoWayBefore setting k (0, number, 0)
+        → IsFirstUnder setting k set (IsAnchorMatch each) voucher found → IsFoundWay setting k found
     anchor_found number each voucher found its is none under =
-        let Before : ℕ × ℕ × ℕ → Type 0 = λ rank. IsNoWayBefore basis k rank in
-        found_first basis k set numbered voucher found (subst Before (sym (anchor_rank number each voucher is)) none)
-        (under_too basis k (IsAnchorMatch each) (Matched voucher) set voucher found (anchor_matches number each voucher its is) under)
+        let Before : ℕ × ℕ × ℕ → Type 0 = λ rank. IsNoWayBefore setting k rank in
+        found_first setting k set numbered voucher found (subst Before (sym (anchor_rank number each voucher is)) none)
+        (under_too setting k (IsAnchorMatch each) (Matched voucher) set voucher found (anchor_matches number each voucher its is) under)
 
-    pub anchors_more : (number : ℕ) (each : Anchor) → IsNumbered basis.anchors number each
-        → IsNoWayBefore basis k (0, number, 0) → IsNoneUnder basis k set (IsAnchorMatch each)
-        → IsNoWayBefore basis k (0, number + 1, 0)
+    pub anchors_more : (number : ℕ) (each : Anchor) → IsNumbered setting.anchors number each
+        → IsNoWayBefore setting k (0, number, 0) → IsNoneUnder setting k set (IsAnchorMatch each)
+        → IsNoWayBefore setting k (0, number + 1, 0)
     anchors_more number each its none under = none_before (0, number + 1, 0)
         (λ way other is by at less. let below = anchor_less other (number + 1) less in ⊎_elim
         (λ (earlier : other < number).
         before_at (0, number, 0) (0, other, 0) none way is at (inr (refl, inl earlier)))
         (λ (later : number ≤ other). let last : other ≡ number = omega (arith, below, later) in
-        let Numbered : ℕ → Type 0 = λ n. IsNumbered basis.anchors n by.each in
-        let same : by.each ≡ each = same_number basis.anchors number by.each each (subst Numbered last by.numbered) its in
+        let Numbered : ℕ → Type 0 = λ n. IsNumbered setting.anchors n by.each in
+        let same : by.each ≡ each = same_number setting.anchors number by.each each (subst Numbered last by.numbered) its in
         let Match : Anchor → Type 0 = λ one. IsAnchorMatch one way.key in
-        none_by basis k set numbered (IsAnchorMatch each) under way is (subst Match same by.matching))
+        none_by setting k set numbered (IsAnchorMatch each) under way is (subst Match same by.matching))
         (cases_lt other number))
         (λ way rrset place is by at less. record_not_less rrset place (number + 1) 0 less)
 
-  pub anchors_end : (n : ℕ) → length basis.anchors ≤ n → IsNoWayBefore basis k (0, n + 1, 0) → IsNoWayBefore basis k (1, 0, 0)
+  pub anchors_end : (n : ℕ) → length setting.anchors ≤ n → IsNoWayBefore setting k (0, n + 1, 0) → IsNoWayBefore setting k (1, 0, 0)
   anchors_end n past none = none_before (1, 0, 0)
       (λ way number is by at less.
-      let within = slice_get_within basis.anchors (number - 1) by.each by.numbered.1 in
+      let within = slice_get_within setting.anchors (number - 1) by.each by.numbered.1 in
       before_at (0, n + 1, 0) (0, number, 0) none way is at (inr (refl, inl (omega (arith, within, past)))))
       (λ way rrset place is by at less. ⊎_elim (λ (no : rrset < 0). absurd (omega (arith, no)))
       (λ (no : (rrset ≡ 0) × (place < 0)). let never = no.1 in absurd (omega (arith, never))) (record_less rrset place 0 0 less))
@@ -176,9 +176,9 @@ module _ (basis : Basis) (k : ℕ) where
   -- ---- DS records
 
   -- with none before and none at it, none goes before the next
-  records_then : (r p s q : ℕ) → IsNoWayBefore basis k (1, r, p)
-      → ((way : Way) (rrset place : ℕ) → IsWayInto basis k way → ByDs way rrset place → ¬ IsLess (1, rrset, place) (1, r, p)
-      → ¬ IsLess (1, rrset, place) (1, s, q)) → IsNoWayBefore basis k (1, s, q)
+  records_then : (r p s q : ℕ) → IsNoWayBefore setting k (1, r, p)
+      → ((way : Way) (rrset place : ℕ) → IsWayInto setting k way → ByDs way rrset place → ¬ IsLess (1, rrset, place) (1, r, p)
+      → ¬ IsLess (1, rrset, place) (1, s, q)) → IsNoWayBefore setting k (1, s, q)
   records_then r p s q none then = none_before (1, s, q)
       (λ way number is by at less. before_at (1, r, p) (0, number, 0) none way is at (inl (omega arith)))
       (λ way rrset place is by at less. then way rrset place is by (before_at (1, r, p) (1, rrset, place) none way is at) less)
@@ -188,44 +188,44 @@ module _ (basis : Basis) (k : ℕ) where
       let first = by.ds.at.is_rrset.0 in let second = by.ds.at.is_rdata.0 in let r = by.rrset_is in let p = by.place_is in
       (omega (arith, first, r), omega (arith, second, p))
 
-  pub records_begin : IsNoWayBefore basis k (1, 0, 0) → IsNoWayBefore basis k (1, 1, 0)
+  pub records_begin : IsNoWayBefore setting k (1, 0, 0) → IsNoWayBefore setting k (1, 1, 0)
   records_begin none = records_then 0 0 1 0 none (λ way rrset place is by never less.
       let from = by_at way rrset place by in let one = from.0 in
       ⊎_elim (λ (below : rrset < 1). absurd (omega (arith, below, one)))
       (λ (at : (rrset ≡ 1) × (place < 0)). let no = at.1 in absurd (omega (arith, no))) (record_less rrset place 1 0 less))
 
-  pub places_begin : (from : ℕ) → IsNoWayBefore basis k (1, from, 0) → IsNoWayBefore basis k (1, from, 1)
+  pub places_begin : (from : ℕ) → IsNoWayBefore setting k (1, from, 0) → IsNoWayBefore setting k (1, from, 1)
   places_begin from none = records_then from 0 from 1 none (λ way rrset place is by never less.
       let of = by_at way rrset place by in let one = of.1 in
       ⊎_elim (λ (below : rrset < from). never (inr (refl, inl below)))
       (λ (at : (rrset ≡ from) × (place < 1)). let no = at.1 in absurd (omega (arith, no, one))) (record_less rrset place from 1 less))
 
-  pub records_end : (n : ℕ) → length basis.rrsets ≤ n → IsNoWayBefore basis k (1, n + 1, 0) → IsNoWay basis k
+  pub records_end : (n : ℕ) → length setting.rrsets ≤ n → IsNoWayBefore setting k (1, n + 1, 0) → IsNoWay setting k
   records_end n past none = λ way is. ⊎_elim
       (λ (by : (number : ℕ) × ByAnchor way number × (voucher_rank way.voucher ≡ (0, number, 0))).
       before_at (1, n + 1, 0) (0, by.0, 0) none way is by.2 (inl (omega arith)))
       (λ (by : (rrset : ℕ) × (place : ℕ) × ByDs way rrset place × (voucher_rank way.voucher ≡ (1, rrset, place))).
-      let within = slice_get_within basis.rrsets (by.2.number.rrset - 1) by.2.ds.rrset by.2.ds.at.is_rrset.1 in
+      let within = slice_get_within setting.rrsets (by.2.number.rrset - 1) by.2.ds.rrset by.2.ds.at.is_rrset.1 in
       let same = by.2.rrset_is in
       before_at (1, n + 1, 0) (1, by.0, by.1) none way is by.3 (inr (refl, inl (omega (arith, within, past, same)))))
       (by_rank way way.voucher is.matched)
 
   -- the DS RRset of a way stands at the owner of the DNSKEY RRset, and is signed
-  pub record_skipped : (set ds : ReceivedRrset) (number : ℕ) → IsNumbered basis.rrsets k set → IsNumbered basis.rrsets number ds
-      → ¬ MayDelegate basis number ds set.owner → IsNoWayBefore basis k (1, number, 0) → IsNoWayBefore basis k (1, number + 1, 0)
+  pub record_skipped : (set ds : ReceivedRrset) (number : ℕ) → IsNumbered setting.rrsets k set → IsNumbered setting.rrsets number ds
+      → ¬ MayDelegate setting number ds set.owner → IsNoWayBefore setting k (1, number, 0) → IsNoWayBefore setting k (1, number + 1, 0)
   record_skipped set ds number is_set is_ds never none = records_then number 0 (number + 1) 0 none (λ way rrset place is by before less.
       ⊎_elim (λ (below : rrset < number + 1). ⊎_elim
       (λ (earlier : rrset < number). before (inr (refl, inl earlier)))
       (λ (later : number ≤ rrset).
       let last : rrset ≡ number = omega (arith, below, later) in
-      let Numbered : ℕ → Type 0 = λ n. IsNumbered basis.rrsets n by.ds.rrset in
+      let Numbered : ℕ → Type 0 = λ n. IsNumbered setting.rrsets n by.ds.rrset in
       let same : by.ds.rrset ≡ ds =
-      same_number basis.rrsets number by.ds.rrset ds (subst Numbered (by.rrset_is ∙ last) by.ds.at.is_rrset) is_ds in
-      let set_is : is.set ≡ set = same_number basis.rrsets k is.set set is.good.is_rrset is_set in
+      same_number setting.rrsets number by.ds.rrset ds (subst Numbered (by.rrset_is ∙ last) by.ds.at.is_rrset) is_ds in
+      let set_is : is.set ≡ set = same_number setting.rrsets k is.set set is.good.is_rrset is_set in
       let owner : way.key.owner ≡ set.owner = is.stands.owner ∙ ap (λ (each : ReceivedRrset). each.owner) set_is in
       let AtKey : ReceivedRrset → Type 0 = λ each. SameName each.owner way.key.owner in
       let AtOwner : Labels → Type 0 = λ each. SameName ds.owner each in
-      let Has : ℕ → Type 0 = λ n. HasSecured basis n in
+      let Has : ℕ → Type 0 = λ n. HasSecured setting n in
       never (record {
         rtype = sym (ap (λ (each : ReceivedRrset). each.rtype) same) ∙ by.ds.rtype;
         owner = subst AtOwner owner (subst AtKey same by.ds.matching.same_owner);
@@ -252,8 +252,8 @@ ds_read ds values rtype read =
     let Read : List (List ℕ) → Type 0 = λ rdata. AllZip IsDs rdata values in subst Read (its_rdata 43 ds rtype) read
 
 -- the records of a DS RRset, in canonical order
-module _ (basis : Basis) (k : ℕ) (set : ReceivedRrset) (is_set : IsNumbered basis.rrsets k set)
-    (from : ℕ) (ds : ReceivedRrset) (is_ds : IsNumbered basis.rrsets from ds) (rtype : ds.rtype ≡ 43)
+module _ (setting : Setting) (k : ℕ) (set : ReceivedRrset) (is_set : IsNumbered setting.rrsets k set)
+    (from : ℕ) (ds : ReceivedRrset) (is_ds : IsNumbered setting.rrsets from ds) (rtype : ds.rtype ≡ 43)
     (canonical : List (List ℕ)) (is_canonical : IsCanonical ds.rdata canonical)
     (values : List Ds) (read : AllZip IsDs ds.rdata values) where
   abbrev number_of : ℕ → RecordNumber
@@ -287,11 +287,11 @@ module _ (basis : Basis) (k : ℕ) (set : ReceivedRrset) (is_set : IsNumbered ba
 
   -- what is said of a record with the number is said of the record at the place
   pub same_record : (place : ℕ) (each : Ds) → RecordAt place each → (number : RecordNumber) (digest_type : DigestType) (key : DnskeyRecord)
-      → number.rrset ≡ from → number.place ≡ place + 1 → IsDsMatch basis number digest_type key
+      → number.rrset ≡ from → number.place ≡ place + 1 → IsDsMatch setting number digest_type key
       → IsUsable values each × IsMatch ds.owner each key
   same_record place each at number digest_type key rrset_is place_is is =
-      let Numbered : ℕ → Type 0 = λ n. IsNumbered basis.rrsets n is.rrset in
-      let same : is.rrset ≡ ds = same_number basis.rrsets from is.rrset ds (subst Numbered rrset_is is.at.is_rrset) is_ds in
+      let Numbered : ℕ → Type 0 = λ n. IsNumbered setting.rrsets n is.rrset in
+      let same : is.rrset ≡ ds = same_number setting.rrsets from is.rrset ds (subst Numbered rrset_is is.at.is_rrset) is_ds in
       let Canonical : ReceivedRrset → Type 0 = λ one. IsCanonical (map (canonical_form one.rtype) one.rdata) is.at.canonical in
       let lists : is.at.canonical ≡ canonical =
       canonical_unique (map (canonical_form ds.rtype) ds.rdata) is.at.canonical canonical (subst Canonical same is.at.is_canonical)
@@ -312,7 +312,7 @@ module _ (basis : Basis) (k : ℕ) (set : ReceivedRrset) (is_set : IsNumbered ba
       (subst UsableOne ds_is (subst Usable records_are is.usable), subst MatchOne ds_is (subst Match same is.matching))
 
   pub record_said : (place : ℕ) (each : Ds) → RecordAt place each → (key : DnskeyRecord) → IsUsable values each
-      → IsMatch ds.owner each key → IsDsMatch basis (number_of place) each.digest_type key
+      → IsMatch ds.owner each key → IsDsMatch setting (number_of place) each.digest_type key
   record_said place each at key usable matching =
       let same : place ≡ place + 1 - 1 = omega arith in
       let AtPlace : ℕ → Type 0 = λ p. slice_get canonical p ≡ Some at.rdata in
@@ -336,25 +336,25 @@ module _ (basis : Basis) (k : ℕ) (set : ReceivedRrset) (is_set : IsNumbered ba
         digest = refl;
       }
 
-  record_matches : (place : ℕ) (each : Ds) → RecordAt place each → IsUsable values each → HasSecured basis from
-      → (key : DnskeyRecord) → IsMatch ds.owner each key ↔ Matched basis k (voucher.Ds (number_of place) each.digest_type) key
+  record_matches : (place : ℕ) (each : Ds) → RecordAt place each → IsUsable values each → HasSecured setting from
+      → (key : DnskeyRecord) → IsMatch ds.owner each key ↔ Matched setting k (voucher.Ds (number_of place) each.digest_type) key
   record_matches place each at usable secured key = (
     λ matching. (record_said place each at key usable matching, secured),
     λ matched. (same_record place each at (number_of place) each.digest_type key refl refl matched.0).1,
   )
 
-  pub record_found : (place : ℕ) (each : Ds) (found : FoundWay) → RecordAt place each → IsUsable values each → HasSecured basis from
-      → IsNoWayBefore basis k (1, from, place + 1)
-      → IsFirstUnder basis k set (IsMatch ds.owner each) (voucher.Ds (number_of place) each.digest_type) found → IsFoundWay basis k found
+  pub record_found : (place : ℕ) (each : Ds) (found : FoundWay) → RecordAt place each → IsUsable values each → HasSecured setting from
+      → IsNoWayBefore setting k (1, from, place + 1)
+      → IsFirstUnder setting k set (IsMatch ds.owner each) (voucher.Ds (number_of place) each.digest_type) found → IsFoundWay setting k found
   record_found place each found at usable secured none under =
       let told : Voucher = voucher.Ds (number_of place) each.digest_type in
-      found_first basis k set is_set told found none
-      (under_too basis k (IsMatch ds.owner each) (Matched basis k told) set told found (record_matches place each at usable secured) under)
+      found_first setting k set is_set told found none
+      (under_too setting k (IsMatch ds.owner each) (Matched setting k told) set told found (record_matches place each at usable secured) under)
 
   none_at : (place : ℕ) (each : Ds) → RecordAt place each
-      → ((way : Way) → IsWayInto basis k way → IsUsable values each → ¬ IsMatch ds.owner each way.key)
-      → IsNoWayBefore basis k (1, from, place + 1) → IsNoWayBefore basis k (1, from, place + 1 + 1)
-  none_at place each at bad none = records_then basis k from (place + 1) from (place + 1 + 1) none (λ way rrset other is by before less.
+      → ((way : Way) → IsWayInto setting k way → IsUsable values each → ¬ IsMatch ds.owner each way.key)
+      → IsNoWayBefore setting k (1, from, place + 1) → IsNoWayBefore setting k (1, from, place + 1 + 1)
+  none_at place each at bad none = records_then setting k from (place + 1) from (place + 1 + 1) none (λ way rrset other is by before less.
       ⊎_elim (λ (below : rrset < from). before (inr (refl, inl below)))
       (λ (here : (rrset ≡ from) × (other < place + 1 + 1)). let behind = here.1 in ⊎_elim
       (λ (earlier : other < place + 1). before (inr (refl, inr (here.0, earlier))))
@@ -363,23 +363,23 @@ module _ (basis : Basis) (k : ℕ) (set : ReceivedRrset) (is_set : IsNumbered ba
       let said = same_record place each at by.number by.digest_type way.key (by.rrset_is ∙ here.0) (by.place_is ∙ last) by.ds in
       bad way is said.0 said.1)
       (cases_lt other (place + 1)))
-      (record_less basis k rrset other from (place + 1 + 1) less))
+      (record_less setting k rrset other from (place + 1 + 1) less))
 
   pub record_passed : (place : ℕ) (each : Ds) (is_usable : Bool) → RecordAt place each → (IsTrue is_usable ↔ IsUsable values each)
-      → (IsTrue is_usable → IsNoneUnder basis k set (IsMatch ds.owner each))
-      → IsNoWayBefore basis k (1, from, place + 1) → IsNoWayBefore basis k (1, from, place + 1 + 1)
+      → (IsTrue is_usable → IsNoneUnder setting k set (IsMatch ds.owner each))
+      → IsNoWayBefore setting k (1, from, place + 1) → IsNoWayBefore setting k (1, from, place + 1 + 1)
   record_passed place each is_usable at test under none =
-      none_at place each at (λ way is usable matching. none_by basis k set is_set (IsMatch ds.owner each) (under (test.1 usable)) way is matching) none
+      none_at place each at (λ way is usable matching. none_by setting k set is_set (IsMatch ds.owner each) (under (test.1 usable)) way is matching) none
 
-  pub places_end : (n : ℕ) → length canonical ≤ n → IsNoWayBefore basis k (1, from, n + 1) → IsNoWayBefore basis k (1, from + 1, 0)
-  places_end n past none = records_then basis k from (n + 1) (from + 1) 0 none (λ way rrset other is by before less.
+  pub places_end : (n : ℕ) → length canonical ≤ n → IsNoWayBefore setting k (1, from, n + 1) → IsNoWayBefore setting k (1, from + 1, 0)
+  places_end n past none = records_then setting k from (n + 1) (from + 1) 0 none (λ way rrset other is by before less.
       ⊎_elim (λ (below : rrset < from + 1). ⊎_elim
       (λ (earlier : rrset < from). before (inr (refl, inl earlier)))
       (λ (later : from ≤ rrset).
       let here : rrset ≡ from = omega (arith, below, later) in
-      let Numbered : ℕ → Type 0 = λ m. IsNumbered basis.rrsets m by.ds.rrset in
+      let Numbered : ℕ → Type 0 = λ m. IsNumbered setting.rrsets m by.ds.rrset in
       let same : by.ds.rrset ≡ ds =
-      same_number basis.rrsets from by.ds.rrset ds (subst Numbered (by.rrset_is ∙ here) by.ds.at.is_rrset) is_ds in
+      same_number setting.rrsets from by.ds.rrset ds (subst Numbered (by.rrset_is ∙ here) by.ds.at.is_rrset) is_ds in
       let Canonical : ReceivedRrset → Type 0 = λ one. IsCanonical (map (canonical_form one.rtype) one.rdata) by.ds.at.canonical in
       let lists : by.ds.at.canonical ≡ canonical =
       canonical_unique (map (canonical_form ds.rtype) ds.rdata) by.ds.at.canonical canonical (subst Canonical same by.ds.at.is_canonical)
@@ -390,4 +390,4 @@ module _ (basis : Basis) (k : ℕ) (set : ReceivedRrset) (is_set : IsNumbered ba
       before (inr (refl, inr (here, omega (arith, within, past, place_is)))))
       (cases_lt rrset from))
       (λ (no : (rrset ≡ from + 1) × (other < 0)). let never = no.1 in absurd (omega (arith, never)))
-      (record_less basis k rrset other (from + 1) 0 less))
+      (record_less setting k rrset other (from + 1) 0 less))

@@ -10,7 +10,7 @@ use Rattle.dnsv_canonical.specs.Canonical.{IsCanonical}
 use Rattle.dnsv_canonical.specs.Rdata.{rdata_of_type}
 use Rattle.dnsv_canonical.specs.Rrsets.{IsNumbered, ReceivedRrset}
 use Rattle.dnsv_chain.specs.Ds.{IsMatch, IsUsable}
-use Rattle.dnsv_verdict.specs.Verdict.{Basis}
+use Rattle.dnsv_explain.specs.Explained.{Setting}
 use Rattle.dnsv_explain.specs.derivations.WaySearch.{IsFirstUnder, IsFoundWay, IsNoWayBefore, IsNoneUnder, MayDelegate}
 use Rattle.dnsv_explain.specs.declared.line.derivation.Voucher.TheVariants as voucher
 use Rattle.dnsv_explain.specs.declared.ways.FoundWay.{FoundWay}
@@ -18,9 +18,9 @@ use Rattle.dnsv_explain.proofs.lemmas.derivations.WayLemmas.KeysLemmas.{mapped_l
 use Rattle.dnsv_explain.proofs.lemmas.derivations.WayLemmas.RankLemmas.{RecordAt, ds_read, places_end, record_found, record_passed, record_there}
 
 module _ {X : Type 0} (rdata : X → List ℕ) (record_of : X → Ds)
-    (basis : Basis) (k : ℕ) (set : ReceivedRrset) (is_set : IsNumbered basis.rrsets k set)
-    (from : ℕ) (ds : ReceivedRrset) (is_ds : IsNumbered basis.rrsets from ds)
-    {at : Labels} (may : MayDelegate basis from ds at)
+    (setting : Setting) (k : ℕ) (set : ReceivedRrset) (is_set : IsNumbered setting.rrsets k set)
+    (from : ℕ) (ds : ReceivedRrset) (is_ds : IsNumbered setting.rrsets from ds)
+    {at : Labels} (may : MayDelegate setting from ds at)
     (values : List Ds) (read : AllZip IsDs (rdata_of_type 43 ds) values)
     (records items : List X) (same : items ≡ records) (canonical : IsCanonical ds.rdata (map rdata records))
     (are_read : AllByRecursion (λ x. IsDs (rdata x) (record_of x)) records) where
@@ -28,42 +28,42 @@ module _ {X : Type 0} (rdata : X → List ℕ) (record_of : X → Ds)
   its_values = ds_read ds values may.rtype read
 
   there : (place : ℕ) (x : X) → place < length items → x ≡ get_or items place x
-      → RecordAt basis k set is_set from ds is_ds may.rtype (map rdata records) canonical values its_values place (record_of x)
+      → RecordAt setting k set is_set from ds is_ds may.rtype (map rdata records) canonical values its_values place (record_of x)
   there place x within at =
-      record_there basis k set is_set from ds is_ds may.rtype (map rdata records) canonical values its_values place (rdata x) (record_of x)
+      record_there setting k set is_set from ds is_ds may.rtype (map rdata records) canonical values its_values place (rdata x) (record_of x)
       (mapped_there rdata items records place x same within at)
       (read_there (λ x. IsDs (rdata x) (record_of x)) items records place x same are_read within at)
 
   -- no way goes before the record behind the first n
   abbrev NoneTo : ℕ → Type 0
-  NoneTo n = IsNoWayBefore basis k (1, from, n + 1)
+  NoneTo n = IsNoWayBefore setting k (1, from, n + 1)
 
   pub unusable_passed : (place : ℕ) (x : X) (is_usable : Bool) → place < length items → x ≡ get_or items place x
       → (IsTrue is_usable ↔ IsUsable values (record_of x)) → is_usable ≡ false → NoneTo place → NoneTo (place + 1)
   unusable_passed place x is_usable within at test unusable none =
-      record_passed basis k set is_set from ds is_ds may.rtype (map rdata records) canonical values its_values place (record_of x)
+      record_passed setting k set is_set from ds is_ds may.rtype (map rdata records) canonical values its_values place (record_of x)
       is_usable (there place x within at) test (λ usable. absurd (false≢true (sym unusable ∙ usable))) none
 
   pub unmatched_passed : (place : ℕ) (x : X) (is_usable : Bool) (owner : Labels) → place < length items → x ≡ get_or items place x
       → (IsTrue is_usable ↔ IsUsable values (record_of x)) → owner ≡ ds.owner
-      → IsNoneUnder basis k set (IsMatch owner (record_of x)) → NoneTo place → NoneTo (place + 1)
+      → IsNoneUnder setting k set (IsMatch owner (record_of x)) → NoneTo place → NoneTo (place + 1)
   unmatched_passed place x is_usable owner within at test its under none =
-      let Under : Labels → Type 0 = λ each. IsNoneUnder basis k set (IsMatch each (record_of x)) in
-      record_passed basis k set is_set from ds is_ds may.rtype (map rdata records) canonical values its_values place (record_of x)
+      let Under : Labels → Type 0 = λ each. IsNoneUnder setting k set (IsMatch each (record_of x)) in
+      record_passed setting k set is_set from ds is_ds may.rtype (map rdata records) canonical values its_values place (record_of x)
       is_usable (there place x within at) test (λ usable. subst Under its under) none
 
   pub found_by : (place : ℕ) (x : X) (is_usable : Bool) (owner : Labels) (found : FoundWay) → place < length items
       → x ≡ get_or items place x → (IsTrue is_usable ↔ IsUsable values (record_of x)) → IsTrue is_usable → owner ≡ ds.owner
       → NoneTo place
-      → IsFirstUnder basis k set (IsMatch owner (record_of x))
-      (voucher.Ds (record { rrset = from; place = place + 1 }) (record_of x).digest_type) found → IsFoundWay basis k found
+      → IsFirstUnder setting k set (IsMatch owner (record_of x))
+      (voucher.Ds (record { rrset = from; place = place + 1 }) (record_of x).digest_type) found → IsFoundWay setting k found
   found_by place x is_usable owner found within at test usable its none under =
-      let Under : Labels → Type 0 = λ each. IsFirstUnder basis k set (IsMatch each (record_of x))
+      let Under : Labels → Type 0 = λ each. IsFirstUnder setting k set (IsMatch each (record_of x))
       (voucher.Ds (record { rrset = from; place = place + 1 }) (record_of x).digest_type) found in
-      record_found basis k set is_set from ds is_ds may.rtype (map rdata records) canonical values its_values place (record_of x) found
+      record_found setting k set is_set from ds is_ds may.rtype (map rdata records) canonical values its_values place (record_of x) found
       (there place x within at) (test.0 usable) may.secured none (subst Under its under)
 
-  pub all_passed : (n : ℕ) → length items ≤ n → NoneTo n → IsNoWayBefore basis k (1, from + 1, 0)
+  pub all_passed : (n : ℕ) → length items ≤ n → NoneTo n → IsNoWayBefore setting k (1, from + 1, 0)
   all_passed n past none =
-      places_end basis k set is_set from ds is_ds may.rtype (map rdata records) canonical values its_values n
+      places_end setting k set is_set from ds is_ds may.rtype (map rdata records) canonical values its_values n
       (mapped_long rdata items records n same past) none

@@ -20,21 +20,23 @@ use Rattle.dnsv_verifier.specs.Admissible.{DnskeyRecord, IsGood}
 use Rattle.dnsv_chain.proofs.SigningLemmas.{signature_at}
 use Rattle.dnsv_chain.proofs.ZipLemmas.{zip_length}
 use Rattle.dnsv_chain.specs.Trusted.{IsKeyOf}
-use Rattle.dnsv_verdict.specs.Verdict.{Basis}
+use Rattle.dnsv_explain.specs.Explained.{IsTodo, Setting}
 use Rattle.dnsv_explain.specs.Following.{IsGoodUnder, IsNamed}
 use Rattle.dnsv_explain.specs.declared.line.derivation.KeyName.{KeyName}
+use Rattle.dnsv_explain.specs.declared.line.derivation.Todo.{Todo}
 use Rattle.dnsv_explain.specs.declared.line.derivation.Voucher.{Voucher}
+use Rattle.dnsv_explain.specs.declared.ways.keys.GoodSignature.{GoodSignature}
 use Rattle.dnsv_explain.specs.derivations.WaySearch.{AreKeysInOrder, IsFirstUnder, IsLowestGood, IsNoneTo, IsNoneYet, SignsAs, signature_of}
 
 -- ---- the signatures of an RRset, at their places
 
-module _ (basis : Basis) (k : ℕ) (rrset : ReceivedRrset) (key : DnskeyRecord) (rrsigs : List Rrsig)
-    (each : AllZip IsRrsig rrset.signatures rrsigs) (is_rrset : IsNumbered basis.rrsets k rrset) where
+module _ (setting : Setting) (k : ℕ) (rrset : ReceivedRrset) (key : DnskeyRecord) (rrsigs : List Rrsig)
+    (each : AllZip IsRrsig rrset.signatures rrsigs) (is_rrset : IsNumbered setting.rrsets k rrset) where
   sizes : length rrset.signatures ≡ length rrsigs
   sizes = zip_length IsRrsig rrset.signatures rrsigs each
 
-  good_at : (i : ℕ) (rrsig : Rrsig) → i < length rrsigs → rrsig ≡ get_or rrsigs i rrsig
-      → IsGood basis.meaning basis.moment rrset rrsig key → IsGoodUnder basis (signature_of k (i + 1)) rrset key
+  abbrev good_at : (i : ℕ) (rrsig : Rrsig) → i < length rrsigs → rrsig ≡ get_or rrsigs i rrsig
+      → IsGood setting.meaning setting.moment rrset rrsig key → IsGoodUnder setting (signature_of k (i + 1)) rrset key
   good_at i rrsig within at good =
       let inside : i < length rrset.signatures = omega (arith, sizes, within) in
       let place : i + 1 - 1 ≡ i = omega arith in
@@ -48,40 +50,42 @@ module _ (basis : Basis) (k : ℕ) (rrset : ReceivedRrset) (key : DnskeyRecord) 
       }
 
   at_good : (i : ℕ) (rrsig : Rrsig) → i < length rrsigs → rrsig ≡ get_or rrsigs i rrsig
-      → IsGoodUnder basis (signature_of k (i + 1)) rrset key → IsGood basis.meaning basis.moment rrset rrsig key
+      → IsGoodUnder setting (signature_of k (i + 1)) rrset key → IsGood setting.meaning setting.moment rrset rrsig key
   at_good i rrsig within at good =
       let place : i ≡ i + 1 - 1 = omega arith in
       let rdata : get_or rrset.signatures i [] ≡ good.rdata =
       get_or_from_slice_get rrset.signatures i good.rdata [] (ap (λ (j : ℕ). slice_get rrset.signatures j) place ∙ good.is_signature.1) in
       let here : IsRrsig good.rdata rrsig =
       subst (λ (octets : List ℕ). IsRrsig octets rrsig) rdata (signature_at rrset rrsigs i rrsig each within at []) in
-      let Good : Rrsig → Type 0 = λ one. IsGood basis.meaning basis.moment rrset one key in
+      let Good : Rrsig → Type 0 = λ one. IsGood setting.meaning setting.moment rrset one key in
       subst Good (one_rrsig good.rdata good.rrsig rrsig good.read here) good.good
 
   abbrev NoneTo : ℕ → Type 0
-  NoneTo = IsNoneTo basis k rrset key
+  NoneTo = IsNoneTo setting k rrset key
 
   pub none_at_first : NoneTo 0
   none_at_first = λ s within good. let from_one = good.is_signature.0 in absurd (omega (arith, within, from_one))
 
   pub none_to_next : (i : ℕ) (rrsig : Rrsig) → i < length rrsigs → rrsig ≡ get_or rrsigs i rrsig
-      → ¬ IsGood basis.meaning basis.moment rrset rrsig key → NoneTo i → NoneTo (i + 1)
+      → ¬ IsGood setting.meaning setting.moment rrset rrsig key → NoneTo i → NoneTo (i + 1)
   none_to_next i rrsig within at bad none = λ s below good. ⊎_elim
-      (λ (later : i < s). let Good : ℕ → Type 0 = λ n. IsGoodUnder basis (signature_of k n) rrset key in
+      (λ (later : i < s). let Good : ℕ → Type 0 = λ n. IsGoodUnder setting (signature_of k n) rrset key in
       let last : s ≡ i + 1 = omega (arith, later, below) in
       bad (at_good i rrsig within at (subst Good last good)))
       (λ (earlier : s ≤ i). none s earlier good)
       (cases_lt i s)
 
-  pub lowest_found : (i : ℕ) (rrsig : Rrsig) → i < length rrsigs → rrsig ≡ get_or rrsigs i rrsig
-      → IsGood basis.meaning basis.moment rrset rrsig key → NoneTo i → IsLowestGood basis k rrset key (i + 1)
-  lowest_found i rrsig within at good none = record {
+  pub lowest_found : (i : ℕ) (rrsig : Rrsig) (todo : Todo) → i < length rrsigs → rrsig ≡ get_or rrsigs i rrsig
+      → (good : IsGood setting.meaning setting.moment rrset rrsig key) → IsTodo setting.todo good.entry todo.0 → NoneTo i
+      → IsLowestGood setting k rrset key (record { number = i + 1; todo = todo })
+  lowest_found i rrsig todo within at good its_todo none = record {
     good = good_at i rrsig within at good;
+    todo = its_todo;
     lowest = λ t other. ⊎_elim (λ (later : i < t). let least : i + 1 ≤ t = omega (arith, later) in least)
         (λ (earlier : t ≤ i). absurd (none t earlier other)) (cases_lt i t);
   }
 
-  pub none_at_all : (n : ℕ) → length rrsigs ≤ n → NoneTo n → (s : ℕ) → ¬ IsGoodUnder basis (signature_of k s) rrset key
+  pub none_at_all : (n : ℕ) → length rrsigs ≤ n → NoneTo n → (s : ℕ) → ¬ IsGoodUnder setting (signature_of k s) rrset key
   none_at_all n past none = λ s good.
       let within = slice_get_within rrset.signatures (s - 1) good.rdata good.is_signature.1 in
       none s (omega (arith, within, sizes, past)) good
@@ -179,20 +183,20 @@ module _ (set : ReceivedRrset) (keys : List DnskeyRecord) (in_order : AreKeysInO
       subst Stands (sym at) (in_order.each (get_or keys i key) (Contains-get_or keys i key within))
 
 -- the way by the first key that is such
-module _ (basis : Basis) (k : ℕ) (set : ReceivedRrset) (keys : List DnskeyRecord) (in_order : AreKeysInOrder set keys)
+module _ (setting : Setting) (k : ℕ) (set : ReceivedRrset) (keys : List DnskeyRecord) (in_order : AreKeysInOrder set keys)
     (Matches : DnskeyRecord → Type 0) where
   abbrev Such : DnskeyRecord → Type 0
-  Such = SignsAs basis k set Matches
+  Such = SignsAs setting k set Matches
 
   pub way_not_by : (i : ℕ) (key : DnskeyRecord) (is_match : Bool) → key ≡ get_or keys i key → (IsTrue is_match ↔ Matches key)
-      → ((s : ℕ) → IsTrue is_match → ¬ IsGoodUnder basis (signature_of k s) set key)
+      → ((s : ℕ) → IsTrue is_match → ¬ IsGoodUnder setting (signature_of k s) set key)
       → IsNoneYet keys Such i → IsNoneYet keys Such (i + 1)
   way_not_by i key is_match at test never none =
       none_more set keys in_order Such i key at (λ such. never such.0 (test.1 such.1) such.2) none
 
-  pub way_under : (i : ℕ) (key : DnskeyRecord) (voucher : Voucher) (name : KeyName) (s : ℕ) → i < length keys → key ≡ get_or keys i key
-      → IsNoneYet keys Such i → Matches key → IsNamed key name → IsLowestGood basis k set key s
-      → IsFirstUnder basis k set Matches voucher (record { voucher = voucher; key = name; signature = s })
+  pub way_under : (i : ℕ) (key : DnskeyRecord) (voucher : Voucher) (name : KeyName) (s : GoodSignature) → i < length keys → key ≡ get_or keys i key
+      → IsNoneYet keys Such i → Matches key → IsNamed key name → IsLowestGood setting k set key s
+      → IsFirstUnder setting k set Matches voucher (record { voucher = voucher; key = name; signature = s })
   way_under i key voucher name s within at none matched named good = record {
     voucher_is = refl;
     key = key;

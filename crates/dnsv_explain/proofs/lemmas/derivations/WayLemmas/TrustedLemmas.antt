@@ -15,7 +15,7 @@ use Rattle.dnsv_chain.specs.Trusted.{DelegatesTo, IsKeyOf, IsSecured, IsSignedUn
 use Rattle.dnsv_chain.specs.Trusted.IsTrusted.{anchored, delegated}
 use Rattle.dnsv_chain.specs.declared.anchor.Anchor.{Anchor}
 use Rattle.dnsv_chain.specs.declared.anchor.Anchor.TheVariants as anchor
-use Rattle.dnsv_verdict.specs.Verdict.{Basis}
+use Rattle.dnsv_explain.specs.Explained.{Setting}
 use Rattle.dnsv_explain.specs.Following.{IsGoodUnder, IsMatchedBy}
 use Rattle.std.specs.Prelude.{MatchOption, is_some}
 use Rattle.dnsv_names.specs.Name.{Labels}
@@ -60,16 +60,16 @@ read_of rdata records ds each there =
       is = subst Read there.2 (zip_at IsDs rdata records there.0 [] ds each inside);
     }
 
-module _ (basis : Basis) where
+module _ (setting : Setting) where
   abbrev Trusted : ReceivedRrset → Type 0
-  Trusted set = IsTrusted basis.meaning basis.moment basis.rrsets basis.anchors set
+  Trusted set = IsTrusted setting.meaning setting.moment setting.rrsets setting.anchors set
 
   record IsGoodBySome (k : ℕ) (rrset : ReceivedRrset) (key : DnskeyRecord) : Type 0 where
     signature : ℕ
-    good : IsGoodUnder basis (signature_of k signature) rrset key
+    good : IsGoodUnder setting (signature_of k signature) rrset key
 
-  good_number : (k : ℕ) (rrset : ReceivedRrset) (key : DnskeyRecord) → IsNumbered basis.rrsets k rrset
-      → IsSignedUnder basis.meaning basis.moment rrset key → IsGoodBySome k rrset key
+  good_number : (k : ℕ) (rrset : ReceivedRrset) (key : DnskeyRecord) → IsNumbered setting.rrsets k rrset
+      → IsSignedUnder setting.meaning setting.moment rrset key → IsGoodBySome k rrset key
   good_number k rrset key numbered signed =
       let number = number_of rrset.signatures signed.its.0 signed.its.1 in
       record {
@@ -86,10 +86,10 @@ module _ (basis : Basis) where
 
   pub record HasWay (k : ℕ) : Type 0 where
     pub way : Way
-    pub is : IsWayInto basis k way
+    pub is : IsWayInto setting k way
 
-  way_of : (k : ℕ) (set : ReceivedRrset) (key : DnskeyRecord) → IsNumbered basis.rrsets k set
-      → SignsItsSet basis.meaning basis.moment set key → (voucher : Voucher) → IsMatchedBy (HasSecured basis) basis voucher key → HasWay k
+  way_of : (k : ℕ) (set : ReceivedRrset) (key : DnskeyRecord) → IsNumbered setting.rrsets k set
+      → SignsItsSet setting.meaning setting.moment set key → (voucher : Voucher) → IsMatchedBy (HasSecured setting) setting voucher key → HasWay k
   way_of k set key numbered signs voucher matched =
       let good = good_number k set key numbered signs.signed in
       record {
@@ -97,8 +97,8 @@ module _ (basis : Basis) where
         is = record { set = set; stands = signs.stands; good = good.good; matched = matched };
       }
 
-  by_anchor : (k : ℕ) (set : ReceivedRrset) (key : DnskeyRecord) → IsNumbered basis.rrsets k set
-      → SignsItsSet basis.meaning basis.moment set key → (number : ℕ) (each : Anchor) → IsNumbered basis.anchors number each
+  by_anchor : (k : ℕ) (set : ReceivedRrset) (key : DnskeyRecord) → IsNumbered setting.rrsets k set
+      → SignsItsSet setting.meaning setting.moment set key → (number : ℕ) (each : Anchor) → IsNumbered setting.anchors number each
       → IsAnchorMatch each key → HasWay k
   by_anchor k set key numbered signs number (anchor.Ds owner ds) its matching =
       way_of k set key numbered signs (voucher.DsAnchor number ds.digest_type) (owner, ds, its, refl, matching)
@@ -107,7 +107,7 @@ module _ (basis : Basis) where
 
   -- a signature by a key of a trusted RRset is secured
   pub secured_by : (r : ℕ) (rrset parent : ReceivedRrset) (above : DnskeyRecord) (s : ℕ) → Trusted parent → IsKeyOf parent above
-      → IsGoodUnder basis (signature_of r s) rrset above → IsSecured basis.meaning basis.moment basis.rrsets basis.anchors r s
+      → IsGoodUnder setting (signature_of r s) rrset above → IsSecured setting.meaning setting.moment setting.rrsets setting.anchors r s
   secured_by r rrset parent above s trusted stands good = record {
     rrset = rrset;
     numbered = good.is_rrset;
@@ -118,11 +118,11 @@ module _ (basis : Basis) where
     good = record { set = parent; trusted = trusted; key = above; stands = stands; good = good.good };
   }
 
-  by_ds : (k : ℕ) (set parent ds : ReceivedRrset) (above key : DnskeyRecord) → IsNumbered basis.rrsets k set → Trusted parent
-      → IsKeyOf parent above → Contains basis.rrsets ds → IsSignedUnder basis.meaning basis.moment ds above
-      → DelegatesTo ds key → SignsItsSet basis.meaning basis.moment set key → HasWay k
+  by_ds : (k : ℕ) (set parent ds : ReceivedRrset) (above key : DnskeyRecord) → IsNumbered setting.rrsets k set → Trusted parent
+      → IsKeyOf parent above → Contains setting.rrsets ds → IsSignedUnder setting.meaning setting.moment ds above
+      → DelegatesTo ds key → SignsItsSet setting.meaning setting.moment set key → HasWay k
   by_ds k set parent ds above key numbered trusted stands among signed delegates signs =
-      let r = number_of basis.rrsets ds among in
+      let r = number_of setting.rrsets ds among in
       let good = good_number r.number ds above r.is signed in
       let read = read_of ds.rdata delegates.records delegates.usable.ds delegates.read delegates.usable.among in
       let forms : map (canonical_form ds.rtype) ds.rdata ≡ ds.rdata =
@@ -148,55 +148,55 @@ module _ (basis : Basis) where
         (good.signature, secured_by r.number ds parent above good.signature trusted stands good.good),
       )
 
-  pub has_way : (k : ℕ) (set : ReceivedRrset) → IsNumbered basis.rrsets k set → Trusted set → HasWay k
+  pub has_way : (k : ℕ) (set : ReceivedRrset) → IsNumbered setting.rrsets k set → Trusted set → HasWay k
   has_way k set numbered (anchored {key = key} among signs matching) =
-      let n = number_of basis.anchors matching.anchor matching.among in
+      let n = number_of setting.anchors matching.anchor matching.among in
       by_anchor k set key numbered signs n.number matching.anchor n.is matching.matching
   has_way k set numbered (delegated {parent = parent} {ds = ds} {above = above} {key = key} trusted stands among signed delegates set_among signs) =
       by_ds k set parent ds above key numbered trusted stands among signed delegates signs
 
-  pub trusted_among : (set : ReceivedRrset) → Trusted set → Contains basis.rrsets set
+  pub trusted_among : (set : ReceivedRrset) → Trusted set → Contains setting.rrsets set
   trusted_among set (anchored among signs matching) = among
   trusted_among set (delegated trusted stands ds_among signed delegates among signs) = among
 
 -- ---- the line of a DNSKEY RRset
 
-module _ (basis : Basis) (k : ℕ) where
-  pub not_trusted : IsNoWay basis k → ¬ IsTrustedSet basis k
-  not_trusted none trusted = let way = has_way basis k trusted.0 trusted.1 trusted.2 in none way.way way.is
+module _ (setting : Setting) (k : ℕ) where
+  pub not_trusted : IsNoWay setting k → ¬ IsTrustedSet setting k
+  not_trusted none trusted = let way = has_way setting k trusted.0 trusted.1 trusted.2 in none way.way way.is
 
-  pub the_line : (set : ReceivedRrset) (found : FoundWay) (zone : Labels) → IsNumbered basis.rrsets k set → IsFoundWay basis k found
+  pub the_line : (set : ReceivedRrset) (found : FoundWay) (zone : Labels) → IsNumbered setting.rrsets k set → IsFoundWay setting k found
       → zone ≡ set.owner
-      → IsTrustedLine basis k (record {
+      → IsTrustedLine setting k (record {
         zone = zone;
-        signature = record { rrset = k; signature = found.signature };
+        signature = record { rrset = k; signature = found.signature.number };
         key = found.key;
         voucher = found.voucher;
-        todo = record { 0 = None };
+        todo = found.signature.todo;
       })
   the_line set found zone numbered is owner =
-      let same : set ≡ is.first.is.set = same_number basis.rrsets k set is.first.is.set numbered is.first.is.good.is_rrset in record {
-        way = record { voucher = found.voucher; key = is.key; signature = found.signature };
+      let same : set ≡ is.first.is.set = same_number setting.rrsets k set is.first.is.set numbered is.first.is.good.is_rrset in record {
+        way = record { voucher = found.voucher; key = is.key; signature = found.signature.number };
         first = is.first;
         zone = owner ∙ ap (λ (each : ReceivedRrset). each.owner) same;
         signature = refl;
         named = is.named;
         voucher = refl;
-        todo = refl;
+        todo = is.todo;
       }
 
   -- what is trusted has a way in, and what has is trusted
-  pub way_in_or_not : (set : ReceivedRrset) (way : Option FoundWay) (some : Bool) → IsNumbered basis.rrsets k set
-      → MatchOption way (IsNoWay basis k) (IsFoundWay basis k) → some ≡ is_some way
-      → (some ≡ true) ↔ IsTrusted basis.meaning basis.moment basis.rrsets basis.anchors set
+  pub way_in_or_not : (set : ReceivedRrset) (way : Option FoundWay) (some : Bool) → IsNumbered setting.rrsets k set
+      → MatchOption way (IsNoWay setting k) (IsFoundWay setting k) → some ≡ is_some way
+      → (some ≡ true) ↔ IsTrusted setting.meaning setting.moment setting.rrsets setting.anchors set
   way_in_or_not set None some numbered none is = (
     λ yes. let no : some ≡ false = is in cc,
     λ trusted. absurd (not_trusted none (set, numbered, trusted)),
   )
   way_in_or_not set (Some found) some numbered first is = (
     λ yes.
-        let same : first.first.is.set ≡ set = same_number basis.rrsets k first.first.is.set set first.first.is.good.is_rrset numbered in
-        let Is : ReceivedRrset → Type 0 = λ each. IsTrusted basis.meaning basis.moment basis.rrsets basis.anchors each in
-        subst Is same (way_leads basis k _ first.first.is),
+        let same : first.first.is.set ≡ set = same_number setting.rrsets k first.first.is.set set first.first.is.good.is_rrset numbered in
+        let Is : ReceivedRrset → Type 0 = λ each. IsTrusted setting.meaning setting.moment setting.rrsets setting.anchors each in
+        subst Is same (way_leads setting k _ first.first.is),
     λ trusted. is,
   )

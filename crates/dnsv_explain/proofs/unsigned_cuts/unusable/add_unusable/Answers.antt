@@ -1,4 +1,4 @@
-use Rattle.dnsv_explain.specs.Explained.{basis_in}
+use Rattle.dnsv_explain.specs.Explained.{setting_in}
 use Rattle.dnsv_explain.proofs.lemmas.unsigned_cuts.UnusableLemmas.{lowest_good, unusable_told}
 use Rattle.dnsv_explain.proofs.unsigned_cuts.unusable.add_unusable.Goals as goal
 
@@ -11,11 +11,11 @@ returns-in_default-lowest_secured c =
 
 pub add_derivation-requires : goal.add_derivation-requires
 add_derivation-requires c =
-    lowest_good (basis_in c.args.evidence.now) c.in-Some.number c.in-Some-lowest_secured.lowest c.in-Some-lowest_secured.ensures.0
+    lowest_good (setting_in c.args.evidence.now) c.in-Some.number c.in-Some-lowest_secured.lowest c.in-Some-lowest_secured.ensures.0
     c.in-Some-lowest_secured.ensures.1
 
 pub returns : goal.returns
 returns c =
-    unusable_told (basis_in c.args.evidence.now) c.args.name.now c.in-Some.number c.in-Some-lowest_secured.lowest _ _ _ _
+    unusable_told (setting_in c.args.evidence.now) c.args.name.now c.in-Some.number c.in-Some-lowest_secured.lowest _ _ _ _
     c.in-Some.ensures c.in-Some-lowest_secured.ensures.0 c.in-Some-lowest_secured.ensures.1 c.in_ok-add_derivation.ensures
     c.in_ok-add_case.ensures c.in_ok-add_why.ensures

@@ -1,5 +1,5 @@
 use Rattle.std.proofs.Common.{◌+◌, ◌∙◌, refl}
-use Rattle.dnsv_explain.specs.Explained.{basis_in}
+use Rattle.dnsv_explain.specs.Explained.{setting_in}
 use Rattle.dnsv_explain.specs.declared.line.cut.UnusableDs.{UnusableDs}
 use Rattle.dnsv_explain.proofs.lemmas.NumberedLemmas.{in_list}
 use Rattle.dnsv_explain.proofs.lemmas.unsigned_cuts.UnusableLemmas.{all_told, never_usable, none_usable, one_told, set_delegates, set_read, unusable_at}
@@ -7,13 +7,13 @@ use Rattle.dnsv_explain.proofs.unsigned_cuts.unusable.add_why.Goals as goal
 
 pub loop-place-preserved : goal.loop-place-preserved
 loop-place-preserved c =
-    let basis = basis_in c.args.evidence.now in
+    let setting = setting_in c.args.evidence.now in
     let ds = c.in-Some.rrset.now in
     let numbered = in_list c.args.evidence.now.rrsets c.rrsets.result.now c.args.number ds c.rrsets.ensures c.in-Some.ensures in
     let values = c.ds_records-values.result.now in
     let name = c.requires.0 in
     let is = c.requires.1 in
-    let zip = set_read basis name c.args.number ds numbered values is c.ds_records-values.ensures in
+    let zip = set_read setting name c.args.number ds numbered values is c.ds_records-values.ensures in
     let x = c.each-item.result in
     let unusable : UnusableDs = record {
       why = c.why_unusable.result;
@@ -25,27 +25,27 @@ loop-place-preserved c =
     one_told c.args.evidence.now.rrsets c.args.number c.args.lines.now.items c.loop-place.place c.loop-place.lines.items
     c.push.new.self.items unusable c.in_ok-push.ensures.items refl
     (unusable_at (λ each. each.rdata.now) (λ each. each.record.now) c.args.evidence.now.rrsets c.args.number ds numbered
-    (set_delegates basis name c.args.number ds numbered is).rtype values zip c.in_ok-records.records.items
+    (set_delegates setting name c.args.number ds numbered is).rtype values zip c.in_ok-records.records.items
     c.deref-each-items.result.now c.deref-each-items.ensures.value c.in_ok-records.ensures.order c.in_ok-records.ensures.read
     c.loop-place.place x unusable c.loop-place-test.true c.each-item.is refl (c.in_ok-clone.ensures.cases ∙ c.owner.ensures)
     (c.why_unusable.ensures
     (never_usable (λ each. each.rdata.now) (λ each. each.record.now) c.args.evidence.now.rrsets c.args.number ds numbered
-    (set_delegates basis name c.args.number ds numbered is).rtype values zip c.in_ok-records.records.items
+    (set_delegates setting name c.args.number ds numbered is).rtype values zip c.in_ok-records.records.items
     c.deref-each-items.result.now c.deref-each-items.ensures.value c.in_ok-records.ensures.order c.in_ok-records.ensures.read
-    c.loop-place.place x (none_usable basis name c.args.number ds numbered values is c.ds_records-values.ensures)
+    c.loop-place.place x (none_usable setting name c.args.number ds numbered values is c.ds_records-values.ensures)
     c.loop-place-test.true c.each-item.is))
     refl refl refl)
     c.loop-place.invariant
 
 pub returns : goal.returns
 returns c =
-    let basis = basis_in c.args.evidence.now in
+    let setting = setting_in c.args.evidence.now in
     let ds = c.in-Some.rrset.now in
     let numbered = in_list c.args.evidence.now.rrsets c.rrsets.result.now c.args.number ds c.rrsets.ensures c.in-Some.ensures in
     let values = c.ds_records-values.result.now in
     let is = c.requires.1 in
     all_told (λ each. each.rdata.now) (λ each. each.record.now) c.args.evidence.now.rrsets c.args.number ds numbered
-    (set_delegates basis c.requires.0 c.args.number ds numbered is).rtype values
-    (set_read basis c.requires.0 c.args.number ds numbered values is c.ds_records-values.ensures) c.in_ok-records.records.items
+    (set_delegates setting c.requires.0 c.args.number ds numbered is).rtype values
+    (set_read setting c.requires.0 c.args.number ds numbered values is c.ds_records-values.ensures) c.in_ok-records.records.items
     c.deref-each-items.result.now c.deref-each-items.ensures.value c.in_ok-records.ensures.order c.in_ok-records.ensures.read
     c.loop-place.place c.args.lines.now.items c.loop-place.lines.items c.loop-place-test.false c.loop-place.invariant

@@ -1,6 +1,6 @@
 use Rattle.std.proofs.lemmas.Bool.{false≢true}
 use Rattle.dnsv_chain.specs.Ds.{HasUsable}
-use Rattle.dnsv_explain.specs.Explained.{basis_in}
+use Rattle.dnsv_explain.specs.Explained.{setting_in}
 use Rattle.dnsv_explain.proofs.lemmas.AnswerLemmas.{not_so, so_not}
 use Rattle.dnsv_explain.proofs.lemmas.unsigned_cuts.UnusableLemmas.{its_set, none_usable, set_delegates}
 use Rattle.dnsv_explain.proofs.unsigned_cuts.unusable.is_unusable.Goals as goal
@@ -10,20 +10,20 @@ returns-then-not-may_delegate c = (
   λ never. absurd (false≢true never),
   λ is.
       let holds = c.may_delegate.ensures.1
-      (set_delegates (basis_in c.args.evidence.now) c.args.name.now c.args.number c.args.rrset.now c.requires is) in
+      (set_delegates (setting_in c.args.evidence.now) c.args.name.now c.args.number c.args.rrset.now c.requires is) in
       let fails = c.if-not-may_delegate.true in
       cc,
 )
 
 pub returns : goal.returns
 returns c =
-    let basis = basis_in c.args.evidence.now in
+    let setting = setting_in c.args.evidence.now in
     let values = c.ds_records.result.now in (
       λ yes.
-          its_set basis c.args.name.now c.args.number c.args.rrset.now c.requires values
+          its_set setting c.args.name.now c.args.number c.args.rrset.now c.requires values
           (c.may_delegate.ensures.0 c.if-not-may_delegate.false) c.ds_records.ensures
           (not_so c.has_usable.result (HasUsable values) c.has_usable.ensures yes),
       λ is.
           so_not c.has_usable.result (HasUsable values) c.has_usable.ensures
-          (none_usable basis c.args.name.now c.args.number c.args.rrset.now c.requires values is c.ds_records.ensures),
+          (none_usable setting c.args.name.now c.args.number c.args.rrset.now c.requires values is c.ds_records.ensures),
     )

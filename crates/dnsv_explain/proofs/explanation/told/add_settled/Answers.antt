@@ -1,0 +1,31 @@
+use Rattle.std.proofs.Common.{subst}
+use Rattle.dnsv_verdict.specs.Verdict.{IsSettledAsBy}
+use Rattle.dnsv_verdict.specs.declared.verdict.Verdict.{Verdict}
+use Rattle.dnsv_explain.specs.Explained.{basis_in}
+use Rattle.dnsv_explain.proofs.lemmas.SecureLemmas.{alias_secure, answer_secure, data_proved, name_proved, unsigned_of}
+use Rattle.dnsv_explain.proofs.explanation.told.add_settled.Goals as goal
+
+pub add_set-requires-clause-secure : goal.add_set-requires-clause-secure
+add_set-requires-clause-secure c =
+    let Is : Verdict → Type 0 = λ each. IsSettledAsBy (basis_in c.args.evidence.now) c.args.at.now.name.now c.args.rtype.0 each in
+    answer_secure c.args.evidence.now c.args.at.now.name.now c.args.rtype.0 _ _ (subst Is c.in-SecureAnswer.is c.requires.verdict)
+
+pub add_set-requires-in-SecureAlias-clause-secure : goal.add_set-requires-in-SecureAlias-clause-secure
+add_set-requires-in-SecureAlias-clause-secure c =
+    let Is : Verdict → Type 0 = λ each. IsSettledAsBy (basis_in c.args.evidence.now) c.args.at.now.name.now c.args.rtype.0 each in
+    alias_secure c.args.evidence.now c.args.at.now.name.now c.args.rtype.0 _ _ (subst Is c.in-SecureAlias.is c.requires.verdict)
+
+pub add_no_name-requires-clause-proved : goal.add_no_name-requires-clause-proved
+add_no_name-requires-clause-proved c =
+    let Is : Verdict → Type 0 = λ each. IsSettledAsBy (basis_in c.args.evidence.now) c.args.at.now.name.now c.args.rtype.0 each in
+    name_proved c.args.evidence.now c.args.at.now.name.now c.args.rtype.0 _ (subst Is c.in-SecureNoName.is c.requires.verdict)
+
+pub add_no_data-requires-clause-proved : goal.add_no_data-requires-clause-proved
+add_no_data-requires-clause-proved c =
+    let Is : Verdict → Type 0 = λ each. IsSettledAsBy (basis_in c.args.evidence.now) c.args.at.now.name.now c.args.rtype.0 each in
+    data_proved c.args.evidence.now c.args.at.now.name.now c.args.rtype.0 _ (subst Is c.in-SecureNoData.is c.requires.verdict)
+
+pub add_unsigned_from-requires-clause-unsigned : goal.add_unsigned_from-requires-clause-unsigned
+add_unsigned_from-requires-clause-unsigned c =
+    let Is : Verdict → Type 0 = λ each. IsSettledAsBy (basis_in c.args.evidence.now) c.args.at.now.name.now c.args.rtype.0 each in
+    unsigned_of c.args.evidence.now c.args.at.now.name.now c.args.rtype.0 _ (subst Is c.in-Insecure.is c.requires.verdict).4

@@ -1,0 +1,88 @@
+-- An explanation from its two halves.
+use Rattle.std.proofs.Common.{◌≡◌, ◌∙◌, ℕ, List, [], ◌++◌, ap, sym, subst}
+use Rattle.dnsv_names.specs.Name.{Labels}
+use Rattle.dnsv_verdict.specs.Verdict.{IsSettledVerdict}
+use Rattle.dnsv_verdict.specs.declared.grounds.Grounds.{Grounds}
+use Rattle.dnsv_verdict.specs.declared.link.Link.{Link}
+use Rattle.dnsv_verdict.specs.declared.verdict.Verdict.{Verdict}
+use Rattle.dnsv_verdict.specs.declared.verdict.Verdict.TheVariants.{SecureAnswer, SecureAlias, SecureNoName, SecureNoData, Insecure, Pending, Bogus, Indeterminate}
+use Rattle.dnsv_explain.specs.Explained.{Explained, explained_by, setting_in}
+use Rattle.dnsv_explain.specs.Explanation.{IsEnd, IsEndTold, IsExplanation, IsLinkTold, IsVerdictTold, IsWayTold, its_setting}
+use Rattle.dnsv_explain.specs.Following.{EachFollows}
+use Rattle.dnsv_explain.specs.Places.{ArePlacesTold}
+use Rattle.dnsv_explain.specs.Saying.{Adds, AreBoth, AreEach}
+use Rattle.dnsv_explain.specs.declared.line.Line.{Line}
+use Rattle.dnsv_explain.proofs.lemmas.ExplanationLemmas.{way_follows}
+use Rattle.dnsv_explain.proofs.lemmas.SayingLemmas.{both_added}
+
+module _ (explained : Explained) where
+  in_setting : (verdict : Verdict) (lines : List Line) → IsSettledVerdict verdict → EachFollows (its_setting explained verdict) [] lines
+      → EachFollows (setting_in explained) [] lines
+  in_setting (SecureAnswer k s) lines settled follows = follows
+  in_setting (SecureAlias k s) lines settled follows = follows
+  in_setting (SecureNoName proof) lines settled follows = follows
+  in_setting (SecureNoData proof) lines settled follows = follows
+  in_setting (Insecure cut) lines settled follows = follows
+  in_setting (Pending unknown) lines settled follows = absurd settled
+  in_setting Bogus lines settled follows = follows
+  in_setting Indeterminate lines settled follows = follows
+
+  end_as : (verdict : Verdict) (old new : List Line) → IsSettledVerdict verdict
+      → Adds (IsEnd explained.rrsets explained.table.moment) old new → Adds (IsEndTold explained verdict) old new
+  end_as (SecureAnswer k s) old new settled added = added
+  end_as (SecureAlias k s) old new settled added = added
+  end_as (SecureNoName proof) old new settled added = added
+  end_as (SecureNoData proof) old new settled added = added
+  end_as (Insecure cut) old new settled added = added
+  end_as (Pending unknown) old new settled added = absurd settled
+  end_as Bogus old new settled added = absurd settled
+  end_as Indeterminate old new settled added = absurd settled
+
+  places_as : (verdict : Verdict) (old new : List Line) → ¬ IsSettledVerdict verdict
+      → Adds (ArePlacesTold explained.rrsets) old new → Adds (IsEndTold explained verdict) old new
+  places_as (SecureAnswer k s) old new open_still added = absurd (open_still tt)
+  places_as (SecureAlias k s) old new open_still added = absurd (open_still tt)
+  places_as (SecureNoName proof) old new open_still added = absurd (open_still tt)
+  places_as (SecureNoData proof) old new open_still added = absurd (open_still tt)
+  places_as (Insecure cut) old new open_still added = absurd (open_still tt)
+  places_as (Pending unknown) old new open_still added = added
+  places_as Bogus old new open_still added = added
+  places_as Indeterminate old new open_still added = added
+
+  module _ (t : ℕ) (links : List Link) (last : Labels) (verdict : Verdict) where
+    pub way_added : (old mid new : List Line) → Adds (AreEach (IsLinkTold (setting_in explained)) links) old mid
+        → Adds (IsVerdictTold explained last t verdict) mid new → Adds (IsWayTold explained t links last verdict) old new
+    way_added old mid new one two =
+        both_added (AreEach (IsLinkTold (setting_in explained)) links) (IsVerdictTold explained last t verdict) old mid new one two
+
+    pub settled_way_follows : (old new : List Line) → old ≡ [] → IsSettledVerdict verdict
+        → Adds (IsWayTold explained t links last verdict) old new → EachFollows (setting_in explained) [] new
+    settled_way_follows old new empty settled added =
+        let Lines : List Line → Type 0 = λ each. EachFollows (its_setting explained verdict) [] each in
+        let Before : List Line → Type 0 = λ each. IsWayTold explained t links last verdict each added.more in
+        in_setting verdict new settled
+        (subst Lines (sym (added.is ∙ ap (λ front. front ++ added.more) empty))
+        (way_follows explained t links last verdict [] added.more (subst Before empty added.says)))
+
+    whole : (old mid new : List Line) → old ≡ [] → Adds (IsWayTold explained t links last verdict) old mid
+        → Adds (IsEndTold explained verdict) mid new → IsExplanation explained t links last verdict new
+    whole old mid new empty way end =
+        let both = both_added (IsWayTold explained t links last verdict) (IsEndTold explained verdict) old mid new way end in
+        let Says : List Line → List Line → Type 0 = AreBoth (IsWayTold explained t links last verdict) (IsEndTold explained verdict) in
+        let all : new ≡ both.more = both.is ∙ ap (λ front. front ++ both.more) empty in
+        subst (λ each. Says [] each) (sym all) (subst (λ each. Says each both.more) empty both.says)
+
+module _ (explained : Explained) (grounds : Grounds) (same : explained ≡ explained_by grounds []) (t : ℕ) (links : List Link)
+    (last : Labels) (verdict : Verdict) (old mid new : List Line) (empty : old ≡ []) where
+  abbrev Whole : Explained → Type 0
+  Whole each = IsExplanation each t links last verdict new
+
+  pub open_ended : ¬ IsSettledVerdict verdict → Adds (IsWayTold explained t links last verdict) old mid
+      → Adds (ArePlacesTold explained.rrsets) mid new → IsExplanation (explained_by grounds []) t links last verdict new
+  open_ended open_still way places =
+      subst Whole same (whole explained t links last verdict old mid new empty way (places_as explained verdict mid new open_still places))
+
+  pub settled_ended : IsSettledVerdict verdict → Adds (IsWayTold explained t links last verdict) old mid
+      → Adds (IsEnd explained.rrsets explained.table.moment) mid new → IsExplanation (explained_by grounds []) t links last verdict new
+  settled_ended settled way end =
+      subst Whole same (whole explained t links last verdict old mid new empty way (end_as explained verdict mid new settled end))

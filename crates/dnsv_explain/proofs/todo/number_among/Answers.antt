@@ -1,0 +1,16 @@
+use Rattle.std.proofs.Common.{None, Some, rules}
+use Rattle.dnsv_canonical.specs.SignedData.{IsSignedData}
+use Rattle.dnsv_explain.proofs.lemmas.TodoLemmas.{its_number, never_asked}
+use Rattle.dnsv_explain.proofs.todo.number_among.Goals as goal
+
+pub returns-in_default : goal.returns-in_default
+returns-in_default c = λ entry is.
+    let rrset = c.args.rrset.now in
+    let none : IsSignedData rrset.owner rrset.rtype rrset.rdata c.args.rrsig.now None = search rules in
+    absurd (never_asked rrset c.args.rrsig.now c.args.key.now none entry is)
+
+pub returns : goal.returns
+returns c =
+    let rrset = c.args.rrset.now in
+    let signed : IsSignedData rrset.owner rrset.rtype rrset.rdata c.args.rrsig.now (Some c.as_slice.result.now) = search rules in
+    its_number rrset c.args.rrsig.now c.args.key.now c.args.entries.now c.as_slice.result.now c.number_of.result signed c.number_of.ensures

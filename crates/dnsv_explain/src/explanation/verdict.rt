@@ -1,0 +1,114 @@
+//! What holds for a verdict.
+ghost use Rattle.std.specs.Prelude.{◌≡◌, ◌↔◌, [], IsTrue, OnOk};
+ghost use Rattle.dnsv_verdict.specs.Grounds.{HasHope, HasTrust, IsHope, basis_by};
+ghost use Rattle.dnsv_verdict.specs.Report.{hashed_in};
+ghost use Rattle.dnsv_verdict.specs.Verdict.{IsSettledVerdict, IsVerdictAt};
+ghost use Rattle.dnsv_explain.specs.Explained.{explained_by};
+ghost use Rattle.dnsv_explain.specs.Explanation.{IsHopeTold, IsVerdictTold, told_kind};
+ghost use Rattle.dnsv_explain.specs.Saying.{Adds};
+
+use crate::evidence::Evidence;
+use crate::explanation::at::{At, evidence_of};
+use crate::explanation::held::add_held;
+use crate::explanation::told::add_settled;
+use crate::line::{Kind, Line};
+use dnsv_denial::Hashes;
+use dnsv_names::{Name, RecordType};
+use dnsv_verdict::{Grounds, Hope, Judged, Verdict};
+use dnsv_verifier::Entries;
+use std::alloc::{AllocError, Global};
+
+/// Adds what holds for the verdict at the last name; for one that needs more answers, what may be hoped; and where
+/// nothing is proved, how far trust holds.
+pub fn add_verdict<'a>(
+    alloc: Global,
+    evidence: &Evidence<'_>,
+    judged: &Judged<'a>,
+    hashes: &Hashes<'a>,
+    lines: &mut Vec<Line>,
+    rtype: RecordType,
+) -> Result<(), AllocError>
+    requires trust { HasTrust judged.now.grounds }
+    requires evidence { evidence.now ≡ explained_by judged.now.grounds [] }
+    requires hashes { hashes.now ≡ hashed_in judged.now.grounds.capture.now.rrsets judged.now.report.last }
+    requires verdict { IsVerdictAt (basis_by judged.now.grounds) judged.now.report.last rtype.0
+        judged.now.report.verdict }
+    requires hope { HasHope judged.now.grounds judged.now.report.last rtype.0 judged.now.report.verdict judged.now.hope }
+    ensures { OnOk result (Adds (IsVerdictTold evidence.now judged.now.report.last rtype.0 judged.now.report.verdict)
+        lines.old.items lines.new.items) }
+{
+    let (grounds, name) = (&judged.grounds, &judged.report.last);
+    let verdict = &judged.report.verdict;
+    if is_settled(verdict) {
+        let at = At {
+            grounds,
+            hashes,
+            name,
+        };
+        return Ok(add_settled(alloc, evidence, &at, lines, rtype, verdict)?);
+    }
+    let Verdict::Pending(unknown) = verdict else {
+        return Ok(add_held(alloc, evidence, lines, name)?);
+    };
+    let Some(hope) = &judged.hope else {
+        return Ok(());
+    };
+    Ok(add_hope(
+        alloc, evidence, grounds, hope, unknown, hashes, lines, name, rtype,
+    )?)
+}
+
+/// Adds what the verdict would be if the entries, which the verifier doesn't know, turned out valid, and what holds for
+/// that one then.
+fn add_hope<'a>(
+    alloc: Global,
+    evidence: &Evidence<'_>,
+    grounds: &Grounds<'a>,
+    hope: &Hope<'a>,
+    unknown: &Entries,
+    hashes: &Hashes<'a>,
+    lines: &mut Vec<Line>,
+    name: &Name,
+    rtype: RecordType,
+) -> Result<(), AllocError>
+    requires evidence { evidence.now ≡ explained_by grounds.now [] }
+    requires hashes { hashes.now ≡ hashed_in grounds.now.capture.now.rrsets name.now }
+    requires hope { IsHope grounds.now name.now rtype.0 hope.now }
+    ensures { OnOk result (Adds (IsHopeTold evidence.now name.now rtype.0 unknown.now) lines.old.items lines.new.items) }
+{
+    let Some(kind) = kind_of(&hope.verdict) else {
+        return Ok(());
+    };
+    let hoped = evidence_of(&hope.grounds, Some(unknown));
+    lines.push(Line::Hope(kind))?;
+    let at = At {
+        grounds: &hope.grounds,
+        hashes,
+        name,
+    };
+    add_settled(alloc, &hoped, &at, lines, rtype, &hope.verdict)?;
+    Ok(())
+}
+
+/// Whether the verdict needs no more answers, and is one of those that something proves.
+pub fn is_settled(verdict: &Verdict) -> bool
+    ensures { IsTrue result ↔ IsSettledVerdict verdict.now }
+{
+    kind_of(verdict).is_some()
+}
+
+/// The word of a verdict that needs no more answers.
+fn kind_of(verdict: &Verdict) -> Option<Kind>
+    ensures { result ≡ told_kind verdict.now }
+{
+    match verdict {
+        Verdict::SecureAnswer { .. } => Some(Kind::SecureAnswer),
+        Verdict::SecureAlias { .. } => Some(Kind::SecureAlias),
+        Verdict::SecureNoName(_) => Some(Kind::SecureNoName),
+        Verdict::SecureNoData(_) => Some(Kind::SecureNoData),
+        Verdict::Insecure(_) => Some(Kind::Insecure),
+        Verdict::Pending(_) => None,
+        Verdict::Bogus => None,
+        Verdict::Indeterminate => None,
+    }
+}

@@ -1,0 +1,86 @@
+"""The objects of `why` for what fails, for the keys of a zone, and for what follows."""
+from .fields import numbers, options, signature
+
+# The reasons that aren't about a signature, an anchor or a DS record, by what their fields begin with.
+SOURCED = ("delegation", "type-held", "match-missing", "encloser-missing", "cover-missing")
+ZONED = ("no-anchor", "dnskey-missing", "ds-missing")
+RECORDS = ("nsec3-iterations", "nsec3-unusable")
+
+
+def entry(fields):
+    """ZONE anchor A wants TAG ALG [digest D], or ZONE rrset R record K wants TAG ALG digest D."""
+    zone, *rest = fields
+    return {"zone": zone, **options(rest, {"anchor": ["anchor"], "rrset": ["rrset"], "record": ["record"],
+                                           "wants": ["tag", "algorithm"], "digest": ["digest_type"]})}
+
+
+def source(fields):
+    """nsec ZONE, or nsec3 ZONE iterations N salt HEX; and what follows."""
+    kind, zone, *rest = fields
+    if kind == "nsec":
+        return {"kind": kind, "zone": zone}, rest
+    _, iterations, _, salt, *rest = rest
+    return {"kind": kind, "zone": zone, "iterations": int(iterations), "salt": "" if salt == "-" else salt}, rest
+
+
+def sourced(fields):
+    said, rest = source(fields)
+    words = dict(zip(rest[::2], rest[1::2]))
+    for word, key in (("role", "role"), ("name", "name"), ("rrset", "rrset"), ("record", "record"), ("holds", "held")):
+        if word in words:
+            said[key] = words[word] if word in ("role", "name") else int(words[word])
+    return said
+
+
+def of_signature(fields):
+    said, rest = signature(fields)
+    words = dict(zip(rest[::2], rest[1::2]))
+    for word, key in (("from", "inception"), ("to", "expiration"), ("by", "by")):
+        if word in words:
+            said[key] = int(words[word])
+    return said | ({"name": words["name"]} if "name" in words else {})
+
+
+def record(fields):
+    owner, rtype, *rest = fields
+    return {"owner": owner, "type": int(rtype),
+            **options(rest, {"rrset": ["rrset"], "record": ["record"], "iterations": ["iterations"]})}
+
+
+def answer(fields):
+    name, rtype, *rest = fields
+    return {"name": name, "type": int(rtype)} | ({"zone": rest[1]} if rest else {})
+
+
+def dname(fields):
+    name, *rest = fields
+    return {"name": name, **options(rest, {"rrset": ["rrset"], "record": ["record"]})}
+
+
+def self_signed(fields):
+    zone, _, rrset, _, tag, algorithm = fields
+    return {"zone": zone, **numbers((rrset, tag, algorithm), "rrset", "tag", "algorithm")}
+
+
+OTHERS = {"not-self-signed": self_signed, "unsigned": record, "dname": dname, "answer-missing": answer,
+          "denial-unproved": answer}
+OTHERS |= {word: lambda fields: {"zone": fields[0]} for word in ZONED}
+OTHERS |= {word: sourced for word in SOURCED} | {word: record for word in RECORDS}
+
+
+def reason(fields):
+    error, word, *rest = fields
+    said = OTHERS.get(word) or (entry if "wants" in rest else of_signature)
+    return {"word": word, "ede": int(error), **said(rest)}
+
+
+def follows(fields):
+    word, *rest = fields
+    return {"word": word, **signature(rest)[0]}
+
+
+def key(fields):
+    zone, *rest = fields
+    return {"zone": zone, **options(rest, {
+        "rrset": ["rrset"], "record": ["record"], "tag": ["tag"], "algorithm": ["algorithm"], "flags": ["flags"],
+        "signature": ["signature"], "anchor": ["anchor"], "ds": ["ds_rrset", "ds_record"]})}

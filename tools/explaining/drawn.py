@@ -1,0 +1,237 @@
+"""The boxes and edges that each line of an explanation puts into the picture of the chain."""
+from .chain import (FAILS, FOLLOWS, HOLDS, MISSING, PLAIN, UNDER, Chain, anchor_box, ds_box, key_box, keys_box,
+                    rrset_box)
+from .holding import UNUSABLE
+from .missing import DNAME, DNSKEY, DS, ROLES
+from .values import date, flag_names, owned
+from .vouchers import is_voucher
+
+QUESTION = ("question",)
+# The types that only lead on to a zone; all others are what is asked for, or deny it.
+OF_ZONES = (DS, DNSKEY)
+
+
+def chain_of(told):
+    """The chain of an explanation."""
+    chain, signers = Chain(), {line["rrset"]: line["signer"] for line in told.of("signed")}
+    scene = Scene(told, chain, signers)
+    for line in told.lines:
+        DRAWN[line["line"]](scene, line)
+    value = told.value
+    state = FAILS if value["verdict"] in ("Bogus", "Indeterminate") else PLAIN
+    chain.add(QUESTION, None, (owned(value["name"], value["type"]), value["verdict"]), state)
+    scene.join_question()
+    return chain
+
+
+class Scene:
+    """A chain as it is drawn: who signs which RRset by lines that hold, and what leads to the question."""
+
+    def __init__(self, told, chain, signers):
+        self.told, self.chain, self.signers, self.leading = told, chain, signers, []
+
+    def lead(self, box, state, text=""):
+        """An edge to the question."""
+        self.leading.append((box, state, text))
+
+    def join_question(self):
+        value = self.told.value
+        for link in value["aliases"]:
+            self.lead(("rrset", link["rrset"]), HOLDS, "alias")
+        if "rrset" in value:
+            self.lead(("rrset", value["rrset"]), HOLDS)
+        for box, state, text in self.leading:
+            if box in self.chain.boxes:
+                self.chain.join(box, QUESTION, state, text)
+        self.lay_under()
+
+    def lay_under(self):
+        """What no edge leads to stands under the last link of the chain, and the question under all."""
+        links = [line["rrset"] for line in self.told.of("trusted")]
+        heads = {each.head for each in self.chain.edges.values()}
+        last = ("rrset", links[-1]) if links else None
+        for key, box in list(self.chain.boxes.items()):
+            if last and key not in heads and key != last and box.state in (FAILS, MISSING):
+                self.chain.join(last, key, UNDER)
+        if last:
+            self.chain.join(last, QUESTION, UNDER)
+
+    def voucher(self, line, zone, state):
+        """The box of the anchor or DS record that a line names by `anchor`, or by `ds_rrset` and `ds_record`."""
+        if "anchor" in line:
+            return anchor_box(self.chain, line["anchor"], zone, state, line.get("digest_type"))
+        place, told = (line["ds_rrset"], line["ds_record"]), line if "digest_type" in line else None
+        return ds_box(self.chain, self.signers, place, zone, state, told)
+
+    def of_signature(self, line, state, text=""):
+        """The edge from the key that signs to the RRset, whichever zone that is in."""
+        tail = key_box(self.chain, line["signer"], line, FOLLOWS if state == FOLLOWS else PLAIN)
+        head = rrset_box(self.chain, line["signer"], line["rrset"], line["owner"], line["type"], state)
+        if line["type"] not in OF_ZONES:
+            self.lead(head, state)
+        self.chain.join(tail, head, state, text)
+
+
+def trusted(scene, line):
+    zone = line["zone"]
+    key = key_box(scene.chain, zone, line, HOLDS)
+    scene.chain.join(scene.voucher(line, zone, HOLDS), key, HOLDS)
+    scene.chain.join(key, keys_box(scene.chain, zone, line["rrset"], HOLDS), HOLDS)
+
+
+def signed(scene, line):
+    zone = line["signer"]
+    key, keys = key_box(scene.chain, zone, line, HOLDS), ("rrset", line["keys"])
+    if (key, keys, "") not in scene.chain.edges:
+        scene.chain.join(keys_box(scene.chain, zone, line["keys"], HOLDS), key, HOLDS)
+    for head in signed_boxes(scene, line):
+        scene.chain.join(key, head, HOLDS)
+
+
+def signed_boxes(scene, line):
+    """The RRset, or of a DS RRset the records that lines name."""
+    zone, number = line["signer"], line["rrset"]
+    records = sorted(records_of(scene.told, number)) if line["type"] == DS else []
+    if not records:
+        return [rrset_box(scene.chain, zone, number, line["owner"], line["type"], HOLDS)]
+    return [ds_box(scene.chain, scene.signers, (number, record), line["owner"], HOLDS) for record in records]
+
+
+def records_of(told, number):
+    """The numbers of the records of the DS RRset that are in the picture."""
+    by_ds = {line["ds_record"] for line in told.lines if line.get("ds_rrset") == number}
+    return by_ds | {line["record"] for line in told.lines if line.get("rrset") == number and names_ds(line)}
+
+
+def names_ds(line):
+    return line["line"] == "unusable" or (line["line"] == "reason" and "record" in line and is_voucher(line))
+
+
+def proof(_scene, _line):
+    """Its parts have the boxes."""
+
+
+def part(scene, line):
+    if "owner" in line:
+        scene.lead(("rrset", line["rrset"]), HOLDS, f"{ROLES[line['role']]}\n{line['relation']}")
+
+
+def cut_box(scene, name, zone):
+    """The name from which on nothing has to be signed."""
+    return scene.chain.add(("cut", name), zone, (name, "may be unsigned"), PLAIN)
+
+
+def case(scene, line):
+    scene.lead(cut_box(scene, line["cut"], line.get("zone")), PLAIN)
+
+
+def unusable(scene, line):
+    place, zone = (line["rrset"], line["record"]), scene.signers.get(line["rrset"])
+    box = ds_box(scene.chain, scene.signers, place, line["owner"], PLAIN, line)
+    scene.chain.join(box, cut_box(scene, line["owner"], zone), PLAIN, UNUSABLE[line["why"]])
+
+
+def unseen(_scene, _line):
+    """Nothing of the picture."""
+
+
+def key(scene, line):
+    zone = line["zone"]
+    box = key_box(scene.chain, zone, line, PLAIN, (flag_names(line["flags"]),))
+    keys = keys_box(scene.chain, zone, line["rrset"], PLAIN)
+    if "signature" in line:
+        scene.chain.join(box, keys, HOLDS)
+    if "anchor" in line:
+        scene.chain.join(anchor_box(scene.chain, line["anchor"], zone, HOLDS), box, HOLDS)
+    if "ds_record" in line:
+        place = line["ds_rrset"], line["ds_record"]
+        scene.chain.join(ds_box(scene.chain, scene.signers, place, zone, HOLDS), box, HOLDS)
+
+
+def reason(scene, line):
+    if "signer" in line:
+        scene.of_signature(line, FAILS, signature_text(scene.told, line))
+    elif is_voucher(line):
+        of_voucher(scene, line)
+    else:
+        REASONS[line["word"]](scene, line)
+
+
+def signature_text(told, line):
+    """The word, and the window where it is what fails."""
+    if line["word"] == "expired":
+        return f"expired {date(told.now - line['by'], told.now)}"
+    if line["word"] == "not-yet":
+        return f"from {date(told.now + line['by'], told.now)}"
+    return f"{line['word']} {line['name']}" if line["word"] == "no-closer" else line["word"]
+
+
+def of_voucher(scene, line):
+    """What names a key that isn't there, or isn't the one that it names."""
+    zone, place = line["zone"], (line.get("rrset"), line.get("record"))
+    if "anchor" in line:
+        tail = anchor_box(scene.chain, line["anchor"], zone, FAILS, line.get("digest_type"))
+    else:
+        tail = ds_box(scene.chain, scene.signers, place, zone, FAILS, line)
+    known = {(each["tag"], each["algorithm"]) for each in scene.told.keys(zone)}
+    is_there = (line["tag"], line["algorithm"]) in known
+    head = key_box(scene.chain, zone, line, PLAIN if is_there else MISSING)
+    scene.chain.join(tail, head, MISSING, line["word"])
+
+
+def not_self_signed(scene, line):
+    box = key_box(scene.chain, line["zone"], line, PLAIN)
+    scene.chain.join(box, keys_box(scene.chain, line["zone"], line["rrset"], PLAIN), MISSING, line["word"])
+
+
+def unsigned(scene, line):
+    zone = line["owner"] if line["type"] == DNSKEY else None
+    box = rrset_box(scene.chain, zone, line["rrset"], line["owner"], line["type"], FAILS, ("unsigned",))
+    if line["type"] not in OF_ZONES:
+        scene.lead(box, FAILS)
+
+
+def at_zone(scene, line):
+    """What a zone lacks, as an empty box."""
+    scene.chain.add((line["word"], line["zone"]), line["zone"], (ABSENT[line["word"]],), MISSING)
+
+
+def at_name(scene, line):
+    """What a proof lacks, as an empty box with the name."""
+    role = (ROLES[line["role"]],) if "role" in line else ()
+    box = scene.chain.add((line["word"], line["zone"], line["name"]), line["zone"],
+                          (f"no {line['kind'].upper()}", line["name"], *role), MISSING)
+    scene.lead(box, MISSING)
+
+
+def record(scene, line):
+    """A record that says something else, or that can't be used."""
+    zone, name = line.get("zone"), line.get("name") or line.get("owner")
+    kind = line["kind"].upper() if "kind" in line else owned("", line["type"]).strip()
+    box = scene.chain.add(("record", line["rrset"], line["record"]), zone, (f"{kind}, record {line['record']}", name), FAILS)
+    scene.lead(box, FAILS, line["word"])
+
+
+def dname(scene, line):
+    box = rrset_box(scene.chain, None, line["rrset"], line["name"], DNAME, FAILS)
+    scene.lead(box, FAILS, line["word"])
+
+
+def question(scene, line):
+    box = scene.chain.add((line["word"],), line.get("zone"), (ABSENT[line["word"]],), MISSING)
+    scene.lead(box, MISSING)
+
+
+def follows(scene, line):
+    scene.of_signature(line, FOLLOWS)
+
+
+ABSENT = {"no-anchor": "no trust anchor", "dnskey-missing": "no DNSKEY", "ds-missing": "no DS", "answer-missing": "no answer",
+          "denial-unproved": "no proof"}
+REASONS = {
+    "no-anchor": at_zone, "dnskey-missing": at_zone, "ds-missing": at_zone, "not-self-signed": not_self_signed,
+    "unsigned": unsigned, "dname": dname, "nsec3-iterations": record, "nsec3-unusable": record, "delegation": record,
+    "type-held": record, "match-missing": at_name, "encloser-missing": at_name, "cover-missing": at_name,
+    "answer-missing": question, "denial-unproved": question}
+DRAWN = {"trusted": trusted, "signed": signed, "proof": proof, "part": part, "case": case, "unusable": unusable,
+         "hope": unseen, "holds": unseen, "rrset": unseen, "key": key, "reason": reason, "follows": follows}
