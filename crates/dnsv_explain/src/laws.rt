@@ -16,6 +16,8 @@ ghost use Rattle.dnsv_verdict.specs.declared.verdict.Verdict.{Verdict};
 ghost use Rattle.dnsv_explain.specs.Explanation.{IsExplanation, its_setting};
 ghost use Rattle.dnsv_explain.specs.Following.{EachFollows, at_moment};
 ghost use Rattle.dnsv_explain.specs.Following.Parts.{IsPartOf, IsUnusableRecord};
+ghost use Rattle.dnsv_explain.specs.faults.RrsetLines.{AreLinesOfNumber};
+ghost use Rattle.dnsv_explain.specs.faults.Truth.{IsReasonTrue};
 ghost use Rattle.dnsv_explain.specs.intervals.Holding.{AreShownValidAt, IsHolding, IsHoldingOf};
 ghost use Rattle.dnsv_explain.specs.unsigned_cuts.ShownCuts.{IsCutShownBy, IsCutTold};
 ghost use Rattle.dnsv_explain.specs.derivations.Ways.{HasSecured};
@@ -25,6 +27,7 @@ use crate::line::Line;
 use crate::line::cut::UnusableDs;
 use crate::line::denial::Part;
 use crate::line::derivation::{SignatureNumber, SignedRrset, TrustedKeys};
+use crate::line::fault::Reason;
 
 /// Lines of which each follows from those before it are true: what they call trusted is trusted, and what they call
 /// signed is good under a trusted key of its signer, and valid at the moment; a part of a proof is what a record of the
@@ -96,4 +99,10 @@ pub fn unsigned_cuts_follow()
 pub fn explanations_follow()
     ensures { (explained : Explained) (t : ℕ) (links : List Link) (last : Labels) (verdict : Verdict) (lines : List Line)
         → IsExplanation explained t links last verdict lines → EachFollows (its_setting explained verdict) [] lines }
+{}
+
+/// What is said to fail of an RRset is so: each word is true of what it is said of, by its definition.
+pub fn reasons_of_rrsets_are_true()
+    ensures { (setting : Setting) (name : Labels) (t k : ℕ) (lines : List Line) → AreLinesOfNumber setting k lines
+        → (reason : Reason) → Contains lines (Line.Reason reason) → IsReasonTrue setting name t reason }
 {}

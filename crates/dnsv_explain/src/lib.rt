@@ -11,8 +11,8 @@ pub use faults::shown_keys::add_keys_in_question;
 pub use interval::{Interval, Times, holding};
 pub use laws::{
     denials_follow, derivations_follow, expanded_signatures_follow, explanations_follow,
-    lines_follow_as_long_as_they_hold, lines_that_follow_are_true, signatures_hold_in_one_interval,
-    unsigned_cuts_follow,
+    lines_follow_as_long_as_they_hold, lines_that_follow_are_true, reasons_of_rrsets_are_true,
+    signatures_hold_in_one_interval, unsigned_cuts_follow,
 };
 pub use line::cut::{Cut, InsecureCase, UnusableDs, WhyUnusable};
 pub use line::denial::{Chain, Form, Part, Proof, RecordPlace, Relation, Role};

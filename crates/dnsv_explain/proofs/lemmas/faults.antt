@@ -5,5 +5,6 @@ pub mod RemarkLemmas
 pub mod ShownKeyLemmas
 pub mod SignatureLemmas
 pub mod TrustLemmas
+pub mod TruthLemmas
 pub mod VerifierLemmas
 pub mod WordLemmas

@@ -4,6 +4,8 @@ ghost use Rattle.dnsv_canonical.specs.Rrsets.{IsNumbered};
 ghost use Rattle.dnsv_chain.specs.Trusted.{IsKeyOf};
 ghost use Rattle.dnsv_chain.specs.Ds.{IsMatch, IsUsable};
 ghost use Rattle.dnsv_explain.specs.Explained.{setting_in};
+ghost use Rattle.dnsv_explain.specs.Following.{IsGoodUnder};
+ghost use Rattle.dnsv_explain.specs.derivations.WaySearch.{signature_of};
 ghost use Rattle.dnsv_explain.specs.faults.KeyLines.{AreLinesOfKeysAsked, AreLinesOfSet, IsLowestDs, IsLowestOf, IsMatchedByAnchor, IsMatchedByDs, IsShownKey};
 ghost use Rattle.dnsv_explain.specs.faults.Listing.{AddsThose};
 ghost use Rattle.dnsv_explain.specs.unsigned_cuts.UnsignedCuts.{record_of};
@@ -84,10 +86,27 @@ fn shown_key(
         number,
         key: key_name(key),
         flags: key.dnskey().flags,
-        signature: lowest_good(alloc, evidence, number.rrset, set, key)?,
+        signature: lowest_signature(alloc, evidence, number.rrset, set, key)?,
         anchor: lowest_anchor(evidence, key),
         ds: lowest_ds(alloc, evidence, key)?,
     })
+}
+
+/// The number of the lowest signature of the RRset, which has the number, that is good under the key.
+fn lowest_signature(
+    alloc: Global,
+    evidence: &Evidence<'_>,
+    number: usize,
+    set: &Rrset,
+    key: &KeyRecord<'_>,
+) -> Result<Option<usize>, AllocError>
+    requires { IsNumbered evidence.now.rrsets number set.now }
+    ensures { IfOk result (IsLowestOf (λ s. IsGoodUnder (setting_in evidence.now) (signature_of number s) set.now key.now)) }
+{
+    let Some(found) = lowest_good(alloc, evidence, number, set, key)? else {
+        return Ok(None);
+    };
+    Ok(Some(found.number))
 }
 
 /// The number of the lowest trust anchor that matches the key.

@@ -179,12 +179,3 @@ module _ (setting : Setting) (key : DnskeyRecord) where
       let within = slice_get_within setting.rrsets (number.rrset - 1) is.1.rrset is.1.at.is_rrset.1 in
       let one = is.1.at.is_rrset.0 in
       none number (omega (arith, within, one, past)) is
-
--- ---- the lines
-
--- the lowest signature that is good under the key
-pub good_lowest : (setting : Setting) (k : ℕ) (rrset : ReceivedRrset) (key : DnskeyRecord) (lowest : Option ℕ)
-    → MatchOption lowest ((s : ℕ) → ¬ IsGoodUnder setting (signature_of k s) rrset key) (IsLowestGood setting k rrset key)
-    → IsLowestOf (λ s. IsGoodUnder setting (signature_of k s) rrset key) lowest
-good_lowest setting k rrset key None none = none
-good_lowest setting k rrset key (Some s) lowest = (lowest.good, lowest.lowest)
