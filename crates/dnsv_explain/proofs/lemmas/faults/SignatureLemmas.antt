@@ -1,28 +1,35 @@
 -- The lines of signatures that prove nothing.
-use Rattle.std.proofs.Common.{◌≡◌, ◌≢◌, ◌↔◌, ◌++◌, ◌==◌, ℕ, Bool, true, false, List, [], ◌∷◌, length, map, refl, sym, ◌∙◌, IsTrue, not}
+use Rattle.std.proofs.Common.{◌≡◌, ◌≢◌, ◌↔◌, ◌++◌, ◌==◌, ◌<◌, ◌≤◌, ◌+◌, ℕ, Bool, true, false, List, [], ◌∷◌, arith, get_or, length, map, refl, sym, take, ◌∙◌, IsTrue, not}
 use Rattle.std.proofs.lemmas.Bool.{false≢true}
 use Rattle.std.proofs.lemmas.Bool.Decides.{Decides-eqb}
-use Rattle.std.proofs.lemmas.List.{nil_from_length}
+use Rattle.std.proofs.lemmas.List.{get_or_default, nil_from_length}
+use Rattle.std.specs.List.{AllZip}
+use Rattle.dnsv_records.specs.Rrsig.{IsRrsig}
 use Rattle.dnsv_records.specs.declared.rrsig.Rrsig.{Rrsig}
 use Rattle.dnsv_canonical.specs.Rrsets.{IsNumbered, ReceivedRrset}
 use Rattle.dnsv_verifier.specs.Admissible.{DnskeyRecord}
 use Rattle.dnsv_verifier.specs.Asking.{AreKeysOf}
-use Rattle.dnsv_chain.specs.Trusted.{IsGoodByTrust}
+use Rattle.dnsv_chain.proofs.SigningLemmas.{signature_at}
+use Rattle.dnsv_chain.proofs.ZipLemmas.{zip_length}
+use Rattle.dnsv_chain.specs.Trusted.{IsGoodByTrust, IsSecured}
 use Rattle.dnsv_explain.specs.Explained.{Setting}
 use Rattle.dnsv_explain.specs.derivations.SignerSearch.{IsSignatureAt}
 use Rattle.dnsv_explain.specs.derivations.Ways.{HasSecured}
 use Rattle.dnsv_explain.specs.faults.KeySearch.{HasKeyAt, IsNamedIn}
 use Rattle.dnsv_explain.specs.faults.Keys.{HasKeys, IsNamedBy}
-use Rattle.dnsv_explain.specs.faults.Listing.{AddsThose}
+use Rattle.dnsv_explain.specs.faults.Listing.{AddsThose, AreOfNumbered}
 use Rattle.dnsv_explain.specs.faults.RemarkSearch.{IsRemarkOf, remark_lines}
-use Rattle.dnsv_explain.specs.faults.RrsetLines.{AreFaults, AreSignatureLines, fault_line, shown_of}
+use Rattle.dnsv_explain.specs.faults.RrsetLines.{AreFaults, AreLinesAt, AreLinesOfEach, AreLinesOfNumber, AreRrsetLines, AreSignatureLines, fault_line, shown_of, unsigned_line}
+use Rattle.dnsv_explain.specs.faults.RrsetLines.AreLinesOfNumber.{no_rrset, of_rrset}
+use Rattle.dnsv_explain.specs.faults.RrsetLines.AreRrsetLines.{secured, unproved, unsigned}
 use Rattle.dnsv_explain.specs.faults.RrsetLines.AreSignatureLines.{faulty, without_faults}
 use Rattle.dnsv_explain.specs.faults.SignatureFaults.{AreFaultsOf}
 use Rattle.dnsv_explain.specs.declared.faults.remark.Remark.{Remark}
 use Rattle.dnsv_explain.specs.declared.line.Line.{Line}
 use Rattle.dnsv_explain.specs.declared.line.fault.signature.WhySignature.{WhySignature}
+use Rattle.dnsv_explain.proofs.lemmas.NumberedLemmas.{numbered_at}
 use Rattle.dnsv_explain.proofs.lemmas.faults.KeyLemmas.{keys_same, named_same}
-use Rattle.dnsv_explain.proofs.lemmas.faults.ListingLemmas.{those_added}
+use Rattle.dnsv_explain.proofs.lemmas.faults.ListingLemmas.{added_as, all_added, next_added, none_added, those_added}
 use Rattle.dnsv_explain.proofs.lemmas.faults.WordLemmas.{faults_same}
 
 -- of an RRset without a good signature none is good by trust
@@ -72,9 +79,100 @@ module _ (setting : Setting) (keys : List DnskeyRecord) (all : AreKeysOf setting
 
 -- ---- lists that may be empty
 
-pub not_empty : {X : Type 0} (xs : List X) (b : Bool) → b ≡ (length xs == 0) → b ≡ false → xs ≢ []
-not_empty [] b is isnt = λ e. false≢true (sym isnt ∙ is)
-not_empty (x ∷ xs) b is isnt = λ e. cc
+pub some_there : {X : Type 0} (xs : List X) (b : Bool) → b ≡ (length xs == 0) → not b ≡ true → xs ≢ []
+some_there [] true is so = absurd (false≢true so)
+some_there [] false is so = absurd (false≢true is)
+some_there (x ∷ xs) b is so = λ e. cc
 
 pub empty : {X : Type 0} (xs : List X) (b : Bool) → b ≡ (length xs == 0) → b ≡ true → xs ≡ []
 empty xs b is so = nil_from_length xs ((Decides-eqb (length xs) 0).0 (sym is ∙ so))
+
+pub not_some : {X : Type 0} (xs : List X) (b : Bool) → b ≡ (length xs == 0) → not b ≡ false → xs ≡ []
+not_some xs true is so = empty xs true is refl
+not_some xs false is so = absurd (false≢true (sym so))
+
+pub some_left : {X : Type 0} (xs : List X) (b : Bool) → b ≡ (length xs == 0) → b ≡ false → xs ≢ []
+some_left [] b is isnt = λ e. false≢true (sym isnt ∙ is)
+some_left (x ∷ xs) b is isnt = λ e. cc
+
+-- ---- the signatures of an RRset, at their places
+
+zip_nothing : (signatures : List (List ℕ)) (rrsigs : List Rrsig) → AllZip IsRrsig signatures rrsigs → rrsigs ≡ [] → signatures ≡ []
+zip_nothing [] rrsigs zip none = refl
+zip_nothing (x ∷ signatures) [] zip none = absurd zip
+zip_nothing (x ∷ signatures) (y ∷ rrsigs) zip none = let never : ⊥ = cc in absurd never
+
+zip_something : (signatures : List (List ℕ)) (rrsigs : List Rrsig) → AllZip IsRrsig signatures rrsigs → rrsigs ≢ [] → signatures ≢ []
+zip_something [] [] zip some = λ e. some refl
+zip_something [] (y ∷ rrsigs) zip some = absurd zip
+zip_something (x ∷ signatures) rrsigs zip some = λ e. cc
+
+module _ (setting : Setting) (k : ℕ) (rrset : ReceivedRrset) where
+  -- the RDATA at a place
+  pub rdata_within : (rrsigs : List Rrsig) → AllZip IsRrsig rrset.signatures rrsigs → (i : ℕ) → i < length rrsigs
+      → i < length rrset.signatures
+  rdata_within rrsigs zip i within =
+      let sizes = zip_length IsRrsig rrset.signatures rrsigs zip in omega (arith, sizes, within)
+
+  pub read_at : (rrsigs : List Rrsig) → AllZip IsRrsig rrset.signatures rrsigs → (i : ℕ) (rrsig : Rrsig) → i < length rrsigs
+      → rrsig ≡ get_or rrsigs i rrsig → IsRrsig (get_or rrset.signatures i []) rrsig
+  read_at rrsigs zip i rrsig within at = signature_at rrset rrsigs i rrsig zip within at []
+
+  pub signature_there : (rrsigs : List Rrsig) → AllZip IsRrsig rrset.signatures rrsigs → (i : ℕ) (rrsig : Rrsig)
+      → i < length rrsigs → rrsig ≡ get_or rrsigs i rrsig → IsSignatureAt rrset (i + 1) rrsig
+  signature_there rrsigs zip i rrsig within at = record {
+    rdata = get_or rrset.signatures i [];
+    is_signature = numbered_at rrset.signatures rrset.signatures i (get_or rrset.signatures i []) refl
+        (rdata_within rrsigs zip i within) (get_or_default rrset.signatures i [] (get_or rrset.signatures i []) (rdata_within rrsigs zip i within));
+    read = read_at rrsigs zip i rrsig within at;
+  }
+
+  -- the lines of one signature more
+  pub signature_more : (rrsigs : List Rrsig) → AllZip IsRrsig rrset.signatures rrsigs → (i : ℕ) (rrsig : Rrsig)
+      → i < length rrsigs → rrsig ≡ get_or rrsigs i rrsig → (old mid new : List Line)
+      → AddsThose (AreOfNumbered (AreLinesAt setting k rrset) 1 (take i rrset.signatures)) old mid
+      → AddsThose (AreSignatureLines setting k (i + 1) rrset rrsig) mid new
+      → AddsThose (AreOfNumbered (AreLinesAt setting k rrset) 1 (take (i + 1) rrset.signatures)) old new
+  signature_more rrsigs zip i rrsig within at old mid new before one =
+      let inside = rdata_within rrsigs zip i within in
+      let rdata = get_or rrset.signatures i [] in
+      next_added (AreLinesAt setting k rrset) rrset.signatures i rdata rdata old mid new inside
+      (get_or_default rrset.signatures i [] rdata inside) before
+      (added_as (AreSignatureLines setting k (i + 1) rrset rrsig) (AreLinesAt setting k rrset (i + 1) rdata) mid new
+      (λ lines are. (rrsig, read_at rrsigs zip i rrsig within at, are)) one)
+
+  pub signatures_all : (rrsigs : List Rrsig) → AllZip IsRrsig rrset.signatures rrsigs → (n : ℕ) → length rrsigs ≤ n
+      → (old new : List Line)
+      → AddsThose (AreOfNumbered (AreLinesAt setting k rrset) 1 (take n rrset.signatures)) old new
+      → AddsThose (AreLinesOfEach setting k rrset) old new
+  signatures_all rrsigs zip n past old new =
+      let sizes = zip_length IsRrsig rrset.signatures rrsigs zip in
+      all_added (AreLinesAt setting k rrset) rrset.signatures n old new (omega (arith, sizes, past))
+
+  -- ---- the RRset
+
+  pub secured_added : (s : ℕ) (old : List Line)
+      → IsSecured setting.meaning setting.moment setting.rrsets setting.anchors k s → AddsThose (AreRrsetLines setting k rrset) old old
+  secured_added s old is = none_added (AreRrsetLines setting k rrset) old (secured (s, is))
+
+  pub unsigned_added : (rrsigs : List Rrsig) (old new : List Line) → AllZip IsRrsig rrset.signatures rrsigs → rrsigs ≡ []
+      → new ≡ old ++ unsigned_line k rrset ∷ [] → AddsThose (AreRrsetLines setting k rrset) old new
+  unsigned_added rrsigs old new zip none is =
+      those_added (AreRrsetLines setting k rrset) old (unsigned_line k rrset ∷ []) new is
+      (unsigned (zip_nothing rrset.signatures rrsigs zip none))
+
+  pub unproved_added : (rrsigs : List Rrsig) (old new : List Line) → AllZip IsRrsig rrset.signatures rrsigs → rrsigs ≢ []
+      → ¬ HasSecured setting k → AddsThose (AreLinesOfEach setting k rrset) old new
+      → AddsThose (AreRrsetLines setting k rrset) old new
+  unproved_added rrsigs old new zip some never =
+      added_as (AreLinesOfEach setting k rrset) (AreRrsetLines setting k rrset) old new
+      (λ lines are. unproved lines never (zip_something rrset.signatures rrsigs zip some) are)
+
+  pub numbered_added : (old new : List Line) → IsNumbered setting.rrsets k rrset
+      → AddsThose (AreRrsetLines setting k rrset) old new → AddsThose (AreLinesOfNumber setting k) old new
+  numbered_added old new numbered =
+      added_as (AreRrsetLines setting k rrset) (AreLinesOfNumber setting k) old new (λ lines are. of_rrset rrset lines numbered are)
+
+pub nothing_added : (setting : Setting) (k : ℕ) (old : List Line)
+    → ((rrset : ReceivedRrset) → ¬ IsNumbered setting.rrsets k rrset) → AddsThose (AreLinesOfNumber setting k) old old
+nothing_added setting k old none = none_added (AreLinesOfNumber setting k) old (no_rrset none)
