@@ -1,5 +1,6 @@
 //! The keys of the evidence, and those that a signature names.
 ghost use Rattle.std.specs.Prelude.{◌↔◌, IfOk, IsTrue, OnOk};
+ghost use Rattle.dnsv_names.specs.Name.{SameName};
 ghost use Rattle.dnsv_verifier.specs.Asking.{AddsJust, AreKeysOf, IsKeyOf};
 ghost use Rattle.dnsv_explain.specs.faults.KeySearch.{HasKeyAt, HasNamed, HasNamedZoneKey, IsNamedTo};
 ghost use Rattle.dnsv_explain.specs.faults.Keys.{IsZoneKey};
@@ -60,6 +61,13 @@ pub fn is_named(key: &KeyRecord<'_>, rrsig: &Rrsig) -> bool
     key.key_tag().0 == rrsig.key_tag.0
         && key.dnskey().algorithm.0 == rrsig.algorithm.0
         && *key.owner() == rrsig.signer
+}
+
+/// Whether the names are equal, without regard to case (RFC 4343).
+pub fn are_equal(a: &Name, b: &Name) -> bool
+    ensures { IsTrue result ↔ SameName a.now b.now }
+{
+    *a == *b
 }
 
 /// Whether a zone may sign with the key (RFC 4034 2.1.1, 2.1.2).

@@ -1,8 +1,8 @@
 //! The zones whose keys are in question.
-ghost use Rattle.std.specs.Prelude.{◌≡◌, ◌↔◌, IsTrue};
-ghost use Rattle.dnsv_names.specs.Name.{SameName};
+ghost use Rattle.std.specs.Prelude.{◌↔◌, IsTrue};
 ghost use Rattle.dnsv_explain.specs.faults.KeyLines.{AsksKeysOf, IsInQuestion, IsOfDnskeys, IsSignerAsked};
 
+use crate::faults::keys::are_equal;
 use crate::line::Line;
 use crate::line::fault::Reason;
 use crate::line::fault::signature::{ShownSignature, SignatureFault, WhySignature};
@@ -61,11 +61,4 @@ fn is_of_dnskeys(rtype: RecordType, owner: &Name, zone: &Name) -> bool
     ensures { IsTrue result ↔ IsOfDnskeys rtype.0 owner.now zone.now }
 {
     rtype == RecordType::DNSKEY && are_equal(owner, zone)
-}
-
-/// Whether the names are equal, without regard to case (RFC 4343).
-fn are_equal(a: &Name, b: &Name) -> bool
-    ensures { IsTrue result ↔ SameName a.now b.now }
-{
-    a == b
 }

@@ -9,7 +9,7 @@ ghost use Rattle.dnsv_explain.specs.faults.KeySearch.{HasNamed, HasNamedZoneKey,
 ghost use Rattle.dnsv_explain.specs.faults.SignatureFaults.{AreFaultsOf, expired, not_yet};
 
 use crate::evidence::Evidence;
-use crate::faults::keys::{has_named, has_named_zone_key};
+use crate::faults::keys::{are_equal, has_named, has_named_zone_key};
 use crate::interval::{HALF, seconds_left, seconds_since};
 use crate::line::fault::signature::{SignatureTimes, WhySignature};
 use dnsv_canonical::{Rrset, is_expanded, signed_label_count};
@@ -53,9 +53,10 @@ fn those(alloc: Global, words: &[(WhySignature, bool)]) -> Result<Vec<WhySignatu
 {
     let mut faults = Vec::new(alloc);
     for (why, is_so) in words {
-        if *is_so {
-            faults.push(*why)?;
+        if !*is_so {
+            continue;
         }
+        faults.push(*why)?;
     }
     Ok(faults)
 }
@@ -80,8 +81,8 @@ fn may_sign(signer: &Name, rtype: RecordType, owner: &Name) -> bool
     ensures { IsTrue result ↔ MaySign signer.now rtype.0 owner.now }
 {
     match rtype {
-        RecordType::DNSKEY => *owner == *signer,
-        RecordType::DS => *owner != *signer && owner.is_at_or_below(signer),
+        RecordType::DNSKEY => are_equal(owner, signer),
+        RecordType::DS => !are_equal(owner, signer) && owner.is_at_or_below(signer),
         _ => owner.is_at_or_below(signer),
     }
 }

@@ -2,8 +2,8 @@ use Rattle.dnsv_explain.specs.Explained.{setting_in}
 use Rattle.dnsv_explain.proofs.lemmas.faults.SignatureLemmas.{signature_more, signature_there, signatures_all}
 use Rattle.dnsv_explain.proofs.faults.add_signatures.Goals as goal
 
-pub add_signature-requires-its : goal.add_signature-requires-its
-add_signature-requires-its c =
+pub add_signature-requires-clause-its : goal.add_signature-requires-clause-its
+add_signature-requires-clause-its c =
     signature_there (setting_in c.args.evidence.now) c.args.number c.args.rrset.now c.signatures-rrsig-items.result.now
     c.signatures-rrsig-items.ensures c.loop-place.place c.rrsig-item.result c.loop-place-test.true c.rrsig-item.is
 

@@ -1,7 +1,8 @@
 -- Lists of what is so, and loops that make them.
 use Rattle.std.proofs.Common.{◌≡◌, ◌<◌, ◌≤◌, ◌+◌, ◌↔◌, ℕ, Bool, true, false, cond, inl, inr, List, [], ◌∷◌, ◌++◌, length, map, filter, take, get_or, refl, sym, ap, ◌∙◌, subst, arith, ⊎_elim, append_assoc, IsTrue}
 use Rattle.std.proofs.lemmas.Bool.{false≢true}
-use Rattle.std.proofs.lemmas.List.{append-nil, take_all, take_more, length-take-le}
+use Rattle.std.proofs.lemmas.List.{append-nil, length-take-le, map-append, take_all, take_more}
+use Rattle.std.proofs.lemmas.List.Elements.{filter-append}
 use Rattle.std.specs.List.{AllByRecursion}
 use Rattle.dnsv_explain.specs.Saying.{Adds}
 use Rattle.dnsv_explain.specs.faults.Listing.{AddsThose, AreOfNumbered, AreParted, AreThose}
@@ -107,3 +108,45 @@ module _ {X : Type 0} (Are : ℕ → X → List Line → Type 0) where
       → AddsThose (AreOfNumbered Are 1 (take n xs)) old new → AddsThose (AreOfNumbered Are 1 xs) old new
   all_added xs n old new past =
       added_as (AreOfNumbered Are 1 (take n xs)) (AreOfNumbered Are 1 xs) old new (λ lines. numbered_all Are xs n lines past)
+
+-- ---- a loop that takes those of pairs whose test is true
+
+module _ {X : Type 0} (pairs : List (X × Bool)) (i : ℕ) (d each : X × Bool) (within : i < length pairs) (at : each ≡ get_or pairs i d) where
+  abbrev taken : List (X × Bool) → List X
+  taken some = map (λ (p : X × Bool). p.0) (filter (λ (p : X × Bool). p.1) some)
+
+  one_longer : filter (λ (p : X × Bool). p.1) (take (i + 1) pairs)
+      ≡ filter (λ (p : X × Bool). p.1) (take i pairs) ++ cond each.1 (each ∷ []) []
+  one_longer =
+      let longer : take (i + 1) pairs ≡ take i pairs ++ each ∷ [] =
+      take_more pairs i d within ∙ ap (λ p. take i pairs ++ p ∷ []) (sym at) in
+      ap (filter (λ (p : X × Bool). p.1)) longer ∙ filter-append (λ (p : X × Bool). p.1) (take i pairs) (each ∷ [])
+
+  pub one_taken : (xs new : List X) → xs ≡ taken (take i pairs) → each.1 ≡ true → new ≡ xs ++ each.0 ∷ [] → new ≡ taken (take (i + 1) pairs)
+  one_taken xs new so_far is pushed =
+      let before = filter (λ (p : X × Bool). p.1) (take i pairs) in
+      let After : Bool → List (X × Bool) = λ b. before ++ cond b (each ∷ []) [] in
+      let all : filter (λ (p : X × Bool). p.1) (take (i + 1) pairs) ≡ before ++ each ∷ [] = one_longer ∙ ap After is in
+      pushed ∙ ap (λ front. front ++ each.0 ∷ []) so_far ∙ sym (map-append (λ (p : X × Bool). p.0) before (each ∷ []))
+      ∙ ap (map (λ (p : X × Bool). p.0)) (sym all)
+
+  pub none_taken : (xs : List X) → xs ≡ taken (take i pairs) → each.1 ≡ false → xs ≡ taken (take (i + 1) pairs)
+  none_taken xs so_far isnt =
+      let before = filter (λ (p : X × Bool). p.1) (take i pairs) in
+      let After : Bool → List (X × Bool) = λ b. before ++ cond b (each ∷ []) [] in
+      let all : filter (λ (p : X × Bool). p.1) (take (i + 1) pairs) ≡ before ++ [] = one_longer ∙ ap After isnt in
+      so_far ∙ ap (map (λ (p : X × Bool). p.0)) (sym (all ∙ append-nil before))
+
+-- ---- a loop that adds a line for each
+
+module _ {X : Type 0} (f : X → Line) (xs : List X) where
+  pub line_more : (i : ℕ) (d x : X) (old mid new : List Line) → i < length xs → x ≡ get_or xs i d
+      → mid ≡ old ++ map f (take i xs) → new ≡ mid ++ f x ∷ [] → new ≡ old ++ map f (take (i + 1) xs)
+  line_more i d x old mid new within at so_far pushed =
+      let longer : take (i + 1) xs ≡ take i xs ++ x ∷ [] =
+      take_more xs i d within ∙ ap (λ y. take i xs ++ y ∷ []) (sym at) in
+      pushed ∙ ap (λ front. front ++ f x ∷ []) so_far ∙ append_assoc old (map f (take i xs)) (f x ∷ [])
+      ∙ ap (λ rest. old ++ rest) (sym (map-append f (take i xs) (x ∷ [])) ∙ ap (map f) (sym longer))
+
+  pub line_all : (n : ℕ) (old new : List Line) → length xs ≤ n → new ≡ old ++ map f (take n xs) → new ≡ old ++ map f xs
+  line_all n old new past is = is ∙ ap (λ each. old ++ map f each) (take_all n xs past)

@@ -1,9 +1,9 @@
 -- The lines of signatures that prove nothing.
-use Rattle.std.proofs.Common.{◌≡◌, ◌≢◌, ◌↔◌, ◌++◌, ◌==◌, ◌<◌, ◌≤◌, ◌+◌, ℕ, Bool, true, false, List, [], ◌∷◌, arith, get_or, length, map, refl, sym, take, ◌∙◌, IsTrue, not}
+use Rattle.std.proofs.Common.{◌≡◌, ◌≢◌, ◌↔◌, ◌++◌, ◌==◌, ◌<◌, ◌≤◌, ◌+◌, ℕ, Bool, true, false, List, [], ◌∷◌, arith, get_or, length, map, refl, sym, take, ◌∙◌, IsTrue}
 use Rattle.std.proofs.lemmas.Bool.{false≢true}
 use Rattle.std.proofs.lemmas.Bool.Decides.{Decides-eqb}
 use Rattle.std.proofs.lemmas.List.{get_or_default, nil_from_length}
-use Rattle.std.specs.List.{AllZip}
+use Rattle.std.specs.List.{AllZip, Contains}
 use Rattle.dnsv_records.specs.Rrsig.{IsRrsig}
 use Rattle.dnsv_records.specs.declared.rrsig.Rrsig.{Rrsig}
 use Rattle.dnsv_canonical.specs.Rrsets.{IsNumbered, ReceivedRrset}
@@ -11,6 +11,7 @@ use Rattle.dnsv_verifier.specs.Admissible.{DnskeyRecord}
 use Rattle.dnsv_verifier.specs.Asking.{AreKeysOf}
 use Rattle.dnsv_chain.proofs.SigningLemmas.{signature_at}
 use Rattle.dnsv_chain.proofs.ZipLemmas.{zip_length}
+use Rattle.dnsv_chain.specs.Trust.{AreSecured}
 use Rattle.dnsv_chain.specs.Trusted.{IsGoodByTrust, IsSecured}
 use Rattle.dnsv_explain.specs.Explained.{Setting}
 use Rattle.dnsv_explain.specs.derivations.SignerSearch.{IsSignatureAt}
@@ -27,6 +28,7 @@ use Rattle.dnsv_explain.specs.faults.SignatureFaults.{AreFaultsOf}
 use Rattle.dnsv_explain.specs.declared.faults.remark.Remark.{Remark}
 use Rattle.dnsv_explain.specs.declared.line.Line.{Line}
 use Rattle.dnsv_explain.specs.declared.line.fault.signature.WhySignature.{WhySignature}
+use Rattle.dnsv_explain.proofs.lemmas.AnswerLemmas.{none_there}
 use Rattle.dnsv_explain.proofs.lemmas.NumberedLemmas.{numbered_at}
 use Rattle.dnsv_explain.proofs.lemmas.faults.KeyLemmas.{keys_same, named_same}
 use Rattle.dnsv_explain.proofs.lemmas.faults.ListingLemmas.{added_as, all_added, next_added, none_added, those_added}
@@ -79,17 +81,19 @@ module _ (setting : Setting) (keys : List DnskeyRecord) (all : AreKeysOf setting
 
 -- ---- lists that may be empty
 
-pub some_there : {X : Type 0} (xs : List X) (b : Bool) → b ≡ (length xs == 0) → not b ≡ true → xs ≢ []
-some_there [] true is so = absurd (false≢true so)
-some_there [] false is so = absurd (false≢true is)
-some_there (x ∷ xs) b is so = λ e. cc
+pub member : (xs : List ℕ) (b : Bool) → b ≡ (length xs == 0) → b ≡ false → (s : ℕ) × Contains xs s
+member [] b is isnt = absurd (false≢true (sym isnt ∙ is))
+member (x ∷ xs) b is isnt = (x, (0, omega arith, refl))
 
 pub empty : {X : Type 0} (xs : List X) (b : Bool) → b ≡ (length xs == 0) → b ≡ true → xs ≡ []
 empty xs b is so = nil_from_length xs ((Decides-eqb (length xs) 0).0 (sym is ∙ so))
 
-pub not_some : {X : Type 0} (xs : List X) (b : Bool) → b ≡ (length xs == 0) → not b ≡ false → xs ≡ []
-not_some xs true is so = empty xs true is refl
-not_some xs false is so = absurd (false≢true (sym so))
+-- of an RRset without good signatures none is
+pub unsecured_where : (setting : Setting) (k : ℕ) (numbers : List ℕ)
+    → AreSecured setting.meaning setting.moment setting.rrsets setting.anchors k numbers → (b : Bool)
+    → b ≡ (length numbers == 0) → b ≡ true → ¬ HasSecured setting k
+unsecured_where setting k numbers are b is so = λ has.
+    none_there numbers b is so has.0 ((are.members has.0).1 has.1)
 
 pub some_left : {X : Type 0} (xs : List X) (b : Bool) → b ≡ (length xs == 0) → b ≡ false → xs ≢ []
 some_left [] b is isnt = λ e. false≢true (sym isnt ∙ is)

@@ -40,14 +40,14 @@ iterations_text nsec3.Unusable = []
 abbrev pub unusable_nsec3_text : UnusableNsec3 → List ℕ
 unusable_nsec3_text fault =
     nsec3_word fault.why ++ codes " " ++ lower_text fault.owner ++ codes " 50 rrset " ++ decimal fault.number.rrset
-    ++ codes " record " ++ decimal fault.number.place ++ iterations_text fault.why
+    ++ (codes " record " ++ decimal fault.number.place ++ iterations_text fault.why)
 
 -- the records of NSEC of the zone, or those of NSEC3 with the parameters
 abbrev pub chain_text : Labels → Option Nsec3Parameters → List ℕ
 chain_text zone None = codes "nsec " ++ lower_text zone
 chain_text zone (Some parameters) =
-    codes "nsec3 " ++ lower_text zone ++ codes " iterations " ++ decimal parameters.iterations.0
-    ++ codes " salt " ++ salt_text parameters.salt
+    codes "nsec3 " ++ lower_text zone
+    ++ (codes " iterations " ++ decimal parameters.iterations.0 ++ codes " salt " ++ salt_text parameters.salt)
 
 abbrev pub source_text : Source → List ℕ
 source_text source = chain_text source.zone source.parameters

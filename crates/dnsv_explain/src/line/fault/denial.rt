@@ -1,7 +1,7 @@
 //! Lines that say why nothing answers a question, and why denials don't.
 ghost use Rattle.std.specs.Prelude.{◌≡◌, Some};
 ghost use Rattle.dnsv_explain.specs.Places.{source_rrset};
-ghost use Rattle.dnsv_explain.specs.line.faults.Denial.{denial_unproved_text, dname_text, missing_answer_text, nsec3_word, source_fault_text, source_text, unusable_nsec3_text};
+ghost use Rattle.dnsv_explain.specs.line.faults.Denial.{denial_unproved_text, dname_text, iterations_text, missing_answer_text, nsec3_word, source_fault_text, source_text, unusable_nsec3_text};
 ghost use Rattle.dnsv_explain.specs.line.faults.ExtendedErrors.{nsec3_error};
 
 use crate::line::denial::Role;
@@ -84,8 +84,21 @@ impl fmt::Display for UnusableNsec3 {
         let why = self.why;
         let owner = self.owner.to_lower();
         let (rrset, place) = (self.number.rrset, self.number.place);
-        write!(f, "{why} {owner} 50 rrset {rrset} record {place}")?;
-        match self.why {
+        let iterations = IterationsField(self.why);
+        write!(f, "{why} {owner} 50 rrset {rrset}")?;
+        write!(f, " record {place}{iterations}")
+    }
+}
+
+/// How many iterations, where these are too many.
+#[derive(Clone, Copy)]
+struct IterationsField(WhyNsec3);
+
+impl fmt::Display for IterationsField {
+    ghost output = { λ field. Some (iterations_text field.0) };
+
+    fn fmt<W: fmt::Write>(&self, f: &mut fmt::Formatter<W>) -> fmt::Result {
+        match self.0 {
             WhyNsec3::Iterations(Iterations(iterations)) => {
                 write!(f, " iterations {iterations}")
             }
@@ -111,9 +124,10 @@ impl fmt::Display for Source {
             Some(parameters) => {
                 let iterations = parameters.iterations.0;
                 let salt = SaltText {
-                    salt: parameters.salt.as_slice(),
+                    salt: &parameters.salt,
                 };
-                write!(f, "nsec3 {zone} iterations {iterations} salt {salt}")
+                write!(f, "nsec3 {zone}")?;
+                write!(f, " iterations {iterations} salt {salt}")
             }
             None => write!(f, "nsec {zone}"),
         }

@@ -1,4 +1,4 @@
-use Rattle.std.proofs.Common.{ℕ, Some, None, rules, subst}
+use Rattle.std.proofs.Common.{Some, rules, subst}
 use Rattle.dnsv_canonical.specs.SignedData.{IsSignedData}
 use Rattle.dnsv_verifier.specs.Admissible.{IsVerifiable}
 use Rattle.dnsv_verifier.specs.Table.{TableContents, table_answer}
@@ -6,27 +6,8 @@ use Rattle.dnsv_explain.specs.Explained.{setting_in}
 use Rattle.dnsv_explain.specs.faults.AnswerSearch.{IsAnsweredBySome, IsBestOf}
 use Rattle.dnsv_explain.specs.faults.KeySearch.{IsNamedIn}
 use Rattle.dnsv_explain.specs.faults.SignatureFaults.{IsAnswered}
-use Rattle.dnsv_explain.proofs.lemmas.AnswerLemmas.{not_so}
-use Rattle.dnsv_explain.proofs.lemmas.faults.VerifierLemmas.{answers_over, best_same, never_signed, not_verifiable}
+use Rattle.dnsv_explain.proofs.lemmas.faults.VerifierLemmas.{answers_over, best_same}
 use Rattle.dnsv_explain.proofs.faults.answers.best_answer.Goals as goal
-
-pub returns-then-not-is_verifiable : goal.returns-then-not-is_verifiable
-returns-then-not-is_verifiable c =
-    let rrset = c.args.rrset.now in
-    let rrsig = c.args.rrsig.now in
-    let Never : ℕ → Type 0 = λ m. ¬ IsVerifiable m rrset rrsig in
-    not_verifiable (setting_in c.args.evidence.now) c.args.keys.now rrset rrsig
-    (subst Never c.moment.ensures
-    (not_so c.is_verifiable.result (IsVerifiable c.moment.result rrset rrsig) c.is_verifiable.ensures c.if-not-is_verifiable.true))
-
-pub returns-in_default : goal.returns-in_default
-returns-in_default c =
-    let setting = setting_in c.args.evidence.now in
-    let rrset = c.args.rrset.now in
-    let rrsig = c.args.rrsig.now in
-    let verifiable : IsVerifiable setting.moment rrset rrsig = search rules in
-    let none : IsSignedData rrset.owner rrset.rtype rrset.rdata rrsig None = search rules in
-    absurd (never_signed setting c.args.keys.now rrset rrsig verifiable none)
 
 pub returns : goal.returns
 returns c =

@@ -2,7 +2,7 @@ use Rattle.std.proofs.Common.{take}
 use Rattle.std.specs.Fmt.{HasWritten, IsPlainFormatter}
 use Rattle.std.specs.List.{flat_map}
 use Rattle.dnsv_explain.specs.line.faults.Salt.{octet_text}
-use Rattle.dnsv_explain.proofs.line.fault.denial.salt.OctetsTextDisplay.fmt.Given as goal
+use Rattle.dnsv_explain.proofs.line.fault.denial.salt.DigitsTextDisplay.fmt.Given as goal
 
 -- the octets so far
 abbrev pub invariant-loop-octet : goal.invariant-loop-octet
