@@ -1,5 +1,5 @@
 -- The lines of signatures that prove nothing.
-use Rattle.std.proofs.Common.{◌≡◌, ◌≢◌, ◌↔◌, ◌++◌, ◌==◌, ◌<◌, ◌≤◌, ◌+◌, ℕ, Bool, true, false, List, [], ◌∷◌, arith, get_or, length, map, refl, sym, take, ◌∙◌, IsTrue}
+use Rattle.std.proofs.Common.{◌≡◌, ◌≢◌, ◌↔◌, ◌++◌, ◌==◌, ◌<◌, ◌≤◌, ◌+◌, ℕ, Bool, true, false, List, [], ◌∷◌, arith, get_or, length, map, refl, sym, ap, take, ◌∙◌, IsTrue}
 use Rattle.std.proofs.lemmas.Bool.{false≢true}
 use Rattle.std.proofs.lemmas.Bool.Decides.{Decides-eqb}
 use Rattle.std.proofs.lemmas.List.{get_or_default, nil_from_length}
@@ -62,12 +62,13 @@ module _ (setting : Setting) (keys : List DnskeyRecord) (all : AreKeysOf setting
       faults_same (IsNamedIn keys rrsig) (IsNamedBy setting.rrsets rrsig) (IsTrue known) (HasKeys setting.rrsets rrsig.signer)
       (named_same setting.rrsets keys all rrsig) (λ is. same.0 (test.0 is), λ has. test.1 (same.1 has)) setting rrset rrsig faults
 
-  pub faults_added : (k s : ℕ) (faults : List WhySignature) (old new : List Line)
-      → AreFaultsOf (IsNamedIn keys rrsig) (IsTrue known) setting rrset rrsig faults → faults ≢ []
-      → new ≡ old ++ map (fault_line (shown_of k s rrset rrsig)) faults
+  pub faults_added : (k s : ℕ) (faults told : List WhySignature) (old new : List Line)
+      → AreFaultsOf (IsNamedIn keys rrsig) (IsTrue known) setting rrset rrsig faults → faults ≢ [] → told ≡ faults
+      → new ≡ old ++ map (fault_line (shown_of k s rrset rrsig)) told
       → AddsThose (AreSignatureLines setting k s rrset rrsig) old new
-  faults_added k s faults old new are some is =
-      those_added (AreSignatureLines setting k s rrset rrsig) old (map (fault_line (shown_of k s rrset rrsig)) faults) new is
+  faults_added k s faults told old new are some same is =
+      those_added (AreSignatureLines setting k s rrset rrsig) old (map (fault_line (shown_of k s rrset rrsig)) faults) new
+      (is ∙ ap (λ each. old ++ map (fault_line (shown_of k s rrset rrsig)) each) same)
       (faulty faults (named_faults faults are) some)
 
   pub remark_added : (k s : ℕ) (remark : Remark) (old new : List Line)

@@ -36,7 +36,7 @@ first_or_rest : {X : Type 0} (first : X) (rest : List X) (x : X) → Contains (f
 first_or_rest first rest x there = ⊎_elim
     (λ (one : Contains (first ∷ []) x). ⊎_elim
     (λ (none : Contains [] x). absurd (none_in [] x refl none))
-    (λ (same : x ≡ first). inl same)
+    (λ (same : first ≡ x). inl (sym same))
     (Contains-push_cases [] first x one))
     (λ (other : Contains rest x). inr other)
     (Contains-append_cases (first ∷ []) rest x there)

@@ -15,9 +15,9 @@ remark_of-requires-clause-unsecured c =
 pub returns-then-not-is_empty : goal.returns-then-not-is_empty
 returns-then-not-is_empty c =
     faults_added (setting_in c.args.evidence.now) c.args.keys.now c.requires.keys c.args.rrset.now c.args.rrsig.now
-    c.has_keys-known.result c.has_keys-known.ensures c.args.number.rrset c.args.number.signature c.in_ok-faults.faults.items _ _
+    c.has_keys-known.result c.has_keys-known.ensures c.args.number.rrset c.args.number.signature c.in_ok-faults.faults.items _ _ _
     c.in_ok-faults.ensures (some_left c.in_ok-faults.faults.items c.is_empty.result (c.is_empty.ensures ∙ ap (λ n. n == 0) c.in_ok-faults.faults.ok.0) c.if-not-is_empty.true)
-    c.in_ok-add_faults.ensures
+    c.deref.ensures.value c.in_ok-add_faults.ensures
 
 pub returns : goal.returns
 returns c =
