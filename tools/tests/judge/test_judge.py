@@ -51,15 +51,15 @@ class Lines(Judging):
 
     def test_tables(self):
         status, lines, _ = self.noon("--tsv", NOSUCH, WWW, "nosuch.bind.test/A")
-        head = "capture\tmoment\tname\ttype\tstatus\tverdict\tevidence\tuntil"
+        head = "capture\tmoment\tname\ttype\tstatus\tverdict\tevidence\tuntil\treason\tede"
         row = (f"{NOSUCH}\t{NOON}\tnosuch.bind.test.\tA\t0\tSecureNoName\trecord nodatalias.bind.test. NSEC; record bind.test. NSEC"
-               "\t1803859200")
-        self.assertEqual((status, lines), (5, [head, row, f"{WWW}\t{NOON}\tnosuch.bind.test.\tA\t5\tBogus\t\t"]))
+               "\t1803859200\t\t")
+        self.assertEqual((status, lines), (5, [head, row, f"{WWW}\t{NOON}\tnosuch.bind.test.\tA\t5\tBogus\t\t\t\t"]))
         _, lines, _ = self.noon("--jsonl", WWW, "www.bind.test/A")
         carried = {"rrset": 6, "signature": 1, "signer": "bind.test.", "key": 11133}
         self.assertEqual(json.loads(lines[0]), {"capture": str(WWW), "moment": int(NOON), "name": "www.bind.test.", "type": "A",
                                                 "status": 0, "verdict": "SecureAnswer", "evidence": carried,
-                                                "until": 1803859200})
+                                                "until": 1803859200, "reason": None, "ede": None})
 
     def test_several_at_once_give_the_same(self):
         for number in range(7):
@@ -102,7 +102,7 @@ class Words(Judging):
         for words, count in (((WWW, "--questions", questions), len(asked)), ((self.room, "www.bind.test/A"), len(BAD_NAMES))):
             status, lines, errors = self.noon("--tsv", *words)
             self.assertEqual((status in (0, 5, 7), errors, len(lines)), (True, "", 1 + count))
-            self.assertTrue(all(line.count("\t") == 7 and line.replace("\t", "").isprintable() for line in lines))
+            self.assertTrue(all(line.count("\t") == 9 and line.replace("\t", "").isprintable() for line in lines))
         told = {os.fsencode(json.loads(line)["capture"]) for line in self.noon("--jsonl", self.room, "www.bind.test/A")[1]}
         self.assertEqual(told, {os.fsencode(self.room / f"{name}.cap") for name in BAD_NAMES})
         self.assertFalse((self.room / "X").exists() or os.path.exists("X"))
@@ -134,7 +134,7 @@ class Ends(Judging):
         path.symlink_to(self.room / "nowhere")
         status, lines, _ = self.noon("--tsv", path, WWW, "www.bind.test/A")
         self.assertEqual((status, len(lines)), (1, 3))
-        self.assertEqual(lines[1], f"{path}\t{NOON}\twww.bind.test.\tA\t1\tfault\t811 capture\t")
+        self.assertEqual(lines[1], f"{path}\t{NOON}\twww.bind.test.\tA\t1\tfault\t811 capture\t\t\t")
 
     def test_what_is_not_there(self):
         words = ("--at", NOON, WWW, "www.bind.test/A")
