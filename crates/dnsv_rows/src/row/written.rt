@@ -1,6 +1,7 @@
 //! How rows write octets and numbers.
 
 use crate::row::RowError;
+use hex::FromHexError;
 use std::alloc::Global;
 use std::collections::BTreeMap;
 
@@ -56,6 +57,7 @@ fn part_of(
     }
     match hex::decode(alloc, text) {
         Ok(octets) => Ok(octets),
+        Err(FromHexError::OutOfMemory) => Err(RowError::OutOfMemory),
         Err(_) => Err(RowError::Malformed),
     }
 }
