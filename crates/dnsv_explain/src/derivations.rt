@@ -3,7 +3,7 @@ ghost use Rattle.std.specs.Prelude.{◌≡◌, ◌↔◌, ℕ, IfOk, IsTrue, Mat
 ghost use Rattle.dnsv_chain.specs.Trusted.{IsSecured};
 ghost use Rattle.dnsv_verifier.specs.Table.{table_answer};
 ghost use Rattle.dnsv_explain.specs.Explained.{setting_in};
-ghost use Rattle.dnsv_explain.specs.derivations.Climb.{Climbs, IsClimbed};
+ghost use Rattle.dnsv_explain.specs.derivations.Climb.{Climbs};
 ghost use Rattle.dnsv_explain.specs.derivations.Derivations.{IsDerivation, IsLowestSecured, Subject};
 ghost use Rattle.dnsv_explain.specs.Following.{IsSaidTrusted, IsSignatureSaid};
 ghost use Rattle.dnsv_explain.specs.derivations.Ways.{IsTrustedSet};
@@ -70,26 +70,13 @@ pub fn derive_keys(
     requires { IsTrustedSet (setting_in evidence.now) number }
     ensures { IfOk result (λ lines. IsDerivation (setting_in evidence.now) before.now (Subject.keys number) lines.items) }
 {
-    let mut lines = climb(alloc, evidence, before, number)?;
-    lines.reverse();
-    Ok(lines)
-}
-
-/// The lines that derive that the DNSKEY RRset with the number is trusted, the last one first.
-fn climb(
-    alloc: Global,
-    evidence: &Evidence<'_>,
-    before: &[Line],
-    number: usize,
-) -> Result<Vec<Line>, AllocError>
-    requires { IsTrustedSet (setting_in evidence.now) number }
-    ensures { IfOk result (λ lines. IsClimbed (setting_in evidence.now) before.now number lines.items) }
-{
+    // The last line first.
     let mut lines = Vec::new(alloc);
     let mut next = Some(number);
     while let Some(keys) = next {
         next = step(alloc, evidence, before, &mut lines, keys)?;
     }
+    lines.reverse();
     Ok(lines)
 }
 

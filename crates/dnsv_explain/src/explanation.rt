@@ -140,6 +140,3 @@ fn add_links(
     }
     Ok(())
 }
-
-#[cfg(test)]
-mod tests;

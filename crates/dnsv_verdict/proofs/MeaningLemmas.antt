@@ -15,6 +15,7 @@ use Rattle.dnsv_denial.proofs.meaning.ProofMeaningLemmas.{first_no_data_means, f
 use Rattle.dnsv_denial.specs.proving.FirstProof.{CanProveNoCloser}
 use Rattle.dnsv_denial.specs.unsigned_cuts.Cuts.{HasUnsignedCut, IsUnsignedCut}
 use Rattle.dnsv_denial.specs.words.EvidenceWords.{Chain, evidence_said}
+use Rattle.dnsv_verdict.proofs.SearchLemmas.OptOutLemmas.{such_too}
 use Rattle.dnsv_verdict.specs.Insecure.{IsOptOutWildcardCut}
 use Rattle.dnsv_verdict.specs.Meaning.{IsOwnOrFromWildcard, IsShownFromWildcard, IsTrueOfZones, MeansOptOutWildcardCut}
 use Rattle.dnsv_verdict.specs.Secure.{IsSecureSet}
@@ -34,18 +35,9 @@ module _ (S : ℕ → ℕ → Type 0) (rrsets : List ReceivedRrset) (name : Labe
       }
 
   answer_means : (t k s : ℕ) → IsSecureSet S rrsets name t k s → IsOwnOrFromWildcard S rrsets name k s
-  answer_means t k s at = record {
-    rrset = at.rrset;
-    is_rrset = at.is_rrset;
-    owner = at.owner;
-    rdata = at.rdata;
-    is_signature = at.is_signature;
-    rrsig = at.rrsig;
-    read = at.read;
-    secured = at.secured;
-    such = ⊎_elim (λ (own : ¬ IsExpanded at.rrset.owner at.rrsig). inl own)
-        (λ (can : CanProveNoCloser S rrsets name at.rrsig.labels at.rrsig.signer). inr (from_wildcard at.rrsig can)) at.such.1;
-  }
+  answer_means t k s at = such_too S rrsets name _ _ k s at (⊎_elim
+      (λ (own : ¬ IsExpanded at.rrset.owner at.rrsig). inl own)
+      (λ (can : CanProveNoCloser S rrsets name at.rrsig.labels at.rrsig.signer). inr (from_wildcard at.rrsig can)) at.such.1)
 
   opt_out_means : (t : ℕ) (cut : Labels) → IsOptOutWildcardCut S rrsets name t cut → MeansOptOutWildcardCut S rrsets name t cut
   opt_out_means t cut is =

@@ -3,7 +3,7 @@ ghost use Rattle.std.specs.Prelude.{◌≡◌, ◌≢◌, ℕ, MatchOption};
 ghost use Rattle.dnsv_zones.specs.zones.TypeNumbers.{cname};
 ghost use Rattle.dnsv_chain.specs.Trust.{SecuredIn};
 ghost use Rattle.dnsv_verdict.specs.Insecure.{IsOptOutWildcardCut, IsOptOutWildcardSet};
-ghost use Rattle.dnsv_verdict.specs.Search.{IsOptOutSetOf};
+ghost use Rattle.dnsv_verdict.specs.Search.{IsAtName, IsOptOutSetOf};
 ghost use Rattle.dnsv_verdict.specs.Secure.{IsFirstSuch, IsSecureSet};
 ghost use Rattle.dnsv_verdict.specs.Settled.{HasAlias, IsSettled, IsSettledAs};
 
@@ -14,6 +14,15 @@ use dnsv_chain::Trust;
 use dnsv_denial::View;
 use dnsv_names::{Name, RecordType};
 use dnsv_records::Rrsig;
+
+/// A name, with the evidence, its trust, and what they show of the name.
+#[derive(Drop)]
+struct AtName<'e, 'v, 'c, 't> {
+    capture: &'e Capture,
+    trust: &'v Trust,
+    name: &'v Name,
+    view: &'v View<'c, 't>,
+}
 
 /// What the evidence settles: the first that holds of a secure answer, a secure alias, no such name, no data, and a
 /// name that may be unsigned. `None` where it settles nothing.
@@ -28,13 +37,19 @@ pub fn settled(
     ensures { MatchOption result (¬ IsSettled (SecuredIn trust.now) capture.now.rrsets name.now rtype.0)
         (IsSettledAs (SecuredIn trust.now) capture.now.rrsets name.now rtype.0) }
 {
-    if let Some(answer) = secure_set(capture, trust, name, rtype, view) {
+    let at = AtName {
+        capture,
+        trust,
+        name,
+        view,
+    };
+    if let Some(answer) = secure_set(&at, rtype) {
         return Some(Verdict::SecureAnswer {
             rrset: answer.rrset,
             signature: answer.signature,
         });
     }
-    if let Some(alias) = secure_alias(capture, trust, name, rtype, view) {
+    if let Some(alias) = secure_alias(&at, rtype) {
         return Some(Verdict::SecureAlias {
             rrset: alias.rrset,
             signature: alias.signature,
@@ -49,46 +64,37 @@ pub fn settled(
     if let Some(cut) = view.unsigned_cut() {
         return Some(Verdict::Insecure(cut));
     }
-    if let Some(cut) = opt_out_wildcard_cut(capture, trust, name, rtype, view) {
+    if let Some(cut) = opt_out_wildcard_cut(&at, rtype) {
         return Some(Verdict::Insecure(cut));
     }
     None
 }
 
 /// The first RRset of the name and type that holds for the name, and the first signature by which it does.
-fn secure_set<'a>(
-    capture: &'a Capture,
-    trust: &Trust,
-    name: &Name,
-    rtype: RecordType,
-    view: &View<'_, '_>,
-) -> Option<Found<'a>>
-    requires { view.now ≡ record { rrsets = capture.now.rrsets; trust = trust.now; name = name.now } }
+fn secure_set<'e>(at: &AtName<'e, '_, '_, '_>, rtype: RecordType) -> Option<Found<'e>>
+    requires { IsAtName at.now }
     ensures { MatchOption result
-        ((k s : ℕ) → ¬ IsSecureSet (SecuredIn trust.now) capture.now.rrsets name.now rtype.0 k s)
-        (λ found. (is : IsFirstSuch (IsSecureSet (SecuredIn trust.now) capture.now.rrsets name.now rtype.0)
-        found.rrset found.signature) × (is.such.rrsig ≡ found.rrsig.now)) }
+        ((k s : ℕ) → ¬ IsSecureSet (SecuredIn at.now.trust.now) at.now.capture.now.rrsets at.now.name.now rtype.0 k s)
+        (λ found. (is : IsFirstSuch (IsSecureSet (SecuredIn at.now.trust.now) at.now.capture.now.rrsets at.now.name.now
+        rtype.0) found.rrset found.signature) × (is.such.rrsig ≡ found.rrsig.now)) }
 {
-    first_such(capture, trust, name, rtype, &HoldsForName { view, rtype })
+    let view = at.view;
+    let test = HoldsForName { view, rtype };
+    first_such(at.capture, at.trust, at.name, rtype, &test)
 }
 
 /// The same for CNAME, where another type is asked.
-fn secure_alias<'a>(
-    capture: &'a Capture,
-    trust: &Trust,
-    name: &Name,
-    rtype: RecordType,
-    view: &View<'_, '_>,
-) -> Option<Found<'a>>
-    requires { view.now ≡ record { rrsets = capture.now.rrsets; trust = trust.now; name = name.now } }
-    ensures { MatchOption result (¬ HasAlias (SecuredIn trust.now) capture.now.rrsets name.now rtype.0)
-        (λ found. (rtype.0 ≢ cname)
-        × IsFirstSuch (IsSecureSet (SecuredIn trust.now) capture.now.rrsets name.now cname) found.rrset found.signature) }
+fn secure_alias<'e>(at: &AtName<'e, '_, '_, '_>, rtype: RecordType) -> Option<Found<'e>>
+    requires { IsAtName at.now }
+    ensures { MatchOption result
+        (¬ HasAlias (SecuredIn at.now.trust.now) at.now.capture.now.rrsets at.now.name.now rtype.0)
+        (λ found. (rtype.0 ≢ cname) × IsFirstSuch (IsSecureSet (SecuredIn at.now.trust.now) at.now.capture.now.rrsets
+        at.now.name.now cname) found.rrset found.signature) }
 {
     if rtype == RecordType::CNAME {
         return None;
     }
-    let Some(found) = secure_set(capture, trust, name, RecordType::CNAME, view) else {
+    let Some(found) = secure_set(at, RecordType::CNAME) else {
         return None;
     };
     Some(found)
@@ -96,22 +102,16 @@ fn secure_alias<'a>(
 
 /// The next closer name for the first RRset and signature of the name, and of the type or CNAME, that an unsigned
 /// delegation may stand against (RFC 5155 8.8).
-fn opt_out_wildcard_cut(
-    capture: &Capture,
-    trust: &Trust,
-    name: &Name,
-    rtype: RecordType,
-    view: &View<'_, '_>,
-) -> Option<Name>
-    requires { view.now ≡ record { rrsets = capture.now.rrsets; trust = trust.now; name = name.now } }
+fn opt_out_wildcard_cut(at: &AtName<'_, '_, '_, '_>, rtype: RecordType) -> Option<Name>
+    requires { IsAtName at.now }
     ensures { MatchOption result
-        ((k s : ℕ) → ¬ IsOptOutWildcardSet (SecuredIn trust.now) capture.now.rrsets name.now rtype.0 k s)
-        (IsOptOutWildcardCut (SecuredIn trust.now) capture.now.rrsets name.now rtype.0) }
+        ((k s : ℕ) → ¬ IsOptOutWildcardSet (SecuredIn at.now.trust.now) at.now.capture.now.rrsets at.now.name.now rtype.0 k s)
+        (IsOptOutWildcardCut (SecuredIn at.now.trust.now) at.now.capture.now.rrsets at.now.name.now rtype.0) }
 {
-    let Some(found) = opt_out_wildcard(capture, trust, name, rtype, view) else {
+    let Some(found) = opt_out_wildcard(at.capture, at.trust, at.name, rtype, at.view) else {
         return None;
     };
-    Some(name.suffix(found.rrsig.labels as usize + 1))
+    Some(at.name.suffix(found.rrsig.labels as usize + 1))
 }
 
 /// The first RRset of the name, and of the type or CNAME, and its first signature, that come from a wildcard and against
@@ -129,32 +129,28 @@ pub fn opt_out_wildcard<'a>(
         (λ found. (is : IsFirstSuch (IsOptOutWildcardSet (SecuredIn trust.now) capture.now.rrsets name.now rtype.0)
         found.rrset found.signature) × (is.such.rrsig ≡ found.rrsig.now)) }
 {
-    let of_type = opt_out_wildcard_set(capture, trust, name, rtype, view);
-    let alias = opt_out_wildcard_set(capture, trust, name, RecordType::CNAME, view);
+    let at = AtName {
+        capture,
+        trust,
+        name,
+        view,
+    };
+    let of_type = opt_out_wildcard_set(&at, rtype);
+    let alias = opt_out_wildcard_set(&at, RecordType::CNAME);
     earlier(of_type, alias)
 }
 
 /// The first such RRset and signature of the name and of just this type.
-fn opt_out_wildcard_set<'a>(
-    capture: &'a Capture,
-    trust: &Trust,
-    name: &Name,
-    rtype: RecordType,
-    view: &View<'_, '_>,
-) -> Option<Found<'a>>
-    requires { view.now ≡ record { rrsets = capture.now.rrsets; trust = trust.now; name = name.now } }
+fn opt_out_wildcard_set<'e>(at: &AtName<'e, '_, '_, '_>, rtype: RecordType) -> Option<Found<'e>>
+    requires { IsAtName at.now }
     ensures { MatchOption result
-        ((k s : ℕ) → ¬ IsOptOutSetOf (SecuredIn trust.now) capture.now.rrsets name.now rtype.0 k s)
-        (λ found. (is : IsFirstSuch (IsOptOutSetOf (SecuredIn trust.now) capture.now.rrsets name.now rtype.0)
-        found.rrset found.signature) × (is.such.rrsig ≡ found.rrsig.now)) }
+        ((k s : ℕ) → ¬ IsOptOutSetOf (SecuredIn at.now.trust.now) at.now.capture.now.rrsets at.now.name.now rtype.0 k s)
+        (λ found. (is : IsFirstSuch (IsOptOutSetOf (SecuredIn at.now.trust.now) at.now.capture.now.rrsets at.now.name.now
+        rtype.0) found.rrset found.signature) × (is.such.rrsig ≡ found.rrsig.now)) }
 {
-    first_such(
-        capture,
-        trust,
-        name,
-        rtype,
-        &IsOptOutWildcard { view, rtype },
-    )
+    let view = at.view;
+    let test = IsOptOutWildcard { view, rtype };
+    first_such(at.capture, at.trust, at.name, rtype, &test)
 }
 
 /// That an RRset of the type holds for the view's name by the signature: no wildcard is behind it, or there is a proof

@@ -42,6 +42,16 @@ $ dnssec_check explain --capture c --anchors a --moment 1500 --name host.example
 => 4
 {\"command\":\"explain\",\"name\":\"host.example.\",\"type\":1,\"moment\":1500,\"verdict\":\"Pending\",\"status\":4,\"aliases\":[],\"todo\":[{\"algorithm\":13,\"key\":\"010203\",\"data\":\"00010d0200000e10000007d0000003e8080f076578616d706c650004686f7374076578616d706c65000001000100000e100004c0000201\",\"signature\":\"aabb\"},{\"algorithm\":13,\"key\":\"010203\",\"data\":\"00300d0100000e10000007d0000003e8080f076578616d706c6500076578616d706c65000030000100000e1000070100030d010203\",\"signature\":\"cc\"}],\"why\":[{\"line\":\"hope\",\"kind\":\"SecureAnswer\"},{\"line\":\"trusted\",\"zone\":\"example.\",\"rrset\":1,\"signature\":1,\"tag\":2063,\"algorithm\":13,\"anchor\":1,\"todo\":2},{\"line\":\"signed\",\"owner\":\"host.example.\",\"type\":1,\"rrset\":2,\"signature\":1,\"tag\":2063,\"algorithm\":13,\"signer\":\"example.\",\"keys\":1,\"todo\":1},{\"line\":\"rrset\",\"rrset\":1,\"message\":1,\"section\":1,\"owner\":\"example.\",\"type\":48},{\"line\":\"rrset\",\"rrset\":2,\"message\":2,\"section\":1,\"owner\":\"host.example.\",\"type\":1}]}
 
+# Where nothing answers, how far trust holds.
+c < KEYS
+a = KEY example. 256 3 13 AQID;
+s = good 13 010203 00300d0100000e10000007d0000003e8080f076578616d706c6500076578616d706c65000030000100000e1000070100030d010203 cc;
+$ dnssec_check explain --capture c --anchors a --statements s --moment 1500 --name host.example. --type 1
+=> 5
+Bogus host.example. 1
+trusted example. rrset 1 signature 1 key 2063 13 anchor 1
+rrset 1 message 1 section 1 example. 48
+
 # The question is refused as `check` refuses it: by its name, by its type, and by an alias that leads back.
 c < KEYS HOST
 a = KEY example. 256 3 13 AQID;

@@ -26,7 +26,7 @@ use Rattle.dnsv_explain.specs.declared.line.Line.{Line}
 use Rattle.dnsv_explain.specs.declared.line.Line.TheVariants as line
 use Rattle.dnsv_explain.specs.declared.line.derivation.SignatureNumber.{SignatureNumber}
 use Rattle.dnsv_explain.proofs.lemmas.SayingLemmas.{both_added}
-use Rattle.dnsv_explain.proofs.lemmas.intervals.MomentLemmas.{each_follows_then}
+use Rattle.dnsv_explain.proofs.lemmas.intervals.MomentLemmas.{each_follows_then, good_as}
 
 -- ---- answers
 
@@ -64,19 +64,13 @@ still_valid table entry is = valid_there (λ each. is_eq (entry_cmp entry each))
 module _ (explained : Explained) (unknown : List Entry) where
   still_good : (number : SignatureNumber) (rrset : ReceivedRrset) (key : DnskeyRecord)
       → IsGoodUnder (setting_in explained) number rrset key → IsGoodUnder (setting_in (hoped explained unknown)) number rrset key
-  still_good number rrset key good = record {
-    is_rrset = good.is_rrset;
-    rdata = good.rdata;
-    is_signature = good.is_signature;
-    rrsig = good.rrsig;
-    read = good.read;
-    good = record {
-      admissible = good.good.admissible;
-      entry = good.good.entry;
-      is = good.good.is;
-      valid = still_valid explained.table good.good.entry good.good.valid;
-    };
-  }
+  still_good number rrset key good =
+      good_as (setting_in explained) (setting_in (hoped explained unknown)) number rrset key refl good (record {
+        admissible = good.good.admissible;
+        entry = good.good.entry;
+        is = good.good.is;
+        valid = still_valid explained.table good.good.entry good.good.valid;
+      })
 
   pub still_follow : (before lines : List Line) → EachFollows (setting_in explained) before lines
       → EachFollows (setting_in (hoped explained unknown)) before lines

@@ -1,11 +1,10 @@
 //! What holds at one name of a way, for a verdict that needs no more answers.
 ghost use Rattle.std.specs.Prelude.{ℕ, OnOk};
 ghost use Rattle.dnsv_denial.specs.proving.FirstProof.{CanProveNoData, CanProveNoName};
-ghost use Rattle.dnsv_verdict.specs.Insecure.{IsUnsigned};
 ghost use Rattle.dnsv_verdict.specs.Secure.{IsSecureSet};
 ghost use Rattle.dnsv_verdict.specs.Verdict.{IsSettledAsBy};
 ghost use Rattle.dnsv_explain.specs.At.{IsAt};
-ghost use Rattle.dnsv_explain.specs.Explanation.{IsNoDataTold, IsNoNameTold, IsSetTold, IsSettledTold, IsUnsignedFromTold};
+ghost use Rattle.dnsv_explain.specs.Explanation.{IsNoDataTold, IsNoNameTold, IsSetTold, IsSettledTold};
 ghost use Rattle.dnsv_explain.specs.Explained.{basis_in, setting_in};
 ghost use Rattle.dnsv_explain.specs.Saying.{Adds};
 ghost use Rattle.dnsv_explain.specs.derivations.OwnDerivations.{SecuredIn};
@@ -55,7 +54,13 @@ pub fn add_settled(
         }
         Verdict::SecureNoName(_) => Ok(add_no_name(alloc, evidence, at, lines)?),
         Verdict::SecureNoData(_) => { Ok(add_no_data(alloc, evidence, at, lines, rtype)?) }
-        Verdict::Insecure(_) => { Ok(add_unsigned_from(alloc, evidence, at, lines, rtype)?) }
+        Verdict::Insecure(_) => {
+            let view = at.view(alloc)?;
+            let Some(shown) = view.shown_unsigned_cut() else {
+                return Ok(add_wildcard_cut(alloc, evidence, at, &view, lines, rtype)?);
+            };
+            Ok(add_cut(alloc, evidence, lines, at.name, &shown)?)
+        }
         // None of these needs no more answers.
         Verdict::Pending(_) => Ok(()),
         Verdict::Bogus => Ok(()),
@@ -135,26 +140,5 @@ fn add_no_data(
         return Ok(());
     };
     add_denial(alloc, evidence, lines, at.name, &shown)?;
-    Ok(())
-}
-
-/// Adds from which name on the name may be unsigned: how zones above it show that, or an answer from a wildcard.
-fn add_unsigned_from(
-    alloc: Global,
-    evidence: &Evidence<'_>,
-    at: &At<'_, '_>,
-    lines: &mut Vec<Line>,
-    rtype: RecordType,
-) -> Result<(), AllocError>
-    requires at { IsAt evidence.now at.now }
-    requires unsigned { IsUnsigned (SecuredIn (setting_in evidence.now)) evidence.now.rrsets at.now.name.now rtype.0 }
-    ensures { OnOk result (Adds (IsUnsignedFromTold (setting_in evidence.now) at.now.name.now rtype.0) lines.old.items
-        lines.new.items) }
-{
-    let view = at.view(alloc)?;
-    let Some(shown) = view.shown_unsigned_cut() else {
-        return Ok(add_wildcard_cut(alloc, evidence, at, &view, lines, rtype)?);
-    };
-    add_cut(alloc, evidence, lines, at.name, &shown)?;
     Ok(())
 }

@@ -12,7 +12,7 @@ use Rattle.dnsv_verdict.specs.Secure.{IsFirstSuch, IsSecuredAt}
 use Rattle.dnsv_verdict.specs.declared.search.Found.{Found}
 
 -- the two numbers, where they are such in another way
-such_too : (Secured : ℕ → ℕ → Type 0) (rrsets : List ReceivedRrset) (name : Labels) (Such Other : ReceivedRrset → Rrsig → Type 0)
+pub such_too : (Secured : ℕ → ℕ → Type 0) (rrsets : List ReceivedRrset) (name : Labels) (Such Other : ReceivedRrset → Rrsig → Type 0)
     (k s : ℕ) (at : IsSecuredAt Secured rrsets name Such k s) → Other at.rrset at.rrsig → IsSecuredAt Secured rrsets name Other k s
 such_too Secured rrsets name Such Other k s at other = record {
   rrset = at.rrset;

@@ -73,19 +73,23 @@ fn address_of_host(alloc: Global) -> Result<Asked, Fail> {
     })
 }
 
+/// What is judged of the question.
+fn judged_of(alloc: Global, asked: &Asked) -> Result<Judged<'_>, Fail> {
+    let Asked {
+        capture,
+        anchors,
+        name,
+        unknown,
+    } = asked;
+    let rtype = RecordType(1);
+    Ok(judge(alloc, capture, anchors, 1500, unknown, name, rtype, true)?)
+}
+
 /// Whether the verdict is pending, and the verifier was asked so often.
 fn is_pending_after(alloc: Global, calls: u64) -> Result<bool, Fail> {
     let asked = address_of_host(alloc)?;
-    let report = validate(
-        alloc,
-        &asked.capture,
-        &asked.anchors,
-        1500,
-        &asked.unknown,
-        &asked.name,
-        RecordType(1),
-    )?;
-    match report.verdict {
+    let judged = judged_of(alloc, &asked)?;
+    match judged.report.verdict {
         Verdict::Pending(_) => Ok(asked.unknown.calls.get() == calls),
         _ => Ok(false),
     }
@@ -94,16 +98,7 @@ fn is_pending_after(alloc: Global, calls: u64) -> Result<bool, Fail> {
 /// Whether what a pending verdict hopes for is kept, and the hashes of the one name.
 fn is_kept_with_pending(alloc: Global) -> Result<bool, Fail> {
     let asked = address_of_host(alloc)?;
-    let judged = judge(
-        alloc,
-        &asked.capture,
-        &asked.anchors,
-        1500,
-        &asked.unknown,
-        &asked.name,
-        RecordType(1),
-        true,
-    )?;
+    let judged = judged_of(alloc, &asked)?;
     Ok(judged.hope.is_some() && judged.hashes.len() == 1)
 }
 

@@ -3,8 +3,8 @@ use Rattle.std.proofs.Common.{◌≡◌, ℕ, List, [], ◌∷◌, ◌++◌, Som
 use Rattle.std.proofs.lemmas.List.Elements.{Contains-append_cases, Contains-append_right, Contains-push_cases}
 use Rattle.std.specs.List.{Contains}
 use Rattle.dnsv_records.specs.Rrsig.Time.{ValidAt}
-use Rattle.dnsv_canonical.specs.Rrsets.{ReceivedRrset}
-use Rattle.dnsv_verifier.specs.Admissible.{DnskeyRecord}
+use Rattle.dnsv_canonical.specs.Rrsets.{IsNumbered, ReceivedRrset}
+use Rattle.dnsv_verifier.specs.Admissible.{DnskeyRecord, IsGood}
 use Rattle.dnsv_verifier.specs.declared.answer.Answer.{Answer}
 use Rattle.dnsv_verifier.specs.declared.entry.Entry.{Entry}
 use Rattle.dnsv_explain.specs.Explained.{Setting}
@@ -33,6 +33,19 @@ first_or_behind x xs y there =
     (λ (behind : Contains xs y). inr behind) (Contains-append_cases (x ∷ []) xs y there)
 
 -- ---- signatures of lines
+
+-- a signature is good under a key by another setting of the same RRsets, by whose moment and answers it is
+pub good_as : (setting other : Setting) (number : SignatureNumber) (rrset : ReceivedRrset) (key : DnskeyRecord)
+    → setting.rrsets ≡ other.rrsets → (is : IsGoodUnder setting number rrset key) → IsGood other.meaning other.moment rrset is.rrsig key
+    → IsGoodUnder other number rrset key
+good_as setting other number rrset key same is good = record {
+  is_rrset = subst (λ rrsets. IsNumbered rrsets number.rrset rrset) same is.is_rrset;
+  rdata = is.rdata;
+  is_signature = is.is_signature;
+  rrsig = is.rrsig;
+  read = is.read;
+  good = good;
+}
 
 module _ (setting : Setting) where
   -- the times of a signature that is good
@@ -151,26 +164,19 @@ module _ (setting : Setting) where
 
   good_then : (moment : ℕ) (number : SignatureNumber) (rrset : ReceivedRrset) (key : DnskeyRecord) (good : IsGoodUnder setting number rrset key)
       → ValidAt good.rrsig.inception.0 good.rrsig.expiration.0 moment → IsGoodUnder (at_moment setting moment) number rrset key
-  good_then moment number rrset key good timely = record {
-    is_rrset = good.is_rrset;
-    rdata = good.rdata;
-    is_signature = good.is_signature;
-    rrsig = good.rrsig;
-    read = good.read;
-    good = record {
-      admissible = record {
-        over = good.good.admissible.over;
-        timely = timely;
-        signer = good.good.admissible.signer;
-        unexpanded = good.good.admissible.unexpanded;
-        zone_key = good.good.admissible.zone_key;
-        named = good.good.admissible.named;
-      };
-      entry = good.good.entry;
-      is = good.good.is;
-      valid = good.good.valid;
+  good_then moment number rrset key good timely = good_as setting (at_moment setting moment) number rrset key refl good (record {
+    admissible = record {
+      over = good.good.admissible.over;
+      timely = timely;
+      signer = good.good.admissible.signer;
+      unexpanded = good.good.admissible.unexpanded;
+      zone_key = good.good.admissible.zone_key;
+      named = good.good.admissible.named;
     };
-  }
+    entry = good.good.entry;
+    is = good.good.is;
+    valid = good.good.valid;
+  })
 
   pub follow_at : (moment : ℕ) (before lines : List Line) → AreShownValidAt setting.rrsets lines moment
       → EachFollows setting before lines → EachFollows (at_moment setting moment) before lines

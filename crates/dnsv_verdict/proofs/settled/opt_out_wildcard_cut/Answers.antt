@@ -9,5 +9,5 @@ returns c =
       k = found.rrset;
       s = found.signature;
       earliest = at.0;
-      next_closer = c.suffix.ensures.labels ∙ ap (λ rrsig. rightmost c.args.name.now (rrsig.labels + 1)) (sym at.1);
+      next_closer = c.suffix.ensures.labels ∙ ap (λ rrsig. rightmost c.args.at.now.name.now (rrsig.labels + 1)) (sym at.1);
     }

@@ -7,6 +7,6 @@ use Rattle.dnsv_verdict.proofs.settled.secure_set.Goals as goal
 
 pub returns : goal.returns
 returns c =
-    let of : Viewed = record { rrsets = c.args.capture.now.rrsets; trust = c.args.trust.now; name = c.args.name.now } in
+    let of : Viewed = record { rrsets = c.args.at.now.capture.now.rrsets; trust = c.args.at.now.trust.now; name = c.args.at.now.name.now } in
     subst (λ view. MatchOption c.first_such.result ((k s : ℕ) → ¬ AtNumbers of (HoldsForView c.args.rtype.0 view) k s)
     (λ found. AtFirstSuch of (HoldsForView c.args.rtype.0 view) found.rrset found.signature found.rrsig.now)) c.requires c.first_such.ensures

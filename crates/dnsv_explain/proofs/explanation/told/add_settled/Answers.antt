@@ -3,6 +3,7 @@ use Rattle.dnsv_verdict.specs.Verdict.{IsSettledAsBy}
 use Rattle.dnsv_verdict.specs.declared.verdict.Verdict.{Verdict}
 use Rattle.dnsv_explain.specs.Explained.{basis_in}
 use Rattle.dnsv_explain.proofs.lemmas.SecureLemmas.{alias_secure, answer_secure, data_proved, name_proved, unsigned_of}
+use Rattle.dnsv_explain.proofs.lemmas.TellLemmas.{cut_added, cut_shown_by}
 use Rattle.dnsv_explain.proofs.explanation.told.add_settled.Goals as goal
 
 pub add_set-requires-clause-secure : goal.add_set-requires-clause-secure
@@ -25,7 +26,11 @@ add_no_data-requires-clause-proved c =
     let Is : Verdict → Type 0 = λ each. IsSettledAsBy (basis_in c.args.evidence.now) c.args.at.now.name.now c.args.rtype.0 each in
     data_proved c.args.evidence.now c.args.at.now.name.now c.args.rtype.0 _ (subst Is c.in-SecureNoData.is c.requires.verdict)
 
-pub add_unsigned_from-requires-clause-unsigned : goal.add_unsigned_from-requires-clause-unsigned
-add_unsigned_from-requires-clause-unsigned c =
+pub add_wildcard_cut-requires-clause-unsigned : goal.add_wildcard_cut-requires-clause-unsigned
+add_wildcard_cut-requires-clause-unsigned c =
     let Is : Verdict → Type 0 = λ each. IsSettledAsBy (basis_in c.args.evidence.now) c.args.at.now.name.now c.args.rtype.0 each in
     unsigned_of c.args.evidence.now c.args.at.now.name.now c.args.rtype.0 _ (subst Is c.in-Insecure.is c.requires.verdict).4
+
+pub add_cut-requires : goal.add_cut-requires
+add_cut-requires c =
+    cut_shown_by c.args.at.now.grounds.now c.args.evidence.now c.requires.at.evidence c.requires.at.trust c.in_ok-view.view c.args.at.now.name.now c.in_ok-view.ensures c.in-Some.shown c.in-Some.ensures.first

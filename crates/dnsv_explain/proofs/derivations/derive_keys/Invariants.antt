@@ -2,7 +2,7 @@ use Rattle.std.proofs.Common.{◌+◌, ℕ}
 use Rattle.std.specs.Option.{option_map_or}
 use Rattle.dnsv_explain.specs.Explained.{setting_in}
 use Rattle.dnsv_explain.specs.derivations.Climb.{IsUpTo, labels_at}
-use Rattle.dnsv_explain.proofs.derivations.climb.Given as goal
+use Rattle.dnsv_explain.proofs.derivations.derive_keys.Given as goal
 
 abbrev pub invariant-loop-next : goal.invariant-loop-next
 invariant-loop-next l = IsUpTo (setting_in l.evidence) l.before l.number l.lines.items l.next
