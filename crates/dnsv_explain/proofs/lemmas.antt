@@ -15,4 +15,5 @@ pub mod WholeLemmas
 pub mod denials
 pub mod derivations
 pub mod intervals
+pub mod one
 pub mod unsigned_cuts

@@ -3,6 +3,7 @@ pub mod Denials
 pub mod Explained
 pub mod Explanation
 pub mod Following
+pub mod Marked
 pub mod Places
 pub mod Saying
 pub mod derivations

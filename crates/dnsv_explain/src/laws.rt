@@ -11,9 +11,12 @@ ghost use Rattle.dnsv_denial.specs.declared.proving.shown_denial.ShownDenial.{Sh
 ghost use Rattle.dnsv_denial.specs.declared.unsigned_cuts.shown_cut.ShownCut.{ShownCut};
 ghost use Rattle.dnsv_explain.specs.Denials.{IsDenialTold, IsExpandedTold, IsShownDenial};
 ghost use Rattle.dnsv_explain.specs.derivations.Derivations.{IsDerivation, Subject};
+ghost use Rattle.dnsv_verdict.specs.Report.{IsReport};
+ghost use Rattle.dnsv_verdict.specs.Verdict.{Basis};
 ghost use Rattle.dnsv_verdict.specs.declared.link.Link.{Link};
+ghost use Rattle.dnsv_verdict.specs.declared.report.Report.{Report};
 ghost use Rattle.dnsv_verdict.specs.declared.verdict.Verdict.{Verdict};
-ghost use Rattle.dnsv_explain.specs.Explanation.{IsExplanation, its_setting};
+ghost use Rattle.dnsv_explain.specs.Explanation.{IsExplanation, IsExplanationOf, its_setting};
 ghost use Rattle.dnsv_explain.specs.Following.{EachFollows, at_moment};
 ghost use Rattle.dnsv_explain.specs.Following.Parts.{IsPartOf, IsUnusableRecord};
 ghost use Rattle.dnsv_explain.specs.intervals.Holding.{AreShownValidAt, IsHolding, IsHoldingOf};
@@ -96,4 +99,10 @@ pub fn unsigned_cuts_follow()
 pub fn explanations_follow()
     ensures { (explained : Explained) (t : ℕ) (links : List Link) (last : Labels) (verdict : Verdict) (lines : List Line)
         → IsExplanation explained t links last verdict lines → EachFollows (its_setting explained verdict) [] lines }
+{}
+
+/// A report has one explanation: the same inputs give the same lines.
+pub fn a_report_has_one_explanation()
+    ensures { (basis : Basis) (name : Labels) (t : ℕ) (report : Report) (a b : List Line) → IsReport basis name t report
+        → IsExplanationOf basis t report a → IsExplanationOf basis t report b → a ≡ b }
 {}

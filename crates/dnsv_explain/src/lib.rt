@@ -8,7 +8,7 @@ pub use evidence::Evidence;
 pub use explanation::{Explanation, explain};
 pub use interval::{Interval, Times, holding};
 pub use laws::{
-    denials_follow, derivations_follow, expanded_signatures_follow, explanations_follow,
+    a_report_has_one_explanation, denials_follow, derivations_follow, expanded_signatures_follow, explanations_follow,
     lines_follow_as_long_as_they_hold, lines_that_follow_are_true, signatures_hold_in_one_interval,
     unsigned_cuts_follow,
 };

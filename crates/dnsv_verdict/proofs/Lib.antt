@@ -1,11 +1,11 @@
 mod AnchorLemmas
-mod CaseLemmas
+pub mod CaseLemmas
 pub mod FormLemmas
 mod HashedLemmas
 mod MeaningLemmas
 pub mod OneProof
 pub mod ReportLemmas
-mod SearchLemmas
+pub mod SearchLemmas
 pub mod SettledLemmas
 mod SureLemmas
 mod TrailLemmas

@@ -157,14 +157,14 @@ module _ {Index : Type 0} (cmp : Index → Index → Ordering) (total : IsTotalO
 
 -- ---- the first proof
 
-one_list : (parts xs ys : List RecordNumber) → AreRecordsOf parts xs → AreRecordsOf parts ys → xs ≡ ys
+pub one_list : (parts xs ys : List RecordNumber) → AreRecordsOf parts xs → AreRecordsOf parts ys → xs ≡ ys
 one_list parts xs ys first second =
     rising_unique number_cmp number_total number_exact xs ys first.rising second.rising
     (λ x m. IsMember-from_contains ys x ((second.members x).1 ((first.members x).0 (Contains-from_member xs x m))))
     (λ x m. IsMember-from_contains xs x ((first.members x).1 ((second.members x).0 (Contains-from_member ys x m))))
 
 -- chains are equal, or one goes before the other
-chains : (c d : Chain) → (c ≡ d) ⊎ GoesBefore c d ⊎ GoesBefore d c
+pub chains : (c d : Chain) → (c ≡ d) ⊎ GoesBefore c d ⊎ GoesBefore d c
 chains ByNsec ByNsec = inl refl
 chains ByNsec (ByNsec3 p) = inr (inl (nsec_first p))
 chains (ByNsec3 p) ByNsec = inr (inr (nsec_first p))
@@ -176,7 +176,7 @@ chains (ByNsec3 p) (ByNsec3 q) =
     (compared parameters_cmp parameters_total parameters_exact p q)
 
 -- a number that is at least as high as each that holds
-one_most : (m n : ℕ) → (m < n → ⊥) → (n < m → ⊥) → m ≡ n
+pub one_most : (m n : ℕ) → (m < n → ⊥) → (n < m → ⊥) → m ≡ n
 one_most m n a b =
     ⊎_elim (λ (up : m ≤ n). ⊎_elim (λ (down : n ≤ m). omega (arith, up, down)) (λ (more : ¬ (n ≤ m)). absurd (a (omega (arith, more)))) (at_most_or n m))
     (λ (less : ¬ (m ≤ n)). absurd (b (omega (arith, less)))) (at_most_or m n)
@@ -221,10 +221,10 @@ one_first_no_data S rrsets name t =
 
 -- ---- the cut
 
-one_fewest : (P : ℕ → Type 0) (m n : ℕ) → IsFewest P m → IsFewest P n → m ≡ n
+pub one_fewest : (P : ℕ → Type 0) (m n : ℕ) → IsFewest P m → IsFewest P n → m ≡ n
 one_fewest P m n a b = one_most m n (λ less. b.fewest m less a.holds) (λ less. a.fewest n less b.holds)
 
-one_greatest : (P : ℕ → Type 0) (m n : ℕ) → IsMost P m → IsMost P n → m ≡ n
+pub one_greatest : (P : ℕ → Type 0) (m n : ℕ) → IsMost P m → IsMost P n → m ≡ n
 one_greatest P m n a b = one_most m n (λ less. a.most n less b.holds) (λ less. b.most m less a.holds)
 
 pub cut_stands : (S : ℕ → ℕ → Type 0) (rrsets : List ReceivedRrset) (name cut : Labels) → IsUnsignedCut S rrsets name cut → HasUnsignedCut S rrsets name

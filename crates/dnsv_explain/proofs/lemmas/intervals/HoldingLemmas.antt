@@ -108,11 +108,15 @@ holding_at all i other moment interval reach both below fits valid holding is fr
     (All-get_or (λ times. IsValid times moment) all i other below valid) is from to)
 
 -- two greatest intervals are one
-pub one_holding : (signatures : List Times) (moment : ℕ) (a b : Interval) → IsHolding signatures moment a
-    → IsHolding signatures moment b → a ≡ b
-one_holding signatures moment a b first second =
+pub one_around : (Holds : ℕ → Type 0) (moment : ℕ) (a b : Interval) → IsGreatestAround Holds moment a → IsGreatestAround Holds moment b
+    → a ≡ b
+one_around Holds moment a b first second =
     let inner = first.greatest b.from b.to second.begins second.ends second.last second.holds in
     let outer = second.greatest a.from a.to first.begins first.ends first.last first.holds in
     let from : a.from ≡ b.from = omega (arith, inner.0, outer.0) in
     let to : a.to ≡ b.to = omega (arith, inner.1, outer.1) in
     λ i. record { from = from i; to = to i }
+
+pub one_holding : (signatures : List Times) (moment : ℕ) (a b : Interval) → IsHolding signatures moment a
+    → IsHolding signatures moment b → a ≡ b
+one_holding signatures moment = one_around (AreValidAt signatures) moment

@@ -20,13 +20,13 @@ use Rattle.dnsv_explain.proofs.lemmas.intervals.ShownLemmas.{one_times}
 
 -- ---- members of a list
 
-is_first : {X : Type 0} (x : X) (xs : List X) → Contains (x ∷ xs) x
+pub is_first : {X : Type 0} (x : X) (xs : List X) → Contains (x ∷ xs) x
 is_first x xs = (0, omega arith, refl)
 
-is_behind : {X : Type 0} (x : X) (xs : List X) (y : X) → Contains xs y → Contains (x ∷ xs) y
+pub is_behind : {X : Type 0} (x : X) (xs : List X) (y : X) → Contains xs y → Contains (x ∷ xs) y
 is_behind x xs y there = Contains-append_right (x ∷ []) xs y there
 
-first_or_behind : {X : Type 0} (x : X) (xs : List X) (y : X) → Contains (x ∷ xs) y → (x ≡ y) ⊎ Contains xs y
+pub first_or_behind : {X : Type 0} (x : X) (xs : List X) (y : X) → Contains (x ∷ xs) y → (x ≡ y) ⊎ Contains xs y
 first_or_behind x xs y there =
     ⊎_elim (λ (first : Contains (x ∷ []) y).
     ⊎_elim (λ (none : Contains [] y). absurd (omega (arith, none.1))) (λ (same : x ≡ y). inl same) (Contains-push_cases [] x y first))
