@@ -16,4 +16,5 @@ pub mod denials
 pub mod derivations
 pub mod intervals
 pub mod one
+pub mod stands
 pub mod unsigned_cuts

@@ -96,10 +96,10 @@ module _ (setting : Setting) where
 
   -- ---- records
 
-  abbrev Said : List Line → ℕ → ℕ → Type 0
+  abbrev pub Said : List Line → ℕ → ℕ → Type 0
   Said before k s = IsSignatureSaid before (record { rrset = k; signature = s })
 
-  said_stays : (before more : List Line) (number : SignatureNumber) → IsSignatureSaid before number
+  pub said_stays : (before more : List Line) (number : SignatureNumber) → IsSignatureSaid before number
       → IsSignatureSaid (before ++ more) number
   said_stays before more number said = record {
     signed = said.signed;
@@ -108,7 +108,7 @@ module _ (setting : Setting) where
   }
 
   -- a signature of the zone over the RRset was said to be good
-  abbrev OwnSaid : Labels → List Line → ℕ → Type 0
+  abbrev pub OwnSaid : Labels → List Line → ℕ → Type 0
   OwnSaid zone before k = IsSecuredBy (Said before) setting.rrsets zone k
 
   own_stays : (zone : Labels) (k : ℕ) (before more : List Line) → OwnSaid zone before k → OwnSaid zone (before ++ more) k
@@ -116,7 +116,7 @@ module _ (setting : Setting) where
       secured_too (Said before) (Said (before ++ more)) setting.rrsets zone k
       (λ s one. said_stays before more (record { rrset = k; signature = s }) one) said
 
-  own_said : (zone : Labels) (k : ℕ) (before lines : List Line) → IsOwnDerivation setting zone k before lines
+  pub own_said : (zone : Labels) (k : ℕ) (before lines : List Line) → IsOwnDerivation setting zone k before lines
       → OwnSaid zone (before ++ lines) k
   own_said zone k before lines own =
       secured_too (λ j t. (t ≡ own.s) × SecuredIn setting j t) (Said (before ++ lines)) setting.rrsets zone k
@@ -133,7 +133,7 @@ module _ (setting : Setting) where
       derivation_follows setting all (signature (record { rrset = number.rrset; signature = own.s })) more own.derivation)
       before lines tt each
 
-  records_said : (zone : Labels) (records : List RecordNumber) (before lines : List Line)
+  pub records_said : (zone : Labels) (records : List RecordNumber) (before lines : List Line)
       → AreRecordsDerived setting zone records before lines
       → AllByRecursion (λ (number : RecordNumber). OwnSaid zone (before ++ lines) number.rrset) records
   records_said zone records before lines each =

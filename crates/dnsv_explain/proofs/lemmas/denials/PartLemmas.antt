@@ -95,10 +95,10 @@ module _ (S : ℕ → ℕ → Type 0) (rrsets : List ReceivedRrset) (zone : Labe
 
   -- what the record says rests on nothing else
   module _ (T : ℕ → ℕ → Type 0) (by : IsSecuredBy T rrsets zone number.rrset) where
-    nsec_by : (Says : NsecRecord → Type 0) → SaidByNsec S rrsets zone Says number → SaidByNsec T rrsets zone Says number
+    pub nsec_by : (Says : NsecRecord → Type 0) → SaidByNsec S rrsets zone Says number → SaidByNsec T rrsets zone Says number
     nsec_by Says said = (said.0, record { is = said.1.is; secured = by }, said.2)
 
-    nsec3_by : (Says : Nsec3Record → Type 0) → SaidByNsec3 S rrsets zone Says number → SaidByNsec3 T rrsets zone Says number
+    pub nsec3_by : (Says : Nsec3Record → Type 0) → SaidByNsec3 S rrsets zone Says number → SaidByNsec3 T rrsets zone Says number
     nsec3_by Says said = (said.0, record { is = said.1.is; secured = by }, said.2)
 
     match_by : (chain : Chain) (purpose : Role) (name : Labels) → IsMatchFor (evidence_said S rrsets zone chain) purpose name number
