@@ -6,16 +6,19 @@ ghost use Rattle.dnsv_names.specs.Name.{Labels};
 ghost use Rattle.dnsv_canonical.specs.Rrsets.{IsNumbered, ReceivedRrset};
 ghost use Rattle.dnsv_chain.specs.Trusted.{IsSecured, IsTrusted};
 ghost use Rattle.dnsv_denial.specs.words.EvidenceWords.{Chain};
-ghost use Rattle.dnsv_explain.specs.Explained.{Explained, Setting};
+ghost use Rattle.dnsv_explain.specs.Explained.{Explained, Setting, basis_in};
 ghost use Rattle.dnsv_denial.specs.declared.proving.shown_denial.ShownDenial.{ShownDenial};
 ghost use Rattle.dnsv_denial.specs.declared.unsigned_cuts.shown_cut.ShownCut.{ShownCut};
 ghost use Rattle.dnsv_explain.specs.Denials.{IsDenialTold, IsExpandedTold, IsShownDenial};
 ghost use Rattle.dnsv_explain.specs.derivations.Derivations.{IsDerivation, Subject};
 ghost use Rattle.dnsv_verdict.specs.Report.{IsReport};
-ghost use Rattle.dnsv_verdict.specs.Verdict.{Basis};
+ghost use Rattle.dnsv_verdict.specs.NoLess.{case_of};
+ghost use Rattle.dnsv_verdict.specs.Verdict.{Basis, IsSettledVerdict, IsVerdictAt, basis_of};
+ghost use Rattle.dnsv_verdict.specs.Way.{IsVerdictOf};
 ghost use Rattle.dnsv_verdict.specs.declared.link.Link.{Link};
 ghost use Rattle.dnsv_verdict.specs.declared.report.Report.{Report};
-ghost use Rattle.dnsv_verdict.specs.declared.verdict.Verdict.{Verdict};
+ghost use Rattle.dnsv_verifier.specs.Table.{table_answer};
+ghost use Rattle.dnsv_verifier.specs.declared.entry.Entry.{Entry};
 ghost use Rattle.dnsv_explain.specs.Explanation.{IsExplanation, IsExplanationOf, its_setting};
 ghost use Rattle.dnsv_explain.specs.Following.{EachFollows, at_moment};
 ghost use Rattle.dnsv_explain.specs.Following.Parts.{IsPartOf, IsUnusableRecord};
@@ -28,6 +31,9 @@ use crate::line::Line;
 use crate::line::cut::UnusableDs;
 use crate::line::denial::Part;
 use crate::line::derivation::{SignatureNumber, SignedRrset, TrustedKeys};
+use dnsv_chain::more_evidence_takes_no_trust_away;
+use dnsv_verdict::Verdict;
+use dnsv_verifier::Answer;
 
 /// Lines of which each follows from those before it are true: what they call trusted is trusted, and what they call
 /// signed is good under a trusted key of its signer, and valid at the moment; a part of a proof is what a record of the
@@ -106,3 +112,26 @@ pub fn a_report_has_one_explanation()
     ensures { (basis : Basis) (name : Labels) (t : ℕ) (report : Report) (a b : List Line) → IsReport basis name t report
         → IsExplanationOf basis t report a → IsExplanationOf basis t report b → a ≡ b }
 {}
+
+/// At each moment at which each signature is valid that an explanation shows, and so at each from the first to the last
+/// that it tells, the verdicts at the names of its way are no worse: that at the last name, and the aliases of the links.
+/// The verifier says Valid of what it did.
+pub fn verdicts_are_no_worse_as_long_as_explanations_hold()
+    ensures last { (explained : Explained) (t : ℕ) (name : Labels) (links : List Link) (last : Labels) (verdict : Verdict)
+        (lines : List Line) (moment : ℕ) (better : Entry → Answer) (other : Verdict)
+        → IsVerdictOf (basis_in explained) name t links last verdict → IsSettledVerdict verdict
+        → IsExplanation explained t links last verdict lines → AreShownValidAt explained.rrsets lines moment
+        → ((entry : Entry) → table_answer explained.table entry ≡ Answer.Valid → better entry ≡ Answer.Valid)
+        → IsVerdictAt (basis_of explained.rrsets explained.anchors moment better) last t other
+        → case_of other ≤ case_of verdict }
+    ensures links { (explained : Explained) (t : ℕ) (name : Labels) (links : List Link) (last : Labels) (verdict : Verdict)
+        (lines : List Line) (moment : ℕ) (better : Entry → Answer) (link : Link) (other : Verdict)
+        → IsVerdictOf (basis_in explained) name t links last verdict → IsSettledVerdict verdict
+        → IsExplanation explained t links last verdict lines → AreShownValidAt explained.rrsets lines moment
+        → ((entry : Entry) → table_answer explained.table entry ≡ Answer.Valid → better entry ≡ Answer.Valid)
+        → Contains links link
+        → IsVerdictAt (basis_of explained.rrsets explained.anchors moment better) link.name t other
+        → case_of other ≤ case_of (Verdict.SecureAlias link.rrset link.signature) }
+{
+    more_evidence_takes_no_trust_away();
+}

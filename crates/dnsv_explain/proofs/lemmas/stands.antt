@@ -1,3 +1,5 @@
 -- What is shown stands wherever the signatures count that are told of it.
+pub mod CutLemmas
 pub mod FormLemmas
 pub mod ToldLemmas
+pub mod WholeLemmas

@@ -139,6 +139,29 @@ by_nothing (Pending entries) = omega arith
 by_nothing Bogus = omega arith
 by_nothing Indeterminate = omega arith
 
+-- the case of a verdict that needs no more answers holds, by these signatures
+abbrev pub HoldsCase : (ℕ → ℕ → Type 0) → List ReceivedRrset → Labels → ℕ → Verdict → Type 0
+HoldsCase S rrsets name t (SecureAnswer k s) = HasAnswer S rrsets name t
+HoldsCase S rrsets name t (SecureAlias k s) = HasAlias S rrsets name t
+HoldsCase S rrsets name t (SecureNoName proof) = CanProveNoName S rrsets name
+HoldsCase S rrsets name t (SecureNoData proof) = CanProveNoData S rrsets name t
+HoldsCase S rrsets name t (Insecure cut) = IsUnsigned S rrsets name t
+HoldsCase S rrsets name t (Pending entries) = ⊥
+HoldsCase S rrsets name t Bogus = ⊥
+HoldsCase S rrsets name t Indeterminate = ⊥
+
+-- so the verdict is of no later one
+pub no_later : (basis : Basis) (name : Labels) (t : ℕ) (first second : Verdict) → HoldsCase (SecuredOf basis) basis.rrsets name t first
+    → IsVerdictAt basis name t second → case_of second ≤ case_of first
+no_later basis name t (SecureAnswer k s) second holds is = by_answer basis name t holds second is
+no_later basis name t (SecureAlias k s) second holds is = by_alias basis name t holds second is
+no_later basis name t (SecureNoName proof) second holds is = by_no_name basis name t holds second is
+no_later basis name t (SecureNoData proof) second holds is = by_no_data basis name t holds second is
+no_later basis name t (Insecure cut) second holds is = by_cut basis name t holds second is
+no_later basis name t (Pending entries) second holds is = absurd holds
+no_later basis name t Bogus second holds is = absurd holds
+no_later basis name t Indeterminate second holds is = absurd holds
+
 -- ---- a case that holds still holds
 
 module _

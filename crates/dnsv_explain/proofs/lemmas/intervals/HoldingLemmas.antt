@@ -6,7 +6,7 @@ use Rattle.std.proofs.lemmas.Bool.{cases_lt}
 use Rattle.std.proofs.lemmas.List.{take_more}
 use Rattle.std.proofs.lemmas.List.Elements.{All-contains, All-get_or, All-nil, All-push, All-same, All-take, Contains-append_right}
 use Rattle.dnsv_records.specs.Rrsig.Time.{ValidAt}
-use Rattle.dnsv_explain.specs.intervals.Holding.{IsHolding, last_moment}
+use Rattle.dnsv_explain.specs.intervals.Holding.{IsHolding, last_moment, AreValidAt, IsGreatestAround}
 use Rattle.dnsv_explain.specs.intervals.Reach.{IsReach, seconds_before, seconds_behind}
 use Rattle.dnsv_explain.specs.declared.interval.Interval.{Interval}
 use Rattle.dnsv_explain.specs.declared.interval.Times.{Times}

@@ -35,8 +35,8 @@ use Rattle.dnsv_explain.proofs.lemmas.one.SignedLemmas.{one_lowest}
 use Rattle.dnsv_explain.proofs.lemmas.one.StepLemmas.{IsOne, even, one_both}
 use Rattle.dnsv_explain.proofs.lemmas.one.TrustedLemmas.{AreApart, one_record}
 
-one_case : (kind : InsecureCase) (name : Labels) (zone : Option Labels) → IsOne (IsCaseTold kind name zone)
-one_case kind name zone before a b x y =
+one_case : (kind : InsecureCase) (name : Labels) (of_zone : Option Labels) → IsOne (IsCaseTold kind name of_zone)
+one_case kind name of_zone before a b x y =
     let same : x.cut ≡ y.cut = λ i. record {
       case = (x.is_kind ∙ sym y.is_kind) i;
       name = (x.is_name ∙ sym y.is_name) i;
@@ -117,7 +117,7 @@ module _ (setting : Setting) (apart : AreApart setting.todo) where
   one_unusable_told : (name : Labels) → IsOne (IsUnusableTold setting name)
   one_unusable_told name before a b x y =
       let Told : SignatureNumber → List Line → List Line → Type 0 = λ number.
-          AreBoth (IsSignatureTold setting number) (AreBoth (IsCaseTold case.UnusableDs name None) (AreAllTold setting.rrsets number.rrset)) in
+      AreBoth (IsSignatureTold setting number) (AreBoth (IsCaseTold case.UnusableDs name None) (AreAllTold setting.rrsets number.rrset)) in
       let number_of : ℕ → ℕ → SignatureNumber = λ k s. record { rrset = k; signature = s } in
       let set : x.k ≡ y.k = even x.k y.k (x.first.first y.k y.first.is) (y.first.first x.k x.first.is) in
       let Lowest : ℕ → Type 0 = λ k. IsLowestSecured setting k x.s in

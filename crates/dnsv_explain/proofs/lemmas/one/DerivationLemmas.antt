@@ -10,7 +10,7 @@ use Rattle.dnsv_explain.specs.derivations.Derivations.{IsByAnchor, IsDerivation,
 use Rattle.dnsv_explain.specs.derivations.Derivations.IsDerivation.{said_trusted, anchored, delegated, said_signed, signed}
 use Rattle.dnsv_explain.specs.derivations.Derivations.Subject.{keys, signature}
 use Rattle.dnsv_explain.specs.derivations.HeldTo.{IsFirstDerived, IsHeldAt, IsHeldBelow, IsHeldTo, IsLowestDerived}
-use Rattle.dnsv_explain.specs.derivations.HeldTo.IsLowestDerived as derived
+use Rattle.dnsv_explain.specs.derivations.HeldTo.IsLowestDerived.{unsigned as none_signed, signed as lowest_signed}
 use Rattle.dnsv_explain.specs.derivations.OwnDerivations.{AreRecordsDerived, IsOwnDerivation, IsSignatureTold}
 use Rattle.dnsv_explain.specs.declared.line.Line.{Line}
 use Rattle.dnsv_explain.specs.declared.line.Line.TheVariants as line
@@ -27,7 +27,7 @@ use Rattle.dnsv_explain.proofs.lemmas.one.TrustedLemmas.{AreApart, one_trusted}
 never_both : (a b : Voucher) (number : RecordNumber) (digest_type : DigestType) → a ≡ b → IsByAnchor a → b ≡ voucher.Ds number digest_type → ⊥
 never_both a b number digest_type same anchor is = subst IsByAnchor (same ∙ is) anchor
 
-number_of : ℕ → ℕ → SignatureNumber
+abbrev number_of : ℕ → ℕ → SignatureNumber
 number_of k s = record { rrset = k; signature = s }
 
 module _ (setting : Setting) (apart : AreApart setting.todo) (before : List Line) where
@@ -93,10 +93,10 @@ module _ (setting : Setting) (apart : AreApart setting.todo) where
   -- ---- how far trust holds
 
   one_lowest_derived : (k : ℕ) → IsOne (IsLowestDerived setting k)
-  one_lowest_derived k before a b (derived.unsigned none x) (derived.unsigned other y) = x ∙ sym y
-  one_lowest_derived k before a b (derived.unsigned none x) (derived.signed t least y) = absurd (none (t, least.secured))
-  one_lowest_derived k before a b (derived.signed s least x) (derived.unsigned none y) = absurd (none (s, least.secured))
-  one_lowest_derived k before a b (derived.signed s first x) (derived.signed t second y) =
+  one_lowest_derived k before a b (none_signed none x) (none_signed other y) = x ∙ sym y
+  one_lowest_derived k before a b (none_signed none x) (lowest_signed t least y) = absurd (none (t, least.secured))
+  one_lowest_derived k before a b (lowest_signed s least x) (none_signed none y) = absurd (none (s, least.secured))
+  one_lowest_derived k before a b (lowest_signed s first x) (lowest_signed t second y) =
       let same : s ≡ t = one_lowest setting k s t first second in
       let Of : ℕ → Type 0 = λ each. IsDerivation setting before (signature (record { rrset = k; signature = each })) a in
       one_derivation setting apart before (signature (record { rrset = k; signature = t })) a b (subst Of same x) y

@@ -71,7 +71,7 @@ module _ (said : RecordWords RecordNumber) (apex name : Labels) where
 
   -- ---- no such name
 
-  no_name_of : (parts : WildcardParts RecordNumber) → ShowsWildcard number_cmp said apex name (λ wildcard. said.Absent wildcard) parts
+  abbrev no_name_of : (parts : WildcardParts RecordNumber) → ShowsWildcard number_cmp said apex name (λ wildcard. said.Absent wildcard) parts
       → NoNameForm (words said) apex name
   no_name_of parts x =
       record { labels = parts.labels; ends = ends_of (λ wildcard. said.Absent wildcard) parts x; wildcard = (parts.wildcard, x.wildcard.says) }
@@ -94,11 +94,11 @@ module _ (said : RecordWords RecordNumber) (apex name : Labels) where
     abbrev Empty : Labels → RecordNumber → Type 0
     Empty wildcard = said.EmptyNonTerminal wildcard
 
-    wildcard_data_of : (parts : WildcardParts RecordNumber) → ShowsWildcard number_cmp said apex name Typed parts
+    abbrev wildcard_data_of : (parts : WildcardParts RecordNumber) → ShowsWildcard number_cmp said apex name Typed parts
         → NoWildcardDataForm (words said) apex name t
     wildcard_data_of parts x = record { labels = parts.labels; ends = ends_of Typed parts x; types = (parts.wildcard, x.wildcard.says) }
 
-    empty_wildcard_of : (parts : WildcardParts RecordNumber) → ShowsWildcard number_cmp said apex name Empty parts
+    abbrev empty_wildcard_of : (parts : WildcardParts RecordNumber) → ShowsWildcard number_cmp said apex name Empty parts
         → EmptyWildcardForm (words said) apex name
     empty_wildcard_of parts x =
         record { labels = parts.labels; ends = ends_of Empty parts x; empty_non_terminal = (parts.wildcard, x.wildcard.says) }

@@ -47,8 +47,8 @@ pub one_trust : (setting : Setting) (a b : KeptTrust) → IsTrustIn setting a �
 one_trust setting a b x y =
     let lists : (k : ℕ) → signed_of a k ≡ signed_of b k =
     λ k. one_rising (signed_of a k) (signed_of b k) (x.signed k).rising (y.signed k).rising
-        (λ s kept. ((y.signed k).members s).1 (((x.signed k).members s).0 kept))
-        (λ s kept. ((x.signed k).members s).1 (((y.signed k).members s).0 kept)) in
+    (λ s kept. ((y.signed k).members s).1 (((x.signed k).members s).0 kept))
+    (λ s kept. ((x.signed k).members s).1 (((y.signed k).members s).0 kept)) in
     λ i. λ k. lists k i
 
 -- ---- chains
@@ -165,7 +165,7 @@ module _ (S : ℕ → ℕ → Type 0) (rrsets : List ReceivedRrset) (name : Labe
   one_shown_cut _ _ (no_ds m p few is) (no_ds n q more its) =
       let labels : m ≡ n = one_fewest (IsUnsignedDelegationCut S rrsets name) m n few more in
       let Of : ℕ → Type 0 = λ each. IsFirstShown S rrsets name (λ said zone. IsDelegationAt said zone name each)
-          (λ said zone. ShowsDelegation number_cmp said zone name each) p in
+      (λ said zone. ShowsDelegation number_cmp said zone name each) p in
       let shown : p ≡ q = one_shown_delegation n p q (subst Of labels is) its in
       λ i. cut.NoDs (labels i) (shown i)
   one_shown_cut _ _ (no_ds m p few is) (no_usable_ds n none more) = absurd (none m few.holds)
@@ -179,6 +179,6 @@ module _ (S : ℕ → ℕ → Type 0) (rrsets : List ReceivedRrset) (name : Labe
   one_shown_cut _ _ (opt_out m p none usable few is) (opt_out n q non use_ more its) =
       let labels : m ≡ n = one_greatest (IsOptOutCut S rrsets name) m n few more in
       let Of : ℕ → Type 0 = λ each. IsFirstShown S rrsets name (λ said zone. OptsOut said zone name each)
-          (λ said zone. ShowsOptOut number_cmp said zone name each) p in
+      (λ said zone. ShowsOptOut number_cmp said zone name each) p in
       let shown : p ≡ q = one_shown_opt_out n p q (subst Of labels is) its in
       λ i. cut.OptOut (labels i) (shown i)

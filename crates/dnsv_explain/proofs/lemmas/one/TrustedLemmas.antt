@@ -1,5 +1,5 @@
 -- One line says that a DNSKEY RRset is trusted.
-use Rattle.std.proofs.Common.{◌≡◌, ◌≢◌, ◌∙◌, inl, inr, ℕ, List, Option, Some, None, map, refl, sym, ap, subst}
+use Rattle.std.proofs.Common.{◌≡◌, ◌≢◌, ◌∙◌, inl, inr, ℕ, List, Option, Some, None, arith, map, refl, sym, ap, subst}
 use Rattle.std.proofs.lemmas.Cmp.{nat_list_cmp_total}
 use Rattle.std.proofs.lemmas.Map.Lookups.{exact_bytes}
 use Rattle.std.specs.Ordering.{ordering_reverse}
@@ -105,7 +105,7 @@ pub good_entry : (setting : Setting) (m n : SignatureNumber) (r s : ReceivedRrse
     → (x : IsGoodUnder setting m r k) → (y : IsGoodUnder setting n s l) → x.good.entry ≡ y.good.entry
 good_entry setting m n r s k l number key x y =
     let same = one_signature_at setting.rrsets m n r s x.rdata y.rdata x.rrsig y.rrsig number (x.is_rrset, x.is_signature, x.read)
-        (y.is_rrset, y.is_signature, y.read) in
+    (y.is_rrset, y.is_signature, y.read) in
     let rrset = same.0 in
     let rrsig = same.1 in
     let Of : ReceivedRrset → Type 0 = λ each. IsEntryOf each x.rrsig k x.good.entry in
@@ -139,7 +139,7 @@ module _ (setting : Setting) where
   one_voucher k l (voucher.KeyAnchor m) (voucher.KeyAnchor n) x y rank = ap (λ number. voucher.KeyAnchor number) rank.1
   one_voucher k l (voucher.KeyAnchor m) (voucher.DsAnchor n d) x y rank =
       let clash : anchor.Key x.0 x.1 ≡ anchor.Ds y.0 y.1 = one_anchor m n (anchor.Key x.0 x.1) (anchor.Ds y.0 y.1) rank.1 x.2 y.2 in cc
-  one_voucher k l (voucher.KeyAnchor m) (voucher.Ds n d) x y rank = let differ : 0 ≡ 1 = rank.0 in cc
+  one_voucher k l (voucher.KeyAnchor m) (voucher.Ds n d) x y rank = absurd (omega (arith, rank.0))
   one_voucher k l (voucher.DsAnchor m d) (voucher.KeyAnchor n) x y rank =
       let clash : anchor.Ds x.0 x.1 ≡ anchor.Key y.0 y.1 = one_anchor m n (anchor.Ds x.0 x.1) (anchor.Key y.0 y.1) rank.1 x.2 y.2 in cc
   one_voucher k l (voucher.DsAnchor m d) (voucher.DsAnchor n e) x y rank =
@@ -147,9 +147,9 @@ module _ (setting : Setting) where
       let ds : x.1 ≡ y.1 = cc in
       let digest : d.0 ≡ e.0 = x.3 ∙ ap (λ (each : Ds). each.digest_type.0) ds ∙ sym y.3 in
       λ i. voucher.DsAnchor (rank.1 i) (record { 0 = digest i })
-  one_voucher k l (voucher.DsAnchor m d) (voucher.Ds n e) x y rank = let differ : 0 ≡ 1 = rank.0 in cc
-  one_voucher k l (voucher.Ds m d) (voucher.KeyAnchor n) x y rank = let differ : 1 ≡ 0 = rank.0 in cc
-  one_voucher k l (voucher.Ds m d) (voucher.DsAnchor n e) x y rank = let differ : 1 ≡ 0 = rank.0 in cc
+  one_voucher k l (voucher.DsAnchor m d) (voucher.Ds n e) x y rank = absurd (omega (arith, rank.0))
+  one_voucher k l (voucher.Ds m d) (voucher.KeyAnchor n) x y rank = absurd (omega (arith, rank.0))
+  one_voucher k l (voucher.Ds m d) (voucher.DsAnchor n e) x y rank = absurd (omega (arith, rank.0))
   one_voucher k l (voucher.Ds m d) (voucher.Ds n e) x y rank =
       let number : m ≡ n = λ i. record { rrset = rank.1 i; place = rank.2 i } in
       let at = one_record setting.rrsets m n x.0.rrset y.0.rrset x.0.rdata y.0.rdata number x.0.at y.0.at in

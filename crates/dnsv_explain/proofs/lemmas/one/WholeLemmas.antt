@@ -39,8 +39,8 @@ use Rattle.dnsv_verdict.specs.declared.verdict.Verdict.TheVariants.{SecureAnswer
 use Rattle.dnsv_explain.specs.Denials.{IsDenialTold, IsExpandedTold}
 use Rattle.dnsv_explain.specs.Explained.{Explained, Setting, hoped, setting_in}
 use Rattle.dnsv_explain.specs.Explanation.{IsEndTold, IsExplanation, IsExplanationOf, IsHopeTold, IsLinkTold, IsNoDataTold, IsNoNameTold, IsSetTold, IsSettledTold, IsUnsignedFromTold, IsVerdictTold, IsWayTold, signature_of, told_kind}
-use Rattle.dnsv_explain.specs.Explanation.IsSetTold as set
-use Rattle.dnsv_explain.specs.Explanation.IsUnsignedFromTold as unsigned
+use Rattle.dnsv_explain.specs.Explanation.IsSetTold.{as_owned, by_wildcard}
+use Rattle.dnsv_explain.specs.Explanation.IsUnsignedFromTold.{by_cut, by_wildcard as loosely}
 use Rattle.dnsv_explain.specs.Saying.{AreBoth, AreEach}
 use Rattle.dnsv_explain.specs.derivations.OwnDerivations.{IsSignatureTold, IsTrustIn}
 use Rattle.dnsv_explain.specs.unsigned_cuts.ShownCuts.{IsCutTold, IsUnsignedTold}
@@ -65,21 +65,21 @@ module _ (setting : Setting) (apart : AreApart setting.todo) (name : Labels) whe
   -- ---- an RRset that holds
 
   one_set : (number : SignatureNumber) → IsOne (IsSetTold setting name number)
-  one_set number before a b (set.as_owned r g at own told) (set.as_owned s h there other its) =
+  one_set number before a b (as_owned r g at own told) (as_owned s h there other its) =
       one_signature setting apart number before a b told its
-  one_set number before a b (set.as_owned r g at own told) (set.by_wildcard s h trust shown there expanded good is its) =
+  one_set number before a b (as_owned r g at own told) (by_wildcard s h trust shown there expanded good is its) =
       let same = one_signature_at setting.rrsets number number s r there.rdata at.rdata h g refl
       (there.is_rrset, there.is_signature, there.read) (at.is_rrset, at.is_signature, at.read) in
       let Of : ReceivedRrset → Type 0 = λ each. IsExpanded each.owner h in
       let By : Rrsig → Type 0 = λ each. IsExpanded r.owner each in
       absurd (own (subst By same.1 (subst Of same.0 expanded)))
-  one_set number before a b (set.by_wildcard r g trust shown at expanded good is told) (set.as_owned s h there own its) =
+  one_set number before a b (by_wildcard r g trust shown at expanded good is told) (as_owned s h there own its) =
       let same = one_signature_at setting.rrsets number number r s at.rdata there.rdata g h refl
       (at.is_rrset, at.is_signature, at.read) (there.is_rrset, there.is_signature, there.read) in
       let Of : ReceivedRrset → Type 0 = λ each. IsExpanded each.owner g in
       let By : Rrsig → Type 0 = λ each. IsExpanded s.owner each in
       absurd (own (subst By same.1 (subst Of same.0 expanded)))
-  one_set number before a b (set.by_wildcard r g trust p at expanded good is told) (set.by_wildcard s h kept q there more fine its said) =
+  one_set number before a b (by_wildcard r g trust p at expanded good is told) (by_wildcard s h kept q there more fine its said) =
       let same = one_signature_at setting.rrsets number number r s at.rdata there.rdata g h refl
       (at.is_rrset, at.is_signature, at.read) (there.is_rrset, there.is_signature, there.read) in
       let signed : signed_of trust ≡ signed_of kept = one_trust setting trust kept good fine in
@@ -116,9 +116,6 @@ module _ (setting : Setting) (apart : AreApart setting.todo) (name : Labels) whe
     abbrev FirstOf : (ℕ → List ℕ) → ℕ → ℕ → Type 0
     FirstOf signed k s = IsFirstSuch (IsOptOutWildcardSet (Kept signed) setting.rrsets name t) k s
 
-    its_rrsig : {signed : ℕ → List ℕ} {k s : ℕ} → FirstOf signed k s → Rrsig
-    its_rrsig first = first.such.rrsig
-
     one_rrsig_of : (u v : ℕ → List ℕ) (k s j r : ℕ) (x : FirstOf u k s) (y : FirstOf v j r) → signature_of k s ≡ signature_of j r
         → x.such.rrsig ≡ y.such.rrsig
     one_rrsig_of u v k s j r x y same =
@@ -130,21 +127,21 @@ module _ (setting : Setting) (apart : AreApart setting.todo) (name : Labels) whe
         AreBoth (IsSignatureTold setting number) (IsUnsignedTold setting name shown case.OptOutWildcard (rightmost name (rrsig.labels + 1)))
 
     one_unsigned_from : IsOne (IsUnsignedFromTold setting name t)
-    one_unsigned_from before a b (unsigned.by_cut p is told) (unsigned.by_cut q its said) =
+    one_unsigned_from before a b (by_cut p is told) (by_cut q its said) =
         let signed : signed_of is.0 ≡ signed_of its.0 = one_trust setting is.0 its.0 is.1 its.1 in
         let By : (ℕ → List ℕ) → Type 0 = λ each. IsShownCut (Kept each) setting.rrsets name p in
         let shown : p ≡ q = one_shown_cut (Kept (signed_of its.0)) setting.rrsets name p q (subst By signed is.2) its.2 in
         let Told : ShownCut → Type 0 = λ each. IsCutTold setting name each before a in
         one_cut_told setting apart name q before a b (subst Told shown told) said
-    one_unsigned_from before a b (unsigned.by_cut p is told) (unsigned.by_wildcard trust good none k s first q its said) =
+    one_unsigned_from before a b (by_cut p is told) (loosely trust good none k s first q its said) =
         let signed : signed_of is.0 ≡ signed_of trust = one_trust setting is.0 trust is.1 good in
         let By : (ℕ → List ℕ) → Type 0 = λ each. IsShownCut (Kept each) setting.rrsets name p in
         absurd (none (cut_there (Kept (signed_of trust)) setting.rrsets name p (subst By signed is.2)))
-    one_unsigned_from before a b (unsigned.by_wildcard trust good none k s first p is told) (unsigned.by_cut q its said) =
+    one_unsigned_from before a b (loosely trust good none k s first p is told) (by_cut q its said) =
         let signed : signed_of its.0 ≡ signed_of trust = one_trust setting its.0 trust its.1 good in
         let By : (ℕ → List ℕ) → Type 0 = λ each. IsShownCut (Kept each) setting.rrsets name q in
         absurd (none (cut_there (Kept (signed_of trust)) setting.rrsets name q (subst By signed its.2)))
-    one_unsigned_from before a b (unsigned.by_wildcard trust good none k s first p is told) (unsigned.by_wildcard kept fine never j r other q its said) =
+    one_unsigned_from before a b (loosely trust good none k s first p is told) (loosely kept fine never j r other q its said) =
         let signed : signed_of trust ≡ signed_of kept = one_trust setting trust kept good fine in
         let At : (ℕ → List ℕ) → Type 0 = λ each. FirstOf each k s in
         let both = one_first_such (IsOptOutWildcardSet (Kept (signed_of kept)) setting.rrsets name t) k s j r (subst At signed first) other in
@@ -180,7 +177,8 @@ module _ (setting : Setting) (apart : AreApart setting.todo) (name : Labels) whe
 -- ---- entries that have one number each
 
 none_apart : AreApart []
-none_apart m n entry x y = let within = slice_get_within {X = Entry} [] (m - 1) entry x.1 in absurd (omega (arith, within))
+none_apart m n entry x y =
+    let none : List Entry = [] in let within = slice_get_within none (m - 1) entry x.1 in absurd (omega (arith, within))
 
 module _ (entries : List Entry) (rising : IsStrictlySortedBy entry_cmp entries) where
   never_later : (m n : ℕ) (entry : Entry) → IsNumbered entries m entry → IsNumbered entries n entry → m < n → ⊥
@@ -211,7 +209,7 @@ module _ (explained : Explained) (none : AreApart explained.todo) (t : ℕ) wher
       let somehow : Some x.kind ≡ Some y.kind = sym x.its_kind ∙ ap (λ (each : Verdict). told_kind each) verdict ∙ y.its_kind in
       let kind : x.kind ≡ y.kind = cc in
       let Says : Kind → Verdict → List Line → List Line → Type 0 = λ word each.
-          AreBoth (λ before lines. lines ≡ line.Hope word ∷ []) (IsSettledTold (setting_in its) name t each) in
+      AreBoth (λ before lines. lines ≡ line.Hope word ∷ []) (IsSettledTold (setting_in its) name t each) in
       let told : Says y.kind y.verdict before a =
       subst (λ each. Says y.kind each before a) verdict (subst (λ word. Says word x.verdict before a) kind x.told) in
       one_both (λ before lines. lines ≡ line.Hope y.kind ∷ []) (IsSettledTold (setting_in its) name t y.verdict)
@@ -279,7 +277,7 @@ pub one_of_report : (basis : Basis) (name : Labels) (t : ℕ) (report : Report) 
     → IsExplanationOf basis t report a → IsExplanationOf basis t report b → a ≡ b
 one_of_report basis name t report a b is x y =
     let explained_by : TableContents → Explained = λ table.
-        record { rrsets = basis.rrsets; anchors = basis.anchors; table = table; todo = [] } in
+    record { rrsets = basis.rrsets; anchors = basis.anchors; table = table; todo = [] } in
     let table : x.table ≡ y.table = one_table basis.meaning basis.moment basis.rrsets x.table y.table x.of y.of in
     let Of : TableContents → Type 0 = λ each. IsExplanation (explained_by each) t report.links report.last report.verdict a in
     one_explanation (explained_by y.table) none_apart t report.links report.last report.verdict

@@ -152,7 +152,7 @@ module _ (S T : ℕ → ℕ → Type 0) (rrsets : List ReceivedRrset) (apex name
             encloser = ends.encloser;
             next_closer = inl ends.next_closer;
             opted_out =
-            inr (parts.wildcard, out_of (wildcard_of (rightmost name parts.labels)) parts.wildcard (last_of parts all) x.shows.wildcard.says);
+                inr (parts.wildcard, out_of (wildcard_of (rightmost name parts.labels)) parts.wildcard (last_of parts all) x.shows.wildcard.says);
           })
 
       pub opt_out_closer_by : (shape : ProofForm RecordNumber) → AllByRecursion Counts (form_records shape)

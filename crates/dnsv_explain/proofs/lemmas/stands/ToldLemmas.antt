@@ -22,7 +22,7 @@ use Rattle.dnsv_verdict.specs.Secure.{HoldsForName, IsSecureSet}
 use Rattle.dnsv_explain.specs.Denials.{IsDenialTold, IsExpandedTold, IsProofWithParts}
 use Rattle.dnsv_explain.specs.Explained.{Setting}
 use Rattle.dnsv_explain.specs.Explanation.{IsNoDataTold, IsNoNameTold, IsSetTold, signature_of}
-use Rattle.dnsv_explain.specs.Explanation.IsSetTold as set
+use Rattle.dnsv_explain.specs.Explanation.IsSetTold.{as_owned, by_wildcard}
 use Rattle.dnsv_explain.specs.Following.{IsSignatureSaid}
 use Rattle.dnsv_explain.specs.Saying.{AreBoth}
 use Rattle.dnsv_explain.specs.derivations.OwnDerivations.{AreRecordsDerived, IsSignatureTold, SecuredIn}
@@ -36,7 +36,7 @@ use Rattle.dnsv_explain.proofs.lemmas.derivations.DerivationLemmas.{number_said}
 use Rattle.dnsv_explain.proofs.lemmas.one.TrustedLemmas.{one_signature_at}
 use Rattle.dnsv_explain.proofs.lemmas.stands.FormLemmas.{Counts, no_closer_by, no_data_by, no_name_by}
 
-each_by : {X : Type 0} (P : X → Type 0) (xs : List X) → ((x : X) → Contains xs x → P x) → AllByRecursion P xs
+pub each_by : {X : Type 0} (P : X → Type 0) (xs : List X) → ((x : X) → Contains xs x → P x) → AllByRecursion P xs
 each_by P [] all = tt
 each_by P (x ∷ xs) all = (all x (first_of x xs), each_by P xs (λ y there. all y (behind x xs y there)))
 
@@ -123,8 +123,7 @@ module _ (setting : Setting) (T : ℕ → ℕ → Type 0) (all : List Line) (cou
     closer_stands S labels zone shown before lines lies is told =
         let above = above_of S labels zone is.chain shown.form is.shows in
         let same = ap lower_case is.zone ∙ sym (spelled name zone labels above) in
-        let Among : RecordNumber → List RecordNumber → Type 0 = λ number each. Contains each number in
-        (
+        let Among : RecordNumber → List RecordNumber → Type 0 = λ number each. Contains each number in (
           is.chain,
           no_closer_by S T setting.rrsets zone name is.chain labels shown.form
               (each_by (Counts S T setting.rrsets zone name) (form_records shown.form)
@@ -152,13 +151,13 @@ module _ (setting : Setting) (T : ℕ → ℕ → Type 0) (all : List Line) (cou
       }
 
       pub set_stands : (before lines : List Line) → Lies before lines → IsSetTold setting name (signature_of k s) before lines → Set
-      set_stands before lines lies (set.as_owned r g at own told) =
+      set_stands before lines lies (as_owned r g at own told) =
           let same = one_signature_at setting.rrsets (signature_of k s) (signature_of k s) r secure.rrset at.rdata secure.rdata g secure.rrsig refl
           (at.is_rrset, at.is_signature, at.read) (secure.is_rrset, secure.is_signature, secure.read) in
           let Of : ReceivedRrset → Type 0 = λ each. ¬ IsExpanded each.owner g in
           let By : Rrsig → Type 0 = λ each. ¬ IsExpanded secure.rrset.owner each in
           holding (signature_counts before lines lies (signature_of k s) told) (inl (subst By same.1 (subst Of same.0 own)))
-      set_stands before lines lies (set.by_wildcard r g trust shown at expanded good is told) =
+      set_stands before lines lies (by_wildcard r g trust shown at expanded good is told) =
           let same = one_signature_at setting.rrsets (signature_of k s) (signature_of k s) r secure.rrset at.rdata secure.rdata g secure.rrsig refl
           (at.is_rrset, at.is_signature, at.read) (secure.is_rrset, secure.is_signature, secure.read) in
           let First : List Line → List Line → Type 0 = IsSignatureTold setting (signature_of k s) in
