@@ -143,8 +143,10 @@ module _ (setting : Setting) (T : ℕ → ℕ → Type 0) (all : List Line) (cou
               (signature_of k s) told.says_first;
           such = (
             such.such.0,
-            such.such.1.0,
-            record { above = form.above; chain = is.chain; covering = form.opted_out.0; opted_out = form.opted_out.1 },
+            (
+              such.such.1.0,
+              record { above = form.above; chain = is.chain; covering = form.opted_out.0; opted_out = form.opted_out.1 },
+            ),
           );
         },
       )
