@@ -47,7 +47,7 @@ module _ (setting : Setting) where
       (said.signed.signature.signature, subst Numbered said.rrset (all (line.Signed said.signed) said.among))
 
   -- and a signature that is said to be good is
-  said_secured : (before : List Line) → AreTrue before → (k s : ℕ) → IsSignatureSaid before (record { rrset = k; signature = s })
+  pub said_secured : (before : List Line) → AreTrue before → (k s : ℕ) → IsSignatureSaid before (record { rrset = k; signature = s })
       → Secured k s
   said_secured before all k s said =
       let Good : SignatureNumber → Type 0 = λ number. Secured number.rrset number.signature in
