@@ -1,5 +1,6 @@
 -- Which lines of an explanation follow from the evidence and the lines before them, each by one rule (RFC 4035 5). So a
 -- reader can check a text line by line.
+pub mod Cases
 pub mod Parts
 use Rattle.std.specs.Prelude.{◌≡◌, ℕ, List, [], ◌∷◌, ◌++◌, Contains}
 use Rattle.std.specs.List.{AllZip}
@@ -19,9 +20,11 @@ use Rattle.dnsv_chain.specs.declared.anchor.Anchor.TheVariants as anchor
 use Rattle.dnsv_denial.specs.gathering.Evidence.{IsRecordAt}
 use Rattle.dnsv_denial.specs.declared.records.number.RecordNumber.{RecordNumber}
 use Rattle.dnsv_explain.specs.Explained.{Setting}
+use Rattle.dnsv_explain.specs.Following.Cases.{FollowsCase}
 use Rattle.dnsv_explain.specs.Following.Parts.{FollowsPart, IsUnusableRecord}
 use Rattle.dnsv_explain.specs.declared.line.Line.{Line}
 use Rattle.dnsv_explain.specs.declared.line.Line.TheVariants as line
+use Rattle.dnsv_explain.specs.declared.line.cut.Cut.{Cut}
 use Rattle.dnsv_explain.specs.declared.line.cut.UnusableDs.{UnusableDs}
 use Rattle.dnsv_explain.specs.declared.line.denial.Part.{Part}
 use Rattle.dnsv_explain.specs.declared.line.derivation.KeyName.{KeyName}
@@ -149,14 +152,21 @@ abbrev pub FollowsUnusable : Setting → List Line → UnusableDs → Type 0
 FollowsUnusable setting before unusable =
     IsUnusableRecord setting.rrsets unusable × IsSaidSigned before unusable.number.rrset
 
+-- Records of the zone that the case names say so, of which lines before say that their signatures are good; or a DS
+-- RRset has no record that can be used, of which a line before says that it is signed.
+abbrev pub FollowsAsCase : Setting → List Line → Cut → Type 0
+FollowsAsCase setting before cut =
+    FollowsCase (λ k s. IsSignatureSaid before (record { rrset = k; signature = s })) (IsSaidSigned before) setting.rrsets cut
+
 -- ---- lines one after another
 
--- A line that says what is trusted, what is signed, a part of a proof, a record that can't be used or where an RRset
--- stands follows from those before it.
+-- A line that says what is trusted, what is signed, a part of a proof, a case, a record that can't be used or where an
+-- RRset stands follows from those before it.
 abbrev pub Follows : Setting → List Line → Line → Type 0
 Follows setting before (line.Trusted keys) = FollowsTrusted setting before keys
 Follows setting before (line.Signed signed) = FollowsSigned setting before signed
 Follows setting before (line.Part part) = FollowsAsPart setting before part
+Follows setting before (line.Case cut) = FollowsAsCase setting before cut
 Follows setting before (line.Unusable unusable) = FollowsUnusable setting before unusable
 Follows setting before (line.Rrset place) = IsPlaceOf setting.rrsets place
 Follows setting before _ = Unit {0}

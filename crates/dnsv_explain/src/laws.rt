@@ -21,6 +21,7 @@ ghost use Rattle.dnsv_verifier.specs.Table.{table_answer};
 ghost use Rattle.dnsv_verifier.specs.declared.entry.Entry.{Entry};
 ghost use Rattle.dnsv_explain.specs.Explanation.{IsExplanation, IsExplanationOf, its_setting};
 ghost use Rattle.dnsv_explain.specs.Following.{EachFollows, at_moment};
+ghost use Rattle.dnsv_explain.specs.Following.Cases.{IsCaseBy};
 ghost use Rattle.dnsv_explain.specs.Following.Parts.{IsPartOf, IsUnusableRecord};
 ghost use Rattle.dnsv_explain.specs.intervals.Holding.{AreShownValidAt, IsHolding, IsHoldingOf};
 ghost use Rattle.dnsv_explain.specs.unsigned_cuts.ShownCuts.{IsCutShownBy, IsCutTold};
@@ -28,7 +29,7 @@ ghost use Rattle.dnsv_explain.specs.derivations.Ways.{HasSecured};
 
 use crate::interval::{Interval, Times};
 use crate::line::Line;
-use crate::line::cut::UnusableDs;
+use crate::line::cut::{Cut, UnusableDs};
 use crate::line::denial::Part;
 use crate::line::derivation::{SignatureNumber, SignedRrset, TrustedKeys};
 use dnsv_chain::more_evidence_takes_no_trust_away;
@@ -37,7 +38,7 @@ use dnsv_verifier::Answer;
 
 /// Lines of which each follows from those before it are true: what they call trusted is trusted, and what they call
 /// signed is good under a trusted key of its signer, and valid at the moment; a part of a proof is what a record of the
-/// zone's chain says; and a record that they call unusable is one of a DS RRset that has a good signature. So the rules
+/// zone's chain says; a case is shown by records of the zone that it names, or by a DS RRset; and a record that they call unusable is one of a DS RRset that has a good signature. So the rules
 /// suffice to check a text line by line.
 pub fn lines_that_follow_are_true()
     ensures trusted { (setting : Setting) (lines : List Line) (keys : TrustedKeys) → EachFollows setting [] lines
@@ -52,6 +53,10 @@ pub fn lines_that_follow_are_true()
         → Contains lines (Line.Part part)
         → (zone : Labels) × (chain : Chain)
         × IsPartOf (IsSecured setting.meaning setting.moment setting.rrsets setting.anchors) setting.rrsets zone chain part }
+    ensures cases { (setting : Setting) (lines : List Line) (cut : Cut) → EachFollows setting [] lines
+        → Contains lines (Line.Case cut)
+        → IsCaseBy (IsSecured setting.meaning setting.moment setting.rrsets setting.anchors) (HasSecured setting)
+        setting.rrsets cut.case cut.name cut.zone }
     ensures unusable { (setting : Setting) (lines : List Line) (unusable : UnusableDs) → EachFollows setting [] lines
         → Contains lines (Line.Unusable unusable)
         → IsUnusableRecord setting.rrsets unusable × HasSecured setting unusable.number.rrset }

@@ -1,15 +1,18 @@
 -- Lines of which each follows from those before it are true.
-use Rattle.std.proofs.Common.{◌≡◌, ℕ, List, [], ◌∷◌, ◌++◌, sym, subst, arith, append_assoc, ⊎_elim}
+use Rattle.std.proofs.Common.{◌≡◌, ◌+◌, ℕ, List, [], ◌∷◌, ◌++◌, Option, Some, None, sym, subst, arith, append_assoc, ⊎_elim}
 use Rattle.std.proofs.lemmas.List.Elements.{Contains-push_cases}
 use Rattle.std.proofs.lemmas.List.{append-nil}
 use Rattle.std.specs.List.{Contains}
-use Rattle.dnsv_names.specs.Name.{Labels}
+use Rattle.dnsv_names.specs.Name.{Labels, rightmost}
 use Rattle.dnsv_canonical.specs.Rrsets.{IsNumbered, ReceivedRrset}
 use Rattle.dnsv_chain.specs.Trusted.{IsSecured, IsTrusted}
 use Rattle.dnsv_verifier.specs.Admissible.{DnskeyRecord}
-use Rattle.dnsv_denial.specs.words.EvidenceWords.{Chain}
+use Rattle.dnsv_denial.specs.words.EvidenceWords.{Chain, evidence_said}
+use Rattle.dnsv_verdict.proofs.FormLemmas.{SaysNoLess, cut_to, opts_out_to}
+use Rattle.dnsv_verdict.proofs.SettledLemmas.EvidenceLemmas.{chain_to}
 use Rattle.dnsv_explain.specs.Explained.{Setting}
 use Rattle.dnsv_explain.specs.Following.{EachFollows, Follows, FollowsTrusted, IsMatchedBy, IsSaidSigned, IsSignatureSaid}
+use Rattle.dnsv_explain.specs.Following.Cases.{IsCaseBy, IsCaseOf}
 use Rattle.dnsv_explain.specs.Following.Parts.{IsPartOf, IsUnusableRecord}
 use Rattle.dnsv_explain.specs.derivations.Ways.{HasSecured, IsWayInto}
 use Rattle.dnsv_explain.proofs.lemmas.NumberedLemmas.{same_number}
@@ -17,10 +20,64 @@ use Rattle.dnsv_explain.proofs.lemmas.denials.PartLemmas.{said_too}
 use Rattle.dnsv_explain.proofs.lemmas.derivations.WayLemmas.{way_leads}
 use Rattle.dnsv_explain.specs.declared.line.Line.{Line}
 use Rattle.dnsv_explain.specs.declared.line.Line.TheVariants as line
+use Rattle.dnsv_explain.specs.declared.line.cut.InsecureCase.{InsecureCase}
+use Rattle.dnsv_explain.specs.declared.line.cut.InsecureCase.TheVariants as case
 use Rattle.dnsv_explain.specs.declared.line.derivation.SignatureNumber.{SignatureNumber}
 use Rattle.dnsv_explain.specs.declared.line.derivation.TrustedKeys.{TrustedKeys}
 use Rattle.dnsv_explain.specs.declared.line.derivation.Voucher.{Voucher}
 use Rattle.dnsv_explain.specs.declared.line.derivation.Voucher.TheVariants as voucher
+
+-- ---- cases
+
+module _ (S T : ℕ → ℕ → Type 0) (more : (k s : ℕ) → S k s → T k s) (P Q : ℕ → Type 0) (some : (k : ℕ) → P k → Q k) (rrsets : List ReceivedRrset) where
+  said_more : (zone : Labels) (chain : Chain) → SaysNoLess (evidence_said S rrsets zone chain) (evidence_said T rrsets zone chain)
+  said_more zone chain = chain_to S T more rrsets rrsets (λ k rrset is. is) zone chain
+
+  -- what records of a zone say by signatures that count they say by more
+  case_of_too : (zone : Labels) (kind : InsecureCase) (cut : Labels) → IsCaseOf S rrsets zone kind cut → IsCaseOf T rrsets zone kind cut
+  case_of_too zone case.UnsignedDelegation cut (name, labels, chain, same, at) = (
+    name,
+    labels,
+    chain,
+    same,
+    record {
+      fits = at.fits;
+      form = cut_to (evidence_said S rrsets zone chain) (evidence_said T rrsets zone chain) (said_more zone chain) zone name (rightmost name labels) at.form;
+    },
+  )
+  case_of_too zone case.UnusableDs cut never = never
+  case_of_too zone case.OptOut cut (name, labels, chain, same, at) =
+      (name, labels, chain, same, opts_out_to (evidence_said S rrsets zone chain) (evidence_said T rrsets zone chain) (said_more zone chain) zone name labels at)
+  case_of_too zone case.OptOutWildcard cut (name, labels, chain, same, at) = (
+    name,
+    labels,
+    chain,
+    same,
+    record {
+      above = at.above;
+      opted_out = (
+        at.opted_out.0,
+        (said_more zone chain).opted_out (rightmost name (labels + 1)) at.opted_out.0 at.opted_out.1,
+      );
+    },
+  )
+
+  case_too : (kind : InsecureCase) (cut : Labels) (zone : Option Labels) → IsCaseBy S P rrsets kind cut zone → IsCaseBy T Q rrsets kind cut zone
+  case_too kind cut None (is, at) = (
+    is,
+    record {
+      k = at.k;
+      ds = at.ds;
+      is_ds = at.is_ds;
+      rtype = at.rtype;
+      owner = at.owner;
+      signed = some at.k at.signed;
+      records = at.records;
+      read = at.read;
+      none = at.none;
+    },
+  )
+  case_too kind cut (Some named) (zone, same, says) = (zone, same, case_of_too zone kind cut says)
 
 module _ (setting : Setting) where
   abbrev Trusted : ReceivedRrset → Type 0
@@ -34,6 +91,7 @@ module _ (setting : Setting) where
   IsTrue (line.Trusted keys) = (set : ReceivedRrset) × IsNumbered setting.rrsets keys.signature.rrset set × Trusted set
   IsTrue (line.Signed signed) = Secured signed.signature.rrset signed.signature.signature
   IsTrue (line.Part part) = (zone : Labels) × (chain : Chain) × IsPartOf Secured setting.rrsets zone chain part
+  IsTrue (line.Case cut) = IsCaseBy Secured (HasSecured setting) setting.rrsets cut.case cut.name cut.zone
   IsTrue (line.Unusable unusable) = IsUnusableRecord setting.rrsets unusable × HasSecured setting unusable.number.rrset
   IsTrue _ = Unit {0}
 
@@ -93,7 +151,9 @@ module _ (setting : Setting) where
     said_too (λ k s. IsSignatureSaid before (record { rrset = k; signature = s })) Secured setting.rrsets follows.zone follows.chain
         part.role part.relation part.name part.by (said_secured before all) follows.says,
   )
-  true_line before all (line.Case cut) follows = tt
+  true_line before all (line.Case cut) follows =
+      case_too (λ k s. IsSignatureSaid before (record { rrset = k; signature = s })) Secured (said_secured before all) (IsSaidSigned before)
+      (HasSecured setting) (secured_said before all) setting.rrsets cut.case cut.name cut.zone follows
   true_line before all (line.Unusable ds) follows = (follows.0, secured_said before all ds.number.rrset follows.1)
   true_line before all (line.Hope kind) follows = tt
   true_line before all (line.Holds interval) follows = tt

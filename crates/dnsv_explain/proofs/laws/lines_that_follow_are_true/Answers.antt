@@ -16,6 +16,10 @@ pub returns-clause-part : goal.returns-clause-part
 returns-clause-part c = λ setting lines part follows there.
     all_true setting [] lines (no_lines setting) follows (line.Part part) there
 
+pub returns-clause-cases : goal.returns-clause-cases
+returns-clause-cases c = λ setting lines cut follows there.
+    all_true setting [] lines (no_lines setting) follows (line.Case cut) there
+
 pub returns-clause-unusable : goal.returns-clause-unusable
 returns-clause-unusable c = λ setting lines unusable follows there.
     all_true setting [] lines (no_lines setting) follows (line.Unusable unusable) there

@@ -4,6 +4,8 @@ use Rattle.std.proofs.lemmas.List.{append-nil}
 use Rattle.std.proofs.lemmas.List.Elements.{Contains-append_left, Contains-push}
 use Rattle.std.specs.List.{AllByRecursion, Contains}
 use Rattle.dnsv_names.specs.Name.{Labels, SameName, lower_case}
+use Rattle.dnsv_chain.specs.Trust.{SecuredIn as KeptIn}
+use Rattle.dnsv_denial.specs.forms.ProofForms.{form_records}
 use Rattle.dnsv_denial.specs.gathering.Evidence.{IsSecuredBy}
 use Rattle.dnsv_denial.specs.proving.ProofParts.{form_parts, part_name}
 use Rattle.dnsv_denial.specs.proving.ShownDenials.{kind_of}
@@ -18,11 +20,13 @@ use Rattle.dnsv_explain.specs.Explained.{Setting}
 use Rattle.dnsv_explain.specs.Denials.{IsDenialTold, IsExpandedTold, IsPartLine, IsPartSaid, IsPartTold, IsFormTold, IsProofOf, IsProofSaid, IsProofTold, IsShownDenial, IsTellingOf, told_chain, told_form, told_relation, told_role}
 use Rattle.dnsv_explain.specs.derivations.OwnDerivations.{AreRecordsDerived, IsOwnDerivation, SecuredIn}
 use Rattle.dnsv_explain.specs.derivations.Derivations.Subject.{signature}
-use Rattle.dnsv_explain.specs.Following.{EachFollows, IsSignatureSaid}
+use Rattle.dnsv_explain.specs.Following.{EachFollows, IsSaidSigned, IsSignatureSaid}
+use Rattle.dnsv_explain.specs.Following.Cases.{IsCaseBy}
 use Rattle.dnsv_explain.specs.Following.Parts.{IsOfKind, IsPartOf, IsSaidBy, IsWord, IsZoneNamed}
 use Rattle.dnsv_explain.specs.Following.Parts.IsZoneNamed.{by_case, by_proof}
 use Rattle.dnsv_explain.specs.Saying.{AreBoth, AreEach}
 use Rattle.dnsv_explain.specs.unsigned_cuts.ShownCuts.{IsShownUnsigned, IsUnsignedTold}
+use Rattle.dnsv_explain.specs.unsigned_cuts.ShownCuts.IsShownUnsigned.{closer_opted_out, no_ds, opted_out}
 use Rattle.dnsv_explain.specs.unsigned_cuts.UnsignedCuts.{IsCaseTold}
 use Rattle.dnsv_explain.specs.declared.line.Line.{Line}
 use Rattle.dnsv_explain.specs.declared.line.Line.TheVariants as line
@@ -35,9 +39,10 @@ use Rattle.dnsv_explain.specs.declared.line.denial.RecordPlace.{RecordPlace}
 use Rattle.dnsv_explain.specs.declared.line.denial.Relation.{Relation}
 use Rattle.dnsv_explain.specs.declared.line.denial.Role.{Role}
 use Rattle.dnsv_explain.specs.declared.line.derivation.SignatureNumber.{SignatureNumber}
-use Rattle.dnsv_explain.proofs.lemmas.unsigned_cuts.CutLemmas.{cut_facts}
+use Rattle.dnsv_explain.proofs.lemmas.stands.FormLemmas.{Counts, delegation_by, each_by, opt_out_by, opt_out_closer_by}
+use Rattle.dnsv_explain.proofs.lemmas.unsigned_cuts.CutLemmas.{closer_above, cut_facts}
 use Rattle.dnsv_explain.proofs.lemmas.denials.FormLemmas.{PartSays, each_member}
-use Rattle.dnsv_explain.proofs.lemmas.denials.ShownLemmas.{IsListed, ShownFacts, has_form, part_listed, part_shown, shown_facts}
+use Rattle.dnsv_explain.proofs.lemmas.denials.ShownLemmas.{IsListed, ShownFacts, has_form, part_listed, part_shown, shown_facts, spelled}
 use Rattle.dnsv_explain.proofs.lemmas.derivations.DerivationLemmas.{derivation_follows, number_said}
 use Rattle.dnsv_explain.proofs.lemmas.denials.PartLemmas.{secured_too, word_by, zone_as}
 
@@ -144,10 +149,73 @@ module _ (setting : Setting) where
 
   -- ---- a case
 
+  -- what it says is shown by the records that were derived
+  case_shown : (name : Labels) (shown : ShownDenial) (kind : InsecureCase) (cut : Labels) → IsShownUnsigned setting name shown kind cut
+      → (before : List Line) → ((number : RecordNumber) → Contains shown.proof.records number → OwnSaid shown.proof.zone before number.rrset)
+      → IsCaseBy (Said before) (IsSaidSigned before) setting.rrsets kind cut (Some shown.proof.zone)
+  case_shown name shown _ _ (no_ds trust good labels is) before own =
+      let zone = shown.proof.zone in (
+        zone,
+        refl,
+        (
+          name,
+          labels,
+          is.chain,
+          refl,
+          delegation_by (KeptIn trust) (Said before) setting.rrsets zone name is.chain labels shown.form
+              (each_by (Counts (KeptIn trust) (Said before) setting.rrsets zone name) (form_records shown.form)
+              (λ number there. own number ((is.records.members number).1 there)))
+              is.shows,
+        ),
+      )
+  case_shown name shown _ _ (opted_out trust good labels is) before own =
+      let zone = shown.proof.zone in (
+        zone,
+        refl,
+        (
+          name,
+          labels,
+          is.chain,
+          refl,
+          opt_out_by (KeptIn trust) (Said before) setting.rrsets zone name is.chain labels shown.form
+              (each_by (Counts (KeptIn trust) (Said before) setting.rrsets zone name) (form_records shown.form)
+              (λ number there. own number ((is.records.members number).1 there)))
+              is.shows,
+        ),
+      )
+  case_shown name shown _ _ (closer_opted_out trust good labels zone is) before own =
+      let above = closer_above (KeptIn trust) setting.rrsets zone name is.chain labels shown.form is.shows in
+      let same = ap lower_case is.zone ∙ sym (spelled name zone labels above) in
+      let Among : RecordNumber → List RecordNumber → Type 0 = λ number each. Contains each number in (
+        zone,
+        same,
+        (
+          name,
+          labels,
+          is.chain,
+          refl,
+          opt_out_closer_by (KeptIn trust) (Said before) setting.rrsets zone name is.chain labels shown.form
+              (each_by (Counts (KeptIn trust) (Said before) setting.rrsets zone name) (form_records shown.form)
+              (λ number there.
+              zone_as (Said before) setting.rrsets shown.proof.zone zone number.rrset same (own number (subst (Among number) (sym is.records) there))))
+              is.shows,
+        ),
+      )
+
+  abbrev CaseSaid : List Line → InsecureCase → Labels → Option Labels → Type 0
+  CaseSaid before = IsCaseBy (Said before) (IsSaidSigned before) setting.rrsets
+
   pub case_follows : (kind : InsecureCase) (cut : Labels) (of_zone : Option Labels) (before lines : List Line)
-      → IsCaseTold kind cut of_zone before lines → Follow before lines
-  case_follows kind cut of_zone before lines told =
-      let Lines : List Line → Type 0 = λ all. Follow before all in subst Lines (sym told.are) (tt, tt)
+      → IsCaseTold kind cut of_zone before lines → CaseSaid before kind cut of_zone → Follow before lines
+  case_follows kind cut of_zone before lines told said =
+      let Lines : List Line → Type 0 = λ all. Follow before all in
+      let Kind : InsecureCase → Type 0 = λ each. CaseSaid before each cut of_zone in
+      let Name : Labels → Type 0 = λ each. CaseSaid before told.cut.case each of_zone in
+      let Zone : Option Labels → Type 0 = λ each. CaseSaid before told.cut.case told.cut.name each in
+      subst Lines (sym told.are) (
+        subst Zone (sym told.is_zone) (subst Name (sym told.is_name) (subst Kind (sym told.is_kind) said)),
+        tt,
+      )
 
   module _ (name : Labels) (shown : ShownDenial) (facts : ShownFacts setting name shown) where
     -- ---- the proof
@@ -310,16 +378,19 @@ module _ (setting : Setting) where
         by_case told.cut shown.proof.zone (subst There (sym told.are) (Contains-push before (line.Case told.cut))) told.is_zone
         (sym facts.same)
 
-    unsigned_told_follows : (kind : InsecureCase) (cut : Labels) (before lines : List Line)
+    unsigned_told_follows : (kind : InsecureCase) (cut : Labels) → IsShownUnsigned setting name shown kind cut → (before lines : List Line)
         → IsUnsignedTold setting name shown kind cut before lines → Follow before lines
-    unsigned_told_follows kind cut before lines told =
+    unsigned_told_follows kind cut is before lines told =
         let rest = told.says_second in
         let last = rest.says_second in
         let cased : List Line = (before ++ told.first) ++ rest.first in
         both_follow _ _ before lines told
         (records_follow shown.proof.zone shown.proof.records before told.first told.says_first)
         (both_follow _ _ (before ++ told.first) told.second rest
-        (case_follows kind cut (Some shown.proof.zone) (before ++ told.first) rest.first rest.says_first)
+        (case_follows kind cut (Some shown.proof.zone) (before ++ told.first) rest.first rest.says_first
+        (case_shown name shown kind cut is (before ++ told.first) (λ number there.
+        each_member (λ (one : RecordNumber). OwnSaid shown.proof.zone (before ++ told.first) one.rrset) shown.proof.records number
+        (records_said shown.proof.zone shown.proof.records before told.first told.says_first) there)))
         (both_follow _ _ cased rest.second last
         (any_proof_follows (told_form shown.form) cased last.first last.says_first)
         (each_follow (IsPartTold setting.rrsets name) Prepared prepared_stays (form_parts shown.chain shown.form) part_follows
@@ -344,4 +415,4 @@ module _ (setting : Setting) where
   pub unsigned_follows : (name : Labels) (shown : ShownDenial) (kind : InsecureCase) (cut : Labels) (before lines : List Line)
       → IsShownUnsigned setting name shown kind cut → IsUnsignedTold setting name shown kind cut before lines → Follow before lines
   unsigned_follows name shown kind cut before lines is told =
-      unsigned_told_follows name shown (cut_facts setting name shown kind cut is) kind cut before lines told
+      unsigned_told_follows name shown (cut_facts setting name shown kind cut is) kind cut is before lines told

@@ -146,7 +146,7 @@ module _ (setting : Setting) where
     }
     follows_then before (line.Proof proof) stays follows = tt
     follows_then before (line.Part part) stays follows = follows
-    follows_then before (line.Case cut) stays follows = tt
+    follows_then before (line.Case cut) stays follows = follows
     follows_then before (line.Unusable ds) stays follows = follows
     follows_then before (line.Hope kind) stays follows = tt
     follows_then before (line.Holds interval) stays follows = tt

@@ -10,17 +10,15 @@ use Rattle.std.specs.declared.cmp.Ordering.{Ordering}
 use Rattle.std.specs.declared.cmp.Ordering.TheVariants.{Less, Equal}
 use Rattle.dnsv_names.specs.Name.{Labels, rightmost}
 use Rattle.dnsv_records.specs.declared.rrsig.Rrsig.{Rrsig}
-use Rattle.dnsv_canonical.proofs.CanonicalLemmas.{rising_unique, Contains-from_member, IsMember-from_contains}
 use Rattle.dnsv_canonical.specs.Rrsets.{IsNumbered, ReceivedRrset}
 use Rattle.dnsv_canonical.specs.SignedData.{IsExpanded}
 use Rattle.dnsv_verifier.specs.Entry.{entry_cmp}
-use Rattle.dnsv_verifier.specs.EntryLaws.{entry_cmp_total, entry_Equal}
-use Rattle.dnsv_verifier.specs.Table.{IsTableOf, TableContents}
-use Rattle.dnsv_verifier.specs.declared.answer.Answer.{Answer}
+use Rattle.dnsv_verifier.proofs.TableLemmas.{only_table}
+use Rattle.dnsv_verifier.specs.EntryLaws.{entry_cmp_total}
+use Rattle.dnsv_verifier.specs.Table.{TableContents}
 use Rattle.dnsv_verifier.specs.declared.entry.Entry.{Entry}
 use Rattle.dnsv_chain.specs.Trust.{KeptTrust, signed_of}
 use Rattle.dnsv_chain.specs.Trusted.{IsSecured}
-use Rattle.dnsv_chain.specs.declared.anchor.Anchor.{Anchor}
 use Rattle.dnsv_denial.specs.proving.ShownDenials.{IsShownNoCloser, IsShownNoData, IsShownNoName}
 use Rattle.dnsv_denial.specs.unsigned_cuts.Cuts.{HasUnsignedCut}
 use Rattle.dnsv_denial.specs.unsigned_cuts.ShownCut.{IsShownCut, IsShownOptOutCloser}
@@ -250,18 +248,6 @@ module _ (explained : Explained) (none : AreApart explained.todo) (t : ℕ) wher
       (one_verdict_told last verdict apart))
       (one_end_told verdict) [] a b x y
 
--- what is asked has one table of answers
-one_table : (meaning : Entry → Answer) (moment : ℕ) (rrsets : List ReceivedRrset) (a b : TableContents) → IsTableOf meaning moment rrsets a
-    → IsTableOf meaning moment rrsets b → a ≡ b
-one_table meaning moment rrsets a b x y =
-    let entries : x.entries ≡ y.entries =
-    rising_unique entry_cmp entry_cmp_total entry_Equal x.entries y.entries x.rising y.rising
-    (λ e m. IsMember-from_contains y.entries e ((y.asked e).1 ((x.asked e).0 (Contains-from_member x.entries e m))))
-    (λ e m. IsMember-from_contains x.entries e ((x.asked e).1 ((y.asked e).0 (Contains-from_member y.entries e m)))) in
-    let answers : a.answers ≡ b.answers =
-    x.answers ∙ ap (λ (each : List Entry). map (λ entry. (entry, meaning entry)) each) entries ∙ sym y.answers in
-    λ i. record { moment = (x.of_moment ∙ sym y.of_moment) i; answers = answers i }
-
 needs_apart : (explained : Explained) (none : AreApart explained.todo) (basis : Basis) (name : Labels) (t : ℕ) (verdict : Verdict)
     → IsVerdictAt basis name t verdict → NeedsApart explained none t verdict
 needs_apart explained none basis name t (SecureAnswer k s) is = tt
@@ -278,7 +264,7 @@ pub one_of_report : (basis : Basis) (name : Labels) (t : ℕ) (report : Report) 
 one_of_report basis name t report a b is x y =
     let explained_by : TableContents → Explained = λ table.
     record { rrsets = basis.rrsets; anchors = basis.anchors; table = table; todo = [] } in
-    let table : x.table ≡ y.table = one_table basis.meaning basis.moment basis.rrsets x.table y.table x.of y.of in
+    let table : x.table ≡ y.table = only_table basis.meaning basis.moment basis.rrsets x.table x.of y.table y.of in
     let Of : TableContents → Type 0 = λ each. IsExplanation (explained_by each) t report.links report.last report.verdict a in
     one_explanation (explained_by y.table) none_apart t report.links report.last report.verdict
     (needs_apart (explained_by y.table) none_apart basis report.last t report.verdict is.verdict.is_verdict) a b (subst Of table x.is) y.is

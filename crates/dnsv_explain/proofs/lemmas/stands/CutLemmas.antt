@@ -33,8 +33,8 @@ use Rattle.dnsv_explain.specs.declared.line.cut.InsecureCase.{InsecureCase}
 use Rattle.dnsv_explain.specs.declared.line.cut.InsecureCase.TheVariants as case
 use Rattle.dnsv_explain.proofs.lemmas.denials.PartLemmas.{zone_as}
 use Rattle.dnsv_explain.proofs.lemmas.denials.ShownLemmas.{spelled}
-use Rattle.dnsv_explain.proofs.lemmas.stands.FormLemmas.{Counts, delegation_by, opt_out_by, opt_out_closer_by}
-use Rattle.dnsv_explain.proofs.lemmas.stands.ToldLemmas.{Lies, back, each_by, front, records_count, signature_counts}
+use Rattle.dnsv_explain.proofs.lemmas.stands.FormLemmas.{Counts, delegation_by, each_by, opt_out_by, opt_out_closer_by}
+use Rattle.dnsv_explain.proofs.lemmas.stands.ToldLemmas.{Lies, back, front, records_count, signature_counts}
 
 module _ (setting : Setting) (T : ℕ → ℕ → Type 0) (all : List Line) (counts : (k s : ℕ) → IsSignatureSaid all (signature_of k s) → T k s)
     (name : Labels) where

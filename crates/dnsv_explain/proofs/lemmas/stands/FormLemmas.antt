@@ -26,7 +26,12 @@ use Rattle.dnsv_denial.specs.declared.forms.proof_form.WildcardParts.{WildcardPa
 use Rattle.dnsv_denial.specs.declared.records.number.RecordNumber.{RecordNumber}
 use Rattle.dnsv_explain.specs.declared.line.denial.Relation.TheVariants as relation
 use Rattle.dnsv_explain.specs.declared.line.denial.Role.TheVariants as role
+use Rattle.dnsv_explain.proofs.lemmas.intervals.MomentLemmas.{is_behind, is_first}
 use Rattle.dnsv_explain.proofs.lemmas.denials.PartLemmas.{nsec_by, nsec3_by, word_by}
+
+pub each_by : {X : Type 0} (P : X → Type 0) (xs : List X) → ((x : X) → Contains xs x → P x) → AllByRecursion P xs
+each_by P [] all = tt
+each_by P (x ∷ xs) all = (all x (is_first x xs), each_by P xs (λ y there. all y (is_behind x xs y there)))
 
 module _ (S T : ℕ → ℕ → Type 0) (rrsets : List ReceivedRrset) (apex name : Labels) where
   -- a signature of the zone over the record's RRset counts

@@ -28,17 +28,13 @@ use Rattle.dnsv_explain.specs.Saying.{AreBoth}
 use Rattle.dnsv_explain.specs.derivations.OwnDerivations.{AreRecordsDerived, IsSignatureTold, SecuredIn}
 use Rattle.dnsv_explain.specs.declared.line.Line.{Line}
 use Rattle.dnsv_explain.specs.declared.line.derivation.SignatureNumber.{SignatureNumber}
-use Rattle.dnsv_explain.proofs.lemmas.denials.FollowLemmas.{OwnSaid, Said, behind, first_of, records_said, said_stays}
+use Rattle.dnsv_explain.proofs.lemmas.denials.FollowLemmas.{OwnSaid, Said, records_said, said_stays}
 use Rattle.dnsv_explain.proofs.lemmas.denials.FormLemmas.{each_member}
 use Rattle.dnsv_explain.proofs.lemmas.denials.PartLemmas.{secured_too, zone_as}
 use Rattle.dnsv_explain.proofs.lemmas.denials.ShownLemmas.{spelled}
 use Rattle.dnsv_explain.proofs.lemmas.derivations.DerivationLemmas.{number_said}
 use Rattle.dnsv_explain.proofs.lemmas.one.TrustedLemmas.{one_signature_at}
-use Rattle.dnsv_explain.proofs.lemmas.stands.FormLemmas.{Counts, no_closer_by, no_data_by, no_name_by}
-
-pub each_by : {X : Type 0} (P : X → Type 0) (xs : List X) → ((x : X) → Contains xs x → P x) → AllByRecursion P xs
-each_by P [] all = tt
-each_by P (x ∷ xs) all = (all x (first_of x xs), each_by P xs (λ y there. all y (behind x xs y there)))
+use Rattle.dnsv_explain.proofs.lemmas.stands.FormLemmas.{Counts, each_by, no_closer_by, no_data_by, no_name_by}
 
 module _ (setting : Setting) (T : ℕ → ℕ → Type 0) (all : List Line) (counts : (k s : ℕ) → IsSignatureSaid all (signature_of k s) → T k s) where
   -- the lines of a step lie among all

@@ -1,5 +1,5 @@
 -- Each line of a name that may be unsigned follows from those before it.
-use Rattle.std.proofs.Common.{◌+◌, ℕ, List, [], ◌∷◌, ◌++◌, None, map, sym, ap, subst}
+use Rattle.std.proofs.Common.{◌+◌, ℕ, List, [], ◌∷◌, ◌++◌, None, map, refl, sym, ap, subst}
 use Rattle.std.proofs.lemmas.List.Elements.{Contains-append_left}
 use Rattle.dnsv_names.specs.Name.{Labels, rightmost}
 use Rattle.dnsv_chain.specs.Trust.{KeptTrust, SecuredIn}
@@ -9,7 +9,8 @@ use Rattle.dnsv_denial.specs.declared.records.number.RecordNumber.{RecordNumber}
 use Rattle.dnsv_denial.specs.declared.unsigned_cuts.shown_cut.ShownCut.{ShownCut}
 use Rattle.dnsv_explain.specs.Explained.{Setting}
 use Rattle.dnsv_explain.specs.derivations.Derivations.Subject.{signature}
-use Rattle.dnsv_explain.specs.Following.{EachFollows, IsSaidSigned}
+use Rattle.dnsv_explain.specs.Following.{EachFollows, IsSaidSigned, IsSignatureSaid}
+use Rattle.dnsv_explain.specs.Following.Cases.{IsCaseBy}
 use Rattle.dnsv_explain.specs.derivations.OwnDerivations.{IsTrustIn}
 use Rattle.dnsv_explain.specs.unsigned_cuts.ShownCuts.{IsCutShownBy, IsCutTold}
 use Rattle.dnsv_explain.specs.unsigned_cuts.ShownCuts.IsShownUnsigned.{no_ds as delegation_shown, opted_out}
@@ -45,6 +46,25 @@ module _ (setting : Setting) where
       let Lines : List Line → Type 0 = λ each. EachFollows setting before each in
       subst Lines (sym all.first.are) (each_unusable_follows k 1 all.first.told before said all.first.each)
 
+  unusable_said : (name : Labels) (before lines : List Line) (told : IsUnusableTold setting name before lines)
+      → IsCaseBy (λ k s. IsSignatureSaid (before ++ told.told.first) (record { rrset = k; signature = s }))
+      (IsSaidSigned (before ++ told.told.first)) setting.rrsets case.UnusableDs name None
+  unusable_said name before lines told =
+      let is = told.first.is in (
+        refl,
+        record {
+          k = told.k;
+          ds = is.ds;
+          is_ds = is.is_ds;
+          rtype = is.rtype;
+          owner = is.owner;
+          signed = signature_said setting before told.told.first (record { rrset = told.k; signature = told.s }) told.told.says_first;
+          records = is.records;
+          read = is.read;
+          none = is.none;
+        },
+      )
+
   unusable_follows : (name : Labels) (before lines : List Line) → IsUnusableTold setting name before lines
       → EachFollows setting before lines
   unusable_follows name before lines told =
@@ -53,7 +73,7 @@ module _ (setting : Setting) where
       both_follow setting _ _ before lines told.told
       (derivation_follows setting before (signature (record { rrset = told.k; signature = told.s })) told.told.first told.told.says_first)
       (both_follow setting _ _ derived told.told.second rest
-      (case_follows setting case.UnusableDs name None derived rest.first rest.says_first)
+      (case_follows setting case.UnusableDs name None derived rest.first rest.says_first (unusable_said name before lines told))
       (all_unusable_follow told.k (derived ++ rest.first) rest.second
       (signed_stays derived rest.first told.k
       (signature_said setting before told.told.first (record { rrset = told.k; signature = told.s }) told.told.says_first))

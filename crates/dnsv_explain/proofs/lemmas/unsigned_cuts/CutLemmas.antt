@@ -68,7 +68,7 @@ module _ (S : ℕ → ℕ → Type 0) (rrsets : List ReceivedRrset) (apex name :
         records = (word_signed S rrsets apex number chain role.NextCloser relation.OptOut (rightmost name (labels + 1)) shows.next_closer.says, tt);
       }
 
-  closer_above : (chain : Chain) (labels : ℕ) (shape : ProofForm RecordNumber)
+  pub closer_above : (chain : Chain) (labels : ℕ) (shape : ProofForm RecordNumber)
       → ShowsOptOutCloser number_cmp (evidence_said S rrsets apex chain) apex name labels shape → IsAbove apex name labels
   closer_above chain labels shape (opt_out_closer number shows) = shows.above
 
