@@ -15,6 +15,7 @@ pub mod WholeLemmas
 pub mod denials
 pub mod derivations
 pub mod intervals
+pub mod marks
 pub mod one
 pub mod stands
 pub mod unsigned_cuts

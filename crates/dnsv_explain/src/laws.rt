@@ -1,7 +1,7 @@
 //! Laws of explanations.
 //!
 //! Each is a function that does nothing and ensures the law, which its caller learns.
-ghost use Rattle.std.specs.Prelude.{◌≡◌, ◌≤◌, ℕ, [], List, Contains};
+ghost use Rattle.std.specs.Prelude.{◌≡◌, ◌≤◌, ℕ, [], List, Some, Contains};
 ghost use Rattle.dnsv_names.specs.Name.{Labels};
 ghost use Rattle.dnsv_canonical.specs.Rrsets.{IsNumbered, ReceivedRrset};
 ghost use Rattle.dnsv_chain.specs.Trusted.{IsSecured, IsTrusted};
@@ -13,13 +13,14 @@ ghost use Rattle.dnsv_explain.specs.Denials.{IsDenialTold, IsExpandedTold, IsSho
 ghost use Rattle.dnsv_explain.specs.derivations.Derivations.{IsDerivation, Subject};
 ghost use Rattle.dnsv_verdict.specs.Report.{IsReport};
 ghost use Rattle.dnsv_verdict.specs.NoLess.{case_of};
-ghost use Rattle.dnsv_verdict.specs.Verdict.{Basis, IsSettledVerdict, IsVerdictAt, basis_of};
+ghost use Rattle.dnsv_verdict.specs.Verdict.{Basis, IsSettledVerdict, IsVerdictAt, basis_of, with_meaning};
 ghost use Rattle.dnsv_verdict.specs.Way.{IsVerdictOf};
 ghost use Rattle.dnsv_verdict.specs.declared.link.Link.{Link};
 ghost use Rattle.dnsv_verdict.specs.declared.report.Report.{Report};
 ghost use Rattle.dnsv_verifier.specs.Table.{table_answer};
 ghost use Rattle.dnsv_verifier.specs.declared.entry.Entry.{Entry};
-ghost use Rattle.dnsv_explain.specs.Explanation.{IsExplanation, IsExplanationOf, its_setting};
+ghost use Rattle.dnsv_explain.specs.Explanation.{IsExplanation, IsExplanationOf, its_setting, told_kind};
+ghost use Rattle.dnsv_explain.specs.Marked.{AnswersMarked};
 ghost use Rattle.dnsv_explain.specs.Following.{EachFollows, at_moment};
 ghost use Rattle.dnsv_explain.specs.Following.Cases.{IsCaseBy};
 ghost use Rattle.dnsv_explain.specs.Following.Parts.{IsPartOf, IsUnusableRecord};
@@ -28,11 +29,11 @@ ghost use Rattle.dnsv_explain.specs.unsigned_cuts.ShownCuts.{IsCutShownBy, IsCut
 ghost use Rattle.dnsv_explain.specs.derivations.Ways.{HasSecured};
 
 use crate::interval::{Interval, Times};
-use crate::line::Line;
+use crate::line::{Kind, Line};
 use crate::line::cut::{Cut, UnusableDs};
 use crate::line::denial::Part;
 use crate::line::derivation::{SignatureNumber, SignedRrset, TrustedKeys};
-use dnsv_chain::more_evidence_takes_no_trust_away;
+use dnsv_chain::{more_evidence_takes_no_trust_away, trust_depends_on_what_is_asked};
 use dnsv_verdict::Verdict;
 use dnsv_verifier::Answer;
 
@@ -139,4 +140,18 @@ pub fn verdicts_are_no_worse_as_long_as_explanations_hold()
         → case_of other ≤ case_of (Verdict.SecureAlias link.rrset link.signature) }
 {
     more_evidence_takes_no_trust_away();
+}
+
+/// With just the entries valid of which lines of a hope tell the numbers, the verdict at the last name is of the kind
+/// hoped for.
+pub fn marked_entries_settle_what_is_hoped()
+    ensures { (basis : Basis) (name : Labels) (t : ℕ) (report : Report) (unknown : List Entry) (lines : List Line)
+        (after : Entry → Answer) (verdict : Verdict)
+        → IsReport basis name t report → report.verdict ≡ Verdict.Pending unknown → IsExplanationOf basis t report lines
+        → AnswersMarked unknown lines basis.meaning after
+        → IsVerdictAt (with_meaning basis after) report.last t verdict
+        → (kind : Kind) × Contains lines (Line.Hope kind) × (told_kind verdict ≡ Some kind) }
+{
+    more_evidence_takes_no_trust_away();
+    trust_depends_on_what_is_asked();
 }

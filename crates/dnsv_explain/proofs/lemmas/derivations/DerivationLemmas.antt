@@ -22,7 +22,7 @@ use Rattle.dnsv_explain.specs.declared.line.derivation.TrustedKeys.{TrustedKeys}
 use Rattle.dnsv_explain.specs.declared.line.derivation.Voucher.{Voucher}
 use Rattle.dnsv_explain.specs.declared.line.derivation.Voucher.TheVariants as voucher
 
-same_as : (a b : Labels) → b ≡ a → SameName a b
+pub same_as : (a b : Labels) → b ≡ a → SameName a b
 same_as a b same = let As : Labels → Type 0 = λ each. SameName a each in subst As (sym same) (same_of_key a a refl)
 
 module _ (setting : Setting) where

@@ -98,7 +98,7 @@ module _ (setting : Setting) where
     abbrev pub Stays : SignatureNumber → Type 0
     Stays number = (rrset : ReceivedRrset) (key : DnskeyRecord) → IsGoodUnder setting number rrset key → IsGoodUnder Then number rrset key
 
-    vouched_then : (before : List Line) (voucher : Voucher) (key : DnskeyRecord) → IsVouchedBy setting before voucher key
+    pub vouched_then : (before : List Line) (voucher : Voucher) (key : DnskeyRecord) → IsVouchedBy setting before voucher key
         → IsVouchedBy Then before voucher key
     vouched_then before (voucher.KeyAnchor number) key vouched = vouched
     vouched_then before (voucher.DsAnchor number digest_type) key vouched = vouched

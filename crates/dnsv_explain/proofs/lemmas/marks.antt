@@ -1,0 +1,4 @@
+-- What is so where just the entries are valid that the lines of a hope mark.
+pub mod HopedLemmas
+pub mod LineLemmas
+pub mod MarkLemmas
