@@ -11,7 +11,7 @@ use Rattle.dnsv_denial.specs.declared.unsigned_cuts.shown_cut.ShownCut.TheVarian
 use Rattle.dnsv_verdict.specs.declared.link.Link.{Link}
 use Rattle.dnsv_verdict.specs.declared.verdict.Verdict.{Verdict}
 use Rattle.dnsv_verdict.specs.declared.verdict.Verdict.TheVariants.{SecureAnswer, SecureAlias, SecureNoName, SecureNoData, Insecure, Pending, Bogus, Indeterminate}
-use Rattle.dnsv_explain.specs.Denials.{IsDenialTold, IsExpandedTold, IsFormTold, IsPartTold, IsProofOf, IsProofTold, IsProofWithParts, told_form}
+use Rattle.dnsv_explain.specs.Denials.{IsDenialTold, IsExpandedTold, IsFormTold, IsPartSaid, IsPartTold, IsProofOf, IsProofSaid, IsProofTold, IsProofWithParts, told_form}
 use Rattle.dnsv_explain.specs.Explained.{Setting}
 use Rattle.dnsv_explain.specs.Explanation.{IsLinkTold, IsSetTold, IsSettledTold, IsUnsignedFromTold, signature_of}
 use Rattle.dnsv_explain.specs.Explanation.IsSetTold.{as_owned, by_wildcard}
@@ -36,8 +36,8 @@ use Rattle.dnsv_explain.specs.declared.line.derivation.TrustedKeys.{TrustedKeys}
 
 -- the line is one of these settings, if it calls something trusted or good
 abbrev pub IsLineOf : (Setting → Type 0) → Line → Type 0
-IsLineOf Of (line.Trusted keys) = (setting : Setting) × Of setting × (k : ℕ) × IsTrustedLine setting k keys
-IsLineOf Of (line.Signed signed) = (setting : Setting) × Of setting × (number : SignatureNumber) × IsSignedLine setting number signed
+IsLineOf Of (line.Trusted trusted) = (setting : Setting) × Of setting × (k : ℕ) × IsTrustedLine setting k trusted
+IsLineOf Of (line.Signed this) = (setting : Setting) × Of setting × (number : SignatureNumber) × IsSignedLine setting number this
 IsLineOf Of _ = Unit {0}
 
 module _ (Of : Setting → Type 0) where
@@ -86,14 +86,14 @@ module _ (Of : Setting → Type 0) where
     module _ (name : Labels) where
       proof_of : (form : Option Form) (shown : ShownDenial) (before lines : List Line) → IsProofOf form name shown before lines → Are lines
       proof_of None shown before lines told = subst Are (sym told) tt
-      proof_of (Some form) shown before lines told = once _ (line.Proof told.proof) tt before lines told.once
+      proof_of (Some form) shown before lines told = once (IsProofSaid told.proof) (line.Proof told.proof) tt before lines told.once
 
       with_parts : (shown : ShownDenial) (before lines : List Line) → IsProofWithParts setting.rrsets name shown before lines → Are lines
       with_parts shown before lines told =
           both (IsProofTold name shown) (AreEach (IsPartTold setting.rrsets name) (form_parts shown.chain shown.form)) before lines told
           (λ old new proof. proof_of (told_form shown.form) shown old new proof)
           (λ old new parts.
-          each (IsPartTold setting.rrsets name) (λ part older newer part_told. once _ (line.Part part_told.part) tt older newer part_told.once)
+          each (IsPartTold setting.rrsets name) (λ part older newer part_told. once (IsPartSaid part_told.part) (line.Part part_told.part) tt older newer part_told.once)
           (form_parts shown.chain shown.form) old new parts)
 
       denial_told : (shown : ShownDenial) (before lines : List Line) → IsDenialTold setting name shown before lines → Are lines
@@ -101,8 +101,8 @@ module _ (Of : Setting → Type 0) where
           both (AreRecordsDerived setting shown.proof.zone shown.proof.records) (IsProofWithParts setting.rrsets name shown) before lines told
           (records_told shown.proof.zone shown.proof.records) (with_parts shown)
 
-      case_told : (kind : InsecureCase) (at : Labels) (zone : Option Labels) (before lines : List Line) → IsCaseTold kind at zone before lines → Are lines
-      case_told kind at zone before lines told = subst Are (sym told.are) (tt, tt)
+      case_told : (kind : InsecureCase) (at : Labels) (of_zone : Option Labels) (before lines : List Line) → IsCaseTold kind at of_zone before lines → Are lines
+      case_told kind at of_zone before lines told = subst Are (sym told.are) (tt, tt)
 
       unusables : (told : List UnusableDs) → Are (map (λ unusable. line.Unusable unusable) told)
       unusables [] = tt
