@@ -29,10 +29,10 @@ ghost use Rattle.dnsv_explain.specs.unsigned_cuts.ShownCuts.{IsCutShownBy, IsCut
 ghost use Rattle.dnsv_explain.specs.derivations.Ways.{HasSecured};
 
 use crate::interval::{Interval, Times};
-use crate::line::{Kind, Line};
 use crate::line::cut::{Cut, UnusableDs};
 use crate::line::denial::Part;
 use crate::line::derivation::{SignatureNumber, SignedRrset, TrustedKeys};
+use crate::line::{Kind, Line};
 use dnsv_chain::{more_evidence_takes_no_trust_away, trust_depends_on_what_is_asked};
 use dnsv_verdict::Verdict;
 use dnsv_verifier::Answer;

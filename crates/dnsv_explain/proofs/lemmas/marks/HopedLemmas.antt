@@ -1,7 +1,6 @@
 -- Lines that follow under hope follow where just the marked entries are valid.
-use Rattle.std.proofs.Common.{◌≡◌, ◌∙◌, ◌⊎◌, ℕ, List, [], ◌∷◌, ◌++◌, Option, Some, None, refl, sym, ap, subst}
+use Rattle.std.proofs.Common.{◌≡◌, ◌∙◌, ℕ, List, [], ◌∷◌, ◌++◌, Option, Some, None, refl, sym, subst}
 use Rattle.std.specs.List.{AllByRecursion, Contains}
-use Rattle.dnsv_names.specs.Name.{Labels}
 use Rattle.dnsv_canonical.specs.Rrsets.{IsNumbered, ReceivedRrset}
 use Rattle.dnsv_verifier.proofs.TableLemmas.{hopeful_is_table, says_as_its_verifier}
 use Rattle.dnsv_verifier.specs.Admissible.{DnskeyRecord, IsAsked}
@@ -14,7 +13,7 @@ use Rattle.dnsv_chain.specs.declared.anchor.Anchor.{Anchor}
 use Rattle.dnsv_verdict.specs.Verdict.{AreUnknown, basis_of}
 use Rattle.dnsv_explain.specs.Explained.{Explained, IsTodo, Setting, hoped, setting_in}
 use Rattle.dnsv_explain.specs.Following.{EachFollows, Follows, FollowsSigned, FollowsTrusted, IsGoodUnder, IsMatchedBy, IsVouchedBy}
-use Rattle.dnsv_explain.specs.Marked.{AnswersMarked, IsMarked, todo_told}
+use Rattle.dnsv_explain.specs.Marked.{AnswersMarked, IsMarked}
 use Rattle.dnsv_explain.specs.derivations.Ways.{HasSecured, IsSignedLine, IsTrustedLine}
 use Rattle.dnsv_explain.specs.declared.line.Line.{Line}
 use Rattle.dnsv_explain.specs.declared.line.Line.TheVariants as line

@@ -16,8 +16,7 @@ use Rattle.dnsv_chain.specs.Trusted.{IsSecured}
 use Rattle.dnsv_chain.specs.declared.anchor.Anchor.{Anchor}
 use Rattle.dnsv_verdict.proofs.SettledLemmas.{settled_as_to}
 use Rattle.dnsv_verdict.proofs.SettledLemmas.NoLessLemmas.{HoldsCase, no_later, no_worse}
-use Rattle.dnsv_verdict.specs.NoLess.{AnswersNoLess, IsNoLess, case_of}
-use Rattle.dnsv_verdict.specs.Settled.{IsSettledAs}
+use Rattle.dnsv_verdict.specs.NoLess.{IsNoLess, case_of}
 use Rattle.dnsv_verdict.specs.Report.{IsReport}
 use Rattle.dnsv_verdict.specs.Verdict.{AreUnknown, Basis, IsSettledAsBy, IsVerdictAt, basis_of, with_meaning}
 use Rattle.dnsv_verdict.specs.declared.link.Link.{Link}
@@ -28,7 +27,7 @@ use Rattle.dnsv_explain.specs.Explained.{Explained, Setting, hoped, setting_in}
 use Rattle.dnsv_explain.specs.Explanation.{IsEndTold, IsExplanation, IsExplanationOf, IsHopeTold, IsLinkTold, IsSettledTold, IsVerdictTold, IsWayTold, signature_of, told_kind}
 use Rattle.dnsv_explain.specs.Following.{EachFollows, IsSignatureSaid}
 use Rattle.dnsv_explain.specs.Marked.{AnswersMarked, IsMarked}
-use Rattle.dnsv_explain.specs.Saying.{AreBoth, AreEach}
+use Rattle.dnsv_explain.specs.Saying.{AreEach}
 use Rattle.dnsv_explain.specs.declared.line.Kind.{Kind}
 use Rattle.dnsv_explain.specs.declared.line.Kind.TheVariants as kind
 use Rattle.dnsv_explain.specs.declared.line.Line.{Line}
@@ -37,7 +36,7 @@ use Rattle.dnsv_explain.specs.declared.line.place.RrsetPlace.{RrsetPlace}
 use Rattle.dnsv_explain.proofs.lemmas.ExplanationLemmas.{explanation_follows}
 use Rattle.dnsv_explain.proofs.lemmas.FollowingLemmas.{all_true, no_lines, said_secured}
 use Rattle.dnsv_explain.proofs.lemmas.intervals.MomentLemmas.{is_first}
-use Rattle.dnsv_explain.proofs.lemmas.marks.HopedLemmas.{By, IsIts, Its, Then, each_then, unknown_of}
+use Rattle.dnsv_explain.proofs.lemmas.marks.HopedLemmas.{IsIts, each_then, unknown_of}
 use Rattle.dnsv_explain.proofs.lemmas.marks.HopedLemmas.IsIts.{known, under_hope}
 use Rattle.dnsv_explain.proofs.lemmas.marks.LineLemmas.{IsLineOf, both, links_told, settled_told}
 use Rattle.dnsv_explain.proofs.lemmas.stands.ToldLemmas.{Lies, back, front}
@@ -225,7 +224,7 @@ hope_of_report keeps depends basis name t report unknown lines after verdict tol
     let Same : ℕ → Basis = λ m. basis_of basis.rrsets basis.anchors m basis.meaning in
     let Open : Verdict → Type 0 = λ each. IsVerdictAt basis report.last t each in
     let Explains : Verdict → Type 0 = λ each. IsExplanation (record { rrsets = basis.rrsets; anchors = basis.anchors; table = is.table; todo = [] }) t
-        report.links report.last each lines in
+    report.links report.last each lines in
     let open_still : Open (Pending unknown) = subst Open pends told.verdict.is_verdict in
     let Are : ℕ → Type 0 = λ m. AreUnknown (Same m) unknown in
     let Table : ℕ → Type 0 = λ m. IsTableOf basis.meaning m basis.rrsets is.table in

@@ -1,17 +1,16 @@
 -- Records show a denial in one form.
-use Rattle.std.proofs.Common.{◌≡◌, ◌≢◌, ◌∙◌, ◌⊎◌, ⊎_elim, inl, inr, ◌+◌, ◌≤◌, ℕ, Option, Some, None, refl, sym, ap, subst}
-use Rattle.std.specs.Cmp.{IsTotalOrder}
+use Rattle.std.proofs.Common.{◌≡◌, ◌∙◌, inl, inr, ◌+◌, ℕ, Option, Some, None, refl, sym, ap, subst}
 use Rattle.std.specs.Ordering.{ordering_reverse}
 use Rattle.std.specs.declared.cmp.Ordering.{Ordering}
 use Rattle.std.specs.declared.cmp.Ordering.TheVariants.{Less, Equal, Greater}
 use Rattle.dnsv_names.specs.Name.{Labels, rightmost}
 use Rattle.dnsv_names.specs.Tree.{wildcard_of}
 use Rattle.dnsv_zones.specs.forms.Forms.{EndsAt, EmptyWildcardForm, NoNameForm, NoCloserForm, NoDataForms, NoWildcardDataForm}
-use Rattle.dnsv_zones.specs.forms.Parts.{IsFirstToSay, IsNoCloserPart, OptsOut, OptsOutNextCloser}
+use Rattle.dnsv_zones.specs.forms.Parts.{IsFirstToSay, OptsOut, OptsOutNextCloser}
 use Rattle.dnsv_zones.specs.forms.RecordWords.{RecordWords, words}
 use Rattle.dnsv_zones.specs.zones.Types.{Denies, IsUnsignedDelegation}
 use Rattle.dnsv_denial.specs.forms.Denials.{IsDelegationAt}
-use Rattle.dnsv_denial.specs.forms.ProofForms.{ShowsEmptyWildcard, ShowsEncloser, ShowsNoCloser, ShowsNoData, ShowsNoName, ShowsWildcard, ShowsWildcardNoData}
+use Rattle.dnsv_denial.specs.forms.ProofForms.{ShowsEncloser, ShowsNoCloser, ShowsNoData, ShowsNoName, ShowsWildcard}
 use Rattle.dnsv_denial.specs.forms.ProofForms.ShowsNoCloser.{no_closer}
 use Rattle.dnsv_denial.specs.forms.ProofForms.ShowsNoData.{at_name, empty, at_wildcard, empty_wildcard}
 use Rattle.dnsv_denial.specs.forms.ProofForms.ShowsNoName.{no_name}

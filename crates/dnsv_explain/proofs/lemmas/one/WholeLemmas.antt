@@ -1,12 +1,11 @@
 -- An explanation has one text.
-use Rattle.std.proofs.Common.{◌≡◌, ◌∙◌, ◌+◌, ◌-◌, ◌<◌, ◌≤◌, ⊎_elim, ℕ, List, [], ◌∷◌, Option, Some, None, arith, get_or, length, map, refl, sym, ap, subst}
+use Rattle.std.proofs.Common.{◌≡◌, ◌∙◌, ◌+◌, ◌-◌, ◌<◌, ◌≤◌, ⊎_elim, ℕ, List, [], ◌∷◌, Some, arith, get_or, refl, sym, ap, subst}
 use Rattle.std.proofs.lemmas.Bool.{cases_lt}
 use Rattle.std.proofs.lemmas.Cmp.{tied_itself}
 use Rattle.std.proofs.lemmas.Map.Keys.{Less-from_sorted}
 use Rattle.std.proofs.lemmas.Option.{get_or_from_slice_get, slice_get_within}
 use Rattle.std.specs.List.{Contains}
 use Rattle.std.specs.List.Sorted.{IsStrictlySortedBy}
-use Rattle.std.specs.declared.cmp.Ordering.{Ordering}
 use Rattle.std.specs.declared.cmp.Ordering.TheVariants.{Less, Equal}
 use Rattle.dnsv_names.specs.Name.{Labels, rightmost}
 use Rattle.dnsv_records.specs.declared.rrsig.Rrsig.{Rrsig}
@@ -17,10 +16,9 @@ use Rattle.dnsv_verifier.proofs.TableLemmas.{only_table}
 use Rattle.dnsv_verifier.specs.EntryLaws.{entry_cmp_total}
 use Rattle.dnsv_verifier.specs.Table.{TableContents}
 use Rattle.dnsv_verifier.specs.declared.entry.Entry.{Entry}
-use Rattle.dnsv_chain.specs.Trust.{KeptTrust, signed_of}
+use Rattle.dnsv_chain.specs.Trust.{signed_of}
 use Rattle.dnsv_chain.specs.Trusted.{IsSecured}
 use Rattle.dnsv_denial.specs.proving.ShownDenials.{IsShownNoCloser, IsShownNoData, IsShownNoName}
-use Rattle.dnsv_denial.specs.unsigned_cuts.Cuts.{HasUnsignedCut}
 use Rattle.dnsv_denial.specs.unsigned_cuts.ShownCut.{IsShownCut, IsShownOptOutCloser}
 use Rattle.dnsv_denial.specs.declared.proving.shown_denial.ShownDenial.{ShownDenial}
 use Rattle.dnsv_denial.specs.declared.unsigned_cuts.shown_cut.ShownCut.{ShownCut}
@@ -40,7 +38,7 @@ use Rattle.dnsv_explain.specs.Explanation.{IsEndTold, IsExplanation, IsExplanati
 use Rattle.dnsv_explain.specs.Explanation.IsSetTold.{as_owned, by_wildcard}
 use Rattle.dnsv_explain.specs.Explanation.IsUnsignedFromTold.{by_cut, by_wildcard as loosely}
 use Rattle.dnsv_explain.specs.Saying.{AreBoth, AreEach}
-use Rattle.dnsv_explain.specs.derivations.OwnDerivations.{IsSignatureTold, IsTrustIn}
+use Rattle.dnsv_explain.specs.derivations.OwnDerivations.{IsSignatureTold}
 use Rattle.dnsv_explain.specs.unsigned_cuts.ShownCuts.{IsCutTold, IsUnsignedTold}
 use Rattle.dnsv_explain.specs.declared.line.Kind.{Kind}
 use Rattle.dnsv_explain.specs.declared.line.Line.{Line}

@@ -1,9 +1,8 @@
 -- What is told of where a name may be unsigned stands wherever the signatures count that its lines call good.
-use Rattle.std.proofs.Common.{◌≡◌, ◌∙◌, ◌+◌, ◌≤◌, ℕ, List, ◌++◌, None, Some, inl, inr, length, sym, ap, subst}
-use Rattle.std.specs.List.{AllByRecursion, Contains}
+use Rattle.std.proofs.Common.{◌∙◌, ◌+◌, ◌≤◌, ℕ, List, ◌++◌, None, Some, inl, inr, length, sym, ap, subst}
+use Rattle.std.specs.List.{Contains}
 use Rattle.dnsv_names.specs.Name.{Labels, lower_case, rightmost}
 use Rattle.dnsv_zones.specs.forms.Parts.{OptsOut, OptsOutNextCloser}
-use Rattle.dnsv_canonical.specs.Rrsets.{ReceivedRrset}
 use Rattle.dnsv_chain.specs.Trust.{KeptTrust, SecuredIn as KeptIn}
 use Rattle.dnsv_denial.specs.forms.Denials.{IsDelegationAt}
 use Rattle.dnsv_denial.specs.forms.ProofForms.{form_records}
@@ -11,14 +10,13 @@ use Rattle.dnsv_denial.specs.forms.ShownUnsigned.{ShowsDelegation, ShowsOptOut}
 use Rattle.dnsv_denial.specs.gathering.Evidence.{IsSecuredBy}
 use Rattle.dnsv_denial.specs.proving.ShownDenials.{IsFirstShown}
 use Rattle.dnsv_denial.specs.unsigned_cuts.Cuts.{HasUnsignedCut, IsOptOutCut, IsUnsignedDelegationCut, IsUnusableDsCut}
-use Rattle.dnsv_denial.specs.unsigned_cuts.ShownCut.{IsShownCut, IsShownOptOutCloser}
+use Rattle.dnsv_denial.specs.unsigned_cuts.ShownCut.{IsShownCut}
 use Rattle.dnsv_denial.specs.unsigned_cuts.ShownCut.IsShownCut.{no_ds, no_usable_ds, opt_out}
 use Rattle.dnsv_denial.specs.words.EvidenceWords.{evidence_said, number_cmp}
 use Rattle.dnsv_denial.specs.declared.proving.shown_denial.ShownDenial.{ShownDenial}
 use Rattle.dnsv_denial.specs.declared.records.number.RecordNumber.{RecordNumber}
 use Rattle.dnsv_denial.specs.declared.unsigned_cuts.shown_cut.ShownCut.{ShownCut}
-use Rattle.dnsv_verdict.specs.Insecure.{IsOptOutWildcardSet, IsUnsigned}
-use Rattle.dnsv_verdict.specs.Secure.{IsFirstSuch}
+use Rattle.dnsv_verdict.specs.Insecure.{IsUnsigned}
 use Rattle.dnsv_explain.specs.Denials.{IsProofWithParts}
 use Rattle.dnsv_explain.specs.Explained.{Setting}
 use Rattle.dnsv_explain.specs.Explanation.{IsUnsignedFromTold, signature_of}

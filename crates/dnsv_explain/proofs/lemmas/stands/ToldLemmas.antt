@@ -1,14 +1,13 @@
 -- What is told of a verdict stands wherever the signatures count that its lines call good.
-use Rattle.std.proofs.Common.{◌≡◌, ◌∙◌, ◌+◌, ◌≤◌, ℕ, suc, List, [], ◌∷◌, ◌++◌, Option, Some, None, inl, inr, refl, sym, ap, subst, append_assoc}
-use Rattle.std.specs.List.{AllByRecursion, Contains}
-use Rattle.dnsv_names.specs.Name.{Labels, lower_case, rightmost}
+use Rattle.std.proofs.Common.{◌≡◌, ◌∙◌, ◌+◌, ℕ, List, ◌++◌, inl, inr, refl, sym, ap, subst, append_assoc}
+use Rattle.std.specs.List.{Contains}
+use Rattle.dnsv_names.specs.Name.{Labels, lower_case}
 use Rattle.dnsv_records.specs.declared.rrsig.Rrsig.{Rrsig}
-use Rattle.dnsv_zones.specs.forms.Forms.{IsAbove, NoCloserForm, NoDataForms, NoNameForm}
+use Rattle.dnsv_zones.specs.forms.Forms.{IsAbove, NoDataForms, NoNameForm}
 use Rattle.dnsv_zones.specs.forms.RecordWords.{words}
-use Rattle.dnsv_zones.specs.zones.TypeNumbers.{cname}
-use Rattle.dnsv_canonical.specs.Rrsets.{IsNumbered, ReceivedRrset}
+use Rattle.dnsv_canonical.specs.Rrsets.{ReceivedRrset}
 use Rattle.dnsv_canonical.specs.SignedData.{IsExpanded}
-use Rattle.dnsv_chain.specs.Trust.{KeptTrust, SecuredIn as KeptIn}
+use Rattle.dnsv_chain.specs.Trust.{SecuredIn as KeptIn}
 use Rattle.dnsv_denial.specs.forms.ProofForms.{ShowsNoCloser, form_records}
 use Rattle.dnsv_denial.specs.forms.ProofForms.ShowsNoCloser.{no_closer as closer_shown}
 use Rattle.dnsv_denial.specs.gathering.Evidence.{IsSecuredBy}
@@ -19,7 +18,7 @@ use Rattle.dnsv_denial.specs.declared.forms.proof_form.ProofForm.{ProofForm}
 use Rattle.dnsv_denial.specs.declared.proving.shown_denial.ShownDenial.{ShownDenial}
 use Rattle.dnsv_denial.specs.declared.records.number.RecordNumber.{RecordNumber}
 use Rattle.dnsv_verdict.specs.Secure.{HoldsForName, IsSecureSet}
-use Rattle.dnsv_explain.specs.Denials.{IsDenialTold, IsExpandedTold, IsProofWithParts}
+use Rattle.dnsv_explain.specs.Denials.{IsDenialTold, IsProofWithParts}
 use Rattle.dnsv_explain.specs.Explained.{Setting}
 use Rattle.dnsv_explain.specs.Explanation.{IsNoDataTold, IsNoNameTold, IsSetTold, signature_of}
 use Rattle.dnsv_explain.specs.Explanation.IsSetTold.{as_owned, by_wildcard}

@@ -1,5 +1,5 @@
 -- The verdicts of an explanation are no worse wherever the signatures count that its lines call good.
-use Rattle.std.proofs.Common.{◌≡◌, ◌∙◌, ◌≤◌, ⊎_elim, ℕ, List, [], ◌∷◌, ◌++◌, arith, refl, sym, ap, subst}
+use Rattle.std.proofs.Common.{◌≡◌, ◌≤◌, ⊎_elim, ℕ, List, [], ◌∷◌, ◌++◌, arith, sym, subst}
 use Rattle.std.proofs.lemmas.List.{append-nil}
 use Rattle.std.specs.List.{Contains}
 use Rattle.dnsv_names.specs.Name.{Labels}
@@ -13,17 +13,16 @@ use Rattle.dnsv_chain.specs.Trusted.{IsSecured}
 use Rattle.dnsv_chain.specs.declared.anchor.Anchor.{Anchor}
 use Rattle.dnsv_verdict.proofs.SettledLemmas.NoLessLemmas.{HoldsCase, no_later}
 use Rattle.dnsv_verdict.specs.NoLess.{case_of}
-use Rattle.dnsv_verdict.specs.Secure.{IsSecureSet}
 use Rattle.dnsv_verdict.specs.Settled.{IsSettledAs}
 use Rattle.dnsv_verdict.specs.Verdict.{IsSettledAsBy, IsSettledVerdict, IsVerdictAt, basis_of}
-use Rattle.dnsv_verdict.specs.Way.{IsVerdictOf, LeadTo}
+use Rattle.dnsv_verdict.specs.Way.{LeadTo}
 use Rattle.dnsv_verdict.specs.declared.link.Link.{Link}
 use Rattle.dnsv_verdict.specs.declared.verdict.Verdict.{Verdict}
 use Rattle.dnsv_verdict.specs.declared.verdict.Verdict.TheVariants.{SecureAnswer, SecureAlias, SecureNoName, SecureNoData, Insecure, Pending, Bogus, Indeterminate}
 use Rattle.dnsv_explain.specs.Explained.{Explained, Setting, basis_in, setting_in}
 use Rattle.dnsv_explain.specs.Explanation.{IsEndTold, IsExplanation, IsLinkTold, IsSettledTold, IsVerdictTold, IsWayTold, its_setting, signature_of}
 use Rattle.dnsv_explain.specs.Following.{EachFollows, IsSignatureSaid, at_moment}
-use Rattle.dnsv_explain.specs.Saying.{AreBoth, AreEach}
+use Rattle.dnsv_explain.specs.Saying.{AreEach}
 use Rattle.dnsv_explain.specs.derivations.OwnDerivations.{SecuredIn}
 use Rattle.dnsv_explain.specs.intervals.Holding.{AreShownValidAt}
 use Rattle.dnsv_explain.specs.declared.line.Line.{Line}

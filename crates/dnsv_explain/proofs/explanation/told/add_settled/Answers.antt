@@ -1,7 +1,9 @@
-use Rattle.std.proofs.Common.{subst}
+use Rattle.std.proofs.Common.{subst, sym}
 use Rattle.dnsv_verdict.specs.Verdict.{IsSettledAsBy}
 use Rattle.dnsv_verdict.specs.declared.verdict.Verdict.{Verdict}
-use Rattle.dnsv_explain.specs.Explained.{basis_in}
+use Rattle.dnsv_explain.specs.Explained.{basis_in, setting_in}
+use Rattle.dnsv_explain.specs.Explanation.{IsSettledTold}
+use Rattle.dnsv_explain.specs.Saying.{Adds}
 use Rattle.dnsv_explain.proofs.lemmas.SecureLemmas.{alias_secure, answer_secure, data_proved, name_proved, unsigned_of}
 use Rattle.dnsv_explain.proofs.lemmas.TellLemmas.{cut_added, cut_shown_by}
 use Rattle.dnsv_explain.proofs.explanation.told.add_settled.Goals as goal
@@ -33,4 +35,12 @@ add_wildcard_cut-requires-clause-unsigned c =
 
 pub add_cut-requires : goal.add_cut-requires
 add_cut-requires c =
-    cut_shown_by c.args.at.now.grounds.now c.args.evidence.now c.requires.at.evidence c.requires.at.trust c.in_ok-view.view c.args.at.now.name.now c.in_ok-view.ensures c.in-Some.shown c.in-Some.ensures.first
+    cut_shown_by c.args.at.now.grounds.now c.args.evidence.now c.requires.at.evidence c.requires.at.trust c.in_ok-view-in-Insecure.view c.args.at.now.name.now c.in_ok-view-in-Insecure.ensures c.in-Some.shown c.in-Some.ensures.first
+
+pub returns-in_ok-add_cut-in-Insecure : goal.returns-in_ok-add_cut-in-Insecure
+returns-in_ok-add_cut-in-Insecure c =
+    let Told : Verdict → Type 0 = λ each. Adds (IsSettledTold (setting_in c.args.evidence.now) c.args.at.now.name.now c.args.rtype.0 each)
+    c.args.lines.now.items c.add_cut.new.lines.items in
+    subst Told (sym c.in-Insecure.is)
+    (cut_added c.args.at.now.grounds.now c.args.evidence.now c.requires.at.evidence c.requires.at.trust c.in_ok-view-in-Insecure.view c.args.at.now.name.now c.in_ok-view-in-Insecure.ensures
+    c.args.rtype.0 c.in-Some.shown _ _ c.in-Some.ensures.first c.in_ok-add_cut-in-Insecure.ensures)
