@@ -154,35 +154,17 @@ module _ (setting : Setting) where
       → (before : List Line) → ((number : RecordNumber) → Contains shown.proof.records number → OwnSaid shown.proof.zone before number.rrset)
       → IsCaseBy (Said before) (IsSaidSigned before) setting.rrsets kind cut (Some shown.proof.zone)
   case_shown name shown _ _ (no_ds trust good labels is) before own =
-      let zone = shown.proof.zone in (
-        zone,
-        refl,
-        (
-          name,
-          labels,
-          is.chain,
-          refl,
-          delegation_by (KeptIn trust) (Said before) setting.rrsets zone name is.chain labels shown.form
-              (each_by (Counts (KeptIn trust) (Said before) setting.rrsets zone name) (form_records shown.form)
-              (λ number there. own number ((is.records.members number).1 there)))
-              is.shows,
-        ),
-      )
+      let zone = shown.proof.zone in
+      let counted = each_by (Counts (KeptIn trust) (Said before) setting.rrsets zone name) (form_records shown.form)
+      (λ number there. own number ((is.records.members number).1 there)) in
+      let shows = delegation_by (KeptIn trust) (Said before) setting.rrsets zone name is.chain labels shown.form counted is.shows in
+      (zone, refl, (name, labels, is.chain, refl, shows))
   case_shown name shown _ _ (opted_out trust good labels is) before own =
-      let zone = shown.proof.zone in (
-        zone,
-        refl,
-        (
-          name,
-          labels,
-          is.chain,
-          refl,
-          opt_out_by (KeptIn trust) (Said before) setting.rrsets zone name is.chain labels shown.form
-              (each_by (Counts (KeptIn trust) (Said before) setting.rrsets zone name) (form_records shown.form)
-              (λ number there. own number ((is.records.members number).1 there)))
-              is.shows,
-        ),
-      )
+      let zone = shown.proof.zone in
+      let counted = each_by (Counts (KeptIn trust) (Said before) setting.rrsets zone name) (form_records shown.form)
+      (λ number there. own number ((is.records.members number).1 there)) in
+      let shows = opt_out_by (KeptIn trust) (Said before) setting.rrsets zone name is.chain labels shown.form counted is.shows in
+      (zone, refl, (name, labels, is.chain, refl, shows))
   case_shown name shown _ _ (closer_opted_out trust good labels zone is) before own =
       let above = closer_above (KeptIn trust) setting.rrsets zone name is.chain labels shown.form is.shows in
       let same = ap lower_case is.zone ∙ sym (spelled name zone labels above) in
