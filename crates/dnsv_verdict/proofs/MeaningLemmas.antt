@@ -1,7 +1,7 @@
 -- What verdicts mean for each zone that has the records which they rest on in its chain.
 pub mod CompleteLemmas
-use Rattle.std.proofs.Common.{◌≡◌, ◌⊎◌, ◌+◌, ℕ, List, inl, inr, ⊎_elim}
-use Rattle.dnsv_names.specs.Name.{Labels, rightmost}
+use Rattle.std.proofs.Common.{◌⊎◌, ℕ, List, inl, inr, ⊎_elim}
+use Rattle.dnsv_names.specs.Name.{Labels}
 use Rattle.dnsv_records.specs.declared.rrsig.Rrsig.{Rrsig}
 use Rattle.dnsv_zones.specs.forms.Forms.{NoCloserForm}
 use Rattle.dnsv_zones.specs.forms.RecordWords.{words}
@@ -14,7 +14,7 @@ use Rattle.dnsv_denial.proofs.meaning.DeniedMeaning.{denied_means}
 use Rattle.dnsv_denial.proofs.meaning.ProofMeaningLemmas.{first_no_data_means, first_no_name_means}
 use Rattle.dnsv_denial.specs.proving.FirstProof.{CanProveNoCloser}
 use Rattle.dnsv_denial.specs.unsigned_cuts.Cuts.{HasUnsignedCut, IsUnsignedCut}
-use Rattle.dnsv_denial.specs.words.EvidenceWords.{Chain, evidence_said}
+use Rattle.dnsv_denial.specs.words.EvidenceWords.{evidence_said}
 use Rattle.dnsv_verdict.proofs.SearchLemmas.OptOutLemmas.{such_too}
 use Rattle.dnsv_verdict.specs.Insecure.{IsOptOutWildcardCut}
 use Rattle.dnsv_verdict.specs.Meaning.{IsOwnOrFromWildcard, IsShownFromWildcard, IsTrueOfZones, MeansOptOutWildcardCut}

@@ -1,5 +1,5 @@
 -- What the line of a case says, and from which lines before it that follows (RFC 4035 5.2, RFC 5155 8.6, 8.8, 8.9).
-use Rattle.std.specs.Prelude.{◌≡◌, ◌+◌, ℕ, List, Option, Some, None, Contains}
+use Rattle.std.specs.Prelude.{◌≡◌, ◌+◌, ℕ, List, Option, Some, None}
 use Rattle.std.specs.List.{AllZip}
 use Rattle.dnsv_names.specs.Name.{Labels, SameName, rightmost}
 use Rattle.dnsv_records.specs.Ds.{IsDs}
