@@ -14,6 +14,7 @@ pub mod TodoLemmas
 pub mod WholeLemmas
 pub mod denials
 pub mod derivations
+pub mod faults
 pub mod intervals
 pub mod marks
 pub mod one

@@ -7,6 +7,7 @@ pub mod Marked
 pub mod Places
 pub mod Saying
 pub mod derivations
+pub mod faults
 pub mod intervals
 pub mod line
 pub mod unsigned_cuts

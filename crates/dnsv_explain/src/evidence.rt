@@ -4,12 +4,14 @@ ghost use Rattle.std.specs.Option.{option_map_or};
 ghost use Rattle.dnsv_verifier.specs.Admissible.{IsGood};
 ghost use Rattle.dnsv_verifier.specs.Table.{table_answer};
 ghost use Rattle.dnsv_chain.specs.Trust.{AreSecured, IsTrustOf};
-ghost use Rattle.dnsv_explain.specs.Explained.{IsTodo};
+ghost use Rattle.dnsv_explain.specs.Explained.{IsTodo, setting_in};
+ghost use Rattle.dnsv_explain.specs.faults.Keys.{IsTrustedZone};
 
 use crate::line::derivation::Todo;
 use crate::todo::number_among;
 use dnsv_canonical::{Capture, Rrset};
 use dnsv_chain::{Anchor, Anchors, Trust, is_good};
+use dnsv_names::Name;
 use dnsv_records::Rrsig;
 use dnsv_verifier::{Entries, KeyRecord, Table};
 use std::alloc::{AllocError, Global};
@@ -84,6 +86,20 @@ impl<'a> Evidence<'a> {
         ensures { result ≡ self.now.table.moment }
     {
         self.table.moment()
+    }
+
+    /// What the verifier says.
+    pub(crate) fn table(&self) -> &Table
+        ensures { result.now ≡ self.now.table }
+    {
+        self.table
+    }
+
+    /// Whether a DNSKEY RRset of the zone is trusted.
+    pub(crate) fn is_trusted_zone(&self, zone: &Name) -> bool
+        ensures { IsTrue result ↔ IsTrustedZone (setting_in self.now) zone.now }
+    {
+        !self.trust.keys(zone).is_empty()
     }
 
     /// The RRsets, which are numbered from 1.

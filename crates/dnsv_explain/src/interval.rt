@@ -11,7 +11,7 @@ use std::fmt;
 const LAST_MOMENT: u64 = 281_474_976_710_655;
 
 /// Half of the circle of serial numbers of 32 bits.
-const HALF: u32 = 0x8000_0000;
+pub const HALF: u32 = 0x8000_0000;
 
 /// When a signature is valid (RFC 4034 3.1.5).
 #[derive(Clone, Copy, Debug, PartialEq, Eq)]
@@ -72,8 +72,8 @@ fn reach(times: Times, moment: u64) -> Interval
     requires { ValidAt times.inception.0 times.expiration.0 moment }
     ensures { IsReach times moment result }
 {
-    let since = seconds_since(times.inception, moment);
-    let left = seconds_left(times.expiration, moment);
+    let since = seconds_since(times.inception.0, moment);
+    let left = seconds_left(times.expiration.0, moment);
     let before = since.min((HALF - 1).saturating_sub(left));
     let behind = left.min((HALF - 1).saturating_sub(since));
     Interval {
@@ -82,18 +82,18 @@ fn reach(times: Times, moment: u64) -> Interval
     }
 }
 
-/// How many seconds the moment is behind the inception, around the circle.
-fn seconds_since(inception: Inception, moment: u64) -> u32
-    ensures { result ≡ seconds_on inception.0 moment }
+/// How many seconds the moment is behind the time, around the circle.
+pub fn seconds_since(time: u32, moment: u64) -> u32
+    ensures { result ≡ seconds_on time moment }
 {
     let now = (moment % (1 << 32)) as u32;
-    now.wrapping_sub(inception.0)
+    now.wrapping_sub(time)
 }
 
-/// How many seconds the expiration is behind the moment, around the circle.
-fn seconds_left(expiration: Expiration, moment: u64) -> u32
-    ensures { result ≡ seconds_on moment expiration.0 }
+/// How many seconds the time is behind the moment, around the circle.
+pub fn seconds_left(time: u32, moment: u64) -> u32
+    ensures { result ≡ seconds_on moment time }
 {
     let now = (moment % (1 << 32)) as u32;
-    expiration.0.wrapping_sub(now)
+    time.wrapping_sub(now)
 }

@@ -24,6 +24,8 @@ ghost use Rattle.dnsv_explain.specs.Marked.{AnswersMarked};
 ghost use Rattle.dnsv_explain.specs.Following.{EachFollows, at_moment};
 ghost use Rattle.dnsv_explain.specs.Following.Cases.{IsCaseBy};
 ghost use Rattle.dnsv_explain.specs.Following.Parts.{IsPartOf, IsUnusableRecord};
+ghost use Rattle.dnsv_explain.specs.faults.RrsetLines.{AreLinesOfNumber};
+ghost use Rattle.dnsv_explain.specs.faults.Truth.{IsReasonTrue};
 ghost use Rattle.dnsv_explain.specs.intervals.Holding.{AreShownValidAt, IsHolding, IsHoldingOf};
 ghost use Rattle.dnsv_explain.specs.unsigned_cuts.ShownCuts.{IsCutShownBy, IsCutTold};
 ghost use Rattle.dnsv_explain.specs.derivations.Ways.{HasSecured};
@@ -32,6 +34,7 @@ use crate::interval::{Interval, Times};
 use crate::line::cut::{Cut, UnusableDs};
 use crate::line::denial::Part;
 use crate::line::derivation::{SignatureNumber, SignedRrset, TrustedKeys};
+use crate::line::fault::Reason;
 use crate::line::{Kind, Line};
 use dnsv_chain::{more_evidence_takes_no_trust_away, trust_depends_on_what_is_asked};
 use dnsv_verdict::Verdict;
@@ -155,3 +158,9 @@ pub fn marked_entries_settle_what_is_hoped()
     more_evidence_takes_no_trust_away();
     trust_depends_on_what_is_asked();
 }
+
+/// What is said to fail of an RRset is so: each word is true of what it is said of, by its definition.
+pub fn reasons_of_rrsets_are_true()
+    ensures { (setting : Setting) (name : Labels) (t k : ℕ) (lines : List Line) → AreLinesOfNumber setting k lines
+        → (reason : Reason) → Contains lines (Line.Reason reason) → IsReasonTrue setting name t reason }
+{}

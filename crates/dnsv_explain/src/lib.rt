@@ -6,16 +6,32 @@
 pub use derivations::derivation;
 pub use evidence::Evidence;
 pub use explanation::{Explanation, explain};
+pub use faults::add_rrset_faults;
+pub use faults::shown_keys::add_keys_in_question;
 pub use interval::{Interval, Times, holding};
 pub use laws::{
     a_report_has_one_explanation, denials_follow, derivations_follow, expanded_signatures_follow,
     explanations_follow, lines_follow_as_long_as_they_hold, lines_that_follow_are_true,
-    marked_entries_settle_what_is_hoped, signatures_hold_in_one_interval, unsigned_cuts_follow,
+    marked_entries_settle_what_is_hoped, reasons_of_rrsets_are_true,
+    signatures_hold_in_one_interval, unsigned_cuts_follow,
     verdicts_are_no_worse_as_long_as_explanations_hold,
 };
 pub use line::cut::{Cut, InsecureCase, UnusableDs, WhyUnusable};
 pub use line::denial::{Chain, Form, Part, Proof, RecordPlace, Relation, Role};
 pub use line::derivation::{KeyName, SignatureNumber, SignedRrset, Todo, TrustedKeys, Voucher};
+pub use line::fault::Reason;
+pub use line::fault::denial::{
+    DenialUnproved, DnameAbove, MissingAnswer, Source, SourceFault, UnusableNsec3, WhyNsec3,
+    WhySource,
+};
+pub use line::fault::key::ShownKey;
+pub use line::fault::signature::{
+    CloserName, ShownSignature, SignatureFault, SignatureTimes, UnsignedRrset, UntrustedSigner,
+    WhySignature,
+};
+pub use line::fault::zone::{
+    Entry, EntryFault, EntryNumber, KeyWithoutSignature, WhyEntry, WhyZone, ZoneFault,
+};
 pub use line::place::RrsetPlace;
 pub use line::{Kind, Line};
 pub use places::places_named;
@@ -27,6 +43,7 @@ mod denials;
 mod derivations;
 mod evidence;
 mod explanation;
+mod faults;
 mod interval;
 mod laws;
 mod line;

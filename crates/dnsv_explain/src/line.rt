@@ -3,6 +3,7 @@
 pub mod cut;
 pub mod denial;
 pub mod derivation;
+pub mod fault;
 pub mod place;
 
 ghost use Rattle.std.specs.Prelude.{Some};
@@ -12,6 +13,9 @@ use crate::interval::Interval;
 use crate::line::cut::{Cut, UnusableDs};
 use crate::line::denial::{Part, Proof};
 use crate::line::derivation::{SignedRrset, TrustedKeys};
+use crate::line::fault::Reason;
+use crate::line::fault::key::ShownKey;
+use crate::line::fault::signature::UntrustedSigner;
 use crate::line::place::RrsetPlace;
 use std::fmt;
 
@@ -34,6 +38,12 @@ pub enum Line {
     Hope(Kind),
     /// From when to when the signatures of the lines before it are valid.
     Holds(Interval),
+    /// A fact that keeps the evidence from proving more.
+    Reason(Reason),
+    /// A signature proves nothing because its signer isn't trusted.
+    Follows(UntrustedSigner),
+    /// A DNSKEY record, with what is good under it and what matches it.
+    Key(ShownKey),
     /// Where an RRset stands.
     Rrset(RrsetPlace),
 }
@@ -52,6 +62,9 @@ impl fmt::Display for Line {
             Line::Unusable(ds) => write!(f, "{ds}"),
             Line::Hope(kind) => write!(f, "hope {kind}"),
             Line::Holds(interval) => write!(f, "holds {interval}"),
+            Line::Reason(reason) => write!(f, "{reason}"),
+            Line::Follows(untrusted) => write!(f, "{untrusted}"),
+            Line::Key(key) => write!(f, "{key}"),
             Line::Rrset(place) => write!(f, "{place}"),
         }
     }

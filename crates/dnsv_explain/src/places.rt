@@ -83,6 +83,18 @@ fn named_rrsets(line: &Line) -> ArrayVec<usize, 2>
             }
         }
         Line::Unusable(ds) => numbers.push(ds.number.rrset),
+        Line::Reason(reason) => {
+            if let Some(number) = reason.rrset() {
+                numbers.push(number);
+            }
+        }
+        Line::Follows(untrusted) => numbers.push(untrusted.signature.number.rrset),
+        Line::Key(key) => {
+            numbers.push(key.number.rrset);
+            if let Some(ds) = key.ds {
+                numbers.push(ds.rrset);
+            }
+        }
         _ => {}
     }
     numbers

@@ -55,7 +55,7 @@ pub fn key_name(key: &KeyRecord<'_>) -> KeyName
 }
 
 /// The signature of lowest number of the RRset, which has the number, that is good under the key.
-fn lowest_good(
+pub fn lowest_good(
     alloc: Global,
     evidence: &Evidence<'_>,
     number: usize,

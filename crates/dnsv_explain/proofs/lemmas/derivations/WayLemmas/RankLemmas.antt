@@ -286,7 +286,7 @@ module _ (setting : Setting) (k : ℕ) (set : ReceivedRrset) (is_set : IsNumbere
       }
 
   -- what is said of a record with the number is said of the record at the place
-  same_record : (place : ℕ) (each : Ds) → RecordAt place each → (number : RecordNumber) (digest_type : DigestType) (key : DnskeyRecord)
+  pub same_record : (place : ℕ) (each : Ds) → RecordAt place each → (number : RecordNumber) (digest_type : DigestType) (key : DnskeyRecord)
       → number.rrset ≡ from → number.place ≡ place + 1 → IsDsMatch setting number digest_type key
       → IsUsable values each × IsMatch ds.owner each key
   same_record place each at number digest_type key rrset_is place_is is =
@@ -311,7 +311,7 @@ module _ (setting : Setting) (k : ℕ) (set : ReceivedRrset) (is_set : IsNumbere
       let MatchOne : Ds → Type 0 = λ one. IsMatch ds.owner one key in
       (subst UsableOne ds_is (subst Usable records_are is.usable), subst MatchOne ds_is (subst Match same is.matching))
 
-  record_said : (place : ℕ) (each : Ds) → RecordAt place each → (key : DnskeyRecord) → IsUsable values each
+  pub record_said : (place : ℕ) (each : Ds) → RecordAt place each → (key : DnskeyRecord) → IsUsable values each
       → IsMatch ds.owner each key → IsDsMatch setting (number_of place) each.digest_type key
   record_said place each at key usable matching =
       let same : place ≡ place + 1 - 1 = omega arith in

@@ -1,0 +1,10 @@
+pub mod KeyLemmas
+pub mod ListingLemmas
+pub mod LowestLemmas
+pub mod RemarkLemmas
+pub mod ShownKeyLemmas
+pub mod SignatureLemmas
+pub mod TrustLemmas
+pub mod TruthLemmas
+pub mod VerifierLemmas
+pub mod WordLemmas

@@ -1,0 +1,222 @@
+-- What is said of a zone that isn't trusted: what its DS RRsets lack, what matches no key, and which key doesn't sign.
+use Rattle.std.specs.Prelude.{◌≡◌, ◌≢◌, ◌⊎◌, ◌+◌, ℕ, List, [], ◌∷◌, ◌++◌, Option, Some, None, Contains, map}
+use Rattle.std.specs.List.{AllZip}
+use Rattle.dnsv_names.specs.Name.{Labels, SameName}
+use Rattle.dnsv_records.specs.Ds.{IsDs}
+use Rattle.dnsv_records.specs.Rrsig.{IsRrsig}
+use Rattle.dnsv_records.specs.declared.ds.Ds.{Ds}
+use Rattle.dnsv_records.specs.declared.rrsig.Rrsig.{Rrsig}
+use Rattle.dnsv_canonical.specs.Rrsets.{IsNumbered, ReceivedRrset}
+use Rattle.dnsv_chain.specs.Anchor.{anchor_owner}
+use Rattle.dnsv_chain.specs.Trusted.{IsKeyOf, SignsItsSet}
+use Rattle.dnsv_chain.specs.declared.anchor.Anchor.{Anchor}
+use Rattle.dnsv_chain.specs.declared.anchor.Anchor.TheVariants as anchor
+use Rattle.dnsv_denial.specs.gathering.Evidence.{IsRecordAt}
+use Rattle.dnsv_denial.specs.declared.records.number.RecordNumber.{RecordNumber}
+use Rattle.dnsv_verdict.specs.Verdict.{HasAnchor}
+use Rattle.dnsv_explain.specs.Explained.{Setting}
+use Rattle.dnsv_verifier.specs.Admissible.{DnskeyRecord}
+use Rattle.dnsv_explain.specs.Following.{IsNamed}
+use Rattle.dnsv_explain.specs.derivations.WaySearch.{AreKeysInOrder}
+use Rattle.dnsv_explain.specs.faults.Entries.{IsFaultOfEntry, IsMatchOf, IsWantedBy, Wanted, entry_rank, told_entry}
+use Rattle.dnsv_explain.specs.faults.Entries.Wanted.{by_digest, whole_key}
+use Rattle.dnsv_explain.specs.faults.Keys.{HasKeys, IsKeyAt, IsNamedBy, named_by}
+use Rattle.dnsv_explain.specs.faults.Listing.{AreOfEach, AreOfNumbered, AreParted, AreThose, AreWhere}
+use Rattle.dnsv_explain.specs.faults.RrsetLines.{AreRrsetLines, fault_line, shown_of, unsigned_line}
+use Rattle.dnsv_explain.specs.faults.SignatureFaults.{AreFaultsOf, IsFaultOf, IsVerifierWord}
+use Rattle.dnsv_explain.specs.faults.Zones.{HasOwnAnchor, HasRrset, IsDsWay, IsParent}
+use Rattle.dnsv_explain.specs.unsigned_cuts.UnsignedCuts.{record_of}
+use Rattle.dnsv_explain.specs.declared.line.Line.{Line}
+use Rattle.dnsv_explain.specs.declared.line.Line.TheVariants as line
+use Rattle.dnsv_explain.specs.declared.line.derivation.KeyName.{KeyName}
+use Rattle.dnsv_explain.specs.declared.line.fault.Reason.TheVariants as reason
+use Rattle.dnsv_explain.specs.declared.line.fault.signature.WhySignature.{WhySignature}
+use Rattle.dnsv_explain.specs.declared.line.fault.zone.EntryNumber.TheVariants as entry_number
+use Rattle.dnsv_explain.specs.declared.line.fault.zone.WhyEntry.{WhyEntry}
+use Rattle.dnsv_explain.specs.declared.line.fault.zone.WhyEntry.TheVariants as why
+use Rattle.dnsv_explain.specs.declared.line.fault.zone.WhyZone.{WhyZone}
+use Rattle.dnsv_explain.specs.declared.line.fault.zone.WhyZone.TheVariants as zone_why
+
+-- ---- lines
+
+abbrev pub zone_line : WhyZone → Labels → Line
+zone_line why zone = line.Reason (reason.Zone (record { why = why; zone = zone }))
+
+abbrev pub entry_line : Labels → Wanted → WhyEntry → Line
+entry_line zone wanted why =
+    line.Reason (reason.Entry (record { why = why; entry = told_entry zone wanted }))
+
+abbrev pub not_self_signed_line : Labels → ℕ → KeyName → Line
+not_self_signed_line zone k key =
+    line.Reason (reason.NotSelfSigned (record { zone = zone; rrset = k; key = key }))
+
+-- ---- keys that don't sign the DNSKEY RRset in which they stand
+
+-- a signature of the zone may be by the key alone, one of another signer by those that it names
+abbrev pub MayBeBy : Setting → Labels → DnskeyRecord → Rrsig → DnskeyRecord → Type 0
+MayBeBy setting zone key rrsig other =
+    (SameName rrsig.signer zone × (other ≡ key)) ⊎ ((¬ SameName rrsig.signer zone) × IsNamedBy setting.rrsets rrsig other)
+
+-- why the signature isn't good under the key, whoever is trusted: all that is wrong with it before a verifier is asked,
+-- or else what it answers, if it says Invalid or Unknown
+pub data AreWhyNotGood (setting : Setting) (zone : Labels) (key : DnskeyRecord) (set : ReceivedRrset) (rrsig : Rrsig)
+    : List WhySignature → Type 0 where
+  faulty : (faults : List WhySignature)
+      → AreFaultsOf (MayBeBy setting zone key rrsig) (HasKeys setting.rrsets rrsig.signer) setting set rrsig faults
+      → faults ≢ [] → AreWhyNotGood setting zone key set rrsig faults
+  answered : (answered : WhySignature) → IsVerifierWord answered
+      → AreFaultsOf (MayBeBy setting zone key rrsig) (HasKeys setting.rrsets rrsig.signer) setting set rrsig []
+      → IsFaultOf (MayBeBy setting zone key rrsig) (HasKeys setting.rrsets rrsig.signer) setting set rrsig answered
+      → AreWhyNotGood setting zone key set rrsig (answered ∷ [])
+  silent : AreFaultsOf (MayBeBy setting zone key rrsig) (HasKeys setting.rrsets rrsig.signer) setting set rrsig []
+      → ((answered : WhySignature) → IsVerifierWord answered
+      → ¬ IsFaultOf (MayBeBy setting zone key rrsig) (HasKeys setting.rrsets rrsig.signer) setting set rrsig answered)
+      → AreWhyNotGood setting zone key set rrsig []
+
+-- what is said of signature s, if it has the key's tag and algorithm
+abbrev pub AreNamedLines : Setting → Labels → DnskeyRecord → ℕ → ReceivedRrset → ℕ → List ℕ → List Line → Type 0
+AreNamedLines setting zone key k set s rdata lines =
+    (rrsig : Rrsig) × IsRrsig rdata rrsig
+    × AreWhere (IsNamed key (named_by rrsig)) (λ said. (whys : List WhySignature)
+    × AreWhyNotGood setting zone key set rrsig whys × (said ≡ map (fault_line (shown_of k s set rrsig)) whys)) lines
+
+-- a signature of the RRset has the key's tag and algorithm
+abbrev pub HasNamedSignature : ReceivedRrset → DnskeyRecord → Type 0
+HasNamedSignature set key =
+    (rdata : List ℕ) × Contains set.signatures rdata × ((rrsig : Rrsig) × IsRrsig rdata rrsig × IsNamed key (named_by rrsig))
+
+-- why the key of DNSKEY RRset k doesn't sign it: it has no signatures, none that names the key, or what is wrong with
+-- these
+pub data AreKeyLines (setting : Setting) (zone : Labels) (k : ℕ) (set : ReceivedRrset) (key : DnskeyRecord)
+    : List Line → Type 0 where
+  unsigned : set.signatures ≡ [] → AreKeyLines setting zone k set key (unsigned_line k set ∷ [])
+  not_self_signed : (name : KeyName) → set.signatures ≢ [] → ¬ HasNamedSignature set key → IsNamed key name
+      → AreKeyLines setting zone k set key (not_self_signed_line zone k name ∷ [])
+  named : (lines : List Line) → HasNamedSignature set key
+      → AreOfNumbered (AreNamedLines setting zone key k set) 1 set.signatures lines
+      → AreKeyLines setting zone k set key lines
+
+-- such a key signs a DNSKEY RRset in which it stands
+pub record IsSomeSelfSigned (setting : Setting) (Meant : DnskeyRecord → Type 0) : Type 0 where
+  pub set : ReceivedRrset
+  pub among : Contains setting.rrsets set
+  pub key : DnskeyRecord
+  pub meant : Meant key
+  pub signs : SignsItsSet setting.meaning setting.moment set key
+
+-- those of the keys of RRset k that are meant, in the order of RDATA; of another RRset nothing
+pub data AreSetLines (setting : Setting) (zone : Labels) (Meant : DnskeyRecord → Type 0) (k : ℕ) (set : ReceivedRrset)
+    : List Line → Type 0 where
+  other : ¬ ((set.rtype ≡ 48) × SameName set.owner zone) → AreSetLines setting zone Meant k set []
+  of_keys : (keys meant : List DnskeyRecord) (lines : List Line) → set.rtype ≡ 48 → SameName set.owner zone
+      → AreKeysInOrder set keys → AreThose Meant keys meant → AreOfEach (AreKeyLines setting zone k set) meant lines
+      → AreSetLines setting zone Meant k set lines
+
+-- nothing where one of the keys signs its RRset, and else why none does
+abbrev pub AreSelfFaults : Setting → Labels → (DnskeyRecord → Type 0) → List Line → Type 0
+AreSelfFaults setting zone Meant lines =
+    (IsSomeSelfSigned setting Meant × (lines ≡ []))
+    ⊎ ((¬ IsSomeSelfSigned setting Meant) × AreOfNumbered (AreSetLines setting zone Meant) 1 setting.rrsets lines)
+
+-- ---- trust anchors and DS records
+
+-- anchor A
+abbrev pub wanted_anchor : ℕ → Anchor → Wanted
+wanted_anchor number (anchor.Ds owner ds) = by_digest (entry_number.Anchor number) [] ds
+wanted_anchor number (anchor.Key owner rdata) = whole_key number rdata
+
+-- if it is at the zone
+abbrev pub AreAnchorWanted : Labels → ℕ → Anchor → List Wanted → Type 0
+AreAnchorWanted zone number anchor =
+    AreWhere (SameName (anchor_owner anchor) zone) (λ wanted. wanted ≡ wanted_anchor number anchor ∷ [])
+
+-- the records of DS RRset k from the place on, in order, beside all of its records
+abbrev pub AreDsFrom : List ReceivedRrset → ℕ → ReceivedRrset → List Ds → ℕ → List Wanted → Type 0
+AreDsFrom rrsets k rrset records place [] =
+    (rdata : List ℕ) → ¬ IsRecordAt rrsets (record_of k place) rrset rdata
+AreDsFrom rrsets k rrset records place (each ∷ rest) =
+    ((rdata : List ℕ) × (ds : Ds) × IsRecordAt rrsets (record_of k place) rrset rdata × IsDs rdata ds
+    × (each ≡ by_digest (entry_number.Ds (record_of k place)) records ds))
+    × AreDsFrom rrsets k rrset records (place + 1) rest
+
+-- all of them
+abbrev pub AreRecordsOf : List ReceivedRrset → ℕ → ReceivedRrset → List Wanted → Type 0
+AreRecordsOf rrsets k rrset wanted =
+    (records : List Ds) × AllZip IsDs rrset.rdata records × AreDsFrom rrsets k rrset records 1 wanted
+
+-- those of RRset k are a group, if it leads into the zone
+abbrev pub AreGroupsOf : Setting → Labels → ℕ → ReceivedRrset → List (List Wanted) → Type 0
+AreGroupsOf setting zone k rrset =
+    AreWhere (IsDsWay setting zone k rrset)
+    (λ groups. (group : List Wanted) × AreRecordsOf setting.rrsets k rrset group × (groups ≡ group ∷ []))
+
+-- the anchors of the zone are a group, and so are the records of each DS RRset that leads into it
+pub record AreGroups (setting : Setting) (zone : Labels) (groups : List (List Wanted)) : Type 0 where
+  pub anchors : List Wanted
+  pub of_anchors : AreOfNumbered (AreAnchorWanted zone) 1 setting.anchors anchors
+  pub records : List (List Wanted)
+  pub of_records : AreOfNumbered (AreGroupsOf setting zone) 1 setting.rrsets records
+  pub are : groups ≡ anchors ∷ records
+
+-- what is said of one that matches no key: the word, and where a digest differs, why those with tag and algorithm don't
+-- sign; of one that matches, why the keys that it matches don't
+abbrev pub AreWordLines : Setting → Labels → Wanted → Option WhyEntry → List Line → Type 0
+AreWordLines setting zone wanted None =
+    AreSelfFaults setting zone (λ key. IsKeyAt setting.rrsets zone key × IsMatchOf wanted key)
+AreWordLines setting zone wanted (Some why.DigestDiffers) =
+    AreParted (λ first. first ≡ entry_line zone wanted why.DigestDiffers ∷ [])
+    (AreSelfFaults setting zone (λ key. IsKeyAt setting.rrsets zone key × IsWantedBy wanted key))
+AreWordLines setting zone wanted (Some word) = λ lines. lines ≡ entry_line zone wanted word ∷ []
+
+-- it matches no key although another of its group does
+abbrev pub IsLeftOut : Setting → Labels → List Wanted → Option WhyEntry → Type 0
+IsLeftOut setting zone group word =
+    (word ≢ None) × ((other : Wanted) × Contains group other × IsFaultOfEntry setting.rrsets zone other None)
+
+-- what is said of it, if it has this rank and isn't left out
+pub data AreRankLines (setting : Setting) (zone : Labels) (rank : ℕ) (group : List Wanted) (wanted : Wanted)
+    : List Line → Type 0 where
+  said : (word : Option WhyEntry) (lines : List Line) → IsFaultOfEntry setting.rrsets zone wanted word
+      → entry_rank word ≡ rank → ¬ IsLeftOut setting zone group word → AreWordLines setting zone wanted word lines
+      → AreRankLines setting zone rank group wanted lines
+  unsaid : (word : Option WhyEntry) → IsFaultOfEntry setting.rrsets zone wanted word
+      → (entry_rank word ≢ rank) ⊎ IsLeftOut setting zone group word → AreRankLines setting zone rank group wanted []
+
+-- by rank, and those of one rank in order
+abbrev pub AreEntryLines : Setting → Labels → List (List Wanted) → List Line → Type 0
+AreEntryLines setting zone groups =
+    AreOfEach (λ rank. AreOfEach (λ group. AreOfEach (AreRankLines setting zone rank group) group) groups)
+    (0 ∷ 1 ∷ 2 ∷ 3 ∷ 5 ∷ 6 ∷ [])
+
+-- ---- the zone
+
+-- the line doesn't say that a signer who is no parent isn't trusted
+abbrev pub IsOfParent : Setting → Labels → Line → Type 0
+IsOfParent setting zone (line.Follows untrusted) = IsParent setting zone untrusted.signature.signer
+IsOfParent setting zone _ = Unit {0}
+
+-- what is said of RRset k, if it leads into the zone
+abbrev pub AreWayLines : Setting → Labels → ℕ → ReceivedRrset → List Line → Type 0
+AreWayLines setting zone k rrset =
+    AreWhere (IsDsWay setting zone k rrset)
+    (λ lines. (all : List Line) × AreRrsetLines setting k rrset all × AreThose (IsOfParent setting zone) all lines)
+
+-- neither an anchor nor a DS RRset is at the zone
+abbrev pub HasNoWay : Setting → Labels → Type 0
+HasNoWay setting zone = (¬ HasOwnAnchor setting.anchors zone) × (¬ HasRrset setting.rrsets zone 43)
+
+-- what is said of the zone's keys: that there are none, or why nothing leads to them
+abbrev pub AreLinesOfKeys : Setting → Labels → List Line → Type 0
+AreLinesOfKeys setting zone lines =
+    ((¬ HasRrset setting.rrsets zone 48) × (lines ≡ zone_line zone_why.DnskeyMissing zone ∷ []))
+    ⊎ (HasRrset setting.rrsets zone 48
+    × ((groups : List (List Wanted)) × AreGroups setting zone groups × AreEntryLines setting zone groups lines))
+
+-- What is said of a zone that isn't trusted.
+pub data AreZoneLines (setting : Setting) (zone : Labels) : List Line → Type 0 where
+  no_anchor : ¬ HasAnchor setting.anchors zone → AreZoneLines setting zone (zone_line zone_why.NoAnchor zone ∷ [])
+  anchored : (lines : List Line) → HasAnchor setting.anchors zone
+      → AreParted (AreOfNumbered (AreWayLines setting zone) 1 setting.rrsets)
+      (AreParted (AreWhere (HasNoWay setting zone) (λ first. first ≡ zone_line zone_why.DsMissing zone ∷ []))
+      (AreLinesOfKeys setting zone)) lines
+      → AreZoneLines setting zone lines

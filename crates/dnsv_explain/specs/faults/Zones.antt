@@ -1,0 +1,142 @@
+-- Which RRsets a question is about, and which zones it needs (RFC 4035 4.2, 5).
+use Rattle.std.specs.Prelude.{◌≡◌, ◌⊎◌, ◌≤◌, ℕ, List, Contains, length}
+use Rattle.dnsv_names.specs.Name.{Labels, SameName, IsAtOrBelow}
+use Rattle.dnsv_names.specs.Order.{IsBelow}
+use Rattle.dnsv_records.specs.Rrsig.{IsRrsig}
+use Rattle.dnsv_records.specs.declared.rrsig.Rrsig.{Rrsig}
+use Rattle.dnsv_zones.specs.zones.TypeNumbers.{cname, ds, nsec}
+use Rattle.dnsv_canonical.specs.Rrsets.{IsNumbered, ReceivedRrset}
+use Rattle.dnsv_chain.specs.Anchor.{anchor_owner}
+use Rattle.dnsv_chain.specs.declared.anchor.Anchor.{Anchor}
+use Rattle.dnsv_verifier.specs.Admissible.{IsSignatureOf}
+use Rattle.dnsv_verdict.specs.Verdict.{HasAnchor}
+use Rattle.dnsv_explain.specs.Explained.{Setting}
+use Rattle.dnsv_explain.specs.faults.Keys.{IsTrustedZone}
+
+-- ---- RRsets at a name, and their signers
+
+-- the zone is the signer of a signature of the RRset
+pub record HasSigner (rrset : ReceivedRrset) (zone : Labels) : Type 0 where
+  pub rrsig : Rrsig
+  pub its : IsSignatureOf rrset rrsig
+  pub signer : SameName rrsig.signer zone
+
+-- an RRset of the type is at the name
+pub record HasRrset (rrsets : List ReceivedRrset) (name : Labels) (rtype : ℕ) : Type 0 where
+  pub rrset : ReceivedRrset
+  pub among : Contains rrsets rrset
+  pub owner : SameName rrset.owner name
+  pub its_type : rrset.rtype ≡ rtype
+
+-- the anchor is just at the name
+abbrev pub HasOwnAnchor : List Anchor → Labels → Type 0
+HasOwnAnchor anchors name = (anchor : Anchor) × Contains anchors anchor × SameName (anchor_owner anchor) name
+
+-- ---- what may answer, and what may deny
+
+-- RRset k may answer the question: it has the name, and the type or CNAME
+pub record IsGoal (rrsets : List ReceivedRrset) (name : Labels) (t k : ℕ) (rrset : ReceivedRrset) : Type 0 where
+  pub numbered : IsNumbered rrsets k rrset
+  pub owner : SameName rrset.owner name
+  pub its_type : (rrset.rtype ≡ t) ⊎ (rrset.rtype ≡ cname)
+
+abbrev pub HasGoal : List ReceivedRrset → Labels → ℕ → Type 0
+HasGoal rrsets name t = (k : ℕ) × (rrset : ReceivedRrset) × IsGoal rrsets name t k rrset
+
+-- the zone is the signer of a signature of such an RRset
+abbrev pub HasGoalSigner : List ReceivedRrset → Labels → ℕ → Labels → Type 0
+HasGoalSigner rrsets name t zone =
+    (k : ℕ) × (rrset : ReceivedRrset) × IsGoal rrsets name t k rrset × HasSigner rrset zone
+
+-- one of them has a signature
+abbrev pub HasSignedGoal : List ReceivedRrset → Labels → ℕ → Type 0
+HasSignedGoal rrsets name t = (zone : Labels) × HasGoalSigner rrsets name t zone
+
+-- none of its signatures has a signer at or above the owner
+abbrev pub IsStray : ReceivedRrset → Type 0
+IsStray rrset = (signer : Labels) → HasSigner rrset signer → ¬ IsAtOrBelow rrset.owner signer
+
+-- RRset k of NSEC or NSEC3 records may deny the name: one of its signers is at or above the name, or it is stray
+pub record IsDenial (rrsets : List ReceivedRrset) (name : Labels) (k : ℕ) (rrset : ReceivedRrset) : Type 0 where
+  pub numbered : IsNumbered rrsets k rrset
+  pub its_type : (rrset.rtype ≡ nsec) ⊎ (rrset.rtype ≡ 50)
+  pub related : ((zone : Labels) × HasSigner rrset zone × IsAtOrBelow name zone) ⊎ IsStray rrset
+
+-- the zone is the signer of a signature of such an RRset
+abbrev pub HasDenialSigner : List ReceivedRrset → Labels → Labels → Type 0
+HasDenialSigner rrsets name zone =
+    (k : ℕ) × (rrset : ReceivedRrset) × IsDenial rrsets name k rrset × HasSigner rrset zone
+
+-- ---- the zone that should speak
+
+-- A zone is known at or above the name (for DS above it): an anchor's owner, the owner of a DS or DNSKEY RRset, or the
+-- signer of what may answer; where none of that is signed, of what may deny.
+pub record IsKnownZone (setting : Setting) (name : Labels) (t : ℕ) (zone : Labels) : Type 0 where
+  pub above : IsAtOrBelow name zone
+  pub properly : t ≡ ds → IsBelow name zone
+  pub known : HasOwnAnchor setting.anchors zone ⊎ HasRrset setting.rrsets zone ds ⊎ HasRrset setting.rrsets zone 48
+      ⊎ HasGoalSigner setting.rrsets name t zone
+      ⊎ ((¬ HasSignedGoal setting.rrsets name t) × HasDenialSigner setting.rrsets name zone)
+
+-- of those it has most labels
+pub record IsSpeaker (setting : Setting) (name : Labels) (t : ℕ) (zone : Labels) : Type 0 where
+  pub known : IsKnownZone setting name t zone
+  pub most : (other : Labels) → IsKnownZone setting name t other → length other ≤ length zone
+
+-- RRset k may deny the name for the zone: it has a signature by it, or is stray at or below it
+pub record IsDenialOf (rrsets : List ReceivedRrset) (name zone : Labels) (k : ℕ) (rrset : ReceivedRrset) : Type 0 where
+  pub denial : IsDenial rrsets name k rrset
+  pub its : HasSigner rrset zone ⊎ (IsStray rrset × IsAtOrBelow rrset.owner zone)
+
+abbrev pub HasDenial : List ReceivedRrset → Labels → Labels → Type 0
+HasDenial rrsets name zone = (k : ℕ) × (rrset : ReceivedRrset) × IsDenialOf rrsets name zone k rrset
+
+-- ---- the zones above
+
+-- the parent signs a DS RRset of the zone, from above; of a zone with an anchor one that has an anchor at or above it
+pub record IsParent (setting : Setting) (zone parent : Labels) : Type 0 where
+  pub ds : ReceivedRrset
+  pub among : Contains setting.rrsets ds
+  pub rtype : ds.rtype ≡ 43
+  pub owner : SameName ds.owner zone
+  pub signer : HasSigner ds parent
+  pub above : IsBelow zone parent
+  pub anchored : HasOwnAnchor setting.anchors zone → HasAnchor setting.anchors parent
+
+-- DS RRset k leads into the zone; where the zone has an anchor, only if a parent signs it
+pub record IsDsWay (setting : Setting) (zone : Labels) (k : ℕ) (rrset : ReceivedRrset) : Type 0 where
+  pub numbered : IsNumbered setting.rrsets k rrset
+  pub rtype : rrset.rtype ≡ 43
+  pub owner : SameName rrset.owner zone
+  pub by_parent : HasOwnAnchor setting.anchors zone
+      → (parent : Labels) × HasSigner rrset parent × IsParent setting zone parent
+
+-- of the known zones above that have an anchor at or above them it has most labels
+pub record IsAnchoredAbove (setting : Setting) (name : Labels) (t : ℕ) (zone above : Labels) : Type 0 where
+  pub known : IsKnownZone setting name t above
+  pub anchored : HasAnchor setting.anchors above
+  pub below : IsBelow zone above
+  pub most : (other : Labels) → IsKnownZone setting name t other → HasAnchor setting.anchors other → IsBelow zone other
+      → length other ≤ length above
+
+-- ---- the zones that a question needs
+
+-- the signer of what may answer is at or above the name
+abbrev pub HasSignerAbove : List ReceivedRrset → Labels → ℕ → Labels → Type 0
+HasSignerAbove rrsets name t zone = HasGoalSigner rrsets name t zone × IsAtOrBelow name zone
+
+-- The signers of what may answer. Where there is none, the zone that should speak, and where nothing that may answer is
+-- signed, the signers of what may deny, if they have an anchor at or above them. Of each that isn't trusted the parents,
+-- or, where nothing leads into it, the next known zone above.
+pub data IsNeeded (setting : Setting) (name : Labels) (t : ℕ) : Labels → Type 0 where
+  signer : {zone : Labels} → HasSignerAbove setting.rrsets name t zone → IsNeeded setting name t zone
+  speaker : {zone : Labels} → ((other : Labels) → ¬ HasSignerAbove setting.rrsets name t other)
+      → IsSpeaker setting name t zone → HasAnchor setting.anchors zone → IsNeeded setting name t zone
+  denying : {zone : Labels} → ((other : Labels) → ¬ HasGoalSigner setting.rrsets name t other)
+      → HasDenialSigner setting.rrsets name zone → IsAtOrBelow name zone → HasAnchor setting.anchors zone
+      → IsNeeded setting name t zone
+  parent : {zone above : Labels} → IsNeeded setting name t zone → ¬ IsTrustedZone setting zone → IsParent setting zone above
+      → IsNeeded setting name t above
+  known_above : {zone above : Labels} → IsNeeded setting name t zone → ¬ IsTrustedZone setting zone
+      → ¬ HasRrset setting.rrsets zone ds → ¬ HasOwnAnchor setting.anchors zone
+      → IsAnchoredAbove setting name t zone above → IsNeeded setting name t above

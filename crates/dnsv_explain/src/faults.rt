@@ -1,0 +1,109 @@
+//! What keeps the evidence from settling a question.
+
+mod answers;
+mod keys;
+pub mod questioned;
+mod remark;
+pub mod shown_keys;
+mod signature;
+mod words;
+
+ghost use Rattle.std.specs.Prelude.{◌≡◌, ◌++◌, ◌∷◌, [], OnOk};
+ghost use Rattle.dnsv_canonical.specs.Rrsets.{IsNumbered};
+ghost use Rattle.dnsv_verifier.specs.Asking.{AreKeysOf};
+ghost use Rattle.dnsv_explain.specs.Explained.{setting_in};
+ghost use Rattle.dnsv_explain.specs.derivations.Ways.{HasSecured};
+ghost use Rattle.dnsv_explain.specs.faults.Listing.{AddsThose};
+ghost use Rattle.dnsv_explain.specs.faults.RrsetLines.{AreLinesOfEach, AreLinesOfNumber, AreRrsetLines, unsigned_line};
+
+use crate::evidence::Evidence;
+use crate::faults::keys::all_keys;
+use crate::faults::signature::add_signature;
+use crate::line::Line;
+use crate::line::derivation::SignatureNumber;
+use crate::line::fault::Reason;
+use crate::line::fault::signature::UnsignedRrset;
+use crate::numbered::numbered;
+use dnsv_canonical::Rrset;
+use dnsv_verifier::KeyRecord;
+use std::alloc::{AllocError, Global};
+
+/// Why the RRset with the number proves nothing: nothing where one of its signatures is good under a trusted key, that it
+/// has no signatures, or what is wrong with each of them. Of a number that no RRset has nothing is said.
+pub fn add_rrset_faults(
+    alloc: Global,
+    evidence: &Evidence<'_>,
+    lines: &mut Vec<Line>,
+    number: usize,
+) -> Result<(), AllocError>
+    ensures { OnOk result (AddsThose (AreLinesOfNumber (setting_in evidence.now) number) lines.old.items lines.new.items) }
+{
+    let Some(rrset) = numbered(evidence.rrsets(), number) else {
+        return Ok(());
+    };
+    let keys = all_keys(alloc, evidence.rrsets())?;
+    add_rrset(alloc, evidence, &keys, lines, number, rrset)?;
+    Ok(())
+}
+
+/// Adds what is said of the RRset, which has the number. `keys` are those of the evidence.
+fn add_rrset(
+    alloc: Global,
+    evidence: &Evidence<'_>,
+    keys: &[KeyRecord<'_>],
+    lines: &mut Vec<Line>,
+    number: usize,
+    rrset: &Rrset,
+) -> Result<(), AllocError>
+    requires keys { AreKeysOf evidence.now.rrsets keys.now }
+    requires rrset { IsNumbered evidence.now.rrsets number rrset.now }
+    ensures { OnOk result (AddsThose (AreRrsetLines (setting_in evidence.now) number rrset.now) lines.old.items
+        lines.new.items) }
+{
+    if !evidence.secured(number).is_empty() {
+        return Ok(());
+    }
+    if rrset.signatures().is_empty() {
+        add_unsigned(lines, number, rrset)?;
+        return Ok(());
+    }
+    add_signatures(alloc, evidence, keys, lines, number, rrset)?;
+    Ok(())
+}
+
+/// Adds that the RRset, which has the number, has no signatures.
+fn add_unsigned(lines: &mut Vec<Line>, number: usize, rrset: &Rrset) -> Result<(), AllocError>
+    ensures { OnOk result (lines.new.items ≡ lines.old.items ++ unsigned_line number rrset.now ∷ []) }
+{
+    lines.push(Line::Reason(Reason::Unsigned(UnsignedRrset {
+        owner: rrset.owner().clone()?,
+        rtype: rrset.rtype(),
+        rrset: number,
+    })))?;
+    Ok(())
+}
+
+/// Adds what is said of each signature of the RRset.
+fn add_signatures(
+    alloc: Global,
+    evidence: &Evidence<'_>,
+    keys: &[KeyRecord<'_>],
+    lines: &mut Vec<Line>,
+    number: usize,
+    rrset: &Rrset,
+) -> Result<(), AllocError>
+    requires keys { AreKeysOf evidence.now.rrsets keys.now }
+    requires rrset { IsNumbered evidence.now.rrsets number rrset.now }
+    requires unsecured { ¬ HasSecured (setting_in evidence.now) number }
+    ensures { OnOk result (AddsThose (AreLinesOfEach (setting_in evidence.now) number rrset.now) lines.old.items
+        lines.new.items) }
+{
+    for (place, rrsig) in rrset.signatures().iter().enumerate() {
+        let each = SignatureNumber {
+            rrset: number,
+            signature: place + 1,
+        };
+        add_signature(alloc, evidence, keys, lines, each, rrset, rrsig)?;
+    }
+    Ok(())
+}

@@ -1,0 +1,79 @@
+//! The keys of the evidence, and those that a signature names.
+ghost use Rattle.std.specs.Prelude.{◌↔◌, IfOk, IsTrue, OnOk};
+ghost use Rattle.dnsv_names.specs.Name.{SameName};
+ghost use Rattle.dnsv_verifier.specs.Asking.{AddsJust, AreKeysOf, IsKeyOf};
+ghost use Rattle.dnsv_explain.specs.faults.KeySearch.{HasKeyAt, HasNamed, HasNamedZoneKey, IsNamedTo};
+ghost use Rattle.dnsv_explain.specs.faults.Keys.{IsZoneKey};
+
+use dnsv_canonical::Rrset;
+use dnsv_names::Name;
+use dnsv_records::Rrsig;
+use dnsv_verifier::KeyRecord;
+use std::alloc::{AllocError, Global};
+
+/// The keys of all RRsets, whatever message they came in.
+pub fn all_keys<'a>(alloc: Global, rrsets: &'a [Rrset]) -> Result<Vec<KeyRecord<'a>>, AllocError>
+    ensures { IfOk result (λ keys. AreKeysOf rrsets.now keys.items) }
+{
+    let mut keys = Vec::new(alloc);
+    for rrset in rrsets {
+        add_keys(rrset, &mut keys)?;
+    }
+    Ok(keys)
+}
+
+/// Adds the keys of the RRset.
+fn add_keys<'a>(rrset: &'a Rrset, keys: &mut Vec<KeyRecord<'a>>) -> Result<(), AllocError>
+    ensures { OnOk result (AddsJust (IsKeyOf rrset.now) keys.old.items keys.new.items) }
+{
+    for (place, dnskey) in rrset.dnskeys().iter().enumerate() {
+        keys.push(KeyRecord::new(rrset.owner(), rrset.rdata(place), dnskey))?;
+    }
+    Ok(())
+}
+
+/// Whether the zone has one of the keys.
+pub fn has_keys(keys: &[KeyRecord<'_>], zone: &Name) -> bool
+    ensures { IsTrue result ↔ HasKeyAt keys.now zone.now }
+{
+    keys.iter().any(|key| *key.owner() == *zone)
+}
+
+/// Whether the signature names one of the keys.
+pub fn has_named(keys: &[KeyRecord<'_>], rrsig: &Rrsig) -> bool
+    ensures { IsTrue result ↔ HasNamed keys.now rrsig.now }
+{
+    keys.iter().any(|key| is_named(key, rrsig))
+}
+
+/// Whether it names one that a zone may sign with.
+pub fn has_named_zone_key(keys: &[KeyRecord<'_>], rrsig: &Rrsig) -> bool
+    ensures { IsTrue result ↔ HasNamedZoneKey keys.now rrsig.now }
+{
+    keys.iter()
+        .any(|key| is_named(key, rrsig) && is_zone_key(key))
+}
+
+/// Whether the signature names the key: it is one of the signer, with the tag and the algorithm (RFC 4034 3.1).
+pub fn is_named(key: &KeyRecord<'_>, rrsig: &Rrsig) -> bool
+    ensures { IsTrue result ↔ IsNamedTo rrsig.now key.now }
+{
+    key.key_tag().0 == rrsig.key_tag.0
+        && key.dnskey().algorithm.0 == rrsig.algorithm.0
+        && *key.owner() == rrsig.signer
+}
+
+/// Whether the names are equal, without regard to case (RFC 4343).
+pub fn are_equal(a: &Name, b: &Name) -> bool
+    ensures { IsTrue result ↔ SameName a.now b.now }
+{
+    *a == *b
+}
+
+/// Whether a zone may sign with the key (RFC 4034 2.1.1, 2.1.2).
+fn is_zone_key(key: &KeyRecord<'_>) -> bool
+    ensures { IsTrue result ↔ IsZoneKey key.now }
+{
+    let dnskey = key.dnskey();
+    dnskey.protocol == 3 && dnskey.flags.is_zone_key()
+}
