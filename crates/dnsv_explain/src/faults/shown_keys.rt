@@ -10,11 +10,11 @@ ghost use Rattle.dnsv_explain.specs.faults.KeyLines.{AreLinesOfKeysAsked, AreLin
 ghost use Rattle.dnsv_explain.specs.faults.Listing.{AddsThose};
 ghost use Rattle.dnsv_explain.specs.unsigned_cuts.UnsignedCuts.{record_of};
 
+use crate::derivations::ways::keys::{key_name, keys_in_order, lowest_good};
 use crate::evidence::Evidence;
 use crate::faults::questioned::is_in_question;
 use crate::line::Line;
 use crate::line::fault::key::ShownKey;
-use crate::ways::keys::{key_name, keys_in_order, lowest_good};
 use dnsv_canonical::{Rrset, in_canonical_order};
 use dnsv_chain::{is_match, is_usable};
 use dnsv_denial::RecordNumber;
