@@ -10,9 +10,9 @@ ghost use Rattle.dnsv_explain.specs.Saying.{Adds};
 
 use crate::denials::part::add_parts;
 use crate::denials::proof::add_proof;
+use crate::derivations::own::add_records;
 use crate::evidence::Evidence;
 use crate::line::Line;
-use crate::own_derivations::add_records;
 use dnsv_denial::ShownDenial;
 use dnsv_names::Name;
 use std::alloc::{AllocError, Global};

@@ -1,4 +1,9 @@
 //! Derivations of signatures, from a trust anchor down.
+
+pub mod own;
+pub mod signers;
+pub mod ways;
+
 ghost use Rattle.std.specs.Prelude.{◌≡◌, ◌↔◌, ℕ, IfOk, IsTrue, MatchOption, OnOk};
 ghost use Rattle.dnsv_chain.specs.Trusted.{IsSecured};
 ghost use Rattle.dnsv_verifier.specs.Table.{table_answer};
@@ -8,11 +13,11 @@ ghost use Rattle.dnsv_explain.specs.derivations.Derivations.{IsDerivation, IsLow
 ghost use Rattle.dnsv_explain.specs.Following.{IsSaidTrusted, IsSignatureSaid};
 ghost use Rattle.dnsv_explain.specs.derivations.Ways.{IsTrustedSet};
 
+use crate::derivations::signers::signed_line;
+use crate::derivations::ways::trusted_line;
 use crate::evidence::Evidence;
 use crate::line::Line;
 use crate::line::derivation::{SignatureNumber, Voucher};
-use crate::signers::signed_line;
-use crate::ways::trusted_line;
 use std::alloc::{AllocError, Global};
 
 /// The lines that derive that the signature with the number is good under a trusted key, from a trust anchor down, but

@@ -4,6 +4,8 @@
 #![tactic(auto)]
 
 pub use derivations::derivation;
+pub use derivations::signers::signed_line;
+pub use derivations::ways::trusted_line;
 pub use evidence::Evidence;
 pub use explanation::{Explanation, explain};
 pub use interval::{Interval, Times, holding};
@@ -20,8 +22,6 @@ pub use line::place::RrsetPlace;
 pub use line::{Kind, Line};
 pub use places::places_named;
 pub use shown::holding_of;
-pub use signers::signed_line;
-pub use ways::trusted_line;
 
 mod denials;
 mod derivations;
@@ -31,10 +31,7 @@ mod interval;
 mod laws;
 mod line;
 mod numbered;
-mod own_derivations;
 mod places;
 mod shown;
-mod signers;
 mod todo;
 mod unsigned_cuts;
-mod ways;

@@ -11,7 +11,7 @@ use Rattle.dnsv_explain.specs.Explained.{IsTodo, Setting}
 use Rattle.dnsv_explain.specs.Following.{IsNamed}
 use Rattle.dnsv_explain.specs.derivations.Ways.{IsSigner}
 use Rattle.dnsv_explain.specs.declared.line.derivation.SignatureNumber.{SignatureNumber}
-use Rattle.dnsv_explain.specs.declared.signers.Signer.{Signer}
+use Rattle.dnsv_explain.specs.declared.derivations.signers.Signer.{Signer}
 
 -- the signature with the number is this one
 pub record IsSignatureAt (rrset : ReceivedRrset) (s : ℕ) (rrsig : Rrsig) : Type 0 where

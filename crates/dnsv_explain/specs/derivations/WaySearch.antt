@@ -17,11 +17,11 @@ use Rattle.dnsv_explain.specs.derivations.Ways.{HasSecured, IsFirstWay, IsLess, 
 use Rattle.dnsv_explain.specs.declared.line.derivation.SignatureNumber.{SignatureNumber}
 use Rattle.dnsv_explain.specs.declared.line.derivation.Voucher.{Voucher}
 use Rattle.dnsv_explain.specs.declared.line.derivation.Voucher.TheVariants as voucher
-use Rattle.dnsv_explain.specs.declared.ways.FoundWay.{FoundWay}
-use Rattle.dnsv_explain.specs.declared.ways.keys.GoodSignature.{GoodSignature}
-use Rattle.dnsv_explain.specs.declared.ways.keys.KeySet.{KeySet}
-use Rattle.dnsv_explain.specs.declared.ways.matcher.Matcher.{Matcher}
-use Rattle.dnsv_explain.specs.declared.ways.matcher.Matcher.TheVariants as matcher
+use Rattle.dnsv_explain.specs.declared.derivations.ways.FoundWay.{FoundWay}
+use Rattle.dnsv_explain.specs.declared.derivations.ways.keys.GoodSignature.{GoodSignature}
+use Rattle.dnsv_explain.specs.declared.derivations.ways.keys.KeySet.{KeySet}
+use Rattle.dnsv_explain.specs.declared.derivations.ways.matcher.Matcher.{Matcher}
+use Rattle.dnsv_explain.specs.declared.derivations.ways.matcher.Matcher.TheVariants as matcher
 
 -- ---- keys and signatures of an RRset
 

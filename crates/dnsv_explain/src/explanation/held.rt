@@ -5,11 +5,11 @@ ghost use Rattle.dnsv_explain.specs.Saying.{Adds, AreEach};
 ghost use Rattle.dnsv_explain.specs.derivations.HeldTo.{IsFirstDerived, IsHeldAt, IsHeldTo, IsLowestDerived};
 ghost use Rattle.dnsv_explain.specs.derivations.Ways.{IsTrustedSet};
 
+use crate::derivations::own::add_derivation;
+use crate::derivations::ways::trusted_line;
 use crate::derivations::{derive_keys, lowest_secured};
 use crate::evidence::Evidence;
 use crate::line::Line;
-use crate::own_derivations::add_derivation;
-use crate::ways::trusted_line;
 use dnsv_names::{Count, Name, RecordType};
 use std::alloc::{AllocError, Global};
 

@@ -9,12 +9,12 @@ ghost use Rattle.dnsv_explain.specs.Explained.{setting_in};
 ghost use Rattle.dnsv_explain.specs.Saying.{Adds};
 ghost use Rattle.dnsv_explain.specs.derivations.OwnDerivations.{SecuredIn};
 
+use crate::derivations::own::add_derivation;
 use crate::evidence::Evidence;
 use crate::explanation::at::At;
 use crate::line::Line;
 use crate::line::cut::InsecureCase;
 use crate::line::derivation::SignatureNumber;
-use crate::own_derivations::add_derivation;
 use crate::unsigned_cuts::shown::add_unsigned;
 use dnsv_denial::{PartName, View};
 use dnsv_names::RecordType;

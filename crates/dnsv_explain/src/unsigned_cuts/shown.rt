@@ -6,10 +6,10 @@ ghost use Rattle.dnsv_explain.specs.unsigned_cuts.ShownCuts.{IsShownUnsigned, Is
 
 use crate::denials::part::add_parts;
 use crate::denials::proof::add_proof;
+use crate::derivations::own::add_records;
 use crate::evidence::Evidence;
 use crate::line::Line;
 use crate::line::cut::InsecureCase;
-use crate::own_derivations::add_records;
 use crate::unsigned_cuts::unusable::add_case;
 use dnsv_denial::ShownDenial;
 use dnsv_names::Name;

@@ -9,13 +9,13 @@ ghost use Rattle.dnsv_explain.specs.Saying.{Adds};
 ghost use Rattle.dnsv_explain.specs.unsigned_cuts.UnsignedCuts.{AreAllTold, IsCaseTold, IsFirstUnusable, IsUnusableSet, IsUnusableTold};
 
 use crate::derivations::lowest_secured;
+use crate::derivations::own::add_derivation;
+use crate::derivations::ways::by_ds::may_delegate;
 use crate::evidence::Evidence;
 use crate::line::Line;
 use crate::line::cut::{Cut, InsecureCase, UnusableDs, WhyUnusable};
 use crate::line::derivation::KeyName;
 use crate::numbered::numbered;
-use crate::own_derivations::add_derivation;
-use crate::ways::by_ds::may_delegate;
 use dnsv_canonical::{Rrset, in_canonical_order};
 use dnsv_chain::has_usable;
 use dnsv_denial::RecordNumber;

@@ -28,7 +28,7 @@ use Rattle.dnsv_explain.specs.derivations.WaySearch.{IsFirstUnder, IsFoundWay, I
 use Rattle.dnsv_explain.specs.derivations.Ways.{HasSecured, IsLess, IsWayInto, Way, voucher_rank}
 use Rattle.dnsv_explain.specs.declared.line.derivation.Voucher.{Voucher}
 use Rattle.dnsv_explain.specs.declared.line.derivation.Voucher.TheVariants as voucher
-use Rattle.dnsv_explain.specs.declared.ways.FoundWay.{FoundWay}
+use Rattle.dnsv_explain.specs.declared.derivations.ways.FoundWay.{FoundWay}
 use Rattle.dnsv_explain.proofs.lemmas.NumberedLemmas.{same_number}
 use Rattle.dnsv_explain.proofs.lemmas.derivations.WayLemmas.FirstLemmas.{found_first, none_by, under_too}
 

@@ -25,7 +25,7 @@ use Rattle.dnsv_explain.specs.Following.{IsGoodUnder, IsNamed}
 use Rattle.dnsv_explain.specs.declared.line.derivation.KeyName.{KeyName}
 use Rattle.dnsv_explain.specs.declared.line.derivation.Todo.{Todo}
 use Rattle.dnsv_explain.specs.declared.line.derivation.Voucher.{Voucher}
-use Rattle.dnsv_explain.specs.declared.ways.keys.GoodSignature.{GoodSignature}
+use Rattle.dnsv_explain.specs.declared.derivations.ways.keys.GoodSignature.{GoodSignature}
 use Rattle.dnsv_explain.specs.derivations.WaySearch.{AreKeysInOrder, IsFirstUnder, IsLowestGood, IsNoneTo, IsNoneYet, SignsAs, signature_of}
 
 -- ---- the signatures of an RRset, at their places

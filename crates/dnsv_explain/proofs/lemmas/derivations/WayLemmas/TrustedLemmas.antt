@@ -21,7 +21,7 @@ use Rattle.std.specs.Prelude.{MatchOption, is_some}
 use Rattle.dnsv_names.specs.Name.{Labels}
 use Rattle.dnsv_explain.specs.derivations.WaySearch.{IsFoundWay, IsNoWay, signature_of}
 use Rattle.dnsv_explain.specs.derivations.Ways.{HasSecured, IsTrustedLine, IsTrustedSet, IsWayInto, Way}
-use Rattle.dnsv_explain.specs.declared.ways.FoundWay.{FoundWay}
+use Rattle.dnsv_explain.specs.declared.derivations.ways.FoundWay.{FoundWay}
 use Rattle.dnsv_explain.proofs.lemmas.NumberedLemmas.{same_number}
 use Rattle.dnsv_explain.proofs.lemmas.derivations.WayLemmas.{way_leads}
 use Rattle.dnsv_explain.specs.declared.line.derivation.Voucher.{Voucher}

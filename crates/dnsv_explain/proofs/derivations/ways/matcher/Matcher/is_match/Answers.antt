@@ -1,0 +1,10 @@
+use Rattle.std.proofs.Common.{◌↔◌, sym, subst}
+use Rattle.std.specs.Prelude.{IsTrue}
+use Rattle.dnsv_explain.specs.derivations.WaySearch.{MatchesBy}
+use Rattle.dnsv_explain.specs.declared.derivations.ways.matcher.Matcher.{Matcher}
+use Rattle.dnsv_explain.proofs.derivations.ways.matcher.Matcher.is_match.Goals as goal
+
+pub returns-in-Ds : goal.returns-in-Ds
+returns-in-Ds c =
+    let By : Matcher → Type 0 = λ each. IsTrue c.is_match-in-Ds.result ↔ MatchesBy each c.args.key.now in
+    subst By (sym c.in-Ds.is) c.is_match-in-Ds.ensures

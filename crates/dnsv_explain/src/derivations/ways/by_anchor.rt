@@ -1,0 +1,41 @@
+//! Ways into a DNSKEY RRset by trust anchors.
+ghost use Rattle.std.specs.Prelude.{◌≡◌, IfOk, MatchOption};
+ghost use Rattle.dnsv_explain.specs.Explained.{setting_in};
+ghost use Rattle.dnsv_explain.specs.derivations.WaySearch.{IsFoundWay, IsKeySet, IsNoWayBefore, IsVoucherOf};
+
+use crate::derivations::ways::FoundWay;
+use crate::derivations::ways::keys::KeySet;
+use crate::derivations::ways::matcher::{Matcher, way_with};
+use crate::evidence::Evidence;
+use crate::line::derivation::Voucher;
+use dnsv_chain::Anchor;
+use std::alloc::{AllocError, Global};
+
+/// The first way into the DNSKEY RRset by an anchor: by the anchor of lowest number, then by the lowest key.
+pub fn way_by_anchor(
+    alloc: Global,
+    evidence: &Evidence<'_>,
+    set: &KeySet<'_>,
+) -> Result<Option<FoundWay>, AllocError>
+    requires { IsKeySet (setting_in evidence.now) set.now }
+    ensures { IfOk result (λ way. MatchOption way (IsNoWayBefore (setting_in evidence.now) set.now.number (1, 0, 0))
+        (IsFoundWay (setting_in evidence.now) set.now.number)) }
+{
+    for (place, anchor) in evidence.anchors().iter().enumerate() {
+        let voucher = voucher_of(place + 1, anchor);
+        if let Some(way) = way_with(alloc, evidence, set, Matcher::Anchor(anchor), voucher)? {
+            return Ok(Some(way));
+        }
+    }
+    Ok(None)
+}
+
+/// How the anchor, which has the number, is told.
+fn voucher_of(number: usize, anchor: &Anchor) -> Voucher
+    ensures { IsVoucherOf number anchor.now result }
+{
+    match anchor {
+        Anchor::Ds { ds, .. } => Voucher::DsAnchor(number, ds.digest_type),
+        Anchor::Key { .. } => Voucher::KeyAnchor(number),
+    }
+}
