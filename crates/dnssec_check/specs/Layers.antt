@@ -32,7 +32,10 @@ use Rattle.dnsv_verdict.specs.Verdict.{Basis}
 use Rattle.dnsv_verdict.specs.Way.{IsRefusedFor, IsVerdictOf}
 use Rattle.dnsv_verdict.specs.declared.error.VerdictError.{VerdictError}
 use Rattle.dnsv_verdict.specs.declared.link.Link.{Link}
+use Rattle.dnsv_verdict.specs.declared.report.Report.{Report}
 use Rattle.dnsv_verdict.specs.declared.verdict.Verdict.{Verdict}
+use Rattle.dnsv_explain.specs.Explanation.{IsExplanationOf}
+use Rattle.dnsv_explain.specs.declared.line.Line.{Line}
 
 -- names as text
 pub record NameLaws : Type 0 where
@@ -77,7 +80,7 @@ pub record EvidenceLaws : Type 0 where
   pub no_reason_against_evidence : (held : Evidence) (message : Contents) (error : CaptureError)
       → error ≢ capture.OutOfMemory → IsEvidence held message → IsReasonAgainst held message error → ⊥
 
--- questions, and what they are judged by
+-- questions, what they are judged by, and why a verdict stands
 pub record VerdictLaws : Type 0 where
   pub one_table : (meaning : Entry → Answer) (moment : ℕ) (rrsets : List ReceivedRrset) (a b : TableContents)
       → IsTableOf meaning moment rrsets a → IsTableOf meaning moment rrsets b → a ≡ b
@@ -88,6 +91,9 @@ pub record VerdictLaws : Type 0 where
   pub one_way : (basis : Basis) (name : Labels) (t : ℕ) (links others : List Link) (last end : Labels) (a b : Verdict)
       → IsVerdictOf basis name t links last a → IsVerdictOf basis name t others end b
       → (links ≡ others) × (last ≡ end) × (a ≡ b)
+  pub one_explanation : (basis : Basis) (name : Labels) (t : ℕ) (report : Report) (a b : List Line)
+      → IsVerdictOf basis name t report.links report.last report.verdict
+      → IsExplanationOf basis t report a → IsExplanationOf basis t report b → a ≡ b
   pub one_refusal : (basis : Basis) (name : Labels) (t : ℕ) (a b : VerdictError) → IsRefusedFor basis name t a
       → IsRefusedFor basis name t b → a ≡ b
   pub verdict_apart : (basis : Basis) (name : Labels) (t : ℕ) (links : List Link) (last : Labels) (verdict : Verdict)

@@ -45,12 +45,6 @@ IsTextAskedFor (request.List capture moment statements all json) files end text 
 IsTextAskedFor (request.Check capture anchors moment asked rtype statements keys macs json why) files end text =
     IsAnswered json why (string_bytes asked) rtype.0 moment files end text
 
--- the request doesn't ask why a verdict stands
-abbrev pub AsksNotWhy : Request → Type 0
-AsksNotWhy (request.Show capture) = ⊤
-AsksNotWhy (request.List capture moment statements all json) = ⊤
-AsksNotWhy (request.Check capture anchors moment asked rtype statements keys macs json why) = why ≡ false
-
 -- ---- the first fault
 
 -- the file holds messages in such frames, each of them evidence besides those before it

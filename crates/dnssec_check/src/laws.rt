@@ -9,7 +9,7 @@ ghost use Rattle.dnssec_check.specs.Texts.Showing.{IsShowing};
 ghost use Rattle.dnssec_check.specs.Files.{Files};
 ghost use Rattle.dnssec_check.specs.Layers.{LayerLaws};
 ghost use Rattle.dnssec_check.specs.Opening.Macs.{HasMacs, IsFaultOfMacs};
-ghost use Rattle.dnssec_check.specs.Run.{AsksNotWhy, IsFirstFault, IsTextAskedFor};
+ghost use Rattle.dnssec_check.specs.Run.{IsFirstFault, IsTextAskedFor};
 ghost use Rattle.dnssec_check.specs.declared.status.Status.{Status};
 ghost use Rattle.dnssec_check.specs.declared.status.Fault.{Fault};
 ghost use Rattle.dnssec_check.specs.declared.command_line.request.Request.{Request};
@@ -24,6 +24,7 @@ use dnsv_message::{
 use dnsv_names::{a_text_has_one_list_of_lines, a_text_has_one_reading};
 use dnsv_records::record_laws;
 use dnsv_tsig::{one_answer as one_opened, one_ring_or_fault};
+use dnsv_explain::a_report_has_one_explanation;
 use dnsv_verdict::a_question_leads_one_way;
 use dnsv_verifier::a_table_is_its_verifier;
 
@@ -44,13 +45,14 @@ fn layers()
     a_table_is_its_verifier();
     a_text_is_one_list_of_anchors();
     a_question_leads_one_way();
+    a_report_has_one_explanation();
 }
 
-/// A request has at most one end for its files, and one text where it doesn't ask why a verdict stands.
+/// A request has at most one text and end for its files.
 pub fn one_text()
     ensures { (asked : Request) (files : Files) → AreOctets files.capture
         → (s t : Status) (a b : List ℕ) → IsTextAskedFor asked files s a → IsTextAskedFor asked files t b
-        → (s ≡ t) × (AsksNotWhy asked → a ≡ b) }
+        → (s ≡ t) × (a ≡ b) }
 {
     layers();
 }

@@ -116,9 +116,10 @@ pub fn explanations_follow()
         → IsExplanation explained t links last verdict lines → EachFollows (its_setting explained verdict) [] lines }
 {}
 
-/// A report has one explanation: the same inputs give the same lines.
+/// A verdict that is reported has one explanation: the same inputs give the same lines.
 pub fn a_report_has_one_explanation()
-    ensures { (basis : Basis) (name : Labels) (t : ℕ) (report : Report) (a b : List Line) → IsReport basis name t report
+    ensures { (basis : Basis) (name : Labels) (t : ℕ) (report : Report) (a b : List Line)
+        → IsVerdictOf basis name t report.links report.last report.verdict
         → IsExplanationOf basis t report a → IsExplanationOf basis t report b → a ≡ b }
 {}
 

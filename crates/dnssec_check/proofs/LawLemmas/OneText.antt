@@ -9,12 +9,16 @@ use Rattle.dnsv_canonical.specs.Evidence.{evidence_of}
 use Rattle.dnsv_canonical.specs.Rrsets.{ReceivedRrset}
 use Rattle.dnsv_canonical.specs.SignedData.{IsSignedData}
 use Rattle.dnsv_tsig.specs.Key.{SharedKey}
-use Rattle.dnsv_verifier.specs.Table.{IsTableOf, unknown_entries}
+use Rattle.dnsv_verifier.specs.Table.{IsTableOf, TableContents, unknown_entries}
 use Rattle.dnsv_verifier.specs.declared.answer.Answer.{Answer}
 use Rattle.dnsv_verifier.specs.declared.entry.Entry.{Entry}
 use Rattle.dnsv_verdict.specs.Verdict.{Basis, basis_of}
 use Rattle.dnsv_verdict.specs.Way.{IsVerdictOf}
+use Rattle.dnsv_verdict.specs.declared.link.Link.{Link}
 use Rattle.dnsv_verdict.specs.declared.report.Report.{Report}
+use Rattle.dnsv_verdict.specs.declared.verdict.Verdict.{Verdict}
+use Rattle.dnsv_explain.specs.Explained.{Explained}
+use Rattle.dnsv_explain.specs.Explanation.{IsExplanation, IsExplanationOf}
 use Rattle.dnsv_explain.specs.declared.line.Line.{Line}
 use Rattle.dnssec_check.specs.declared.opening.Opening.{Opening}
 use Rattle.dnssec_check.specs.declared.opening.Opening.TheVariants.{Plain, Signed}
@@ -29,7 +33,7 @@ use Rattle.dnssec_check.specs.Opening.Keys.{MayHaveKeys}
 use Rattle.dnssec_check.specs.Layers.{LayerLaws}
 use Rattle.dnssec_check.specs.Texts.Listing.{ListsRrsets, ListsSignatures, SignedOctets, listing_text}
 use Rattle.dnssec_check.specs.CommandLine.Question.{Spells}
-use Rattle.dnssec_check.specs.Run.{AsksNotWhy, IsAnswered, IsTextAskedFor}
+use Rattle.dnssec_check.specs.Run.{IsAnswered, IsTextAskedFor}
 use Rattle.dnssec_check.specs.Texts.Showing.{message_text, texts_from}
 use Rattle.dnssec_check.specs.Texts.Todo.{IsTodo, todo_text}
 use Rattle.dnssec_check.proofs.OpeningLemmas.Keys.{same_keys}
@@ -102,42 +106,66 @@ module _ (laws : LayerLaws) where
         let meanings = one_meaning (octets_or_none files.statements) x.meaning y.meaning x.said y.said in
         λ i. basis_of (evidence_of (messages i)).rrsets (anchors i) moment (meanings i)
 
-    -- where it isn't asked why a verdict stands, nothing of that is told
-    none_told : (why : Bool) (basis : Basis) (report : Report) (told : Option (List Line)) → why ≡ false → IsWhy why basis rtype report told → told ≡ None
-    none_told false basis report None without is = refl
-    none_told false basis report (Some lines) without is = absurd is
-    none_told true basis report told without is = cc
+    -- an explanation is one of the report's links, last name and verdict alone
+    explains : (basis : Basis) (report other : Report) → report.links ≡ other.links → report.last ≡ other.last → report.verdict ≡ other.verdict
+        → (lines : List Line) → IsExplanationOf basis rtype report lines → IsExplanationOf basis rtype other lines
+    explains basis report other links last verdict lines it =
+        let explained : Explained = record { rrsets = basis.rrsets; anchors = basis.anchors; table = it.table; todo = [] } in
+        record {
+          table = it.table;
+          of = it.of;
+          is = subst (λ (each : Verdict). IsExplanation explained rtype other.links other.last each lines) verdict
+              (subst (λ (each : Labels). IsExplanation explained rtype other.links each report.verdict lines) last
+              (subst (λ (each : List Link). IsExplanation explained rtype each report.last report.verdict lines) links it.is));
+        }
+
+    -- why a verdict stands is told in one way, and only where that is asked for
+    one_why : (why : Bool) (basis : Basis) (name : Labels) (report : Report) (a b : Option (List Line))
+        → IsVerdictOf basis name rtype report.links report.last report.verdict → IsWhy why basis rtype report a → IsWhy why basis rtype report b → a ≡ b
+    one_why false basis name report None None stands x y = refl
+    one_why false basis name report None (Some lines) stands x y = absurd y
+    one_why false basis name report (Some lines) b stands x y = absurd x
+    one_why true basis name report None b stands x y = absurd x
+    one_why true basis name report (Some lines) None stands x y = absurd y
+    one_why true basis name report (Some lines) (Some others) stands x y = ap Some (laws.verdicts.one_explanation basis name rtype report lines others stands x y)
+
+    why_of : (why : Bool) (basis : Basis) (report other : Report) → report.links ≡ other.links → report.last ≡ other.last → report.verdict ≡ other.verdict
+        → (told : Option (List Line)) → IsWhy why basis rtype report told → IsWhy why basis rtype other told
+    why_of false basis report other links last verdict None is = is
+    why_of false basis report other links last verdict (Some lines) is = absurd is
+    why_of true basis report other links last verdict None is = absurd is
+    why_of true basis report other links last verdict (Some lines) is = explains basis report other links last verdict lines is
 
     one_check : (json why : Bool) (name : Labels) (s t : Status) (a b : List ℕ) → IsCheck json why name rtype moment files s a → IsCheck json why name rtype moment files t b
-        → (s ≡ t) × (why ≡ false → a ≡ b)
+        → (s ≡ t) × (a ≡ b)
     one_check json why name s t a b x y =
         let bases : basis_in x.given ≡ basis_in y.given = one_basis x.given y.given in
         let ways = laws.verdicts.one_way (basis_in y.given) name rtype x.report.links y.report.links x.report.last y.report.last x.report.verdict y.report.verdict
-        (subst (λ (each : Basis). IsVerdictOf each name rtype x.report.links x.report.last x.report.verdict) bases x.is_verdict) y.is_verdict in (
+        (subst (λ (each : Basis). IsVerdictOf each name rtype x.report.links x.report.last x.report.verdict) bases x.is_verdict) y.is_verdict in
+        let tolds : x.told ≡ y.told = one_why why (basis_in y.given) name y.report x.told y.told y.is_verdict
+            (why_of why (basis_in y.given) x.report y.report ways.0 ways.1 ways.2 x.told (subst (λ (each : Basis). IsWhy why each rtype x.report x.told) bases x.is_told)) y.is_told in (
           x.ends ∙ ap verdict_status ways.2 ∙ sym y.ends,
-          λ without.
-              let tolds : x.told ≡ y.told = none_told why (basis_in x.given) x.report x.told without x.is_told ∙ sym (none_told why (basis_in y.given) y.report y.told without y.is_told) in
-              x.lines ∙ (λ i. check_text json name rtype moment (bases i).rrsets (ways.0 i) (ways.2 i) (tolds i)) ∙ sym y.lines,
+          x.lines ∙ (λ i. check_text json name rtype moment (bases i).rrsets (ways.0 i) (ways.2 i) (tolds i)) ∙ sym y.lines,
         )
 
     one_answer : (json why : Bool) (asked : List ℕ) (s t : Status) (a b : List ℕ) → IsAnswered json why asked rtype moment files s a → IsAnswered json why asked rtype moment files t b
-        → (s ≡ t) × (why ≡ false → a ≡ b)
+        → (s ≡ t) × (a ≡ b)
     one_answer json why asked s t a b x y =
         one_check json why y.0 s t a b
         (subst (λ (name : Labels). IsCheck json why name rtype moment files s a) (one_question asked x.0 y.0 x.1 y.1) x.3) y.3
 
   -- ---- all requests
 
-  -- a request has one end for its files, and one text where it doesn't ask why a verdict stands
+  -- a request has one text and end for its files
   pub one_text : (asked : Request) (files : Files) → AreOctets files.capture → (s t : Status) (a b : List ℕ)
-      → IsTextAskedFor asked files s a → IsTextAskedFor asked files t b → (s ≡ t) × (AsksNotWhy asked → a ≡ b)
+      → IsTextAskedFor asked files s a → IsTextAskedFor asked files t b → (s ≡ t) × (a ≡ b)
   one_text (request.Show capture) files are s t a b x y =
-      (x.0 ∙ sym y.0, λ without. x.1.2 ∙ ap (texts_from message_text 1) (one_holding laws AnyMessage Plain files.capture are x.1.0 y.1.0 x.1.1 y.1.1) ∙ sym y.1.2)
+      (x.0 ∙ sym y.0, x.1.2 ∙ ap (texts_from message_text 1) (one_holding laws AnyMessage Plain files.capture are x.1.0 y.1.0 x.1.1 y.1.1) ∙ sym y.1.2)
   one_text (request.List capture moment statements true json) files are s t a b x y = (
     x.0 ∙ sym y.0,
-    λ without. x.1.4 ∙ ap (listing_text json moment) (one_list 1 (evidence_of x.1.0).rrsets x.1.2 y.1.2 x.1.3
+    x.1.4 ∙ ap (listing_text json moment) (one_list 1 (evidence_of x.1.0).rrsets x.1.2 y.1.2 x.1.3
         (subst (λ messages. ListsRrsets 1 (evidence_of messages).rrsets y.1.2) (one_holding laws NewEvidence Plain files.capture are y.1.0 x.1.0 y.1.1 x.1.1) y.1.3)) ∙ sym y.1.4,
   )
-  one_text (request.List capture moment statements false json) files are s t a b x y = (x.0 ∙ sym y.0, λ without. one_todo json moment files are a b x.1 y.1)
+  one_text (request.List capture moment statements false json) files are s t a b x y = (x.0 ∙ sym y.0, one_todo json moment files are a b x.1 y.1)
   one_text (request.Check capture anchors moment asked rtype statements keys macs json why) files are s t a b x y =
       one_answer rtype.0 moment files are json why (string_bytes asked) s t a b x y

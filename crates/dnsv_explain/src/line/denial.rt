@@ -17,7 +17,7 @@ pub enum Form {
     NoData2,
     /// A wildcard stands for the name, without the type.
     NoData3,
-    /// DS is asked of a name that an Opt-Out span may leave out.
+    /// A wildcard that is an empty non-terminal stands for the name.
     NoData4,
     /// There is no closer name than the wildcard.
     NoCloser,

@@ -34,6 +34,7 @@ returns c = record {
     one_fault_of_anchors = c.a_text_is_one_list_of_anchors.ensures.fault;
     anchors_apart = c.a_text_is_one_list_of_anchors.ensures.apart;
     one_way = c.a_question_leads_one_way.ensures.verdict;
+    one_explanation = c.a_report_has_one_explanation.ensures;
     one_refusal = c.a_question_leads_one_way.ensures.refusal;
     verdict_apart = c.a_question_leads_one_way.ensures.not_both;
   };

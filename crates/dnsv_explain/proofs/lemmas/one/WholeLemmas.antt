@@ -25,7 +25,7 @@ use Rattle.dnsv_denial.specs.declared.unsigned_cuts.shown_cut.ShownCut.{ShownCut
 use Rattle.dnsv_verdict.proofs.CaseLemmas.{one_settled_as}
 use Rattle.dnsv_verdict.proofs.SearchLemmas.FirstSuchLemmas.{one_first_such}
 use Rattle.dnsv_verdict.specs.Insecure.{IsOptOutWildcardSet}
-use Rattle.dnsv_verdict.specs.Report.{IsReport}
+use Rattle.dnsv_verdict.specs.Way.{IsVerdictOf}
 use Rattle.dnsv_verdict.specs.Secure.{IsFirstSuch}
 use Rattle.dnsv_verdict.specs.Verdict.{Basis, IsVerdictAt}
 use Rattle.dnsv_verdict.specs.declared.link.Link.{Link}
@@ -257,12 +257,12 @@ needs_apart explained none basis name t (Pending unknown) is = rising_apart unkn
 needs_apart explained none basis name t Bogus is = tt
 needs_apart explained none basis name t Indeterminate is = tt
 
-pub one_of_report : (basis : Basis) (name : Labels) (t : ℕ) (report : Report) (a b : List Line) → IsReport basis name t report
-    → IsExplanationOf basis t report a → IsExplanationOf basis t report b → a ≡ b
+pub one_of_report : (basis : Basis) (name : Labels) (t : ℕ) (report : Report) (a b : List Line)
+    → IsVerdictOf basis name t report.links report.last report.verdict → IsExplanationOf basis t report a → IsExplanationOf basis t report b → a ≡ b
 one_of_report basis name t report a b is x y =
     let explained_by : TableContents → Explained = λ table.
     record { rrsets = basis.rrsets; anchors = basis.anchors; table = table; todo = [] } in
     let table : x.table ≡ y.table = only_table basis.meaning basis.moment basis.rrsets x.table x.of y.table y.of in
     let Of : TableContents → Type 0 = λ each. IsExplanation (explained_by each) t report.links report.last report.verdict a in
     one_explanation (explained_by y.table) none_apart t report.links report.last report.verdict
-    (needs_apart (explained_by y.table) none_apart basis report.last t report.verdict is.verdict.is_verdict) a b (subst Of table x.is) y.is
+    (needs_apart (explained_by y.table) none_apart basis report.last t report.verdict is.is_verdict) a b (subst Of table x.is) y.is
