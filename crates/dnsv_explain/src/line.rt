@@ -81,6 +81,3 @@ impl fmt::Display for Kind {
         })
     }
 }
-
-#[cfg(test)]
-mod tests;
