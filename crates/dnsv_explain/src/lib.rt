@@ -9,6 +9,7 @@ pub use derivations::ways::trusted_line;
 pub use evidence::Evidence;
 pub use explanation::{Explanation, explain};
 pub use faults::add_rrset_faults;
+pub use faults::question::add_question_faults;
 pub use faults::shown_keys::add_keys_in_question;
 pub use interval::{Interval, Times, holding};
 pub use laws::{
