@@ -1,12 +1,31 @@
 -- How the zones that a question needs are looked for, by their numbers of labels. No public clause cites this module.
 use Rattle.std.specs.Prelude.{◌≡◌, ◌↔◌, ◌⊎◌, ◌<◌, ◌≤◌, ℕ, IsTrue, MatchOption, Option, List, Contains, length}
-use Rattle.dnsv_names.specs.Name.{Labels, SameName, rightmost}
-use Rattle.dnsv_canonical.specs.Rrsets.{ReceivedRrset}
+use Rattle.dnsv_names.specs.Name.{Labels, IsAtOrBelow, SameName, rightmost}
+use Rattle.dnsv_records.specs.declared.rrsig.Rrsig.{Rrsig}
+use Rattle.dnsv_canonical.specs.Rrsets.{IsNumbered, ReceivedRrset}
+use Rattle.dnsv_chain.specs.declared.anchor.Anchor.{Anchor}
+use Rattle.dnsv_zones.specs.zones.TypeNumbers.{ds}
 use Rattle.dnsv_verdict.specs.Verdict.{HasAnchor}
 use Rattle.dnsv_explain.specs.Explained.{Setting}
 use Rattle.dnsv_explain.specs.faults.Keys.{IsTrustedZone}
-use Rattle.dnsv_explain.specs.faults.Zones.{HasDenialSigner, HasGoalSigner, HasSignedGoal, HasSigner, IsAnchoredAbove, IsDenial, IsGoal, IsKnownZone, IsSpeaker, NeedsAbove}
+use Rattle.dnsv_explain.specs.faults.Zones.{HasDenialSigner, HasGoalSigner, HasOwnAnchor, HasRrset, HasSignedGoal, HasSigner, IsAnchoredAbove, IsDenial, IsGoal, IsKnownZone, IsSpeaker, NeedsAbove}
 use Rattle.dnsv_explain.specs.declared.faults.question.signers.Signers.{Signers}
+
+-- ---- signatures as they are read
+
+-- the signer of one of the signatures is at or above the name
+pub record HasOneAbove (rrsigs : List Rrsig) (name : Labels) : Type 0 where
+  pub rrsig : Rrsig
+  pub among : Contains rrsigs rrsig
+  pub above : IsAtOrBelow name rrsig.signer
+
+-- the zone is the signer of one of the signatures
+pub record HasOneBy (rrsigs : List Rrsig) (zone : Labels) : Type 0 where
+  pub rrsig : Rrsig
+  pub among : Contains rrsigs rrsig
+  pub signer : SameName rrsig.signer zone
+
+-- ---- zones by their numbers of labels
 
 -- the name's n rightmost labels are such
 pub record IsAbove (name : Labels) (Such : Labels → Type 0) (n : ℕ) : Type 0 where
@@ -33,6 +52,12 @@ pub record IsDenialLabels (name : Labels) (rrset : ReceivedRrset) (n : ℕ) : Ty
   pub denial : IsDenial name rrset
   pub above : IsAbove name (HasSigner rrset) n
 
+-- what the RRset with the number gives to those of the name, if there is one
+pub record IsDsLabels (rrsets : List ReceivedRrset) (name : Labels) (k n : ℕ) : Type 0 where
+  pub rrset : ReceivedRrset
+  pub numbered : IsNumbered rrsets k rrset
+  pub above : IsAbove name (HasSigner rrset) n
+
 -- the zone is the signer of a DS RRset of the name
 pub record HasDsSigner (rrsets : List ReceivedRrset) (name zone : Labels) : Type 0 where
   pub rrset : ReceivedRrset
@@ -40,6 +65,10 @@ pub record HasDsSigner (rrsets : List ReceivedRrset) (name zone : Labels) : Type
   pub rtype : rrset.rtype ≡ 43
   pub owner : SameName rrset.owner name
   pub signer : HasSigner rrset zone
+
+-- a DS RRset or an anchor is at the zone
+abbrev pub HasWay : List ReceivedRrset → List Anchor → Labels → Type 0
+HasWay rrsets anchors zone = HasRrset rrsets zone ds ⊎ HasOwnAnchor anchors zone
 
 -- the zone above is known, an anchor is at or above it, and it has n labels
 pub record IsAnchoredZone (setting : Setting) (name : Labels) (t n : ℕ) : Type 0 where

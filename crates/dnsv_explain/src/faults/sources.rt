@@ -33,7 +33,6 @@ pub fn add_lacking(
     ensures { OnOk result (AddsThose (AreLacking (setting_in evidence.now) at.now.name.now rtype.0) lines.old.items
         lines.new.items) }
 {
-    let _ = (alloc, evidence, at, view, speaker, rtype);
     if lines.is_empty() {
         return Ok(());
     }

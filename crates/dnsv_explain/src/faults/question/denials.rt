@@ -10,6 +10,7 @@ ghost use Rattle.dnsv_explain.specs.faults.Zones.{IsNeeded};
 
 use crate::evidence::Evidence;
 use crate::faults::add_rrset;
+use crate::faults::question::signers::is_among;
 use crate::faults::question::subjects::is_denial;
 use crate::line::Line;
 use dnsv_canonical::Rrset;
@@ -89,5 +90,8 @@ fn is_needed(needed: &[usize], name: &Name, zone: &Name) -> bool
     ensures { (setting : Setting) (t : ℕ) → AreLabelsOf name.now (IsNeeded setting name.now t) needed.now
         → IsTrue result ↔ IsNeeded setting name.now t zone.now }
 {
-    name.is_at_or_below(zone) && needed.contains(&zone.labels())
+    if !name.is_at_or_below(zone) {
+        return false;
+    }
+    is_among(needed, zone.labels())
 }

@@ -38,7 +38,7 @@ fn add_dname(
     ensures { OnOk result (AddsThose (AreDnameLines evidence.now.rrsets name.now (rightmost name.now labels))
         lines.old.items lines.new.items) }
 {
-    if labels >= name.labels() {
+    if labels == name.labels() {
         return Ok(());
     }
     let above = name.suffix(labels);

@@ -1,5 +1,5 @@
 //! The zones at or above a question's name that the evidence knows, and the one of them that should speak.
-ghost use Rattle.std.specs.Prelude.{◌↔◌, ◌≤◌, IsTrue, length};
+ghost use Rattle.std.specs.Prelude.{◌≡◌, ◌↔◌, ◌<◌, ◌≤◌, IsTrue, length};
 ghost use Rattle.dnsv_names.specs.Name.{rightmost};
 ghost use Rattle.dnsv_explain.specs.Explained.{setting_in};
 ghost use Rattle.dnsv_explain.specs.faults.NeededSearch.{AreSigners, IsAboveFound, IsAnchoredZone, IsOfSigners, IsSpeakerFound};
@@ -7,7 +7,7 @@ ghost use Rattle.dnsv_explain.specs.faults.Zones.{IsKnownZone};
 
 use crate::evidence::Evidence;
 use crate::faults::question::at::{has_own_anchor, has_rrset, is_anchored};
-use crate::faults::question::signers::Signers;
+use crate::faults::question::signers::{Signers, is_among};
 use dnsv_names::{Name, RecordType};
 
 /// How many labels the zone has that should speak: the known zone with most labels.
@@ -65,7 +65,10 @@ fn is_anchored_zone(
     requires within { labels ≤ length name.now }
     ensures { IsTrue result ↔ IsAnchoredZone (setting_in evidence.now) name.now rtype.0 labels }
 {
-    is_known(evidence, signers, name, rtype, labels) && is_anchored(evidence, &name.suffix(labels))
+    if !is_known(evidence, signers, name, rtype, labels) {
+        return false;
+    }
+    is_anchored(evidence, &name.suffix(labels))
 }
 
 /// Whether the zone with so many of the name's labels is known: it is an anchor's owner, it owns a DS or DNSKEY RRset, or
@@ -81,19 +84,39 @@ fn is_known(
     requires within { labels ≤ length name.now }
     ensures { IsTrue result ↔ IsKnownZone (setting_in evidence.now) name.now rtype.0 (rightmost name.now labels) }
 {
-    if rtype == RecordType::DS && labels == name.labels() {
+    if !is_proper(name, rtype, labels) {
         return false;
     }
     let zone = name.suffix(labels);
-    has_own_anchor(evidence, &zone)
-        || has_rrset(evidence, &zone, RecordType::DS)
-        || has_rrset(evidence, &zone, RecordType::DNSKEY)
-        || is_signer(signers, labels)
+    if has_own_anchor(evidence, &zone) {
+        return true;
+    }
+    if has_rrset(evidence, &zone, RecordType::DS) {
+        return true;
+    }
+    if has_rrset(evidence, &zone, RecordType::DNSKEY) {
+        return true;
+    }
+    is_signer(signers, labels)
+}
+
+/// Whether so many labels are fewer than the name's, where DS is asked, which the zone above keeps (RFC 4035 2.4).
+fn is_proper(name: &Name, rtype: RecordType, labels: usize) -> bool
+    ensures { IsTrue result ↔ (rtype.0 ≡ 43 → labels < length name.now) }
+{
+    if rtype != RecordType::DS {
+        return true;
+    }
+    labels < name.labels()
 }
 
 /// Whether the zone with so many labels is a signer of what may answer, or where none of that is signed, of what may deny.
 fn is_signer(signers: &Signers, labels: usize) -> bool
     ensures { IsTrue result ↔ IsOfSigners signers.now labels }
 {
-    signers.goals.contains(&labels) || !signers.signed && signers.denials.contains(&labels)
+    if is_among(&signers.goals, labels) {
+        return true;
+    }
+    let signed = signers.signed;
+    !signed && is_among(&signers.denials, labels)
 }

@@ -1,16 +1,16 @@
 //! The zones that a question needs.
-ghost use Rattle.std.specs.Prelude.{◌≡◌, ◌↔◌, ◌≤◌, IfOk, IsTrue, OnOk, length};
+ghost use Rattle.std.specs.Prelude.{◌↔◌, ◌≤◌, IfOk, IsTrue, OnOk, length};
 ghost use Rattle.dnsv_names.specs.Name.{rightmost};
 ghost use Rattle.dnsv_verifier.specs.Asking.{AddsJust};
 ghost use Rattle.dnsv_verdict.specs.Verdict.{HasAnchor};
 ghost use Rattle.dnsv_explain.specs.Explained.{setting_in};
-ghost use Rattle.dnsv_explain.specs.faults.NeededSearch.{AreLabelsOf, AreSigners, HasDsSigner, IsAbove, IsAnchoredDenier, IsAnchoredSpeaker, IsNeededBy, IsNumberWhere};
-ghost use Rattle.dnsv_explain.specs.faults.Zones.{IsAnchoredAbove, IsNeeded, IsNeededFirst, IsParent, NeedsAbove};
+ghost use Rattle.dnsv_explain.specs.faults.NeededSearch.{AreLabelsOf, AreSigners, HasDsSigner, HasWay, IsAbove, IsAnchoredDenier, IsAnchoredSpeaker, IsNeededBy, IsNumberWhere};
+ghost use Rattle.dnsv_explain.specs.faults.Zones.{IsNeeded, IsNeededFirst, IsParent, NeedsAbove};
 
 use crate::evidence::Evidence;
 use crate::faults::question::at::{has_own_anchor, has_rrset, is_anchored};
 use crate::faults::question::known::{anchored_above, speaker};
-use crate::faults::question::signers::{Signers, add_number, ds_signers};
+use crate::faults::question::signers::{Signers, add_number, ds_signers, is_among};
 use dnsv_names::{Name, RecordType};
 use std::alloc::{AllocError, Global};
 
@@ -90,7 +90,8 @@ fn add_deniers(
     ensures { OnOk result (AddsJust (IsAbove name.now (IsAnchoredDenier (setting_in evidence.now) name.now rtype.0))
         needed.old.items needed.new.items) }
 {
-    if signers.signed {
+    let signed = signers.signed;
+    if signed {
         return Ok(());
     }
     for labels in &signers.denials {
@@ -132,7 +133,7 @@ fn add_needed_by(
     ensures { OnOk result (AddsJust (IsNeededBy (setting_in evidence.now) name.now rtype.0 needed.old.items labels)
         needed.old.items needed.new.items) }
 {
-    if !needed.contains(&labels) {
+    if !is_among(needed, labels) {
         return Ok(());
     }
     if evidence.is_trusted_zone(&name.suffix(labels)) {
@@ -159,7 +160,7 @@ fn add_above(
         needed.old.items needed.new.items) }
 {
     let zone = name.suffix(labels);
-    if has_rrset(evidence, &zone, RecordType::DS) || has_own_anchor(evidence, &zone) {
+    if has_way(evidence, &zone) {
         add_parents(alloc, evidence, &zone, needed)?;
         return Ok(());
     }
@@ -168,6 +169,13 @@ fn add_above(
     };
     add_number(needed, above)?;
     Ok(())
+}
+
+/// Whether a DS RRset or a trust anchor is at the zone.
+fn has_way(evidence: &Evidence<'_>, zone: &Name) -> bool
+    ensures { IsTrue result ↔ HasWay evidence.now.rrsets evidence.now.anchors zone.now }
+{
+    has_rrset(evidence, zone, RecordType::DS) || has_own_anchor(evidence, zone)
 }
 
 /// Adds how many labels the zone's parents have: the signers of its DS RRsets that are above it, and of a zone with an
@@ -199,12 +207,23 @@ fn add_parent(
     ensures { OnOk result (AddsJust (IsNumberWhere (IsParent (setting_in evidence.now) zone.now (rightmost zone.now labels))
         labels) numbers.old.items numbers.new.items) }
 {
-    if labels >= zone.labels() {
-        return Ok(());
-    }
-    if has_own_anchor(evidence, zone) && !is_anchored(evidence, &zone.suffix(labels)) {
+    if !is_parent(evidence, zone, labels) {
         return Ok(());
     }
     add_number(numbers, labels)?;
     Ok(())
+}
+
+/// Whether the signer of a DS RRset of the zone that has so many labels is a parent.
+fn is_parent(evidence: &Evidence<'_>, zone: &Name, labels: usize) -> bool
+    requires { IsAbove zone.now (HasDsSigner evidence.now.rrsets zone.now) labels }
+    ensures { IsTrue result ↔ IsParent (setting_in evidence.now) zone.now (rightmost zone.now labels) }
+{
+    if labels == zone.labels() {
+        return false;
+    }
+    if !has_own_anchor(evidence, zone) {
+        return true;
+    }
+    is_anchored(evidence, &zone.suffix(labels))
 }

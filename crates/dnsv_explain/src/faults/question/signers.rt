@@ -1,8 +1,8 @@
 //! The signers of what may answer a question, and of what may deny it.
-ghost use Rattle.std.specs.Prelude.{◌≡◌, ◌↔◌, IfOk, IsTrue, OnOk};
+ghost use Rattle.std.specs.Prelude.{◌≡◌, ◌↔◌, Contains, IfOk, IsTrue, OnOk};
 ghost use Rattle.dnsv_names.specs.Name.{SameName};
-ghost use Rattle.dnsv_verifier.specs.Asking.{AddsJust, ComesOfSome};
-ghost use Rattle.dnsv_explain.specs.faults.NeededSearch.{AreLabelsOf, AreSigners, HasDsSigner, IsAbove, IsDenialLabels, IsGoalLabels};
+ghost use Rattle.dnsv_verifier.specs.Asking.{AddsJust};
+ghost use Rattle.dnsv_explain.specs.faults.NeededSearch.{AreLabelsOf, AreSigners, HasDsSigner, IsAbove, IsDenialLabels, IsDsLabels, IsGoalLabels};
 ghost use Rattle.dnsv_explain.specs.faults.Zones.{HasDenialSigner, HasGoalSigner, HasSigner};
 
 use crate::evidence::Evidence;
@@ -113,11 +113,25 @@ pub fn ds_signers(
     let mut compared = Count::new();
     let mut numbers = Vec::new(alloc);
     for number in capture.at(zone, RecordType::DS, &mut compared) {
-        if let Some(rrset) = numbered(capture.rrsets(), *number) {
-            add_signers(rrset, zone, &mut numbers)?;
-        }
+        add_ds_signers(capture.rrsets(), zone, *number, &mut numbers)?;
     }
     Ok(numbers)
+}
+
+/// Adds those of the RRset with the number.
+fn add_ds_signers(
+    rrsets: &[Rrset],
+    zone: &Name,
+    number: usize,
+    numbers: &mut Vec<usize>,
+) -> Result<(), AllocError>
+    ensures { OnOk result (AddsJust (IsDsLabels rrsets.now zone.now number) numbers.old.items numbers.new.items) }
+{
+    let Some(rrset) = numbered(rrsets, number) else {
+        return Ok(());
+    };
+    add_signers(rrset, zone, numbers)?;
+    Ok(())
 }
 
 /// Adds how many labels those signers of the RRset have that are at or above the name.
@@ -145,9 +159,16 @@ fn add_signer(name: &Name, signer: &Name, numbers: &mut Vec<usize>) -> Result<()
 pub fn add_number(numbers: &mut Vec<usize>, number: usize) -> Result<(), AllocError>
     ensures { OnOk result (AddsJust (λ n. n ≡ number) numbers.old.items numbers.new.items) }
 {
-    if numbers.contains(&number) {
+    if is_among(numbers, number) {
         return Ok(());
     }
     numbers.push(number)?;
     Ok(())
+}
+
+/// Whether the number is one of these.
+pub fn is_among(numbers: &[usize], number: usize) -> bool
+    ensures { IsTrue result ↔ Contains numbers.now number }
+{
+    numbers.contains(&number)
 }

@@ -1,11 +1,13 @@
 //! What may answer a question, and what may deny it.
 ghost use Rattle.std.specs.Prelude.{◌↔◌, IsTrue};
 ghost use Rattle.dnsv_denial.specs.gathering.Gathered.{IsDenialType};
+ghost use Rattle.dnsv_explain.specs.faults.NeededSearch.{HasOneAbove, HasOneBy};
 ghost use Rattle.dnsv_explain.specs.faults.Zones.{HasDenial, HasGoal, HasSignedGoal, HasSigner, HasSignerAbove, IsDenial, IsDenialOf, IsGoal};
 
 use crate::faults::keys::are_equal;
 use dnsv_canonical::Rrset;
 use dnsv_names::{Name, RecordType};
+use dnsv_records::Rrsig;
 
 /// Whether the RRset may answer the question: it has the name, and the type or CNAME.
 pub fn is_goal(rrset: &Rrset, name: &Name, rtype: RecordType) -> bool
@@ -67,18 +69,26 @@ pub fn has_denial(rrsets: &[Rrset], name: &Name, zone: &Name) -> bool
 fn has_signer_above(rrset: &Rrset, name: &Name) -> bool
     ensures { IsTrue result ↔ HasSignerAbove rrset.now name.now }
 {
-    rrset
-        .signatures()
-        .iter()
-        .any(|rrsig| name.is_at_or_below(&rrsig.signer))
+    is_one_above(rrset.signatures(), name)
+}
+
+/// Whether the signer of one of the signatures is at or above the name.
+fn is_one_above(rrsigs: &[Rrsig], name: &Name) -> bool
+    ensures { IsTrue result ↔ HasOneAbove rrsigs.now name.now }
+{
+    rrsigs.iter().any(|rrsig| name.is_at_or_below(&rrsig.signer))
 }
 
 /// Whether the zone is a signer of the RRset.
 pub fn has_signer(rrset: &Rrset, zone: &Name) -> bool
     ensures { IsTrue result ↔ HasSigner rrset.now zone.now }
 {
-    rrset
-        .signatures()
-        .iter()
-        .any(|rrsig| are_equal(&rrsig.signer, zone))
+    is_one_by(rrset.signatures(), zone)
+}
+
+/// Whether the zone is the signer of one of the signatures.
+fn is_one_by(rrsigs: &[Rrsig], zone: &Name) -> bool
+    ensures { IsTrue result ↔ HasOneBy rrsigs.now zone.now }
+{
+    rrsigs.iter().any(|rrsig| are_equal(&rrsig.signer, zone))
 }

@@ -11,6 +11,7 @@ ghost use Rattle.dnsv_explain.specs.faults.Zones.{IsNeeded};
 
 use crate::evidence::Evidence;
 use crate::faults::question::at::is_anchored;
+use crate::faults::question::signers::is_among;
 use crate::faults::zones::add_zone_faults;
 use crate::line::Line;
 use crate::line::fault::Reason;
@@ -70,7 +71,7 @@ fn add_needed(
         → OnOk result (AddsThose (AreNeededLines (setting_in evidence.now) name.now t (rightmost name.now labels))
         lines.old.items lines.new.items) }
 {
-    if !needed.contains(&labels) {
+    if !is_among(needed, labels) {
         return Ok(());
     }
     let zone = name.suffix(labels);

@@ -1,0 +1,12 @@
+pub mod AtLemmas
+pub mod DenialLemmas
+pub mod DownLemmas
+pub mod FirstLemmas
+pub mod KnownLemmas
+pub mod NeededLemmas
+pub mod ParentLemmas
+pub mod PartLemmas
+pub mod SameLemmas
+pub mod SignerLemmas
+pub mod SubjectLemmas
+pub mod ZoneLemmas
