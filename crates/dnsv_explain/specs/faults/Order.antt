@@ -154,13 +154,17 @@ pub data AreNsec3Lines (rrset : ReceivedRrset) (number : RecordNumber) (fields :
       (nsec3_line rrset number nsec3.Unusable ∷ [])
   usable : fields.parameters.iterations.0 ≤ 500 → ¬ IsUnusableNsec3 rrset fields → AreNsec3Lines rrset number fields []
 
--- of the records of RRset k, if it is one of NSEC3 records that may deny
+-- of the record at the place of RRset k, with this RDATA
+abbrev pub AreNsec3At : ℕ → ReceivedRrset → ℕ → List ℕ → List Line → Type 0
+AreNsec3At k rrset place rdata lines =
+    (fields : Nsec3) × IsNsec3 rdata fields × AreNsec3Lines rrset (record_of k place) fields lines
+
+-- of the records of RRset k, in canonical order, if it is one of NSEC3 records that may deny
 abbrev pub AreNsec3sLines : Labels → ℕ → ReceivedRrset → List Line → Type 0
 AreNsec3sLines name k rrset =
     AreWhere (IsDenial name rrset × (rrset.rtype ≡ 50))
     (λ lines. (canonical : List (List ℕ)) × IsCanonical (map (canonical_form rrset.rtype) rrset.rdata) canonical
-    × AreOfNumbered (λ place rdata said. (fields : Nsec3) × IsNsec3 rdata fields
-    × AreNsec3Lines rrset (record_of k place) fields said) 1 canonical lines)
+    × AreOfNumbered (AreNsec3At k rrset) 1 canonical lines)
 
 -- what is said of all that may deny
 abbrev pub AreLinesOfDenials : Setting → Labels → ℕ → List Line → Type 0

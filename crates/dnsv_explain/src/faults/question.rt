@@ -14,7 +14,7 @@ mod signers;
 mod subjects;
 mod zones;
 
-ghost use Rattle.std.specs.Prelude.{◌≡◌, ℕ, IfOk, IsTrue, OnOk};
+ghost use Rattle.std.specs.Prelude.{◌≡◌, ◌≢◌, ◌↔◌, ◌⊎◌, [], ℕ, IfOk, IsTrue, OnOk};
 ghost use Rattle.dnsv_verifier.specs.Asking.{AreKeysOf};
 ghost use Rattle.dnsv_explain.specs.At.{IsAt};
 ghost use Rattle.dnsv_explain.specs.Explained.{setting_in};
@@ -35,7 +35,7 @@ use crate::faults::question::known::speaker;
 use crate::faults::question::needed::needed_zones;
 use crate::faults::question::nsec3s::add_nsec3s;
 use crate::faults::question::once::{add_once, keep_said};
-use crate::faults::question::signers::signers_of;
+use crate::faults::question::signers::{Signers, signers_of};
 use crate::faults::question::subjects::has_goal;
 use crate::faults::question::zones::add_zones;
 use crate::faults::sources::add_lacking;
@@ -83,8 +83,8 @@ fn fault_parts(
     let speaker = speaker(evidence, &signers, name, rtype);
     let mut dnames = dname_lines(alloc, evidence, name)?;
     let mut closers = closer_lines(alloc, evidence, at, &view, rtype)?;
-    let denied = !signers.signed || !closers.is_empty();
-    let lacking = !signers.signed && dnames.is_empty();
+    let denied = asks_denials(&signers, &closers);
+    let lacking = asks_sources(&signers, &dnames);
 
     let mut lines = Vec::new(alloc);
     add_zones(alloc, evidence, &keys, &needed, &mut lines, name)?;
@@ -95,6 +95,28 @@ fn fault_parts(
     add_sources(alloc, evidence, at, &view, speaker, &mut lines, rtype, lacking)?;
     add_end(evidence, speaker, &mut lines, name, rtype)?;
     Ok(lines)
+}
+
+/// Whether nothing that may answer is signed, or an answer from a wildcard lacks its proof.
+fn asks_denials(signers: &Signers, closers: &[Line]) -> bool
+    ensures { IsTrue result ↔ ((¬ IsTrue signers.now.signed) ⊎ (closers.now ≢ [])) }
+{
+    let signed = signers.signed;
+    if !signed {
+        return true;
+    }
+    !closers.is_empty()
+}
+
+/// Whether nothing that may answer is signed, and no DNAME is above the name.
+fn asks_sources(signers: &Signers, dnames: &[Line]) -> bool
+    ensures { IsTrue result ↔ ((¬ IsTrue signers.now.signed) × (dnames.now ≡ [])) }
+{
+    let signed = signers.signed;
+    if signed {
+        return false;
+    }
+    dnames.is_empty()
 }
 
 /// Adds what is said of what may deny, if that is asked.

@@ -1,9 +1,13 @@
 pub mod AtLemmas
+pub mod CloserLemmas
 pub mod DenialLemmas
 pub mod DownLemmas
+pub mod EndLemmas
 pub mod FirstLemmas
 pub mod KnownLemmas
 pub mod NeededLemmas
+pub mod Nsec3Lemmas
+pub mod OnceLemmas
 pub mod ParentLemmas
 pub mod PartLemmas
 pub mod SameLemmas

@@ -1,9 +1,8 @@
 //! Answers from wildcards against which closer names may be there.
-ghost use Rattle.std.specs.Prelude.{◌≡◌, ◌↔◌, IfOk, IsTrue, OnOk};
-ghost use Rattle.dnsv_names.specs.Name.{SameName};
+ghost use Rattle.std.specs.Prelude.{◌≡◌, ◌↔◌, ◌+◌, IfOk, IsTrue, OnOk};
+ghost use Rattle.dnsv_names.specs.Name.{rightmost};
 ghost use Rattle.dnsv_explain.specs.At.{IsAt};
 ghost use Rattle.dnsv_explain.specs.Explained.{setting_in};
-ghost use Rattle.dnsv_explain.specs.derivations.SignerSearch.{IsSignatureAt};
 ghost use Rattle.dnsv_explain.specs.faults.Listing.{AddsThose, AreOfNumbered};
 ghost use Rattle.dnsv_explain.specs.faults.Order.{AreGoalClosers, AreLinesOfCloser, IsCloserOpen};
 
@@ -16,8 +15,8 @@ use crate::line::derivation::SignatureNumber;
 use crate::line::fault::Reason;
 use crate::line::fault::signature::CloserName;
 use dnsv_canonical::{Rrset, is_expanded};
-use dnsv_denial::{PartName, View};
-use dnsv_names::RecordType;
+use dnsv_denial::View;
+use dnsv_names::{Name, RecordType};
 use dnsv_records::Rrsig;
 use std::alloc::{AllocError, Global};
 
@@ -94,7 +93,6 @@ fn add_closer(
       trust = at.now.grounds.now.trust;
       name = at.now.name.now;
     } }
-    requires goal { SameName rrset.now.owner at.now.name.now }
     ensures { OnOk result (AddsThose (AreLinesOfCloser (setting_in evidence.now) at.now.name.now number.rrset rrset.now
         number.signature rrsig.now) lines.old.items lines.new.items) }
 {
@@ -106,7 +104,7 @@ fn add_closer(
     }
     lines.push(Line::Reason(Reason::NoCloser(CloserName {
         signature: shown(number, rrset, rrsig)?,
-        name: PartName::NextCloser(rrsig.labels as usize).of(at.name),
+        name: next_closer(at.name, rrsig.labels),
     })))?;
     Ok(())
 }
@@ -130,6 +128,14 @@ fn is_closer_open(
     if !is_expanded(rrset.owner(), rrsig) {
         return false;
     }
-    view.shown_no_closer(&rrsig.signer, rrsig.labels as usize)
+    view.no_closer(&rrsig.signer, rrsig.labels as usize)
         .is_none()
+}
+
+/// The name with one label more than so many of the name's.
+fn next_closer(name: &Name, labels: u8) -> Name
+    ensures { result ≡ rightmost name.now (labels + 1) }
+{
+    let more = labels as usize + 1;
+    name.suffix(more.min(name.labels()))
 }

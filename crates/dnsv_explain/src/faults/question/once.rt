@@ -1,11 +1,12 @@
 //! Lines that are said once.
-ghost use Rattle.std.specs.Prelude.{◌≡◌, ◌↔◌, ◌++◌, IsTrue, OnOk};
+ghost use Rattle.std.specs.Prelude.{◌≡◌, ◌↔◌, ◌++◌, ◌∷◌, [], cond, IfOk, IsTrue, OnOk};
 ghost use Rattle.dnsv_canonical.specs.Rrsets.{first_appearances};
 ghost use Rattle.dnsv_names.specs.Name.{Labels};
 ghost use Rattle.dnsv_verdict.specs.Verdict.{HasAnchor};
 ghost use Rattle.dnsv_explain.specs.Explained.{Setting, setting_in};
 ghost use Rattle.dnsv_explain.specs.faults.Listing.{AreThose};
 ghost use Rattle.dnsv_explain.specs.faults.Order.{IsSaid, same_text};
+ghost use Rattle.dnsv_explain.specs.line.{line_text};
 
 use crate::evidence::Evidence;
 use crate::faults::question::at::is_anchored;
@@ -39,10 +40,28 @@ pub fn add_once(alloc: Global, lines: &mut Vec<Line>, said: Vec<Line>) -> Result
 {
     let mut seen = BTreeSet::new(alloc);
     for line in said {
-        let text = format!(in alloc; "{line}")?;
-        if seen.insert(text.into_bytes())? {
-            lines.push(line)?;
-        }
+        let text = text_of(alloc, &line)?;
+        let is_new = seen.insert(text)?;
+        push_where(lines, line, is_new)?;
     }
+    Ok(())
+}
+
+/// The text of the line.
+fn text_of(alloc: Global, line: &Line) -> Result<Vec<u8>, AllocError>
+    ensures { IfOk result (λ text. text.items ≡ line_text line.now) }
+{
+    let text = format!(in alloc; "{line}")?;
+    Ok(text.into_bytes())
+}
+
+/// Adds the line, if it is a new one.
+fn push_where(lines: &mut Vec<Line>, line: Line, is_new: bool) -> Result<(), AllocError>
+    ensures { OnOk result (lines.new.items ≡ lines.old.items ++ cond is_new (line ∷ []) []) }
+{
+    if !is_new {
+        return Ok(());
+    }
+    lines.push(line)?;
     Ok(())
 }
