@@ -136,12 +136,15 @@ abbrev pub IsOfItsParent : ReceivedRrset → Labels → Type 0
 IsOfItsParent rrset [] = ⊥
 IsOfItsParent rrset (label ∷ parent) = (rrset.signatures ≡ []) ⊎ HasSigner rrset parent
 
--- another algorithm than SHA-1, flags that aren't known, another length of hash, an owner that spells none, or no
--- signature by the zone above it (RFC 5155 3, 8.1, 8.2)
+-- another algorithm than SHA-1, flags that aren't known, or another length of hash (RFC 5155 3.1, 8.1, 8.2)
+abbrev pub HasUnknownFields : Nsec3 → Type 0
+HasUnknownFields fields =
+    (fields.algorithm.0 ≢ 1) ⊎ (1 < fields.flags.0) ⊎ (length fields.next_hash ≢ 20)
+
+-- such fields, an owner that spells no hash, or no signature by the zone above it (RFC 5155 3)
 abbrev pub IsUnusableNsec3 : ReceivedRrset → Nsec3 → Type 0
 IsUnusableNsec3 rrset fields =
-    (fields.algorithm.0 ≢ 1) ⊎ (1 < fields.flags.0) ⊎ (length fields.next_hash ≢ 20) ⊎ (¬ IsHashLabel rrset.owner)
-    ⊎ (¬ IsOfItsParent rrset rrset.owner)
+    HasUnknownFields fields ⊎ (¬ IsHashLabel rrset.owner) ⊎ (¬ IsOfItsParent rrset rrset.owner)
 
 abbrev pub nsec3_line : ReceivedRrset → RecordNumber → WhyNsec3 → Line
 nsec3_line rrset number why = line.Reason (reason.Nsec3 (record { why = why; owner = rrset.owner; number = number }))

@@ -1,7 +1,7 @@
 //! NSEC3 records of denials that can't be used.
-ghost use Rattle.std.specs.Prelude.{◌≡◌, ◌↔◌, ◌++◌, ◌∷◌, [], IsTrue, OnOk};
+ghost use Rattle.std.specs.Prelude.{◌≡◌, ◌↔◌, ◌<◌, ◌++◌, ◌∷◌, [], IsTrue, OnOk};
 ghost use Rattle.dnsv_explain.specs.faults.Listing.{AddsThose, AreOfNumbered};
-ghost use Rattle.dnsv_explain.specs.faults.Order.{AreNsec3Lines, AreNsec3sLines, IsHashLabel, IsOfItsParent, IsUnusableNsec3, nsec3_line};
+ghost use Rattle.dnsv_explain.specs.faults.Order.{AreNsec3Lines, AreNsec3sLines, HasUnknownFields, IsHashLabel, IsOfItsParent, IsUnusableNsec3, nsec3_line};
 
 use crate::evidence::Evidence;
 use crate::faults::question::subjects::{has_signer, is_denial};
@@ -67,9 +67,9 @@ fn add_nsec3(
 ) -> Result<(), AllocError>
     ensures { OnOk result (AddsThose (AreNsec3Lines rrset.now number nsec3.now) lines.old.items lines.new.items) }
 {
-    let iterations = nsec3.parameters.iterations;
-    if iterations > Iterations::LIMIT {
-        add_unusable(lines, rrset, number, WhyNsec3::Iterations(iterations))?;
+    if has_many_iterations(nsec3) {
+        let why = WhyNsec3::Iterations(nsec3.parameters.iterations);
+        add_unusable(lines, rrset, number, why)?;
         return Ok(());
     }
     if !is_unusable(rrset, nsec3) {
@@ -96,22 +96,43 @@ fn add_unusable(
     Ok(())
 }
 
+/// Whether the record asks for more iterations than this profile takes (RFC 5155 10.3).
+fn has_many_iterations(nsec3: &Nsec3) -> bool
+    ensures { IsTrue result ↔ (500 < nsec3.now.parameters.iterations.0) }
+{
+    nsec3.parameters.iterations > Iterations::LIMIT
+}
+
 /// Whether the record can't be used for another reason than its iterations.
 fn is_unusable(rrset: &Rrset, nsec3: &Nsec3) -> bool
     ensures { IsTrue result ↔ IsUnusableNsec3 rrset.now nsec3.now }
 {
+    if has_unknown_fields(nsec3) {
+        return true;
+    }
+    if !is_hash_label(rrset.owner()) {
+        return true;
+    }
+    !is_of_its_parent(rrset)
+}
+
+/// Whether its algorithm isn't SHA-1, a flag isn't known, or its next hash has another length (RFC 5155 3.1, 8.2).
+fn has_unknown_fields(nsec3: &Nsec3) -> bool
+    ensures { IsTrue result ↔ HasUnknownFields nsec3.now }
+{
     nsec3.algorithm != HashAlgorithm::SHA1
         || nsec3.flags.0 > 1
         || nsec3.next_hash.as_slice().len() != 20
-        || !is_hash_label(rrset.owner())
-        || !is_of_its_parent(rrset)
 }
 
 /// Whether the owner's first label spells a hash.
 fn is_hash_label(owner: &Name) -> bool
     ensures { IsTrue result ↔ IsHashLabel owner.now }
 {
-    owner.labels() > 0 && base32hex_read(owner.label(0)).is_some()
+    if owner.labels() == 0 {
+        return false;
+    }
+    base32hex_read(owner.label(0)).is_some()
 }
 
 /// Whether a signature of the RRset is by the zone right above its owner, or it has none.
@@ -121,5 +142,8 @@ fn is_of_its_parent(rrset: &Rrset) -> bool
     let Some(parent) = rrset.owner().parent() else {
         return false;
     };
-    rrset.signatures().is_empty() || has_signer(rrset, &parent)
+    if rrset.signatures().is_empty() {
+        return true;
+    }
+    has_signer(rrset, &parent)
 }
