@@ -49,8 +49,9 @@ fn first_needed(
     ensures { IfOk result (λ needed. AreLabelsOf name.now (IsNeededFirst (setting_in evidence.now) name.now rtype.0)
         needed.items) }
 {
-    if !signers.goals.is_empty() {
-        return Ok(Vec::from_slice(alloc, &signers.goals)?);
+    let goals = signers.goals.as_slice();
+    if !goals.is_empty() {
+        return Ok(Vec::from_slice(alloc, goals)?);
     }
     let mut needed = Vec::new(alloc);
     add_speaker(evidence, signers, name, rtype, &mut needed)?;

@@ -1,6 +1,6 @@
-use Rattle.std.proofs.Common.{inl, inr, refl, sym, ◌∙◌, ⊎_elim, ◌≢◌, []}
+use Rattle.std.proofs.Common.{inl, refl, sym, ◌∙◌}
 use Rattle.std.proofs.lemmas.Bool.{false≢true}
-use Rattle.dnsv_explain.proofs.lemmas.faults.question.PartLemmas.{asked_by_lines, some_lines}
+use Rattle.dnsv_explain.proofs.lemmas.faults.question.PartLemmas.{asked_by_lines}
 use Rattle.dnsv_explain.proofs.faults.question.asks_denials.Goals as goal
 
 pub returns-then-not-signed : goal.returns-then-not-signed

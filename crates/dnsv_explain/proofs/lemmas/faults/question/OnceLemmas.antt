@@ -17,6 +17,16 @@ use Rattle.dnsv_explain.specs.declared.line.Line.{Line}
 
 -- ---- the texts that were seen
 
+either : (s b : Bool) → cond b true s ≡ (s || (b || false))
+either true true = refl
+either true false = refl
+either false true = refl
+either false false = refl
+
+twice : (a : Bool) → not (not a) ≡ a
+twice true = refl
+twice false = refl
+
 module _ {Y : Type 0} where
   abbrev pub text_cmp : Vec ℕ Y → Vec ℕ Y → Ordering
   text_cmp a b = slice_cmp nat_cmp a.items b.items
@@ -28,12 +38,6 @@ module _ {Y : Type 0} where
   pub seen_none : (seen : BTreeSet (Vec ℕ Y)) → seen.keys ≡ [] → HasSeen seen []
   seen_none seen empty text = ap (list_any (λ each. is_eq (text_cmp text each))) empty
 
-  either : (s b : Bool) → cond b true s ≡ (s || (b || false))
-  either true true = refl
-  either true false = refl
-  either false true = refl
-  either false false = refl
-
   module _ (old new : BTreeSet (Vec ℕ Y)) (own : Vec ℕ Y) (lines : List Line) (line : Line) (its : own.items ≡ line_text line)
       (seen : HasSeen old lines) where
     pub seen_next : sorted.Updates text_cmp old new own true → HasSeen new (lines ++ line ∷ [])
@@ -43,10 +47,6 @@ module _ {Y : Type 0} where
         ∙ either (list_any (λ each. bytes_eq (line_text each) text.items) lines) (bytes_eq own.items text.items)
         ∙ ap (λ octets. list_any (λ each. bytes_eq (line_text each) text.items) lines || (bytes_eq octets text.items || false)) its
         ∙ sym (list_any-append (λ each. bytes_eq (line_text each) text.items) lines (line ∷ []))
-
-    twice : (a : Bool) → not (not a) ≡ a
-    twice true = refl
-    twice false = refl
 
     -- a text is a new one where none of the lines has it
     pub new_text : (is_new : Bool) → is_new ≡ not (contains text_cmp old own) → list_any (λ each. same_text each line) lines ≡ not is_new

@@ -1,6 +1,7 @@
 -- The parts of what is said of a question, one after another.
 use Rattle.std.proofs.Common.{◌≡◌, ◌≢◌, ◌↔◌, ◌⊎◌, ◌++◌, ◌∷◌, ◌==◌, [], ℕ, List, Bool, IsTrue, inl, inr, length, not, refl, sym, ap, ◌∙◌, subst, append_assoc, ⊎_elim}
-use Rattle.std.proofs.lemmas.Bool.{false≢true}
+use Rattle.std.proofs.lemmas.Bool.Decides.{Decides-eqb}
+use Rattle.std.proofs.lemmas.List.{nil_from_length}
 use Rattle.dnsv_names.specs.Name.{Labels}
 use Rattle.dnsv_explain.specs.Explained.{Setting}
 use Rattle.dnsv_explain.specs.faults.Listing.{AddsThose, AreOfEach, AreOfNumbered, AreParted, AreWhere}
@@ -9,6 +10,7 @@ use Rattle.dnsv_explain.specs.faults.Order.{AreDnameLines, AreEndLines, AreFault
 use Rattle.dnsv_explain.specs.faults.Zones.{HasSignedGoal}
 use Rattle.dnsv_explain.specs.declared.faults.question.signers.Signers.{Signers}
 use Rattle.dnsv_explain.specs.declared.line.Line.{Line}
+use Rattle.dnsv_explain.proofs.lemmas.AnswerLemmas.{not_so, so_not}
 use Rattle.dnsv_explain.proofs.lemmas.faults.ListingLemmas.{added_as, none_added}
 
 -- what was added to nothing is the whole
@@ -41,12 +43,14 @@ both_of First Second old mid new one two = record {
 -- ---- what is asked of lines that may be none
 
 pub no_lines : (lines : List Line) (b : Bool) → b ≡ (length lines == 0) → IsTrue b ↔ (lines ≡ [])
-no_lines [] b is = (λ yes. refl, λ none. is)
-no_lines (line ∷ lines) b is = (λ yes. absurd (false≢true (sym is ∙ yes)), λ none. let never : ⊥ = cc in absurd never)
+no_lines lines b is = (
+  λ yes. nil_from_length lines ((Decides-eqb (length lines) 0).0 (sym is ∙ yes)),
+  λ none. is ∙ (Decides-eqb (length lines) 0).1 (ap length none),
+)
 
-pub some_lines : (lines : List Line) (b : Bool) → b ≡ (length lines == 0) → IsTrue (not b) ↔ (lines ≢ [])
-some_lines [] b is = (λ yes. absurd (false≢true (ap not (sym is) ∙ yes)), λ some. absurd (some refl))
-some_lines (line ∷ lines) b is = (λ yes none. (let never : ⊥ = cc in never), λ some. ap not is)
+some_lines : (lines : List Line) (b : Bool) → b ≡ (length lines == 0) → IsTrue (not b) ↔ (lines ≢ [])
+some_lines lines b is =
+    let none = no_lines lines b is in (λ yes. not_so b (lines ≡ []) none yes, λ some. so_not b (lines ≡ []) none some)
 
 pub asked_by_lines : (signed : Bool) (lines : List Line) (b : Bool) → b ≡ (length lines == 0) → IsTrue signed
     → IsTrue (not b) ↔ ((¬ IsTrue signed) ⊎ (lines ≢ []))
