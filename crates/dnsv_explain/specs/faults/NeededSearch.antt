@@ -1,5 +1,5 @@
 -- How the zones that a question needs are looked for, by their numbers of labels. No public clause cites this module.
-use Rattle.std.specs.Prelude.{◌≡◌, ◌↔◌, ◌⊎◌, ◌<◌, ◌≤◌, ℕ, IsTrue, MatchOption, Option, List, Contains, length}
+use Rattle.std.specs.Prelude.{◌≡◌, ◌≢◌, ◌↔◌, ◌⊎◌, ◌<◌, ◌≤◌, ℕ, IsTrue, MatchOption, Option, List, [], Contains, length}
 use Rattle.dnsv_names.specs.Name.{Labels, IsAtOrBelow, SameName, rightmost}
 use Rattle.dnsv_records.specs.declared.rrsig.Rrsig.{Rrsig}
 use Rattle.dnsv_canonical.specs.Rrsets.{IsNumbered, ReceivedRrset}
@@ -24,6 +24,11 @@ pub record HasOneBy (rrsigs : List Rrsig) (zone : Labels) : Type 0 where
   pub rrsig : Rrsig
   pub among : Contains rrsigs rrsig
   pub signer : SameName rrsig.signer zone
+
+-- the RRset may answer, and has a signature
+pub record IsSignedGoal (name : Labels) (t : ℕ) (rrset : ReceivedRrset) : Type 0 where
+  pub goal : IsGoal name t rrset
+  pub signed : rrset.signatures ≢ []
 
 -- ---- zones by their numbers of labels
 

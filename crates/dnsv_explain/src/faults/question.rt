@@ -77,20 +77,22 @@ fn fault_parts(
 {
     let name = at.name;
     let view = at.view(alloc)?;
-    let keys = all_keys(alloc, evidence.rrsets())?;
+    let all = all_keys(alloc, evidence.rrsets())?;
+    let keys = all.as_slice();
     let signers = signers_of(alloc, evidence, name, rtype)?;
-    let needed = needed_zones(alloc, evidence, &signers, name, rtype)?;
+    let zones = needed_zones(alloc, evidence, &signers, name, rtype)?;
+    let needed = zones.as_slice();
     let speaker = speaker(evidence, &signers, name, rtype);
     let mut dnames = dname_lines(alloc, evidence, name)?;
     let mut closers = closer_lines(alloc, evidence, at, &view, rtype)?;
-    let denied = asks_denials(&signers, &closers);
-    let lacking = asks_sources(&signers, &dnames);
+    let denied = asks_denials(&signers, closers.as_slice());
+    let lacking = asks_sources(&signers, dnames.as_slice());
 
     let mut lines = Vec::new(alloc);
-    add_zones(alloc, evidence, &keys, &needed, &mut lines, name)?;
+    add_zones(alloc, evidence, keys, needed, &mut lines, name)?;
     lines.append(&mut dnames)?;
-    add_goals(alloc, evidence, &keys, &mut lines, name, rtype)?;
-    add_all_denials(alloc, evidence, &keys, &needed, &mut lines, name, denied)?;
+    add_goals(alloc, evidence, keys, &mut lines, name, rtype)?;
+    add_all_denials(alloc, evidence, keys, needed, &mut lines, name, denied)?;
     lines.append(&mut closers)?;
     add_sources(alloc, evidence, at, &view, speaker, &mut lines, rtype, lacking)?;
     add_end(evidence, speaker, &mut lines, name, rtype)?;

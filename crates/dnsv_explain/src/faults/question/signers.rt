@@ -33,10 +33,11 @@ pub fn signers_of(
 ) -> Result<Signers, AllocError>
     ensures { IfOk result (AreSigners evidence.now.rrsets name.now rtype.0) }
 {
+    let rrsets = evidence.rrsets();
     Ok(Signers {
-        goals: goal_signers(alloc, evidence.rrsets(), name, rtype)?,
-        denials: denial_signers(alloc, evidence.rrsets(), name)?,
-        signed: has_signed_goal(evidence.rrsets(), name, rtype),
+        goals: goal_signers(alloc, rrsets, name, rtype)?,
+        denials: denial_signers(alloc, rrsets, name)?,
+        signed: has_signed_goal(rrsets, name, rtype),
     })
 }
 

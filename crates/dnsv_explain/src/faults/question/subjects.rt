@@ -1,8 +1,8 @@
 //! What may answer a question, and what may deny it.
 ghost use Rattle.std.specs.Prelude.{◌↔◌, IsTrue};
 ghost use Rattle.dnsv_denial.specs.gathering.Gathered.{IsDenialType};
-ghost use Rattle.dnsv_explain.specs.faults.NeededSearch.{HasOneAbove, HasOneBy};
-ghost use Rattle.dnsv_explain.specs.faults.Zones.{HasDenial, HasGoal, HasSignedGoal, HasSigner, HasSignerAbove, IsDenial, IsDenialOf, IsGoal};
+ghost use Rattle.dnsv_explain.specs.faults.NeededSearch.{HasOneAbove, HasOneBy, IsSignedGoal};
+ghost use Rattle.dnsv_explain.specs.faults.Zones.{HasDenial, HasGoal, HasSignedGoal, HasSigner, HasSignerAbove, IsDenial, IsDenialOf, IsGoal, IsStray};
 
 use crate::faults::keys::are_equal;
 use dnsv_canonical::Rrset;
@@ -27,9 +27,22 @@ pub fn has_goal(rrsets: &[Rrset], name: &Name, rtype: RecordType) -> bool
 pub fn has_signed_goal(rrsets: &[Rrset], name: &Name, rtype: RecordType) -> bool
     ensures { IsTrue result ↔ HasSignedGoal rrsets.now name.now rtype.0 }
 {
-    rrsets
-        .iter()
-        .any(|rrset| is_goal(rrset, name, rtype) && !rrset.signatures().is_empty())
+    for rrset in rrsets {
+        if is_signed_goal(rrset, name, rtype) {
+            return true;
+        }
+    }
+    false
+}
+
+/// Whether the RRset may answer and has a signature.
+fn is_signed_goal(rrset: &Rrset, name: &Name, rtype: RecordType) -> bool
+    ensures { IsTrue result ↔ IsSignedGoal name.now rtype.0 rrset.now }
+{
+    if !is_goal(rrset, name, rtype) {
+        return false;
+    }
+    !rrset.signatures().is_empty()
 }
 
 /// Whether the RRset of NSEC or NSEC3 records may deny the name: one of its signers is at or above the name, or none is
@@ -37,8 +50,13 @@ pub fn has_signed_goal(rrsets: &[Rrset], name: &Name, rtype: RecordType) -> bool
 pub fn is_denial(rrset: &Rrset, name: &Name) -> bool
     ensures { IsTrue result ↔ IsDenial name.now rrset.now }
 {
-    is_denial_type(rrset.rtype())
-        && (has_signer_above(rrset, name) || !has_signer_above(rrset, rrset.owner()))
+    if !is_denial_type(rrset.rtype()) {
+        return false;
+    }
+    if has_signer_above(rrset, name) {
+        return true;
+    }
+    is_stray(rrset)
 }
 
 /// Whether RRsets of the type may deny.
@@ -50,19 +68,38 @@ fn is_denial_type(rtype: RecordType) -> bool
 
 /// Whether the RRset may deny the name for the zone: it has a signature by the zone, or has no signer at or above its
 /// owner and is at or below the zone.
-pub fn is_denial_of(rrset: &Rrset, name: &Name, zone: &Name) -> bool
+fn is_denial_of(rrset: &Rrset, name: &Name, zone: &Name) -> bool
     ensures { IsTrue result ↔ IsDenialOf name.now zone.now rrset.now }
 {
-    is_denial(rrset, name)
-        && (has_signer(rrset, zone)
-            || !has_signer_above(rrset, rrset.owner()) && rrset.owner().is_at_or_below(zone))
+    if !is_denial(rrset, name) {
+        return false;
+    }
+    if has_signer(rrset, zone) {
+        return true;
+    }
+    if !is_stray(rrset) {
+        return false;
+    }
+    rrset.owner().is_at_or_below(zone)
 }
 
 /// Whether one of the RRsets may deny the name for the zone.
 pub fn has_denial(rrsets: &[Rrset], name: &Name, zone: &Name) -> bool
     ensures { IsTrue result ↔ HasDenial rrsets.now name.now zone.now }
 {
-    rrsets.iter().any(|rrset| is_denial_of(rrset, name, zone))
+    for rrset in rrsets {
+        if is_denial_of(rrset, name, zone) {
+            return true;
+        }
+    }
+    false
+}
+
+/// Whether no signer of the RRset is at or above the owner.
+fn is_stray(rrset: &Rrset) -> bool
+    ensures { IsTrue result ↔ IsStray rrset.now }
+{
+    !has_signer_above(rrset, rrset.owner())
 }
 
 /// Whether a signer of the RRset is at or above the name.

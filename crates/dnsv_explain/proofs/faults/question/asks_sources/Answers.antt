@@ -1,6 +1,6 @@
 use Rattle.std.proofs.Common.{refl, sym, ◌∙◌}
 use Rattle.std.proofs.lemmas.Bool.{false≢true}
-use Rattle.dnsv_explain.proofs.lemmas.faults.question.PartLemmas.{no_lines}
+use Rattle.dnsv_explain.proofs.lemmas.faults.question.SubjectLemmas.{no_elements}
 use Rattle.dnsv_explain.proofs.faults.question.asks_sources.Goals as goal
 
 pub returns-then-signed : goal.returns-then-signed
@@ -8,5 +8,5 @@ returns-then-signed c = (λ yes. absurd (false≢true yes), λ asked. absurd (as
 
 pub returns : goal.returns
 returns c =
-    let lines = no_lines c.args.dnames.now c.is_empty.result c.is_empty.ensures in
+    let lines = no_elements c.args.dnames.now c.is_empty.result c.is_empty.ensures in
     (λ yes. (λ signed. false≢true (sym c.if-signed.false ∙ signed), lines.0 yes), λ asked. lines.1 asked.1)

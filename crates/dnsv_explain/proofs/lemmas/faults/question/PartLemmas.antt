@@ -1,8 +1,9 @@
 -- The parts of what is said of a question, one after another.
 use Rattle.std.proofs.Common.{◌≡◌, ◌≢◌, ◌↔◌, ◌⊎◌, ◌++◌, ◌∷◌, ◌==◌, [], ℕ, List, Bool, IsTrue, inl, inr, length, not, refl, sym, ap, ◌∙◌, subst, append_assoc, ⊎_elim}
-use Rattle.std.proofs.lemmas.Bool.Decides.{Decides-eqb}
-use Rattle.std.proofs.lemmas.List.{nil_from_length}
 use Rattle.dnsv_names.specs.Name.{Labels}
+use Rattle.dnsv_canonical.specs.Rrsets.{ReceivedRrset}
+use Rattle.dnsv_verifier.specs.Admissible.{DnskeyRecord}
+use Rattle.dnsv_verifier.specs.Asking.{AreKeysOf}
 use Rattle.dnsv_explain.specs.Explained.{Setting}
 use Rattle.dnsv_explain.specs.faults.Listing.{AddsThose, AreOfEach, AreOfNumbered, AreParted, AreWhere}
 use Rattle.dnsv_explain.specs.faults.NeededSearch.{AreSigners}
@@ -12,6 +13,7 @@ use Rattle.dnsv_explain.specs.declared.faults.question.signers.Signers.{Signers}
 use Rattle.dnsv_explain.specs.declared.line.Line.{Line}
 use Rattle.dnsv_explain.proofs.lemmas.AnswerLemmas.{not_so, so_not}
 use Rattle.dnsv_explain.proofs.lemmas.faults.ListingLemmas.{added_as, none_added}
+use Rattle.dnsv_explain.proofs.lemmas.faults.question.SubjectLemmas.{no_elements}
 
 -- what was added to nothing is the whole
 pub made_of : (Are : List Line → Type 0) (lines : List Line) → AddsThose Are [] lines → Are lines
@@ -42,15 +44,9 @@ both_of First Second old mid new one two = record {
 
 -- ---- what is asked of lines that may be none
 
-pub no_lines : (lines : List Line) (b : Bool) → b ≡ (length lines == 0) → IsTrue b ↔ (lines ≡ [])
-no_lines lines b is = (
-  λ yes. nil_from_length lines ((Decides-eqb (length lines) 0).0 (sym is ∙ yes)),
-  λ none. is ∙ (Decides-eqb (length lines) 0).1 (ap length none),
-)
-
 some_lines : (lines : List Line) (b : Bool) → b ≡ (length lines == 0) → IsTrue (not b) ↔ (lines ≢ [])
 some_lines lines b is =
-    let none = no_lines lines b is in (λ yes. not_so b (lines ≡ []) none yes, λ some. so_not b (lines ≡ []) none some)
+    let none = no_elements lines b is in (λ yes. not_so b (lines ≡ []) none yes, λ some. so_not b (lines ≡ []) none some)
 
 pub asked_by_lines : (signed : Bool) (lines : List Line) (b : Bool) → b ≡ (length lines == 0) → IsTrue signed
     → IsTrue (not b) ↔ ((¬ IsTrue signed) ⊎ (lines ≢ []))
@@ -118,3 +114,11 @@ module _ (setting : Setting) (name : Labels) (t : ℕ) (signers : Signers) (are 
           (goals.is ∙ ap (λ front. front ++ goals.more)
           (dnames_added ∙ ap (λ front. front ++ dnames) (zones.is ∙ ap (λ front. front ++ zones.more) none))))));
     }
+
+-- the keys of the evidence, under other names
+pub keys_here : (rrsets all : List ReceivedRrset) (keys items : List DnskeyRecord) → all ≡ rrsets → items ≡ keys → AreKeysOf all keys
+    → AreKeysOf rrsets items
+keys_here rrsets all keys items same listed are =
+    let All : List ReceivedRrset → Type 0 = λ each. AreKeysOf each items in
+    let Keys : List DnskeyRecord → Type 0 = λ each. AreKeysOf all each in
+    subst All same (subst Keys (sym listed) are)

@@ -1,5 +1,5 @@
 -- Numbers of labels of the signers of RRsets that are at or above a name.
-use Rattle.std.proofs.Common.{◌≡◌, ◌↔◌, ◌<◌, ◌≤◌, ℕ, List, [], length, refl, sym, ◌∙◌, subst, arith, inl, ⊎_elim}
+use Rattle.std.proofs.Common.{◌≡◌, ◌↔◌, ◌<◌, ◌≤◌, ℕ, List, [], IsTrue, length, refl, sym, ◌∙◌, subst, arith, inl, ⊎_elim}
 use Rattle.std.specs.List.{AllZip, Contains}
 use Rattle.dnsv_names.specs.Name.{Labels, IsAtOrBelow, SameName, rightmost}
 use Rattle.dnsv_names.specs.Tree.AncestorLaws.{rightmost_above, rightmost_length, rightmost_same}
@@ -10,8 +10,9 @@ use Rattle.dnsv_canonical.specs.Index.{numbers_at}
 use Rattle.dnsv_canonical.specs.Rrsets.{IsNumbered, ReceivedRrset}
 use Rattle.dnsv_verifier.proofs.AskLemmas.{adds_nothing, adds_same}
 use Rattle.dnsv_verifier.specs.Asking.{AddsJust, ComesOfSome}
-use Rattle.dnsv_explain.specs.faults.NeededSearch.{AreLabelsOf, HasDsSigner, IsAbove, IsDenialLabels, IsDsLabels, IsGoalLabels, IsNumberWhere}
-use Rattle.dnsv_explain.specs.faults.Zones.{HasDenialSigner, HasGoalSigner, HasSigner}
+use Rattle.dnsv_explain.specs.faults.NeededSearch.{AreLabelsOf, AreSigners, HasDsSigner, IsAbove, IsDenialLabels, IsDsLabels, IsGoalLabels, IsNumberWhere}
+use Rattle.dnsv_explain.specs.faults.Zones.{HasDenialSigner, HasGoalSigner, HasSignedGoal, HasSigner}
+use Rattle.dnsv_explain.specs.declared.faults.question.signers.Signers.{Signers}
 use Rattle.dnsv_explain.proofs.lemmas.NumberedLemmas.{among, same_number}
 use Rattle.dnsv_explain.proofs.lemmas.faults.question.AtLemmas.{number_among, number_of, one_among}
 use Rattle.dnsv_explain.proofs.lemmas.faults.question.SubjectLemmas.{read_in, read_of}
@@ -153,3 +154,12 @@ number_added Holds number old new so adds =
 
 pub number_left : (Holds : Type 0) (number : ℕ) (old : List ℕ) → ¬ Holds → AddsJust (IsNumberWhere Holds number) old old
 number_left Holds number old never = adds_nothing (IsNumberWhere Holds number) old (λ n is. never is.holds)
+
+-- ---- all signers
+
+pub are_signers : (rrsets all : List ReceivedRrset) (name : Labels) (t : ℕ) (signers : Signers) → all ≡ rrsets
+    → AreLabelsOf name (HasGoalSigner all name t) signers.goals.items → AreLabelsOf name (HasDenialSigner all name) signers.denials.items
+    → (IsTrue signers.signed ↔ HasSignedGoal all name t) → AreSigners rrsets name t signers
+are_signers rrsets all name t signers same goals denials signed =
+    let Are : List ReceivedRrset → Type 0 = λ each. AreSigners each name t signers in
+    subst Are same (record { goals = goals; denials = denials; signed = signed })

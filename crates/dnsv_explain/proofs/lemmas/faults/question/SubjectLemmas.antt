@@ -1,5 +1,8 @@
--- Signatures of RRsets, as they are read.
-use Rattle.std.proofs.Common.{◌≡◌, ◌↔◌, ◌<◌, ℕ, List, [], length, get_or, refl, sym, subst, arith}
+-- What may answer a question and what may deny it: signatures as they are read, and loops over RRsets.
+use Rattle.std.proofs.Common.{◌≡◌, ◌↔◌, ◌<◌, ◌≤◌, ◌+◌, ◌==◌, ℕ, Bool, List, [], IsTrue, length, get_or, refl, sym, ap, ◌∙◌, subst, arith, ⊎_elim}
+use Rattle.std.proofs.lemmas.Bool.{cases_lt}
+use Rattle.std.proofs.lemmas.Bool.Decides.{Decides-eqb}
+use Rattle.std.proofs.lemmas.List.{get_or_default, nil_from_length}
 use Rattle.std.proofs.lemmas.List.Elements.{Contains-get_or}
 use Rattle.std.specs.List.{AllZip, Contains}
 use Rattle.dnsv_names.specs.Name.{Labels}
@@ -12,6 +15,43 @@ use Rattle.dnsv_chain.proofs.ZipLemmas.{zip_at, zip_length}
 use Rattle.dnsv_verifier.specs.Admissible.{IsSignatureOf}
 use Rattle.dnsv_explain.specs.faults.NeededSearch.{HasOneAbove, HasOneBy}
 use Rattle.dnsv_explain.specs.faults.Zones.{HasSigner, HasSignerAbove}
+
+-- ---- a list that may be empty
+
+pub no_elements : {X : Type 0} (xs : List X) (b : Bool) → b ≡ (length xs == 0) → IsTrue b ↔ (xs ≡ [])
+no_elements xs b is = (
+  λ yes. nil_from_length xs ((Decides-eqb (length xs) 0).0 (sym is ∙ yes)),
+  λ none. is ∙ (Decides-eqb (length xs) 0).1 (ap length none),
+)
+
+-- ---- a loop that stops at one that is such
+
+module _ {X : Type 0} (P : X → Type 0) (xs : List X) where
+  -- none of the first n is such
+  abbrev pub NoneTo : ℕ → Type 0
+  NoneTo n = (i : ℕ) (x : X) → i < n → i < length xs → get_or xs i x ≡ x → ¬ P x
+
+  pub none_first : NoneTo 0
+  none_first i x less within at such = absurd (omega (arith, less))
+
+  pub none_next : (n : ℕ) (x : X) → n < length xs → x ≡ get_or xs n x → ¬ P x → NoneTo n → NoneTo (n + 1)
+  none_next n x inside here never none i y less within at such =
+      ⊎_elim (λ (earlier : i < n). none i y earlier within at such)
+      (λ (last : n ≤ i).
+      let place : i ≡ n = omega (arith, less, last) in
+      let At : ℕ → Type 0 = λ k. get_or xs k y ≡ y in
+      let same : y ≡ x = sym (subst At place at) ∙ get_or_default xs n y x inside ∙ sym here in
+      never (subst P same such))
+      (cases_lt i n)
+
+  pub none_all : (n : ℕ) → length xs ≤ n → NoneTo n → (x : X) → Contains xs x → ¬ P x
+  none_all n past none x there such =
+      let within = there.1 in none there.0 x (omega (arith, past, within)) within there.2 such
+
+  pub one_here : (n : ℕ) (x : X) → n < length xs → x ≡ get_or xs n x → Contains xs x
+  one_here n x within at = (n, within, sym at)
+
+-- ---- signatures
 
 module _ (rrset : ReceivedRrset) (rrsigs : List Rrsig) (each : AllZip IsRrsig rrset.signatures rrsigs) where
   sizes : length rrset.signatures ≡ length rrsigs

@@ -8,10 +8,10 @@ use Rattle.dnsv_explain.proofs.lemmas.faults.question.AtLemmas.{lowest_dname, no
 use Rattle.dnsv_explain.proofs.lemmas.faults.question.ZoneLemmas.{dname_added, no_dname, no_dname_at}
 use Rattle.dnsv_explain.proofs.faults.question.dnames.add_dname.Goals as goal
 
-pub returns-then-labels-labels : goal.returns-then-labels-labels
-returns-then-labels-labels c =
+pub returns-then-labels : goal.returns-then-labels
+returns-then-labels c =
     no_dname_at c.args.evidence.now.rrsets c.args.name.now c.args.labels c.requires
-    (omega (arith, c.if-labels-labels.true, c.labels.ensures.count)) c.args.lines.now.items
+    (omega (arith, c.if-labels.true, c.labels.ensures.count)) c.args.lines.now.items
 
 pub returns-then-is_empty : goal.returns-then-is_empty
 returns-then-is_empty c =
@@ -33,7 +33,7 @@ returns c =
     let Lowest : Labels → Type 0 = λ zone. IsLowestDname rrsets zone (get_or numbers 0 0) in
     let Has : Labels → Type 0 = λ zone. HasRrset rrsets zone 39 in
     let within = c.requires in
-    let other = c.if-labels-labels.false in
+    let other = c.if-labels.false in
     let size = c.labels.ensures.count in
     dname_added rrsets c.args.name.now c.args.labels within (omega (arith, within, other, size)) (get_or numbers 0 0)
     (subst Lowest c.suffix-above.ensures.labels (lowest_dname rrsets above numbers are some)) c.args.lines.now.items _

@@ -1,4 +1,5 @@
-use Rattle.std.proofs.Common.{ℕ, get_or, refl, sym, ◌∙◌}
+use Rattle.std.proofs.Common.{ℕ, get_or, sym, ◌∙◌}
+use Rattle.std.proofs.lemmas.List.{get_or_default}
 use Rattle.std.proofs.lemmas.Bool.{false≢true}
 use Rattle.dnsv_verifier.proofs.AskLemmas.{some_all, some_more, some_none}
 use Rattle.dnsv_explain.specs.Explained.{setting_in}
@@ -22,9 +23,11 @@ add_anchored-requires c =
 
 pub loop-labels-preserved : goal.loop-labels-preserved
 loop-labels-preserved c =
-    some_more (IsAnchoredNumber c.args.evidence.now.anchors c.args.name.now)
-    c.deref-labels-items.result.now c.loop-labels.labels-index (get_or c.deref-labels-items.result.now c.loop-labels.labels-index 0) _ _ _
-    c.loop-labels-test.true refl c.loop-labels.invariant c.in_ok-add_anchored.ensures
+    let number : ℕ = get_or c.deref-labels-items.result.now c.loop-labels.labels-index 0 in
+    some_more (IsAnchoredNumber c.args.evidence.now.anchors c.args.name.now) c.deref-labels-items.result.now c.loop-labels.labels-index
+    number _ _ _ c.loop-labels-test.true
+    (get_or_default c.deref-labels-items.result.now c.loop-labels.labels-index 0 number c.loop-labels-test.true) c.loop-labels.invariant
+    c.in_ok-add_anchored.ensures
 
 pub returns : goal.returns
 returns c =

@@ -1,4 +1,5 @@
-use Rattle.std.proofs.Common.{List, ℕ, get_or, refl}
+use Rattle.std.proofs.Common.{ℕ, get_or}
+use Rattle.std.proofs.lemmas.List.{get_or_default}
 use Rattle.dnsv_verifier.proofs.AskLemmas.{some_all, some_more, some_none}
 use Rattle.dnsv_explain.specs.Explained.{setting_in}
 use Rattle.dnsv_explain.proofs.lemmas.faults.question.ParentLemmas.{IsParentNumber, parents_added, signer_at}
@@ -15,8 +16,10 @@ add_parent-requires c =
 
 pub loop-labels-preserved : goal.loop-labels-preserved
 loop-labels-preserved c =
+    let number : ℕ = get_or c.deref-labels-items.result.now c.loop-labels.labels-index 0 in
     some_more (IsParentNumber (setting_in c.args.evidence.now) c.args.zone.now) c.deref-labels-items.result.now c.loop-labels.labels-index
-    (get_or c.deref-labels-items.result.now c.loop-labels.labels-index 0) _ _ _ c.loop-labels-test.true refl c.loop-labels.invariant
+    number _ _ _ c.loop-labels-test.true
+    (get_or_default c.deref-labels-items.result.now c.loop-labels.labels-index 0 number c.loop-labels-test.true) c.loop-labels.invariant
     c.in_ok-add_parent.ensures
 
 pub returns : goal.returns

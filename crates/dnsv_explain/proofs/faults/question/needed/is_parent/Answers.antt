@@ -6,9 +6,9 @@ use Rattle.dnsv_explain.specs.Explained.{setting_in}
 use Rattle.dnsv_explain.proofs.lemmas.faults.question.ParentLemmas.{is_parent, no_parent}
 use Rattle.dnsv_explain.proofs.faults.question.needed.is_parent.Goals as goal
 
-pub returns-then-labels-labels : goal.returns-then-labels-labels
-returns-then-labels-labels c =
-    let same = c.if-labels-labels.true in
+pub returns-then-labels : goal.returns-then-labels
+returns-then-labels c =
+    let same = c.if-labels.true in
     let size = c.labels.ensures.count in (
       λ yes. absurd (false≢true yes),
       λ is. absurd (no_parent (setting_in c.args.evidence.now) c.args.zone.now c.args.labels c.requires (omega (arith, same, size)) is),
@@ -16,7 +16,7 @@ returns-then-labels-labels c =
 
 pub returns-then-not-has_own_anchor : goal.returns-then-not-has_own_anchor
 returns-then-not-has_own_anchor c =
-    let other = c.if-labels-labels.false in
+    let other = c.if-labels.false in
     let size = c.labels.ensures.count in
     let within = c.requires.within in
     let fewer : c.args.labels < length c.args.zone.now = omega (arith, other, size, within) in (
@@ -27,7 +27,7 @@ returns-then-not-has_own_anchor c =
 
 pub returns : goal.returns
 returns c =
-    let other = c.if-labels-labels.false in
+    let other = c.if-labels.false in
     let size = c.labels.ensures.count in
     let within = c.requires.within in
     let fewer : c.args.labels < length c.args.zone.now = omega (arith, other, size, within) in

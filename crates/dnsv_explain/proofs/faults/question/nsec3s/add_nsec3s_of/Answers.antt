@@ -1,5 +1,6 @@
-use Rattle.std.proofs.Common.{[], ◌≡◌, inr, refl, subst, sym, ◌∙◌}
-use Rattle.std.proofs.lemmas.Bool.{eqb-true, false≢true, not-false, not-true}
+use Rattle.std.proofs.Common.{[], ap, inr, not, refl, sym, ◌∙◌}
+use Rattle.std.proofs.lemmas.Bool.{eqb-true, false≢true, not-false}
+use Rattle.std.proofs.lemmas.Bool.Decides.{Decides-eqb}
 use Rattle.dnsv_explain.specs.faults.Listing.{AreOfNumbered}
 use Rattle.dnsv_explain.specs.faults.Order.{AreNsec3At, AreNsec3sLines}
 use Rattle.dnsv_explain.proofs.lemmas.faults.ListingLemmas.{none_added}
@@ -7,7 +8,9 @@ use Rattle.dnsv_explain.proofs.lemmas.faults.question.Nsec3Lemmas.{record_more, 
 use Rattle.dnsv_explain.proofs.faults.question.nsec3s.add_nsec3s_of.Goals as goal
 
 pub returns-then-ne : goal.returns-then-ne
-returns-then-ne c = ?
+returns-then-ne c =
+    none_added (AreNsec3sLines c.args.name.now c.args.number c.args.rrset.now) c.args.lines.now.items
+    (inr (λ is. false≢true (sym (ap not ((Decides-eqb c.rtype.result.0 50).1 (c.rtype.ensures ∙ is.1))) ∙ (sym c.ne.ensures ∙ c.if-ne.true)), refl))
 
 pub returns-then-not-is_denial : goal.returns-then-not-is_denial
 returns-then-not-is_denial c =
