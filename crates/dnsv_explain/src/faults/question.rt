@@ -40,7 +40,6 @@ use crate::faults::question::subjects::has_goal;
 use crate::faults::question::zones::add_zones;
 use crate::faults::sources::add_lacking;
 use crate::line::Line;
-use dnsv_denial::View;
 use dnsv_names::{Name, RecordType};
 use dnsv_verifier::KeyRecord;
 use std::alloc::{AllocError, Global};
@@ -94,7 +93,7 @@ fn fault_parts(
     add_goals(alloc, evidence, keys, &mut lines, name, rtype)?;
     add_all_denials(alloc, evidence, keys, needed, &mut lines, name, denied)?;
     lines.append(&mut closers)?;
-    add_sources(alloc, evidence, at, &view, speaker, &mut lines, rtype, lacking)?;
+    add_sources(alloc, evidence, at, speaker, &mut lines, rtype, lacking)?;
     add_end(evidence, speaker, &mut lines, name, rtype)?;
     Ok(lines)
 }
@@ -149,18 +148,12 @@ fn add_sources(
     alloc: Global,
     evidence: &Evidence<'_>,
     at: &At<'_, '_>,
-    view: &View<'_, '_>,
     speaker: Option<usize>,
     lines: &mut Vec<Line>,
     rtype: RecordType,
     asked: bool,
 ) -> Result<(), AllocError>
     requires at { IsAt evidence.now at.now }
-    requires view { view.now ≡ record {
-      rrsets = at.now.grounds.now.capture.now.rrsets;
-      trust = at.now.grounds.now.trust;
-      name = at.now.name.now;
-    } }
     requires speaker { IsSpeakerFound (setting_in evidence.now) at.now.name.now rtype.0 speaker }
     ensures { OnOk result (AddsThose (AreWhere (IsTrue asked) (AreLacking (setting_in evidence.now) at.now.name.now rtype.0))
         lines.old.items lines.new.items) }
@@ -168,7 +161,7 @@ fn add_sources(
     if !asked {
         return Ok(());
     }
-    add_lacking(alloc, evidence, at, view, speaker, lines, rtype)?;
+    add_lacking(alloc, evidence, at, speaker, lines, rtype)?;
     Ok(())
 }
 

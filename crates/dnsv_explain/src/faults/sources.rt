@@ -1,5 +1,5 @@
 //! STAND-IN for what helper `sources` builds: to be replaced, and never to land.
-ghost use Rattle.std.specs.Prelude.{◌≡◌, OnOk};
+ghost use Rattle.std.specs.Prelude.{OnOk};
 ghost use Rattle.dnsv_explain.specs.At.{IsAt};
 ghost use Rattle.dnsv_explain.specs.Explained.{setting_in};
 ghost use Rattle.dnsv_explain.specs.faults.Listing.{AddsThose};
@@ -9,7 +9,6 @@ ghost use Rattle.dnsv_explain.specs.faults.Order.{AreLacking};
 use crate::evidence::Evidence;
 use crate::explanation::at::At;
 use crate::line::Line;
-use dnsv_denial::View;
 use dnsv_names::RecordType;
 use std::alloc::{AllocError, Global};
 
@@ -18,17 +17,11 @@ pub fn add_lacking(
     alloc: Global,
     evidence: &Evidence<'_>,
     at: &At<'_, '_>,
-    view: &View<'_, '_>,
     speaker: Option<usize>,
     lines: &mut Vec<Line>,
     rtype: RecordType,
 ) -> Result<(), AllocError>
     requires at { IsAt evidence.now at.now }
-    requires view { view.now ≡ record {
-      rrsets = at.now.grounds.now.capture.now.rrsets;
-      trust = at.now.grounds.now.trust;
-      name = at.now.name.now;
-    } }
     requires speaker { IsSpeakerFound (setting_in evidence.now) at.now.name.now rtype.0 speaker }
     ensures { OnOk result (AddsThose (AreLacking (setting_in evidence.now) at.now.name.now rtype.0) lines.old.items
         lines.new.items) }
