@@ -4,6 +4,7 @@ pub mod DenialLemmas
 pub mod DownLemmas
 pub mod EndLemmas
 pub mod FirstLemmas
+pub mod FirstReasonLemmas
 pub mod KnownLemmas
 pub mod NeededLemmas
 pub mod Nsec3Lemmas
