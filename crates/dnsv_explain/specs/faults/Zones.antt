@@ -82,14 +82,19 @@ pub record HasDenialSigner (rrsets : List ReceivedRrset) (name zone : Labels) : 
 
 -- ---- the zone that should speak
 
--- A zone is known at or above the name (for DS above it): an anchor's owner, the owner of a DS or DNSKEY RRset, or the
--- signer of what may answer; where none of that is signed, of what may deny.
+-- it is an anchor's owner, the owner of a DS or DNSKEY RRset, or the signer of what may answer; where none of that is
+-- signed, of what may deny
+abbrev pub IsKnownAs : Setting → Labels → ℕ → Labels → Type 0
+IsKnownAs setting name t zone =
+    HasOwnAnchor setting.anchors zone ⊎ HasRrset setting.rrsets zone ds ⊎ HasRrset setting.rrsets zone 48
+    ⊎ HasGoalSigner setting.rrsets name t zone
+    ⊎ ((¬ HasSignedGoal setting.rrsets name t) × HasDenialSigner setting.rrsets name zone)
+
+-- and so a zone is known at or above the name, for DS above it
 pub record IsKnownZone (setting : Setting) (name : Labels) (t : ℕ) (zone : Labels) : Type 0 where
   pub above : IsAtOrBelow name zone
   pub properly : t ≡ ds → IsBelow name zone
-  pub known : HasOwnAnchor setting.anchors zone ⊎ HasRrset setting.rrsets zone ds ⊎ HasRrset setting.rrsets zone 48
-      ⊎ HasGoalSigner setting.rrsets name t zone
-      ⊎ ((¬ HasSignedGoal setting.rrsets name t) × HasDenialSigner setting.rrsets name zone)
+  pub known : IsKnownAs setting name t zone
 
 -- of those it has most labels
 pub record IsSpeaker (setting : Setting) (name : Labels) (t : ℕ) (zone : Labels) : Type 0 where

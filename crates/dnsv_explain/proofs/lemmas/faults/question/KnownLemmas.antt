@@ -10,22 +10,15 @@ use Rattle.dnsv_zones.specs.zones.TypeNumbers.{ds}
 use Rattle.dnsv_verdict.specs.Verdict.{HasAnchor}
 use Rattle.dnsv_explain.specs.Explained.{Setting}
 use Rattle.dnsv_explain.specs.faults.NeededSearch.{AreSigners, IsAnchoredZone, IsOfSigners}
-use Rattle.dnsv_explain.specs.faults.Zones.{HasDenialSigner, HasGoalSigner, HasOwnAnchor, HasRrset, HasSignedGoal, IsAnchoredAbove, IsKnownZone, IsSpeaker}
+use Rattle.dnsv_explain.specs.faults.Zones.{HasOwnAnchor, HasRrset, IsAnchoredAbove, IsKnownAs, IsKnownZone, IsSpeaker}
 use Rattle.dnsv_explain.specs.declared.faults.question.signers.Signers.{Signers}
 use Rattle.dnsv_explain.proofs.lemmas.faults.question.SameLemmas.{anchor_same, known_same}
 
 module _ (setting : Setting) (name : Labels) (t : ℕ) where
   -- ---- whether a zone is known
 
-  -- how the zone may be known
-  abbrev pub IsKnownAs : Labels → Type 0
-  IsKnownAs zone =
-      HasOwnAnchor setting.anchors zone ⊎ HasRrset setting.rrsets zone ds ⊎ HasRrset setting.rrsets zone 48
-      ⊎ HasGoalSigner setting.rrsets name t zone
-      ⊎ ((¬ HasSignedGoal setting.rrsets name t) × HasDenialSigner setting.rrsets name zone)
-
   module _ (labels : ℕ) (within : labels ≤ length name) where
-    known_as : (t ≡ ds → labels < length name) → IsKnownAs (rightmost name labels) → IsKnownZone setting name t (rightmost name labels)
+    known_as : (t ≡ ds → labels < length name) → IsKnownAs setting name t (rightmost name labels) → IsKnownZone setting name t (rightmost name labels)
     known_as proper is = record {
       above = rightmost_above name labels;
       properly = λ asked. rightmost_below name labels (proper asked);
@@ -50,7 +43,7 @@ module _ (setting : Setting) (name : Labels) (t : ℕ) where
         let size = rightmost_length name labels within in omega (arith, shorter, size)
 
     module _ (signers : Signers) (are : AreSigners setting.rrsets name t signers) where
-      signer_as : IsOfSigners signers labels → IsKnownAs (rightmost name labels)
+      signer_as : IsOfSigners signers labels → IsKnownAs setting name t (rightmost name labels)
       signer_as (inl there) = inr (inr (inr (inl ((are.goals labels).0 there).such)))
       signer_as (inr there) =
           inr (inr (inr (inr (λ signed. there.0 (are.signed.1 signed), ((are.denials labels).0 there.1).such))))
@@ -60,7 +53,7 @@ module _ (setting : Setting) (name : Labels) (t : ℕ) where
       signer_known proper is = known_as proper (signer_as is)
 
       as_signer : ¬ HasOwnAnchor setting.anchors (rightmost name labels) → ¬ HasRrset setting.rrsets (rightmost name labels) ds
-          → ¬ HasRrset setting.rrsets (rightmost name labels) 48 → IsKnownAs (rightmost name labels) → IsOfSigners signers labels
+          → ¬ HasRrset setting.rrsets (rightmost name labels) 48 → IsKnownAs setting name t (rightmost name labels) → IsOfSigners signers labels
       as_signer no_own no_ds no_keys (inl own) = absurd (no_own own)
       as_signer no_own no_ds no_keys (inr (inl has)) = absurd (no_ds has)
       as_signer no_own no_ds no_keys (inr (inr (inl has))) = absurd (no_keys has)

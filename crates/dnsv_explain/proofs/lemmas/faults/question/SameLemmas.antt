@@ -1,5 +1,5 @@
 -- What is so of a zone is so of an equal name.
-use Rattle.std.proofs.Common.{◌≡◌, ◌<◌, ◌≤◌, ◌⊎◌, ℕ, List, length, inl, inr, refl, sym, ◌∙◌, arith}
+use Rattle.std.proofs.Common.{◌≡◌, ◌<◌, ◌≤◌, ℕ, List, length, inl, inr, refl, sym, ◌∙◌, arith}
 use Rattle.dnsv_names.specs.Name.{Labels, SameName, IsAtOrBelow}
 use Rattle.dnsv_names.specs.Tree.TreeLaws.{at_or_below_respects, at_or_below_trans, below_length, below_respects, same_labels}
 use Rattle.dnsv_canonical.specs.Rrsets.{ReceivedRrset}
@@ -9,7 +9,7 @@ use Rattle.dnsv_zones.specs.zones.TypeNumbers.{ds}
 use Rattle.dnsv_verdict.specs.Verdict.{HasAnchor}
 use Rattle.dnsv_explain.specs.Explained.{Setting}
 use Rattle.dnsv_explain.specs.faults.Keys.{IsTrustedZone}
-use Rattle.dnsv_explain.specs.faults.Zones.{HasDenialSigner, HasGoalSigner, HasOwnAnchor, HasRrset, HasSignedGoal, HasSigner, IsAnchoredAbove, IsKnownZone, IsNeeded, IsNeededFirst, IsParent, IsSpeaker, NeedsAbove}
+use Rattle.dnsv_explain.specs.faults.Zones.{HasDenialSigner, HasGoalSigner, HasOwnAnchor, HasRrset, HasSigner, IsAnchoredAbove, IsKnownAs, IsKnownZone, IsNeeded, IsNeededFirst, IsParent, IsSpeaker, NeedsAbove}
 use Rattle.dnsv_explain.specs.faults.Zones.IsNeeded.{above, first}
 use Rattle.dnsv_explain.specs.faults.Zones.IsNeededFirst.{denying, signer, speaker}
 use Rattle.dnsv_explain.specs.faults.Zones.NeedsAbove.{known_above, parent}
@@ -42,13 +42,7 @@ module _ (a b : Labels) (same : SameName a b) where
     denial_signer_same has =
         record { rrset = has.rrset; among = has.among; denial = has.denial; signer = signer_same has.rrset has.signer }
 
-    abbrev IsKnownAs : Labels → Type 0
-    IsKnownAs zone =
-        HasOwnAnchor setting.anchors zone ⊎ HasRrset setting.rrsets zone ds ⊎ HasRrset setting.rrsets zone 48
-        ⊎ HasGoalSigner setting.rrsets name t zone
-        ⊎ ((¬ HasSignedGoal setting.rrsets name t) × HasDenialSigner setting.rrsets name zone)
-
-    known_as : IsKnownAs a → IsKnownAs b
+    known_as : IsKnownAs setting name t a → IsKnownAs setting name t b
     known_as (inl own) = inl (own_same setting.anchors own)
     known_as (inr (inl has)) = inr (inl (rrset_same setting.rrsets ds has))
     known_as (inr (inr (inl has))) = inr (inr (inl (rrset_same setting.rrsets 48 has)))
