@@ -1,8 +1,8 @@
 -- What `retain` keeps of a list.
 use Rattle.std.proofs.Common.{◌≡◌, ◌↔◌, Bool, true, false, List, [], ◌∷◌, IsTrue, inl, inr, length, refl, sym, subst, arith}
 use Rattle.std.proofs.lemmas.Bool.{false≢true}
-use Rattle.core.specs.List.{items_where_true}
-use Rattle.core.specs.List.Retain.{IsFiltered, ReturnsInTurn}
+use Rattle.std.specs.List.{items_where_true}
+use Rattle.std.specs.List.Retain.{IsFiltered, ReturnsInTurn}
 use Rattle.dnsv_explain.specs.faults.Listing.{AreThose}
 
 module _ {X F : Type 0} (R : F → X → Bool → F → Type 0) (Such : X → Type 0) (f : F)

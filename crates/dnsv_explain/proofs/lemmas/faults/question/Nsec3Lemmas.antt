@@ -37,25 +37,26 @@ module _ {X : Type 0} (rdata : X → List ℕ) (nsec3 : X → Nsec3) (k : ℕ) (
     (same : items ≡ records) (read : AllByRecursion (λ x. IsNsec3 (rdata x) (nsec3 x)) records) where
   -- the lines of one record more
   pub record_more : (i : ℕ) (x : X) (old mid new : List Line) → i < length items → x ≡ get_or items i x
-      → AddsThose (AreOfNumbered (AreNsec3At k rrset) 1 (take i (map rdata records))) old mid
+      → AddsThose (AreOfNumbered (AreNsec3At k rrset) 1 (take i (map rdata items))) old mid
       → AddsThose (AreNsec3Lines rrset (record_of k (i + 1)) (nsec3 x)) mid new
-      → AddsThose (AreOfNumbered (AreNsec3At k rrset) 1 (take (i + 1) (map rdata records))) old new
+      → AddsThose (AreOfNumbered (AreNsec3At k rrset) 1 (take (i + 1) (map rdata items))) old new
   record_more i x old mid new within at before one =
-      let there = mapped_there rdata items records i x same within at in
-      next_added (AreNsec3At k rrset) (map rdata records) i (rdata x) (rdata x) old mid new
-      (slice_get_within (map rdata records) i (rdata x) there)
-      (sym (get_or_from_slice_get (map rdata records) i (rdata x) (rdata x) there)) before
+      let there = mapped_there rdata items items i x refl within at in
+      next_added (AreNsec3At k rrset) (map rdata items) i (rdata x) (rdata x) old mid new
+      (slice_get_within (map rdata items) i (rdata x) there)
+      (sym (get_or_from_slice_get (map rdata items) i (rdata x) (rdata x) there)) before
       (added_as (AreNsec3Lines rrset (record_of k (i + 1)) (nsec3 x)) (AreNsec3At k rrset (i + 1) (rdata x)) mid new
       (λ lines are. (nsec3 x, read_there (λ each. IsNsec3 (rdata each) (nsec3 each)) items records i x same read within at, are)) one)
 
   pub records_said : (name : Labels) → rrset.rtype ≡ 50 → IsDenial name rrset → IsCanonical rrset.rdata (map rdata records) → (n : ℕ)
       → length items ≤ n → (old new : List Line)
-      → AddsThose (AreOfNumbered (AreNsec3At k rrset) 1 (take n (map rdata records))) old new
+      → AddsThose (AreOfNumbered (AreNsec3At k rrset) 1 (take n (map rdata items))) old new
       → AddsThose (AreNsec3sLines name k rrset) old new
   records_said name rtype denial canonical n past old new added =
+      let Taken : List X → Type 0 = λ each. AddsThose (AreOfNumbered (AreNsec3At k rrset) 1 (take n (map rdata each))) old new in
       added_as (AreOfNumbered (AreNsec3At k rrset) 1 (map rdata records)) (AreNsec3sLines name k rrset) old new
       (λ lines are. inl ((denial, rtype), (map rdata records, forms_of rrset (map rdata records) rtype canonical, are)))
-      (all_added (AreNsec3At k rrset) (map rdata records) n old new (mapped_long rdata items records n same past) added)
+      (all_added (AreNsec3At k rrset) (map rdata records) n old new (mapped_long rdata items records n same past) (subst Taken same added))
 
 not_above : (a b : ℕ) → ¬ (a < b) → b ≤ a
 not_above a b never = ⊎_elim (λ (less : a < b). absurd (never less)) (λ (most : b ≤ a). most) (cases_lt a b)
@@ -64,8 +65,8 @@ not_above a b never = ⊎_elim (λ (less : a < b). absurd (never less)) (λ (mos
 
 read_hash : (label : List ℕ) (some : Option (List ℕ)) → IfSome some (λ hash. IsHash hash × Spells label hash) → is_some some ≡ true
     → (hash : List ℕ) × IsHash hash × Spells label hash
-read_hash label None none yes = absurd (false≢true yes)
-read_hash label (Some hash) is_hash yes = (hash, is_hash.0, is_hash.1)
+read_hash label None none so = absurd (false≢true so)
+read_hash label (Some hash) is_hash so = (hash, is_hash.0, is_hash.1)
 
 -- the owner's first label spells a hash just where one is read
 pub hash_label : (owner : Labels) (label : List ℕ) (found : Option (List ℕ)) → slice_get owner 0 ≡ Some label
@@ -76,7 +77,7 @@ hash_label [] label found at spells every b is = let never : ⊥ = cc in absurd 
 hash_label (first ∷ parent) label found at spells every b is =
     let same : first ≡ label = cc in
     let Hash : List ℕ → Type 0 = λ each. (hash : List ℕ) × IsHash hash × Spells each hash in (
-      λ yes. subst Hash (sym same) (read_hash label found spells (sym is ∙ yes)),
+      λ so. subst Hash (sym same) (read_hash label found spells (sym is ∙ so)),
       λ hash.
           let its = subst Hash same hash in is ∙ ap is_some (every its.0 its.1 its.2),
     )

@@ -18,10 +18,10 @@ pub returns-then-not-has_denial : goal.returns-then-not-has_denial
 returns-then-not-has_denial c =
     let speaks = MatchOption-at_some _ _ c.in-Some.labels c.in-Some.is c.requires in
     let Denies : List ReceivedRrset → Type 0 = λ rrsets. HasDenial rrsets c.args.name.now c.suffix-zone.result in
-    none_denies (setting_in c.args.evidence.now) c.args.name.now c.args.rtype c.in_ok-missing.field-0 c.in-Some.labels c.suffix-zone.result
+    none_denies (setting_in c.args.evidence.now) c.args.name.now c.args.rtype c.in_ok-missing-2.field-0 c.in-Some.labels c.suffix-zone.result
     speaks.0 speaks.1 c.suffix-zone.ensures.labels
     (λ has. false≢true (sym c.if-not-has_denial.true ∙ c.has_denial.ensures.1 (subst Denies (sym c.rrsets.ensures) has)))
-    c.in_ok-missing.ensures
+    c.in_ok-missing-2.ensures
 
 pub returns : goal.returns
 returns c =

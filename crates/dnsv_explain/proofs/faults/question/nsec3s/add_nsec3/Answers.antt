@@ -18,4 +18,4 @@ pub returns : goal.returns
 returns c =
     unusable_said c.args.rrset.now c.args.number c.args.nsec3.now _ _
     (λ many. false≢true (sym c.if-has_many_iterations.false ∙ c.has_many_iterations.ensures.1 many))
-    (c.is_unusable.ensures.0 c.if-not-is_unusable.false) c.in_ok-add_unusable.ensures
+    (c.is_unusable.ensures.0 c.if-not-is_unusable.false) c.in_ok-add_unusable-2.ensures

@@ -10,7 +10,7 @@ loop-line-init c = record {
   parts = c.into_iter-line-iterator.ensures.into_iter_gives.0;
   size = c.into_iter-line-iterator.ensures.into_iter_gives.1 ∙ c.args.said.ok.0
       ∙ ap length (sym c.into_iter-line-iterator.ensures.into_iter_gives.0);
-  seen = seen_none c.new-seen.result c.new-seen.ensures.keys;
+  seen = seen_none c.new-seen.result c.new-seen.ensures.empty;
   added = sym (append-nil c.args.lines.now.items);
 }
 
