@@ -1,3 +1,4 @@
+pub mod KeptLemmas
 pub mod KeyLemmas
 pub mod ListingLemmas
 pub mod LowestLemmas
@@ -8,3 +9,4 @@ pub mod TrustLemmas
 pub mod TruthLemmas
 pub mod VerifierLemmas
 pub mod WordLemmas
+pub mod question
