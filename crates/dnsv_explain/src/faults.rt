@@ -7,6 +7,7 @@ mod remark;
 pub mod shown_keys;
 mod signature;
 mod words;
+pub mod zones;
 
 ghost use Rattle.std.specs.Prelude.{◌≡◌, ◌++◌, ◌∷◌, [], OnOk};
 ghost use Rattle.dnsv_canonical.specs.Rrsets.{IsNumbered};
