@@ -6,13 +6,13 @@ use Rattle.dnsv_records.specs.Ds.{IsDs}
 use Rattle.dnsv_records.specs.Rrsig.{IsRrsig}
 use Rattle.dnsv_records.specs.declared.ds.Ds.{Ds}
 use Rattle.dnsv_records.specs.declared.rrsig.Rrsig.{Rrsig}
-use Rattle.dnsv_canonical.specs.Rrsets.{IsNumbered, ReceivedRrset}
+use Rattle.dnsv_canonical.specs.Canonical.{IsCanonical}
+use Rattle.dnsv_canonical.specs.CanonicalRdata.{canonical_form}
+use Rattle.dnsv_canonical.specs.Rrsets.{ReceivedRrset}
 use Rattle.dnsv_chain.specs.Anchor.{anchor_owner}
-use Rattle.dnsv_chain.specs.Trusted.{IsKeyOf, SignsItsSet}
+use Rattle.dnsv_chain.specs.Trusted.{SignsItsSet}
 use Rattle.dnsv_chain.specs.declared.anchor.Anchor.{Anchor}
 use Rattle.dnsv_chain.specs.declared.anchor.Anchor.TheVariants as anchor
-use Rattle.dnsv_denial.specs.gathering.Evidence.{IsRecordAt}
-use Rattle.dnsv_denial.specs.declared.records.number.RecordNumber.{RecordNumber}
 use Rattle.dnsv_verdict.specs.Verdict.{HasAnchor}
 use Rattle.dnsv_explain.specs.Explained.{Setting}
 use Rattle.dnsv_verifier.specs.Admissible.{DnskeyRecord}
@@ -139,26 +139,24 @@ abbrev pub AreAnchorWanted : Labels → ℕ → Anchor → List Wanted → Type 
 AreAnchorWanted zone number anchor =
     AreWhere (SameName (anchor_owner anchor) zone) (λ wanted. wanted ≡ wanted_anchor number anchor ∷ [])
 
--- the records of DS RRset k from the place on, in order, beside all of its records
-abbrev pub AreDsFrom : List ReceivedRrset → ℕ → ReceivedRrset → List Ds → ℕ → List Wanted → Type 0
-AreDsFrom rrsets k rrset records place [] =
-    (rdata : List ℕ) → ¬ IsRecordAt rrsets (record_of k place) rrset rdata
-AreDsFrom rrsets k rrset records place (each ∷ rest) =
-    ((rdata : List ℕ) × (ds : Ds) × IsRecordAt rrsets (record_of k place) rrset rdata × IsDs rdata ds
-    × (each ≡ by_digest (entry_number.Ds (record_of k place)) records ds))
-    × AreDsFrom rrsets k rrset records (place + 1) rest
+-- record K of DS RRset k, which has these records
+abbrev pub AreDsWanted : ℕ → List Ds → ℕ → List ℕ → List Wanted → Type 0
+AreDsWanted k records place rdata wanted =
+    (ds : Ds) × IsDs rdata ds × (wanted ≡ by_digest (entry_number.Ds (record_of k place)) records ds ∷ [])
 
--- all of them
-abbrev pub AreRecordsOf : List ReceivedRrset → ℕ → ReceivedRrset → List Wanted → Type 0
-AreRecordsOf rrsets k rrset wanted =
-    (records : List Ds) × AllZip IsDs rrset.rdata records × AreDsFrom rrsets k rrset records 1 wanted
+-- all of them, in canonical order
+abbrev pub AreRecordsOf : ℕ → ReceivedRrset → List Wanted → Type 0
+AreRecordsOf k rrset wanted =
+    (records : List Ds) × (canonical : List (List ℕ)) × AllZip IsDs rrset.rdata records
+    × IsCanonical (map (canonical_form rrset.rtype) rrset.rdata) canonical
+    × AreOfNumbered (AreDsWanted k records) 1 canonical wanted
 
 -- it is one of the anchors at the zone, or of the records of a DS RRset that leads into it
 abbrev pub LeadsInto : Setting → Labels → Wanted → Type 0
 LeadsInto setting zone wanted =
     ((group : List Wanted) × AreOfNumbered (AreAnchorWanted zone) 1 setting.anchors group × Contains group wanted)
     ⊎ ((k : ℕ) × (rrset : ReceivedRrset) × (group : List Wanted) × IsDsWay setting zone k rrset
-    × AreRecordsOf setting.rrsets k rrset group × Contains group wanted)
+    × AreRecordsOf k rrset group × Contains group wanted)
 
 -- it matches no key although another of its group does
 abbrev pub IsLeftOut : Setting → Labels → List Wanted → Wanted → Type 0
@@ -179,7 +177,7 @@ AreAnchorsSaid setting zone said =
 abbrev pub AreRecordsSaid : Setting → Labels → ℕ → ReceivedRrset → List Wanted → Type 0
 AreRecordsSaid setting zone k rrset =
     AreWhere (IsDsWay setting zone k rrset)
-    (λ said. (group : List Wanted) × AreRecordsOf setting.rrsets k rrset group × AreSaidOf setting zone group said)
+    (λ said. (group : List Wanted) × AreRecordsOf k rrset group × AreSaidOf setting zone group said)
 
 -- all of which something is said
 abbrev pub AreSaid : Setting → Labels → List Wanted → Type 0

@@ -6,6 +6,7 @@ use Rattle.dnsv_records.specs.declared.rrsig.Rrsig.{Rrsig}
 use Rattle.dnsv_canonical.specs.Rrsets.{ReceivedRrset}
 use Rattle.dnsv_chain.specs.Trusted.{SignsItsSet}
 use Rattle.dnsv_verifier.specs.Admissible.{DnskeyRecord}
+use Rattle.dnsv_verifier.specs.Asking.{IsKeyOf}
 use Rattle.dnsv_verifier.specs.declared.answer.Answer.{Answer}
 use Rattle.dnsv_verifier.specs.declared.answer.Answer.TheVariants.{Valid, Invalid, Unknown}
 use Rattle.dnsv_explain.specs.Explained.{Setting}
@@ -34,6 +35,11 @@ use Rattle.dnsv_explain.specs.declared.line.fault.zone.WhyEntry.TheVariants as w
 -- the keys are just those of the zone
 abbrev pub AreKeysAt : List ReceivedRrset → Labels → List DnskeyRecord → Type 0
 AreKeysAt rrsets zone keys = (key : DnskeyRecord) → Contains keys key ↔ IsKeyAt rrsets zone key
+
+-- the key is one of the RRset, which is a DNSKEY RRset of the zone
+pub record IsKeyOfAt (zone : Labels) (rrset : ReceivedRrset) (key : DnskeyRecord) : Type 0 where
+  pub at : IsKeysAt zone rrset
+  pub its : IsKeyOf rrset key
 
 -- one of the keys is such
 pub record HasAmong (Such : DnskeyRecord → Type 0) (keys : List DnskeyRecord) : Type 0 where
@@ -108,11 +114,11 @@ pub record HasMatch (group : List Judged) : Type 0 where
 abbrev pub IsTaken : List Judged → Judged → Type 0
 IsTaken group judged = HasMatch group → judged.word ≡ None
 
--- such ones of the group were added
-pub record AddsMatching (group old new : List Judged) : Type 0 where
+-- such ones of these were added
+pub record AddsMatching (group some old new : List Judged) : Type 0 where
   pub more : List Judged
   pub is : new ≡ old ++ more
-  pub those : AreThose (IsTaken group) group more
+  pub those : AreThose (IsTaken group) some more
 
 -- ---- ways
 

@@ -115,7 +115,7 @@ pub record IsDsWay (setting : Setting) (zone : Labels) (k : ℕ) (rrset : Receiv
   pub rtype : rrset.rtype ≡ 43
   pub owner : SameName rrset.owner zone
   pub by_parent : HasOwnAnchor setting.anchors zone
-      → (parent : Labels) × HasSigner rrset parent × MayBeParent setting zone parent
+      → (rrsig : Rrsig) × IsSignatureOf rrset rrsig × MayBeParent setting zone rrsig.signer
 
 -- of the known zones above that have an anchor at or above them it has most labels
 pub record IsAnchoredAbove (setting : Setting) (name : Labels) (t : ℕ) (zone above : Labels) : Type 0 where

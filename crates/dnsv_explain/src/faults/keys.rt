@@ -44,9 +44,10 @@ pub fn keys_at<'a>(
 {
     let mut keys = Vec::new(alloc);
     for rrset in rrsets {
-        if is_keys_at(rrset, zone) {
-            add_keys(rrset, &mut keys)?;
+        if !is_keys_at(rrset, zone) {
+            continue;
         }
+        add_keys(rrset, &mut keys)?;
     }
     Ok(keys)
 }

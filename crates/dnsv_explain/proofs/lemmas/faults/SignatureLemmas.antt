@@ -102,12 +102,12 @@ some_left (x ∷ xs) b is isnt = λ e. cc
 
 -- ---- the signatures of an RRset, at their places
 
-zip_nothing : (signatures : List (List ℕ)) (rrsigs : List Rrsig) → AllZip IsRrsig signatures rrsigs → rrsigs ≡ [] → signatures ≡ []
+pub zip_nothing : (signatures : List (List ℕ)) (rrsigs : List Rrsig) → AllZip IsRrsig signatures rrsigs → rrsigs ≡ [] → signatures ≡ []
 zip_nothing [] rrsigs zip none = refl
 zip_nothing (x ∷ signatures) [] zip none = absurd zip
 zip_nothing (x ∷ signatures) (y ∷ rrsigs) zip none = let never : ⊥ = cc in absurd never
 
-zip_something : (signatures : List (List ℕ)) (rrsigs : List Rrsig) → AllZip IsRrsig signatures rrsigs → rrsigs ≢ [] → signatures ≢ []
+pub zip_something : (signatures : List (List ℕ)) (rrsigs : List Rrsig) → AllZip IsRrsig signatures rrsigs → rrsigs ≢ [] → signatures ≢ []
 zip_something [] [] zip some = λ e. some refl
 zip_something [] (y ∷ rrsigs) zip some = absurd zip
 zip_something (x ∷ signatures) rrsigs zip some = λ e. cc

@@ -120,7 +120,7 @@ fn add_records<'a>(
     if !is_ds_way(evidence, zone, number, rrset) {
         return Ok(());
     }
-    let group = records_of(alloc, evidence, keys, number, rrset)?;
+    let group = records_of(alloc, keys, number, rrset)?;
     add_matching(&group, said)?;
     Ok(())
 }
@@ -128,14 +128,12 @@ fn add_records<'a>(
 /// The records of the DS RRset, which has the number.
 fn records_of<'a>(
     alloc: Global,
-    evidence: &Evidence<'_>,
     keys: &[KeyRecord<'_>],
     number: usize,
     rrset: &'a Rrset,
 ) -> Result<Vec<Judged<'a>>, AllocError>
-    requires rrset { IsNumbered evidence.now.rrsets number rrset.now }
-    requires rtype { rrset.now.rtype ≡ 43 }
-    ensures { IfOk result (λ group. AreJudged keys.now (AreRecordsOf evidence.now.rrsets number rrset.now) group.items) }
+    requires { rrset.now.rtype ≡ 43 }
+    ensures { IfOk result (λ group. AreJudged keys.now (AreRecordsOf number rrset.now) group.items) }
 {
     let values = rrset.ds_records();
     let records = in_canonical_order(alloc, rrset, values)?;
@@ -155,7 +153,7 @@ fn records_of<'a>(
 
 /// Adds those of the group that match a key, or all, where none does.
 fn add_matching<'a>(group: &[Judged<'a>], said: &mut Vec<Judged<'a>>) -> Result<(), AllocError>
-    ensures { OnOk result (AddsMatching group.now said.old.items said.new.items) }
+    ensures { OnOk result (AddsMatching group.now group.now said.old.items said.new.items) }
 {
     let has_match = has_match(group);
     for each in group {

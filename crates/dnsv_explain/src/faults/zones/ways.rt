@@ -107,7 +107,7 @@ fn add_of_parents(
     zone: &Name,
     all: Vec<Line>,
 ) -> Result<(), AllocError>
-    ensures { OnOk result (AddsThose (AreThose (IsOfParent (setting_in evidence.now) zone.now) all.entry.items)
+    ensures { OnOk result (AddsThose (AreThose (IsOfParent (setting_in evidence.now) zone.now) all.items)
         lines.old.items lines.new.items) }
 {
     for line in all {
