@@ -1,6 +1,7 @@
 pub mod KeyLemmas
 pub mod ListingLemmas
 pub mod LowestLemmas
+pub mod MovedLemmas
 pub mod RemarkLemmas
 pub mod ShownKeyLemmas
 pub mod SignatureLemmas

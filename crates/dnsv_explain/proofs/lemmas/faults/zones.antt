@@ -6,3 +6,4 @@ pub mod RankLemmas
 pub mod SelfLemmas
 pub mod WhyLemmas
 pub mod WordLemmas
+pub mod ZoneLemmas

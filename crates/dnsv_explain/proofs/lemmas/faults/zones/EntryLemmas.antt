@@ -2,24 +2,25 @@
 use Rattle.std.proofs.Common.{◌≡◌, ◌≢◌, ◌<◌, ◌≤◌, ◌+◌, ◌↔◌, ◌⊎◌, ℕ, suc, Bool, true, false, inl, inr, List, [], ◌∷◌, ◌++◌, Option, Some, None, length, get_or, map, take, refl, sym, ap, ◌∙◌, subst, ⊎_elim, arith, append_assoc, IsTrue}
 use Rattle.std.proofs.lemmas.Bool.{false≢true}
 use Rattle.std.proofs.lemmas.List.{append-nil, get_or-map, length-map, map-append, take_all}
-use Rattle.std.specs.List.{AllByRecursion, Contains}
+use Rattle.std.specs.List.{AllByRecursion, AllZip, Contains}
 use Rattle.dnsv_names.specs.Name.{Labels}
+use Rattle.dnsv_records.specs.Ds.{IsDs}
+use Rattle.dnsv_records.specs.declared.ds.Ds.{Ds}
+use Rattle.dnsv_canonical.specs.Canonical.{IsCanonical}
+use Rattle.dnsv_canonical.specs.Rdata.{rdata_of_type}
 use Rattle.dnsv_canonical.specs.Rrsets.{ReceivedRrset}
-use Rattle.dnsv_chain.specs.Anchor.{anchor_owner}
-use Rattle.dnsv_chain.specs.declared.anchor.Anchor.{Anchor}
-use Rattle.dnsv_names.specs.Name.{SameName}
 use Rattle.dnsv_verifier.specs.Admissible.{DnskeyRecord}
 use Rattle.dnsv_explain.specs.Explained.{Setting}
 use Rattle.dnsv_explain.specs.faults.Entries.{IsFaultOfEntry, IsFirstOf, Wanted}
 use Rattle.dnsv_explain.specs.faults.Listing.{AreOfNumbered, AreParted, AreThose, AreWhere}
-use Rattle.dnsv_explain.specs.faults.ZoneLines.{AreAnchorWanted, AreAnchorsSaid, AreRecordsOf, AreRecordsSaid, AreSaid, AreSaidOf, IsLeftOut, wanted_anchor}
+use Rattle.dnsv_explain.specs.faults.ZoneLines.{AreDsWanted, AreRecordsOf, AreSaidOf, IsLeftOut}
 use Rattle.dnsv_explain.specs.faults.ZoneSearch.{AddsJudged, AddsMatching, AreJudged, AreKeysAt, HasMatch, IsJudgedAs, IsJudgedAt, IsJudgedBy, IsTaken, wanted_in, wanted_of}
-use Rattle.dnsv_explain.specs.faults.Zones.{IsDsWay}
 use Rattle.dnsv_explain.specs.declared.faults.zones.entries.Judged.{Judged}
 use Rattle.dnsv_explain.specs.declared.faults.zones.lead.Lead.{Lead}
 use Rattle.dnsv_explain.specs.declared.line.fault.zone.WhyEntry.{WhyEntry}
 use Rattle.dnsv_explain.proofs.lemmas.derivations.WayLemmas.KeysLemmas.{from, read_there}
-use Rattle.dnsv_explain.proofs.lemmas.faults.ListingLemmas.{numbered_next, those_next, those_skip}
+use Rattle.dnsv_explain.proofs.lemmas.derivations.WayLemmas.RankLemmas.{ds_read, forms_of}
+use Rattle.dnsv_explain.proofs.lemmas.faults.ListingLemmas.{numbered_next, past_in, those_next, those_skip}
 
 none_or_not : {X : Type 0} (o : Option X) → (o ≡ None) ⊎ (o ≢ None)
 none_or_not None = inl refl
@@ -260,3 +261,36 @@ judged_as keys Are Others old new leads added = record {
 pub judged_nothing : (keys : List DnskeyRecord) (Are : List Wanted → Type 0) (old : List Judged) → Are [] → AddsJudged keys Are old old
 judged_nothing keys Are old are =
     record { more = []; is = sym (append-nil old); judged = record { are = are; each = tt } }
+
+-- ---- the records of a DS RRset
+
+numbered_mapped : {W X Y : Type 0} (f : W → X) (Are : ℕ → X → List Y → Type 0) (k : ℕ) (xs : List W) (ys : List Y)
+    → AreOfNumbered (λ n x. Are n (f x)) k xs ys → AreOfNumbered Are k (map f xs) ys
+numbered_mapped f Are k [] ys none = none
+numbered_mapped f Are k (x ∷ xs) ys each = record {
+  first = each.first;
+  second = each.second;
+  parts = each.parts;
+  is_first = each.is_first;
+  is_second = numbered_mapped f Are (k + 1) xs each.second each.is_second;
+}
+
+module _ {X : Type 0} (rdata : X → List ℕ) (keys : List DnskeyRecord) (k : ℕ) (rrset : ReceivedRrset) (rtype : rrset.rtype ≡ 43)
+    (values : List Ds) (read : AllZip IsDs (rdata_of_type 43 rrset) values) (records items : List X) (same : items ≡ records)
+    (canonical : IsCanonical rrset.rdata (map rdata records)) where
+  abbrev pub OfRecord : ℕ → X → List Wanted → Type 0
+  OfRecord place x = AreDsWanted k values place (rdata x)
+
+  pub records_judged : (n : ℕ) (judged : List Judged) → length items ≤ n → AreJudged keys (AreOfNumbered OfRecord 1 (take n records)) judged
+      → AreJudged keys (AreRecordsOf k rrset) judged
+  records_judged n judged past so_far =
+      let all = judged_all keys OfRecord records n judged (past_in records items same n past) so_far in record {
+        are = (
+          values,
+          map rdata records,
+          ds_read rrset values rtype read,
+          forms_of rrset (map rdata records) rtype canonical,
+          numbered_mapped rdata (AreDsWanted k values) 1 records (map wanted_in judged) all.are,
+        );
+        each = all.each;
+      }

@@ -26,7 +26,7 @@ use Rattle.dnsv_explain.specs.declared.line.derivation.SignatureNumber.{Signatur
 use Rattle.dnsv_explain.specs.declared.line.fault.signature.WhySignature.{WhySignature}
 use Rattle.dnsv_explain.proofs.lemmas.NumberedLemmas.{among}
 use Rattle.dnsv_explain.proofs.lemmas.faults.ListingLemmas.{added_as, all_added, next_added, none_added, those_added}
-use Rattle.dnsv_explain.proofs.lemmas.faults.SignatureLemmas.{rdata_within, read_at, zip_nothing, zip_something}
+use Rattle.dnsv_explain.proofs.lemmas.faults.SignatureLemmas.{rdata_within, read_at, zip_nothing}
 
 -- ---- signatures, and what is read of them
 
@@ -89,14 +89,14 @@ module _ (set : ReceivedRrset) (rrsigs : List Rrsig) (zip : AllZip IsRrsig set.s
           those_added (AreKeyLines setting zone k set key) old (unsigned_line k set ∷ []) new is
           (unsigned (zip_nothing set.signatures rrsigs zip none))
 
-      pub key_without : (old new : List Line) → rrsigs ≢ [] → ¬ HasSignatureOf rrsigs key → AddsThose (IsNotSelfSigned zone k key) old new
+      pub key_without : (old new : List Line) → set.signatures ≢ [] → ¬ HasSignatureOf rrsigs key → AddsThose (IsNotSelfSigned zone k key) old new
           → AddsThose (AreKeyLines setting zone k set key) old new
       key_without old new some none =
           added_as (IsNotSelfSigned zone k key) (AreKeyLines setting zone k set key) old new
           (λ lines are.
           let Lines : List Line → Type 0 = λ each. AreKeyLines setting zone k set key each in
           subst Lines (sym are.2)
-          (not_self_signed are.0 (zip_something set.signatures rrsigs zip some) (λ has. none (signature_named key has)) are.1))
+          (not_self_signed are.0 some (λ has. none (signature_named key has)) are.1))
 
       pub key_named : (old new : List Line) → HasSignatureOf rrsigs key
           → AddsThose (AreOfNumbered (AreNamedLines setting key k set) 1 set.signatures) old new
@@ -107,27 +107,27 @@ module _ (set : ReceivedRrset) (rrsigs : List Rrsig) (zip : AllZip IsRrsig set.s
 
 -- ---- the lines of a signature
 
-module _ (setting : Setting) (set : ReceivedRrset) (key : DnskeyRecord) (rrsig : Rrsig) where
-  -- a key of a numbered RRset is one of the evidence
-  pub key_among : (k : ℕ) → IsNumbered setting.rrsets k set → IsKeyOf set key → IsKeyAmong setting.rrsets key
-  key_among k numbered stands = record {
-    rrset = set;
-    among = among setting.rrsets k set numbered;
-    rtype = stands.rtype;
-    owner = stands.owner;
-    rdata = stands.among;
-    is = stands.is;
-  }
+-- a key of a numbered RRset is one of the evidence
+pub key_among : (rrsets : List ReceivedRrset) (k : ℕ) (set : ReceivedRrset) (key : DnskeyRecord) → IsNumbered rrsets k set
+    → IsKeyOf set key → IsKeyAmong rrsets key
+key_among rrsets k set key numbered stands = record {
+  rrset = set;
+  among = among rrsets k set numbered;
+  rtype = stands.rtype;
+  owner = stands.owner;
+  rdata = stands.among;
+  is = stands.is;
+}
 
-  module _ (number : SignatureNumber) where
-    pub not_named : (old : List Line) → ¬ IsNamed key (named_by rrsig) → AddsThose (AreNamedBy setting key number set rrsig) old old
-    not_named old never = none_added (AreNamedBy setting key number set rrsig) old (inr (never, refl))
+module _ (setting : Setting) (set : ReceivedRrset) (key : DnskeyRecord) (rrsig : Rrsig) (number : SignatureNumber) where
+  pub not_named : (old : List Line) → ¬ IsNamed key (named_by rrsig) → AddsThose (AreNamedBy setting key number set rrsig) old old
+  not_named old never = none_added (AreNamedBy setting key number set rrsig) old (inr (never, refl))
 
-    pub whys_added : (whys told : List WhySignature) (old new : List Line) → IsNamed key (named_by rrsig)
-        → AreWhyNotGood setting key set rrsig whys → told ≡ whys
-        → new ≡ old ++ map (fault_line (shown_of number.rrset number.signature set rrsig)) told
-        → AddsThose (AreNamedBy setting key number set rrsig) old new
-    whys_added whys told old new its are same is =
-        let line = fault_line (shown_of number.rrset number.signature set rrsig) in
-        those_added (AreNamedBy setting key number set rrsig) old (map line whys) new (is ∙ ap (λ each. old ++ map line each) same)
-        (inl (its, (whys, are, refl)))
+  pub whys_added : (whys told : List WhySignature) (old new : List Line) → IsNamed key (named_by rrsig)
+      → AreWhyNotGood setting key set rrsig whys → told ≡ whys
+      → new ≡ old ++ map (fault_line (shown_of number.rrset number.signature set rrsig)) told
+      → AddsThose (AreNamedBy setting key number set rrsig) old new
+  whys_added whys told old new its are same is =
+      let line = fault_line (shown_of number.rrset number.signature set rrsig) in
+      those_added (AreNamedBy setting key number set rrsig) old (map line whys) new (is ∙ ap (λ each. old ++ map line each) same)
+      (inl (its, (whys, are, refl)))

@@ -46,16 +46,20 @@ module _ (keys : List DnskeyRecord) (wanted : Wanted) where
     by_keys None matched =
         let its = such_key (IsMatchOf wanted) matched in
         let asked = match_wanted wanted its.0 its.2 in
-        inr (λ missing. missing its.0 its.1 (wanted_tag wanted its.0 asked),
-          inr (λ other. other.1 its.0 its.1 asked, inr (λ differs. differs.1 its.0 its.1 its.2, refl)))
+        inr (
+          λ missing. missing its.0 its.1 (wanted_tag wanted its.0 asked),
+          inr (λ other. other.1 its.0 its.1 asked, inr (λ differs. differs.1 its.0 its.1 its.2, refl)),
+        )
     by_keys (Some why.KeyMissing) none = inl (no_key (HasTag wanted) none, refl)
     by_keys (Some why.KeyAlgorithm) both =
         let its = such_key (HasTag wanted) both.0 in
         inr (λ missing. missing its.0 its.1 its.2, inl ((its, no_key (IsWantedBy wanted) both.1), refl))
     by_keys (Some why.DigestDiffers) both =
         let its = such_key (IsWantedBy wanted) both.0 in
-        inr (λ missing. missing its.0 its.1 (wanted_tag wanted its.0 its.2),
-          inr (λ other. other.1 its.0 its.1 its.2, inl ((its, no_key (IsMatchOf wanted) both.1), refl)))
+        inr (
+          λ missing. missing its.0 its.1 (wanted_tag wanted its.0 its.2),
+          inr (λ other. other.1 its.0 its.1 its.2, inl ((its, no_key (IsMatchOf wanted) both.1), refl)),
+        )
     by_keys (Some why.Algorithm) never = absurd never
     by_keys (Some why.DigestType) never = absurd never
     by_keys (Some why.DigestIgnored) never = absurd never

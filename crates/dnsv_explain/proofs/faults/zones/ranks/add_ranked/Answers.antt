@@ -1,0 +1,10 @@
+use Rattle.std.proofs.Common.{sym, ◌∙◌}
+use Rattle.dnsv_explain.specs.Explained.{setting_in}
+use Rattle.dnsv_explain.proofs.lemmas.faults.zones.RankLemmas.{rank_added, rank_passed}
+use Rattle.dnsv_explain.proofs.faults.zones.ranks.add_ranked.Goals as goal
+
+pub returns-then-ne : goal.returns-then-ne
+returns-then-ne c = ?
+
+pub returns : goal.returns
+returns c = ?
