@@ -34,7 +34,34 @@ pub fn add_ranks(
     ensures { OnOk result (AddsThose (AreEntryLines (setting_in evidence.now) zone.now (map wanted_in said.now))
         lines.old.items lines.new.items) }
 {
-    for rank in &[0, 1, 2, 3, 5, 6] {
+    add_each_rank(
+        alloc,
+        evidence,
+        keys,
+        lines,
+        zone,
+        said,
+        &[0, 1, 2, 3, 5, 6],
+    )?;
+    Ok(())
+}
+
+/// Adds what is said of those that have each of the ranks.
+fn add_each_rank(
+    alloc: Global,
+    evidence: &Evidence<'_>,
+    keys: &[KeyRecord<'_>],
+    lines: &mut Vec<Line>,
+    zone: &Name,
+    said: &[Judged<'_>],
+    ranks: &[u8],
+) -> Result<(), AllocError>
+    requires keys { AreKeysOf evidence.now.rrsets keys.now }
+    requires judged { AllByRecursion (IsJudgedAt evidence.now.rrsets zone.now) said.now }
+    ensures { OnOk result (AddsThose (AreOfEach (λ rank. AreOfEach (AreRankLines (setting_in evidence.now) zone.now rank)
+        (map wanted_in said.now)) ranks.now) lines.old.items lines.new.items) }
+{
+    for rank in ranks {
         add_rank(alloc, evidence, keys, lines, zone, said, *rank)?;
     }
     Ok(())

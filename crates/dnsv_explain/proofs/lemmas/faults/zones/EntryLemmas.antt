@@ -3,6 +3,7 @@ use Rattle.std.proofs.Common.{◌≡◌, ◌≢◌, ◌<◌, ◌≤◌, ◌+◌,
 use Rattle.std.proofs.lemmas.Bool.{false≢true}
 use Rattle.std.proofs.lemmas.List.{append-nil, get_or-map, length-map, map-append, take_all}
 use Rattle.std.specs.List.{AllByRecursion, AllZip, Contains}
+use Rattle.std.specs.Prelude.{is_some}
 use Rattle.dnsv_names.specs.Name.{Labels}
 use Rattle.dnsv_records.specs.Ds.{IsDs}
 use Rattle.dnsv_records.specs.declared.ds.Ds.{Ds}
@@ -11,7 +12,7 @@ use Rattle.dnsv_canonical.specs.Rdata.{rdata_of_type}
 use Rattle.dnsv_canonical.specs.Rrsets.{ReceivedRrset}
 use Rattle.dnsv_verifier.specs.Admissible.{DnskeyRecord}
 use Rattle.dnsv_explain.specs.Explained.{Setting}
-use Rattle.dnsv_explain.specs.faults.Entries.{IsFaultOfEntry, IsFirstOf, Wanted}
+use Rattle.dnsv_explain.specs.faults.Entries.{IsEntryFault, IsFaultOfEntry, IsFirstOf, Wanted, entry_words}
 use Rattle.dnsv_explain.specs.faults.Listing.{AreOfNumbered, AreParted, AreThose, AreWhere}
 use Rattle.dnsv_explain.specs.faults.ZoneLines.{AreDsWanted, AreRecordsOf, AreSaidOf, IsLeftOut}
 use Rattle.dnsv_explain.specs.faults.ZoneSearch.{AddsJudged, AddsMatching, AreJudged, AreKeysAt, HasMatch, IsJudgedAs, IsJudgedAt, IsJudgedBy, IsTaken, wanted_in, wanted_of}
@@ -20,11 +21,19 @@ use Rattle.dnsv_explain.specs.declared.faults.zones.lead.Lead.{Lead}
 use Rattle.dnsv_explain.specs.declared.line.fault.zone.WhyEntry.{WhyEntry}
 use Rattle.dnsv_explain.proofs.lemmas.derivations.WayLemmas.KeysLemmas.{from, read_there}
 use Rattle.dnsv_explain.proofs.lemmas.derivations.WayLemmas.RankLemmas.{ds_read, forms_of}
-use Rattle.dnsv_explain.proofs.lemmas.faults.ListingLemmas.{numbered_next, past_in, those_next, those_skip}
+use Rattle.dnsv_explain.proofs.lemmas.faults.ListingLemmas.{numbered_next, those_next, those_skip}
 
 none_or_not : {X : Type 0} (o : Option X) → (o ≡ None) ⊎ (o ≢ None)
 none_or_not None = inl refl
 none_or_not (Some x) = inr (λ e. cc)
+
+pub matches_none : {X : Type 0} (o : Option X) (b : Bool) → b ≡ is_some o → b ≡ false → o ≡ None
+matches_none None b is isnt = refl
+matches_none (Some x) b is isnt = absurd (false≢true (sym isnt ∙ is))
+
+pub matches_some : {X : Type 0} (o : Option X) (b : Bool) → b ≡ is_some o → b ≡ true → o ≢ None
+matches_some None b is so = absurd (false≢true (sym is ∙ so))
+matches_some (Some x) b is so = λ e. cc
 
 -- ---- the first that is so is one
 
@@ -78,7 +87,7 @@ module _ (setting : Setting) (zone : Labels) (keys : List DnskeyRecord) (are : A
 
   one_word : (judged : Judged) (word : Option WhyEntry) → JudgedAt judged → IsFaultOfEntry setting.rrsets zone (wanted_in judged) word
       → judged.word ≡ word
-  one_word judged word at other = first_unique _ _ judged.word word at other
+  one_word judged word at other = first_unique (IsEntryFault setting.rrsets zone (wanted_in judged)) entry_words judged.word word at other
 
   -- ---- groups
 
@@ -281,10 +290,11 @@ module _ {X : Type 0} (rdata : X → List ℕ) (keys : List DnskeyRecord) (k : �
   abbrev pub OfRecord : ℕ → X → List Wanted → Type 0
   OfRecord place x = AreDsWanted k values place (rdata x)
 
-  pub records_judged : (n : ℕ) (judged : List Judged) → length items ≤ n → AreJudged keys (AreOfNumbered OfRecord 1 (take n records)) judged
+  pub records_judged : (n : ℕ) (judged : List Judged) → length items ≤ n → AreJudged keys (AreOfNumbered OfRecord 1 (take n items)) judged
       → AreJudged keys (AreRecordsOf k rrset) judged
   records_judged n judged past so_far =
-      let all = judged_all keys OfRecord records n judged (past_in records items same n past) so_far in record {
+      let All : List X → Type 0 = λ each. AreJudged keys (AreOfNumbered OfRecord 1 each) judged in
+      let all = subst All same (judged_all keys OfRecord items n judged past so_far) in record {
         are = (
           values,
           map rdata records,

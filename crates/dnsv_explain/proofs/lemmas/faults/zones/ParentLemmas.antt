@@ -42,7 +42,8 @@ module _ (setting : Setting) (zone : Labels) where
     its_parent way own =
         let by = way.by_parent own in record { rrsig = by.0; among = its_rrsig rrset rrsigs zip by.0 by.1; parent = by.2 }
 
-    -- what is said of it was added, without what is said of other signers
+  -- what is said of it was added, without what is said of other signers
+  module _ (k : ℕ) (rrset : ReceivedRrset) where
     pub way_added : (none all old new : List Line) → none ≡ [] → IsDsWay setting zone k rrset
         → AddsThose (AreRrsetLines setting k rrset) none all → AddsThose (AreThose (IsOfParent setting zone) all) old new
         → AddsThose (AreWayLines setting zone k rrset) old new

@@ -57,6 +57,10 @@ module _ (setting : Setting) (zone : Labels) where
     pub rank_passed : (old : List Line) → entry_rank judged.word ≢ rank → AddsThose (AreRankLines setting zone rank (wanted_in judged)) old old
     rank_passed old other = none_added (AreRankLines setting zone rank (wanted_in judged)) old (unsaid judged.word at other)
 
+  -- of those that have the rank
+  abbrev pub OfRank : List Judged → ℕ → List Line → Type 0
+  OfRank judged rank = AreOfEach (AreRankLines setting zone rank) (map wanted_in judged)
+
   pub ranked : (rank : ℕ) (judged : List Judged) (old new : List Line)
       → AddsThose (AreOfNumbered (λ (n : ℕ) (each : Judged). AreRankLines setting zone rank (wanted_in each)) 1 judged) old new
       → AddsThose (AreOfEach (AreRankLines setting zone rank) (map wanted_in judged)) old new

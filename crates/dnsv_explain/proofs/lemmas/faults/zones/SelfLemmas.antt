@@ -1,20 +1,22 @@
 -- Keys that sign the DNSKEY RRset in which they stand, and those that don't.
-use Rattle.std.proofs.Common.{◌≡◌, ◌<◌, ◌≤◌, ◌+◌, ◌-◌, ◌↔◌, ℕ, Bool, true, false, inl, inr, List, [], ◌∷◌, ◌++◌, length, get_or, take, refl, sym, ap, ◌∙◌, subst, ⊎_elim, arith, IsTrue}
+use Rattle.std.proofs.Common.{◌≡◌, ◌<◌, ◌≤◌, ◌+◌, ◌-◌, ◌↔◌, ℕ, Bool, true, false, inl, inr, List, [], ◌∷◌, ◌++◌, Option, Some, None, length, get_or, take, refl, sym, ap, ◌∙◌, subst, ⊎_elim, arith, IsTrue}
 use Rattle.std.proofs.lemmas.Bool.{false≢true}
 use Rattle.std.proofs.lemmas.List.{take_all, take_more}
 use Rattle.std.proofs.lemmas.List.Elements.{Contains-get_or, Contains-push_cases}
 use Rattle.std.specs.List.{Contains}
+use Rattle.std.specs.Prelude.{MatchOption, is_some}
 use Rattle.dnsv_names.specs.Name.{Labels}
 use Rattle.dnsv_canonical.specs.Rrsets.{IsNumbered, ReceivedRrset}
 use Rattle.dnsv_chain.specs.Trusted.{IsKeyOf, SignsItsSet}
 use Rattle.dnsv_verifier.specs.Admissible.{DnskeyRecord}
 use Rattle.dnsv_explain.specs.Explained.{Setting}
 use Rattle.dnsv_explain.specs.Following.{IsGoodUnder}
-use Rattle.dnsv_explain.specs.derivations.WaySearch.{AreKeysInOrder, signature_of}
+use Rattle.dnsv_explain.specs.derivations.WaySearch.{AreKeysInOrder, IsLowestGood, signature_of}
 use Rattle.dnsv_explain.specs.faults.Listing.{AddsThose, AreOfEach, AreOfNumbered, AreWhere}
 use Rattle.dnsv_explain.specs.faults.ZoneLines.{AreKeyLines, AreSelfFaults, AreSetLines, IsKeysAt, IsSomeSelfSigned}
 use Rattle.dnsv_explain.specs.faults.ZoneLines.AreSetLines.{of_keys, other}
 use Rattle.dnsv_explain.specs.faults.ZoneSearch.{IsSelfSignedIn}
+use Rattle.dnsv_explain.specs.declared.derivations.ways.keys.GoodSignature.{GoodSignature}
 use Rattle.dnsv_explain.specs.declared.line.Line.{Line}
 use Rattle.dnsv_explain.proofs.lemmas.NumberedLemmas.{among, numbered_at}
 use Rattle.dnsv_explain.proofs.lemmas.faults.ListingLemmas.{added_as, each_added, next_added, none_added, nowhere_added, where_added}
@@ -72,6 +74,16 @@ module _ (setting : Setting) (k : ℕ) (set : ReceivedRrset) (numbered : IsNumbe
         good = signs.signed.good;
       })
 
+  -- of a key that is meant
+  pub is_signing : (Is : Type 0) (found : Option GoodSignature) (b : Bool) → b ≡ is_some found → Is
+      → MatchOption found ((s : ℕ) → ¬ IsGoodUnder setting (signature_of k s) set key) (IsLowestGood setting k set key)
+      → IsTrue b ↔ (Is × Signs)
+  is_signing Is None b is its never = (
+    λ so. absurd (false≢true (sym is ∙ so)),
+    λ both. absurd (never_signs never both.1),
+  )
+  is_signing Is (Some good) b is its lowest = (λ so. (its, signs_by good.number lowest.good), λ both. is)
+
 module _ (setting : Setting) (zone : Labels) (Meant : DnskeyRecord → Type 0) where
   abbrev pub SignsAsMeant : ReceivedRrset → DnskeyRecord → Type 0
   SignsAsMeant set key = Meant key × SignsItsSet setting.meaning setting.moment set key
@@ -91,11 +103,9 @@ module _ (setting : Setting) (zone : Labels) (Meant : DnskeyRecord → Type 0) w
   some_signed set there is =
       record { set = set; among = there; owner = is.at.owner; key = is.key; meant = is.meant; signs = is.signs }
 
-  pub none_signed : (rrsets : List ReceivedRrset) → rrsets ≡ setting.rrsets → NoneOf (IsSelfSignedIn setting zone Meant) rrsets
-      → ¬ IsSomeSelfSigned setting zone Meant
-  none_signed rrsets same none is =
-      let There : List ReceivedRrset → Type 0 = λ each. Contains each is.set in
-      none is.set (subst There (sym same) is.among)
+  pub none_signed : NoneOf (IsSelfSignedIn setting zone Meant) setting.rrsets → ¬ IsSomeSelfSigned setting zone Meant
+  none_signed none is =
+      none is.set is.among
       (record { at = record { rtype = is.signs.stands.rtype; owner = is.owner }; key = is.key; meant = is.meant; signs = is.signs })
 
   -- ---- why none does

@@ -1,5 +1,5 @@
 -- Which word is said of what leads into a zone.
-use Rattle.std.proofs.Common.{◌≡◌, ◌↔◌, ◌<◌, ℕ, Bool, inl, inr, List, [], ◌∷◌, Option, Some, None, length, drop, take, refl, sym, arith, IsTrue}
+use Rattle.std.proofs.Common.{◌≡◌, ◌↔◌, ◌≤◌, ℕ, inl, inr, List, [], ◌∷◌, Option, Some, None, length, get_or, refl, sym, arith, IsTrue}
 use Rattle.dnsv_names.specs.Name.{Labels}
 use Rattle.dnsv_names.specs.Octets.{number_at}
 use Rattle.dnsv_records.specs.Algorithm.{is_supported}
@@ -69,10 +69,10 @@ module _ (keys : List DnskeyRecord) (wanted : Wanted) where
   of_keys word good known kept is rrsets zone are =
       inr (λ never. never good, inr (known, inr (kept, by_keys rrsets zone are word is)))
 
--- the algorithm in an RDATA that is too short for one
-pub no_algorithm : (rdata : List ℕ) → length rdata < 4 → 0 ≡ number_at rdata 3 1
-no_algorithm [] short = refl
-no_algorithm (a ∷ []) short = refl
-no_algorithm (a ∷ b ∷ []) short = refl
-no_algorithm (a ∷ b ∷ c ∷ []) short = refl
-no_algorithm (a ∷ b ∷ c ∷ d ∷ rest) short = absurd (omega (arith, short))
+-- the algorithm in an RDATA
+pub algorithm_there : (rdata : List ℕ) → 4 ≤ length rdata → get_or rdata 3 0 ≡ number_at rdata 3 1
+algorithm_there [] long = absurd (omega (arith, long))
+algorithm_there (a ∷ []) long = absurd (omega (arith, long))
+algorithm_there (a ∷ b ∷ []) long = absurd (omega (arith, long))
+algorithm_there (a ∷ b ∷ c ∷ []) long = absurd (omega (arith, long))
+algorithm_there (a ∷ b ∷ c ∷ d ∷ rest) long = omega arith

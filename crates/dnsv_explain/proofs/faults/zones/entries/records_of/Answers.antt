@@ -2,23 +2,23 @@ use Rattle.std.proofs.Common.{refl}
 use Rattle.dnsv_records.specs.Ds.{IsDs}
 use Rattle.dnsv_explain.specs.faults.ZoneLines.{AreDsWanted}
 use Rattle.dnsv_explain.proofs.lemmas.derivations.WayLemmas.KeysLemmas.{read_there}
-use Rattle.dnsv_explain.proofs.lemmas.faults.ListingLemmas.{at_in, within_in}
-use Rattle.dnsv_explain.proofs.lemmas.faults.zones.EntryLemmas.{judged_next, records_judged}
+use Rattle.dnsv_explain.proofs.lemmas.faults.zones.EntryLemmas.{judged_next, judged_none, records_judged}
 use Rattle.dnsv_explain.proofs.faults.zones.entries.records_of.Goals as goal
+
+pub loop-place-init : goal.loop-place-init
+loop-place-init c =
+    judged_none c.args.keys.now (λ place each. AreDsWanted c.args.number c.ds_records-values.result.now place each.rdata.now)
+    c.deref-each-items.result.now c.new-group.result.items c.new-group.ensures.items
 
 pub loop-place-preserved : goal.loop-place-preserved
 loop-place-preserved c =
-    let records = c.in_ok-records.records.items in
-    let items = c.deref-each-items.result.now in
-    let same = c.deref-each-items.ensures.value in
     let x = c.each-item.result in
-    judged_next c.args.keys.now (λ place each. AreDsWanted c.args.number c.ds_records-values.result.now place each.rdata.now) records
-    c.loop-place.place x x (within_in records items same c.loop-place.place c.loop-place-test.true)
-    (at_in records items same c.loop-place.place x x c.each-item.is) _ _ _ c.judge.result c.judge.ensures
+    judged_next c.args.keys.now (λ place each. AreDsWanted c.args.number c.ds_records-values.result.now place each.rdata.now)
+    c.deref-each-items.result.now c.loop-place.place x x c.loop-place-test.true c.each-item.is _ _ _ c.judge.result c.judge.ensures
     (
       x.record.now,
-      read_there (λ each. IsDs each.rdata.now each.record.now) items records c.loop-place.place x same c.in_ok-records.ensures.read
-          c.loop-place-test.true c.each-item.is,
+      read_there (λ each. IsDs each.rdata.now each.record.now) c.deref-each-items.result.now c.in_ok-records.records.items
+          c.loop-place.place x c.deref-each-items.ensures.value c.in_ok-records.ensures.read c.loop-place-test.true c.each-item.is,
       refl,
     )
     c.in_ok-push.ensures.items c.loop-place.invariant

@@ -1,4 +1,4 @@
-use Rattle.std.proofs.Common.{map, take}
+use Rattle.std.proofs.Common.{take}
 use Rattle.dnsv_explain.specs.faults.Listing.{AreOfNumbered}
 use Rattle.dnsv_explain.specs.faults.ZoneLines.{AreDsWanted}
 use Rattle.dnsv_explain.specs.faults.ZoneSearch.{AreJudged}
@@ -8,4 +8,4 @@ use Rattle.dnsv_explain.proofs.faults.zones.entries.records_of.Given as goal
 abbrev pub invariant-loop-place : goal.invariant-loop-place
 invariant-loop-place l =
     AreJudged l.keys (AreOfNumbered (λ place each. AreDsWanted l.number l.values place each.rdata.now) 1
-    (take l.place l.records.items)) l.group.items
+    (take l.place l.each-items)) l.group.items
