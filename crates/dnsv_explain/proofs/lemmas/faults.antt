@@ -10,5 +10,6 @@ pub mod TrustLemmas
 pub mod TruthLemmas
 pub mod VerifierLemmas
 pub mod WordLemmas
+pub mod one
 pub mod question
 pub mod zones
