@@ -80,12 +80,12 @@ IsKeyWordBy keys wanted (Some why.DigestDiffers) =
     HasAmong (IsWantedBy wanted) keys × (¬ HasAmong (IsMatchOf wanted) keys)
 IsKeyWordBy keys wanted (Some word) = ⊥
 
--- the lead has the word that is said of it
+-- it has the word that is said of it
 abbrev pub IsJudgedBy : List DnskeyRecord → Judged → Type 0
 IsJudgedBy keys judged = IsWordBy keys (wanted_in judged) judged.word
 
-abbrev pub IsJudgedAs : List DnskeyRecord → Lead → Judged → Type 0
-IsJudgedAs keys lead judged = (wanted_in judged ≡ wanted_of lead) × IsJudgedBy keys judged
+abbrev pub IsJudgedAs : List DnskeyRecord → Wanted → Judged → Type 0
+IsJudgedAs keys wanted judged = (wanted_in judged ≡ wanted) × IsJudgedBy keys judged
 
 -- the same of a zone
 abbrev pub IsJudgedAt : List ReceivedRrset → Labels → Judged → Type 0
@@ -101,6 +101,11 @@ pub record AddsJudged (keys : List DnskeyRecord) (Are : List Wanted → Type 0) 
   pub more : List Judged
   pub is : new ≡ old ++ more
   pub judged : AreJudged keys Are more
+
+-- keys with its tag and algorithm are there, of which none has its digest
+abbrev pub differs : WhyEntry → Bool
+differs why.DigestDiffers = true
+differs _ = false
 
 -- ---- groups
 
