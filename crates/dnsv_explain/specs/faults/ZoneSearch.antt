@@ -1,5 +1,5 @@
 -- How what leads into a zone is kept and looked for. No public clause cites this module.
-use Rattle.std.specs.Prelude.{◌≡◌, ◌≢◌, ◌⊎◌, ◌↔◌, ◌++◌, ℕ, Bool, true, false, List, [], ◌∷◌, Option, Some, None, Contains, IsTrue, map}
+use Rattle.std.specs.Prelude.{◌≡◌, ◌↔◌, ◌++◌, ℕ, Bool, true, false, List, [], ◌∷◌, Option, Some, None, Contains, map}
 use Rattle.std.specs.List.{AllByRecursion}
 use Rattle.dnsv_names.specs.Name.{Labels}
 use Rattle.dnsv_records.specs.declared.rrsig.Rrsig.{Rrsig}
@@ -8,10 +8,10 @@ use Rattle.dnsv_chain.specs.Trusted.{SignsItsSet}
 use Rattle.dnsv_verifier.specs.Admissible.{DnskeyRecord}
 use Rattle.dnsv_verifier.specs.Asking.{IsKeyOf}
 use Rattle.dnsv_verifier.specs.declared.answer.Answer.{Answer}
-use Rattle.dnsv_verifier.specs.declared.answer.Answer.TheVariants.{Valid, Invalid, Unknown}
+use Rattle.dnsv_verifier.specs.declared.answer.Answer.TheVariants.{Invalid, Unknown}
 use Rattle.dnsv_explain.specs.Explained.{Setting}
 use Rattle.dnsv_explain.specs.Following.{IsNamed}
-use Rattle.dnsv_explain.specs.faults.Entries.{HasTag, IsFaultOfEntry, IsFirstOf, IsMatchOf, IsWantedBy, Wanted}
+use Rattle.dnsv_explain.specs.faults.Entries.{HasTag, IsFaultOfEntry, IsMatchOf, IsWantedBy, Wanted}
 use Rattle.dnsv_explain.specs.faults.Entries.Wanted.{by_digest, whole_key}
 use Rattle.dnsv_explain.specs.faults.Keys.{IsKeyAt, named_by}
 use Rattle.dnsv_explain.specs.faults.Listing.{AreThose, AreWhere}

@@ -1,8 +1,8 @@
 -- What leads into a zone, and the words that are said of it.
-use Rattle.std.proofs.Common.{◌≡◌, ◌≢◌, ◌<◌, ◌≤◌, ◌+◌, ◌↔◌, ◌⊎◌, ℕ, suc, Bool, true, false, inl, inr, List, [], ◌∷◌, ◌++◌, Option, Some, None, length, get_or, map, take, refl, sym, ap, ◌∙◌, subst, ⊎_elim, arith, append_assoc, IsTrue}
+use Rattle.std.proofs.Common.{◌≡◌, ◌≢◌, ◌<◌, ◌≤◌, ◌+◌, ◌↔◌, ◌⊎◌, ℕ, Bool, true, false, inl, inr, List, [], ◌∷◌, ◌++◌, Option, Some, None, length, get_or, map, take, refl, sym, ap, ◌∙◌, subst, ⊎_elim, arith, append_assoc}
 use Rattle.std.proofs.lemmas.Bool.{false≢true}
 use Rattle.std.proofs.lemmas.List.{append-nil, get_or-map, length-map, map-append, take_all}
-use Rattle.std.specs.List.{AllByRecursion, AllZip, Contains}
+use Rattle.std.specs.List.{AllByRecursion, AllZip}
 use Rattle.std.specs.Prelude.{is_some}
 use Rattle.dnsv_names.specs.Name.{Labels}
 use Rattle.dnsv_records.specs.Ds.{IsDs}
@@ -13,9 +13,9 @@ use Rattle.dnsv_canonical.specs.Rrsets.{ReceivedRrset}
 use Rattle.dnsv_verifier.specs.Admissible.{DnskeyRecord}
 use Rattle.dnsv_explain.specs.Explained.{Setting}
 use Rattle.dnsv_explain.specs.faults.Entries.{IsEntryFault, IsFaultOfEntry, IsFirstOf, Wanted, entry_words}
-use Rattle.dnsv_explain.specs.faults.Listing.{AreOfNumbered, AreParted, AreThose, AreWhere}
+use Rattle.dnsv_explain.specs.faults.Listing.{AreOfNumbered, AreParted, AreThose}
 use Rattle.dnsv_explain.specs.faults.ZoneLines.{AreDsWanted, AreRecordsOf, AreSaidOf, IsLeftOut}
-use Rattle.dnsv_explain.specs.faults.ZoneSearch.{AddsJudged, AddsMatching, AreJudged, AreKeysAt, HasMatch, IsJudgedAs, IsJudgedAt, IsJudgedBy, IsTaken, wanted_in}
+use Rattle.dnsv_explain.specs.faults.ZoneSearch.{AddsJudged, AddsMatching, AreJudged, AreKeysAt, IsJudgedAs, IsJudgedAt, IsJudgedBy, IsTaken, wanted_in}
 use Rattle.dnsv_explain.specs.declared.faults.zones.entries.Judged.{Judged}
 use Rattle.dnsv_explain.specs.declared.line.fault.zone.WhyEntry.{WhyEntry}
 use Rattle.dnsv_explain.proofs.lemmas.derivations.WayLemmas.KeysLemmas.{from, read_there}

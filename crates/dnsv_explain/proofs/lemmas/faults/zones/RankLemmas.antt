@@ -1,10 +1,10 @@
 -- The lines of what leads into a zone, by rank.
-use Rattle.std.proofs.Common.{◌≡◌, ◌≢◌, ◌<◌, ◌≤◌, ◌+◌, ℕ, Bool, true, false, inl, inr, List, [], ◌∷◌, ◌++◌, Option, Some, None, length, get_or, map, take, refl, sym, ap, ◌∙◌, subst}
+use Rattle.std.proofs.Common.{◌≡◌, ◌≢◌, ℕ, true, false, List, [], ◌∷◌, ◌++◌, Option, Some, map, refl, sym, ap, ◌∙◌, subst}
 use Rattle.std.proofs.lemmas.Bool.{false≢true}
 use Rattle.dnsv_names.specs.Name.{Labels}
 use Rattle.dnsv_explain.specs.Explained.{Setting}
-use Rattle.dnsv_explain.specs.faults.Entries.{IsFaultOfEntry, IsMatchOf, IsWantedBy, Wanted, entry_rank}
-use Rattle.dnsv_explain.specs.faults.Listing.{AddsThose, AreOfEach, AreOfNumbered, AreParted}
+use Rattle.dnsv_explain.specs.faults.Entries.{IsWantedBy, Wanted, entry_rank}
+use Rattle.dnsv_explain.specs.faults.Listing.{AddsThose, AreOfEach, AreOfNumbered}
 use Rattle.dnsv_explain.specs.faults.ZoneLines.{AreRankLines, AreSelfFaults, AreWordLines, entry_line}
 use Rattle.dnsv_explain.specs.faults.ZoneLines.AreRankLines.{said, unsaid}
 use Rattle.dnsv_explain.specs.faults.ZoneSearch.{IsJudgedAt, differs, wanted_in}
@@ -12,7 +12,7 @@ use Rattle.dnsv_explain.specs.declared.faults.zones.entries.Judged.{Judged}
 use Rattle.dnsv_explain.specs.declared.line.Line.{Line}
 use Rattle.dnsv_explain.specs.declared.line.fault.zone.WhyEntry.{WhyEntry}
 use Rattle.dnsv_explain.specs.declared.line.fault.zone.WhyEntry.TheVariants as why
-use Rattle.dnsv_explain.proofs.lemmas.faults.ListingLemmas.{added_as, all_added, each_of_numbered, none_added, parted_added, those_added}
+use Rattle.dnsv_explain.proofs.lemmas.faults.ListingLemmas.{added_as, each_of_numbered, none_added, parted_added}
 
 -- of what is mapped to
 each_mapped : {W X Y : Type 0} (f : W → X) (Are : X → List Y → Type 0) (xs : List W) (ys : List Y) → AreOfEach (λ x. Are (f x)) xs ys

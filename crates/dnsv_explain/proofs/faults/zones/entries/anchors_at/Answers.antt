@@ -1,4 +1,4 @@
-use Rattle.std.proofs.Common.{◌≡◌, ◌∷◌, [], List, ap, refl, subst, sym, inl, inr, ◌∙◌}
+use Rattle.std.proofs.Common.{◌∷◌, [], ap, refl, subst, sym, inl, inr, ◌∙◌}
 use Rattle.std.proofs.lemmas.Bool.{false≢true}
 use Rattle.dnsv_names.specs.Name.{Labels, SameName}
 use Rattle.dnsv_explain.specs.faults.ZoneLines.{AreAnchorWanted}
