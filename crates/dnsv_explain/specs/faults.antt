@@ -13,4 +13,5 @@ pub mod SignatureFaults
 pub mod Sources
 pub mod Truth
 pub mod ZoneLines
+pub mod ZoneSearch
 pub mod Zones

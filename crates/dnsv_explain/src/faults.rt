@@ -9,7 +9,7 @@ pub mod shown_keys;
 mod signature;
 mod sources;
 mod words;
-mod zones;
+pub mod zones;
 
 ghost use Rattle.std.specs.Prelude.{◌≡◌, ◌++◌, ◌∷◌, [], OnOk};
 ghost use Rattle.dnsv_canonical.specs.Rrsets.{IsNumbered};

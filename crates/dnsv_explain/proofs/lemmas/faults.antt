@@ -2,6 +2,7 @@ pub mod KeptLemmas
 pub mod KeyLemmas
 pub mod ListingLemmas
 pub mod LowestLemmas
+pub mod MovedLemmas
 pub mod RemarkLemmas
 pub mod ShownKeyLemmas
 pub mod SignatureLemmas
@@ -10,3 +11,4 @@ pub mod TruthLemmas
 pub mod VerifierLemmas
 pub mod WordLemmas
 pub mod question
+pub mod zones

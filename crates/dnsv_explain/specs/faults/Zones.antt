@@ -2,7 +2,6 @@
 use Rattle.std.specs.Prelude.{◌≡◌, ◌≢◌, ◌⊎◌, ◌≤◌, ℕ, List, [], Contains, length}
 use Rattle.dnsv_names.specs.Name.{Labels, SameName, IsAtOrBelow}
 use Rattle.dnsv_names.specs.Order.{IsBelow}
-use Rattle.dnsv_records.specs.Rrsig.{IsRrsig}
 use Rattle.dnsv_records.specs.declared.rrsig.Rrsig.{Rrsig}
 use Rattle.dnsv_zones.specs.zones.TypeNumbers.{cname, ds, nsec}
 use Rattle.dnsv_canonical.specs.Rrsets.{IsNumbered, ReceivedRrset}
@@ -123,13 +122,19 @@ pub record IsParent (setting : Setting) (zone parent : Labels) : Type 0 where
   pub above : IsBelow zone parent
   pub anchored : HasOwnAnchor setting.anchors zone → HasAnchor setting.anchors parent
 
+-- The signer of a DS RRset of the zone is a parent where it is above the zone, and, if the zone has an anchor, has one at or
+-- above it.
+pub record MayBeParent (setting : Setting) (zone signer : Labels) : Type 0 where
+  pub above : IsBelow zone signer
+  pub anchored : HasOwnAnchor setting.anchors zone → HasAnchor setting.anchors signer
+
 -- DS RRset k leads into the zone; where the zone has an anchor, only if a parent signs it
 pub record IsDsWay (setting : Setting) (zone : Labels) (k : ℕ) (rrset : ReceivedRrset) : Type 0 where
   pub numbered : IsNumbered setting.rrsets k rrset
   pub rtype : rrset.rtype ≡ 43
   pub owner : SameName rrset.owner zone
   pub by_parent : HasOwnAnchor setting.anchors zone
-      → (parent : Labels) × HasSigner rrset parent × IsParent setting zone parent
+      → (rrsig : Rrsig) × IsSignatureOf rrset rrsig × MayBeParent setting zone rrsig.signer
 
 -- of the known zones above that have an anchor at or above them it has most labels
 pub record IsAnchoredAbove (setting : Setting) (name : Labels) (t : ℕ) (zone above : Labels) : Type 0 where
