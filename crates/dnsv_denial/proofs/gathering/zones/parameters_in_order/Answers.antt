@@ -3,7 +3,7 @@ use Rattle.std.specs.Prelude.{Contains}
 use Rattle.std.proofs.lemmas.List.{take_all}
 use Rattle.std.proofs.lemmas.List.Filters.{dedup_is}
 use Rattle.dnsv_denial.proofs.lemmas.gathering.GatherZoneLemmas.{members_in_order, put_in_order}
-use Rattle.dnsv_denial.proofs.gathering.zones.in_order.Goals as goal
+use Rattle.dnsv_denial.proofs.gathering.zones.parameters_in_order.Goals as goal
 
 pub returns-clause-order : goal.returns-clause-order
 returns-clause-order c =
