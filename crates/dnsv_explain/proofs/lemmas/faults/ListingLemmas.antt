@@ -5,7 +5,7 @@ use Rattle.std.proofs.lemmas.List.{append-nil, length-take-le, map-append, take_
 use Rattle.std.proofs.lemmas.List.Elements.{filter-append}
 use Rattle.std.specs.List.{AllByRecursion}
 use Rattle.dnsv_explain.specs.Saying.{Adds}
-use Rattle.dnsv_explain.specs.faults.Listing.{AddsThose, AreOfNumbered, AreParted, AreThose}
+use Rattle.dnsv_explain.specs.faults.Listing.{AddsThose, AreOfEach, AreOfNumbered, AreParted, AreThose, AreWhere}
 use Rattle.dnsv_explain.specs.declared.line.Line.{Line}
 
 -- ---- those that are such
@@ -40,6 +40,39 @@ those_same P Q same [] those are = are
 those_same P Q same (x ∷ xs) those (inl out) = inl (λ q. out.0 ((same x).1 q), those_same P Q same xs those out.1)
 those_same P Q same (x ∷ xs) those (inr into) =
     let rest = into.1 in inr ((same x).0 into.0, (rest.0, those_same P Q same xs rest.0 rest.1, rest.2))
+
+module _ {X : Type 0} (Such : X → Type 0) where
+  those_end : (xs : List X) (x : X) (those : List X) → Such x → AreThose Such xs those → AreThose Such (xs ++ x ∷ []) (those ++ x ∷ [])
+  those_end [] x those such is = inr (such, ([], refl, ap (λ front. front ++ x ∷ []) is))
+  those_end (y ∷ xs) x those such (inl out) = inl (out.0, those_end xs x those such out.1)
+  those_end (y ∷ xs) x those such (inr into) =
+      let rest = into.1 in
+      inr (into.0, (rest.0 ++ x ∷ [], those_end xs x rest.0 such rest.1, ap (λ front. front ++ x ∷ []) rest.2))
+
+  those_past : (xs : List X) (x : X) (those : List X) → ¬ Such x → AreThose Such xs those → AreThose Such (xs ++ x ∷ []) those
+  those_past [] x those never is = inl (never, is)
+  those_past (y ∷ xs) x those never (inl out) = inl (out.0, those_past xs x those never out.1)
+  those_past (y ∷ xs) x those never (inr into) =
+      let rest = into.1 in inr (into.0, (rest.0, those_past xs x rest.0 never rest.1, rest.2))
+
+  -- of the first ones, one more
+  module _ (xs : List X) (i : ℕ) (d x : X) (within : i < length xs) (at : x ≡ get_or xs i d) where
+    longer : take (i + 1) xs ≡ take i xs ++ x ∷ []
+    longer = take_more xs i d within ∙ ap (λ y. take i xs ++ y ∷ []) (sym at)
+
+    pub those_next : (those : List X) → Such x → AreThose Such (take i xs) those → AreThose Such (take (i + 1) xs) (those ++ x ∷ [])
+    those_next those such are =
+        let Those : List X → Type 0 = λ each. AreThose Such each (those ++ x ∷ []) in
+        subst Those (sym longer) (those_end (take i xs) x those such are)
+
+    pub those_skip : (those : List X) → ¬ Such x → AreThose Such (take i xs) those → AreThose Such (take (i + 1) xs) those
+    those_skip those never are =
+        let Those : List X → Type 0 = λ each. AreThose Such each those in
+        subst Those (sym longer) (those_past (take i xs) x those never are)
+
+  pub those_all : (xs : List X) (n : ℕ) (those : List X) → length xs ≤ n → AreThose Such (take n xs) those → AreThose Such xs those
+  those_all xs n those past are =
+      let Those : List X → Type 0 = λ each. AreThose Such each those in subst Those (take_all n xs past) are
 
 -- ---- a list for each
 
@@ -81,6 +114,18 @@ module _ {X Y : Type 0} (Are : ℕ → X → List Y → Type 0) where
   numbered_all xs n ys past are =
       let All : List X → Type 0 = λ each. AreOfNumbered Are 1 each ys in subst All (take_all n xs past) are
 
+-- numbers don't matter
+pub each_of_numbered : {X Y : Type 0} (Are : X → List Y → Type 0) (k : ℕ) (xs : List X) (ys : List Y)
+    → AreOfNumbered (λ (n : ℕ). Are) k xs ys → AreOfEach Are xs ys
+each_of_numbered Are k [] ys none = none
+each_of_numbered Are k (x ∷ xs) ys each = record {
+  first = each.first;
+  second = each.second;
+  parts = each.parts;
+  is_first = each.is_first;
+  is_second = each_of_numbered Are (k + 1) xs each.second each.is_second;
+}
+
 -- ---- lines that are added
 
 pub none_added : (Are : List Line → Type 0) (old : List Line) → Are [] → AddsThose Are old old
@@ -108,6 +153,42 @@ module _ {X : Type 0} (Are : ℕ → X → List Line → Type 0) where
       → AddsThose (AreOfNumbered Are 1 (take n xs)) old new → AddsThose (AreOfNumbered Are 1 xs) old new
   all_added xs n old new past =
       added_as (AreOfNumbered Are 1 (take n xs)) (AreOfNumbered Are 1 xs) old new (λ lines. numbered_all Are xs n lines past)
+
+  -- the same of a list by another name
+  module _ (all xs : List X) (same : xs ≡ all) where
+    pub next_in : (i : ℕ) (d x : X) (old mid new : List Line) → i < length xs → x ≡ get_or xs i d
+        → AddsThose (AreOfNumbered Are 1 (take i all)) old mid → AddsThose (Are (i + 1) x) mid new
+        → AddsThose (AreOfNumbered Are 1 (take (i + 1) all)) old new
+    next_in i d x old mid new within at =
+        let Within : List X → Type 0 = λ each. i < length each in
+        let At : List X → Type 0 = λ each. x ≡ get_or each i d in
+        next_added all i d x old mid new (subst Within same within) (subst At same at)
+
+    pub all_in : (n : ℕ) (old new : List Line) → length xs ≤ n → AddsThose (AreOfNumbered Are 1 (take n all)) old new
+        → AddsThose (AreOfNumbered Are 1 all) old new
+    all_in n old new past = let Past : List X → Type 0 = λ each. length each ≤ n in all_added all n old new (subst Past same past)
+
+-- whatever their numbers are
+pub each_added : {X : Type 0} (Are : X → List Line → Type 0) (xs : List X) (old new : List Line)
+    → AddsThose (AreOfNumbered (λ (n : ℕ). Are) 1 xs) old new → AddsThose (AreOfEach Are xs) old new
+each_added Are xs old new =
+    added_as (AreOfNumbered (λ (n : ℕ). Are) 1 xs) (AreOfEach Are xs) old new (each_of_numbered Are 1 xs)
+
+pub parted_added : (First Second : List Line → Type 0) (old mid new : List Line) → AddsThose First old mid → AddsThose Second mid new
+    → AddsThose (AreParted First Second) old new
+parted_added First Second old mid new one two = record {
+  more = one.more ++ two.more;
+  is = two.is ∙ ap (λ front. front ++ two.more) one.is ∙ append_assoc old one.more two.more;
+  says = record { first = one.more; second = two.more; parts = refl; is_first = one.says; is_second = two.says };
+}
+
+-- what is said where it is so
+pub where_added : (Holds : Type 0) (Are : List Line → Type 0) (old new : List Line) → Holds → AddsThose Are old new
+    → AddsThose (AreWhere Holds Are) old new
+where_added Holds Are old new holds = added_as Are (AreWhere Holds Are) old new (λ lines are. inl (holds, are))
+
+pub nowhere_added : (Holds : Type 0) (Are : List Line → Type 0) (old : List Line) → ¬ Holds → AddsThose (AreWhere Holds Are) old old
+nowhere_added Holds Are old never = none_added (AreWhere Holds Are) old (inr (never, refl))
 
 -- ---- a loop that takes those of pairs whose test is true
 
