@@ -6,6 +6,7 @@ pub mod questioned;
 mod remark;
 pub mod shown_keys;
 mod signature;
+mod sources;
 mod words;
 
 ghost use Rattle.std.specs.Prelude.{◌≡◌, ◌++◌, ◌∷◌, [], OnOk};

@@ -8,3 +8,4 @@ pub mod TrustLemmas
 pub mod TruthLemmas
 pub mod VerifierLemmas
 pub mod WordLemmas
+pub mod sources

@@ -1,0 +1,6 @@
+pub mod ChainLemmas
+pub mod ClosedLemmas
+pub mod FoundLemmas
+pub mod LackLemmas
+pub mod SaidLemmas
+pub mod ZoneLemmas
