@@ -5,6 +5,7 @@ pub mod KeyLines
 pub mod KeySearch
 pub mod Keys
 pub mod Listing
+pub mod NeededSearch
 pub mod Order
 pub mod RemarkSearch
 pub mod RrsetLines
@@ -13,4 +14,5 @@ pub mod SourceSearch
 pub mod Sources
 pub mod Truth
 pub mod ZoneLines
+pub mod ZoneSearch
 pub mod Zones

@@ -2,12 +2,14 @@
 
 mod answers;
 mod keys;
+pub mod question;
 pub mod questioned;
 mod remark;
 pub mod shown_keys;
 mod signature;
 mod sources;
 mod words;
+pub mod zones;
 
 ghost use Rattle.std.specs.Prelude.{◌≡◌, ◌++◌, ◌∷◌, [], OnOk};
 ghost use Rattle.dnsv_canonical.specs.Rrsets.{IsNumbered};

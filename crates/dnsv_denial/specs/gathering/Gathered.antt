@@ -1,4 +1,4 @@
--- The records of a zone, as they are gathered and kept.
+-- How a view keeps the records of a zone. No public clause cites this module.
 use Rattle.std.specs.Prelude.{◌≡◌, ◌↔◌, ◌⊎◌, ⊤, Contains, IsTrue, ℕ, List, length, map}
 use Rattle.std.specs.List.{AllByRecursion}
 use Rattle.std.specs.List.Sorted.{IsStrictlySortedBy}

@@ -89,7 +89,7 @@ pub fn sets_of<'a>(
 {
     // What is true of every count.
     let _ = count.value();
-    let ordered = parameters_in_order(alloc, all)?;
+    let ordered = in_order(alloc, all)?;
     let mut sets = Vec::new(alloc);
     for parameters in ordered.iter() {
         let hashed = hash_names(alloc, name, *parameters, count)?;
@@ -102,7 +102,7 @@ pub fn sets_of<'a>(
 }
 
 /// The parameters in their order, each once.
-pub fn parameters_in_order<'a>(
+fn in_order<'a>(
     alloc: Global,
     all: &'a [Nsec3Parameters],
 ) -> Result<Vec<&'a Nsec3Parameters>, AllocError>

@@ -1,6 +1,8 @@
+pub mod KeptLemmas
 pub mod KeyLemmas
 pub mod ListingLemmas
 pub mod LowestLemmas
+pub mod MovedLemmas
 pub mod RemarkLemmas
 pub mod ShownKeyLemmas
 pub mod SignatureLemmas
@@ -8,4 +10,7 @@ pub mod TrustLemmas
 pub mod TruthLemmas
 pub mod VerifierLemmas
 pub mod WordLemmas
+pub mod one
+pub mod question
 pub mod sources
+pub mod zones

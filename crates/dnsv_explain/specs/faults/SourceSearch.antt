@@ -1,6 +1,6 @@
 -- How the records of a zone's chain are looked through. No public clause cites this module.
 use Rattle.std.specs.FinSet as set
-use Rattle.std.specs.Prelude.{◌≡◌, ◌⊎◌, ◌↔◌, ◌≤◌, ℕ, Bool, List, [], ◌∷◌, Option, Some, None, Contains, MatchOption, if◌then◌else◌, length, map}
+use Rattle.std.specs.Prelude.{◌≡◌, ◌⊎◌, ◌↔◌, ◌≤◌, ℕ, Bool, List, [], ◌∷◌, Option, Some, None, Contains, if◌then◌else◌, length, map}
 use Rattle.std.specs.List.Sorted.{IsStrictlySortedBy}
 use Rattle.dnsv_names.specs.Name.{Labels, SameName, rightmost}
 use Rattle.dnsv_names.specs.declared.number.RecordType.{RecordType}
@@ -25,7 +25,6 @@ use Rattle.dnsv_explain.specs.Explained.{Setting}
 use Rattle.dnsv_explain.specs.derivations.OwnDerivations.{SecuredIn}
 use Rattle.dnsv_explain.specs.faults.Listing.{AreOfEach, AreWhere}
 use Rattle.dnsv_explain.specs.faults.Sources.{AreSourceLines, IsFirstClosed, IsHeld, dname_record_line, source_line, why_held}
-use Rattle.dnsv_explain.specs.faults.Zones.{IsSpeaker}
 use Rattle.dnsv_explain.specs.declared.explanation.at.At.{At}
 use Rattle.dnsv_explain.specs.declared.faults.sources.asked.Asked.{Asked}
 use Rattle.dnsv_explain.specs.declared.faults.sources.chain.ChainEntries.{ChainEntries}
@@ -183,12 +182,6 @@ IsEmptyBy (Nsec3 entries parameters) asked = ⊥
 abbrev pub AreLinesLacking : Setting → At → ZoneChain → ℕ → List Line → Type 0
 AreLinesLacking setting at chain t =
     AreSourceLines (said_by setting chain) (told_source chain) chain.zone.now at.name.now t
-
--- how many labels the zone has that should speak, if there is one
-abbrev pub IsSpeakerFound : Setting → Labels → ℕ → Option ℕ → Type 0
-IsSpeakerFound setting name t found =
-    MatchOption found ((zone : Labels) → ¬ IsSpeaker setting name t zone)
-    (λ labels. (labels ≤ length name) × IsSpeaker setting name t (rightmost name labels))
 
 -- the parameters of all usable NSEC3 records, in order
 pub record AreAllParameters (rrsets : List ReceivedRrset) (all : List Nsec3Parameters) : Type 0 where

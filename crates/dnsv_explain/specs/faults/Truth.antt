@@ -1,5 +1,5 @@
 -- When what is said to fail is so: each word is true exactly where its definition holds.
-use Rattle.std.specs.Prelude.{◌≡◌, ◌≢◌, ◌⊎◌, ◌+◌, ◌<◌, ℕ, List, [], Option, Some, None, Contains}
+use Rattle.std.specs.Prelude.{◌≡◌, ◌≢◌, ◌⊎◌, ◌+◌, ◌<◌, ℕ, List, [], Option, Some, None}
 use Rattle.dnsv_names.specs.Name.{Labels, SameName, rightmost}
 use Rattle.dnsv_names.specs.Order.{IsBelow}
 use Rattle.dnsv_records.specs.Nsec3.{IsNsec3}
@@ -23,7 +23,7 @@ use Rattle.dnsv_explain.specs.faults.Order.{HasNoDenial, IsCloserOpen, IsUnusabl
 use Rattle.dnsv_explain.specs.faults.RrsetLines.{IsTrueOf, shown_of}
 use Rattle.dnsv_explain.specs.faults.SignatureFaults.{IsFaultOf}
 use Rattle.dnsv_explain.specs.faults.Sources.{IsSourceFault, IsSourceOf}
-use Rattle.dnsv_explain.specs.faults.ZoneLines.{AreGroups, HasNamedSignature, HasNoWay, MayBeBy}
+use Rattle.dnsv_explain.specs.faults.ZoneLines.{HasNamedSignature, HasNoWay, LeadsInto, MayBeBy}
 use Rattle.dnsv_explain.specs.faults.Zones.{HasDenial, HasGoal, HasRrset, IsSpeaker}
 use Rattle.dnsv_explain.specs.declared.line.fault.Reason.{Reason}
 use Rattle.dnsv_explain.specs.declared.line.fault.Reason.TheVariants as reason
@@ -49,12 +49,8 @@ IsZoneFault setting zone zone_why.DsMissing = HasNoWay setting zone
 
 -- it is a trust anchor or a DS record that leads into the zone, of which the word is true
 pub record IsTrueOfEntry (setting : Setting) (fault : EntryFault) : Type 0 where
-  pub groups : List (List Wanted)
-  pub are_groups : AreGroups setting fault.entry.zone groups
-  pub group : List Wanted
-  pub among : Contains groups group
   pub wanted : Wanted
-  pub is_wanted : Contains group wanted
+  pub leads : LeadsInto setting fault.entry.zone wanted
   pub told : fault.entry ≡ told_entry fault.entry.zone wanted
   pub is : IsEntryFault setting.rrsets fault.entry.zone wanted fault.why
 
@@ -82,7 +78,7 @@ pub record IsUnsigned (setting : Setting) (unsigned : UnsignedRrset) : Type 0 wh
 abbrev pub IsTrueByKeys : Setting → ReceivedRrset → Rrsig → SignatureFault → Type 0
 IsTrueByKeys setting rrset rrsig fault =
     IsTrueOf setting rrset rrsig fault.why
-    ⊎ ((key : DnskeyRecord) × IsKeyOf rrset key × IsFaultOf (MayBeBy setting rrset.owner key rrsig)
+    ⊎ ((key : DnskeyRecord) × IsKeyOf rrset key × IsFaultOf (MayBeBy setting key rrsig)
     (HasKeys setting.rrsets rrsig.signer) setting rrset rrsig fault.why)
 
 pub record IsTrueOfSignature (setting : Setting) (fault : SignatureFault) : Type 0 where

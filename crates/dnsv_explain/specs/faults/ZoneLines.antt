@@ -6,13 +6,13 @@ use Rattle.dnsv_records.specs.Ds.{IsDs}
 use Rattle.dnsv_records.specs.Rrsig.{IsRrsig}
 use Rattle.dnsv_records.specs.declared.ds.Ds.{Ds}
 use Rattle.dnsv_records.specs.declared.rrsig.Rrsig.{Rrsig}
-use Rattle.dnsv_canonical.specs.Rrsets.{IsNumbered, ReceivedRrset}
+use Rattle.dnsv_canonical.specs.Canonical.{IsCanonical}
+use Rattle.dnsv_canonical.specs.CanonicalRdata.{canonical_form}
+use Rattle.dnsv_canonical.specs.Rrsets.{ReceivedRrset}
 use Rattle.dnsv_chain.specs.Anchor.{anchor_owner}
-use Rattle.dnsv_chain.specs.Trusted.{IsKeyOf, SignsItsSet}
+use Rattle.dnsv_chain.specs.Trusted.{SignsItsSet}
 use Rattle.dnsv_chain.specs.declared.anchor.Anchor.{Anchor}
 use Rattle.dnsv_chain.specs.declared.anchor.Anchor.TheVariants as anchor
-use Rattle.dnsv_denial.specs.gathering.Evidence.{IsRecordAt}
-use Rattle.dnsv_denial.specs.declared.records.number.RecordNumber.{RecordNumber}
 use Rattle.dnsv_verdict.specs.Verdict.{HasAnchor}
 use Rattle.dnsv_explain.specs.Explained.{Setting}
 use Rattle.dnsv_verifier.specs.Admissible.{DnskeyRecord}
@@ -24,7 +24,7 @@ use Rattle.dnsv_explain.specs.faults.Keys.{HasKeys, IsKeyAt, IsNamedBy, named_by
 use Rattle.dnsv_explain.specs.faults.Listing.{AreOfEach, AreOfNumbered, AreParted, AreThose, AreWhere}
 use Rattle.dnsv_explain.specs.faults.RrsetLines.{AreRrsetLines, fault_line, shown_of, unsigned_line}
 use Rattle.dnsv_explain.specs.faults.SignatureFaults.{AreFaultsOf, IsFaultOf, IsVerifierWord}
-use Rattle.dnsv_explain.specs.faults.Zones.{HasOwnAnchor, HasRrset, IsDsWay, IsParent}
+use Rattle.dnsv_explain.specs.faults.Zones.{HasOwnAnchor, HasRrset, IsDsWay, MayBeParent}
 use Rattle.dnsv_explain.specs.unsigned_cuts.UnsignedCuts.{record_of}
 use Rattle.dnsv_explain.specs.declared.line.Line.{Line}
 use Rattle.dnsv_explain.specs.declared.line.Line.TheVariants as line
@@ -52,33 +52,41 @@ not_self_signed_line zone k key =
 
 -- ---- keys that don't sign the DNSKEY RRset in which they stand
 
--- a signature of the zone may be by the key alone, one of another signer by those that it names
-abbrev pub MayBeBy : Setting → Labels → DnskeyRecord → Rrsig → DnskeyRecord → Type 0
-MayBeBy setting zone key rrsig other =
-    (SameName rrsig.signer zone × (other ≡ key)) ⊎ ((¬ SameName rrsig.signer zone) × IsNamedBy setting.rrsets rrsig other)
+-- a DNSKEY RRset of the zone
+pub record IsKeysAt (zone : Labels) (set : ReceivedRrset) : Type 0 where
+  pub rtype : set.rtype ≡ 48
+  pub owner : SameName set.owner zone
 
--- why the signature isn't good under the key, whoever is trusted: all that is wrong with it before a verifier is asked,
--- or else what it answers, if it says Invalid or Unknown
-pub data AreWhyNotGood (setting : Setting) (zone : Labels) (key : DnskeyRecord) (set : ReceivedRrset) (rrsig : Rrsig)
+-- a signature of the key's zone may be by the key alone, one of another signer by those that it names
+abbrev pub MayBeBy : Setting → DnskeyRecord → Rrsig → DnskeyRecord → Type 0
+MayBeBy setting key rrsig other =
+    (SameName rrsig.signer key.owner × (other ≡ key))
+    ⊎ ((¬ SameName rrsig.signer key.owner) × IsNamedBy setting.rrsets rrsig other)
+
+-- why a signature isn't good under keys that may have made it, whoever is trusted: all that is wrong with it before a
+-- verifier is asked, or else what it answers, if it says Invalid or Unknown
+pub data AreWhys
+    (Named : DnskeyRecord → Type 0) (Known : Type 0) (setting : Setting) (set : ReceivedRrset) (rrsig : Rrsig)
     : List WhySignature → Type 0 where
-  faulty : (faults : List WhySignature)
-      → AreFaultsOf (MayBeBy setting zone key rrsig) (HasKeys setting.rrsets rrsig.signer) setting set rrsig faults
-      → faults ≢ [] → AreWhyNotGood setting zone key set rrsig faults
-  answered : (answered : WhySignature) → IsVerifierWord answered
-      → AreFaultsOf (MayBeBy setting zone key rrsig) (HasKeys setting.rrsets rrsig.signer) setting set rrsig []
-      → IsFaultOf (MayBeBy setting zone key rrsig) (HasKeys setting.rrsets rrsig.signer) setting set rrsig answered
-      → AreWhyNotGood setting zone key set rrsig (answered ∷ [])
-  silent : AreFaultsOf (MayBeBy setting zone key rrsig) (HasKeys setting.rrsets rrsig.signer) setting set rrsig []
-      → ((answered : WhySignature) → IsVerifierWord answered
-      → ¬ IsFaultOf (MayBeBy setting zone key rrsig) (HasKeys setting.rrsets rrsig.signer) setting set rrsig answered)
-      → AreWhyNotGood setting zone key set rrsig []
+  faulty : (faults : List WhySignature) → AreFaultsOf Named Known setting set rrsig faults → faults ≢ []
+      → AreWhys Named Known setting set rrsig faults
+  answered : (answered : WhySignature) → IsVerifierWord answered → AreFaultsOf Named Known setting set rrsig []
+      → IsFaultOf Named Known setting set rrsig answered → AreWhys Named Known setting set rrsig (answered ∷ [])
+  silent : AreFaultsOf Named Known setting set rrsig []
+      → ((answered : WhySignature) → IsVerifierWord answered → ¬ IsFaultOf Named Known setting set rrsig answered)
+      → AreWhys Named Known setting set rrsig []
+
+-- why it isn't good under the key
+abbrev pub AreWhyNotGood : Setting → DnskeyRecord → ReceivedRrset → Rrsig → List WhySignature → Type 0
+AreWhyNotGood setting key set rrsig =
+    AreWhys (MayBeBy setting key rrsig) (HasKeys setting.rrsets rrsig.signer) setting set rrsig
 
 -- what is said of signature s, if it has the key's tag and algorithm
-abbrev pub AreNamedLines : Setting → Labels → DnskeyRecord → ℕ → ReceivedRrset → ℕ → List ℕ → List Line → Type 0
-AreNamedLines setting zone key k set s rdata lines =
+abbrev pub AreNamedLines : Setting → DnskeyRecord → ℕ → ReceivedRrset → ℕ → List ℕ → List Line → Type 0
+AreNamedLines setting key k set s rdata lines =
     (rrsig : Rrsig) × IsRrsig rdata rrsig
     × AreWhere (IsNamed key (named_by rrsig)) (λ said. (whys : List WhySignature)
-    × AreWhyNotGood setting zone key set rrsig whys × (said ≡ map (fault_line (shown_of k s set rrsig)) whys)) lines
+    × AreWhyNotGood setting key set rrsig whys × (said ≡ map (fault_line (shown_of k s set rrsig)) whys)) lines
 
 -- a signature of the RRset has the key's tag and algorithm
 abbrev pub HasNamedSignature : ReceivedRrset → DnskeyRecord → Type 0
@@ -93,13 +101,14 @@ pub data AreKeyLines (setting : Setting) (zone : Labels) (k : ℕ) (set : Receiv
   not_self_signed : (name : KeyName) → set.signatures ≢ [] → ¬ HasNamedSignature set key → IsNamed key name
       → AreKeyLines setting zone k set key (not_self_signed_line zone k name ∷ [])
   named : (lines : List Line) → HasNamedSignature set key
-      → AreOfNumbered (AreNamedLines setting zone key k set) 1 set.signatures lines
+      → AreOfNumbered (AreNamedLines setting key k set) 1 set.signatures lines
       → AreKeyLines setting zone k set key lines
 
--- such a key signs a DNSKEY RRset in which it stands
-pub record IsSomeSelfSigned (setting : Setting) (Meant : DnskeyRecord → Type 0) : Type 0 where
+-- such a key of the zone signs a DNSKEY RRset in which it stands
+pub record IsSomeSelfSigned (setting : Setting) (zone : Labels) (Meant : DnskeyRecord → Type 0) : Type 0 where
   pub set : ReceivedRrset
   pub among : Contains setting.rrsets set
+  pub owner : SameName set.owner zone
   pub key : DnskeyRecord
   pub meant : Meant key
   pub signs : SignsItsSet setting.meaning setting.moment set key
@@ -107,16 +116,16 @@ pub record IsSomeSelfSigned (setting : Setting) (Meant : DnskeyRecord → Type 0
 -- those of the keys of RRset k that are meant, in the order of RDATA; of another RRset nothing
 pub data AreSetLines (setting : Setting) (zone : Labels) (Meant : DnskeyRecord → Type 0) (k : ℕ) (set : ReceivedRrset)
     : List Line → Type 0 where
-  other : ¬ ((set.rtype ≡ 48) × SameName set.owner zone) → AreSetLines setting zone Meant k set []
-  of_keys : (keys meant : List DnskeyRecord) (lines : List Line) → set.rtype ≡ 48 → SameName set.owner zone
-      → AreKeysInOrder set keys → AreThose Meant keys meant → AreOfEach (AreKeyLines setting zone k set) meant lines
+  other : ¬ IsKeysAt zone set → AreSetLines setting zone Meant k set []
+  of_keys : (keys : List DnskeyRecord) (lines : List Line) → IsKeysAt zone set → AreKeysInOrder set keys
+      → AreOfEach (λ key. AreWhere (Meant key) (AreKeyLines setting zone k set key)) keys lines
       → AreSetLines setting zone Meant k set lines
 
 -- nothing where one of the keys signs its RRset, and else why none does
 abbrev pub AreSelfFaults : Setting → Labels → (DnskeyRecord → Type 0) → List Line → Type 0
 AreSelfFaults setting zone Meant lines =
-    (IsSomeSelfSigned setting Meant × (lines ≡ []))
-    ⊎ ((¬ IsSomeSelfSigned setting Meant) × AreOfNumbered (AreSetLines setting zone Meant) 1 setting.rrsets lines)
+    (IsSomeSelfSigned setting zone Meant × (lines ≡ []))
+    ⊎ ((¬ IsSomeSelfSigned setting zone Meant) × AreOfNumbered (AreSetLines setting zone Meant) 1 setting.rrsets lines)
 
 -- ---- trust anchors and DS records
 
@@ -130,69 +139,78 @@ abbrev pub AreAnchorWanted : Labels → ℕ → Anchor → List Wanted → Type 
 AreAnchorWanted zone number anchor =
     AreWhere (SameName (anchor_owner anchor) zone) (λ wanted. wanted ≡ wanted_anchor number anchor ∷ [])
 
--- the records of DS RRset k from the place on, in order, beside all of its records
-abbrev pub AreDsFrom : List ReceivedRrset → ℕ → ReceivedRrset → List Ds → ℕ → List Wanted → Type 0
-AreDsFrom rrsets k rrset records place [] =
-    (rdata : List ℕ) → ¬ IsRecordAt rrsets (record_of k place) rrset rdata
-AreDsFrom rrsets k rrset records place (each ∷ rest) =
-    ((rdata : List ℕ) × (ds : Ds) × IsRecordAt rrsets (record_of k place) rrset rdata × IsDs rdata ds
-    × (each ≡ by_digest (entry_number.Ds (record_of k place)) records ds))
-    × AreDsFrom rrsets k rrset records (place + 1) rest
+-- record K of DS RRset k, which has these records
+abbrev pub AreDsWanted : ℕ → List Ds → ℕ → List ℕ → List Wanted → Type 0
+AreDsWanted k records place rdata wanted =
+    (ds : Ds) × IsDs rdata ds × (wanted ≡ by_digest (entry_number.Ds (record_of k place)) records ds ∷ [])
 
--- all of them
-abbrev pub AreRecordsOf : List ReceivedRrset → ℕ → ReceivedRrset → List Wanted → Type 0
-AreRecordsOf rrsets k rrset wanted =
-    (records : List Ds) × AllZip IsDs rrset.rdata records × AreDsFrom rrsets k rrset records 1 wanted
+-- all of them, in canonical order
+abbrev pub AreRecordsOf : ℕ → ReceivedRrset → List Wanted → Type 0
+AreRecordsOf k rrset wanted =
+    (records : List Ds) × (canonical : List (List ℕ)) × AllZip IsDs rrset.rdata records
+    × IsCanonical (map (canonical_form rrset.rtype) rrset.rdata) canonical
+    × AreOfNumbered (AreDsWanted k records) 1 canonical wanted
 
--- those of RRset k are a group, if it leads into the zone
-abbrev pub AreGroupsOf : Setting → Labels → ℕ → ReceivedRrset → List (List Wanted) → Type 0
-AreGroupsOf setting zone k rrset =
+-- it is one of the anchors at the zone, or of the records of a DS RRset that leads into it
+abbrev pub LeadsInto : Setting → Labels → Wanted → Type 0
+LeadsInto setting zone wanted =
+    ((group : List Wanted) × AreOfNumbered (AreAnchorWanted zone) 1 setting.anchors group × Contains group wanted)
+    ⊎ ((k : ℕ) × (rrset : ReceivedRrset) × (group : List Wanted) × IsDsWay setting zone k rrset
+    × AreRecordsOf k rrset group × Contains group wanted)
+
+-- it matches no key although another of its group does
+abbrev pub IsLeftOut : Setting → Labels → List Wanted → Wanted → Type 0
+IsLeftOut setting zone group wanted =
+    (¬ IsFaultOfEntry setting.rrsets zone wanted None)
+    × ((other : Wanted) × Contains group other × IsFaultOfEntry setting.rrsets zone other None)
+
+-- those of a group that aren't left out
+abbrev pub AreSaidOf : Setting → Labels → List Wanted → List Wanted → Type 0
+AreSaidOf setting zone group = AreThose (λ wanted. ¬ IsLeftOut setting zone group wanted) group
+
+-- the anchors at the zone are a group
+abbrev pub AreAnchorsSaid : Setting → Labels → List Wanted → Type 0
+AreAnchorsSaid setting zone said =
+    (group : List Wanted) × AreOfNumbered (AreAnchorWanted zone) 1 setting.anchors group × AreSaidOf setting zone group said
+
+-- and so are the records of DS RRset k, if it leads into the zone
+abbrev pub AreRecordsSaid : Setting → Labels → ℕ → ReceivedRrset → List Wanted → Type 0
+AreRecordsSaid setting zone k rrset =
     AreWhere (IsDsWay setting zone k rrset)
-    (λ groups. (group : List Wanted) × AreRecordsOf setting.rrsets k rrset group × (groups ≡ group ∷ []))
+    (λ said. (group : List Wanted) × AreRecordsOf k rrset group × AreSaidOf setting zone group said)
 
--- the anchors of the zone are a group, and so are the records of each DS RRset that leads into it
-pub record AreGroups (setting : Setting) (zone : Labels) (groups : List (List Wanted)) : Type 0 where
-  pub anchors : List Wanted
-  pub of_anchors : AreOfNumbered (AreAnchorWanted zone) 1 setting.anchors anchors
-  pub records : List (List Wanted)
-  pub of_records : AreOfNumbered (AreGroupsOf setting zone) 1 setting.rrsets records
-  pub are : groups ≡ anchors ∷ records
+-- all of which something is said
+abbrev pub AreSaid : Setting → Labels → List Wanted → Type 0
+AreSaid setting zone =
+    AreParted (AreAnchorsSaid setting zone) (AreOfNumbered (AreRecordsSaid setting zone) 1 setting.rrsets)
 
 -- what is said of one that matches no key: the word, and where a digest differs, why those with tag and algorithm don't
 -- sign; of one that matches, why the keys that it matches don't
 abbrev pub AreWordLines : Setting → Labels → Wanted → Option WhyEntry → List Line → Type 0
-AreWordLines setting zone wanted None =
-    AreSelfFaults setting zone (λ key. IsKeyAt setting.rrsets zone key × IsMatchOf wanted key)
+AreWordLines setting zone wanted None = AreSelfFaults setting zone (IsMatchOf wanted)
 AreWordLines setting zone wanted (Some why.DigestDiffers) =
     AreParted (λ first. first ≡ entry_line zone wanted why.DigestDiffers ∷ [])
-    (AreSelfFaults setting zone (λ key. IsKeyAt setting.rrsets zone key × IsWantedBy wanted key))
+    (AreSelfFaults setting zone (IsWantedBy wanted))
 AreWordLines setting zone wanted (Some word) = λ lines. lines ≡ entry_line zone wanted word ∷ []
 
--- it matches no key although another of its group does
-abbrev pub IsLeftOut : Setting → Labels → List Wanted → Option WhyEntry → Type 0
-IsLeftOut setting zone group word =
-    (word ≢ None) × ((other : Wanted) × Contains group other × IsFaultOfEntry setting.rrsets zone other None)
-
--- what is said of it, if it has this rank and isn't left out
-pub data AreRankLines (setting : Setting) (zone : Labels) (rank : ℕ) (group : List Wanted) (wanted : Wanted)
-    : List Line → Type 0 where
+-- what is said of it, if it has this rank
+pub data AreRankLines (setting : Setting) (zone : Labels) (rank : ℕ) (wanted : Wanted) : List Line → Type 0 where
   said : (word : Option WhyEntry) (lines : List Line) → IsFaultOfEntry setting.rrsets zone wanted word
-      → entry_rank word ≡ rank → ¬ IsLeftOut setting zone group word → AreWordLines setting zone wanted word lines
-      → AreRankLines setting zone rank group wanted lines
-  unsaid : (word : Option WhyEntry) → IsFaultOfEntry setting.rrsets zone wanted word
-      → (entry_rank word ≢ rank) ⊎ IsLeftOut setting zone group word → AreRankLines setting zone rank group wanted []
+      → entry_rank word ≡ rank → AreWordLines setting zone wanted word lines
+      → AreRankLines setting zone rank wanted lines
+  unsaid : (word : Option WhyEntry) → IsFaultOfEntry setting.rrsets zone wanted word → entry_rank word ≢ rank
+      → AreRankLines setting zone rank wanted []
 
 -- by rank, and those of one rank in order
-abbrev pub AreEntryLines : Setting → Labels → List (List Wanted) → List Line → Type 0
-AreEntryLines setting zone groups =
-    AreOfEach (λ rank. AreOfEach (λ group. AreOfEach (AreRankLines setting zone rank group) group) groups)
-    (0 ∷ 1 ∷ 2 ∷ 3 ∷ 5 ∷ 6 ∷ [])
+abbrev pub AreEntryLines : Setting → Labels → List Wanted → List Line → Type 0
+AreEntryLines setting zone wanted =
+    AreOfEach (λ rank. AreOfEach (AreRankLines setting zone rank) wanted) (0 ∷ 1 ∷ 2 ∷ 3 ∷ 5 ∷ 6 ∷ [])
 
 -- ---- the zone
 
--- the line doesn't say that a signer who is no parent isn't trusted
+-- the line, of a DS RRset of the zone, doesn't say that a signer who is no parent isn't trusted
 abbrev pub IsOfParent : Setting → Labels → Line → Type 0
-IsOfParent setting zone (line.Follows untrusted) = IsParent setting zone untrusted.signature.signer
+IsOfParent setting zone (line.Follows untrusted) = MayBeParent setting zone untrusted.signature.signer
 IsOfParent setting zone _ = Unit {0}
 
 -- what is said of RRset k, if it leads into the zone
@@ -210,7 +228,7 @@ abbrev pub AreLinesOfKeys : Setting → Labels → List Line → Type 0
 AreLinesOfKeys setting zone lines =
     ((¬ HasRrset setting.rrsets zone 48) × (lines ≡ zone_line zone_why.DnskeyMissing zone ∷ []))
     ⊎ (HasRrset setting.rrsets zone 48
-    × ((groups : List (List Wanted)) × AreGroups setting zone groups × AreEntryLines setting zone groups lines))
+    × ((wanted : List Wanted) × AreSaid setting zone wanted × AreEntryLines setting zone wanted lines))
 
 -- What is said of a zone that isn't trusted.
 pub data AreZoneLines (setting : Setting) (zone : Labels) : List Line → Type 0 where

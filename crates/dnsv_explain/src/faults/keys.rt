@@ -4,9 +4,11 @@ ghost use Rattle.dnsv_names.specs.Name.{SameName};
 ghost use Rattle.dnsv_verifier.specs.Asking.{AddsJust, AreKeysOf, IsKeyOf};
 ghost use Rattle.dnsv_explain.specs.faults.KeySearch.{HasKeyAt, HasNamed, HasNamedZoneKey, IsNamedTo};
 ghost use Rattle.dnsv_explain.specs.faults.Keys.{IsZoneKey};
+ghost use Rattle.dnsv_explain.specs.faults.ZoneLines.{IsKeysAt};
+ghost use Rattle.dnsv_explain.specs.faults.ZoneSearch.{AreKeysAt};
 
 use dnsv_canonical::Rrset;
-use dnsv_names::Name;
+use dnsv_names::{Name, RecordType};
 use dnsv_records::Rrsig;
 use dnsv_verifier::KeyRecord;
 use std::alloc::{AllocError, Global};
@@ -30,6 +32,31 @@ fn add_keys<'a>(rrset: &'a Rrset, keys: &mut Vec<KeyRecord<'a>>) -> Result<(), A
         keys.push(KeyRecord::new(rrset.owner(), rrset.rdata(place), dnskey))?;
     }
     Ok(())
+}
+
+/// The keys of the zone, whatever message they came in.
+pub fn keys_at<'a>(
+    alloc: Global,
+    rrsets: &'a [Rrset],
+    zone: &Name,
+) -> Result<Vec<KeyRecord<'a>>, AllocError>
+    ensures { IfOk result (λ keys. AreKeysAt rrsets.now zone.now keys.items) }
+{
+    let mut keys = Vec::new(alloc);
+    for rrset in rrsets {
+        if !is_keys_at(rrset, zone) {
+            continue;
+        }
+        add_keys(rrset, &mut keys)?;
+    }
+    Ok(keys)
+}
+
+/// Whether the RRset is a DNSKEY RRset of the zone.
+pub fn is_keys_at(rrset: &Rrset, zone: &Name) -> bool
+    ensures { IsTrue result ↔ IsKeysAt zone.now rrset.now }
+{
+    rrset.rtype() == RecordType::DNSKEY && are_equal(rrset.owner(), zone)
 }
 
 /// Whether the zone has one of the keys.

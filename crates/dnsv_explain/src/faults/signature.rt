@@ -54,7 +54,7 @@ pub fn add_signature(
 }
 
 /// Adds a line for each of the faults.
-fn add_faults(
+pub fn add_faults(
     lines: &mut Vec<Line>,
     number: SignatureNumber,
     rrset: &Rrset,
@@ -121,7 +121,7 @@ fn add_untrusted(
 }
 
 /// The signature with the key that it names.
-fn shown(
+pub fn shown(
     number: SignatureNumber,
     rrset: &Rrset,
     rrsig: &Rrsig,

@@ -7,6 +7,7 @@ mod closed;
 mod enclosers;
 mod held;
 mod lacks;
+mod parameters;
 mod records;
 mod words;
 
@@ -15,14 +16,16 @@ ghost use Rattle.dnsv_names.specs.Name.{rightmost};
 ghost use Rattle.dnsv_explain.specs.At.{IsAt};
 ghost use Rattle.dnsv_explain.specs.Explained.{setting_in};
 ghost use Rattle.dnsv_explain.specs.faults.Listing.{AddsThose, AreOfEach};
+ghost use Rattle.dnsv_explain.specs.faults.NeededSearch.{IsSpeakerFound};
 ghost use Rattle.dnsv_explain.specs.faults.Order.{AreLacking, AreLinesOfSources, names_up};
-ghost use Rattle.dnsv_explain.specs.faults.SourceSearch.{AreAllParameters, IsSpeakerFound};
+ghost use Rattle.dnsv_explain.specs.faults.SourceSearch.{AreAllParameters};
 
 use crate::evidence::Evidence;
 use crate::explanation::at::At;
 use crate::faults::sources::chains::{add_nsec3s, add_nsecs};
+use crate::faults::sources::parameters::parameters_in_order;
 use crate::line::Line;
-use dnsv_denial::{nsec3s_of, nsecs_of, parameters_in_order};
+use dnsv_denial::{nsec3s_of, nsecs_of};
 use dnsv_names::RecordType;
 use dnsv_records::Nsec3Parameters;
 use std::alloc::{AllocError, Global};

@@ -42,14 +42,14 @@ those_same P Q same (x ∷ xs) those (inr into) =
     let rest = into.1 in inr ((same x).0 into.0, (rest.0, those_same P Q same xs rest.0 rest.1, rest.2))
 
 module _ {X : Type 0} (Such : X → Type 0) where
-  those_end : (xs : List X) (x : X) (those : List X) → Such x → AreThose Such xs those → AreThose Such (xs ++ x ∷ []) (those ++ x ∷ [])
+  pub those_end : (xs : List X) (x : X) (those : List X) → Such x → AreThose Such xs those → AreThose Such (xs ++ x ∷ []) (those ++ x ∷ [])
   those_end [] x those such is = inr (such, ([], refl, ap (λ front. front ++ x ∷ []) is))
   those_end (y ∷ xs) x those such (inl out) = inl (out.0, those_end xs x those such out.1)
   those_end (y ∷ xs) x those such (inr into) =
       let rest = into.1 in
       inr (into.0, (rest.0 ++ x ∷ [], those_end xs x rest.0 such rest.1, ap (λ front. front ++ x ∷ []) rest.2))
 
-  those_past : (xs : List X) (x : X) (those : List X) → ¬ Such x → AreThose Such xs those → AreThose Such (xs ++ x ∷ []) those
+  pub those_past : (xs : List X) (x : X) (those : List X) → ¬ Such x → AreThose Such xs those → AreThose Such (xs ++ x ∷ []) those
   those_past [] x those never is = inl (never, is)
   those_past (y ∷ xs) x those never (inl out) = inl (out.0, those_past xs x those never out.1)
   those_past (y ∷ xs) x those never (inr into) =
@@ -73,6 +73,17 @@ module _ {X : Type 0} (Such : X → Type 0) where
   pub those_all : (xs : List X) (n : ℕ) (those : List X) → length xs ≤ n → AreThose Such (take n xs) those → AreThose Such xs those
   those_all xs n those past are =
       let Those : List X → Type 0 = λ each. AreThose Such each those in subst Those (take_all n xs past) are
+
+-- ---- the same list by another name
+
+pub within_in : {X : Type 0} (all xs : List X) → xs ≡ all → (i : ℕ) → i < length xs → i < length all
+within_in {X = X} all xs same i within = let Within : List X → Type 0 = λ each. i < length each in subst Within same within
+
+pub at_in : {X : Type 0} (all xs : List X) → xs ≡ all → (i : ℕ) (d x : X) → x ≡ get_or xs i d → x ≡ get_or all i d
+at_in {X = X} all xs same i d x at = let At : List X → Type 0 = λ each. x ≡ get_or each i d in subst At same at
+
+pub past_in : {X : Type 0} (all xs : List X) → xs ≡ all → (n : ℕ) → length xs ≤ n → length all ≤ n
+past_in {X = X} all xs same n past = let Past : List X → Type 0 = λ each. length each ≤ n in subst Past same past
 
 -- ---- a list for each
 
@@ -160,13 +171,11 @@ module _ {X : Type 0} (Are : ℕ → X → List Line → Type 0) where
         → AddsThose (AreOfNumbered Are 1 (take i all)) old mid → AddsThose (Are (i + 1) x) mid new
         → AddsThose (AreOfNumbered Are 1 (take (i + 1) all)) old new
     next_in i d x old mid new within at =
-        let Within : List X → Type 0 = λ each. i < length each in
-        let At : List X → Type 0 = λ each. x ≡ get_or each i d in
-        next_added all i d x old mid new (subst Within same within) (subst At same at)
+        next_added all i d x old mid new (within_in all xs same i within) (at_in all xs same i d x at)
 
     pub all_in : (n : ℕ) (old new : List Line) → length xs ≤ n → AddsThose (AreOfNumbered Are 1 (take n all)) old new
         → AddsThose (AreOfNumbered Are 1 all) old new
-    all_in n old new past = let Past : List X → Type 0 = λ each. length each ≤ n in all_added all n old new (subst Past same past)
+    all_in n old new past = all_added all n old new (past_in all xs same n past)
 
 -- whatever their numbers are
 pub each_added : {X : Type 0} (Are : X → List Line → Type 0) (xs : List X) (old new : List Line)

@@ -102,12 +102,12 @@ some_left (x ∷ xs) b is isnt = λ e. cc
 
 -- ---- the signatures of an RRset, at their places
 
-zip_nothing : (signatures : List (List ℕ)) (rrsigs : List Rrsig) → AllZip IsRrsig signatures rrsigs → rrsigs ≡ [] → signatures ≡ []
+pub zip_nothing : (signatures : List (List ℕ)) (rrsigs : List Rrsig) → AllZip IsRrsig signatures rrsigs → rrsigs ≡ [] → signatures ≡ []
 zip_nothing [] rrsigs zip none = refl
 zip_nothing (x ∷ signatures) [] zip none = absurd zip
 zip_nothing (x ∷ signatures) (y ∷ rrsigs) zip none = let never : ⊥ = cc in absurd never
 
-zip_something : (signatures : List (List ℕ)) (rrsigs : List Rrsig) → AllZip IsRrsig signatures rrsigs → rrsigs ≢ [] → signatures ≢ []
+pub zip_something : (signatures : List (List ℕ)) (rrsigs : List Rrsig) → AllZip IsRrsig signatures rrsigs → rrsigs ≢ [] → signatures ≢ []
 zip_something [] [] zip some = λ e. some refl
 zip_something [] (y ∷ rrsigs) zip some = absurd zip
 zip_something (x ∷ signatures) rrsigs zip some = λ e. cc
@@ -161,10 +161,10 @@ module _ (setting : Setting) (k : ℕ) (rrset : ReceivedRrset) where
   secured_added s old is = none_added (AreRrsetLines setting k rrset) old (secured (s, is))
 
   pub unsigned_added : (rrsigs : List Rrsig) (old new : List Line) → AllZip IsRrsig rrset.signatures rrsigs → rrsigs ≡ []
-      → new ≡ old ++ unsigned_line k rrset ∷ [] → AddsThose (AreRrsetLines setting k rrset) old new
-  unsigned_added rrsigs old new zip none is =
+      → ¬ HasSecured setting k → new ≡ old ++ unsigned_line k rrset ∷ [] → AddsThose (AreRrsetLines setting k rrset) old new
+  unsigned_added rrsigs old new zip none never is =
       those_added (AreRrsetLines setting k rrset) old (unsigned_line k rrset ∷ []) new is
-      (unsigned (zip_nothing rrset.signatures rrsigs zip none))
+      (unsigned never (zip_nothing rrset.signatures rrsigs zip none))
 
   pub unproved_added : (rrsigs : List Rrsig) (old new : List Line) → AllZip IsRrsig rrset.signatures rrsigs → rrsigs ≢ []
       → ¬ HasSecured setting k → AddsThose (AreLinesOfEach setting k rrset) old new

@@ -28,18 +28,18 @@ mapped_at f xs i x within at =
     ∙ ap (λ y. Some y) (get_or-map f xs i x (f x) within ∙ ap f (sym at))
 
 -- what is mapped to is mapped from something
-record From {X Y : Type 0} (f : X → Y) (P : X → Type 0) (xs : List X) (y : Y) : Type 0 where
-  x : X
-  among : Contains xs x
-  has : P x
-  is : f x ≡ y
+pub record From {X Y : Type 0} (f : X → Y) (P : X → Type 0) (xs : List X) (y : Y) : Type 0 where
+  pub x : X
+  pub among : Contains xs x
+  pub has : P x
+  pub is : f x ≡ y
 
 behind : {X Y : Type 0} (f : X → Y) (P : X → Type 0) (x : X) (xs : List X) (y : Y) → From f P xs y → From f P (x ∷ xs) y
 behind f P x xs y from =
     let within = from.among.1 in
     record { x = from.x; among = (suc from.among.0, omega (arith, within), from.among.2); has = from.has; is = from.is }
 
-from : {X Y : Type 0} (f : X → Y) (P : X → Type 0) (xs : List X) (i : ℕ) (y : Y) → AllByRecursion P xs → i < length xs
+pub from : {X Y : Type 0} (f : X → Y) (P : X → Type 0) (xs : List X) (i : ℕ) (y : Y) → AllByRecursion P xs → i < length xs
     → get_or (map f xs) i y ≡ y → From f P xs y
 from f P [] i y all within is = absurd (omega (arith, within))
 from f P (x ∷ xs) zero y all within is = record { x = x; among = (zero, omega arith, refl); has = all.0; is = is }

@@ -1,0 +1,65 @@
+-- All that is said of an untrusted zone.
+use Rattle.std.proofs.Common.{◌≡◌, inl, inr, List, [], ◌∷◌, ◌++◌, refl}
+use Rattle.std.specs.List.{AllByRecursion}
+use Rattle.std.specs.Prelude.{map}
+use Rattle.dnsv_names.specs.Name.{Labels}
+use Rattle.dnsv_verdict.specs.Verdict.{HasAnchor}
+use Rattle.dnsv_explain.specs.Explained.{Setting}
+use Rattle.dnsv_explain.specs.faults.Listing.{AddsThose, AreOfNumbered, AreParted, AreWhere}
+use Rattle.dnsv_explain.specs.faults.ZoneLines.{AreEntryLines, AreLinesOfKeys, AreSaid, AreWayLines, AreZoneLines, HasNoWay, zone_line}
+use Rattle.dnsv_explain.specs.faults.ZoneLines.AreZoneLines.{anchored, no_anchor}
+use Rattle.dnsv_explain.specs.faults.ZoneSearch.{wanted_in}
+use Rattle.dnsv_explain.specs.faults.Zones.{HasOwnAnchor, HasRrset}
+use Rattle.dnsv_explain.specs.declared.faults.zones.entries.Judged.{Judged}
+use Rattle.dnsv_explain.specs.declared.line.Line.{Line}
+use Rattle.dnsv_explain.specs.declared.line.fault.zone.WhyZone.TheVariants as zone_why
+use Rattle.dnsv_explain.proofs.lemmas.faults.ListingLemmas.{added_as, nowhere_added, parted_added, those_added, where_added}
+
+module _ (setting : Setting) (zone : Labels) where
+  pub unanchored : (old new : List Line) → ¬ HasAnchor setting.anchors zone → new ≡ old ++ zone_line zone_why.NoAnchor zone ∷ []
+      → AddsThose (AreZoneLines setting zone) old new
+  unanchored old new none is =
+      those_added (AreZoneLines setting zone) old (zone_line zone_why.NoAnchor zone ∷ []) new is (no_anchor none)
+
+  -- ---- whether there is a way
+
+  abbrev pub OfNoWay : List Line → Type 0
+  OfNoWay = AreWhere (HasNoWay setting zone) (λ first. first ≡ zone_line zone_why.DsMissing zone ∷ [])
+
+  pub own_way : (old : List Line) → HasOwnAnchor setting.anchors zone → AddsThose OfNoWay old old
+  own_way old own =
+      nowhere_added (HasNoWay setting zone) (λ first. first ≡ zone_line zone_why.DsMissing zone ∷ []) old (λ none. none.0 own)
+
+  pub ds_way : (old : List Line) → HasRrset setting.rrsets zone 43 → AddsThose OfNoWay old old
+  ds_way old has =
+      nowhere_added (HasNoWay setting zone) (λ first. first ≡ zone_line zone_why.DsMissing zone ∷ []) old (λ none. none.1 has)
+
+  pub no_way : (old new : List Line) → ¬ HasOwnAnchor setting.anchors zone → ¬ HasRrset setting.rrsets zone 43
+      → new ≡ old ++ zone_line zone_why.DsMissing zone ∷ [] → AddsThose OfNoWay old new
+  no_way old new own has is =
+      where_added (HasNoWay setting zone) (λ first. first ≡ zone_line zone_why.DsMissing zone ∷ []) old new (own, has)
+      (record { more = zone_line zone_why.DsMissing zone ∷ []; is = is; says = refl })
+
+  -- ---- the keys
+
+  pub no_keys : (old new : List Line) → ¬ HasRrset setting.rrsets zone 48 → new ≡ old ++ zone_line zone_why.DnskeyMissing zone ∷ []
+      → AddsThose (AreLinesOfKeys setting zone) old new
+  no_keys old new none is =
+      those_added (AreLinesOfKeys setting zone) old (zone_line zone_why.DnskeyMissing zone ∷ []) new is (inl (none, refl))
+
+  pub keys_said : (said : List Judged) (old new : List Line) → HasRrset setting.rrsets zone 48 → AreSaid setting zone (map wanted_in said)
+      → AddsThose (AreEntryLines setting zone (map wanted_in said)) old new → AddsThose (AreLinesOfKeys setting zone) old new
+  keys_said said old new has are =
+      added_as (AreEntryLines setting zone (map wanted_in said)) (AreLinesOfKeys setting zone) old new
+      (λ lines of. inr (has, (map wanted_in said, are, of)))
+
+  -- ---- all of it
+
+  pub zone_said : (a b c d : List Line) → HasAnchor setting.anchors zone
+      → AddsThose (AreOfNumbered (AreWayLines setting zone) 1 setting.rrsets) a b → AddsThose OfNoWay b c
+      → AddsThose (AreLinesOfKeys setting zone) c d → AddsThose (AreZoneLines setting zone) a d
+  zone_said a b c d has ways none keys =
+      let Ways : List Line → Type 0 = AreOfNumbered (AreWayLines setting zone) 1 setting.rrsets in
+      let Rest : List Line → Type 0 = AreParted OfNoWay (AreLinesOfKeys setting zone) in
+      added_as (AreParted Ways Rest) (AreZoneLines setting zone) a d (λ lines are. anchored lines has are)
+      (parted_added Ways Rest a b d ways (parted_added OfNoWay (AreLinesOfKeys setting zone) b c d none keys))

@@ -1,0 +1,101 @@
+//! What is said of a zone that isn't trusted.
+
+pub mod anchored;
+mod entries;
+mod lead;
+mod named;
+mod own_keys;
+mod ranks;
+mod self_faults;
+mod ways;
+mod why_not;
+
+ghost use Rattle.std.specs.Prelude.{◌≡◌, ◌++◌, ◌∷◌, [], OnOk};
+ghost use Rattle.dnsv_verifier.specs.Asking.{AreKeysOf};
+ghost use Rattle.dnsv_explain.specs.Explained.{setting_in};
+ghost use Rattle.dnsv_explain.specs.faults.Listing.{AddsThose, AreWhere};
+ghost use Rattle.dnsv_explain.specs.faults.ZoneLines.{AreLinesOfKeys, AreZoneLines, HasNoWay, zone_line};
+ghost use Rattle.dnsv_explain.specs.declared.line.fault.zone.WhyZone.TheVariants as zone_why;
+
+use crate::evidence::Evidence;
+use crate::faults::keys::keys_at;
+use crate::faults::zones::anchored::{has_anchor, has_own_anchor, has_rrset};
+use crate::faults::zones::entries::said_entries;
+use crate::faults::zones::ranks::add_ranks;
+use crate::faults::zones::ways::add_ways;
+use crate::line::Line;
+use crate::line::fault::Reason;
+use crate::line::fault::zone::{WhyZone, ZoneFault};
+use dnsv_names::{Name, RecordType};
+use dnsv_verifier::KeyRecord;
+use std::alloc::{AllocError, Global};
+
+/// What is said of the zone, which isn't trusted: that no trust anchor is at or above it. Or else what is wrong with each
+/// DS RRset that leads into it, or that there is none; and that it has no keys, or why nothing that leads into it leads
+/// to one that signs them. `keys` are those of the evidence.
+pub fn add_zone_faults(
+    alloc: Global,
+    evidence: &Evidence<'_>,
+    keys: &[KeyRecord<'_>],
+    lines: &mut Vec<Line>,
+    zone: &Name,
+) -> Result<(), AllocError>
+    requires keys { AreKeysOf evidence.now.rrsets keys.now }
+    ensures { OnOk result (AddsThose (AreZoneLines (setting_in evidence.now) zone.now) lines.old.items lines.new.items) }
+{
+    if !has_anchor(evidence, zone) {
+        add_zone_fault(lines, WhyZone::NoAnchor, zone)?;
+        return Ok(());
+    }
+    add_ways(alloc, evidence, keys, lines, zone)?;
+    add_no_way(evidence, lines, zone)?;
+    add_keys(alloc, evidence, keys, lines, zone)?;
+    Ok(())
+}
+
+/// Adds that the zone lacks something.
+fn add_zone_fault(lines: &mut Vec<Line>, why: WhyZone, zone: &Name) -> Result<(), AllocError>
+    ensures { OnOk result (lines.new.items ≡ lines.old.items ++ zone_line why zone.now ∷ []) }
+{
+    lines.push(Line::Reason(Reason::Zone(ZoneFault {
+        why,
+        zone: zone.clone()?,
+    })))?;
+    Ok(())
+}
+
+/// Adds that nothing leads into the zone, if that is so.
+fn add_no_way(evidence: &Evidence<'_>, lines: &mut Vec<Line>, zone: &Name) -> Result<(), AllocError>
+    ensures { OnOk result (AddsThose (AreWhere (HasNoWay (setting_in evidence.now) zone.now)
+        (λ first. first ≡ zone_line zone_why.DsMissing zone.now ∷ [])) lines.old.items lines.new.items) }
+{
+    if has_own_anchor(evidence, zone) {
+        return Ok(());
+    }
+    if has_rrset(evidence, zone, RecordType::DS) {
+        return Ok(());
+    }
+    add_zone_fault(lines, WhyZone::DsMissing, zone)?;
+    Ok(())
+}
+
+/// Adds that the zone has no keys, or why nothing that leads into it leads to one that signs them.
+fn add_keys(
+    alloc: Global,
+    evidence: &Evidence<'_>,
+    keys: &[KeyRecord<'_>],
+    lines: &mut Vec<Line>,
+    zone: &Name,
+) -> Result<(), AllocError>
+    requires keys { AreKeysOf evidence.now.rrsets keys.now }
+    ensures { OnOk result (AddsThose (AreLinesOfKeys (setting_in evidence.now) zone.now) lines.old.items lines.new.items) }
+{
+    if !has_rrset(evidence, zone, RecordType::DNSKEY) {
+        add_zone_fault(lines, WhyZone::DnskeyMissing, zone)?;
+        return Ok(());
+    }
+    let its_keys = keys_at(alloc, evidence.rrsets(), zone)?;
+    let said = said_entries(alloc, evidence, &its_keys, zone)?;
+    add_ranks(alloc, evidence, keys, lines, zone, &said)?;
+    Ok(())
+}

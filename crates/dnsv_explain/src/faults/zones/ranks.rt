@@ -1,0 +1,172 @@
+//! The lines of what leads into a zone, by rank.
+ghost use Rattle.std.specs.Prelude.{◌≡◌, ◌++◌, ◌∷◌, [], OnOk, map};
+ghost use Rattle.std.specs.List.{AllByRecursion};
+ghost use Rattle.dnsv_verifier.specs.Asking.{AreKeysOf};
+ghost use Rattle.dnsv_explain.specs.Explained.{setting_in};
+ghost use Rattle.dnsv_explain.specs.faults.Entries.{entry_rank};
+ghost use Rattle.dnsv_explain.specs.faults.Listing.{AddsThose, AreOfEach};
+ghost use Rattle.dnsv_explain.specs.faults.ZoneLines.{AreEntryLines, AreRankLines, AreWordLines, entry_line};
+ghost use Rattle.dnsv_explain.specs.faults.ZoneSearch.{IsJudgedAt, wanted_in, wanted_of};
+
+use crate::evidence::Evidence;
+use crate::faults::zones::entries::Judged;
+use crate::faults::zones::lead::{Lead, Meant};
+use crate::faults::zones::self_faults::add_self_faults;
+use crate::line::Line;
+use crate::line::fault::Reason;
+use crate::line::fault::zone::{EntryFault, WhyEntry};
+use dnsv_names::Name;
+use dnsv_verifier::KeyRecord;
+use std::alloc::{AllocError, Global};
+
+/// Adds what is said of each that leads into the zone: what needs least to be mended comes first. `keys` are those of the
+/// evidence.
+pub fn add_ranks(
+    alloc: Global,
+    evidence: &Evidence<'_>,
+    keys: &[KeyRecord<'_>],
+    lines: &mut Vec<Line>,
+    zone: &Name,
+    said: &[Judged<'_>],
+) -> Result<(), AllocError>
+    requires keys { AreKeysOf evidence.now.rrsets keys.now }
+    requires judged { AllByRecursion (IsJudgedAt evidence.now.rrsets zone.now) said.now }
+    ensures { OnOk result (AddsThose (AreEntryLines (setting_in evidence.now) zone.now (map wanted_in said.now))
+        lines.old.items lines.new.items) }
+{
+    add_each_rank(
+        alloc,
+        evidence,
+        keys,
+        lines,
+        zone,
+        said,
+        &[0, 1, 2, 3, 5, 6],
+    )?;
+    Ok(())
+}
+
+/// Adds what is said of those that have each of the ranks.
+fn add_each_rank(
+    alloc: Global,
+    evidence: &Evidence<'_>,
+    keys: &[KeyRecord<'_>],
+    lines: &mut Vec<Line>,
+    zone: &Name,
+    said: &[Judged<'_>],
+    ranks: &[u8],
+) -> Result<(), AllocError>
+    requires keys { AreKeysOf evidence.now.rrsets keys.now }
+    requires judged { AllByRecursion (IsJudgedAt evidence.now.rrsets zone.now) said.now }
+    ensures { OnOk result (AddsThose (AreOfEach (λ rank. AreOfEach (AreRankLines (setting_in evidence.now) zone.now rank)
+        (map wanted_in said.now)) ranks.now) lines.old.items lines.new.items) }
+{
+    for rank in ranks {
+        add_rank(alloc, evidence, keys, lines, zone, said, *rank)?;
+    }
+    Ok(())
+}
+
+/// Adds what is said of those that have the rank.
+fn add_rank(
+    alloc: Global,
+    evidence: &Evidence<'_>,
+    keys: &[KeyRecord<'_>],
+    lines: &mut Vec<Line>,
+    zone: &Name,
+    said: &[Judged<'_>],
+    rank: u8,
+) -> Result<(), AllocError>
+    requires keys { AreKeysOf evidence.now.rrsets keys.now }
+    requires judged { AllByRecursion (IsJudgedAt evidence.now.rrsets zone.now) said.now }
+    ensures { OnOk result (AddsThose (AreOfEach (AreRankLines (setting_in evidence.now) zone.now rank)
+        (map wanted_in said.now)) lines.old.items lines.new.items) }
+{
+    for each in said {
+        add_ranked(alloc, evidence, keys, lines, zone, each, rank)?;
+    }
+    Ok(())
+}
+
+/// Adds what is said of it, if it has the rank.
+fn add_ranked(
+    alloc: Global,
+    evidence: &Evidence<'_>,
+    keys: &[KeyRecord<'_>],
+    lines: &mut Vec<Line>,
+    zone: &Name,
+    each: &Judged<'_>,
+    rank: u8,
+) -> Result<(), AllocError>
+    requires keys { AreKeysOf evidence.now.rrsets keys.now }
+    requires judged { IsJudgedAt evidence.now.rrsets zone.now each.now }
+    ensures { OnOk result (AddsThose (AreRankLines (setting_in evidence.now) zone.now rank (wanted_in each.now))
+        lines.old.items lines.new.items) }
+{
+    if rank_of(each.word) != rank {
+        return Ok(());
+    }
+    add_word(alloc, evidence, keys, lines, zone, each.lead, each.word)?;
+    Ok(())
+}
+
+/// Where what has the word comes in order.
+fn rank_of(word: Option<WhyEntry>) -> u8
+    ensures { result ≡ entry_rank word }
+{
+    match word {
+        None => 0,
+        Some(WhyEntry::DigestDiffers) => 1,
+        Some(WhyEntry::KeyAlgorithm) => 2,
+        Some(WhyEntry::KeyMissing) => 3,
+        Some(WhyEntry::Algorithm | WhyEntry::DigestType) => 5,
+        Some(WhyEntry::DigestIgnored) => 6,
+    }
+}
+
+/// Adds the word, and why the keys that it leads to don't sign an RRset in which they stand.
+fn add_word(
+    alloc: Global,
+    evidence: &Evidence<'_>,
+    keys: &[KeyRecord<'_>],
+    lines: &mut Vec<Line>,
+    zone: &Name,
+    lead: Lead<'_>,
+    word: Option<WhyEntry>,
+) -> Result<(), AllocError>
+    requires keys { AreKeysOf evidence.now.rrsets keys.now }
+    ensures { OnOk result (AddsThose (AreWordLines (setting_in evidence.now) zone.now (wanted_of lead.entry) word)
+        lines.old.items lines.new.items) }
+{
+    let Some(why) = word else {
+        let meant = Meant {
+            lead,
+            is_matched: true,
+        };
+        add_self_faults(alloc, evidence, keys, lines, zone, meant)?;
+        return Ok(());
+    };
+    add_entry_fault(lines, zone, lead, why)?;
+    if why == WhyEntry::DigestDiffers {
+        let meant = Meant {
+            lead,
+            is_matched: false,
+        };
+        add_self_faults(alloc, evidence, keys, lines, zone, meant)?;
+    }
+    Ok(())
+}
+
+/// Adds the word.
+fn add_entry_fault(
+    lines: &mut Vec<Line>,
+    zone: &Name,
+    lead: Lead<'_>,
+    why: WhyEntry,
+) -> Result<(), AllocError>
+    ensures { OnOk result (lines.new.items ≡ lines.old.items ++ entry_line zone.now (wanted_of lead.entry) why ∷ []) }
+{
+    let entry = lead.entry(zone)?;
+    lines.push(Line::Reason(Reason::Entry(EntryFault { why, entry })))?;
+    Ok(())
+}
