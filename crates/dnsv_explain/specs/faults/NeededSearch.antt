@@ -1,5 +1,5 @@
 -- How the zones that a question needs are looked for, by their numbers of labels. No public clause cites this module.
-use Rattle.std.specs.Prelude.{◌≡◌, ◌≢◌, ◌↔◌, ◌⊎◌, ◌<◌, ◌≤◌, ℕ, IsTrue, MatchOption, Option, List, [], Contains, length}
+use Rattle.std.specs.Prelude.{◌≡◌, ◌≢◌, ◌↔◌, ◌⊎◌, ◌<◌, ◌≤◌, ℕ, Bool, IsTrue, MatchOption, Option, List, [], Contains, length}
 use Rattle.dnsv_names.specs.Name.{Labels, IsAtOrBelow, SameName, rightmost}
 use Rattle.dnsv_records.specs.declared.rrsig.Rrsig.{Rrsig}
 use Rattle.dnsv_canonical.specs.Rrsets.{IsNumbered, ReceivedRrset}
@@ -10,6 +10,8 @@ use Rattle.dnsv_explain.specs.Explained.{Setting}
 use Rattle.dnsv_explain.specs.faults.Keys.{IsTrustedZone}
 use Rattle.dnsv_explain.specs.faults.Zones.{HasDenialSigner, HasGoalSigner, HasOwnAnchor, HasRrset, HasSignedGoal, HasSigner, IsAnchoredAbove, IsDenial, IsGoal, IsKnownZone, IsSpeaker, NeedsAbove}
 use Rattle.dnsv_explain.specs.declared.faults.question.signers.Signers.{Signers}
+use Rattle.dnsv_explain.specs.declared.line.Line.{Line}
+use Rattle.dnsv_explain.specs.declared.line.Line.TheVariants as line
 
 -- ---- signatures as they are read
 
@@ -113,6 +115,11 @@ pub record IsNeededBy (setting : Setting) (name : Labels) (t : ℕ) (numbers : L
   pub among : Contains numbers labels
   pub untrusted : ¬ IsTrustedZone setting (rightmost name labels)
   pub above : IsAbove name (NeedsAbove setting name t (rightmost name labels)) n
+
+-- the line says that a signer isn't trusted only where that is to be said
+abbrev pub IsSaidWhere : Bool → Line → Type 0
+IsSaidWhere anchored (line.Follows untrusted) = IsTrue anchored
+IsSaidWhere anchored _ = Unit {0}
 
 -- the number, if it is so
 pub record IsNumberWhere (Holds : Type 0) (number n : ℕ) : Type 0 where

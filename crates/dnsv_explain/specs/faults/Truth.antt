@@ -11,7 +11,6 @@ use Rattle.dnsv_canonical.specs.Rrsets.{IsNumbered, ReceivedRrset}
 use Rattle.dnsv_chain.specs.Trusted.{IsKeyOf}
 use Rattle.dnsv_denial.specs.gathering.Evidence.{IsRecordAt}
 use Rattle.dnsv_denial.specs.words.EvidenceWords.{Chain, evidence_said}
-use Rattle.dnsv_denial.specs.declared.records.number.RecordNumber.{RecordNumber}
 use Rattle.dnsv_verdict.specs.Verdict.{HasAnchor}
 use Rattle.dnsv_explain.specs.Explained.{Setting}
 use Rattle.dnsv_verifier.specs.Admissible.{DnskeyRecord}

@@ -1,5 +1,5 @@
 -- What is said of a zone that isn't trusted: what its DS RRsets lack, what matches no key, and which key doesn't sign.
-use Rattle.std.specs.Prelude.{◌≡◌, ◌≢◌, ◌⊎◌, ◌+◌, ℕ, List, [], ◌∷◌, ◌++◌, Option, Some, None, Contains, map}
+use Rattle.std.specs.Prelude.{◌≡◌, ◌≢◌, ◌⊎◌, ℕ, List, [], ◌∷◌, Option, Some, None, Contains, map}
 use Rattle.std.specs.List.{AllZip}
 use Rattle.dnsv_names.specs.Name.{Labels, SameName}
 use Rattle.dnsv_records.specs.Ds.{IsDs}
@@ -20,7 +20,7 @@ use Rattle.dnsv_explain.specs.Following.{IsNamed}
 use Rattle.dnsv_explain.specs.derivations.WaySearch.{AreKeysInOrder}
 use Rattle.dnsv_explain.specs.faults.Entries.{IsFaultOfEntry, IsMatchOf, IsWantedBy, Wanted, entry_rank, told_entry}
 use Rattle.dnsv_explain.specs.faults.Entries.Wanted.{by_digest, whole_key}
-use Rattle.dnsv_explain.specs.faults.Keys.{HasKeys, IsKeyAt, IsNamedBy, named_by}
+use Rattle.dnsv_explain.specs.faults.Keys.{HasKeys, IsNamedBy, named_by}
 use Rattle.dnsv_explain.specs.faults.Listing.{AreOfEach, AreOfNumbered, AreParted, AreThose, AreWhere}
 use Rattle.dnsv_explain.specs.faults.RrsetLines.{AreRrsetLines, fault_line, shown_of, unsigned_line}
 use Rattle.dnsv_explain.specs.faults.SignatureFaults.{AreFaultsOf, IsFaultOf, IsVerifierWord}

@@ -1,5 +1,5 @@
 -- How what leads into a zone is kept and looked for. No public clause cites this module.
-use Rattle.std.specs.Prelude.{◌≡◌, ◌≢◌, ◌⊎◌, ◌↔◌, ◌++◌, ℕ, Bool, true, false, List, [], ◌∷◌, Option, Some, None, Contains, IsTrue, map}
+use Rattle.std.specs.Prelude.{◌≡◌, ◌↔◌, ◌++◌, ℕ, Bool, true, false, List, [], ◌∷◌, Option, Some, None, Contains, map}
 use Rattle.std.specs.List.{AllByRecursion}
 use Rattle.dnsv_names.specs.Name.{Labels}
 use Rattle.dnsv_records.specs.declared.rrsig.Rrsig.{Rrsig}
@@ -8,10 +8,10 @@ use Rattle.dnsv_chain.specs.Trusted.{SignsItsSet}
 use Rattle.dnsv_verifier.specs.Admissible.{DnskeyRecord}
 use Rattle.dnsv_verifier.specs.Asking.{IsKeyOf}
 use Rattle.dnsv_verifier.specs.declared.answer.Answer.{Answer}
-use Rattle.dnsv_verifier.specs.declared.answer.Answer.TheVariants.{Valid, Invalid, Unknown}
+use Rattle.dnsv_verifier.specs.declared.answer.Answer.TheVariants.{Invalid, Unknown}
 use Rattle.dnsv_explain.specs.Explained.{Setting}
 use Rattle.dnsv_explain.specs.Following.{IsNamed}
-use Rattle.dnsv_explain.specs.faults.Entries.{HasTag, IsFaultOfEntry, IsFirstOf, IsMatchOf, IsWantedBy, Wanted}
+use Rattle.dnsv_explain.specs.faults.Entries.{HasTag, IsFaultOfEntry, IsMatchOf, IsWantedBy, Wanted}
 use Rattle.dnsv_explain.specs.faults.Entries.Wanted.{by_digest, whole_key}
 use Rattle.dnsv_explain.specs.faults.Keys.{IsKeyAt, named_by}
 use Rattle.dnsv_explain.specs.faults.Listing.{AreThose, AreWhere}
@@ -80,12 +80,12 @@ IsKeyWordBy keys wanted (Some why.DigestDiffers) =
     HasAmong (IsWantedBy wanted) keys × (¬ HasAmong (IsMatchOf wanted) keys)
 IsKeyWordBy keys wanted (Some word) = ⊥
 
--- the lead has the word that is said of it
+-- it has the word that is said of it
 abbrev pub IsJudgedBy : List DnskeyRecord → Judged → Type 0
 IsJudgedBy keys judged = IsWordBy keys (wanted_in judged) judged.word
 
-abbrev pub IsJudgedAs : List DnskeyRecord → Lead → Judged → Type 0
-IsJudgedAs keys lead judged = (wanted_in judged ≡ wanted_of lead) × IsJudgedBy keys judged
+abbrev pub IsJudgedAs : List DnskeyRecord → Wanted → Judged → Type 0
+IsJudgedAs keys wanted judged = (wanted_in judged ≡ wanted) × IsJudgedBy keys judged
 
 -- the same of a zone
 abbrev pub IsJudgedAt : List ReceivedRrset → Labels → Judged → Type 0
@@ -101,6 +101,11 @@ pub record AddsJudged (keys : List DnskeyRecord) (Are : List Wanted → Type 0) 
   pub more : List Judged
   pub is : new ≡ old ++ more
   pub judged : AreJudged keys Are more
+
+-- keys with its tag and algorithm are there, of which none has its digest
+abbrev pub differs : WhyEntry → Bool
+differs why.DigestDiffers = true
+differs _ = false
 
 -- ---- groups
 

@@ -2,7 +2,6 @@
 use Rattle.std.specs.Prelude.{◌≡◌, ◌≢◌, ◌⊎◌, ◌≤◌, ℕ, List, [], Contains, length}
 use Rattle.dnsv_names.specs.Name.{Labels, SameName, IsAtOrBelow}
 use Rattle.dnsv_names.specs.Order.{IsBelow}
-use Rattle.dnsv_records.specs.Rrsig.{IsRrsig}
 use Rattle.dnsv_records.specs.declared.rrsig.Rrsig.{Rrsig}
 use Rattle.dnsv_zones.specs.zones.TypeNumbers.{cname, ds, nsec}
 use Rattle.dnsv_canonical.specs.Rrsets.{IsNumbered, ReceivedRrset}

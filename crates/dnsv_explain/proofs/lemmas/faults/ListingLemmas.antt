@@ -1,10 +1,9 @@
 -- Lists of what is so, and loops that make them.
-use Rattle.std.proofs.Common.{◌≡◌, ◌<◌, ◌≤◌, ◌+◌, ◌↔◌, ℕ, Bool, true, false, cond, inl, inr, List, [], ◌∷◌, ◌++◌, length, map, filter, take, get_or, refl, sym, ap, ◌∙◌, subst, arith, ⊎_elim, append_assoc, IsTrue}
+use Rattle.std.proofs.Common.{◌≡◌, ◌<◌, ◌≤◌, ◌+◌, ◌↔◌, ℕ, Bool, true, false, cond, inl, inr, List, [], ◌∷◌, ◌++◌, length, map, filter, take, get_or, refl, sym, ap, ◌∙◌, subst, arith, append_assoc, IsTrue}
 use Rattle.std.proofs.lemmas.Bool.{false≢true}
 use Rattle.std.proofs.lemmas.List.{append-nil, length-take-le, map-append, take_all, take_more}
 use Rattle.std.proofs.lemmas.List.Elements.{filter-append}
 use Rattle.std.specs.List.{AllByRecursion}
-use Rattle.dnsv_explain.specs.Saying.{Adds}
 use Rattle.dnsv_explain.specs.faults.Listing.{AddsThose, AreOfEach, AreOfNumbered, AreParted, AreThose, AreWhere}
 use Rattle.dnsv_explain.specs.declared.line.Line.{Line}
 
@@ -69,10 +68,6 @@ module _ {X : Type 0} (Such : X → Type 0) where
     those_skip those never are =
         let Those : List X → Type 0 = λ each. AreThose Such each those in
         subst Those (sym longer) (those_past (take i xs) x those never are)
-
-  pub those_all : (xs : List X) (n : ℕ) (those : List X) → length xs ≤ n → AreThose Such (take n xs) those → AreThose Such xs those
-  those_all xs n those past are =
-      let Those : List X → Type 0 = λ each. AreThose Such each those in subst Those (take_all n xs past) are
 
 -- ---- the same list by another name
 

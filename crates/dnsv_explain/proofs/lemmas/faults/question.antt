@@ -15,4 +15,5 @@ pub mod PartLemmas
 pub mod SameLemmas
 pub mod SignerLemmas
 pub mod SubjectLemmas
+pub mod UnmetLemmas
 pub mod ZoneLemmas

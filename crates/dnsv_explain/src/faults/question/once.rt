@@ -1,10 +1,9 @@
 //! Lines that are said once.
 ghost use Rattle.std.specs.Prelude.{◌≡◌, ◌↔◌, ◌++◌, ◌∷◌, [], cond, IfOk, IsTrue, OnOk};
 ghost use Rattle.dnsv_canonical.specs.Rrsets.{first_appearances};
-ghost use Rattle.dnsv_names.specs.Name.{Labels};
-ghost use Rattle.dnsv_verdict.specs.Verdict.{HasAnchor};
-ghost use Rattle.dnsv_explain.specs.Explained.{Setting, setting_in};
+ghost use Rattle.dnsv_explain.specs.Explained.{setting_in};
 ghost use Rattle.dnsv_explain.specs.faults.Listing.{AreThose};
+ghost use Rattle.dnsv_explain.specs.faults.NeededSearch.{IsSaidWhere};
 ghost use Rattle.dnsv_explain.specs.faults.Order.{IsSaid, same_text};
 ghost use Rattle.dnsv_explain.specs.line.{line_text};
 
@@ -25,8 +24,7 @@ pub fn keep_said(evidence: &Evidence<'_>, name: &Name, lines: &mut Vec<Line>)
 
 /// Whether the line is said where a trust anchor is at or above the name, or isn't.
 fn is_said(anchored: bool, line: &Line) -> bool
-    ensures { (setting : Setting) (name : Labels) → IsTrue anchored ↔ HasAnchor setting.anchors name
-        → IsTrue result ↔ IsSaid setting name line.now }
+    ensures { IsTrue result ↔ IsSaidWhere anchored line.now }
 {
     match line {
         Line::Follows(_) => anchored,

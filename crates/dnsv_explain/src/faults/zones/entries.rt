@@ -94,7 +94,7 @@ fn lead_of(number: usize, anchor: &Anchor) -> Lead<'_>
 
 /// The lead with its word.
 fn judge<'a>(keys: &[KeyRecord<'_>], lead: Lead<'a>) -> Judged<'a>
-    ensures { IsJudgedAs keys.now lead.entry result }
+    ensures { IsJudgedAs keys.now (wanted_of lead.entry) result }
 {
     Judged {
         lead,

@@ -6,7 +6,7 @@ ghost use Rattle.dnsv_explain.specs.Explained.{setting_in};
 ghost use Rattle.dnsv_explain.specs.faults.Entries.{entry_rank};
 ghost use Rattle.dnsv_explain.specs.faults.Listing.{AddsThose, AreOfEach};
 ghost use Rattle.dnsv_explain.specs.faults.ZoneLines.{AreEntryLines, AreRankLines, AreWordLines, entry_line};
-ghost use Rattle.dnsv_explain.specs.faults.ZoneSearch.{IsJudgedAt, wanted_in, wanted_of};
+ghost use Rattle.dnsv_explain.specs.faults.ZoneSearch.{IsJudgedAt, differs, wanted_in, wanted_of};
 
 use crate::evidence::Evidence;
 use crate::faults::zones::entries::Judged;
@@ -147,7 +147,7 @@ fn add_word(
         return Ok(());
     };
     add_entry_fault(lines, zone, lead, why)?;
-    if why == WhyEntry::DigestDiffers {
+    if differs(why) {
         let meant = Meant {
             lead,
             is_matched: false,
@@ -155,6 +155,16 @@ fn add_word(
         add_self_faults(alloc, evidence, keys, lines, zone, meant)?;
     }
     Ok(())
+}
+
+/// Whether keys have its tag and algorithm, and none its digest.
+fn differs(why: WhyEntry) -> bool
+    ensures { result ≡ differs why }
+{
+    match why {
+        WhyEntry::DigestDiffers => true,
+        _ => false,
+    }
 }
 
 /// Adds the word.

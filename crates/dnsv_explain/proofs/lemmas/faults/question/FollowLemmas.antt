@@ -3,6 +3,7 @@ use Rattle.std.proofs.Common.{◌≡◌, ◌+◌, ◌-◌, ◌⊎◌, ℕ, List,
 use Rattle.std.proofs.lemmas.Option.{slice_get_within, get_or_from_slice_get}
 use Rattle.std.specs.List.{Contains, slice_get}
 use Rattle.dnsv_names.specs.Name.{Labels, IsAtOrBelow, SameName}
+use Rattle.dnsv_names.specs.Order.{IsBelow}
 use Rattle.dnsv_names.specs.Tree.TreeLaws.{at_or_below_or_not}
 use Rattle.dnsv_records.specs.declared.rrsig.Rrsig.{Rrsig}
 use Rattle.dnsv_canonical.specs.Rrsets.{ReceivedRrset}
@@ -42,7 +43,7 @@ zone_has_keys : (setting : Setting) (zone : Labels) → IsTrustedZone setting zo
 zone_has_keys setting zone is = keys_of_set setting zone is.set is.trusted is.owner
 
 -- where none is kept, none of the list is such
-none_such : {X : Type 0} (Such : X → Type 0) (xs : List X) → AreThose Such xs [] → (x : X) → Contains xs x → ¬ Such x
+pub none_such : {X : Type 0} (Such : X → Type 0) (xs : List X) → AreThose Such xs [] → (x : X) → Contains xs x → ¬ Such x
 none_such Such [] none x there such = none_in [] x refl there
 none_such {X = X} Such (first ∷ xs) (inl out) x there such =
     ⊎_elim (λ (same : x ≡ first). out.0 (subst Such same such))
@@ -50,10 +51,11 @@ none_such {X = X} Such (first ∷ xs) (inl out) x there such =
     (first_or_rest first xs x there)
 none_such Such (first ∷ xs) (inr into) x there such = let never : ⊥ = let is = into.1.2 in cc in never
 
--- the signer is one of the RRset, is at or above its owner, and isn't trusted
+-- the signer is one of the RRset, is at or above its owner, of DS above it, and isn't trusted
 pub record IsUntrustedOf (setting : Setting) (rrset : ReceivedRrset) (signer : Labels) : Type 0 where
   pub its : HasSigner rrset signer
   pub above : IsAtOrBelow rrset.owner signer
+  pub below : rrset.rtype ≡ 43 → ¬ ¬ IsBelow rrset.owner signer
   pub never : ¬ IsTrustedZone setting signer
 
 module _ (setting : Setting) where
@@ -64,12 +66,23 @@ module _ (setting : Setting) where
     same_signer : (said : UntrustedSigner) → line.Follows said ≡ follows_line shown → said.signature.signer ≡ rrsig.signer
     same_signer said same = let equal : said.signature ≡ shown = cc in ap (λ (each : ShownSignature). each.signer) equal
 
-    signer_so : (said : UntrustedSigner) → line.Follows said ≡ follows_line shown → IsAtOrBelow rrset.owner rrsig.signer
+    signer_above : ¬ ¬ MaySign rrsig.signer rrset.rtype rrset.owner → IsAtOrBelow rrset.owner rrsig.signer
+    signer_above may = ⊎_elim
+        (λ (above : IsAtOrBelow rrset.owner rrsig.signer). above)
+        (λ (not : ¬ IsAtOrBelow rrset.owner rrsig.signer). absurd (may (λ does. not does.above)))
+        (at_or_below_or_not rrset.owner rrsig.signer)
+
+    signer_so : (said : UntrustedSigner) → line.Follows said ≡ follows_line shown → ¬ ¬ MaySign rrsig.signer rrset.rtype rrset.owner
         → ¬ IsTrustedZone setting rrsig.signer → IsUntrustedOf setting rrset said.signature.signer
-    signer_so said same above never =
+    signer_so said same may never =
         let Untrusted : Labels → Type 0 = IsUntrustedOf setting rrset in
         subst Untrusted (sym (same_signer said same))
-        (record { its = record { rrsig = rrsig; its = its; signer = refl }; above = above; never = never })
+        (record {
+          its = record { rrsig = rrsig; its = its; signer = refl };
+          above = signer_above may;
+          below = λ is not. may (λ does. not (does.ds is));
+          never = never;
+        })
 
     follows_alone : (said : UntrustedSigner) → Contains (follows_line shown ∷ []) (line.Follows said)
         → line.Follows said ≡ follows_line shown
@@ -84,22 +97,13 @@ module _ (setting : Setting) where
         (λ (later : Contains [] (line.Follows said)). none_in [] (line.Follows said) refl later)
         (first_or_rest (fault_line shown word) [] (line.Follows said) there)
 
-    remark_follows : (lines : List Line) → IsAtOrBelow rrset.owner rrsig.signer → IsRemark setting rrset rrsig shown lines
+    remark_follows : (lines : List Line) → ¬ ¬ MaySign rrsig.signer rrset.rtype rrset.owner → IsRemark setting rrset rrsig shown lines
         → (said : UntrustedSigner) → Contains lines (line.Follows said) → IsUntrustedOf setting rrset said.signature.signer
-    remark_follows lines above (no_keys none) said there =
-        signer_so said (follows_alone said there) above (λ trusted. none (zone_has_keys setting rrsig.signer trusted))
-    remark_follows lines above (of_answers word has of is) said there = absurd (reason_alone word said there)
-    remark_follows lines above (untrusted good never) said there = signer_so said (follows_alone said there) above never
-    remark_follows lines above (nothing has none known) said there = absurd (none_in [] (line.Follows said) refl there)
-
-    -- of a signature without faults the signer is at or above the owner
-    signer_above : AreFaults setting rrset rrsig [] → IsAtOrBelow rrset.owner rrsig.signer
-    signer_above none = ⊎_elim
-        (λ (above : IsAtOrBelow rrset.owner rrsig.signer). above)
-        (λ (never : ¬ IsAtOrBelow rrset.owner rrsig.signer).
-        absurd (none_such (IsTrueOf setting rrset rrsig) (asked_before setting.moment rrsig) none why.Signer (1, omega arith, refl)
-        (λ may. never may.above)))
-        (at_or_below_or_not rrset.owner rrsig.signer)
+    remark_follows lines may (no_keys none) said there =
+        signer_so said (follows_alone said there) may (λ trusted. none (zone_has_keys setting rrsig.signer trusted))
+    remark_follows lines may (of_answers word has of is) said there = absurd (reason_alone word said there)
+    remark_follows lines may (untrusted good never) said there = signer_so said (follows_alone said there) may never
+    remark_follows lines may (nothing has none known) said there = absurd (none_in [] (line.Follows said) refl there)
 
     signature_follows : (lines : List Line) → AreSignatureLines setting k s rrset rrsig lines → (said : UntrustedSigner)
         → Contains lines (line.Follows said) → IsUntrustedOf setting rrset said.signature.signer
@@ -107,7 +111,9 @@ module _ (setting : Setting) where
         let from = contains_from_map (fault_line shown) faults (line.Follows said) there in
         let never : ⊥ = let is = from.2 in cc in absurd never
     signature_follows lines (without_faults all none remark) said there =
-        remark_follows all (signer_above none) remark said there
+        remark_follows all
+        (λ never. none_such (IsTrueOf setting rrset rrsig) (asked_before setting.moment rrsig) none why.Signer (1, omega arith, refl) never)
+        remark said there
 
   -- what the lines of an RRset say of signers is so
   pub rrset_follows : (k : ℕ) (rrset : ReceivedRrset) (lines : List Line) → AreRrsetLines setting k rrset lines → (said : UntrustedSigner)

@@ -1,5 +1,5 @@
 -- Lines of which those with one text are said once.
-use Rattle.std.proofs.Common.{◌≡◌, ◌||◌, ◌++◌, ◌∷◌, [], ℕ, suc, ◌+◌, Bool, true, false, cond, not, List, Vec, length, refl, sym, ap, ◌∙◌, append_assoc, append-nil, arith}
+use Rattle.std.proofs.Common.{◌≡◌, ◌↔◌, IsTrue, ◌||◌, ◌++◌, ◌∷◌, [], ℕ, suc, ◌+◌, Bool, true, false, cond, not, List, Vec, length, refl, sym, ap, ◌∙◌, append_assoc, append-nil, arith}
 use Rattle.std.proofs.lemmas.List.Folds.{list_any-append}
 use Rattle.std.proofs.lemmas.Map.Text.{is_eq-slice_cmp}
 use Rattle.std.specs.BTreeSet as sorted
@@ -11,9 +11,31 @@ use Rattle.std.specs.Str.{bytes_eq}
 use Rattle.std.specs.declared.cmp.Ordering.{Ordering}
 use Rattle.dnsv_canonical.proofs.GroupLemmas.{first_appearances-push}
 use Rattle.dnsv_canonical.specs.Rrsets.{first_appearances}
-use Rattle.dnsv_explain.specs.faults.Order.{same_text}
+use Rattle.dnsv_names.specs.Name.{Labels}
+use Rattle.dnsv_verdict.specs.Verdict.{HasAnchor}
+use Rattle.dnsv_explain.specs.Explained.{Setting}
+use Rattle.dnsv_explain.specs.faults.NeededSearch.{IsSaidWhere}
+use Rattle.dnsv_explain.specs.faults.Order.{IsSaid, same_text}
 use Rattle.dnsv_explain.specs.line.{line_text}
 use Rattle.dnsv_explain.specs.declared.line.Line.{Line}
+use Rattle.dnsv_explain.specs.declared.line.Line.TheVariants as line
+
+-- ---- where a trust anchor is at or above the name
+
+pub said_where : (setting : Setting) (name : Labels) (anchored : Bool) → IsTrue anchored ↔ HasAnchor setting.anchors name → (each : Line)
+    → IsSaidWhere anchored each ↔ IsSaid setting name each
+said_where setting name anchored test (line.Follows untrusted) = test
+said_where setting name anchored test (line.Trusted said) = (λ is. is, λ is. is)
+said_where setting name anchored test (line.Signed said) = (λ is. is, λ is. is)
+said_where setting name anchored test (line.Proof said) = (λ is. is, λ is. is)
+said_where setting name anchored test (line.Part said) = (λ is. is, λ is. is)
+said_where setting name anchored test (line.Case said) = (λ is. is, λ is. is)
+said_where setting name anchored test (line.Unusable said) = (λ is. is, λ is. is)
+said_where setting name anchored test (line.Hope said) = (λ is. is, λ is. is)
+said_where setting name anchored test (line.Holds said) = (λ is. is, λ is. is)
+said_where setting name anchored test (line.Reason said) = (λ is. is, λ is. is)
+said_where setting name anchored test (line.Key said) = (λ is. is, λ is. is)
+said_where setting name anchored test (line.Rrset said) = (λ is. is, λ is. is)
 
 -- ---- the texts that were seen
 

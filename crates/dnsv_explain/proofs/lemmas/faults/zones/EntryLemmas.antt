@@ -1,8 +1,8 @@
 -- What leads into a zone, and the words that are said of it.
-use Rattle.std.proofs.Common.{◌≡◌, ◌≢◌, ◌<◌, ◌≤◌, ◌+◌, ◌↔◌, ◌⊎◌, ℕ, suc, Bool, true, false, inl, inr, List, [], ◌∷◌, ◌++◌, Option, Some, None, length, get_or, map, take, refl, sym, ap, ◌∙◌, subst, ⊎_elim, arith, append_assoc, IsTrue}
+use Rattle.std.proofs.Common.{◌≡◌, ◌≢◌, ◌<◌, ◌≤◌, ◌+◌, ◌↔◌, ◌⊎◌, ℕ, Bool, true, false, inl, inr, List, [], ◌∷◌, ◌++◌, Option, Some, None, length, get_or, map, take, refl, sym, ap, ◌∙◌, subst, ⊎_elim, arith, append_assoc}
 use Rattle.std.proofs.lemmas.Bool.{false≢true}
 use Rattle.std.proofs.lemmas.List.{append-nil, get_or-map, length-map, map-append, take_all}
-use Rattle.std.specs.List.{AllByRecursion, AllZip, Contains}
+use Rattle.std.specs.List.{AllByRecursion, AllZip}
 use Rattle.std.specs.Prelude.{is_some}
 use Rattle.dnsv_names.specs.Name.{Labels}
 use Rattle.dnsv_records.specs.Ds.{IsDs}
@@ -13,11 +13,10 @@ use Rattle.dnsv_canonical.specs.Rrsets.{ReceivedRrset}
 use Rattle.dnsv_verifier.specs.Admissible.{DnskeyRecord}
 use Rattle.dnsv_explain.specs.Explained.{Setting}
 use Rattle.dnsv_explain.specs.faults.Entries.{IsEntryFault, IsFaultOfEntry, IsFirstOf, Wanted, entry_words}
-use Rattle.dnsv_explain.specs.faults.Listing.{AreOfNumbered, AreParted, AreThose, AreWhere}
+use Rattle.dnsv_explain.specs.faults.Listing.{AreOfNumbered, AreParted, AreThose}
 use Rattle.dnsv_explain.specs.faults.ZoneLines.{AreDsWanted, AreRecordsOf, AreSaidOf, IsLeftOut}
-use Rattle.dnsv_explain.specs.faults.ZoneSearch.{AddsJudged, AddsMatching, AreJudged, AreKeysAt, HasMatch, IsJudgedAs, IsJudgedAt, IsJudgedBy, IsTaken, wanted_in, wanted_of}
+use Rattle.dnsv_explain.specs.faults.ZoneSearch.{AddsJudged, AddsMatching, AreJudged, AreKeysAt, IsJudgedAs, IsJudgedAt, IsJudgedBy, IsTaken, wanted_in}
 use Rattle.dnsv_explain.specs.declared.faults.zones.entries.Judged.{Judged}
-use Rattle.dnsv_explain.specs.declared.faults.zones.lead.Lead.{Lead}
 use Rattle.dnsv_explain.specs.declared.line.fault.zone.WhyEntry.{WhyEntry}
 use Rattle.dnsv_explain.proofs.lemmas.derivations.WayLemmas.KeysLemmas.{from, read_there}
 use Rattle.dnsv_explain.proofs.lemmas.derivations.WayLemmas.RankLemmas.{ds_read, forms_of}
@@ -185,17 +184,17 @@ module _ {X : Type 0} (keys : List DnskeyRecord) (Are : ℕ → X → List Wante
       subst Judged0 (sym none) (record { are = refl; each = tt })
 
   module _ (i : ℕ) (d x : X) (within : i < length xs) (at : x ≡ get_or xs i d) where
-    pub judged_next : (before after : List Judged) (lead : Lead) (one : Judged) → IsJudgedAs keys lead one
-        → Are (i + 1) x (wanted_of lead ∷ []) → after ≡ before ++ one ∷ [] → AreJudged keys (AreOfNumbered Are 1 (take i xs)) before
+    pub judged_next : (before after : List Judged) (wanted : Wanted) (one : Judged) → IsJudgedAs keys wanted one
+        → Are (i + 1) x (wanted ∷ []) → after ≡ before ++ one ∷ [] → AreJudged keys (AreOfNumbered Are 1 (take i xs)) before
         → AreJudged keys (AreOfNumbered Are 1 (take (i + 1) xs)) after
-    judged_next before after lead one judged are is so_far =
+    judged_next before after wanted one judged are is so_far =
         let All : List Wanted → Type 0 = λ wanted. AreOfNumbered Are 1 (take (i + 1) xs) wanted in
         let JudgedAll : List Judged → Type 0 = λ each. AreJudged keys All each in
-        let last : wanted_of lead ∷ [] ≡ map wanted_in (one ∷ []) = ap (λ each. each ∷ []) (sym judged.0) in
-        let wanted : map wanted_in before ++ wanted_of lead ∷ [] ≡ map wanted_in (before ++ one ∷ []) =
+        let last : wanted ∷ [] ≡ map wanted_in (one ∷ []) = ap (λ each. each ∷ []) (sym judged.0) in
+        let longer : map wanted_in before ++ wanted ∷ [] ≡ map wanted_in (before ++ one ∷ []) =
         ap (λ each. map wanted_in before ++ each) last ∙ sym (map-append wanted_in before (one ∷ [])) in
         subst JudgedAll (sym is) (record {
-          are = subst All wanted (numbered_next Are xs i d x (map wanted_in before) (wanted_of lead ∷ []) within at so_far.are are);
+          are = subst All longer (numbered_next Are xs i d x (map wanted_in before) (wanted ∷ []) within at so_far.are are);
           each = all_append (IsJudgedBy keys) before (one ∷ []) so_far.each (judged.1, tt);
         })
 

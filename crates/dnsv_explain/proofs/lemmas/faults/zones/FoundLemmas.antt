@@ -1,5 +1,5 @@
 -- The keys of a zone.
-use Rattle.std.proofs.Common.{◌≡◌, ◌↔◌, List, [], subst, sym, ⊎_elim, arith}
+use Rattle.std.proofs.Common.{List, [], subst, sym, ⊎_elim, arith}
 use Rattle.std.specs.List.{Contains}
 use Rattle.dnsv_names.specs.Name.{Labels, SameName}
 use Rattle.dnsv_canonical.specs.Rrsets.{ReceivedRrset}

@@ -1,9 +1,7 @@
 -- DS RRsets that lead into a zone.
-use Rattle.std.proofs.Common.{◌≡◌, ◌≢◌, ◌↔◌, ℕ, Bool, true, false, inl, inr, List, [], ◌∷◌, ◌++◌, refl, sym, ap, ◌∙◌, subst, append_assoc, IsTrue}
-use Rattle.std.proofs.lemmas.Bool.{false≢true}
+use Rattle.std.proofs.Common.{◌≡◌, ℕ, inl, List, [], ◌++◌, sym, ap, ◌∙◌, subst}
 use Rattle.std.specs.List.{AllZip}
 use Rattle.dnsv_names.specs.Name.{IsAtOrBelow, Labels, SameName}
-use Rattle.dnsv_names.specs.Order.{IsBelow}
 use Rattle.dnsv_records.specs.Rrsig.{IsRrsig}
 use Rattle.dnsv_records.specs.declared.rrsig.Rrsig.{Rrsig}
 use Rattle.dnsv_canonical.specs.Rrsets.{IsNumbered, ReceivedRrset}
@@ -15,16 +13,10 @@ use Rattle.dnsv_explain.specs.faults.ZoneLines.{AreWayLines, IsOfParent}
 use Rattle.dnsv_explain.specs.faults.ZoneSearch.{HasParentSigner}
 use Rattle.dnsv_explain.specs.faults.Zones.{HasOwnAnchor, IsDsWay, MayBeParent}
 use Rattle.dnsv_explain.specs.declared.line.Line.{Line}
-use Rattle.dnsv_explain.proofs.lemmas.faults.ListingLemmas.{added_as, where_added}
+use Rattle.dnsv_explain.proofs.lemmas.faults.ListingLemmas.{added_as}
 use Rattle.dnsv_explain.proofs.lemmas.faults.zones.OwnKeyLemmas.{its_rrsig, its_signature}
 
 module _ (setting : Setting) (zone : Labels) where
-  -- ---- whether a signer is a parent
-
-  pub above_all : (signer : Labels) → IsAtOrBelow zone signer → ¬ SameName zone signer
-      → (HasOwnAnchor setting.anchors zone → HasAnchor setting.anchors signer) → MayBeParent setting zone signer
-  above_all signer above other anchored = record { above = (above, other); anchored = anchored }
-
   -- ---- whether the RRset leads into the zone
 
   module _ (k : ℕ) (rrset : ReceivedRrset) (numbered : IsNumbered setting.rrsets k rrset) (rrsigs : List Rrsig)

@@ -1,17 +1,18 @@
 -- The lines of what leads into a zone, by rank.
-use Rattle.std.proofs.Common.{◌≡◌, ◌≢◌, ◌<◌, ◌≤◌, ◌+◌, ℕ, inl, inr, List, [], ◌∷◌, ◌++◌, Option, Some, None, length, get_or, map, take, refl, sym, ap, ◌∙◌, subst}
+use Rattle.std.proofs.Common.{◌≡◌, ◌≢◌, ℕ, true, false, List, [], ◌∷◌, ◌++◌, Option, Some, map, refl, sym, ap, ◌∙◌, subst}
+use Rattle.std.proofs.lemmas.Bool.{false≢true}
 use Rattle.dnsv_names.specs.Name.{Labels}
 use Rattle.dnsv_explain.specs.Explained.{Setting}
-use Rattle.dnsv_explain.specs.faults.Entries.{IsFaultOfEntry, IsMatchOf, IsWantedBy, Wanted, entry_rank}
-use Rattle.dnsv_explain.specs.faults.Listing.{AddsThose, AreOfEach, AreOfNumbered, AreParted}
+use Rattle.dnsv_explain.specs.faults.Entries.{IsWantedBy, Wanted, entry_rank}
+use Rattle.dnsv_explain.specs.faults.Listing.{AddsThose, AreOfEach, AreOfNumbered}
 use Rattle.dnsv_explain.specs.faults.ZoneLines.{AreRankLines, AreSelfFaults, AreWordLines, entry_line}
 use Rattle.dnsv_explain.specs.faults.ZoneLines.AreRankLines.{said, unsaid}
-use Rattle.dnsv_explain.specs.faults.ZoneSearch.{IsJudgedAt, wanted_in}
+use Rattle.dnsv_explain.specs.faults.ZoneSearch.{IsJudgedAt, differs, wanted_in}
 use Rattle.dnsv_explain.specs.declared.faults.zones.entries.Judged.{Judged}
 use Rattle.dnsv_explain.specs.declared.line.Line.{Line}
 use Rattle.dnsv_explain.specs.declared.line.fault.zone.WhyEntry.{WhyEntry}
 use Rattle.dnsv_explain.specs.declared.line.fault.zone.WhyEntry.TheVariants as why
-use Rattle.dnsv_explain.proofs.lemmas.faults.ListingLemmas.{added_as, all_added, each_of_numbered, none_added, parted_added, those_added}
+use Rattle.dnsv_explain.proofs.lemmas.faults.ListingLemmas.{added_as, each_of_numbered, none_added, parted_added}
 
 -- of what is mapped to
 each_mapped : {W X Y : Type 0} (f : W → X) (Are : X → List Y → Type 0) (xs : List W) (ys : List Y) → AreOfEach (λ x. Are (f x)) xs ys
@@ -24,6 +25,14 @@ each_mapped f Are (x ∷ xs) ys each = record {
   is_first = each.is_first;
   is_second = each_mapped f Are xs each.second each.is_second;
 }
+
+differs_as : (word : WhyEntry) → differs word ≡ true → word ≡ why.DigestDiffers
+differs_as why.DigestDiffers so = refl
+differs_as why.Algorithm so = absurd (false≢true so)
+differs_as why.DigestType so = absurd (false≢true so)
+differs_as why.DigestIgnored so = absurd (false≢true so)
+differs_as why.KeyMissing so = absurd (false≢true so)
+differs_as why.KeyAlgorithm so = absurd (false≢true so)
 
 module _ (setting : Setting) (zone : Labels) where
   -- ---- words
@@ -43,6 +52,24 @@ module _ (setting : Setting) (zone : Labels) where
   alone_added wanted why.KeyMissing old new alone is = record { more = entry_line zone wanted why.KeyMissing ∷ []; is = is; says = refl }
   alone_added wanted why.KeyAlgorithm old new alone is = record { more = entry_line zone wanted why.KeyAlgorithm ∷ []; is = is; says = refl }
   alone_added wanted why.DigestDiffers old new alone is = absurd (alone refl)
+
+  -- of the word by its test
+  module _ (wanted : Wanted) (word : Option WhyEntry) (its : WhyEntry) (is_word : word ≡ Some its) where
+    pub test_true : (old mid new : List Line) → differs its ≡ true → mid ≡ old ++ entry_line zone wanted its ∷ []
+        → AddsThose (AreSelfFaults setting zone (IsWantedBy wanted)) mid new → AddsThose (AreWordLines setting zone wanted word) old new
+    test_true old mid new so is added =
+        let same : its ≡ why.DigestDiffers = differs_as its so in
+        let Word : Option WhyEntry → Type 0 = λ each. AddsThose (AreWordLines setting zone wanted each) old new in
+        let Is : WhyEntry → Type 0 = λ each. mid ≡ old ++ entry_line zone wanted each ∷ [] in
+        subst Word (sym (is_word ∙ ap (λ each. Some each) same)) (differs_added wanted old mid new (subst Is same is) added)
+
+    pub test_false : (old new : List Line) → differs its ≡ false → new ≡ old ++ entry_line zone wanted its ∷ []
+        → AddsThose (AreWordLines setting zone wanted word) old new
+    test_false old new isnt is =
+        let Word : Option WhyEntry → Type 0 = λ each. AddsThose (AreWordLines setting zone wanted each) old new in
+        let other : its ≢ why.DigestDiffers =
+        λ same. false≢true (sym isnt ∙ ap differs same) in
+        subst Word (sym is_word) (alone_added wanted its old new other is)
 
   -- ---- ranks
 

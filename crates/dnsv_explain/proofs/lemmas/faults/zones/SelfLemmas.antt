@@ -1,8 +1,8 @@
 -- Keys that sign the DNSKEY RRset in which they stand, and those that don't.
-use Rattle.std.proofs.Common.{◌≡◌, ◌<◌, ◌≤◌, ◌+◌, ◌-◌, ◌↔◌, ℕ, Bool, true, false, inl, inr, List, [], ◌∷◌, ◌++◌, Option, Some, None, length, get_or, take, refl, sym, ap, ◌∙◌, subst, ⊎_elim, arith, IsTrue}
+use Rattle.std.proofs.Common.{◌≡◌, ◌<◌, ◌≤◌, ◌+◌, ◌↔◌, ℕ, Bool, true, false, inl, inr, List, [], ◌∷◌, ◌++◌, Option, Some, None, length, get_or, take, refl, sym, ap, ◌∙◌, subst, ⊎_elim, arith, IsTrue}
 use Rattle.std.proofs.lemmas.Bool.{false≢true}
 use Rattle.std.proofs.lemmas.List.{take_all, take_more}
-use Rattle.std.proofs.lemmas.List.Elements.{Contains-get_or, Contains-push_cases}
+use Rattle.std.proofs.lemmas.List.Elements.{Contains-push_cases}
 use Rattle.std.specs.List.{Contains}
 use Rattle.std.specs.Prelude.{MatchOption, is_some}
 use Rattle.dnsv_names.specs.Name.{Labels}
@@ -27,9 +27,6 @@ abbrev pub NoneOf : {X : Type 0} → (X → Type 0) → List X → Type 0
 NoneOf {X} Such xs = (x : X) → Contains xs x → ¬ Such x
 
 module _ {X : Type 0} (Such : X → Type 0) (xs : List X) where
-  pub none_first : NoneOf Such (take 0 xs)
-  none_first x there such = let within = there.1 in absurd (omega (arith, within))
-
   pub none_next : (i : ℕ) (d x : X) → i < length xs → x ≡ get_or xs i d → ¬ Such x → NoneOf Such (take i xs)
       → NoneOf Such (take (i + 1) xs)
   none_next i d x within at never none y there such =
@@ -90,18 +87,9 @@ module _ (setting : Setting) (zone : Labels) (Meant : DnskeyRecord → Type 0) w
 
   -- ---- whether one does
 
-  pub signed_in : (set : ReceivedRrset) (key : DnskeyRecord) → IsKeysAt zone set → SignsAsMeant set key
-      → IsSelfSignedIn setting zone Meant set
-  signed_in set key at both = record { at = at; key = key; meant = both.0; signs = both.1 }
-
   pub none_signed_in : (set : ReceivedRrset) → ((key : DnskeyRecord) → IsKeyOf set key → ¬ SignsAsMeant set key)
       → ¬ IsSelfSignedIn setting zone Meant set
   none_signed_in set none is = none is.key is.signs.stands (is.meant, is.signs)
-
-  pub some_signed : (set : ReceivedRrset) → Contains setting.rrsets set → IsSelfSignedIn setting zone Meant set
-      → IsSomeSelfSigned setting zone Meant
-  some_signed set there is =
-      record { set = set; among = there; owner = is.at.owner; key = is.key; meant = is.meant; signs = is.signs }
 
   pub none_signed : NoneOf (IsSelfSignedIn setting zone Meant) setting.rrsets → ¬ IsSomeSelfSigned setting zone Meant
   none_signed none is =

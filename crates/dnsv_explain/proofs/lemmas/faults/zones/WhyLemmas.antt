@@ -1,8 +1,7 @@
 -- Why a signature isn't good under a key.
-use Rattle.std.proofs.Common.{◌≡◌, ◌≢◌, ◌↔◌, ◌<◌, ℕ, Bool, true, false, inl, inr, List, [], ◌∷◌, ◌++◌, Option, Some, None, length, map, get_or, refl, sym, ap, ◌∙◌, subst, ⊎_elim, arith, IsTrue}
-use Rattle.std.proofs.lemmas.Bool.{false≢true}
+use Rattle.std.proofs.Common.{◌≡◌, ◌↔◌, ℕ, Bool, true, inl, inr, List, [], ◌∷◌, Option, Some, None, get_or, refl, sym, subst, ⊎_elim, arith, IsTrue}
 use Rattle.std.specs.List.{Contains}
-use Rattle.dnsv_names.specs.Name.{Labels, SameName}
+use Rattle.dnsv_names.specs.Name.{SameName}
 use Rattle.dnsv_records.specs.declared.rrsig.Rrsig.{Rrsig}
 use Rattle.dnsv_canonical.specs.Rrsets.{ReceivedRrset}
 use Rattle.dnsv_verifier.specs.Admissible.{DnskeyRecord, IsKeyAmong}

@@ -1,5 +1,5 @@
 -- Which word is said of what leads into a zone.
-use Rattle.std.proofs.Common.{◌≡◌, ◌↔◌, ◌≤◌, ℕ, inl, inr, List, [], ◌∷◌, Option, Some, None, length, get_or, refl, sym, arith, IsTrue}
+use Rattle.std.proofs.Common.{◌≡◌, ◌≤◌, ℕ, inl, inr, List, [], ◌∷◌, Option, Some, None, length, get_or, refl, sym, arith, IsTrue}
 use Rattle.dnsv_names.specs.Name.{Labels}
 use Rattle.dnsv_names.specs.Octets.{number_at}
 use Rattle.dnsv_records.specs.Algorithm.{is_supported}
@@ -23,12 +23,6 @@ wanted_tag (whole_key anchor rdata) key is = is
 module _ (keys : List DnskeyRecord) (wanted : Wanted) where
   abbrev Supported : Type 0
   Supported = IsTrue (is_supported (wanted_key wanted).algorithm.0)
-
-  pub of_algorithm : ¬ Supported → IsWordBy keys wanted (Some why.Algorithm)
-  of_algorithm never rrsets zone are = inl (never, refl)
-
-  pub of_digest_type : Supported → HasUnknownDigest wanted → IsWordBy keys wanted (Some why.DigestType)
-  of_digest_type good unknown rrsets zone are = inr (λ never. never good, inl (unknown, refl))
 
   pub of_ignored : Supported → ¬ HasUnknownDigest wanted → IsIgnoredBeside wanted → IsWordBy keys wanted (Some why.DigestIgnored)
   of_ignored good known ignored rrsets zone are = inr (λ never. never good, inr (known, inl (ignored, refl)))

@@ -1,6 +1,5 @@
 -- All that is said of an untrusted zone.
 use Rattle.std.proofs.Common.{◌≡◌, inl, inr, List, [], ◌∷◌, ◌++◌, refl}
-use Rattle.std.specs.List.{AllByRecursion}
 use Rattle.std.specs.Prelude.{map}
 use Rattle.dnsv_names.specs.Name.{Labels}
 use Rattle.dnsv_verdict.specs.Verdict.{HasAnchor}

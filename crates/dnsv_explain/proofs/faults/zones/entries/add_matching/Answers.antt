@@ -15,9 +15,9 @@ pub loop-each-preserved : goal.loop-each-preserved
 loop-each-preserved c =
     one_taken c.args.group.now c.loop-each.each-index c.each-item.result c.each-item.result c.loop-each-test.true c.each-item.is _ _ _
     (elim c.else-has_match.branch [
-      else-has_match-via-then-has_match+else-is_some w ↦ λ has.
+      | else-has_match-via-then-has_match+else-is_some w ↦ λ has.
           matches_none c.each-item.result.word w.is_some.result w.is_some.ensures w.if-is_some.false
-    | else-has_match-via-else-has_match w ↦ λ has.
+      | else-has_match-via-else-has_match w ↦ λ has.
           absurd (false≢true (sym w.if-has_match.false ∙ c.has_match-has_match.ensures.1 has))
     ])
     c.in_ok-push.ensures.items c.loop-each.invariant

@@ -1,7 +1,8 @@
-use Rattle.std.proofs.Common.{◌≡◌, ◌∷◌, [], List, ap, refl, subst, sym, inl, inr, ◌∙◌}
+use Rattle.std.proofs.Common.{◌∷◌, [], ap, refl, subst, sym, inl, inr, ◌∙◌}
 use Rattle.std.proofs.lemmas.Bool.{false≢true}
 use Rattle.dnsv_names.specs.Name.{Labels, SameName}
 use Rattle.dnsv_explain.specs.faults.ZoneLines.{AreAnchorWanted}
+use Rattle.dnsv_explain.specs.faults.ZoneSearch.{wanted_of}
 use Rattle.dnsv_explain.proofs.lemmas.faults.ListingLemmas.{at_in, past_in, within_in}
 use Rattle.dnsv_explain.proofs.lemmas.faults.zones.EntryLemmas.{judged_all, judged_next, judged_skip}
 use Rattle.dnsv_explain.proofs.faults.zones.entries.anchors_at.Goals as goal
@@ -31,7 +32,7 @@ loop-place-preserved c =
     let Its : Labels → Type 0 = λ owner. SameName owner c.args.zone.now in
     judged_next c.args.keys.now (AreAnchorWanted c.args.zone.now) all c.loop-place.place x x
     (within_in all items same c.loop-place.place c.loop-place-test.true) (at_in all items same c.loop-place.place x x c.anchor-item.is)
-    _ _ c.lead_of.result c.judge.result c.judge.ensures
+    _ _ (wanted_of c.lead_of.result) c.judge.result c.judge.ensures
     (inl (subst Its c.owner.ensures (c.are_equal.ensures.0 c.if-not-are_equal.false), ap (λ wanted. wanted ∷ []) c.lead_of.ensures))
     c.in_ok-push.ensures.items c.loop-place.invariant
 

@@ -1,6 +1,9 @@
-use Rattle.std.proofs.Common.{refl}
+use Rattle.std.proofs.Common.{◌+◌, refl}
 use Rattle.dnsv_records.specs.Ds.{IsDs}
+use Rattle.dnsv_explain.specs.faults.Entries.Wanted.{by_digest}
 use Rattle.dnsv_explain.specs.faults.ZoneLines.{AreDsWanted}
+use Rattle.dnsv_explain.specs.unsigned_cuts.UnsignedCuts.{record_of}
+use Rattle.dnsv_explain.specs.declared.line.fault.zone.EntryNumber.TheVariants as entry_number
 use Rattle.dnsv_explain.proofs.lemmas.derivations.WayLemmas.KeysLemmas.{read_there}
 use Rattle.dnsv_explain.proofs.lemmas.faults.zones.EntryLemmas.{judged_next, judged_none, records_judged}
 use Rattle.dnsv_explain.proofs.faults.zones.entries.records_of.Goals as goal
@@ -14,8 +17,9 @@ pub loop-place-preserved : goal.loop-place-preserved
 loop-place-preserved c =
     let x = c.each-item.result in
     judged_next c.args.keys.now (λ place each. AreDsWanted c.args.number c.ds_records-values.result.now place each.rdata.now)
-    c.deref-each-items.result.now c.loop-place.place x x c.loop-place-test.true c.each-item.is _ _ _ c.judge.result c.judge.ensures
-    (
+    c.deref-each-items.result.now c.loop-place.place x x c.loop-place-test.true c.each-item.is _ _
+    (by_digest (entry_number.Ds (record_of c.args.number (c.loop-place.place + 1))) c.ds_records-values.result.now x.record.now)
+    c.judge.result c.judge.ensures (
       x.record.now,
       read_there (λ each. IsDs each.rdata.now each.record.now) c.deref-each-items.result.now c.in_ok-records.records.items
           c.loop-place.place x c.deref-each-items.ensures.value c.in_ok-records.ensures.read c.loop-place-test.true c.each-item.is,

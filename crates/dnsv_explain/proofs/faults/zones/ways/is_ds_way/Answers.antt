@@ -15,9 +15,9 @@ returns-else-not-has_own_anchor c =
     let rrsigs = c.signatures.result.now in
     let zip = c.signatures.ensures in (
       λ yes.
-          leads_in setting c.args.zone.now c.args.number rrset c.requires rrsigs zip rtype owner (λ own. c.has_parent_signer.ensures.0 yes),
+          leads_in setting c.args.zone.now c.args.number rrset c.requires.rrset rrsigs zip rtype owner (λ own. c.has_parent_signer.ensures.0 yes),
       λ way.
           c.has_parent_signer.ensures.1
-          (its_parent setting c.args.zone.now c.args.number rrset c.requires rrsigs zip way
+          (its_parent setting c.args.zone.now c.args.number rrset c.requires.rrset rrsigs zip way
           (c.has_own_anchor.ensures.0 c.if-not-has_own_anchor.false)),
     )
