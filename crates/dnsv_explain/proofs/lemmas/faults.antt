@@ -12,4 +12,5 @@ pub mod VerifierLemmas
 pub mod WordLemmas
 pub mod one
 pub mod question
+pub mod sources
 pub mod zones
