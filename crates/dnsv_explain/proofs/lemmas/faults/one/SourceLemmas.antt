@@ -51,7 +51,7 @@ lowest_by a b Less is up down = absurd (up is)
 lowest_by a b Equal is up down = number_exact a b is
 lowest_by a b Greater is up down = absurd (down (number_total.antisymm b a ∙ ap ordering_reverse is))
 
-same_number : (a b : RecordNumber) → number_cmp a b ≢ Less → number_cmp b a ≢ Less → a ≡ b
+pub same_number : (a b : RecordNumber) → number_cmp a b ≢ Less → number_cmp b a ≢ Less → a ≡ b
 same_number a b up down = lowest_by a b (number_cmp a b) refl up down
 
 pub one_held : (has : ℕ → Type 0) (t : ℕ) (a b : Option RecordType) → IsHeld has t a → IsHeld has t b → a ≡ b
@@ -219,29 +219,29 @@ module _ (said : RecordWords RecordNumber) (types : HasOneTypes said) (source : 
         let same : u ≡ v = one_closed m k n l u v is so p q in ap (λ (each : Line). each ∷ []) same
     one_lack a b (closed m n u is p) (at_name lines never has are) = absurd (never m is.closed)
     one_lack a b (closed m n u is p) (at_zone never nor at) = absurd (never m is.closed)
-    one_lack a b (closed m n u is p) (no_encloser never nor out missing) = absurd (never m is.closed)
+    one_lack a b (closed m n u is p) (no_encloser never nor out lacking) = absurd (never m is.closed)
     one_lack a b (closed m n u is p) (enclosed k lines never nor out there are) = absurd (never m is.closed)
     one_lack a b (at_name lines never has are) (closed m n u is p) = absurd (never m is.closed)
     one_lack a b (at_name lines never has are) (at_name others nor had also) = one_held_lines name lines others are also
     one_lack a b (at_name lines never has are) (at_zone nor out at) = absurd (out has)
-    one_lack a b (at_name lines never has are) (no_encloser nor out off missing) = absurd (out has)
+    one_lack a b (at_name lines never has are) (no_encloser nor out off lacking) = absurd (out has)
     one_lack a b (at_name lines never has are) (enclosed k others nor out off there also) = absurd (out has)
     one_lack a b (at_zone never nor at) (closed m n u is p) = absurd (never m is.closed)
     one_lack a b (at_zone never nor at) (at_name lines out has are) = absurd (nor has)
     one_lack a b (at_zone never nor at) (at_zone out off also) = refl
-    one_lack a b (at_zone never nor at) (no_encloser out off apart missing) = absurd (apart at)
+    one_lack a b (at_zone never nor at) (no_encloser out off apart lacking) = absurd (apart at)
     one_lack a b (at_zone never nor at) (enclosed k others out off apart there also) = absurd (apart at)
-    one_lack a b (no_encloser never nor apart missing) (closed m n u is p) = absurd (never m is.closed)
-    one_lack a b (no_encloser never nor apart missing) (at_name lines out has are) = absurd (nor has)
-    one_lack a b (no_encloser never nor apart missing) (at_zone out off at) = absurd (apart at)
-    one_lack a b (no_encloser never nor apart missing) (no_encloser out off also so) = refl
-    one_lack a b (no_encloser never nor apart missing) (enclosed k others out off also there are) =
-        absurd (missing k there.above there.within there.there)
+    one_lack a b (no_encloser never nor apart lacking) (closed m n u is p) = absurd (never m is.closed)
+    one_lack a b (no_encloser never nor apart lacking) (at_name lines out has are) = absurd (nor has)
+    one_lack a b (no_encloser never nor apart lacking) (at_zone out off at) = absurd (apart at)
+    one_lack a b (no_encloser never nor apart lacking) (no_encloser out off also so) = refl
+    one_lack a b (no_encloser never nor apart lacking) (enclosed k others out off also there are) =
+        absurd (lacking k there.above there.within there.there)
     one_lack a b (enclosed k lines never nor apart there are) (closed m n u is p) = absurd (never m is.closed)
     one_lack a b (enclosed k lines never nor apart there are) (at_name others out has also) = absurd (nor has)
     one_lack a b (enclosed k lines never nor apart there are) (at_zone out off at) = absurd (apart at)
-    one_lack a b (enclosed k lines never nor apart there are) (no_encloser out off also missing) =
-        absurd (missing k there.above there.within there.there)
+    one_lack a b (enclosed k lines never nor apart there are) (no_encloser out off also lacking) =
+        absurd (lacking k there.above there.within there.there)
     one_lack a b (enclosed k lines never nor apart there are) (enclosed l others out off also too so) =
         let same : k ≡ l = there_at k l there too in
         let Of : ℕ → Type 0 = λ each. AreEnclosedLines each lines in
