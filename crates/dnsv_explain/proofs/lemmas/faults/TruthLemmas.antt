@@ -25,14 +25,14 @@ use Rattle.dnsv_explain.specs.declared.line.fault.signature.WhySignature.{WhySig
 
 -- ---- members of lists
 
-none_in : {X : Type 0} (xs : List X) (x : X) → xs ≡ [] → Contains xs x → ⊥
+pub none_in : {X : Type 0} (xs : List X) (x : X) → xs ≡ [] → Contains xs x → ⊥
 none_in {X = X} xs x none there =
     let In : List X → Type 0 = λ each. Contains each x in
     let at : Contains [] x = subst In none there in
     let within = at.1 in omega (arith, within)
 
 -- of a list with one before others a member is the one, or among the others
-first_or_rest : {X : Type 0} (first : X) (rest : List X) (x : X) → Contains (first ∷ rest) x → (x ≡ first) ⊎ Contains rest x
+pub first_or_rest : {X : Type 0} (first : X) (rest : List X) (x : X) → Contains (first ∷ rest) x → (x ≡ first) ⊎ Contains rest x
 first_or_rest first rest x there = ⊎_elim
     (λ (one : Contains (first ∷ []) x). ⊎_elim
     (λ (none : Contains [] x). absurd (none_in [] x refl none))
@@ -55,15 +55,15 @@ those_such {X = X} Such (first ∷ xs) those (inr into) x there =
 
 module _ {X Y : Type 0} (Are : ℕ → X → List Y → Type 0) where
   -- the member is in the list of the i-th
-  record IsMemberOf (k : ℕ) (xs : List X) (y : Y) : Type 0 where
-    i : ℕ
-    x : X
-    ys : List Y
-    at : slice_get xs i ≡ Some x
-    are : Are (k + i) x ys
-    there : Contains ys y
+  pub record IsMemberOf (k : ℕ) (xs : List X) (y : Y) : Type 0 where
+    pub i : ℕ
+    pub x : X
+    pub ys : List Y
+    pub at : slice_get xs i ≡ Some x
+    pub are : Are (k + i) x ys
+    pub there : Contains ys y
 
-  member_of : (k : ℕ) (xs : List X) (ys : List Y) → AreOfNumbered Are k xs ys → (y : Y) → Contains ys y → IsMemberOf k xs y
+  pub member_of : (k : ℕ) (xs : List X) (ys : List Y) → AreOfNumbered Are k xs ys → (y : Y) → Contains ys y → IsMemberOf k xs y
   member_of k [] ys none y there = absurd (none_in ys y none there)
   member_of k (x ∷ xs) ys each y there =
       let In : List Y → Type 0 = λ all. Contains all y in
@@ -88,7 +88,7 @@ module _ (setting : Setting) (name : Labels) (t : ℕ) where
   abbrev IsSo : Reason → Type 0
   IsSo = IsReasonTrue setting name t
 
-  only_reason : (said told : Reason) → line.Reason said ≡ line.Reason told → IsSo told → IsSo said
+  pub only_reason : (said told : Reason) → line.Reason said ≡ line.Reason told → IsSo told → IsSo said
   only_reason said told same is = let equal : told ≡ said = cc in subst IsSo equal is
 
   module _ (k s : ℕ) (rrset : ReceivedRrset) (rdata : List ℕ) (rrsig : Rrsig) (numbered : IsNumbered setting.rrsets k rrset)
@@ -138,7 +138,7 @@ module _ (setting : Setting) (name : Labels) (t : ℕ) where
   abbrev unsigned_reason : ℕ → ReceivedRrset → Reason
   unsigned_reason k rrset = reason.Unsigned (record { owner = rrset.owner; rtype = record { 0 = rrset.rtype }; rrset = k })
 
-  rrset_so : (k : ℕ) (rrset : ReceivedRrset) (lines : List Line) → IsNumbered setting.rrsets k rrset
+  pub rrset_so : (k : ℕ) (rrset : ReceivedRrset) (lines : List Line) → IsNumbered setting.rrsets k rrset
       → AreRrsetLines setting k rrset lines → (said : Reason) → Contains lines (line.Reason said) → IsSo said
   rrset_so k rrset lines numbered (secured has) said there = absurd (none_in [] (line.Reason said) refl there)
   rrset_so k rrset lines numbered (unsigned none) said there = ⊎_elim
