@@ -5,6 +5,7 @@ pub mod KeyLines
 pub mod KeySearch
 pub mod Keys
 pub mod Listing
+pub mod NeededSearch
 pub mod Order
 pub mod RemarkSearch
 pub mod RrsetLines

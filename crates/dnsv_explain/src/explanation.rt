@@ -1,6 +1,6 @@
 //! Why a verdict stands.
 
-mod at;
+pub mod at;
 mod end;
 mod held;
 mod told;

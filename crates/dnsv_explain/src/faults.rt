@@ -2,10 +2,12 @@
 
 mod answers;
 mod keys;
+pub mod question;
 pub mod questioned;
 mod remark;
 pub mod shown_keys;
 mod signature;
+mod sources;
 mod words;
 pub mod zones;
 

@@ -1,7 +1,7 @@
 //! Laws of explanations.
 //!
 //! Each is a function that does nothing and ensures the law, which its caller learns.
-ghost use Rattle.std.specs.Prelude.{◌≡◌, ◌≤◌, ℕ, [], List, Some, Contains};
+ghost use Rattle.std.specs.Prelude.{◌≡◌, ◌≤◌, ◌∷◌, ℕ, [], List, Some, Contains};
 ghost use Rattle.dnsv_names.specs.Name.{Labels};
 ghost use Rattle.dnsv_canonical.specs.Rrsets.{IsNumbered, ReceivedRrset};
 ghost use Rattle.dnsv_chain.specs.Trusted.{IsSecured, IsTrusted};
@@ -13,7 +13,7 @@ ghost use Rattle.dnsv_explain.specs.Denials.{IsDenialTold, IsExpandedTold, IsSho
 ghost use Rattle.dnsv_explain.specs.derivations.Derivations.{IsDerivation, Subject};
 ghost use Rattle.dnsv_verdict.specs.Report.{IsReport};
 ghost use Rattle.dnsv_verdict.specs.NoLess.{case_of};
-ghost use Rattle.dnsv_verdict.specs.Verdict.{Basis, IsSettledVerdict, IsVerdictAt, basis_of, with_meaning};
+ghost use Rattle.dnsv_verdict.specs.Verdict.{Basis, HasAnchor, IsSettledVerdict, IsVerdictAt, basis_of, with_meaning};
 ghost use Rattle.dnsv_verdict.specs.Way.{IsVerdictOf};
 ghost use Rattle.dnsv_verdict.specs.declared.link.Link.{Link};
 ghost use Rattle.dnsv_verdict.specs.declared.report.Report.{Report};
@@ -24,9 +24,14 @@ ghost use Rattle.dnsv_explain.specs.Marked.{AnswersMarked};
 ghost use Rattle.dnsv_explain.specs.Following.{EachFollows, at_moment};
 ghost use Rattle.dnsv_explain.specs.Following.Cases.{IsCaseBy};
 ghost use Rattle.dnsv_explain.specs.Following.Parts.{IsPartOf, IsUnusableRecord};
+ghost use Rattle.dnsv_explain.specs.faults.Order.{AreFaultLines, AreLacking};
+ghost use Rattle.dnsv_explain.specs.faults.Sources.{AreSourceLines};
+ghost use Rattle.dnsv_explain.specs.derivations.OwnDerivations.{SecuredIn};
+ghost use Rattle.dnsv_denial.specs.words.EvidenceWords.{Chain, evidence_said};
+ghost use Rattle.dnsv_explain.specs.declared.line.fault.denial.Source.{Source};
 ghost use Rattle.dnsv_explain.specs.faults.RrsetLines.{AreLinesOfNumber};
 ghost use Rattle.dnsv_explain.specs.faults.Truth.{IsReasonTrue};
-ghost use Rattle.dnsv_explain.specs.faults.ZoneLines.{AreZoneLines};
+ghost use Rattle.dnsv_explain.specs.faults.ZoneLines.{AreZoneLines, zone_line};
 ghost use Rattle.dnsv_explain.specs.intervals.Holding.{AreShownValidAt, IsHolding, IsHoldingOf};
 ghost use Rattle.dnsv_explain.specs.unsigned_cuts.ShownCuts.{IsCutShownBy, IsCutTold};
 ghost use Rattle.dnsv_explain.specs.derivations.Ways.{HasSecured};
@@ -36,6 +41,7 @@ use crate::line::cut::{Cut, UnusableDs};
 use crate::line::denial::Part;
 use crate::line::derivation::{SignatureNumber, SignedRrset, TrustedKeys};
 use crate::line::fault::Reason;
+use crate::line::fault::zone::WhyZone;
 use crate::line::{Kind, Line};
 use dnsv_chain::{more_evidence_takes_no_trust_away, trust_depends_on_what_is_asked};
 use dnsv_verdict::Verdict;
@@ -171,4 +177,25 @@ pub fn reasons_of_rrsets_are_true()
 pub fn reasons_of_zones_are_true()
     ensures { (setting : Setting) (name zone : Labels) (t : ℕ) (lines : List Line) → AreZoneLines setting zone lines
         → (reason : Reason) → Contains lines (Line.Reason reason) → IsReasonTrue setting name t reason }
+{}
+
+/// Where no trust anchor is at or above a question's name, what fails begins with that.
+pub fn questions_without_an_anchor_fail_for_that()
+    ensures { (setting : Setting) (name : Labels) (t : ℕ) (lines : List Line) → ¬ HasAnchor setting.anchors name
+        → AreFaultLines setting name t lines
+        → (rest : List Line) × (lines ≡ zone_line WhyZone.NoAnchor name ∷ rest) }
+{}
+
+/// What fails of a question is one list: the same evidence, anchors, moment and answers give the same lines.
+pub fn a_failure_has_one_list()
+    ensures { (setting : Setting) (name : Labels) (t : ℕ) (a b : List Line)
+        → ((c d : List Line) → AreLacking setting name t c → AreLacking setting name t d → c ≡ d)
+        → AreFaultLines setting name t a → AreFaultLines setting name t b → a ≡ b }
+{}
+
+/// TEST
+pub fn test_lack()
+    ensures { (setting : Setting) (zone name : Labels) (chain : Chain) (source : Source) (t : ℕ) (a b : List Line)
+        → AreSourceLines (evidence_said (SecuredIn setting) setting.rrsets zone chain) source zone name t a
+        → AreSourceLines (evidence_said (SecuredIn setting) setting.rrsets zone chain) source zone name t b → a ≡ b }
 {}

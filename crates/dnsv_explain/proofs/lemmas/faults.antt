@@ -1,3 +1,4 @@
+pub mod KeptLemmas
 pub mod KeyLemmas
 pub mod ListingLemmas
 pub mod LowestLemmas
@@ -9,4 +10,6 @@ pub mod TrustLemmas
 pub mod TruthLemmas
 pub mod VerifierLemmas
 pub mod WordLemmas
+pub mod one
+pub mod question
 pub mod zones

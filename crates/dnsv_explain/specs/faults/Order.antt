@@ -1,25 +1,26 @@
 -- What fails of a question that nothing answers, in order: the first link that fails, seen from the trust anchor, comes
 -- first.
-use Rattle.std.specs.Prelude.{◌≡◌, ◌≢◌, ◌⊎◌, ◌↔◌, ◌+◌, ◌<◌, ◌≤◌, ℕ, Bool, List, [], ◌∷◌, ◌++◌, Option, Some, None, Contains, length, map, reverse}
+use Rattle.std.specs.Prelude.{◌≡◌, ◌≢◌, ◌⊎◌, ◌↔◌, ◌+◌, ◌<◌, ◌≤◌, ℕ, Bool, List, [], ◌∷◌, ◌++◌, Option, Some, None, Contains, length, map}
+use Rattle.std.specs.List.Sorted.{IsStrictlySortedBy}
 use Rattle.std.specs.Str.{bytes_eq}
 use Rattle.dnsv_names.specs.Name.{Labels, SameName, IsAtOrBelow, rightmost}
 use Rattle.dnsv_names.specs.Order.{IsBelow}
+use Rattle.dnsv_names.specs.declared.number.RecordType.{RecordType}
 use Rattle.dnsv_records.specs.Base32Hex.{IsHash, Spells}
 use Rattle.dnsv_records.specs.Nsec3.{IsNsec3}
 use Rattle.dnsv_records.specs.Rrsig.{IsRrsig}
 use Rattle.dnsv_records.specs.declared.nsec3.Nsec3.{Nsec3}
 use Rattle.dnsv_records.specs.declared.rrsig.Rrsig.{Rrsig}
-use Rattle.dnsv_zones.specs.chains.Nsec3Chain.{Nsec3Record}
+use Rattle.dnsv_zones.specs.chains.Nsec3Chain.{Nsec3Record, Parameters}
 use Rattle.dnsv_zones.specs.chains.NsecChain.{NsecRecord}
-use Rattle.dnsv_zones.specs.forms.Forms.{NoCloserForm}
-use Rattle.dnsv_zones.specs.forms.RecordWords.{words}
 use Rattle.dnsv_zones.specs.zones.TypeNumbers.{dname, nsec}
 use Rattle.dnsv_canonical.specs.Canonical.{IsCanonical}
 use Rattle.dnsv_canonical.specs.CanonicalRdata.{canonical_form}
 use Rattle.dnsv_canonical.specs.Rrsets.{IsNumbered, ReceivedRrset, first_appearances}
 use Rattle.dnsv_canonical.specs.SignedData.{IsExpanded}
 use Rattle.dnsv_denial.specs.gathering.Evidence.{IsNsecAt, IsNsec3At}
-use Rattle.dnsv_denial.specs.words.EvidenceWords.{Chain, GoesBefore, evidence_said}
+use Rattle.dnsv_denial.specs.proving.FirstProof.{CanProveNoCloser}
+use Rattle.dnsv_denial.specs.words.EvidenceWords.{Chain, evidence_said, parameters_cmp}
 use Rattle.dnsv_denial.specs.words.EvidenceWords.Chain.{ByNsec, ByNsec3}
 use Rattle.dnsv_denial.specs.declared.records.number.RecordNumber.{RecordNumber}
 use Rattle.dnsv_verdict.specs.Verdict.{HasAnchor}
@@ -39,6 +40,7 @@ use Rattle.dnsv_explain.specs.declared.line.fault.Reason.TheVariants as reason
 use Rattle.dnsv_explain.specs.declared.line.fault.denial.Source.{Source}
 use Rattle.dnsv_explain.specs.declared.line.fault.denial.WhyNsec3.{WhyNsec3}
 use Rattle.dnsv_explain.specs.declared.line.fault.denial.WhyNsec3.TheVariants as nsec3
+use Rattle.dnsv_explain.specs.declared.line.fault.signature.ShownSignature.{ShownSignature}
 use Rattle.dnsv_explain.specs.declared.line.fault.zone.WhyZone.TheVariants as zone_why
 
 -- ---- 1, 2: the zones
@@ -70,21 +72,20 @@ pub record IsLowestDname (rrsets : List ReceivedRrset) (name : Labels) (k : ℕ)
   pub lowest : (j : ℕ) (other : ReceivedRrset) → IsNumbered rrsets j other → SameName other.owner name
       → other.rtype ≡ dname → k ≤ j
 
+abbrev pub dname_line : Labels → ℕ → Line
+dname_line name k = line.Reason (reason.Dname (record { name = name; rrset = k; place = None }))
+
 -- what is said of a name above the question's
 abbrev pub AreDnameLines : List ReceivedRrset → Labels → Labels → List Line → Type 0
 AreDnameLines rrsets name above =
     AreWhere (IsBelow name above × HasRrset rrsets above dname)
-    (λ lines. (k : ℕ) × IsLowestDname rrsets above k
-    × (lines ≡ line.Reason (reason.Dname (record { name = above; rrset = k; place = None })) ∷ []))
-
-abbrev pub HasDnameAbove : List ReceivedRrset → Labels → Type 0
-HasDnameAbove rrsets name = (above : Labels) × IsBelow name above × HasRrset rrsets above dname
+    (λ lines. (k : ℕ) × IsLowestDname rrsets above k × (lines ≡ dname_line above k ∷ []))
 
 -- ---- 4: what may answer
 
 -- what is said of RRset k, if it may answer
 abbrev pub AreGoalLines : Setting → Labels → ℕ → ℕ → ReceivedRrset → List Line → Type 0
-AreGoalLines setting name t k rrset = AreWhere (IsGoal setting.rrsets name t k rrset) (AreRrsetLines setting k rrset)
+AreGoalLines setting name t k rrset = AreWhere (IsGoal name t rrset) (AreRrsetLines setting k rrset)
 
 -- ---- 6: answers from a wildcard
 
@@ -92,23 +93,26 @@ AreGoalLines setting name t k rrset = AreWhere (IsGoal setting.rrsets name t k r
 -- (RFC 4035 5.3.4, RFC 5155 8.8)
 pub record IsCloserOpen (setting : Setting) (name : Labels) (rrset : ReceivedRrset) (rrsig : Rrsig) : Type 0 where
   pub expanded : IsExpanded rrset.owner rrsig
-  pub unproved : (chain : Chain)
-      → ¬ NoCloserForm (words (evidence_said (SecuredIn setting) setting.rrsets rrsig.signer chain)) rrsig.signer name rrsig.labels
+  pub unproved : ¬ CanProveNoCloser (SecuredIn setting) setting.rrsets name rrsig.labels rrsig.signer
+
+abbrev pub closer_line : ShownSignature → Labels → Line
+closer_line shown name = line.Reason (reason.NoCloser (record { signature = shown; name = name }))
 
 -- what is said of signature s of RRset k, if its signer is at or above the name
+abbrev pub AreLinesOfCloser : Setting → Labels → ℕ → ReceivedRrset → ℕ → Rrsig → List Line → Type 0
+AreLinesOfCloser setting name k rrset s rrsig =
+    AreWhere (IsAtOrBelow name rrsig.signer × IsCloserOpen setting name rrset rrsig)
+    (λ lines. lines ≡ closer_line (shown_of k s rrset rrsig) (rightmost name (rrsig.labels + 1)) ∷ [])
+
+-- of the signature with this RDATA
 abbrev pub AreCloserLines : Setting → Labels → ℕ → ReceivedRrset → ℕ → List ℕ → List Line → Type 0
 AreCloserLines setting name k rrset s rdata lines =
-    (rrsig : Rrsig) × IsRrsig rdata rrsig
-    × AreWhere (IsAtOrBelow name rrsig.signer × IsCloserOpen setting name rrset rrsig) (λ said. said
-    ≡ line.Reason (reason.NoCloser (record {
-      signature = shown_of k s rrset rrsig;
-      name = rightmost name (rrsig.labels + 1);
-    })) ∷ []) lines
+    (rrsig : Rrsig) × IsRrsig rdata rrsig × AreLinesOfCloser setting name k rrset s rrsig lines
 
 -- of the signatures of RRset k, if it may answer
 abbrev pub AreGoalClosers : Setting → Labels → ℕ → ℕ → ReceivedRrset → List Line → Type 0
 AreGoalClosers setting name t k rrset =
-    AreWhere (IsGoal setting.rrsets name t k rrset) (AreOfNumbered (AreCloserLines setting name k rrset) 1 rrset.signatures)
+    AreWhere (IsGoal name t rrset) (AreOfNumbered (AreCloserLines setting name k rrset) 1 rrset.signatures)
 
 -- ---- 5: what may deny
 
@@ -120,7 +124,7 @@ IsOfNeeded setting name t _ = Unit {0}
 -- what is said of RRset k, if it may deny
 abbrev pub AreDenialLines : Setting → Labels → ℕ → ℕ → ReceivedRrset → List Line → Type 0
 AreDenialLines setting name t k rrset =
-    AreWhere (IsDenial setting.rrsets name k rrset)
+    AreWhere (IsDenial name rrset)
     (λ lines. (all : List Line) × AreRrsetLines setting k rrset all × AreThose (IsOfNeeded setting name t) all lines)
 
 -- the owner's first label spells a hash
@@ -133,12 +137,15 @@ abbrev pub IsOfItsParent : ReceivedRrset → Labels → Type 0
 IsOfItsParent rrset [] = ⊥
 IsOfItsParent rrset (label ∷ parent) = (rrset.signatures ≡ []) ⊎ HasSigner rrset parent
 
--- another algorithm than SHA-1, flags that aren't known, another length of hash, an owner that spells none, or no
--- signature by the zone above it (RFC 5155 3, 8.1, 8.2)
+-- another algorithm than SHA-1, flags that aren't known, or another length of hash (RFC 5155 3.1, 8.1, 8.2)
+abbrev pub HasUnknownFields : Nsec3 → Type 0
+HasUnknownFields fields =
+    (fields.algorithm.0 ≢ 1) ⊎ (1 < fields.flags.0) ⊎ (length fields.next_hash ≢ 20)
+
+-- such fields, an owner that spells no hash, or no signature by the zone above it (RFC 5155 3)
 abbrev pub IsUnusableNsec3 : ReceivedRrset → Nsec3 → Type 0
 IsUnusableNsec3 rrset fields =
-    (fields.algorithm.0 ≢ 1) ⊎ (1 < fields.flags.0) ⊎ (length fields.next_hash ≢ 20) ⊎ (¬ IsHashLabel rrset.owner)
-    ⊎ (¬ IsOfItsParent rrset rrset.owner)
+    HasUnknownFields fields ⊎ (¬ IsHashLabel rrset.owner) ⊎ (¬ IsOfItsParent rrset rrset.owner)
 
 abbrev pub nsec3_line : ReceivedRrset → RecordNumber → WhyNsec3 → Line
 nsec3_line rrset number why = line.Reason (reason.Nsec3 (record { why = why; owner = rrset.owner; number = number }))
@@ -151,19 +158,23 @@ pub data AreNsec3Lines (rrset : ReceivedRrset) (number : RecordNumber) (fields :
       (nsec3_line rrset number nsec3.Unusable ∷ [])
   usable : fields.parameters.iterations.0 ≤ 500 → ¬ IsUnusableNsec3 rrset fields → AreNsec3Lines rrset number fields []
 
--- of the records of RRset k, if it is one of NSEC3 records that may deny
-abbrev pub AreNsec3sLines : List ReceivedRrset → Labels → ℕ → ReceivedRrset → List Line → Type 0
-AreNsec3sLines rrsets name k rrset =
-    AreWhere (IsDenial rrsets name k rrset × (rrset.rtype ≡ 50))
+-- of the record at the place of RRset k, with this RDATA
+abbrev pub AreNsec3At : ℕ → ReceivedRrset → ℕ → List ℕ → List Line → Type 0
+AreNsec3At k rrset place rdata lines =
+    (fields : Nsec3) × IsNsec3 rdata fields × AreNsec3Lines rrset (record_of k place) fields lines
+
+-- of the records of RRset k, in canonical order, if it is one of NSEC3 records that may deny
+abbrev pub AreNsec3sLines : Labels → ℕ → ReceivedRrset → List Line → Type 0
+AreNsec3sLines name k rrset =
+    AreWhere (IsDenial name rrset × (rrset.rtype ≡ 50))
     (λ lines. (canonical : List (List ℕ)) × IsCanonical (map (canonical_form rrset.rtype) rrset.rdata) canonical
-    × AreOfNumbered (λ place rdata said. (fields : Nsec3) × IsNsec3 rdata fields
-    × AreNsec3Lines rrset (record_of k place) fields said) 1 canonical lines)
+    × AreOfNumbered (AreNsec3At k rrset) 1 canonical lines)
 
 -- what is said of all that may deny
 abbrev pub AreLinesOfDenials : Setting → Labels → ℕ → List Line → Type 0
 AreLinesOfDenials setting name t =
     AreParted (AreOfNumbered (AreDenialLines setting name t) 1 setting.rrsets)
-    (AreOfNumbered (AreNsec3sLines setting.rrsets name) 1 setting.rrsets)
+    (AreOfNumbered (AreNsec3sLines name) 1 setting.rrsets)
 
 -- ---- 7: what the zones lack
 
@@ -175,30 +186,45 @@ HasRecords setting zone (ByNsec3 parameters) =
     (number : RecordNumber) × (nsec3 : Nsec3Record) × IsNsec3At (SecuredIn setting) setting.rrsets zone number nsec3
     × (nsec3.parameters ≡ parameters)
 
--- the chains of the zone of which records are there, NSEC before NSEC3, and these by their parameters
-pub record AreSources (setting : Setting) (zone : Labels) (chains : List Chain) : Type 0 where
-  pub ordered : (i j : ℕ) (a b : Chain) → IsNumbered chains i a → IsNumbered chains j b → i < j → GoesBefore a b
-  pub members : (chain : Chain) → Contains chains chain ↔ HasRecords setting zone chain
+-- those of the zone's NSEC3 records are among the parameters, which are in order
+pub record AreParametersOf (setting : Setting) (zone : Labels) (all : List Parameters) : Type 0 where
+  pub rising : IsStrictlySortedBy parameters_cmp all
+  pub members : (number : RecordNumber) (nsec3 : Nsec3Record)
+      → IsNsec3At (SecuredIn setting) setting.rrsets zone number nsec3 → Contains all nsec3.parameters
+
+-- NSEC before NSEC3, and these by their parameters
+abbrev pub chains_by : List Parameters → List Chain
+chains_by all = ByNsec ∷ map ByNsec3 all
+
+-- records of the chain are there, and the zone should speak or one of them is closed and above the name
+pub record IsLackingChain (setting : Setting) (name speaker zone : Labels) (chain : Chain) : Type 0 where
+  pub records : HasRecords setting zone chain
+  pub speaks : SameName zone speaker
+      ⊎ HasClosedAbove (evidence_said (SecuredIn setting) setting.rrsets zone chain) zone name
 
 -- what is said of a chain of the zone that should speak, and of one above it the first case alone
 abbrev pub AreLinesOfChain : Setting → Labels → ℕ → Labels → Labels → Chain → List Line → Type 0
-AreLinesOfChain setting name t speaker zone chain lines =
-    (source : Source) × IsSourceOf zone chain source
-    × AreWhere (SameName zone speaker ⊎ HasClosedAbove (evidence_said (SecuredIn setting) setting.rrsets zone chain) zone name)
-    (AreSourceLines (evidence_said (SecuredIn setting) setting.rrsets zone chain) source zone name t) lines
+AreLinesOfChain setting name t speaker zone chain =
+    AreWhere (IsLackingChain setting name speaker zone chain) (λ lines. (source : Source) × IsSourceOf zone chain source
+    × AreSourceLines (evidence_said (SecuredIn setting) setting.rrsets zone chain) source zone name t lines)
 
 -- of the zone, if it is the one that should speak or above it
 abbrev pub AreLinesOfSources : Setting → Labels → ℕ → Labels → Labels → List Line → Type 0
 AreLinesOfSources setting name t speaker zone =
     AreWhere (IsAtOrBelow speaker zone)
-    (λ lines. (chains : List Chain) × AreSources setting zone chains
-    × AreOfEach (AreLinesOfChain setting name t speaker zone) chains lines)
+    (λ lines. (all : List Parameters) × AreParametersOf setting zone all
+    × AreOfEach (AreLinesOfChain setting name t speaker zone) (chains_by all) lines)
+
+-- the names at and above the name, the root last
+abbrev pub names_up : Labels → List Labels
+names_up [] = [] ∷ []
+names_up (label ∷ labels) = (label ∷ labels) ∷ names_up labels
 
 -- of the zone that should speak, and then of those above it
 abbrev pub AreLacking : Setting → Labels → ℕ → List Line → Type 0
 AreLacking setting name t =
     AreWhere ((zone : Labels) × IsSpeaker setting name t zone) (λ lines. (speaker : Labels) × IsSpeaker setting name t speaker
-    × AreOfEach (AreLinesOfSources setting name t speaker) (reverse (names_down name)) lines)
+    × AreOfEach (AreLinesOfSources setting name t speaker) (names_up name) lines)
 
 -- ---- 8: the question
 
@@ -213,20 +239,28 @@ abbrev pub HasNoDenial : Setting → Labels → Option Labels → Type 0
 HasNoDenial setting name None = Unit {0}
 HasNoDenial setting name (Some zone) = ¬ HasDenial setting.rrsets name zone
 
+abbrev pub unproved_line : Labels → RecordType → Labels → Line
+unproved_line name rtype zone =
+    line.Reason (reason.DenialUnproved (record { name = name; rtype = rtype; zone = zone }))
+
+abbrev pub missing_line : Labels → RecordType → Option Labels → Line
+missing_line name rtype zone =
+    line.Reason (reason.AnswerMissing (record { name = name; rtype = rtype; zone = zone }))
+
 -- nothing answers: the denials of the zone that should speak prove nothing, or there are none
 pub data IsEndLine (setting : Setting) (name : Labels) (t : ℕ) : Line → Type 0 where
   denied : (zone : Labels) → IsSpeakerOf setting name t (Some zone) → HasDenial setting.rrsets name zone
-      → IsEndLine setting name t
-      (line.Reason (reason.DenialUnproved (record { name = name; rtype = record { 0 = t }; zone = zone })))
+      → IsEndLine setting name t (unproved_line name (record { 0 = t }) zone)
   missing : (zone : Option Labels) → IsSpeakerOf setting name t zone → HasNoDenial setting name zone
-      → IsEndLine setting name t
-      (line.Reason (reason.AnswerMissing (record { name = name; rtype = record { 0 = t }; zone = zone })))
+      → IsEndLine setting name t (missing_line name (record { 0 = t }) zone)
+
+-- what is said of the question, if nothing may answer it
+abbrev pub AreEndLines : Setting → Labels → ℕ → List Line → Type 0
+AreEndLines setting name t =
+    AreWhere (¬ HasGoal setting.rrsets name t)
+    (λ lines. (end : Line) × IsEndLine setting name t end × (lines ≡ end ∷ []))
 
 -- ---- all of it
-
--- neither what may answer is signed nor a DNAME is above the name
-abbrev pub IsLackingAsked : Setting → Labels → ℕ → Type 0
-IsLackingAsked setting name t = (¬ HasSignedGoal setting.rrsets name t) × (¬ HasDnameAbove setting.rrsets name)
 
 -- the parts, one after another
 pub record AreFaultParts (setting : Setting) (name : Labels) (t : ℕ) (lines : List Line) : Type 0 where
@@ -242,10 +276,9 @@ pub record AreFaultParts (setting : Setting) (name : Labels) (t : ℕ) (lines : 
   pub of_denials : AreWhere ((¬ HasSignedGoal setting.rrsets name t) ⊎ (closers ≢ [])) (AreLinesOfDenials setting name t)
       denials
   pub lacking : List Line
-  pub of_lacking : AreWhere (IsLackingAsked setting name t) (AreLacking setting name t) lacking
+  pub of_lacking : AreWhere ((¬ HasSignedGoal setting.rrsets name t) × (dnames ≡ [])) (AreLacking setting name t) lacking
   pub ends : List Line
-  pub of_ends : AreWhere (¬ HasGoal setting.rrsets name t)
-      (λ last. (end : Line) × IsEndLine setting name t end × (last ≡ end ∷ [])) ends
+  pub of_ends : AreEndLines setting name t ends
   pub all : lines ≡ zones ++ dnames ++ goals ++ denials ++ closers ++ lacking ++ ends
 
 -- where no anchor is at or above the name, it isn't said that signers aren't trusted

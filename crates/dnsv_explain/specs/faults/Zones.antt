@@ -1,5 +1,5 @@
 -- Which RRsets a question is about, and which zones it needs (RFC 4035 4.2, 5).
-use Rattle.std.specs.Prelude.{◌≡◌, ◌⊎◌, ◌≤◌, ℕ, List, Contains, length}
+use Rattle.std.specs.Prelude.{◌≡◌, ◌≢◌, ◌⊎◌, ◌≤◌, ℕ, List, [], Contains, length}
 use Rattle.dnsv_names.specs.Name.{Labels, SameName, IsAtOrBelow}
 use Rattle.dnsv_names.specs.Order.{IsBelow}
 use Rattle.dnsv_records.specs.declared.rrsig.Rrsig.{Rrsig}
@@ -33,62 +33,82 @@ HasOwnAnchor anchors name = (anchor : Anchor) × Contains anchors anchor × Same
 
 -- ---- what may answer, and what may deny
 
--- RRset k may answer the question: it has the name, and the type or CNAME
-pub record IsGoal (rrsets : List ReceivedRrset) (name : Labels) (t k : ℕ) (rrset : ReceivedRrset) : Type 0 where
-  pub numbered : IsNumbered rrsets k rrset
+-- the RRset may answer the question: it has the name, and the type or CNAME
+pub record IsGoal (name : Labels) (t : ℕ) (rrset : ReceivedRrset) : Type 0 where
   pub owner : SameName rrset.owner name
   pub its_type : (rrset.rtype ≡ t) ⊎ (rrset.rtype ≡ cname)
 
-abbrev pub HasGoal : List ReceivedRrset → Labels → ℕ → Type 0
-HasGoal rrsets name t = (k : ℕ) × (rrset : ReceivedRrset) × IsGoal rrsets name t k rrset
-
--- the zone is the signer of a signature of such an RRset
-abbrev pub HasGoalSigner : List ReceivedRrset → Labels → ℕ → Labels → Type 0
-HasGoalSigner rrsets name t zone =
-    (k : ℕ) × (rrset : ReceivedRrset) × IsGoal rrsets name t k rrset × HasSigner rrset zone
+pub record HasGoal (rrsets : List ReceivedRrset) (name : Labels) (t : ℕ) : Type 0 where
+  pub rrset : ReceivedRrset
+  pub among : Contains rrsets rrset
+  pub goal : IsGoal name t rrset
 
 -- one of them has a signature
-abbrev pub HasSignedGoal : List ReceivedRrset → Labels → ℕ → Type 0
-HasSignedGoal rrsets name t = (zone : Labels) × HasGoalSigner rrsets name t zone
+pub record HasSignedGoal (rrsets : List ReceivedRrset) (name : Labels) (t : ℕ) : Type 0 where
+  pub rrset : ReceivedRrset
+  pub among : Contains rrsets rrset
+  pub goal : IsGoal name t rrset
+  pub signed : rrset.signatures ≢ []
 
--- none of its signatures has a signer at or above the owner
+-- the zone is the signer of a signature of one of them
+pub record HasGoalSigner (rrsets : List ReceivedRrset) (name : Labels) (t : ℕ) (zone : Labels) : Type 0 where
+  pub rrset : ReceivedRrset
+  pub among : Contains rrsets rrset
+  pub goal : IsGoal name t rrset
+  pub signer : HasSigner rrset zone
+
+-- a signer of the RRset is at or above the name
+pub record HasSignerAbove (rrset : ReceivedRrset) (name : Labels) : Type 0 where
+  pub zone : Labels
+  pub signer : HasSigner rrset zone
+  pub above : IsAtOrBelow name zone
+
+-- none of its signatures, if it has any, has a signer at or above the owner
 abbrev pub IsStray : ReceivedRrset → Type 0
-IsStray rrset = (signer : Labels) → HasSigner rrset signer → ¬ IsAtOrBelow rrset.owner signer
+IsStray rrset = ¬ HasSignerAbove rrset rrset.owner
 
--- RRset k of NSEC or NSEC3 records may deny the name: one of its signers is at or above the name, or it is stray
-pub record IsDenial (rrsets : List ReceivedRrset) (name : Labels) (k : ℕ) (rrset : ReceivedRrset) : Type 0 where
-  pub numbered : IsNumbered rrsets k rrset
+-- the RRset of NSEC or NSEC3 records may deny the name: one of its signers is at or above the name, or it is stray
+pub record IsDenial (name : Labels) (rrset : ReceivedRrset) : Type 0 where
   pub its_type : (rrset.rtype ≡ nsec) ⊎ (rrset.rtype ≡ 50)
-  pub related : ((zone : Labels) × HasSigner rrset zone × IsAtOrBelow name zone) ⊎ IsStray rrset
+  pub related : HasSignerAbove rrset name ⊎ IsStray rrset
 
 -- the zone is the signer of a signature of such an RRset
-abbrev pub HasDenialSigner : List ReceivedRrset → Labels → Labels → Type 0
-HasDenialSigner rrsets name zone =
-    (k : ℕ) × (rrset : ReceivedRrset) × IsDenial rrsets name k rrset × HasSigner rrset zone
+pub record HasDenialSigner (rrsets : List ReceivedRrset) (name zone : Labels) : Type 0 where
+  pub rrset : ReceivedRrset
+  pub among : Contains rrsets rrset
+  pub denial : IsDenial name rrset
+  pub signer : HasSigner rrset zone
 
 -- ---- the zone that should speak
 
--- A zone is known at or above the name (for DS above it): an anchor's owner, the owner of a DS or DNSKEY RRset, or the
--- signer of what may answer; where none of that is signed, of what may deny.
+-- it is an anchor's owner, the owner of a DS or DNSKEY RRset, or the signer of what may answer; where none of that is
+-- signed, of what may deny
+abbrev pub IsKnownAs : Setting → Labels → ℕ → Labels → Type 0
+IsKnownAs setting name t zone =
+    HasOwnAnchor setting.anchors zone ⊎ HasRrset setting.rrsets zone ds ⊎ HasRrset setting.rrsets zone 48
+    ⊎ HasGoalSigner setting.rrsets name t zone
+    ⊎ ((¬ HasSignedGoal setting.rrsets name t) × HasDenialSigner setting.rrsets name zone)
+
+-- and so a zone is known at or above the name, for DS above it
 pub record IsKnownZone (setting : Setting) (name : Labels) (t : ℕ) (zone : Labels) : Type 0 where
   pub above : IsAtOrBelow name zone
   pub properly : t ≡ ds → IsBelow name zone
-  pub known : HasOwnAnchor setting.anchors zone ⊎ HasRrset setting.rrsets zone ds ⊎ HasRrset setting.rrsets zone 48
-      ⊎ HasGoalSigner setting.rrsets name t zone
-      ⊎ ((¬ HasSignedGoal setting.rrsets name t) × HasDenialSigner setting.rrsets name zone)
+  pub known : IsKnownAs setting name t zone
 
 -- of those it has most labels
 pub record IsSpeaker (setting : Setting) (name : Labels) (t : ℕ) (zone : Labels) : Type 0 where
   pub known : IsKnownZone setting name t zone
   pub most : (other : Labels) → IsKnownZone setting name t other → length other ≤ length zone
 
--- RRset k may deny the name for the zone: it has a signature by it, or is stray at or below it
-pub record IsDenialOf (rrsets : List ReceivedRrset) (name zone : Labels) (k : ℕ) (rrset : ReceivedRrset) : Type 0 where
-  pub denial : IsDenial rrsets name k rrset
+-- the RRset may deny the name for the zone: it has a signature by it, or is stray at or below it
+pub record IsDenialOf (name zone : Labels) (rrset : ReceivedRrset) : Type 0 where
+  pub denial : IsDenial name rrset
   pub its : HasSigner rrset zone ⊎ (IsStray rrset × IsAtOrBelow rrset.owner zone)
 
-abbrev pub HasDenial : List ReceivedRrset → Labels → Labels → Type 0
-HasDenial rrsets name zone = (k : ℕ) × (rrset : ReceivedRrset) × IsDenialOf rrsets name zone k rrset
+pub record HasDenial (rrsets : List ReceivedRrset) (name zone : Labels) : Type 0 where
+  pub rrset : ReceivedRrset
+  pub among : Contains rrsets rrset
+  pub its : IsDenialOf name zone rrset
 
 -- ---- the zones above
 
@@ -126,22 +146,25 @@ pub record IsAnchoredAbove (setting : Setting) (name : Labels) (t : ℕ) (zone a
 
 -- ---- the zones that a question needs
 
--- the signer of what may answer is at or above the name
-abbrev pub HasSignerAbove : List ReceivedRrset → Labels → ℕ → Labels → Type 0
-HasSignerAbove rrsets name t zone = HasGoalSigner rrsets name t zone × IsAtOrBelow name zone
+-- What the question needs by itself: the signers of what may answer that are at or above the name. Where there is none,
+-- the zone that should speak, and where nothing that may answer is signed, the signers of what may deny that are at or
+-- above the name, if they have an anchor at or above them.
+pub data IsNeededFirst (setting : Setting) (name : Labels) (t : ℕ) (zone : Labels) : Type 0 where
+  signer : HasGoalSigner setting.rrsets name t zone → IsAtOrBelow name zone → IsNeededFirst setting name t zone
+  speaker : ((other : Labels) → HasGoalSigner setting.rrsets name t other → ¬ IsAtOrBelow name other)
+      → IsSpeaker setting name t zone → HasAnchor setting.anchors zone → IsNeededFirst setting name t zone
+  denying : ¬ HasSignedGoal setting.rrsets name t → HasDenialSigner setting.rrsets name zone → IsAtOrBelow name zone
+      → HasAnchor setting.anchors zone → IsNeededFirst setting name t zone
 
--- The signers of what may answer. Where there is none, the zone that should speak, and where nothing that may answer is
--- signed, the signers of what may deny, if they have an anchor at or above them. Of each that isn't trusted the parents,
--- or, where nothing leads into it, the next known zone above.
+-- the zone, if it isn't trusted, needs the one above it: each of its parents, or where nothing leads into it, the next
+-- known zone
+pub data NeedsAbove (setting : Setting) (name : Labels) (t : ℕ) (zone above : Labels) : Type 0 where
+  parent : IsParent setting zone above → NeedsAbove setting name t zone above
+  known_above : ¬ HasRrset setting.rrsets zone ds → ¬ HasOwnAnchor setting.anchors zone
+      → IsAnchoredAbove setting name t zone above → NeedsAbove setting name t zone above
+
+-- what the question needs by itself, and what each of these that isn't trusted needs
 pub data IsNeeded (setting : Setting) (name : Labels) (t : ℕ) : Labels → Type 0 where
-  signer : {zone : Labels} → HasSignerAbove setting.rrsets name t zone → IsNeeded setting name t zone
-  speaker : {zone : Labels} → ((other : Labels) → ¬ HasSignerAbove setting.rrsets name t other)
-      → IsSpeaker setting name t zone → HasAnchor setting.anchors zone → IsNeeded setting name t zone
-  denying : {zone : Labels} → ((other : Labels) → ¬ HasGoalSigner setting.rrsets name t other)
-      → HasDenialSigner setting.rrsets name zone → IsAtOrBelow name zone → HasAnchor setting.anchors zone
-      → IsNeeded setting name t zone
-  parent : {zone above : Labels} → IsNeeded setting name t zone → ¬ IsTrustedZone setting zone → IsParent setting zone above
-      → IsNeeded setting name t above
-  known_above : {zone above : Labels} → IsNeeded setting name t zone → ¬ IsTrustedZone setting zone
-      → ¬ HasRrset setting.rrsets zone ds → ¬ HasOwnAnchor setting.anchors zone
-      → IsAnchoredAbove setting name t zone above → IsNeeded setting name t above
+  first : {zone : Labels} → IsNeededFirst setting name t zone → IsNeeded setting name t zone
+  above : {zone higher : Labels} → IsNeeded setting name t zone → ¬ IsTrustedZone setting zone
+      → NeedsAbove setting name t zone higher → IsNeeded setting name t higher

@@ -121,7 +121,7 @@ fn add_untrusted(
 }
 
 /// The signature with the key that it names.
-fn shown(
+pub fn shown(
     number: SignatureNumber,
     rrset: &Rrset,
     rrsig: &Rrsig,

@@ -141,7 +141,7 @@ module _ (setting : Setting) (name : Labels) (t : ℕ) where
   pub rrset_so : (k : ℕ) (rrset : ReceivedRrset) (lines : List Line) → IsNumbered setting.rrsets k rrset
       → AreRrsetLines setting k rrset lines → (said : Reason) → Contains lines (line.Reason said) → IsSo said
   rrset_so k rrset lines numbered (secured has) said there = absurd (none_in [] (line.Reason said) refl there)
-  rrset_so k rrset lines numbered (unsigned none) said there = ⊎_elim
+  rrset_so k rrset lines numbered (unsigned never none) said there = ⊎_elim
       (λ (same : line.Reason said ≡ unsigned_line k rrset). only_reason said (unsigned_reason k rrset) same
       (record { rrset = rrset; numbered = numbered; owner = refl; rtype = refl; none = none }))
       (λ (later : Contains [] (line.Reason said)). absurd (none_in [] (line.Reason said) refl later))

@@ -1,0 +1,40 @@
+use Rattle.std.proofs.Common.{◌≡◌, ◌<◌, ◌≤◌, ◌-◌, length, arith, sym, ◌∙◌}
+use Rattle.std.proofs.lemmas.Bool.{false≢true}
+use Rattle.dnsv_explain.specs.Explained.{setting_in}
+use Rattle.dnsv_explain.proofs.lemmas.faults.question.KnownLemmas.{above_found, none_above_found, none_anchored, none_anchored_next}
+use Rattle.dnsv_explain.proofs.faults.question.known.anchored_above.Goals as goal
+
+pub loop-labels-init : goal.loop-labels-init
+loop-labels-init c = record {
+  within = omega arith;
+  none = none_anchored (setting_in c.args.evidence.now) c.args.name.now c.args.rtype.0 c.args.below c.requires.within;
+}
+
+pub is_anchored_zone-requires-clause-within : goal.is_anchored_zone-requires-clause-within
+is_anchored_zone-requires-clause-within c =
+    omega (arith, c.loop-labels.invariant.within, c.loop-labels-test.true, c.requires.within)
+
+pub returns-then-is_anchored_zone : goal.returns-then-is_anchored_zone
+returns-then-is_anchored_zone c =
+    let inside = c.loop-labels.invariant.within in
+    let some = c.loop-labels-test.true in
+    let less : c.loop-labels.labels - 1 < c.args.below = omega (arith, inside, some) in (
+      less,
+      above_found (setting_in c.args.evidence.now) c.args.name.now c.args.rtype.0 c.args.below c.requires.within (c.loop-labels.labels - 1)
+          c.loop-labels.labels (omega (arith, some)) less (c.is_anchored_zone.ensures.0 c.if-is_anchored_zone.true) c.loop-labels.invariant.none,
+    )
+
+pub loop-labels-preserved : goal.loop-labels-preserved
+loop-labels-preserved c =
+    let inside = c.loop-labels.invariant.within in
+    let some = c.loop-labels-test.true in record {
+      within = omega (arith, inside, some);
+      none = none_anchored_next (setting_in c.args.evidence.now) c.args.name.now c.args.rtype.0 c.args.below c.requires.within
+          (c.loop-labels.labels - 1) c.loop-labels.labels (omega (arith, some))
+          (λ is. false≢true (sym c.if-is_anchored_zone.false ∙ c.is_anchored_zone.ensures.1 is)) c.loop-labels.invariant.none;
+    }
+
+pub returns : goal.returns
+returns c =
+    none_above_found (setting_in c.args.evidence.now) c.args.name.now c.args.rtype.0 c.args.below c.requires.within c.loop-labels.labels
+    (omega (arith, c.loop-labels-test.false)) c.loop-labels.invariant.none

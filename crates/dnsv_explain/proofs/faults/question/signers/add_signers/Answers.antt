@@ -1,0 +1,22 @@
+use Rattle.dnsv_names.specs.Name.{SameName}
+use Rattle.dnsv_records.specs.declared.rrsig.Rrsig.{Rrsig}
+use Rattle.dnsv_verifier.proofs.AskLemmas.{some_all, some_more, some_none}
+use Rattle.dnsv_explain.specs.faults.NeededSearch.{IsAbove}
+use Rattle.dnsv_explain.proofs.lemmas.faults.question.SignerLemmas.{signers_added}
+use Rattle.dnsv_explain.proofs.faults.question.signers.add_signers.Goals as goal
+
+pub loop-rrsig-init : goal.loop-rrsig-init
+loop-rrsig-init c =
+    some_none (λ (rrsig : Rrsig). IsAbove c.args.name.now (SameName rrsig.signer)) c.signatures-rrsig-items.result.now _
+
+pub loop-rrsig-preserved : goal.loop-rrsig-preserved
+loop-rrsig-preserved c =
+    some_more (λ (rrsig : Rrsig). IsAbove c.args.name.now (SameName rrsig.signer)) c.signatures-rrsig-items.result.now
+    c.loop-rrsig.rrsig-index c.rrsig-item.result _ _ _ c.loop-rrsig-test.true c.rrsig-item.is c.loop-rrsig.invariant
+    c.in_ok-add_signer.ensures
+
+pub returns : goal.returns
+returns c =
+    signers_added c.args.name.now c.args.rrset.now c.signatures-rrsig-items.result.now _ _ c.signatures-rrsig-items.ensures
+    (some_all (λ (rrsig : Rrsig). IsAbove c.args.name.now (SameName rrsig.signer)) c.signatures-rrsig-items.result.now
+    c.loop-rrsig.rrsig-index _ _ c.loop-rrsig-test.false c.loop-rrsig.invariant)

@@ -1,0 +1,12 @@
+use Rattle.std.proofs.Common.{take}
+use Rattle.dnsv_names.specs.Name.{SameName}
+use Rattle.dnsv_records.specs.declared.rrsig.Rrsig.{Rrsig}
+use Rattle.dnsv_verifier.specs.Asking.{AddsJust, ComesOfSome}
+use Rattle.dnsv_explain.specs.faults.NeededSearch.{IsAbove}
+use Rattle.dnsv_explain.proofs.faults.question.signers.add_signers.Given as goal
+
+-- the signers so far
+abbrev pub invariant-loop-rrsig : goal.invariant-loop-rrsig
+invariant-loop-rrsig l =
+    AddsJust (ComesOfSome (λ (rrsig : Rrsig). IsAbove l.name (SameName rrsig.signer)) (take l.rrsig-index l.rrsig-items))
+    l.initial.numbers.items l.numbers.items

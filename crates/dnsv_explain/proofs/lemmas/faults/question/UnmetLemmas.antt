@@ -1,0 +1,290 @@
+-- An RRset without a good signature has a reason, or says that a signer isn't trusted.
+use Rattle.std.proofs.Common.{◌≡◌, ◌≢◌, ◌⊎◌, ◌<◌, ◌≤◌, ◌+◌, ◌-◌, ◌^◌, ◌++◌, ℕ, zero, suc, IsTrue, List, [], ◌∷◌, Some, inl, inr, length, map, refl, sym, ap, ◌∙◌, subst, ⊎_elim, arith}
+use Rattle.std.proofs.lemmas.Bool.{cases_lt}
+use Rattle.std.proofs.lemmas.List.Elements.{Contains-append_left, Contains-append_right}
+use Rattle.std.proofs.lemmas.Option.{slice_get_within}
+use Rattle.std.specs.List.{AllByRecursion, Contains, flat_map, slice_get}
+use Rattle.dnsv_records.proofs.OneRecord.{one_rrsig}
+use Rattle.dnsv_records.specs.Algorithm.{is_supported}
+use Rattle.dnsv_records.specs.Rrsig.{IsRrsig}
+use Rattle.dnsv_records.specs.Rrsig.Time.{seconds_on}
+use Rattle.dnsv_records.specs.declared.rrsig.Rrsig.{Rrsig}
+use Rattle.dnsv_canonical.proofs.CanonicalLemmas.{canonical_some}
+use Rattle.dnsv_canonical.specs.CanonicalRdata.{canonical_form}
+use Rattle.dnsv_canonical.specs.Rdata.{IsSignatureOver, IsWellFormed}
+use Rattle.dnsv_canonical.specs.Rrsets.{IsNumbered, ReceivedRrset}
+use Rattle.dnsv_canonical.specs.SignedData.{signed_front, signed_label_count, signed_owner, signed_record}
+use Rattle.dnsv_verifier.specs.Admissible.{DnskeyRecord, IsAdmissible, IsGoodAmong, MaySign}
+use Rattle.dnsv_verifier.specs.declared.answer.Answer.{Answer}
+use Rattle.dnsv_verifier.specs.declared.answer.Answer.TheVariants.{Valid, Invalid, Unknown}
+use Rattle.dnsv_verifier.specs.declared.entry.Entry.{Entry}
+use Rattle.dnsv_chain.specs.Trusted.{IsGoodByTrust}
+use Rattle.dnsv_explain.specs.Explained.{Setting}
+use Rattle.dnsv_explain.specs.derivations.SignerSearch.{IsSignatureAt}
+use Rattle.dnsv_explain.specs.derivations.Ways.{HasSecured}
+use Rattle.dnsv_explain.specs.faults.AnswerSearch.{entry_over}
+use Rattle.dnsv_explain.specs.faults.Keys.{HasKeys, IsNamedBy, IsTrustedZone, IsZoneKey}
+use Rattle.dnsv_explain.specs.faults.Listing.{AreOfEach, AreOfNumbered, AreThose}
+use Rattle.dnsv_explain.specs.faults.RrsetLines.{AreFaults, AreLinesAt, AreRrsetLines, AreSignatureLines, IsOfAnswers, IsRemark, IsTrueOf, fault_line, follows_line, shown_of}
+use Rattle.dnsv_explain.specs.faults.RrsetLines.AreRrsetLines.{secured, unsigned, unproved}
+use Rattle.dnsv_explain.specs.faults.RrsetLines.AreSignatureLines.{faulty, without_faults}
+use Rattle.dnsv_explain.specs.faults.RrsetLines.IsRemark.{no_keys, of_answers, untrusted, nothing}
+use Rattle.dnsv_explain.specs.faults.SignatureFaults.{IsAnswered, asked_before}
+use Rattle.dnsv_explain.specs.declared.line.Line.{Line}
+use Rattle.dnsv_explain.specs.declared.line.Line.TheVariants as line
+use Rattle.dnsv_explain.specs.declared.line.fault.Reason.{Reason}
+use Rattle.dnsv_explain.specs.declared.line.fault.Reason.TheVariants as reason
+use Rattle.dnsv_explain.specs.declared.line.fault.signature.ShownSignature.{ShownSignature}
+use Rattle.dnsv_explain.specs.declared.line.fault.signature.WhySignature.{WhySignature}
+use Rattle.dnsv_explain.specs.declared.line.fault.signature.WhySignature.TheVariants as why
+use Rattle.dnsv_explain.proofs.lemmas.faults.SignatureLemmas.{unsecured}
+use Rattle.dnsv_explain.proofs.lemmas.faults.TruthLemmas.{first_or_rest, none_in}
+use Rattle.dnsv_explain.proofs.lemmas.faults.question.FollowLemmas.{IsUntrustedOf, none_such, rrset_follows}
+
+-- ---- lists
+
+pub at_front : {X : Type 0} (x : X) (xs : List X) → Contains (x ∷ xs) x
+at_front x xs = (0, omega arith, refl)
+
+pub each_at : {X : Type 0} (P : X → Type 0) (xs : List X) (i : ℕ) (x : X) → AllByRecursion P xs → slice_get xs i ≡ Some x → P x
+each_at P [] i x all at = let within = slice_get_within [] i x at in absurd (omega (arith, within))
+each_at P (first ∷ xs) zero x all at = let same : first ≡ x = cc in subst P same all.0
+each_at P (first ∷ xs) (suc i) x all at = each_at P xs i x all.1 at
+
+-- one of the lines says what fails
+abbrev pub HasReason : List Line → Type 0
+HasReason lines = (failed : Reason) × Contains lines (line.Reason failed)
+
+pub fewer : (all lines : List Line) → ((y : Line) → Contains lines y → Contains all y) → ¬ HasReason all → ¬ HasReason lines
+fewer all lines within none has = none (has.0, within (line.Reason has.0) has.1)
+
+module _ {X Y : Type 0} (Are : ℕ → X → List Y → Type 0) where
+  -- the list of one that has the number is a part of these
+  pub record HasListOf (k : ℕ) (x : X) (ys : List Y) : Type 0 where
+    pub zs : List Y
+    pub are : Are k x zs
+    pub within : (y : Y) → Contains zs y → Contains ys y
+
+  pub list_of : (k i : ℕ) (xs : List X) (x : X) (ys : List Y) → AreOfNumbered Are k xs ys → slice_get xs i ≡ Some x
+      → HasListOf (k + i) x ys
+  list_of k i [] x ys none at = let within = slice_get_within [] i x at in absurd (omega (arith, within))
+  list_of k zero (first ∷ xs) x ys each at =
+      let same : first ≡ x = cc in
+      let At : ℕ → Type 0 = λ n. Are n first each.first in
+      let Of : X → Type 0 = λ one. Are (k + 0) one each.first in
+      let here : k ≡ k + 0 = omega arith in
+      let found : HasListOf (k + 0) x ys = record {
+        zs = each.first;
+        are = subst Of same (subst At here each.is_first);
+        within = λ y there.
+            let In : List Y → Type 0 = λ all. Contains all y in
+            subst In (sym each.parts) (Contains-append_left each.first each.second y there);
+      } in found
+  list_of k (suc i) (first ∷ xs) x ys each at =
+      let rest = list_of (k + 1) i xs x each.second each.is_second at in
+      let At : ℕ → Type 0 = λ n. Are n x rest.zs in
+      let behind : k + 1 + i ≡ k + suc i = omega arith in
+      let found : HasListOf (k + suc i) x ys = record {
+        zs = rest.zs;
+        are = subst At behind rest.are;
+        within = λ y there.
+            let In : List Y → Type 0 = λ all. Contains all y in
+            subst In (sym each.parts) (Contains-append_right each.first each.second y (rest.within y there));
+      } in found
+
+module _ {X Y : Type 0} (Are : X → List Y → Type 0) where
+  pub record HasListFor (x : X) (ys : List Y) : Type 0 where
+    pub zs : List Y
+    pub are : Are x zs
+    pub within : (y : Y) → Contains zs y → Contains ys y
+
+  pub list_for : (xs : List X) (x : X) (ys : List Y) → AreOfEach Are xs ys → Contains xs x → HasListFor x ys
+  list_for [] x ys none there = absurd (none_in [] x refl there)
+  list_for (first ∷ xs) x ys each there = ⊎_elim
+      (λ (same : x ≡ first).
+      let Of : X → Type 0 = λ one. Are one each.first in
+      let found : HasListFor x ys = record {
+        zs = each.first;
+        are = subst Of (sym same) each.is_first;
+        within = λ y its.
+            let In : List Y → Type 0 = λ all. Contains all y in
+            subst In (sym each.parts) (Contains-append_left each.first each.second y its);
+      } in found)
+      (λ (later : Contains xs x).
+      let rest = list_for xs x each.second each.is_second later in
+      let found : HasListFor x ys = record {
+        zs = rest.zs;
+        are = rest.are;
+        within = λ y its.
+            let In : List Y → Type 0 = λ all. Contains all y in
+            subst In (sym each.parts) (Contains-append_right each.first each.second y (rest.within y its));
+      } in found)
+      (first_or_rest first xs x there)
+
+-- what is such is kept
+pub kept_in : {X : Type 0} (Such : X → Type 0) (xs those : List X) → AreThose Such xs those → (x : X) → Contains xs x → Such x
+    → Contains those x
+kept_in Such [] those are x there such = absurd (none_in [] x refl there)
+kept_in {X = X} Such (first ∷ xs) those (inl out) x there such = ⊎_elim
+    (λ (same : x ≡ first). absurd (out.0 (subst Such same such)))
+    (λ (later : Contains xs x). kept_in Such xs those out.1 x later such)
+    (first_or_rest first xs x there)
+kept_in {X = X} Such (first ∷ xs) those (inr into) x there such =
+    let rest = into.1 in
+    let In : List X → Type 0 = λ all. Contains all x in
+    let Front : X → Type 0 = λ y. Contains (y ∷ rest.0) x in
+    subst In (sym rest.2) (⊎_elim
+    (λ (same : x ≡ first). subst Front same (at_front x rest.0))
+    (λ (later : Contains xs x). Contains-append_right (first ∷ []) rest.0 x (kept_in Such xs rest.0 rest.1 x later such))
+    (first_or_rest first xs x there))
+
+-- ---- a signature of which nothing is said is good
+
+module _ (setting : Setting) (rrset : ReceivedRrset) (rrsig : Rrsig) (covered : rrsig.type_covered.0 ≡ rrset.rtype)
+    (never : ¬ IsGoodByTrust setting.meaning setting.moment setting.rrsets setting.anchors rrset rrsig) where
+  abbrev Given : Answer → Type 0
+  Given = IsAnswered (IsNamedBy setting.rrsets rrsig) setting rrset rrsig
+
+  module _ (has : HasKeys setting.rrsets rrsig.signer)
+      (silent : (answered : WhySignature) → IsOfAnswers answered → ¬ IsTrueOf setting rrset rrsig answered)
+      (known : IsGoodAmong setting.meaning setting.moment setting.rrsets rrset rrsig → IsTrustedZone setting rrsig.signer) where
+    no_valid : ¬ Given Valid
+    no_valid given =
+        let good : IsGoodAmong setting.meaning setting.moment setting.rrsets rrset rrsig =
+        (given.key, given.named.at.among, record { admissible = given.admissible; entry = given.entry; is = given.is; valid = given.says }) in
+        silent why.KeyUntrusted tt (good, known good, never)
+
+    no_unknown : ¬ Given Unknown
+    no_unknown given = silent why.Unanswered tt (given, no_valid)
+
+    no_invalid : ¬ Given Invalid
+    no_invalid given = silent why.Bad tt (given, no_unknown, no_valid)
+
+    none_given : (answer : Answer) → ¬ Given answer
+    none_given Valid = no_valid
+    none_given Unknown = no_unknown
+    none_given Invalid = no_invalid
+
+    module _ (none : (word : WhySignature) → Contains (asked_before setting.moment rrsig) word → ¬ IsTrueOf setting rrset rrsig word) where
+      labels_fit : rrsig.labels ≤ signed_label_count rrset.owner
+      labels_fit = ⊎_elim
+          (λ (less : signed_label_count rrset.owner < rrsig.labels). absurd (none why.Labels (0, omega arith, refl) less))
+          (λ (fits : rrsig.labels ≤ signed_label_count rrset.owner). fits)
+          (cases_lt (signed_label_count rrset.owner) rrsig.labels)
+
+      begun : seconds_on rrsig.inception.0 setting.moment < 2 ^ 31
+      begun = ⊎_elim
+          (λ (less : seconds_on rrsig.inception.0 setting.moment < 2 ^ 31). less)
+          (λ (early : 2 ^ 31 ≤ seconds_on rrsig.inception.0 setting.moment). absurd (none _ (4, omega arith, refl) (early, refl)))
+          (cases_lt (seconds_on rrsig.inception.0 setting.moment) (2 ^ 31))
+
+      not_over : seconds_on setting.moment rrsig.expiration.0 < 2 ^ 31
+      not_over = ⊎_elim
+          (λ (less : seconds_on setting.moment rrsig.expiration.0 < 2 ^ 31). less)
+          (λ (late : 2 ^ 31 ≤ seconds_on setting.moment rrsig.expiration.0). absurd (none _ (5, omega arith, refl) (late, refl)))
+          (cases_lt (seconds_on setting.moment rrsig.expiration.0) (2 ^ 31))
+
+      may_be_by : (key : DnskeyRecord) → IsNamedBy setting.rrsets rrsig key → IsZoneKey key → MaySign rrsig.signer rrset.rtype rrset.owner
+          → IsTrue (is_supported rrsig.algorithm.0) → IsAdmissible setting.moment rrset rrsig key
+      may_be_by key its zone_key may supported = record {
+        over = record { covered = covered; labels = labels_fit };
+        timely = record { begun = begun; not_over = not_over };
+        signer = may;
+        unexpanded = λ unexpanded expanded. none why.Expanded (2, omega arith, refl) (unexpanded, expanded);
+        zone_key = record { owner = its.at.owner; protocol = zone_key.protocol; zone_key = zone_key.zone_key };
+        named = record { algorithm = sym its.named.algorithm; key_tag = sym its.named.tag; supported = supported };
+      }
+
+      answered : (key : DnskeyRecord) → IsNamedBy setting.rrsets rrsig key → IsAdmissible setting.moment rrset rrsig key → ⊥
+      answered key its admissible =
+          let canonical = canonical_some (map (canonical_form rrset.rtype) rrset.rdata) in
+          let octets : List ℕ =
+          signed_front rrsig ++ flat_map (signed_record (signed_owner rrset.owner rrsig.labels) rrset.rtype rrsig.original_ttl.0) canonical.0 in
+          let entry : Entry = entry_over rrsig octets key in
+          none_given (setting.meaning entry) (record {
+            key = key;
+            named = its;
+            admissible = admissible;
+            entry = entry;
+            is = record { algorithm = refl; key_field = refl; signed_data = (labels_fit, canonical.0, canonical.1, refl); signature = refl };
+            says = refl;
+          })
+
+      -- so it can't be that nothing is said
+      unmet : ⊥
+      unmet =
+          none why.Signer (1, omega arith, refl) (λ may.
+          none why.Algorithm (3, omega arith, refl) (λ supported.
+          none why.KeyMissing (6, omega arith, refl) (
+            has,
+            λ key named.
+                none why.NotZoneKey (7, omega arith, refl) (
+                  (key, named),
+                  λ other its zone_key.
+                      answered other its (may_be_by other its zone_key may supported),
+                ),
+          )))
+
+  no_faults : (shown : ShownSignature) (faults : List WhySignature) → ¬ HasReason (map (fault_line shown) faults) → faults ≡ []
+  no_faults shown [] none = refl
+  no_faults shown (word ∷ faults) none =
+      absurd (none (reason.Signature (record { why = word; signature = shown }), at_front (fault_line shown word) (map (fault_line shown) faults)))
+
+  remark_unmet : (shown : ShownSignature) (lines : List Line) → AreFaults setting rrset rrsig []
+      → IsRemark setting rrset rrsig shown lines → ¬ HasReason lines → Contains lines (follows_line shown)
+  remark_unmet shown lines faultless (no_keys without) none = at_front (follows_line shown) []
+  remark_unmet shown lines faultless (of_answers word has of is) none =
+      absurd (none (reason.Signature (record { why = word; signature = shown }), at_front (fault_line shown word) []))
+  remark_unmet shown lines faultless (untrusted good unknown) none = at_front (follows_line shown) []
+  remark_unmet shown lines faultless (nothing has silent known) none =
+      absurd (unmet has silent known (none_such (IsTrueOf setting rrset rrsig) (asked_before setting.moment rrsig) faultless))
+
+  -- of a signature that isn't good by trust a reason is said, or that its signer isn't trusted
+  pub signature_unmet : (k s : ℕ) (lines : List Line) → AreSignatureLines setting k s rrset rrsig lines → ¬ HasReason lines
+      → Contains lines (follows_line (shown_of k s rrset rrsig))
+  signature_unmet k s lines (faulty faults are some) none = absurd (some (no_faults (shown_of k s rrset rrsig) faults none))
+  signature_unmet k s lines (without_faults all faultless remark) none =
+      remark_unmet (shown_of k s rrset rrsig) all faultless remark none
+
+-- ---- an RRset
+
+-- of signature s, which is the RDATA, it is said that the signer isn't trusted
+pub record IsUnmet (setting : Setting) (k s : ℕ) (rrset : ReceivedRrset) (rdata : List ℕ) (lines : List Line) : Type 0 where
+  pub rrsig : Rrsig
+  pub read : IsRrsig rdata rrsig
+  pub said : Contains lines (follows_line (shown_of k s rrset rrsig))
+  pub is : IsUntrustedOf setting rrset rrsig.signer
+
+module _ (setting : Setting) (k : ℕ) (rrset : ReceivedRrset) (formed : IsWellFormed rrset) (numbered : IsNumbered setting.rrsets k rrset)
+    (never : ¬ HasSecured setting k) where
+  covers : (i : ℕ) (rdata : List ℕ) (rrsig : Rrsig) → slice_get rrset.signatures i ≡ Some rdata → IsRrsig rdata rrsig
+      → rrsig.type_covered.0 ≡ rrset.rtype
+  covers i rdata rrsig at read =
+      let over = each_at (IsSignatureOver rrset.rtype) rrset.signatures i rdata formed.each_signature at in
+      ap (λ (each : Rrsig). each.type_covered.0) (one_rrsig rdata rrsig over.rrsig read over.is) ∙ over.covers
+
+  pub rrset_unmet : (lines : List Line) → AreRrsetLines setting k rrset lines → ¬ HasReason lines → (i : ℕ) (rdata : List ℕ)
+      → slice_get rrset.signatures i ≡ Some rdata → IsUnmet setting k (1 + i) rrset rdata lines
+  rrset_unmet lines (secured has) none i rdata at = absurd (never has)
+  rrset_unmet lines (unsigned without) none i rdata at = absurd (none (
+    reason.Unsigned (record { owner = rrset.owner; rtype = record { 0 = rrset.rtype }; rrset = k }),
+    at_front _ [],
+  ))
+  rrset_unmet lines (unproved all no_good some each) none i rdata at =
+      let one = list_of (AreLinesAt setting k rrset) 1 i rrset.signatures rdata all each at in
+      let rrsig : Rrsig = one.are.0 in
+      let read = one.are.1 in
+      let place : i ≡ 1 + i - 1 = omega arith in
+      let At : ℕ → Type 0 = λ p. slice_get rrset.signatures p ≡ Some rdata in
+      let stands : IsSignatureAt rrset (1 + i) rrsig =
+      record { rdata = rdata; is_signature = (omega arith, subst At place at); read = read } in
+      let said = one.within (follows_line (shown_of k (1 + i) rrset rrsig))
+      (signature_unmet setting rrset rrsig (covers i rdata rrsig at read)
+      (unsecured setting k (1 + i) rrset rrsig never numbered stands) k (1 + i) one.zs one.are.2
+      (fewer all one.zs one.within none)) in
+      record {
+        rrsig = rrsig;
+        read = read;
+        said = said;
+        is = rrset_follows setting k rrset all (unproved all no_good some each) (record { signature = shown_of k (1 + i) rrset rrsig }) said;
+      }

@@ -1,0 +1,97 @@
+//! What is said of what may deny a question.
+ghost use Rattle.std.specs.Prelude.{◌↔◌, ℕ, IsTrue, OnOk};
+ghost use Rattle.dnsv_canonical.specs.Rrsets.{IsNumbered};
+ghost use Rattle.dnsv_verifier.specs.Asking.{AreKeysOf};
+ghost use Rattle.dnsv_explain.specs.Explained.{Setting, setting_in};
+ghost use Rattle.dnsv_explain.specs.faults.Listing.{AddsThose, AreOfNumbered, AreThose};
+ghost use Rattle.dnsv_explain.specs.faults.NeededSearch.{AreLabelsOf};
+ghost use Rattle.dnsv_explain.specs.faults.Order.{AreDenialLines, IsOfNeeded};
+ghost use Rattle.dnsv_explain.specs.faults.Zones.{IsNeeded};
+
+use crate::evidence::Evidence;
+use crate::faults::add_rrset;
+use crate::faults::question::signers::is_among;
+use crate::faults::question::subjects::is_denial;
+use crate::line::Line;
+use dnsv_canonical::Rrset;
+use dnsv_names::Name;
+use dnsv_verifier::KeyRecord;
+use std::alloc::{AllocError, Global};
+
+/// Adds why each RRset that may deny the name proves nothing, but not that the signer of a zone that isn't needed isn't
+/// trusted. `needed` are the numbers of labels of the needed zones, and `keys` those of the evidence.
+pub fn add_denials(
+    alloc: Global,
+    evidence: &Evidence<'_>,
+    keys: &[KeyRecord<'_>],
+    needed: &[usize],
+    lines: &mut Vec<Line>,
+    name: &Name,
+) -> Result<(), AllocError>
+    requires { AreKeysOf evidence.now.rrsets keys.now }
+    ensures { (t : ℕ) → AreLabelsOf name.now (IsNeeded (setting_in evidence.now) name.now t) needed.now
+        → OnOk result (AddsThose (AreOfNumbered (AreDenialLines (setting_in evidence.now) name.now t) 1 evidence.now.rrsets)
+        lines.old.items lines.new.items) }
+{
+    for (place, rrset) in evidence.rrsets().iter().enumerate() {
+        add_denial(alloc, evidence, keys, needed, lines, name, place + 1, rrset)?;
+    }
+    Ok(())
+}
+
+/// Adds why the RRset, which has the number, proves nothing, if it may deny.
+fn add_denial(
+    alloc: Global,
+    evidence: &Evidence<'_>,
+    keys: &[KeyRecord<'_>],
+    needed: &[usize],
+    lines: &mut Vec<Line>,
+    name: &Name,
+    number: usize,
+    rrset: &Rrset,
+) -> Result<(), AllocError>
+    requires keys { AreKeysOf evidence.now.rrsets keys.now }
+    requires rrset { IsNumbered evidence.now.rrsets number rrset.now }
+    ensures { (t : ℕ) → AreLabelsOf name.now (IsNeeded (setting_in evidence.now) name.now t) needed.now
+        → OnOk result (AddsThose (AreDenialLines (setting_in evidence.now) name.now t number rrset.now) lines.old.items
+        lines.new.items) }
+{
+    if !is_denial(rrset, name) {
+        return Ok(());
+    }
+    let mut all = Vec::new(alloc);
+    add_rrset(alloc, evidence, keys, &mut all, number, rrset)?;
+    keep_of_needed(needed, name, &mut all);
+    lines.append(&mut all)?;
+    Ok(())
+}
+
+/// Keeps those of the lines that don't say that the signer of a zone that isn't needed isn't trusted.
+fn keep_of_needed(needed: &[usize], name: &Name, lines: &mut Vec<Line>)
+    ensures { (setting : Setting) (t : ℕ) → AreLabelsOf name.now (IsNeeded setting name.now t) needed.now
+        → AreThose (IsOfNeeded setting name.now t) lines.old.items lines.new.items }
+{
+    lines.retain(|line| is_of_needed(needed, name, line));
+}
+
+/// Whether the line doesn't say so.
+fn is_of_needed(needed: &[usize], name: &Name, line: &Line) -> bool
+    ensures { (setting : Setting) (t : ℕ) → AreLabelsOf name.now (IsNeeded setting name.now t) needed.now
+        → IsTrue result ↔ IsOfNeeded setting name.now t line.now }
+{
+    match line {
+        Line::Follows(untrusted) => is_needed(needed, name, &untrusted.signature.signer),
+        _ => true,
+    }
+}
+
+/// Whether the zone is needed.
+fn is_needed(needed: &[usize], name: &Name, zone: &Name) -> bool
+    ensures { (setting : Setting) (t : ℕ) → AreLabelsOf name.now (IsNeeded setting name.now t) needed.now
+        → IsTrue result ↔ IsNeeded setting name.now t zone.now }
+{
+    if !name.is_at_or_below(zone) {
+        return false;
+    }
+    is_among(needed, zone.labels())
+}
