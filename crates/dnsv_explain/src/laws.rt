@@ -25,10 +25,6 @@ ghost use Rattle.dnsv_explain.specs.Following.{EachFollows, at_moment};
 ghost use Rattle.dnsv_explain.specs.Following.Cases.{IsCaseBy};
 ghost use Rattle.dnsv_explain.specs.Following.Parts.{IsPartOf, IsUnusableRecord};
 ghost use Rattle.dnsv_explain.specs.faults.Order.{AreFaultLines, AreLacking};
-ghost use Rattle.dnsv_explain.specs.faults.Sources.{AreSourceLines};
-ghost use Rattle.dnsv_explain.specs.derivations.OwnDerivations.{SecuredIn};
-ghost use Rattle.dnsv_denial.specs.words.EvidenceWords.{Chain, evidence_said};
-ghost use Rattle.dnsv_explain.specs.declared.line.fault.denial.Source.{Source};
 ghost use Rattle.dnsv_explain.specs.faults.RrsetLines.{AreLinesOfNumber};
 ghost use Rattle.dnsv_explain.specs.faults.Truth.{IsReasonTrue};
 ghost use Rattle.dnsv_explain.specs.faults.ZoneLines.{AreZoneLines, zone_line};
@@ -191,11 +187,4 @@ pub fn a_failure_has_one_list()
     ensures { (setting : Setting) (name : Labels) (t : ℕ) (a b : List Line)
         → ((c d : List Line) → AreLacking setting name t c → AreLacking setting name t d → c ≡ d)
         → AreFaultLines setting name t a → AreFaultLines setting name t b → a ≡ b }
-{}
-
-/// TEST
-pub fn test_lack()
-    ensures { (setting : Setting) (zone name : Labels) (chain : Chain) (source : Source) (t : ℕ) (a b : List Line)
-        → AreSourceLines (evidence_said (SecuredIn setting) setting.rrsets zone chain) source zone name t a
-        → AreSourceLines (evidence_said (SecuredIn setting) setting.rrsets zone chain) source zone name t b → a ≡ b }
 {}

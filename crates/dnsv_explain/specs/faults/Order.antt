@@ -281,10 +281,11 @@ pub record AreFaultParts (setting : Setting) (name : Labels) (t : ℕ) (lines : 
   pub of_ends : AreEndLines setting name t ends
   pub all : lines ≡ zones ++ dnames ++ goals ++ denials ++ closers ++ lacking ++ ends
 
--- where no anchor is at or above the name, it isn't said that signers aren't trusted
+-- reasons, and where an anchor is at or above the name, that signers aren't trusted
 abbrev pub IsSaid : Setting → Labels → Line → Type 0
+IsSaid setting name (line.Reason reason) = Unit {0}
 IsSaid setting name (line.Follows untrusted) = HasAnchor setting.anchors name
-IsSaid setting name _ = Unit {0}
+IsSaid setting name _ = ⊥
 
 -- whether two lines have one text
 abbrev pub same_text : Line → Line → Bool

@@ -6,7 +6,7 @@ use Rattle.std.specs.List.Sorted.{IsStrictlySortedBy}
 use Rattle.std.specs.Ordering.{ordering_reverse}
 use Rattle.std.specs.declared.cmp.Ordering.{Ordering}
 use Rattle.std.specs.declared.cmp.Ordering.TheVariants.{Less, Equal, Greater}
-use Rattle.dnsv_canonical.proofs.CanonicalLemmas.{IsMember, member_passes, never_below_itself, never_both}
+use Rattle.dnsv_canonical.proofs.CanonicalLemmas.{IsMember, member_passes, never_below_itself}
 use Rattle.dnsv_explain.specs.faults.Listing.{AreOfEach}
 use Rattle.dnsv_explain.proofs.lemmas.faults.one.ListLemmas.{IsOneList}
 
@@ -16,10 +16,14 @@ module _ {K Y : Type 0} (R : K → K → Ordering) (total : IsTotalOrder R) (exa
   abbrev AreAmong : List K → List K → Type 0
   AreAmong xs ys = (x : K) → Has x → IsMember x xs → IsMember x ys
 
+  never_both : (x y : K) → R x y ≡ Less → R y x ≡ Less → ⊥
+  never_both x y less more =
+      let turned : Less ≡ Greater = sym less ∙ total.antisymm x y ∙ ap ordering_reverse more in cc
+
   -- one below all of a list doesn't belong to it
   below : (x y : K) (ys : List K) → R x y ≡ Less → AllByRecursion (λ z. R y z ≡ Less) ys → IsMember x (y ∷ ys) → ⊥
   below x y ys less above member = ⊎_elim (λ (same : x ≡ y). never_below_itself R total exact ⊥ x y same less)
-      (λ (later : IsMember x ys). never_both R total exact ⊥ x y less (member_passes (λ z. R y z ≡ Less) ys x above later)) member
+      (λ (later : IsMember x ys). never_both x y less (member_passes (λ z. R y z ≡ Less) ys x above later)) member
 
   without_front : (front back : List Y) → front ≡ [] → front ++ back ≡ back
   without_front front back none = ap (λ each. each ++ back) none

@@ -1,5 +1,5 @@
 -- What the records of a chain lack is one list.
-use Rattle.std.proofs.Common.{◌≡◌, ◌≢◌, ◌⊎◌, ◌∙◌, ◌<◌, ◌≤◌, ◌+◌, ⊎_elim, inl, inr, ℕ, List, [], ◌∷◌, ◌++◌, Option, Some, None, arith, length, refl, sym, ap, subst}
+use Rattle.std.proofs.Common.{◌≡◌, ◌≢◌, ◌⊎◌, ◌∙◌, ◌<◌, ◌≤◌, ◌+◌, ⊎_elim, inl, inr, ℕ, Bool, List, [], ◌∷◌, ◌++◌, Option, Some, None, arith, length, refl, sym, ap, subst}
 use Rattle.std.specs.Ordering.{ordering_reverse}
 use Rattle.std.specs.List.{Contains}
 use Rattle.std.specs.declared.cmp.Ordering.{Ordering}
@@ -7,19 +7,24 @@ use Rattle.std.specs.declared.cmp.Ordering.TheVariants.{Less, Equal, Greater}
 use Rattle.dnsv_names.specs.Name.{Labels, SameName, rightmost}
 use Rattle.dnsv_names.specs.Tree.{wildcard_of}
 use Rattle.dnsv_names.specs.declared.number.RecordType.{RecordType}
+use Rattle.dnsv_records.proofs.OneRecord.{one_nsec, one_nsec3}
+use Rattle.dnsv_records.specs.Nsec.{IsNsec}
+use Rattle.dnsv_records.specs.Nsec3.{IsNsec3}
+use Rattle.dnsv_records.specs.declared.nsec.Nsec.{Nsec}
+use Rattle.dnsv_records.specs.declared.nsec3.Nsec3.{Nsec3}
 use Rattle.dnsv_records.specs.declared.nsec3.Nsec3Parameters.{Nsec3Parameters}
 use Rattle.dnsv_zones.specs.chains.HashedNames.{sha1_hash}
+use Rattle.std.specs.FinSet as set
 use Rattle.dnsv_zones.specs.chains.Nsec3Chain.{Nsec3Record}
 use Rattle.dnsv_zones.specs.chains.NsecChain.{IsInBitmap, NsecRecord}
-use Rattle.dnsv_zones.specs.chains.Rdata.{parameters_of}
+use Rattle.dnsv_zones.specs.chains.Rdata.{nsec_record, parameters_of}
 use Rattle.dnsv_zones.specs.forms.Nsec as by_nsec
 use Rattle.dnsv_zones.specs.forms.Nsec3 as by_nsec3
 use Rattle.dnsv_zones.specs.forms.RecordWords.{RecordWords}
 use Rattle.dnsv_zones.specs.zones.Types.{Denies}
 use Rattle.dnsv_canonical.proofs.CanonicalLemmas.{Contains-from_member, IsMember-from_contains, rising_unique}
 use Rattle.dnsv_canonical.specs.Rrsets.{ReceivedRrset}
-use Rattle.dnsv_denial.proofs.lemmas.gathering.EvidenceLemmas.{one_nsec_of}
-use Rattle.dnsv_denial.proofs.lemmas.gathering.Nsec3Gather.{one_nsec3_of}
+use Rattle.dnsv_denial.specs.gathering.Evidence.{IsNsecOf, IsNsec3Of}
 use Rattle.dnsv_denial.specs.words.EvidenceWords.{Chain, evidence_said, number_cmp}
 use Rattle.dnsv_denial.specs.words.EvidenceWords.Chain.{ByNsec, ByNsec3}
 use Rattle.dnsv_denial.specs.declared.records.number.RecordNumber.{RecordNumber}
@@ -37,6 +42,7 @@ use Rattle.dnsv_explain.specs.declared.line.fault.denial.Source.{Source}
 use Rattle.dnsv_explain.specs.declared.line.fault.denial.WhySource.TheVariants as why
 use Rattle.dnsv_explain.proofs.lemmas.faults.one.ListLemmas.{IsOneList, one_of_each, one_parted, one_where}
 use Rattle.dnsv_explain.proofs.lemmas.one.StepLemmas.{level}
+use Rattle.dnsv_explain.proofs.lemmas.one.TrustedLemmas.{one_record}
 
 -- ---- values
 
@@ -45,7 +51,7 @@ lowest_by a b Less is up down = absurd (up is)
 lowest_by a b Equal is up down = number_exact a b is
 lowest_by a b Greater is up down = absurd (down (number_total.antisymm b a ∙ ap ordering_reverse is))
 
-same_number : (a b : RecordNumber) → number_cmp a b ≢ Less → number_cmp b a ≢ Less → a ≡ b
+pub same_number : (a b : RecordNumber) → number_cmp a b ≢ Less → number_cmp b a ≢ Less → a ≡ b
 same_number a b up down = lowest_by a b (number_cmp a b) refl up down
 
 pub one_held : (has : ℕ → Type 0) (t : ℕ) (a b : Option RecordType) → IsHeld has t a → IsHeld has t b → a ≡ b
@@ -90,18 +96,36 @@ abbrev pub HasOneTypes : RecordWords RecordNumber → Type 1
 HasOneTypes said = (Told : Type 0) (P Q : (ℕ → Type 0) → Type 0) → ((has : ℕ → Type 0) → P has → Q has → Told) → (name : Labels)
     (n : RecordNumber) → said.TypesAt name P n → said.TypesAt name Q n → Told
 
+nsec_types : (rrsets : List ReceivedRrset) (n : RecordNumber) (a b : NsecRecord) → IsNsecOf rrsets n a → IsNsecOf rrsets n b
+    → a.types ≡ b.types
+nsec_types rrsets n a b x y =
+    let one = one_record rrsets n n x.rrset y.rrset x.rdata y.rdata refl x.at y.at in
+    let Read : List ℕ → Type 0 = λ each. IsNsec each x.fields in
+    let fields : x.fields ≡ y.fields = one_nsec y.rdata x.fields y.fields (subst Read one.1 x.read) y.read in
+    let same : a ≡ b =
+    x.is ∙ ap (λ (each : ReceivedRrset). nsec_record each.owner x.fields) one.0 ∙ ap (nsec_record y.rrset.owner) fields ∙ sym y.is in
+    ap (λ (each : NsecRecord). each.types) same
+
+nsec3_types : (rrsets : List ReceivedRrset) (zone : Labels) (n : RecordNumber) (a b : Nsec3Record) → IsNsec3Of rrsets zone n a
+    → IsNsec3Of rrsets zone n b → a.types ≡ b.types
+nsec3_types rrsets zone n a b x y =
+    let one = one_record rrsets n n x.rrset y.rrset x.rdata y.rdata refl x.at y.at in
+    let Read : List ℕ → Type 0 = λ each. IsNsec3 each x.fields in
+    let fields : x.fields ≡ y.fields = one_nsec3 y.rdata x.fields y.fields (subst Read one.1 x.read) y.read in
+    x.types ∙ ap (λ (each : Nsec3). λ t. set.contains each.types t) fields ∙ sym y.types
+
 module _ (Secured : ℕ → ℕ → Type 0) (rrsets : List ReceivedRrset) (zone : Labels) where
   pub one_types : (chain : Chain) → HasOneTypes (evidence_said Secured rrsets zone chain)
   one_types ByNsec Told P Q both name n x y =
       let first : by_nsec.HasTypesBy x.0 name P = x.2 in
       let second : by_nsec.HasTypesBy y.0 name Q = y.2 in
-      let same : x.0 ≡ y.0 = one_nsec_of rrsets n x.0 y.0 x.1.is y.1.is in
-      both (IsInBitmap y.0.types) (subst (λ (nsec : NsecRecord). P (IsInBitmap nsec.types)) same first.1) second.1
+      let same : x.0.types ≡ y.0.types = nsec_types rrsets n x.0 y.0 x.1.is y.1.is in
+      both (IsInBitmap y.0.types) (subst (λ (types : ℕ → Bool). P (IsInBitmap types)) same first.1) second.1
   one_types (ByNsec3 parameters) Told P Q both name n x y =
       let first : by_nsec3.HasTypesBy (sha1_hash parameters) x.0 name P = x.2 in
       let second : by_nsec3.HasTypesBy (sha1_hash parameters) y.0 name Q = y.2 in
-      let same : x.0 ≡ y.0 = one_nsec3_of rrsets zone n x.0 y.0 x.1.is y.1.is in
-      both (IsInBitmap y.0.types) (subst (λ (nsec3 : Nsec3Record). P (IsInBitmap nsec3.types)) same first.1) second.1
+      let same : x.0.types ≡ y.0.types = nsec3_types rrsets zone n x.0 y.0 x.1.is y.1.is in
+      both (IsInBitmap y.0.types) (subst (λ (types : ℕ → Bool). P (IsInBitmap types)) same first.1) second.1
 
 -- ---- what is lacking
 
@@ -151,14 +175,14 @@ module _ (said : RecordWords RecordNumber) (types : HasOneTypes said) (source : 
   one_wildcard wildcard a b (held lines has are) (missing never nor out) = absurd (never has)
   one_wildcard wildcard a b (covered never is) (held lines has are) = absurd (never has)
   one_wildcard wildcard a b (covered never is) (covered nor also) = refl
-  one_wildcard wildcard a b (covered never is) (missing nor open out) =
-      absurd (⊎_elim (λ (cover : IsCovered said wildcard). open cover)
+  one_wildcard wildcard a b (covered never is) (missing nor uncovered out) =
+      absurd (⊎_elim (λ (cover : IsCovered said wildcard). uncovered cover)
       (λ (inner : (number : RecordNumber) × said.EmptyNonTerminal wildcard number). out inner.0 inner.1) is)
   one_wildcard wildcard a b (missing never nor out) (held lines has are) = absurd (never has)
-  one_wildcard wildcard a b (missing never open out) (covered nor is) =
-      absurd (⊎_elim (λ (cover : IsCovered said wildcard). open cover)
+  one_wildcard wildcard a b (missing never uncovered out) (covered nor is) =
+      absurd (⊎_elim (λ (cover : IsCovered said wildcard). uncovered cover)
       (λ (inner : (number : RecordNumber) × said.EmptyNonTerminal wildcard number). out inner.0 inner.1) is)
-  one_wildcard wildcard a b (missing never open out) (missing nor also end) = refl
+  one_wildcard wildcard a b (missing never uncovered out) (missing nor also end) = refl
 
   module _ (name : Labels) where
     closed_at : (m n : ℕ) (a b : RecordNumber) → IsFirstClosed said zone name m a → IsFirstClosed said zone name n b → m ≡ n
@@ -195,29 +219,29 @@ module _ (said : RecordWords RecordNumber) (types : HasOneTypes said) (source : 
         let same : u ≡ v = one_closed m k n l u v is so p q in ap (λ (each : Line). each ∷ []) same
     one_lack a b (closed m n u is p) (at_name lines never has are) = absurd (never m is.closed)
     one_lack a b (closed m n u is p) (at_zone never nor at) = absurd (never m is.closed)
-    one_lack a b (closed m n u is p) (no_encloser never nor out missing) = absurd (never m is.closed)
+    one_lack a b (closed m n u is p) (no_encloser never nor out lacking) = absurd (never m is.closed)
     one_lack a b (closed m n u is p) (enclosed k lines never nor out there are) = absurd (never m is.closed)
     one_lack a b (at_name lines never has are) (closed m n u is p) = absurd (never m is.closed)
     one_lack a b (at_name lines never has are) (at_name others nor had also) = one_held_lines name lines others are also
     one_lack a b (at_name lines never has are) (at_zone nor out at) = absurd (out has)
-    one_lack a b (at_name lines never has are) (no_encloser nor out off missing) = absurd (out has)
+    one_lack a b (at_name lines never has are) (no_encloser nor out off lacking) = absurd (out has)
     one_lack a b (at_name lines never has are) (enclosed k others nor out off there also) = absurd (out has)
     one_lack a b (at_zone never nor at) (closed m n u is p) = absurd (never m is.closed)
     one_lack a b (at_zone never nor at) (at_name lines out has are) = absurd (nor has)
     one_lack a b (at_zone never nor at) (at_zone out off also) = refl
-    one_lack a b (at_zone never nor at) (no_encloser out off apart missing) = absurd (apart at)
+    one_lack a b (at_zone never nor at) (no_encloser out off apart lacking) = absurd (apart at)
     one_lack a b (at_zone never nor at) (enclosed k others out off apart there also) = absurd (apart at)
-    one_lack a b (no_encloser never nor apart missing) (closed m n u is p) = absurd (never m is.closed)
-    one_lack a b (no_encloser never nor apart missing) (at_name lines out has are) = absurd (nor has)
-    one_lack a b (no_encloser never nor apart missing) (at_zone out off at) = absurd (apart at)
-    one_lack a b (no_encloser never nor apart missing) (no_encloser out off also so) = refl
-    one_lack a b (no_encloser never nor apart missing) (enclosed k others out off also there are) =
-        absurd (missing k there.above there.within there.there)
+    one_lack a b (no_encloser never nor apart lacking) (closed m n u is p) = absurd (never m is.closed)
+    one_lack a b (no_encloser never nor apart lacking) (at_name lines out has are) = absurd (nor has)
+    one_lack a b (no_encloser never nor apart lacking) (at_zone out off at) = absurd (apart at)
+    one_lack a b (no_encloser never nor apart lacking) (no_encloser out off also so) = refl
+    one_lack a b (no_encloser never nor apart lacking) (enclosed k others out off also there are) =
+        absurd (lacking k there.above there.within there.there)
     one_lack a b (enclosed k lines never nor apart there are) (closed m n u is p) = absurd (never m is.closed)
     one_lack a b (enclosed k lines never nor apart there are) (at_name others out has also) = absurd (nor has)
     one_lack a b (enclosed k lines never nor apart there are) (at_zone out off at) = absurd (apart at)
-    one_lack a b (enclosed k lines never nor apart there are) (no_encloser out off also missing) =
-        absurd (missing k there.above there.within there.there)
+    one_lack a b (enclosed k lines never nor apart there are) (no_encloser out off also lacking) =
+        absurd (lacking k there.above there.within there.there)
     one_lack a b (enclosed k lines never nor apart there are) (enclosed l others out off also too so) =
         let same : k ≡ l = there_at k l there too in
         let Of : ℕ → Type 0 = λ each. AreEnclosedLines each lines in

@@ -1,0 +1,7 @@
+pub mod ChainLemmas
+pub mod ClosedLemmas
+pub mod FoundLemmas
+pub mod LackLemmas
+pub mod ParameterLemmas
+pub mod SaidLemmas
+pub mod ZoneLemmas
