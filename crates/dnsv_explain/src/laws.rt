@@ -27,7 +27,7 @@ ghost use Rattle.dnsv_explain.specs.Following.Parts.{IsPartOf, IsUnusableRecord}
 ghost use Rattle.dnsv_explain.specs.faults.Order.{AreFaultLines, AreLacking};
 ghost use Rattle.dnsv_explain.specs.faults.RrsetLines.{AreLinesOfNumber};
 ghost use Rattle.dnsv_explain.specs.faults.Truth.{IsReasonTrue};
-ghost use Rattle.dnsv_explain.specs.faults.ZoneLines.{zone_line};
+ghost use Rattle.dnsv_explain.specs.faults.ZoneLines.{AreZoneLines, zone_line};
 ghost use Rattle.dnsv_explain.specs.intervals.Holding.{AreShownValidAt, IsHolding, IsHoldingOf};
 ghost use Rattle.dnsv_explain.specs.unsigned_cuts.ShownCuts.{IsCutShownBy, IsCutTold};
 ghost use Rattle.dnsv_explain.specs.derivations.Ways.{HasSecured};
@@ -166,6 +166,12 @@ pub fn marked_entries_settle_what_is_hoped()
 /// What is said to fail of an RRset is so: each word is true of what it is said of, by its definition.
 pub fn reasons_of_rrsets_are_true()
     ensures { (setting : Setting) (name : Labels) (t k : ℕ) (lines : List Line) → AreLinesOfNumber setting k lines
+        → (reason : Reason) → Contains lines (Line.Reason reason) → IsReasonTrue setting name t reason }
+{}
+
+/// What is said to fail of an untrusted zone is so: each word is true of what it is said of, by its definition.
+pub fn reasons_of_zones_are_true()
+    ensures { (setting : Setting) (name zone : Labels) (t : ℕ) (lines : List Line) → AreZoneLines setting zone lines
         → (reason : Reason) → Contains lines (Line.Reason reason) → IsReasonTrue setting name t reason }
 {}
 
