@@ -5,12 +5,12 @@ from asking.faults import escaped
 from asking.kinds import mnemonic_of
 from asking.moments import moment_text
 from explaining.explanation import Explanation
-from explaining.sentences import holds_until, verdict, why
+from explaining.sentences import first_reason, holds_until, verdict, why
 
 from .advice import UNKNOWN
 from .numbers import fault_text
 
-COLUMNS = ("capture", "moment", "name", "type", "status", "verdict", "evidence", "until")
+COLUMNS = ("capture", "moment", "name", "type", "status", "verdict", "evidence", "until", "reason", "ede")
 NO_ANCHOR = "Indeterminate; no anchor is at or above the name: give one by --anchors"
 PLACES = ("message", "record", "line", "file")
 INDENT = "  "
@@ -19,13 +19,15 @@ INDENT = "  "
 def fields_of(capture, row):
     """The values of a row, by column."""
     kind = mnemonic_of(row.question.kind)
-    values = (capture, row.moment, row.question.name, kind, row.status, row.word, row.evidence, until(row))
+    values = (capture, row.moment, row.question.name, kind, row.status, row.word, row.evidence, *why_fields(row))
     return dict(zip(COLUMNS, values))
 
 
-def until(row):
-    """The last moment of those in which the verdict holds; None where nothing is said of it."""
-    return holds_until(Explanation(row.explained)) if row.explained else None
+def why_fields(row):
+    """Until when the verdict holds, and the first reason with its extended DNS error; None of each that isn't said."""
+    told = Explanation(row.explained) if row.explained else None
+    end, said = (holds_until(told), first_reason(told)) if told else (None, None)
+    return (end, f"{said.about}: {said.text}", said.ede) if said else (end, None, None)
 
 
 def json_line(capture, row):
