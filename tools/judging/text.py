@@ -7,11 +7,9 @@ from asking.moments import moment_text
 from explaining.explanation import Explanation
 from explaining.sentences import first_reason, holds_until, verdict, why
 
-from .advice import UNKNOWN
 from .numbers import fault_text
 
 COLUMNS = ("capture", "moment", "name", "type", "status", "verdict", "evidence", "until", "reason", "ede")
-NO_ANCHOR = "Indeterminate; no anchor is at or above the name: give one by --anchors"
 PLACES = ("message", "record", "line", "file")
 INDENT = "  "
 
@@ -77,19 +75,12 @@ class Lines:
     def said(self, capture, row):
         if row.word in ("refused", "fault"):
             return f"{row.word} " + fault_text(row.evidence, {**self.paths, "capture": capture})
-        return "; ".join([verdict_text(row), *aliases_texts(row.evidence)])
+        return "; ".join([verdict(Explanation(row.explained)), *aliases_texts(row.evidence)])
 
 
 def reasons_of(row):
     """The sentences that say why the verdict isn't secure."""
     return why(Explanation(row.explained)) if row.explained else []
-
-
-def verdict_text(row):
-    """The verdict at the last name, and until when it holds; where nothing says why it isn't secure, what to look at."""
-    if reasons_of(row) or row.word not in ("Bogus", "Indeterminate"):
-        return verdict(Explanation(row.explained))
-    return NO_ANCHOR if row.word == "Indeterminate" else "Bogus; " + ("; ".join(row.advice) or UNKNOWN)
 
 
 def aliases_texts(evidence):
