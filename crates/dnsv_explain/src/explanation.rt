@@ -114,11 +114,7 @@ fn explanation_of(
 }
 
 /// Why nothing is proved: what fails, and then what holds.
-fn failed(
-    alloc: Global,
-    judged: &Judged<'_>,
-    rtype: RecordType,
-) -> Result<Explanation, AllocError>
+fn failed(alloc: Global, judged: &Judged<'_>, rtype: RecordType) -> Result<Explanation, AllocError>
     requires trust { HasTrust judged.now.grounds }
     requires kept { IsKept judged.now.grounds rtype.0 judged.now.report.links judged.now.report.last
         judged.now.report.verdict judged.now.hashes.items judged.now.hope }

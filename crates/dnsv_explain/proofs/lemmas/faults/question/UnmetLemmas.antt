@@ -215,9 +215,15 @@ module _ (setting : Setting) (rrset : ReceivedRrset) (rrsig : Rrsig) (covered : 
       unmet =
           none why.Signer (1, omega arith, refl) (λ may.
           none why.Algorithm (3, omega arith, refl) (λ supported.
-          none why.KeyMissing (6, omega arith, refl) (has, λ key named.
-          none why.NotZoneKey (7, omega arith, refl) ((key, named), λ other its zone_key.
-          answered other its (may_be_by other its zone_key may supported)))))
+          none why.KeyMissing (6, omega arith, refl) (
+            has,
+            λ key named.
+                none why.NotZoneKey (7, omega arith, refl) (
+                  (key, named),
+                  λ other its zone_key.
+                      answered other its (may_be_by other its zone_key may supported),
+                ),
+          )))
 
   no_faults : (shown : ShownSignature) (faults : List WhySignature) → ¬ HasReason (map (fault_line shown) faults) → faults ≡ []
   no_faults shown [] none = refl
