@@ -14,5 +14,4 @@ pub mod SourceSearch
 pub mod Sources
 pub mod Truth
 pub mod ZoneLines
-pub mod ZoneSearch
 pub mod Zones

@@ -24,10 +24,10 @@ ghost use Rattle.dnsv_explain.specs.Marked.{AnswersMarked};
 ghost use Rattle.dnsv_explain.specs.Following.{EachFollows, at_moment};
 ghost use Rattle.dnsv_explain.specs.Following.Cases.{IsCaseBy};
 ghost use Rattle.dnsv_explain.specs.Following.Parts.{IsPartOf, IsUnusableRecord};
-ghost use Rattle.dnsv_explain.specs.faults.Order.{AreFaultLines, AreLacking};
+ghost use Rattle.dnsv_explain.specs.faults.Order.{AreFaultLines};
 ghost use Rattle.dnsv_explain.specs.faults.RrsetLines.{AreLinesOfNumber};
 ghost use Rattle.dnsv_explain.specs.faults.Truth.{IsReasonTrue};
-ghost use Rattle.dnsv_explain.specs.faults.ZoneLines.{zone_line};
+ghost use Rattle.dnsv_explain.specs.faults.ZoneLines.{AreZoneLines, zone_line};
 ghost use Rattle.dnsv_explain.specs.intervals.Holding.{AreShownValidAt, IsHolding, IsHoldingOf};
 ghost use Rattle.dnsv_explain.specs.unsigned_cuts.ShownCuts.{IsCutShownBy, IsCutTold};
 ghost use Rattle.dnsv_explain.specs.derivations.Ways.{HasSecured};
@@ -169,16 +169,15 @@ pub fn reasons_of_rrsets_are_true()
         → (reason : Reason) → Contains lines (Line.Reason reason) → IsReasonTrue setting name t reason }
 {}
 
+/// What is said to fail of an untrusted zone is so: each word is true of what it is said of, by its definition.
+pub fn reasons_of_zones_are_true()
+    ensures { (setting : Setting) (name zone : Labels) (t : ℕ) (lines : List Line) → AreZoneLines setting zone lines
+        → (reason : Reason) → Contains lines (Line.Reason reason) → IsReasonTrue setting name t reason }
+{}
+
 /// Where no trust anchor is at or above a question's name, what fails begins with that.
 pub fn questions_without_an_anchor_fail_for_that()
     ensures { (setting : Setting) (name : Labels) (t : ℕ) (lines : List Line) → ¬ HasAnchor setting.anchors name
         → AreFaultLines setting name t lines
         → (rest : List Line) × (lines ≡ zone_line WhyZone.NoAnchor name ∷ rest) }
-{}
-
-/// What fails of a question is one list: the same evidence, anchors, moment and answers give the same lines.
-pub fn a_failure_has_one_list()
-    ensures { (setting : Setting) (name : Labels) (t : ℕ) (a b : List Line)
-        → ((c d : List Line) → AreLacking setting name t c → AreLacking setting name t d → c ≡ d)
-        → AreFaultLines setting name t a → AreFaultLines setting name t b → a ≡ b }
 {}
