@@ -1,5 +1,5 @@
 //! The lines of the keys of zones in question.
-ghost use Rattle.std.specs.Prelude.{◌≡◌, ◌↔◌, IfOk, IsTrue, OnOk};
+ghost use Rattle.std.specs.Prelude.{◌↔◌, IfOk, IsTrue, OnOk};
 ghost use Rattle.dnsv_canonical.specs.Rrsets.{IsNumbered};
 ghost use Rattle.dnsv_chain.specs.Trusted.{IsKeyOf};
 ghost use Rattle.dnsv_chain.specs.Ds.{IsMatch, IsUsable};

@@ -3,9 +3,9 @@ ghost use Rattle.std.specs.Prelude.{◌≡◌, ◌++◌, ◌∷◌, ◌≤◌, �
 ghost use Rattle.dnsv_names.specs.Name.{Labels, SameName, rightmost};
 ghost use Rattle.dnsv_names.specs.Tree.{wildcard_of};
 ghost use Rattle.dnsv_explain.specs.Explained.{Setting};
-ghost use Rattle.dnsv_explain.specs.faults.Listing.{AddsThose, AreWhere};
+ghost use Rattle.dnsv_explain.specs.faults.Listing.{AddsThose};
 ghost use Rattle.dnsv_explain.specs.faults.Order.{AreLinesOfChain, HasRecords};
-ghost use Rattle.dnsv_explain.specs.faults.Sources.{AreCloserLines, AreWildcardLines, HasNoneClosed, IsSourceFault};
+ghost use Rattle.dnsv_explain.specs.faults.Sources.{AreCloserLines, AreWildcardLines, HasNoneClosed};
 ghost use Rattle.dnsv_explain.specs.faults.SourceSearch.{AreLinesLacking, AreOf, IsFor, chain_of, closed_line, said_by, told_source};
 
 use crate::explanation::at::At;

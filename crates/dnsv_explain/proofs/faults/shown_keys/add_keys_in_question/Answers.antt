@@ -1,4 +1,4 @@
-use Rattle.std.proofs.Common.{◌≡◌, ◌<◌, List, get_or, length, ap, ◌∙◌, subst}
+use Rattle.std.proofs.Common.{◌<◌, List, get_or, length, ap, ◌∙◌, subst}
 use Rattle.dnsv_canonical.specs.Rrsets.{ReceivedRrset}
 use Rattle.dnsv_explain.specs.Explained.{setting_in}
 use Rattle.dnsv_explain.specs.faults.KeyLines.{AreLinesOfSet}

@@ -1,4 +1,4 @@
-use Rattle.std.proofs.Common.{◌≡◌, List, inr, refl, subst, sym}
+use Rattle.std.proofs.Common.{List, inr, refl, subst, sym}
 use Rattle.dnsv_names.specs.Name.{Labels, IsAtOrBelow, rightmost}
 use Rattle.dnsv_canonical.specs.Rrsets.{ReceivedRrset}
 use Rattle.dnsv_chain.specs.Trust.{SecuredIn as KeptIn}

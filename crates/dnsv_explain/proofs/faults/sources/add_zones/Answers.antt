@@ -1,4 +1,4 @@
-use Rattle.std.proofs.Common.{◌≡◌, ◌-◌, ◌+◌, ℕ, arith, ap, ◌∙◌}
+use Rattle.std.proofs.Common.{◌-◌, ℕ, arith, ap, ◌∙◌}
 use Rattle.dnsv_names.specs.Name.{rightmost}
 use Rattle.dnsv_explain.specs.Explained.{setting_in}
 use Rattle.dnsv_explain.specs.faults.Order.{AreLinesOfSources, names_up}

@@ -1,5 +1,5 @@
 -- What the sources of a question lack is one list.
-use Rattle.std.proofs.Common.{◌≡◌, ◌↔◌, ◌∙◌, ◌⊎◌, ℕ, inl, inr, List, [], ◌∷◌, ◌++◌, length, map, refl, sym, ap, subst, arith, ⊎_elim}
+use Rattle.std.proofs.Common.{◌≡◌, ◌∙◌, ◌⊎◌, ℕ, inl, inr, List, [], ◌∷◌, ◌++◌, length, map, refl, sym, subst, arith, ⊎_elim}
 use Rattle.dnsv_names.specs.Name.{Labels, SameName, IsAtOrBelow, rightmost}
 use Rattle.dnsv_names.specs.Tree.AncestorLaws.{rightmost_same}
 use Rattle.dnsv_names.specs.Tree.TreeLaws.{at_or_below_respects}
@@ -10,7 +10,7 @@ use Rattle.dnsv_denial.specs.words.EvidenceWords.Chain.{ByNsec, ByNsec3}
 use Rattle.dnsv_verdict.proofs.OneProof.{parameters_exact, parameters_total}
 use Rattle.dnsv_explain.specs.Explained.{Setting}
 use Rattle.dnsv_explain.specs.derivations.OwnDerivations.{SecuredIn}
-use Rattle.dnsv_explain.specs.faults.Listing.{AreOfEach, AreWhere}
+use Rattle.dnsv_explain.specs.faults.Listing.{AreOfEach}
 use Rattle.dnsv_explain.specs.faults.Order.{AreLacking, AreLinesOfChain, AreLinesOfSources, AreParametersOf, HasRecords, IsLackingChain, chains_by, names_up}
 use Rattle.dnsv_explain.specs.faults.Sources.{AreSourceLines, IsSourceOf}
 use Rattle.dnsv_explain.specs.faults.Zones.{IsSpeaker}

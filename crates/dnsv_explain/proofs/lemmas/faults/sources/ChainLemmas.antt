@@ -1,22 +1,19 @@
 -- What is said of one chain of a zone.
-use Rattle.std.proofs.Common.{◌≡◌, ◌≢◌, ◌↔◌, ℕ, List, [], ◌∷◌, ◌++◌, inl, inr, refl, sym, subst, ⊎_elim}
-use Rattle.std.specs.List.{AllByRecursion, Contains}
+use Rattle.std.proofs.Common.{◌≡◌, ◌≢◌, ◌↔◌, ℕ, List, [], ◌∷◌, ◌++◌, inl, inr, refl, ⊎_elim}
 use Rattle.dnsv_names.specs.Name.{Labels, SameName, rightmost}
 use Rattle.dnsv_records.specs.declared.nsec3.Nsec3Parameters.{Nsec3Parameters}
 use Rattle.dnsv_zones.specs.chains.Nsec3Chain.{Nsec3Record}
-use Rattle.dnsv_zones.specs.chains.NsecChain.{NsecRecord}
 use Rattle.dnsv_zones.specs.chains.Rdata.{parameters_of}
-use Rattle.dnsv_denial.specs.gathering.Evidence.{IsNsecAt, IsNsec3At}
+use Rattle.dnsv_denial.specs.gathering.Evidence.{IsNsec3At}
 use Rattle.dnsv_denial.specs.gathering.Gathered.{AreNsecsOf, AreNsec3sOf}
 use Rattle.dnsv_denial.specs.records.Record.{read_entry, read_nsec3}
 use Rattle.dnsv_denial.specs.words.EvidenceWords.Chain.{ByNsec, ByNsec3}
 use Rattle.dnsv_denial.specs.declared.records.entry.NsecEntry.{NsecEntry}
 use Rattle.dnsv_denial.specs.declared.records.entry.Nsec3Entry.{Nsec3Entry}
-use Rattle.dnsv_denial.specs.declared.records.number.RecordNumber.{RecordNumber}
 use Rattle.dnsv_explain.specs.Explained.{Setting}
 use Rattle.dnsv_explain.specs.derivations.OwnDerivations.{SecuredIn}
-use Rattle.dnsv_explain.specs.faults.Listing.{AddsThose, AreWhere}
-use Rattle.dnsv_explain.specs.faults.Order.{AreLinesOfChain, HasRecords, IsLackingChain}
+use Rattle.dnsv_explain.specs.faults.Listing.{AddsThose}
+use Rattle.dnsv_explain.specs.faults.Order.{AreLinesOfChain, HasRecords}
 use Rattle.dnsv_explain.specs.faults.Sources.{AreSourceLines, HasNoneClosed, IsParametersOf, IsSourceOf}
 use Rattle.dnsv_explain.specs.faults.Sources.AreSourceLines.{closed}
 use Rattle.dnsv_explain.specs.faults.SourceSearch.{HasEntry, IsClosedFound, chain_of, closed_line, said_by, told_parameters, told_source}
@@ -25,10 +22,9 @@ use Rattle.dnsv_explain.specs.declared.faults.sources.chain.ChainEntries.TheVari
 use Rattle.dnsv_explain.specs.declared.faults.sources.chain.ZoneChain.{ZoneChain}
 use Rattle.dnsv_explain.specs.declared.faults.sources.closed.Closed.{Closed}
 use Rattle.dnsv_explain.specs.declared.line.Line.{Line}
-use Rattle.dnsv_explain.specs.declared.line.fault.denial.Source.{Source}
 use Rattle.dnsv_explain.proofs.lemmas.faults.ListingLemmas.{added_as, none_added, those_added}
 use Rattle.dnsv_explain.proofs.lemmas.faults.sources.ClosedLemmas.{told_closed}
-use Rattle.dnsv_explain.proofs.lemmas.faults.sources.FoundLemmas.{has_said, member_of_any}
+use Rattle.dnsv_explain.proofs.lemmas.faults.sources.FoundLemmas.{has_said}
 
 its_parameters : (entries : ChainEntries) → IsParametersOf (chain_of entries) (told_parameters entries)
 its_parameters (Nsec entries) = refl

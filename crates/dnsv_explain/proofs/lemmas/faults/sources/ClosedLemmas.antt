@@ -5,7 +5,7 @@ use Rattle.std.specs.FinSet as set
 use Rattle.std.specs.List.{AllByRecursion}
 use Rattle.std.specs.List.Sorted.{IsStrictlySortedBy}
 use Rattle.std.specs.declared.cmp.Ordering.TheVariants.{Less}
-use Rattle.dnsv_names.specs.Name.{Labels, IsAtOrBelow, rightmost}
+use Rattle.dnsv_names.specs.Name.{Labels, rightmost}
 use Rattle.dnsv_names.specs.Order.{IsBelow}
 use Rattle.dnsv_names.specs.Tree.AncestorLaws.{rightmost_below, rightmost_length, rightmost_rightmost}
 use Rattle.dnsv_names.specs.Tree.TreeLaws.{below_length}
@@ -18,7 +18,7 @@ use Rattle.dnsv_denial.specs.declared.records.number.RecordNumber.{RecordNumber}
 use Rattle.dnsv_explain.specs.Explained.{Setting}
 use Rattle.dnsv_explain.specs.faults.Sources.{HasNoneClosed, IsClosedAbove, IsClosedLine, dname_record_line, source_line}
 use Rattle.dnsv_explain.specs.faults.Sources.IsClosedLine.{by_dname, by_delegation}
-use Rattle.dnsv_explain.specs.faults.SourceSearch.{AreOf, IsAskedAs, IsClosedFound, IsFirstClosedAt, IsFirstIn, IsZoneFor, closed_line, said_by, types_of}
+use Rattle.dnsv_explain.specs.faults.SourceSearch.{AreOf, IsAskedAs, IsClosedFound, IsFirstClosedAt, IsFirstIn, closed_line, said_by, types_of}
 use Rattle.dnsv_explain.specs.declared.explanation.at.At.{At}
 use Rattle.dnsv_explain.specs.declared.faults.sources.asked.Asked.{Asked}
 use Rattle.dnsv_explain.specs.declared.faults.sources.chain.ZoneChain.{ZoneChain}

@@ -1,7 +1,6 @@
 -- What a chain lacks, case by case.
-use Rattle.std.proofs.Common.{◌≡◌, ◌≢◌, ◌⊎◌, ◌↔◌, ◌+◌, ◌<◌, ◌≤◌, ℕ, Bool, Option, Some, None, List, [], ◌∷◌, ◌++◌, inl, inr, length, map, refl, sym, ap, ◌∙◌, subst, arith, ⊎_elim, append_assoc}
+use Rattle.std.proofs.Common.{◌≡◌, ◌≢◌, ◌⊎◌, ◌+◌, ◌<◌, ◌≤◌, ℕ, List, [], ◌∷◌, ◌++◌, inl, inr, length, map, refl, sym, ap, ◌∙◌, subst, arith, ⊎_elim, append_assoc}
 use Rattle.std.proofs.lemmas.Bool.{cases_lt}
-use Rattle.std.specs.List.{Contains}
 use Rattle.dnsv_canonical.proofs.CanonicalLemmas.{IsMember, IsMember-from_contains, Contains-from_member}
 use Rattle.dnsv_names.specs.Name.{Labels, SameName, IsAtOrBelow, rightmost}
 use Rattle.dnsv_names.specs.Tree.{wildcard_of}
@@ -12,8 +11,8 @@ use Rattle.dnsv_zones.specs.forms.RecordWords.{RecordWords}
 use Rattle.dnsv_zones.specs.zones.Types.{Denies}
 use Rattle.dnsv_denial.specs.declared.records.number.RecordNumber.{RecordNumber}
 use Rattle.dnsv_explain.specs.Explained.{Setting}
-use Rattle.dnsv_explain.specs.faults.Listing.{AddsThose, AreOfEach, AreParted, AreWhere}
-use Rattle.dnsv_explain.specs.faults.Sources.{AreAt, AreCloserLines, AreHeldLines, AreHeldOf, AreSourceLines, AreWildcardLines, HasNoneClosed, HasRecordAt, IsAt, IsCovered, IsHeld, IsLongestThere, IsShownThere, IsSourceFault, source_line, why_held}
+use Rattle.dnsv_explain.specs.faults.Listing.{AddsThose, AreOfEach, AreParted}
+use Rattle.dnsv_explain.specs.faults.Sources.{AreCloserLines, AreHeldLines, AreHeldOf, AreSourceLines, AreWildcardLines, HasNoneClosed, HasRecordAt, IsCovered, IsHeld, IsLongestThere, IsShownThere, IsSourceFault, source_line}
 use Rattle.dnsv_explain.specs.faults.Sources.AreHeldOf.{denying, holding}
 use Rattle.dnsv_explain.specs.faults.Sources.AreSourceLines.{at_name, at_zone, enclosed, no_encloser}
 use Rattle.dnsv_explain.specs.faults.Sources.AreWildcardLines.{covered, held, missing}

@@ -1,5 +1,5 @@
 -- Parameters of NSEC3 records, put in order.
-use Rattle.std.proofs.Common.{◌≡◌, ◌↔◌, ◌&&◌, Bor, Bool, true, List, [], ◌∷◌, map, sym, ap, ◌∙◌, subst}
+use Rattle.std.proofs.Common.{◌≡◌, ◌↔◌, ◌&&◌, Bor, Bool, true, List, [], ◌∷◌, map, ap, ◌∙◌, subst}
 use Rattle.std.proofs.lemmas.Bool.{and_from, and_parts, eqb-true}
 use Rattle.std.proofs.lemmas.Cmp.{nat_cmp_total, nat_eq_equiv, nat_list_cmp_total, lists_equiv, on_total, then_total}
 use Rattle.std.proofs.lemmas.List.Kept.{IsStrictlySortedBy-dedup, Contains-dedup, Contains-from_dedup}

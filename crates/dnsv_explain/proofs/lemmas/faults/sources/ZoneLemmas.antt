@@ -1,21 +1,20 @@
 -- The zones of a question's name and their chains.
-use Rattle.std.proofs.Common.{◌≡◌, ◌≢◌, ◌↔◌, ◌==◌, ◌+◌, ◌-◌, ◌<◌, ◌≤◌, ℕ, zero, suc, Bool, Some, List, [], ◌∷◌, inl, inr, length, map, get_or, drop, refl, sym, ap, ◌∙◌, subst, arith, if◌then◌else◌, IsTrue}
+use Rattle.std.proofs.Common.{◌≡◌, ◌↔◌, ◌==◌, ◌+◌, ◌-◌, ◌<◌, ◌≤◌, ℕ, zero, suc, Bool, Some, List, [], ◌∷◌, inl, inr, length, map, get_or, drop, refl, sym, ap, ◌∙◌, subst, arith, if◌then◌else◌, IsTrue}
 use Rattle.std.proofs.lemmas.Bool.Decides.{Decides-eqb}
 use Rattle.std.proofs.lemmas.List.{get_or-map, length-map}
 use Rattle.std.proofs.lemmas.List.Concat.{flat_map-cons}
 use Rattle.std.proofs.lemmas.List.Elements.{Contains-append_left, Contains-append_right}
-use Rattle.std.specs.List.{AllByRecursion, Contains, slice_get}
+use Rattle.std.specs.List.{Contains, slice_get}
 use Rattle.std.specs.List.Sorted.{IsStrictlySortedBy}
 use Rattle.dnsv_names.specs.Name.{Labels, SameName, IsAtOrBelow, lower_case, rightmost}
 use Rattle.dnsv_names.specs.Tree.AncestorLaws.{rightmost_in_line, rightmost_length}
 use Rattle.dnsv_names.specs.Tree.TreeLaws.{at_or_below_length, same_labels}
 use Rattle.dnsv_records.specs.declared.nsec3.Nsec3Parameters.{Nsec3Parameters}
-use Rattle.dnsv_zones.specs.chains.Nsec3Chain.{Nsec3Record, Parameters}
-use Rattle.dnsv_zones.specs.chains.NsecChain.{NsecRecord}
+use Rattle.dnsv_zones.specs.chains.Nsec3Chain.{Parameters}
 use Rattle.dnsv_zones.specs.chains.Rdata.{parameters_of}
 use Rattle.dnsv_canonical.proofs.CanonicalLemmas.{IsMember, IsMember-from_contains, Contains-from_member}
 use Rattle.dnsv_canonical.specs.CanonicalRdata.{canonical_form}
-use Rattle.dnsv_canonical.specs.Evidence.{AreParameters, AreParametersAmong, nsec3_rdata}
+use Rattle.dnsv_canonical.specs.Evidence.{AreParameters, nsec3_rdata}
 use Rattle.dnsv_canonical.specs.Rrsets.{ReceivedRrset}
 use Rattle.dnsv_chain.specs.Trust.{KeptTrust, SecuredIn as KeptIn}
 use Rattle.dnsv_denial.specs.QuestionHashes.{AreUsed}
@@ -26,7 +25,6 @@ use Rattle.dnsv_denial.specs.words.EvidenceWords.{Chain, parameters_cmp}
 use Rattle.dnsv_denial.specs.words.EvidenceWords.Chain.{ByNsec, ByNsec3}
 use Rattle.dnsv_denial.specs.declared.records.entry.NsecEntry.{NsecEntry}
 use Rattle.dnsv_denial.specs.declared.records.entry.Nsec3Entry.{Nsec3Entry}
-use Rattle.dnsv_denial.specs.declared.records.number.RecordNumber.{RecordNumber}
 use Rattle.dnsv_explain.specs.At.{IsAt}
 use Rattle.dnsv_explain.specs.Explained.{Explained, Setting, setting_in}
 use Rattle.dnsv_explain.specs.derivations.OwnDerivations.{IsTrustIn, SecuredIn}

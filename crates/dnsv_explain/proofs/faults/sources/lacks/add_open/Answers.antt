@@ -1,9 +1,6 @@
-use Rattle.std.proofs.Common.{◌≡◌, ◌++◌, ◌∷◌, [], List, arith, ap, sym, subst, ◌∙◌}
-use Rattle.dnsv_names.specs.Name.{Labels, rightmost}
-use Rattle.dnsv_explain.specs.faults.Listing.{AddsThose, AreOfEach}
-use Rattle.dnsv_explain.specs.faults.SourceSearch.{AreHeldBy, AreRecordsAt, said_by, told_source}
+use Rattle.std.proofs.Common.{List, arith, sym, subst}
+use Rattle.dnsv_explain.specs.faults.SourceSearch.{AreRecordsAt}
 use Rattle.dnsv_explain.specs.declared.faults.sources.records.RecordAt.{RecordAt}
-use Rattle.dnsv_explain.specs.declared.line.Line.{Line}
 use Rattle.dnsv_explain.proofs.lemmas.faults.SignatureLemmas.{empty, some_left}
 use Rattle.dnsv_explain.proofs.lemmas.faults.sources.LackLemmas.{asked_whole, at_name_added, at_zone_added, enclosed_added, no_encloser_added}
 use Rattle.dnsv_explain.proofs.faults.sources.lacks.add_open.Goals as goal
