@@ -15,5 +15,6 @@ pub mod PartLemmas
 pub mod SameLemmas
 pub mod SignerLemmas
 pub mod SubjectLemmas
+pub mod UnmetKeyLemmas
 pub mod UnmetLemmas
 pub mod ZoneLemmas

@@ -2,8 +2,9 @@
 use Rattle.std.proofs.Common.{◌≡◌, ◌≢◌, ◌⊎◌, ◌<◌, ◌≤◌, ◌+◌, ◌-◌, ◌^◌, ◌++◌, ℕ, zero, suc, IsTrue, List, [], ◌∷◌, Some, inl, inr, length, map, refl, sym, ap, ◌∙◌, subst, ⊎_elim, arith}
 use Rattle.std.proofs.lemmas.Bool.{cases_lt}
 use Rattle.std.proofs.lemmas.List.Elements.{Contains-append_left, Contains-append_right}
-use Rattle.std.proofs.lemmas.Option.{slice_get_within}
+use Rattle.std.proofs.lemmas.Option.{get_or_from_slice_get, slice_get_read, slice_get_within}
 use Rattle.std.specs.List.{AllByRecursion, Contains, flat_map, slice_get}
+use Rattle.dnsv_names.specs.Name.{SameName}
 use Rattle.dnsv_records.proofs.OneRecord.{one_rrsig}
 use Rattle.dnsv_records.specs.Algorithm.{is_supported}
 use Rattle.dnsv_records.specs.Rrsig.{IsRrsig}
@@ -20,16 +21,17 @@ use Rattle.dnsv_verifier.specs.declared.answer.Answer.TheVariants.{Valid, Invali
 use Rattle.dnsv_verifier.specs.declared.entry.Entry.{Entry}
 use Rattle.dnsv_chain.specs.Trusted.{IsGoodByTrust}
 use Rattle.dnsv_explain.specs.Explained.{Setting}
+use Rattle.dnsv_explain.specs.Following.{IsNamed}
 use Rattle.dnsv_explain.specs.derivations.SignerSearch.{IsSignatureAt}
 use Rattle.dnsv_explain.specs.derivations.Ways.{HasSecured}
 use Rattle.dnsv_explain.specs.faults.AnswerSearch.{entry_over}
-use Rattle.dnsv_explain.specs.faults.Keys.{HasKeys, IsNamedBy, IsTrustedZone, IsZoneKey}
+use Rattle.dnsv_explain.specs.faults.Keys.{HasKeys, IsNamedBy, IsTrustedZone, IsZoneKey, named_by}
 use Rattle.dnsv_explain.specs.faults.Listing.{AreOfEach, AreOfNumbered, AreThose}
 use Rattle.dnsv_explain.specs.faults.RrsetLines.{AreFaults, AreLinesAt, AreRrsetLines, AreSignatureLines, IsOfAnswers, IsRemark, IsTrueOf, fault_line, follows_line, shown_of}
 use Rattle.dnsv_explain.specs.faults.RrsetLines.AreRrsetLines.{secured, unsigned, unproved}
 use Rattle.dnsv_explain.specs.faults.RrsetLines.AreSignatureLines.{faulty, without_faults}
 use Rattle.dnsv_explain.specs.faults.RrsetLines.IsRemark.{no_keys, of_answers, untrusted, nothing}
-use Rattle.dnsv_explain.specs.faults.SignatureFaults.{IsAnswered, asked_before}
+use Rattle.dnsv_explain.specs.faults.SignatureFaults.{IsAnswered, IsFaultOf, asked_before}
 use Rattle.dnsv_explain.specs.declared.line.Line.{Line}
 use Rattle.dnsv_explain.specs.declared.line.Line.TheVariants as line
 use Rattle.dnsv_explain.specs.declared.line.fault.Reason.{Reason}
@@ -45,6 +47,22 @@ use Rattle.dnsv_explain.proofs.lemmas.faults.question.FollowLemmas.{IsUntrustedO
 
 pub at_front : {X : Type 0} (x : X) (xs : List X) → Contains (x ∷ xs) x
 at_front x xs = (0, omega arith, refl)
+
+-- the place of a member
+pub at_of : {X : Type 0} (xs : List X) (x : X) → Contains xs x → (i : ℕ) × (slice_get xs i ≡ Some x)
+at_of xs x there = (there.0, slice_get_read xs (length xs) there.0 x refl there.1 (sym there.2))
+
+pub there_at : {X : Type 0} (xs : List X) (i : ℕ) (x : X) → slice_get xs i ≡ Some x → Contains xs x
+there_at xs i x at = (i, slice_get_within xs i x at, get_or_from_slice_get xs i x x at)
+
+pub numbered_from : {X : Type 0} (xs : List X) (i : ℕ) (x : X) → slice_get xs i ≡ Some x → IsNumbered xs (1 + i) x
+numbered_from {X = X} xs i x at =
+    let place : i ≡ 1 + i - 1 = omega arith in
+    let At : ℕ → Type 0 = λ p. slice_get xs p ≡ Some x in (omega arith, subst At place at)
+
+pub first_of : {X : Type 0} (xs : List X) → xs ≢ [] → (x : X) × (slice_get xs 0 ≡ Some x)
+first_of [] some = absurd (some refl)
+first_of (x ∷ xs) some = (x, refl)
 
 pub each_at : {X : Type 0} (P : X → Type 0) (xs : List X) (i : ℕ) (x : X) → AllByRecursion P xs → slice_get xs i ≡ Some x → P x
 each_at P [] i x all at = let within = slice_get_within [] i x at in absurd (omega (arith, within))
@@ -140,6 +158,64 @@ kept_in {X = X} Such (first ∷ xs) those (inr into) x there such =
 
 -- ---- a signature of which nothing is said is good
 
+module _ (setting : Setting) (rrset : ReceivedRrset) (rrsig : Rrsig) (covered : rrsig.type_covered.0 ≡ rrset.rtype) where
+  -- where nothing is wrong before a verifier is asked, it is asked under each zone key that is named
+  module _ (Named : DnskeyRecord → Type 0) (Known : Type 0)
+      (none : (word : WhySignature) → Contains (asked_before setting.moment rrsig) word → ¬ IsFaultOf Named Known setting rrset rrsig word) where
+    labels_fit : rrsig.labels ≤ signed_label_count rrset.owner
+    labels_fit = ⊎_elim
+        (λ (less : signed_label_count rrset.owner < rrsig.labels). absurd (none why.Labels (0, omega arith, refl) less))
+        (λ (fits : rrsig.labels ≤ signed_label_count rrset.owner). fits)
+        (cases_lt (signed_label_count rrset.owner) rrsig.labels)
+
+    begun : seconds_on rrsig.inception.0 setting.moment < 2 ^ 31
+    begun = ⊎_elim
+        (λ (less : seconds_on rrsig.inception.0 setting.moment < 2 ^ 31). less)
+        (λ (early : 2 ^ 31 ≤ seconds_on rrsig.inception.0 setting.moment). absurd (none _ (4, omega arith, refl) (early, refl)))
+        (cases_lt (seconds_on rrsig.inception.0 setting.moment) (2 ^ 31))
+
+    not_over : seconds_on setting.moment rrsig.expiration.0 < 2 ^ 31
+    not_over = ⊎_elim
+        (λ (less : seconds_on setting.moment rrsig.expiration.0 < 2 ^ 31). less)
+        (λ (late : 2 ^ 31 ≤ seconds_on setting.moment rrsig.expiration.0). absurd (none _ (5, omega arith, refl) (late, refl)))
+        (cases_lt (seconds_on setting.moment rrsig.expiration.0) (2 ^ 31))
+
+    pub may_be_by : (key : DnskeyRecord) → SameName key.owner rrsig.signer → IsNamed key (named_by rrsig) → IsZoneKey key
+        → MaySign rrsig.signer rrset.rtype rrset.owner → IsTrue (is_supported rrsig.algorithm.0)
+        → IsAdmissible setting.moment rrset rrsig key
+    may_be_by key owner named zone_key may supported = record {
+      over = record { covered = covered; labels = labels_fit };
+      timely = record { begun = begun; not_over = not_over };
+      signer = may;
+      unexpanded = λ unexpanded expanded. none why.Expanded (2, omega arith, refl) (unexpanded, expanded);
+      zone_key = record { owner = owner; protocol = zone_key.protocol; zone_key = zone_key.zone_key };
+      named = record { algorithm = sym named.algorithm; key_tag = sym named.tag; supported = supported };
+    }
+
+    -- so some answer is given
+    pub answered : (key : DnskeyRecord) → Named key → IsAdmissible setting.moment rrset rrsig key
+        → ((answer : Answer) → ¬ IsAnswered Named setting rrset rrsig answer) → ⊥
+    answered key its admissible never =
+        let canonical = canonical_some (map (canonical_form rrset.rtype) rrset.rdata) in
+        let octets : List ℕ =
+        signed_front rrsig ++ flat_map (signed_record (signed_owner rrset.owner rrsig.labels) rrset.rtype rrsig.original_ttl.0) canonical.0 in
+        let entry : Entry = entry_over rrsig octets key in
+        never (setting.meaning entry) (record {
+          key = key;
+          named = its;
+          admissible = admissible;
+          entry = entry;
+          is = record { algorithm = refl; key_field = refl; signed_data = (labels_fit, canonical.0, canonical.1, refl); signature = refl };
+          says = refl;
+        })
+
+  -- where the verifier says neither Invalid nor Unknown, and can't say Valid, it says nothing
+  pub none_given : (Given : Answer → Type 0) → ¬ Given Valid → ¬ (Given Unknown × (¬ Given Valid))
+      → ¬ (Given Invalid × (¬ Given Unknown) × (¬ Given Valid)) → (answer : Answer) → ¬ Given answer
+  none_given Given valid unknown invalid Valid = valid
+  none_given Given valid unknown invalid Unknown = λ given. unknown (given, valid)
+  none_given Given valid unknown invalid Invalid = λ given. invalid (given, λ other. unknown (other, valid), valid)
+
 module _ (setting : Setting) (rrset : ReceivedRrset) (rrsig : Rrsig) (covered : rrsig.type_covered.0 ≡ rrset.rtype)
     (never : ¬ IsGoodByTrust setting.meaning setting.moment setting.rrsets setting.anchors rrset rrsig) where
   abbrev Given : Answer → Type 0
@@ -154,6 +230,7 @@ module _ (setting : Setting) (rrset : ReceivedRrset) (rrsig : Rrsig) (covered : 
         (given.key, given.named.at.among, record { admissible = given.admissible; entry = given.entry; is = given.is; valid = given.says }) in
         silent why.KeyUntrusted tt (good, known good, never)
 
+<<<<<<< HEAD
     no_unknown : ¬ Given Unknown
     no_unknown given = silent why.Unanswered tt (given, no_valid)
 
@@ -224,6 +301,20 @@ module _ (setting : Setting) (rrset : ReceivedRrset) (rrsig : Rrsig) (covered : 
                       answered other its (may_be_by other its zone_key may supported),
                 ),
           )))
+=======
+    -- so it can't be that nothing is said
+    unmet : ((word : WhySignature) → Contains (asked_before setting.moment rrsig) word → ¬ IsTrueOf setting rrset rrsig word) → ⊥
+    unmet none =
+        let Named : DnskeyRecord → Type 0 = IsNamedBy setting.rrsets rrsig in
+        let Known : Type 0 = HasKeys setting.rrsets rrsig.signer in
+        none why.Signer (1, omega arith, refl) (λ may.
+        none why.Algorithm (3, omega arith, refl) (λ supported.
+        none why.KeyMissing (6, omega arith, refl) (has, λ key named.
+        none why.NotZoneKey (7, omega arith, refl) ((key, named), λ other its zone_key.
+        answered setting rrset rrsig covered Named Known none other its
+        (may_be_by setting rrset rrsig covered Named Known none other its.at.owner its.named zone_key may supported)
+        (none_given setting rrset rrsig covered Given no_valid (silent why.Unanswered tt) (silent why.Bad tt))))))
+>>>>>>> a7e481745a4781e044710d99a1555366404acffa
 
   no_faults : (shown : ShownSignature) (faults : List WhySignature) → ¬ HasReason (map (fault_line shown) faults) → faults ≡ []
   no_faults shown [] none = refl
@@ -274,10 +365,8 @@ module _ (setting : Setting) (k : ℕ) (rrset : ReceivedRrset) (formed : IsWellF
       let one = list_of (AreLinesAt setting k rrset) 1 i rrset.signatures rdata all each at in
       let rrsig : Rrsig = one.are.0 in
       let read = one.are.1 in
-      let place : i ≡ 1 + i - 1 = omega arith in
-      let At : ℕ → Type 0 = λ p. slice_get rrset.signatures p ≡ Some rdata in
       let stands : IsSignatureAt rrset (1 + i) rrsig =
-      record { rdata = rdata; is_signature = (omega arith, subst At place at); read = read } in
+      record { rdata = rdata; is_signature = numbered_from rrset.signatures i rdata at; read = read } in
       let said = one.within (follows_line (shown_of k (1 + i) rrset rrsig))
       (signature_unmet setting rrset rrsig (covers i rdata rrsig at read)
       (unsecured setting k (1 + i) rrset rrsig never numbered stands) k (1 + i) one.zs one.are.2
@@ -288,3 +377,15 @@ module _ (setting : Setting) (k : ℕ) (rrset : ReceivedRrset) (formed : IsWellF
         said = said;
         is = rrset_follows setting k rrset all (unproved all no_good some each) (record { signature = shown_of k (1 + i) rrset rrsig }) said;
       }
+
+  -- so it is of the first signature, and there is one
+  pub first_unmet : (lines : List Line) → AreRrsetLines setting k rrset lines → ¬ HasReason lines
+      → (rdata : List ℕ) × IsUnmet setting k 1 rrset rdata lines
+  first_unmet lines (secured has) none = absurd (never has)
+  first_unmet lines (unsigned without) none = absurd (none (
+    reason.Unsigned (record { owner = rrset.owner; rtype = record { 0 = rrset.rtype }; rrset = k }),
+    at_front _ [],
+  ))
+  first_unmet lines (unproved all no_good some each) none =
+      let first = first_of rrset.signatures some in
+      (first.0, rrset_unmet all (unproved all no_good some each) none 0 first.0 first.1)
