@@ -230,78 +230,6 @@ module _ (setting : Setting) (rrset : ReceivedRrset) (rrsig : Rrsig) (covered : 
         (given.key, given.named.at.among, record { admissible = given.admissible; entry = given.entry; is = given.is; valid = given.says }) in
         silent why.KeyUntrusted tt (good, known good, never)
 
-<<<<<<< HEAD
-    no_unknown : ¬ Given Unknown
-    no_unknown given = silent why.Unanswered tt (given, no_valid)
-
-    no_invalid : ¬ Given Invalid
-    no_invalid given = silent why.Bad tt (given, no_unknown, no_valid)
-
-    none_given : (answer : Answer) → ¬ Given answer
-    none_given Valid = no_valid
-    none_given Unknown = no_unknown
-    none_given Invalid = no_invalid
-
-    module _ (none : (word : WhySignature) → Contains (asked_before setting.moment rrsig) word → ¬ IsTrueOf setting rrset rrsig word) where
-      labels_fit : rrsig.labels ≤ signed_label_count rrset.owner
-      labels_fit = ⊎_elim
-          (λ (less : signed_label_count rrset.owner < rrsig.labels). absurd (none why.Labels (0, omega arith, refl) less))
-          (λ (fits : rrsig.labels ≤ signed_label_count rrset.owner). fits)
-          (cases_lt (signed_label_count rrset.owner) rrsig.labels)
-
-      begun : seconds_on rrsig.inception.0 setting.moment < 2 ^ 31
-      begun = ⊎_elim
-          (λ (less : seconds_on rrsig.inception.0 setting.moment < 2 ^ 31). less)
-          (λ (early : 2 ^ 31 ≤ seconds_on rrsig.inception.0 setting.moment). absurd (none _ (4, omega arith, refl) (early, refl)))
-          (cases_lt (seconds_on rrsig.inception.0 setting.moment) (2 ^ 31))
-
-      not_over : seconds_on setting.moment rrsig.expiration.0 < 2 ^ 31
-      not_over = ⊎_elim
-          (λ (less : seconds_on setting.moment rrsig.expiration.0 < 2 ^ 31). less)
-          (λ (late : 2 ^ 31 ≤ seconds_on setting.moment rrsig.expiration.0). absurd (none _ (5, omega arith, refl) (late, refl)))
-          (cases_lt (seconds_on setting.moment rrsig.expiration.0) (2 ^ 31))
-
-      may_be_by : (key : DnskeyRecord) → IsNamedBy setting.rrsets rrsig key → IsZoneKey key → MaySign rrsig.signer rrset.rtype rrset.owner
-          → IsTrue (is_supported rrsig.algorithm.0) → IsAdmissible setting.moment rrset rrsig key
-      may_be_by key its zone_key may supported = record {
-        over = record { covered = covered; labels = labels_fit };
-        timely = record { begun = begun; not_over = not_over };
-        signer = may;
-        unexpanded = λ unexpanded expanded. none why.Expanded (2, omega arith, refl) (unexpanded, expanded);
-        zone_key = record { owner = its.at.owner; protocol = zone_key.protocol; zone_key = zone_key.zone_key };
-        named = record { algorithm = sym its.named.algorithm; key_tag = sym its.named.tag; supported = supported };
-      }
-
-      answered : (key : DnskeyRecord) → IsNamedBy setting.rrsets rrsig key → IsAdmissible setting.moment rrset rrsig key → ⊥
-      answered key its admissible =
-          let canonical = canonical_some (map (canonical_form rrset.rtype) rrset.rdata) in
-          let octets : List ℕ =
-          signed_front rrsig ++ flat_map (signed_record (signed_owner rrset.owner rrsig.labels) rrset.rtype rrsig.original_ttl.0) canonical.0 in
-          let entry : Entry = entry_over rrsig octets key in
-          none_given (setting.meaning entry) (record {
-            key = key;
-            named = its;
-            admissible = admissible;
-            entry = entry;
-            is = record { algorithm = refl; key_field = refl; signed_data = (labels_fit, canonical.0, canonical.1, refl); signature = refl };
-            says = refl;
-          })
-
-      -- so it can't be that nothing is said
-      unmet : ⊥
-      unmet =
-          none why.Signer (1, omega arith, refl) (λ may.
-          none why.Algorithm (3, omega arith, refl) (λ supported.
-          none why.KeyMissing (6, omega arith, refl) (
-            has,
-            λ key named.
-                none why.NotZoneKey (7, omega arith, refl) (
-                  (key, named),
-                  λ other its zone_key.
-                      answered other its (may_be_by other its zone_key may supported),
-                ),
-          )))
-=======
     -- so it can't be that nothing is said
     unmet : ((word : WhySignature) → Contains (asked_before setting.moment rrsig) word → ¬ IsTrueOf setting rrset rrsig word) → ⊥
     unmet none =
@@ -314,7 +242,6 @@ module _ (setting : Setting) (rrset : ReceivedRrset) (rrsig : Rrsig) (covered : 
         answered setting rrset rrsig covered Named Known none other its
         (may_be_by setting rrset rrsig covered Named Known none other its.at.owner its.named zone_key may supported)
         (none_given setting rrset rrsig covered Given no_valid (silent why.Unanswered tt) (silent why.Bad tt))))))
->>>>>>> a7e481745a4781e044710d99a1555366404acffa
 
   no_faults : (shown : ShownSignature) (faults : List WhySignature) → ¬ HasReason (map (fault_line shown) faults) → faults ≡ []
   no_faults shown [] none = refl
