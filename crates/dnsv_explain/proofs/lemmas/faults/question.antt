@@ -15,6 +15,4 @@ pub mod PartLemmas
 pub mod SameLemmas
 pub mod SignerLemmas
 pub mod SubjectLemmas
-pub mod UnmetKeyLemmas
-pub mod UnmetLemmas
 pub mod ZoneLemmas
