@@ -5,7 +5,6 @@ pub mod DownLemmas
 pub mod EndLemmas
 pub mod FirstLemmas
 pub mod FirstReasonLemmas
-pub mod FollowLemmas
 pub mod KnownLemmas
 pub mod NeededLemmas
 pub mod Nsec3Lemmas
