@@ -8,7 +8,8 @@ Each message is a response with RECORDS records in its answer section, of one of
   signed  RRsets of five records of the types A, AAAA, MX, TXT and NS at owners of their own, each with
           16 signatures, the most that an RRset may have
   owners  records each with an owner of its own, the most that a section can hold apart
-  deep    the same, with owners of 122 labels
+  names   the same, and no two messages have an owner in common
+  deep    as owners, with owners of 122 labels
   pairs   NSEC3 records each with a salt of its own, which is refused
   keyed   as signed, and the first message begins with a DNSKEY record, whose key each signature names
   tagged  as keyed, with 16 DNSKEY records of one tag, each of which may have made each signature
@@ -47,13 +48,13 @@ def dnskey(number):
     return twin_key(number, 1000, back=bytes(range(60)))
 
 
-def records_of(draw, count, kind, is_first):
+def records_of(draw, count, kind, message):
     """The records of one message, RRset by RRset."""
     if kind == "pairs":
         return [record(QUESTION, 50, nsec3_rdata(1, struct.pack("!H", number), 0)) for number in range(count)]
     signatures = 16 if kind in ("signed", "keyed", "tagged", "vouched") else 0
     keys = {"keyed": 1, "tagged": 16, "vouched": 16}.get(kind, 0)
-    records = []
+    records, is_first = [], message == 0
     if is_first:
         records += [record(QUESTION, 48, dnskey(number)) for number in range(keys)]
     if is_first and kind == "vouched":
@@ -61,7 +62,8 @@ def records_of(draw, count, kind, is_first):
     for number in range(count):
         if len(records) >= count:
             break
-        owner = label(b"h%d" % number) + QUESTION
+        host = b"h%d-%d" % (message, number) if kind == "names" else b"h%d" % number
+        owner = label(host) + QUESTION
         rtype = draw.choice(list(TYPES)) if signatures else 1
         size = 5 if signatures else 1
         records += [record(owner, rtype, rdata_of(draw, rtype)) for _ in range(size)]
@@ -134,7 +136,7 @@ def main():
         elif kind == "collide":
             records = collide(draw, number)
         else:
-            records = records_of(draw, count, kind, number == 0)
+            records = records_of(draw, count, kind, number)
         sys.stdout.buffer.write(response(number, DEEP if kind == "deep" else ZONE, records))
 
 

@@ -59,6 +59,23 @@ report_denial() { # KIND RECORDS
   callgrind_annotate --inclusive=yes "$room/callgrind" | grep -E 'nsec3_hash ' | head -1 | cut -c1-60 || true
 }
 
+report_names() { # MESSAGES RECORDS
+  local message number
+  ./make_capture.py names "$@" > "$room/capture"
+  echo "$bench_key" > "$room/anchors"
+  asked=(check --capture "$room/capture" --anchors "$room/anchors" --moment 1500 --type 1)
+  echo "names: $1 messages of $2 records, a question of the first and one of the last"
+  measure "$room/capture" "${asked[@]}" --name h0-0.bench.example.
+  measure "$room/capture" "${asked[@]}" --name "h$(($1 - 1))-$(($2 - 1)).bench.example."
+  echo "one of each, processor seconds in all"
+  TIMEFORMAT='%U %S'
+  time for message in $(seq 0 $(($1 - 1))); do
+    for number in $(seq 0 $(($2 - 1))); do
+      "$program" "${asked[@]}" --name "h$message-$number.bench.example." > "$room/text" || test $? -eq 5
+    done
+  done
+}
+
 report_verdict() { # CAPTURE MOMENT ANCHOR NAME TYPE
   "$program" list --capture "$1" --moment "$2" | sed 's/^todo/good/' > "$room/statements"
   echo "$3" > "$room/anchors"
@@ -103,6 +120,7 @@ for kind in near far hashed; do for records in 1024 4096; do report_denial $kind
 report_denial hashed 18
 
 bench_key="KEY bench.example. 257 3 13 AAAD6AABAgMEBQYHCAkKCwwNDg8QERITFBUWFxgZGhscHR4fICEiIyQlJicoKSorLC0uLzAxMjM0NTY3ODk6Ow=="
+for messages in 16 64; do report_names "$messages" 64; done
 root_key="DS . 36374 8 2 bff03ea84f03157df9e68034cc09e1c5af266002a79a6b553de579542aa33f96"
 echo "verdicts on names of transfer.cap"
 for name in host-0500 nosuch; do
