@@ -17,10 +17,11 @@ Each message is a response with RECORDS records in its answer section, of one of
   tree    zones of eight records each: a DS RRset that the zone above signs, the two keys, which both sign their RRset,
           and an address; each zone has eight zones below it
   chain   the same, and each zone has one zone below it
+  bare    as chain, without the DS RRsets
   collide the keys of the first zone, and then in each message 16 keys of one tag of a zone below it and 46 DS records
           with that tag, of which none matches; RECORDS says nothing here
 
-The second form writes a file of the anchor that the zones of tree, chain and collide begin with.
+The second form writes a file of the anchor that the zones of tree, chain, bare and collide begin with.
 """
 import hashlib
 import random
@@ -101,10 +102,10 @@ def zone_records(draw, number, width):
     ]
 
 
-def zones_of(draw, number, count, width):
-    """The records of one message, zone by zone."""
+def zones_of(draw, number, count, width, behind):
+    """The records of one message, zone by zone, each without so many at its beginning."""
     zones = range(number * count // 8, (number + 1) * count // 8)
-    return [each for zone in zones for each in zone_records(draw, zone, width)]
+    return [each for zone in zones for each in zone_records(draw, zone, width)[behind:]]
 
 
 def collide(draw, number):
@@ -130,9 +131,9 @@ def main():
     kind, messages, count = sys.argv[1], int(sys.argv[2]), int(sys.argv[3])
     draw = random.Random(20261122)
     for number in range(messages):
-        width = {"tree": 8, "chain": 1}.get(kind)
+        width = {"tree": 8, "chain": 1, "bare": 1}.get(kind)
         if width:
-            records = zones_of(draw, number, count, width)
+            records = zones_of(draw, number, count, width, 2 if kind == "bare" else 0)
         elif kind == "collide":
             records = collide(draw, number)
         else:
