@@ -8,7 +8,8 @@ Each message is a response with RECORDS records in its answer section, of one of
   signed  RRsets of five records of the types A, AAAA, MX, TXT and NS at owners of their own, each with
           16 signatures, the most that an RRset may have
   owners  records each with an owner of its own, the most that a section can hold apart
-  deep    the same, with owners of 122 labels
+  names   the same, and no two messages have an owner in common
+  deep    as owners, with owners of 122 labels
   pairs   NSEC3 records each with a salt of its own, which is refused
   keyed   as signed, and the first message begins with a DNSKEY record, whose key each signature names
   tagged  as keyed, with 16 DNSKEY records of one tag, each of which may have made each signature
@@ -16,10 +17,11 @@ Each message is a response with RECORDS records in its answer section, of one of
   tree    zones of eight records each: a DS RRset that the zone above signs, the two keys, which both sign their RRset,
           and an address; each zone has eight zones below it
   chain   the same, and each zone has one zone below it
+  bare    as chain, without the DS RRsets
   collide the keys of the first zone, and then in each message 16 keys of one tag of a zone below it and 46 DS records
           with that tag, of which none matches; RECORDS says nothing here
 
-The second form writes a file of the anchor that the zones of tree, chain and collide begin with.
+The second form writes a file of the anchor that the zones of tree, chain, bare and collide begin with.
 """
 import hashlib
 import random
@@ -47,13 +49,13 @@ def dnskey(number):
     return twin_key(number, 1000, back=bytes(range(60)))
 
 
-def records_of(draw, count, kind, is_first):
+def records_of(draw, count, kind, message):
     """The records of one message, RRset by RRset."""
     if kind == "pairs":
         return [record(QUESTION, 50, nsec3_rdata(1, struct.pack("!H", number), 0)) for number in range(count)]
     signatures = 16 if kind in ("signed", "keyed", "tagged", "vouched") else 0
     keys = {"keyed": 1, "tagged": 16, "vouched": 16}.get(kind, 0)
-    records = []
+    records, is_first = [], message == 0
     if is_first:
         records += [record(QUESTION, 48, dnskey(number)) for number in range(keys)]
     if is_first and kind == "vouched":
@@ -61,7 +63,8 @@ def records_of(draw, count, kind, is_first):
     for number in range(count):
         if len(records) >= count:
             break
-        owner = label(b"h%d" % number) + QUESTION
+        host = b"h%d-%d" % (message, number) if kind == "names" else b"h%d" % number
+        owner = label(host) + QUESTION
         rtype = draw.choice(list(TYPES)) if signatures else 1
         size = 5 if signatures else 1
         records += [record(owner, rtype, rdata_of(draw, rtype)) for _ in range(size)]
@@ -99,10 +102,10 @@ def zone_records(draw, number, width):
     ]
 
 
-def zones_of(draw, number, count, width):
-    """The records of one message, zone by zone."""
+def zones_of(draw, number, count, width, behind):
+    """The records of one message, zone by zone, each without so many at its beginning."""
     zones = range(number * count // 8, (number + 1) * count // 8)
-    return [each for zone in zones for each in zone_records(draw, zone, width)]
+    return [each for zone in zones for each in zone_records(draw, zone, width)[behind:]]
 
 
 def collide(draw, number):
@@ -128,13 +131,13 @@ def main():
     kind, messages, count = sys.argv[1], int(sys.argv[2]), int(sys.argv[3])
     draw = random.Random(20261122)
     for number in range(messages):
-        width = {"tree": 8, "chain": 1}.get(kind)
+        width = {"tree": 8, "chain": 1, "bare": 1}.get(kind)
         if width:
-            records = zones_of(draw, number, count, width)
+            records = zones_of(draw, number, count, width, 2 if kind == "bare" else 0)
         elif kind == "collide":
             records = collide(draw, number)
         else:
-            records = records_of(draw, count, kind, number == 0)
+            records = records_of(draw, count, kind, number)
         sys.stdout.buffer.write(response(number, DEEP if kind == "deep" else ZONE, records))
 
 

@@ -59,6 +59,23 @@ report_denial() { # KIND RECORDS
   callgrind_annotate --inclusive=yes "$room/callgrind" | grep -E 'nsec3_hash ' | head -1 | cut -c1-60 || true
 }
 
+report_names() { # MESSAGES RECORDS
+  local message number
+  ./make_capture.py names "$@" > "$room/capture"
+  echo "$bench_key" > "$room/anchors"
+  asked=(check --capture "$room/capture" --anchors "$room/anchors" --moment 1500 --type 1)
+  echo "names: $1 messages of $2 records, a question of the first and one of the last"
+  measure "$room/capture" "${asked[@]}" --name h0-0.bench.example.
+  measure "$room/capture" "${asked[@]}" --name "h$(($1 - 1))-$(($2 - 1)).bench.example."
+  echo "one of each, processor seconds in all"
+  TIMEFORMAT='%U %S'
+  time for message in $(seq 0 $(($1 - 1))); do
+    for number in $(seq 0 $(($2 - 1))); do
+      "$program" "${asked[@]}" --name "h$message-$number.bench.example." > "$room/text" || test $? -eq 5
+    done
+  done
+}
+
 report_verdict() { # CAPTURE MOMENT ANCHOR NAME TYPE
   "$program" list --capture "$1" --moment "$2" | sed 's/^todo/good/' > "$room/statements"
   echo "$3" > "$room/anchors"
@@ -71,6 +88,16 @@ report_verdict() { # CAPTURE MOMENT ANCHOR NAME TYPE
 report_explanation() { # CAPTURE MOMENT NAME TYPE, over the files of the verdict before it
   measure "$room/files" explain --capture "$1" --anchors "$room/anchors" --moment "$2" --name "$3" --type "$4" \
     --statements "$room/statements"
+}
+
+report_failure() { # CAPTURE NAME TYPE WORD, which the verifier says of each signature
+  "$program" list --capture "$1" --moment 1500 | sed "s/^todo/$4/" > "$room/statements"
+  cat "$1" "$room/statements" > "$room/files"
+  for request in check explain; do
+    measure "$room/files" "$request" --capture "$1" --anchors "$room/anchors" --moment 1500 --name "$2" --type "$3" \
+      --statements "$room/statements"
+  done
+  grep -c -e '^reason ' -e '^follows ' "$room/text"
 }
 
 report_signed() { # CAPTURE MOMENT ANCHOR NAME TYPE
@@ -103,6 +130,23 @@ for kind in near far hashed; do for records in 1024 4096; do report_denial $kind
 report_denial hashed 18
 
 bench_key="KEY bench.example. 257 3 13 AAAD6AABAgMEBQYHCAkKCwwNDg8QERITFBUWFxgZGhscHR4fICEiIyQlJicoKSorLC0uLzAxMjM0NTY3ODk6Ow=="
+for messages in 16 64; do report_names "$messages" 64; done
+echo "what fails: 60 zones without DS RRsets, each signature good"
+./make_capture.py anchor > "$room/anchors"
+./make_capture.py bare 60 8 > "$room/capture"
+report_failure "$room/capture" "$deepest" 1 good
+for records in 1024 4096; do
+  echo "what fails: $records records of NSEC3 that say nothing, each signature good"
+  ./make_denials.py hashed "$records" > "$room/capture"
+  ./make_denials.py anchors > "$room/anchors"
+  report_failure "$room/capture" "$(printf 'a.%.0s' $(seq 127))" 1 good
+done
+for messages in 16 64; do
+  echo "what fails: $messages messages of 64 records, 16 keys of one tag, 16 signatures of each RRset, each bad"
+  ./make_capture.py vouched "$messages" 64 > "$room/capture"
+  echo "$bench_key" > "$room/anchors"
+  report_failure "$room/capture" h0.bench.example. 28 bad
+done
 root_key="DS . 36374 8 2 bff03ea84f03157df9e68034cc09e1c5af266002a79a6b553de579542aa33f96"
 echo "verdicts on names of transfer.cap"
 for name in host-0500 nosuch; do

@@ -61,30 +61,14 @@ fn evidence(alloc: Global) -> Result<Capture, Fail> {
 fn calls(alloc: Global, why: bool) -> Result<u64, Fail> {
     let capture = evidence(alloc)?;
     let anchors = Anchors::parse(alloc, ANCHOR)?;
-    let name = Name::parse(b"host.example.")?;
+    let (host, address) = (Name::parse(b"host.example.")?, RecordType(1));
     let unknown = Counting {
         calls: Cell::new(0),
     };
     if why {
-        explain(
-            alloc,
-            &capture,
-            &anchors,
-            1500,
-            &unknown,
-            &name,
-            RecordType(1),
-        )?;
+        explain(alloc, &capture, &anchors, 1500, &unknown, &host, address)?;
     } else {
-        validate(
-            alloc,
-            &capture,
-            &anchors,
-            1500,
-            &unknown,
-            &name,
-            RecordType(1),
-        )?;
+        validate(alloc, &capture, &anchors, 1500, &unknown, &host, address)?;
     }
     Ok(unknown.calls.get())
 }
