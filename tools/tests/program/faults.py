@@ -138,7 +138,9 @@ def of_zone_keys(links):
 def of_evidence(chain, missing):
     """The answer and the denials themselves."""
     if "answer" in chain.links:
-        yield Fault("no answer", "answer", ("answer-missing", f"{chain.question[0]} 1"), without("answer"))
+        # Where a wildcard's denial is left, it says that the wildcard has the type.
+        said = ("type-held", chain.links["denial 0"].owner) if missing else ("answer-missing", f"{chain.question[0]} 1")
+        yield Fault("no answer", "answer", said, without("answer"))
     for number, said in enumerate(missing):
         yield Fault("no denial", f"denial {number}", said, without(f"denial {number}"))
     for link, rrset in chain.links.items():
