@@ -17,4 +17,5 @@ pub mod SignerLemmas
 pub mod SubjectLemmas
 pub mod UnmetKeyLemmas
 pub mod UnmetLemmas
+pub mod UnmetZoneLemmas
 pub mod ZoneLemmas
