@@ -3,6 +3,7 @@
 //! Each is a function that does nothing and ensures the law, which its caller learns.
 ghost use Rattle.std.specs.Prelude.{◌≡◌, ◌≤◌, ◌∷◌, ℕ, [], List, Some, Contains};
 ghost use Rattle.dnsv_names.specs.Name.{Labels};
+ghost use Rattle.dnsv_canonical.specs.Rdata.{IsWellFormed};
 ghost use Rattle.dnsv_canonical.specs.Rrsets.{IsNumbered, ReceivedRrset};
 ghost use Rattle.dnsv_chain.specs.Trusted.{IsSecured, IsTrusted};
 ghost use Rattle.dnsv_denial.specs.words.EvidenceWords.{Chain};
@@ -174,4 +175,12 @@ pub fn questions_without_an_anchor_fail_for_that()
     ensures { (setting : Setting) (name : Labels) (t : ℕ) (lines : List Line) → ¬ HasAnchor setting.anchors name
         → AreFaultLines setting name t lines
         → (rest : List Line) × (lines ≡ zone_line WhyZone.NoAnchor name ∷ rest) }
+{}
+
+/// What fails of a question that is Bogus has a reason: not only signers that aren't trusted.
+pub fn bogus_questions_fail_for_a_reason()
+    ensures { (setting : Setting) (name : Labels) (t : ℕ) (lines : List Line)
+        → ((rrset : ReceivedRrset) → Contains setting.rrsets rrset → IsWellFormed rrset)
+        → IsVerdictAt (basis_of setting.rrsets setting.anchors setting.moment setting.meaning) name t Verdict.Bogus
+        → AreFaultLines setting name t lines → (failed : Reason) × Contains lines (Line.Reason failed) }
 {}

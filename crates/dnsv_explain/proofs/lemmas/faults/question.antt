@@ -12,9 +12,11 @@ pub mod Nsec3Lemmas
 pub mod OnceLemmas
 pub mod ParentLemmas
 pub mod PartLemmas
+pub mod ReasonLemmas
 pub mod SameLemmas
 pub mod SignerLemmas
 pub mod SubjectLemmas
+pub mod UnmetGoalLemmas
 pub mod UnmetKeyLemmas
 pub mod UnmetLemmas
 pub mod UnmetZoneLemmas

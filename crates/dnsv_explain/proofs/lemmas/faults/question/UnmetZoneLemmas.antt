@@ -84,7 +84,7 @@ only_one {X = X} one x xs is there =
     ⊎_elim (λ (same : x ≡ one). same) (λ (later : Contains [] x). absurd (none_in [] x refl later))
     (first_or_rest one [] x (subst In is there))
 
-in_one : {X : Type 0} (one : X) (xs : List X) → xs ≡ one ∷ [] → Contains xs one
+pub in_one : {X : Type 0} (one : X) (xs : List X) → xs ≡ one ∷ [] → Contains xs one
 in_one {X = X} one xs is = let In : List X → Type 0 = λ each. Contains each one in subst In (sym is) (at_front one [])
 
 module _ (setting : Setting) (zone : Labels) (formed : (rrset : ReceivedRrset) → Contains setting.rrsets rrset → IsWellFormed rrset) where
