@@ -126,15 +126,15 @@ fn failed(alloc: Global, judged: &Judged<'_>, rtype: RecordType) -> Result<Expla
 {
     let evidence = evidence_of(&judged.grounds, None);
     let mut lines = Vec::new(alloc);
-    let hashes = &judged.hashes[judged.report.links.as_slice().len()];
+    let last = &judged.hashes[judged.report.links.as_slice().len()];
     let at = At {
         grounds: &judged.grounds,
-        hashes,
+        hashes: last,
         name: &judged.report.last,
     };
     add_failure(alloc, &evidence, &at, &mut lines, rtype)?;
     add_links(alloc, &evidence, judged, &mut lines, rtype)?;
-    add_verdict(alloc, &evidence, judged, hashes, &mut lines, rtype)?;
+    add_verdict(alloc, &evidence, judged, last, &mut lines, rtype)?;
     add_places_named(alloc, &evidence, &mut lines)?;
     Ok(Explanation { lines })
 }
