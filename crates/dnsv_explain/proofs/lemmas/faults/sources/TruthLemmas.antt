@@ -1,9 +1,9 @@
 -- What is said of sources is so.
-use Rattle.std.proofs.Common.{◌≡◌, ◌≢◌, ◌⊎◌, ◌<◌, ◌≤◌, ◌+◌, ℕ, Bool, true, false, Option, Some, None, List, [], ◌∷◌, ◌++◌, inl, inr, length, refl, sym, ap, ◌∙◌, subst, arith, ⊎_elim}
+use Rattle.std.proofs.Common.{◌≡◌, ◌≢◌, ◌⊎◌, ◌<◌, ◌≤◌, ◌+◌, ℕ, Bool, true, false, Some, None, List, [], ◌∷◌, ◌++◌, inl, inr, length, refl, sym, subst, arith, ⊎_elim}
 use Rattle.std.proofs.lemmas.Bool.{cases_lt, false≢true}
 use Rattle.std.proofs.lemmas.List.Elements.{Contains-append_cases}
 use Rattle.std.specs.List.{Contains}
-use Rattle.dnsv_names.specs.Name.{Labels, SameName, IsAtOrBelow, rightmost}
+use Rattle.dnsv_names.specs.Name.{Labels, rightmost}
 use Rattle.dnsv_names.specs.Order.{IsBelow}
 use Rattle.dnsv_names.specs.Tree.{wildcard_of}
 use Rattle.dnsv_names.specs.Tree.AncestorLaws.{rightmost_all, rightmost_below, rightmost_length, rightmost_rightmost}
@@ -11,16 +11,16 @@ use Rattle.dnsv_names.specs.Tree.TreeLaws.{below_trans_at, same_at_or_below}
 use Rattle.dnsv_names.specs.declared.number.RecordType.{RecordType}
 use Rattle.dnsv_zones.specs.chains.NsecChain.{IsInBitmap}
 use Rattle.dnsv_zones.specs.forms.RecordWords.{RecordWords}
-use Rattle.dnsv_zones.specs.zones.TypeNumbers.{dname, ds, ns, soa}
+use Rattle.dnsv_zones.specs.zones.TypeNumbers.{dname, ns, soa}
 use Rattle.dnsv_zones.specs.zones.Types.{Denies, IsClosed, IsDelegation}
 use Rattle.dnsv_denial.specs.words.EvidenceWords.{Chain, evidence_said}
 use Rattle.dnsv_denial.specs.words.EvidenceWords.Chain.{ByNsec, ByNsec3}
 use Rattle.dnsv_denial.specs.declared.records.number.RecordNumber.{RecordNumber}
 use Rattle.dnsv_explain.specs.Explained.{Setting}
 use Rattle.dnsv_explain.specs.derivations.OwnDerivations.{SecuredIn}
-use Rattle.dnsv_explain.specs.faults.Listing.{AreOfEach, AreParted, AreWhere}
+use Rattle.dnsv_explain.specs.faults.Listing.{AreOfEach, AreWhere}
 use Rattle.dnsv_explain.specs.faults.Order.{AreLacking, AreLinesOfChain, AreLinesOfSources, chains_by, names_up}
-use Rattle.dnsv_explain.specs.faults.Sources.{AreCloserLines, AreHeldLines, AreHeldOf, AreSourceLines, AreWildcardLines, HasNoneClosed, HasRecordAt, IsClosedLine, IsFirstClosed, IsHeld, IsLongestThere, IsSourceFault, IsSourceOf, source_line, why_held}
+use Rattle.dnsv_explain.specs.faults.Sources.{AreCloserLines, AreHeldLines, AreHeldOf, AreSourceLines, AreWildcardLines, HasNoneClosed, HasRecordAt, IsClosedLine, IsFirstClosed, IsHeld, IsLongestThere, IsSourceFault, IsSourceOf, source_line}
 use Rattle.dnsv_explain.specs.faults.Sources.AreHeldOf.{denying, holding}
 use Rattle.dnsv_explain.specs.faults.Sources.AreSourceLines.{at_name, at_zone, closed, enclosed, no_encloser}
 use Rattle.dnsv_explain.specs.faults.Sources.AreWildcardLines.{covered, held, missing}
