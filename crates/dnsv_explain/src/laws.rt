@@ -24,7 +24,7 @@ ghost use Rattle.dnsv_explain.specs.Marked.{AnswersMarked};
 ghost use Rattle.dnsv_explain.specs.Following.{EachFollows, at_moment};
 ghost use Rattle.dnsv_explain.specs.Following.Cases.{IsCaseBy};
 ghost use Rattle.dnsv_explain.specs.Following.Parts.{IsPartOf, IsUnusableRecord};
-ghost use Rattle.dnsv_explain.specs.faults.Order.{AreFaultLines, AreLacking};
+ghost use Rattle.dnsv_explain.specs.faults.Order.{AreFaultLines};
 ghost use Rattle.dnsv_explain.specs.faults.RrsetLines.{AreLinesOfNumber};
 ghost use Rattle.dnsv_explain.specs.faults.Truth.{IsReasonTrue};
 ghost use Rattle.dnsv_explain.specs.faults.ZoneLines.{AreZoneLines, zone_line};
@@ -163,15 +163,15 @@ pub fn marked_entries_settle_what_is_hoped()
     trust_depends_on_what_is_asked();
 }
 
-/// What is said to fail of an RRset is so: each word is true of what it is said of, by its definition.
-pub fn reasons_of_rrsets_are_true()
-    ensures { (setting : Setting) (name : Labels) (t k : ℕ) (lines : List Line) → AreLinesOfNumber setting k lines
+/// All that is said to fail of a question is so: each word is true of what it is said of, by its definition.
+pub fn reasons_are_true()
+    ensures { (setting : Setting) (name : Labels) (t : ℕ) (lines : List Line) → AreFaultLines setting name t lines
         → (reason : Reason) → Contains lines (Line.Reason reason) → IsReasonTrue setting name t reason }
 {}
 
-/// What the records of the zones are said to lack is so: each word is true of what it is said of, by its definition.
-pub fn reasons_of_sources_are_true()
-    ensures { (setting : Setting) (name : Labels) (t : ℕ) (lines : List Line) → AreLacking setting name t lines
+/// What is said to fail of an RRset is so: each word is true of what it is said of, by its definition.
+pub fn reasons_of_rrsets_are_true()
+    ensures { (setting : Setting) (name : Labels) (t k : ℕ) (lines : List Line) → AreLinesOfNumber setting k lines
         → (reason : Reason) → Contains lines (Line.Reason reason) → IsReasonTrue setting name t reason }
 {}
 

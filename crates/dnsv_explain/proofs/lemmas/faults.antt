@@ -14,4 +14,5 @@ pub mod WordLemmas
 pub mod one
 pub mod question
 pub mod sources
+pub mod truth
 pub mod zones

@@ -1,8 +1,6 @@
--- What is said of sources is so.
-use Rattle.std.proofs.Common.{◌≡◌, ◌≢◌, ◌⊎◌, ◌<◌, ◌≤◌, ◌+◌, ℕ, Bool, true, false, Some, None, List, [], ◌∷◌, ◌++◌, inl, inr, length, refl, sym, subst, arith, ⊎_elim}
+-- What is said that sources lack is so.
+use Rattle.std.proofs.Common.{◌≡◌, ◌≢◌, ◌⊎◌, ◌<◌, ◌≤◌, ◌+◌, ℕ, Bool, true, false, Some, None, List, [], ◌∷◌, inl, inr, length, refl, sym, subst, arith, ⊎_elim}
 use Rattle.std.proofs.lemmas.Bool.{cases_lt, false≢true}
-use Rattle.std.proofs.lemmas.List.Elements.{Contains-append_cases}
-use Rattle.std.specs.List.{Contains}
 use Rattle.dnsv_names.specs.Name.{Labels, rightmost}
 use Rattle.dnsv_names.specs.Order.{IsBelow}
 use Rattle.dnsv_names.specs.Tree.{wildcard_of}
@@ -18,7 +16,6 @@ use Rattle.dnsv_denial.specs.words.EvidenceWords.Chain.{ByNsec, ByNsec3}
 use Rattle.dnsv_denial.specs.declared.records.number.RecordNumber.{RecordNumber}
 use Rattle.dnsv_explain.specs.Explained.{Setting}
 use Rattle.dnsv_explain.specs.derivations.OwnDerivations.{SecuredIn}
-use Rattle.dnsv_explain.specs.faults.Listing.{AreOfEach, AreWhere}
 use Rattle.dnsv_explain.specs.faults.Order.{AreLacking, AreLinesOfChain, AreLinesOfSources, chains_by, names_up}
 use Rattle.dnsv_explain.specs.faults.Sources.{AreCloserLines, AreHeldLines, AreHeldOf, AreSourceLines, AreWildcardLines, HasNoneClosed, HasRecordAt, IsClosedLine, IsFirstClosed, IsHeld, IsLongestThere, IsSourceFault, IsSourceOf, source_line}
 use Rattle.dnsv_explain.specs.faults.Sources.AreHeldOf.{denying, holding}
@@ -35,8 +32,8 @@ use Rattle.dnsv_explain.specs.declared.line.fault.Reason.TheVariants as reason
 use Rattle.dnsv_explain.specs.declared.line.fault.denial.Source.{Source}
 use Rattle.dnsv_explain.specs.declared.line.fault.denial.WhySource.{WhySource}
 use Rattle.dnsv_explain.specs.declared.line.fault.denial.WhySource.TheVariants as why
-use Rattle.dnsv_explain.proofs.lemmas.faults.TruthLemmas.{first_or_rest, none_in, only_reason}
 use Rattle.dnsv_explain.proofs.lemmas.faults.one.SourceLemmas.{nsec3_types, nsec_types}
+use Rattle.dnsv_explain.proofs.lemmas.faults.truth.SoLemmas.{AreAllSo, both_so, each_so, none_so, one_so}
 
 -- ---- types
 
@@ -136,36 +133,8 @@ module _ (setting : Setting) (name : Labels) (t : ℕ) where
   abbrev IsSo : Reason → Type 0
   IsSo = IsReasonTrue setting name t
 
-  abbrev pub AllSo : List Line → Type 0
-  AllSo lines = (said : Reason) → Contains lines (line.Reason said) → IsSo said
-
-  pub none_so : (lines : List Line) → lines ≡ [] → AllSo lines
-  none_so lines empties said there = absurd (none_in lines (line.Reason said) empties there)
-
-  pub one_so : (told : Reason) (lines : List Line) → IsSo told → lines ≡ line.Reason told ∷ [] → AllSo lines
-  one_so told lines is same said there =
-      let In : List Line → Type 0 = λ each. Contains each (line.Reason said) in ⊎_elim
-      (λ (first : line.Reason said ≡ line.Reason told). only_reason setting name t said told first is)
-      (λ (later : Contains [] (line.Reason said)). absurd (none_in [] (line.Reason said) refl later))
-      (first_or_rest (line.Reason told) [] (line.Reason said) (subst In same there))
-
-  pub both_so : (first second lines : List Line) → lines ≡ first ++ second → AllSo first → AllSo second → AllSo lines
-  both_so first second lines parts one two said there =
-      let In : List Line → Type 0 = λ each. Contains each (line.Reason said) in ⊎_elim
-      (λ (left : Contains first (line.Reason said)). one said left)
-      (λ (right : Contains second (line.Reason said)). two said right)
-      (Contains-append_cases first second (line.Reason said) (subst In parts there))
-
-  pub each_so : {X : Type 0} (Are : X → List Line → Type 0) → ((x : X) (lines : List Line) → Are x lines → AllSo lines) → (xs : List X)
-      (lines : List Line) → AreOfEach Are xs lines → AllSo lines
-  each_so Are so [] lines empties = none_so lines empties
-  each_so Are so (x ∷ xs) lines each =
-      both_so each.first each.second lines each.parts (so x each.first each.is_first) (each_so Are so xs each.second each.is_second)
-
-  pub where_so : (Holds : Type 0) (Are : List Line → Type 0) → ((lines : List Line) → Are lines → AllSo lines) → (lines : List Line)
-      → AreWhere Holds Are lines → AllSo lines
-  where_so Holds Are so lines (inl told) = so lines told.1
-  where_so Holds Are so lines (inr silent) = none_so lines silent.1
+  abbrev AllSo : List Line → Type 0
+  AllSo = AreAllSo IsSo
 
   -- ---- of one source
 
@@ -185,10 +154,11 @@ module _ (setting : Setting) (name : Labels) (t : ℕ) where
     -- lines that are just such a word
     line_so : (at : Labels) (word : WhySource) (lines : List Line) → IsSourceFault Words zone at word
         → lines ≡ source_line source at word ∷ [] → AllSo lines
-    line_so at word lines is = one_so (reason.Source (record { why = word; source = source; name = at })) lines (word_so at word is)
+    line_so at word lines is same =
+        one_so IsSo lines (reason.Source (record { why = word; source = source; name = at })) same (word_so at word is)
 
     held_so : (at : Labels) (n : RecordNumber) (lines : List Line) → AreHeldOf Words source at t n lines → AllSo lines
-    held_so at n lines (denying is) = none_so lines refl
+    held_so at n lines (denying is) = none_so IsSo lines refl
     held_so at n lines (holding (Some rtype) is) =
         line_so at (why.TypeHeld n rtype) lines
         (said_as setting zone chain at n (λ has. (¬ Denies has t) × IsHeld has t (Some rtype)) (λ has. has rtype.0)
@@ -199,12 +169,12 @@ module _ (setting : Setting) (name : Labels) (t : ℕ) where
         (λ test both. left_is_delegation test t both.0 both.1) is) refl
 
     held_lines_so : (at : Labels) (lines : List Line) → AreHeldLines Words source at t lines → AllSo lines
-    held_lines_so at lines are = each_so (AreHeldOf Words source at t) (held_so at) are.0 lines are.2
+    held_lines_so at lines are = each_so IsSo (AreHeldOf Words source at t) are.0 lines (λ n some among of. held_so at n some of) are.2
 
     closed_so : (k : ℕ) (n : RecordNumber) (told : Line) → IsFirstClosed Words zone name k n → IsClosedLine Words source (rightmost name k) n told
         → AllSo (told ∷ [])
     closed_so k n told first (by_dname is) =
-        one_so (reason.Dname (record { name = rightmost name k; rrset = n.rrset; place = Some n.place })) (told ∷ []) (zone, chain, is) refl
+        one_so IsSo (told ∷ []) (reason.Dname (record { name = rightmost name k; rrset = n.rrset; place = Some n.place })) refl (zone, chain, is)
     closed_so k n told first (by_delegation is) =
         line_so (rightmost name k) (why.Delegation n) (told ∷ [])
         (said_as setting zone chain (rightmost name k) n (λ has. IsClosed has × (¬ has dname)) IsDelegation
@@ -216,15 +186,15 @@ module _ (setting : Setting) (name : Labels) (t : ℕ) where
         → AreCloserLines Words source (rightmost name (labels + 1)) name lines → AllSo lines
     closer_so labels lines never absent longest (inl lacks) =
         let closer = rightmost name (labels + 1) in
-        both_so (source_line source closer (why.CoverMissing role.NextCloser) ∷ []) (source_line source name why.MatchMissing ∷ []) lines lacks.1
+        both_so IsSo (source_line source closer (why.CoverMissing role.NextCloser) ∷ []) (source_line source name why.MatchMissing ∷ []) lines lacks.1
         (line_so closer (why.CoverMissing role.NextCloser) (source_line source closer (why.CoverMissing role.NextCloser) ∷ [])
         (not_next setting zone name labels chain never absent longest, lacks.0) refl)
         (line_so name why.MatchMissing (source_line source name why.MatchMissing ∷ []) absent refl)
-    closer_so labels lines never absent longest (inr silent) = none_so lines silent.1
+    closer_so labels lines never absent longest (inr silent) = none_so IsSo lines silent.1
 
     wildcard_so : (wildcard : Labels) (lines : List Line) → AreWildcardLines Words source wildcard t lines → AllSo lines
     wildcard_so wildcard lines (held told has are) = held_lines_so wildcard lines are
-    wildcard_so wildcard lines (covered never is) = none_so lines refl
+    wildcard_so wildcard lines (covered never is) = none_so IsSo lines refl
     wildcard_so wildcard lines (missing never uncovered inhabited) =
         line_so wildcard (why.CoverMissing role.Wildcard) lines (never, uncovered) refl
 
@@ -234,7 +204,7 @@ module _ (setting : Setting) (name : Labels) (t : ℕ) where
     source_so lines (at_zone never absent same) = line_so name why.MatchMissing lines absent refl
     source_so lines (no_encloser never absent other lacking) = line_so name why.EncloserMissing lines lacking refl
     source_so lines (enclosed labels told never absent other longest parts) =
-        both_so parts.first parts.second lines parts.parts
+        both_so IsSo parts.first parts.second lines parts.parts
         (closer_so labels parts.first never absent longest parts.is_first)
         (wildcard_so (wildcard_of (rightmost name labels)) parts.second parts.is_second)
 
@@ -242,13 +212,15 @@ module _ (setting : Setting) (name : Labels) (t : ℕ) where
 
   chain_so : (speaker zone : Labels) (chain : Chain) (lines : List Line) → AreLinesOfChain setting name t speaker zone chain lines → AllSo lines
   chain_so speaker zone chain lines (inl told) = source_so zone chain told.1.0 told.1.1 lines told.1.2
-  chain_so speaker zone chain lines (inr silent) = none_so lines silent.1
+  chain_so speaker zone chain lines (inr silent) = none_so IsSo lines silent.1
 
   zone_so : (speaker zone : Labels) (lines : List Line) → AreLinesOfSources setting name t speaker zone lines → AllSo lines
   zone_so speaker zone lines (inl told) =
-      each_so (AreLinesOfChain setting name t speaker zone) (chain_so speaker zone) (chains_by told.1.0) lines told.1.2
-  zone_so speaker zone lines (inr silent) = none_so lines silent.1
+      each_so IsSo (AreLinesOfChain setting name t speaker zone) (chains_by told.1.0) lines (λ chain some among of. chain_so speaker zone chain some of)
+      told.1.2
+  zone_so speaker zone lines (inr silent) = none_so IsSo lines silent.1
 
   pub lacking_so : (lines : List Line) → AreLacking setting name t lines → AllSo lines
-  lacking_so lines (inl told) = each_so (AreLinesOfSources setting name t told.1.0) (zone_so told.1.0) (names_up name) lines told.1.2
-  lacking_so lines (inr silent) = none_so lines silent.1
+  lacking_so lines (inl told) =
+      each_so IsSo (AreLinesOfSources setting name t told.1.0) (names_up name) lines (λ zone some among of. zone_so told.1.0 zone some of) told.1.2
+  lacking_so lines (inr silent) = none_so IsSo lines silent.1
