@@ -10,7 +10,6 @@ pub mod Order
 pub mod RemarkSearch
 pub mod RrsetLines
 pub mod SignatureFaults
-pub mod SourceSearch
 pub mod Sources
 pub mod Truth
 pub mod ZoneLines

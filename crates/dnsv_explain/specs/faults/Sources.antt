@@ -1,4 +1,5 @@
 -- What the records of a zone lack to prove a denial, and which of them say what is asked (RFC 4035 5.4, RFC 5155 8).
+pub mod SourceSearch
 use Rattle.std.specs.Prelude.{◌≡◌, ◌≢◌, ◌⊎◌, ◌↔◌, ◌+◌, ◌<◌, ℕ, List, [], ◌∷◌, Option, Some, None, Contains, length}
 use Rattle.std.specs.List.Sorted.{IsStrictlySortedBy}
 use Rattle.dnsv_names.specs.Name.{Labels, SameName, IsAtOrBelow, rightmost}

@@ -18,7 +18,7 @@ ghost use Rattle.dnsv_explain.specs.Explained.{setting_in};
 ghost use Rattle.dnsv_explain.specs.faults.Listing.{AddsThose, AreOfEach};
 ghost use Rattle.dnsv_explain.specs.faults.NeededSearch.{IsSpeakerFound};
 ghost use Rattle.dnsv_explain.specs.faults.Order.{AreLacking, AreLinesOfSources, names_up};
-ghost use Rattle.dnsv_explain.specs.faults.SourceSearch.{AreAllParameters};
+ghost use Rattle.dnsv_explain.specs.faults.Sources.SourceSearch.{AreAllParameters};
 
 use crate::evidence::Evidence;
 use crate::explanation::at::At;

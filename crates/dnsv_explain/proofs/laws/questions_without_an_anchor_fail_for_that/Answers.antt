@@ -1,4 +1,3 @@
-use Rattle.dnsv_explain.proofs.lemmas.faults.question.UnmetLemmas.{rrset_unmet}
 use Rattle.dnsv_explain.proofs.lemmas.faults.question.FirstReasonLemmas.{first_reason}
 use Rattle.dnsv_explain.proofs.laws.questions_without_an_anchor_fail_for_that.Goals as goal
 

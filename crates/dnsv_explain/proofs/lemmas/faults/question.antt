@@ -5,7 +5,6 @@ pub mod DownLemmas
 pub mod EndLemmas
 pub mod FirstLemmas
 pub mod FirstReasonLemmas
-pub mod FollowLemmas
 pub mod KnownLemmas
 pub mod NeededLemmas
 pub mod Nsec3Lemmas
@@ -15,5 +14,4 @@ pub mod PartLemmas
 pub mod SameLemmas
 pub mod SignerLemmas
 pub mod SubjectLemmas
-pub mod UnmetLemmas
 pub mod ZoneLemmas

@@ -6,7 +6,7 @@ ghost use Rattle.dnsv_zones.specs.chains.HashedNames.{sha1_hash};
 ghost use Rattle.dnsv_zones.specs.chains.Nsec3Chain.{IsAsked};
 ghost use Rattle.dnsv_zones.specs.chains.Rdata.{parameters_of};
 ghost use Rattle.dnsv_denial.specs.QuestionHashes.{AreUsed};
-ghost use Rattle.dnsv_explain.specs.faults.SourceSearch.{AreHashesMade, IsAskedAs, IsFor, IsHashOf};
+ghost use Rattle.dnsv_explain.specs.faults.Sources.SourceSearch.{AreHashesMade, IsAskedAs, IsFor, IsHashOf};
 
 use crate::explanation::at::At;
 use crate::faults::sources::chain::{ChainEntries, ZoneChain};

@@ -10,7 +10,7 @@ ghost use Rattle.dnsv_explain.specs.Explained.{Setting};
 ghost use Rattle.dnsv_explain.specs.derivations.OwnDerivations.{SecuredIn};
 ghost use Rattle.dnsv_explain.specs.faults.Listing.{AddsThose, AreOfEach};
 ghost use Rattle.dnsv_explain.specs.faults.Order.{AreLinesOfChain};
-ghost use Rattle.dnsv_explain.specs.faults.SourceSearch.{AreAllParameters, HasEntry, IsZoneFor};
+ghost use Rattle.dnsv_explain.specs.faults.Sources.SourceSearch.{AreAllParameters, HasEntry, IsZoneFor};
 
 use crate::explanation::at::At;
 use crate::faults::sources::chain::{ChainEntries, ZoneChain};

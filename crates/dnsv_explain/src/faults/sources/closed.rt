@@ -2,7 +2,7 @@
 ghost use Rattle.std.specs.Prelude.{◌<◌, IfOk, IfSome, MatchOption, length};
 ghost use Rattle.dnsv_explain.specs.Explained.{Setting};
 ghost use Rattle.dnsv_explain.specs.faults.Sources.{HasNoneClosed};
-ghost use Rattle.dnsv_explain.specs.faults.SourceSearch.{AreOf, IsClosedFound, IsFirstClosedAt, IsFirstIn, IsFor, said_by, types_of};
+ghost use Rattle.dnsv_explain.specs.faults.Sources.SourceSearch.{AreOf, IsClosedFound, IsFirstClosedAt, IsFirstIn, IsFor, said_by, types_of};
 ghost use Rattle.dnsv_zones.specs.zones.Types.{IsClosed};
 
 use crate::explanation::at::At;

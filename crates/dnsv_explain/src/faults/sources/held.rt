@@ -3,7 +3,7 @@ ghost use Rattle.std.specs.Prelude.{◌≡◌, ◌++◌, ◌∷◌, [], OnOk, If
 ghost use Rattle.std.specs.FinSet as set;
 ghost use Rattle.dnsv_zones.specs.chains.NsecChain.{IsInBitmap};
 ghost use Rattle.dnsv_explain.specs.faults.Listing.{AddsThose, AreOfEach};
-ghost use Rattle.dnsv_explain.specs.faults.SourceSearch.{AreHeldBy, told_parameters, told_source};
+ghost use Rattle.dnsv_explain.specs.faults.Sources.SourceSearch.{AreHeldBy, told_parameters, told_source};
 ghost use Rattle.dnsv_explain.specs.faults.Sources.{IsHeld, source_line, why_held};
 
 use crate::faults::sources::chain::{ChainEntries, ZoneChain};

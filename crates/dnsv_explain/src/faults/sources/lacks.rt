@@ -6,7 +6,7 @@ ghost use Rattle.dnsv_explain.specs.Explained.{Setting};
 ghost use Rattle.dnsv_explain.specs.faults.Listing.{AddsThose};
 ghost use Rattle.dnsv_explain.specs.faults.Order.{AreLinesOfChain, HasRecords};
 ghost use Rattle.dnsv_explain.specs.faults.Sources.{AreCloserLines, AreWildcardLines, HasNoneClosed};
-ghost use Rattle.dnsv_explain.specs.faults.SourceSearch.{AreLinesLacking, AreOf, IsFor, chain_of, closed_line, said_by, told_source};
+ghost use Rattle.dnsv_explain.specs.faults.Sources.SourceSearch.{AreLinesLacking, AreOf, IsFor, chain_of, closed_line, said_by, told_source};
 
 use crate::explanation::at::At;
 use crate::faults::sources::asked::{asked_above, asked_wildcard};

@@ -5,7 +5,7 @@ ghost use Rattle.dnsv_zones.specs.chains.Rdata.{parameters_of};
 ghost use Rattle.dnsv_denial.specs.records.HashWords.{HasHash};
 ghost use Rattle.dnsv_denial.specs.records.Record.{read_entry, read_nsec3};
 ghost use Rattle.dnsv_explain.specs.faults.Listing.{AreOfEach};
-ghost use Rattle.dnsv_explain.specs.faults.SourceSearch.{AreRecordsAt, IsFoundOf};
+ghost use Rattle.dnsv_explain.specs.faults.Sources.SourceSearch.{AreRecordsAt, IsFoundOf};
 
 use crate::faults::sources::asked::Asked;
 use crate::faults::sources::chain::ChainEntries;

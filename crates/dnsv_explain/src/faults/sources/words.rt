@@ -6,7 +6,7 @@ ghost use Rattle.dnsv_zones.specs.forms.Nsec.{IsAbsentBy, IsEmptyNonTerminalBy, 
 ghost use Rattle.dnsv_zones.specs.zones.Types.{IsClosed};
 ghost use Rattle.dnsv_denial.specs.records.HashWords.{CoversHash, HasHash};
 ghost use Rattle.dnsv_denial.specs.records.Record.{read_entry, read_nsec3};
-ghost use Rattle.dnsv_explain.specs.faults.SourceSearch.{HasEntry, IsCoveredBy, IsEmptyBy, IsShownBy};
+ghost use Rattle.dnsv_explain.specs.faults.Sources.SourceSearch.{HasEntry, IsCoveredBy, IsEmptyBy, IsShownBy};
 
 use crate::faults::sources::asked::Asked;
 use crate::faults::sources::chain::ChainEntries;

@@ -16,7 +16,7 @@ use Rattle.dnsv_explain.specs.faults.Listing.{AddsThose}
 use Rattle.dnsv_explain.specs.faults.Order.{AreLinesOfChain, HasRecords}
 use Rattle.dnsv_explain.specs.faults.Sources.{AreSourceLines, HasNoneClosed, IsParametersOf, IsSourceOf}
 use Rattle.dnsv_explain.specs.faults.Sources.AreSourceLines.{closed}
-use Rattle.dnsv_explain.specs.faults.SourceSearch.{HasEntry, IsClosedFound, chain_of, closed_line, said_by, told_parameters, told_source}
+use Rattle.dnsv_explain.specs.faults.Sources.SourceSearch.{HasEntry, IsClosedFound, chain_of, closed_line, said_by, told_parameters, told_source}
 use Rattle.dnsv_explain.specs.declared.faults.sources.chain.ChainEntries.{ChainEntries}
 use Rattle.dnsv_explain.specs.declared.faults.sources.chain.ChainEntries.TheVariants.{Nsec, Nsec3}
 use Rattle.dnsv_explain.specs.declared.faults.sources.chain.ZoneChain.{ZoneChain}

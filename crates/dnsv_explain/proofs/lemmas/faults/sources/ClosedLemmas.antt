@@ -18,7 +18,7 @@ use Rattle.dnsv_denial.specs.declared.records.number.RecordNumber.{RecordNumber}
 use Rattle.dnsv_explain.specs.Explained.{Setting}
 use Rattle.dnsv_explain.specs.faults.Sources.{HasNoneClosed, IsClosedAbove, IsClosedLine, dname_record_line, source_line}
 use Rattle.dnsv_explain.specs.faults.Sources.IsClosedLine.{by_dname, by_delegation}
-use Rattle.dnsv_explain.specs.faults.SourceSearch.{AreOf, IsAskedAs, IsClosedFound, IsFirstClosedAt, IsFirstIn, closed_line, said_by, types_of}
+use Rattle.dnsv_explain.specs.faults.Sources.SourceSearch.{AreOf, IsAskedAs, IsClosedFound, IsFirstClosedAt, IsFirstIn, closed_line, said_by, types_of}
 use Rattle.dnsv_explain.specs.declared.explanation.at.At.{At}
 use Rattle.dnsv_explain.specs.declared.faults.sources.asked.Asked.{Asked}
 use Rattle.dnsv_explain.specs.declared.faults.sources.chain.ZoneChain.{ZoneChain}

@@ -16,7 +16,7 @@ use Rattle.dnsv_explain.specs.faults.Sources.{AreCloserLines, AreHeldLines, AreH
 use Rattle.dnsv_explain.specs.faults.Sources.AreHeldOf.{denying, holding}
 use Rattle.dnsv_explain.specs.faults.Sources.AreSourceLines.{at_name, at_zone, enclosed, no_encloser}
 use Rattle.dnsv_explain.specs.faults.Sources.AreWildcardLines.{covered, held, missing}
-use Rattle.dnsv_explain.specs.faults.SourceSearch.{AreHeldBy, AreOf, AreRecordsAt, IsAskedAs, said_by, told_source, types_of}
+use Rattle.dnsv_explain.specs.faults.Sources.SourceSearch.{AreHeldBy, AreOf, AreRecordsAt, IsAskedAs, said_by, told_source, types_of}
 use Rattle.dnsv_explain.specs.declared.faults.sources.asked.Asked.{Asked}
 use Rattle.dnsv_explain.specs.declared.faults.sources.chain.ChainEntries.{ChainEntries}
 use Rattle.dnsv_explain.specs.declared.faults.sources.chain.ZoneChain.{ZoneChain}

@@ -22,7 +22,7 @@ use Rattle.dnsv_denial.specs.declared.records.number.RecordNumber.{RecordNumber}
 use Rattle.dnsv_explain.specs.Explained.{Setting}
 use Rattle.dnsv_explain.specs.derivations.OwnDerivations.{SecuredIn}
 use Rattle.dnsv_explain.specs.faults.Sources.{IsCovered}
-use Rattle.dnsv_explain.specs.faults.SourceSearch.{AreEntriesOf, AreOf, AreRecordsAt, IsAskedAs, IsCoveredBy, IsEmptyBy, IsHashOf, IsShownBy, chain_of, said_by, types_of}
+use Rattle.dnsv_explain.specs.faults.Sources.SourceSearch.{AreEntriesOf, AreOf, AreRecordsAt, IsAskedAs, IsCoveredBy, IsEmptyBy, IsHashOf, IsShownBy, chain_of, said_by, types_of}
 use Rattle.dnsv_explain.specs.declared.faults.sources.asked.Asked.{Asked}
 use Rattle.dnsv_explain.specs.declared.faults.sources.chain.ChainEntries.{ChainEntries}
 use Rattle.dnsv_explain.specs.declared.faults.sources.chain.ChainEntries.TheVariants.{Nsec, Nsec3}

@@ -30,7 +30,7 @@ use Rattle.dnsv_explain.specs.Explained.{Explained, Setting, setting_in}
 use Rattle.dnsv_explain.specs.derivations.OwnDerivations.{IsTrustIn, SecuredIn}
 use Rattle.dnsv_explain.specs.faults.Listing.{AddsThose, AreOfEach, AreParted}
 use Rattle.dnsv_explain.specs.faults.Order.{AreLinesOfChain, AreLinesOfSources, AreParametersOf, names_up}
-use Rattle.dnsv_explain.specs.faults.SourceSearch.{AreAllParameters, IsZoneFor}
+use Rattle.dnsv_explain.specs.faults.Sources.SourceSearch.{AreAllParameters, IsZoneFor}
 use Rattle.dnsv_explain.specs.declared.explanation.at.At.{At}
 use Rattle.dnsv_explain.specs.declared.line.Line.{Line}
 use Rattle.dnsv_explain.proofs.lemmas.denials.PartLemmas.{secured_too}

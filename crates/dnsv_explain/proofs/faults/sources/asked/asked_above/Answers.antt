@@ -1,7 +1,7 @@
 use Rattle.std.proofs.Common.{subst, sym}
 use Rattle.dnsv_names.specs.Name.{Labels, IsAtOrBelow}
 use Rattle.dnsv_zones.specs.chains.Nsec3Chain.IsAsked.{itself}
-use Rattle.dnsv_explain.specs.faults.SourceSearch.{IsAskedAs}
+use Rattle.dnsv_explain.specs.faults.Sources.SourceSearch.{IsAskedAs}
 use Rattle.dnsv_explain.proofs.faults.sources.asked.asked_above.Goals as goal
 
 pub asked_name-requires-clause-made : goal.asked_name-requires-clause-made

@@ -3,7 +3,7 @@ use Rattle.dnsv_names.specs.Name.{Labels, rightmost}
 use Rattle.dnsv_names.specs.Tree.AncestorLaws.{rightmost_below}
 use Rattle.dnsv_zones.specs.chains.Nsec3Chain.{IsAsked}
 use Rattle.dnsv_zones.specs.chains.Nsec3Chain.IsAsked.{wildcard}
-use Rattle.dnsv_explain.specs.faults.SourceSearch.{IsAskedAs}
+use Rattle.dnsv_explain.specs.faults.Sources.SourceSearch.{IsAskedAs}
 use Rattle.dnsv_explain.proofs.faults.sources.asked.asked_wildcard.Goals as goal
 
 pub asked_name-requires-clause-made : goal.asked_name-requires-clause-made

@@ -1,5 +1,5 @@
 use Rattle.std.proofs.Common.{◌+◌, ℕ, Option, arith, subst, sym}
-use Rattle.dnsv_explain.specs.faults.SourceSearch.{IsFirstClosedAt, said_by}
+use Rattle.dnsv_explain.specs.faults.Sources.SourceSearch.{IsFirstClosedAt, said_by}
 use Rattle.dnsv_explain.specs.declared.faults.sources.records.RecordAt.{RecordAt}
 use Rattle.dnsv_explain.proofs.lemmas.faults.sources.ClosedLemmas.{NoneTo, closed_here, none_all, none_first, none_here, none_next}
 use Rattle.dnsv_explain.proofs.faults.sources.closed.first_closed.Goals as goal

@@ -1,7 +1,7 @@
 use Rattle.std.proofs.Common.{◌≡◌, ◌+◌, ◌∷◌, List, Some, None, drop, inl, refl, subst, sym, ap, ◌∙◌}
 use Rattle.std.proofs.lemmas.List.{drop_all, drop_more}
 use Rattle.dnsv_zones.specs.zones.Types.{IsClosed}
-use Rattle.dnsv_explain.specs.faults.SourceSearch.{IsFirstIn, types_of}
+use Rattle.dnsv_explain.specs.faults.Sources.SourceSearch.{IsFirstIn, types_of}
 use Rattle.dnsv_explain.specs.declared.faults.sources.records.RecordAt.{RecordAt}
 use Rattle.dnsv_explain.proofs.lemmas.faults.sources.ClosedLemmas.{past_one}
 use Rattle.dnsv_explain.proofs.faults.sources.closed.first_in.Goals as goal

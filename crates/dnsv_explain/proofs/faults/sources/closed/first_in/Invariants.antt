@@ -1,6 +1,6 @@
 use Rattle.std.proofs.Common.{Option, drop}
 use Rattle.dnsv_zones.specs.zones.Types.{IsClosed}
-use Rattle.dnsv_explain.specs.faults.SourceSearch.{IsFirstIn, types_of}
+use Rattle.dnsv_explain.specs.faults.Sources.SourceSearch.{IsFirstIn, types_of}
 use Rattle.dnsv_explain.specs.declared.faults.sources.records.RecordAt.{RecordAt}
 use Rattle.dnsv_explain.proofs.faults.sources.closed.first_in.Given as goal
 

@@ -1,5 +1,5 @@
 use Rattle.std.proofs.Common.{◌-◌, ℕ, arith, subst, sym}
-use Rattle.dnsv_explain.specs.faults.SourceSearch.{said_by}
+use Rattle.dnsv_explain.specs.faults.Sources.SourceSearch.{said_by}
 use Rattle.dnsv_explain.proofs.lemmas.faults.sources.LackLemmas.{NoneFrom, longest, no_encloser_there, none_more, none_yet}
 use Rattle.dnsv_explain.proofs.faults.sources.enclosers.longest_there.Goals as goal
 

@@ -1,6 +1,6 @@
 use Rattle.std.proofs.Common.{◌≤◌, length}
 use Rattle.dnsv_explain.specs.Explained.{Setting}
-use Rattle.dnsv_explain.specs.faults.SourceSearch.{AreOf, said_by}
+use Rattle.dnsv_explain.specs.faults.Sources.SourceSearch.{AreOf, said_by}
 use Rattle.dnsv_explain.proofs.lemmas.faults.sources.LackLemmas.{NoneFrom}
 use Rattle.dnsv_explain.proofs.faults.sources.enclosers.longest_there.Given as goal
 

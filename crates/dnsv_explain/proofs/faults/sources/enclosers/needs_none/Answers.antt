@@ -3,7 +3,7 @@ use Rattle.std.proofs.lemmas.Bool.{false≢true}
 use Rattle.dnsv_names.specs.Name.{Labels, SameName, rightmost}
 use Rattle.dnsv_denial.specs.words.EvidenceWords.{evidence_said}
 use Rattle.dnsv_explain.specs.derivations.OwnDerivations.{SecuredIn}
-use Rattle.dnsv_explain.specs.faults.SourceSearch.{chain_of}
+use Rattle.dnsv_explain.specs.faults.Sources.SourceSearch.{chain_of}
 use Rattle.dnsv_explain.specs.declared.faults.sources.chain.ChainEntries.{ChainEntries}
 use Rattle.dnsv_explain.proofs.faults.sources.enclosers.needs_none.Goals as goal
 

@@ -1,5 +1,5 @@
 use Rattle.std.proofs.Common.{ℕ}
-use Rattle.dnsv_explain.specs.faults.SourceSearch.{AreHeldBy, told_source}
+use Rattle.dnsv_explain.specs.faults.Sources.SourceSearch.{AreHeldBy, told_source}
 use Rattle.dnsv_explain.proofs.lemmas.faults.ListingLemmas.{all_added, each_added, next_added}
 use Rattle.dnsv_explain.proofs.faults.sources.held.add_held.Goals as goal
 

@@ -1,6 +1,6 @@
 use Rattle.std.proofs.Common.{ℕ, take}
 use Rattle.dnsv_explain.specs.faults.Listing.{AddsThose, AreOfNumbered}
-use Rattle.dnsv_explain.specs.faults.SourceSearch.{AreHeldBy, told_source}
+use Rattle.dnsv_explain.specs.faults.Sources.SourceSearch.{AreHeldBy, told_source}
 use Rattle.dnsv_explain.proofs.faults.sources.held.add_held.Given as goal
 
 -- what is said of the records so far

@@ -1,7 +1,7 @@
 use Rattle.std.proofs.Common.{◌<◌, Option, length, subst}
 use Rattle.std.specs.Prelude.{IfSome, MatchOption}
 use Rattle.dnsv_explain.specs.faults.Sources.{HasNoneClosed}
-use Rattle.dnsv_explain.specs.faults.SourceSearch.{IsClosedFound, said_by}
+use Rattle.dnsv_explain.specs.faults.Sources.SourceSearch.{IsClosedFound, said_by}
 use Rattle.dnsv_explain.specs.declared.faults.sources.closed.Closed.{Closed}
 use Rattle.dnsv_explain.proofs.lemmas.faults.sources.ChainLemmas.{closed_added, open_added, silent}
 use Rattle.dnsv_explain.proofs.faults.sources.lacks.add_chain.Goals as goal

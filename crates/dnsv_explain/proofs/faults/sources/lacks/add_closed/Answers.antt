@@ -3,7 +3,7 @@ use Rattle.std.specs.FinSet as set
 use Rattle.dnsv_names.specs.Name.{Labels, rightmost}
 use Rattle.dnsv_zones.specs.zones.TypeNumbers.{dname}
 use Rattle.dnsv_explain.specs.faults.Sources.{dname_record_line, source_line}
-use Rattle.dnsv_explain.specs.faults.SourceSearch.{told_source}
+use Rattle.dnsv_explain.specs.faults.Sources.SourceSearch.{told_source}
 use Rattle.dnsv_explain.specs.declared.line.Line.{Line}
 use Rattle.dnsv_explain.specs.declared.line.fault.denial.WhySource.TheVariants.{Delegation}
 use Rattle.dnsv_explain.proofs.lemmas.faults.sources.ClosedLemmas.{closed_as_delegation, closed_as_dname}

@@ -1,6 +1,6 @@
 use Rattle.std.proofs.Common.{◌++◌, ◌∷◌, [], ap, ◌∙◌}
 use Rattle.dnsv_names.specs.Name.{Labels, rightmost}
-use Rattle.dnsv_explain.specs.faults.SourceSearch.{said_by, told_source}
+use Rattle.dnsv_explain.specs.faults.Sources.SourceSearch.{said_by, told_source}
 use Rattle.dnsv_explain.specs.faults.Sources.{source_line}
 use Rattle.dnsv_explain.specs.declared.line.denial.Role.TheVariants.{NextCloser}
 use Rattle.dnsv_explain.specs.declared.line.fault.denial.WhySource.TheVariants.{CoverMissing}

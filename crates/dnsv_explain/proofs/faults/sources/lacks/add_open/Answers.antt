@@ -1,5 +1,5 @@
 use Rattle.std.proofs.Common.{List, arith, sym, subst}
-use Rattle.dnsv_explain.specs.faults.SourceSearch.{AreRecordsAt}
+use Rattle.dnsv_explain.specs.faults.Sources.SourceSearch.{AreRecordsAt}
 use Rattle.dnsv_explain.specs.declared.faults.sources.records.RecordAt.{RecordAt}
 use Rattle.dnsv_explain.proofs.lemmas.faults.SignatureLemmas.{empty, some_left}
 use Rattle.dnsv_explain.proofs.lemmas.faults.sources.LackLemmas.{asked_whole, at_name_added, at_zone_added, enclosed_added, no_encloser_added}

@@ -2,7 +2,7 @@ use Rattle.std.proofs.Common.{◌++◌, ◌∷◌, [], List, inl, inr, ap, sym, 
 use Rattle.dnsv_names.specs.Tree.{wildcard_of}
 use Rattle.dnsv_names.specs.Name.{Labels, rightmost}
 use Rattle.dnsv_explain.specs.faults.Listing.{AddsThose, AreOfEach}
-use Rattle.dnsv_explain.specs.faults.SourceSearch.{AreHeldBy, AreRecordsAt, told_source}
+use Rattle.dnsv_explain.specs.faults.Sources.SourceSearch.{AreHeldBy, AreRecordsAt, told_source}
 use Rattle.dnsv_explain.specs.declared.faults.sources.records.RecordAt.{RecordAt}
 use Rattle.dnsv_explain.proofs.lemmas.faults.SignatureLemmas.{empty, some_left}
 use Rattle.dnsv_explain.specs.faults.Sources.{source_line}

@@ -3,7 +3,7 @@ use Rattle.dnsv_zones.specs.chains.Rdata.{parameters_of}
 use Rattle.dnsv_denial.specs.records.HashWords.{HasHash}
 use Rattle.dnsv_denial.specs.records.Record.{read_nsec3}
 use Rattle.dnsv_explain.specs.faults.Listing.{AreOfNumbered}
-use Rattle.dnsv_explain.specs.faults.SourceSearch.{IsFoundOf}
+use Rattle.dnsv_explain.specs.faults.Sources.SourceSearch.{IsFoundOf}
 use Rattle.dnsv_explain.proofs.faults.sources.records.nsec3s_at.Given as goal
 
 -- those of the entries so far

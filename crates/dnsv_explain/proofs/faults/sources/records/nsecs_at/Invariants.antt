@@ -2,7 +2,7 @@ use Rattle.std.proofs.Common.{ℕ, take}
 use Rattle.dnsv_names.specs.Name.{SameName}
 use Rattle.dnsv_denial.specs.records.Record.{read_entry}
 use Rattle.dnsv_explain.specs.faults.Listing.{AreOfNumbered}
-use Rattle.dnsv_explain.specs.faults.SourceSearch.{IsFoundOf}
+use Rattle.dnsv_explain.specs.faults.Sources.SourceSearch.{IsFoundOf}
 use Rattle.dnsv_explain.proofs.faults.sources.records.nsecs_at.Given as goal
 
 -- those of the entries so far

@@ -1,5 +1,5 @@
 use Rattle.std.proofs.Common.{subst, sym}
-use Rattle.dnsv_explain.specs.faults.SourceSearch.{AreRecordsAt}
+use Rattle.dnsv_explain.specs.faults.Sources.SourceSearch.{AreRecordsAt}
 use Rattle.dnsv_explain.specs.declared.faults.sources.chain.ChainEntries.{ChainEntries}
 use Rattle.dnsv_explain.proofs.faults.sources.records.records_at.Goals as goal
 

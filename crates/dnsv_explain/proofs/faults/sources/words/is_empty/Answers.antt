@@ -1,6 +1,6 @@
 use Rattle.std.proofs.Common.{◌↔◌, IsTrue, false, subst, sym}
 use Rattle.std.proofs.lemmas.Bool.{false≢true}
-use Rattle.dnsv_explain.specs.faults.SourceSearch.{IsEmptyBy}
+use Rattle.dnsv_explain.specs.faults.Sources.SourceSearch.{IsEmptyBy}
 use Rattle.dnsv_explain.specs.declared.faults.sources.chain.ChainEntries.{ChainEntries}
 use Rattle.dnsv_explain.proofs.faults.sources.words.is_empty.Goals as goal
 

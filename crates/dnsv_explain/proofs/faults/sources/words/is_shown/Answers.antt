@@ -1,5 +1,5 @@
 use Rattle.std.proofs.Common.{◌↔◌, IsTrue, subst, sym}
-use Rattle.dnsv_explain.specs.faults.SourceSearch.{IsShownBy}
+use Rattle.dnsv_explain.specs.faults.Sources.SourceSearch.{IsShownBy}
 use Rattle.dnsv_explain.specs.declared.faults.sources.chain.ChainEntries.{ChainEntries}
 use Rattle.dnsv_explain.proofs.faults.sources.words.is_shown.Goals as goal
 
