@@ -37,9 +37,19 @@ def interrupted(*words):
         process = subprocess.Popen([*map(str, words), path], stdout=subprocess.PIPE, stderr=subprocess.PIPE,
                                    preexec_fn=interruptible)
         with writer_of(path, process):
-            process.send_signal(signal.SIGINT)
-            output, errors = process.communicate(timeout=60)
+            output, errors = interrupt(process)
     return process.returncode, output, errors.decode()
+
+
+def interrupt(process):
+    """What it printed until it ended. A signal right before it reads is seen only once the next one ends the read."""
+    for _ in range(12):
+        process.send_signal(signal.SIGINT)
+        try:
+            return process.communicate(timeout=5)
+        except subprocess.TimeoutExpired:
+            pass
+    raise AssertionError("it doesn't end")
 
 
 def with_closed_pipe(stream, *words):

@@ -18,13 +18,13 @@ ghost use Rattle.dnssec_check.specs.declared.status.Refusal.{Refusal};
 
 use dnsv_canonical::{evidence_or_one_refusal, one_signed_data, rrsets_are_well_formed};
 use dnsv_chain::a_text_is_one_list_of_anchors;
+use dnsv_explain::a_report_has_one_explanation;
 use dnsv_message::{
     message_or_fault, no_fault_of_a_message, no_fault_of_memory, one_answer, one_fault, one_message,
 };
 use dnsv_names::{a_text_has_one_list_of_lines, a_text_has_one_reading};
 use dnsv_records::record_laws;
 use dnsv_tsig::{one_answer as one_opened, one_ring_or_fault};
-use dnsv_explain::a_report_has_one_explanation;
 use dnsv_verdict::a_question_leads_one_way;
 use dnsv_verifier::a_table_is_its_verifier;
 

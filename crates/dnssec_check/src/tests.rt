@@ -6,13 +6,15 @@
 //! or `octets HEX..`, a word each. Behind these lines stand those that the rows of a file share: of files with one path, and
 //! of command lines, the first counts.
 //! Behind them stands how the program has to end: `=> STATUS`, and then what it prints, on the standard error behind `! `;
-//! or lines `~ TEXT`, which have to stand somewhere in what is printed.
+//! or lines `~ TEXT`, which have to stand somewhere in what is printed. Only how often a verifier is asked no row can say
+//! (`asking`).
 use crate::program::exit_status_on;
 use crate::samples::hex_named;
 use std::alloc::Global;
 use std::process::Abort;
 use std::test::Fail;
 
+mod asking;
 mod captures;
 mod checking;
 mod command_line;
@@ -43,6 +45,12 @@ fn checks_as_the_rows_say(rt: HostRuntime) -> Result<(), Fail> {
 #[test]
 fn explains_as_the_rows_say(rt: HostRuntime) -> Result<(), Fail> {
     meets(&rt, "", explaining::ROWS)
+}
+
+#[test]
+fn a_verifier_is_asked_once_for_each_entry(rt: HostRuntime) -> Result<(), Fail> {
+    assert!(rt; asking::is_asked_once_for_each(rt.alloc())?);
+    Ok(())
 }
 
 #[test]

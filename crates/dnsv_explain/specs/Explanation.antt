@@ -1,6 +1,6 @@
--- What is explained of a verdict: what holds for each link of the way and at the last name, from when to when that holds,
--- and where the RRsets stand that it names.
-use Rattle.std.specs.Prelude.{◌≡◌, ◌+◌, ℕ, List, [], ◌∷◌, Option, Some, None, map}
+-- What is explained of a verdict: what fails, where nothing is proved; what holds for each link of the way and at the last
+-- name; from when to when that holds; and where the RRsets stand that it names.
+use Rattle.std.specs.Prelude.{◌≡◌, ◌+◌, ℕ, List, [], ◌∷◌, ◌++◌, Option, Some, None, map}
 use Rattle.dnsv_names.specs.Name.{Labels, rightmost}
 use Rattle.dnsv_records.specs.Rrsig.{IsRrsig}
 use Rattle.dnsv_records.specs.declared.rrsig.Rrsig.{Rrsig}
@@ -27,6 +27,8 @@ use Rattle.dnsv_explain.specs.Places.{ArePlacesOf, ArePlacesTold}
 use Rattle.dnsv_explain.specs.Saying.{AreBoth, AreEach}
 use Rattle.dnsv_explain.specs.derivations.HeldTo.{IsHeldTo}
 use Rattle.dnsv_explain.specs.derivations.OwnDerivations.{IsSignatureTold, IsTrustIn}
+use Rattle.dnsv_explain.specs.faults.KeyLines.{AreLinesOfKeysAsked}
+use Rattle.dnsv_explain.specs.faults.Order.{AreFaultLines}
 use Rattle.dnsv_explain.specs.intervals.Holding.{IsHoldingOf}
 use Rattle.dnsv_explain.specs.unsigned_cuts.ShownCuts.{IsCutShownBy, IsCutTold, IsUnsignedTold}
 use Rattle.dnsv_explain.specs.declared.interval.Interval.{Interval}
@@ -141,6 +143,22 @@ IsVerdictTold explained name t Bogus = IsHeldTo (setting_in explained) name
 IsVerdictTold explained name t Indeterminate = IsHeldTo (setting_in explained) name
 IsVerdictTold explained name t verdict = IsSettledTold (setting_in explained) name t verdict
 
+-- ---- what fails
+
+-- nothing is proved
+abbrev pub IsUnproved : Verdict → Type 0
+IsUnproved Bogus = Unit {0}
+IsUnproved Indeterminate = Unit {0}
+IsUnproved _ = ⊥
+
+-- what fails of the question, and the keys that this is a matter of
+pub record IsFailureTold (setting : Setting) (name : Labels) (t : ℕ) (before lines : List Line) : Type 0 where
+  pub faults : List Line
+  pub of_faults : AreFaultLines setting name t faults
+  pub keys : List Line
+  pub of_keys : AreLinesOfKeysAsked setting faults keys
+  pub are : lines ≡ faults ++ keys
+
 -- ---- the whole
 
 -- what holds for each link in order, and then for the verdict at the last name
@@ -164,10 +182,18 @@ IsEndTold explained Bogus = ArePlacesTold explained.rrsets
 IsEndTold explained Indeterminate = ArePlacesTold explained.rrsets
 IsEndTold explained verdict = IsEnd explained.rrsets explained.table.moment
 
--- the explanation of the verdict at the end of the way
+-- what holds, and the last lines
+abbrev pub IsHoldingTold : Explained → ℕ → List Link → Labels → Verdict → List Line → List Line → Type 0
+IsHoldingTold explained t links last verdict =
+    AreBoth (IsWayTold explained t links last verdict) (IsEndTold explained verdict)
+
+-- the explanation of the verdict at the end of the way: where nothing is proved, what fails comes first
 abbrev pub IsExplanation : Explained → ℕ → List Link → Labels → Verdict → List Line → Type 0
-IsExplanation explained t links last verdict =
-    AreBoth (IsWayTold explained t links last verdict) (IsEndTold explained verdict) []
+IsExplanation explained t links last Bogus =
+    AreBoth (IsFailureTold (setting_in explained) last t) (IsHoldingTold explained t links last Bogus) []
+IsExplanation explained t links last Indeterminate =
+    AreBoth (IsFailureTold (setting_in explained) last t) (IsHoldingTold explained t links last Indeterminate) []
+IsExplanation explained t links last verdict = IsHoldingTold explained t links last verdict []
 
 -- by what each line of it follows from those before: under hope, where that is told
 abbrev pub its_setting : Explained → Verdict → Setting

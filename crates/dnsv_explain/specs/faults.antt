@@ -13,5 +13,4 @@ pub mod SignatureFaults
 pub mod Sources
 pub mod Truth
 pub mod ZoneLines
-pub mod ZoneSearch
 pub mod Zones

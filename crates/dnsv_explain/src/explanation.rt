@@ -2,6 +2,7 @@
 
 pub mod at;
 mod end;
+mod failure;
 mod held;
 mod told;
 mod verdict;
@@ -14,12 +15,13 @@ ghost use Rattle.dnsv_verdict.specs.Report.{IsKept, IsReport, Refuses};
 ghost use Rattle.dnsv_verdict.specs.Verdict.{basis_of};
 ghost use Rattle.dnsv_verdict.specs.Way.{IsVerdictOf};
 ghost use Rattle.dnsv_explain.specs.Explained.{explained_by, setting_in};
-ghost use Rattle.dnsv_explain.specs.Explanation.{IsExplanation, IsExplanationOf, IsLinkTold};
+ghost use Rattle.dnsv_explain.specs.Explanation.{IsExplanation, IsExplanationOf, IsLinkTold, IsUnproved};
 ghost use Rattle.dnsv_explain.specs.Saying.{Adds, AreEach};
 
 use crate::evidence::Evidence;
 use crate::explanation::at::{At, evidence_of};
 use crate::explanation::end::{add_end, add_places_named};
+use crate::explanation::failure::{add_failure, is_unproved};
 use crate::explanation::told::add_set;
 use crate::explanation::verdict::{add_verdict, is_settled};
 use crate::line::Line;
@@ -58,7 +60,8 @@ impl Explanation {
 
 /// The verdict on a question, as `validate` gives it, and why it stands: what holds for each link of the way and for the
 /// verdict at the last name, and where the RRsets stand. Of a verdict that needs no more answers it is told how long the
-/// signatures hold that show it, of one that depends on answers what may be hoped, and of others how far trust holds.
+/// signatures hold that show it, of one that depends on answers what may be hoped, and of Bogus and Indeterminate first
+/// what fails, with the keys that this is a matter of, and then how far trust holds.
 pub fn explain<V: Verifier>(
     alloc: Global,
     capture: &Capture,
@@ -94,9 +97,11 @@ fn explanation_of(
     ensures { IfOk result (IsExplanation (explained_by judged.now.grounds []) rtype.0 judged.now.report.links
         judged.now.report.last judged.now.report.verdict) }
 {
+    if is_unproved(&judged.report.verdict) {
+        return Ok(failed(alloc, judged, rtype)?);
+    }
     let evidence = evidence_of(&judged.grounds, None);
     let mut lines = Vec::new(alloc);
-    // What fails is told before these.
     add_links(alloc, &evidence, judged, &mut lines, rtype)?;
     let hashes = &judged.hashes[judged.report.links.as_slice().len()];
     add_verdict(alloc, &evidence, judged, hashes, &mut lines, rtype)?;
@@ -105,6 +110,32 @@ fn explanation_of(
         return Ok(Explanation { lines });
     }
     add_end(alloc, &evidence, &mut lines)?;
+    Ok(Explanation { lines })
+}
+
+/// Why nothing is proved: what fails, and then what holds.
+fn failed(alloc: Global, judged: &Judged<'_>, rtype: RecordType) -> Result<Explanation, AllocError>
+    requires trust { HasTrust judged.now.grounds }
+    requires kept { IsKept judged.now.grounds rtype.0 judged.now.report.links judged.now.report.last
+        judged.now.report.verdict judged.now.hashes.items judged.now.hope }
+    requires verdict { (name : Labels) × IsVerdictOf (basis_by judged.now.grounds) name rtype.0 judged.now.report.links
+        judged.now.report.last judged.now.report.verdict }
+    requires unproved { IsUnproved judged.now.report.verdict }
+    ensures { IfOk result (IsExplanation (explained_by judged.now.grounds []) rtype.0 judged.now.report.links
+        judged.now.report.last judged.now.report.verdict) }
+{
+    let evidence = evidence_of(&judged.grounds, None);
+    let mut lines = Vec::new(alloc);
+    let last = &judged.hashes[judged.report.links.as_slice().len()];
+    let at = At {
+        grounds: &judged.grounds,
+        hashes: last,
+        name: &judged.report.last,
+    };
+    add_failure(alloc, &evidence, &at, &mut lines, rtype)?;
+    add_links(alloc, &evidence, judged, &mut lines, rtype)?;
+    add_verdict(alloc, &evidence, judged, last, &mut lines, rtype)?;
+    add_places_named(alloc, &evidence, &mut lines)?;
     Ok(Explanation { lines })
 }
 

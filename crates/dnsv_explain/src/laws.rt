@@ -28,7 +28,7 @@ ghost use Rattle.dnsv_explain.specs.Following.Parts.{IsPartOf, IsUnusableRecord}
 ghost use Rattle.dnsv_explain.specs.faults.Order.{AreFaultLines};
 ghost use Rattle.dnsv_explain.specs.faults.RrsetLines.{AreLinesOfNumber};
 ghost use Rattle.dnsv_explain.specs.faults.Truth.{IsReasonTrue};
-ghost use Rattle.dnsv_explain.specs.faults.ZoneLines.{zone_line};
+ghost use Rattle.dnsv_explain.specs.faults.ZoneLines.{AreZoneLines, zone_line};
 ghost use Rattle.dnsv_explain.specs.intervals.Holding.{AreShownValidAt, IsHolding, IsHoldingOf};
 ghost use Rattle.dnsv_explain.specs.unsigned_cuts.ShownCuts.{IsCutShownBy, IsCutTold};
 ghost use Rattle.dnsv_explain.specs.derivations.Ways.{HasSecured};
@@ -164,9 +164,21 @@ pub fn marked_entries_settle_what_is_hoped()
     trust_depends_on_what_is_asked();
 }
 
+/// All that is said to fail of a question is so: each word is true of what it is said of, by its definition.
+pub fn reasons_are_true()
+    ensures { (setting : Setting) (name : Labels) (t : ℕ) (lines : List Line) → AreFaultLines setting name t lines
+        → (reason : Reason) → Contains lines (Line.Reason reason) → IsReasonTrue setting name t reason }
+{}
+
 /// What is said to fail of an RRset is so: each word is true of what it is said of, by its definition.
 pub fn reasons_of_rrsets_are_true()
     ensures { (setting : Setting) (name : Labels) (t k : ℕ) (lines : List Line) → AreLinesOfNumber setting k lines
+        → (reason : Reason) → Contains lines (Line.Reason reason) → IsReasonTrue setting name t reason }
+{}
+
+/// What is said to fail of an untrusted zone is so: each word is true of what it is said of, by its definition.
+pub fn reasons_of_zones_are_true()
+    ensures { (setting : Setting) (name zone : Labels) (t : ℕ) (lines : List Line) → AreZoneLines setting zone lines
         → (reason : Reason) → Contains lines (Line.Reason reason) → IsReasonTrue setting name t reason }
 {}
 
@@ -177,10 +189,13 @@ pub fn questions_without_an_anchor_fail_for_that()
         → (rest : List Line) × (lines ≡ zone_line WhyZone.NoAnchor name ∷ rest) }
 {}
 
-/// What fails of a question that is Bogus has a reason: not only signers that aren't trusted.
+/// Where a trust anchor is at or above a question's name, nothing says that there is none; and of a question that is
+/// Bogus something fails, not only signers that aren't trusted.
 pub fn bogus_questions_fail_for_a_reason()
-    ensures { (setting : Setting) (name : Labels) (t : ℕ) (lines : List Line)
+    ensures some { (setting : Setting) (name : Labels) (t : ℕ) (lines : List Line)
         → ((rrset : ReceivedRrset) → Contains setting.rrsets rrset → IsWellFormed rrset)
         → IsVerdictAt (basis_of setting.rrsets setting.anchors setting.moment setting.meaning) name t Verdict.Bogus
-        → AreFaultLines setting name t lines → (failed : Reason) × Contains lines (Line.Reason failed) }
+        → AreFaultLines setting name t lines → (reason : Reason) × Contains lines (Line.Reason reason) }
+    ensures other { (setting : Setting) (name : Labels) (t : ℕ) (lines : List Line) → HasAnchor setting.anchors name
+        → AreFaultLines setting name t lines → ¬ Contains lines (zone_line WhyZone.NoAnchor name) }
 {}

@@ -94,6 +94,3 @@ impl fmt::Display for Kind {
         })
     }
 }
-
-#[cfg(test)]
-mod tests;

@@ -194,6 +194,3 @@ fn exact_hashed(hashed: &Count, capture: &Capture, way: &Way) -> u64
     let _links = way.links.as_slice();
     hashed.value()
 }
-
-#[cfg(test)]
-mod tests;

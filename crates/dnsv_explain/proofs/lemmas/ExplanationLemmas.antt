@@ -9,12 +9,12 @@ use Rattle.dnsv_verdict.specs.declared.verdict.Verdict.{Verdict}
 use Rattle.dnsv_verdict.specs.declared.verdict.Verdict.TheVariants.{SecureAnswer, SecureAlias, SecureNoName, SecureNoData, Insecure, Pending, Bogus, Indeterminate}
 use Rattle.dnsv_explain.specs.Denials.IsShownBy.{no_name, no_data, no_closer}
 use Rattle.dnsv_explain.specs.Explained.{Explained, Setting, hoped, setting_in}
-use Rattle.dnsv_explain.specs.Explanation.{IsEnd, IsEndTold, IsExplanation, IsHopeTold, IsLinkTold, IsSetTold, IsSettledTold, IsUnsignedFromTold, IsVerdictTold, IsWayTold, its_setting, signature_of}
+use Rattle.dnsv_explain.specs.Explanation.{IsEnd, IsEndTold, IsExplanation, IsFailureTold, IsHoldingTold, IsHopeTold, IsLinkTold, IsSetTold, IsSettledTold, IsUnsignedFromTold, IsVerdictTold, IsWayTold, its_setting, signature_of}
 use Rattle.dnsv_explain.specs.Explanation.IsSetTold.{as_owned, by_wildcard}
 use Rattle.dnsv_explain.specs.Explanation.IsUnsignedFromTold.{by_cut, by_wildcard as by_open_wildcard}
 use Rattle.dnsv_explain.specs.Following.{EachFollows, IsPlaceOf}
 use Rattle.dnsv_explain.specs.Places.{ArePlacesOf, ArePlacesTold}
-use Rattle.dnsv_explain.specs.Saying.{Adds, AreEach}
+use Rattle.dnsv_explain.specs.Saying.{Adds, AreBoth, AreEach}
 use Rattle.dnsv_explain.specs.derivations.Derivations.Subject.{signature}
 use Rattle.dnsv_explain.specs.intervals.Holding.{AreShownValidAt, IsHoldingOf}
 use Rattle.dnsv_explain.specs.unsigned_cuts.ShownCuts.IsShownUnsigned.{closer_opted_out}
@@ -24,6 +24,7 @@ use Rattle.dnsv_explain.specs.declared.line.Line.TheVariants as line
 use Rattle.dnsv_explain.specs.declared.line.cut.InsecureCase.TheVariants as case
 use Rattle.dnsv_explain.specs.declared.line.derivation.SignatureNumber.{SignatureNumber}
 use Rattle.dnsv_explain.specs.declared.line.place.RrsetPlace.{RrsetPlace}
+use Rattle.dnsv_explain.proofs.lemmas.faults.QuietLemmas.{failure_follows}
 use Rattle.dnsv_explain.proofs.lemmas.HeldLemmas.{held_follows}
 use Rattle.dnsv_explain.proofs.lemmas.HopeLemmas.{still_follow}
 use Rattle.dnsv_explain.proofs.lemmas.denials.FollowLemmas.{behind, both_follow, denial_follows, each_follow, expanded_follows, first_of, unsigned_follows}
@@ -140,11 +141,29 @@ module _ (explained : Explained) where
   last_follows Bogus told lines is = told_places_follow (setting_in explained) told lines is
   last_follows Indeterminate told lines is = told_places_follow (setting_in explained) told lines is
 
+  pub holding_follows : (t : ℕ) (links : List Link) (last : Labels) (verdict : Verdict) (before lines : List Line)
+      → IsHoldingTold explained t links last verdict before lines → EachFollows (its_setting explained verdict) before lines
+  holding_follows t links last verdict before lines is =
+      both_follow (its_setting explained verdict) _ _ before lines is (way_follows t links last verdict before is.first is.says_first)
+      (last_follows verdict (before ++ is.first) is.second is.says_second)
+
+  failed_follows : (t : ℕ) (links : List Link) (last : Labels) (verdict : Verdict) (lines : List Line)
+      → AreBoth (IsFailureTold (setting_in explained) last t) (IsHoldingTold explained t links last verdict) [] lines
+      → EachFollows (its_setting explained verdict) [] lines
+  failed_follows t links last verdict lines is =
+      both_follow (its_setting explained verdict) _ _ [] lines is (failure_follows (its_setting explained verdict) (setting_in explained) last t [] is.first is.says_first)
+      (holding_follows t links last verdict is.first is.second is.says_second)
+
   pub explanation_follows : (t : ℕ) (links : List Link) (last : Labels) (verdict : Verdict) (lines : List Line)
       → IsExplanation explained t links last verdict lines → EachFollows (its_setting explained verdict) [] lines
-  explanation_follows t links last verdict lines is =
-      both_follow (its_setting explained verdict) _ _ [] lines is (way_follows t links last verdict [] is.first is.says_first)
-      (last_follows verdict is.first is.second is.says_second)
+  explanation_follows t links last (SecureAnswer k s) lines is = holding_follows t links last (SecureAnswer k s) [] lines is
+  explanation_follows t links last (SecureAlias k s) lines is = holding_follows t links last (SecureAlias k s) [] lines is
+  explanation_follows t links last (SecureNoName proof) lines is = holding_follows t links last (SecureNoName proof) [] lines is
+  explanation_follows t links last (SecureNoData proof) lines is = holding_follows t links last (SecureNoData proof) [] lines is
+  explanation_follows t links last (Insecure cut) lines is = holding_follows t links last (Insecure cut) [] lines is
+  explanation_follows t links last (Pending unknown) lines is = holding_follows t links last (Pending unknown) [] lines is
+  explanation_follows t links last Bogus lines is = failed_follows t links last Bogus lines is
+  explanation_follows t links last Indeterminate lines is = failed_follows t links last Indeterminate lines is
 
 -- ---- the last lines
 

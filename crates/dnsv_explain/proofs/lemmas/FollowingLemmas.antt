@@ -157,6 +157,9 @@ module _ (setting : Setting) where
   true_line before all (line.Unusable ds) follows = (follows.0, secured_said before all ds.number.rrset follows.1)
   true_line before all (line.Hope kind) follows = tt
   true_line before all (line.Holds interval) follows = tt
+  true_line before all (line.Reason reason) follows = tt
+  true_line before all (line.Follows untrusted) follows = tt
+  true_line before all (line.Key key) follows = tt
   true_line before all (line.Rrset place) follows = tt
 
   more_true : (before : List Line) (each : Line) → AreTrue before → IsTrue each → AreTrue (before ++ each ∷ [])

@@ -7,13 +7,24 @@ use Rattle.dnsv_verdict.specs.declared.link.Link.{Link}
 use Rattle.dnsv_verdict.specs.declared.verdict.Verdict.{Verdict}
 use Rattle.dnsv_verdict.specs.declared.verdict.Verdict.TheVariants.{SecureAnswer, SecureAlias, SecureNoName, SecureNoData, Insecure, Pending, Bogus, Indeterminate}
 use Rattle.dnsv_explain.specs.Explained.{Explained, explained_by, setting_in}
-use Rattle.dnsv_explain.specs.Explanation.{IsEnd, IsEndTold, IsExplanation, IsLinkTold, IsVerdictTold, IsWayTold, its_setting}
+use Rattle.dnsv_explain.specs.Explanation.{IsEnd, IsEndTold, IsExplanation, IsFailureTold, IsHoldingTold, IsLinkTold, IsUnproved, IsVerdictTold, IsWayTold, its_setting}
 use Rattle.dnsv_explain.specs.Following.{EachFollows}
 use Rattle.dnsv_explain.specs.Places.{ArePlacesTold}
 use Rattle.dnsv_explain.specs.Saying.{Adds, AreBoth, AreEach}
 use Rattle.dnsv_explain.specs.declared.line.Line.{Line}
 use Rattle.dnsv_explain.proofs.lemmas.ExplanationLemmas.{way_follows}
 use Rattle.dnsv_explain.proofs.lemmas.SayingLemmas.{both_added}
+
+-- what needs no more answers is proved
+pub settled_apart : (verdict : Verdict) → IsSettledVerdict verdict → ¬ IsUnproved verdict
+settled_apart (SecureAnswer k s) settled unproved = unproved
+settled_apart (SecureAlias k s) settled unproved = unproved
+settled_apart (SecureNoName proof) settled unproved = unproved
+settled_apart (SecureNoData proof) settled unproved = unproved
+settled_apart (Insecure cut) settled unproved = unproved
+settled_apart (Pending unknown) settled unproved = unproved
+settled_apart Bogus settled unproved = settled
+settled_apart Indeterminate settled unproved = settled
 
 module _ (explained : Explained) where
   in_setting : (verdict : Verdict) (lines : List Line) → IsSettledVerdict verdict → EachFollows (its_setting explained verdict) [] lines
@@ -49,6 +60,29 @@ module _ (explained : Explained) where
   places_as Bogus old new open_still added = added
   places_as Indeterminate old new open_still added = added
 
+  holding_is : (t : ℕ) (links : List Link) (last : Labels) (verdict : Verdict) → ¬ IsUnproved verdict → (lines : List Line)
+      → IsHoldingTold explained t links last verdict [] lines → IsExplanation explained t links last verdict lines
+  holding_is t links last (SecureAnswer k s) apart lines is = is
+  holding_is t links last (SecureAlias k s) apart lines is = is
+  holding_is t links last (SecureNoName proof) apart lines is = is
+  holding_is t links last (SecureNoData proof) apart lines is = is
+  holding_is t links last (Insecure cut) apart lines is = is
+  holding_is t links last (Pending unknown) apart lines is = is
+  holding_is t links last Bogus apart lines is = absurd (apart tt)
+  holding_is t links last Indeterminate apart lines is = absurd (apart tt)
+
+  failure_is : (t : ℕ) (links : List Link) (last : Labels) (verdict : Verdict) → IsUnproved verdict → (lines : List Line)
+      → AreBoth (IsFailureTold (setting_in explained) last t) (IsHoldingTold explained t links last verdict) [] lines
+      → IsExplanation explained t links last verdict lines
+  failure_is t links last (SecureAnswer k s) unproved lines is = absurd unproved
+  failure_is t links last (SecureAlias k s) unproved lines is = absurd unproved
+  failure_is t links last (SecureNoName proof) unproved lines is = absurd unproved
+  failure_is t links last (SecureNoData proof) unproved lines is = absurd unproved
+  failure_is t links last (Insecure cut) unproved lines is = absurd unproved
+  failure_is t links last (Pending unknown) unproved lines is = absurd unproved
+  failure_is t links last Bogus unproved lines is = is
+  failure_is t links last Indeterminate unproved lines is = is
+
   module _ (t : ℕ) (links : List Link) (last : Labels) (verdict : Verdict) where
     pub way_added : (old mid new : List Line) → Adds (AreEach (IsLinkTold (setting_in explained)) links) old mid
         → Adds (IsVerdictTold explained last t verdict) mid new → Adds (IsWayTold explained t links last verdict) old new
@@ -64,25 +98,50 @@ module _ (explained : Explained) where
         (subst Lines (sym (added.is ∙ ap (λ front. front ++ added.more) empty))
         (way_follows explained t links last verdict [] added.more (subst Before empty added.says)))
 
-    whole : (old mid new : List Line) → old ≡ [] → Adds (IsWayTold explained t links last verdict) old mid
+    -- behind no lines
+    first_said : (Says : List Line → List Line → Type 0) (old new : List Line) → old ≡ [] → Adds Says old new → Says [] new
+    first_said Says old new empty added =
+        let all : new ≡ added.more = added.is ∙ ap (λ front. front ++ added.more) empty in
+        subst (λ each. Says [] each) (sym all) (subst (λ each. Says each added.more) empty added.says)
+
+    whole : (old mid new : List Line) → old ≡ [] → ¬ IsUnproved verdict → Adds (IsWayTold explained t links last verdict) old mid
         → Adds (IsEndTold explained verdict) mid new → IsExplanation explained t links last verdict new
-    whole old mid new empty way end =
-        let both = both_added (IsWayTold explained t links last verdict) (IsEndTold explained verdict) old mid new way end in
-        let Says : List Line → List Line → Type 0 = AreBoth (IsWayTold explained t links last verdict) (IsEndTold explained verdict) in
-        let all : new ≡ both.more = both.is ∙ ap (λ front. front ++ both.more) empty in
-        subst (λ each. Says [] each) (sym all) (subst (λ each. Says each both.more) empty both.says)
+    whole old mid new empty apart way end =
+        let Way : List Line → List Line → Type 0 = IsWayTold explained t links last verdict in
+        let End : List Line → List Line → Type 0 = IsEndTold explained verdict in
+        holding_is t links last verdict apart new
+        (first_said (IsHoldingTold explained t links last verdict) old new empty (both_added Way End old mid new way end))
+
+    failed_whole : (old faults mid new : List Line) → old ≡ [] → IsUnproved verdict
+        → Adds (IsFailureTold (setting_in explained) last t) old faults → Adds (IsWayTold explained t links last verdict) faults mid
+        → Adds (IsEndTold explained verdict) mid new → IsExplanation explained t links last verdict new
+    failed_whole old faults mid new empty unproved failure way end =
+        let Way : List Line → List Line → Type 0 = IsWayTold explained t links last verdict in
+        let End : List Line → List Line → Type 0 = IsEndTold explained verdict in
+        let Failure : List Line → List Line → Type 0 = IsFailureTold (setting_in explained) last t in
+        let Rest : List Line → List Line → Type 0 = IsHoldingTold explained t links last verdict in
+        failure_is t links last verdict unproved new
+        (first_said (AreBoth Failure Rest) old new empty (both_added Failure Rest old faults new failure (both_added Way End faults mid new way end)))
 
 module _ (explained : Explained) (grounds : Grounds) (same : explained ≡ explained_by grounds []) (t : ℕ) (links : List Link)
     (last : Labels) (verdict : Verdict) (old mid new : List Line) (empty : old ≡ []) where
   abbrev Whole : Explained → Type 0
   Whole each = IsExplanation each t links last verdict new
 
-  pub open_ended : ¬ IsSettledVerdict verdict → Adds (IsWayTold explained t links last verdict) old mid
+  pub open_ended : ¬ IsUnproved verdict → ¬ IsSettledVerdict verdict → Adds (IsWayTold explained t links last verdict) old mid
       → Adds (ArePlacesTold explained.rrsets) mid new → IsExplanation (explained_by grounds []) t links last verdict new
-  open_ended open_still way places =
-      subst Whole same (whole explained t links last verdict old mid new empty way (places_as explained verdict mid new open_still places))
+  open_ended apart open_still way places =
+      subst Whole same (whole explained t links last verdict old mid new empty apart way (places_as explained verdict mid new open_still places))
 
   pub settled_ended : IsSettledVerdict verdict → Adds (IsWayTold explained t links last verdict) old mid
       → Adds (IsEnd explained.rrsets explained.table.moment) mid new → IsExplanation (explained_by grounds []) t links last verdict new
   settled_ended settled way end =
-      subst Whole same (whole explained t links last verdict old mid new empty way (end_as explained verdict mid new settled end))
+      subst Whole same (whole explained t links last verdict old mid new empty (settled_apart verdict settled) way (end_as explained verdict mid new settled end))
+
+  -- where nothing is proved, with what fails before
+  pub failed_ended : (faults : List Line) → IsUnproved verdict → Adds (IsFailureTold (setting_in explained) last t) old faults
+      → Adds (IsWayTold explained t links last verdict) faults mid → Adds (ArePlacesTold explained.rrsets) mid new
+      → IsExplanation (explained_by grounds []) t links last verdict new
+  failed_ended faults unproved failure way places =
+      subst Whole same (failed_whole explained t links last verdict old faults mid new empty unproved failure way
+      (places_as explained verdict mid new (λ settled. settled_apart verdict settled unproved) places))

@@ -3,6 +3,7 @@ pub mod KeyLemmas
 pub mod ListingLemmas
 pub mod LowestLemmas
 pub mod MovedLemmas
+pub mod QuietLemmas
 pub mod RemarkLemmas
 pub mod ShownKeyLemmas
 pub mod SignatureLemmas
@@ -10,5 +11,8 @@ pub mod TrustLemmas
 pub mod TruthLemmas
 pub mod VerifierLemmas
 pub mod WordLemmas
+pub mod one
 pub mod question
+pub mod sources
+pub mod truth
 pub mod zones

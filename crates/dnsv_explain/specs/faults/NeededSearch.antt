@@ -116,10 +116,11 @@ pub record IsNeededBy (setting : Setting) (name : Labels) (t : ℕ) (numbers : L
   pub untrusted : ¬ IsTrustedZone setting (rightmost name labels)
   pub above : IsAbove name (NeedsAbove setting name t (rightmost name labels)) n
 
--- the line says that a signer isn't trusted only where that is to be said
+-- the line is a reason, or says that a signer isn't trusted where that is to be said
 abbrev pub IsSaidWhere : Bool → Line → Type 0
+IsSaidWhere anchored (line.Reason reason) = Unit {0}
 IsSaidWhere anchored (line.Follows untrusted) = IsTrue anchored
-IsSaidWhere anchored _ = Unit {0}
+IsSaidWhere anchored _ = ⊥
 
 -- the number, if it is so
 pub record IsNumberWhere (Holds : Type 0) (number n : ℕ) : Type 0 where

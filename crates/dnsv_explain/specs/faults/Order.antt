@@ -1,6 +1,7 @@
 -- What fails of a question that nothing answers, in order: the first link that fails, seen from the trust anchor, comes
 -- first.
-use Rattle.std.specs.Prelude.{◌≡◌, ◌≢◌, ◌⊎◌, ◌↔◌, ◌+◌, ◌<◌, ◌≤◌, ℕ, Bool, List, [], ◌∷◌, ◌++◌, Option, Some, None, Contains, length, map, reverse}
+use Rattle.std.specs.Prelude.{◌≡◌, ◌≢◌, ◌⊎◌, ◌↔◌, ◌+◌, ◌<◌, ◌≤◌, ℕ, Bool, List, [], ◌∷◌, ◌++◌, Option, Some, None, Contains, length, map}
+use Rattle.std.specs.List.Sorted.{IsStrictlySortedBy}
 use Rattle.std.specs.Str.{bytes_eq}
 use Rattle.dnsv_names.specs.Name.{Labels, SameName, IsAtOrBelow, rightmost}
 use Rattle.dnsv_names.specs.Order.{IsBelow}
@@ -10,7 +11,7 @@ use Rattle.dnsv_records.specs.Nsec3.{IsNsec3}
 use Rattle.dnsv_records.specs.Rrsig.{IsRrsig}
 use Rattle.dnsv_records.specs.declared.nsec3.Nsec3.{Nsec3}
 use Rattle.dnsv_records.specs.declared.rrsig.Rrsig.{Rrsig}
-use Rattle.dnsv_zones.specs.chains.Nsec3Chain.{Nsec3Record}
+use Rattle.dnsv_zones.specs.chains.Nsec3Chain.{Nsec3Record, Parameters}
 use Rattle.dnsv_zones.specs.chains.NsecChain.{NsecRecord}
 use Rattle.dnsv_zones.specs.zones.TypeNumbers.{dname, nsec}
 use Rattle.dnsv_canonical.specs.Canonical.{IsCanonical}
@@ -19,7 +20,7 @@ use Rattle.dnsv_canonical.specs.Rrsets.{IsNumbered, ReceivedRrset, first_appeara
 use Rattle.dnsv_canonical.specs.SignedData.{IsExpanded}
 use Rattle.dnsv_denial.specs.gathering.Evidence.{IsNsecAt, IsNsec3At}
 use Rattle.dnsv_denial.specs.proving.FirstProof.{CanProveNoCloser}
-use Rattle.dnsv_denial.specs.words.EvidenceWords.{Chain, GoesBefore, evidence_said}
+use Rattle.dnsv_denial.specs.words.EvidenceWords.{Chain, evidence_said, parameters_cmp}
 use Rattle.dnsv_denial.specs.words.EvidenceWords.Chain.{ByNsec, ByNsec3}
 use Rattle.dnsv_denial.specs.declared.records.number.RecordNumber.{RecordNumber}
 use Rattle.dnsv_verdict.specs.Verdict.{HasAnchor}
@@ -185,30 +186,45 @@ HasRecords setting zone (ByNsec3 parameters) =
     (number : RecordNumber) × (nsec3 : Nsec3Record) × IsNsec3At (SecuredIn setting) setting.rrsets zone number nsec3
     × (nsec3.parameters ≡ parameters)
 
--- the chains of the zone of which records are there, NSEC before NSEC3, and these by their parameters
-pub record AreSources (setting : Setting) (zone : Labels) (chains : List Chain) : Type 0 where
-  pub ordered : (i j : ℕ) (a b : Chain) → IsNumbered chains i a → IsNumbered chains j b → i < j → GoesBefore a b
-  pub members : (chain : Chain) → Contains chains chain ↔ HasRecords setting zone chain
+-- those of the zone's NSEC3 records are among the parameters, which are in order
+pub record AreParametersOf (setting : Setting) (zone : Labels) (all : List Parameters) : Type 0 where
+  pub rising : IsStrictlySortedBy parameters_cmp all
+  pub members : (number : RecordNumber) (nsec3 : Nsec3Record)
+      → IsNsec3At (SecuredIn setting) setting.rrsets zone number nsec3 → Contains all nsec3.parameters
+
+-- NSEC before NSEC3, and these by their parameters
+abbrev pub chains_by : List Parameters → List Chain
+chains_by all = ByNsec ∷ map ByNsec3 all
+
+-- records of the chain are there, and the zone should speak or one of them is closed and above the name
+pub record IsLackingChain (setting : Setting) (name speaker zone : Labels) (chain : Chain) : Type 0 where
+  pub records : HasRecords setting zone chain
+  pub speaks : SameName zone speaker
+      ⊎ HasClosedAbove (evidence_said (SecuredIn setting) setting.rrsets zone chain) zone name
 
 -- what is said of a chain of the zone that should speak, and of one above it the first case alone
 abbrev pub AreLinesOfChain : Setting → Labels → ℕ → Labels → Labels → Chain → List Line → Type 0
-AreLinesOfChain setting name t speaker zone chain lines =
-    (source : Source) × IsSourceOf zone chain source
-    × AreWhere (SameName zone speaker ⊎ HasClosedAbove (evidence_said (SecuredIn setting) setting.rrsets zone chain) zone name)
-    (AreSourceLines (evidence_said (SecuredIn setting) setting.rrsets zone chain) source zone name t) lines
+AreLinesOfChain setting name t speaker zone chain =
+    AreWhere (IsLackingChain setting name speaker zone chain) (λ lines. (source : Source) × IsSourceOf zone chain source
+    × AreSourceLines (evidence_said (SecuredIn setting) setting.rrsets zone chain) source zone name t lines)
 
 -- of the zone, if it is the one that should speak or above it
 abbrev pub AreLinesOfSources : Setting → Labels → ℕ → Labels → Labels → List Line → Type 0
 AreLinesOfSources setting name t speaker zone =
     AreWhere (IsAtOrBelow speaker zone)
-    (λ lines. (chains : List Chain) × AreSources setting zone chains
-    × AreOfEach (AreLinesOfChain setting name t speaker zone) chains lines)
+    (λ lines. (all : List Parameters) × AreParametersOf setting zone all
+    × AreOfEach (AreLinesOfChain setting name t speaker zone) (chains_by all) lines)
+
+-- the names at and above the name, the root last
+abbrev pub names_up : Labels → List Labels
+names_up [] = [] ∷ []
+names_up (label ∷ labels) = (label ∷ labels) ∷ names_up labels
 
 -- of the zone that should speak, and then of those above it
 abbrev pub AreLacking : Setting → Labels → ℕ → List Line → Type 0
 AreLacking setting name t =
     AreWhere ((zone : Labels) × IsSpeaker setting name t zone) (λ lines. (speaker : Labels) × IsSpeaker setting name t speaker
-    × AreOfEach (AreLinesOfSources setting name t speaker) (reverse (names_down name)) lines)
+    × AreOfEach (AreLinesOfSources setting name t speaker) (names_up name) lines)
 
 -- ---- 8: the question
 
@@ -265,10 +281,11 @@ pub record AreFaultParts (setting : Setting) (name : Labels) (t : ℕ) (lines : 
   pub of_ends : AreEndLines setting name t ends
   pub all : lines ≡ zones ++ dnames ++ goals ++ denials ++ closers ++ lacking ++ ends
 
--- where no anchor is at or above the name, it isn't said that signers aren't trusted
+-- reasons, and where an anchor is at or above the name, that signers aren't trusted
 abbrev pub IsSaid : Setting → Labels → Line → Type 0
+IsSaid setting name (line.Reason reason) = Unit {0}
 IsSaid setting name (line.Follows untrusted) = HasAnchor setting.anchors name
-IsSaid setting name _ = Unit {0}
+IsSaid setting name _ = ⊥
 
 -- whether two lines have one text
 abbrev pub same_text : Line → Line → Bool

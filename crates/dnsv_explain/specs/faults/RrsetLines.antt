@@ -96,7 +96,7 @@ AreLinesOfEach setting k rrset = AreOfNumbered (AreLinesAt setting k rrset) 1 rr
 -- of each.
 pub data AreRrsetLines (setting : Setting) (k : ℕ) (rrset : ReceivedRrset) : List Line → Type 0 where
   secured : HasSecured setting k → AreRrsetLines setting k rrset []
-  unsigned : rrset.signatures ≡ [] → AreRrsetLines setting k rrset (unsigned_line k rrset ∷ [])
+  unsigned : ¬ HasSecured setting k → rrset.signatures ≡ [] → AreRrsetLines setting k rrset (unsigned_line k rrset ∷ [])
   unproved : (lines : List Line) → ¬ HasSecured setting k → rrset.signatures ≢ []
       → AreLinesOfEach setting k rrset lines → AreRrsetLines setting k rrset lines
 

@@ -1,5 +1,6 @@
 -- What the records of a zone lack to prove a denial, and which of them say what is asked (RFC 4035 5.4, RFC 5155 8).
-use Rattle.std.specs.Prelude.{◌≡◌, ◌≢◌, ◌⊎◌, ◌↔◌, ◌+◌, ◌<◌, ◌≤◌, ℕ, List, [], ◌∷◌, Option, Some, None, Contains, length}
+pub mod SourceSearch
+use Rattle.std.specs.Prelude.{◌≡◌, ◌≢◌, ◌⊎◌, ◌↔◌, ◌+◌, ◌<◌, ℕ, List, [], ◌∷◌, Option, Some, None, Contains, length}
 use Rattle.std.specs.List.Sorted.{IsStrictlySortedBy}
 use Rattle.dnsv_names.specs.Name.{Labels, SameName, IsAtOrBelow, rightmost}
 use Rattle.dnsv_names.specs.Order.{IsBelow}
@@ -70,35 +71,35 @@ pub record IsSourceOf (zone : Labels) (chain : Chain) (source : Source) : Type 0
 abbrev pub source_line : Source → Labels → WhySource → Line
 source_line source name why = line.Reason (reason.Source (record { why = why; source = source; name = name }))
 
--- the first type of these that the record at the name holds: what is asked, or CNAME; where DS is asked, SOA
-pub data IsHeld (said : RecordWords RecordNumber) (name : Labels) (t : ℕ) (number : RecordNumber)
-    : Option RecordType → Type 0 where
-  asked : said.TypesAt name (λ has. has t) number → IsHeld said name t number (Some (record { 0 = t }))
-  alias : ¬ said.TypesAt name (λ has. has t) number → said.TypesAt name (λ has. has cname) number
-      → IsHeld said name t number (Some (record { 0 = cname }))
-  apex : ¬ said.TypesAt name (λ has. has t) number → ¬ said.TypesAt name (λ has. has cname) number → t ≡ ds
-      → said.TypesAt name (λ has. has soa) number → IsHeld said name t number (Some (record { 0 = soa }))
-  none : ¬ said.TypesAt name (λ has. has t) number → ¬ said.TypesAt name (λ has. has cname) number
-      → (t ≡ ds → ¬ said.TypesAt name (λ has. has soa) number) → IsHeld said name t number None
+-- the first type of these that is held: what is asked, or CNAME; where DS is asked, SOA
+pub data IsHeld (has : ℕ → Type 0) (t : ℕ) : Option RecordType → Type 0 where
+  asked : has t → IsHeld has t (Some (record { 0 = t }))
+  alias : ¬ has t → has cname → IsHeld has t (Some (record { 0 = cname }))
+  apex : ¬ has t → ¬ has cname → t ≡ ds → has soa → IsHeld has t (Some (record { 0 = soa }))
+  none : ¬ has t → ¬ has cname → (t ≡ ds → ¬ has soa) → IsHeld has t None
 
 -- why the record at the name doesn't deny the type
 abbrev pub why_held : RecordNumber → Option RecordType → WhySource
 why_held number (Some rtype) = why.TypeHeld number rtype
 why_held number None = why.Delegation number
 
--- the records at the name, by their numbers
-pub record AreAt (said : RecordWords RecordNumber) (name : Labels) (Such : RecordNumber → Type 0)
-    (numbers : List RecordNumber) : Type 0 where
+-- all records at the name, by their numbers
+pub record AreAt (said : RecordWords RecordNumber) (name : Labels) (numbers : List RecordNumber) : Type 0 where
   pub rising : IsStrictlySortedBy number_cmp numbers
-  pub members : (number : RecordNumber) → Contains numbers number ↔ (IsAt said name number × Such number)
+  pub members : (number : RecordNumber) → Contains numbers number ↔ IsAt said name number
 
--- of each that doesn't deny the type, why
+-- what is said of a record at the name: why it doesn't deny the type, if it doesn't
+pub data AreHeldOf
+    (said : RecordWords RecordNumber) (source : Source) (name : Labels) (t : ℕ) (number : RecordNumber)
+    : List Line → Type 0 where
+  denying : said.TypesAt name (λ has. Denies has t) number → AreHeldOf said source name t number []
+  holding : (held : Option RecordType) → said.TypesAt name (λ has. (¬ Denies has t) × IsHeld has t held) number
+      → AreHeldOf said source name t number (source_line source name (why_held number held) ∷ [])
+
+-- of all of them
 abbrev pub AreHeldLines : RecordWords RecordNumber → Source → Labels → ℕ → List Line → Type 0
 AreHeldLines said source name t lines =
-    (numbers : List RecordNumber)
-    × AreAt said name (λ number. ¬ said.TypesAt name (λ has. Denies has t) number) numbers
-    × AreOfEach (λ number first. (held : Option RecordType) × IsHeld said name t number held
-    × (first ≡ source_line source name (why_held number held) ∷ [])) numbers lines
+    (numbers : List RecordNumber) × AreAt said name numbers × AreOfEach (AreHeldOf said source name t) numbers lines
 
 -- a closed record is at the name's so many labels, strictly below the zone and above the name
 pub record IsClosedAbove (said : RecordWords RecordNumber) (zone name : Labels) (labels : ℕ) : Type 0 where
@@ -115,16 +116,17 @@ pub record IsFirstClosed (said : RecordWords RecordNumber) (zone name : Labels) 
   pub lowest : (other : RecordNumber) → said.TypesAt (rightmost name labels) IsClosed other
       → number_cmp other number ≢ Less
 
+-- that the record at the name is one of DNAME
+abbrev pub dname_record_line : Labels → RecordNumber → Line
+dname_record_line name number =
+    line.Reason (reason.Dname (record { name = name; rrset = number.rrset; place = Some number.place }))
+
 -- what is said of it: a DNAME, or a delegation
 pub data IsClosedLine (said : RecordWords RecordNumber) (source : Source) (name : Labels) (number : RecordNumber)
     : Line → Type 0 where
   by_dname : said.TypesAt name (λ has. has dname) number
-      → IsClosedLine said source name number (line.Reason (reason.Dname (record {
-        name = name;
-        rrset = number.rrset;
-        place = Some number.place;
-      })))
-  by_delegation : ¬ said.TypesAt name (λ has. has dname) number
+      → IsClosedLine said source name number (dname_record_line name number)
+  by_delegation : said.TypesAt name (λ has. ¬ has dname) number
       → IsClosedLine said source name number (source_line source name (why.Delegation number))
 
 -- the longest proper ancestor of the name in the zone that is shown to be there

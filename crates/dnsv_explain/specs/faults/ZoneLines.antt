@@ -1,4 +1,5 @@
 -- What is said of a zone that isn't trusted: what its DS RRsets lack, what matches no key, and which key doesn't sign.
+pub mod ZoneSearch
 use Rattle.std.specs.Prelude.{◌≡◌, ◌≢◌, ◌⊎◌, ℕ, List, [], ◌∷◌, Option, Some, None, Contains, map}
 use Rattle.std.specs.List.{AllZip}
 use Rattle.dnsv_names.specs.Name.{Labels, SameName}

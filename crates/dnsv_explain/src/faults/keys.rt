@@ -5,7 +5,7 @@ ghost use Rattle.dnsv_verifier.specs.Asking.{AddsJust, AreKeysOf, IsKeyOf};
 ghost use Rattle.dnsv_explain.specs.faults.KeySearch.{HasKeyAt, HasNamed, HasNamedZoneKey, IsNamedTo};
 ghost use Rattle.dnsv_explain.specs.faults.Keys.{IsZoneKey};
 ghost use Rattle.dnsv_explain.specs.faults.ZoneLines.{IsKeysAt};
-ghost use Rattle.dnsv_explain.specs.faults.ZoneSearch.{AreKeysAt};
+ghost use Rattle.dnsv_explain.specs.faults.ZoneLines.ZoneSearch.{AreKeysAt};
 
 use dnsv_canonical::Rrset;
 use dnsv_names::{Name, RecordType};

@@ -1,13 +1,13 @@
 //! The lines of the keys of zones in question.
-ghost use Rattle.std.specs.Prelude.{◌≡◌, ◌↔◌, IfOk, IsTrue, OnOk};
+ghost use Rattle.std.specs.Prelude.{◌↔◌, IfOk, IsTrue, OnOk};
 ghost use Rattle.dnsv_canonical.specs.Rrsets.{IsNumbered};
 ghost use Rattle.dnsv_chain.specs.Trusted.{IsKeyOf};
 ghost use Rattle.dnsv_chain.specs.Ds.{IsMatch, IsUsable};
 ghost use Rattle.dnsv_explain.specs.Explained.{setting_in};
 ghost use Rattle.dnsv_explain.specs.Following.{IsGoodUnder};
-ghost use Rattle.dnsv_explain.specs.derivations.WaySearch.{signature_of};
-ghost use Rattle.dnsv_explain.specs.faults.KeyLines.{AreLinesOfKeysAsked, AreLinesOfSet, IsLowestDs, IsLowestOf, IsMatchedByAnchor, IsMatchedByDs, IsShownKey};
-ghost use Rattle.dnsv_explain.specs.faults.Listing.{AddsThose};
+ghost use Rattle.dnsv_explain.specs.derivations.WaySearch.{AreKeysInOrder, signature_of};
+ghost use Rattle.dnsv_explain.specs.faults.KeyLines.{AreLinesOfKeysAsked, AreLinesOfSet, IsKeyLine, IsLowestDs, IsLowestOf, IsMatchedByAnchor, IsMatchedByDs, IsShownKey};
+ghost use Rattle.dnsv_explain.specs.faults.Listing.{AddsThose, AreOfNumbered};
 ghost use Rattle.dnsv_explain.specs.unsigned_cuts.UnsignedCuts.{record_of};
 
 use crate::derivations::ways::keys::{key_name, keys_in_order, lowest_good};
@@ -59,13 +59,49 @@ fn add_set(
         return Ok(());
     }
     let keys = keys_in_order(alloc, set)?;
+    add_keys(alloc, evidence, lines, number, set, &keys)?;
+    Ok(())
+}
+
+/// Adds those of the keys, which are the RRset's in order.
+fn add_keys(
+    alloc: Global,
+    evidence: &Evidence<'_>,
+    lines: &mut Vec<Line>,
+    number: usize,
+    set: &Rrset,
+    keys: &[KeyRecord<'_>],
+) -> Result<(), AllocError>
+    requires numbered { IsNumbered evidence.now.rrsets number set.now }
+    requires in_order { AreKeysInOrder set.now keys.now }
+    ensures { OnOk result (AddsThose (AreOfNumbered (IsKeyLine (setting_in evidence.now) number set.now) 1 keys.now)
+        lines.old.items lines.new.items) }
+{
     for (place, key) in keys.iter().enumerate() {
         let number = RecordNumber {
             rrset: number,
             place: place + 1,
         };
-        lines.push(Line::Key(shown_key(alloc, evidence, number, set, key)?))?;
+        add_key(alloc, evidence, lines, number, set, key)?;
     }
+    Ok(())
+}
+
+/// Adds that of the key at the place of the RRset.
+fn add_key(
+    alloc: Global,
+    evidence: &Evidence<'_>,
+    lines: &mut Vec<Line>,
+    number: RecordNumber,
+    set: &Rrset,
+    key: &KeyRecord<'_>,
+) -> Result<(), AllocError>
+    requires numbered { IsNumbered evidence.now.rrsets number.rrset set.now }
+    requires stands { IsKeyOf set.now key.now }
+    ensures { OnOk result (AddsThose (IsKeyLine (setting_in evidence.now) number.rrset set.now number.place key.now)
+        lines.old.items lines.new.items) }
+{
+    lines.push(Line::Key(shown_key(alloc, evidence, number, set, key)?))?;
     Ok(())
 }
 

@@ -10,11 +10,15 @@ add_end-requires c =
     (way_added c.evidence_of-evidence.result c.args.rtype.0 report.links report.last report.verdict c.new-lines.result.items _ _
     c.in_ok-add_links.ensures c.in_ok-add_verdict.ensures)
 
+pub failed-requires-clause-unproved : goal.failed-requires-clause-unproved
+failed-requires-clause-unproved c = c.is_unproved.ensures.0 c.if-is_unproved.true
+
 pub returns-then-not-is_settled : goal.returns-then-not-is_settled
 returns-then-not-is_settled c =
     let report = c.args.judged.now.report in
     open_ended c.evidence_of-evidence.result c.args.judged.now.grounds c.evidence_of-evidence.ensures c.args.rtype.0
     report.links report.last report.verdict c.new-lines.result.items _ _ c.new-lines.ensures.items
+    (λ unproved. let holds = c.is_unproved.ensures.1 unproved in let fails = c.if-is_unproved.false in cc)
     (λ settled. let holds = c.is_settled.ensures.1 settled in let fails = c.if-not-is_settled.true in cc)
     (way_added c.evidence_of-evidence.result c.args.rtype.0 report.links report.last report.verdict c.new-lines.result.items _ _
     c.in_ok-add_links.ensures c.in_ok-add_verdict.ensures)

@@ -10,7 +10,10 @@ returns-then-not-is_empty c =
 pub returns-then-is_empty : goal.returns-then-is_empty
 returns-then-is_empty c =
     unsigned_added (setting_in c.args.evidence.now) c.args.number c.args.rrset.now c.signatures.result.now _ _ c.signatures.ensures
-    (empty c.signatures.result.now c.is_empty-2.result c.is_empty-2.ensures c.if-is_empty.true) c.in_ok-add_unsigned.ensures
+    (empty c.signatures.result.now c.is_empty-2.result c.is_empty-2.ensures c.if-is_empty.true)
+    (unsecured_where (setting_in c.args.evidence.now) c.args.number c.secured.result.now c.secured.ensures c.is_empty.result
+    c.is_empty.ensures c.if-not-is_empty.false)
+    c.in_ok-add_unsigned.ensures
 
 pub add_signatures-requires-clause-unsecured : goal.add_signatures-requires-clause-unsecured
 add_signatures-requires-clause-unsecured c =

@@ -120,11 +120,11 @@ earlier_rrset_less a b less =
     let below : nat_cmp a.rrset b.rrset ≡ Less = sym (nat_cmp_is a.rrset b.rrset Less less) in
     rw below refl
 
-itself : (number : RecordNumber) → number_cmp number number ≢ Less
+pub itself : (number : RecordNumber) → number_cmp number number ≢ Less
 itself number less = let tied : number_cmp number number ≡ Equal = tied_itself number_cmp_total number in cc
 
 -- what goes before a record doesn't come behind it
-never_both : (a b : RecordNumber) → number_cmp a b ≡ Less → number_cmp b a ≢ Less
+pub never_both : (a b : RecordNumber) → number_cmp a b ≡ Less → number_cmp b a ≢ Less
 never_both a b less back = itself a (number_cmp_total.trans a b a less back)
 
 not_before : (k place : ℕ) (other : RecordNumber) → other.rrset ≡ k → place ≤ other.place

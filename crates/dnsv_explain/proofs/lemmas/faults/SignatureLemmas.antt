@@ -161,10 +161,10 @@ module _ (setting : Setting) (k : ℕ) (rrset : ReceivedRrset) where
   secured_added s old is = none_added (AreRrsetLines setting k rrset) old (secured (s, is))
 
   pub unsigned_added : (rrsigs : List Rrsig) (old new : List Line) → AllZip IsRrsig rrset.signatures rrsigs → rrsigs ≡ []
-      → new ≡ old ++ unsigned_line k rrset ∷ [] → AddsThose (AreRrsetLines setting k rrset) old new
-  unsigned_added rrsigs old new zip none is =
+      → ¬ HasSecured setting k → new ≡ old ++ unsigned_line k rrset ∷ [] → AddsThose (AreRrsetLines setting k rrset) old new
+  unsigned_added rrsigs old new zip none never is =
       those_added (AreRrsetLines setting k rrset) old (unsigned_line k rrset ∷ []) new is
-      (unsigned (zip_nothing rrset.signatures rrsigs zip none))
+      (unsigned never (zip_nothing rrset.signatures rrsigs zip none))
 
   pub unproved_added : (rrsigs : List Rrsig) (old new : List Line) → AllZip IsRrsig rrset.signatures rrsigs → rrsigs ≢ []
       → ¬ HasSecured setting k → AddsThose (AreLinesOfEach setting k rrset) old new

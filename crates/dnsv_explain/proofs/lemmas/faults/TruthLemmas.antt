@@ -88,7 +88,7 @@ module _ (setting : Setting) (name : Labels) (t : ℕ) where
   abbrev IsSo : Reason → Type 0
   IsSo = IsReasonTrue setting name t
 
-  only_reason : (said told : Reason) → line.Reason said ≡ line.Reason told → IsSo told → IsSo said
+  pub only_reason : (said told : Reason) → line.Reason said ≡ line.Reason told → IsSo told → IsSo said
   only_reason said told same is = let equal : told ≡ said = cc in subst IsSo equal is
 
   module _ (k s : ℕ) (rrset : ReceivedRrset) (rdata : List ℕ) (rrsig : Rrsig) (numbered : IsNumbered setting.rrsets k rrset)
@@ -138,10 +138,10 @@ module _ (setting : Setting) (name : Labels) (t : ℕ) where
   abbrev unsigned_reason : ℕ → ReceivedRrset → Reason
   unsigned_reason k rrset = reason.Unsigned (record { owner = rrset.owner; rtype = record { 0 = rrset.rtype }; rrset = k })
 
-  rrset_so : (k : ℕ) (rrset : ReceivedRrset) (lines : List Line) → IsNumbered setting.rrsets k rrset
+  pub rrset_so : (k : ℕ) (rrset : ReceivedRrset) (lines : List Line) → IsNumbered setting.rrsets k rrset
       → AreRrsetLines setting k rrset lines → (said : Reason) → Contains lines (line.Reason said) → IsSo said
   rrset_so k rrset lines numbered (secured has) said there = absurd (none_in [] (line.Reason said) refl there)
-  rrset_so k rrset lines numbered (unsigned none) said there = ⊎_elim
+  rrset_so k rrset lines numbered (unsigned never none) said there = ⊎_elim
       (λ (same : line.Reason said ≡ unsigned_line k rrset). only_reason said (unsigned_reason k rrset) same
       (record { rrset = rrset; numbered = numbered; owner = refl; rtype = refl; none = none }))
       (λ (later : Contains [] (line.Reason said)). absurd (none_in [] (line.Reason said) refl later))

@@ -4,6 +4,7 @@ pub mod OwnKeyLemmas
 pub mod ParentLemmas
 pub mod RankLemmas
 pub mod SelfLemmas
+pub mod TruthLemmas
 pub mod WhyLemmas
 pub mod WordLemmas
 pub mod ZoneLemmas

@@ -86,6 +86,9 @@ module _ (setting : Setting) where
   shown_is_valid before (line.Unusable ds) follows times (number, is, has) = cc
   shown_is_valid before (line.Hope kind) follows times (number, is, has) = cc
   shown_is_valid before (line.Holds interval) follows times (number, is, has) = cc
+  shown_is_valid before (line.Reason reason) follows times (number, is, has) = cc
+  shown_is_valid before (line.Follows untrusted) follows times (number, is, has) = cc
+  shown_is_valid before (line.Key key) follows times (number, is, has) = cc
   shown_is_valid before (line.Rrset place) follows times (number, is, has) = cc
 
   -- ---- another moment, or other answers
@@ -150,6 +153,9 @@ module _ (setting : Setting) where
     follows_then before (line.Unusable ds) stays follows = follows
     follows_then before (line.Hope kind) stays follows = tt
     follows_then before (line.Holds interval) stays follows = tt
+    follows_then before (line.Reason reason) stays follows = tt
+    follows_then before (line.Follows untrusted) stays follows = tt
+    follows_then before (line.Key key) stays follows = tt
     follows_then before (line.Rrset place) stays follows = follows
 
     pub each_follows_then : (before lines : List Line)

@@ -34,7 +34,7 @@ use Rattle.dnsv_verdict.specs.declared.verdict.Verdict.{Verdict}
 use Rattle.dnsv_verdict.specs.declared.verdict.Verdict.TheVariants.{SecureAnswer, SecureAlias, SecureNoName, SecureNoData, Insecure, Pending, Bogus, Indeterminate}
 use Rattle.dnsv_explain.specs.Denials.{IsDenialTold, IsExpandedTold}
 use Rattle.dnsv_explain.specs.Explained.{Explained, Setting, hoped, setting_in}
-use Rattle.dnsv_explain.specs.Explanation.{IsEndTold, IsExplanation, IsExplanationOf, IsHopeTold, IsLinkTold, IsNoDataTold, IsNoNameTold, IsSetTold, IsSettledTold, IsUnsignedFromTold, IsVerdictTold, IsWayTold, signature_of, told_kind}
+use Rattle.dnsv_explain.specs.Explanation.{IsEndTold, IsExplanation, IsExplanationOf, IsFailureTold, IsHoldingTold, IsHopeTold, IsLinkTold, IsNoDataTold, IsNoNameTold, IsSetTold, IsSettledTold, IsUnsignedFromTold, IsVerdictTold, IsWayTold, signature_of, told_kind}
 use Rattle.dnsv_explain.specs.Explanation.IsSetTold.{as_owned, by_wildcard}
 use Rattle.dnsv_explain.specs.Explanation.IsUnsignedFromTold.{by_cut, by_wildcard as loosely}
 use Rattle.dnsv_explain.specs.Saying.{AreBoth, AreEach}
@@ -45,6 +45,7 @@ use Rattle.dnsv_explain.specs.declared.line.Line.{Line}
 use Rattle.dnsv_explain.specs.declared.line.Line.TheVariants as line
 use Rattle.dnsv_explain.specs.declared.line.cut.InsecureCase.TheVariants as case
 use Rattle.dnsv_explain.specs.declared.line.derivation.SignatureNumber.{SignatureNumber}
+use Rattle.dnsv_explain.proofs.lemmas.faults.one.FailureLemmas.{one_failure_told}
 use Rattle.dnsv_explain.proofs.lemmas.one.CutLemmas.{one_cut_told, one_unsigned}
 use Rattle.dnsv_explain.proofs.lemmas.one.DenialLemmas.{one_denial, one_expanded}
 use Rattle.dnsv_explain.proofs.lemmas.one.DerivationLemmas.{one_held, one_signature}
@@ -236,15 +237,32 @@ module _ (explained : Explained) (none : AreApart explained.todo) (t : ℕ) wher
   one_end_told Bogus before a b x y = one_places_told explained.rrsets before a b x y
   one_end_told Indeterminate before a b x y = one_places_told explained.rrsets before a b x y
 
-  one_explanation : (links : List Link) (last : Labels) (verdict : Verdict) → NeedsApart verdict → (a b : List Line)
-      → IsExplanation explained t links last verdict a → IsExplanation explained t links last verdict b → a ≡ b
-  one_explanation links last verdict apart a b x y =
+  one_holding : (links : List Link) (last : Labels) (verdict : Verdict) → NeedsApart verdict
+      → IsOne (IsHoldingTold explained t links last verdict)
+  one_holding links last verdict apart before a b x y =
       let Each : List Line → List Line → Type 0 = AreEach (IsLinkTold (setting_in explained)) links in
       one_both (IsWayTold explained t links last verdict) (IsEndTold explained verdict)
       (one_both Each (IsVerdictTold explained last t verdict)
       (one_each (IsLinkTold (setting_in explained)) (λ link. one_set (setting_in explained) none link.name (signature_of link.rrset link.signature)) links)
       (one_verdict_told last verdict apart))
-      (one_end_told verdict) [] a b x y
+      (one_end_told verdict) before a b x y
+
+  one_failed : (links : List Link) (last : Labels) (verdict : Verdict) → NeedsApart verdict
+      → IsOne (AreBoth (IsFailureTold (setting_in explained) last t) (IsHoldingTold explained t links last verdict))
+  one_failed links last verdict apart before a b x y =
+      one_both (IsFailureTold (setting_in explained) last t) (IsHoldingTold explained t links last verdict)
+      (one_failure_told (setting_in explained) last t) (one_holding links last verdict apart) before a b x y
+
+  one_explanation : (links : List Link) (last : Labels) (verdict : Verdict) → NeedsApart verdict → (a b : List Line)
+      → IsExplanation explained t links last verdict a → IsExplanation explained t links last verdict b → a ≡ b
+  one_explanation links last (SecureAnswer k s) apart a b x y = one_holding links last (SecureAnswer k s) apart [] a b x y
+  one_explanation links last (SecureAlias k s) apart a b x y = one_holding links last (SecureAlias k s) apart [] a b x y
+  one_explanation links last (SecureNoName proof) apart a b x y = one_holding links last (SecureNoName proof) apart [] a b x y
+  one_explanation links last (SecureNoData proof) apart a b x y = one_holding links last (SecureNoData proof) apart [] a b x y
+  one_explanation links last (Insecure cut) apart a b x y = one_holding links last (Insecure cut) apart [] a b x y
+  one_explanation links last (Pending unknown) apart a b x y = one_holding links last (Pending unknown) apart [] a b x y
+  one_explanation links last Bogus apart a b x y = one_failed links last Bogus apart [] a b x y
+  one_explanation links last Indeterminate apart a b x y = one_failed links last Indeterminate apart [] a b x y
 
 needs_apart : (explained : Explained) (none : AreApart explained.todo) (basis : Basis) (name : Labels) (t : ℕ) (verdict : Verdict)
     → IsVerdictAt basis name t verdict → NeedsApart explained none t verdict

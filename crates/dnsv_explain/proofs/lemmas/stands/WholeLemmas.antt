@@ -20,13 +20,13 @@ use Rattle.dnsv_verdict.specs.declared.link.Link.{Link}
 use Rattle.dnsv_verdict.specs.declared.verdict.Verdict.{Verdict}
 use Rattle.dnsv_verdict.specs.declared.verdict.Verdict.TheVariants.{SecureAnswer, SecureAlias, SecureNoName, SecureNoData, Insecure, Pending, Bogus, Indeterminate}
 use Rattle.dnsv_explain.specs.Explained.{Explained, Setting, basis_in, setting_in}
-use Rattle.dnsv_explain.specs.Explanation.{IsEndTold, IsExplanation, IsLinkTold, IsSettledTold, IsVerdictTold, IsWayTold, its_setting, signature_of}
+use Rattle.dnsv_explain.specs.Explanation.{IsEndTold, IsExplanation, IsHoldingTold, IsLinkTold, IsSettledTold, IsVerdictTold, IsWayTold, its_setting, signature_of}
 use Rattle.dnsv_explain.specs.Following.{EachFollows, IsSignatureSaid, at_moment}
 use Rattle.dnsv_explain.specs.Saying.{AreEach}
 use Rattle.dnsv_explain.specs.derivations.OwnDerivations.{SecuredIn}
 use Rattle.dnsv_explain.specs.intervals.Holding.{AreShownValidAt}
 use Rattle.dnsv_explain.specs.declared.line.Line.{Line}
-use Rattle.dnsv_explain.proofs.lemmas.ExplanationLemmas.{explanation_follows}
+use Rattle.dnsv_explain.proofs.lemmas.ExplanationLemmas.{holding_follows}
 use Rattle.dnsv_explain.proofs.lemmas.FollowingLemmas.{all_true, no_lines, said_secured}
 use Rattle.dnsv_explain.proofs.lemmas.intervals.MomentLemmas.{first_or_behind, follow_at}
 use Rattle.dnsv_explain.proofs.lemmas.stands.CutLemmas.{unsigned_stands}
@@ -78,6 +78,18 @@ links_secure explained t name (first ∷ links) last leads link there = ⊎_elim
     (λ (later : Contains links link). links_secure explained t leads.1 links last leads.4 link later)
     (first_or_behind first links link there)
 
+-- of a verdict that needs no more answers the explanation is what holds
+pub settled_holding : (explained : Explained) (t : ℕ) (links : List Link) (last : Labels) (verdict : Verdict) (lines : List Line)
+    → IsSettledVerdict verdict → IsExplanation explained t links last verdict lines → IsHoldingTold explained t links last verdict [] lines
+settled_holding explained t links last (SecureAnswer k s) lines settled is = is
+settled_holding explained t links last (SecureAlias k s) lines settled is = is
+settled_holding explained t links last (SecureNoName proof) lines settled is = is
+settled_holding explained t links last (SecureNoData proof) lines settled is = is
+settled_holding explained t links last (Insecure cut) lines settled is = is
+settled_holding explained t links last (Pending unknown) lines settled is = absurd settled
+settled_holding explained t links last Bogus lines settled is = absurd settled
+settled_holding explained t links last Indeterminate lines settled is = absurd settled
+
 -- ---- another moment
 
 -- what more evidence takes no trust away from
@@ -89,7 +101,7 @@ KeepsTrust =
     → (k s : ℕ) → IsSecured meaning moment rrsets anchors k s → IsSecured better moment (rrsets ++ later) others k s
 
 module _ (keeps : KeepsTrust) (explained : Explained) (t : ℕ) (links : List Link) (last : Labels) (verdict : Verdict) (lines : List Line)
-    (moment : ℕ) (better : Entry → Answer) (settled : IsSettledVerdict verdict) (is : IsExplanation explained t links last verdict lines)
+    (moment : ℕ) (better : Entry → Answer) (settled : IsSettledVerdict verdict) (is : IsHoldingTold explained t links last verdict [] lines)
     (valid : AreShownValidAt explained.rrsets lines moment)
     (answers : (entry : Entry) → table_answer explained.table entry ≡ Valid → better entry ≡ Valid) where
   in_setting : (each : Verdict) → IsSettledVerdict each → EachFollows (its_setting explained each) [] lines → EachFollows (setting_in explained) [] lines
@@ -105,7 +117,7 @@ module _ (keeps : KeepsTrust) (explained : Explained) (t : ℕ) (links : List Li
   then_follow : EachFollows (at_moment (setting_in explained) moment) [] lines
   then_follow =
       follow_at (setting_in explained) moment [] lines valid
-      (in_setting verdict settled (explanation_follows explained t links last verdict lines is))
+      (in_setting verdict settled (holding_follows explained t links last verdict [] lines is))
 
   abbrev Then : ℕ → ℕ → Type 0
   Then = IsSecured better moment explained.rrsets explained.anchors

@@ -31,8 +31,5 @@ pub fn has_rrset(evidence: &Evidence<'_>, name: &Name, rtype: RecordType) -> boo
     ensures { IsTrue result ↔ HasRrset evidence.now.rrsets name.now rtype.0 }
 {
     let mut compared = Count::new();
-    !evidence
-        .capture()
-        .at(name, rtype, &mut compared)
-        .is_empty()
+    !evidence.capture().at(name, rtype, &mut compared).is_empty()
 }

@@ -43,7 +43,9 @@ fn add_dname(
     }
     let above = name.suffix(labels);
     let mut compared = Count::new();
-    let numbers = evidence.capture().at(&above, RecordType::DNAME, &mut compared);
+    let numbers = evidence
+        .capture()
+        .at(&above, RecordType::DNAME, &mut compared);
     if numbers.is_empty() {
         return Ok(());
     }

@@ -14,7 +14,7 @@ use dnsv_names::Name;
 use std::alloc::{AllocError, Global};
 use std::collections::BTreeSet;
 
-/// Keeps those of the lines that don't say that a signer isn't trusted, if no trust anchor is at or above the name.
+/// Keeps the reasons, and if a trust anchor is at or above the name, that signers aren't trusted.
 pub fn keep_said(evidence: &Evidence<'_>, name: &Name, lines: &mut Vec<Line>)
     ensures { AreThose (IsSaid (setting_in evidence.now) name.now) lines.old.items lines.new.items }
 {
@@ -27,8 +27,9 @@ fn is_said(anchored: bool, line: &Line) -> bool
     ensures { IsTrue result ↔ IsSaidWhere anchored line.now }
 {
     match line {
+        Line::Reason(_) => true,
         Line::Follows(_) => anchored,
-        _ => true,
+        _ => false,
     }
 }
 

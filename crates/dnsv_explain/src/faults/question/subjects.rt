@@ -113,7 +113,9 @@ fn has_signer_above(rrset: &Rrset, name: &Name) -> bool
 fn is_one_above(rrsigs: &[Rrsig], name: &Name) -> bool
     ensures { IsTrue result ↔ HasOneAbove rrsigs.now name.now }
 {
-    rrsigs.iter().any(|rrsig| name.is_at_or_below(&rrsig.signer))
+    rrsigs
+        .iter()
+        .any(|rrsig| name.is_at_or_below(&rrsig.signer))
 }
 
 /// Whether the zone is a signer of the RRset.

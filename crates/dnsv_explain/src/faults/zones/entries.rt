@@ -4,7 +4,7 @@ ghost use Rattle.dnsv_canonical.specs.Rrsets.{IsNumbered};
 ghost use Rattle.dnsv_explain.specs.Explained.{setting_in};
 ghost use Rattle.dnsv_explain.specs.faults.Listing.{AreOfNumbered};
 ghost use Rattle.dnsv_explain.specs.faults.ZoneLines.{AreAnchorWanted, AreAnchorsSaid, AreRecordsOf, AreRecordsSaid, AreSaid, wanted_anchor};
-ghost use Rattle.dnsv_explain.specs.faults.ZoneSearch.{AddsJudged, AddsMatching, AreJudged, AreKeysAt, HasMatch, IsJudgedAs, wanted_of};
+ghost use Rattle.dnsv_explain.specs.faults.ZoneLines.ZoneSearch.{AddsJudged, AddsMatching, AreJudged, AreKeysAt, HasMatch, IsJudgedAs, wanted_of};
 
 use crate::evidence::Evidence;
 use crate::faults::keys::are_equal;

@@ -4,7 +4,7 @@ ghost use Rattle.dnsv_names.specs.Octets.{number_at};
 ghost use Rattle.dnsv_chain.specs.Ds.{IsIgnored, IsMatch};
 ghost use Rattle.dnsv_explain.specs.Following.{IsNamed};
 ghost use Rattle.dnsv_explain.specs.faults.Entries.{HasTag, HasUnknownDigest, IsIgnoredBeside, IsMatchOf, IsWantedBy, told_entry, wanted_key};
-ghost use Rattle.dnsv_explain.specs.faults.ZoneSearch.{IsMeant, wanted_of};
+ghost use Rattle.dnsv_explain.specs.faults.ZoneLines.ZoneSearch.{IsMeant, wanted_of};
 
 use crate::line::derivation::KeyName;
 use crate::line::fault::zone::{Entry, EntryNumber};

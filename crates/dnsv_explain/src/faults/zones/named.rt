@@ -1,7 +1,7 @@
 //! Which word is said of what leads into a zone.
 ghost use Rattle.std.specs.Prelude.{◌↔◌, IsTrue};
 ghost use Rattle.dnsv_explain.specs.faults.Entries.{HasTag, IsMatchOf, IsWantedBy};
-ghost use Rattle.dnsv_explain.specs.faults.ZoneSearch.{HasAmong, IsKeyWordBy, IsWordBy, wanted_of};
+ghost use Rattle.dnsv_explain.specs.faults.ZoneLines.ZoneSearch.{HasAmong, IsKeyWordBy, IsWordBy, wanted_of};
 
 use crate::faults::zones::lead::Lead;
 use crate::line::fault::zone::WhyEntry;

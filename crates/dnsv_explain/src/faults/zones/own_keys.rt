@@ -6,7 +6,7 @@ ghost use Rattle.dnsv_verifier.specs.Asking.{AreKeysOf};
 ghost use Rattle.dnsv_explain.specs.Explained.{setting_in};
 ghost use Rattle.dnsv_explain.specs.faults.Listing.{AddsThose, AreOfNumbered};
 ghost use Rattle.dnsv_explain.specs.faults.ZoneLines.{AreKeyLines, AreNamedLines};
-ghost use Rattle.dnsv_explain.specs.faults.ZoneSearch.{HasSignatureOf, IsNotSelfSigned};
+ghost use Rattle.dnsv_explain.specs.faults.ZoneLines.ZoneSearch.{HasSignatureOf, IsNotSelfSigned};
 
 use crate::derivations::ways::keys::key_name;
 use crate::evidence::Evidence;

@@ -6,7 +6,7 @@ ghost use Rattle.dnsv_explain.specs.Explained.{setting_in};
 ghost use Rattle.dnsv_explain.specs.faults.Entries.{entry_rank};
 ghost use Rattle.dnsv_explain.specs.faults.Listing.{AddsThose, AreOfEach};
 ghost use Rattle.dnsv_explain.specs.faults.ZoneLines.{AreEntryLines, AreRankLines, AreWordLines, entry_line};
-ghost use Rattle.dnsv_explain.specs.faults.ZoneSearch.{IsJudgedAt, differs, wanted_in, wanted_of};
+ghost use Rattle.dnsv_explain.specs.faults.ZoneLines.ZoneSearch.{IsJudgedAt, differs, wanted_in, wanted_of};
 
 use crate::evidence::Evidence;
 use crate::faults::zones::entries::Judged;

@@ -6,7 +6,7 @@ ghost use Rattle.dnsv_verifier.specs.Asking.{AreKeysOf};
 ghost use Rattle.dnsv_explain.specs.Explained.{setting_in};
 ghost use Rattle.dnsv_explain.specs.faults.Listing.{AddsThose, AreOfNumbered};
 ghost use Rattle.dnsv_explain.specs.faults.ZoneLines.{AreSelfFaults, AreSetLines, IsSomeSelfSigned};
-ghost use Rattle.dnsv_explain.specs.faults.ZoneSearch.{IsMeant, IsSelfSignedIn};
+ghost use Rattle.dnsv_explain.specs.faults.ZoneLines.ZoneSearch.{IsMeant, IsSelfSignedIn};
 
 use crate::derivations::ways::keys::{keys_in_order, lowest_good};
 use crate::evidence::Evidence;

@@ -5,7 +5,7 @@ ghost use Rattle.dnsv_verifier.specs.Asking.{AreKeysOf};
 ghost use Rattle.dnsv_explain.specs.Explained.{setting_in};
 ghost use Rattle.dnsv_explain.specs.faults.Listing.{AddsThose, AreOfNumbered, AreThose};
 ghost use Rattle.dnsv_explain.specs.faults.ZoneLines.{AreWayLines, IsOfParent};
-ghost use Rattle.dnsv_explain.specs.faults.ZoneSearch.{HasParentSigner};
+ghost use Rattle.dnsv_explain.specs.faults.ZoneLines.ZoneSearch.{HasParentSigner};
 ghost use Rattle.dnsv_explain.specs.faults.Zones.{IsDsWay, MayBeParent};
 
 use crate::evidence::Evidence;

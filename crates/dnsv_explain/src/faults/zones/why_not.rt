@@ -10,7 +10,7 @@ ghost use Rattle.dnsv_explain.specs.faults.KeySearch.{IsNamedIn};
 ghost use Rattle.dnsv_explain.specs.faults.Keys.{named_by};
 ghost use Rattle.dnsv_explain.specs.faults.Listing.{AddsThose};
 ghost use Rattle.dnsv_explain.specs.faults.ZoneLines.{AreWhyNotGood, AreWhys};
-ghost use Rattle.dnsv_explain.specs.faults.ZoneSearch.{AreNamedBy, verifier_word};
+ghost use Rattle.dnsv_explain.specs.faults.ZoneLines.ZoneSearch.{AreNamedBy, verifier_word};
 
 use crate::evidence::Evidence;
 use crate::faults::answers::best_answer;

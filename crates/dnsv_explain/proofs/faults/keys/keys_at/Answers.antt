@@ -1,7 +1,7 @@
 use Rattle.std.proofs.Common.{sym, ◌∙◌}
 use Rattle.std.proofs.lemmas.Bool.{false≢true}
 use Rattle.dnsv_verifier.proofs.AskLemmas.{some_all, some_more}
-use Rattle.dnsv_explain.specs.faults.ZoneSearch.{IsKeyOfAt}
+use Rattle.dnsv_explain.specs.faults.ZoneLines.ZoneSearch.{IsKeyOfAt}
 use Rattle.dnsv_explain.proofs.lemmas.faults.zones.FoundLemmas.{keys_added, keys_are_at, keys_passed}
 use Rattle.dnsv_explain.proofs.faults.keys.keys_at.Goals as goal
 

@@ -1,6 +1,6 @@
 use Rattle.std.proofs.Common.{[], take}
 use Rattle.dnsv_verifier.specs.Asking.{AddsJust, ComesOfSome}
-use Rattle.dnsv_explain.specs.faults.ZoneSearch.{IsKeyOfAt}
+use Rattle.dnsv_explain.specs.faults.ZoneLines.ZoneSearch.{IsKeyOfAt}
 use Rattle.dnsv_explain.proofs.faults.keys.keys_at.Given as goal
 
 -- the keys of the RRsets so far

@@ -18,5 +18,7 @@ returns c =
     let Has : List ReceivedRrset → Type 0 = λ rrsets. HasGoal rrsets c.args.name.now c.args.rtype.0 in
     those_added (AreEndLines (setting_in c.args.evidence.now) c.args.name.now c.args.rtype.0) c.args.lines.now.items
     (c.in_ok-end_line.field-0 ∷ []) _ c.in_ok-push.ensures.items
-    (inl (λ has. false≢true (sym c.if-has_goal.false ∙ c.has_goal.ensures.1 (subst Has (sym c.rrsets.ensures) has)),
-    (c.in_ok-end_line.field-0, c.in_ok-end_line.ensures, refl)))
+    (inl (
+      λ has. false≢true (sym c.if-has_goal.false ∙ c.has_goal.ensures.1 (subst Has (sym c.rrsets.ensures) has)),
+      (c.in_ok-end_line.field-0, c.in_ok-end_line.ensures, refl),
+    ))

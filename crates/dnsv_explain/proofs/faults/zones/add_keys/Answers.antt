@@ -5,7 +5,7 @@ use Rattle.dnsv_verifier.specs.Admissible.{DnskeyRecord}
 use Rattle.dnsv_explain.specs.Explained.{setting_in}
 use Rattle.dnsv_explain.specs.faults.Listing.{AddsThose}
 use Rattle.dnsv_explain.specs.faults.ZoneLines.{AreEntryLines}
-use Rattle.dnsv_explain.specs.faults.ZoneSearch.{AreKeysAt, IsJudgedAt, wanted_in}
+use Rattle.dnsv_explain.specs.faults.ZoneLines.ZoneSearch.{AreKeysAt, IsJudgedAt, wanted_in}
 use Rattle.dnsv_explain.specs.declared.faults.zones.entries.Judged.{Judged}
 use Rattle.dnsv_explain.proofs.lemmas.faults.zones.EntryLemmas.{all_judged}
 use Rattle.dnsv_explain.proofs.lemmas.faults.zones.ZoneLemmas.{keys_said}

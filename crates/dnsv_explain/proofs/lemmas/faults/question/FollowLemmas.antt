@@ -119,7 +119,7 @@ module _ (setting : Setting) where
   pub rrset_follows : (k : ℕ) (rrset : ReceivedRrset) (lines : List Line) → AreRrsetLines setting k rrset lines → (said : UntrustedSigner)
       → Contains lines (line.Follows said) → IsUntrustedOf setting rrset said.signature.signer
   rrset_follows k rrset lines (secured has) said there = absurd (none_in [] (line.Follows said) refl there)
-  rrset_follows k rrset lines (unsigned none) said there = ⊎_elim
+  rrset_follows k rrset lines (unsigned lacks none) said there = ⊎_elim
       (λ (same : line.Follows said ≡ unsigned_line k rrset). let never : ⊥ = cc in absurd never)
       (λ (later : Contains [] (line.Follows said)). absurd (none_in [] (line.Follows said) refl later))
       (first_or_rest (unsigned_line k rrset) [] (line.Follows said) there)

@@ -16,12 +16,16 @@ use Rattle.dnsv_verdict.specs.Verdict.{HasAnchor}
 use Rattle.dnsv_explain.specs.Explained.{Setting}
 use Rattle.dnsv_explain.specs.derivations.OwnDerivations.{SecuredIn}
 use Rattle.dnsv_explain.specs.faults.Order.{AreFaultLines, IsSaid, same_text}
+use Rattle.dnsv_explain.specs.faults.ZoneLines.{zone_line}
 use Rattle.dnsv_explain.specs.line.{line_text}
 use Rattle.dnsv_explain.specs.declared.line.Line.{Line}
 use Rattle.dnsv_explain.specs.declared.line.Line.TheVariants as line
 use Rattle.dnsv_explain.specs.declared.line.fault.Reason.{Reason}
+use Rattle.dnsv_explain.specs.declared.line.fault.Reason.TheVariants as reason
+use Rattle.dnsv_explain.specs.declared.line.fault.zone.WhyZone.TheVariants as zone_why
 use Rattle.dnsv_explain.proofs.lemmas.faults.TruthLemmas.{first_or_rest, none_in}
 use Rattle.dnsv_explain.proofs.lemmas.faults.question.UnmetGoalLemmas.{parts_unmet}
+use Rattle.dnsv_explain.proofs.lemmas.faults.truth.QuestionLemmas.{question_so}
 use Rattle.dnsv_explain.proofs.lemmas.faults.question.UnmetLemmas.{HasReason, at_front, kept_in}
 
 -- ---- a line with the text of a reason is one
@@ -117,3 +121,9 @@ has_reason setting name t formed anchored unsettled lines are =
     let said : HasReason are.said = (all.0, kept_in (IsSaid setting name) are.parts are.said are.are_said (line.Reason all.0) all.1 tt) in
     let Has : List Line → Type 0 = λ each. HasReason each in
     subst Has (sym are.once) (once_kept are.said said)
+
+-- and it isn't said that no anchor is
+pub no_such_reason : (setting : Setting) (name : Labels) (t : ℕ) → HasAnchor setting.anchors name → (lines : List Line)
+    → AreFaultLines setting name t lines → ¬ Contains lines (zone_line zone_why.NoAnchor name)
+no_such_reason setting name t anchored lines are there =
+    question_so setting name t lines are (reason.Zone (record { why = zone_why.NoAnchor; zone = name })) there anchored

@@ -67,10 +67,10 @@ module _ (rrsets : List ReceivedRrset) (name : Labels) (numbers : List ℕ) wher
         })
         (adds.only n there),
     λ is. adds.added n (record {
-          source = is.such.rrset;
-          among = is.such.among;
-          is = record { goal = is.such.goal; above = record { within = is.within; such = is.such.signer } };
-        }),
+      source = is.such.rrset;
+      among = is.such.among;
+      is = record { goal = is.such.goal; above = record { within = is.within; such = is.such.signer } };
+    }),
   )
 
   pub denial_labels : AddsJust (ComesOfSome (IsDenialLabels name) rrsets) [] numbers
@@ -83,10 +83,10 @@ module _ (rrsets : List ReceivedRrset) (name : Labels) (numbers : List ℕ) wher
         })
         (adds.only n there),
     λ is. adds.added n (record {
-          source = is.such.rrset;
-          among = is.such.among;
-          is = record { denial = is.such.denial; above = record { within = is.within; such = is.such.signer } };
-        }),
+      source = is.such.rrset;
+      among = is.such.among;
+      is = record { denial = is.such.denial; above = record { within = is.within; such = is.such.signer } };
+    }),
   )
 
 -- the number is there already

@@ -284,7 +284,7 @@ module _ (setting : Setting) (k : ℕ) (rrset : ReceivedRrset) (formed : IsWellF
   pub rrset_unmet : (lines : List Line) → AreRrsetLines setting k rrset lines → ¬ HasReason lines → (i : ℕ) (rdata : List ℕ)
       → slice_get rrset.signatures i ≡ Some rdata → IsUnmet setting k (1 + i) rrset rdata lines
   rrset_unmet lines (secured has) none i rdata at = absurd (never has)
-  rrset_unmet lines (unsigned without) none i rdata at = absurd (none (
+  rrset_unmet lines (unsigned lacks without) none i rdata at = absurd (none (
     reason.Unsigned (record { owner = rrset.owner; rtype = record { 0 = rrset.rtype }; rrset = k }),
     at_front _ [],
   ))
@@ -309,7 +309,7 @@ module _ (setting : Setting) (k : ℕ) (rrset : ReceivedRrset) (formed : IsWellF
   pub first_unmet : (lines : List Line) → AreRrsetLines setting k rrset lines → ¬ HasReason lines
       → (rdata : List ℕ) × IsUnmet setting k 1 rrset rdata lines
   first_unmet lines (secured has) none = absurd (never has)
-  first_unmet lines (unsigned without) none = absurd (none (
+  first_unmet lines (unsigned lacks without) none = absurd (none (
     reason.Unsigned (record { owner = rrset.owner; rtype = record { 0 = rrset.rtype }; rrset = k }),
     at_front _ [],
   ))

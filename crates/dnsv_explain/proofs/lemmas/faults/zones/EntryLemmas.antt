@@ -15,7 +15,7 @@ use Rattle.dnsv_explain.specs.Explained.{Setting}
 use Rattle.dnsv_explain.specs.faults.Entries.{IsEntryFault, IsFaultOfEntry, IsFirstOf, Wanted, entry_words}
 use Rattle.dnsv_explain.specs.faults.Listing.{AreOfNumbered, AreParted, AreThose}
 use Rattle.dnsv_explain.specs.faults.ZoneLines.{AreDsWanted, AreRecordsOf, AreSaidOf, IsLeftOut}
-use Rattle.dnsv_explain.specs.faults.ZoneSearch.{AddsJudged, AddsMatching, AreJudged, AreKeysAt, IsJudgedAs, IsJudgedAt, IsJudgedBy, IsTaken, wanted_in}
+use Rattle.dnsv_explain.specs.faults.ZoneLines.ZoneSearch.{AddsJudged, AddsMatching, AreJudged, AreKeysAt, IsJudgedAs, IsJudgedAt, IsJudgedBy, IsTaken, wanted_in}
 use Rattle.dnsv_explain.specs.declared.faults.zones.entries.Judged.{Judged}
 use Rattle.dnsv_explain.specs.declared.line.fault.zone.WhyEntry.{WhyEntry}
 use Rattle.dnsv_explain.proofs.lemmas.derivations.WayLemmas.KeysLemmas.{from, read_there}

@@ -7,7 +7,7 @@ use Rattle.dnsv_verifier.proofs.AskLemmas.{adds_nothing, adds_same}
 use Rattle.dnsv_verifier.specs.Admissible.{DnskeyRecord}
 use Rattle.dnsv_verifier.specs.Asking.{AddsJust, ComesOfSome, IsKeyOf}
 use Rattle.dnsv_explain.specs.faults.ZoneLines.{IsKeysAt}
-use Rattle.dnsv_explain.specs.faults.ZoneSearch.{AreKeysAt, IsKeyOfAt}
+use Rattle.dnsv_explain.specs.faults.ZoneLines.ZoneSearch.{AreKeysAt, IsKeyOfAt}
 
 module _ (zone : Labels) where
   -- those of a DNSKEY RRset of the zone, and of another RRset none

@@ -20,7 +20,7 @@ use Rattle.dnsv_explain.specs.faults.Listing.{AddsThose, AreOfNumbered}
 use Rattle.dnsv_explain.specs.faults.RrsetLines.{fault_line, shown_of, unsigned_line}
 use Rattle.dnsv_explain.specs.faults.ZoneLines.{AreKeyLines, AreNamedLines, AreWhyNotGood, HasNamedSignature}
 use Rattle.dnsv_explain.specs.faults.ZoneLines.AreKeyLines.{named, not_self_signed, unsigned}
-use Rattle.dnsv_explain.specs.faults.ZoneSearch.{AreNamedBy, HasSignatureOf, IsNotSelfSigned}
+use Rattle.dnsv_explain.specs.faults.ZoneLines.ZoneSearch.{AreNamedBy, HasSignatureOf, IsNotSelfSigned}
 use Rattle.dnsv_explain.specs.declared.line.Line.{Line}
 use Rattle.dnsv_explain.specs.declared.line.derivation.SignatureNumber.{SignatureNumber}
 use Rattle.dnsv_explain.specs.declared.line.fault.signature.WhySignature.{WhySignature}

@@ -10,7 +10,7 @@ use Rattle.dnsv_explain.specs.Explained.{Setting}
 use Rattle.dnsv_explain.specs.faults.Listing.{AddsThose, AreThose}
 use Rattle.dnsv_explain.specs.faults.RrsetLines.{AreRrsetLines}
 use Rattle.dnsv_explain.specs.faults.ZoneLines.{AreWayLines, IsOfParent}
-use Rattle.dnsv_explain.specs.faults.ZoneSearch.{HasParentSigner}
+use Rattle.dnsv_explain.specs.faults.ZoneLines.ZoneSearch.{HasParentSigner}
 use Rattle.dnsv_explain.specs.faults.Zones.{HasOwnAnchor, IsDsWay, MayBeParent}
 use Rattle.dnsv_explain.specs.declared.line.Line.{Line}
 use Rattle.dnsv_explain.proofs.lemmas.faults.ListingLemmas.{added_as}

@@ -7,7 +7,7 @@ use Rattle.dnsv_explain.specs.faults.Entries.{IsWantedBy, Wanted, entry_rank}
 use Rattle.dnsv_explain.specs.faults.Listing.{AddsThose, AreOfEach, AreOfNumbered}
 use Rattle.dnsv_explain.specs.faults.ZoneLines.{AreRankLines, AreSelfFaults, AreWordLines, entry_line}
 use Rattle.dnsv_explain.specs.faults.ZoneLines.AreRankLines.{said, unsaid}
-use Rattle.dnsv_explain.specs.faults.ZoneSearch.{IsJudgedAt, differs, wanted_in}
+use Rattle.dnsv_explain.specs.faults.ZoneLines.ZoneSearch.{IsJudgedAt, differs, wanted_in}
 use Rattle.dnsv_explain.specs.declared.faults.zones.entries.Judged.{Judged}
 use Rattle.dnsv_explain.specs.declared.line.Line.{Line}
 use Rattle.dnsv_explain.specs.declared.line.fault.zone.WhyEntry.{WhyEntry}

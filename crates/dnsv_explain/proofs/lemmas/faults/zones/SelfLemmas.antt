@@ -15,7 +15,7 @@ use Rattle.dnsv_explain.specs.derivations.WaySearch.{AreKeysInOrder, IsLowestGoo
 use Rattle.dnsv_explain.specs.faults.Listing.{AddsThose, AreOfEach, AreOfNumbered, AreWhere}
 use Rattle.dnsv_explain.specs.faults.ZoneLines.{AreKeyLines, AreSelfFaults, AreSetLines, IsKeysAt, IsSomeSelfSigned}
 use Rattle.dnsv_explain.specs.faults.ZoneLines.AreSetLines.{of_keys, other}
-use Rattle.dnsv_explain.specs.faults.ZoneSearch.{IsSelfSignedIn}
+use Rattle.dnsv_explain.specs.faults.ZoneLines.ZoneSearch.{IsSelfSignedIn}
 use Rattle.dnsv_explain.specs.declared.derivations.ways.keys.GoodSignature.{GoodSignature}
 use Rattle.dnsv_explain.specs.declared.line.Line.{Line}
 use Rattle.dnsv_explain.proofs.lemmas.NumberedLemmas.{among, numbered_at}

@@ -16,7 +16,7 @@ use Rattle.dnsv_explain.specs.faults.Keys.{HasKeys, IsNamedBy, named_by}
 use Rattle.dnsv_explain.specs.faults.SignatureFaults.{AreFaultsOf, IsAnswered, IsFaultOf, IsVerifierWord}
 use Rattle.dnsv_explain.specs.faults.ZoneLines.{AreWhyNotGood, AreWhys, MayBeBy}
 use Rattle.dnsv_explain.specs.faults.ZoneLines.AreWhys.{answered, faulty, silent}
-use Rattle.dnsv_explain.specs.faults.ZoneSearch.{verifier_word}
+use Rattle.dnsv_explain.specs.faults.ZoneLines.ZoneSearch.{verifier_word}
 use Rattle.dnsv_explain.specs.declared.line.fault.signature.WhySignature.{WhySignature}
 use Rattle.dnsv_explain.specs.declared.line.fault.signature.WhySignature.TheVariants as why
 use Rattle.dnsv_explain.proofs.lemmas.faults.KeyLemmas.{keys_same, named_same}

@@ -7,7 +7,7 @@ use Rattle.dnsv_canonical.specs.Rrsets.{ReceivedRrset}
 use Rattle.dnsv_verifier.specs.Admissible.{DnskeyRecord}
 use Rattle.dnsv_explain.specs.faults.Entries.{HasNoKey, HasSuchKey, HasTag, HasUnknownDigest, IsEntryFault, IsFirstOf, IsIgnoredBeside, IsMatchOf, IsWantedBy, Wanted, wanted_key}
 use Rattle.dnsv_explain.specs.faults.Entries.Wanted.{by_digest, whole_key}
-use Rattle.dnsv_explain.specs.faults.ZoneSearch.{AreKeysAt, HasAmong, IsKeyWordBy, IsWordBy}
+use Rattle.dnsv_explain.specs.faults.ZoneLines.ZoneSearch.{AreKeysAt, HasAmong, IsKeyWordBy, IsWordBy}
 use Rattle.dnsv_explain.specs.declared.line.fault.zone.WhyEntry.{WhyEntry}
 use Rattle.dnsv_explain.specs.declared.line.fault.zone.WhyEntry.TheVariants as why
 

@@ -7,7 +7,7 @@ use Rattle.dnsv_explain.specs.Explained.{Setting}
 use Rattle.dnsv_explain.specs.faults.Listing.{AddsThose, AreOfNumbered, AreParted, AreWhere}
 use Rattle.dnsv_explain.specs.faults.ZoneLines.{AreEntryLines, AreLinesOfKeys, AreSaid, AreWayLines, AreZoneLines, HasNoWay, zone_line}
 use Rattle.dnsv_explain.specs.faults.ZoneLines.AreZoneLines.{anchored, no_anchor}
-use Rattle.dnsv_explain.specs.faults.ZoneSearch.{wanted_in}
+use Rattle.dnsv_explain.specs.faults.ZoneLines.ZoneSearch.{wanted_in}
 use Rattle.dnsv_explain.specs.faults.Zones.{HasOwnAnchor, HasRrset}
 use Rattle.dnsv_explain.specs.declared.faults.zones.entries.Judged.{Judged}
 use Rattle.dnsv_explain.specs.declared.line.Line.{Line}

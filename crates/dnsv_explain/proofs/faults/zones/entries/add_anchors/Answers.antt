@@ -2,7 +2,7 @@ use Rattle.std.proofs.Common.{List, subst}
 use Rattle.dnsv_explain.specs.Explained.{setting_in}
 use Rattle.dnsv_explain.specs.faults.Listing.{AreOfNumbered}
 use Rattle.dnsv_explain.specs.faults.ZoneLines.{AreAnchorWanted}
-use Rattle.dnsv_explain.specs.faults.ZoneSearch.{AddsMatching}
+use Rattle.dnsv_explain.specs.faults.ZoneLines.ZoneSearch.{AddsMatching}
 use Rattle.dnsv_explain.specs.declared.faults.zones.entries.Judged.{Judged}
 use Rattle.dnsv_explain.proofs.lemmas.faults.zones.EntryLemmas.{group_added}
 use Rattle.dnsv_explain.proofs.faults.zones.entries.add_anchors.Goals as goal

@@ -1,5 +1,5 @@
 use Rattle.std.proofs.Common.{take}
-use Rattle.dnsv_explain.specs.faults.ZoneSearch.{AddsMatching}
+use Rattle.dnsv_explain.specs.faults.ZoneLines.ZoneSearch.{AddsMatching}
 use Rattle.dnsv_explain.proofs.faults.zones.entries.add_matching.Given as goal
 
 -- those of the first ones

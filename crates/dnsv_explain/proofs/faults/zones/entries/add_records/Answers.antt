@@ -2,7 +2,7 @@ use Rattle.std.proofs.Common.{List, inl, inr, refl, subst, sym, ◌∙◌}
 use Rattle.std.proofs.lemmas.Bool.{false≢true}
 use Rattle.dnsv_explain.specs.Explained.{setting_in}
 use Rattle.dnsv_explain.specs.faults.ZoneLines.{AreRecordsOf, AreRecordsSaid, AreSaidOf}
-use Rattle.dnsv_explain.specs.faults.ZoneSearch.{AddsMatching}
+use Rattle.dnsv_explain.specs.faults.ZoneLines.ZoneSearch.{AddsMatching}
 use Rattle.dnsv_explain.specs.declared.faults.zones.entries.Judged.{Judged}
 use Rattle.dnsv_explain.specs.faults.Entries.{Wanted}
 use Rattle.dnsv_explain.proofs.lemmas.faults.zones.EntryLemmas.{group_added, judged_as, judged_nothing}

@@ -1,7 +1,7 @@
 use Rattle.std.proofs.Common.{take}
 use Rattle.dnsv_explain.specs.faults.Listing.{AreOfNumbered}
 use Rattle.dnsv_explain.specs.faults.ZoneLines.{AreAnchorWanted}
-use Rattle.dnsv_explain.specs.faults.ZoneSearch.{AreJudged}
+use Rattle.dnsv_explain.specs.faults.ZoneLines.ZoneSearch.{AreJudged}
 use Rattle.dnsv_explain.proofs.faults.zones.entries.anchors_at.Given as goal
 
 -- those of the anchors so far

@@ -1,7 +1,7 @@
 use Rattle.std.proofs.Common.{take}
 use Rattle.dnsv_explain.specs.faults.Listing.{AreOfNumbered}
 use Rattle.dnsv_explain.specs.faults.ZoneLines.{AreDsWanted}
-use Rattle.dnsv_explain.specs.faults.ZoneSearch.{AreJudged}
+use Rattle.dnsv_explain.specs.faults.ZoneLines.ZoneSearch.{AreJudged}
 use Rattle.dnsv_explain.proofs.faults.zones.entries.records_of.Given as goal
 
 -- those of the records so far

@@ -1,7 +1,7 @@
 use Rattle.std.proofs.Common.{ℕ, refl}
 use Rattle.dnsv_explain.specs.Explained.{setting_in}
 use Rattle.dnsv_explain.specs.faults.ZoneLines.{AreRankLines}
-use Rattle.dnsv_explain.specs.faults.ZoneSearch.{IsJudgedAt, wanted_in}
+use Rattle.dnsv_explain.specs.faults.ZoneLines.ZoneSearch.{IsJudgedAt, wanted_in}
 use Rattle.dnsv_explain.specs.declared.faults.zones.entries.Judged.{Judged}
 use Rattle.dnsv_explain.proofs.lemmas.derivations.WayLemmas.KeysLemmas.{read_there}
 use Rattle.dnsv_explain.proofs.lemmas.faults.ListingLemmas.{all_added, next_added}

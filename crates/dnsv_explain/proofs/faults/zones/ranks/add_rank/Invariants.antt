@@ -2,7 +2,7 @@ use Rattle.std.proofs.Common.{take}
 use Rattle.dnsv_explain.specs.Explained.{setting_in}
 use Rattle.dnsv_explain.specs.faults.Listing.{AddsThose, AreOfNumbered}
 use Rattle.dnsv_explain.specs.faults.ZoneLines.{AreRankLines}
-use Rattle.dnsv_explain.specs.faults.ZoneSearch.{wanted_in}
+use Rattle.dnsv_explain.specs.faults.ZoneLines.ZoneSearch.{wanted_in}
 use Rattle.dnsv_explain.proofs.faults.zones.ranks.add_rank.Given as goal
 
 -- the lines of those so far

@@ -1,6 +1,6 @@
 use Rattle.std.proofs.Common.{sym, ◌∙◌}
 use Rattle.dnsv_explain.specs.Explained.{setting_in}
-use Rattle.dnsv_explain.specs.faults.ZoneSearch.{wanted_of}
+use Rattle.dnsv_explain.specs.faults.ZoneLines.ZoneSearch.{wanted_of}
 use Rattle.dnsv_explain.proofs.lemmas.faults.zones.RankLemmas.{test_false, test_true}
 use Rattle.dnsv_explain.proofs.faults.zones.ranks.add_word.Goals as goal
 

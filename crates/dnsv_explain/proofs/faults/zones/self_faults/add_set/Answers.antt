@@ -1,7 +1,7 @@
 use Rattle.std.proofs.Common.{sym, ◌∙◌}
 use Rattle.std.proofs.lemmas.Bool.{false≢true}
 use Rattle.dnsv_explain.specs.Explained.{setting_in}
-use Rattle.dnsv_explain.specs.faults.ZoneSearch.{IsMeant}
+use Rattle.dnsv_explain.specs.faults.ZoneLines.ZoneSearch.{IsMeant}
 use Rattle.dnsv_explain.proofs.lemmas.derivations.WayLemmas.SearchLemmas.{same_keys, stands_at}
 use Rattle.dnsv_explain.proofs.lemmas.faults.ListingLemmas.{all_added}
 use Rattle.dnsv_explain.proofs.lemmas.faults.zones.SelfLemmas.{OfKey, SignsAsMeant, key_added, key_passed, keys_added, other_set}

@@ -1,7 +1,7 @@
 use Rattle.std.proofs.Common.{take}
 use Rattle.dnsv_explain.specs.Explained.{setting_in}
 use Rattle.dnsv_explain.specs.faults.Listing.{AddsThose, AreOfNumbered}
-use Rattle.dnsv_explain.specs.faults.ZoneSearch.{IsMeant}
+use Rattle.dnsv_explain.specs.faults.ZoneLines.ZoneSearch.{IsMeant}
 use Rattle.dnsv_explain.proofs.lemmas.faults.zones.SelfLemmas.{OfKey}
 use Rattle.dnsv_explain.proofs.faults.zones.self_faults.add_set.Given as goal
 

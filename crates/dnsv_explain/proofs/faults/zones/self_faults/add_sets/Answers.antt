@@ -1,6 +1,6 @@
 use Rattle.dnsv_explain.specs.Explained.{setting_in}
 use Rattle.dnsv_explain.specs.faults.ZoneLines.{AreSetLines}
-use Rattle.dnsv_explain.specs.faults.ZoneSearch.{IsMeant}
+use Rattle.dnsv_explain.specs.faults.ZoneLines.ZoneSearch.{IsMeant}
 use Rattle.dnsv_explain.proofs.lemmas.NumberedLemmas.{numbered_at}
 use Rattle.dnsv_explain.proofs.lemmas.faults.ListingLemmas.{all_in, next_in}
 use Rattle.dnsv_explain.proofs.faults.zones.self_faults.add_sets.Goals as goal

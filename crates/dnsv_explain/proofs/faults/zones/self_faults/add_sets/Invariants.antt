@@ -2,7 +2,7 @@ use Rattle.std.proofs.Common.{take}
 use Rattle.dnsv_explain.specs.Explained.{setting_in}
 use Rattle.dnsv_explain.specs.faults.Listing.{AddsThose, AreOfNumbered}
 use Rattle.dnsv_explain.specs.faults.ZoneLines.{AreSetLines}
-use Rattle.dnsv_explain.specs.faults.ZoneSearch.{IsMeant}
+use Rattle.dnsv_explain.specs.faults.ZoneLines.ZoneSearch.{IsMeant}
 use Rattle.dnsv_explain.proofs.faults.zones.self_faults.add_sets.Given as goal
 
 -- the lines of the RRsets so far

@@ -1,7 +1,7 @@
 use Rattle.std.proofs.Common.{sym, ◌∙◌}
 use Rattle.std.proofs.lemmas.Bool.{false≢true}
 use Rattle.dnsv_explain.specs.Explained.{setting_in}
-use Rattle.dnsv_explain.specs.faults.ZoneSearch.{IsMeant}
+use Rattle.dnsv_explain.specs.faults.ZoneLines.ZoneSearch.{IsMeant}
 use Rattle.dnsv_explain.proofs.lemmas.derivations.WayLemmas.SearchLemmas.{none_more, none_of_all, same_keys, stands_at}
 use Rattle.dnsv_explain.proofs.lemmas.faults.zones.SelfLemmas.{SignsAsMeant, none_signed_in}
 use Rattle.dnsv_explain.proofs.faults.zones.self_faults.is_self_signed.Goals as goal

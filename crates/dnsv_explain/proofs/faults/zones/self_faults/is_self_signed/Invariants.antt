@@ -1,6 +1,6 @@
 use Rattle.dnsv_explain.specs.Explained.{setting_in}
 use Rattle.dnsv_explain.specs.derivations.WaySearch.{IsNoneYet}
-use Rattle.dnsv_explain.specs.faults.ZoneSearch.{IsMeant}
+use Rattle.dnsv_explain.specs.faults.ZoneLines.ZoneSearch.{IsMeant}
 use Rattle.dnsv_explain.proofs.lemmas.faults.zones.SelfLemmas.{SignsAsMeant}
 use Rattle.dnsv_explain.proofs.faults.zones.self_faults.is_self_signed.Given as goal
 

@@ -1,6 +1,6 @@
 use Rattle.std.proofs.Common.{take}
 use Rattle.dnsv_explain.specs.Explained.{setting_in}
-use Rattle.dnsv_explain.specs.faults.ZoneSearch.{IsMeant, IsSelfSignedIn}
+use Rattle.dnsv_explain.specs.faults.ZoneLines.ZoneSearch.{IsMeant, IsSelfSignedIn}
 use Rattle.dnsv_explain.proofs.lemmas.faults.zones.SelfLemmas.{NoneOf}
 use Rattle.dnsv_explain.proofs.faults.zones.self_faults.is_some_self_signed.Given as goal
 

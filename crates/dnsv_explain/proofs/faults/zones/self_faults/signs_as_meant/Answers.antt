@@ -1,7 +1,7 @@
 use Rattle.std.proofs.Common.{sym, ◌∙◌}
 use Rattle.std.proofs.lemmas.Bool.{false≢true}
 use Rattle.dnsv_explain.specs.Explained.{setting_in}
-use Rattle.dnsv_explain.specs.faults.ZoneSearch.{IsMeant}
+use Rattle.dnsv_explain.specs.faults.ZoneLines.ZoneSearch.{IsMeant}
 use Rattle.dnsv_explain.proofs.lemmas.faults.zones.SelfLemmas.{is_signing}
 use Rattle.dnsv_explain.proofs.faults.zones.self_faults.signs_as_meant.Goals as goal
 

@@ -1,0 +1,95 @@
+//! How often a verifier is asked, which no clause can say.
+use dnsv_canonical::Capture;
+use dnsv_chain::Anchors;
+use dnsv_explain::explain;
+use dnsv_message::Message;
+use dnsv_names::{Name, RecordType};
+use dnsv_records::Algorithm;
+use dnsv_verdict::validate;
+use dnsv_verifier::{Answer, Verifier};
+use std::alloc::Global;
+use std::cell::Cell;
+use std::test::Fail;
+
+// The DNSKEY RRset of `example.` and its signature, and an A record of `host.example.` and its signature.
+const KEYS: &[u8] =
+    b"\x00\x01\x84\x00\x00\x01\x00\x02\x00\x00\x00\x00\x07example\x00\x00\x30\x00\x01\
+\xc0\x0c\x00\x30\x00\x01\x00\x00\x0e\x10\x00\x07\x01\x00\x03\x0d\x01\x02\x03\
+\xc0\x0c\x00\x2e\x00\x01\x00\x00\x0e\x10\x00\x1c\x00\x30\x0d\x01\x00\x00\x0e\x10\
+\x00\x00\x07\xd0\x00\x00\x03\xe8\x08\x0f\x07example\x00\xcc";
+
+const HOST: &[u8] =
+    b"\x00\x02\x84\x00\x00\x01\x00\x02\x00\x00\x00\x00\x04host\x07example\x00\x00\x01\x00\x01\
+\xc0\x0c\x00\x01\x00\x01\x00\x00\x00\x05\x00\x04\xc0\x00\x02\x01\
+\xc0\x0c\x00\x2e\x00\x01\x00\x00\x00\x05\x00\x1d\x00\x01\x0d\x02\x00\x00\x0e\x10\
+\x00\x00\x07\xd0\x00\x00\x03\xe8\x08\x0f\x07example\x00\xaa\xbb";
+
+const ANCHOR: &[u8] = b"KEY example. 256 3 13 AQID\n";
+
+/// Knows nothing, and counts how often it is asked.
+#[derive(Drop)]
+struct Counting {
+    calls: Cell<u64>,
+}
+
+impl Verifier for Counting {
+    ghost use Rattle.dnsv_verifier.specs.declared.answer.Answer.TheVariants.{Unknown};
+
+    ghost meaning = { λ _ _. Unknown };
+
+    fn answer(
+        &self,
+        _algorithm: Algorithm,
+        _key: &[u8],
+        _signed_data: &[u8],
+        _signature: &[u8],
+    ) -> Answer {
+        self.calls.set(self.calls.get().saturating_add(1));
+        Answer::Unknown
+    }
+}
+
+/// The two messages.
+fn evidence(alloc: Global) -> Result<Capture, Fail> {
+    let mut capture = Capture::new(alloc);
+    capture.add(&Message::decode(alloc, KEYS)?)?;
+    capture.add(&Message::decode(alloc, HOST)?)?;
+    Ok(capture)
+}
+
+/// How often it is asked for the verdict on the address of the host, and where that is wanted, for why it stands too.
+fn calls(alloc: Global, why: bool) -> Result<u64, Fail> {
+    let capture = evidence(alloc)?;
+    let anchors = Anchors::parse(alloc, ANCHOR)?;
+    let name = Name::parse(b"host.example.")?;
+    let unknown = Counting {
+        calls: Cell::new(0),
+    };
+    if why {
+        explain(
+            alloc,
+            &capture,
+            &anchors,
+            1500,
+            &unknown,
+            &name,
+            RecordType(1),
+        )?;
+    } else {
+        validate(
+            alloc,
+            &capture,
+            &anchors,
+            1500,
+            &unknown,
+            &name,
+            RecordType(1),
+        )?;
+    }
+    Ok(unknown.calls.get())
+}
+
+/// Whether it is asked once for each of the two entries, though the verdict depends on its answers, and no more for why.
+pub fn is_asked_once_for_each(alloc: Global) -> Result<bool, Fail> {
+    Ok(calls(alloc, false)? == 2 && calls(alloc, true)? == 2)
+}

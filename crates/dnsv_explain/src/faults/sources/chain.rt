@@ -1,0 +1,20 @@
+//! The records of one chain of a zone, as they are looked through for what they lack.
+use dnsv_denial::{Nsec3Entry, NsecEntry};
+use dnsv_names::Name;
+use dnsv_records::Nsec3Parameters;
+
+/// The records of one chain of a zone, in the order of their numbers.
+#[derive(Clone, Copy, Debug)]
+pub enum ChainEntries<'a> {
+    /// The zone's NSEC records (RFC 4034 4).
+    Nsec(&'a [NsecEntry<'a>]),
+    /// Its NSEC3 records, of which those with the parameters are meant (RFC 5155 3).
+    Nsec3(&'a [Nsec3Entry<'a>], &'a Nsec3Parameters),
+}
+
+/// A chain of a zone at or above the question's name.
+#[derive(Clone, Copy, Debug)]
+pub struct ZoneChain<'a> {
+    pub zone: &'a Name,
+    pub entries: ChainEntries<'a>,
+}
