@@ -1,7 +1,7 @@
 -- Lines which say that the signer of an RRset isn't trusted.
-use Rattle.std.proofs.Common.{◌≡◌, ◌+◌, ◌-◌, ◌⊎◌, ℕ, List, [], ◌∷◌, Some, inl, inr, length, map, refl, sym, ap, ◌∙◌, subst, ⊎_elim, arith}
+use Rattle.std.proofs.Common.{◌≡◌, ◌+◌, ℕ, List, [], ◌∷◌, inl, inr, refl, sym, ap, subst, ⊎_elim, arith}
 use Rattle.std.proofs.lemmas.Option.{slice_get_within, get_or_from_slice_get}
-use Rattle.std.specs.List.{Contains, slice_get}
+use Rattle.std.specs.List.{Contains}
 use Rattle.dnsv_names.specs.Name.{Labels, IsAtOrBelow, SameName}
 use Rattle.dnsv_names.specs.Order.{IsBelow}
 use Rattle.dnsv_names.specs.Tree.TreeLaws.{at_or_below_or_not}
@@ -15,7 +15,7 @@ use Rattle.dnsv_chain.specs.Trusted.IsTrusted.{anchored, delegated}
 use Rattle.dnsv_explain.specs.Explained.{Setting}
 use Rattle.dnsv_explain.specs.faults.Keys.{HasKeys, IsTrustedZone}
 use Rattle.dnsv_explain.specs.faults.Listing.{AreThose}
-use Rattle.dnsv_explain.specs.faults.RrsetLines.{AreFaults, AreLinesAt, AreRrsetLines, AreSignatureLines, IsRemark, IsTrueOf, fault_line, follows_line, shown_of, unsigned_line}
+use Rattle.dnsv_explain.specs.faults.RrsetLines.{AreLinesAt, AreRrsetLines, AreSignatureLines, IsRemark, IsTrueOf, fault_line, follows_line, shown_of, unsigned_line}
 use Rattle.dnsv_explain.specs.faults.RrsetLines.AreRrsetLines.{secured, unsigned, unproved}
 use Rattle.dnsv_explain.specs.faults.RrsetLines.AreSignatureLines.{faulty, without_faults}
 use Rattle.dnsv_explain.specs.faults.RrsetLines.IsRemark.{no_keys, of_answers, untrusted, nothing}

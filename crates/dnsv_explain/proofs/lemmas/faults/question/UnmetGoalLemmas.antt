@@ -1,8 +1,8 @@
 -- Where an anchor is at or above the name of a question that nothing settles, a reason is among the parts.
-use Rattle.std.proofs.Common.{◌≡◌, ◌≢◌, ◌⊎◌, ◌<◌, ◌≤◌, ◌+◌, ◌-◌, ◌++◌, ℕ, zero, suc, List, [], ◌∷◌, Some, inl, inr, get_or, length, refl, sym, ap, ◌∙◌, subst, ⊎_elim, arith}
-use Rattle.std.proofs.lemmas.Bool.{cases_eq, cases_lt}
+use Rattle.std.proofs.Common.{◌≡◌, ◌≢◌, ◌≤◌, ◌+◌, ◌-◌, ◌++◌, ℕ, zero, suc, List, [], ◌∷◌, inl, inr, length, refl, sym, ◌∙◌, subst, ⊎_elim, arith}
+use Rattle.std.proofs.lemmas.Bool.{cases_eq}
 use Rattle.std.proofs.lemmas.List.Elements.{Contains-append_left, Contains-append_right, Contains-get_or}
-use Rattle.std.specs.List.{Contains, slice_get}
+use Rattle.std.specs.List.{Contains}
 use Rattle.dnsv_names.specs.Name.{Labels, SameName, IsAtOrBelow, rightmost}
 use Rattle.dnsv_names.specs.Tree.AncestorLaws.{rightmost_same}
 use Rattle.dnsv_names.specs.Tree.TreeLaws.{at_or_below_length, at_or_below_respects, below_length, same_labels}
@@ -11,10 +11,9 @@ use Rattle.dnsv_records.specs.declared.rrsig.Rrsig.{Rrsig}
 use Rattle.dnsv_zones.specs.zones.TypeNumbers.{cname}
 use Rattle.dnsv_canonical.specs.Rdata.{IsWellFormed}
 use Rattle.dnsv_canonical.specs.Rrsets.{IsNumbered, ReceivedRrset}
-use Rattle.dnsv_canonical.specs.SignedData.{IsExpanded, signed_label_count}
+use Rattle.dnsv_canonical.specs.SignedData.{IsExpanded}
 use Rattle.dnsv_chain.specs.Trusted.{IsSecured}
-use Rattle.dnsv_denial.specs.proving.FirstProof.{CanProveNoCloser}
-use Rattle.dnsv_verdict.specs.Secure.{HoldsForName, IsSecureSet}
+use Rattle.dnsv_verdict.specs.Secure.{HoldsForName}
 use Rattle.dnsv_verdict.specs.Settled.{HasAnswer, IsSettled}
 use Rattle.dnsv_verdict.specs.Verdict.{HasAnchor}
 use Rattle.dnsv_explain.specs.Explained.{Setting}
@@ -22,23 +21,22 @@ use Rattle.dnsv_explain.specs.derivations.OwnDerivations.{SecuredIn}
 use Rattle.dnsv_explain.specs.derivations.Ways.{HasSecured}
 use Rattle.dnsv_explain.specs.faults.Keys.{IsTrustedZone}
 use Rattle.dnsv_explain.specs.faults.Listing.{AreOfEach, AreOfNumbered}
-use Rattle.dnsv_explain.specs.faults.Order.{AreCloserLines, AreFaultParts, AreGoalClosers, AreGoalLines, AreNeededLines, HasNoDenial, IsCloserOpen, IsEndLine, closer_line, missing_line, names_down, unproved_line}
+use Rattle.dnsv_explain.specs.faults.Order.{AreCloserLines, AreFaultParts, AreGoalClosers, AreGoalLines, AreNeededLines, IsCloserOpen, IsEndLine, closer_line, names_down}
 use Rattle.dnsv_explain.specs.faults.Order.IsEndLine.{denied, missing}
 use Rattle.dnsv_explain.specs.faults.RrsetLines.{AreRrsetLines, shown_of}
 use Rattle.dnsv_explain.specs.faults.ZoneLines.{AreZoneLines, zone_line}
-use Rattle.dnsv_explain.specs.faults.Zones.{HasGoal, HasGoalSigner, IsGoal, IsNeeded, IsNeededFirst, IsParent}
+use Rattle.dnsv_explain.specs.faults.Zones.{HasGoal, HasGoalSigner, IsGoal, IsNeeded, IsParent}
 use Rattle.dnsv_explain.specs.faults.Zones.IsNeeded.{above, first}
 use Rattle.dnsv_explain.specs.faults.Zones.IsNeededFirst.{signer}
 use Rattle.dnsv_explain.specs.faults.Zones.NeedsAbove.{parent}
 use Rattle.dnsv_explain.specs.declared.line.Line.{Line}
 use Rattle.dnsv_explain.specs.declared.line.Line.TheVariants as line
 use Rattle.dnsv_explain.specs.declared.line.fault.Reason.{Reason}
-use Rattle.dnsv_explain.specs.declared.line.fault.Reason.TheVariants as reason
 use Rattle.dnsv_explain.specs.declared.line.fault.zone.WhyZone.TheVariants as zone_why
 use Rattle.dnsv_explain.proofs.lemmas.NumberedLemmas.{same_number}
 use Rattle.dnsv_explain.proofs.lemmas.faults.question.DownLemmas.{down_at, down_length}
 use Rattle.dnsv_explain.proofs.lemmas.faults.question.SameLemmas.{needed_above, needed_same, trusted_same}
-use Rattle.dnsv_explain.proofs.lemmas.faults.question.UnmetLemmas.{HasReason, at_of, fewer, first_unmet, list_for, list_of, numbered_from, there_at}
+use Rattle.dnsv_explain.proofs.lemmas.faults.question.UnmetLemmas.{HasReason, at_of, fewer, first_unmet, list_for, list_of, numbered_from}
 use Rattle.dnsv_explain.proofs.lemmas.faults.question.UnmetZoneLemmas.{in_one, zone_unmet}
 
 -- the last line is a reason

@@ -1,15 +1,14 @@
 -- A key that doesn't sign the DNSKEY RRset in which it stands has a reason.
-use Rattle.std.proofs.Common.{◌≡◌, ◌≢◌, ◌⊎◌, ◌+◌, ◌++◌, ℕ, IsTrue, List, [], ◌∷◌, Some, inl, inr, length, map, refl, sym, ap, ◌∙◌, subst, ⊎_elim, arith}
+use Rattle.std.proofs.Common.{◌≡◌, ◌+◌, ℕ, List, [], ◌∷◌, Some, inl, inr, map, refl, sym, ap, ◌∙◌, subst, ⊎_elim, arith}
 use Rattle.std.specs.List.{Contains, slice_get}
 use Rattle.dnsv_names.specs.Name.{Labels, SameName}
 use Rattle.dnsv_records.proofs.OneRecord.{one_rrsig}
 use Rattle.dnsv_records.specs.Rrsig.{IsRrsig}
 use Rattle.dnsv_records.specs.declared.rrsig.Rrsig.{Rrsig}
 use Rattle.dnsv_canonical.specs.Rdata.{IsSignatureOver, IsWellFormed}
-use Rattle.dnsv_canonical.specs.Rrsets.{IsNumbered, ReceivedRrset}
+use Rattle.dnsv_canonical.specs.Rrsets.{ReceivedRrset}
 use Rattle.dnsv_verifier.proofs.NumberLemmas.{contains_from_map}
 use Rattle.dnsv_verifier.specs.Admissible.{DnskeyRecord, IsGood}
-use Rattle.dnsv_verifier.specs.declared.answer.Answer.{Answer}
 use Rattle.dnsv_verifier.specs.declared.answer.Answer.TheVariants.{Valid}
 use Rattle.dnsv_chain.proofs.ChainLemmas.{one_key}
 use Rattle.dnsv_chain.specs.Trusted.{IsKeyOf, SignsItsSet}
@@ -18,14 +17,13 @@ use Rattle.dnsv_explain.specs.Following.{IsNamed}
 use Rattle.dnsv_explain.specs.derivations.WaySearch.{AreKeysInOrder}
 use Rattle.dnsv_explain.specs.faults.Keys.{HasKeys, IsKeyAt, IsZoneKey, named_by}
 use Rattle.dnsv_explain.specs.faults.Listing.{AreOfNumbered, AreWhere}
-use Rattle.dnsv_explain.specs.faults.RrsetLines.{fault_line, shown_of, unsigned_line}
+use Rattle.dnsv_explain.specs.faults.RrsetLines.{fault_line, shown_of}
 use Rattle.dnsv_explain.specs.faults.SignatureFaults.{IsAnswered, IsFaultOf, asked_before}
-use Rattle.dnsv_explain.specs.faults.ZoneLines.{AreKeyLines, AreNamedLines, AreSelfFaults, AreSetLines, AreWhyNotGood, AreWhys, IsKeysAt, IsSomeSelfSigned, MayBeBy, not_self_signed_line}
+use Rattle.dnsv_explain.specs.faults.ZoneLines.{AreKeyLines, AreNamedLines, AreSetLines, AreWhyNotGood, IsSomeSelfSigned, MayBeBy}
 use Rattle.dnsv_explain.specs.faults.ZoneLines.AreKeyLines.{named, not_self_signed, unsigned}
 use Rattle.dnsv_explain.specs.faults.ZoneLines.AreSetLines.{of_keys, other}
 use Rattle.dnsv_explain.specs.faults.ZoneLines.AreWhys.{answered, faulty, silent}
 use Rattle.dnsv_explain.specs.declared.line.Line.{Line}
-use Rattle.dnsv_explain.specs.declared.line.Line.TheVariants as line
 use Rattle.dnsv_explain.specs.declared.line.fault.Reason.TheVariants as reason
 use Rattle.dnsv_explain.specs.declared.line.fault.signature.ShownSignature.{ShownSignature}
 use Rattle.dnsv_explain.specs.declared.line.fault.signature.WhySignature.{WhySignature}

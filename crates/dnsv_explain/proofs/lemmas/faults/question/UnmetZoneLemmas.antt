@@ -1,41 +1,37 @@
 -- A zone that isn't trusted has a reason, or a parent that isn't trusted.
-use Rattle.std.proofs.Common.{◌≡◌, ◌≢◌, ◌⊎◌, ◌<◌, ◌+◌, ◌-◌, ◌++◌, ℕ, IsTrue, List, [], ◌∷◌, Option, Some, None, inl, inr, get_or, length, map, refl, sym, ap, ◌∙◌, subst, ⊎_elim, arith}
+use Rattle.std.proofs.Common.{◌≡◌, ◌+◌, ◌-◌, ℕ, List, [], ◌∷◌, Option, Some, None, inl, inr, get_or, refl, sym, ap, ◌∙◌, subst, ⊎_elim, arith}
 use Rattle.std.proofs.lemmas.List.Elements.{Contains-append_left, Contains-append_right, Contains-get_or}
 use Rattle.std.specs.List.{AllZip, Contains, slice_get}
 use Rattle.dnsv_names.specs.Name.{Labels, SameName}
-use Rattle.dnsv_names.specs.Order.{IsBelow}
 use Rattle.dnsv_names.specs.Tree.TreeLaws.{below_respects}
 use Rattle.dnsv_records.proofs.OneRecord.{one_ds}
 use Rattle.dnsv_records.specs.Ds.{IsDs}
 use Rattle.dnsv_records.specs.declared.ds.Ds.{Ds}
-use Rattle.dnsv_canonical.specs.Canonical.{IsCanonical}
 use Rattle.dnsv_canonical.specs.CanonicalRdata.{canonical_form}
 use Rattle.dnsv_canonical.specs.Rdata.{IsWellFormed}
-use Rattle.dnsv_canonical.specs.Rrsets.{IsNumbered, ReceivedRrset}
+use Rattle.dnsv_canonical.specs.Rrsets.{ReceivedRrset}
 use Rattle.dnsv_verifier.proofs.NumberLemmas.{contains_from_map, contains_map}
 use Rattle.dnsv_verifier.specs.Admissible.{DnskeyRecord}
-use Rattle.dnsv_chain.specs.Anchor.{HasAnchorMatch, IsAnchorMatch, anchor_owner}
-use Rattle.dnsv_chain.specs.Ds.{IsSupported}
-use Rattle.dnsv_chain.specs.Trusted.{DelegatesTo, IsGoodByTrust, IsSignedUnder}
+use Rattle.dnsv_chain.specs.Anchor.{IsAnchorMatch, anchor_owner}
+use Rattle.dnsv_chain.specs.Trusted.{DelegatesTo, IsSignedUnder}
 use Rattle.dnsv_chain.specs.Trusted.IsTrusted.{anchored, delegated}
 use Rattle.dnsv_chain.specs.declared.anchor.Anchor.{Anchor}
 use Rattle.dnsv_chain.specs.declared.anchor.Anchor.TheVariants as anchor
 use Rattle.dnsv_denial.specs.declared.records.number.RecordNumber.{RecordNumber}
 use Rattle.dnsv_explain.specs.Explained.{Setting}
 use Rattle.dnsv_explain.specs.derivations.Ways.{HasSecured}
-use Rattle.dnsv_explain.specs.faults.Entries.{HasTag, IsEntryFault, IsFaultOfEntry, IsFirstOf, IsMatchOf, IsWantedBy, Wanted, entry_rank, entry_words}
-use Rattle.dnsv_explain.specs.faults.Entries.Wanted.{by_digest, whole_key}
-use Rattle.dnsv_explain.specs.faults.Keys.{IsKeyAt, IsTrustedZone}
-use Rattle.dnsv_explain.specs.faults.Listing.{AreOfEach, AreOfNumbered, AreParted, AreThose, AreWhere}
+use Rattle.dnsv_explain.specs.faults.Entries.{IsEntryFault, IsFaultOfEntry, IsFirstOf, IsMatchOf, Wanted, entry_rank, entry_words}
+use Rattle.dnsv_explain.specs.faults.Entries.Wanted.{by_digest}
+use Rattle.dnsv_explain.specs.faults.Keys.{IsTrustedZone}
+use Rattle.dnsv_explain.specs.faults.Listing.{AreOfEach, AreOfNumbered, AreThose}
 use Rattle.dnsv_explain.specs.faults.RrsetLines.{AreRrsetLines}
-use Rattle.dnsv_explain.specs.faults.ZoneLines.{AreAnchorWanted, AreDsWanted, AreEntryLines, AreLinesOfKeys, AreRankLines, AreRecordsOf, AreRecordsSaid, AreSaid, AreSaidOf, AreSelfFaults, AreSetLines, AreWayLines, AreWordLines, AreZoneLines, HasNoWay, IsLeftOut, IsOfParent, IsSomeSelfSigned, entry_line, wanted_anchor, zone_line}
+use Rattle.dnsv_explain.specs.faults.ZoneLines.{AreAnchorWanted, AreDsWanted, AreEntryLines, AreRankLines, AreRecordsOf, AreRecordsSaid, AreSaid, AreSaidOf, AreSelfFaults, AreWayLines, AreWordLines, AreZoneLines, HasNoWay, IsLeftOut, IsOfParent, IsSomeSelfSigned, entry_line, wanted_anchor, zone_line}
 use Rattle.dnsv_explain.specs.faults.ZoneLines.AreRankLines.{said, unsaid}
 use Rattle.dnsv_explain.specs.faults.ZoneLines.AreZoneLines.{anchored as with_anchor, no_anchor}
 use Rattle.dnsv_explain.specs.faults.Zones.{HasOwnAnchor, HasRrset, IsDsWay, IsParent}
 use Rattle.dnsv_explain.specs.unsigned_cuts.UnsignedCuts.{record_of}
 use Rattle.dnsv_explain.specs.declared.line.Line.{Line}
 use Rattle.dnsv_explain.specs.declared.line.Line.TheVariants as line
-use Rattle.dnsv_explain.specs.declared.line.fault.Reason.{Reason}
 use Rattle.dnsv_explain.specs.declared.line.fault.Reason.TheVariants as reason
 use Rattle.dnsv_explain.specs.declared.line.fault.zone.EntryNumber.TheVariants as entry_number
 use Rattle.dnsv_explain.specs.declared.line.fault.zone.WhyEntry.{WhyEntry}

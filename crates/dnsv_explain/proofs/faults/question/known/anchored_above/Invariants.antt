@@ -1,6 +1,5 @@
 use Rattle.std.proofs.Common.{◌≤◌}
 use Rattle.dnsv_explain.specs.Explained.{setting_in}
-use Rattle.dnsv_explain.specs.faults.NeededSearch.{IsAnchoredZone}
 use Rattle.dnsv_explain.proofs.lemmas.faults.question.KnownLemmas.{NoneAnchored}
 use Rattle.dnsv_explain.proofs.faults.question.known.anchored_above.Given as goal
 

@@ -1,6 +1,6 @@
 use Rattle.std.proofs.Common.{sym, ◌∙◌, subst}
 use Rattle.std.proofs.lemmas.Bool.{false≢true}
-use Rattle.dnsv_names.specs.Name.{Labels, rightmost}
+use Rattle.dnsv_names.specs.Name.{Labels}
 use Rattle.dnsv_verifier.proofs.AskLemmas.{adds_nothing}
 use Rattle.dnsv_explain.specs.Explained.{setting_in}
 use Rattle.dnsv_explain.specs.faults.Keys.{IsTrustedZone}

@@ -1,4 +1,4 @@
-use Rattle.std.proofs.Common.{[], List, ℕ, subst}
+use Rattle.std.proofs.Common.{List, ℕ, subst}
 use Rattle.dnsv_verifier.specs.Asking.{AddsJust}
 use Rattle.dnsv_explain.specs.Explained.{setting_in}
 use Rattle.dnsv_explain.specs.faults.NeededSearch.{IsAbove, IsAnchoredSpeaker}
