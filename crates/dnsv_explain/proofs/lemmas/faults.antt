@@ -15,4 +15,5 @@ pub mod one
 pub mod question
 pub mod sources
 pub mod truth
+pub mod unmet
 pub mod zones

@@ -1,4 +1,4 @@
-use Rattle.dnsv_explain.proofs.lemmas.faults.question.ReasonLemmas.{has_reason, no_such_reason}
+use Rattle.dnsv_explain.proofs.lemmas.faults.unmet.ReasonLemmas.{has_reason, no_such_reason}
 use Rattle.dnsv_explain.proofs.laws.bogus_questions_fail_for_a_reason.Goals as goal
 
 pub returns-clause-some : goal.returns-clause-some

@@ -24,9 +24,9 @@ use Rattle.dnsv_explain.specs.declared.line.fault.Reason.{Reason}
 use Rattle.dnsv_explain.specs.declared.line.fault.Reason.TheVariants as reason
 use Rattle.dnsv_explain.specs.declared.line.fault.zone.WhyZone.TheVariants as zone_why
 use Rattle.dnsv_explain.proofs.lemmas.faults.TruthLemmas.{first_or_rest, none_in}
-use Rattle.dnsv_explain.proofs.lemmas.faults.question.UnmetGoalLemmas.{parts_unmet}
+use Rattle.dnsv_explain.proofs.lemmas.faults.unmet.GoalLemmas.{parts_unmet}
 use Rattle.dnsv_explain.proofs.lemmas.faults.truth.QuestionLemmas.{question_so}
-use Rattle.dnsv_explain.proofs.lemmas.faults.question.UnmetLemmas.{HasReason, at_front, kept_in}
+use Rattle.dnsv_explain.proofs.lemmas.faults.unmet.ListLemmas.{HasReason, at_front, kept_in}
 
 -- ---- a line with the text of a reason is one
 

@@ -36,8 +36,10 @@ use Rattle.dnsv_explain.specs.declared.line.fault.zone.WhyZone.TheVariants as zo
 use Rattle.dnsv_explain.proofs.lemmas.NumberedLemmas.{same_number}
 use Rattle.dnsv_explain.proofs.lemmas.faults.question.DownLemmas.{down_at, down_length}
 use Rattle.dnsv_explain.proofs.lemmas.faults.question.SameLemmas.{needed_above, needed_same, trusted_same}
-use Rattle.dnsv_explain.proofs.lemmas.faults.question.UnmetLemmas.{HasReason, at_of, fewer, first_unmet, list_for, list_of, numbered_from}
-use Rattle.dnsv_explain.proofs.lemmas.faults.question.UnmetZoneLemmas.{in_one, zone_unmet}
+use Rattle.dnsv_explain.proofs.lemmas.faults.unmet.ListLemmas.{HasReason, at_of, fewer, list_for, list_of, numbered_from}
+use Rattle.dnsv_explain.proofs.lemmas.faults.unmet.RrsetLemmas.{first_unmet}
+use Rattle.dnsv_explain.proofs.lemmas.faults.unmet.EntryLemmas.{in_one}
+use Rattle.dnsv_explain.proofs.lemmas.faults.unmet.ZoneLemmas.{zone_unmet}
 
 -- the last line is a reason
 end_reason : (setting : Setting) (name : Labels) (t : ℕ) (end : Line) → IsEndLine setting name t end → (failed : Reason) × (end ≡ line.Reason failed)

@@ -28,9 +28,10 @@ use Rattle.dnsv_explain.specs.declared.line.fault.Reason.TheVariants as reason
 use Rattle.dnsv_explain.specs.declared.line.fault.signature.ShownSignature.{ShownSignature}
 use Rattle.dnsv_explain.specs.declared.line.fault.signature.WhySignature.{WhySignature}
 use Rattle.dnsv_explain.specs.declared.line.fault.signature.WhySignature.TheVariants as why
-use Rattle.dnsv_explain.proofs.lemmas.faults.question.FollowLemmas.{none_such}
-use Rattle.dnsv_explain.proofs.lemmas.faults.question.UnmetLemmas as unmet
-use Rattle.dnsv_explain.proofs.lemmas.faults.question.UnmetLemmas.{HasReason, at_front, at_of, each_at, fewer, list_for, list_of, may_be_by, none_given, numbered_from}
+use Rattle.dnsv_explain.proofs.lemmas.faults.unmet.FollowLemmas.{none_such}
+use Rattle.dnsv_explain.proofs.lemmas.faults.unmet.RrsetLemmas as unmet
+use Rattle.dnsv_explain.proofs.lemmas.faults.unmet.ListLemmas.{HasReason, at_front, at_of, each_at, fewer, list_for, list_of, numbered_from}
+use Rattle.dnsv_explain.proofs.lemmas.faults.unmet.RrsetLemmas.{may_be_by, none_given}
 
 -- a word of a signature is a reason
 pub no_words : (shown : ShownSignature) (words : List WhySignature) → ¬ HasReason (map (fault_line shown) words) → words ≡ []
