@@ -30,7 +30,7 @@ use Rattle.dnsv_explain.specs.declared.line.fault.signature.WhySignature.{WhySig
 use Rattle.dnsv_explain.specs.declared.line.fault.signature.WhySignature.TheVariants as why
 use Rattle.dnsv_explain.proofs.lemmas.faults.unmet.FollowLemmas.{none_such}
 use Rattle.dnsv_explain.proofs.lemmas.faults.unmet.RrsetLemmas as unmet
-use Rattle.dnsv_explain.proofs.lemmas.faults.unmet.ListLemmas.{HasReason, at_front, at_of, each_at, fewer, list_for, list_of, numbered_from}
+use Rattle.dnsv_explain.proofs.lemmas.faults.unmet.ListLemmas.{HasReason, at_front, at_of, each_at, fewer, list_for, list_of}
 use Rattle.dnsv_explain.proofs.lemmas.faults.unmet.RrsetLemmas.{may_be_by, none_given}
 
 -- a word of a signature is a reason

@@ -1,5 +1,5 @@
 -- An RRset without a good signature has a reason, or says that a signer isn't trusted.
-use Rattle.std.proofs.Common.{◌≡◌, ◌<◌, ◌≤◌, ◌+◌, ◌-◌, ◌^◌, ◌++◌, ℕ, IsTrue, List, [], ◌∷◌, Some, map, refl, sym, ap, ◌∙◌, ⊎_elim, arith}
+use Rattle.std.proofs.Common.{◌≡◌, ◌<◌, ◌≤◌, ◌+◌, ◌^◌, ◌++◌, ℕ, IsTrue, List, [], ◌∷◌, Some, map, refl, sym, ap, ◌∙◌, ⊎_elim, arith}
 use Rattle.std.proofs.lemmas.Bool.{cases_lt}
 use Rattle.std.specs.List.{Contains, flat_map, slice_get}
 use Rattle.dnsv_names.specs.Name.{SameName}
