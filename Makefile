@@ -48,12 +48,13 @@ test-tools:
 	python3 -m unittest discover -s tools/tests
 
 # The commands of the pages, against what the pages show, with the program and the tools as they are installed.
-# CAPTURING.md needs root, and the packages that it names; AUDITING.md needs parallel.
+# CAPTURING.md and BREAKS.md need root, and the packages that they name; AUDITING.md needs parallel.
 installed = $(CURDIR)/out/installed
 pages: export PATH := $(installed)/bin:$(PATH)
 pages: | $(program)
 	$(MAKE) --silent install PREFIX=$(installed) DESTDIR=
 	tools/pages docs/CAPTURING.md
+	tools/pages docs/BREAKS.md
 	tools/pages docs/AUDITING.md
 	tools/pages examples/README.md
 	HOME=$$(mktemp -d) tools/pages README.md dnssec_check "To install it" "The program by itself"

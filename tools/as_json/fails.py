@@ -20,7 +20,7 @@ def source(fields):
     if kind == "nsec":
         return {"kind": kind, "zone": zone}, rest
     _, iterations, _, salt, *rest = rest
-    return {"kind": kind, "zone": zone, "iterations": int(iterations), "salt": "" if salt == "-" else salt}, rest
+    return {"kind": kind, "zone": zone, "iterations": int(iterations), "salt": salt}, rest
 
 
 def sourced(fields):

@@ -56,7 +56,7 @@ def source(line):
     kind = line["kind"].upper()
     if "salt" not in line:
         return f"{kind} of {line['zone']}"
-    salt = line["salt"] if line["salt"] not in ("", "-") else "none"
+    salt = line["salt"] if line["salt"] != "-" else "none"
     return f"{kind} of {line['zone']} (iterations {line['iterations']}, salt {salt})"
 
 

@@ -1,16 +1,16 @@
-"""The RRsets of a capture with their signatures, numbered as the program does, and what else its records tell."""
+"""The RRsets of a capture with their signatures, numbered as the program does, and to what aliases lead."""
 from collections import namedtuple
 
 from capturing.frames import frames_of
-from capturing.messages import TYPE_CNAME, TYPE_DNSKEY, TYPE_RRSIG, lower, name_at, name_text, records_of
+from capturing.messages import TYPE_CNAME, TYPE_RRSIG, lower, name_at, name_text, records_of
 from capturing.octets import Incomplete, number_at
 
 CLASS_IN = 1
 # The types below 128 that form no RRset: 0, the legacy ones, OPT and RRSIG; those of 128 to 255 don't either.
 UNGROUPED = {0, 3, 4, 7, 8, 9, 14, 17, 18, 21, 24, 26, 30, 35, 36, 38, 41, 46}
-SIGNER = 18  # where the signer's name stands in the RDATA of an RRSIG record (RFC 4034 3.1)
+TAG, SIGNER = 16, 18  # where the key tag and the signer's name stand in the RDATA of an RRSIG record (RFC 4034 3.1)
 
-Signature = namedtuple("Signature", "algorithm expires begins tag signer")
+Signature = namedtuple("Signature", "tag signer")
 # A record with the number of its RRset, and that of its signature where it is one; None where it has none.
 Placed = namedtuple("Placed", "record number rrset signature")
 
@@ -18,7 +18,7 @@ Placed = namedtuple("Placed", "record number rrset signature")
 class Rrset:
     def __init__(self, number, owner, kind):
         self.number, self.owner, self.kind = number, owner, kind
-        self.signatures, self.targets, self.tags = [], [], []
+        self.signatures, self.targets = [], []
 
 
 def forms_rrsets(kind):
@@ -41,9 +41,7 @@ def target_of(octets, record):
 
 
 def signature_of(octets, record):
-    front = record.front
-    numbers = [number_at(octets, front + at, size) for at, size in ((2, 1), (8, 4), (12, 4), (16, 2))]
-    return Signature(*numbers, lower(name_at(octets, front + SIGNER)))
+    return Signature(number_at(octets, record.front + TAG, 2), lower(name_at(octets, record.front + SIGNER)))
 
 
 def rdata_of_signature(octets, record):
@@ -99,8 +97,6 @@ class Evidence:
             self.rrsets.append(found[key])
         if record.kind == TYPE_CNAME:
             found[key].targets.append(target_of(octets, record))
-        if record.kind == TYPE_DNSKEY:
-            found[key].tags.append(tag_of(octets[record.front:record.end]))
 
     @staticmethod
     def placed_of(octets, record, number, found, seen):
@@ -134,15 +130,3 @@ class Evidence:
     def target(self, rrset):
         targets = self.rrsets[rrset - 1].targets if rrset <= len(self.rrsets) else []
         return targets[0] if targets else None
-
-    def keys(self):
-        """Each zone with the tags of its keys."""
-        tags = {}
-        for rrset in self.rrsets:
-            if rrset.kind == TYPE_DNSKEY:
-                tags.setdefault(rrset.owner, set()).update(rrset.tags)
-        return tags
-
-    def signatures(self):
-        """Each signature with its RRset."""
-        return [(rrset, each) for rrset in self.rrsets for each in rrset.signatures]

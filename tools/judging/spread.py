@@ -19,7 +19,7 @@ def of_unread(task, common):
     """The verdicts of a capture that can't be read."""
     number = READ_FAILED if isinstance(task.fault, IsADirectoryError) else OPEN_FAILED
     evidence = {"number": number, "file": "capture"}
-    return Judged([Row(moment, question, FAILED, "fault", evidence, [], None) for moment in common.moments
+    return Judged([Row(moment, question, FAILED, "fault", evidence, None) for moment in common.moments
                    for question in task.questions], [])
 
 

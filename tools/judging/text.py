@@ -5,13 +5,11 @@ from asking.faults import escaped
 from asking.kinds import mnemonic_of
 from asking.moments import moment_text
 from explaining.explanation import Explanation
-from explaining.sentences import holds_until, verdict, why
+from explaining.sentences import first_reason, holds_until, verdict, why
 
-from .advice import UNKNOWN
 from .numbers import fault_text
 
-COLUMNS = ("capture", "moment", "name", "type", "status", "verdict", "evidence", "until")
-NO_ANCHOR = "Indeterminate; no anchor is at or above the name: give one by --anchors"
+COLUMNS = ("capture", "moment", "name", "type", "status", "verdict", "evidence", "until", "reason", "ede")
 PLACES = ("message", "record", "line", "file")
 INDENT = "  "
 
@@ -19,13 +17,15 @@ INDENT = "  "
 def fields_of(capture, row):
     """The values of a row, by column."""
     kind = mnemonic_of(row.question.kind)
-    values = (capture, row.moment, row.question.name, kind, row.status, row.word, row.evidence, until(row))
+    values = (capture, row.moment, row.question.name, kind, row.status, row.word, row.evidence, *why_fields(row))
     return dict(zip(COLUMNS, values))
 
 
-def until(row):
-    """The last moment of those in which the verdict holds; None where nothing is said of it."""
-    return holds_until(Explanation(row.explained)) if row.explained else None
+def why_fields(row):
+    """Until when the verdict holds, and the first reason with its extended DNS error; None of each that isn't said."""
+    told = Explanation(row.explained) if row.explained else None
+    end, said = (holds_until(told), first_reason(told)) if told else (None, None)
+    return (end, f"{said.about}: {said.text}", said.ede) if said else (end, None, None)
 
 
 def json_line(capture, row):
@@ -75,19 +75,12 @@ class Lines:
     def said(self, capture, row):
         if row.word in ("refused", "fault"):
             return f"{row.word} " + fault_text(row.evidence, {**self.paths, "capture": capture})
-        return "; ".join([verdict_text(row), *aliases_texts(row.evidence)])
+        return "; ".join([verdict(Explanation(row.explained)), *aliases_texts(row.evidence)])
 
 
 def reasons_of(row):
     """The sentences that say why the verdict isn't secure."""
     return why(Explanation(row.explained)) if row.explained else []
-
-
-def verdict_text(row):
-    """The verdict at the last name, and until when it holds; where nothing says why it isn't secure, what to look at."""
-    if reasons_of(row) or row.word not in ("Bogus", "Indeterminate"):
-        return verdict(Explanation(row.explained))
-    return NO_ANCHOR if row.word == "Indeterminate" else "Bogus; " + ("; ".join(row.advice) or UNKNOWN)
 
 
 def aliases_texts(evidence):

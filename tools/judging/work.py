@@ -5,15 +5,13 @@ from collections import namedtuple
 
 from verifying.entries import Lacking, Refusal, entry_of, statement_of
 
-from .advice import advice_for
 from .evidence import Evidence
 from .program import todo_lines, told_of
 
 # What is the same for all captures; `keys` and `macs` are octets or None.
 Common = namedtuple("Common", "anchors keys macs moments")
-# A verdict: its word, `evidence` what carries it by name, `advice` what to look at where nothing says why, `explained` the
-# object that says why, None where there is no verdict.
-Row = namedtuple("Row", "moment question status word evidence advice explained")
+# A verdict: its word, `evidence` what carries it by name, `explained` the object that says why, None where there is none.
+Row = namedtuple("Row", "moment question status word evidence explained")
 # The verdicts of a capture, and why signatures could not be verified.
 Judged = namedtuple("Judged", "rows notes")
 
@@ -47,7 +45,7 @@ def judged(octets, questions, common, program):
         statements, notes = statements_of(todo)
         files["statements"] = "".join(statements).encode()
         write_files(folder, {"statements": files["statements"]})
-        view = View(octets, common.anchors, sum(line.startswith("bad ") for line in statements))
+        view = View(octets)
         rows = [view.row(moment, question, told_of(program, folder, files, moment, question))
                 for moment in common.moments for question in questions]
     return Judged(rows, notes)
@@ -56,8 +54,8 @@ def judged(octets, questions, common, program):
 class View:
     """What the records of a capture say of verdicts."""
 
-    def __init__(self, octets, anchors, bad_count):
-        self.octets, self.anchors, self.bad_count, self.kept = octets, anchors, bad_count, None
+    def __init__(self, octets):
+        self.octets, self.kept = octets, None
 
     @property
     def evidence(self):
@@ -68,14 +66,11 @@ class View:
 
     def row(self, moment, question, told):
         if told.value is None:
-            return Row(moment, question, told.status, told.word, of_fault(told.said), [], None)
-        aliases, advice = told.value["aliases"], []
+            return Row(moment, question, told.status, told.word, of_fault(told.said), None)
+        aliases = told.value["aliases"]
         evidence = {"aliases": [self.of_alias(each) for each in aliases]} if aliases else {}
-        if told.word == "Bogus" and not has_reason(told.value):
-            last = self.last_name(question, aliases)
-            advice = advice_for(question._replace(name=last), moment, self.evidence, self.anchors, self.bad_count)
         evidence.update(self.evidence_of(told.value))
-        return Row(moment, question, told.status, told.word, evidence, advice, told.value)
+        return Row(moment, question, told.status, told.word, evidence, told.value)
 
     def evidence_of(self, value):
         """What carries the verdict, besides the aliases."""
@@ -97,15 +92,6 @@ class View:
         target = self.evidence.target(alias["rrset"])
         found = {"name": alias["name"], **self.of_signature(alias["rrset"], alias["signature"])}
         return {**found, "target": target} if target else found
-
-    def last_name(self, question, aliases):
-        """The name that the verdict is at: the one that is asked for, or the one that the last alias leads to."""
-        target = self.evidence.target(aliases[-1]["rrset"]) if aliases else None
-        return target or question.name
-
-
-def has_reason(value):
-    return any(line["line"] == "reason" for line in value["why"])
 
 
 def of_fault(line):

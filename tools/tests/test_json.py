@@ -74,7 +74,7 @@ class Json(unittest.TestCase):
                          '{"line":"rrset","rrset":1,"message":2,"section":3,"owner":"a.","type":48}]}\n')
 
     def test_what_fails(self):
-        """Lines that the manual page will have: of a signature, a DS record, a denial and a key."""
+        """Lines of a signature, a DS record, a trust anchor, a denial and a key."""
         lines = """Bogus www.b. 1
 reason 7 expired b. 48 rrset 5 signature 1 key 53641 15 zone b. from 1788220800 to 1790812800 by 4536000
 reason 9 key-missing b. rrset 2 record 1 wants 43646 13 digest 2
@@ -93,7 +93,7 @@ key b. rrset 3 record 2 tag 29000 algorithm 13 flags 257 signature 1 ds 2 1
             '"digest_type":2}',
             '{"line":"reason","word":"key-missing","ede":9,"zone":"b.","anchor":1,"tag":43646,"algorithm":13}',
             '{"line":"reason","word":"not-self-signed","ede":10,"zone":"b.","rrset":3,"tag":42592,"algorithm":13}',
-            '{"line":"reason","word":"cover-missing","ede":12,"kind":"nsec3","zone":"b.","iterations":5,"salt":"",'
+            '{"line":"reason","word":"cover-missing","ede":12,"kind":"nsec3","zone":"b.","iterations":5,"salt":"-",'
             '"role":"next-closer","name":"www.b."}',
             '{"line":"reason","word":"denial-unproved","ede":12,"name":"www.b.","type":1,"zone":"b."}',
             '{"line":"follows","word":"untrusted","owner":"www.b.","type":1,"rrset":4,' + signature % (45316, 13) + '}',
@@ -102,6 +102,7 @@ key b. rrset 3 record 2 tag 29000 algorithm 13 flags 257 signature 1 ds 2 1
         text = self.as_json(["explain", "--moment", "7"], "\n".join(lines) + "\n")
         self.assertEqual(text, '{"command":"explain","name":"www.b.","type":1,"moment":7,"verdict":"Bogus","status":5,'
                                f'"aliases":[],"why":[{",".join(wanted)}]}}\n')
+        self.assert_valid(text)
 
     @unittest.skipIf(jsonschema is None, "needs python3-jsonschema")
     def test_the_schema_is_closed(self):

@@ -5,7 +5,7 @@ import unittest
 
 from tool import TOOLS, load, run
 
-PAGES = ("README.md", "docs/CAPTURING.md", "docs/AUDITING.md", "examples/README.md")
+PAGES = ("README.md", "docs/CAPTURING.md", "docs/BREAKS.md", "docs/AUDITING.md", "examples/README.md")
 
 
 class Pages(unittest.TestCase):

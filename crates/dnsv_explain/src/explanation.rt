@@ -114,11 +114,7 @@ fn explanation_of(
 }
 
 /// Why nothing is proved: what fails, and then what holds.
-fn failed(
-    alloc: Global,
-    judged: &Judged<'_>,
-    rtype: RecordType,
-) -> Result<Explanation, AllocError>
+fn failed(alloc: Global, judged: &Judged<'_>, rtype: RecordType) -> Result<Explanation, AllocError>
     requires trust { HasTrust judged.now.grounds }
     requires kept { IsKept judged.now.grounds rtype.0 judged.now.report.links judged.now.report.last
         judged.now.report.verdict judged.now.hashes.items judged.now.hope }
@@ -130,15 +126,15 @@ fn failed(
 {
     let evidence = evidence_of(&judged.grounds, None);
     let mut lines = Vec::new(alloc);
-    let hashes = &judged.hashes[judged.report.links.as_slice().len()];
+    let last = &judged.hashes[judged.report.links.as_slice().len()];
     let at = At {
         grounds: &judged.grounds,
-        hashes,
+        hashes: last,
         name: &judged.report.last,
     };
     add_failure(alloc, &evidence, &at, &mut lines, rtype)?;
     add_links(alloc, &evidence, judged, &mut lines, rtype)?;
-    add_verdict(alloc, &evidence, judged, hashes, &mut lines, rtype)?;
+    add_verdict(alloc, &evidence, judged, last, &mut lines, rtype)?;
     add_places_named(alloc, &evidence, &mut lines)?;
     Ok(Explanation { lines })
 }

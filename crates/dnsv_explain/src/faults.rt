@@ -17,39 +17,20 @@ ghost use Rattle.dnsv_verifier.specs.Asking.{AreKeysOf};
 ghost use Rattle.dnsv_explain.specs.Explained.{setting_in};
 ghost use Rattle.dnsv_explain.specs.derivations.Ways.{HasSecured};
 ghost use Rattle.dnsv_explain.specs.faults.Listing.{AddsThose};
-ghost use Rattle.dnsv_explain.specs.faults.RrsetLines.{AreLinesOfEach, AreLinesOfNumber, AreRrsetLines, unsigned_line};
+ghost use Rattle.dnsv_explain.specs.faults.RrsetLines.{AreLinesOfEach, AreRrsetLines, unsigned_line};
 
 use crate::evidence::Evidence;
-use crate::faults::keys::all_keys;
 use crate::faults::signature::add_signature;
 use crate::line::Line;
 use crate::line::derivation::SignatureNumber;
 use crate::line::fault::Reason;
 use crate::line::fault::signature::UnsignedRrset;
-use crate::numbered::numbered;
 use dnsv_canonical::Rrset;
 use dnsv_verifier::KeyRecord;
 use std::alloc::{AllocError, Global};
 
-/// Why the RRset with the number proves nothing: nothing where one of its signatures is good under a trusted key, that it
-/// has no signatures, or what is wrong with each of them. Of a number that no RRset has nothing is said.
-pub fn add_rrset_faults(
-    alloc: Global,
-    evidence: &Evidence<'_>,
-    lines: &mut Vec<Line>,
-    number: usize,
-) -> Result<(), AllocError>
-    ensures { OnOk result (AddsThose (AreLinesOfNumber (setting_in evidence.now) number) lines.old.items lines.new.items) }
-{
-    let Some(rrset) = numbered(evidence.rrsets(), number) else {
-        return Ok(());
-    };
-    let keys = all_keys(alloc, evidence.rrsets())?;
-    add_rrset(alloc, evidence, &keys, lines, number, rrset)?;
-    Ok(())
-}
-
-/// Adds what is said of the RRset, which has the number. `keys` are those of the evidence.
+/// Adds why the RRset, which has the number, proves nothing: nothing where one of its signatures is good under a trusted
+/// key, that it has no signatures, or what is wrong with each of them. `keys` are those of the evidence.
 fn add_rrset(
     alloc: Global,
     evidence: &Evidence<'_>,

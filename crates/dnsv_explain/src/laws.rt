@@ -24,7 +24,7 @@ ghost use Rattle.dnsv_explain.specs.Marked.{AnswersMarked};
 ghost use Rattle.dnsv_explain.specs.Following.{EachFollows, at_moment};
 ghost use Rattle.dnsv_explain.specs.Following.Cases.{IsCaseBy};
 ghost use Rattle.dnsv_explain.specs.Following.Parts.{IsPartOf, IsUnusableRecord};
-ghost use Rattle.dnsv_explain.specs.faults.Order.{AreFaultLines, AreLacking};
+ghost use Rattle.dnsv_explain.specs.faults.Order.{AreFaultLines};
 ghost use Rattle.dnsv_explain.specs.faults.RrsetLines.{AreLinesOfNumber};
 ghost use Rattle.dnsv_explain.specs.faults.Truth.{IsReasonTrue};
 ghost use Rattle.dnsv_explain.specs.faults.ZoneLines.{AreZoneLines, zone_line};
@@ -180,11 +180,4 @@ pub fn questions_without_an_anchor_fail_for_that()
     ensures { (setting : Setting) (name : Labels) (t : ℕ) (lines : List Line) → ¬ HasAnchor setting.anchors name
         → AreFaultLines setting name t lines
         → (rest : List Line) × (lines ≡ zone_line WhyZone.NoAnchor name ∷ rest) }
-{}
-
-/// What fails of a question is one list: the same evidence, anchors, moment and answers give the same lines.
-pub fn a_failure_has_one_list()
-    ensures { (setting : Setting) (name : Labels) (t : ℕ) (a b : List Line)
-        → ((c d : List Line) → AreLacking setting name t c → AreLacking setting name t d → c ≡ d)
-        → AreFaultLines setting name t a → AreFaultLines setting name t b → a ≡ b }
 {}

@@ -8,9 +8,6 @@ pub use derivations::signers::signed_line;
 pub use derivations::ways::trusted_line;
 pub use evidence::Evidence;
 pub use explanation::{Explanation, explain};
-pub use faults::add_rrset_faults;
-pub use faults::question::add_question_faults;
-pub use faults::shown_keys::add_keys_in_question;
 pub use interval::{Interval, Times, holding};
 pub use laws::{
     a_report_has_one_explanation, denials_follow, derivations_follow, expanded_signatures_follow,

@@ -32,7 +32,7 @@ def values_of(key, form):
         return tuple(form["enum"])
     if form["type"] == "integer":
         return NUMBERS.get(key, (7,))
-    return ("", "-", "aabb") if key == "salt" else (f"{key}.example.",)
+    return ("-", "aabb") if key == "salt" else (f"{key}.example.",)
 
 
 def lines_of(form):

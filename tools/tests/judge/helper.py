@@ -14,8 +14,9 @@ NOON = "1795348800"
 ANCHORS = EXAMPLES / "bind-www-a-check" / "anchors"
 DEBIAN = "/usr/bin/python3"
 
-# Answers as the examples do. Whatever no example asks is Bogus, and nothing says why.
+# Answers as the examples do. Whatever no example asks is Bogus, and bind.test. says nothing of it.
 BOGUS = {"command": "explain", "name": ".", "type": 0, "moment": 0, "verdict": "Bogus", "status": 5, "aliases": [], "why": []}
+MISSING = {"line": "reason", "word": "answer-missing", "ede": 12}
 DOUBLE = """#!/usr/bin/env python3
 import hashlib, json, sys
 told = json.load(open(INDEX))
@@ -27,6 +28,7 @@ def value(word):
 words = sorted(value(word) for word in sys.argv[2:] if not word.startswith("--statements"))
 bogus = dict(BOGUS, **{name[2:]: text for name, text in words if name == "--name"},
              **{name[2:]: int(text) for name, text in words if name in ("--type", "--moment")})
+bogus["why"] = [dict(MISSING, name=bogus["name"], type=bogus["type"], zone="bind.test.")]
 status, output, errors = told.get(json.dumps([sys.argv[1], words]), [5, json.dumps(bogus), ""])
 sys.stdout.write(output)
 sys.stderr.write(errors)
@@ -116,7 +118,8 @@ class Judging(unittest.TestCase):
         path = self.room / "bin" / "dnssec_check"
         path.parent.mkdir()
         (self.room / "bin" / "index").write_text(json.dumps(index()))
-        path.write_text(DOUBLE.replace("INDEX", repr(str(self.room / "bin" / "index"))).replace("BOGUS", repr(BOGUS)))
+        values = {"INDEX": str(self.room / "bin" / "index"), "BOGUS": BOGUS, "MISSING": MISSING}
+        path.write_text(functools.reduce(lambda text, name: text.replace(name, repr(values[name])), values, DOUBLE))
         path.chmod(0o755)
         return path
 
@@ -131,3 +134,8 @@ class Judging(unittest.TestCase):
 
 def capture_of(name):
     return EXAMPLES / f"{name}-list" / "capture"
+
+
+def verdicts(lines):
+    """The lines but for those that say why."""
+    return [line for line in lines if not line.startswith("  ")]

@@ -6,7 +6,7 @@ import unittest
 
 from tool import TOOLS
 
-from .helper import ANCHORS, EXAMPLES, NOON, Judging, capture_of, needs_dns
+from .helper import ANCHORS, EXAMPLES, NOON, Judging, capture_of, needs_dns, verdicts
 
 
 @needs_dns
@@ -15,7 +15,7 @@ class Page(Judging):
     def test_a_page_of_two_captures(self):
         path, www, cut = self.room / "page.html", capture_of("bind-www-a"), capture_of("bind-cut-www")
         status, lines, errors = self.noon("--html", path, www, cut, "www.bind.test/A")
-        self.assertEqual((status, len(lines), errors), (5, 2, ""))
+        self.assertEqual((status, len(verdicts(lines)), errors), (5, 2, ""))
         text = path.read_text()
         for part in ("www.bind.test. A: SecureAnswer, until 2027-03-01", "www.bind.test. A: Bogus", f"Records of {www}", f"Records of {cut}",
                      "message 6 record 1 (answer) RRset 6", "</html>"):

@@ -5,11 +5,12 @@ import shutil
 
 from tool import TOOLS, run_program
 
-from .helper import ANCHORS, EXAMPLES, NOON, Judging, capture_of, needs_dns
+from .helper import ANCHORS, EXAMPLES, NOON, Judging, capture_of, needs_dns, verdicts
 
 WWW, NOSUCH, CUT = map(capture_of, ("bind-www-a", "bind-nosuch", "bind-cut-www"))
 BAD_NAMES = ("a b", "it's", "*", "a;touch X", "$(touch X)", "`touch X`", "back\\slash", "two\nlines", "-x", "tab\tbed",
              'quo"ted', "esc\x1b[2J", os.fsdecode(b"octet\xff"))
+MISSING = "the capture has no such record, and no proof by bind.test. that there is none"
 
 
 @needs_dns
@@ -27,10 +28,11 @@ class Lines(Judging):
 
     def test_what_is_bogus_says_what_to_look_at(self):
         status, lines, _ = self.noon(capture_of("expired-www-a"), "www.expired.test/A")
-        told = "www.expired.test. A: Bogus; signatures of expired.test. were over at 2026-10-01T00:00:00Z"
-        self.assertEqual((status, lines), (5, [told]))
+        told = "  FAIL expired.test. DNSKEY: the signature by key 53641 expired on 2026-10-01 (52 days ago) [EDE 7]"
+        self.assertEqual((status, lines[:2]), (5, ["www.expired.test. A: Bogus", told]))
         status, lines, _ = self.noon(WWW, "other.bind.test/A")
-        self.assertEqual((status, lines), (5, ["other.bind.test. A: Bogus; the capture has no such record, and no proof that there is none"]))
+        told = f"  FAIL other.bind.test. A: {MISSING} [EDE 12]"
+        self.assertEqual((status, lines[:2]), (5, ["other.bind.test. A: Bogus", told]))
 
     def test_a_refusal_says_which_file_and_what_to_do(self):
         query = EXAMPLES / "refuses-a-query" / "capture"
@@ -44,22 +46,24 @@ class Lines(Judging):
                                       WWW, CUT, "www.bind.test/A")
         self.assertEqual(status, 5)
         self.assertEqual(lines[0], f"{WWW}: www.bind.test. A: SecureAnswer, until 2027-03-01 (98 days)")
-        self.assertEqual(len(lines), 2)
+        self.assertEqual(verdicts(lines)[1:], [f"{CUT}: www.bind.test. A: Bogus"])
         _, lines, _ = self.judge("--at", "0", "--at", NOON, "--anchors", ANCHORS, WWW, "www.bind.test/A")
-        self.assertTrue(lines[0].startswith("www.bind.test. A at 1970-01-01T00:00:00Z: Bogus; "))
-        self.assertTrue(lines[1].startswith("www.bind.test. A at 2026-11-22T12:00:00Z: SecureAnswer, until "))
+        first, second = verdicts(lines)
+        self.assertEqual(first, "www.bind.test. A at 1970-01-01T00:00:00Z: Bogus")
+        self.assertTrue(second.startswith("www.bind.test. A at 2026-11-22T12:00:00Z: SecureAnswer, until "))
 
     def test_tables(self):
         status, lines, _ = self.noon("--tsv", NOSUCH, WWW, "nosuch.bind.test/A")
-        head = "capture\tmoment\tname\ttype\tstatus\tverdict\tevidence\tuntil"
+        head = "capture\tmoment\tname\ttype\tstatus\tverdict\tevidence\tuntil\treason\tede"
         row = (f"{NOSUCH}\t{NOON}\tnosuch.bind.test.\tA\t0\tSecureNoName\trecord nodatalias.bind.test. NSEC; record bind.test. NSEC"
-               "\t1803859200")
-        self.assertEqual((status, lines), (5, [head, row, f"{WWW}\t{NOON}\tnosuch.bind.test.\tA\t5\tBogus\t\t"]))
+               "\t1803859200\t\t")
+        bogus = f"{WWW}\t{NOON}\tnosuch.bind.test.\tA\t5\tBogus\t\t\tnosuch.bind.test. A: {MISSING}\t12"
+        self.assertEqual((status, lines), (5, [head, row, bogus]))
         _, lines, _ = self.noon("--jsonl", WWW, "www.bind.test/A")
         carried = {"rrset": 6, "signature": 1, "signer": "bind.test.", "key": 11133}
         self.assertEqual(json.loads(lines[0]), {"capture": str(WWW), "moment": int(NOON), "name": "www.bind.test.", "type": "A",
                                                 "status": 0, "verdict": "SecureAnswer", "evidence": carried,
-                                                "until": 1803859200})
+                                                "until": 1803859200, "reason": None, "ede": None})
 
     def test_several_at_once_give_the_same(self):
         for number in range(7):
@@ -102,12 +106,12 @@ class Words(Judging):
         for words, count in (((WWW, "--questions", questions), len(asked)), ((self.room, "www.bind.test/A"), len(BAD_NAMES))):
             status, lines, errors = self.noon("--tsv", *words)
             self.assertEqual((status in (0, 5, 7), errors, len(lines)), (True, "", 1 + count))
-            self.assertTrue(all(line.count("\t") == 7 and line.replace("\t", "").isprintable() for line in lines))
+            self.assertTrue(all(line.count("\t") == 9 and line.replace("\t", "").isprintable() for line in lines))
         told = {os.fsencode(json.loads(line)["capture"]) for line in self.noon("--jsonl", self.room, "www.bind.test/A")[1]}
         self.assertEqual(told, {os.fsencode(self.room / f"{name}.cap") for name in BAD_NAMES})
         self.assertFalse((self.room / "X").exists() or os.path.exists("X"))
         status, lines, errors = self.noon(WWW, "--", *(f"{name}.test/A" for name in BAD_NAMES))
-        self.assertEqual((errors, len(lines), status in (5, 7)), ("", len(BAD_NAMES), True))
+        self.assertEqual((errors, len(verdicts(lines)), status in (5, 7)), ("", len(BAD_NAMES), True))
 
 
 @needs_dns
@@ -134,7 +138,7 @@ class Ends(Judging):
         path.symlink_to(self.room / "nowhere")
         status, lines, _ = self.noon("--tsv", path, WWW, "www.bind.test/A")
         self.assertEqual((status, len(lines)), (1, 3))
-        self.assertEqual(lines[1], f"{path}\t{NOON}\twww.bind.test.\tA\t1\tfault\t811 capture\t")
+        self.assertEqual(lines[1], f"{path}\t{NOON}\twww.bind.test.\tA\t1\tfault\t811 capture\t\t\t")
 
     def test_what_is_not_there(self):
         words = ("--at", NOON, WWW, "www.bind.test/A")

@@ -5,7 +5,7 @@ import unittest
 from unittest import mock
 
 from asking import anchors, faults, kinds, moments, questions
-from judging import advice, evidence
+from judging import evidence
 
 from .helper import EXAMPLES, examples, needs_dns_here
 
@@ -16,11 +16,6 @@ class Names(unittest.TestCase):
                 ("a\0b.", "a\\000b."), ("a\udcff.", "a\\255."))
         for text, name in rows:
             self.assertEqual(questions.name_of(text), name)
-
-    def test_labels(self):
-        rows = ((".", ()), ("A.test.", (b"a", b"test")), ("e\\.dot.test.", (b"e.dot", b"test")), ("\\255\\\\.test.", (b"\xff\\", b"test")))
-        for text, labels in rows:
-            self.assertEqual(advice.labels_of(text), labels)
 
     def test_what_cannot_be_shown_is_escaped(self):
         self.assertEqual(faults.escaped("a\n\x1b\udcff b\u2028ü"), "a\\x0a\\x1b\\xff b\\u2028ü")

@@ -2,7 +2,6 @@
 use Rattle.std.specs.Prelude.{ℕ, List, [], ◌∷◌, ◌++◌, Option, Some, None, codes, map}
 use Rattle.std.specs.Fmt.{decimal}
 use Rattle.std.specs.List.{flat_map}
-use Rattle.dnsv_names.specs.Name.{Labels}
 use Rattle.dnsv_denial.specs.declared.records.number.RecordNumber.{RecordNumber}
 use Rattle.dnsv_explain.specs.line.{kind_text, line_text}
 use Rattle.dnsv_explain.specs.line.Cut.{case_number, why_text}
@@ -17,14 +16,14 @@ use Rattle.dnsv_explain.specs.declared.line.cut.UnusableDs.{UnusableDs}
 use Rattle.dnsv_explain.specs.declared.line.denial.Part.{Part}
 use Rattle.dnsv_explain.specs.declared.line.denial.Proof.{Proof}
 use Rattle.dnsv_explain.specs.declared.line.denial.RecordPlace.{RecordPlace}
-use Rattle.dnsv_explain.specs.declared.line.derivation.KeyName.{KeyName}
-use Rattle.dnsv_explain.specs.declared.line.derivation.SignatureNumber.{SignatureNumber}
 use Rattle.dnsv_explain.specs.declared.line.derivation.SignedRrset.{SignedRrset}
 use Rattle.dnsv_explain.specs.declared.line.derivation.Todo.{Todo}
 use Rattle.dnsv_explain.specs.declared.line.derivation.TrustedKeys.{TrustedKeys}
 use Rattle.dnsv_explain.specs.declared.line.derivation.Voucher.{Voucher}
 use Rattle.dnsv_explain.specs.declared.line.derivation.Voucher.TheVariants.{KeyAnchor, DsAnchor, Ds}
 use Rattle.dnsv_explain.specs.declared.line.place.RrsetPlace.{RrsetPlace}
+use Rattle.dnssec_check.specs.Texts.Faults.{fault_members, shown_key_members, untrusted_members}
+use Rattle.dnssec_check.specs.Texts.Fields.{ds_number_members, given_member, given_number, key_members, numbers_members, record_members}
 use Rattle.dnssec_check.specs.Texts.Json.{array, member, name_json, object, quoted}
 
 -- ---- lines
@@ -35,25 +34,10 @@ why_line line = line_text line ++ codes "\n"
 
 -- ---- members
 
--- a name, where there is one
-abbrev pub given_member : List ℕ → Option Labels → List (List ℕ)
-given_member key None = []
-given_member key (Some name) = member key (name_json name) ∷ []
-
--- an RRset and its signature
-abbrev pub numbers_members : SignatureNumber → List (List ℕ)
-numbers_members number =
-    member (codes "rrset") (decimal number.rrset) ∷ member (codes "signature") (decimal number.signature) ∷ []
-
--- what names a key
-abbrev pub key_members : KeyName → List (List ℕ)
-key_members key = member (codes "tag") (decimal key.tag.0) ∷ member (codes "algorithm") (decimal key.algorithm.0) ∷ []
-
 -- a DS record of the evidence, and its digest type
 abbrev pub ds_members : RecordNumber → ℕ → List (List ℕ)
 ds_members ds digest_type =
-    member (codes "ds_rrset") (decimal ds.rrset) ∷ member (codes "ds_record") (decimal ds.place)
-    ∷ member (codes "digest_type") (decimal digest_type) ∷ []
+    ds_number_members ds ++ (member (codes "digest_type") (decimal digest_type) ∷ [])
 
 -- a trust anchor by its number, and the digest type of its DS record
 abbrev pub ds_anchor_members : ℕ → ℕ → List (List ℕ)
@@ -67,12 +51,8 @@ voucher_members (DsAnchor anchor digest_type) = ds_anchor_members anchor digest_
 voucher_members (Ds ds digest_type) = ds_members ds digest_type.0
 
 -- the number of an entry that the verifier doesn't know
-abbrev pub todo_number : Option ℕ → List (List ℕ)
-todo_number None = []
-todo_number (Some number) = member (codes "todo") (decimal number) ∷ []
-
 abbrev pub todo_members : Todo → List (List ℕ)
-todo_members todo = todo_number todo.0
+todo_members todo = given_number (codes "todo") todo.0
 
 -- a DNSKEY RRset that is trusted
 abbrev pub trusted_members : TrustedKeys → List (List ℕ)
@@ -93,11 +73,6 @@ abbrev pub proof_members : Proof → List (List ℕ)
 proof_members proof =
     member (codes "form") (quoted (form_text proof.form)) ∷ member (codes "kind") (quoted (chain_text proof.chain))
     ∷ member (codes "zone") (name_json proof.zone) ∷ given_member (codes "encloser") proof.encloser
-
--- a record by its number
-abbrev pub record_members : RecordNumber → List (List ℕ)
-record_members number =
-    member (codes "rrset") (decimal number.rrset) ∷ member (codes "record") (decimal number.place) ∷ []
 
 -- a record: its owner and type, and its number
 abbrev pub place_members : RecordPlace → List (List ℕ)
@@ -157,6 +132,9 @@ line_word (line.Case cut) = codes "case"
 line_word (line.Unusable ds) = codes "unusable"
 line_word (line.Hope kind) = codes "hope"
 line_word (line.Holds interval) = codes "holds"
+line_word (line.Reason reason) = codes "reason"
+line_word (line.Follows untrusted) = codes "follows"
+line_word (line.Key key) = codes "key"
 line_word (line.Rrset place) = codes "rrset"
 
 -- the fields of a line
@@ -169,6 +147,9 @@ line_members (line.Case cut) = case_members cut
 line_members (line.Unusable ds) = unusable_members ds
 line_members (line.Hope kind) = hope_members kind
 line_members (line.Holds interval) = interval_members interval
+line_members (line.Reason reason) = fault_members reason
+line_members (line.Follows untrusted) = untrusted_members untrusted
+line_members (line.Key key) = shown_key_members key
 line_members (line.Rrset place) = rrset_members place
 
 -- a line as an object

@@ -5,9 +5,13 @@ ghost use Rattle.dnssec_check.specs.Texts.Why as specs;
 
 pub mod denial;
 pub mod derivation;
+pub mod fault;
 
 use crate::texts::json::lines::denial::{push_cut, push_part, push_proof, push_unusable};
 use crate::texts::json::lines::derivation::{push_signed, push_trusted};
+use crate::texts::json::lines::fault::key::push_shown_key;
+use crate::texts::json::lines::fault::push_reason;
+use crate::texts::json::lines::fault::signature::push_untrusted;
 use crate::texts::json::members::{push_key, push_named, push_number, push_place};
 use crate::texts::json::push_comma;
 use dnsv_explain::{Explanation, Interval, Kind, Line, RrsetPlace};
@@ -84,6 +88,9 @@ fn line_word(line: &Line) -> &'static str
         Line::Unusable(_) => "unusable",
         Line::Hope(_) => "hope",
         Line::Holds(_) => "holds",
+        Line::Reason(_) => "reason",
+        Line::Follows(_) => "follows",
+        Line::Key(_) => "key",
         Line::Rrset(_) => "rrset",
     }
 }
@@ -102,6 +109,9 @@ fn push_members(text: &mut String, line: &Line) -> Result<(), AllocError>
         Line::Unusable(ds) => push_unusable(text, ds),
         Line::Hope(kind) => push_hope(text, *kind),
         Line::Holds(interval) => push_interval(text, *interval),
+        Line::Reason(reason) => push_reason(text, reason),
+        Line::Follows(untrusted) => push_untrusted(text, untrusted),
+        Line::Key(key) => push_shown_key(text, key),
         Line::Rrset(place) => push_rrset(text, place),
     }
 }

@@ -1,6 +1,7 @@
 //! Members of an object behind others, each with its key.
 ghost use Rattle.std.specs.Prelude.{◌≡◌, ◌++◌, ◌∷◌, [], codes, OnOk, string_bytes};
 ghost use Rattle.std.specs.Fmt.{decimal};
+ghost use Rattle.dnssec_check.specs.Texts.Fields.{given_member, given_number};
 ghost use Rattle.dnssec_check.specs.Texts.Json.{AddsMembers, member, name_json, quoted};
 
 use crate::texts::json::push_name;
@@ -44,4 +45,32 @@ pub fn push_named(text: &mut String, key: &str, name: &Name) -> Result<(), Alloc
     push_key(text, key)?;
     push_name(text, name)?;
     Ok(())
+}
+
+/// Adds a member with a name, where there is one.
+#[tactic(auto, using(crate::proofs::TextLemmas::Members::no_members))]
+pub fn push_given(text: &mut String, key: &str, name: &Option<Name>) -> Result<(), AllocError>
+    ensures { OnOk result (AddsMembers (given_member key.now name.now) (string_bytes text.old)
+        (string_bytes text.new)) }
+{
+    match name {
+        Some(name) => push_named(text, key, name),
+        None => Ok(()),
+    }
+}
+
+/// Adds a member with the number of something in memory, where there is one.
+#[tactic(auto, using(crate::proofs::TextLemmas::Members::no_members))]
+pub fn push_given_place(
+    text: &mut String,
+    key: &str,
+    number: Option<usize>,
+) -> Result<(), AllocError>
+    ensures { OnOk result (AddsMembers (given_number key.now number) (string_bytes text.old)
+        (string_bytes text.new)) }
+{
+    match number {
+        Some(number) => push_place(text, key, number),
+        None => Ok(()),
+    }
 }

@@ -1,13 +1,13 @@
 //! The members of lines that say how a denial is proved, and why a zone may be unsigned.
 ghost use Rattle.std.specs.Prelude.{OnOk, string_bytes};
 ghost use Rattle.dnssec_check.specs.Texts.Json.{AddsMembers};
-ghost use Rattle.dnssec_check.specs.Texts.Why.{by_members, case_members, given_member, part_members, place_members, proof_members, record_members, unusable_members};
+ghost use Rattle.dnssec_check.specs.Texts.Fields.{record_members};
+ghost use Rattle.dnssec_check.specs.Texts.Why.{by_members, case_members, part_members, place_members, proof_members, unusable_members};
 
 use crate::texts::json::lines::derivation::push_key_name;
-use crate::texts::json::members::{push_key, push_named, push_number, push_place};
+use crate::texts::json::members::{push_given, push_key, push_named, push_number, push_place};
 use dnsv_denial::RecordNumber;
 use dnsv_explain::{Cut, Part, Proof, RecordPlace, UnusableDs};
-use dnsv_names::Name;
 use std::alloc::AllocError;
 
 /// Adds the members for a denial that is proved.
@@ -22,18 +22,6 @@ pub fn push_proof(text: &mut String, proof: &Proof) -> Result<(), AllocError>
     push_named(text, "zone", &proof.zone)?;
     push_given(text, "encloser", &proof.encloser)?;
     Ok(())
-}
-
-/// Adds a member with a name, where there is one.
-#[tactic(auto, using(crate::proofs::TextLemmas::Members::no_members))]
-fn push_given(text: &mut String, key: &str, name: &Option<Name>) -> Result<(), AllocError>
-    ensures { OnOk result (AddsMembers (given_member key.now name.now) (string_bytes text.old)
-        (string_bytes text.new)) }
-{
-    match name {
-        Some(name) => push_named(text, key, name),
-        None => Ok(()),
-    }
 }
 
 /// Adds the members for one part of a proof.
@@ -72,7 +60,7 @@ fn push_record(text: &mut String, by: &RecordPlace) -> Result<(), AllocError>
 }
 
 /// Adds the numbers of a record and of its RRset.
-fn push_record_number(text: &mut String, number: RecordNumber) -> Result<(), AllocError>
+pub fn push_record_number(text: &mut String, number: RecordNumber) -> Result<(), AllocError>
     ensures { OnOk result (AddsMembers (record_members number) (string_bytes text.old) (string_bytes text.new)) }
 {
     push_place(text, "rrset", number.rrset)?;

@@ -1,9 +1,10 @@
 //! The members of lines that say what is trusted and what is signed.
 ghost use Rattle.std.specs.Prelude.{OnOk, string_bytes};
 ghost use Rattle.dnssec_check.specs.Texts.Json.{AddsMembers};
-ghost use Rattle.dnssec_check.specs.Texts.Why.{ds_anchor_members, ds_members, key_members, numbers_members, signed_members, todo_members, trusted_members, voucher_members};
+ghost use Rattle.dnssec_check.specs.Texts.Fields.{ds_number_members, key_members, numbers_members};
+ghost use Rattle.dnssec_check.specs.Texts.Why.{ds_anchor_members, ds_members, signed_members, todo_members, trusted_members, voucher_members};
 
-use crate::texts::json::members::{push_named, push_number, push_place};
+use crate::texts::json::members::{push_given_place, push_named, push_number, push_place};
 use dnsv_denial::RecordNumber;
 use dnsv_explain::{KeyName, SignatureNumber, SignedRrset, Todo, TrustedKeys, Voucher};
 use std::alloc::AllocError;
@@ -35,7 +36,7 @@ pub fn push_signed(text: &mut String, signed: &SignedRrset) -> Result<(), AllocE
 }
 
 /// Adds the numbers of an RRset and of its signature.
-fn push_numbers(text: &mut String, number: SignatureNumber) -> Result<(), AllocError>
+pub fn push_numbers(text: &mut String, number: SignatureNumber) -> Result<(), AllocError>
     ensures { OnOk result (AddsMembers (numbers_members number) (string_bytes text.old) (string_bytes text.new)) }
 {
     push_place(text, "rrset", number.rrset)?;
@@ -78,19 +79,23 @@ fn push_ds(text: &mut String, number: RecordNumber, digest_type: u8) -> Result<(
     ensures { OnOk result (AddsMembers (ds_members number digest_type) (string_bytes text.old)
         (string_bytes text.new)) }
 {
-    push_place(text, "ds_rrset", number.rrset)?;
-    push_place(text, "ds_record", number.place)?;
+    push_ds_number(text, number)?;
     push_number(text, "digest_type", u64::from(digest_type))?;
     Ok(())
 }
 
+/// Adds the numbers of a DS record and of its RRset.
+pub fn push_ds_number(text: &mut String, number: RecordNumber) -> Result<(), AllocError>
+    ensures { OnOk result (AddsMembers (ds_number_members number) (string_bytes text.old) (string_bytes text.new)) }
+{
+    push_place(text, "ds_rrset", number.rrset)?;
+    push_place(text, "ds_record", number.place)?;
+    Ok(())
+}
+
 /// Adds the number of the entry that the verifier doesn't know, where it doesn't.
-#[tactic(auto, using(crate::proofs::TextLemmas::Members::no_members))]
 fn push_todo(text: &mut String, todo: Todo) -> Result<(), AllocError>
     ensures { OnOk result (AddsMembers (todo_members todo) (string_bytes text.old) (string_bytes text.new)) }
 {
-    match todo.0 {
-        Some(number) => push_place(text, "todo", number),
-        None => Ok(()),
-    }
+    push_given_place(text, "todo", todo.0)
 }

@@ -4,4 +4,4 @@ use Rattle.dnssec_check.proofs.texts.json.lines.derivation.push_ds.Goals as goal
 
 pub returns : goal.returns
 returns c =
-    more_members c.in_ok-push_place.ensures (more_members c.in_ok-push_place-2.ensures (renumbered (codes "digest_type") c.from.ensures c.in_ok-push_number.ensures))
+    more_members c.in_ok-push_ds_number.ensures (renumbered (codes "digest_type") c.from.ensures c.in_ok-push_number.ensures)
