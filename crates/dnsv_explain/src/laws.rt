@@ -3,6 +3,7 @@
 //! Each is a function that does nothing and ensures the law, which its caller learns.
 ghost use Rattle.std.specs.Prelude.{◌≡◌, ◌≤◌, ◌∷◌, ℕ, [], List, Some, Contains};
 ghost use Rattle.dnsv_names.specs.Name.{Labels};
+ghost use Rattle.dnsv_canonical.specs.Rdata.{IsWellFormed};
 ghost use Rattle.dnsv_canonical.specs.Rrsets.{IsNumbered, ReceivedRrset};
 ghost use Rattle.dnsv_chain.specs.Trusted.{IsSecured, IsTrusted};
 ghost use Rattle.dnsv_denial.specs.words.EvidenceWords.{Chain};
@@ -163,6 +164,12 @@ pub fn marked_entries_settle_what_is_hoped()
     trust_depends_on_what_is_asked();
 }
 
+/// All that is said to fail of a question is so: each word is true of what it is said of, by its definition.
+pub fn reasons_are_true()
+    ensures { (setting : Setting) (name : Labels) (t : ℕ) (lines : List Line) → AreFaultLines setting name t lines
+        → (reason : Reason) → Contains lines (Line.Reason reason) → IsReasonTrue setting name t reason }
+{}
+
 /// What is said to fail of an RRset is so: each word is true of what it is said of, by its definition.
 pub fn reasons_of_rrsets_are_true()
     ensures { (setting : Setting) (name : Labels) (t k : ℕ) (lines : List Line) → AreLinesOfNumber setting k lines
@@ -180,4 +187,15 @@ pub fn questions_without_an_anchor_fail_for_that()
     ensures { (setting : Setting) (name : Labels) (t : ℕ) (lines : List Line) → ¬ HasAnchor setting.anchors name
         → AreFaultLines setting name t lines
         → (rest : List Line) × (lines ≡ zone_line WhyZone.NoAnchor name ∷ rest) }
+{}
+
+/// Where a trust anchor is at or above a question's name, nothing says that there is none; and of a question that is
+/// Bogus something fails, not only signers that aren't trusted.
+pub fn bogus_questions_fail_for_a_reason()
+    ensures some { (setting : Setting) (name : Labels) (t : ℕ) (lines : List Line)
+        → ((rrset : ReceivedRrset) → Contains setting.rrsets rrset → IsWellFormed rrset)
+        → IsVerdictAt (basis_of setting.rrsets setting.anchors setting.moment setting.meaning) name t Verdict.Bogus
+        → AreFaultLines setting name t lines → (reason : Reason) × Contains lines (Line.Reason reason) }
+    ensures other { (setting : Setting) (name : Labels) (t : ℕ) (lines : List Line) → HasAnchor setting.anchors name
+        → AreFaultLines setting name t lines → ¬ Contains lines (zone_line WhyZone.NoAnchor name) }
 {}

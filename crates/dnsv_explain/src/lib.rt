@@ -10,11 +10,13 @@ pub use evidence::Evidence;
 pub use explanation::{Explanation, explain};
 pub use interval::{Interval, Times, holding};
 pub use laws::{
-    a_report_has_one_explanation, denials_follow, derivations_follow, expanded_signatures_follow,
-    explanations_follow, lines_follow_as_long_as_they_hold, lines_that_follow_are_true,
+    a_report_has_one_explanation, bogus_questions_fail_for_a_reason, denials_follow,
+    derivations_follow, expanded_signatures_follow, explanations_follow,
+    lines_follow_as_long_as_they_hold, lines_that_follow_are_true,
     marked_entries_settle_what_is_hoped, questions_without_an_anchor_fail_for_that,
-    reasons_of_rrsets_are_true, reasons_of_zones_are_true, signatures_hold_in_one_interval,
-    unsigned_cuts_follow, verdicts_are_no_worse_as_long_as_explanations_hold,
+    reasons_are_true, reasons_of_rrsets_are_true, reasons_of_zones_are_true,
+    signatures_hold_in_one_interval, unsigned_cuts_follow,
+    verdicts_are_no_worse_as_long_as_explanations_hold,
 };
 pub use line::cut::{Cut, InsecureCase, UnusableDs, WhyUnusable};
 pub use line::denial::{Chain, Form, Part, Proof, RecordPlace, Relation, Role};

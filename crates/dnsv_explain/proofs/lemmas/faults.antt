@@ -14,4 +14,6 @@ pub mod WordLemmas
 pub mod one
 pub mod question
 pub mod sources
+pub mod truth
+pub mod unmet
 pub mod zones

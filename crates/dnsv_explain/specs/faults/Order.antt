@@ -1,6 +1,6 @@
 -- What fails of a question that nothing answers, in order: the first link that fails, seen from the trust anchor, comes
 -- first.
-use Rattle.std.specs.Prelude.{◌≡◌, ◌≢◌, ◌⊎◌, ◌↔◌, ◌+◌, ◌<◌, ◌≤◌, ℕ, Bool, List, [], ◌∷◌, ◌++◌, Option, Some, None, Contains, length, map}
+use Rattle.std.specs.Prelude.{◌≡◌, ◌≢◌, ◌⊎◌, ◌+◌, ◌<◌, ◌≤◌, ℕ, Bool, List, [], ◌∷◌, ◌++◌, Option, Some, None, Contains, length, map}
 use Rattle.std.specs.List.Sorted.{IsStrictlySortedBy}
 use Rattle.std.specs.Str.{bytes_eq}
 use Rattle.dnsv_names.specs.Name.{Labels, SameName, IsAtOrBelow, rightmost}
@@ -13,7 +13,7 @@ use Rattle.dnsv_records.specs.declared.nsec3.Nsec3.{Nsec3}
 use Rattle.dnsv_records.specs.declared.rrsig.Rrsig.{Rrsig}
 use Rattle.dnsv_zones.specs.chains.Nsec3Chain.{Nsec3Record, Parameters}
 use Rattle.dnsv_zones.specs.chains.NsecChain.{NsecRecord}
-use Rattle.dnsv_zones.specs.zones.TypeNumbers.{dname, nsec}
+use Rattle.dnsv_zones.specs.zones.TypeNumbers.{dname}
 use Rattle.dnsv_canonical.specs.Canonical.{IsCanonical}
 use Rattle.dnsv_canonical.specs.CanonicalRdata.{canonical_form}
 use Rattle.dnsv_canonical.specs.Rrsets.{IsNumbered, ReceivedRrset, first_appearances}

@@ -1,4 +1,4 @@
-use Rattle.dnsv_explain.proofs.lemmas.faults.question.FirstReasonLemmas.{first_reason}
+use Rattle.dnsv_explain.proofs.lemmas.faults.unmet.FirstReasonLemmas.{first_reason}
 use Rattle.dnsv_explain.proofs.laws.questions_without_an_anchor_fail_for_that.Goals as goal
 
 pub returns : goal.returns

@@ -3,15 +3,11 @@ pub mod CloserLemmas
 pub mod DenialLemmas
 pub mod DownLemmas
 pub mod EndLemmas
-pub mod FirstLemmas
-pub mod FirstReasonLemmas
-pub mod KnownLemmas
-pub mod NeededLemmas
 pub mod Nsec3Lemmas
 pub mod OnceLemmas
-pub mod ParentLemmas
 pub mod PartLemmas
 pub mod SameLemmas
 pub mod SignerLemmas
 pub mod SubjectLemmas
 pub mod ZoneLemmas
+pub mod needed

@@ -4,4 +4,5 @@ pub mod FoundLemmas
 pub mod LackLemmas
 pub mod ParameterLemmas
 pub mod SaidLemmas
+pub mod TruthLemmas
 pub mod ZoneLemmas

@@ -1,4 +1,4 @@
-use Rattle.std.proofs.Common.{refl, sym, ◌∙◌}
+use Rattle.std.proofs.Common.{sym, ◌∙◌}
 use Rattle.std.proofs.lemmas.Bool.{false≢true}
 use Rattle.dnsv_explain.proofs.lemmas.faults.question.SubjectLemmas.{no_elements}
 use Rattle.dnsv_explain.proofs.faults.question.asks_sources.Goals as goal

@@ -96,7 +96,7 @@ abbrev pub HasOneTypes : RecordWords RecordNumber → Type 1
 HasOneTypes said = (Told : Type 0) (P Q : (ℕ → Type 0) → Type 0) → ((has : ℕ → Type 0) → P has → Q has → Told) → (name : Labels)
     (n : RecordNumber) → said.TypesAt name P n → said.TypesAt name Q n → Told
 
-nsec_types : (rrsets : List ReceivedRrset) (n : RecordNumber) (a b : NsecRecord) → IsNsecOf rrsets n a → IsNsecOf rrsets n b
+pub nsec_types : (rrsets : List ReceivedRrset) (n : RecordNumber) (a b : NsecRecord) → IsNsecOf rrsets n a → IsNsecOf rrsets n b
     → a.types ≡ b.types
 nsec_types rrsets n a b x y =
     let one = one_record rrsets n n x.rrset y.rrset x.rdata y.rdata refl x.at y.at in
@@ -106,7 +106,7 @@ nsec_types rrsets n a b x y =
     x.is ∙ ap (λ (each : ReceivedRrset). nsec_record each.owner x.fields) one.0 ∙ ap (nsec_record y.rrset.owner) fields ∙ sym y.is in
     ap (λ (each : NsecRecord). each.types) same
 
-nsec3_types : (rrsets : List ReceivedRrset) (zone : Labels) (n : RecordNumber) (a b : Nsec3Record) → IsNsec3Of rrsets zone n a
+pub nsec3_types : (rrsets : List ReceivedRrset) (zone : Labels) (n : RecordNumber) (a b : Nsec3Record) → IsNsec3Of rrsets zone n a
     → IsNsec3Of rrsets zone n b → a.types ≡ b.types
 nsec3_types rrsets zone n a b x y =
     let one = one_record rrsets n n x.rrset y.rrset x.rdata y.rdata refl x.at y.at in

@@ -8,7 +8,7 @@ use Rattle.dnsv_names.specs.Tree.AncestorLaws.{rightmost_all, rightmost_none, ri
 use Rattle.dnsv_explain.specs.faults.Listing.{AddsThose, AreOfEach}
 use Rattle.dnsv_explain.specs.faults.Order.{names_down}
 use Rattle.dnsv_explain.specs.declared.line.Line.{Line}
-use Rattle.dnsv_explain.proofs.lemmas.faults.ListingLemmas.{added_as, none_added}
+use Rattle.dnsv_explain.proofs.lemmas.faults.ListingLemmas.{none_added}
 
 -- ---- the names
 

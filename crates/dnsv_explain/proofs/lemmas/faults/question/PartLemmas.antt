@@ -1,5 +1,5 @@
 -- The parts of what is said of a question, one after another.
-use Rattle.std.proofs.Common.{◌≡◌, ◌≢◌, ◌↔◌, ◌⊎◌, ◌++◌, ◌∷◌, ◌==◌, [], ℕ, List, Bool, IsTrue, inl, inr, length, not, refl, sym, ap, ◌∙◌, subst, append_assoc, ⊎_elim}
+use Rattle.std.proofs.Common.{◌≡◌, ◌≢◌, ◌↔◌, ◌⊎◌, ◌++◌, ◌==◌, [], ℕ, List, Bool, IsTrue, inl, inr, length, not, refl, sym, ap, ◌∙◌, subst, append_assoc, ⊎_elim}
 use Rattle.dnsv_names.specs.Name.{Labels}
 use Rattle.dnsv_canonical.specs.Rrsets.{ReceivedRrset}
 use Rattle.dnsv_verifier.specs.Admissible.{DnskeyRecord}

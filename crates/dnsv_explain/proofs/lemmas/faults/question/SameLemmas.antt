@@ -1,5 +1,5 @@
 -- What is so of a zone is so of an equal name.
-use Rattle.std.proofs.Common.{◌≡◌, ◌<◌, ◌≤◌, ℕ, List, length, inl, inr, refl, sym, ◌∙◌, arith}
+use Rattle.std.proofs.Common.{◌<◌, ℕ, List, length, inl, inr, refl, sym, ◌∙◌, arith}
 use Rattle.dnsv_names.specs.Name.{Labels, SameName, IsAtOrBelow}
 use Rattle.dnsv_names.specs.Tree.TreeLaws.{at_or_below_respects, at_or_below_trans, below_length, below_respects, same_labels}
 use Rattle.dnsv_canonical.specs.Rrsets.{ReceivedRrset}

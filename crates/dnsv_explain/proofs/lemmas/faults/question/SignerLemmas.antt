@@ -1,5 +1,5 @@
 -- Numbers of labels of the signers of RRsets that are at or above a name.
-use Rattle.std.proofs.Common.{◌≡◌, ◌↔◌, ◌<◌, ◌≤◌, ℕ, List, [], IsTrue, length, refl, sym, ◌∙◌, subst, arith, inl, ⊎_elim}
+use Rattle.std.proofs.Common.{◌≡◌, ◌↔◌, ℕ, List, [], IsTrue, length, refl, sym, ◌∙◌, subst, arith, inl, ⊎_elim}
 use Rattle.std.specs.List.{AllZip, Contains}
 use Rattle.dnsv_names.specs.Name.{Labels, IsAtOrBelow, SameName, rightmost}
 use Rattle.dnsv_names.specs.Tree.AncestorLaws.{rightmost_above, rightmost_length, rightmost_same}

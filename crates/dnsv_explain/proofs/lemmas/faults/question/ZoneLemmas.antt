@@ -2,7 +2,6 @@
 use Rattle.std.proofs.Common.{◌≡◌, ◌<◌, ◌≤◌, ◌++◌, ◌∷◌, [], ℕ, List, inl, inr, length, refl, arith}
 use Rattle.std.specs.List.{Contains}
 use Rattle.dnsv_names.specs.Name.{Labels, rightmost}
-use Rattle.dnsv_names.specs.Order.{IsBelow}
 use Rattle.dnsv_names.specs.Tree.AncestorLaws.{rightmost_below, rightmost_length}
 use Rattle.dnsv_names.specs.Tree.TreeLaws.{below_length}
 use Rattle.dnsv_zones.specs.zones.TypeNumbers.{dname}

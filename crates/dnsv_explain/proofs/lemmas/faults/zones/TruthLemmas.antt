@@ -1,9 +1,8 @@
 -- What is said to fail of an untrusted zone is so.
-use Rattle.std.proofs.Common.{◌≡◌, ◌≢◌, ◌+◌, ◌-◌, ℕ, suc, inl, inr, List, [], ◌∷◌, ◌++◌, Option, Some, None, length, map, refl, sym, ap, ◌∙◌, subst, ⊎_elim, arith}
+use Rattle.std.proofs.Common.{◌≡◌, ◌+◌, ◌-◌, ℕ, inl, inr, List, [], ◌∷◌, Option, Some, None, refl, sym, subst, ⊎_elim}
 use Rattle.std.proofs.lemmas.List.Elements.{Contains-append_cases}
-use Rattle.std.specs.List.{Contains, slice_get}
+use Rattle.std.specs.List.{Contains}
 use Rattle.dnsv_names.specs.Name.{Labels, SameName}
-use Rattle.dnsv_records.specs.Rrsig.{IsRrsig}
 use Rattle.dnsv_records.specs.declared.rrsig.Rrsig.{Rrsig}
 use Rattle.dnsv_canonical.specs.Rrsets.{IsNumbered, ReceivedRrset}
 use Rattle.dnsv_chain.specs.Trusted.{IsKeyOf}
@@ -13,7 +12,7 @@ use Rattle.dnsv_explain.specs.Explained.{Setting}
 use Rattle.dnsv_explain.specs.faults.Entries.{IsEntryFault, IsFaultOfEntry, IsFirstOf, IsMatchOf, IsWantedBy, Wanted, entry_words, told_entry}
 use Rattle.dnsv_explain.specs.faults.Entries.Wanted.{by_digest, whole_key}
 use Rattle.dnsv_explain.specs.faults.Keys.{HasKeys}
-use Rattle.dnsv_explain.specs.faults.Listing.{AreOfEach, AreOfNumbered, AreParted, AreThose, AreWhere}
+use Rattle.dnsv_explain.specs.faults.Listing.{AreOfEach, AreOfNumbered, AreParted, AreWhere}
 use Rattle.dnsv_explain.specs.faults.RrsetLines.{fault_line, shown_of}
 use Rattle.dnsv_explain.specs.faults.SignatureFaults.{IsFaultOf, asked_before}
 use Rattle.dnsv_explain.specs.faults.Truth.{IsReasonTrue}
@@ -32,36 +31,14 @@ use Rattle.dnsv_explain.specs.declared.line.fault.zone.WhyEntry.{WhyEntry}
 use Rattle.dnsv_explain.specs.declared.line.fault.zone.WhyEntry.TheVariants as why
 use Rattle.dnsv_explain.specs.declared.line.fault.zone.WhyZone.TheVariants as zone_why
 use Rattle.dnsv_explain.proofs.lemmas.faults.TruthLemmas.{first_or_rest, member_of, none_in, only_reason, rrset_so, those_such}
+use Rattle.dnsv_explain.proofs.lemmas.faults.truth.SoLemmas.{AreAllSo, each_so, none_so, numbered_so, one_so, parted_so, those_among, where_so}
 
 -- ---- lists
-
-here : {X : Type 0} (x : X) (xs : List X) → Contains (x ∷ xs) x
-here x xs = (0, omega arith, refl)
-
-later : {X : Type 0} (first : X) (xs : List X) (x : X) → Contains xs x → Contains (first ∷ xs) x
-later first xs x there = let within = there.1 in (suc there.0, omega (arith, within), there.2)
-
-those_among : {X : Type 0} (Such : X → Type 0) (xs those : List X) → AreThose Such xs those → (x : X) → Contains those x → Contains xs x
-those_among Such [] those none x there = absurd (none_in those x none there)
-those_among Such (first ∷ xs) those (inl out) x there = later first xs x (those_among Such xs those out.1 x there)
-those_among {X = X} Such (first ∷ xs) those (inr into) x there =
-    let rest = into.1 in
-    let In : List X → Type 0 = λ each. Contains each x in
-    ⊎_elim
-    (λ (same : x ≡ first). let Is : X → Type 0 = λ each. Contains (first ∷ xs) each in subst Is (sym same) (here first xs))
-    (λ (behind : Contains rest.0 x). later first xs x (those_among Such xs rest.0 rest.1 x behind))
-    (first_or_rest first rest.0 x (subst In rest.2 there))
 
 first_such : {X : Type 0} (Such : X → Type 0) (xs : List X) (x : X) → IsFirstOf Such xs (Some x) → Such x
 first_such Such [] x none = let never : ⊥ = cc in absurd never
 first_such Such (y ∷ xs) x (inl is) = let same : y ≡ x = let some = is.1 in cc in subst Such same is.0
 first_such Such (y ∷ xs) x (inr is) = first_such Such xs x is.1
-
--- the i-th has number i + 1
-numbered_from : {X : Type 0} (xs : List X) (i : ℕ) (x : X) → slice_get xs i ≡ Some x → IsNumbered xs (1 + i) x
-numbered_from {X = X} xs i x at =
-    let place : i ≡ 1 + i - 1 = omega arith in
-    let At : ℕ → Type 0 = λ p. slice_get xs p ≡ Some x in (omega arith, subst At place at)
 
 -- ---- what leads into a zone
 
@@ -96,46 +73,7 @@ module _ (setting : Setting) (name : Labels) (t : ℕ) where
   IsSo = IsReasonTrue setting name t
 
   abbrev AreSo : List Line → Type 0
-  AreSo lines = (told : Reason) → Contains lines (line.Reason told) → IsSo told
-
-  none_so : (lines : List Line) → lines ≡ [] → AreSo lines
-  none_so lines none told there = absurd (none_in lines (line.Reason told) none there)
-
-  one_so : (lines : List Line) (its : Reason) → lines ≡ line.Reason its ∷ [] → IsSo its → AreSo lines
-  one_so lines its is so told there =
-      let In : List Line → Type 0 = λ each. Contains each (line.Reason told) in
-      ⊎_elim
-      (λ (same : line.Reason told ≡ line.Reason its). only_reason setting name t told its same so)
-      (λ (behind : Contains [] (line.Reason told)). absurd (none_in [] (line.Reason told) refl behind))
-      (first_or_rest (line.Reason its) [] (line.Reason told) (subst In is there))
-
-  parted_so : (First Second : List Line → Type 0) (lines : List Line) → ((some : List Line) → First some → AreSo some)
-      → ((some : List Line) → Second some → AreSo some) → AreParted First Second lines → AreSo lines
-  parted_so First Second lines one two parts told there =
-      let In : List Line → Type 0 = λ each. Contains each (line.Reason told) in
-      ⊎_elim
-      (λ (first : Contains parts.first (line.Reason told)). one parts.first parts.is_first told first)
-      (λ (second : Contains parts.second (line.Reason told)). two parts.second parts.is_second told second)
-      (Contains-append_cases parts.first parts.second (line.Reason told) (subst In parts.parts there))
-
-  numbered_so : {X : Type 0} (Are : ℕ → X → List Line → Type 0) (xs : List X) (lines : List Line)
-      → ((k : ℕ) (x : X) (some : List Line) → IsNumbered xs k x → Are k x some → AreSo some) → AreOfNumbered Are 1 xs lines
-      → AreSo lines
-  numbered_so Are xs lines each are told there =
-      let m = member_of Are 1 xs lines are (line.Reason told) there in
-      each (1 + m.i) m.x m.ys (numbered_from xs m.i m.x m.at) m.are told m.there
-
-  each_so : {X : Type 0} (Are : X → List Line → Type 0) (xs : List X) (lines : List Line)
-      → ((x : X) (some : List Line) → Contains xs x → Are x some → AreSo some) → AreOfEach Are xs lines → AreSo lines
-  each_so Are [] lines each none = none_so lines none
-  each_so Are (x ∷ xs) lines each parts =
-      parted_so (Are x) (AreOfEach Are xs) lines (λ some are. each x some (here x xs) are)
-      (λ some are. each_so Are xs some (λ y more there of. each y more (later x xs y there) of) are) parts
-
-  where_so : (Holds : Type 0) (Are : List Line → Type 0) (lines : List Line)
-      → (Holds → (some : List Line) → Are some → AreSo some) → AreWhere Holds Are lines → AreSo lines
-  where_so Holds Are lines each (inl both) = each both.0 lines both.1
-  where_so Holds Are lines each (inr none) = none_so lines none.1
+  AreSo = AreAllSo IsSo
 
   -- ---- a key that doesn't sign its RRset
 
@@ -156,7 +94,7 @@ module _ (setting : Setting) (name : Labels) (t : ℕ) where
 
     named_so : (s : ℕ) (rdata : List ℕ) (lines : List Line) → IsNumbered set.signatures s rdata
         → AreNamedLines setting key k set s rdata lines → AreSo lines
-    named_so s rdata lines is_signature (rrsig, read, inr none) = none_so lines none.1
+    named_so s rdata lines is_signature (rrsig, read, inr none) = none_so IsSo lines none.1
     named_so s rdata lines is_signature (rrsig, read, inl its) = λ told there.
         let whys = its.1 in
         let In : List Line → Type 0 = λ each. Contains each (line.Reason told) in
@@ -175,28 +113,28 @@ module _ (setting : Setting) (name : Labels) (t : ℕ) where
 
     key_so : (zone : Labels) → SameName set.owner zone → (lines : List Line) → AreKeyLines setting zone k set key lines → AreSo lines
     key_so zone owner lines (unsigned none) =
-        one_so lines (reason.Unsigned (record { owner = set.owner; rtype = record { 0 = set.rtype }; rrset = k })) refl
+        one_so IsSo lines (reason.Unsigned (record { owner = set.owner; rtype = record { 0 = set.rtype }; rrset = k })) refl
         (record { rrset = set; numbered = numbered; owner = refl; rtype = refl; none = none })
     key_so zone owner lines (not_self_signed its some none is) =
-        one_so lines (reason.NotSelfSigned (record { zone = zone; rrset = k; key = its })) refl
+        one_so IsSo lines (reason.NotSelfSigned (record { zone = zone; rrset = k; key = its })) refl
         (record { set = set; numbered = numbered; owner = owner; key = key; stands = stands; named = is; signed = some; none = none })
     key_so zone owner lines (named all has are) =
-        numbered_so (AreNamedLines setting key k set) set.signatures lines (λ s rdata some at of. named_so s rdata some at of) are
+        numbered_so IsSo (AreNamedLines setting key k set) set.signatures lines (λ s rdata some at of. named_so s rdata some at of) are
 
   module _ (zone : Labels) where
     set_so : (Meant : DnskeyRecord → Type 0) (k : ℕ) (set : ReceivedRrset) (lines : List Line) → IsNumbered setting.rrsets k set
         → AreSetLines setting zone Meant k set lines → AreSo lines
-    set_so Meant k set lines numbered (other never) = none_so lines refl
+    set_so Meant k set lines numbered (other never) = none_so IsSo lines refl
     set_so Meant k set lines numbered (of_keys keys all at in_order are) =
-        each_so (λ key. AreWhere (Meant key) (AreKeyLines setting zone k set key)) keys lines
-        (λ key some there of. where_so (Meant key) (AreKeyLines setting zone k set key) some
+        each_so IsSo (λ key. AreWhere (Meant key) (AreKeyLines setting zone k set key)) keys lines
+        (λ key some there of. where_so IsSo (Meant key) (AreKeyLines setting zone k set key) some
         (λ meant more its. key_so k set numbered key (in_order.each key there) zone at.owner more its) of)
         are
 
     self_so : (Meant : DnskeyRecord → Type 0) (lines : List Line) → AreSelfFaults setting zone Meant lines → AreSo lines
-    self_so Meant lines (inl some) = none_so lines some.1
+    self_so Meant lines (inl some) = none_so IsSo lines some.1
     self_so Meant lines (inr none) =
-        numbered_so (AreSetLines setting zone Meant) setting.rrsets lines (λ k set some at of. set_so Meant k set some at of) none.1
+        numbered_so IsSo (AreSetLines setting zone Meant) setting.rrsets lines (λ k set some at of. set_so Meant k set some at of) none.1
 
     -- ---- an anchor or a DS record
 
@@ -211,14 +149,14 @@ module _ (setting : Setting) (name : Labels) (t : ℕ) where
       alone_so : (word : WhyEntry) (lines : List Line) → IsFaultOfEntry setting.rrsets zone wanted (Some word)
           → lines ≡ entry_line zone wanted word ∷ [] → AreSo lines
       alone_so word lines first is =
-          one_so lines (reason.Entry (record { why = word; entry = told_entry zone wanted })) is
+          one_so IsSo lines (reason.Entry (record { why = word; entry = told_entry zone wanted })) is
           (entry_so wanted word leads_in (first_such (IsEntryFault setting.rrsets zone wanted) entry_words word first))
 
       word_so : (word : Option WhyEntry) (lines : List Line) → IsFaultOfEntry setting.rrsets zone wanted word
           → AreWordLines setting zone wanted word lines → AreSo lines
       word_so None lines first are = self_so (IsMatchOf wanted) lines are
       word_so (Some why.DigestDiffers) lines first are =
-          parted_so (λ one. one ≡ entry_line zone wanted why.DigestDiffers ∷ []) (AreSelfFaults setting zone (IsWantedBy wanted)) lines
+          parted_so IsSo (λ one. one ≡ entry_line zone wanted why.DigestDiffers ∷ []) (AreSelfFaults setting zone (IsWantedBy wanted)) lines
           (λ some is. alone_so why.DigestDiffers some first is) (λ some of. self_so (IsWantedBy wanted) some of) are
       word_so (Some why.Algorithm) lines first are = alone_so why.Algorithm lines first are
       word_so (Some why.DigestType) lines first are = alone_so why.DigestType lines first are
@@ -228,39 +166,39 @@ module _ (setting : Setting) (name : Labels) (t : ℕ) where
 
       rank_so : (rank : ℕ) (lines : List Line) → AreRankLines setting zone rank wanted lines → AreSo lines
       rank_so rank lines (said word all first at are) = word_so word lines first are
-      rank_so rank lines (unsaid word first not_at) = none_so lines refl
+      rank_so rank lines (unsaid word first not_at) = none_so IsSo lines refl
 
     entries_so : (wanted : List Wanted) (lines : List Line) → AreSaid setting zone wanted → AreEntryLines setting zone wanted lines
         → AreSo lines
     entries_so wanted lines are =
-        each_so (λ rank. AreOfEach (AreRankLines setting zone rank) wanted) (0 ∷ 1 ∷ 2 ∷ 3 ∷ 5 ∷ 6 ∷ []) lines
-        (λ rank some at of. each_so (AreRankLines setting zone rank) wanted some
+        each_so IsSo (λ rank. AreOfEach (AreRankLines setting zone rank) wanted) (0 ∷ 1 ∷ 2 ∷ 3 ∷ 5 ∷ 6 ∷ []) lines
+        (λ rank some at of. each_so IsSo (AreRankLines setting zone rank) wanted some
         (λ each more there its. rank_so each (leads setting zone wanted are each there) rank more its) of)
 
     -- ---- the zone
 
     way_so : (k : ℕ) (rrset : ReceivedRrset) (lines : List Line) → AreWayLines setting zone k rrset lines → AreSo lines
-    way_so k rrset lines (inr none) = none_so lines none.1
+    way_so k rrset lines (inr none) = none_so IsSo lines none.1
     way_so k rrset lines (inl its) = λ told there.
         let all = its.1 in
         rrset_so setting name t k rrset all.0 its.0.numbered all.1 told
         (those_among (IsOfParent setting zone) all.0 lines all.2 (line.Reason told) there)
 
     keys_so : (lines : List Line) → AreLinesOfKeys setting zone lines → AreSo lines
-    keys_so lines (inl none) = one_so lines (reason.Zone (record { why = zone_why.DnskeyMissing; zone = zone })) none.1 none.0
+    keys_so lines (inl none) = one_so IsSo lines (reason.Zone (record { why = zone_why.DnskeyMissing; zone = zone })) none.1 none.0
     keys_so lines (inr some) = let its = some.1 in entries_so its.0 lines its.1 its.2
 
     pub zone_so : (lines : List Line) → AreZoneLines setting zone lines → (told : Reason) → Contains lines (line.Reason told)
         → IsReasonTrue setting name t told
-    zone_so lines (no_anchor none) = one_so lines (reason.Zone (record { why = zone_why.NoAnchor; zone = zone })) refl none
+    zone_so lines (no_anchor none) = one_so IsSo lines (reason.Zone (record { why = zone_why.NoAnchor; zone = zone })) refl none
     zone_so lines (anchored all has parts) =
-        parted_so (AreOfNumbered (AreWayLines setting zone) 1 setting.rrsets)
+        parted_so IsSo (AreOfNumbered (AreWayLines setting zone) 1 setting.rrsets)
         (AreParted (AreWhere (HasNoWay setting zone) (λ first. first ≡ zone_line zone_why.DsMissing zone ∷ [])) (AreLinesOfKeys setting zone))
         lines
-        (λ some are. numbered_so (AreWayLines setting zone) setting.rrsets some (λ k rrset more at of. way_so k rrset more of) are)
-        (λ some are. parted_so (AreWhere (HasNoWay setting zone) (λ first. first ≡ zone_line zone_why.DsMissing zone ∷ []))
+        (λ some are. numbered_so IsSo (AreWayLines setting zone) setting.rrsets some (λ k rrset more at of. way_so k rrset more of) are)
+        (λ some are. parted_so IsSo (AreWhere (HasNoWay setting zone) (λ first. first ≡ zone_line zone_why.DsMissing zone ∷ []))
         (AreLinesOfKeys setting zone) some
-        (λ more of. where_so (HasNoWay setting zone) (λ first. first ≡ zone_line zone_why.DsMissing zone ∷ []) more
-        (λ none last is. one_so last (reason.Zone (record { why = zone_why.DsMissing; zone = zone })) is none) of)
+        (λ more of. where_so IsSo (HasNoWay setting zone) (λ first. first ≡ zone_line zone_why.DsMissing zone ∷ []) more
+        (λ none last is. one_so IsSo last (reason.Zone (record { why = zone_why.DsMissing; zone = zone })) is none) of)
         keys_so are)
         parts

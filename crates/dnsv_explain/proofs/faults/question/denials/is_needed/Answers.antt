@@ -1,4 +1,4 @@
-use Rattle.std.proofs.Common.{refl, sym, ◌∙◌}
+use Rattle.std.proofs.Common.{sym, ◌∙◌}
 use Rattle.std.proofs.lemmas.Bool.{false≢true}
 use Rattle.dnsv_explain.proofs.lemmas.faults.question.DenialLemmas.{needed_number, number_needed}
 use Rattle.dnsv_explain.proofs.lemmas.faults.question.SameLemmas.{needed_above}

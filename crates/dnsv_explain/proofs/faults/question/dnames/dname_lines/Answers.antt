@@ -1,4 +1,4 @@
-use Rattle.std.proofs.Common.{◌≤◌, ◌+◌, [], arith, length}
+use Rattle.std.proofs.Common.{[], arith}
 use Rattle.dnsv_explain.specs.faults.Order.{AreDnameLines, names_down}
 use Rattle.dnsv_explain.specs.faults.Listing.{AreOfEach}
 use Rattle.dnsv_explain.proofs.lemmas.faults.question.DownLemmas.{down_all, down_next, down_none}

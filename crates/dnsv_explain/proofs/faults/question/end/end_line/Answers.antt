@@ -1,4 +1,4 @@
-use Rattle.std.proofs.Common.{List, ap, refl, subst, sym, ◌∙◌}
+use Rattle.std.proofs.Common.{List, ap, subst, sym, ◌∙◌}
 use Rattle.std.proofs.lemmas.Bool.{false≢true}
 use Rattle.std.proofs.lemmas.Option.{MatchOption-at_none, MatchOption-at_some}
 use Rattle.dnsv_names.specs.Name.{Labels}

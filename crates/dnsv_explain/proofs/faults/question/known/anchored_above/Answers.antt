@@ -1,7 +1,7 @@
-use Rattle.std.proofs.Common.{◌≡◌, ◌<◌, ◌≤◌, ◌-◌, length, arith, sym, ◌∙◌}
+use Rattle.std.proofs.Common.{◌<◌, ◌-◌, arith, sym, ◌∙◌}
 use Rattle.std.proofs.lemmas.Bool.{false≢true}
 use Rattle.dnsv_explain.specs.Explained.{setting_in}
-use Rattle.dnsv_explain.proofs.lemmas.faults.question.KnownLemmas.{above_found, none_above_found, none_anchored, none_anchored_next}
+use Rattle.dnsv_explain.proofs.lemmas.faults.question.needed.KnownLemmas.{above_found, none_above_found, none_anchored, none_anchored_next}
 use Rattle.dnsv_explain.proofs.faults.question.known.anchored_above.Goals as goal
 
 pub loop-labels-init : goal.loop-labels-init

@@ -1,7 +1,6 @@
 use Rattle.std.proofs.Common.{◌≤◌}
 use Rattle.dnsv_explain.specs.Explained.{setting_in}
-use Rattle.dnsv_explain.specs.faults.NeededSearch.{IsAnchoredZone}
-use Rattle.dnsv_explain.proofs.lemmas.faults.question.KnownLemmas.{NoneAnchored}
+use Rattle.dnsv_explain.proofs.lemmas.faults.question.needed.KnownLemmas.{NoneAnchored}
 use Rattle.dnsv_explain.proofs.faults.question.known.anchored_above.Given as goal
 
 -- none with so many labels or more is known and has an anchor

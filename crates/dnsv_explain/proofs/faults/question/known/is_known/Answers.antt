@@ -3,7 +3,7 @@ use Rattle.std.proofs.lemmas.Bool.{false≢true}
 use Rattle.dnsv_names.specs.Name.{Labels}
 use Rattle.dnsv_explain.specs.Explained.{setting_in}
 use Rattle.dnsv_explain.specs.faults.Zones.{HasOwnAnchor, HasRrset}
-use Rattle.dnsv_explain.proofs.lemmas.faults.question.KnownLemmas.{ds_known, keys_known, known_signer, own_known, properly_known, signer_known}
+use Rattle.dnsv_explain.proofs.lemmas.faults.question.needed.KnownLemmas.{ds_known, keys_known, known_signer, own_known, properly_known, signer_known}
 use Rattle.dnsv_explain.proofs.faults.question.known.is_known.Goals as goal
 
 pub returns-then-not-is_proper : goal.returns-then-not-is_proper

@@ -1,7 +1,7 @@
-use Rattle.std.proofs.Common.{◌≡◌, ◌≤◌, ◌-◌, ◌+◌, length, arith, sym, ◌∙◌}
+use Rattle.std.proofs.Common.{◌≤◌, ◌-◌, ◌+◌, length, arith, sym, ◌∙◌}
 use Rattle.std.proofs.lemmas.Bool.{false≢true}
 use Rattle.dnsv_explain.specs.Explained.{setting_in}
-use Rattle.dnsv_explain.proofs.lemmas.faults.question.KnownLemmas.{no_speaker_found, none_known, none_known_next, speaker_found}
+use Rattle.dnsv_explain.proofs.lemmas.faults.question.needed.KnownLemmas.{no_speaker_found, none_known, none_known_next, speaker_found}
 use Rattle.dnsv_explain.proofs.faults.question.known.speaker.Goals as goal
 
 pub loop-labels-init : goal.loop-labels-init

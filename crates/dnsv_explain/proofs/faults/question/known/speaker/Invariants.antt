@@ -1,6 +1,6 @@
 use Rattle.std.proofs.Common.{◌≤◌, ◌+◌, length}
 use Rattle.dnsv_explain.specs.Explained.{setting_in}
-use Rattle.dnsv_explain.proofs.lemmas.faults.question.KnownLemmas.{NoneKnownFrom}
+use Rattle.dnsv_explain.proofs.lemmas.faults.question.needed.KnownLemmas.{NoneKnownFrom}
 use Rattle.dnsv_explain.proofs.faults.question.known.speaker.Given as goal
 
 -- none with so many labels or more is known

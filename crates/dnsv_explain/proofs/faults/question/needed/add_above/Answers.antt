@@ -1,11 +1,11 @@
-use Rattle.std.proofs.Common.{List, ℕ, inl, inr, subst, sym, ◌∙◌}
+use Rattle.std.proofs.Common.{inl, inr, subst, sym, ◌∙◌}
 use Rattle.std.proofs.lemmas.Bool.{false≢true}
 use Rattle.dnsv_names.specs.Name.{Labels}
 use Rattle.dnsv_verifier.specs.Asking.{AddsJust}
 use Rattle.dnsv_explain.specs.Explained.{setting_in}
 use Rattle.dnsv_explain.specs.faults.NeededSearch.{HasWay, IsAbove}
 use Rattle.dnsv_explain.specs.faults.Zones.{IsParent}
-use Rattle.dnsv_explain.proofs.lemmas.faults.question.NeededLemmas.{next_needed, none_needed, parents_needed}
+use Rattle.dnsv_explain.proofs.lemmas.faults.question.needed.NeededLemmas.{next_needed, none_needed, parents_needed}
 use Rattle.dnsv_explain.proofs.faults.question.needed.add_above.Goals as goal
 
 pub returns-then-has_way : goal.returns-then-has_way

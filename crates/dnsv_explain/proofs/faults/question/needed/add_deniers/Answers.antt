@@ -3,7 +3,7 @@ use Rattle.std.proofs.lemmas.List.{get_or_default}
 use Rattle.std.proofs.lemmas.Bool.{false≢true}
 use Rattle.dnsv_verifier.proofs.AskLemmas.{some_all, some_more, some_none}
 use Rattle.dnsv_explain.specs.Explained.{setting_in}
-use Rattle.dnsv_explain.proofs.lemmas.faults.question.FirstLemmas.{IsAnchoredNumber, denier_within, deniers_added, no_deniers}
+use Rattle.dnsv_explain.proofs.lemmas.faults.question.needed.FirstLemmas.{IsAnchoredNumber, denier_within, deniers_added, no_deniers}
 use Rattle.dnsv_explain.proofs.faults.question.needed.add_deniers.Goals as goal
 
 pub returns-then-signed : goal.returns-then-signed

@@ -1,6 +1,6 @@
 use Rattle.std.proofs.Common.{take}
 use Rattle.dnsv_verifier.specs.Asking.{AddsJust, ComesOfSome}
-use Rattle.dnsv_explain.proofs.lemmas.faults.question.FirstLemmas.{IsAnchoredNumber}
+use Rattle.dnsv_explain.proofs.lemmas.faults.question.needed.FirstLemmas.{IsAnchoredNumber}
 use Rattle.dnsv_explain.proofs.faults.question.needed.add_deniers.Given as goal
 
 -- the signers so far that an anchor is at or above

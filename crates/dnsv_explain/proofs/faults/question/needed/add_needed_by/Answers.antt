@@ -1,11 +1,11 @@
 use Rattle.std.proofs.Common.{sym, ◌∙◌, subst}
 use Rattle.std.proofs.lemmas.Bool.{false≢true}
-use Rattle.dnsv_names.specs.Name.{Labels, rightmost}
+use Rattle.dnsv_names.specs.Name.{Labels}
 use Rattle.dnsv_verifier.proofs.AskLemmas.{adds_nothing}
 use Rattle.dnsv_explain.specs.Explained.{setting_in}
 use Rattle.dnsv_explain.specs.faults.Keys.{IsTrustedZone}
 use Rattle.dnsv_explain.specs.faults.NeededSearch.{IsNeededBy}
-use Rattle.dnsv_explain.proofs.lemmas.faults.question.NeededLemmas.{untrusted_added}
+use Rattle.dnsv_explain.proofs.lemmas.faults.question.needed.NeededLemmas.{untrusted_added}
 use Rattle.dnsv_explain.proofs.lemmas.faults.question.SignerLemmas.{in_same, same_in}
 use Rattle.dnsv_explain.proofs.faults.question.needed.add_needed_by.Goals as goal
 

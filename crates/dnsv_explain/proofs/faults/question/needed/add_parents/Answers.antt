@@ -2,7 +2,7 @@ use Rattle.std.proofs.Common.{ℕ, get_or}
 use Rattle.std.proofs.lemmas.List.{get_or_default}
 use Rattle.dnsv_verifier.proofs.AskLemmas.{some_all, some_more, some_none}
 use Rattle.dnsv_explain.specs.Explained.{setting_in}
-use Rattle.dnsv_explain.proofs.lemmas.faults.question.ParentLemmas.{IsParentNumber, parents_added, signer_at}
+use Rattle.dnsv_explain.proofs.lemmas.faults.question.needed.ParentLemmas.{IsParentNumber, parents_added, signer_at}
 use Rattle.dnsv_explain.proofs.faults.question.needed.add_parents.Goals as goal
 
 pub loop-labels-init : goal.loop-labels-init

@@ -1,7 +1,7 @@
 use Rattle.std.proofs.Common.{take}
 use Rattle.dnsv_verifier.specs.Asking.{AddsJust, ComesOfSome}
 use Rattle.dnsv_explain.specs.Explained.{setting_in}
-use Rattle.dnsv_explain.proofs.lemmas.faults.question.ParentLemmas.{IsParentNumber}
+use Rattle.dnsv_explain.proofs.lemmas.faults.question.needed.ParentLemmas.{IsParentNumber}
 use Rattle.dnsv_explain.proofs.faults.question.needed.add_parents.Given as goal
 
 -- the parents among the signers so far

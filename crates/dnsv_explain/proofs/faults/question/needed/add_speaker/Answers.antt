@@ -1,5 +1,5 @@
 use Rattle.dnsv_explain.specs.Explained.{setting_in}
-use Rattle.dnsv_explain.proofs.lemmas.faults.question.FirstLemmas.{no_speaker, speaker_added}
+use Rattle.dnsv_explain.proofs.lemmas.faults.question.needed.FirstLemmas.{no_speaker, speaker_added}
 use Rattle.dnsv_explain.proofs.faults.question.needed.add_speaker.Goals as goal
 
 pub returns-in_default : goal.returns-in_default

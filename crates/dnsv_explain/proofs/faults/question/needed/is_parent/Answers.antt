@@ -3,7 +3,7 @@ use Rattle.std.proofs.lemmas.Bool.{false≢true}
 use Rattle.dnsv_names.specs.Name.{Labels}
 use Rattle.dnsv_verdict.specs.Verdict.{HasAnchor}
 use Rattle.dnsv_explain.specs.Explained.{setting_in}
-use Rattle.dnsv_explain.proofs.lemmas.faults.question.ParentLemmas.{is_parent, no_parent}
+use Rattle.dnsv_explain.proofs.lemmas.faults.question.needed.ParentLemmas.{is_parent, no_parent}
 use Rattle.dnsv_explain.proofs.faults.question.needed.is_parent.Goals as goal
 
 pub returns-then-labels : goal.returns-then-labels

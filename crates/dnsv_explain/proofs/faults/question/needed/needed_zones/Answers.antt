@@ -1,6 +1,6 @@
-use Rattle.std.proofs.Common.{◌≡◌, ◌≤◌, ◌-◌, ◌+◌, ℕ, length, arith, subst}
+use Rattle.std.proofs.Common.{◌≡◌, ◌-◌, ◌+◌, ℕ, arith, subst}
 use Rattle.dnsv_explain.specs.Explained.{setting_in}
-use Rattle.dnsv_explain.proofs.lemmas.faults.question.NeededLemmas.{IsNeededTo, needed_all, needed_next, needed_none}
+use Rattle.dnsv_explain.proofs.lemmas.faults.question.needed.NeededLemmas.{IsNeededTo, needed_all, needed_next, needed_none}
 use Rattle.dnsv_explain.proofs.faults.question.needed.needed_zones.Goals as goal
 
 pub loop-labels-init : goal.loop-labels-init

@@ -1,6 +1,6 @@
 use Rattle.std.proofs.Common.{◌≤◌, ◌+◌, length}
 use Rattle.dnsv_explain.specs.Explained.{setting_in}
-use Rattle.dnsv_explain.proofs.lemmas.faults.question.NeededLemmas.{IsNeededTo}
+use Rattle.dnsv_explain.proofs.lemmas.faults.question.needed.NeededLemmas.{IsNeededTo}
 use Rattle.dnsv_explain.proofs.faults.question.needed.needed_zones.Given as goal
 
 -- of the zones with so many labels or more all is found that they need

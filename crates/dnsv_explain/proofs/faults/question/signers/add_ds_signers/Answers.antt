@@ -1,7 +1,5 @@
-use Rattle.dnsv_verifier.proofs.AskLemmas.{adds_nothing, adds_same}
-use Rattle.dnsv_canonical.specs.Rrsets.{IsNumbered, ReceivedRrset}
-use Rattle.dnsv_explain.specs.faults.NeededSearch.{IsAbove, IsDsLabels}
-use Rattle.dnsv_explain.specs.faults.Zones.{HasSigner}
+use Rattle.dnsv_verifier.proofs.AskLemmas.{adds_nothing}
+use Rattle.dnsv_explain.specs.faults.NeededSearch.{IsDsLabels}
 use Rattle.dnsv_explain.proofs.lemmas.faults.question.SignerLemmas.{numbered_signers}
 use Rattle.dnsv_explain.proofs.faults.question.signers.add_ds_signers.Goals as goal
 

@@ -1,7 +1,7 @@
-use Rattle.std.proofs.Common.{◌≤◌, ◌+◌, ℕ, length, arith, sym, inl, inr, ◌∙◌}
+use Rattle.std.proofs.Common.{arith, sym, ◌∙◌}
 use Rattle.std.proofs.lemmas.Bool.{false≢true}
 use Rattle.dnsv_explain.specs.Explained.{setting_in}
-use Rattle.dnsv_explain.specs.faults.Order.{AreLinesOfZones, AreNeededLines, names_down}
+use Rattle.dnsv_explain.specs.faults.Order.{AreNeededLines}
 use Rattle.dnsv_explain.proofs.lemmas.faults.question.DownLemmas.{down_all, down_next, down_none}
 use Rattle.dnsv_explain.proofs.lemmas.faults.question.ZoneLemmas.{no_anchor_added, zones_added}
 use Rattle.dnsv_explain.proofs.faults.question.zones.add_zones.Goals as goal

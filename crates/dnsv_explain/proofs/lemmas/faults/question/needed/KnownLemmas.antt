@@ -1,8 +1,7 @@
 -- The zones at or above a name that the evidence knows, and those of them with most labels.
-use Rattle.std.proofs.Common.{◌≡◌, ◌≢◌, ◌↔◌, ◌<◌, ◌≤◌, ◌+◌, ◌⊎◌, ℕ, List, IsTrue, inl, inr, length, refl, sym, subst, arith, ⊎_elim}
+use Rattle.std.proofs.Common.{◌≡◌, ◌<◌, ◌≤◌, ◌+◌, ℕ, inl, inr, length, sym, subst, arith, ⊎_elim}
 use Rattle.std.proofs.lemmas.Bool.{cases_lt}
-use Rattle.std.specs.List.{Contains}
-use Rattle.dnsv_names.specs.Name.{Labels, IsAtOrBelow, rightmost}
+use Rattle.dnsv_names.specs.Name.{Labels, rightmost}
 use Rattle.dnsv_names.specs.Order.{IsBelow}
 use Rattle.dnsv_names.specs.Tree.AncestorLaws.{rightmost_above, rightmost_below, rightmost_in_line, rightmost_length, rightmost_same}
 use Rattle.dnsv_names.specs.Tree.TreeLaws.{at_or_below_length, below_by_length, below_length}

@@ -1,8 +1,8 @@
 -- The zones that a question needs, found by one pass from many labels to few.
-use Rattle.std.proofs.Common.{◌≡◌, ◌↔◌, ◌<◌, ◌≤◌, ◌+◌, ◌⊎◌, ℕ, List, [], length, refl, sym, ap, ◌∙◌, subst, arith, ⊎_elim}
+use Rattle.std.proofs.Common.{◌≡◌, ◌<◌, ◌≤◌, ◌+◌, ◌⊎◌, ℕ, List, length, sym, subst, arith, ⊎_elim}
 use Rattle.std.proofs.lemmas.Bool.{cases_lt}
 use Rattle.std.specs.List.{Contains}
-use Rattle.dnsv_names.specs.Name.{Labels, IsAtOrBelow, SameName, rightmost}
+use Rattle.dnsv_names.specs.Name.{Labels, rightmost}
 use Rattle.dnsv_names.specs.Tree.AncestorLaws.{rightmost_length, rightmost_rightmost, rightmost_same}
 use Rattle.dnsv_names.specs.Tree.TreeLaws.{at_or_below_length, below_length}
 use Rattle.dnsv_verifier.proofs.AskLemmas.{adds_nothing, adds_same}

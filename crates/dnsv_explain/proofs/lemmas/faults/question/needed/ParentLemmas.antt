@@ -3,8 +3,8 @@ use Rattle.std.proofs.Common.{◌≡◌, ◌↔◌, ◌<◌, ◌≤◌, ℕ, Lis
 use Rattle.std.proofs.lemmas.List.Elements.{Contains-get_or}
 use Rattle.std.specs.List.{Contains}
 use Rattle.dnsv_names.specs.Name.{Labels, rightmost}
-use Rattle.dnsv_names.specs.Tree.AncestorLaws.{rightmost_above, rightmost_below, rightmost_length}
-use Rattle.dnsv_names.specs.Tree.TreeLaws.{at_or_below_length, below_length}
+use Rattle.dnsv_names.specs.Tree.AncestorLaws.{rightmost_below, rightmost_length}
+use Rattle.dnsv_names.specs.Tree.TreeLaws.{below_length}
 use Rattle.dnsv_canonical.specs.Rrsets.{ReceivedRrset}
 use Rattle.dnsv_verifier.proofs.AskLemmas.{adds_same}
 use Rattle.dnsv_verifier.specs.Asking.{AddsJust, ComesOfSome}

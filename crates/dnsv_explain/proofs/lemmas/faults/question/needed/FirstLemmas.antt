@@ -1,5 +1,5 @@
 -- The zones that a question needs by itself.
-use Rattle.std.proofs.Common.{◌≡◌, ◌≢◌, ◌↔◌, ◌<◌, ◌≤◌, ℕ, List, [], ◌∷◌, IsTrue, length, get_or, refl, sym, ap, subst, arith, ⊎_elim}
+use Rattle.std.proofs.Common.{◌≡◌, ◌<◌, ◌≤◌, ℕ, List, [], IsTrue, length, get_or, refl, sym, subst, arith, ⊎_elim}
 use Rattle.std.proofs.lemmas.List.Elements.{Contains-get_or}
 use Rattle.std.specs.List.{Contains}
 use Rattle.dnsv_names.specs.Name.{Labels, IsAtOrBelow, rightmost}
@@ -12,7 +12,7 @@ use Rattle.dnsv_verifier.specs.Asking.{AddsJust, ComesOfSome}
 use Rattle.dnsv_verdict.specs.Verdict.{HasAnchor}
 use Rattle.dnsv_explain.specs.Explained.{Setting}
 use Rattle.dnsv_explain.specs.faults.NeededSearch.{AreLabelsOf, AreSigners, IsAbove, IsAnchoredDenier, IsAnchoredSpeaker, IsNumberWhere}
-use Rattle.dnsv_explain.specs.faults.Zones.{HasDenialSigner, HasGoalSigner, HasSignedGoal, IsNeededFirst, IsSpeaker}
+use Rattle.dnsv_explain.specs.faults.Zones.{HasGoalSigner, HasSignedGoal, IsNeededFirst, IsSpeaker}
 use Rattle.dnsv_explain.specs.faults.Zones.IsNeededFirst.{denying, signer, speaker}
 use Rattle.dnsv_explain.specs.declared.faults.question.signers.Signers.{Signers}
 use Rattle.dnsv_explain.proofs.lemmas.faults.question.SameLemmas.{goal_signer_same}

@@ -1,0 +1,4 @@
+pub mod FirstLemmas
+pub mod KnownLemmas
+pub mod NeededLemmas
+pub mod ParentLemmas
