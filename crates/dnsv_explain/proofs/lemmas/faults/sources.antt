@@ -2,6 +2,5 @@ pub mod ChainLemmas
 pub mod ClosedLemmas
 pub mod FoundLemmas
 pub mod LackLemmas
-pub mod ParameterLemmas
 pub mod SaidLemmas
 pub mod ZoneLemmas
