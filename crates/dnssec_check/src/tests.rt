@@ -7,7 +7,7 @@
 //! of command lines, the first counts.
 //! Behind them stands how the program has to end: `=> STATUS`, and then what it prints, on the standard error behind `! `;
 //! or lines `~ TEXT`, which have to stand somewhere in what is printed. Only how often a verifier is asked no row can say
-//! (`asking`).
+//! (`asking`), and what a capture has read of a message (`reading`).
 use crate::program::exit_status_on;
 use crate::samples::hex_named;
 use std::alloc::Global;
@@ -21,6 +21,7 @@ mod command_line;
 mod explaining;
 mod key_files;
 mod listing;
+mod reading;
 mod showing;
 mod signed;
 mod system;
@@ -50,6 +51,18 @@ fn explains_as_the_rows_say(rt: HostRuntime) -> Result<(), Fail> {
 #[test]
 fn a_verifier_is_asked_once_for_each_entry(rt: HostRuntime) -> Result<(), Fail> {
     assert!(rt; asking::is_asked_once_for_each(rt.alloc())?);
+    Ok(())
+}
+
+#[test]
+fn a_table_asks_a_verifier_once_for_each_entry(rt: HostRuntime) -> Result<(), Fail> {
+    assert!(rt; asking::is_asked_once_by_a_table(rt.alloc())?);
+    Ok(())
+}
+
+#[test]
+fn a_capture_reads_each_type(rt: HostRuntime) -> Result<(), Fail> {
+    assert!(rt; reading::is_each_type_read(rt.alloc())?);
     Ok(())
 }
 

@@ -228,6 +228,3 @@ fn check_whole(message: &Message<'_>) -> Result<(), CaptureError>
     }
     Ok(())
 }
-
-#[cfg(test)]
-mod tests;

@@ -1,6 +1,7 @@
 //! The records of zones, gathered from the evidence.
 pub mod nsec;
 pub mod nsec3;
+pub mod parameters;
 pub mod secured;
 pub mod signers;
 pub mod zones;

@@ -114,6 +114,3 @@ fn signature_parts(alloc: Global, made: &[Made<'_>]) -> Result<Vec<Rc<SignatureP
     }
     Ok(parts)
 }
-
-#[cfg(test)]
-mod tests;

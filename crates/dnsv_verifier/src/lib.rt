@@ -9,6 +9,7 @@ pub use entry::Entry;
 pub use entry::borrowed_entry::BorrowedEntry;
 pub use hex_field::hex_octets;
 pub use key::KeyRecord;
+pub use key::keys::{add_keys, all_keys};
 pub use laws::{
     a_pair_has_one_entry, a_table_is_its_verifier, admissible_is_verifiable_and_made,
     good_depends_on_what_is_asked, more_rrsets_ask_for_no_less,

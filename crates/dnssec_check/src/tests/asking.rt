@@ -3,10 +3,10 @@ use dnsv_canonical::Capture;
 use dnsv_chain::Anchors;
 use dnsv_explain::explain;
 use dnsv_message::Message;
-use dnsv_names::{Name, RecordType};
+use dnsv_names::{Count, Name, RecordType};
 use dnsv_records::Algorithm;
 use dnsv_verdict::validate;
-use dnsv_verifier::{Answer, Verifier};
+use dnsv_verifier::{Answer, Verifier, ask_all};
 use std::alloc::Global;
 use std::cell::Cell;
 use std::test::Fail;
@@ -76,4 +76,23 @@ fn calls(alloc: Global, why: bool) -> Result<u64, Fail> {
 /// Whether it is asked once for each of the two entries, though the verdict depends on its answers, and no more for why.
 pub fn is_asked_once_for_each(alloc: Global) -> Result<bool, Fail> {
     Ok(calls(alloc, false)? == 2 && calls(alloc, true)? == 2)
+}
+
+/// Whether it is asked so often for the table at the moment, and the count grows by as many.
+fn is_asked(alloc: Global, capture: &Capture, moment: u64, times: u64) -> Result<bool, Fail> {
+    let mut count = Count::new();
+    let unknown = Counting {
+        calls: Cell::new(0),
+    };
+    let table = ask_all(alloc, capture, moment, &unknown, &mut count)?;
+    let told = table.moment() == moment && count.value() == times;
+    Ok(told && unknown.calls.get() == times)
+}
+
+/// Whether a table asks it once for each entry that is valid at the moment, also where a message was added twice.
+pub fn is_asked_once_by_a_table(alloc: Global) -> Result<bool, Fail> {
+    let mut capture = evidence(alloc)?;
+    let once = is_asked(alloc, &capture, 1500, 2)? && is_asked(alloc, &capture, 2001, 0)?;
+    capture.add(&Message::decode(alloc, HOST)?)?;
+    Ok(once && is_asked(alloc, &capture, 1500, 2)?)
 }

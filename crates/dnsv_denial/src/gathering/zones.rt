@@ -13,6 +13,7 @@ ghost use Rattle.dnsv_denial.specs.words.EvidenceWords.{parameters_cmp};
 
 use crate::gathering::nsec::nsecs_of;
 use crate::gathering::nsec3::nsec3s_of;
+use crate::gathering::parameters::parameters_in_order;
 use crate::gathering::signers::{labels_of_signers, may_sign};
 use crate::records::nsec3_entries::Nsec3Entries;
 use crate::records::zone_records::{NameHashes, ZoneRecords};
@@ -89,7 +90,7 @@ pub fn sets_of<'a>(
 {
     // What is true of every count.
     let _ = count.value();
-    let ordered = in_order(alloc, all)?;
+    let ordered = parameters_in_order(alloc, all)?;
     let mut sets = Vec::new(alloc);
     for parameters in ordered.iter() {
         let hashed = hash_names(alloc, name, *parameters, count)?;
@@ -99,23 +100,4 @@ pub fn sets_of<'a>(
         })?;
     }
     Ok(sets)
-}
-
-/// The parameters in their order, each once.
-fn in_order<'a>(
-    alloc: Global,
-    all: &'a [Nsec3Parameters],
-) -> Result<Vec<&'a Nsec3Parameters>, AllocError>
-    ensures order { IfOk result (λ ordered. IsStrictlySortedBy parameters_cmp
-        (map parameters_of (map (λ each. each.now) ordered.items))) }
-    ensures members { IfOk result (λ ordered. (each : Nsec3Parameters) → Contains all.now each
-        ↔ Contains (map (λ each. each.now) ordered.items) each) }
-{
-    let mut ordered = Vec::new(alloc);
-    for parameters in all {
-        ordered.push(parameters)?;
-    }
-    ordered.sort_unstable();
-    ordered.dedup();
-    Ok(ordered)
 }

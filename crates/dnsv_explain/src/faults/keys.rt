@@ -1,7 +1,6 @@
 //! The keys of the evidence, and those that a signature names.
-ghost use Rattle.std.specs.Prelude.{◌↔◌, IfOk, IsTrue, OnOk};
+ghost use Rattle.std.specs.Prelude.{◌↔◌, IfOk, IsTrue};
 ghost use Rattle.dnsv_names.specs.Name.{SameName};
-ghost use Rattle.dnsv_verifier.specs.Asking.{AddsJust, AreKeysOf, IsKeyOf};
 ghost use Rattle.dnsv_explain.specs.faults.KeySearch.{HasKeyAt, HasNamed, HasNamedZoneKey, IsNamedTo};
 ghost use Rattle.dnsv_explain.specs.faults.Keys.{IsZoneKey};
 ghost use Rattle.dnsv_explain.specs.faults.ZoneLines.{IsKeysAt};
@@ -10,29 +9,8 @@ ghost use Rattle.dnsv_explain.specs.faults.ZoneLines.ZoneSearch.{AreKeysAt};
 use dnsv_canonical::Rrset;
 use dnsv_names::{Name, RecordType};
 use dnsv_records::Rrsig;
-use dnsv_verifier::KeyRecord;
+use dnsv_verifier::{KeyRecord, add_keys};
 use std::alloc::{AllocError, Global};
-
-/// The keys of all RRsets, whatever message they came in.
-pub fn all_keys<'a>(alloc: Global, rrsets: &'a [Rrset]) -> Result<Vec<KeyRecord<'a>>, AllocError>
-    ensures { IfOk result (λ keys. AreKeysOf rrsets.now keys.items) }
-{
-    let mut keys = Vec::new(alloc);
-    for rrset in rrsets {
-        add_keys(rrset, &mut keys)?;
-    }
-    Ok(keys)
-}
-
-/// Adds the keys of the RRset.
-fn add_keys<'a>(rrset: &'a Rrset, keys: &mut Vec<KeyRecord<'a>>) -> Result<(), AllocError>
-    ensures { OnOk result (AddsJust (IsKeyOf rrset.now) keys.old.items keys.new.items) }
-{
-    for (place, dnskey) in rrset.dnskeys().iter().enumerate() {
-        keys.push(KeyRecord::new(rrset.owner(), rrset.rdata(place), dnskey))?;
-    }
-    Ok(())
-}
 
 /// The keys of the zone, whatever message they came in.
 pub fn keys_at<'a>(

@@ -25,7 +25,6 @@ ghost use Rattle.dnsv_explain.specs.faults.Zones.{IsNeeded};
 
 use crate::evidence::Evidence;
 use crate::explanation::at::At;
-use crate::faults::keys::all_keys;
 use crate::faults::question::closers::closer_lines;
 use crate::faults::question::denials::add_denials;
 use crate::faults::question::dnames::dname_lines;
@@ -41,7 +40,7 @@ use crate::faults::question::zones::add_zones;
 use crate::faults::sources::add_lacking;
 use crate::line::Line;
 use dnsv_names::{Name, RecordType};
-use dnsv_verifier::KeyRecord;
+use dnsv_verifier::{KeyRecord, all_keys};
 use std::alloc::{AllocError, Global};
 
 /// Adds what fails of the question, whose name `at` has, where the evidence settles nothing: the first link that fails, seen

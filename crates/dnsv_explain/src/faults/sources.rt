@@ -7,7 +7,6 @@ mod closed;
 mod enclosers;
 mod held;
 mod lacks;
-mod parameters;
 mod records;
 mod words;
 
@@ -23,9 +22,8 @@ ghost use Rattle.dnsv_explain.specs.faults.Sources.SourceSearch.{AreAllParameter
 use crate::evidence::Evidence;
 use crate::explanation::at::At;
 use crate::faults::sources::chains::{add_nsec3s, add_nsecs};
-use crate::faults::sources::parameters::parameters_in_order;
 use crate::line::Line;
-use dnsv_denial::{nsec3s_of, nsecs_of};
+use dnsv_denial::{nsec3s_of, nsecs_of, parameters_in_order};
 use dnsv_names::RecordType;
 use dnsv_records::Nsec3Parameters;
 use std::alloc::{AllocError, Global};

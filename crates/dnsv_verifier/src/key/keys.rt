@@ -66,7 +66,7 @@ impl<'a> Keys<'a> {
 }
 
 /// The keys of all RRsets, whatever message they came in.
-fn all_keys<'a>(alloc: Global, rrsets: &'a [Rrset]) -> Result<Vec<KeyRecord<'a>>, AllocError>
+pub fn all_keys<'a>(alloc: Global, rrsets: &'a [Rrset]) -> Result<Vec<KeyRecord<'a>>, AllocError>
     ensures { IfOk result (λ keys. AreKeysOf rrsets.now keys.items) }
 {
     let mut keys = Vec::new(alloc);
@@ -77,7 +77,7 @@ fn all_keys<'a>(alloc: Global, rrsets: &'a [Rrset]) -> Result<Vec<KeyRecord<'a>>
 }
 
 /// Adds the keys of the RRset.
-fn add_keys<'a>(rrset: &'a Rrset, keys: &mut Vec<KeyRecord<'a>>) -> Result<(), AllocError>
+pub fn add_keys<'a>(rrset: &'a Rrset, keys: &mut Vec<KeyRecord<'a>>) -> Result<(), AllocError>
     ensures { OnOk result (AddsJust (IsKeyOf rrset.now) keys.old.items keys.new.items) }
 {
     for (place, dnskey) in rrset.dnskeys().iter().enumerate() {

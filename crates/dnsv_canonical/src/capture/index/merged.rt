@@ -1,5 +1,5 @@
 //! An index that is made from another and from more RRsets.
-ghost use Rattle.std.specs.Prelude.{◌≡◌, ◌≢◌, ◌⊎◌, ◌↔◌, ◌++◌, ◌∷◌, [], ◌≤◌, ◌-◌, ◌+◌, ◌<◌, ◌^◌, List, IfOk, IsTrue, OnOk, drop, length, map, take, max};
+ghost use Rattle.std.specs.Prelude.{◌≡◌, ◌≢◌, ◌⊎◌, ◌↔◌, ◌++◌, ◌∷◌, [], ◌≤◌, ◌-◌, ◌+◌, ◌<◌, ◌^◌, List, IfOk, IsTrue, OnOk, drop, length, map, take, max, vec_capacity};
 ghost use Rattle.std.specs.List.{All, AllByRecursion, enumerate_from};
 ghost use Rattle.std.specs.declared.cmp.Ordering.TheVariants.{Greater};
 ghost use Rattle.dnsv_canonical.specs.Index.Grouping.{AreFirsts, IsIndexOf, Numbered, key_of, stands};
@@ -23,8 +23,10 @@ pub struct Merged<'a> {
 impl<'a> Merged<'a> {
     /// Nothing so far, with room for so many RRsets.
     pub fn with_room(alloc: Global, rrsets: usize) -> Result<Merged<'a>, AllocError>
-        ensures { IfOk result (λ merged. (held kept : List Numbered) → AreFirsts held kept
+        ensures nothing { IfOk result (λ merged. (held kept : List Numbered) → AreFirsts held kept
             → IsMerged held kept held [] merged) }
+        ensures room { IfOk result (λ merged. (rrsets ≤ vec_capacity merged.index.numbers)
+            × (rrsets ≤ vec_capacity merged.index.starts)) }
     {
         Ok(Merged {
             index: Index {

@@ -39,7 +39,7 @@ any_leads P Q (x ∷ xs) to some = ⊎_elim (λ (h : P x). inl (to x h)) (λ (re
 its_rdata : (rrset : ReceivedRrset) → rrset.rtype ≡ 50 → (if rrset.rtype == 50 then rrset.rdata else []) ≡ rrset.rdata
 its_rdata rrset is = ap (λ (b : Bool). if b then rrset.rdata else []) ((Decides-eqb rrset.rtype 50).1 is)
 
-among_all : (rrsets : List ReceivedRrset) (k : ℕ) (rrset : ReceivedRrset) (rdata : List ℕ) → slice_get rrsets k ≡ Some rrset → rrset.rtype ≡ 50
+pub among_all : (rrsets : List ReceivedRrset) (k : ℕ) (rrset : ReceivedRrset) (rdata : List ℕ) → slice_get rrsets k ≡ Some rrset → rrset.rtype ≡ 50
     → Contains rrset.rdata rdata → Contains (nsec3_rdata rrsets) rdata
 among_all [] k rrset rdata at is found = cc
 among_all (first ∷ rest) zero rrset rdata at is found =

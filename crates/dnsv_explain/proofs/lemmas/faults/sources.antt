@@ -2,7 +2,6 @@ pub mod ChainLemmas
 pub mod ClosedLemmas
 pub mod FoundLemmas
 pub mod LackLemmas
-pub mod ParameterLemmas
 pub mod SaidLemmas
 pub mod TruthLemmas
 pub mod ZoneLemmas

@@ -1,9 +1,7 @@
 -- The zones of a question's name and their chains.
-use Rattle.std.proofs.Common.{◌≡◌, ◌↔◌, ◌==◌, ◌+◌, ◌-◌, ◌<◌, ◌≤◌, ℕ, zero, suc, Bool, Some, List, [], ◌∷◌, inl, inr, length, map, get_or, drop, refl, sym, ap, ◌∙◌, subst, arith, if◌then◌else◌, IsTrue}
+use Rattle.std.proofs.Common.{◌≡◌, ◌↔◌, ◌==◌, ◌+◌, ◌-◌, ◌<◌, ◌≤◌, ℕ, zero, suc, Some, List, [], ◌∷◌, inl, inr, length, map, get_or, drop, refl, sym, ap, ◌∙◌, subst, arith, IsTrue}
 use Rattle.std.proofs.lemmas.Bool.Decides.{Decides-eqb}
 use Rattle.std.proofs.lemmas.List.{get_or-map, length-map}
-use Rattle.std.proofs.lemmas.List.Concat.{flat_map-cons}
-use Rattle.std.proofs.lemmas.List.Elements.{Contains-append_left, Contains-append_right}
 use Rattle.std.specs.List.{Contains, slice_get}
 use Rattle.std.specs.List.Sorted.{IsStrictlySortedBy}
 use Rattle.dnsv_names.specs.Name.{Labels, SameName, IsAtOrBelow, lower_case, rightmost}
@@ -17,6 +15,7 @@ use Rattle.dnsv_canonical.specs.CanonicalRdata.{canonical_form}
 use Rattle.dnsv_canonical.specs.Evidence.{AreParameters, nsec3_rdata}
 use Rattle.dnsv_canonical.specs.Rrsets.{ReceivedRrset}
 use Rattle.dnsv_chain.specs.Trust.{KeptTrust, SecuredIn as KeptIn}
+use Rattle.dnsv_denial.proofs.lemmas.gathering.NameHashesLemmas.{among_all}
 use Rattle.dnsv_denial.specs.QuestionHashes.{AreUsed}
 use Rattle.dnsv_denial.specs.gathering.Evidence.{IsNsecAt, IsNsec3At}
 use Rattle.dnsv_denial.specs.gathering.Gathered.{AreNsecsOf, AreNsec3sOf}
@@ -42,23 +41,6 @@ use Rattle.dnsv_explain.proofs.lemmas.faults.sources.FoundLemmas.{all_as}
 nsec3_forms : (received : List (List ℕ)) → map (canonical_form 50) received ≡ received
 nsec3_forms [] = refl
 nsec3_forms (x ∷ xs) = ap (λ rest. x ∷ rest) (nsec3_forms xs)
-
-its_rdata : (rrset : ReceivedRrset) → rrset.rtype ≡ 50 → (if rrset.rtype == 50 then rrset.rdata else []) ≡ rrset.rdata
-its_rdata rrset is = ap (λ (b : Bool). if b then rrset.rdata else []) ((Decides-eqb rrset.rtype 50).1 is)
-
-among_all : (rrsets : List ReceivedRrset) (k : ℕ) (rrset : ReceivedRrset) (rdata : List ℕ) → slice_get rrsets k ≡ Some rrset
-    → rrset.rtype ≡ 50 → Contains rrset.rdata rdata → Contains (nsec3_rdata rrsets) rdata
-among_all [] k rrset rdata at is found = cc
-among_all (first ∷ rest) zero rrset rdata at is found =
-    let same : first ≡ rrset = cc in
-    let its : Contains first.rdata rdata = subst (λ (r : ReceivedRrset). Contains r.rdata rdata) (sym same) found in
-    let rtype : first.rtype ≡ 50 = ap (λ (r : ReceivedRrset). r.rtype) same ∙ is in
-    subst (λ xs. Contains xs rdata) (sym (flat_map-cons (λ (r : ReceivedRrset). if r.rtype == 50 then r.rdata else []) first rest))
-    (Contains-append_left (if first.rtype == 50 then first.rdata else []) (nsec3_rdata rest) rdata
-    (subst (λ xs. Contains xs rdata) (sym (its_rdata first rtype)) its))
-among_all (first ∷ rest) (suc k) rrset rdata at is found =
-    subst (λ xs. Contains xs rdata) (sym (flat_map-cons (λ (r : ReceivedRrset). if r.rtype == 50 then r.rdata else []) first rest))
-    (Contains-append_right (if first.rtype == 50 then first.rdata else []) (nsec3_rdata rest) rdata (among_all rest k rrset rdata at is found))
 
 mapped : {X Y : Type 0} (f : X → Y) (xs : List X) (x : X) → IsMember x xs → IsMember (f x) (map f xs)
 mapped f [] x among = absurd among

@@ -2,8 +2,8 @@ use Rattle.std.proofs.Common.{◌↔◌, map, ◌∙◌, subst}
 use Rattle.std.specs.Prelude.{Contains}
 use Rattle.std.proofs.lemmas.List.{take_all}
 use Rattle.std.proofs.lemmas.List.Filters.{dedup_is}
-use Rattle.dnsv_explain.proofs.lemmas.faults.sources.ParameterLemmas.{members_in_order, put_in_order}
-use Rattle.dnsv_explain.proofs.faults.sources.parameters.parameters_in_order.Goals as goal
+use Rattle.dnsv_denial.proofs.lemmas.gathering.GatherZoneLemmas.{members_in_order, put_in_order}
+use Rattle.dnsv_denial.proofs.gathering.parameters.parameters_in_order.Goals as goal
 
 pub returns-clause-order : goal.returns-clause-order
 returns-clause-order c =

@@ -1,4 +1,7 @@
-use super::*;
+//! What a capture has read of a message.
+use dnsv_canonical::Capture;
+use dnsv_message::Message;
+use std::alloc::Global;
 use std::test::Fail;
 
 // At the root a record of each type that is read: DNSKEY with a signature, DS, NSEC and NSEC3.
@@ -23,9 +26,7 @@ fn are_read(alloc: Global, message: &Message<'_>) -> Result<bool, Fail> {
     Ok(signed && denied && digests.ds_records().len() == 1)
 }
 
-#[test]
-fn each_type_is_read(rt: HostRuntime) -> Result<(), Fail> {
-    let message = Message::decode(rt.alloc(), EACH)?;
-    assert!(rt; are_read(rt.alloc(), &message)?);
-    Ok(())
+/// Whether a record of each type that is read is found in what a capture holds.
+pub fn is_each_type_read(alloc: Global) -> Result<bool, Fail> {
+    are_read(alloc, &Message::decode(alloc, EACH)?)
 }

@@ -8,7 +8,7 @@ ghost use Rattle.dnsv_denial.specs.words.EvidenceWords.{parameters_cmp};
 use dnsv_records::Nsec3Parameters;
 use std::alloc::{AllocError, Global};
 
-/// The parameters in their order, each once.
+/// The parameters in their order, by iterations and then by salt, each once.
 pub fn parameters_in_order<'a>(
     alloc: Global,
     all: &'a [Nsec3Parameters],
