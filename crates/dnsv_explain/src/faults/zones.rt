@@ -14,6 +14,7 @@ ghost use Rattle.std.specs.Prelude.{◌≡◌, ◌++◌, ◌∷◌, [], OnOk};
 ghost use Rattle.dnsv_verifier.specs.Asking.{AreKeysOf};
 ghost use Rattle.dnsv_explain.specs.Explained.{setting_in};
 ghost use Rattle.dnsv_explain.specs.faults.Listing.{AddsThose, AreWhere};
+ghost use Rattle.dnsv_explain.specs.faults.Repeats.{AddsNew};
 ghost use Rattle.dnsv_explain.specs.faults.ZoneLines.{AreLinesOfKeys, AreZoneLines, HasNoWay, zone_line};
 ghost use Rattle.dnsv_explain.specs.declared.line.fault.zone.WhyZone.TheVariants as zone_why;
 
@@ -41,7 +42,7 @@ pub fn add_zone_faults(
     zone: &Name,
 ) -> Result<(), AllocError>
     requires keys { AreKeysOf evidence.now.rrsets keys.now }
-    ensures { OnOk result (AddsThose (AreZoneLines (setting_in evidence.now) zone.now) lines.old.items lines.new.items) }
+    ensures { OnOk result (AddsNew (AreZoneLines (setting_in evidence.now) zone.now) lines.old.items lines.new.items) }
 {
     if !has_anchor(evidence, zone) {
         add_zone_fault(lines, WhyZone::NoAnchor, zone)?;
@@ -88,7 +89,7 @@ fn add_keys(
     zone: &Name,
 ) -> Result<(), AllocError>
     requires keys { AreKeysOf evidence.now.rrsets keys.now }
-    ensures { OnOk result (AddsThose (AreLinesOfKeys (setting_in evidence.now) zone.now) lines.old.items lines.new.items) }
+    ensures { OnOk result (AddsNew (AreLinesOfKeys (setting_in evidence.now) zone.now) lines.old.items lines.new.items) }
 {
     if !has_rrset(evidence, zone, RecordType::DNSKEY) {
         add_zone_fault(lines, WhyZone::DnskeyMissing, zone)?;

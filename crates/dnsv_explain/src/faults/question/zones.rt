@@ -3,9 +3,9 @@ ghost use Rattle.std.specs.Prelude.{◌≡◌, ◌++◌, ◌∷◌, [], ◌≤�
 ghost use Rattle.dnsv_names.specs.Name.{rightmost};
 ghost use Rattle.dnsv_verifier.specs.Asking.{AreKeysOf};
 ghost use Rattle.dnsv_explain.specs.Explained.{setting_in};
-ghost use Rattle.dnsv_explain.specs.faults.Listing.{AddsThose};
 ghost use Rattle.dnsv_explain.specs.faults.NeededSearch.{AreLabelsOf};
 ghost use Rattle.dnsv_explain.specs.faults.Order.{AreLinesOfZones, AreNeededLines};
+ghost use Rattle.dnsv_explain.specs.faults.Repeats.{AddsNew};
 ghost use Rattle.dnsv_explain.specs.faults.ZoneLines.{zone_line};
 ghost use Rattle.dnsv_explain.specs.faults.Zones.{IsNeeded};
 
@@ -32,7 +32,7 @@ pub fn add_zones(
 ) -> Result<(), AllocError>
     requires { AreKeysOf evidence.now.rrsets keys.now }
     ensures { (t : ℕ) → AreLabelsOf name.now (IsNeeded (setting_in evidence.now) name.now t) needed.now
-        → OnOk result (AddsThose (AreLinesOfZones (setting_in evidence.now) name.now t) lines.old.items lines.new.items) }
+        → OnOk result (AddsNew (AreLinesOfZones (setting_in evidence.now) name.now t) lines.old.items lines.new.items) }
 {
     if !is_anchored(evidence, name) {
         add_no_anchor(lines, name)?;
@@ -68,7 +68,7 @@ fn add_needed(
     requires keys { AreKeysOf evidence.now.rrsets keys.now }
     requires within { labels ≤ length name.now }
     ensures { (t : ℕ) → AreLabelsOf name.now (IsNeeded (setting_in evidence.now) name.now t) needed.now
-        → OnOk result (AddsThose (AreNeededLines (setting_in evidence.now) name.now t (rightmost name.now labels))
+        → OnOk result (AddsNew (AreNeededLines (setting_in evidence.now) name.now t (rightmost name.now labels))
         lines.old.items lines.new.items) }
 {
     if !is_among(needed, labels) {

@@ -1,14 +1,15 @@
-use Rattle.std.proofs.Common.{List, map, subst, sym}
+use Rattle.std.proofs.Common.{◌∙◌, List, map, subst, sym}
+use Rattle.std.proofs.lemmas.Bool.{false≢true}
 use Rattle.std.specs.List.{AllByRecursion}
 use Rattle.dnsv_canonical.specs.Rrsets.{ReceivedRrset}
 use Rattle.dnsv_verifier.specs.Admissible.{DnskeyRecord}
 use Rattle.dnsv_explain.specs.Explained.{setting_in}
-use Rattle.dnsv_explain.specs.faults.Listing.{AddsThose}
+use Rattle.dnsv_explain.specs.faults.Repeats.{AddsNew}
 use Rattle.dnsv_explain.specs.faults.ZoneLines.{AreEntryLines}
 use Rattle.dnsv_explain.specs.faults.ZoneLines.ZoneSearch.{AreKeysAt, IsJudgedAt, wanted_in}
 use Rattle.dnsv_explain.specs.declared.faults.zones.entries.Judged.{Judged}
 use Rattle.dnsv_explain.proofs.lemmas.faults.zones.EntryLemmas.{all_judged}
-use Rattle.dnsv_explain.proofs.lemmas.faults.zones.ZoneLemmas.{keys_said}
+use Rattle.dnsv_explain.proofs.lemmas.faults.zones.ZoneLemmas.{keys_said, no_keys}
 use Rattle.dnsv_explain.proofs.faults.zones.add_keys.Goals as goal
 
 pub add_ranks-requires-clause-judged : goal.add_ranks-requires-clause-judged
@@ -22,10 +23,15 @@ add_ranks-requires-clause-judged c =
     (subst In c.rrsets.ensures (subst Keys (sym c.deref.ensures.value) c.in_ok-its_keys.ensures)) c.in_ok-said.said.items
     c.in_ok-said.ensures.each)
 
+pub returns-then-not-has_rrset : goal.returns-then-not-has_rrset
+returns-then-not-has_rrset c =
+    no_keys (setting_in c.args.evidence.now) c.args.zone.now _ _
+    (λ has. false≢true (sym c.if-not-has_rrset.true ∙ c.has_rrset.ensures.1 has)) c.in_ok-add_zone_fault.ensures
+
 pub returns : goal.returns
 returns c =
     let setting = setting_in c.args.evidence.now in
     let Adds : List Judged → Type 0 = λ judged.
-    AddsThose (AreEntryLines setting c.args.zone.now (map wanted_in judged)) c.args.lines.now.items c.add_ranks.new.lines.items in
+    AddsNew (AreEntryLines setting c.args.zone.now (map wanted_in judged)) c.args.lines.now.items c.add_ranks.new.lines.items in
     keys_said setting c.args.zone.now c.in_ok-said.said.items _ _ (c.has_rrset.ensures.0 c.if-not-has_rrset.false)
     c.in_ok-said.ensures.are (subst Adds c.deref-2.ensures.value c.in_ok-add_ranks.ensures)

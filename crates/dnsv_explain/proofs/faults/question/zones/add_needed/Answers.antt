@@ -3,7 +3,7 @@ use Rattle.std.proofs.lemmas.Bool.{false≢true}
 use Rattle.dnsv_names.specs.Name.{Labels}
 use Rattle.dnsv_explain.specs.Explained.{setting_in}
 use Rattle.dnsv_explain.specs.faults.Keys.{IsTrustedZone}
-use Rattle.dnsv_explain.specs.faults.Listing.{AddsThose}
+use Rattle.dnsv_explain.specs.faults.Repeats.{AddsNew}
 use Rattle.dnsv_explain.specs.faults.ZoneLines.{AreZoneLines}
 use Rattle.dnsv_explain.proofs.lemmas.faults.question.ZoneLemmas.{needed_left, needed_said, trusted_left}
 use Rattle.dnsv_explain.proofs.faults.question.zones.add_needed.Goals as goal
@@ -23,7 +23,7 @@ pub returns : goal.returns
 returns c = λ t are.
     let setting = setting_in c.args.evidence.now in
     let Trusted : Labels → Type 0 = IsTrustedZone setting in
-    let Adds : Labels → Type 0 = λ zone. AddsThose (AreZoneLines setting zone) c.args.lines.now.items c.add_zone_faults.new.lines.items in
+    let Adds : Labels → Type 0 = λ zone. AddsNew (AreZoneLines setting zone) c.args.lines.now.items c.add_zone_faults.new.lines.items in
     needed_said setting c.args.name.now t c.args.labels c.requires.within c.args.needed.now are (c.is_among.ensures.0 c.if-not-is_among.false)
     (λ trusted. false≢true (sym c.if-is_trusted_zone.false ∙ c.is_trusted_zone.ensures.1 (subst Trusted (sym c.suffix-zone.ensures.labels) trusted)))
     c.args.lines.now.items c.add_zone_faults.new.lines.items (subst Adds c.suffix-zone.ensures.labels c.in_ok-add_zone_faults.ensures)
