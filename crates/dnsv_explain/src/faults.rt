@@ -1,6 +1,7 @@
 //! What keeps the evidence from settling a question.
 
 mod answers;
+mod at;
 mod keys;
 pub mod question;
 pub mod questioned;

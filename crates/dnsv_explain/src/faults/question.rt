@@ -1,6 +1,5 @@
 //! What keeps the evidence from answering a question.
 
-mod at;
 mod closers;
 mod denials;
 mod dnames;

@@ -1,6 +1,5 @@
 //! What is said of a zone that isn't trusted.
 
-pub mod anchored;
 mod entries;
 mod lead;
 mod named;
@@ -19,8 +18,8 @@ ghost use Rattle.dnsv_explain.specs.faults.ZoneLines.{AreLinesOfKeys, AreZoneLin
 ghost use Rattle.dnsv_explain.specs.declared.line.fault.zone.WhyZone.TheVariants as zone_why;
 
 use crate::evidence::Evidence;
+use crate::faults::at::{has_own_anchor, has_rrset, is_anchored};
 use crate::faults::keys::keys_at;
-use crate::faults::zones::anchored::{has_anchor, has_own_anchor, has_rrset};
 use crate::faults::zones::entries::said_entries;
 use crate::faults::zones::ranks::add_ranks;
 use crate::faults::zones::ways::add_ways;
@@ -44,7 +43,7 @@ pub fn add_zone_faults(
     requires keys { AreKeysOf evidence.now.rrsets keys.now }
     ensures { OnOk result (AddsNew (AreZoneLines (setting_in evidence.now) zone.now) lines.old.items lines.new.items) }
 {
-    if !has_anchor(evidence, zone) {
+    if !is_anchored(evidence, zone) {
         add_zone_fault(lines, WhyZone::NoAnchor, zone)?;
         return Ok(());
     }

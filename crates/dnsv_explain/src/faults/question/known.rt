@@ -6,7 +6,7 @@ ghost use Rattle.dnsv_explain.specs.faults.NeededSearch.{AreSigners, IsAboveFoun
 ghost use Rattle.dnsv_explain.specs.faults.Zones.{IsKnownZone};
 
 use crate::evidence::Evidence;
-use crate::faults::question::at::{has_own_anchor, has_rrset, is_anchored};
+use crate::faults::at::{has_own_anchor, has_rrset, is_anchored};
 use crate::faults::question::signers::{Signers, is_among};
 use dnsv_names::{Name, RecordType};
 

@@ -8,7 +8,7 @@ ghost use Rattle.dnsv_explain.specs.faults.NeededSearch.{AreLabelsOf, AreSigners
 ghost use Rattle.dnsv_explain.specs.faults.Zones.{IsNeeded, IsNeededFirst, IsParent, NeedsAbove};
 
 use crate::evidence::Evidence;
-use crate::faults::question::at::{has_own_anchor, has_rrset, is_anchored};
+use crate::faults::at::{has_own_anchor, has_rrset, is_anchored};
 use crate::faults::question::known::{anchored_above, speaker};
 use crate::faults::question::signers::{Signers, add_number, ds_signers, is_among};
 use dnsv_names::{Name, RecordType};

@@ -10,7 +10,7 @@ ghost use Rattle.dnsv_explain.specs.faults.ZoneLines.{zone_line};
 ghost use Rattle.dnsv_explain.specs.faults.Zones.{IsNeeded};
 
 use crate::evidence::Evidence;
-use crate::faults::question::at::is_anchored;
+use crate::faults::at::is_anchored;
 use crate::faults::question::signers::is_among;
 use crate::faults::zones::add_zone_faults;
 use crate::line::Line;

@@ -1,7 +1,7 @@
 use Rattle.std.proofs.Common.{◌∙◌, ap}
 use Rattle.dnsv_canonical.specs.Index.{numbers_at}
 use Rattle.dnsv_explain.proofs.lemmas.faults.question.AtLemmas.{some_at}
-use Rattle.dnsv_explain.proofs.faults.question.at.has_rrset.Goals as goal
+use Rattle.dnsv_explain.proofs.faults.at.has_rrset.Goals as goal
 
 pub returns : goal.returns
 returns c =
