@@ -3,7 +3,7 @@ use Rattle.dnsv_explain.specs.Explained.{setting_in}
 use Rattle.dnsv_explain.specs.faults.Listing.{AddsThose, AreOfNumbered}
 use Rattle.dnsv_explain.specs.faults.ZoneLines.{AreSetLines}
 use Rattle.dnsv_explain.specs.faults.ZoneLines.ZoneSearch.{IsMeant}
-use Rattle.dnsv_explain.proofs.faults.zones.self_faults.add_sets.Given as goal
+use Rattle.dnsv_explain.proofs.faults.zones.self_faults.add_self_faults.Given as goal
 
 -- the lines of the RRsets so far
 abbrev pub invariant-loop-place : goal.invariant-loop-place
