@@ -39,7 +39,14 @@ pub fn add_zones(
         return Ok(());
     }
     for labels in 0..name.labels() + 1 {
-        add_needed(alloc, evidence, keys, needed, lines, name, labels)?;
+        if !is_among(needed, labels) {
+            continue;
+        }
+        let zone = name.suffix(labels);
+        if evidence.is_trusted_zone(&zone) {
+            continue;
+        }
+        add_zone_faults(alloc, evidence, keys, lines, &zone)?;
     }
     Ok(())
 }
@@ -52,32 +59,5 @@ fn add_no_anchor(lines: &mut Vec<Line>, name: &Name) -> Result<(), AllocError>
         why: WhyZone::NoAnchor,
         zone: name.clone()?,
     })))?;
-    Ok(())
-}
-
-/// Adds what is said of the zone with so many labels, if it is needed and not trusted.
-fn add_needed(
-    alloc: Global,
-    evidence: &Evidence<'_>,
-    keys: &[KeyRecord<'_>],
-    needed: &[usize],
-    lines: &mut Vec<Line>,
-    name: &Name,
-    labels: usize,
-) -> Result<(), AllocError>
-    requires keys { AreKeysOf evidence.now.rrsets keys.now }
-    requires within { labels ≤ length name.now }
-    ensures { (t : ℕ) → AreLabelsOf name.now (IsNeeded (setting_in evidence.now) name.now t) needed.now
-        → OnOk result (AddsNew (AreNeededLines (setting_in evidence.now) name.now t (rightmost name.now labels))
-        lines.old.items lines.new.items) }
-{
-    if !is_among(needed, labels) {
-        return Ok(());
-    }
-    let zone = name.suffix(labels);
-    if evidence.is_trusted_zone(&zone) {
-        return Ok(());
-    }
-    add_zone_faults(alloc, evidence, keys, lines, &zone)?;
     Ok(())
 }
