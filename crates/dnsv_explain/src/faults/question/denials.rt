@@ -1,6 +1,5 @@
 //! What is said of what may deny a question.
 ghost use Rattle.std.specs.Prelude.{◌↔◌, ℕ, IsTrue, OnOk};
-ghost use Rattle.dnsv_canonical.specs.Rrsets.{IsNumbered};
 ghost use Rattle.dnsv_verifier.specs.Asking.{AreKeysOf};
 ghost use Rattle.dnsv_explain.specs.Explained.{Setting, setting_in};
 ghost use Rattle.dnsv_explain.specs.faults.Listing.{AddsThose, AreOfNumbered, AreThose};
@@ -13,7 +12,6 @@ use crate::faults::add_rrset;
 use crate::faults::question::signers::is_among;
 use crate::faults::question::subjects::is_denial;
 use crate::line::Line;
-use dnsv_canonical::Rrset;
 use dnsv_names::Name;
 use dnsv_verifier::KeyRecord;
 use std::alloc::{AllocError, Global};

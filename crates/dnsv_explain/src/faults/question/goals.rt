@@ -1,6 +1,5 @@
 //! What is said of what may answer a question.
 ghost use Rattle.std.specs.Prelude.{OnOk};
-ghost use Rattle.dnsv_canonical.specs.Rrsets.{IsNumbered};
 ghost use Rattle.dnsv_verifier.specs.Asking.{AreKeysOf};
 ghost use Rattle.dnsv_explain.specs.Explained.{setting_in};
 ghost use Rattle.dnsv_explain.specs.faults.Listing.{AddsThose, AreOfNumbered};
@@ -10,7 +9,6 @@ use crate::evidence::Evidence;
 use crate::faults::add_rrset;
 use crate::faults::question::subjects::is_goal;
 use crate::line::Line;
-use dnsv_canonical::Rrset;
 use dnsv_names::{Name, RecordType};
 use dnsv_verifier::KeyRecord;
 use std::alloc::{AllocError, Global};

@@ -1,10 +1,9 @@
 //! What is said of the zones that a question needs.
-ghost use Rattle.std.specs.Prelude.{◌≡◌, ◌++◌, ◌∷◌, [], ◌≤◌, ℕ, OnOk, length};
-ghost use Rattle.dnsv_names.specs.Name.{rightmost};
+ghost use Rattle.std.specs.Prelude.{◌≡◌, ◌++◌, ◌∷◌, [], ℕ, OnOk};
 ghost use Rattle.dnsv_verifier.specs.Asking.{AreKeysOf};
 ghost use Rattle.dnsv_explain.specs.Explained.{setting_in};
 ghost use Rattle.dnsv_explain.specs.faults.NeededSearch.{AreLabelsOf};
-ghost use Rattle.dnsv_explain.specs.faults.Order.{AreLinesOfZones, AreNeededLines};
+ghost use Rattle.dnsv_explain.specs.faults.Order.{AreLinesOfZones};
 ghost use Rattle.dnsv_explain.specs.faults.Repeats.{AddsNew};
 ghost use Rattle.dnsv_explain.specs.faults.ZoneLines.{zone_line};
 ghost use Rattle.dnsv_explain.specs.faults.Zones.{IsNeeded};

@@ -89,33 +89,11 @@ fn add_rank(
 {
     let mut names = BTreeSet::new(alloc);
     for each in said {
-        add_ranked(alloc, evidence, keys, &mut names, lines, zone, each, rank)?;
+        if rank_of(each.word) != rank {
+            continue;
+        }
+        add_word(alloc, evidence, keys, &mut names, lines, zone, each)?;
     }
-    Ok(())
-}
-
-/// Adds what is said of it, if it has the rank. `names` are those of the keys of which it is said why they don't sign.
-fn add_ranked(
-    alloc: Global,
-    evidence: &Evidence<'_>,
-    keys: &[KeyRecord<'_>],
-    names: &mut KeyNames,
-    lines: &mut Vec<Line>,
-    zone: &Name,
-    each: &Judged<'_>,
-    rank: u8,
-) -> Result<(), AllocError>
-    requires keys { AreKeysOf evidence.now.rrsets keys.now }
-    requires names { AreSaidOfKeys (setting_in evidence.now) zone.now lines.old.items names.old }
-    requires judged { IsJudgedAt evidence.now.rrsets zone.now each.now }
-    ensures adds { OnOk result (AddsNew (AreRankLines (setting_in evidence.now) zone.now rank (wanted_in each.now))
-        lines.old.items lines.new.items) }
-    ensures names { OnOk result (AreSaidOfKeys (setting_in evidence.now) zone.now lines.new.items names.new) }
-{
-    if rank_of(each.word) != rank {
-        return Ok(());
-    }
-    add_word(alloc, evidence, keys, names, lines, zone, each)?;
     Ok(())
 }
 
@@ -134,7 +112,7 @@ fn rank_of(word: Option<WhyEntry>) -> u8
 }
 
 /// Adds its word, and why the keys that it leads to don't sign an RRset in which they stand. Of those that are named by tag
-/// and algorithm that is said once.
+/// and algorithm that is said once: `names` are those of which it is said.
 fn add_word(
     alloc: Global,
     evidence: &Evidence<'_>,
@@ -146,7 +124,7 @@ fn add_word(
 ) -> Result<(), AllocError>
     requires keys { AreKeysOf evidence.now.rrsets keys.now }
     requires names { AreSaidOfKeys (setting_in evidence.now) zone.now lines.old.items names.old }
-    ensures adds { OnOk result (AddsNew (AreWordLines (setting_in evidence.now) zone.now (wanted_in each.now) each.word)
+    ensures adds { OnOk result (AddsNew (AreWordLines (setting_in evidence.now) zone.now (wanted_in each.now) each.now.word)
         lines.old.items lines.new.items) }
     ensures names { OnOk result (AreSaidOfKeys (setting_in evidence.now) zone.now lines.new.items names.new) }
 {
