@@ -14,7 +14,7 @@ ghost use Rattle.dnsv_verifier.specs.Asking.{AreKeysOf};
 ghost use Rattle.dnsv_explain.specs.Explained.{setting_in};
 ghost use Rattle.dnsv_explain.specs.faults.Listing.{AddsThose, AreWhere};
 ghost use Rattle.dnsv_explain.specs.faults.Repeats.{AddsNew};
-ghost use Rattle.dnsv_explain.specs.faults.ZoneLines.{AreLinesOfKeys, AreZoneLines, HasNoWay, zone_line};
+ghost use Rattle.dnsv_explain.specs.faults.ZoneLines.{AreZoneLines, HasNoWay, zone_line};
 ghost use Rattle.dnsv_explain.specs.declared.line.fault.zone.WhyZone.TheVariants as zone_why;
 
 use crate::evidence::Evidence;
@@ -49,7 +49,13 @@ pub fn add_zone_faults(
     }
     add_ways(alloc, evidence, keys, lines, zone)?;
     add_no_way(evidence, lines, zone)?;
-    add_keys(alloc, evidence, keys, lines, zone)?;
+    if !has_rrset(evidence, zone, RecordType::DNSKEY) {
+        add_zone_fault(lines, WhyZone::DnskeyMissing, zone)?;
+        return Ok(());
+    }
+    let its_keys = keys_at(alloc, evidence.rrsets(), zone)?;
+    let said = said_entries(alloc, evidence, &its_keys, zone)?;
+    add_ranks(alloc, evidence, keys, lines, zone, &said)?;
     Ok(())
 }
 
@@ -76,26 +82,5 @@ fn add_no_way(evidence: &Evidence<'_>, lines: &mut Vec<Line>, zone: &Name) -> Re
         return Ok(());
     }
     add_zone_fault(lines, WhyZone::DsMissing, zone)?;
-    Ok(())
-}
-
-/// Adds that the zone has no keys, or why nothing that leads into it leads to one that signs them.
-fn add_keys(
-    alloc: Global,
-    evidence: &Evidence<'_>,
-    keys: &[KeyRecord<'_>],
-    lines: &mut Vec<Line>,
-    zone: &Name,
-) -> Result<(), AllocError>
-    requires keys { AreKeysOf evidence.now.rrsets keys.now }
-    ensures { OnOk result (AddsNew (AreLinesOfKeys (setting_in evidence.now) zone.now) lines.old.items lines.new.items) }
-{
-    if !has_rrset(evidence, zone, RecordType::DNSKEY) {
-        add_zone_fault(lines, WhyZone::DnskeyMissing, zone)?;
-        return Ok(());
-    }
-    let its_keys = keys_at(alloc, evidence.rrsets(), zone)?;
-    let said = said_entries(alloc, evidence, &its_keys, zone)?;
-    add_ranks(alloc, evidence, keys, lines, zone, &said)?;
     Ok(())
 }
