@@ -3,10 +3,10 @@ ghost use Rattle.std.specs.Prelude.{◌≡◌, ◌++◌, ◌∷◌, [], IfOk, On
 ghost use Rattle.std.specs.List.{AllByRecursion};
 ghost use Rattle.dnsv_verifier.specs.Asking.{AreKeysOf};
 ghost use Rattle.dnsv_explain.specs.Explained.{setting_in};
-ghost use Rattle.dnsv_explain.specs.faults.Entries.{IsWantedBy, entry_rank};
+ghost use Rattle.dnsv_explain.specs.faults.Entries.{entry_rank};
 ghost use Rattle.dnsv_explain.specs.faults.Listing.{AreOfEach};
 ghost use Rattle.dnsv_explain.specs.faults.Repeats.{AddsName, AddsNew, AreSaidOfKeys};
-ghost use Rattle.dnsv_explain.specs.faults.ZoneLines.{AreEntryLines, AreRankLines, AreSelfFaults, AreWordLines, entry_line};
+ghost use Rattle.dnsv_explain.specs.faults.ZoneLines.{AreEntryLines, AreRankLines, AreWordLines, entry_line};
 ghost use Rattle.dnsv_explain.specs.faults.ZoneLines.ZoneSearch.{IsJudgedAt, differs, wanted_in, wanted_of};
 
 use crate::evidence::Evidence;
@@ -138,28 +138,9 @@ fn add_word(
         return Ok(());
     };
     add_entry_fault(lines, zone, lead, why)?;
-    if differs(why) {
-        add_named_faults(alloc, evidence, keys, names, lines, zone, lead)?;
+    if !differs(why) {
+        return Ok(());
     }
-    Ok(())
-}
-
-/// Adds why the keys with its tag and algorithm don't sign an RRset in which they stand, if that isn't said yet.
-fn add_named_faults(
-    alloc: Global,
-    evidence: &Evidence<'_>,
-    keys: &[KeyRecord<'_>],
-    names: &mut KeyNames,
-    lines: &mut Vec<Line>,
-    zone: &Name,
-    lead: Lead<'_>,
-) -> Result<(), AllocError>
-    requires keys { AreKeysOf evidence.now.rrsets keys.now }
-    requires names { AreSaidOfKeys (setting_in evidence.now) zone.now lines.old.items names.old }
-    ensures adds { OnOk result (AddsNew (AreSelfFaults (setting_in evidence.now) zone.now
-        (IsWantedBy (wanted_of lead.entry))) lines.old.items lines.new.items) }
-    ensures names { OnOk result (AreSaidOfKeys (setting_in evidence.now) zone.now lines.new.items names.new) }
-{
     let is_new = add_name(names, lead)?;
     if !is_new {
         return Ok(());
