@@ -1,6 +1,7 @@
 -- The lines of what leads into a zone, by rank.
-use Rattle.std.proofs.Common.{◌≡◌, ◌≢◌, ℕ, true, false, List, [], ◌∷◌, ◌++◌, Option, Some, None, map, refl, sym, ap, ◌∙◌, subst}
+use Rattle.std.proofs.Common.{◌≡◌, ◌≢◌, ◌<◌, ◌+◌, ℕ, get_or, length, take, true, false, List, [], ◌∷◌, ◌++◌, Option, Some, None, map, refl, sym, ap, ◌∙◌, subst}
 use Rattle.std.proofs.lemmas.Bool.{false≢true}
+use Rattle.std.specs.List.{AllByRecursion}
 use Rattle.dnsv_names.specs.Name.{Labels}
 use Rattle.dnsv_explain.specs.Explained.{Setting}
 use Rattle.dnsv_explain.specs.faults.Entries.{IsMatchOf, IsWantedBy, Wanted, entry_rank}
@@ -13,8 +14,9 @@ use Rattle.dnsv_explain.specs.declared.faults.zones.entries.Judged.{Judged}
 use Rattle.dnsv_explain.specs.declared.line.Line.{Line}
 use Rattle.dnsv_explain.specs.declared.line.fault.zone.WhyEntry.{WhyEntry}
 use Rattle.dnsv_explain.specs.declared.line.fault.zone.WhyEntry.TheVariants as why
+use Rattle.dnsv_explain.proofs.lemmas.derivations.WayLemmas.KeysLemmas.{read_there}
 use Rattle.dnsv_explain.proofs.lemmas.faults.ListingLemmas.{added_as, each_added, each_of_numbered, none_added, parted_added}
-use Rattle.dnsv_explain.proofs.lemmas.faults.question.RepeatLemmas.{all_new, both_new, new_as}
+use Rattle.dnsv_explain.proofs.lemmas.faults.question.RepeatLemmas.{all_new, both_new, new_as, next_new}
 
 -- of what is mapped to
 each_mapped : {W X Y : Type 0} (f : W → X) (Are : X → List Y → Type 0) (xs : List W) (ys : List Y) → AreOfEach (λ x. Are (f x)) xs ys
@@ -105,6 +107,16 @@ module _ (setting : Setting) (zone : Labels) where
 
   abbrev pub Numbered : ℕ → ℕ → Judged → List Line → Type 0
   Numbered rank n each = AreRankLines setting zone rank (wanted_in each)
+
+  -- one more, which has its word
+  pub one_ranked : (rank : ℕ) (judged : List Judged) → AllByRecursion (IsJudgedAt setting.rrsets zone) judged → (i : ℕ) (each : Judged)
+      → i < length judged → each ≡ get_or judged i each → (old mid new : List Line)
+      → AddsNew (AreOfNumbered (Numbered rank) 1 (take i judged)) old mid
+      → (IsJudgedAt setting.rrsets zone each → AddsNew (AreRankLines setting zone rank (wanted_in each)) mid new)
+      → AddsNew (AreOfNumbered (Numbered rank) 1 (take (i + 1) judged)) old new
+  one_ranked rank judged all i each within at old mid new before one =
+      next_new (Numbered rank) judged i each each old mid new within at before
+      (one (read_there (IsJudgedAt setting.rrsets zone) judged judged i each refl all within at))
 
   pub ranked : (rank : ℕ) (judged : List Judged) (old new : List Line) → AddsNew (AreOfNumbered (Numbered rank) 1 judged) old new
       → AddsNew (OfRank judged rank) old new

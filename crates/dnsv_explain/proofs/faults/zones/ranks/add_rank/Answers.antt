@@ -1,11 +1,9 @@
 use Rattle.std.proofs.Common.{refl, sym, take, ◌∙◌}
 use Rattle.dnsv_explain.specs.Explained.{setting_in}
 use Rattle.dnsv_explain.specs.faults.Listing.{AreOfNumbered}
-use Rattle.dnsv_explain.specs.faults.ZoneLines.ZoneSearch.{IsJudgedAt}
-use Rattle.dnsv_explain.proofs.lemmas.derivations.WayLemmas.KeysLemmas.{read_there}
-use Rattle.dnsv_explain.proofs.lemmas.faults.question.RepeatLemmas.{all_of_new, next_new, none_new}
+use Rattle.dnsv_explain.proofs.lemmas.faults.question.RepeatLemmas.{all_of_new, none_new}
 use Rattle.dnsv_explain.proofs.lemmas.faults.zones.NameLemmas.{none_said}
-use Rattle.dnsv_explain.proofs.lemmas.faults.zones.RankLemmas.{Numbered, rank_added, rank_passed, ranked}
+use Rattle.dnsv_explain.proofs.lemmas.faults.zones.RankLemmas.{Numbered, one_ranked, rank_added, rank_passed, ranked}
 use Rattle.dnsv_explain.proofs.faults.zones.ranks.add_rank.Goals as goal
 
 pub loop-each-init : goal.loop-each-init
@@ -16,29 +14,22 @@ loop-each-init c = record {
 }
 
 pub loop-each-preserved-then-rank_of-rank : goal.loop-each-preserved-then-rank_of-rank
-loop-each-preserved-then-rank_of-rank c =
-    let setting = setting_in c.args.evidence.now in
-    let each = c.each-item.result in
-    let judged = read_there (IsJudgedAt c.args.evidence.now.rrsets c.args.zone.now) c.args.said.now c.args.said.now c.loop-each.each-index each refl
-    c.requires.judged c.loop-each-test.true c.each-item.is in record {
-      adds = next_new (Numbered setting c.args.zone.now c.args.rank) c.args.said.now c.loop-each.each-index each each _ _ _
-          c.loop-each-test.true c.each-item.is c.loop-each.invariant.adds
-          (rank_passed setting c.args.zone.now c.args.rank each judged _ (λ same. c.if-rank_of-rank.true (c.rank_of.ensures ∙ same)));
-      names = c.loop-each.invariant.names;
-    }
+loop-each-preserved-then-rank_of-rank c = record {
+  adds = one_ranked (setting_in c.args.evidence.now) c.args.zone.now c.args.rank c.args.said.now c.requires.judged c.loop-each.each-index
+      c.each-item.result c.loop-each-test.true c.each-item.is _ _ _ c.loop-each.invariant.adds
+      (λ judged. rank_passed (setting_in c.args.evidence.now) c.args.zone.now c.args.rank c.each-item.result judged _
+      (λ same. c.if-rank_of-rank.true (c.rank_of.ensures ∙ same)));
+  names = c.loop-each.invariant.names;
+}
 
 pub loop-each-preserved : goal.loop-each-preserved
-loop-each-preserved c =
-    let setting = setting_in c.args.evidence.now in
-    let each = c.each-item.result in
-    let judged = read_there (IsJudgedAt c.args.evidence.now.rrsets c.args.zone.now) c.args.said.now c.args.said.now c.loop-each.each-index each refl
-    c.requires.judged c.loop-each-test.true c.each-item.is in record {
-      adds = next_new (Numbered setting c.args.zone.now c.args.rank) c.args.said.now c.loop-each.each-index each each _ _ _
-          c.loop-each-test.true c.each-item.is c.loop-each.invariant.adds
-          (rank_added setting c.args.zone.now c.args.rank each judged _ _ (sym c.rank_of.ensures ∙ c.if-rank_of-rank.false)
-          c.in_ok-add_word.ensures.adds);
-      names = c.in_ok-add_word.ensures.names;
-    }
+loop-each-preserved c = record {
+  adds = one_ranked (setting_in c.args.evidence.now) c.args.zone.now c.args.rank c.args.said.now c.requires.judged c.loop-each.each-index
+      c.each-item.result c.loop-each-test.true c.each-item.is _ _ _ c.loop-each.invariant.adds
+      (λ judged. rank_added (setting_in c.args.evidence.now) c.args.zone.now c.args.rank c.each-item.result judged _ _
+      (sym c.rank_of.ensures ∙ c.if-rank_of-rank.false) c.in_ok-add_word.ensures.adds);
+  names = c.in_ok-add_word.ensures.names;
+}
 
 pub returns : goal.returns
 returns c =
