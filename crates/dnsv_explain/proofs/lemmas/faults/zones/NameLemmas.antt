@@ -9,6 +9,7 @@ use Rattle.std.specs.Ordering.{is_eq, nat_cmp, ordering_then}
 use Rattle.std.specs.declared.cmp.Ordering.{Ordering}
 use Rattle.std.specs.declared.cmp.Ordering.TheVariants.{Less, Equal, Greater}
 use Rattle.dnsv_names.specs.Name.{Labels}
+use Rattle.dnsv_records.specs.declared.ds.Ds.{Ds}
 use Rattle.dnsv_explain.specs.Explained.{Setting}
 use Rattle.dnsv_explain.specs.Following.{IsNamed}
 use Rattle.dnsv_explain.specs.faults.Entries.{IsWantedBy, Wanted}
@@ -18,6 +19,7 @@ use Rattle.dnsv_explain.specs.faults.Repeats.{AddsName, AddsNew, AreSaidOfKeys, 
 use Rattle.dnsv_explain.specs.faults.ZoneLines.{AreSelfFaults}
 use Rattle.dnsv_explain.specs.declared.line.Line.{Line}
 use Rattle.dnsv_explain.specs.declared.line.derivation.KeyName.{KeyName}
+use Rattle.dnsv_explain.specs.declared.line.fault.zone.EntryNumber.{EntryNumber}
 use Rattle.dnsv_explain.proofs.lemmas.faults.question.RepeatLemmas.{thinned_repeats}
 use Rattle.dnsv_explain.proofs.lemmas.intervals.MomentLemmas.{is_behind, is_first}
 
@@ -38,6 +40,12 @@ one_name a b same =
     let tag = number_of a.tag.0 b.tag.0 both.0 in
     let algorithm = number_of a.algorithm.0 b.algorithm.0 both.1 in
     λ i. record { tag = record { 0 = tag i }; algorithm = record { 0 = algorithm i } }
+
+pub name_added : (wanted : Wanted) (number : EntryNumber) (records : List Ds) (ds : Ds) → wanted ≡ by_digest number records ds
+    → (old new : BTreeSet (ℕ × ℕ)) (is_new : Bool) → is_new ≡ not (contains key_name_cmp old (ds.key_tag.0, ds.algorithm.0))
+    → Updates key_name_cmp old new (ds.key_tag.0, ds.algorithm.0) true → AddsName wanted old new is_new
+name_added wanted number records ds is old new is_new added updates =
+    let Named : Wanted → Type 0 = λ each. AddsName each old new is_new in subst Named (sym is) (added, updates)
 
 -- ---- lines
 
