@@ -103,8 +103,8 @@ module _ {X : Type 0} (Such : X → Type 0) where
 -- ---- lines that are left out
 
 pub thinned_more : (less all more : List Line) → IsThinned less all → IsThinned (less ++ more) (all ++ more)
-thinned_more less less more whole = whole
-thinned_more less all more (without all before line after is there rest) =
+thinned_more less _ more whole = whole
+thinned_more less all more (without _ before line after is there rest) =
     let Thinned : List Line → Type 0 = IsThinned (less ++ more) in
     without (all ++ more) before line (after ++ more) (ap (λ front. front ++ more) is ∙ append_assoc before (line ∷ after) more) there
     (subst Thinned (append_assoc before after more) (thinned_more less (before ++ after) more rest))
@@ -115,8 +115,8 @@ thinned_behind less all more new is thinned =
     subst Thinned (sym is) (thinned_more less all more thinned)
 
 pub thinned_twice : (less mid all : List Line) → IsThinned mid all → IsThinned less mid → IsThinned less all
-thinned_twice less mid mid whole two = two
-thinned_twice less mid all (without all before line after is there rest) two =
+thinned_twice less mid _ whole two = two
+thinned_twice less mid all (without _ before line after is there rest) two =
     without all before line after is there (thinned_twice less mid (before ++ after) rest two)
 
 -- lines of which each stands already
@@ -129,8 +129,8 @@ thinned_repeats lines (line ∷ more) there =
 pub kept_of_all : (same : Line → Line → Bool) (Such : Line → Type 0) → ((line : Line) → same line line ≡ true)
     → (less all kept : List Line) → IsThinned less all → AreThose Such less kept
     → (of_all : List Line) × AreThose Such all of_all × (first_appearances same of_all ≡ first_appearances same kept)
-kept_of_all same Such itself less less kept whole are = (kept, are, refl)
-kept_of_all same Such itself less all kept (without all before line after is there rest) are =
+kept_of_all same Such itself less _ kept whole are = (kept, are, refl)
+kept_of_all same Such itself less all kept (without _ before line after is there rest) are =
     let Goal : List Line → Type 0 = λ each. (of_all : List Line) × AreThose Such each of_all
     × (first_appearances same of_all ≡ first_appearances same kept) in
     let found = kept_of_all same Such itself less (before ++ after) kept rest are in

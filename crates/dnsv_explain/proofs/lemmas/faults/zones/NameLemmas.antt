@@ -31,7 +31,7 @@ both_equal Equal b same = (refl, same)
 both_equal Greater b same = absurd (false≢true same)
 
 number_of : (a b : ℕ) → is_eq (nat_cmp a b) ≡ true → a ≡ b
-number_of a b same = eqb-true a b (unsigned_tied a b ∙ same)
+number_of a b same = eqb-true a b (sym (unsigned_tied a b) ∙ same)
 
 -- what compares as equal is one name
 one_name : (a b : KeyName) → is_eq (key_name_cmp (a.tag.0, a.algorithm.0) (b.tag.0, b.algorithm.0)) ≡ true → a ≡ b
@@ -98,7 +98,7 @@ module _ (setting : Setting) (zone : Labels) where
   said_next : (lines : List Line) (old new : BTreeSet (ℕ × ℕ)) (own : KeyName) → Updates key_name_cmp old new (own.tag.0, own.algorithm.0) true
       → Said lines old → Has lines own → Said lines new
   said_next lines old new own updates said has name there =
-      let at = (name.tag.0, name.algorithm.0) in
+      let at : ℕ × ℕ = (name.tag.0, name.algorithm.0) in
       let here = is_eq (key_name_cmp (own.tag.0, own.algorithm.0) at) in
       elim here as (λ b. here ≡ b → cond b true (contains key_name_cmp old at) ≡ true → Has lines name) [
         | true ↦ λ same _. subst (Has lines) (one_name own name same) has

@@ -8,13 +8,13 @@ use Rattle.dnsv_explain.proofs.lemmas.faults.zones.NameLemmas.{named, said_added
 use Rattle.dnsv_explain.proofs.lemmas.faults.zones.RankLemmas.{matched, test_false, test_true}
 use Rattle.dnsv_explain.proofs.faults.zones.ranks.add_word.Goals as goal
 
-pub returns-in_ok-add_self_faults-clause-adds : goal.returns-in_ok-add_self_faults-clause-adds
-returns-in_ok-add_self_faults-clause-adds c =
+pub returns-in_default-clause-adds : goal.returns-in_default-clause-adds
+returns-in_default-clause-adds c =
     matched (setting_in c.args.evidence.now) c.args.zone.now (wanted_in c.args.each.now) c.args.each.now.word c.in_default.is _ _
     c.in_ok-add_self_faults.ensures
 
-pub returns-in_ok-add_self_faults-clause-names : goal.returns-in_ok-add_self_faults-clause-names
-returns-in_ok-add_self_faults-clause-names c =
+pub returns-in_default-clause-names : goal.returns-in_default-clause-names
+returns-in_default-clause-names c =
     let setting = setting_in c.args.evidence.now in
     said_added setting c.args.zone.now (AreSelfFaults setting c.args.zone.now (IsMatchOf (wanted_in c.args.each.now))) _ _
     c.args.names.now c.in_ok-add_self_faults.ensures c.requires.names
