@@ -1,15 +1,13 @@
 use Rattle.std.proofs.Common.{List, map, subst, sym, ◌∙◌}
 use Rattle.std.proofs.lemmas.Bool.{false≢true}
 use Rattle.std.specs.List.{AllByRecursion}
-use Rattle.dnsv_canonical.specs.Rrsets.{ReceivedRrset}
-use Rattle.dnsv_verifier.specs.Admissible.{DnskeyRecord}
 use Rattle.dnsv_explain.specs.Explained.{setting_in}
 use Rattle.dnsv_explain.specs.faults.Repeats.{AddsNew}
 use Rattle.dnsv_explain.specs.faults.ZoneLines.{AreEntryLines}
-use Rattle.dnsv_explain.specs.faults.ZoneLines.ZoneSearch.{AreKeysAt, IsJudgedAt, wanted_in}
+use Rattle.dnsv_explain.specs.faults.ZoneLines.ZoneSearch.{IsJudgedAt, wanted_in}
 use Rattle.dnsv_explain.specs.declared.faults.zones.entries.Judged.{Judged}
 use Rattle.dnsv_explain.proofs.lemmas.faults.zones.EntryLemmas.{all_judged}
-use Rattle.dnsv_explain.proofs.lemmas.faults.zones.ZoneLemmas.{keys_said, no_keys, unanchored, zone_said}
+use Rattle.dnsv_explain.proofs.lemmas.faults.zones.ZoneLemmas.{keys_in, keys_said, no_keys, unanchored, zone_said}
 use Rattle.dnsv_explain.proofs.faults.zones.add_zone_faults.Goals as goal
 
 pub returns-then-not-is_anchored : goal.returns-then-not-is_anchored
@@ -24,16 +22,20 @@ returns-then-not-has_rrset c =
     (no_keys (setting_in c.args.evidence.now) c.args.zone.now _ _
     (λ has. false≢true (sym c.if-not-has_rrset.true ∙ c.has_rrset.ensures.1 has)) c.in_ok-add_zone_fault-2.ensures)
 
+pub said_entries-requires : goal.said_entries-requires
+said_entries-requires c = record {
+  keys = keys_in c.args.evidence.now.rrsets c.rrsets.result.now c.args.zone.now c.in_ok-its_keys.its_keys.items c.deref.result.now
+      c.rrsets.ensures c.deref.ensures.value c.in_ok-its_keys.ensures;
+}
+
 pub add_ranks-requires-clause-judged : goal.add_ranks-requires-clause-judged
 add_ranks-requires-clause-judged c =
-    let zone = c.args.zone.now in
-    let In : List ReceivedRrset → Type 0 = λ rrsets. AreKeysAt rrsets zone c.deref.result.now in
-    let Keys : List DnskeyRecord → Type 0 = λ keys. AreKeysAt c.rrsets.result.now zone keys in
-    let All : List Judged → Type 0 = λ judged. AllByRecursion (IsJudgedAt c.args.evidence.now.rrsets zone) judged in
+    let All : List Judged → Type 0 = λ judged. AllByRecursion (IsJudgedAt c.args.evidence.now.rrsets c.args.zone.now) judged in
     subst All (sym c.deref-2.ensures.value)
-    (all_judged (setting_in c.args.evidence.now) zone c.deref.result.now
-    (subst In c.rrsets.ensures (subst Keys (sym c.deref.ensures.value) c.in_ok-its_keys.ensures)) c.in_ok-said.said.items
-    c.in_ok-said.ensures.each)
+    (all_judged (setting_in c.args.evidence.now) c.args.zone.now c.deref.result.now
+    (keys_in c.args.evidence.now.rrsets c.rrsets.result.now c.args.zone.now c.in_ok-its_keys.its_keys.items c.deref.result.now
+    c.rrsets.ensures c.deref.ensures.value c.in_ok-its_keys.ensures)
+    c.in_ok-said.said.items c.in_ok-said.ensures.each)
 
 pub returns : goal.returns
 returns c =

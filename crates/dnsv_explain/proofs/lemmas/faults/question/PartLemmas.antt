@@ -8,7 +8,7 @@ use Rattle.dnsv_explain.specs.Explained.{Setting}
 use Rattle.dnsv_explain.specs.faults.Listing.{AddsThose, AreOfEach, AreOfNumbered, AreParted, AreWhere}
 use Rattle.dnsv_explain.specs.faults.NeededSearch.{AreSigners}
 use Rattle.dnsv_explain.specs.faults.Order.{AreDnameLines, AreEndLines, AreFaultParts, AreGoalClosers, AreGoalLines, AreLacking, AreLinesOfDenials, AreLinesOfZones, names_down}
-use Rattle.dnsv_explain.specs.faults.Repeats.{AddsNew, AreThinned, IsThinned}
+use Rattle.dnsv_explain.specs.faults.Repeats.{AddsNew, AreThinned}
 use Rattle.dnsv_explain.specs.faults.Zones.{HasSignedGoal}
 use Rattle.dnsv_explain.specs.declared.faults.question.signers.Signers.{Signers}
 use Rattle.dnsv_explain.specs.declared.line.Line.{Line}

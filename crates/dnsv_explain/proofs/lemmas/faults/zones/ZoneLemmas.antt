@@ -1,20 +1,30 @@
 -- All that is said of an untrusted zone.
-use Rattle.std.proofs.Common.{◌≡◌, inl, inr, List, [], ◌∷◌, ◌++◌, refl}
+use Rattle.std.proofs.Common.{◌≡◌, inl, inr, List, [], ◌∷◌, ◌++◌, refl, subst, sym}
 use Rattle.std.specs.Prelude.{map}
 use Rattle.dnsv_names.specs.Name.{Labels}
+use Rattle.dnsv_canonical.specs.Rrsets.{ReceivedRrset}
+use Rattle.dnsv_verifier.specs.Admissible.{DnskeyRecord}
 use Rattle.dnsv_verdict.specs.Verdict.{HasAnchor}
 use Rattle.dnsv_explain.specs.Explained.{Setting}
 use Rattle.dnsv_explain.specs.faults.Listing.{AddsThose, AreOfNumbered, AreParted, AreWhere}
 use Rattle.dnsv_explain.specs.faults.Repeats.{AddsNew}
 use Rattle.dnsv_explain.specs.faults.ZoneLines.{AreEntryLines, AreLinesOfKeys, AreSaid, AreWayLines, AreZoneLines, HasNoWay, zone_line}
 use Rattle.dnsv_explain.specs.faults.ZoneLines.AreZoneLines.{anchored, no_anchor}
-use Rattle.dnsv_explain.specs.faults.ZoneLines.ZoneSearch.{wanted_in}
+use Rattle.dnsv_explain.specs.faults.ZoneLines.ZoneSearch.{AreKeysAt, wanted_in}
 use Rattle.dnsv_explain.specs.faults.Zones.{HasOwnAnchor, HasRrset}
 use Rattle.dnsv_explain.specs.declared.faults.zones.entries.Judged.{Judged}
 use Rattle.dnsv_explain.specs.declared.line.Line.{Line}
 use Rattle.dnsv_explain.specs.declared.line.fault.zone.WhyZone.TheVariants as zone_why
 use Rattle.dnsv_explain.proofs.lemmas.faults.ListingLemmas.{added_as, nowhere_added, parted_added, those_added, where_added}
 use Rattle.dnsv_explain.proofs.lemmas.faults.question.RepeatLemmas.{all_new, both_new, new_as}
+
+-- the keys of the zone, under other names
+pub keys_in : (rrsets all : List ReceivedRrset) (zone : Labels) (keys items : List DnskeyRecord) → all ≡ rrsets → items ≡ keys
+    → AreKeysAt all zone keys → AreKeysAt rrsets zone items
+keys_in rrsets all zone keys items same listed are =
+    let In : List ReceivedRrset → Type 0 = λ each. AreKeysAt each zone items in
+    let Keys : List DnskeyRecord → Type 0 = λ each. AreKeysAt all zone each in
+    subst In same (subst Keys (sym listed) are)
 
 module _ (setting : Setting) (zone : Labels) where
   pub unanchored : (old new : List Line) → ¬ HasAnchor setting.anchors zone → new ≡ old ++ zone_line zone_why.NoAnchor zone ∷ []
