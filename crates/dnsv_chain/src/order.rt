@@ -8,7 +8,7 @@ use std::alloc::{AllocError, Global};
 
 /// A DS or DNSKEY RRset to look at. Steps go from few labels to many, since what an RRset's trust depends on has fewer,
 /// and from DS to DNSKEY, since the keys of an owner depend on its DS records.
-#[derive(Clone, Copy, PartialEq, Eq, PartialOrd, Ord)]
+#[derive(Clone, Copy, Debug, PartialEq, Eq, PartialOrd, Ord)]
 pub struct Step {
     /// How many labels the owner has.
     pub labels: usize,
