@@ -218,8 +218,8 @@ module _ (setting : Setting) (zone : Labels) (formed : (rrset : ReceivedRrset) �
         × AreThose (IsOfParent setting zone) some one.zs)).
         let some : List Line = so.1.0 in
         let silent : ¬ HasReason some = λ failed.
-            fewer ways one.zs one.within quiet
-            (failed.0, kept_in (IsOfParent setting zone) some one.zs so.1.2 (line.Reason failed.0) failed.1 tt) in
+        fewer ways one.zs one.within quiet
+        (failed.0, kept_in (IsOfParent setting zone) some one.zs so.1.2 (line.Reason failed.0) failed.1 tt) in
         let first = first_unmet setting (1 + i) rrset (formed rrset has.among) way.numbered
         (group_unmet (1 + i) rrset way all parted entries) some so.1.1 silent in
         let unmet = first.1 in
