@@ -20,7 +20,7 @@ ghost use Rattle.dnsv_verdict.specs.declared.link.Link.{Link};
 ghost use Rattle.dnsv_verdict.specs.declared.report.Report.{Report};
 ghost use Rattle.dnsv_verifier.specs.Table.{table_answer};
 ghost use Rattle.dnsv_verifier.specs.declared.entry.Entry.{Entry};
-ghost use Rattle.dnsv_explain.specs.Explanation.{IsExplanation, IsExplanationOf, its_setting, told_kind};
+ghost use Rattle.dnsv_explain.specs.Explanation.{IsExplanation, IsExplanationOf, IsUnproved, its_setting, told_kind};
 ghost use Rattle.dnsv_explain.specs.Marked.{AnswersMarked};
 ghost use Rattle.dnsv_explain.specs.Following.{EachFollows, at_moment};
 ghost use Rattle.dnsv_explain.specs.Following.Cases.{IsCaseBy};
@@ -38,6 +38,8 @@ use crate::line::cut::{Cut, UnusableDs};
 use crate::line::denial::Part;
 use crate::line::derivation::{SignatureNumber, SignedRrset, TrustedKeys};
 use crate::line::fault::Reason;
+use crate::line::fault::key::ShownKey;
+use crate::line::fault::signature::UntrustedSigner;
 use crate::line::fault::zone::WhyZone;
 use crate::line::{Kind, Line};
 use dnsv_chain::{more_evidence_takes_no_trust_away, trust_depends_on_what_is_asked};
@@ -198,4 +200,18 @@ pub fn bogus_questions_fail_for_a_reason()
         → AreFaultLines setting name t lines → (reason : Reason) × Contains lines (Line.Reason reason) }
     ensures other { (setting : Setting) (name : Labels) (t : ℕ) (lines : List Line) → HasAnchor setting.anchors name
         → AreFaultLines setting name t lines → ¬ Contains lines (zone_line WhyZone.NoAnchor name) }
+{}
+
+/// Only of a question of which nothing is proved something is said to fail: the explanation of any other verdict has no
+/// reason, no signer that isn't trusted, and no key.
+pub fn only_unproved_questions_fail()
+    ensures reasons { (explained : Explained) (t : ℕ) (links : List Link) (last : Labels) (verdict : Verdict)
+        (lines : List Line) → ¬ IsUnproved verdict → IsExplanation explained t links last verdict lines
+        → (reason : Reason) → ¬ Contains lines (Line.Reason reason) }
+    ensures signers { (explained : Explained) (t : ℕ) (links : List Link) (last : Labels) (verdict : Verdict)
+        (lines : List Line) → ¬ IsUnproved verdict → IsExplanation explained t links last verdict lines
+        → (untrusted : UntrustedSigner) → ¬ Contains lines (Line.Follows untrusted) }
+    ensures keys { (explained : Explained) (t : ℕ) (links : List Link) (last : Labels) (verdict : Verdict)
+        (lines : List Line) → ¬ IsUnproved verdict → IsExplanation explained t links last verdict lines
+        → (key : ShownKey) → ¬ Contains lines (Line.Key key) }
 {}
