@@ -25,6 +25,7 @@ ghost use Rattle.dnsv_explain.specs.Marked.{AnswersMarked};
 ghost use Rattle.dnsv_explain.specs.Following.{EachFollows, at_moment};
 ghost use Rattle.dnsv_explain.specs.Following.Cases.{IsCaseBy};
 ghost use Rattle.dnsv_explain.specs.Following.Parts.{IsPartOf, IsUnusableRecord};
+ghost use Rattle.dnsv_explain.specs.faults.Ends.{HasReasonAbove, IsExplained};
 ghost use Rattle.dnsv_explain.specs.faults.Order.{AreFaultLines};
 ghost use Rattle.dnsv_explain.specs.faults.RrsetLines.{AreLinesOfNumber};
 ghost use Rattle.dnsv_explain.specs.faults.Truth.{IsReasonTrue};
@@ -214,4 +215,17 @@ pub fn only_unproved_questions_fail()
     ensures keys { (explained : Explained) (t : ℕ) (links : List Link) (last : Labels) (verdict : Verdict)
         (lines : List Line) → ¬ IsUnproved verdict → IsExplanation explained t links last verdict lines
         → (key : ShownKey) → ¬ Contains lines (Line.Key key) }
+{}
+
+/// Each signer that is told as untrusted has a line that says why: what fails of it; or that it has a DS RRset whose
+/// signer, which is above it, isn't trusted, and for that one the same. So what fails is said of a zone at or above each.
+pub fn untrusted_signers_have_a_reason()
+    ensures explained { (setting : Setting) (name : Labels) (t : ℕ) (lines : List Line)
+        → ((rrset : ReceivedRrset) → Contains setting.rrsets rrset → IsWellFormed rrset) → AreFaultLines setting name t lines
+        → (untrusted : UntrustedSigner) → Contains lines (Line.Follows untrusted)
+        → IsExplained setting lines untrusted.signature.signer }
+    ensures ends { (setting : Setting) (name : Labels) (t : ℕ) (lines : List Line)
+        → ((rrset : ReceivedRrset) → Contains setting.rrsets rrset → IsWellFormed rrset) → AreFaultLines setting name t lines
+        → (untrusted : UntrustedSigner) → Contains lines (Line.Follows untrusted)
+        → HasReasonAbove setting lines untrusted.signature.signer }
 {}

@@ -16,7 +16,7 @@ pub use laws::{
     marked_entries_settle_what_is_hoped, only_unproved_questions_fail,
     questions_without_an_anchor_fail_for_that, reasons_are_true, reasons_of_rrsets_are_true,
     reasons_of_zones_are_true, signatures_hold_in_one_interval, unsigned_cuts_follow,
-    verdicts_are_no_worse_as_long_as_explanations_hold,
+    untrusted_signers_have_a_reason, verdicts_are_no_worse_as_long_as_explanations_hold,
 };
 pub use line::cut::{Cut, InsecureCase, UnusableDs, WhyUnusable};
 pub use line::denial::{Chain, Form, Part, Proof, RecordPlace, Relation, Role};

@@ -47,7 +47,7 @@ end_reason setting name t end (denied zone speaks has) = (_, refl)
 end_reason setting name t end (missing by speaks without) = (_, refl)
 
 -- a name above is one of those down to the name
-down_there : (name zone : Labels) → IsAtOrBelow name zone → Contains (names_down name) (rightmost name (length zone))
+pub down_there : (name zone : Labels) → IsAtOrBelow name zone → Contains (names_down name) (rightmost name (length zone))
 down_there name zone at =
     let fits = at_or_below_length name zone at in
     let size = down_length name in
@@ -102,7 +102,8 @@ module _ (setting : Setting) (name : Labels) (t : ℕ) (formed : (rrset : Receiv
       let one = list_for (AreNeededLines setting name t) (names_down name) spelled parts.zones so.1 (down_there name zone at) in
       ⊎_elim
       (λ (is : (IsNeeded setting name t spelled × (¬ IsTrustedZone setting spelled)) × AreZoneLines setting spelled one.zs).
-      zone_unmet setting spelled formed one.zs is.1 (fewer parts.zones one.zs one.within no_zones) never no_parent)
+      zone_unmet setting spelled formed one.zs is.1 (fewer parts.zones one.zs one.within no_zones) never
+      (λ said there is. no_parent said.signature.signer is))
       (λ (isnt : (¬ (IsNeeded setting name t spelled × (¬ IsTrustedZone setting spelled))) × (one.zs ≡ [])).
       isnt.0 (needed_same setting name t zone spelled (sym same) needed, never))
       one.are)
