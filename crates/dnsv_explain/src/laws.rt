@@ -1,7 +1,7 @@
 //! Laws of explanations.
 //!
 //! Each is a function that does nothing and ensures the law, which its caller learns.
-ghost use Rattle.std.specs.Prelude.{◌≡◌, ◌≤◌, ◌∷◌, ℕ, [], List, Some, Contains};
+ghost use Rattle.std.specs.Prelude.{◌≡◌, ◌≤◌, ◌∷◌, ℕ, [], List, Some, Contains, map};
 ghost use Rattle.dnsv_names.specs.Name.{Labels};
 ghost use Rattle.dnsv_canonical.specs.Rdata.{IsWellFormed};
 ghost use Rattle.dnsv_canonical.specs.Rrsets.{IsNumbered, ReceivedRrset};
@@ -22,6 +22,7 @@ ghost use Rattle.dnsv_verifier.specs.Table.{table_answer};
 ghost use Rattle.dnsv_verifier.specs.declared.entry.Entry.{Entry};
 ghost use Rattle.dnsv_explain.specs.Explanation.{IsExplanation, IsExplanationOf, IsUnproved, its_setting, told_kind};
 ghost use Rattle.dnsv_explain.specs.Marked.{AnswersMarked};
+ghost use Rattle.dnsv_explain.specs.Once.{AreOnce};
 ghost use Rattle.dnsv_explain.specs.Following.{EachFollows, at_moment};
 ghost use Rattle.dnsv_explain.specs.Following.Cases.{IsCaseBy};
 ghost use Rattle.dnsv_explain.specs.Following.Parts.{IsPartOf, IsUnusableRecord};
@@ -31,6 +32,7 @@ ghost use Rattle.dnsv_explain.specs.faults.RrsetLines.{AreLinesOfNumber};
 ghost use Rattle.dnsv_explain.specs.faults.Truth.{IsReasonTrue};
 ghost use Rattle.dnsv_explain.specs.faults.ZoneLines.{AreZoneLines, zone_line};
 ghost use Rattle.dnsv_explain.specs.intervals.Holding.{AreShownValidAt, IsHolding, IsHoldingOf};
+ghost use Rattle.dnsv_explain.specs.line.{line_text};
 ghost use Rattle.dnsv_explain.specs.unsigned_cuts.ShownCuts.{IsCutShownBy, IsCutTold};
 ghost use Rattle.dnsv_explain.specs.derivations.Ways.{HasSecured};
 
@@ -228,4 +230,12 @@ pub fn untrusted_signers_have_a_reason()
         → ((rrset : ReceivedRrset) → Contains setting.rrsets rrset → IsWellFormed rrset) → AreFaultLines setting name t lines
         → (untrusted : UntrustedSigner) → Contains lines (Line.Follows untrusted)
         → HasReasonAbove setting lines untrusted.signature.signer }
+{}
+
+/// No line stands twice in an explanation; and of what fails no two lines have one text.
+pub fn no_line_stands_twice()
+    ensures whole { (explained : Explained) (t : ℕ) (links : List Link) (last : Labels) (verdict : Verdict)
+        (lines : List Line) → IsExplanation explained t links last verdict lines → AreOnce lines }
+    ensures texts { (setting : Setting) (name : Labels) (t : ℕ) (lines : List Line) → AreFaultLines setting name t lines
+        → AreOnce (map line_text lines) }
 {}
