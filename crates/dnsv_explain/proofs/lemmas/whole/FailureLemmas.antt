@@ -1,19 +1,18 @@
 -- What fails is said without a line twice.
-use Rattle.std.proofs.Common.{◌≡◌, ◌≢◌, ◌++◌, ℕ, Bool, true, false, List, [], ◌∷◌, map, inl, inr, refl, sym, ap, ◌∙◌, subst, ⊎_elim, arith}
+use Rattle.std.proofs.Common.{◌≡◌, ◌≢◌, ℕ, true, false, List, map, inl, inr, refl, sym, ap, ◌∙◌, subst, ⊎_elim, arith}
 use Rattle.std.proofs.lemmas.Bool.{false≢true}
 use Rattle.std.proofs.lemmas.List.Elements.{Contains-append_cases}
 use Rattle.std.proofs.lemmas.Slice.Eq.{bytes_eq-Decides}
 use Rattle.std.specs.List.{Contains}
 use Rattle.dnsv_names.specs.Name.{Labels}
 use Rattle.dnsv_canonical.proofs.GroupLemmas.AppearanceLemmas.{first_appearances_apart}
-use Rattle.dnsv_canonical.specs.Rrsets.{IsNumbered, ReceivedRrset, first_appearances}
+use Rattle.dnsv_canonical.specs.Rrsets.{ReceivedRrset, first_appearances}
 use Rattle.dnsv_verifier.specs.Admissible.{DnskeyRecord}
 use Rattle.dnsv_denial.specs.declared.records.number.RecordNumber.{RecordNumber}
 use Rattle.dnsv_explain.specs.Explained.{Setting}
 use Rattle.dnsv_explain.specs.Explanation.{IsFailureTold}
 use Rattle.dnsv_explain.specs.Once.{AreOnce}
-use Rattle.dnsv_explain.specs.derivations.WaySearch.{AreKeysInOrder}
-use Rattle.dnsv_explain.specs.faults.KeyLines.{AreLinesOfKeysAsked, AreLinesOfSet, IsInQuestion, IsKeyLine}
+use Rattle.dnsv_explain.specs.faults.KeyLines.{AreLinesOfKeysAsked, AreLinesOfSet, IsKeyLine}
 use Rattle.dnsv_explain.specs.faults.Listing.{AreOfNumbered}
 use Rattle.dnsv_explain.specs.faults.Order.{AreFaultLines, IsSaid, same_text}
 use Rattle.dnsv_explain.specs.line.{line_text}

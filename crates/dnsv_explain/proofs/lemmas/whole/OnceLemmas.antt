@@ -1,6 +1,5 @@
 -- No line stands twice in an explanation.
-use Rattle.std.proofs.Common.{◌≡◌, ◌≢◌, ◌≤◌, ◌++◌, ℕ, List, [], ◌∷◌, map, refl, sym, ap, subst, ⊎_elim, arith}
-use Rattle.std.specs.List.{Contains}
+use Rattle.std.proofs.Common.{◌≡◌, ◌≢◌, ◌≤◌, ◌++◌, ℕ, List, [], ◌∷◌, map, refl, sym, ap, subst, arith}
 use Rattle.dnsv_names.specs.Name.{Labels}
 use Rattle.dnsv_canonical.specs.Rrsets.{ReceivedRrset}
 use Rattle.dnsv_verdict.specs.declared.link.Link.{Link}

@@ -1,6 +1,5 @@
 -- What holds for a verdict is said without a line twice.
 use Rattle.std.proofs.Common.{◌≡◌, ◌≢◌, ◌≤◌, ◌+◌, ◌++◌, ◌∙◌, ℕ, zero, suc, List, [], ◌∷◌, Option, Some, None, length, map, inl, inr, refl, sym, ap, subst, ⊎_elim, arith}
-use Rattle.std.proofs.lemmas.List.Elements.{Contains-append_cases}
 use Rattle.std.specs.List.{Contains}
 use Rattle.dnsv_names.specs.Name.{Labels, rightmost}
 use Rattle.dnsv_canonical.specs.Index.{numbers_at}
@@ -26,7 +25,7 @@ use Rattle.dnsv_explain.specs.derivations.HeldTo.{IsFirstDerived, IsHeldAt, IsHe
 use Rattle.dnsv_explain.specs.derivations.HeldTo.IsLowestDerived.{unsigned as none_signed, signed as lowest_signed}
 use Rattle.dnsv_explain.specs.derivations.OwnDerivations.{AreRecordsDerived, IsOwnDerivation, IsSignatureTold}
 use Rattle.dnsv_explain.specs.unsigned_cuts.ShownCuts.{IsCutTold, IsUnsignedTold}
-use Rattle.dnsv_explain.specs.unsigned_cuts.UnsignedCuts.{AreAllTold, AreToldFrom, IsCaseTold, IsUnusableTold, record_of}
+use Rattle.dnsv_explain.specs.unsigned_cuts.UnsignedCuts.{AreAllTold, AreToldFrom, IsCaseTold, IsUnusableTold}
 use Rattle.dnsv_explain.specs.declared.line.Line.{Line}
 use Rattle.dnsv_explain.specs.declared.line.Line.TheVariants as line
 use Rattle.dnsv_explain.specs.declared.line.cut.InsecureCase.{InsecureCase}
@@ -110,14 +109,14 @@ module _ (setting : Setting) where
 
     -- ---- from which name on a name may be unsigned
 
-    case_fresh : (which : InsecureCase) (at : Labels) (zone : Option Labels) (before lines : List Line) → IsUncut before
-        → IsCaseTold which at zone before lines → IsFresh IsSettling before lines
-    case_fresh which at zone before lines uncut told =
+    case_fresh : (which : InsecureCase) (at : Labels) (its : Option Labels) (before lines : List Line) → IsUncut before
+        → IsCaseTold which at its before lines → IsFresh IsSettling before lines
+    case_fresh which at its before lines uncut told =
         one_fresh IsSettling before lines (line.Case told.cut) told.are (lacks 1 before uncut.case (line.Case told.cut) refl) (omega arith)
 
-    behind_case : (which : InsecureCase) (at : Labels) (zone : Option Labels) (before lines : List Line) → IsUncut before
-        → IsCaseTold which at zone before lines → Lack 2 (before ++ lines)
-    behind_case which at zone before lines uncut told =
+    behind_case : (which : InsecureCase) (at : Labels) (its : Option Labels) (before lines : List Line) → IsUncut before
+        → IsCaseTold which at its before lines → Lack 2 (before ++ lines)
+    behind_case which at its before lines uncut told =
         let Unusable : List Line → Type 0 = λ all. Lack 2 all in
         kinds_append (λ k. k ≢ 2) before lines uncut.unusable
         (subst Unusable (sym told.are) (kinds_one (λ k. k ≢ 2) (line.Case told.cut) (λ is. let clash : 1 ≡ 2 = is in omega (arith, clash))))

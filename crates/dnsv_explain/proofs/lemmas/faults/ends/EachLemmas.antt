@@ -1,13 +1,13 @@
 -- Lists of lines that are all such.
 use Rattle.std.proofs.Common.{◌≡◌, ◌+◌, ℕ, inl, inr, List, [], ◌∷◌, ◌++◌, map, refl, sym, subst, ⊎_elim}
-use Rattle.std.proofs.lemmas.List.Elements.{Contains-append_cases, Contains-append_right}
+use Rattle.std.proofs.lemmas.List.Elements.{Contains-append_cases}
 use Rattle.std.specs.List.{Contains}
 use Rattle.dnsv_canonical.specs.Rrsets.{IsNumbered}
 use Rattle.dnsv_verifier.proofs.NumberLemmas.{contains_from_map}
 use Rattle.dnsv_explain.specs.faults.Listing.{AreOfEach, AreOfNumbered, AreParted, AreWhere}
 use Rattle.dnsv_explain.specs.declared.line.Line.{Line}
 use Rattle.dnsv_explain.proofs.lemmas.faults.TruthLemmas.{first_or_rest, member_of, none_in}
-use Rattle.dnsv_explain.proofs.lemmas.faults.unmet.ListLemmas.{at_front, numbered_from}
+use Rattle.dnsv_explain.proofs.lemmas.faults.unmet.ListLemmas.{numbered_from}
 
 module _ (Such : Line → Type 0) where
   abbrev pub Each : List Line → Type 0

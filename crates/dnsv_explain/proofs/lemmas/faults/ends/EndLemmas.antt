@@ -1,5 +1,5 @@
 -- Each signer of which it is said that it isn't trusted has a line that says why.
-use Rattle.std.proofs.Common.{◌≡◌, ◌⊎◌, ◌<◌, ◌≤◌, ◌∙◌, ℕ, zero, suc, true, inl, inr, List, [], ◌∷◌, length, refl, sym, subst, ⊎_elim, arith}
+use Rattle.std.proofs.Common.{◌≡◌, ◌⊎◌, ◌≤◌, ◌∙◌, ℕ, zero, suc, inl, inr, List, [], ◌∷◌, length, refl, sym, subst, ⊎_elim, arith}
 use Rattle.std.proofs.lemmas.List.Elements.{Contains-append_left, Contains-append_right}
 use Rattle.std.proofs.lemmas.Slice.Eq.{bytes_eq-Decides}
 use Rattle.std.specs.List.{Contains}
@@ -8,14 +8,14 @@ use Rattle.dnsv_names.specs.Order.{IsBelow}
 use Rattle.dnsv_names.specs.Tree.AncestorLaws.{rightmost_same}
 use Rattle.dnsv_names.specs.Tree.TreeLaws.{at_itself, at_or_below_trans, below_length, below_respects}
 use Rattle.dnsv_canonical.specs.Rdata.{IsWellFormed}
-use Rattle.dnsv_canonical.specs.Rrsets.{ReceivedRrset, first_appearances}
+use Rattle.dnsv_canonical.specs.Rrsets.{ReceivedRrset}
 use Rattle.dnsv_verdict.specs.Verdict.{HasAnchor}
 use Rattle.dnsv_explain.specs.Explained.{Setting}
 use Rattle.dnsv_explain.specs.faults.Ends.{HasReasonAbove, IsExplained, IsSaidOf, IsTextAmong, LeadsToKeys}
 use Rattle.dnsv_explain.specs.faults.Ends.IsExplained.{by_parent, by_reason}
 use Rattle.dnsv_explain.specs.faults.Keys.{IsTrustedZone}
 use Rattle.dnsv_explain.specs.faults.Listing.{AreOfEach}
-use Rattle.dnsv_explain.specs.faults.Order.{AreFaultLines, AreFaultParts, AreNeededLines, IsSaid, names_down, same_text}
+use Rattle.dnsv_explain.specs.faults.Order.{AreFaultLines, AreFaultParts, AreNeededLines, IsSaid, names_down}
 use Rattle.dnsv_explain.specs.faults.ZoneLines.{AreZoneLines, zone_line}
 use Rattle.dnsv_explain.specs.faults.Zones.{IsNeeded}
 use Rattle.dnsv_explain.specs.faults.Zones.IsNeeded.{above}

@@ -1,5 +1,5 @@
 -- Each signer of which it is said that it isn't trusted is that of a zone which the question needs.
-use Rattle.std.proofs.Common.{◌≡◌, ◌≢◌, ◌⊎◌, ◌+◌, ◌++◌, ℕ, inl, inr, List, [], ◌∷◌, map, refl, ⊎_elim}
+use Rattle.std.proofs.Common.{◌≡◌, ◌≢◌, ◌⊎◌, ◌+◌, ◌++◌, ℕ, inl, inr, List, [], ◌∷◌, map, refl}
 use Rattle.std.specs.List.{Contains}
 use Rattle.dnsv_names.specs.Name.{Labels, IsAtOrBelow, rightmost}
 use Rattle.dnsv_names.specs.Order.{IsBelow}
@@ -8,11 +8,10 @@ use Rattle.dnsv_zones.specs.zones.TypeNumbers.{dname}
 use Rattle.dnsv_canonical.specs.Canonical.{IsCanonical}
 use Rattle.dnsv_canonical.specs.CanonicalRdata.{canonical_form}
 use Rattle.dnsv_canonical.specs.Rrsets.{IsNumbered, ReceivedRrset}
-use Rattle.dnsv_verdict.specs.Verdict.{HasAnchor}
 use Rattle.dnsv_explain.specs.Explained.{Setting}
 use Rattle.dnsv_explain.specs.faults.Keys.{IsTrustedZone}
-use Rattle.dnsv_explain.specs.faults.Listing.{AreOfEach, AreOfNumbered, AreThose}
-use Rattle.dnsv_explain.specs.faults.Order.{AreCloserLines, AreDenialLines, AreDnameLines, AreEndLines, AreFaultParts, AreGoalClosers, AreGoalLines, AreLacking, AreLinesOfDenials, AreLinesOfZones, AreNeededLines, AreNsec3At, AreNsec3Lines, AreNsec3sLines, IsCloserOpen, IsEndLine, IsLowestDname, IsOfNeeded, closer_line, dname_line, names_down}
+use Rattle.dnsv_explain.specs.faults.Listing.{AreOfNumbered, AreThose}
+use Rattle.dnsv_explain.specs.faults.Order.{AreCloserLines, AreDenialLines, AreDnameLines, AreFaultParts, AreGoalClosers, AreGoalLines, AreLacking, AreLinesOfDenials, AreLinesOfZones, AreNeededLines, AreNsec3At, AreNsec3sLines, IsCloserOpen, IsEndLine, IsLowestDname, IsOfNeeded, closer_line, dname_line, names_down}
 use Rattle.dnsv_explain.specs.faults.Order.AreNsec3Lines.{iterations, unusable, usable}
 use Rattle.dnsv_explain.specs.faults.Order.IsEndLine.{denied, missing}
 use Rattle.dnsv_explain.specs.faults.RrsetLines.{AreRrsetLines, shown_of}

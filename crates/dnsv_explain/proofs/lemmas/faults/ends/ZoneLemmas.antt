@@ -1,5 +1,5 @@
 -- What is said of a zone that isn't trusted is said of it, or that a parent of it isn't trusted.
-use Rattle.std.proofs.Common.{◌≡◌, ◌-◌, ◌∙◌, ℕ, inl, inr, List, [], ◌∷◌, Option, Some, None, map, refl, sym, ap, subst}
+use Rattle.std.proofs.Common.{◌≡◌, ◌-◌, ◌∙◌, ℕ, inl, inr, List, [], ◌∷◌, Option, Some, None, map, refl, sym, subst}
 use Rattle.std.specs.List.{Contains}
 use Rattle.dnsv_names.specs.Name.{Labels, SameName}
 use Rattle.dnsv_records.specs.declared.rrsig.Rrsig.{Rrsig}
@@ -30,7 +30,7 @@ use Rattle.dnsv_explain.specs.declared.line.fault.zone.WhyEntry.TheVariants as w
 use Rattle.dnsv_explain.specs.declared.line.fault.zone.WhyZone.TheVariants as zone_why
 use Rattle.dnsv_explain.proofs.lemmas.faults.TruthLemmas.{those_such}
 use Rattle.dnsv_explain.proofs.lemmas.faults.truth.SoLemmas.{those_among}
-use Rattle.dnsv_explain.proofs.lemmas.faults.unmet.FollowLemmas.{IsUntrustedOf, rrset_follows}
+use Rattle.dnsv_explain.proofs.lemmas.faults.unmet.FollowLemmas.{rrset_follows}
 use Rattle.dnsv_explain.proofs.lemmas.faults.unmet.ListLemmas.{there_at}
 use Rattle.dnsv_explain.proofs.lemmas.faults.ends.EachLemmas.{Each, each_each, mapped_each, none_each, numbered_each, one_each, parted_each, where_each}
 use Rattle.dnsv_explain.proofs.lemmas.faults.ends.RrsetLemmas.{IsOfRrset, IsReasonOf, rrset_of}
