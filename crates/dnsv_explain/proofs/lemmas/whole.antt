@@ -1,0 +1,7 @@
+pub mod DerivationLemmas
+pub mod FailureLemmas
+pub mod FreshLemmas
+pub mod ListLemmas
+pub mod OnceLemmas
+pub mod ProvedLemmas
+pub mod SettledLemmas
