@@ -167,7 +167,7 @@ module _ (setting : Setting) (name : Labels) (t : ℕ) where
 
   end_ended : (end : Line) → IsEndLine setting name t end → IsEnded end
   end_ended end (denied zone speaks has) = tt
-  end_ended end (missing zone speaks lacks) = tt
+  end_ended end (missing by speaks lacks) = tt
 
   pub parts_ended : (lines : List Line) → AreFaultParts setting name t lines → All lines
   parts_ended lines are =
