@@ -22,7 +22,6 @@ use Rattle.dnsv_explain.specs.faults.Zones.IsNeededFirst.{signer}
 use Rattle.dnsv_explain.specs.faults.Zones.NeedsAbove.{parent}
 use Rattle.dnsv_explain.specs.declared.line.Line.{Line}
 use Rattle.dnsv_explain.specs.declared.line.Line.TheVariants as line
-use Rattle.dnsv_explain.specs.declared.line.fault.Reason.{Reason}
 use Rattle.dnsv_explain.specs.declared.line.fault.signature.UntrustedSigner.{UntrustedSigner}
 use Rattle.dnsv_explain.specs.declared.line.fault.zone.WhyZone.TheVariants as zone_why
 use Rattle.dnsv_explain.proofs.lemmas.faults.TruthLemmas.{those_such}
