@@ -7,7 +7,7 @@ ghost use Rattle.dnsv_canonical.specs.Rdata.{IsWellFormed};
 ghost use Rattle.dnsv_canonical.specs.Rrsets.{IsNumbered, ReceivedRrset};
 ghost use Rattle.dnsv_chain.specs.Trusted.{IsSecured, IsTrusted};
 ghost use Rattle.dnsv_denial.specs.words.EvidenceWords.{Chain};
-ghost use Rattle.dnsv_explain.specs.Explained.{Explained, Setting, basis_in};
+ghost use Rattle.dnsv_explain.specs.Explained.{Explained, Setting, basis_in, setting_in};
 ghost use Rattle.dnsv_denial.specs.declared.proving.shown_denial.ShownDenial.{ShownDenial};
 ghost use Rattle.dnsv_denial.specs.declared.unsigned_cuts.shown_cut.ShownCut.{ShownCut};
 ghost use Rattle.dnsv_explain.specs.Denials.{IsDenialTold, IsExpandedTold, IsShownDenial};
@@ -219,17 +219,21 @@ pub fn only_unproved_questions_fail()
         → (key : ShownKey) → ¬ Contains lines (Line.Key key) }
 {}
 
-/// Each signer that is told as untrusted has a line that says why: what fails of it; or that it has a DS RRset whose
-/// signer, which is above it, isn't trusted, and for that one the same. So what fails is said of a zone at or above each.
+/// Each signer that is told as untrusted has a line that says why, in what fails and in a whole explanation: what fails of
+/// it; or that it has a DS RRset whose signer, which is above it, isn't trusted, and for that one the same. So what fails
+/// is said of a zone at or above each.
 pub fn untrusted_signers_have_a_reason()
     ensures explained { (setting : Setting) (name : Labels) (t : ℕ) (lines : List Line)
         → ((rrset : ReceivedRrset) → Contains setting.rrsets rrset → IsWellFormed rrset) → AreFaultLines setting name t lines
         → (untrusted : UntrustedSigner) → Contains lines (Line.Follows untrusted)
         → IsExplained setting lines untrusted.signature.signer }
-    ensures ends { (setting : Setting) (name : Labels) (t : ℕ) (lines : List Line)
-        → ((rrset : ReceivedRrset) → Contains setting.rrsets rrset → IsWellFormed rrset) → AreFaultLines setting name t lines
+    ensures whole { (explained : Explained) (t : ℕ) (links : List Link) (last : Labels) (verdict : Verdict) (lines : List Line)
+        → ((rrset : ReceivedRrset) → Contains explained.rrsets rrset → IsWellFormed rrset)
+        → IsExplanation explained t links last verdict lines
         → (untrusted : UntrustedSigner) → Contains lines (Line.Follows untrusted)
-        → HasReasonAbove setting lines untrusted.signature.signer }
+        → IsExplained (setting_in explained) lines untrusted.signature.signer }
+    ensures ends { (setting : Setting) (lines : List Line) (zone : Labels) → IsExplained setting lines zone
+        → HasReasonAbove setting lines zone }
 {}
 
 /// No line stands twice in an explanation; and of what fails no two lines have one text.

@@ -5,3 +5,4 @@ pub mod ListLemmas
 pub mod OnceLemmas
 pub mod ProvedLemmas
 pub mod SettledLemmas
+pub mod SignerLemmas

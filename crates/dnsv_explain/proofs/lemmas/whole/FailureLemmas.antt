@@ -18,6 +18,7 @@ use Rattle.dnsv_explain.specs.faults.Order.{AreFaultLines, IsSaid, same_text}
 use Rattle.dnsv_explain.specs.line.{line_text}
 use Rattle.dnsv_explain.specs.declared.line.Line.{Line}
 use Rattle.dnsv_explain.specs.declared.line.Line.TheVariants as line
+use Rattle.dnsv_explain.specs.declared.line.fault.signature.UntrustedSigner.{UntrustedSigner}
 use Rattle.dnsv_explain.proofs.lemmas.faults.TruthLemmas.{those_such}
 use Rattle.dnsv_explain.proofs.lemmas.faults.ends.EachLemmas.{Each, none_each, numbered_each, one_each}
 use Rattle.dnsv_explain.proofs.lemmas.faults.truth.QuestionLemmas.{first_among}
@@ -142,3 +143,14 @@ module _ (setting : Setting) (name : Labels) (t : ℕ) (before lines : List Line
       (λ (right : Contains told.keys each).
       let six = asked_kind setting told.faults told.keys told.of_keys each right in omega (arith, six, is))
       (Contains-append_cases told.faults told.keys each (subst In told.are there))
+
+  -- that a signer isn't trusted is one of the faults
+  pub follows_fails : (untrusted : UntrustedSigner) → Contains lines (line.Follows untrusted) → Contains told.faults (line.Follows untrusted)
+  follows_fails untrusted there =
+      let this : Line = line.Follows untrusted in
+      let In : List Line → Type 0 = λ all. Contains all this in
+      ⊎_elim
+      (λ (left : Contains told.faults this). left)
+      (λ (right : Contains told.keys this).
+      let six : 5 ≡ 6 = asked_kind setting told.faults told.keys told.of_keys this right in absurd (omega (arith, six)))
+      (Contains-append_cases told.faults told.keys this (subst In told.are there))

@@ -201,15 +201,15 @@ signer_explained setting name t lines formed are told there =
     (length by) by (omega arith) needs.needed needs.never
 
 pub reason_above : (setting : Setting) (lines : List Line) (zone : Labels) → IsExplained setting lines zone → HasReasonAbove setting lines zone
-reason_above setting lines zone (by_reason failed never told said) = record {
+reason_above setting lines zone (by_reason failed isnt told said) = record {
   reason = failed;
   told = told;
   above = zone;
   is = at_itself zone;
   said = said;
-  untrusted = never;
+  untrusted = isnt;
 }
-reason_above setting lines zone (by_parent untrusted never told rtype owner below rest) =
+reason_above setting lines zone (by_parent untrusted isnt told rtype owner below rest) =
     let higher = reason_above setting lines untrusted.signature.signer rest in record {
       reason = higher.reason;
       told = higher.told;

@@ -22,7 +22,6 @@ use Rattle.dnsv_explain.specs.faults.Zones.IsNeededFirst.{signer}
 use Rattle.dnsv_explain.specs.faults.Zones.NeedsAbove.{parent}
 use Rattle.dnsv_explain.specs.declared.line.Line.{Line}
 use Rattle.dnsv_explain.specs.declared.line.Line.TheVariants as line
-use Rattle.dnsv_explain.specs.declared.line.fault.Reason.{Reason}
 use Rattle.dnsv_explain.specs.declared.line.fault.signature.UntrustedSigner.{UntrustedSigner}
 use Rattle.dnsv_explain.specs.declared.line.fault.zone.WhyZone.TheVariants as zone_why
 use Rattle.dnsv_explain.proofs.lemmas.faults.TruthLemmas.{those_such}
@@ -167,7 +166,7 @@ module _ (setting : Setting) (name : Labels) (t : ℕ) where
 
   end_ended : (end : Line) → IsEndLine setting name t end → IsEnded end
   end_ended end (denied zone speaks has) = tt
-  end_ended end (missing zone speaks lacks) = tt
+  end_ended end (missing by speaks lacks) = tt
 
   pub parts_ended : (lines : List Line) → AreFaultParts setting name t lines → All lines
   parts_ended lines are =
