@@ -24,6 +24,7 @@ pub trait Machine {
     // Whether a file at a path opens, where the machine tells it.
     ghost opens: { Self → List ℕ → Option Bool } = { λ _ _. None };
 
+    /// Where memory is taken.
     fn alloc(&self) -> Global;
 
     /// The words of the command line, of which the first is the program's name.
@@ -46,6 +47,7 @@ pub struct Host<'a, R> {
 }
 
 impl<'a, R> Host<'a, R> {
+    /// The machine that the system is.
     pub fn new(system: &'a R) -> Host<'a, R> {
         Host { system }
     }
