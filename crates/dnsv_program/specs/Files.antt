@@ -7,7 +7,7 @@ use Rattle.std.specs.Prelude.{◌≡◌, ℕ, List, [], Option, Some, None, unwr
 use Rattle.std.specs.Option.{option_map, option_map_or}
 use Rattle.dnsv_message.specs.Streams.Counted.{inner_of, failures_of}
 use Rattle.dnsv_message.specs.declared.streams.counted.Counted.{Counted}
-use Rattle.dnsv_program.specs.declared.run.Inputs.{Inputs}
+use Rattle.dnsv_program.specs.declared.work.Inputs.{Inputs}
 
 -- the octets of each file; one that isn't given has none
 pub record Files : Type 0 where

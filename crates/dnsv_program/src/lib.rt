@@ -11,8 +11,8 @@ pub use laws::{
 };
 pub use machine::{Host, Machine};
 pub use program::{exit_status, exit_status_on};
-pub use run::{Inputs, run};
 pub use status::{Fault, InputFile, Place, Refusal, Status};
+pub use work::{Inputs, run};
 
 mod command_line;
 mod fault_line;
@@ -21,6 +21,6 @@ mod laws;
 mod machine;
 mod opening;
 mod program;
-mod run;
 mod status;
 mod texts;
+mod work;

@@ -8,7 +8,7 @@ use Rattle.dnsv_message.specs.Streams.Counted.{inner_of, failures_of}
 use Rattle.dnsv_program.specs.Files.Capture.{AreFramesRefused, Demand, Holds, IsFaultOfCapture, IsRefusal, NewEvidence}
 use Rattle.dnsv_program.specs.declared.opening.Opening.{Opening}
 use Rattle.dnsv_program.specs.Opening.Given.{IsOpeningOf, IsFaultOfOpening}
-use Rattle.dnsv_program.specs.declared.run.Inputs.{Inputs}
+use Rattle.dnsv_program.specs.declared.work.Inputs.{Inputs}
 use Rattle.dnsv_program.specs.declared.status.InputFile.TheVariants.{Anchors, Capture, Keys, Macs, Statements}
 use Rattle.dnsv_program.specs.Files.{Files, AreTold, IsToldBy, given_failures, octets_or_none}
 use Rattle.dnsv_chain.specs.declared.anchor.Anchor.{Anchor}

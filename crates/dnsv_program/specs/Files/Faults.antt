@@ -2,7 +2,7 @@
 use Rattle.std.specs.Prelude.{◌≡◌, ◌<◌, ◌≤◌, ◌-◌, ◌^◌, ⊤, ℕ, List, Option, Result, Err, IfErr, IfSome, IsErrOf, length}
 use Rattle.dnsv_message.specs.Streams.Counted.{failures_of}
 use Rattle.dnsv_message.specs.Streams.Frames.{file_limit}
-use Rattle.dnsv_program.specs.declared.run.Inputs.{Inputs}
+use Rattle.dnsv_program.specs.declared.work.Inputs.{Inputs}
 use Rattle.dnsv_program.specs.declared.status.Fault.{Fault}
 use Rattle.dnsv_program.specs.declared.status.Fault.TheVariants as fault
 use Rattle.dnsv_program.specs.declared.status.InputFile.{InputFile}

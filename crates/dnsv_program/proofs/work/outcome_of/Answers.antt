@@ -2,7 +2,7 @@ use Rattle.std.proofs.Common.{subst}
 use Rattle.dnsv_program.specs.Run.{IsFirstFault, IsFirstFaultOfCheck, IsReached, IsReachedByCheck}
 use Rattle.dnsv_program.proofs.FileLemmas.Faults.{TellsFaults-weaker}
 use Rattle.dnsv_program.proofs.ReachedLemmas.{reached_in}
-use Rattle.dnsv_program.proofs.run.outcome_of.Goals as goal
+use Rattle.dnsv_program.proofs.work.outcome_of.Goals as goal
 
 pub returns-in-Check-clause-faults : goal.returns-in-Check-clause-faults
 returns-in-Check-clause-faults g c =

@@ -9,7 +9,7 @@ use Rattle.dnsv_program.proofs.TextLemmas.Checking.{all_checked}
 use Rattle.dnsv_program.proofs.FileLemmas.Faults.{TellsFaults-weaker, anchored, captured, has_evidence, reads_then, stated, unsealed}
 use Rattle.dnsv_program.proofs.JudgedLemmas.{all_judged, stopped_there, unjudged_read, unjudged_writes}
 use Rattle.dnsv_program.proofs.ReachedLemmas.{reached_by, reached_sealed}
-use Rattle.dnsv_program.proofs.run.check_question.Goals as goal
+use Rattle.dnsv_program.proofs.work.check_question.Goals as goal
 
 pub returns-in_err-opening-clause-faults : goal.returns-in_err-opening-clause-faults
 returns-in_err-opening-clause-faults g c =
