@@ -48,7 +48,7 @@ fn add_denial(
     lines: &mut Vec<Line>,
     name: &Name,
     number: usize,
-    rrset: &Rrset,
+    rrset: &Rrset<'_>,
 ) -> Result<(), AllocError>
     requires keys { AreKeysOf evidence.now.rrsets keys.now }
     requires rrset { IsNumbered evidence.now.rrsets number rrset.now }

@@ -43,7 +43,7 @@ fn add_goal(
     name: &Name,
     rtype: RecordType,
     number: usize,
-    rrset: &Rrset,
+    rrset: &Rrset<'_>,
 ) -> Result<(), AllocError>
     requires keys { AreKeysOf evidence.now.rrsets keys.now }
     requires rrset { IsNumbered evidence.now.rrsets number rrset.now }

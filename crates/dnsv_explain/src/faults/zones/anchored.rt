@@ -46,7 +46,7 @@ pub fn has_rrset(evidence: &Evidence<'_>, name: &Name, rtype: RecordType) -> boo
 }
 
 /// Whether one of the RRsets is such.
-fn is_there(rrsets: &[Rrset], name: &Name, rtype: RecordType) -> bool
+fn is_there(rrsets: &[Rrset<'_>], name: &Name, rtype: RecordType) -> bool
     ensures { IsTrue result ↔ HasRrset rrsets.now name.now rtype.0 }
 {
     rrsets

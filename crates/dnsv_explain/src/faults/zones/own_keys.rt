@@ -31,7 +31,7 @@ pub fn add_key(
     lines: &mut Vec<Line>,
     zone: &Name,
     number: usize,
-    set: &Rrset,
+    set: &Rrset<'_>,
     key: &KeyRecord<'_>,
 ) -> Result<(), AllocError>
     requires keys { AreKeysOf evidence.now.rrsets keys.now }
@@ -83,7 +83,7 @@ fn add_signatures(
     keys: &[KeyRecord<'_>],
     lines: &mut Vec<Line>,
     number: usize,
-    set: &Rrset,
+    set: &Rrset<'_>,
     key: &KeyRecord<'_>,
 ) -> Result<(), AllocError>
     requires keys { AreKeysOf evidence.now.rrsets keys.now }
