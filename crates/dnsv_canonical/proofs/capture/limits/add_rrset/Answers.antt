@@ -1,17 +1,14 @@
 use Rattle.dnsv_canonical.specs.Evidence.{AreParameters}
-use Rattle.std.proofs.Common.{List, ℕ, ◌++◌, subst, Result, Ok, Err}
-use Rattle.std.specs.Prelude.{IfErr, OnOk}
+use Rattle.std.proofs.Common.{List, ℕ, ◌++◌, subst}
+use Rattle.std.specs.Prelude.{IfErr}
 use Rattle.dnsv_canonical.specs.Kept.{IsParametersRefusal}
 use Rattle.dnsv_canonical.proofs.ParameterLemmas.{nsec3_rdata_of}
+use Rattle.dnsv_canonical.proofs.ReadableLemmas.{OnOk-weaker}
 use Rattle.dnsv_canonical.proofs.capture.limits.add_rrset.Goals as goal
-
-on_ok : {X E A B : Type 0} (result : Result X E) → (A → B) → OnOk result A → OnOk result B
-on_ok (Ok value) leads holds = leads holds
-on_ok (Err error) leads holds = tt
 
 pub returns-clause-all : goal.returns-clause-all
 returns-clause-all c =
-    on_ok c.add_records.result
+    OnOk-weaker c.add_records.result
     (λ all earlier are. subst (λ received. AreParameters (earlier ++ received) (c.args.kept.now ++ c.add_records.new.fresh.items)) (nsec3_rdata_of c.args.rrset.now) (all earlier _ c.nsec3s.ensures are))
     c.add_records.ensures.all
 
