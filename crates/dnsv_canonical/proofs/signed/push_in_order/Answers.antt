@@ -1,10 +1,9 @@
-use Rattle.std.proofs.Common.{◌≡◌, List, ℕ, ◌++◌, length, map, refl, ap, ◌∙◌, arith, subst, sym}
+use Rattle.std.proofs.Common.{List, ℕ, ◌++◌, length, map, refl, ap, ◌∙◌, arith, subst, sym}
 use Rattle.std.proofs.lemmas.List.{get_or-map, length-map, take_all}
 use Rattle.std.specs.Borrow.{Bor}
 use Rattle.std.specs.Int.{w16, to_be_bytes}
 use Rattle.std.specs.List.{flat_map}
 use Rattle.dnsv_canonical.specs.Canonical.{IsCanonical}
-use Rattle.dnsv_canonical.proofs.ListLemmas.{each_borrowed}
 use Rattle.dnsv_canonical.proofs.ReadableLemmas.{OnOk-weaker}
 use Rattle.dnsv_canonical.proofs.SignedLemmas.{canonical_short, one_signed, records_more}
 use Rattle.dnsv_canonical.proofs.signed.push_in_order.Goals as goal

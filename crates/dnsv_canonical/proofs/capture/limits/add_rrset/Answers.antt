@@ -1,5 +1,5 @@
 use Rattle.dnsv_canonical.specs.Evidence.{AreParameters}
-use Rattle.std.proofs.Common.{List, ℕ, ◌++◌, subst}
+use Rattle.std.proofs.Common.{◌++◌, subst}
 use Rattle.std.specs.Prelude.{IfErr}
 use Rattle.dnsv_canonical.specs.Kept.{IsParametersRefusal}
 use Rattle.dnsv_canonical.proofs.ParameterLemmas.{nsec3_rdata_of}
