@@ -13,10 +13,10 @@ NAMED = {
     "dnsv_verdict/src/report.rt": "the two numbers that a report tells",
     "dnsv_verdict/src/search.rt": "pairs compared by a capture's index, which no report tells",
     "dnsv_explain/src/explanation/held.rt": "pairs compared by a capture's index, which no line tells",
-    "dnsv_explain/src/faults/question/at.rt": "the same",
+    "dnsv_explain/src/faults/at.rt": "the same",
     "dnsv_explain/src/faults/question/dnames.rt": "the same",
     "dnsv_explain/src/faults/question/signers.rt": "the same",
-    "dnssec_check/src/texts/todo.rt": "`list` asks a verifier, and prints no number",
+    "dnsv_program/src/texts/todo.rt": "`list` asks a verifier, and prints no number",
 }
 
 

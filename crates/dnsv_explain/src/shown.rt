@@ -26,7 +26,11 @@ pub fn holding_of(
 }
 
 /// The times of the signatures that the lines show.
-fn times_shown(alloc: Global, rrsets: &[Rrset<'_>], lines: &[Line]) -> Result<Vec<Times>, AllocError>
+fn times_shown(
+    alloc: Global,
+    rrsets: &[Rrset<'_>],
+    lines: &[Line],
+) -> Result<Vec<Times>, AllocError>
     ensures { IfOk result (λ times. AddsJust (ComesOfSome (ShowsTimes rrsets.now) lines.now) [] times.items) }
 {
     let mut times = Vec::new(alloc);

@@ -74,7 +74,11 @@ fn add_goal_signers(
 }
 
 /// How many labels the signers of what may deny have.
-fn denial_signers(alloc: Global, rrsets: &[Rrset<'_>], name: &Name) -> Result<Vec<usize>, AllocError>
+fn denial_signers(
+    alloc: Global,
+    rrsets: &[Rrset<'_>],
+    name: &Name,
+) -> Result<Vec<usize>, AllocError>
     ensures { IfOk result (λ numbers. AreLabelsOf name.now (HasDenialSigner rrsets.now name.now) numbers.items) }
 {
     let mut numbers = Vec::new(alloc);
@@ -100,7 +104,11 @@ fn add_denial_signers(
 }
 
 /// How many labels the signers of the DS RRsets of the zone have that are at or above it.
-pub fn ds_signers(alloc: Global, capture: &Capture<'_>, zone: &Name) -> Result<Vec<usize>, AllocError>
+pub fn ds_signers(
+    alloc: Global,
+    capture: &Capture<'_>,
+    zone: &Name,
+) -> Result<Vec<usize>, AllocError>
     ensures { IfOk result (λ numbers. AreLabelsOf zone.now (HasDsSigner capture.now.rrsets zone.now) numbers.items) }
 {
     let mut compared = Count::new();
