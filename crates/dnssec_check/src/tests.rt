@@ -21,9 +21,11 @@ mod command_line;
 mod explaining;
 mod key_files;
 mod listing;
+mod names;
 mod reading;
 mod showing;
 mod signed;
+mod streams;
 mod system;
 
 use system::{File, Page, System};
