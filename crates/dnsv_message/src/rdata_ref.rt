@@ -248,6 +248,3 @@ impl<'b> RdataOctets<'b> {
         }
     }
 }
-
-#[cfg(test)]
-mod tests;
