@@ -21,7 +21,7 @@ use std::io::Read;
 use std::marker::Model;
 
 /// What frames are opened by before their messages are read.
-#[derive(Debug, Drop)]
+#[derive(Drop)]
 pub enum Opening {
     /// Nothing: a frame is a message.
     Plain,
@@ -36,7 +36,7 @@ pub enum Opening {
 }
 
 /// The MACs of the requests: one for each message in order, or none for one whose request had none.
-#[derive(Debug, Drop)]
+#[derive(Drop)]
 pub struct RequestMacs {
     each: Vec<Option<RequestMac>>,
 }

@@ -11,7 +11,7 @@ use dnsv_verifier::StatementsError;
 use std::alloc::{AllocError, AllocFailed};
 
 /// How a run ended that wrote its whole text.
-#[derive(Clone, Copy, Debug, PartialEq, Eq)]
+#[derive(Clone, Copy)]
 pub enum Status {
     /// The text that was asked for is written. A question's verdict is that the answer, or its absence, is secure.
     Done,
@@ -41,7 +41,7 @@ impl Status {
 }
 
 /// A file that the command line names.
-#[derive(Clone, Copy, Debug, PartialEq, Eq)]
+#[derive(Clone, Copy)]
 pub enum InputFile {
     /// The file of captured messages.
     Capture,
@@ -73,7 +73,7 @@ impl InputFile {
 
 /// Why the input was refused: what a layer below says of it, which is never want of memory, or a reason of the program's
 /// own.
-#[derive(Clone, Copy, Debug, PartialEq, Eq)]
+#[derive(Clone, Copy)]
 pub enum Refusal {
     /// The question's name is no text of a name (RFC 1035 5.1).
     Name(NameError),
@@ -133,7 +133,7 @@ impl Refusal {
 }
 
 /// Where in the input a refusal arose, as far as that is known. All numbers count from 1.
-#[derive(Clone, Copy, Debug, PartialEq, Eq)]
+#[derive(Clone, Copy)]
 pub struct Place {
     /// The message of the capture.
     pub message: Option<usize>,
@@ -153,7 +153,7 @@ impl Place {
 }
 
 /// Why a run wrote no text, or not all of it.
-#[derive(Clone, Copy, Debug, PartialEq, Eq)]
+#[derive(Clone, Copy)]
 pub enum Fault {
     /// Memory ran out.
     OutOfMemory,

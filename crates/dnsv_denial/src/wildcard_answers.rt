@@ -17,7 +17,7 @@ use std::alloc::{AllocError, Global};
 use std::collections::BTreeMap;
 
 /// What is shown of an answer of a zone from the wildcard below so many of the name's rightmost labels.
-#[derive(Clone, Copy, Debug, Drop)]
+#[derive(Clone, Copy, Drop)]
 pub struct Shown {
     /// That no closer name exists (RFC 4035 5.3.4, RFC 5155 8.8).
     pub no_closer: bool,

@@ -20,3 +20,4 @@ pub mod marks
 pub mod one
 pub mod stands
 pub mod unsigned_cuts
+pub mod whole

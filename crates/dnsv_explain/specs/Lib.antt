@@ -4,6 +4,7 @@ pub mod Explained
 pub mod Explanation
 pub mod Following
 pub mod Marked
+pub mod Once
 pub mod Places
 pub mod Saying
 pub mod derivations

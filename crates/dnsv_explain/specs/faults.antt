@@ -1,5 +1,6 @@
 -- What keeps the evidence from settling a question: which link of the chain of trust fails, and what is missing.
 pub mod AnswerSearch
+pub mod Ends
 pub mod Entries
 pub mod KeyLines
 pub mod KeySearch

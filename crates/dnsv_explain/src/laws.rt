@@ -1,13 +1,13 @@
 //! Laws of explanations.
 //!
 //! Each is a function that does nothing and ensures the law, which its caller learns.
-ghost use Rattle.std.specs.Prelude.{◌≡◌, ◌≤◌, ◌∷◌, ℕ, [], List, Some, Contains};
+ghost use Rattle.std.specs.Prelude.{◌≡◌, ◌≤◌, ◌∷◌, ℕ, [], List, Some, Contains, map};
 ghost use Rattle.dnsv_names.specs.Name.{Labels};
 ghost use Rattle.dnsv_canonical.specs.Rdata.{IsWellFormed};
 ghost use Rattle.dnsv_canonical.specs.Rrsets.{IsNumbered, ReceivedRrset};
 ghost use Rattle.dnsv_chain.specs.Trusted.{IsSecured, IsTrusted};
 ghost use Rattle.dnsv_denial.specs.words.EvidenceWords.{Chain};
-ghost use Rattle.dnsv_explain.specs.Explained.{Explained, Setting, basis_in};
+ghost use Rattle.dnsv_explain.specs.Explained.{Explained, Setting, basis_in, setting_in};
 ghost use Rattle.dnsv_denial.specs.declared.proving.shown_denial.ShownDenial.{ShownDenial};
 ghost use Rattle.dnsv_denial.specs.declared.unsigned_cuts.shown_cut.ShownCut.{ShownCut};
 ghost use Rattle.dnsv_explain.specs.Denials.{IsDenialTold, IsExpandedTold, IsShownDenial};
@@ -20,16 +20,19 @@ ghost use Rattle.dnsv_verdict.specs.declared.link.Link.{Link};
 ghost use Rattle.dnsv_verdict.specs.declared.report.Report.{Report};
 ghost use Rattle.dnsv_verifier.specs.Table.{table_answer};
 ghost use Rattle.dnsv_verifier.specs.declared.entry.Entry.{Entry};
-ghost use Rattle.dnsv_explain.specs.Explanation.{IsExplanation, IsExplanationOf, its_setting, told_kind};
+ghost use Rattle.dnsv_explain.specs.Explanation.{IsExplanation, IsExplanationOf, IsUnproved, its_setting, told_kind};
 ghost use Rattle.dnsv_explain.specs.Marked.{AnswersMarked};
+ghost use Rattle.dnsv_explain.specs.Once.{AreOnce};
 ghost use Rattle.dnsv_explain.specs.Following.{EachFollows, at_moment};
 ghost use Rattle.dnsv_explain.specs.Following.Cases.{IsCaseBy};
 ghost use Rattle.dnsv_explain.specs.Following.Parts.{IsPartOf, IsUnusableRecord};
+ghost use Rattle.dnsv_explain.specs.faults.Ends.{HasReasonAbove, IsExplained};
 ghost use Rattle.dnsv_explain.specs.faults.Order.{AreFaultLines};
 ghost use Rattle.dnsv_explain.specs.faults.RrsetLines.{AreLinesOfNumber};
 ghost use Rattle.dnsv_explain.specs.faults.Truth.{IsReasonTrue};
 ghost use Rattle.dnsv_explain.specs.faults.ZoneLines.{AreZoneLines, zone_line};
 ghost use Rattle.dnsv_explain.specs.intervals.Holding.{AreShownValidAt, IsHolding, IsHoldingOf};
+ghost use Rattle.dnsv_explain.specs.line.{line_text};
 ghost use Rattle.dnsv_explain.specs.unsigned_cuts.ShownCuts.{IsCutShownBy, IsCutTold};
 ghost use Rattle.dnsv_explain.specs.derivations.Ways.{HasSecured};
 
@@ -38,6 +41,8 @@ use crate::line::cut::{Cut, UnusableDs};
 use crate::line::denial::Part;
 use crate::line::derivation::{SignatureNumber, SignedRrset, TrustedKeys};
 use crate::line::fault::Reason;
+use crate::line::fault::key::ShownKey;
+use crate::line::fault::signature::UntrustedSigner;
 use crate::line::fault::zone::WhyZone;
 use crate::line::{Kind, Line};
 use dnsv_chain::{more_evidence_takes_no_trust_away, trust_depends_on_what_is_asked};
@@ -198,4 +203,43 @@ pub fn bogus_questions_fail_for_a_reason()
         → AreFaultLines setting name t lines → (reason : Reason) × Contains lines (Line.Reason reason) }
     ensures other { (setting : Setting) (name : Labels) (t : ℕ) (lines : List Line) → HasAnchor setting.anchors name
         → AreFaultLines setting name t lines → ¬ Contains lines (zone_line WhyZone.NoAnchor name) }
+{}
+
+/// Only of a question of which nothing is proved something is said to fail: the explanation of any other verdict has no
+/// reason, no signer that isn't trusted, and no key.
+pub fn only_unproved_questions_fail()
+    ensures reasons { (explained : Explained) (t : ℕ) (links : List Link) (last : Labels) (verdict : Verdict)
+        (lines : List Line) → ¬ IsUnproved verdict → IsExplanation explained t links last verdict lines
+        → (reason : Reason) → ¬ Contains lines (Line.Reason reason) }
+    ensures signers { (explained : Explained) (t : ℕ) (links : List Link) (last : Labels) (verdict : Verdict)
+        (lines : List Line) → ¬ IsUnproved verdict → IsExplanation explained t links last verdict lines
+        → (untrusted : UntrustedSigner) → ¬ Contains lines (Line.Follows untrusted) }
+    ensures keys { (explained : Explained) (t : ℕ) (links : List Link) (last : Labels) (verdict : Verdict)
+        (lines : List Line) → ¬ IsUnproved verdict → IsExplanation explained t links last verdict lines
+        → (key : ShownKey) → ¬ Contains lines (Line.Key key) }
+{}
+
+/// Each signer that is told as untrusted has a line that says why, in what fails and in a whole explanation: what fails of
+/// it; or that it has a DS RRset whose signer, which is above it, isn't trusted, and for that one the same. So what fails
+/// is said of a zone at or above each.
+pub fn untrusted_signers_have_a_reason()
+    ensures explained { (setting : Setting) (name : Labels) (t : ℕ) (lines : List Line)
+        → ((rrset : ReceivedRrset) → Contains setting.rrsets rrset → IsWellFormed rrset) → AreFaultLines setting name t lines
+        → (untrusted : UntrustedSigner) → Contains lines (Line.Follows untrusted)
+        → IsExplained setting lines untrusted.signature.signer }
+    ensures whole { (explained : Explained) (t : ℕ) (links : List Link) (last : Labels) (verdict : Verdict) (lines : List Line)
+        → ((rrset : ReceivedRrset) → Contains explained.rrsets rrset → IsWellFormed rrset)
+        → IsExplanation explained t links last verdict lines
+        → (untrusted : UntrustedSigner) → Contains lines (Line.Follows untrusted)
+        → IsExplained (setting_in explained) lines untrusted.signature.signer }
+    ensures ends { (setting : Setting) (lines : List Line) (zone : Labels) → IsExplained setting lines zone
+        → HasReasonAbove setting lines zone }
+{}
+
+/// No line stands twice in an explanation; and of what fails no two lines have one text.
+pub fn no_line_stands_twice()
+    ensures whole { (explained : Explained) (t : ℕ) (links : List Link) (last : Labels) (verdict : Verdict)
+        (lines : List Line) → IsExplanation explained t links last verdict lines → AreOnce lines }
+    ensures texts { (setting : Setting) (name : Labels) (t : ℕ) (lines : List Line) → AreFaultLines setting name t lines
+        → AreOnce (map line_text lines) }
 {}

@@ -7,7 +7,7 @@ use crate::command_line::moment::Moment;
 use dnsv_names::RecordType;
 
 /// What the program is asked to do.
-#[derive(Debug, Drop)]
+#[derive(Drop)]
 pub enum Request {
     /// Show every message with its questions and records.
     Show {

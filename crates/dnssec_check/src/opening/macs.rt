@@ -13,7 +13,7 @@ use std::alloc::Global;
 use std::marker::Model;
 
 /// The MAC of a request that was signed, over which its answer is signed too (RFC 8945 4.3.1).
-#[derive(Clone, Copy, Debug, PartialEq, Eq)]
+#[derive(Clone, Copy)]
 pub struct RequestMac {
     octets: [u8; 32],
 }

@@ -23,14 +23,14 @@ use dnsv_verifier::Verifier;
 use std::alloc::{AllocError, Global};
 
 /// How a run ends that makes its whole text.
-#[derive(Debug, Drop)]
+#[derive(Drop)]
 pub struct Outcome {
     pub status: Status,
     pub text: String,
 }
 
 /// What is asked, and the moment that the verdict speaks of.
-#[derive(Clone, Copy, Debug)]
+#[derive(Clone, Copy)]
 pub struct Asked<'a> {
     pub name: &'a Name,
     pub rtype: RecordType,

@@ -18,7 +18,7 @@ use crate::words::any_name::has_records;
 use dnsv_names::{Name, RecordType};
 
 /// What records show of a question's name: a denial, or that it may be unsigned from some name on.
-#[derive(Clone, Copy, Debug)]
+#[derive(Clone, Copy)]
 pub enum Denial {
     /// There is no such name (RFC 4035 5.4, RFC 5155 8.4).
     NoName,

@@ -9,7 +9,7 @@ use dnsv_names::Name;
 use dnsv_zones::{is_absent, is_node};
 
 /// Between which numbers of labels the closest encloser has its number.
-#[derive(Clone, Copy, Debug)]
+#[derive(Clone, Copy)]
 pub struct EndLimits {
     /// It has no fewer.
     pub fewest: usize,

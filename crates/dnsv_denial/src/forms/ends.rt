@@ -15,7 +15,7 @@ use dnsv_names::Name;
 pub type Places = ArrayVec<usize, 3>;
 
 /// The records that show where the search for a name ends, by their places.
-#[derive(Clone, Copy, Debug)]
+#[derive(Clone, Copy)]
 pub struct EndPlaces {
     /// The record that shows the closest encloser; `None` where that needs none.
     pub encloser: Option<usize>,

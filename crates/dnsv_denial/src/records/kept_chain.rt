@@ -13,7 +13,7 @@ use crate::records::entry::NsecEntry;
 use crate::records::hashed_records::HashedRecords;
 
 /// The records of one chain of a zone, with the hashes that are asked of NSEC3 records.
-#[derive(Clone, Copy, Debug)]
+#[derive(Clone, Copy)]
 pub enum KeptChain<'a> {
     /// The zone's NSEC records.
     Nsec(&'a [NsecEntry<'a>]),

@@ -16,7 +16,7 @@ use dnsv_records::Nsec3Parameters;
 use dnsv_zones::HashedNames;
 
 /// Parameters of NSEC3 records, and the hashes with them of the names that a question asks for.
-#[derive(Debug, Drop)]
+#[derive(Drop)]
 pub struct NameHashes<'a> {
     /// What the hashes are made with.
     pub parameters: &'a Nsec3Parameters,
@@ -25,7 +25,7 @@ pub struct NameHashes<'a> {
 }
 
 /// The records of a zone that evidence has.
-#[derive(Debug, Drop)]
+#[derive(Drop)]
 pub struct ZoneRecords<'a> {
     /// The zone's name, as the question's name spells it.
     pub zone: Name,

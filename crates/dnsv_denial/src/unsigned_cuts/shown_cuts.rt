@@ -17,7 +17,7 @@ use crate::unsigned_cuts::findings::{greater, lesser};
 use dnsv_names::Name;
 
 /// What chains show of where a name may be unsigned, each as a number of its rightmost labels.
-#[derive(Clone, Copy, Debug)]
+#[derive(Clone, Copy)]
 pub struct ShownCuts {
     /// The highest delegation without DS (RFC 4035 5.2, RFC 5155 8.9).
     pub no_ds: Option<usize>,

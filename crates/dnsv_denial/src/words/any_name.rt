@@ -50,7 +50,7 @@ pub fn has_opt_out(records: &ChainRecords<'_>) -> bool
 }
 
 /// The word of an NSEC record that its owner is a delegation without DS.
-#[derive(Debug, Drop)]
+#[derive(Drop)]
 struct NsecDelegation;
 
 impl Word<NsecEntry<'_>> for NsecDelegation {
@@ -62,7 +62,7 @@ impl Word<NsecEntry<'_>> for NsecDelegation {
 }
 
 /// The word of an NSEC3 record that the name with its hash is a delegation without DS.
-#[derive(Debug, Drop)]
+#[derive(Drop)]
 struct Nsec3Delegation;
 
 impl Word<Nsec3Entry<'_>> for Nsec3Delegation {
@@ -74,7 +74,7 @@ impl Word<Nsec3Entry<'_>> for Nsec3Delegation {
 }
 
 /// The word of an NSEC3 record that it has the Opt-Out flag.
-#[derive(Debug, Drop)]
+#[derive(Drop)]
 struct OptOut;
 
 impl Word<Nsec3Entry<'_>> for OptOut {

@@ -8,7 +8,7 @@ use dnsv_records::TypeBitmap;
 use dnsv_zones::{denies, is_closed, is_unsigned_delegation};
 
 /// A name that the proof of a denial asks for, by the question's name (RFC 5155 8).
-#[derive(Clone, Copy, Debug)]
+#[derive(Clone, Copy)]
 pub enum AskedName {
     /// So many of the question's rightmost labels.
     Above(usize),
@@ -32,7 +32,7 @@ impl AskedName {
 }
 
 /// What the proof of a denial asks of the types at a name.
-#[derive(Clone, Copy, Debug)]
+#[derive(Clone, Copy)]
 pub enum AskedTypes {
     /// Neither a delegation nor a DNAME is there (RFC 5155 8.3).
     Open,
@@ -58,7 +58,7 @@ impl AskedTypes {
 }
 
 /// What the proof of a denial asks of the wildcard at the closest encloser.
-#[derive(Clone, Copy, Debug)]
+#[derive(Clone, Copy)]
 pub enum AskedWildcard {
     /// It is no node (RFC 4035 5.4, RFC 5155 8.4).
     Absent,

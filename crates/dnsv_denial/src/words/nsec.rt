@@ -14,7 +14,7 @@ use dnsv_names::Name;
 use dnsv_zones::{is_absent, is_empty_non_terminal, is_node};
 
 /// The word that a name is no node.
-#[derive(Debug, Drop)]
+#[derive(Drop)]
 pub struct Absent<'a>(pub &'a Name);
 
 impl Word<NsecEntry<'_>> for Absent<'_> {
@@ -26,7 +26,7 @@ impl Word<NsecEntry<'_>> for Absent<'_> {
 }
 
 /// The word that a name is an empty non-terminal.
-#[derive(Debug, Drop)]
+#[derive(Drop)]
 pub struct EmptyNonTerminal<'a>(pub &'a Name);
 
 impl Word<NsecEntry<'_>> for EmptyNonTerminal<'_> {
@@ -38,7 +38,7 @@ impl Word<NsecEntry<'_>> for EmptyNonTerminal<'_> {
 }
 
 /// The word that a name is a node.
-#[derive(Debug, Drop)]
+#[derive(Drop)]
 pub struct Node<'a>(pub &'a Name);
 
 impl Word<NsecEntry<'_>> for Node<'_> {
@@ -50,7 +50,7 @@ impl Word<NsecEntry<'_>> for Node<'_> {
 }
 
 /// The word that a name is an owner, and its types are such.
-#[derive(Debug, Drop)]
+#[derive(Drop)]
 pub struct Owner<'a> {
     /// The owner.
     pub name: &'a Name,

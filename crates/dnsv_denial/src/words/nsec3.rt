@@ -19,7 +19,7 @@ use dnsv_names::{Hash20, covers};
 use dnsv_records::Nsec3Parameters;
 
 /// The word that a hash is that of an owner, and the types there are such.
-#[derive(Debug, Drop)]
+#[derive(Drop)]
 pub struct Match<'a> {
     /// The hash.
     pub hash: Hash20,
@@ -45,7 +45,7 @@ impl Word<Nsec3Entry<'_>> for Match<'_> {
 }
 
 /// The word that a hash is covered, with the Opt-Out flag or without.
-#[derive(Debug, Drop)]
+#[derive(Drop)]
 pub struct Cover<'a> {
     /// The hash.
     pub hash: Hash20,

@@ -11,6 +11,7 @@ pub mod TrustLemmas
 pub mod TruthLemmas
 pub mod VerifierLemmas
 pub mod WordLemmas
+pub mod ends
 pub mod one
 pub mod question
 pub mod sources

@@ -21,7 +21,7 @@ use std::alloc::{AllocError, Global};
 use std::cmp::Ordering;
 
 /// A key of a DNSKEY RRset.
-#[derive(Clone, Copy, Debug)]
+#[derive(Clone, Copy)]
 pub struct Signer<'a> {
     /// The number of the RRset.
     pub set: usize,

@@ -22,7 +22,7 @@ use dnsv_names::RecordType;
 use std::alloc::{AllocError, Global};
 
 /// A way into a DNSKEY RRset, by the names of what it goes by.
-#[derive(Clone, Copy, Debug)]
+#[derive(Clone, Copy)]
 pub struct FoundWay {
     pub voucher: Voucher,
     pub key: KeyName,

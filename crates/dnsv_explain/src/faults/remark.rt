@@ -15,7 +15,7 @@ use dnsv_verifier::{Answer, KeyRecord};
 use std::alloc::{AllocError, Global};
 
 /// What is said of the signature.
-#[derive(Clone, Copy, Debug, PartialEq, Eq)]
+#[derive(Clone, Copy)]
 pub enum Remark {
     Nothing,
     /// Its signer isn't trusted.

@@ -190,9 +190,9 @@ module _ (rrsets : List ReceivedRrset) (anchors : List Anchor) (table : TableCon
   line_then before (line.Unusable ds) is there follows = follows
   line_then before (line.Hope kind) is there follows = tt
   line_then before (line.Holds interval) is there follows = tt
-  line_then before (line.Reason reason) is there follows = tt
-  line_then before (line.Follows untrusted) is there follows = tt
-  line_then before (line.Key key) is there follows = tt
+  line_then before (line.Reason reason) is there follows = absurd is
+  line_then before (line.Follows untrusted) is there follows = absurd is
+  line_then before (line.Key key) is there follows = absurd is
   line_then before (line.Rrset place) is there follows = follows
 
   pub each_then : (before xs : List Line) → ((each : Line) → Contains xs each → Contains lines each) → AllByRecursion (IsLineOf (IsIts Its unknown)) xs

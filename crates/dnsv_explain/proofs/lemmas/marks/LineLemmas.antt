@@ -1,4 +1,5 @@
--- Each line that calls keys trusted, or a signature good, is that of a first way, or of a first key.
+-- Each line that calls keys trusted, or a signature good, is that of a first way, or of a first key; and no line of what
+-- holds says that something fails.
 use Rattle.std.proofs.Common.{◌≡◌, ⊎_elim, ◌+◌, ℕ, List, [], ◌∷◌, ◌++◌, Option, Some, None, map, sym, subst}
 use Rattle.std.specs.List.{AllByRecursion}
 use Rattle.dnsv_names.specs.Name.{Labels, rightmost}
@@ -31,10 +32,13 @@ use Rattle.dnsv_explain.specs.declared.line.cut.UnusableDs.{UnusableDs}
 use Rattle.dnsv_explain.specs.declared.line.denial.Form.{Form}
 use Rattle.dnsv_explain.specs.declared.line.derivation.SignatureNumber.{SignatureNumber}
 
--- the line is one of these settings, if it calls something trusted or good
+-- the line is one of these settings, if it calls something trusted or good; and it says nothing of what fails
 abbrev pub IsLineOf : (Setting → Type 0) → Line → Type 0
 IsLineOf Of (line.Trusted trusted) = (setting : Setting) × Of setting × (k : ℕ) × IsTrustedLine setting k trusted
 IsLineOf Of (line.Signed this) = (setting : Setting) × Of setting × (number : SignatureNumber) × IsSignedLine setting number this
+IsLineOf Of (line.Reason reason) = ⊥
+IsLineOf Of (line.Follows untrusted) = ⊥
+IsLineOf Of (line.Key key) = ⊥
 IsLineOf Of _ = Unit {0}
 
 module _ (Of : Setting → Type 0) where

@@ -24,18 +24,15 @@ use Rattle.dnsv_explain.proofs.lemmas.one.StepLemmas.{IsOne, one_both, one_each}
 use Rattle.dnsv_explain.proofs.lemmas.one.TrustedLemmas.{AreApart, one_trusted}
 
 -- what an anchor matches no DS record leads to
-never_both : (a b : Voucher) (number : RecordNumber) (digest_type : DigestType) → a ≡ b → IsByAnchor a → b ≡ voucher.Ds number digest_type → ⊥
+pub never_both : (a b : Voucher) (number : RecordNumber) (digest_type : DigestType) → a ≡ b → IsByAnchor a → b ≡ voucher.Ds number digest_type → ⊥
 never_both a b number digest_type same anchor is = subst IsByAnchor (same ∙ is) anchor
 
-abbrev number_of : ℕ → ℕ → SignatureNumber
+abbrev pub number_of : ℕ → ℕ → SignatureNumber
 number_of k s = record { rrset = k; signature = s }
 
-module _ (setting : Setting) (apart : AreApart setting.todo) (before : List Line) where
-  vouchers : (k : ℕ) (a b : TrustedKeys) → a ≡ b → a.voucher ≡ b.voucher
-  vouchers k a b same = ap (λ (each : TrustedKeys). each.voucher) same
-
+module _ (setting : Setting) where
   -- two that a DS record leads to are led to by the same signature
-  same_above : (m n : RecordNumber) (d e : DigestType) (s t : ℕ) (a b : Voucher) → a ≡ b → a ≡ voucher.Ds m d → b ≡ voucher.Ds n e
+  pub same_above : (m n : RecordNumber) (d e : DigestType) (s t : ℕ) (a b : Voucher) → a ≡ b → a ≡ voucher.Ds m d → b ≡ voucher.Ds n e
       → IsLowestSecured setting m.rrset s → IsLowestSecured setting n.rrset t → number_of m.rrset s ≡ number_of n.rrset t
   same_above m n d e s t a b same first second x y =
       let whole : voucher.Ds m d ≡ voucher.Ds n e = sym first ∙ same ∙ second in
@@ -44,6 +41,10 @@ module _ (setting : Setting) (apart : AreApart setting.todo) (before : List Line
       let Of : ℕ → Type 0 = λ k. IsLowestSecured setting k s in
       let lowest : s ≡ t = one_lowest setting n.rrset s t (subst Of rrset x) y in
       λ i. number_of (rrset i) (lowest i)
+
+module _ (setting : Setting) (apart : AreApart setting.todo) (before : List Line) where
+  vouchers : (k : ℕ) (a b : TrustedKeys) → a ≡ b → a.voucher ≡ b.voucher
+  vouchers k a b same = ap (λ (each : TrustedKeys). each.voucher) same
 
   pub one_derivation : (subject : Subject) (a b : List Line) → IsDerivation setting before subject a → IsDerivation setting before subject b
       → a ≡ b
@@ -61,7 +62,7 @@ module _ (setting : Setting) (apart : AreApart setting.todo) (before : List Line
   one_derivation subject _ _ (delegated {k = k} {s = s} {trusted = a} {number = m} {digest_type = d} {lines = xs} unsaid is ds lowest above)
       (delegated {s = t} {trusted = b} {number = n} {digest_type = e} {lines = ys} other its there least behind) =
       let same : a ≡ b = one_trusted setting k apart a b is its in
-      let number = same_above m n d e s t a.voucher b.voucher (vouchers k a b same) ds there lowest least in
+      let number = same_above setting m n d e s t a.voucher b.voucher (vouchers k a b same) ds there lowest least in
       let Above : SignatureNumber → Type 0 = λ each. IsDerivation setting before (signature each) ys in
       let front : xs ≡ ys = one_derivation (signature (number_of m.rrset s)) xs ys above (subst Above (sym number) behind) in
       λ i. front i ++ line.Trusted (same i) ∷ []

@@ -23,6 +23,15 @@ module _ (setting : Setting) where
   pub one_own : (zone : Labels) (k s t : ℕ) → IsLowestOwn setting zone k s → IsLowestOwn setting zone k t → s ≡ t
   one_own zone k s t x y = even s t (x.lowest t y.own) (y.lowest s x.own)
 
+  -- the DNSKEY RRset with the first key of a signature
+  pub one_keys : (number : SignatureNumber) (a b : SignedRrset) → IsSignedLine setting number a → IsSignedLine setting number b → a.keys ≡ b.keys
+  one_keys number a b x y =
+      let one = x.first.is in
+      let other = y.first.is in
+      let rdata : x.key.rdata ≡ y.key.rdata =
+      same_rdata x.key.rdata y.key.rdata (y.first.lowest a.keys x.key one) (x.first.lowest b.keys y.key other) in
+      even a.keys b.keys (x.first.earliest b.keys y.key other (sym rdata)) (y.first.earliest a.keys x.key one rdata)
+
   -- the line of a signature
   pub one_signed : AreApart setting.todo → (number : SignatureNumber) (a b : SignedRrset) → IsSignedLine setting number a
       → IsSignedLine setting number b → a ≡ b
@@ -31,8 +40,7 @@ module _ (setting : Setting) where
       let other = y.first.is in
       let rdata : x.key.rdata ≡ y.key.rdata =
       same_rdata x.key.rdata y.key.rdata (y.first.lowest a.keys x.key one) (x.first.lowest b.keys y.key other) in
-      let keys : a.keys ≡ b.keys =
-      even a.keys b.keys (x.first.earliest b.keys y.key other (sym rdata)) (y.first.earliest a.keys x.key one rdata) in
+      let keys : a.keys ≡ b.keys = one_keys number a b x y in
       let At : ℕ → Type 0 = λ k. IsNumbered setting.rrsets k one.set in
       let set : one.set ≡ other.set = same_number setting.rrsets b.keys one.set other.set (subst At keys one.is_set) other.is_set in
       let Of : ReceivedRrset → Type 0 = λ each. IsKeyOf each x.key in

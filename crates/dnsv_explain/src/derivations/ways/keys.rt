@@ -23,7 +23,7 @@ pub struct KeySet<'a> {
 }
 
 /// A signature that is good under a key.
-#[derive(Clone, Copy, Debug)]
+#[derive(Clone, Copy)]
 pub struct GoodSignature {
     /// The number of the signature.
     pub number: usize,

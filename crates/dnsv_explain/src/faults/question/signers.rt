@@ -14,7 +14,7 @@ use std::alloc::{AllocError, Global};
 
 /// Who signs what may answer a question, and what may deny it, of the zones at or above its name: how many labels they
 /// have.
-#[derive(Debug, Drop)]
+#[derive(Drop)]
 pub struct Signers {
     /// Those of what may answer.
     pub goals: Vec<usize>,

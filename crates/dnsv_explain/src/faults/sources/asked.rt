@@ -15,7 +15,7 @@ use dnsv_names::{Hash20, Name};
 use dnsv_records::Nsec3Parameters;
 
 /// A name that is asked for, and where the records are of NSEC3 its hash (RFC 5155 5).
-#[derive(Debug, Drop)]
+#[derive(Drop)]
 pub struct Asked {
     pub name: Name,
     pub hash: Hash20,

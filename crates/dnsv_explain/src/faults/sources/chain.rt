@@ -4,7 +4,7 @@ use dnsv_names::Name;
 use dnsv_records::Nsec3Parameters;
 
 /// The records of one chain of a zone, in the order of their numbers.
-#[derive(Clone, Copy, Debug)]
+#[derive(Clone, Copy)]
 pub enum ChainEntries<'a> {
     /// The zone's NSEC records (RFC 4034 4).
     Nsec(&'a [NsecEntry<'a>]),
@@ -13,7 +13,7 @@ pub enum ChainEntries<'a> {
 }
 
 /// A chain of a zone at or above the question's name.
-#[derive(Clone, Copy, Debug)]
+#[derive(Clone, Copy)]
 pub struct ZoneChain<'a> {
     pub zone: &'a Name,
     pub entries: ChainEntries<'a>,

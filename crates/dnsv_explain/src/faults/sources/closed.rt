@@ -13,7 +13,7 @@ use dnsv_zones::is_closed;
 use std::alloc::{AllocError, Global};
 
 /// A closed record above the question's name.
-#[derive(Clone, Copy, Debug)]
+#[derive(Clone, Copy)]
 pub struct Closed<'a> {
     /// How many of the question's rightmost labels it is at.
     pub labels: usize,

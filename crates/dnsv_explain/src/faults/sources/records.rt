@@ -15,7 +15,7 @@ use dnsv_records::{Nsec3Parameters, TypeBitmap};
 use std::alloc::{AllocError, Global};
 
 /// A record at a name that was asked for.
-#[derive(Clone, Copy, Debug)]
+#[derive(Clone, Copy)]
 pub struct RecordAt<'a> {
     pub number: RecordNumber,
     /// The types that the name has by it.

@@ -216,7 +216,7 @@ module _ (setting : Setting) (name : Labels) (t : ℕ) where
         (λ lack some of. lacking_so setting name t some of) are.of_lacking))
         (ends_so are.ends are.of_ends)
 
-  first_among : (said : List Line) (each : Line) → Contains (first_appearances same_text said) each → Contains said each
+  pub first_among : (said : List Line) (each : Line) → Contains (first_appearances same_text said) each → Contains said each
   first_among said each there =
       let Among : Line → Type 0 = λ one. Contains said one in
       let all : AllByRecursion Among said = each_member Among said (λ one is. is) in

@@ -119,9 +119,15 @@ module _ (setting : Setting) (zone : Labels) (formed : (rrset : ReceivedRrset) �
     match_unmet wanted is zs (inr lacks) without never =
         let clear = none_first (IsEntryFault setting.rrsets zone wanted) entry_words is in
         clear why.KeyMissing (3, omega arith, refl) (λ tagged its tag.
-        clear why.KeyAlgorithm (4, omega arith, refl) ((tagged, its, tag), λ named at name.
-        clear why.DigestDiffers (5, omega arith, refl) ((named, at, name), λ key there matched.
-        self_unmet setting zone formed (IsMatchOf wanted) key there matched never zs lacks.1 without)))
+        clear why.KeyAlgorithm (4, omega arith, refl) (
+          (tagged, its, tag),
+          λ named at name.
+              clear why.DigestDiffers (5, omega arith, refl) (
+                (named, at, name),
+                λ key there matched.
+                    self_unmet setting zone formed (IsMatchOf wanted) key there matched never zs lacks.1 without,
+              ),
+        ))
 
     by_word : (wanted : Wanted) → Contains all wanted → (word : Option WhyEntry) → Is wanted word
         → Is wanted None × (¬ ¬ IsSomeSelfSigned setting zone (IsMatchOf wanted))

@@ -47,7 +47,7 @@ end_reason setting name t end (denied zone speaks has) = (_, refl)
 end_reason setting name t end (missing by speaks without) = (_, refl)
 
 -- a name above is one of those down to the name
-down_there : (name zone : Labels) → IsAtOrBelow name zone → Contains (names_down name) (rightmost name (length zone))
+pub down_there : (name zone : Labels) → IsAtOrBelow name zone → Contains (names_down name) (rightmost name (length zone))
 down_there name zone at =
     let fits = at_or_below_length name zone at in
     let size = down_length name in
@@ -102,7 +102,8 @@ module _ (setting : Setting) (name : Labels) (t : ℕ) (formed : (rrset : Receiv
       let one = list_for (AreNeededLines setting name t) (names_down name) spelled parts.zones so.1 (down_there name zone at) in
       ⊎_elim
       (λ (is : (IsNeeded setting name t spelled × (¬ IsTrustedZone setting spelled)) × AreZoneLines setting spelled one.zs).
-      zone_unmet setting spelled formed one.zs is.1 (fewer parts.zones one.zs one.within no_zones) never no_parent)
+      zone_unmet setting spelled formed one.zs is.1 (fewer parts.zones one.zs one.within no_zones) never
+      (λ said there is. no_parent said.signature.signer is))
       (λ (isnt : (¬ (IsNeeded setting name t spelled × (¬ IsTrustedZone setting spelled))) × (one.zs ≡ [])).
       isnt.0 (needed_same setting name t zone spelled (sym same) needed, never))
       one.are)
@@ -139,47 +140,51 @@ module _ (setting : Setting) (name : Labels) (t : ℕ) (formed : (rrset : Receiv
       let at : IsAtOrBelow name rrsig.signer = at_or_below_respects rrset.owner name rrsig.signer rrsig.signer goal.owner refl own in
       let answers : (u : ℕ) → rrset.rtype ≡ u → HoldsForName (SecuredIn setting) setting.rrsets name rrset rrsig
       → HasAnswer (SecuredIn setting) setting.rrsets name u =
-      λ u its_type holds. (k, s, record {
-        rrset = rrset;
-        is_rrset = is.numbered;
-        owner = goal.owner;
-        rdata = is.rdata;
-        is_signature = is.signature;
-        rrsig = rrsig;
-        read = is.is;
-        secured = is;
-        such = (its_type, holds);
-      }) in
+      λ u its_type holds. (
+        k,
+        s,
+        record {
+          rrset = rrset;
+          is_rrset = is.numbered;
+          owner = goal.owner;
+          rdata = is.rdata;
+          is_signature = is.signature;
+          rrsig = rrsig;
+          read = is.is;
+          secured = is;
+          such = (its_type, holds);
+        },
+      ) in
       let settled : HoldsForName (SecuredIn setting) setting.rrsets name rrset rrsig → ⊥ =
       λ holds. ⊎_elim
-          (λ (asked : rrset.rtype ≡ t). unsettled (inl (answers t asked holds)))
-          (λ (alias : rrset.rtype ≡ cname). ⊎_elim
-          (λ (same : t ≡ cname). unsettled (inl (answers t (alias ∙ sym same) holds)))
-          (λ (other : t ≢ cname). let found = answers cname alias holds in unsettled (inr (inl (other, found))))
-          (cases_eq t cname))
-          goal.its_type in
+      (λ (asked : rrset.rtype ≡ t). unsettled (inl (answers t asked holds)))
+      (λ (alias : rrset.rtype ≡ cname). ⊎_elim
+      (λ (same : t ≡ cname). unsettled (inl (answers t (alias ∙ sym same) holds)))
+      (λ (other : t ≢ cname). let found = answers cname alias holds in unsettled (inr (inl (other, found))))
+      (cases_eq t cname))
+      goal.its_type in
       let open_unless : IsExpanded rrset.owner rrsig → ⊥ =
       λ expanded.
-          let i : ℕ = k - 1 in
-          let one = list_of (AreGoalClosers setting name t) 1 i setting.rrsets rrset parts.closers parts.of_closers is.numbered.1 in
-          ⊎_elim
-          (λ (so : IsGoal name t rrset × AreOfNumbered (AreCloserLines setting name (1 + i) rrset) 1 rrset.signatures one.zs).
-          let j : ℕ = s - 1 in
-          let each = list_of (AreCloserLines setting name (1 + i) rrset) 1 j rrset.signatures is.rdata one.zs so.1 is.signature.1 in
-          let read : Rrsig = each.are.0 in
-          let same : rrsig ≡ read = one_rrsig is.rdata rrsig read is.is each.are.1 in
-          let quiet : ¬ HasReason each.zs = fewer one.zs each.zs each.within (fewer parts.closers one.zs one.within no_closers) in
-          let Open : Rrsig → Type 0 = λ one. IsAtOrBelow name one.signer × IsCloserOpen setting name rrset one in
-          let shown : Line = closer_line (shown_of (1 + i) (1 + j) rrset read) (rightmost name (read.labels + 1)) in
-          ⊎_elim
-          (λ (is_open : (IsAtOrBelow name read.signer × IsCloserOpen setting name rrset read) × (each.zs ≡ shown ∷ [])).
-          quiet (_, in_one shown each.zs is_open.1))
-          (λ (isnt : (¬ (IsAtOrBelow name read.signer × IsCloserOpen setting name rrset read)) × (each.zs ≡ [])).
-          let opens : Open rrsig = (at, record { expanded = expanded; unproved = λ can. settled (inr can) }) in
-          isnt.0 (subst Open same opens))
-          each.are.2)
-          (λ (isnt : (¬ IsGoal name t rrset) × (one.zs ≡ [])). isnt.0 goal)
-          one.are in
+      let i : ℕ = k - 1 in
+      let one = list_of (AreGoalClosers setting name t) 1 i setting.rrsets rrset parts.closers parts.of_closers is.numbered.1 in
+      ⊎_elim
+      (λ (so : IsGoal name t rrset × AreOfNumbered (AreCloserLines setting name (1 + i) rrset) 1 rrset.signatures one.zs).
+      let j : ℕ = s - 1 in
+      let each = list_of (AreCloserLines setting name (1 + i) rrset) 1 j rrset.signatures is.rdata one.zs so.1 is.signature.1 in
+      let read : Rrsig = each.are.0 in
+      let same : rrsig ≡ read = one_rrsig is.rdata rrsig read is.is each.are.1 in
+      let quiet : ¬ HasReason each.zs = fewer one.zs each.zs each.within (fewer parts.closers one.zs one.within no_closers) in
+      let Open : Rrsig → Type 0 = λ one. IsAtOrBelow name one.signer × IsCloserOpen setting name rrset one in
+      let shown : Line = closer_line (shown_of (1 + i) (1 + j) rrset read) (rightmost name (read.labels + 1)) in
+      ⊎_elim
+      (λ (is_open : (IsAtOrBelow name read.signer × IsCloserOpen setting name rrset read) × (each.zs ≡ shown ∷ [])).
+      quiet (_, in_one shown each.zs is_open.1))
+      (λ (isnt : (¬ (IsAtOrBelow name read.signer × IsCloserOpen setting name rrset read)) × (each.zs ≡ [])).
+      let opens : Open rrsig = (at, record { expanded = expanded; unproved = λ can. settled (inr can) }) in
+      isnt.0 (subst Open same opens))
+      each.are.2)
+      (λ (isnt : (¬ IsGoal name t rrset) × (one.zs ≡ [])). isnt.0 goal)
+      one.are in
       settled (inl open_unless)
 
   goal_unmet : (rrset : ReceivedRrset) → Contains setting.rrsets rrset → IsGoal name t rrset → ⊥
@@ -190,8 +195,8 @@ module _ (setting : Setting) (name : Labels) (t : ℕ) (formed : (rrset : Receiv
       let one = list_of (AreGoalLines setting name t) 1 i setting.rrsets rrset parts.goals parts.of_goals at.1 in
       let Goal : ReceivedRrset → Type 0 = λ each. IsGoal name t each in
       let unsecured : ¬ HasSecured setting (1 + i) = λ has.
-          secured_unmet (1 + i) has.0 has.1
-          (subst Goal (same_number setting.rrsets (1 + i) rrset has.1.rrset numbered has.1.numbered) goal) in
+      secured_unmet (1 + i) has.0 has.1
+      (subst Goal (same_number setting.rrsets (1 + i) rrset has.1.rrset numbered has.1.numbered) goal) in
       ⊎_elim
       (λ (so : IsGoal name t rrset × AreRrsetLines setting (1 + i) rrset one.zs).
       let one_unmet = first_unmet setting (1 + i) rrset (formed rrset among) numbered unsecured one.zs so.1

@@ -74,12 +74,15 @@ module _ (setting : Setting) (set : ReceivedRrset) (key : DnskeyRecord) (stands 
         none why.Algorithm (3, omega arith, refl) (λ supported.
         let Owner : Labels → Type 0 = λ owner. SameName rrsig.signer owner in
         let same : SameName rrsig.signer key.owner = subst Owner (sym stands.owner) (sym (may.dnskey stands.rtype)) in
-        none why.NotZoneKey (7, omega arith, refl) ((key, inl (same, refl)), λ other its zone_key.
-        let ZoneKey : DnskeyRecord → Type 0 = λ each. IsZoneKey each in
-        let admissible = may_be_by setting set rrsig covered Named Known none key (sym same) its_name
-        (subst ZoneKey (only same other its) zone_key) may supported in
-        unmet.answered setting set rrsig covered Named Known none key (inl (same, refl)) admissible
-        (none_given setting set rrsig covered (IsAnswered Named setting set rrsig) (no_valid same) unanswered bad))))
+        none why.NotZoneKey (7, omega arith, refl) (
+          (key, inl (same, refl)),
+          λ other its zone_key.
+              let ZoneKey : DnskeyRecord → Type 0 = λ each. IsZoneKey each in
+              let admissible = may_be_by setting set rrsig covered Named Known none key (sym same) its_name
+              (subst ZoneKey (only same other its) zone_key) may supported in
+              unmet.answered setting set rrsig covered Named Known none key (inl (same, refl)) admissible
+              (none_given setting set rrsig covered (IsAnswered Named setting set rrsig) (no_valid same) unanswered bad),
+        )))
 
     why_not : (shown : ShownSignature) (whys : List WhySignature) → AreWhyNotGood setting key set rrsig whys
         → ¬ HasReason (map (fault_line shown) whys) → ⊥

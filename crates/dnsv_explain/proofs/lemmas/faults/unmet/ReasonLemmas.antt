@@ -51,7 +51,7 @@ module _ (q : Line) where
   abbrev is_q : Line → Bool
   is_q each = same_text each q
 
-  abbrev HasAlike : List Line → Type 0
+  abbrev pub HasAlike : List Line → Type 0
   HasAlike lines = (each : Line) × Contains lines each × (same_text each q ≡ true)
 
   one_more : (x : Line) (xs : List Line) (b : Bool) → is_q x ≡ b → (b || list_any is_q xs) ≡ true
@@ -64,14 +64,17 @@ module _ (q : Line) where
   any_of [] any = absurd (false≢true any)
   any_of (x ∷ xs) any = one_more x xs (is_q x) refl any (any_of xs)
 
--- of those with one text the first is a reason, where one of them is
-once_kept : (said : List Line) → HasReason said → HasReason (first_appearances same_text said)
-once_kept said has =
-    let q : Line = line.Reason has.0 in
-    let there = has.1 in
+-- of those with one text the first is told
+pub alike_kept : (said : List Line) (q : Line) → Contains said q → HasAlike q (first_appearances same_text said)
+alike_kept said q there =
     let any : list_any (is_q q) said ≡ true =
     list_any_at (is_q q) said there.0 q there.1 (ap (is_q q) there.2 ∙ (bytes_eq-Decides (line_text q) (line_text q)).1 refl) in
-    let found = any_of q (first_appearances same_text said) (first_appearances_any same_text texts_equiv q said ∙ any) in
+    any_of q (first_appearances same_text said) (first_appearances_any same_text texts_equiv q said ∙ any)
+
+-- it is a reason, where one of them is
+once_kept : (said : List Line) → HasReason said → HasReason (first_appearances same_text said)
+once_kept said has =
+    let found = alike_kept said (line.Reason has.0) has.1 in
     let is = alike found.0 has.0 found.2 in
     let In : Line → Type 0 = λ each. Contains (first_appearances same_text said) each in
     (is.0, subst In is.1 found.1)
@@ -92,7 +95,7 @@ is_reason (line.Follows said) = inr (λ failed same. let never : ⊥ = cc in nev
 is_reason (line.Key said) = inr (λ failed same. let never : ⊥ = cc in never)
 is_reason (line.Rrset said) = inr (λ failed same. let never : ⊥ = cc in never)
 
-reason_or_not : (lines : List Line) → HasReason lines ⊎ (¬ HasReason lines)
+pub reason_or_not : (lines : List Line) → HasReason lines ⊎ (¬ HasReason lines)
 reason_or_not [] = inr (λ has. none_in [] (line.Reason has.0) refl has.1)
 reason_or_not (each ∷ lines) = ⊎_elim
     (λ (is : (failed : Reason) × (each ≡ line.Reason failed)).

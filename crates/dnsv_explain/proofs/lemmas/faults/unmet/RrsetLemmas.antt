@@ -119,11 +119,17 @@ module _ (setting : Setting) (rrset : ReceivedRrset) (rrsig : Rrsig) (covered : 
         let Known : Type 0 = HasKeys setting.rrsets rrsig.signer in
         none why.Signer (1, omega arith, refl) (λ may.
         none why.Algorithm (3, omega arith, refl) (λ supported.
-        none why.KeyMissing (6, omega arith, refl) (has, λ key named.
-        none why.NotZoneKey (7, omega arith, refl) ((key, named), λ other its zone_key.
-        answered setting rrset rrsig covered Named Known none other its
-        (may_be_by setting rrset rrsig covered Named Known none other its.at.owner its.named zone_key may supported)
-        (none_given setting rrset rrsig covered Given no_valid (silent why.Unanswered tt) (silent why.Bad tt))))))
+        none why.KeyMissing (6, omega arith, refl) (
+          has,
+          λ key named.
+              none why.NotZoneKey (7, omega arith, refl) (
+                (key, named),
+                λ other its zone_key.
+                    answered setting rrset rrsig covered Named Known none other its
+                    (may_be_by setting rrset rrsig covered Named Known none other its.at.owner its.named zone_key may supported)
+                    (none_given setting rrset rrsig covered Given no_valid (silent why.Unanswered tt) (silent why.Bad tt)),
+              ),
+        )))
 
   no_faults : (shown : ShownSignature) (faults : List WhySignature) → ¬ HasReason (map (fault_line shown) faults) → faults ≡ []
   no_faults shown [] none = refl

@@ -1,8 +1,9 @@
--- A zone that isn't trusted has a reason, or a parent that isn't trusted.
+-- A zone that isn't trusted has a reason, or a parent of which it is said that it isn't trusted.
 use Rattle.std.proofs.Common.{◌≡◌, ◌+◌, ◌-◌, ℕ, List, [], ◌∷◌, Some, None, get_or, refl, sym, ◌∙◌, subst, ⊎_elim, arith}
 use Rattle.std.proofs.lemmas.List.Elements.{Contains-append_left, Contains-append_right, Contains-get_or}
 use Rattle.std.specs.List.{AllZip, Contains, slice_get}
 use Rattle.dnsv_names.specs.Name.{Labels, SameName}
+use Rattle.dnsv_names.specs.Order.{IsBelow}
 use Rattle.dnsv_names.specs.Tree.TreeLaws.{below_respects}
 use Rattle.dnsv_records.proofs.OneRecord.{one_ds}
 use Rattle.dnsv_records.specs.Ds.{IsDs}
@@ -24,7 +25,7 @@ use Rattle.dnsv_explain.specs.faults.Entries.{IsEntryFault, IsFaultOfEntry, IsMa
 use Rattle.dnsv_explain.specs.faults.Entries.Wanted.{by_digest}
 use Rattle.dnsv_explain.specs.faults.Keys.{IsTrustedZone}
 use Rattle.dnsv_explain.specs.faults.Listing.{AreOfNumbered, AreThose}
-use Rattle.dnsv_explain.specs.faults.RrsetLines.{AreRrsetLines}
+use Rattle.dnsv_explain.specs.faults.RrsetLines.{AreRrsetLines, shown_of}
 use Rattle.dnsv_explain.specs.faults.ZoneLines.{AreAnchorWanted, AreDsWanted, AreEntryLines, AreRecordsOf, AreRecordsSaid, AreSaid, AreSaidOf, AreWayLines, AreZoneLines, HasNoWay, IsOfParent, IsSomeSelfSigned, wanted_anchor, zone_line}
 use Rattle.dnsv_explain.specs.faults.ZoneLines.AreZoneLines.{anchored as with_anchor, no_anchor}
 use Rattle.dnsv_explain.specs.faults.Zones.{HasOwnAnchor, HasRrset, IsDsWay, IsParent}
@@ -32,6 +33,7 @@ use Rattle.dnsv_explain.specs.unsigned_cuts.UnsignedCuts.{record_of}
 use Rattle.dnsv_explain.specs.declared.line.Line.{Line}
 use Rattle.dnsv_explain.specs.declared.line.Line.TheVariants as line
 use Rattle.dnsv_explain.specs.declared.line.fault.Reason.TheVariants as reason
+use Rattle.dnsv_explain.specs.declared.line.fault.signature.UntrustedSigner.{UntrustedSigner}
 use Rattle.dnsv_explain.specs.declared.line.fault.zone.EntryNumber.TheVariants as entry_number
 use Rattle.dnsv_explain.specs.declared.line.fault.zone.WhyEntry.TheVariants as why
 use Rattle.dnsv_explain.specs.declared.line.fault.zone.WhyZone.TheVariants as zone_why
@@ -198,10 +200,11 @@ module _ (setting : Setting) (zone : Labels) (formed : (rrset : ReceivedRrset) �
 
     -- ---- the ways
 
-    -- where the zone has no anchor, but a DS RRset, a parent of it isn't trusted
+    -- where the zone has no anchor, but a DS RRset, it is said that a parent of it isn't trusted
     ds_unmet : (all : List Wanted) → AreSaid setting zone all → AreEntryLines setting zone all lines → ¬ HasOwnAnchor setting.anchors zone
         → (ways : List Line) → ¬ HasReason ways → AreOfNumbered (AreWayLines setting zone) 1 setting.rrsets ways
-        → HasRrset setting.rrsets zone 43 → ((parent : Labels) → IsParent setting zone parent → ¬ IsTrustedZone setting parent → ⊥) → ⊥
+        → HasRrset setting.rrsets zone 43 → ((said : UntrustedSigner) → Contains ways (line.Follows said) → IsParent setting zone said.signature.signer
+        → ¬ IsTrustedZone setting said.signature.signer → ⊥) → ⊥
     ds_unmet all parted entries no_own ways quiet each has no_parent =
         let rrset : ReceivedRrset = has.rrset in
         let at = at_of setting.rrsets rrset has.among in
@@ -218,30 +221,35 @@ module _ (setting : Setting) (zone : Labels) (formed : (rrset : ReceivedRrset) �
         × AreThose (IsOfParent setting zone) some one.zs)).
         let some : List Line = so.1.0 in
         let silent : ¬ HasReason some = λ failed.
-            fewer ways one.zs one.within quiet
-            (failed.0, kept_in (IsOfParent setting zone) some one.zs so.1.2 (line.Reason failed.0) failed.1 tt) in
+        fewer ways one.zs one.within quiet
+        (failed.0, kept_in (IsOfParent setting zone) some one.zs so.1.2 (line.Reason failed.0) failed.1 tt) in
         let first = first_unmet setting (1 + i) rrset (formed rrset has.among) way.numbered
         (group_unmet (1 + i) rrset way all parted entries) some so.1.1 silent in
         let unmet = first.1 in
         let signer : Labels = unmet.rrsig.signer in
+        let told : UntrustedSigner = record { signature = shown_of (1 + i) 1 rrset unmet.rrsig } in
         unmet.is.below has.its_type (λ below.
-        no_parent signer
+        let above : IsBelow zone signer = below_respects rrset.owner zone signer signer has.owner refl below in
+        let kept : Contains one.zs (line.Follows told) = kept_in (IsOfParent setting zone) some one.zs so.1.2 (line.Follows told) unmet.said
+        (record { above = above; anchored = λ own. absurd (no_own own) }) in
+        no_parent told (one.within (line.Follows told) kept)
         (record {
           ds = rrset;
           among = has.among;
           rtype = has.its_type;
           owner = has.owner;
           signer = unmet.is.its;
-          above = below_respects rrset.owner zone signer signer has.owner refl below;
+          above = above;
           anchored = λ own. absurd (no_own own);
         })
         unmet.is.never))
         (λ (isnt : (¬ IsDsWay setting zone (1 + i) rrset) × (one.zs ≡ [])). isnt.0 way)
         one.are
 
-  -- a zone that isn't trusted has a reason, or a parent that isn't trusted
+  -- a zone that isn't trusted has a reason, or a parent of which it is said that it isn't trusted
   pub zone_unmet : (lines : List Line) → AreZoneLines setting zone lines → ¬ HasReason lines → ¬ IsTrustedZone setting zone
-      → ((parent : Labels) → IsParent setting zone parent → ¬ IsTrustedZone setting parent → ⊥) → ⊥
+      → ((said : UntrustedSigner) → Contains lines (line.Follows said) → IsParent setting zone said.signature.signer
+      → ¬ IsTrustedZone setting said.signature.signer → ⊥) → ⊥
   zone_unmet lines (no_anchor without) none untrusted no_parent =
       none (reason.Zone (record { why = zone_why.NoAnchor; zone = zone }), at_front _ [])
   zone_unmet lines (with_anchor all has parted) none untrusted no_parent =
@@ -252,8 +260,9 @@ module _ (setting : Setting) (zone : Labels) (formed : (rrset : ReceivedRrset) �
       let In : (y : Line) → List Line → Type 0 = λ y list. Contains list y in
       let behind : (y : Line) → Contains parted.second y → Contains all y =
       λ y there. subst (In y) (sym parted.parts) (Contains-append_right ways parted.second y there) in
-      let quiet : ¬ HasReason ways =
-      fewer all ways (λ y there. subst (In y) (sym parted.parts) (Contains-append_left ways parted.second y there)) none in
+      let in_ways : (y : Line) → Contains ways y → Contains all y =
+      λ y there. subst (In y) (sym parted.parts) (Contains-append_left ways parted.second y there) in
+      let quiet : ¬ HasReason ways = fewer all ways in_ways none in
       let no_missing : ¬ HasReason missing =
       fewer all missing (λ y there. behind y (subst (In y) (sym rest.parts) (Contains-append_left missing keys y there))) none in
       let no_keys : ¬ HasReason keys =
@@ -269,6 +278,10 @@ module _ (setting : Setting) (zone : Labels) (formed : (rrset : ReceivedRrset) �
       × ((wanted : List Wanted) × AreSaid setting zone wanted × AreEntryLines setting zone wanted keys)).
       let wanted : List Wanted = so.1.0 in
       let no_own : ¬ HasOwnAnchor setting.anchors zone = λ own. own_unmet untrusted keys no_keys wanted so.1.1 so.1.2 own in
-      way.0 (no_own, λ ds. ds_unmet untrusted keys no_keys wanted so.1.1 so.1.2 no_own ways quiet parted.is_first ds no_parent))
+      way.0 (
+        no_own,
+        λ ds. ds_unmet untrusted keys no_keys wanted so.1.1 so.1.2 no_own ways quiet parted.is_first ds
+            (λ said there. no_parent said (in_ways (line.Follows said) there)),
+      ))
       rest.is_second)
       rest.is_first

@@ -13,7 +13,7 @@ use Rattle.dnsv_canonical.proofs.capture.index.Index.with.Goals as goal
 
 pub loop-numbered-init : goal.loop-numbered-init
 loop-numbered-init c = λ of.
-    none_taken (enumerate_from 1 c.args.held.now) of.firsts c.as_slice-numbered-items.result.now c.in_ok-merged.merged (c.in_ok-merged.ensures (enumerate_from 1 c.args.held.now) of.firsts of.are)
+    none_taken (enumerate_from 1 c.args.held.now) of.firsts c.as_slice-numbered-items.result.now c.in_ok-merged.merged (c.in_ok-merged.ensures.nothing (enumerate_from 1 c.args.held.now) of.firsts of.are)
 
 pub loop-numbered-preserved : goal.loop-numbered-preserved
 loop-numbered-preserved c = λ of.

@@ -1,0 +1,8 @@
+pub mod DerivationLemmas
+pub mod FailureLemmas
+pub mod FreshLemmas
+pub mod ListLemmas
+pub mod OnceLemmas
+pub mod ProvedLemmas
+pub mod SettledLemmas
+pub mod SignerLemmas

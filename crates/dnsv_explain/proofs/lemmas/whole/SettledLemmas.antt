@@ -1,0 +1,267 @@
+-- What holds for a verdict is said without a line twice.
+use Rattle.std.proofs.Common.{◌≡◌, ◌≢◌, ◌≤◌, ◌+◌, ◌++◌, ◌∙◌, ℕ, zero, suc, List, [], ◌∷◌, Option, Some, None, length, map, inl, inr, refl, sym, ap, subst, ⊎_elim, arith}
+use Rattle.std.specs.List.{Contains}
+use Rattle.dnsv_names.specs.Name.{Labels, rightmost}
+use Rattle.dnsv_canonical.specs.Index.{numbers_at}
+use Rattle.dnsv_verifier.proofs.NumberLemmas.{contains_from_map}
+use Rattle.dnsv_denial.specs.proving.ProofParts.{form_parts}
+use Rattle.dnsv_denial.specs.declared.proving.shown_denial.ShownDenial.{ShownDenial}
+use Rattle.dnsv_denial.specs.declared.proving.proof_part.ProofPart.{ProofPart}
+use Rattle.dnsv_denial.specs.declared.records.number.RecordNumber.{RecordNumber}
+use Rattle.dnsv_denial.specs.declared.unsigned_cuts.shown_cut.ShownCut.{ShownCut}
+use Rattle.dnsv_denial.specs.declared.unsigned_cuts.shown_cut.ShownCut.TheVariants as cut
+use Rattle.dnsv_verdict.specs.declared.link.Link.{Link}
+use Rattle.dnsv_verdict.specs.declared.verdict.Verdict.{Verdict}
+use Rattle.dnsv_verdict.specs.declared.verdict.Verdict.TheVariants.{SecureAnswer, SecureAlias, SecureNoName, SecureNoData, Insecure, Pending, Bogus, Indeterminate}
+use Rattle.dnsv_explain.specs.Denials.{IsDenialTold, IsPartSaid, IsPartTold, IsProofOf, IsProofSaid, IsProofTold, IsProofWithParts, SameEncloser, told_form}
+use Rattle.dnsv_explain.specs.Explained.{Setting}
+use Rattle.dnsv_explain.specs.Explanation.{IsLinkTold, IsSetTold, IsSettledTold, IsUnsignedFromTold, signature_of}
+use Rattle.dnsv_explain.specs.Explanation.IsSetTold.{as_owned, by_wildcard}
+use Rattle.dnsv_explain.specs.Explanation.IsUnsignedFromTold.{by_cut, by_wildcard as loosely}
+use Rattle.dnsv_explain.specs.Once.{AreOnce}
+use Rattle.dnsv_explain.specs.Saying.{AreBoth, AreEach}
+use Rattle.dnsv_explain.specs.derivations.Derivations.Subject.{keys, signature}
+use Rattle.dnsv_explain.specs.derivations.HeldTo.{IsFirstDerived, IsHeldAt, IsHeldBelow, IsHeldTo, IsLowestDerived}
+use Rattle.dnsv_explain.specs.derivations.HeldTo.IsLowestDerived.{unsigned as none_signed, signed as lowest_signed}
+use Rattle.dnsv_explain.specs.derivations.OwnDerivations.{AreRecordsDerived, IsOwnDerivation, IsSignatureTold}
+use Rattle.dnsv_explain.specs.unsigned_cuts.ShownCuts.{IsCutTold, IsUnsignedTold}
+use Rattle.dnsv_explain.specs.unsigned_cuts.UnsignedCuts.{AreAllTold, AreToldFrom, IsCaseTold, IsUnusableTold}
+use Rattle.dnsv_explain.specs.declared.line.Line.{Line}
+use Rattle.dnsv_explain.specs.declared.line.Line.TheVariants as line
+use Rattle.dnsv_explain.specs.declared.line.cut.InsecureCase.{InsecureCase}
+use Rattle.dnsv_explain.specs.declared.line.cut.InsecureCase.TheVariants as case
+use Rattle.dnsv_explain.specs.declared.line.cut.UnusableDs.{UnusableDs}
+use Rattle.dnsv_explain.specs.declared.line.denial.Form.{Form}
+use Rattle.dnsv_explain.specs.declared.line.derivation.SignatureNumber.{SignatureNumber}
+use Rattle.dnsv_explain.proofs.lemmas.faults.TruthLemmas.{first_or_rest, none_in}
+use Rattle.dnsv_explain.proofs.lemmas.whole.DerivationLemmas.{IsBasic, derivation_fresh}
+use Rattle.dnsv_explain.proofs.lemmas.whole.FreshLemmas.{HaveKinds, IsFresh, Lack, both_fresh, each_fresh, kind, kinds_append, kinds_one, lacks, none_fresh, once_fresh, one_fresh, weaker}
+
+-- it is derived or shown, or says from which name on names may be unsigned, and why
+abbrev pub IsSettling : ℕ → Type 0
+IsSettling n = n ≤ 2
+
+settling : (before lines : List Line) → IsFresh IsBasic before lines → IsFresh IsSettling before lines
+settling before lines fresh = weaker IsBasic IsSettling (λ n is. omega (arith, is)) before lines fresh
+
+-- no line before is a case, or says that a record can't be used
+pub record IsUncut (before : List Line) : Type 0 where
+  pub case : Lack 1 before
+  pub unusable : Lack 2 before
+
+basic_lack : (n : ℕ) → 1 ≤ n → (lines : List Line) → HaveKinds IsBasic lines → Lack n lines
+basic_lack n some lines basic each there is = let zero_kind = basic each there in omega (arith, some, zero_kind, is)
+
+pub uncut_append : (before lines : List Line) → IsUncut before → HaveKinds IsBasic lines → IsUncut (before ++ lines)
+uncut_append before lines uncut basic = record {
+  case = kinds_append (λ k. k ≢ 1) before lines uncut.case (basic_lack 1 (omega arith) lines basic);
+  unusable = kinds_append (λ k. k ≢ 2) before lines uncut.unusable (basic_lack 2 (omega arith) lines basic);
+}
+
+-- ---- denials
+
+encloser_itself : (encloser : Option Labels) → SameEncloser encloser encloser
+encloser_itself None = tt
+encloser_itself (Some labels) = refl
+
+module _ (setting : Setting) where
+  signature_fresh : (number : SignatureNumber) (before lines : List Line) → IsSignatureTold setting number before lines
+      → IsFresh IsBasic before lines
+  signature_fresh number before lines told = derivation_fresh setting before (signature number) lines told
+
+  records_fresh : (zone : Labels) (records : List RecordNumber) (before lines : List Line) → AreRecordsDerived setting zone records before lines
+      → IsFresh IsBasic before lines
+  records_fresh zone records before lines told =
+      each_fresh IsBasic (λ (number : RecordNumber). IsOwnDerivation setting zone number.rrset)
+      (λ number old new own. signature_fresh (signature_of number.rrset own.s) old new own.derivation) records before lines told
+
+  module _ (name : Labels) where
+    proof_of_fresh : (form : Option Form) (shown : ShownDenial) (before lines : List Line) → IsProofOf form name shown before lines
+        → IsFresh IsBasic before lines
+    proof_of_fresh None shown before lines none = none_fresh IsBasic before lines none
+    proof_of_fresh (Some form) shown before lines told =
+        once_fresh IsBasic (IsProofSaid told.proof) (line.Proof told.proof) before lines told.once
+        (λ there. record {
+          said = told.proof;
+          among = there;
+          same = record { form = refl; chain = refl; zone = refl; encloser = encloser_itself told.proof.encloser };
+        })
+        refl
+
+    part_fresh : (part : ProofPart) (before lines : List Line) → IsPartTold setting.rrsets name part before lines → IsFresh IsBasic before lines
+    part_fresh part before lines told =
+        once_fresh IsBasic (IsPartSaid told.part) (line.Part told.part) before lines told.once
+        (λ there. record { said = told.part; among = there; same = record { role = refl; relation = refl; name = refl; by = refl } }) refl
+
+    with_parts_fresh : (shown : ShownDenial) (before lines : List Line) → IsProofWithParts setting.rrsets name shown before lines
+        → IsFresh IsBasic before lines
+    with_parts_fresh shown before lines told =
+        both_fresh IsBasic (IsProofTold name shown) (AreEach (IsPartTold setting.rrsets name) (form_parts shown.chain shown.form)) before lines told
+        (proof_of_fresh (told_form shown.form) shown before told.first told.says_first)
+        (each_fresh IsBasic (IsPartTold setting.rrsets name) part_fresh (form_parts shown.chain shown.form) (before ++ told.first) told.second
+        told.says_second)
+
+    denial_fresh : (shown : ShownDenial) (before lines : List Line) → IsDenialTold setting name shown before lines → IsFresh IsBasic before lines
+    denial_fresh shown before lines told =
+        both_fresh IsBasic (AreRecordsDerived setting shown.proof.zone shown.proof.records) (IsProofWithParts setting.rrsets name shown) before lines
+        told (records_fresh shown.proof.zone shown.proof.records before told.first told.says_first)
+        (with_parts_fresh shown (before ++ told.first) told.second told.says_second)
+
+    -- ---- from which name on a name may be unsigned
+
+    case_fresh : (which : InsecureCase) (at : Labels) (its : Option Labels) (before lines : List Line) → IsUncut before
+        → IsCaseTold which at its before lines → IsFresh IsSettling before lines
+    case_fresh which at its before lines uncut told =
+        one_fresh IsSettling before lines (line.Case told.cut) told.are (lacks 1 before uncut.case (line.Case told.cut) refl) (omega arith)
+
+    behind_case : (which : InsecureCase) (at : Labels) (its : Option Labels) (before lines : List Line) → IsUncut before
+        → IsCaseTold which at its before lines → Lack 2 (before ++ lines)
+    behind_case which at its before lines uncut told =
+        let Unusable : List Line → Type 0 = λ all. Lack 2 all in
+        kinds_append (λ k. k ≢ 2) before lines uncut.unusable
+        (subst Unusable (sym told.are) (kinds_one (λ k. k ≢ 2) (line.Case told.cut) (λ is. let clash : 1 ≡ 2 = is in omega (arith, clash))))
+
+    -- each has a place of its own
+    place_from : (k place : ℕ) (told : List UnusableDs) → AreToldFrom setting.rrsets k place told → (unusable : UnusableDs)
+        → Contains told unusable → place ≤ unusable.number.place
+    place_from k place [] are unusable there = absurd (none_in [] unusable refl there)
+    place_from k place (first ∷ told) are unusable there = ⊎_elim
+        (λ (same : unusable ≡ first).
+        let at : unusable.number.place ≡ place = ap (λ (each : UnusableDs). each.number.place) same ∙ ap (λ (each : RecordNumber). each.place) are.0 in
+        let fits : place ≤ unusable.number.place = omega (arith, at) in fits)
+        (λ (later : Contains told unusable).
+        let after = place_from k (place + 1) told are.2 unusable later in
+        let fits : place ≤ unusable.number.place = omega (arith, after) in fits)
+        (first_or_rest first told unusable there)
+
+    unusables_once : (k place : ℕ) (told : List UnusableDs) → AreToldFrom setting.rrsets k place told
+        → AreOnce (map (λ unusable. line.Unusable unusable) told)
+    unusables_once k place [] are = tt
+    unusables_once k place (first ∷ told) are =
+        let says : UnusableDs → Line = λ unusable. line.Unusable unusable in
+        let never : ¬ Contains (map says told) (line.Unusable first) = λ there.
+        let from = contains_from_map says told (line.Unusable first) there in
+        let said : line.Unusable from.0 ≡ line.Unusable first = from.2 in
+        let same : from.0 ≡ first = cc in
+        let after = place_from k (place + 1) told are.2 from.0 from.1 in
+        let at : from.0.number.place ≡ place = ap (λ (each : UnusableDs). each.number.place) same ∙ ap (λ (each : RecordNumber). each.place) are.0 in
+        omega (arith, after, at) in
+        (never, unusables_once k (place + 1) told are.2)
+
+    is_unusable : (told : List UnusableDs) (each : Line) → Contains (map (λ unusable. line.Unusable unusable) told) each → kind each ≡ 2
+    is_unusable told each there =
+        let from = contains_from_map (λ unusable. line.Unusable unusable) told each there in
+        let Kind : Line → Type 0 = λ one. kind one ≡ 2 in subst Kind from.2 refl
+
+    all_fresh : (k : ℕ) (before lines : List Line) → Lack 2 before → AreAllTold setting.rrsets k before lines → IsFresh IsSettling before lines
+    all_fresh k before lines lack all =
+        let told : List UnusableDs = all.first.told in
+        let Fresh : List Line → Type 0 = λ some. IsFresh IsSettling before some in
+        subst Fresh (sym all.first.are) (record {
+          once = unusables_once k 1 told all.first.each;
+          unsaid = λ each there. lacks 2 before lack each (is_unusable told each there);
+          kinds = λ each there. let is = is_unusable told each there in omega (arith, is);
+        })
+
+    unusable_fresh : (at : Labels) (before lines : List Line) → IsUncut before → IsUnusableTold setting at before lines
+        → IsFresh IsSettling before lines
+    unusable_fresh at before lines uncut told =
+        let whole = told.told in
+        let rest = whole.says_second in
+        let front = signature_fresh (signature_of told.k told.s) before whole.first whole.says_first in
+        let still = uncut_append before whole.first uncut front.kinds in
+        both_fresh IsSettling (IsSignatureTold setting (signature_of told.k told.s))
+        (AreBoth (IsCaseTold case.UnusableDs at None) (AreAllTold setting.rrsets told.k)) before lines whole (settling before whole.first front)
+        (both_fresh IsSettling (IsCaseTold case.UnusableDs at None) (AreAllTold setting.rrsets told.k) (before ++ whole.first) whole.second rest
+        (case_fresh case.UnusableDs at None (before ++ whole.first) rest.first still rest.says_first)
+        (all_fresh told.k (before ++ whole.first ++ rest.first) rest.second
+        (behind_case case.UnusableDs at None (before ++ whole.first) rest.first still rest.says_first) rest.says_second))
+
+    unsigned_fresh : (shown : ShownDenial) (which : InsecureCase) (at : Labels) (before lines : List Line) → IsUncut before
+        → IsUnsignedTold setting name shown which at before lines → IsFresh IsSettling before lines
+    unsigned_fresh shown which at before lines uncut told =
+        let rest = told.says_second in
+        let front = records_fresh shown.proof.zone shown.proof.records before told.first told.says_first in
+        let still = uncut_append before told.first uncut front.kinds in
+        both_fresh IsSettling (AreRecordsDerived setting shown.proof.zone shown.proof.records)
+        (AreBoth (IsCaseTold which at (Some shown.proof.zone)) (IsProofWithParts setting.rrsets name shown)) before lines told
+        (settling before told.first front)
+        (both_fresh IsSettling (IsCaseTold which at (Some shown.proof.zone)) (IsProofWithParts setting.rrsets name shown) (before ++ told.first)
+        told.second rest (case_fresh which at (Some shown.proof.zone) (before ++ told.first) rest.first still rest.says_first)
+        (settling (before ++ told.first ++ rest.first) rest.second
+        (with_parts_fresh shown (before ++ told.first ++ rest.first) rest.second rest.says_second)))
+
+    cut_fresh : (shown : ShownCut) (before lines : List Line) → IsUncut before → IsCutTold setting name shown before lines
+        → IsFresh IsSettling before lines
+    cut_fresh (cut.NoDs labels shown) before lines uncut told =
+        unsigned_fresh shown case.UnsignedDelegation (rightmost name labels) before lines uncut told
+    cut_fresh (cut.NoUsableDs labels) before lines uncut told = unusable_fresh (rightmost name labels) before lines uncut told
+    cut_fresh (cut.OptOut labels shown) before lines uncut told =
+        unsigned_fresh shown case.OptOut (rightmost name (labels + 1)) before lines uncut told
+
+    -- ---- verdicts
+
+    pub set_fresh : (number : SignatureNumber) (before lines : List Line) → IsSetTold setting name number before lines
+        → IsFresh IsBasic before lines
+    set_fresh number before lines (as_owned r g at own told) = signature_fresh number before lines told
+    set_fresh number before lines (by_wildcard r g trust shown at expanded good is told) =
+        both_fresh IsBasic (IsSignatureTold setting number) (IsDenialTold setting name shown) before lines told
+        (signature_fresh number before told.first told.says_first)
+        (denial_fresh shown (before ++ told.first) told.second told.says_second)
+
+    unsigned_from_fresh : (t : ℕ) (before lines : List Line) → IsUncut before → IsUnsignedFromTold setting name t before lines
+        → IsFresh IsSettling before lines
+    unsigned_from_fresh t before lines uncut (by_cut shown is told) = cut_fresh shown before lines uncut told
+    unsigned_from_fresh t before lines uncut (loosely trust good none k s first shown is told) =
+        let at : Labels = rightmost name (first.such.rrsig.labels + 1) in
+        let front = signature_fresh (signature_of k s) before told.first told.says_first in
+        both_fresh IsSettling (IsSignatureTold setting (signature_of k s)) (IsUnsignedTold setting name shown case.OptOutWildcard at) before lines told
+        (settling before told.first front)
+        (unsigned_fresh shown case.OptOutWildcard at (before ++ told.first) told.second (uncut_append before told.first uncut front.kinds)
+        told.says_second)
+
+    pub settled_fresh : (t : ℕ) (verdict : Verdict) (before lines : List Line) → IsUncut before
+        → IsSettledTold setting name t verdict before lines → IsFresh IsSettling before lines
+    settled_fresh t (SecureAnswer k s) before lines uncut told = settling before lines (set_fresh (signature_of k s) before lines told)
+    settled_fresh t (SecureAlias k s) before lines uncut told = settling before lines (set_fresh (signature_of k s) before lines told)
+    settled_fresh t (SecureNoName proof) before lines uncut told = settling before lines (denial_fresh told.shown before lines told.told)
+    settled_fresh t (SecureNoData proof) before lines uncut told = settling before lines (denial_fresh told.shown before lines told.told)
+    settled_fresh t (Insecure cut) before lines uncut told = unsigned_from_fresh t before lines uncut told
+    settled_fresh t (Pending entries) before lines uncut told = absurd told
+    settled_fresh t Bogus before lines uncut told = absurd told
+    settled_fresh t Indeterminate before lines uncut told = absurd told
+
+  pub links_fresh : (links : List Link) (before lines : List Line) → AreEach (IsLinkTold setting) links before lines
+      → IsFresh IsBasic before lines
+  links_fresh links before lines told =
+      each_fresh IsBasic (IsLinkTold setting)
+      (λ link old new one. set_fresh link.name (signature_of link.rrset link.signature) old new one) links before lines told
+
+  -- ---- how far trust holds
+
+  lowest_fresh : (k : ℕ) (before lines : List Line) → IsLowestDerived setting k before lines → IsFresh IsBasic before lines
+  lowest_fresh k before lines (none_signed never none) = none_fresh IsBasic before lines none
+  lowest_fresh k before lines (lowest_signed s lowest told) = signature_fresh (signature_of k s) before lines told
+
+  first_fresh : (numbers : List ℕ) (before lines : List Line) → IsFirstDerived setting numbers before lines → IsFresh IsBasic before lines
+  first_fresh [] before lines none = none_fresh IsBasic before lines none
+  first_fresh (k ∷ rest) before lines (inl told) = derivation_fresh setting before (keys k) lines told.1
+  first_fresh (k ∷ rest) before lines (inr later) = first_fresh rest before lines later.1
+
+  held_at_fresh : (name : Labels) (before lines : List Line) → IsHeldAt setting name before lines → IsFresh IsBasic before lines
+  held_at_fresh name before lines told =
+      both_fresh IsBasic (AreEach (IsLowestDerived setting) (numbers_at setting.rrsets name 43))
+      (IsFirstDerived setting (numbers_at setting.rrsets name 48)) before lines told
+      (each_fresh IsBasic (IsLowestDerived setting) lowest_fresh (numbers_at setting.rrsets name 43) before told.first told.says_first)
+      (first_fresh (numbers_at setting.rrsets name 48) (before ++ told.first) told.second told.says_second)
+
+  held_below_fresh : (name : Labels) (count : ℕ) (before lines : List Line) → IsHeldBelow setting name count before lines
+      → IsFresh IsBasic before lines
+  held_below_fresh name zero before lines none = none_fresh IsBasic before lines none
+  held_below_fresh name (suc count) before lines told =
+      both_fresh IsBasic (IsHeldBelow setting name count) (IsHeldAt setting (rightmost name count)) before lines told
+      (held_below_fresh name count before told.first told.says_first)
+      (held_at_fresh (rightmost name count) (before ++ told.first) told.second told.says_second)
+
+  pub held_fresh : (name : Labels) (before lines : List Line) → IsHeldTo setting name before lines → IsFresh IsBasic before lines
+  held_fresh name before lines told = held_below_fresh name (length name + 1) before lines told
