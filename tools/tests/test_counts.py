@@ -16,7 +16,7 @@ NAMED = {
     "dnsv_explain/src/faults/question/at.rt": "the same",
     "dnsv_explain/src/faults/question/dnames.rt": "the same",
     "dnsv_explain/src/faults/question/signers.rt": "the same",
-    "dnssec_check/src/texts/todo.rt": "`list` asks a verifier, and prints no number",
+    "dnsv_program/src/texts/todo.rt": "`list` asks a verifier, and prints no number",
 }
 
 

@@ -8,8 +8,8 @@
 //! Behind them stands how the program has to end: `=> STATUS`, and then what it prints, on the standard error behind `! `;
 //! or lines `~ TEXT`, which have to stand somewhere in what is printed. Only how often a verifier is asked no row can say
 //! (`asking`), and what a capture has read of a message (`reading`).
-use crate::program::exit_status_on;
 use crate::samples::hex_named;
+use dnsv_program::exit_status_on;
 use std::alloc::Global;
 use std::process::Abort;
 use std::test::Fail;
@@ -18,6 +18,7 @@ mod asking;
 mod captures;
 mod checking;
 mod command_line;
+mod desk;
 mod explaining;
 mod key_files;
 mod listing;

@@ -1,5 +1,6 @@
 -- What is told at one name of a way.
 use Rattle.std.specs.Prelude.{◌≡◌}
+use Rattle.dnsv_denial.specs.Viewed.{Viewed}
 use Rattle.dnsv_verdict.specs.Grounds.{HasTrust}
 use Rattle.dnsv_verdict.specs.Report.{hashed_in}
 use Rattle.dnsv_explain.specs.Explained.{Explained, explained_by}
@@ -10,3 +11,11 @@ pub record IsAt (explained : Explained) (at : At) : Type 0 where
   pub trust : HasTrust at.grounds.now
   pub evidence : explained ≡ explained_by at.grounds.now explained.todo
   pub hashes : at.hashes.now ≡ hashed_in at.grounds.now.capture.now.rrsets at.name.now
+
+-- what the evidence of the grounds says of the name
+abbrev pub viewed_at : At → Viewed
+viewed_at at = record {
+  rrsets = at.grounds.now.capture.now.rrsets;
+  trust = at.grounds.now.trust;
+  name = at.name.now;
+}

@@ -9,6 +9,7 @@ pub mod Listing
 pub mod NeededSearch
 pub mod Order
 pub mod RemarkSearch
+pub mod Repeats
 pub mod RrsetLines
 pub mod SignatureFaults
 pub mod Sources

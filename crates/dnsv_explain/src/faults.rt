@@ -1,6 +1,7 @@
 //! What keeps the evidence from settling a question.
 
 mod answers;
+mod at;
 mod keys;
 pub mod question;
 pub mod questioned;
@@ -15,9 +16,8 @@ ghost use Rattle.std.specs.Prelude.{◌≡◌, ◌++◌, ◌∷◌, [], OnOk};
 ghost use Rattle.dnsv_canonical.specs.Rrsets.{IsNumbered};
 ghost use Rattle.dnsv_verifier.specs.Asking.{AreKeysOf};
 ghost use Rattle.dnsv_explain.specs.Explained.{setting_in};
-ghost use Rattle.dnsv_explain.specs.derivations.Ways.{HasSecured};
 ghost use Rattle.dnsv_explain.specs.faults.Listing.{AddsThose};
-ghost use Rattle.dnsv_explain.specs.faults.RrsetLines.{AreLinesOfEach, AreRrsetLines, unsigned_line};
+ghost use Rattle.dnsv_explain.specs.faults.RrsetLines.{AreRrsetLines, unsigned_line};
 
 use crate::evidence::Evidence;
 use crate::faults::signature::add_signature;
@@ -51,7 +51,13 @@ fn add_rrset(
         add_unsigned(lines, number, rrset)?;
         return Ok(());
     }
-    add_signatures(alloc, evidence, keys, lines, number, rrset)?;
+    for (place, rrsig) in rrset.signatures().iter().enumerate() {
+        let each = SignatureNumber {
+            rrset: number,
+            signature: place + 1,
+        };
+        add_signature(alloc, evidence, keys, lines, each, rrset, rrsig)?;
+    }
     Ok(())
 }
 
@@ -64,30 +70,5 @@ fn add_unsigned(lines: &mut Vec<Line>, number: usize, rrset: &Rrset) -> Result<(
         rtype: rrset.rtype(),
         rrset: number,
     })))?;
-    Ok(())
-}
-
-/// Adds what is said of each signature of the RRset.
-fn add_signatures(
-    alloc: Global,
-    evidence: &Evidence<'_>,
-    keys: &[KeyRecord<'_>],
-    lines: &mut Vec<Line>,
-    number: usize,
-    rrset: &Rrset,
-) -> Result<(), AllocError>
-    requires keys { AreKeysOf evidence.now.rrsets keys.now }
-    requires rrset { IsNumbered evidence.now.rrsets number rrset.now }
-    requires unsecured { ¬ HasSecured (setting_in evidence.now) number }
-    ensures { OnOk result (AddsThose (AreLinesOfEach (setting_in evidence.now) number rrset.now) lines.old.items
-        lines.new.items) }
-{
-    for (place, rrsig) in rrset.signatures().iter().enumerate() {
-        let each = SignatureNumber {
-            rrset: number,
-            signature: place + 1,
-        };
-        add_signature(alloc, evidence, keys, lines, each, rrset, rrsig)?;
-    }
     Ok(())
 }

@@ -3,7 +3,7 @@ ghost use Rattle.std.specs.Prelude.{◌≡◌, OnOk};
 ghost use Rattle.dnsv_chain.specs.Trust.{SecuredIn as KeptIn};
 ghost use Rattle.dnsv_denial.specs.unsigned_cuts.Cuts.{HasUnsignedCut};
 ghost use Rattle.dnsv_verdict.specs.Insecure.{IsUnsigned};
-ghost use Rattle.dnsv_explain.specs.At.{IsAt};
+ghost use Rattle.dnsv_explain.specs.At.{IsAt, viewed_at};
 ghost use Rattle.dnsv_explain.specs.Explanation.{IsUnsignedFromTold};
 ghost use Rattle.dnsv_explain.specs.Explained.{setting_in};
 ghost use Rattle.dnsv_explain.specs.Saying.{Adds};
@@ -33,11 +33,7 @@ pub fn add_wildcard_cut(
     rtype: RecordType,
 ) -> Result<(), AllocError>
     requires at { IsAt evidence.now at.now }
-    requires view { view.now ≡ record {
-      rrsets = at.now.grounds.now.capture.now.rrsets;
-      trust = at.now.grounds.now.trust;
-      name = at.now.name.now;
-    } }
+    requires view { view.now ≡ viewed_at at.now }
     requires none { ¬ HasUnsignedCut (KeptIn view.now.trust) view.now.rrsets view.now.name }
     requires unsigned { IsUnsigned (SecuredIn (setting_in evidence.now)) evidence.now.rrsets at.now.name.now rtype.0 }
     ensures { OnOk result (Adds (IsUnsignedFromTold (setting_in evidence.now) at.now.name.now rtype.0) lines.old.items

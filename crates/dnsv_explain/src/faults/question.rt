@@ -1,6 +1,5 @@
 //! What keeps the evidence from answering a question.
 
-mod at;
 mod closers;
 mod denials;
 mod dnames;
@@ -21,6 +20,7 @@ ghost use Rattle.dnsv_explain.specs.Explained.{setting_in};
 ghost use Rattle.dnsv_explain.specs.faults.Listing.{AddsThose, AreWhere};
 ghost use Rattle.dnsv_explain.specs.faults.NeededSearch.{AreLabelsOf, IsSpeakerFound};
 ghost use Rattle.dnsv_explain.specs.faults.Order.{AreFaultLines, AreFaultParts, AreEndLines, AreLacking, AreLinesOfDenials};
+ghost use Rattle.dnsv_explain.specs.faults.Repeats.{AreThinned};
 ghost use Rattle.dnsv_explain.specs.faults.Zones.{IsNeeded};
 
 use crate::evidence::Evidence;
@@ -71,7 +71,7 @@ fn fault_parts(
     rtype: RecordType,
 ) -> Result<Vec<Line>, AllocError>
     requires { IsAt evidence.now at.now }
-    ensures { IfOk result (λ lines. AreFaultParts (setting_in evidence.now) at.now.name.now rtype.0 lines.items) }
+    ensures { IfOk result (λ lines. AreThinned (AreFaultParts (setting_in evidence.now) at.now.name.now rtype.0) lines.items) }
 {
     let name = at.name;
     let view = at.view(alloc)?;

@@ -1,6 +1,5 @@
 //! What is said of a zone that isn't trusted.
 
-pub mod anchored;
 mod entries;
 mod lead;
 mod named;
@@ -14,12 +13,13 @@ ghost use Rattle.std.specs.Prelude.{◌≡◌, ◌++◌, ◌∷◌, [], OnOk};
 ghost use Rattle.dnsv_verifier.specs.Asking.{AreKeysOf};
 ghost use Rattle.dnsv_explain.specs.Explained.{setting_in};
 ghost use Rattle.dnsv_explain.specs.faults.Listing.{AddsThose, AreWhere};
-ghost use Rattle.dnsv_explain.specs.faults.ZoneLines.{AreLinesOfKeys, AreZoneLines, HasNoWay, zone_line};
+ghost use Rattle.dnsv_explain.specs.faults.Repeats.{AddsNew};
+ghost use Rattle.dnsv_explain.specs.faults.ZoneLines.{AreZoneLines, HasNoWay, zone_line};
 ghost use Rattle.dnsv_explain.specs.declared.line.fault.zone.WhyZone.TheVariants as zone_why;
 
 use crate::evidence::Evidence;
+use crate::faults::at::{has_own_anchor, has_rrset, is_anchored};
 use crate::faults::keys::keys_at;
-use crate::faults::zones::anchored::{has_anchor, has_own_anchor, has_rrset};
 use crate::faults::zones::entries::said_entries;
 use crate::faults::zones::ranks::add_ranks;
 use crate::faults::zones::ways::add_ways;
@@ -41,15 +41,21 @@ pub fn add_zone_faults(
     zone: &Name,
 ) -> Result<(), AllocError>
     requires keys { AreKeysOf evidence.now.rrsets keys.now }
-    ensures { OnOk result (AddsThose (AreZoneLines (setting_in evidence.now) zone.now) lines.old.items lines.new.items) }
+    ensures { OnOk result (AddsNew (AreZoneLines (setting_in evidence.now) zone.now) lines.old.items lines.new.items) }
 {
-    if !has_anchor(evidence, zone) {
+    if !is_anchored(evidence, zone) {
         add_zone_fault(lines, WhyZone::NoAnchor, zone)?;
         return Ok(());
     }
     add_ways(alloc, evidence, keys, lines, zone)?;
     add_no_way(evidence, lines, zone)?;
-    add_keys(alloc, evidence, keys, lines, zone)?;
+    if !has_rrset(evidence, zone, RecordType::DNSKEY) {
+        add_zone_fault(lines, WhyZone::DnskeyMissing, zone)?;
+        return Ok(());
+    }
+    let its_keys = keys_at(alloc, evidence.rrsets(), zone)?;
+    let said = said_entries(alloc, evidence, &its_keys, zone)?;
+    add_ranks(alloc, evidence, keys, lines, zone, &said)?;
     Ok(())
 }
 
@@ -76,26 +82,5 @@ fn add_no_way(evidence: &Evidence<'_>, lines: &mut Vec<Line>, zone: &Name) -> Re
         return Ok(());
     }
     add_zone_fault(lines, WhyZone::DsMissing, zone)?;
-    Ok(())
-}
-
-/// Adds that the zone has no keys, or why nothing that leads into it leads to one that signs them.
-fn add_keys(
-    alloc: Global,
-    evidence: &Evidence<'_>,
-    keys: &[KeyRecord<'_>],
-    lines: &mut Vec<Line>,
-    zone: &Name,
-) -> Result<(), AllocError>
-    requires keys { AreKeysOf evidence.now.rrsets keys.now }
-    ensures { OnOk result (AddsThose (AreLinesOfKeys (setting_in evidence.now) zone.now) lines.old.items lines.new.items) }
-{
-    if !has_rrset(evidence, zone, RecordType::DNSKEY) {
-        add_zone_fault(lines, WhyZone::DnskeyMissing, zone)?;
-        return Ok(());
-    }
-    let its_keys = keys_at(alloc, evidence.rrsets(), zone)?;
-    let said = said_entries(alloc, evidence, &its_keys, zone)?;
-    add_ranks(alloc, evidence, keys, lines, zone, &said)?;
     Ok(())
 }

@@ -1,5 +1,5 @@
 use Rattle.dnsv_explain.specs.Explained.{setting_in}
-use Rattle.dnsv_explain.proofs.lemmas.faults.SignatureLemmas.{empty, member, secured_added, some_left, unproved_added, unsigned_added, unsecured_where}
+use Rattle.dnsv_explain.proofs.lemmas.faults.SignatureLemmas.{empty, member, secured_added, signature_more, signature_there, signatures_all, some_left, unproved_added, unsigned_added, unsecured_where}
 use Rattle.dnsv_explain.proofs.faults.add_rrset.Goals as goal
 
 pub returns-then-not-is_empty : goal.returns-then-not-is_empty
@@ -15,10 +15,21 @@ returns-then-is_empty c =
     c.is_empty.ensures c.if-not-is_empty.false)
     c.in_ok-add_unsigned.ensures
 
-pub add_signatures-requires-clause-unsecured : goal.add_signatures-requires-clause-unsecured
-add_signatures-requires-clause-unsecured c =
+pub add_signature-requires-clause-unsecured : goal.add_signature-requires-clause-unsecured
+add_signature-requires-clause-unsecured c =
     unsecured_where (setting_in c.args.evidence.now) c.args.number c.secured.result.now c.secured.ensures c.is_empty.result
     c.is_empty.ensures c.if-not-is_empty.false
+
+pub add_signature-requires-clause-its : goal.add_signature-requires-clause-its
+add_signature-requires-clause-its c =
+    signature_there (setting_in c.args.evidence.now) c.args.number c.args.rrset.now c.signatures-rrsig-items.result.now
+    c.signatures-rrsig-items.ensures c.loop-place.place c.rrsig-item.result c.loop-place-test.true c.rrsig-item.is
+
+pub loop-place-preserved : goal.loop-place-preserved
+loop-place-preserved c =
+    signature_more (setting_in c.args.evidence.now) c.args.number c.args.rrset.now c.signatures-rrsig-items.result.now
+    c.signatures-rrsig-items.ensures c.loop-place.place c.rrsig-item.result c.loop-place-test.true c.rrsig-item.is _ _ _
+    c.loop-place.invariant c.in_ok-add_signature.ensures
 
 pub returns : goal.returns
 returns c =
@@ -26,4 +37,5 @@ returns c =
     (some_left c.signatures.result.now c.is_empty-2.result c.is_empty-2.ensures c.if-is_empty.false)
     (unsecured_where (setting_in c.args.evidence.now) c.args.number c.secured.result.now c.secured.ensures c.is_empty.result
     c.is_empty.ensures c.if-not-is_empty.false)
-    c.in_ok-add_signatures.ensures
+    (signatures_all (setting_in c.args.evidence.now) c.args.number c.args.rrset.now c.signatures-rrsig-items.result.now
+    c.signatures-rrsig-items.ensures c.loop-place.place c.loop-place-test.false _ _ c.loop-place.invariant)

@@ -15,7 +15,7 @@ use Rattle.dnsv_explain.specs.faults.RrsetLines.AreRrsetLines.{secured, unsigned
 use Rattle.dnsv_explain.specs.faults.RrsetLines.AreSignatureLines.{faulty, without_faults}
 use Rattle.dnsv_explain.specs.faults.RrsetLines.IsRemark.{no_keys, of_answers, untrusted, nothing}
 use Rattle.dnsv_explain.specs.faults.SignatureFaults.{asked_before}
-use Rattle.dnsv_explain.specs.faults.Truth.{IsReasonTrue}
+use Rattle.dnsv_explain.specs.faults.Truth.{IsReasonTrue, IsTrueByKeys}
 use Rattle.dnsv_explain.specs.declared.line.Line.{Line}
 use Rattle.dnsv_explain.specs.declared.line.Line.TheVariants as line
 use Rattle.dnsv_explain.specs.declared.line.fault.Reason.{Reason}
@@ -93,9 +93,9 @@ module _ (setting : Setting) (name : Labels) (t : ℕ) where
 
   module _ (k s : ℕ) (rrset : ReceivedRrset) (rdata : List ℕ) (rrsig : Rrsig) (numbered : IsNumbered setting.rrsets k rrset)
       (is_signature : IsNumbered rrset.signatures s rdata) (read : IsRrsig rdata rrsig) where
-    word_so : (word : WhySignature) → IsTrueOf setting rrset rrsig word
+    pub shown_so : (word : WhySignature) → IsTrueByKeys setting rrset rrsig (record { why = word; signature = shown_of k s rrset rrsig })
         → IsSo (reason.Signature (record { why = word; signature = shown_of k s rrset rrsig }))
-    word_so word is = record {
+    shown_so word is = record {
       rrset = rrset;
       numbered = numbered;
       rdata = rdata;
@@ -103,7 +103,7 @@ module _ (setting : Setting) (name : Labels) (t : ℕ) where
       rrsig = rrsig;
       read = read;
       shown = refl;
-      is = inl is;
+      is = is;
     }
 
     never_follows : (said : Reason) → Contains (follows_line (shown_of k s rrset rrsig) ∷ []) (line.Reason said) → ⊥
@@ -115,7 +115,7 @@ module _ (setting : Setting) (name : Labels) (t : ℕ) where
     one_so : (word : WhySignature) (said : Reason) → line.Reason said ≡ fault_line (shown_of k s rrset rrsig) word
         → IsTrueOf setting rrset rrsig word → IsSo said
     one_so word said same is =
-        only_reason said (reason.Signature (record { why = word; signature = shown_of k s rrset rrsig })) same (word_so word is)
+        only_reason said (reason.Signature (record { why = word; signature = shown_of k s rrset rrsig })) same (shown_so word (inl is))
 
     remark_so : (lines : List Line) → IsRemark setting rrset rrsig (shown_of k s rrset rrsig) lines → (said : Reason)
         → Contains lines (line.Reason said) → IsSo said

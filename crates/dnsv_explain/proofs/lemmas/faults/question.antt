@@ -6,6 +6,7 @@ pub mod EndLemmas
 pub mod Nsec3Lemmas
 pub mod OnceLemmas
 pub mod PartLemmas
+pub mod RepeatLemmas
 pub mod SameLemmas
 pub mod SignerLemmas
 pub mod SubjectLemmas

@@ -1,5 +1,6 @@
 pub mod EntryLemmas
 pub mod FoundLemmas
+pub mod NameLemmas
 pub mod OwnKeyLemmas
 pub mod ParentLemmas
 pub mod RankLemmas

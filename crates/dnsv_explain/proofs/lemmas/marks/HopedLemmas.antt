@@ -26,6 +26,7 @@ use Rattle.dnsv_explain.proofs.lemmas.NumberedLemmas.{among}
 use Rattle.dnsv_explain.proofs.lemmas.derivations.DerivationLemmas.{same_as}
 use Rattle.dnsv_explain.proofs.lemmas.intervals.MomentLemmas.{good_as, is_behind, is_first, vouched_then}
 use Rattle.dnsv_explain.proofs.lemmas.marks.LineLemmas.{IsLineOf}
+use Rattle.dnsv_explain.proofs.lemmas.faults.zones.OwnKeyLemmas.{key_among}
 
 -- a setting by which lines of an explanation are told that has a hope: as it is, or under hope
 pub data IsIts (explained : Explained) (unknown : List Entry) : Setting → Type 0 where
@@ -88,14 +89,7 @@ module _ (rrsets : List ReceivedRrset) (anchors : List Anchor) (table : TableCon
       key = key;
       among = among rrsets number.rrset rrset good.is_rrset;
       its = (good.rdata, among rrset.signatures number.signature good.rdata good.is_signature, good.read);
-      key_among = record {
-        rrset = set;
-        among = among rrsets k set numbered;
-        rtype = stands.rtype;
-        owner = stands.owner;
-        rdata = stands.among;
-        is = stands.is;
-      };
+      key_among = key_among rrsets k set key numbered stands;
       admissible = good.good.admissible;
       is = good.good.is;
     }

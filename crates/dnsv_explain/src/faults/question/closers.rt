@@ -1,7 +1,7 @@
 //! Answers from wildcards against which closer names may be there.
 ghost use Rattle.std.specs.Prelude.{◌≡◌, ◌↔◌, ◌+◌, IfOk, IsTrue, OnOk};
 ghost use Rattle.dnsv_names.specs.Name.{rightmost};
-ghost use Rattle.dnsv_explain.specs.At.{IsAt};
+ghost use Rattle.dnsv_explain.specs.At.{IsAt, viewed_at};
 ghost use Rattle.dnsv_explain.specs.Explained.{setting_in};
 ghost use Rattle.dnsv_explain.specs.faults.Listing.{AddsThose, AreOfNumbered};
 ghost use Rattle.dnsv_explain.specs.faults.Order.{AreGoalClosers, AreLinesOfCloser, IsCloserOpen};
@@ -30,11 +30,7 @@ pub fn closer_lines(
     rtype: RecordType,
 ) -> Result<Vec<Line>, AllocError>
     requires at { IsAt evidence.now at.now }
-    requires view { view.now ≡ record {
-      rrsets = at.now.grounds.now.capture.now.rrsets;
-      trust = at.now.grounds.now.trust;
-      name = at.now.name.now;
-    } }
+    requires view { view.now ≡ viewed_at at.now }
     ensures { IfOk result (λ lines. AreOfNumbered (AreGoalClosers (setting_in evidence.now) at.now.name.now rtype.0) 1
         evidence.now.rrsets lines.items) }
 {
@@ -56,11 +52,7 @@ fn add_closers(
     rrset: &Rrset,
 ) -> Result<(), AllocError>
     requires at { IsAt evidence.now at.now }
-    requires view { view.now ≡ record {
-      rrsets = at.now.grounds.now.capture.now.rrsets;
-      trust = at.now.grounds.now.trust;
-      name = at.now.name.now;
-    } }
+    requires view { view.now ≡ viewed_at at.now }
     ensures { OnOk result (AddsThose (AreGoalClosers (setting_in evidence.now) at.now.name.now rtype.0 number rrset.now)
         lines.old.items lines.new.items) }
 {
@@ -88,11 +80,7 @@ fn add_closer(
     rrsig: &Rrsig,
 ) -> Result<(), AllocError>
     requires at { IsAt evidence.now at.now }
-    requires view { view.now ≡ record {
-      rrsets = at.now.grounds.now.capture.now.rrsets;
-      trust = at.now.grounds.now.trust;
-      name = at.now.name.now;
-    } }
+    requires view { view.now ≡ viewed_at at.now }
     ensures { OnOk result (AddsThose (AreLinesOfCloser (setting_in evidence.now) at.now.name.now number.rrset rrset.now
         number.signature rrsig.now) lines.old.items lines.new.items) }
 {
@@ -118,11 +106,7 @@ fn is_closer_open(
     rrsig: &Rrsig,
 ) -> bool
     requires at { IsAt evidence.now at.now }
-    requires view { view.now ≡ record {
-      rrsets = at.now.grounds.now.capture.now.rrsets;
-      trust = at.now.grounds.now.trust;
-      name = at.now.name.now;
-    } }
+    requires view { view.now ≡ viewed_at at.now }
     ensures { IsTrue result ↔ IsCloserOpen (setting_in evidence.now) at.now.name.now rrset.now rrsig.now }
 {
     if !is_expanded(rrset.owner(), rrsig) {

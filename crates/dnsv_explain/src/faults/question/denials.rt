@@ -1,6 +1,5 @@
 //! What is said of what may deny a question.
 ghost use Rattle.std.specs.Prelude.{◌↔◌, ℕ, IsTrue, OnOk};
-ghost use Rattle.dnsv_canonical.specs.Rrsets.{IsNumbered};
 ghost use Rattle.dnsv_verifier.specs.Asking.{AreKeysOf};
 ghost use Rattle.dnsv_explain.specs.Explained.{Setting, setting_in};
 ghost use Rattle.dnsv_explain.specs.faults.Listing.{AddsThose, AreOfNumbered, AreThose};
@@ -13,7 +12,6 @@ use crate::faults::add_rrset;
 use crate::faults::question::signers::is_among;
 use crate::faults::question::subjects::is_denial;
 use crate::line::Line;
-use dnsv_canonical::Rrset;
 use dnsv_names::Name;
 use dnsv_verifier::KeyRecord;
 use std::alloc::{AllocError, Global};
@@ -34,35 +32,14 @@ pub fn add_denials(
         lines.old.items lines.new.items) }
 {
     for (place, rrset) in evidence.rrsets().iter().enumerate() {
-        add_denial(alloc, evidence, keys, needed, lines, name, place + 1, rrset)?;
+        if !is_denial(rrset, name) {
+            continue;
+        }
+        let mut all = Vec::new(alloc);
+        add_rrset(alloc, evidence, keys, &mut all, place + 1, rrset)?;
+        keep_of_needed(needed, name, &mut all);
+        lines.append(&mut all)?;
     }
-    Ok(())
-}
-
-/// Adds why the RRset, which has the number, proves nothing, if it may deny.
-fn add_denial(
-    alloc: Global,
-    evidence: &Evidence<'_>,
-    keys: &[KeyRecord<'_>],
-    needed: &[usize],
-    lines: &mut Vec<Line>,
-    name: &Name,
-    number: usize,
-    rrset: &Rrset,
-) -> Result<(), AllocError>
-    requires keys { AreKeysOf evidence.now.rrsets keys.now }
-    requires rrset { IsNumbered evidence.now.rrsets number rrset.now }
-    ensures { (t : ℕ) → AreLabelsOf name.now (IsNeeded (setting_in evidence.now) name.now t) needed.now
-        → OnOk result (AddsThose (AreDenialLines (setting_in evidence.now) name.now t number rrset.now) lines.old.items
-        lines.new.items) }
-{
-    if !is_denial(rrset, name) {
-        return Ok(());
-    }
-    let mut all = Vec::new(alloc);
-    add_rrset(alloc, evidence, keys, &mut all, number, rrset)?;
-    keep_of_needed(needed, name, &mut all);
-    lines.append(&mut all)?;
     Ok(())
 }
 

@@ -2,11 +2,11 @@
 ghost use Rattle.std.specs.Prelude.{◌≡◌, ◌↔◌, ◌<◌, ◌≤◌, IsTrue, length};
 ghost use Rattle.dnsv_names.specs.Name.{rightmost};
 ghost use Rattle.dnsv_explain.specs.Explained.{setting_in};
-ghost use Rattle.dnsv_explain.specs.faults.NeededSearch.{AreSigners, IsAboveFound, IsAnchoredZone, IsOfSigners, IsSpeakerFound};
+ghost use Rattle.dnsv_explain.specs.faults.NeededSearch.{AreSigners, IsAboveFound, IsOfSigners, IsSpeakerFound};
 ghost use Rattle.dnsv_explain.specs.faults.Zones.{IsKnownZone};
 
 use crate::evidence::Evidence;
-use crate::faults::question::at::{has_own_anchor, has_rrset, is_anchored};
+use crate::faults::at::{has_own_anchor, has_rrset, is_anchored};
 use crate::faults::question::signers::{Signers, is_among};
 use dnsv_names::{Name, RecordType};
 
@@ -46,29 +46,14 @@ pub fn anchored_above(
     let mut labels = below;
     while labels > 0 {
         labels -= 1;
-        if is_anchored_zone(evidence, signers, name, rtype, labels) {
+        if !is_known(evidence, signers, name, rtype, labels) {
+            continue;
+        }
+        if is_anchored(evidence, &name.suffix(labels)) {
             return Some(labels);
         }
     }
     None
-}
-
-/// Whether the zone with so many labels is known, and a trust anchor is at or above it.
-fn is_anchored_zone(
-    evidence: &Evidence<'_>,
-    signers: &Signers,
-    name: &Name,
-    rtype: RecordType,
-    labels: usize,
-) -> bool
-    requires signers { AreSigners evidence.now.rrsets name.now rtype.0 signers.now }
-    requires within { labels ≤ length name.now }
-    ensures { IsTrue result ↔ IsAnchoredZone (setting_in evidence.now) name.now rtype.0 labels }
-{
-    if !is_known(evidence, signers, name, rtype, labels) {
-        return false;
-    }
-    is_anchored(evidence, &name.suffix(labels))
 }
 
 /// Whether the zone with so many of the name's labels is known: it is an anchor's owner, it owns a DS or DNSKEY RRset, or

@@ -5,10 +5,10 @@ ghost use Rattle.dnsv_verifier.specs.Asking.{AddsJust};
 ghost use Rattle.dnsv_verdict.specs.Verdict.{HasAnchor};
 ghost use Rattle.dnsv_explain.specs.Explained.{setting_in};
 ghost use Rattle.dnsv_explain.specs.faults.NeededSearch.{AreLabelsOf, AreSigners, HasDsSigner, HasWay, IsAbove, IsAnchoredDenier, IsAnchoredSpeaker, IsNeededBy, IsNumberWhere};
-ghost use Rattle.dnsv_explain.specs.faults.Zones.{IsNeeded, IsNeededFirst, IsParent, NeedsAbove};
+ghost use Rattle.dnsv_explain.specs.faults.Zones.{IsNeeded, IsNeededFirst, IsParent};
 
 use crate::evidence::Evidence;
-use crate::faults::question::at::{has_own_anchor, has_rrset, is_anchored};
+use crate::faults::at::{has_own_anchor, has_rrset, is_anchored};
 use crate::faults::question::known::{anchored_above, speaker};
 use crate::faults::question::signers::{Signers, add_number, ds_signers, is_among};
 use dnsv_names::{Name, RecordType};
@@ -119,7 +119,8 @@ fn add_anchored(
     Ok(())
 }
 
-/// Adds what the zone with so many labels needs, if it is among the numbers and isn't trusted.
+/// Adds what the zone with so many labels needs, if it is among the numbers and isn't trusted: its parents, or where nothing
+/// leads into it, the next known zone above.
 fn add_needed_by(
     alloc: Global,
     evidence: &Evidence<'_>,
@@ -137,30 +138,10 @@ fn add_needed_by(
     if !is_among(needed, labels) {
         return Ok(());
     }
-    if evidence.is_trusted_zone(&name.suffix(labels)) {
+    let zone = name.suffix(labels);
+    if evidence.is_trusted_zone(&zone) {
         return Ok(());
     }
-    add_above(alloc, evidence, signers, name, rtype, labels, needed)?;
-    Ok(())
-}
-
-/// Adds what the zone with so many labels needs: its parents, or where nothing leads into it, the next known zone above.
-fn add_above(
-    alloc: Global,
-    evidence: &Evidence<'_>,
-    signers: &Signers,
-    name: &Name,
-    rtype: RecordType,
-    labels: usize,
-    needed: &mut Vec<usize>,
-) -> Result<(), AllocError>
-    requires signers { AreSigners evidence.now.rrsets name.now rtype.0 signers.now }
-    requires within { labels ≤ length name.now }
-    ensures { OnOk result (AddsJust
-        (IsAbove name.now (NeedsAbove (setting_in evidence.now) name.now rtype.0 (rightmost name.now labels)))
-        needed.old.items needed.new.items) }
-{
-    let zone = name.suffix(labels);
     if has_way(evidence, &zone) {
         add_parents(alloc, evidence, &zone, needed)?;
         return Ok(());

@@ -8,7 +8,7 @@ ghost use Rattle.dnsv_explain.specs.faults.Order.{IsSaid, same_text};
 ghost use Rattle.dnsv_explain.specs.line.{line_text};
 
 use crate::evidence::Evidence;
-use crate::faults::question::at::is_anchored;
+use crate::faults::at::is_anchored;
 use crate::line::Line;
 use dnsv_names::Name;
 use std::alloc::{AllocError, Global};

@@ -1,16 +1,15 @@
 //! What is said of the zones that a question needs.
-ghost use Rattle.std.specs.Prelude.{◌≡◌, ◌++◌, ◌∷◌, [], ◌≤◌, ℕ, OnOk, length};
-ghost use Rattle.dnsv_names.specs.Name.{rightmost};
+ghost use Rattle.std.specs.Prelude.{◌≡◌, ◌++◌, ◌∷◌, [], ℕ, OnOk};
 ghost use Rattle.dnsv_verifier.specs.Asking.{AreKeysOf};
 ghost use Rattle.dnsv_explain.specs.Explained.{setting_in};
-ghost use Rattle.dnsv_explain.specs.faults.Listing.{AddsThose};
 ghost use Rattle.dnsv_explain.specs.faults.NeededSearch.{AreLabelsOf};
-ghost use Rattle.dnsv_explain.specs.faults.Order.{AreLinesOfZones, AreNeededLines};
+ghost use Rattle.dnsv_explain.specs.faults.Order.{AreLinesOfZones};
+ghost use Rattle.dnsv_explain.specs.faults.Repeats.{AddsNew};
 ghost use Rattle.dnsv_explain.specs.faults.ZoneLines.{zone_line};
 ghost use Rattle.dnsv_explain.specs.faults.Zones.{IsNeeded};
 
 use crate::evidence::Evidence;
-use crate::faults::question::at::is_anchored;
+use crate::faults::at::is_anchored;
 use crate::faults::question::signers::is_among;
 use crate::faults::zones::add_zone_faults;
 use crate::line::Line;
@@ -32,14 +31,21 @@ pub fn add_zones(
 ) -> Result<(), AllocError>
     requires { AreKeysOf evidence.now.rrsets keys.now }
     ensures { (t : ℕ) → AreLabelsOf name.now (IsNeeded (setting_in evidence.now) name.now t) needed.now
-        → OnOk result (AddsThose (AreLinesOfZones (setting_in evidence.now) name.now t) lines.old.items lines.new.items) }
+        → OnOk result (AddsNew (AreLinesOfZones (setting_in evidence.now) name.now t) lines.old.items lines.new.items) }
 {
     if !is_anchored(evidence, name) {
         add_no_anchor(lines, name)?;
         return Ok(());
     }
     for labels in 0..name.labels() + 1 {
-        add_needed(alloc, evidence, keys, needed, lines, name, labels)?;
+        if !is_among(needed, labels) {
+            continue;
+        }
+        let zone = name.suffix(labels);
+        if evidence.is_trusted_zone(&zone) {
+            continue;
+        }
+        add_zone_faults(alloc, evidence, keys, lines, &zone)?;
     }
     Ok(())
 }
@@ -52,32 +58,5 @@ fn add_no_anchor(lines: &mut Vec<Line>, name: &Name) -> Result<(), AllocError>
         why: WhyZone::NoAnchor,
         zone: name.clone()?,
     })))?;
-    Ok(())
-}
-
-/// Adds what is said of the zone with so many labels, if it is needed and not trusted.
-fn add_needed(
-    alloc: Global,
-    evidence: &Evidence<'_>,
-    keys: &[KeyRecord<'_>],
-    needed: &[usize],
-    lines: &mut Vec<Line>,
-    name: &Name,
-    labels: usize,
-) -> Result<(), AllocError>
-    requires keys { AreKeysOf evidence.now.rrsets keys.now }
-    requires within { labels ≤ length name.now }
-    ensures { (t : ℕ) → AreLabelsOf name.now (IsNeeded (setting_in evidence.now) name.now t) needed.now
-        → OnOk result (AddsThose (AreNeededLines (setting_in evidence.now) name.now t (rightmost name.now labels))
-        lines.old.items lines.new.items) }
-{
-    if !is_among(needed, labels) {
-        return Ok(());
-    }
-    let zone = name.suffix(labels);
-    if evidence.is_trusted_zone(&zone) {
-        return Ok(());
-    }
-    add_zone_faults(alloc, evidence, keys, lines, &zone)?;
     Ok(())
 }

@@ -15,7 +15,7 @@ use crate::faults::sources::closed::{Closed, first_closed};
 use crate::faults::sources::enclosers::longest_there;
 use crate::faults::sources::held::{add_fault, add_held};
 use crate::faults::sources::records::records_at;
-use crate::faults::sources::words::{is_covered, is_empty};
+use crate::faults::sources::words::{is_covered, is_ruled_out};
 use crate::line::Line;
 use crate::line::denial::Role;
 use crate::line::fault::Reason;
@@ -155,10 +155,7 @@ fn add_wildcard(
         let name = &wildcard.name;
         return Ok(add_held(alloc, chain, lines, name, rtype, found)?);
     }
-    if is_covered(chain.entries, &wildcard) {
-        return Ok(());
-    }
-    if is_empty(chain.entries, &wildcard) {
+    if is_ruled_out(chain.entries, &wildcard) {
         return Ok(());
     }
     let why = WhySource::CoverMissing(Role::Wildcard);

@@ -1,5 +1,5 @@
 //! What the records of a chain say of a name.
-ghost use Rattle.std.specs.Prelude.{◌↔◌, IsTrue};
+ghost use Rattle.std.specs.Prelude.{◌↔◌, ◌⊎◌, IsTrue};
 ghost use Rattle.dnsv_zones.specs.chains.NsecChain.{IsInBitmap};
 ghost use Rattle.dnsv_zones.specs.chains.Rdata.{parameters_of};
 ghost use Rattle.dnsv_zones.specs.forms.Nsec.{IsAbsentBy, IsEmptyNonTerminalBy, IsNodeBy};
@@ -104,8 +104,15 @@ fn is_cover(entry: &Nsec3Entry<'_>, parameters: &Nsec3Parameters, hash: &Hash20)
     has_parameters(entry, parameters)
 }
 
+/// Whether the name isn't there, or is an empty non-terminal.
+pub fn is_ruled_out(entries: ChainEntries<'_>, asked: &Asked) -> bool
+    ensures { IsTrue result ↔ (IsCoveredBy entries.entry asked.now ⊎ IsEmptyBy entries.entry asked.now) }
+{
+    is_covered(entries, asked) || is_empty(entries, asked)
+}
+
 /// Whether a record shows the name to be an empty non-terminal. NSEC3 records have an owner for each (RFC 5155 7.1).
-pub fn is_empty(entries: ChainEntries<'_>, asked: &Asked) -> bool
+fn is_empty(entries: ChainEntries<'_>, asked: &Asked) -> bool
     ensures { IsTrue result ↔ IsEmptyBy entries.entry asked.now }
 {
     match entries {

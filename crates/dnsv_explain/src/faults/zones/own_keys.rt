@@ -4,8 +4,8 @@ ghost use Rattle.dnsv_canonical.specs.Rrsets.{IsNumbered};
 ghost use Rattle.dnsv_chain.specs.Trusted.{IsKeyOf};
 ghost use Rattle.dnsv_verifier.specs.Asking.{AreKeysOf};
 ghost use Rattle.dnsv_explain.specs.Explained.{setting_in};
-ghost use Rattle.dnsv_explain.specs.faults.Listing.{AddsThose, AreOfNumbered};
-ghost use Rattle.dnsv_explain.specs.faults.ZoneLines.{AreKeyLines, AreNamedLines};
+ghost use Rattle.dnsv_explain.specs.faults.Listing.{AddsThose};
+ghost use Rattle.dnsv_explain.specs.faults.ZoneLines.{AreKeyLines};
 ghost use Rattle.dnsv_explain.specs.faults.ZoneLines.ZoneSearch.{HasSignatureOf, IsNotSelfSigned};
 
 use crate::derivations::ways::keys::key_name;
@@ -48,7 +48,13 @@ pub fn add_key(
         add_not_self_signed(lines, zone, number, key)?;
         return Ok(());
     }
-    add_signatures(alloc, evidence, keys, lines, number, set, key)?;
+    for (place, rrsig) in set.signatures().iter().enumerate() {
+        let each = SignatureNumber {
+            rrset: number,
+            signature: place + 1,
+        };
+        add_named(alloc, evidence, keys, lines, each, set, key, rrsig)?;
+    }
     Ok(())
 }
 
@@ -73,31 +79,5 @@ fn add_not_self_signed(
         rrset: number,
         key: key_name(key),
     })))?;
-    Ok(())
-}
-
-/// Adds why none of the signatures that have its tag and algorithm is good under the key.
-fn add_signatures(
-    alloc: Global,
-    evidence: &Evidence<'_>,
-    keys: &[KeyRecord<'_>],
-    lines: &mut Vec<Line>,
-    number: usize,
-    set: &Rrset,
-    key: &KeyRecord<'_>,
-) -> Result<(), AllocError>
-    requires keys { AreKeysOf evidence.now.rrsets keys.now }
-    requires set { IsNumbered evidence.now.rrsets number set.now }
-    requires stands { IsKeyOf set.now key.now }
-    ensures { OnOk result (AddsThose (AreOfNumbered (AreNamedLines (setting_in evidence.now) key.now number set.now)
-        1 set.now.signatures) lines.old.items lines.new.items) }
-{
-    for (place, rrsig) in set.signatures().iter().enumerate() {
-        let each = SignatureNumber {
-            rrset: number,
-            signature: place + 1,
-        };
-        add_named(alloc, evidence, keys, lines, each, set, key, rrsig)?;
-    }
     Ok(())
 }

@@ -1,10 +1,11 @@
 //! The lines of what leads into a zone, by rank.
-ghost use Rattle.std.specs.Prelude.{◌≡◌, ◌++◌, ◌∷◌, [], OnOk, map};
+ghost use Rattle.std.specs.Prelude.{◌≡◌, ◌++◌, ◌∷◌, [], IfOk, OnOk, map};
 ghost use Rattle.std.specs.List.{AllByRecursion};
 ghost use Rattle.dnsv_verifier.specs.Asking.{AreKeysOf};
 ghost use Rattle.dnsv_explain.specs.Explained.{setting_in};
 ghost use Rattle.dnsv_explain.specs.faults.Entries.{entry_rank};
-ghost use Rattle.dnsv_explain.specs.faults.Listing.{AddsThose, AreOfEach};
+ghost use Rattle.dnsv_explain.specs.faults.Listing.{AreOfEach};
+ghost use Rattle.dnsv_explain.specs.faults.Repeats.{AddsName, AddsNew, AreSaidOfKeys};
 ghost use Rattle.dnsv_explain.specs.faults.ZoneLines.{AreEntryLines, AreRankLines, AreWordLines, entry_line};
 ghost use Rattle.dnsv_explain.specs.faults.ZoneLines.ZoneSearch.{IsJudgedAt, differs, wanted_in, wanted_of};
 
@@ -18,6 +19,10 @@ use crate::line::fault::zone::{EntryFault, WhyEntry};
 use dnsv_names::Name;
 use dnsv_verifier::KeyRecord;
 use std::alloc::{AllocError, Global};
+use std::collections::BTreeSet;
+
+/// Tags and algorithms of keys.
+type KeyNames = BTreeSet<(u16, u8)>;
 
 /// Adds what is said of each that leads into the zone: what needs least to be mended comes first. `keys` are those of the
 /// evidence.
@@ -31,7 +36,7 @@ pub fn add_ranks(
 ) -> Result<(), AllocError>
     requires keys { AreKeysOf evidence.now.rrsets keys.now }
     requires judged { AllByRecursion (IsJudgedAt evidence.now.rrsets zone.now) said.now }
-    ensures { OnOk result (AddsThose (AreEntryLines (setting_in evidence.now) zone.now (map wanted_in said.now))
+    ensures { OnOk result (AddsNew (AreEntryLines (setting_in evidence.now) zone.now (map wanted_in said.now))
         lines.old.items lines.new.items) }
 {
     add_each_rank(
@@ -58,7 +63,7 @@ fn add_each_rank(
 ) -> Result<(), AllocError>
     requires keys { AreKeysOf evidence.now.rrsets keys.now }
     requires judged { AllByRecursion (IsJudgedAt evidence.now.rrsets zone.now) said.now }
-    ensures { OnOk result (AddsThose (AreOfEach (λ rank. AreOfEach (AreRankLines (setting_in evidence.now) zone.now rank)
+    ensures { OnOk result (AddsNew (AreOfEach (λ rank. AreOfEach (AreRankLines (setting_in evidence.now) zone.now rank)
         (map wanted_in said.now)) ranks.now) lines.old.items lines.new.items) }
 {
     for rank in ranks {
@@ -79,34 +84,16 @@ fn add_rank(
 ) -> Result<(), AllocError>
     requires keys { AreKeysOf evidence.now.rrsets keys.now }
     requires judged { AllByRecursion (IsJudgedAt evidence.now.rrsets zone.now) said.now }
-    ensures { OnOk result (AddsThose (AreOfEach (AreRankLines (setting_in evidence.now) zone.now rank)
+    ensures { OnOk result (AddsNew (AreOfEach (AreRankLines (setting_in evidence.now) zone.now rank)
         (map wanted_in said.now)) lines.old.items lines.new.items) }
 {
+    let mut names = BTreeSet::new(alloc);
     for each in said {
-        add_ranked(alloc, evidence, keys, lines, zone, each, rank)?;
+        if rank_of(each.word) != rank {
+            continue;
+        }
+        add_word(alloc, evidence, keys, &mut names, lines, zone, each)?;
     }
-    Ok(())
-}
-
-/// Adds what is said of it, if it has the rank.
-fn add_ranked(
-    alloc: Global,
-    evidence: &Evidence<'_>,
-    keys: &[KeyRecord<'_>],
-    lines: &mut Vec<Line>,
-    zone: &Name,
-    each: &Judged<'_>,
-    rank: u8,
-) -> Result<(), AllocError>
-    requires keys { AreKeysOf evidence.now.rrsets keys.now }
-    requires judged { IsJudgedAt evidence.now.rrsets zone.now each.now }
-    ensures { OnOk result (AddsThose (AreRankLines (setting_in evidence.now) zone.now rank (wanted_in each.now))
-        lines.old.items lines.new.items) }
-{
-    if rank_of(each.word) != rank {
-        return Ok(());
-    }
-    add_word(alloc, evidence, keys, lines, zone, each.lead, each.word)?;
     Ok(())
 }
 
@@ -124,21 +111,25 @@ fn rank_of(word: Option<WhyEntry>) -> u8
     }
 }
 
-/// Adds the word, and why the keys that it leads to don't sign an RRset in which they stand.
+/// Adds its word, and why the keys that it leads to don't sign an RRset in which they stand. Of those that are named by tag
+/// and algorithm that is said once: `names` are those of which it is said.
 fn add_word(
     alloc: Global,
     evidence: &Evidence<'_>,
     keys: &[KeyRecord<'_>],
+    names: &mut KeyNames,
     lines: &mut Vec<Line>,
     zone: &Name,
-    lead: Lead<'_>,
-    word: Option<WhyEntry>,
+    each: &Judged<'_>,
 ) -> Result<(), AllocError>
     requires keys { AreKeysOf evidence.now.rrsets keys.now }
-    ensures { OnOk result (AddsThose (AreWordLines (setting_in evidence.now) zone.now (wanted_of lead.entry) word)
+    requires names { AreSaidOfKeys (setting_in evidence.now) zone.now lines.old.items names.old }
+    ensures adds { OnOk result (AddsNew (AreWordLines (setting_in evidence.now) zone.now (wanted_in each.now) each.now.word)
         lines.old.items lines.new.items) }
+    ensures names { OnOk result (AreSaidOfKeys (setting_in evidence.now) zone.now lines.new.items names.new) }
 {
-    let Some(why) = word else {
+    let lead = each.lead;
+    let Some(why) = each.word else {
         let meant = Meant {
             lead,
             is_matched: true,
@@ -147,14 +138,32 @@ fn add_word(
         return Ok(());
     };
     add_entry_fault(lines, zone, lead, why)?;
-    if differs(why) {
-        let meant = Meant {
-            lead,
-            is_matched: false,
-        };
-        add_self_faults(alloc, evidence, keys, lines, zone, meant)?;
+    if !differs(why) {
+        return Ok(());
     }
+    let is_new = add_name(names, lead)?;
+    if !is_new {
+        return Ok(());
+    }
+    let meant = Meant {
+        lead,
+        is_matched: false,
+    };
+    add_self_faults(alloc, evidence, keys, lines, zone, meant)?;
     Ok(())
+}
+
+/// Adds the tag and the algorithm that it names a key by. Whether they weren't there, or it names none.
+fn add_name(names: &mut KeyNames, lead: Lead<'_>) -> Result<bool, AllocError>
+    ensures { IfOk result (λ is_new. AddsName (wanted_of lead.entry) names.old names.new is_new) }
+{
+    match lead {
+        Lead::Digest(_, _, ds) => {
+            let is_new = names.insert((ds.key_tag.0, ds.algorithm.0))?;
+            Ok(is_new)
+        }
+        Lead::Key(_, _) => Ok(true),
+    }
 }
 
 /// Whether keys have its tag and algorithm, and none its digest.

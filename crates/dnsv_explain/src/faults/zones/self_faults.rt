@@ -4,7 +4,7 @@ ghost use Rattle.dnsv_canonical.specs.Rrsets.{IsNumbered};
 ghost use Rattle.dnsv_chain.specs.Trusted.{IsKeyOf, SignsItsSet};
 ghost use Rattle.dnsv_verifier.specs.Asking.{AreKeysOf};
 ghost use Rattle.dnsv_explain.specs.Explained.{setting_in};
-ghost use Rattle.dnsv_explain.specs.faults.Listing.{AddsThose, AreOfNumbered};
+ghost use Rattle.dnsv_explain.specs.faults.Listing.{AddsThose};
 ghost use Rattle.dnsv_explain.specs.faults.ZoneLines.{AreSelfFaults, AreSetLines, IsSomeSelfSigned};
 ghost use Rattle.dnsv_explain.specs.faults.ZoneLines.ZoneSearch.{IsMeant, IsSelfSignedIn};
 
@@ -36,7 +36,9 @@ pub fn add_self_faults(
     if is_some_self_signed(alloc, evidence, zone, meant)? {
         return Ok(());
     }
-    add_sets(alloc, evidence, keys, lines, zone, meant)?;
+    for (place, set) in evidence.rrsets().iter().enumerate() {
+        add_set(alloc, evidence, keys, lines, zone, meant, place + 1, set)?;
+    }
     Ok(())
 }
 
@@ -104,26 +106,7 @@ fn signs_as_meant(
     Ok(found.is_some())
 }
 
-/// Adds why none of the keys that are meant signs an RRset, by RRset and RDATA.
-fn add_sets(
-    alloc: Global,
-    evidence: &Evidence<'_>,
-    keys: &[KeyRecord<'_>],
-    lines: &mut Vec<Line>,
-    zone: &Name,
-    meant: Meant<'_>,
-) -> Result<(), AllocError>
-    requires keys { AreKeysOf evidence.now.rrsets keys.now }
-    ensures { OnOk result (AddsThose (AreOfNumbered (AreSetLines (setting_in evidence.now) zone.now
-        (IsMeant meant.entry)) 1 evidence.now.rrsets) lines.old.items lines.new.items) }
-{
-    for (place, set) in evidence.rrsets().iter().enumerate() {
-        add_set(alloc, evidence, keys, lines, zone, meant, place + 1, set)?;
-    }
-    Ok(())
-}
-
-/// Adds why none of them signs the RRset, which has the number.
+/// Adds why none of the keys that are meant signs the RRset, which has the number, by RDATA.
 fn add_set(
     alloc: Global,
     evidence: &Evidence<'_>,

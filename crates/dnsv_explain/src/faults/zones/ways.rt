@@ -10,8 +10,8 @@ ghost use Rattle.dnsv_explain.specs.faults.Zones.{IsDsWay, MayBeParent};
 
 use crate::evidence::Evidence;
 use crate::faults::add_rrset;
+use crate::faults::at::{has_own_anchor, is_anchored};
 use crate::faults::keys::are_equal;
-use crate::faults::zones::anchored::{has_anchor, has_own_anchor};
 use crate::line::Line;
 use dnsv_canonical::Rrset;
 use dnsv_names::{Name, RecordType};
@@ -97,7 +97,7 @@ fn may_be_parent(evidence: &Evidence<'_>, zone: &Name, signer: &Name) -> bool
     if !zone.is_at_or_below(signer) {
         return false;
     }
-    !has_own_anchor(evidence, zone) || has_anchor(evidence, signer)
+    !has_own_anchor(evidence, zone) || is_anchored(evidence, signer)
 }
 
 /// Adds those of the lines that don't say of a signer which is no parent of the zone that it isn't trusted.

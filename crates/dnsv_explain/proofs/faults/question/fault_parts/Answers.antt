@@ -3,7 +3,7 @@ use Rattle.dnsv_explain.specs.Explained.{setting_in}
 use Rattle.dnsv_explain.specs.faults.NeededSearch.{AreLabelsOf}
 use Rattle.dnsv_explain.specs.faults.Zones.{IsNeeded}
 use Rattle.dnsv_explain.specs.declared.line.Line.{Line}
-use Rattle.dnsv_explain.proofs.lemmas.faults.question.PartLemmas.{all_parts, keys_here}
+use Rattle.dnsv_explain.proofs.lemmas.faults.question.PartLemmas.{keys_here, thinned_parts}
 use Rattle.dnsv_explain.proofs.faults.question.fault_parts.Goals as goal
 
 pub add_zones-requires : goal.add_zones-requires
@@ -33,7 +33,7 @@ returns c =
     λ closers. IsTrue c.asks_denials-denied.result ↔ ((¬ IsTrue signed) ⊎ (closers ≢ [])) in
     let Sources : List Line → Type 0 =
     λ dnames. IsTrue c.asks_sources-lacking.result ↔ ((¬ IsTrue signed) × (dnames ≡ [])) in
-    all_parts setting name t c.in_ok-signers.signers c.in_ok-signers.ensures c.in_ok-dnames.dnames.items c.in_ok-closers.closers.items
+    thinned_parts setting name t c.in_ok-signers.signers c.in_ok-signers.ensures c.in_ok-dnames.dnames.items c.in_ok-closers.closers.items
     c.asks_denials-denied.result c.asks_sources-lacking.result (subst Denials c.as_slice.ensures.value c.asks_denials-denied.ensures)
     (subst Sources c.as_slice-2.ensures.value c.asks_sources-lacking.ensures) c.new-lines.result.items c.add_zones.new.lines.items
     c.append.new.self.items c.add_goals.new.lines.items c.add_all_denials.new.lines.items c.append-2.new.self.items

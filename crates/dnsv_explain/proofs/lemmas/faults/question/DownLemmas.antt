@@ -7,8 +7,10 @@ use Rattle.dnsv_names.specs.Name.{Labels, rightmost}
 use Rattle.dnsv_names.specs.Tree.AncestorLaws.{rightmost_all, rightmost_none, rightmost_parent, rightmost_rightmost}
 use Rattle.dnsv_explain.specs.faults.Listing.{AddsThose, AreOfEach}
 use Rattle.dnsv_explain.specs.faults.Order.{names_down}
+use Rattle.dnsv_explain.specs.faults.Repeats.{AddsNew}
 use Rattle.dnsv_explain.specs.declared.line.Line.{Line}
 use Rattle.dnsv_explain.proofs.lemmas.faults.ListingLemmas.{none_added}
+use Rattle.dnsv_explain.proofs.lemmas.faults.question.RepeatLemmas.{both_new, new_as, none_new}
 
 -- ---- the names
 
@@ -83,3 +85,22 @@ module _ (Are : Labels → List Line → Type 0) (name : Labels) where
       let size = down_length name in
       let Each : List Labels → Type 0 = λ names. AddsThose (AreOfEach Are names) old new in
       subst Each (take_all count (names_down name) (omega (arith, size, past))) added
+
+  -- the same of lines of which some were left out
+  abbrev pub AddsNewDownTo : ℕ → List Line → List Line → Type 0
+  AddsNewDownTo count = AddsNew (AreOfEach Are (take count (names_down name)))
+
+  pub down_none_new : (old : List Line) → AddsNewDownTo 0 old old
+  down_none_new old = none_new (AreOfEach Are []) old refl
+
+  pub down_next_new : (count : ℕ) (old mid new : List Line) → count ≤ length name → AddsNewDownTo count old mid
+      → AddsNew (Are (rightmost name count)) mid new → AddsNewDownTo (count + 1) old new
+  down_next_new count old mid new fits =
+      both_new (AreOfEach Are (take count (names_down name))) (Are (rightmost name count))
+      (AreOfEach Are (take (count + 1) (names_down name))) old mid new (λ some all. down_next count old some all fits)
+
+  pub down_all_new : (count : ℕ) (old new : List Line) → length name + 1 ≤ count → AddsNewDownTo count old new
+      → AddsNew (AreOfEach Are (names_down name)) old new
+  down_all_new count old new past =
+      new_as (AreOfEach Are (take count (names_down name))) (AreOfEach Are (names_down name)) old new
+      (λ all. down_all count old all past)

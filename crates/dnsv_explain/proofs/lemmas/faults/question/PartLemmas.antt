@@ -8,11 +8,13 @@ use Rattle.dnsv_explain.specs.Explained.{Setting}
 use Rattle.dnsv_explain.specs.faults.Listing.{AddsThose, AreOfEach, AreOfNumbered, AreParted, AreWhere}
 use Rattle.dnsv_explain.specs.faults.NeededSearch.{AreSigners}
 use Rattle.dnsv_explain.specs.faults.Order.{AreDnameLines, AreEndLines, AreFaultParts, AreGoalClosers, AreGoalLines, AreLacking, AreLinesOfDenials, AreLinesOfZones, names_down}
+use Rattle.dnsv_explain.specs.faults.Repeats.{AddsNew, AreThinned}
 use Rattle.dnsv_explain.specs.faults.Zones.{HasSignedGoal}
 use Rattle.dnsv_explain.specs.declared.faults.question.signers.Signers.{Signers}
 use Rattle.dnsv_explain.specs.declared.line.Line.{Line}
 use Rattle.dnsv_explain.proofs.lemmas.AnswerLemmas.{not_so, so_not}
 use Rattle.dnsv_explain.proofs.lemmas.faults.ListingLemmas.{added_as, none_added}
+use Rattle.dnsv_explain.proofs.lemmas.faults.question.RepeatLemmas.{thinned_behind}
 use Rattle.dnsv_explain.proofs.lemmas.faults.question.SubjectLemmas.{no_elements}
 
 -- what was added to nothing is the whole
@@ -83,7 +85,7 @@ module _ (setting : Setting) (name : Labels) (t : ℕ) (signers : Signers) (are 
     )
 
     -- the parts behind one another
-    pub all_parts : (l0 l1 l2 l3 l4 l5 l6 l7 : List Line) → l0 ≡ [] → AddsThose (AreLinesOfZones setting name t) l0 l1
+    all_parts : (l0 l1 l2 l3 l4 l5 l6 l7 : List Line) → l0 ≡ [] → AddsThose (AreLinesOfZones setting name t) l0 l1
         → AreOfEach (AreDnameLines setting.rrsets name) (names_down name) dnames → l2 ≡ l1 ++ dnames
         → AddsThose (AreOfNumbered (AreGoalLines setting name t) 1 setting.rrsets) l2 l3
         → AddsThose (AreWhere (IsTrue denied) (AreLinesOfDenials setting name t)) l3 l4
@@ -114,6 +116,34 @@ module _ (setting : Setting) (name : Labels) (t : ℕ) (signers : Signers) (are 
           (goals.is ∙ ap (λ front. front ++ goals.more)
           (dnames_added ∙ ap (λ front. front ++ dnames) (zones.is ∙ ap (λ front. front ++ zones.more) none))))));
     }
+
+    -- where some of the first part were left out
+    pub thinned_parts : (l0 l1 l2 l3 l4 l5 l6 l7 : List Line) → l0 ≡ [] → AddsNew (AreLinesOfZones setting name t) l0 l1
+        → AreOfEach (AreDnameLines setting.rrsets name) (names_down name) dnames → l2 ≡ l1 ++ dnames
+        → AddsThose (AreOfNumbered (AreGoalLines setting name t) 1 setting.rrsets) l2 l3
+        → AddsThose (AreWhere (IsTrue denied) (AreLinesOfDenials setting name t)) l3 l4
+        → AreOfNumbered (AreGoalClosers setting name t) 1 setting.rrsets closers → l5 ≡ l4 ++ closers
+        → AddsThose (AreWhere (IsTrue lacking) (AreLacking setting name t)) l5 l6
+        → AddsThose (AreEndLines setting name t) l6 l7 → AreThinned (AreFaultParts setting name t) l7
+    thinned_parts l0 l1 l2 l3 l4 l5 l6 l7 none zones of_dnames dnames_added goals denials of_closers closers_added lacks ends =
+        let m1 = zones.all in
+        let m2 = m1 ++ dnames in
+        let m3 = m2 ++ goals.more in
+        let m4 = m3 ++ denials.more in
+        let m5 = m4 ++ closers in
+        let m6 = m5 ++ lacks.more in record {
+          all = m6 ++ ends.more;
+          are = all_parts l0 m1 m2 m3 m4 m5 m6 (m6 ++ ends.more) none zones.adds of_dnames refl
+              (record { more = goals.more; is = refl; says = goals.says })
+              (record { more = denials.more; is = refl; says = denials.says }) of_closers refl
+              (record { more = lacks.more; is = refl; says = lacks.says })
+              (record { more = ends.more; is = refl; says = ends.says });
+          thinned = thinned_behind l6 m6 ends.more l7 ends.is
+              (thinned_behind l5 m5 lacks.more l6 lacks.is
+              (thinned_behind l4 m4 closers l5 closers_added
+              (thinned_behind l3 m3 denials.more l4 denials.is
+              (thinned_behind l2 m2 goals.more l3 goals.is (thinned_behind l1 m1 dnames l2 dnames_added zones.thinned)))));
+        }
 
 -- the keys of the evidence, under other names
 pub keys_here : (rrsets all : List ReceivedRrset) (keys items : List DnskeyRecord) → all ≡ rrsets → items ≡ keys → AreKeysOf all keys

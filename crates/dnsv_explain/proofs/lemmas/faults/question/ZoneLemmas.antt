@@ -12,45 +12,51 @@ use Rattle.dnsv_explain.specs.faults.Keys.{IsTrustedZone}
 use Rattle.dnsv_explain.specs.faults.Listing.{AddsThose, AreOfEach}
 use Rattle.dnsv_explain.specs.faults.NeededSearch.{AreLabelsOf}
 use Rattle.dnsv_explain.specs.faults.Order.{AreDnameLines, AreLinesOfZones, AreNeededLines, IsLowestDname, dname_line, names_down}
+use Rattle.dnsv_explain.specs.faults.Repeats.{AddsNew}
 use Rattle.dnsv_explain.specs.faults.ZoneLines.{AreZoneLines, zone_line}
 use Rattle.dnsv_explain.specs.faults.Zones.{HasRrset, IsNeeded}
 use Rattle.dnsv_explain.specs.declared.line.Line.{Line}
 use Rattle.dnsv_explain.specs.declared.line.fault.zone.WhyZone.TheVariants as zone_why
 use Rattle.dnsv_explain.proofs.lemmas.faults.ListingLemmas.{added_as, none_added, those_added}
+use Rattle.dnsv_explain.proofs.lemmas.faults.question.RepeatLemmas.{all_new, new_as, none_new}
 
 -- ---- the zones
 
 module _ (setting : Setting) (name : Labels) (t : ℕ) where
   pub no_anchor_added : (old new : List Line) → ¬ HasAnchor setting.anchors name
-      → new ≡ old ++ zone_line zone_why.NoAnchor name ∷ [] → AddsThose (AreLinesOfZones setting name t) old new
+      → new ≡ old ++ zone_line zone_why.NoAnchor name ∷ [] → AddsNew (AreLinesOfZones setting name t) old new
   no_anchor_added old new none is =
-      those_added (AreLinesOfZones setting name t) old (zone_line zone_why.NoAnchor name ∷ []) new is (inl (none, refl))
+      all_new (AreLinesOfZones setting name t) old new
+      (those_added (AreLinesOfZones setting name t) old (zone_line zone_why.NoAnchor name ∷ []) new is (inl (none, refl)))
 
   pub zones_added : (old new : List Line) → HasAnchor setting.anchors name
-      → AddsThose (AreOfEach (AreNeededLines setting name t) (names_down name)) old new → AddsThose (AreLinesOfZones setting name t) old new
-  zones_added old new anchored added =
-      added_as (AreOfEach (AreNeededLines setting name t) (names_down name)) (AreLinesOfZones setting name t) old new
-      (λ lines are. inr (anchored, are)) added
+      → AddsNew (AreOfEach (AreNeededLines setting name t) (names_down name)) old new → AddsNew (AreLinesOfZones setting name t) old new
+  zones_added old new anchored =
+      let Each : List Line → Type 0 = AreOfEach (AreNeededLines setting name t) (names_down name) in
+      new_as Each (AreLinesOfZones setting name t) old new
+      (λ all. added_as Each (AreLinesOfZones setting name t) old all (λ lines are. inr (anchored, are)))
 
   module _ (labels : ℕ) where
     pub trusted_left : IsTrustedZone setting (rightmost name labels) → (old : List Line)
-        → AddsThose (AreNeededLines setting name t (rightmost name labels)) old old
+        → AddsNew (AreNeededLines setting name t (rightmost name labels)) old old
     trusted_left trusted old =
-        none_added (AreNeededLines setting name t (rightmost name labels)) old (inr (λ is. is.1 trusted, refl))
+        none_new (AreNeededLines setting name t (rightmost name labels)) old (inr (λ is. is.1 trusted, refl))
 
     module _ (within : labels ≤ length name) (needed : List ℕ) (are : AreLabelsOf name (IsNeeded setting name t) needed) where
       pub needed_left : ¬ Contains needed labels → (old : List Line)
-          → AddsThose (AreNeededLines setting name t (rightmost name labels)) old old
+          → AddsNew (AreNeededLines setting name t (rightmost name labels)) old old
       needed_left none old =
-          none_added (AreNeededLines setting name t (rightmost name labels)) old
+          none_new (AreNeededLines setting name t (rightmost name labels)) old
           (inr (λ is. none ((are labels).1 (record { within = within; such = is.0 })), refl))
 
       pub needed_said : Contains needed labels → ¬ IsTrustedZone setting (rightmost name labels) → (old new : List Line)
-          → AddsThose (AreZoneLines setting (rightmost name labels)) old new
-          → AddsThose (AreNeededLines setting name t (rightmost name labels)) old new
-      needed_said there untrusted old new added =
-          added_as (AreZoneLines setting (rightmost name labels)) (AreNeededLines setting name t (rightmost name labels)) old new
-          (λ lines said. inl ((((are labels).0 there).such, untrusted), said)) added
+          → AddsNew (AreZoneLines setting (rightmost name labels)) old new
+          → AddsNew (AreNeededLines setting name t (rightmost name labels)) old new
+      needed_said there untrusted old new =
+          let Zone : List Line → Type 0 = AreZoneLines setting (rightmost name labels) in
+          let Needed : List Line → Type 0 = AreNeededLines setting name t (rightmost name labels) in
+          new_as Zone Needed old new
+          (λ all. added_as Zone Needed old all (λ lines said. inl ((((are labels).0 there).such, untrusted), said)))
 
 -- ---- DNAMEs
 

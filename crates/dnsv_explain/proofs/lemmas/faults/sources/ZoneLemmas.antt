@@ -1,8 +1,10 @@
 -- The zones of a question's name and their chains.
-use Rattle.std.proofs.Common.{◌≡◌, ◌↔◌, ◌==◌, ◌+◌, ◌-◌, ◌<◌, ◌≤◌, ℕ, zero, suc, Some, List, [], ◌∷◌, inl, inr, length, map, get_or, drop, refl, sym, ap, ◌∙◌, subst, arith, IsTrue}
+use Rattle.std.proofs.Common.{◌≡◌, ◌↔◌, if◌then◌else◌, Bool, ◌==◌, ◌+◌, ◌-◌, ◌<◌, ◌≤◌, ℕ, zero, suc, Some, List, [], ◌∷◌, inl, inr, length, map, get_or, drop, refl, sym, ap, ◌∙◌, subst, arith, IsTrue}
 use Rattle.std.proofs.lemmas.Bool.Decides.{Decides-eqb}
 use Rattle.std.proofs.lemmas.List.{get_or-map, length-map}
-use Rattle.std.specs.List.{Contains, slice_get}
+use Rattle.std.proofs.lemmas.List.Concat.{flat_map-cons}
+use Rattle.std.proofs.lemmas.List.Elements.{Contains-append_left, Contains-append_right}
+use Rattle.std.specs.List.{Contains, flat_map, slice_get}
 use Rattle.std.specs.List.Sorted.{IsStrictlySortedBy}
 use Rattle.dnsv_names.specs.Name.{Labels, SameName, IsAtOrBelow, lower_case, rightmost}
 use Rattle.dnsv_names.specs.Tree.AncestorLaws.{rightmost_in_line, rightmost_length}
@@ -15,7 +17,6 @@ use Rattle.dnsv_canonical.specs.CanonicalRdata.{canonical_form}
 use Rattle.dnsv_canonical.specs.Evidence.{AreParameters, nsec3_rdata}
 use Rattle.dnsv_canonical.specs.Rrsets.{ReceivedRrset}
 use Rattle.dnsv_chain.specs.Trust.{KeptTrust, SecuredIn as KeptIn}
-use Rattle.dnsv_denial.proofs.lemmas.gathering.NameHashesLemmas.{among_all}
 use Rattle.dnsv_denial.specs.QuestionHashes.{AreUsed}
 use Rattle.dnsv_denial.specs.gathering.Evidence.{IsNsecAt, IsNsec3At}
 use Rattle.dnsv_denial.specs.gathering.Gathered.{AreNsecsOf, AreNsec3sOf}
@@ -52,6 +53,19 @@ member_at [] k x at = cc
 member_at (y ∷ ys) zero x at = let is : x ≡ y = cc in inl is
 member_at (y ∷ ys) (suc k) x at = inr (member_at ys k x at)
 
+-- what stands in the list that one gives stands in those of all
+among_lists : {X Y : Type 0} (f : X → List Y) (xs : List X) (k : ℕ) (x : X) (y : Y) → slice_get xs k ≡ Some x → Contains (f x) y
+    → Contains (flat_map f xs) y
+among_lists f [] k x y at found = cc
+among_lists {X = X} {Y = Y} f (first ∷ rest) zero x y at found =
+    let same : first ≡ x = cc in
+    let Of : X → Type 0 = λ each. Contains (f each) y in
+    let All : List Y → Type 0 = λ each. Contains each y in
+    subst All (sym (flat_map-cons f first rest)) (Contains-append_left (f first) (flat_map f rest) y (subst Of (sym same) found))
+among_lists {X = X} {Y = Y} f (first ∷ rest) (suc k) x y at found =
+    let All : List Y → Type 0 = λ each. Contains each y in
+    subst All (sym (flat_map-cons f first rest)) (Contains-append_right (f first) (flat_map f rest) y (among_lists f rest k x y at found))
+
 -- a zone's NSEC3 records have the parameters of some usable record
 pub parameters_of_zone : (setting : Setting) (zone : Labels) (all : List Nsec3Parameters) → AreAllParameters setting.rrsets all
     → AreParametersOf setting zone (map parameters_of all)
@@ -65,7 +79,12 @@ parameters_of_zone setting zone all are = record {
       Contains-from_member is.at.canonical is.rdata (member_at is.at.canonical (number.place - 1) is.rdata is.at.is_rdata.1) in
       let received : Contains is.rrset.rdata is.rdata =
       subst (λ xs. Contains xs is.rdata) forms ((is.at.is_canonical.members is.rdata).0 canonical) in
-      let among = among_all setting.rrsets (number.rrset - 1) is.rrset is.rdata is.at.is_rrset.1 is.rtype received in
+      let given : ReceivedRrset → List (List ℕ) = λ rrset. if rrset.rtype == 50 then rrset.rdata else [] in
+      let own : given is.rrset ≡ is.rrset.rdata =
+      ap (λ (b : Bool). if b then is.rrset.rdata else []) ((Decides-eqb is.rrset.rtype 50).1 is.rtype) in
+      let Has_it : List (List ℕ) → Type 0 = λ xs. Contains xs is.rdata in
+      let among : Contains (nsec3_rdata setting.rrsets) is.rdata =
+      among_lists given setting.rrsets (number.rrset - 1) is.rrset is.rdata is.at.is_rrset.1 (subst Has_it (sym own) received) in
       let found : Contains all is.fields.parameters =
       (are.members is.fields.parameters).0 (is.rdata, among, (is.fields, is.read, is.usable, refl)) in
       let named = mapped parameters_of all is.fields.parameters (IsMember-from_contains all is.fields.parameters found) in

@@ -19,7 +19,13 @@ use Rattle.dnsv_explain.specs.faults.ZoneLines.ZoneSearch.{IsSelfSignedIn}
 use Rattle.dnsv_explain.specs.declared.derivations.ways.keys.GoodSignature.{GoodSignature}
 use Rattle.dnsv_explain.specs.declared.line.Line.{Line}
 use Rattle.dnsv_explain.proofs.lemmas.NumberedLemmas.{among, numbered_at}
+use Rattle.dnsv_explain.proofs.lemmas.derivations.WayLemmas.SearchLemmas.{same_keys, stands_at}
 use Rattle.dnsv_explain.proofs.lemmas.faults.ListingLemmas.{added_as, each_added, next_added, none_added, nowhere_added, where_added}
+
+-- a key of an RRset's keys in order stands in it
+pub key_stands : (set : ReceivedRrset) (keys items : List DnskeyRecord) → items ≡ keys → AreKeysInOrder set keys → (i : ℕ) (key : DnskeyRecord)
+    → i < length items → key ≡ get_or items i key → IsKeyOf set key
+key_stands set keys items same in_order = stands_at set items (same_keys set keys items same in_order) (IsKeyOf set)
 
 -- ---- none of a list is such
 

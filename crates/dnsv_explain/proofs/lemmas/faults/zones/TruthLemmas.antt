@@ -30,7 +30,7 @@ use Rattle.dnsv_explain.specs.declared.line.fault.signature.WhySignature.{WhySig
 use Rattle.dnsv_explain.specs.declared.line.fault.zone.WhyEntry.{WhyEntry}
 use Rattle.dnsv_explain.specs.declared.line.fault.zone.WhyEntry.TheVariants as why
 use Rattle.dnsv_explain.specs.declared.line.fault.zone.WhyZone.TheVariants as zone_why
-use Rattle.dnsv_explain.proofs.lemmas.faults.TruthLemmas.{first_or_rest, member_of, none_in, only_reason, rrset_so, those_such}
+use Rattle.dnsv_explain.proofs.lemmas.faults.TruthLemmas.{first_or_rest, member_of, none_in, only_reason, rrset_so, shown_so, those_such}
 use Rattle.dnsv_explain.proofs.lemmas.faults.truth.SoLemmas.{AreAllSo, each_so, none_so, numbered_so, one_so, parted_so, those_among, where_so}
 
 -- ---- lists
@@ -100,16 +100,8 @@ module _ (setting : Setting) (name : Labels) (t : ℕ) where
         let In : List Line → Type 0 = λ each. Contains each (line.Reason told) in
         let from = contains_from_map (fault_line (shown_of k s set rrsig)) whys.0 (line.Reason told) (subst In whys.2 there) in
         only_reason setting name t told (reason.Signature (record { why = from.0; signature = shown_of k s set rrsig })) (sym from.2)
-        (record {
-          rrset = set;
-          numbered = numbered;
-          rdata = rdata;
-          is_signature = is_signature;
-          rrsig = rrsig;
-          read = read;
-          shown = refl;
-          is = inr (key, stands, word_is rrsig whys.0 whys.1 from.0 from.1);
-        })
+        (shown_so setting name t k s set rdata rrsig numbered is_signature read from.0
+        (inr (key, stands, word_is rrsig whys.0 whys.1 from.0 from.1)))
 
     key_so : (zone : Labels) → SameName set.owner zone → (lines : List Line) → AreKeyLines setting zone k set key lines → AreSo lines
     key_so zone owner lines (unsigned none) =

@@ -1,24 +1,37 @@
 -- All that is said of an untrusted zone.
-use Rattle.std.proofs.Common.{◌≡◌, inl, inr, List, [], ◌∷◌, ◌++◌, refl}
+use Rattle.std.proofs.Common.{◌≡◌, inl, inr, List, [], ◌∷◌, ◌++◌, refl, subst, sym}
 use Rattle.std.specs.Prelude.{map}
 use Rattle.dnsv_names.specs.Name.{Labels}
+use Rattle.dnsv_canonical.specs.Rrsets.{ReceivedRrset}
+use Rattle.dnsv_verifier.specs.Admissible.{DnskeyRecord}
 use Rattle.dnsv_verdict.specs.Verdict.{HasAnchor}
 use Rattle.dnsv_explain.specs.Explained.{Setting}
 use Rattle.dnsv_explain.specs.faults.Listing.{AddsThose, AreOfNumbered, AreParted, AreWhere}
+use Rattle.dnsv_explain.specs.faults.Repeats.{AddsNew}
 use Rattle.dnsv_explain.specs.faults.ZoneLines.{AreEntryLines, AreLinesOfKeys, AreSaid, AreWayLines, AreZoneLines, HasNoWay, zone_line}
 use Rattle.dnsv_explain.specs.faults.ZoneLines.AreZoneLines.{anchored, no_anchor}
-use Rattle.dnsv_explain.specs.faults.ZoneLines.ZoneSearch.{wanted_in}
+use Rattle.dnsv_explain.specs.faults.ZoneLines.ZoneSearch.{AreKeysAt, wanted_in}
 use Rattle.dnsv_explain.specs.faults.Zones.{HasOwnAnchor, HasRrset}
 use Rattle.dnsv_explain.specs.declared.faults.zones.entries.Judged.{Judged}
 use Rattle.dnsv_explain.specs.declared.line.Line.{Line}
 use Rattle.dnsv_explain.specs.declared.line.fault.zone.WhyZone.TheVariants as zone_why
 use Rattle.dnsv_explain.proofs.lemmas.faults.ListingLemmas.{added_as, nowhere_added, parted_added, those_added, where_added}
+use Rattle.dnsv_explain.proofs.lemmas.faults.question.RepeatLemmas.{all_new, both_new, new_as}
+
+-- the keys of the zone, under other names
+pub keys_in : (rrsets all : List ReceivedRrset) (zone : Labels) (keys items : List DnskeyRecord) → all ≡ rrsets → items ≡ keys
+    → AreKeysAt all zone keys → AreKeysAt rrsets zone items
+keys_in rrsets all zone keys items same listed are =
+    let In : List ReceivedRrset → Type 0 = λ each. AreKeysAt each zone items in
+    let Keys : List DnskeyRecord → Type 0 = λ each. AreKeysAt all zone each in
+    subst In same (subst Keys (sym listed) are)
 
 module _ (setting : Setting) (zone : Labels) where
   pub unanchored : (old new : List Line) → ¬ HasAnchor setting.anchors zone → new ≡ old ++ zone_line zone_why.NoAnchor zone ∷ []
-      → AddsThose (AreZoneLines setting zone) old new
+      → AddsNew (AreZoneLines setting zone) old new
   unanchored old new none is =
-      those_added (AreZoneLines setting zone) old (zone_line zone_why.NoAnchor zone ∷ []) new is (no_anchor none)
+      all_new (AreZoneLines setting zone) old new
+      (those_added (AreZoneLines setting zone) old (zone_line zone_why.NoAnchor zone ∷ []) new is (no_anchor none))
 
   -- ---- whether there is a way
 
@@ -42,23 +55,28 @@ module _ (setting : Setting) (zone : Labels) where
   -- ---- the keys
 
   pub no_keys : (old new : List Line) → ¬ HasRrset setting.rrsets zone 48 → new ≡ old ++ zone_line zone_why.DnskeyMissing zone ∷ []
-      → AddsThose (AreLinesOfKeys setting zone) old new
+      → AddsNew (AreLinesOfKeys setting zone) old new
   no_keys old new none is =
-      those_added (AreLinesOfKeys setting zone) old (zone_line zone_why.DnskeyMissing zone ∷ []) new is (inl (none, refl))
+      all_new (AreLinesOfKeys setting zone) old new
+      (those_added (AreLinesOfKeys setting zone) old (zone_line zone_why.DnskeyMissing zone ∷ []) new is (inl (none, refl)))
 
   pub keys_said : (said : List Judged) (old new : List Line) → HasRrset setting.rrsets zone 48 → AreSaid setting zone (map wanted_in said)
-      → AddsThose (AreEntryLines setting zone (map wanted_in said)) old new → AddsThose (AreLinesOfKeys setting zone) old new
+      → AddsNew (AreEntryLines setting zone (map wanted_in said)) old new → AddsNew (AreLinesOfKeys setting zone) old new
   keys_said said old new has are =
-      added_as (AreEntryLines setting zone (map wanted_in said)) (AreLinesOfKeys setting zone) old new
-      (λ lines of. inr (has, (map wanted_in said, are, of)))
+      let Entries : List Line → Type 0 = AreEntryLines setting zone (map wanted_in said) in
+      new_as Entries (AreLinesOfKeys setting zone) old new
+      (λ all. added_as Entries (AreLinesOfKeys setting zone) old all (λ lines of. inr (has, (map wanted_in said, are, of))))
 
   -- ---- all of it
 
   pub zone_said : (a b c d : List Line) → HasAnchor setting.anchors zone
       → AddsThose (AreOfNumbered (AreWayLines setting zone) 1 setting.rrsets) a b → AddsThose OfNoWay b c
-      → AddsThose (AreLinesOfKeys setting zone) c d → AddsThose (AreZoneLines setting zone) a d
+      → AddsNew (AreLinesOfKeys setting zone) c d → AddsNew (AreZoneLines setting zone) a d
   zone_said a b c d has ways none keys =
       let Ways : List Line → Type 0 = AreOfNumbered (AreWayLines setting zone) 1 setting.rrsets in
-      let Rest : List Line → Type 0 = AreParted OfNoWay (AreLinesOfKeys setting zone) in
-      added_as (AreParted Ways Rest) (AreZoneLines setting zone) a d (λ lines are. anchored lines has are)
-      (parted_added Ways Rest a b d ways (parted_added OfNoWay (AreLinesOfKeys setting zone) b c d none keys))
+      let Keys : List Line → Type 0 = AreLinesOfKeys setting zone in
+      let Rest : List Line → Type 0 = AreParted OfNoWay Keys in
+      new_as (AreParted Ways Rest) (AreZoneLines setting zone) a d
+      (λ all. added_as (AreParted Ways Rest) (AreZoneLines setting zone) a all (λ lines are. anchored lines has are))
+      (both_new Ways Rest (AreParted Ways Rest) a b d (λ some all. parted_added Ways Rest a some all) (all_new Ways a b ways)
+      (both_new OfNoWay Keys Rest b c d (λ some all. parted_added OfNoWay Keys b some all) (all_new OfNoWay b c none) keys))

@@ -1,8 +1,8 @@
-use Rattle.std.proofs.Common.{◌++◌, ◌∷◌, [], List, inl, inr, ap, sym, subst, ◌∙◌}
+use Rattle.std.proofs.Common.{◌++◌, ◌∷◌, [], List, inl, inr, ap, sym, subst, ⊎_elim, ◌∙◌}
 use Rattle.dnsv_names.specs.Tree.{wildcard_of}
 use Rattle.dnsv_names.specs.Name.{Labels, rightmost}
 use Rattle.dnsv_explain.specs.faults.Listing.{AddsThose, AreOfEach}
-use Rattle.dnsv_explain.specs.faults.Sources.SourceSearch.{AreHeldBy, AreRecordsAt, told_source}
+use Rattle.dnsv_explain.specs.faults.Sources.SourceSearch.{AreHeldBy, AreRecordsAt, IsCoveredBy, IsEmptyBy, told_source}
 use Rattle.dnsv_explain.specs.declared.faults.sources.records.RecordAt.{RecordAt}
 use Rattle.dnsv_explain.proofs.lemmas.faults.SignatureLemmas.{empty, some_left}
 use Rattle.dnsv_explain.specs.faults.Sources.{source_line}
@@ -26,8 +26,8 @@ returns-then-not-is_empty c = λ setting are.
     (some_left found c.is_empty.result c.is_empty.ensures c.if-not-is_empty.true)
     (subst Adds c.asked_wildcard-wildcard.ensures.named c.in_ok-add_held.ensures)
 
-pub returns-then-is_covered : goal.returns-then-is_covered
-returns-then-is_covered c = λ setting are.
+pub returns-then-is_ruled_out : goal.returns-then-is_ruled_out
+returns-then-is_ruled_out c = λ setting are.
     let chain = c.args.chain.now in
     let wildcard = wildcard_of (rightmost c.args.at.now.name.now c.args.labels) in
     let asked = c.asked_wildcard-wildcard.result in
@@ -36,19 +36,10 @@ returns-then-is_covered c = λ setting are.
     wildcard_covered setting chain are wildcard asked c.asked_wildcard-wildcard.ensures found
     (subst At (sym c.as_slice-found.ensures.value) c.in_ok-records.ensures) c.args.rtype.0 c.args.lines.now.items
     (empty found c.is_empty.result c.is_empty.ensures c.if-not-is_empty.false)
-    (inl ((covered_at setting chain are wildcard asked c.asked_wildcard-wildcard.ensures).0 (c.is_covered.ensures.0 c.if-is_covered.true)))
-
-pub returns-then-is_empty : goal.returns-then-is_empty
-returns-then-is_empty c = λ setting are.
-    let chain = c.args.chain.now in
-    let wildcard = wildcard_of (rightmost c.args.at.now.name.now c.args.labels) in
-    let asked = c.asked_wildcard-wildcard.result in
-    let found = c.as_slice-found.result.now in
-    let At : List RecordAt → Type 0 = λ each. AreRecordsAt chain.entries asked each in
-    wildcard_covered setting chain are wildcard asked c.asked_wildcard-wildcard.ensures found
-    (subst At (sym c.as_slice-found.ensures.value) c.in_ok-records.ensures) c.args.rtype.0 c.args.lines.now.items
-    (empty found c.is_empty.result c.is_empty.ensures c.if-not-is_empty.false)
-    (inr ((empty_at setting chain are wildcard asked c.asked_wildcard-wildcard.ensures).0 (c.is_empty-2.ensures.0 c.if-is_empty.true)))
+    (⊎_elim
+    (λ (covers : IsCoveredBy chain.entries asked). inl ((covered_at setting chain are wildcard asked c.asked_wildcard-wildcard.ensures).0 covers))
+    (λ (empties : IsEmptyBy chain.entries asked). inr ((empty_at setting chain are wildcard asked c.asked_wildcard-wildcard.ensures).0 empties))
+    (c.is_ruled_out.ensures.0 c.if-is_ruled_out.true))
 
 pub returns : goal.returns
 returns c = λ setting are.
@@ -60,12 +51,12 @@ returns c = λ setting are.
     wildcard_missing setting chain are wildcard asked c.asked_wildcard-wildcard.ensures found
     (subst At (sym c.as_slice-found.ensures.value) c.in_ok-records.ensures) c.args.rtype.0 c.args.lines.now.items _
     (empty found c.is_empty.result c.is_empty.ensures c.if-not-is_empty.false)
-    (λ covers. (let holds = c.is_covered.ensures.1
-    ((covered_at setting chain are wildcard asked c.asked_wildcard-wildcard.ensures).1 covers) in
-    let fails = c.if-is_covered.false in cc))
-    (λ empties. (let holds = c.is_empty-2.ensures.1
-    ((empty_at setting chain are wildcard asked c.asked_wildcard-wildcard.ensures).1 empties) in
-    let fails = c.if-is_empty.false in cc))
+    (λ covers. (let holds = c.is_ruled_out.ensures.1
+    (inl ((covered_at setting chain are wildcard asked c.asked_wildcard-wildcard.ensures).1 covers)) in
+    let fails = c.if-is_ruled_out.false in cc))
+    (λ empties. (let holds = c.is_ruled_out.ensures.1
+    (inr ((empty_at setting chain are wildcard asked c.asked_wildcard-wildcard.ensures).1 empties)) in
+    let fails = c.if-is_ruled_out.false in cc))
     (c.in_ok-add_fault.ensures
     ∙ ap (λ (n : Labels). c.args.lines.now.items ++ source_line (told_source chain) n (CoverMissing Wildcard) ∷ [])
     c.asked_wildcard-wildcard.ensures.named)

@@ -2,7 +2,7 @@ use Rattle.std.proofs.Common.{sym, ◌∙◌}
 use Rattle.std.proofs.lemmas.Bool.{false≢true}
 use Rattle.dnsv_explain.specs.Explained.{setting_in}
 use Rattle.dnsv_explain.proofs.lemmas.faults.SignatureLemmas.{empty, some_left, zip_something}
-use Rattle.dnsv_explain.proofs.lemmas.faults.zones.OwnKeyLemmas.{key_named, key_unsigned, key_without}
+use Rattle.dnsv_explain.proofs.lemmas.faults.zones.OwnKeyLemmas.{key_named, key_unsigned, key_without, named_all, named_more}
 use Rattle.dnsv_explain.proofs.faults.zones.own_keys.add_key.Goals as goal
 
 pub returns-then-is_empty : goal.returns-then-is_empty
@@ -19,7 +19,15 @@ returns-then-not-has_signature_of c =
     (some_left c.signatures.result.now c.is_empty.result c.is_empty.ensures c.if-is_empty.false))
     (λ has. false≢true (sym c.if-not-has_signature_of.true ∙ c.has_signature_of.ensures.1 has)) c.in_ok-add_not_self_signed.ensures
 
+pub loop-place-preserved : goal.loop-place-preserved
+loop-place-preserved c =
+    named_more c.args.set.now c.signatures-rrsig-items.result.now c.signatures-rrsig-items.ensures (setting_in c.args.evidence.now)
+    c.args.number c.args.key.now c.loop-place.place c.rrsig-item.result c.loop-place-test.true c.rrsig-item.is _ _ _
+    c.loop-place.invariant c.in_ok-add_named.ensures
+
 pub returns : goal.returns
 returns c =
     key_named c.args.set.now c.signatures-2.result.now c.signatures-2.ensures (setting_in c.args.evidence.now) c.args.number
-    c.args.key.now c.args.zone.now _ _ (c.has_signature_of.ensures.0 c.if-not-has_signature_of.false) c.in_ok-add_signatures.ensures
+    c.args.key.now c.args.zone.now _ _ (c.has_signature_of.ensures.0 c.if-not-has_signature_of.false)
+    (named_all c.args.set.now c.signatures-rrsig-items.result.now c.signatures-rrsig-items.ensures (setting_in c.args.evidence.now)
+    c.args.number c.args.key.now c.loop-place.place c.loop-place-test.false _ _ c.loop-place.invariant)

@@ -2,9 +2,9 @@ use Rattle.std.proofs.Common.{sym, ◌∙◌}
 use Rattle.std.proofs.lemmas.Bool.{false≢true}
 use Rattle.dnsv_explain.specs.Explained.{setting_in}
 use Rattle.dnsv_explain.specs.faults.ZoneLines.ZoneSearch.{IsMeant}
-use Rattle.dnsv_explain.proofs.lemmas.derivations.WayLemmas.SearchLemmas.{same_keys, stands_at}
+use Rattle.dnsv_explain.proofs.lemmas.derivations.WayLemmas.SearchLemmas.{same_keys}
 use Rattle.dnsv_explain.proofs.lemmas.faults.ListingLemmas.{all_added}
-use Rattle.dnsv_explain.proofs.lemmas.faults.zones.SelfLemmas.{OfKey, SignsAsMeant, key_added, key_passed, keys_added, other_set}
+use Rattle.dnsv_explain.proofs.lemmas.faults.zones.SelfLemmas.{OfKey, key_added, key_passed, key_stands, keys_added, other_set}
 use Rattle.std.proofs.Common.{ℕ}
 use Rattle.dnsv_explain.proofs.faults.zones.self_faults.add_set.Goals as goal
 
@@ -15,12 +15,8 @@ returns-then-not-is_keys_at c =
 
 pub add_key-requires-clause-stands : goal.add_key-requires-clause-stands
 add_key-requires-clause-stands c =
-    let setting = setting_in c.args.evidence.now in
-    let set = c.args.set.now in
-    let items = c.deref-key-items.result.now in
-    stands_at set items (same_keys set c.in_ok-its_keys.its_keys.items items c.deref-key-items.ensures.value c.in_ok-its_keys.ensures)
-    (SignsAsMeant setting c.args.zone.now (IsMeant c.args.meant) set) c.loop-key.key-index c.key-item.result c.loop-key-test.true
-    c.key-item.is
+    key_stands c.args.set.now c.in_ok-its_keys.its_keys.items c.deref-key-items.result.now c.deref-key-items.ensures.value
+    c.in_ok-its_keys.ensures c.loop-key.key-index c.key-item.result c.loop-key-test.true c.key-item.is
 
 pub loop-key-preserved-then-not-is : goal.loop-key-preserved-then-not-is
 loop-key-preserved-then-not-is c =

@@ -1,5 +1,0 @@
-use Rattle.dnssec_check.proofs.LawLemmas.OneFault.{text_stands}
-use Rattle.dnssec_check.proofs.laws.no_fault_of_a_text.Goals as goal
-
-pub returns : goal.returns
-returns c = text_stands c.layers.ensures

@@ -1,8 +1,0 @@
-use Rattle.std.proofs.lemmas.Result.{err_from_is_err_and}
-use Rattle.dnssec_check.proofs.ProgramLemmas.{which_unopened}
-use Rattle.dnssec_check.proofs.program.answer.Goals as goal
-
-pub returns-in_err-inputs-clause-unopened : goal.returns-in_err-inputs-clause-unopened
-returns-in_err-inputs-clause-unopened g c = λ opens tells file.
-    let p = err_from_is_err_and c.from_residual.result c.from_residual.ensures.1 in
-    rw (p.1, p.2) (which_unopened _ c.in_err-inputs.field-0.0 file (c.in_err-inputs.ensures.unopened opens tells) c.in_err-inputs.ensures.only)

@@ -1,8 +1,0 @@
-use Rattle.dnssec_check.proofs.TextLemmas.Members.{more_members}
-use Rattle.dnssec_check.proofs.texts.json.lines.fault.denial.push_dname.Goals as goal
-
-pub returns : goal.returns
-returns c =
-    more_members c.in_ok-push_word.ensures
-    (more_members c.in_ok-push_named.ensures
-    (more_members c.in_ok-push_place.ensures c.in_ok-push_given_place.ensures))

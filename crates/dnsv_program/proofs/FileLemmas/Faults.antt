@@ -1,0 +1,283 @@
+-- Answers over files, from call to call.
+use Rattle.std.proofs.Common.{◌≡◌, ◌⊎◌, ℕ, List, Option, Some, None, ap, subst, sym, ◌∙◌, inl, inr, arith}
+use Rattle.std.specs.Prelude.{Result, Ok, Err, IfErr, IfSome, ⊤}
+use Rattle.dnsv_message.specs.Streams.Frames.{IsCapture}
+use Rattle.dnsv_message.specs.Message.{Contents}
+use Rattle.dnsv_canonical.specs.Evidence.{Evidence, evidence_of}
+use Rattle.dnsv_message.specs.Streams.Counted.{inner_of, failures_of}
+use Rattle.dnsv_program.specs.Files.Capture.{AreFramesRefused, Demand, Holds, IsFaultOfCapture, IsRefusal, NewEvidence}
+use Rattle.dnsv_program.specs.declared.opening.Opening.{Opening}
+use Rattle.dnsv_program.specs.Opening.Given.{IsOpeningOf, IsFaultOfOpening}
+use Rattle.dnsv_program.specs.declared.work.Inputs.{Inputs}
+use Rattle.dnsv_program.specs.declared.status.InputFile.TheVariants.{Anchors, Capture, Keys, Macs, Statements}
+use Rattle.dnsv_program.specs.Files.{Files, AreTold, IsToldBy, given_failures, octets_or_none}
+use Rattle.dnsv_chain.specs.declared.anchor.Anchor.{Anchor}
+use Rattle.dnsv_program.specs.Files.Anchors.{HasAnchors, IsFaultOfAnchors}
+use Rattle.dnsv_program.specs.Run.{HasEvidence, IsFirstFaultOfFiles}
+use Rattle.dnsv_program.specs.Files.Statements.{IsFaultOfStatements}
+use Rattle.dnsv_program.specs.declared.status.Fault.{Fault}
+use Rattle.dnsv_program.specs.declared.status.Fault.TheVariants as fault
+use Rattle.dnsv_program.specs.declared.status.InputFile.{InputFile}
+use Rattle.dnsv_program.specs.declared.status.Place.{Place}
+use Rattle.dnsv_program.specs.declared.status.Refusal.{Refusal}
+use Rattle.dnsv_program.specs.Files.Faults.{IsAbout, OfOctets, TellsFailedReads, TellsFaults, TellsFileFaults}
+use Rattle.dnsv_program.specs.Told.{IsFaultOf}
+
+no_fault : {T : Type 0} {x : T} {told : Fault} → Path (Result T Fault) (Ok x) (Err told) → ⊥
+no_fault is = cc
+
+pub same_fault : {T : Type 0} {told other : Fault} → Path (Result T Fault) (Err told) (Err other) → told ≡ other
+same_fault is = cc
+
+abbrev pub IsOther : InputFile → Fault → Type 0
+IsOther file told = told ≡ fault.ReadFailed file → ⊥
+
+-- ---- failed reads
+
+module _ {T U : Type 0} {file : InputFile} {before after : ℕ} where
+  -- a fault is told alike whatever else the answer may be
+  pub reads_passed : (told : Fault) → TellsFailedReads {T = T} file before after (Err told) → TellsFailedReads {T = U} file before after (Err told)
+  reads_passed told tells = record {
+    read = λ is. tells.read (ap (λ (e : Fault). Err e) (same_fault is));
+    failed = λ more. ap (λ (e : Fault). Err e) (same_fault (tells.failed more));
+  }
+
+  -- no read of the file failed, and none is told
+  pub reads_then : (x : T) (result : Result U Fault) → TellsFailedReads file before after (Ok x) → IfErr result (IsOther file)
+      → TellsFailedReads file before after result
+  reads_then x (Ok y) tells other = record { read = λ is. absurd (no_fault is); failed = λ more. absurd (no_fault (tells.failed more)) }
+  reads_then x (Err told) tells other = record { read = λ is. absurd (other (same_fault is)); failed = λ more. absurd (no_fault (tells.failed more)) }
+
+-- a file that wasn't read
+pub reads_untouched : {U : Type 0} {file : InputFile} (before after : ℕ) (result : Result U Fault) → after ≡ before → IfErr result (IsOther file) → TellsFailedReads file before after result
+reads_untouched before after (Ok y) same other = record { read = λ is. absurd (no_fault is); failed = λ more. absurd (omega (arith, more, same)) }
+reads_untouched before after (Err told) same other = record { read = λ is. absurd (other (same_fault is)); failed = λ more. absurd (omega (arith, more, same)) }
+
+-- a fault about one file tells no failed read of another
+pub about_another : {file : InputFile} (other : InputFile) (told : Fault) → IsAbout file told → (other ≡ file → ⊥) → IsOther other told
+about_another {file} other told about differs = λ is. differs (subst (IsAbout file) is about)
+
+-- ---- one file
+
+some_unit : (o : Option (List ℕ)) → IfSome o (λ _. ⊤)
+some_unit None = tt
+some_unit (Some x) = tt
+
+module _ {file : InputFile} {IsFault : List ℕ → Fault → Type 0} {octets : Option (List ℕ)} {before after : ℕ} {T U : Type 0} where
+  pub TellsFileFaults-passed : (told : Fault) → TellsFileFaults {T = T} file IsFault octets before after (Err told)
+      → TellsFileFaults {T = U} file IsFault octets before after (Err told)
+  TellsFileFaults-passed told tells = record { told = tells.told; reads = reads_passed told tells.reads; about = tells.about }
+
+  -- the file was read, and what it is refused for comes later, or want of memory
+  later : (P : Refusal → Place → Type 0) (x : T) (told : Fault) → TellsFileFaults file IsFault octets before after (Ok x)
+      → ((why : Refusal) (place : Place) → P why place → IfSome octets (λ octets. IsFault octets (fault.Refused why place))) → IsFaultOf P told
+      → TellsFileFaults {T = U} file IsFault octets before after (Err told)
+  later P x (fault.Refused why place) tells means holds =
+      record { told = means why place holds; reads = reads_then x (Err (fault.Refused why place)) tells.reads (λ is. cc); about = tt }
+  later P x fault.OutOfMemory tells means holds =
+      record { told = some_unit octets; reads = reads_then x (Err fault.OutOfMemory) tells.reads (λ is. cc); about = tt }
+  later P x (fault.ReadFailed other) tells means holds = absurd holds
+  later P x (fault.TooLong other) tells means holds = absurd holds
+  later P x (fault.OpenFailed other) tells means holds = absurd holds
+  later P x fault.WriteFailed tells means holds = absurd holds
+
+  -- the file was read, and the answer is that of the next call
+  pub TellsFileFaults-then : (P : Refusal → Place → Type 0) (x : T) (result : Result U Fault) → TellsFileFaults file IsFault octets before after (Ok x)
+      → ((why : Refusal) (place : Place) → P why place → IfSome octets (λ octets. IsFault octets (fault.Refused why place))) → IfErr result (IsFaultOf P)
+      → TellsFileFaults file IsFault octets before after result
+  TellsFileFaults-then P x (Ok y) tells means holds = record { told = tt; reads = reads_then x (Ok y) tells.reads tt; about = tt }
+  TellsFileFaults-then P x (Err told) tells means holds = later P x told tells means holds
+
+-- ---- the file of captured messages
+
+-- what the frames of a file are refused for, the file is refused for
+pub frames_refused : (demand : Demand) (opening : Opening) (octets : Option (List ℕ)) (frames : List (List ℕ)) → IfSome octets (λ file. IsCapture file frames)
+    → (why : Refusal) (place : Place) → AreFramesRefused demand opening frames why place → IfSome octets (λ file. IsRefusal demand opening file why place)
+frames_refused demand opening None frames is why place refused = tt
+frames_refused demand opening (Some file) frames is why place refused = inr (inr (frames, is, refused))
+
+-- ---- the captured messages, and then the statements
+
+OfOctets-weaker : (P Q : Fault → Type 0) (told : Fault) → ((fault : Fault) → P fault → Q fault) → OfOctets P told → OfOctets Q told
+OfOctets-weaker P Q (fault.Refused why place) weaker holds = weaker (fault.Refused why place) holds
+OfOctets-weaker P Q (fault.TooLong file) weaker holds = weaker (fault.TooLong file) holds
+OfOctets-weaker P Q fault.OutOfMemory weaker holds = tt
+OfOctets-weaker P Q (fault.ReadFailed file) weaker holds = tt
+OfOctets-weaker P Q (fault.OpenFailed file) weaker holds = tt
+OfOctets-weaker P Q fault.WriteFailed weaker holds = tt
+
+pub about_opened : (file : InputFile) (told : Fault) → IsAbout file told → (other : InputFile) → told ≡ fault.OpenFailed other → ⊥
+about_opened file told about other is = subst (IsAbout file) is about
+
+-- what holds of the octets that a reader tells
+pub of_told : (P : List ℕ → Type 0) {octets : Option (List ℕ)} {file : List ℕ} → octets ≡ Some file → IfSome octets P → P file
+of_told P is holds = subst (λ octets. IfSome octets P) is holds
+
+-- want of memory is no fault of a file
+not_read : {U : Type 0} (result : Result U Fault) (file : InputFile) → IfErr result (λ told. told ≡ fault.OutOfMemory) → IfErr result (IsOther file)
+not_read (Ok x) file only = tt
+not_read (Err told) file only = λ is. let bad : fault.OutOfMemory ≡ fault.ReadFailed file = sym only ∙ is in cc
+
+no_octets : {U : Type 0} (P : Fault → Type 0) (result : Result U Fault) → IfErr result (λ told. told ≡ fault.OutOfMemory) → IfErr result (OfOctets P)
+no_octets P (Ok x) only = tt
+no_octets P (Err told) only = subst (OfOctets P) (sym only) tt
+
+not_opened : {U : Type 0} (result : Result U Fault) → IfErr result (λ told. told ≡ fault.OutOfMemory) → IfErr result (λ told. (file : InputFile) → told ≡ fault.OpenFailed file → ⊥)
+not_opened (Ok x) only = tt
+not_opened (Err told) only = λ file is. let bad : fault.OutOfMemory ≡ fault.OpenFailed file = sym only ∙ is in cc
+
+-- the keys or the MACs are at fault, and no other file
+pub about_either : {file : InputFile} (told : Fault) → IsAbout Keys told ⊎ IsAbout Macs told → (file ≡ Keys → ⊥) → (file ≡ Macs → ⊥) → IsOther file told
+about_either {file} told (inl about) no_keys no_macs = about_another file told about no_keys
+about_either {file} told (inr about) no_keys no_macs = about_another file told about no_macs
+
+either_opened : (told : Fault) → IsAbout Keys told ⊎ IsAbout Macs told → (other : InputFile) → told ≡ fault.OpenFailed other → ⊥
+either_opened told (inl about) = about_opened Keys told about
+either_opened told (inr about) = about_opened Macs told about
+
+-- what is told where the file of captured messages, opened so, was read
+abbrev pub CapturedBy : {R T : Type 0} → Opening → (R → Option (List ℕ)) → Inputs R → Inputs R → Result T Fault → Type 0
+CapturedBy opening remaining before after result =
+    TellsFileFaults Capture (IsFaultOfCapture NewEvidence opening) (remaining (inner_of before.capture)) (failures_of before.capture) (failures_of after.capture) result
+
+-- no failed read of the keys or the MACs is told, where the fault is another's
+abbrev pub NoneOfSeals : {R : Type 0} → (U : Type 0) → Inputs R → Inputs R → Fault → Type 0
+NoneOfSeals U before after told =
+    (IsOther Keys told → TellsFailedReads {T = U} Keys (given_failures before.keys) (given_failures after.keys) (Err told))
+    × (IsOther Macs told → TellsFailedReads {T = U} Macs (given_failures before.macs) (given_failures after.macs) (Err told))
+
+module _ {R U : Type 0} {remaining : R → Option (List ℕ)} {before after : Inputs R} where
+  -- the keys or the MACs are at fault
+  pub unsealed : {T : Type 0} (moment : ℕ) (told : Fault) → after.capture ≡ before.capture → after.anchors ≡ before.anchors → after.statements ≡ before.statements
+      → ((keys_octets macs_octets : Option (List ℕ)) → IsToldBy remaining before.keys keys_octets → IsToldBy remaining before.macs macs_octets
+      → OfOctets (IsFaultOfOpening keys_octets macs_octets) told)
+      → TellsFailedReads {T = T} Keys (given_failures before.keys) (given_failures after.keys) (Err told)
+      → TellsFailedReads {T = T} Macs (given_failures before.macs) (given_failures after.macs) (Err told)
+      → IsAbout Keys told ⊎ IsAbout Macs told
+      → TellsFaults {T = U} (IsFirstFaultOfFiles moment) remaining before after (Err told)
+  unsealed moment told capture_stays anchors_stay statements_stay faults keys_reads macs_reads about = record {
+    first = λ files are.
+        OfOctets-weaker (IsFaultOfOpening files.keys files.macs) (IsFirstFaultOfFiles moment files) told (λ fault holds. inl holds)
+        (faults files.keys files.macs are.keys are.macs);
+    capture = reads_untouched (failures_of before.capture) (failures_of after.capture) (Err told) (ap failures_of capture_stays)
+        (about_either told about (λ is. cc) (λ is. cc));
+    anchors = reads_untouched (given_failures before.anchors) (given_failures after.anchors) (Err told) (ap given_failures anchors_stay)
+        (about_either told about (λ is. cc) (λ is. cc));
+    statements = reads_untouched (given_failures before.statements) (given_failures after.statements) (Err told) (ap given_failures statements_stay)
+        (about_either told about (λ is. cc) (λ is. cc));
+    keys = reads_passed told keys_reads;
+    macs = reads_passed told macs_reads;
+    opened = either_opened told about;
+  }
+
+  module _ (opening : Opening) where
+    -- the file of captured messages is at fault
+    pub captured : {T : Type 0} (IsFirst : Files → Fault → Type 0) (told : Fault)
+        → ((files : Files) → AreTold remaining before files → (fault : Fault) → IsFaultOfCapture NewEvidence opening files.capture fault → IsFirst files fault)
+        → after.anchors ≡ before.anchors → after.statements ≡ before.statements → NoneOfSeals U before after told
+        → CapturedBy {T = T} opening remaining before after (Err told) → TellsFaults {T = U} IsFirst remaining before after (Err told)
+    captured IsFirst told first anchors_stay statements_stay seals tells = record {
+      first = λ files are.
+          OfOctets-weaker (IsFaultOfCapture NewEvidence opening files.capture) (IsFirst files) told (first files are)
+          (of_told (λ octets. OfOctets (IsFaultOfCapture NewEvidence opening octets) told) are.capture tells.told);
+      capture = reads_passed told tells.reads;
+      anchors = reads_untouched (given_failures before.anchors) (given_failures after.anchors) (Err told) (ap given_failures anchors_stay)
+          (about_another Anchors told tells.about (λ is. cc));
+      statements = reads_untouched (given_failures before.statements) (given_failures after.statements) (Err told) (ap given_failures statements_stay)
+          (about_another Statements told tells.about (λ is. cc));
+      keys = seals.0 (about_another Keys told tells.about (λ is. cc));
+      macs = seals.1 (about_another Macs told tells.about (λ is. cc));
+      opened = about_opened Capture told tells.about;
+    }
+
+    module _ (moment : ℕ)
+        (opens : (files : Files) → AreTold remaining before files → IsOpeningOf files.keys files.macs moment opening) where
+      -- the file of captured messages is taken, and the trust anchors are at fault
+      pub anchored : {T V : Type 0} (x : V) (told : Fault) → after.statements ≡ before.statements → NoneOfSeals U before after told
+          → CapturedBy {T = V} opening remaining before after (Ok x)
+          → ((file : List ℕ) → remaining (inner_of before.capture) ≡ Some file → HasEvidence opening file)
+          → ((octets : Option (List ℕ)) → IsToldBy remaining before.anchors octets → OfOctets (IsFaultOfAnchors (octets_or_none octets)) told)
+          → TellsFailedReads {T = T} Anchors (given_failures before.anchors) (given_failures after.anchors) (Err told)
+          → IsAbout Anchors told
+          → TellsFaults {T = U} (IsFirstFaultOfFiles moment) remaining before after (Err told)
+      anchored x told statements_stay seals tells held faults reads about = record {
+        first = λ files are.
+            OfOctets-weaker (IsFaultOfAnchors (octets_or_none files.anchors)) (IsFirstFaultOfFiles moment files) told
+            (λ fault holds. inr (opening, opens files are, inr (held files.capture are.capture, inl holds))) (faults files.anchors are.anchors);
+        capture = reads_then x (Err told) tells.reads (about_another Capture told about (λ is. cc));
+        anchors = reads_passed told reads;
+        statements = reads_untouched (given_failures before.statements) (given_failures after.statements) (Err told) (ap given_failures statements_stay)
+            (about_another Statements told about (λ is. cc));
+        keys = seals.0 (about_another Keys told about (λ is. cc));
+        macs = seals.1 (about_another Macs told about (λ is. cc));
+        opened = about_opened Anchors told about;
+      }
+
+      -- those are taken too, and the statements are at fault
+      pub stated : {T V W : Type 0} (x : V) (y : W) (told : Fault) → NoneOfSeals U before after told
+          → CapturedBy {T = V} opening remaining before after (Ok x)
+          → ((file : List ℕ) → remaining (inner_of before.capture) ≡ Some file → HasEvidence opening file)
+          → ((octets : Option (List ℕ)) → IsToldBy remaining before.anchors octets → (anchors : List Anchor) × HasAnchors (octets_or_none octets) anchors)
+          → TellsFailedReads {T = W} Anchors (given_failures before.anchors) (given_failures after.anchors) (Ok y)
+          → ((octets : Option (List ℕ)) → IsToldBy remaining before.statements octets → OfOctets (IsFaultOfStatements (octets_or_none octets)) told)
+          → TellsFailedReads {T = T} Statements (given_failures before.statements) (given_failures after.statements) (Err told)
+          → IsAbout Statements told
+          → TellsFaults {T = U} (IsFirstFaultOfFiles moment) remaining before after (Err told)
+      stated x y told seals tells held trusted anchor_reads faults reads about = record {
+        first = λ files are.
+            OfOctets-weaker (IsFaultOfStatements (octets_or_none files.statements)) (IsFirstFaultOfFiles moment files) told
+            (λ fault holds. inr (opening, opens files are, inr (held files.capture are.capture, inr (trusted files.anchors are.anchors, holds))))
+            (faults files.statements are.statements);
+        capture = reads_then x (Err told) tells.reads (about_another Capture told about (λ is. cc));
+        anchors = reads_then y (Err told) anchor_reads (about_another Anchors told about (λ is. cc));
+        statements = reads_passed told reads;
+        keys = seals.0 (about_another Keys told about (λ is. cc));
+        macs = seals.1 (about_another Macs told about (λ is. cc));
+        opened = about_opened Statements told about;
+      }
+
+    -- all are taken
+    pub all_taken : {S V W X : Type 0} (moment : ℕ) (s : S) (x : V) (y : W) (z : X) (result : Result U Fault)
+        → TellsFailedReads {T = S} Keys (given_failures before.keys) (given_failures after.keys) (Ok s)
+        → TellsFailedReads {T = S} Macs (given_failures before.macs) (given_failures after.macs) (Ok s)
+        → CapturedBy {T = V} opening remaining before after (Ok x)
+        → TellsFailedReads {T = W} Anchors (given_failures before.anchors) (given_failures after.anchors) (Ok y)
+        → TellsFailedReads {T = X} Statements (given_failures before.statements) (given_failures after.statements) (Ok z)
+        → IfErr result (λ told. told ≡ fault.OutOfMemory)
+        → TellsFaults {T = U} (IsFirstFaultOfFiles moment) remaining before after result
+    all_taken moment s x y z result keys_reads macs_reads tells anchor_reads reads only = record {
+      first = λ files are. no_octets (IsFirstFaultOfFiles moment files) result only;
+      capture = reads_then x result tells.reads (not_read result Capture only);
+      anchors = reads_then y result anchor_reads (not_read result Anchors only);
+      statements = reads_then z result reads (not_read result Statements only);
+      keys = reads_then s result keys_reads (not_read result Keys only);
+      macs = reads_then s result macs_reads (not_read result Macs only);
+      opened = not_opened result only;
+    }
+
+if_weaker : {T : Type 0} (P Q : Fault → Type 0) (result : Result T Fault) → ((fault : Fault) → P fault → Q fault)
+    → IfErr result (OfOctets P) → IfErr result (OfOctets Q)
+if_weaker P Q (Ok x) weaker none = tt
+if_weaker P Q (Err told) weaker holds = OfOctets-weaker P Q told weaker holds
+
+-- what is the first fault of files is told as that of more
+pub TellsFaults-weaker : {R T : Type 0} {remaining : R → Option (List ℕ)} {before after : Inputs R} (P Q : Files → Fault → Type 0) (result : Result T Fault)
+    → ((files : Files) (fault : Fault) → P files fault → Q files fault)
+    → TellsFaults P remaining before after result → TellsFaults Q remaining before after result
+TellsFaults-weaker P Q result weaker tells = record {
+  first = λ files are. if_weaker (P files) (Q files) result (weaker files) (tells.first files are);
+  capture = tells.capture;
+  anchors = tells.anchors;
+  statements = tells.statements;
+  keys = tells.keys;
+  macs = tells.macs;
+  opened = tells.opened;
+}
+
+-- the messages of a capture that was taken
+pub has_evidence : (opening : Opening) (octets : Option (List ℕ)) (held : Evidence)
+    → IfSome octets (λ file. (messages : List Contents) × Holds NewEvidence opening file messages × (held ≡ evidence_of messages))
+    → (file : List ℕ) → octets ≡ Some file → HasEvidence opening file
+has_evidence opening octets held taken file is =
+    let messages = of_told (λ file. (messages : List Contents) × Holds NewEvidence opening file messages × (held ≡ evidence_of messages)) is taken in
+    (messages.0, messages.1)

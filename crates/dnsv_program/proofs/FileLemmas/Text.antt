@@ -1,0 +1,57 @@
+-- What is refused in one way has one fault.
+use Rattle.std.proofs.Common.{◌≡◌, ◌<◌, ◌≤◌, ℕ, List, sym, subst, ◌∙◌, arith, length}
+use Rattle.dnsv_program.specs.declared.status.Fault.{Fault}
+use Rattle.dnsv_program.specs.declared.status.Fault.TheVariants as fault
+use Rattle.dnsv_program.specs.declared.status.InputFile.{InputFile}
+use Rattle.dnsv_program.specs.declared.status.Place.{Place}
+use Rattle.dnsv_program.specs.declared.status.Refusal.{Refusal}
+use Rattle.dnsv_message.specs.Streams.Frames.{file_limit}
+use Rattle.dnsv_program.specs.Files.Faults.{IsTextFault}
+use Rattle.dnsv_program.specs.Files.Statements.{IsAtLine}
+
+pub too_many : (size limit : ℕ) → size ≤ limit → limit < size → ⊥
+too_many size limit within past = omega (arith, within, past)
+
+one_place : (number : ℕ) (p q : Place) → IsAtLine number p → IsAtLine number q → p ≡ q
+one_place number p q x y = λ i. record { message = (x.0 ∙ sym y.0) i; «record» = (x.1 ∙ sym y.1) i; line = (x.2 ∙ sym y.2) i }
+
+-- a refusal of a line is one
+pub one_at_line : (number : ℕ) (why a b : Refusal) (p q : Place) → a ≡ why → IsAtLine number p → b ≡ why → IsAtLine number q
+    → fault.Refused a p ≡ fault.Refused b q
+one_at_line number why a b p q x at y also = λ i. fault.Refused ((x ∙ sym y) i) (one_place number p q at also i)
+
+-- what has one error is refused once, where each error is told once
+pub told_by_one : {Error : Type 0} (Is : Error → Type 0) (Tells : Error → Refusal → Place → Type 0)
+    → ((a b : Error) → Is a → Is b → a ≡ b)
+    → ((error : Error) (a b : Refusal) (p q : Place) → Tells error a p → Tells error b q → fault.Refused a p ≡ fault.Refused b q)
+    → (a b : Refusal) (p q : Place) → (error : Error) × Is error × Tells error a p → (error : Error) × Is error × Tells error b q
+    → fault.Refused a p ≡ fault.Refused b q
+told_by_one {Error} Is Tells one told a b p q x y =
+    told y.0 a b p q (subst (λ (error : Error). Tells error a p) (one x.0 y.0 x.1 y.1) x.2) y.2
+
+module _ (file : InputFile) (IsRefused : List ℕ → Refusal → Place → Type 0) (text : List ℕ) where
+  -- a text within the limit that isn't refused has no fault
+  pub no_text_fault : length text ≤ file_limit → ((why : Refusal) (place : Place) → IsRefused text why place → ⊥)
+      → (told : Fault) → IsTextFault file IsRefused text told → ⊥
+  no_text_fault within stands (fault.Refused why place) bad = stands why place bad.1
+  no_text_fault within stands (fault.TooLong other) bad = too_many (length text) file_limit within bad.1
+  no_text_fault within stands fault.OutOfMemory bad = bad
+  no_text_fault within stands (fault.ReadFailed other) bad = bad
+  no_text_fault within stands (fault.OpenFailed other) bad = bad
+  no_text_fault within stands fault.WriteFailed bad = bad
+
+  -- a text that is refused in one way has one fault
+  pub one_text_fault : ((a b : Refusal) (p q : Place) → IsRefused text a p → IsRefused text b q → fault.Refused a p ≡ fault.Refused b q)
+      → (a b : Fault) → IsTextFault file IsRefused text a → IsTextFault file IsRefused text b → a ≡ b
+  one_text_fault one (fault.Refused a p) (fault.Refused b q) x y = one a b p q x.1 y.1
+  one_text_fault one (fault.Refused a p) (fault.TooLong other) x y = absurd (too_many (length text) file_limit x.0 y.1)
+  one_text_fault one (fault.TooLong other) (fault.Refused b q) x y = absurd (too_many (length text) file_limit y.0 x.1)
+  one_text_fault one (fault.TooLong one_file) (fault.TooLong other) x y = λ i. fault.TooLong ((x.0 ∙ sym y.0) i)
+  one_text_fault one fault.OutOfMemory b x y = absurd x
+  one_text_fault one (fault.ReadFailed other) b x y = absurd x
+  one_text_fault one (fault.OpenFailed other) b x y = absurd x
+  one_text_fault one fault.WriteFailed b x y = absurd x
+  one_text_fault one a fault.OutOfMemory x y = absurd y
+  one_text_fault one a (fault.ReadFailed other) x y = absurd y
+  one_text_fault one a (fault.OpenFailed other) x y = absurd y
+  one_text_fault one a fault.WriteFailed x y = absurd y

@@ -1,0 +1,212 @@
+-- For its files a request has at most one first fault, and none where it has a text.
+use Rattle.std.proofs.Common.{◌≡◌, ℕ, Bool, List, Option, Some, None, refl, sym, ap, subst, ◌∙◌, inl, inr, ⊎_elim}
+use Rattle.std.specs.Prelude.{string_bytes, true, false}
+use Rattle.dnsv_names.specs.Name.{Labels}
+use Rattle.dnsv_names.specs.Octets.{AreOctets}
+use Rattle.dnsv_names.specs.declared.error.NameError.{NameError}
+use Rattle.dnsv_message.specs.Message.{Contents}
+use Rattle.dnsv_canonical.specs.Rrsets.{IsQuestion}
+use Rattle.dnsv_tsig.specs.Key.{SharedKey}
+use Rattle.dnsv_verdict.specs.Verdict.{Basis}
+use Rattle.dnsv_verdict.specs.Way.{IsRefusedFor, IsVerdictOf}
+use Rattle.dnsv_chain.specs.declared.anchor.Anchor.{Anchor}
+use Rattle.dnsv_program.specs.declared.opening.Opening.{Opening}
+use Rattle.dnsv_program.specs.declared.opening.Opening.TheVariants.{Plain, Signed}
+use Rattle.dnsv_program.specs.declared.command_line.request.Request.{Request}
+use Rattle.dnsv_program.specs.declared.command_line.request.Request.TheVariants as request
+use Rattle.dnsv_program.specs.declared.status.Fault.{Fault}
+use Rattle.dnsv_program.specs.declared.status.Fault.TheVariants as fault
+use Rattle.dnsv_program.specs.declared.status.Place.{Place}
+use Rattle.dnsv_program.specs.declared.status.Refusal.{Refusal}
+use Rattle.dnsv_program.specs.declared.status.Refusal.TheVariants as refusal
+use Rattle.dnsv_program.specs.declared.status.Status.{Status}
+use Rattle.dnsv_program.specs.Files.Anchors.{HasAnchors, IsFaultOfAnchors}
+use Rattle.dnsv_program.specs.Files.Capture.{AnyMessage, NewEvidence, Holds, IsFaultOfCapture}
+use Rattle.dnsv_program.specs.Texts.Checking.{AreInOrder, IsCheck, IsStopped, basis_in, verdict_fault}
+use Rattle.dnsv_program.specs.Opening.Given.{IsOpeningOf, IsFaultOfOpening}
+use Rattle.dnsv_program.specs.Files.{Files, octets_or_none}
+use Rattle.dnsv_program.specs.Opening.Keys.{IsFaultOfKeys, MayHaveKeys}
+use Rattle.dnsv_program.specs.Layers.{LayerLaws}
+use Rattle.dnsv_program.specs.CommandLine.Question.{IsNameRefused, IsQuestionRefused, Spells}
+use Rattle.dnsv_program.specs.Run.{IsAnswered, IsFaultOfQuestion, IsFirstFault, IsFirstFaultBehind, IsFirstFaultOfCheck, IsFirstFaultOfEvidence, IsFirstFaultOfFiles, IsFirstFaultOfName, IsFirstFaultOfTodo, IsTextAskedFor}
+use Rattle.dnsv_program.specs.Texts.Todo.{IsTodo}
+use Rattle.dnsv_program.proofs.FileLemmas.Anchors.{no_anchors_fault, one_anchors_fault}
+use Rattle.dnsv_program.proofs.OpeningLemmas.Keys.{no_keys_fault, one_keys_fault}
+use Rattle.dnsv_program.proofs.OpeningLemmas.Macs.{no_fault_of_macs, one_macs_fault}
+use Rattle.dnsv_program.proofs.LawLemmas.OneCapture.{no_capture_fault, one_capture_fault, same_nowhere}
+use Rattle.dnsv_program.proofs.LawLemmas.OneText.{one_basis, one_opening, one_question}
+use Rattle.dnsv_program.proofs.FileLemmas.Statements.{no_statements_fault, one_statements_fault}
+
+module _ (laws : LayerLaws) where
+  -- ---- the question
+
+  -- a name that is spelled isn't refused
+  spelled_stands : (asked : List ℕ) (name : Labels) (why : Refusal) (place : Place) → Spells asked name → IsNameRefused asked why place → ⊥
+  spelled_stands asked name why place spells bad = laws.names.apart asked name bad.0 spells.is_name spells.spelling bad.1
+
+  -- a question that can be asked isn't refused
+  question_stands : (asked : List ℕ) (rtype : ℕ) (name : Labels) (told : Fault) → Spells asked name → IsQuestion name rtype → IsFaultOfQuestion asked rtype told → ⊥
+  question_stands asked rtype name (fault.Refused why place) spells may (inl bad) = spelled_stands asked name why place spells bad
+  question_stands asked rtype name (fault.Refused why place) spells may (inr bad) =
+      bad.2.0 (subst (λ (each : Labels). IsQuestion each rtype) (one_question laws asked name bad.0 spells bad.1) may)
+  question_stands asked rtype name fault.OutOfMemory spells may bad = bad
+  question_stands asked rtype name (fault.ReadFailed file) spells may bad = bad
+  question_stands asked rtype name (fault.TooLong file) spells may bad = bad
+  question_stands asked rtype name (fault.OpenFailed file) spells may bad = bad
+  question_stands asked rtype name fault.WriteFailed spells may bad = bad
+
+  refused_once : (asked : List ℕ) (rtype : ℕ) (a b : Refusal) (p q : Place) → IsQuestionRefused asked rtype a p → IsQuestionRefused asked rtype b q → fault.Refused a p ≡ fault.Refused b q
+  refused_once asked rtype a b p q (inl x) (inl y) =
+      let errors : x.0 ≡ y.0 = laws.names.one_fault asked x.0 y.0 x.1 y.1 in
+      λ i. fault.Refused ((x.2 ∙ ap (λ (e : NameError). refusal.Name e) errors ∙ sym y.2) i) (same_nowhere p q x.3 y.3 i)
+  refused_once asked rtype a b p q (inl x) (inr y) = absurd (spelled_stands asked y.0 a p y.1 x)
+  refused_once asked rtype a b p q (inr x) (inl y) = absurd (spelled_stands asked x.0 b q x.1 y)
+  refused_once asked rtype a b p q (inr x) (inr y) = λ i. fault.Refused ((x.2.1 ∙ sym y.2.1) i) (same_nowhere p q x.2.2 y.2.2 i)
+
+  one_question_fault : (asked : List ℕ) (rtype : ℕ) (a b : Fault) → IsFaultOfQuestion asked rtype a → IsFaultOfQuestion asked rtype b → a ≡ b
+  one_question_fault asked rtype (fault.Refused a p) (fault.Refused b q) x y = refused_once asked rtype a b p q x y
+  one_question_fault asked rtype fault.OutOfMemory b x y = absurd x
+  one_question_fault asked rtype (fault.ReadFailed file) b x y = absurd x
+  one_question_fault asked rtype (fault.TooLong file) b x y = absurd x
+  one_question_fault asked rtype (fault.OpenFailed file) b x y = absurd x
+  one_question_fault asked rtype fault.WriteFailed b x y = absurd x
+  one_question_fault asked rtype a fault.OutOfMemory x y = absurd y
+  one_question_fault asked rtype a (fault.ReadFailed file) x y = absurd y
+  one_question_fault asked rtype a (fault.TooLong file) x y = absurd y
+  one_question_fault asked rtype a (fault.OpenFailed file) x y = absurd y
+  one_question_fault asked rtype a fault.WriteFailed x y = absurd y
+
+  -- ---- the keys and the MACs
+
+  module _ (keys_file macs_file : Option (List ℕ)) where
+    keys_stand : (keys : Option (List SharedKey)) (told : Fault) → MayHaveKeys keys_file keys → IsFaultOfKeys (octets_or_none keys_file) told → ⊥
+    keys_stand = no_keys_fault laws.tsig.one_ring laws.tsig.one_fault laws.tsig.apart keys_file
+
+    -- what frames are opened by has no fault
+    opening_stands : (moment : ℕ) (opening : Opening) (told : Fault) → IsOpeningOf keys_file macs_file moment opening → IsFaultOfOpening keys_file macs_file told → ⊥
+    opening_stands moment Plain told x (inl bad) = keys_stand None told x bad
+    opening_stands moment Plain told x (inr bad) =
+        let same = one_opening laws keys_file None moment Plain (Signed bad.0.0 moment None) x (bad.0.1, refl, refl) in cc
+    opening_stands moment (Signed keys now macs) told x (inl bad) = keys_stand (Some keys) told x.0 bad
+    opening_stands moment (Signed keys now macs) told x (inr bad) = no_fault_of_macs macs_file macs told x.2 bad.1
+
+    one_opening_fault : (a b : Fault) → IsFaultOfOpening keys_file macs_file a → IsFaultOfOpening keys_file macs_file b → a ≡ b
+    one_opening_fault a b (inl x) (inl y) = one_keys_fault laws.tsig.one_ring laws.tsig.one_fault laws.tsig.apart (octets_or_none keys_file) a b x y
+    one_opening_fault a b (inl x) (inr y) = absurd (keys_stand (Some y.0.0) a y.0.1 x)
+    one_opening_fault a b (inr x) (inl y) = absurd (keys_stand (Some x.0.0) b x.0.1 y)
+    one_opening_fault a b (inr x) (inr y) = one_macs_fault (octets_or_none macs_file) a b x.1 y.1
+
+  -- ---- the files
+
+  module _ (files : Files) (are : AreOctets files.capture) where
+    anchors_stand : (said : List Anchor) (told : Fault) → HasAnchors (octets_or_none files.anchors) said → IsFaultOfAnchors (octets_or_none files.anchors) told → ⊥
+    anchors_stand said told =
+        let text = octets_or_none files.anchors in no_anchors_fault text said told (laws.verdicts.anchors_apart text said)
+
+    one_fault_behind : (a b : Fault) → IsFirstFaultBehind files a → IsFirstFaultBehind files b → a ≡ b
+    one_fault_behind a b (inl x) (inl y) =
+        let text = octets_or_none files.anchors in one_anchors_fault text a b (laws.verdicts.one_fault_of_anchors text) x y
+    one_fault_behind a b (inl x) (inr y) = absurd (anchors_stand y.0.0 a y.0.1 x)
+    one_fault_behind a b (inr x) (inl y) = absurd (anchors_stand x.0.0 b x.0.1 y)
+    one_fault_behind a b (inr x) (inr y) = one_statements_fault (octets_or_none files.statements) a b x.1 y.1
+
+    holding_stands : (opening : Opening) (messages : List Contents) (told : Fault) → Holds NewEvidence opening files.capture messages → IsFaultOfCapture NewEvidence opening files.capture told → ⊥
+    holding_stands opening = no_capture_fault laws NewEvidence opening files.capture are
+
+    one_fault_of_evidence : (opening : Opening) (a b : Fault) → IsFirstFaultOfEvidence opening files a → IsFirstFaultOfEvidence opening files b → a ≡ b
+    one_fault_of_evidence opening a b (inl x) (inl y) = one_capture_fault laws NewEvidence opening files.capture are a b x y
+    one_fault_of_evidence opening a b (inl x) (inr y) = absurd (holding_stands opening y.0.0 a y.0.1 x)
+    one_fault_of_evidence opening a b (inr x) (inl y) = absurd (holding_stands opening x.0.0 b x.0.1 y)
+    one_fault_of_evidence opening a b (inr x) (inr y) = one_fault_behind a b x.1 y.1
+
+    one_fault_of_files : (moment : ℕ) (a b : Fault) → IsFirstFaultOfFiles moment files a → IsFirstFaultOfFiles moment files b → a ≡ b
+    one_fault_of_files moment a b (inl x) (inl y) = one_opening_fault files.keys files.macs a b x y
+    one_fault_of_files moment a b (inl x) (inr y) = absurd (opening_stands files.keys files.macs moment y.0 a y.1 x)
+    one_fault_of_files moment a b (inr x) (inl y) = absurd (opening_stands files.keys files.macs moment x.0 b x.1 y)
+    one_fault_of_files moment a b (inr x) (inr y) =
+        one_fault_of_evidence y.0 a b
+        (subst (λ (opening : Opening). IsFirstFaultOfEvidence opening files a) (one_opening laws files.keys files.macs moment x.0 y.0 x.1 y.1) x.2) y.2
+
+    -- files in order have no fault
+    module _ (moment : ℕ) (x : AreInOrder moment files) where
+      behind_stands : (told : Fault) → IsFirstFaultBehind files told → ⊥
+      behind_stands told (inl bad) = anchors_stand x.anchors told x.trusted bad
+      behind_stands told (inr bad) = no_statements_fault (octets_or_none files.statements) x.meaning told x.said bad.1
+
+      evidence_stands : (told : Fault) → IsFirstFaultOfEvidence x.opening files told → ⊥
+      evidence_stands told (inl bad) = holding_stands x.opening x.messages told x.holds bad
+      evidence_stands told (inr bad) = behind_stands told bad.1
+
+      order_stands : (told : Fault) → IsFirstFaultOfFiles moment files told → ⊥
+      order_stands told (inl bad) = opening_stands files.keys files.macs moment x.opening told x.opens bad
+      order_stands told (inr bad) =
+          evidence_stands told
+          (subst (λ (opening : Opening). IsFirstFaultOfEvidence opening files told) (one_opening laws files.keys files.macs moment bad.0 x.opening bad.1 x.opens) bad.2)
+
+    one_stop : (name : Labels) (rtype moment : ℕ) (a b : Fault) → IsStopped name rtype moment files a → IsStopped name rtype moment files b → a ≡ b
+    one_stop name rtype moment a b x y =
+        let bases = one_basis laws rtype moment files are x.given y.given in
+        let errors = laws.verdicts.one_refusal (basis_in y.given) name rtype x.error y.error
+        (subst (λ (each : Basis). IsRefusedFor each name rtype x.error) bases x.refused) y.refused in
+        x.is ∙ ap verdict_fault errors ∙ sym y.is
+
+    one_fault_of_name : (name : Labels) (rtype moment : ℕ) (a b : Fault) → IsFirstFaultOfName name rtype moment files a → IsFirstFaultOfName name rtype moment files b → a ≡ b
+    one_fault_of_name name rtype moment a b (inl x) (inl y) = one_fault_of_files moment a b x y
+    one_fault_of_name name rtype moment a b (inl x) (inr y) = absurd (order_stands moment y.given a x)
+    one_fault_of_name name rtype moment a b (inr x) (inl y) = absurd (order_stands moment x.given b y)
+    one_fault_of_name name rtype moment a b (inr x) (inr y) = one_stop name rtype moment a b x y
+
+    one_fault_of_check : (asked : List ℕ) (rtype moment : ℕ) (a b : Fault) → IsFirstFaultOfCheck asked rtype moment files a → IsFirstFaultOfCheck asked rtype moment files b → a ≡ b
+    one_fault_of_check asked rtype moment a b (inl x) (inl y) = one_question_fault asked rtype a b x y
+    one_fault_of_check asked rtype moment a b (inl x) (inr y) = absurd (question_stands asked rtype y.0 a y.1 y.2 x)
+    one_fault_of_check asked rtype moment a b (inr x) (inl y) = absurd (question_stands asked rtype x.0 b x.1 x.2 y)
+    one_fault_of_check asked rtype moment a b (inr x) (inr y) =
+        one_fault_of_name y.0 rtype moment a b
+        (subst (λ (name : Labels). IsFirstFaultOfName name rtype moment files a) (one_question laws asked x.0 y.0 x.1 y.1) x.3) y.3
+
+    one_todo_fault : (a b : Fault) → IsFirstFaultOfTodo files a → IsFirstFaultOfTodo files b → a ≡ b
+    one_todo_fault a b (inl x) (inl y) = one_capture_fault laws NewEvidence Plain files.capture are a b x y
+    one_todo_fault a b (inl x) (inr y) = absurd (holding_stands Plain y.0.0 a y.0.1 x)
+    one_todo_fault a b (inr x) (inl y) = absurd (holding_stands Plain x.0.0 b x.0.1 y)
+    one_todo_fault a b (inr x) (inr y) = one_statements_fault (octets_or_none files.statements) a b x.1 y.1
+
+    -- ---- files with a text
+
+    todo_stands : (json : Bool) (moment : ℕ) (text : List ℕ) (told : Fault) → IsTodo json moment files text → IsFirstFaultOfTodo files told → ⊥
+    todo_stands json moment text told x (inl captured) = holding_stands Plain x.messages told x.holds captured
+    todo_stands json moment text told x (inr stated) = no_statements_fault (octets_or_none files.statements) x.meaning told x.said stated.1
+
+    -- a question with a verdict isn't refused
+    verdict_stands : (json why : Bool) (name : Labels) (rtype moment : ℕ) (end : Status) (text : List ℕ) → IsCheck json why name rtype moment files end text
+        → (told : Fault) → IsStopped name rtype moment files told → ⊥
+    verdict_stands json why name rtype moment end text x told y =
+        let bases = one_basis laws rtype moment files are x.given y.given in
+        laws.verdicts.verdict_apart (basis_in y.given) name rtype x.report.links x.report.last x.report.verdict y.error
+        (subst (λ (each : Basis). IsVerdictOf each name rtype x.report.links x.report.last x.report.verdict) bases x.is_verdict) y.refused
+
+    answer_stands : (json why : Bool) (asked : List ℕ) (rtype moment : ℕ) (end : Status) (text : List ℕ) (told : Fault)
+        → IsAnswered json why asked rtype moment files end text → IsFirstFaultOfCheck asked rtype moment files told → ⊥
+    answer_stands json why asked rtype moment end text told x (inl bad) = question_stands asked rtype x.0 told x.1 x.2 bad
+    answer_stands json why asked rtype moment end text told x (inr bad) =
+        ⊎_elim (λ (files_bad : IsFirstFaultOfFiles moment files told). order_stands moment x.3.given told files_bad)
+        (λ (stopped : IsStopped bad.0 rtype moment files told). verdict_stands json why x.0 rtype moment end text x.3 told
+        (subst (λ (name : Labels). IsStopped name rtype moment files told) (one_question laws asked bad.0 x.0 bad.1 x.1) stopped)) bad.3
+
+  -- ---- all requests
+
+  -- files that have a text have no fault
+  pub text_stands : (asked : Request) (files : Files) → AreOctets files.capture → (end : Status) (text : List ℕ) (told : Fault)
+      → IsTextAskedFor asked files end text → IsFirstFault asked files told → ⊥
+  text_stands (request.Show capture) files are end text told x bad = no_capture_fault laws AnyMessage Plain files.capture are x.1.0 told x.1.1 bad
+  text_stands (request.List capture moment statements true json) files are end text told x bad = no_capture_fault laws NewEvidence Plain files.capture are x.1.0 told x.1.1 bad
+  text_stands (request.List capture moment statements false json) files are end text told x bad = todo_stands files are json moment text told x.1 bad
+  text_stands (request.Check capture anchors moment asked rtype statements keys macs json why) files are end text told x bad =
+      answer_stands files are json why (string_bytes asked) rtype.0 moment end text told x bad
+
+  -- files have one first fault
+  pub one_first_fault : (asked : Request) (files : Files) → AreOctets files.capture → (a b : Fault) → IsFirstFault asked files a → IsFirstFault asked files b → a ≡ b
+  one_first_fault (request.Show capture) files are a b x y = one_capture_fault laws AnyMessage Plain files.capture are a b x y
+  one_first_fault (request.List capture moment statements true json) files are a b x y = one_capture_fault laws NewEvidence Plain files.capture are a b x y
+  one_first_fault (request.List capture moment statements false json) files are a b x y = one_todo_fault files are a b x y
+  one_first_fault (request.Check capture anchors moment asked rtype statements keys macs json why) files are a b x y =
+      one_fault_of_check files are (string_bytes asked) rtype.0 moment a b x y

@@ -1,0 +1,171 @@
+-- For its files a request has at most one text.
+use Rattle.std.proofs.Common.{◌≡◌, ℕ, suc, Bool, List, [], ◌∷◌, ◌++◌, Option, Some, None, refl, sym, ap, subst, ◌∙◌}
+use Rattle.std.specs.Prelude.{string_bytes, true, false}
+use Rattle.dnsv_names.specs.Name.{Labels}
+use Rattle.dnsv_names.specs.Octets.{AreOctets}
+use Rattle.dnsv_message.specs.Message.{Contents}
+use Rattle.dnsv_records.specs.declared.rrsig.Rrsig.{Rrsig}
+use Rattle.dnsv_canonical.specs.Evidence.{evidence_of}
+use Rattle.dnsv_canonical.specs.Rrsets.{ReceivedRrset}
+use Rattle.dnsv_canonical.specs.SignedData.{IsSignedData}
+use Rattle.dnsv_tsig.specs.Key.{SharedKey}
+use Rattle.dnsv_verifier.specs.Table.{IsTableOf, TableContents, unknown_entries}
+use Rattle.dnsv_verifier.specs.declared.answer.Answer.{Answer}
+use Rattle.dnsv_verifier.specs.declared.entry.Entry.{Entry}
+use Rattle.dnsv_verdict.specs.Verdict.{Basis, basis_of}
+use Rattle.dnsv_verdict.specs.Way.{IsVerdictOf}
+use Rattle.dnsv_verdict.specs.declared.link.Link.{Link}
+use Rattle.dnsv_verdict.specs.declared.report.Report.{Report}
+use Rattle.dnsv_verdict.specs.declared.verdict.Verdict.{Verdict}
+use Rattle.dnsv_explain.specs.Explained.{Explained}
+use Rattle.dnsv_explain.specs.Explanation.{IsExplanation, IsExplanationOf}
+use Rattle.dnsv_explain.specs.declared.line.Line.{Line}
+use Rattle.dnsv_program.specs.declared.opening.Opening.{Opening}
+use Rattle.dnsv_program.specs.declared.opening.Opening.TheVariants.{Plain, Signed}
+use Rattle.dnsv_program.specs.declared.command_line.request.Request.{Request}
+use Rattle.dnsv_program.specs.declared.command_line.request.Request.TheVariants as request
+use Rattle.dnsv_program.specs.declared.status.Status.{Status}
+use Rattle.dnsv_program.specs.Files.Capture.{AnyMessage, NewEvidence, Holds}
+use Rattle.dnsv_program.specs.Texts.Checking.{AreInOrder, IsCheck, IsWhy, basis_in, check_text, verdict_status}
+use Rattle.dnsv_program.specs.Opening.Given.{IsOpeningOf}
+use Rattle.dnsv_program.specs.Files.{Files, octets_or_none}
+use Rattle.dnsv_program.specs.Opening.Keys.{MayHaveKeys}
+use Rattle.dnsv_program.specs.Layers.{LayerLaws}
+use Rattle.dnsv_program.specs.Texts.Listing.{ListsRrsets, ListsSignatures, SignedOctets, listing_text}
+use Rattle.dnsv_program.specs.CommandLine.Question.{Spells}
+use Rattle.dnsv_program.specs.Run.{IsAnswered, IsTextAskedFor}
+use Rattle.dnsv_program.specs.Texts.Showing.{message_text, texts_from}
+use Rattle.dnsv_program.specs.Texts.Todo.{IsTodo, todo_text}
+use Rattle.dnsv_program.proofs.OpeningLemmas.Keys.{same_keys}
+use Rattle.dnsv_program.proofs.OpeningLemmas.Macs.{same_macs}
+use Rattle.dnsv_program.proofs.LawLemmas.OneCapture.{one_holding}
+use Rattle.dnsv_program.proofs.FileLemmas.Statements.{one_meaning}
+
+module _ (laws : LayerLaws) where
+  -- ---- list --all
+
+  one_front : (number : ℕ) (rrset : ReceivedRrset) (signature : ℕ) (signatures : List (List ℕ)) (a b : List SignedOctets)
+      → ListsSignatures number rrset signature signatures a → ListsSignatures number rrset signature signatures b → a ≡ b
+  one_front number rrset signature [] a b x y = x ∙ sym y
+  one_front number rrset signature (rdata ∷ others) a b x y =
+      let signs : Rrsig → Type 0 = λ rrsig. IsSignedData rrset.owner rrset.rtype rrset.rdata rrsig x.1 in
+      let octets : x.1 ≡ y.1 = laws.evidence.one_signed_data rrset.owner rrset.rtype rrset.rdata y.0 x.1 y.1 (subst signs (laws.evidence.one_rrsig rdata x.0 y.0 x.3 y.3) x.4) y.4 in
+      x.6 ∙ ap (λ (octets : Option (List ℕ)). record { rrset = number; signature = signature; octets = octets } ∷ x.2) octets
+      ∙ ap (λ (rest : List SignedOctets). record { rrset = number; signature = signature; octets = y.1 } ∷ rest) (one_front number rrset (suc signature) others x.2 y.2 x.5 y.5)
+      ∙ sym y.6
+
+  one_list : (number : ℕ) (rrsets : List ReceivedRrset) (a b : List SignedOctets) → ListsRrsets number rrsets a → ListsRrsets number rrsets b → a ≡ b
+  one_list number [] a b x y = x ∙ sym y
+  one_list number (rrset ∷ rrsets) a b x y =
+      x.4 ∙ ap (λ front. front ++ x.1) (one_front number rrset 1 rrset.signatures x.0 y.0 x.2 y.2)
+      ∙ ap (λ rest. y.0 ++ rest) (one_list (suc number) rrsets x.1 y.1 x.3 y.3)
+      ∙ sym y.4
+
+  -- ---- list
+
+  one_todo : (json : Bool) (moment : ℕ) (files : Files) → AreOctets files.capture → (a b : List ℕ) → IsTodo json moment files a → IsTodo json moment files b → a ≡ b
+  one_todo json moment files are a b x y =
+      let messages = one_holding laws NewEvidence Plain files.capture are x.messages y.messages x.holds y.holds in
+      let meanings = one_meaning (octets_or_none files.statements) x.meaning y.meaning x.said y.said in
+      let first = subst (λ (meaning : Entry → Answer). IsTableOf meaning moment (evidence_of x.messages).rrsets x.table) meanings x.is_table in
+      let second = subst (λ messages. IsTableOf y.meaning moment (evidence_of messages).rrsets x.table) messages first in
+      x.lines ∙ ap (λ table. todo_text json moment (unknown_entries table)) (laws.verdicts.one_table y.meaning moment (evidence_of y.messages).rrsets x.table y.table second y.is_table) ∙ sym y.lines
+
+  -- ---- check
+
+  keys_alone : (file : Option (List ℕ)) (a b : Option (List SharedKey)) → MayHaveKeys file a → MayHaveKeys file b → a ≡ b
+  keys_alone = same_keys laws.tsig.one_ring laws.tsig.one_fault laws.tsig.apart
+
+  -- files of keys and MACs open frames in one way
+  pub one_opening : (keys_file macs_file : Option (List ℕ)) (moment : ℕ) (a b : Opening) → IsOpeningOf keys_file macs_file moment a → IsOpeningOf keys_file macs_file moment b → a ≡ b
+  one_opening keys_file macs_file moment Plain Plain x y = refl
+  one_opening keys_file macs_file moment Plain (Signed keys now macs) x y = let same = keys_alone keys_file None (Some keys) x y.0 in cc
+  one_opening keys_file macs_file moment (Signed keys now macs) Plain x y = let same = keys_alone keys_file (Some keys) None x.0 y in cc
+  one_opening keys_file macs_file moment (Signed keys now macs) (Signed others at more) x y =
+      let same = keys_alone keys_file (Some keys) (Some others) x.0 y.0 in
+      let rings : keys ≡ others = cc in
+      let lists = same_macs macs_file macs more x.2 y.2 in
+      λ i. Signed (rings i) ((x.1 ∙ sym y.1) i) (lists i)
+
+  -- a text spells one name
+  pub one_question : (asked : List ℕ) (a b : Labels) → Spells asked a → Spells asked b → a ≡ b
+  one_question asked a b x y = laws.names.one_name asked a b x.is_name y.is_name x.spelling y.spelling
+
+  module _ (rtype moment : ℕ) (files : Files) (are : AreOctets files.capture) where
+    same_messages : (e f : Opening) (a b : List Contents) → IsOpeningOf files.keys files.macs moment e → IsOpeningOf files.keys files.macs moment f
+        → Holds NewEvidence e files.capture a → Holds NewEvidence f files.capture b → a ≡ b
+    same_messages e f a b x y holds also =
+        one_holding laws NewEvidence f files.capture are a b
+        (subst (λ (opening : Opening). Holds NewEvidence opening files.capture a) (one_opening files.keys files.macs moment e f x y) holds) also
+
+    -- what the files say is one basis, for a text and for a refusal alike
+    pub one_basis : (x y : AreInOrder moment files) → basis_in x ≡ basis_in y
+    one_basis x y =
+        let messages = same_messages x.opening y.opening x.messages y.messages x.opens y.opens x.holds y.holds in
+        let anchors = laws.verdicts.one_list_of_anchors (octets_or_none files.anchors) x.anchors y.anchors x.trusted.are y.trusted.are in
+        let meanings = one_meaning (octets_or_none files.statements) x.meaning y.meaning x.said y.said in
+        λ i. basis_of (evidence_of (messages i)).rrsets (anchors i) moment (meanings i)
+
+    -- an explanation is one of the report's links, last name and verdict alone
+    explains : (basis : Basis) (report other : Report) → report.links ≡ other.links → report.last ≡ other.last → report.verdict ≡ other.verdict
+        → (lines : List Line) → IsExplanationOf basis rtype report lines → IsExplanationOf basis rtype other lines
+    explains basis report other links last verdict lines it =
+        let explained : Explained = record { rrsets = basis.rrsets; anchors = basis.anchors; table = it.table; todo = [] } in
+        record {
+          table = it.table;
+          of = it.of;
+          is = subst (λ (each : Verdict). IsExplanation explained rtype other.links other.last each lines) verdict
+              (subst (λ (each : Labels). IsExplanation explained rtype other.links each report.verdict lines) last
+              (subst (λ (each : List Link). IsExplanation explained rtype each report.last report.verdict lines) links it.is));
+        }
+
+    -- why a verdict stands is told in one way, and only where that is asked for
+    one_why : (why : Bool) (basis : Basis) (name : Labels) (report : Report) (a b : Option (List Line))
+        → IsVerdictOf basis name rtype report.links report.last report.verdict → IsWhy why basis rtype report a → IsWhy why basis rtype report b → a ≡ b
+    one_why false basis name report None None stands x y = refl
+    one_why false basis name report None (Some lines) stands x y = absurd y
+    one_why false basis name report (Some lines) b stands x y = absurd x
+    one_why true basis name report None b stands x y = absurd x
+    one_why true basis name report (Some lines) None stands x y = absurd y
+    one_why true basis name report (Some lines) (Some others) stands x y = ap Some (laws.verdicts.one_explanation basis name rtype report lines others stands x y)
+
+    why_of : (why : Bool) (basis : Basis) (report other : Report) → report.links ≡ other.links → report.last ≡ other.last → report.verdict ≡ other.verdict
+        → (told : Option (List Line)) → IsWhy why basis rtype report told → IsWhy why basis rtype other told
+    why_of false basis report other links last verdict None is = is
+    why_of false basis report other links last verdict (Some lines) is = absurd is
+    why_of true basis report other links last verdict None is = absurd is
+    why_of true basis report other links last verdict (Some lines) is = explains basis report other links last verdict lines is
+
+    one_check : (json why : Bool) (name : Labels) (s t : Status) (a b : List ℕ) → IsCheck json why name rtype moment files s a → IsCheck json why name rtype moment files t b
+        → (s ≡ t) × (a ≡ b)
+    one_check json why name s t a b x y =
+        let bases : basis_in x.given ≡ basis_in y.given = one_basis x.given y.given in
+        let ways = laws.verdicts.one_way (basis_in y.given) name rtype x.report.links y.report.links x.report.last y.report.last x.report.verdict y.report.verdict
+        (subst (λ (each : Basis). IsVerdictOf each name rtype x.report.links x.report.last x.report.verdict) bases x.is_verdict) y.is_verdict in
+        let tolds : x.told ≡ y.told = one_why why (basis_in y.given) name y.report x.told y.told y.is_verdict
+        (why_of why (basis_in y.given) x.report y.report ways.0 ways.1 ways.2 x.told (subst (λ (each : Basis). IsWhy why each rtype x.report x.told) bases x.is_told)) y.is_told in (
+          x.ends ∙ ap verdict_status ways.2 ∙ sym y.ends,
+          x.lines ∙ (λ i. check_text json name rtype moment (bases i).rrsets (ways.0 i) (ways.2 i) (tolds i)) ∙ sym y.lines,
+        )
+
+    one_answer : (json why : Bool) (asked : List ℕ) (s t : Status) (a b : List ℕ) → IsAnswered json why asked rtype moment files s a → IsAnswered json why asked rtype moment files t b
+        → (s ≡ t) × (a ≡ b)
+    one_answer json why asked s t a b x y =
+        one_check json why y.0 s t a b
+        (subst (λ (name : Labels). IsCheck json why name rtype moment files s a) (one_question asked x.0 y.0 x.1 y.1) x.3) y.3
+
+  -- ---- all requests
+
+  -- a request has one text and end for its files
+  pub one_text : (asked : Request) (files : Files) → AreOctets files.capture → (s t : Status) (a b : List ℕ)
+      → IsTextAskedFor asked files s a → IsTextAskedFor asked files t b → (s ≡ t) × (a ≡ b)
+  one_text (request.Show capture) files are s t a b x y =
+      (x.0 ∙ sym y.0, x.1.2 ∙ ap (texts_from message_text 1) (one_holding laws AnyMessage Plain files.capture are x.1.0 y.1.0 x.1.1 y.1.1) ∙ sym y.1.2)
+  one_text (request.List capture moment statements true json) files are s t a b x y = (
+    x.0 ∙ sym y.0,
+    x.1.4 ∙ ap (listing_text json moment) (one_list 1 (evidence_of x.1.0).rrsets x.1.2 y.1.2 x.1.3
+        (subst (λ messages. ListsRrsets 1 (evidence_of messages).rrsets y.1.2) (one_holding laws NewEvidence Plain files.capture are y.1.0 x.1.0 y.1.1 x.1.1) y.1.3)) ∙ sym y.1.4,
+  )
+  one_text (request.List capture moment statements false json) files are s t a b x y = (x.0 ∙ sym y.0, one_todo json moment files are a b x.1 y.1)
+  one_text (request.Check capture anchors moment asked rtype statements keys macs json why) files are s t a b x y =
+      one_answer rtype.0 moment files are json why (string_bytes asked) s t a b x y

@@ -1,0 +1,223 @@
+-- How the program ends by what its parts answer.
+pub mod Told
+pub mod Words
+use Rattle.std.proofs.Common.{◌≡◌, ◌⊎◌, ◌↔◌, ℕ, Bool, true, List, [], ◌∷◌, Option, Some, None, ap, refl, subst, sym, ◌∙◌, inl, inr, arith}
+use Rattle.std.specs.Prelude.{Result, Ok, Err, IfErr, IfOk, IfSome}
+use Rattle.std.specs.Io.KnownBytes.{Appends}
+use Rattle.dnsv_message.specs.Streams.Counted.{AppendsBeginning}
+use Rattle.dnsv_program.specs.declared.command_line.request.Request.{Request}
+use Rattle.dnsv_program.specs.declared.status.Status.{Status}
+use Rattle.dnsv_program.specs.declared.status.Status.TheVariants.{Done, Insecure, Pending, Bogus, Indeterminate}
+use Rattle.dnsv_program.specs.declared.status.Fault.{Fault}
+use Rattle.dnsv_program.specs.declared.status.Fault.TheVariants as fault
+use Rattle.dnsv_program.specs.declared.status.Place.{Place}
+use Rattle.dnsv_program.specs.declared.status.Refusal.{Refusal}
+use Rattle.dnsv_program.specs.Files.{Files}
+use Rattle.dnsv_program.specs.CommandLine.{IsAccepted}
+use Rattle.dnsv_program.specs.Program.{AreFilesAt, BeganText, IsEnd, RefusedFiles, RefusedWords, WroteText, first_unopened, given_path, paths_of}
+use Rattle.dnsv_program.specs.CommandLine.Paths.{anchors_of, capture_of, keys_of, macs_of, statements_of}
+use Rattle.dnsv_program.specs.Told.{IsOpenFault, IsUnopened}
+use Rattle.dnsv_program.specs.declared.status.InputFile.{InputFile}
+use Rattle.dnsv_program.specs.declared.status.InputFile.TheVariants.{Anchors, Capture, Keys, Macs, Statements}
+use Rattle.dnsv_program.specs.Run.{IsTextAskedFor, IsFirstFault}
+use Rattle.dnsv_program.specs.Status.{fault_code, outcome_code, status_code}
+
+-- what is said of the words that were handed out holds of those that the machine tells
+pub told_ok : {A E : Type 0} (P : List (List ℕ) → A → Type 0) (given : Option (List (List ℕ))) (words : List (List ℕ)) (result : Result A E)
+    → IfSome given (λ told. words ≡ told) → IfOk result (P words) → IfOk result (λ value. IfSome given (λ told. P told value))
+told_ok P None words (Ok value) same holds = tt
+told_ok P None words (Err error) same holds = tt
+told_ok P (Some told) words (Ok value) same holds = subst (λ w. P w value) same holds
+told_ok P (Some told) words (Err error) same holds = tt
+
+pub told_err : {A E : Type 0} (P : List (List ℕ) → E → Type 0) (given : Option (List (List ℕ))) (words : List (List ℕ)) (result : Result A E)
+    → IfSome given (λ told. words ≡ told) → IfErr result (P words) → IfErr result (λ error. IfSome given (λ told. P told error))
+told_err P None words (Ok value) same holds = tt
+told_err P None words (Err error) same holds = tt
+told_err P (Some told) words (Ok value) same holds = tt
+told_err P (Some told) words (Err error) same holds = subst (λ w. P w error) same holds
+
+-- a fault ends with 1 or 7
+one_of : (told : Fault) (code : ℕ) → fault_code told ≡ code → (code ≡ 1) ⊎ (code ≡ 7)
+one_of fault.OutOfMemory code is = inl (sym is)
+one_of (fault.ReadFailed file) code is = inl (sym is)
+one_of (fault.TooLong file) code is = inl (sym is)
+one_of (fault.OpenFailed file) code is = inl (sym is)
+one_of fault.WriteFailed code is = inl (sym is)
+one_of (fault.Refused why place) code is = inr (sym is)
+
+neither : (code : ℕ) → (code ≡ 1) ⊎ (code ≡ 7) → IsEnd code → ⊥
+neither code (inl is_1) (inl is_0) = omega (arith, is_1, is_0)
+neither code (inl is_1) (inr between) = omega (arith, is_1, between.0)
+neither code (inr is_7) (inl is_0) = omega (arith, is_7, is_0)
+neither code (inr is_7) (inr between) = omega (arith, is_7, between.1)
+
+pub no_end : (told : Fault) (code : ℕ) → fault_code told ≡ code → IsEnd code → ⊥
+no_end told code is ends = neither code (one_of told code is) ends
+
+-- such an exit status is no fault's
+pub ended_well : {X : Status → Type 0} (outcome : Result Status Fault) (code : ℕ) → outcome_code outcome ≡ code → IsEnd code → IfOk outcome X
+    → (status : Status) × (status_code status ≡ code) × X status
+ended_well (Ok status) code is ends holds = (status, is, holds)
+ended_well (Err failed) code is ends holds = absurd (no_end failed code is ends)
+
+pub no_7 : (status : Status) → status_code status ≡ 7 → ⊥
+no_7 Done is_7 = omega (arith, is_7)
+no_7 Insecure is_7 = omega (arith, is_7)
+no_7 Pending is_7 = omega (arith, is_7)
+no_7 Bogus is_7 = omega (arith, is_7)
+no_7 Indeterminate is_7 = omega (arith, is_7)
+
+pub no_1 : (status : Status) → status_code status ≡ 1 → ⊥
+no_1 Done is_1 = omega (arith, is_1)
+no_1 Insecure is_1 = omega (arith, is_1)
+no_1 Pending is_1 = omega (arith, is_1)
+no_1 Bogus is_1 = omega (arith, is_1)
+no_1 Indeterminate is_1 = omega (arith, is_1)
+
+-- 7 is the exit status of a refusal alone
+pub ended_refused : (outcome : Result Status Fault) → outcome_code outcome ≡ 7
+    → (why : Refusal) × (place : Place) × (outcome ≡ Err (fault.Refused why place))
+ended_refused (Ok status) is_7 = absurd (no_7 status is_7)
+ended_refused (Err fault.OutOfMemory) is_7 = absurd (omega (arith, is_7))
+ended_refused (Err (fault.ReadFailed file)) is_7 = absurd (omega (arith, is_7))
+ended_refused (Err (fault.TooLong file)) is_7 = absurd (omega (arith, is_7))
+ended_refused (Err (fault.OpenFailed file)) is_7 = absurd (omega (arith, is_7))
+ended_refused (Err fault.WriteFailed) is_7 = absurd (omega (arith, is_7))
+ended_refused (Err (fault.Refused why place)) is_7 = (why, place, refl)
+
+-- 1 is the exit status of a failed write, or of a fault that left the output as it was
+pub ended_failed : {Same Begun : Type 0} (outcome : Result Status Fault) → outcome_code outcome ≡ 1
+    → IfErr outcome (λ failed. (failed ≡ fault.WriteFailed → ⊥) → Same) → (outcome ≡ Err fault.WriteFailed → Begun) → Same ⊎ Begun
+ended_failed (Ok status) is_1 untouched begun = absurd (no_1 status is_1)
+ended_failed (Err fault.OutOfMemory) is_1 untouched begun = inl (untouched (λ is. cc))
+ended_failed (Err (fault.ReadFailed file)) is_1 untouched begun = inl (untouched (λ is. cc))
+ended_failed (Err (fault.TooLong file)) is_1 untouched begun = inl (untouched (λ is. cc))
+ended_failed (Err (fault.OpenFailed file)) is_1 untouched begun = inl (untouched (λ is. cc))
+ended_failed (Err fault.WriteFailed) is_1 untouched begun = inr (begun refl)
+ended_failed (Err (fault.Refused why place)) is_1 untouched begun = absurd (omega (arith, is_1))
+
+pub began : (given : Option (List (List ℕ))) (octets_at : List ℕ → Option (List ℕ)) (old new : Option (List ℕ)) (request : Request)
+    → IfSome given (λ words. IsAccepted words request)
+    → ((files : Files) → AreFilesAt octets_at request files → (status : Status) × (text : List ℕ) × IsTextAskedFor request files status text × AppendsBeginning old new text)
+    → IfSome given (λ words. BeganText words octets_at old new)
+began None octets_at old new request accepted text = tt
+began (Some words) octets_at old new request accepted text = record { request = request; accepted = accepted; text = text }
+
+pub wrote : (given : Option (List (List ℕ))) (octets_at : List ℕ → Option (List ℕ)) (old new : Option (List ℕ)) (request : Request) (code : ℕ) (Helped : Type 0)
+    → IfSome given (λ words. IsAccepted words request)
+    → ((files : Files) → AreFilesAt octets_at request files
+    → (status : Status) × (status_code status ≡ code) × ((text : List ℕ) × IsTextAskedFor request files status text × Appends old new text))
+    → IfSome given (λ words. WroteText words octets_at old new code ⊎ (RefusedWords words code × Helped))
+wrote None octets_at old new request code Helped accepted text = tt
+wrote (Some words) octets_at old new request code Helped accepted text = inl (record {
+  request = request;
+  accepted = accepted;
+  text = λ files are. let ended = text files are in (ended.0, ended.2.0, ended.2.1, ended.1, ended.2.2);
+})
+
+pub refused : (given : Option (List (List ℕ))) (octets_at : List ℕ → Option (List ℕ)) (request : Request) (why : Refusal) (place : Place)
+    → IfSome given (λ words. IsAccepted words request)
+    → ((files : Files) → AreFilesAt octets_at request files → IsFirstFault request files (fault.Refused why place))
+    → IfSome given (λ words. RefusedFiles words octets_at)
+refused None octets_at request why place accepted holds = tt
+refused (Some words) octets_at request why place accepted holds =
+    record { request = request; accepted = accepted; refused = λ files are. (why, place, holds files are) }
+
+-- ---- files that don't open
+
+-- a file that opens is none that doesn't
+opened_first : (opens : List ℕ → Bool) (file : InputFile) (path : List ℕ) (others : List (InputFile × List ℕ)) → opens path ≡ true
+    → first_unopened opens ((file, path) ∷ others) ≡ first_unopened opens others
+opened_first opens file path others opened = rw opened refl
+
+-- what the call that opened a file says, whatever comes behind it
+abbrev pub Passes : (List ℕ → Bool) → InputFile → Option (List ℕ) → Type 0
+Passes opens file path = (others : List (InputFile × List ℕ)) → first_unopened opens (given_path file path others) ≡ first_unopened opens others
+
+-- a file that doesn't open, behind others that did, is told
+module _ (opens : List ℕ → Bool) (told : Fault) where
+  abbrev IsFirst : List (InputFile × List ℕ) → Type 0
+  IsFirst paths = IsUnopened (first_unopened opens paths) told
+
+  abbrev Stops : InputFile → Option (List ℕ) → Type 0
+  Stops file path = (others : List (InputFile × List ℕ)) → IsFirst (given_path file path others)
+
+  -- a file that opened, before others
+  past : (file : InputFile) (path asked : Option (List ℕ)) (others : List (InputFile × List ℕ)) → path ≡ asked → Passes opens file path
+      → IsFirst others → IsFirst (given_path file asked others)
+  past file path asked others same passes first =
+      subst (λ first. IsUnopened first told) (sym (ap (λ given. first_unopened opens (given_path file given others)) (sym same) ∙ passes others)) first
+
+  -- one that didn't
+  at : (file : InputFile) (path asked : Option (List ℕ)) (others : List (InputFile × List ℕ)) → path ≡ asked → Stops file path
+      → IsFirst (given_path file asked others)
+  at file path asked others same stops = subst (λ given. IsFirst (given_path file given others)) same (stops others)
+
+  module _ (request : Request) (path : List ℕ) (opened : true ≡ opens path) (is_path : path ≡ capture_of request) where
+    abbrev BehindKeys : List (InputFile × List ℕ)
+    BehindKeys = given_path Macs (macs_of request) []
+
+    abbrev BehindStatements : List (InputFile × List ℕ)
+    BehindStatements = given_path Keys (keys_of request) BehindKeys
+
+    abbrev BehindAnchors : List (InputFile × List ℕ)
+    BehindAnchors = given_path Statements (statements_of request) BehindStatements
+
+    past_capture : IsFirst (given_path Anchors (anchors_of request) BehindAnchors) → IsFirst (paths_of request)
+    past_capture first =
+        subst (λ first. IsUnopened first told)
+        (sym (opened_first opens Capture (capture_of request) (given_path Anchors (anchors_of request) BehindAnchors) (ap opens (sym is_path) ∙ sym opened)))
+        first
+
+    module _ (anchors : Option (List ℕ)) (anchors_are : anchors ≡ anchors_of request) where
+      pub unopened_anchors : Stops Anchors anchors → IsFirst (paths_of request)
+      unopened_anchors stops = past_capture (at Anchors anchors (anchors_of request) BehindAnchors anchors_are stops)
+
+      module _ (anchors_opened : Passes opens Anchors anchors) (statements : Option (List ℕ)) (statements_are : statements ≡ statements_of request) where
+        past_anchors : IsFirst BehindAnchors → IsFirst (paths_of request)
+        past_anchors first = past_capture (past Anchors anchors (anchors_of request) BehindAnchors anchors_are anchors_opened first)
+
+        pub unopened_statements : Stops Statements statements → IsFirst (paths_of request)
+        unopened_statements stops = past_anchors (at Statements statements (statements_of request) BehindStatements statements_are stops)
+
+        module _ (statements_opened : Passes opens Statements statements) (keys : Option (List ℕ)) (keys_are : keys ≡ keys_of request) where
+          past_statements : IsFirst BehindStatements → IsFirst (paths_of request)
+          past_statements first = past_anchors (past Statements statements (statements_of request) BehindStatements statements_are statements_opened first)
+
+          pub unopened_keys : Stops Keys keys → IsFirst (paths_of request)
+          unopened_keys stops = past_statements (at Keys keys (keys_of request) BehindKeys keys_are stops)
+
+          pub unopened_macs : Passes opens Keys keys → (macs : Option (List ℕ)) → macs ≡ macs_of request → Stops Macs macs → IsFirst (paths_of request)
+          unopened_macs keys_opened macs macs_are stops =
+              past_statements (past Keys keys (keys_of request) BehindKeys keys_are keys_opened (at Macs macs (macs_of request) [] macs_are stops))
+
+-- where each file opened, none is told
+pub all_opened : (opens : List ℕ → Bool) (request : Request) (path : List ℕ) → true ≡ opens path → path ≡ capture_of request
+    → (anchors : Option (List ℕ)) → anchors ≡ anchors_of request → Passes opens Anchors anchors
+    → (statements : Option (List ℕ)) → statements ≡ statements_of request → Passes opens Statements statements
+    → (keys : Option (List ℕ)) → keys ≡ keys_of request → Passes opens Keys keys
+    → (macs : Option (List ℕ)) → macs ≡ macs_of request → Passes opens Macs macs
+    → first_unopened opens (paths_of request) ≡ None
+all_opened opens request path opened is_path anchors anchors_are anchors_opened statements statements_are statements_opened keys keys_are keys_opened macs macs_are macs_opened =
+    let behind_keys = given_path Macs (macs_of request) [] in
+    let behind_statements = given_path Keys (keys_of request) behind_keys in
+    let behind_anchors = given_path Statements (statements_of request) behind_statements in
+    opened_first opens Capture (capture_of request) (given_path Anchors (anchors_of request) behind_anchors) (ap opens (sym is_path) ∙ sym opened)
+    ∙ ap (λ given. first_unopened opens (given_path Anchors given behind_anchors)) (sym anchors_are) ∙ anchors_opened behind_anchors
+    ∙ ap (λ given. first_unopened opens (given_path Statements given behind_statements)) (sym statements_are) ∙ statements_opened behind_statements
+    ∙ ap (λ given. first_unopened opens (given_path Keys given behind_keys)) (sym keys_are) ∙ keys_opened behind_keys
+    ∙ ap (λ given. first_unopened opens (given_path Macs given [])) (sym macs_are) ∙ macs_opened []
+
+-- the file that is told is the first that doesn't open
+pub which_unopened : {T : Type 0} (first : Option InputFile) (told : Fault) (file : InputFile) → IsUnopened first told → IsOpenFault told
+    → Path (Result T Fault) (Err told) (Err (fault.OpenFailed file)) ↔ (first ≡ Some file)
+which_unopened {T} first (fault.OpenFailed other) file is opening = (
+  λ e. let same : other ≡ file = cc in is ∙ ap (λ (f : InputFile). Some f) same,
+  λ e. let two : Some other ≡ Some file = sym is ∙ e in let same : other ≡ file = cc in ap (λ (f : InputFile). Err (fault.OpenFailed f)) same,
+)
+which_unopened first fault.OutOfMemory file is opening = absurd opening
+which_unopened first (fault.ReadFailed other) file is opening = absurd opening
+which_unopened first (fault.TooLong other) file is opening = absurd opening
+which_unopened first fault.WriteFailed file is opening = absurd opening
+which_unopened first (fault.Refused why place) file is opening = absurd opening

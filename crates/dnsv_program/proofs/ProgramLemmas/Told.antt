@@ -1,0 +1,148 @@
+-- The line on the errors, by how the program ends.
+use Rattle.std.proofs.Common.{◌≡◌, ◌<◌, ◌-◌, ◌^◌, ◌⊎◌, ◌↔◌, ℕ, Bool, List, Option, Some, None, ap, refl, sym, ◌∙◌, inl, inr, arith}
+use Rattle.std.specs.Prelude.{Result, Ok, Err, IfErr, IfSome, OnOk, is_err}
+use Rattle.std.specs.Io.KnownBytes.{Appends}
+use Rattle.dnsv_message.specs.Streams.Counted.{AppendsBeginning, count_after, failures_of, inner_of}
+use Rattle.dnsv_message.specs.declared.streams.counted.Counted.{Counted}
+use Rattle.dnsv_program.specs.declared.command_line.CommandLineError.{CommandLineError}
+use Rattle.dnsv_program.specs.declared.command_line.request.Request.{Request}
+use Rattle.dnsv_program.specs.declared.status.Fault.{Fault}
+use Rattle.dnsv_program.specs.declared.status.Fault.TheVariants as fault
+use Rattle.dnsv_program.specs.declared.status.InputFile.{InputFile}
+use Rattle.dnsv_program.specs.declared.status.Status.{Status}
+use Rattle.dnsv_program.specs.Files.Faults.{OfFailedRead, OfOctets}
+use Rattle.dnsv_program.specs.Files.{Files}
+use Rattle.dnsv_program.specs.CommandLine.{IsAccepted, IsRefused, command_line_code}
+use Rattle.dnsv_program.specs.Program.{AreFilesAt, FailedRequest, FailedWords, HasToldIn, IsEnd, LeavesOutput, first_unopened, paths_of}
+use Rattle.dnsv_program.specs.Run.{IsFirstFault, IsReached}
+use Rattle.dnsv_program.specs.Status.{fault_code, fault_line, outcome_code}
+use Rattle.dnsv_program.proofs.ProgramLemmas.{no_1, no_7, no_end}
+use Rattle.dnsv_program.proofs.ProgramLemmas.Words.{EndsSo, at_most_2, no_7_of_words}
+
+-- a write of the line gives the whole, or a beginning of it and a call more that failed
+pub told_by_write : {W E T : Type 0} (contents : W → Option (List ℕ)) (old new : Counted W) (told : Fault) (result : Result T E)
+    → OnOk result (Appends (contents (inner_of old)) (contents (inner_of new)) (fault_line told))
+    → IfErr result (λ _. AppendsBeginning (contents (inner_of old)) (contents (inner_of new)) (fault_line told))
+    → failures_of new ≡ count_after (failures_of old) (is_err result)
+    → HasToldIn contents old new told
+told_by_write contents old new told (Ok done) whole begun counted = inl whole
+told_by_write contents old new told (Err error) whole begun counted = inr ((λ below. omega (arith, below, counted)), begun)
+
+-- ---- where the words ask for something
+
+no_fault : (status : Status) (code : ℕ) → outcome_code (Ok status) ≡ code → (code ≡ 1) ⊎ (code ≡ 7) → ⊥
+no_fault status code is (inl is_1) = no_1 status (is ∙ is_1)
+no_fault status code is (inr is_7) = no_7 status (is ∙ is_7)
+
+leaves : {W : Type 0} (old new : Counted W) (told : Fault) → ((told ≡ fault.WriteFailed → ⊥) → new ≡ old)
+    → (told ≡ fault.WriteFailed → failures_of old < 2 ^ 64 - 1 → failures_of old < failures_of new) → LeavesOutput old new told
+leaves old new fault.OutOfMemory untouched failed = untouched (λ is. cc)
+leaves old new (fault.ReadFailed file) untouched failed = untouched (λ is. cc)
+leaves old new (fault.TooLong file) untouched failed = untouched (λ is. cc)
+leaves old new (fault.OpenFailed file) untouched failed = untouched (λ is. cc)
+leaves old new fault.WriteFailed untouched failed = failed refl
+leaves old new (fault.Refused why place) untouched failed = untouched (λ is. cc)
+
+module _ (octets_at : List ℕ → Option (List ℕ)) (opens_at : List ℕ → Option Bool) (request : Request) where
+  -- what the answer says of files, by their octets and by which of them open
+  abbrev IsFirst : {T : Type 0} → Result T Fault → Type 0
+  IsFirst outcome = (files : Files) → AreFilesAt octets_at request files → IfErr outcome (OfOctets (IsFirstFault request files))
+
+  abbrev IsBehind : {T : Type 0} → Result T Fault → Type 0
+  IsBehind outcome = (files : Files) → AreFilesAt octets_at request files → IfErr outcome (OfFailedRead (IsReached request files))
+
+  abbrev TellsUnopened : {T : Type 0} → Result T Fault → Type 0
+  TellsUnopened outcome = (opens : List ℕ → Bool) → ((path : List ℕ) → opens_at path ≡ Some (opens path)) → (file : InputFile)
+      → (outcome ≡ Err (fault.OpenFailed file)) ↔ (first_unopened opens (paths_of request) ≡ Some file)
+
+  failed_request : (given : Option (List (List ℕ))) (told : Fault) → IfSome given (λ words. IsAccepted words request)
+      → IsFirst {T = Status} (Err told) → IsBehind {T = Status} (Err told) → TellsUnopened {T = Status} (Err told)
+      → IfSome given (λ words. FailedRequest words octets_at opens_at told ⊎ FailedWords words told)
+  failed_request None told accepted first behind unopened = tt
+  failed_request (Some words) told accepted first behind unopened = inl (record {
+    request = request;
+    accepted = accepted;
+    first = first;
+    reached = behind;
+    unopened = λ opens tells file. let same = unopened opens tells file in (
+      λ is. same.0 (ap (λ (f : Fault). Err f) is),
+      λ is. let told_so : Path (Result Status Fault) (Err told) (Err (fault.OpenFailed file)) = same.1 is in cc,
+    );
+  })
+
+  pub request_told : {W : Type 0} {IsLine : Fault → Type 0} (given : Option (List (List ℕ))) (old new : Counted W) (outcome : Result Status Fault) (code : ℕ)
+      → outcome_code outcome ≡ code → IfSome given (λ words. IsAccepted words request) → IsFirst outcome → IsBehind outcome → TellsUnopened outcome
+      → IfErr outcome (λ told. (told ≡ fault.WriteFailed → ⊥) → new ≡ old)
+      → (outcome ≡ Err fault.WriteFailed → failures_of old < 2 ^ 64 - 1 → failures_of old < failures_of new)
+      → IfErr outcome IsLine → (code ≡ 1) ⊎ (code ≡ 7)
+      → (told : Fault) × (fault_code told ≡ code) × IsLine told × LeavesOutput old new told
+      × IfSome given (λ words. FailedRequest words octets_at opens_at told ⊎ FailedWords words told)
+  request_told given old new (Ok status) code is accepted first behind unopened untouched failed line ends = absurd (no_fault status code is ends)
+  request_told given old new (Err told) code is accepted first behind unopened untouched failed line ends = (
+    told,
+    is,
+    line,
+    leaves old new told untouched (λ same. failed (ap (λ (f : Fault). Err f) same)),
+    failed_request given told accepted first behind unopened,
+  )
+
+pub quiet_at_end : {Same : Type 0} (outcome : Result Status Fault) (code : ℕ) → outcome_code outcome ≡ code → IsEnd code → OnOk outcome Same → Same
+quiet_at_end (Ok status) code is ends same = same
+quiet_at_end (Err told) code is ends same = absurd (no_end told code is ends)
+
+-- ---- where they ask for nothing
+
+-- what is told of the words, or of help
+abbrev pub IsWordsFault : CommandLineError → Fault → Type 0
+IsWordsFault error told = (told ≡ fault.OutOfMemory) ⊎ ((told ≡ fault.WriteFailed) × (command_line_code error ≡ 0))
+
+ends_with_1 : (error : CommandLineError) (told : Fault) → IsWordsFault error told → fault_code told ≡ 1
+ends_with_1 error told (inl is) = ap fault_code is
+ends_with_1 error told (inr (is, asked)) = ap fault_code is
+
+module _ (error : CommandLineError) (code : ℕ) (ends : EndsSo error code) where
+  failed_words : (words : List (List ℕ)) (told : Fault) → IsRefused words error → code ≡ 1 → EndsSo error code → IsWordsFault error told → FailedWords words told
+  failed_words words told refused is_1 (inl is) (inl memory) = inl (memory, inr (record { error = error; refused = refused; code_told = sym is ∙ is_1 }))
+  failed_words words told refused is_1 (inr (asked, _)) (inl memory) = inl (memory, inl (record { error = error; refused = refused; code_told = asked }))
+  failed_words words told refused is_1 so (inr (written, asked)) = inr (written, record { error = error; refused = refused; code_told = asked })
+
+  said_of_words : (octets_at : List ℕ → Option (List ℕ)) (opens_at : List ℕ → Option Bool) (given : Option (List (List ℕ))) (told : Fault)
+      → IfSome given (λ words. IsRefused words error) → code ≡ 1 → IsWordsFault error told
+      → IfSome given (λ words. FailedRequest words octets_at opens_at told ⊎ FailedWords words told)
+  said_of_words octets_at opens_at None told refused is_1 why = tt
+  said_of_words octets_at opens_at (Some words) told refused is_1 why = inr (failed_words words told refused is_1 ends why)
+
+  pub words_told : {W : Type 0} {IsLine : Fault → Type 0} (octets_at : List ℕ → Option (List ℕ)) (opens_at : List ℕ → Option Bool) (given : Option (List (List ℕ)))
+      (old new : Counted W) → IfSome given (λ words. IsRefused words error)
+      → (code ≡ 1 → (told : Fault) × IsLine told × LeavesOutput old new told × IsWordsFault error told)
+      → (code ≡ 1) ⊎ (code ≡ 7)
+      → (told : Fault) × (fault_code told ≡ code) × IsLine told × LeavesOutput old new told
+      × IfSome given (λ words. FailedRequest words octets_at opens_at told ⊎ FailedWords words told)
+  words_told octets_at opens_at given old new refused tells (inr is_7) = absurd (no_7_of_words error code ends is_7)
+  words_told octets_at opens_at given old new refused tells (inl is_1) =
+      let (told, line, left, why) = tells is_1 in
+      (told, ends_with_1 error told why ∙ sym is_1, line, left, said_of_words octets_at opens_at given told refused is_1 why)
+
+  quiet_so : {Same : Type 0} → EndsSo error code → (code ≡ 0 → Same) → IsEnd code → Same
+  quiet_so so same (inl is_0) = same is_0
+  quiet_so (inl is) same (inr between) = absurd (omega (arith, is, at_most_2 error, between.0))
+  quiet_so (inr (asked, is_1)) same (inr between) = absurd (omega (arith, is_1, between.0))
+
+  pub words_quiet : {Same : Type 0} → (code ≡ 0 → Same) → IsEnd code → Same
+  words_quiet = quiet_so ends
+
+-- ---- where help isn't written
+
+apart : (told : Fault) → told ≡ fault.OutOfMemory → told ≡ fault.WriteFailed → ⊥
+apart told memory written = cc
+
+-- a fault of the help that was asked for
+pub help_told : {W : Type 0} {IsLine : Fault → Type 0} (error : CommandLineError) (old new : Counted W) (outcome : Result Status Fault) (code : ℕ) → outcome_code outcome ≡ code
+    → command_line_code error ≡ 0
+    → IfErr outcome (λ told. ((told ≡ fault.OutOfMemory) × (new ≡ old))
+    ⊎ ((told ≡ fault.WriteFailed) × (failures_of old < 2 ^ 64 - 1 → failures_of old < failures_of new)))
+    → IfErr outcome IsLine → code ≡ 1
+    → (told : Fault) × IsLine told × LeavesOutput old new told × IsWordsFault error told
+help_told error old new (Ok status) code is asked failed line is_1 = absurd (no_1 status (is ∙ is_1))
+help_told error old new (Err told) code is asked (inl (memory, same)) line is_1 = (told, line, leaves old new told (λ _. same) (λ wrong. absurd (apart told memory wrong)), inl memory)
+help_told error old new (Err told) code is asked (inr (written, failed)) line is_1 = (told, line, leaves old new told (λ wrong. absurd (wrong written)) (λ _. failed), inr (written, asked))

@@ -1,0 +1,62 @@
+-- What comes before a failed read.
+use Rattle.std.proofs.Common.{◌≡◌, ℕ, Bool, true, false, inl, subst, sym}
+use Rattle.std.specs.Prelude.{Result, Ok, Err, IfErr}
+use Rattle.dnsv_program.specs.declared.status.Fault.{Fault}
+use Rattle.dnsv_program.specs.declared.status.Fault.TheVariants as fault
+use Rattle.dnsv_program.specs.declared.status.InputFile.{InputFile}
+use Rattle.dnsv_program.specs.declared.status.InputFile.TheVariants.{Anchors, Capture, Keys, Macs, Statements}
+use Rattle.dnsv_program.specs.Opening.Given.{IsOpeningReached}
+use Rattle.dnsv_program.specs.Files.Faults.{IsAbout, OfFailedRead}
+use Rattle.dnsv_program.specs.Files.{Files}
+use Rattle.dnsv_program.specs.Files.Capture.{NewEvidence, IsFaultOfCapture}
+use Rattle.dnsv_program.specs.declared.opening.Opening.TheVariants.{Plain}
+use Rattle.dnsv_program.specs.Run.{HasEvidence, IsFirstFaultOfList, IsReachedByList, IsReachedOfFiles}
+use Rattle.std.proofs.lemmas.Bool.{false≢true}
+
+-- where a fault is about one file, what holds of that file is enough
+pub reached_by : (Holds : InputFile → Type 0) (file : InputFile) (told : Fault) → IsAbout file told → Holds file → OfFailedRead Holds told
+reached_by Holds file (fault.ReadFailed other) about holds = subst Holds (sym about) holds
+reached_by Holds file fault.OutOfMemory about holds = tt
+reached_by Holds file (fault.Refused why place) about holds = tt
+reached_by Holds file (fault.TooLong other) about holds = tt
+reached_by Holds file (fault.OpenFailed other) about holds = tt
+reached_by Holds file fault.WriteFailed about holds = tt
+
+weaker_told : (P Q : InputFile → Type 0) (told : Fault) → ((file : InputFile) → P file → Q file) → OfFailedRead P told → OfFailedRead Q told
+weaker_told P Q (fault.ReadFailed file) weaker holds = weaker file holds
+weaker_told P Q fault.OutOfMemory weaker holds = tt
+weaker_told P Q (fault.Refused why place) weaker holds = tt
+weaker_told P Q (fault.TooLong other) weaker holds = tt
+weaker_told P Q (fault.OpenFailed other) weaker holds = tt
+weaker_told P Q fault.WriteFailed weaker holds = tt
+
+-- what comes before a file of some of the work comes before it in all of it
+pub reached_in : {T : Type 0} (P Q : InputFile → Type 0) (result : Result T Fault) → ((file : InputFile) → P file → Q file) → IfErr result (OfFailedRead P)
+    → IfErr result (OfFailedRead Q)
+reached_in P Q (Ok x) weaker holds = tt
+reached_in P Q (Err told) weaker holds = weaker_told P Q told weaker holds
+
+in_files : (moment : ℕ) (files : Files) (file : InputFile) → IsOpeningReached files.keys file → IsReachedOfFiles moment files file
+in_files moment files Keys holds = tt
+in_files moment files Macs holds = holds
+in_files moment files Capture holds = absurd holds
+in_files moment files Anchors holds = absurd holds
+in_files moment files Statements holds = absurd holds
+
+-- the keys and the MACs are read first
+pub reached_sealed : (moment : ℕ) (files : Files) (told : Fault) → OfFailedRead (IsOpeningReached files.keys) told → OfFailedRead (IsReachedOfFiles moment files) told
+reached_sealed moment files told = weaker_told (IsOpeningReached files.keys) (IsReachedOfFiles moment files) told (in_files moment files)
+
+-- a list reads the file of captured messages first
+pub list_captured : (all : Bool) (files : Files) (told : Fault) → IsFaultOfCapture NewEvidence Plain files.capture told → IsFirstFaultOfList all files told
+list_captured true files told holds = holds
+list_captured false files told holds = inl holds
+
+pub list_reached : (all : Bool) (files : Files) → IsReachedByList all files Capture
+list_reached true files = tt
+list_reached false files = tt
+
+-- and the statements behind evidence, where they are read
+pub list_stated : (all : Bool) (files : Files) → all ≡ false → HasEvidence Plain files.capture → IsReachedByList all files Statements
+list_stated true files none has = absurd (false≢true (sym none))
+list_stated false files none has = has

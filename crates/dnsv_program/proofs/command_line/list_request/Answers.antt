@@ -1,0 +1,16 @@
+use Rattle.std.proofs.Common.{refl, ◌∙◌}
+use Rattle.dnsv_program.proofs.CommandLineLemmas.Words.{is_made, same_moment}
+use Rattle.dnsv_program.proofs.command_line.list_request.Goals as goal
+
+pub unwrap-moment-requires : goal.unwrap-moment-requires
+unwrap-moment-requires c = is_made c.new.result c.number.result c.new.ensures c.number.ensures.bound
+
+pub returns : goal.returns
+returns c = (
+  refl,
+  c.in_ok-capture.ensures,
+  c.number.ensures.said ∙ same_moment c.new.result c.number.result c.unwrap-moment.result c.new.ensures c.number.ensures.bound c.unwrap-moment.ensures,
+  c.in_ok-statements.ensures,
+  c.flag-all.ensures,
+  c.flag-json.ensures,
+)

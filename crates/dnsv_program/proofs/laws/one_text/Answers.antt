@@ -1,0 +1,5 @@
+use Rattle.dnsv_program.proofs.LawLemmas.OneText.{one_text}
+use Rattle.dnsv_program.proofs.laws.one_text.Goals as goal
+
+pub returns : goal.returns
+returns c = one_text c.layers.ensures

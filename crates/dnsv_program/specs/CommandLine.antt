@@ -1,0 +1,121 @@
+-- The command line: what its words ask for.
+pub mod Commands
+pub mod Moment
+pub mod Question
+pub mod Paths
+use Rattle.std.specs.Prelude.{◌≡◌, ◌≢◌, ◌⊎◌, ⊤, ℕ, Bool, true, false, List, [], Option, Some, None}
+use Rattle.std.specs.Prelude.{if◌then◌else◌, codes, is_some, option_and_then, string_bytes}
+use Rattle.std.specs.Option.{option_map}
+use Rattle.std.specs.Str.{bytes_eq}
+use Rattle.std.specs.Str.Parse.{digits_value, without_leading_plus}
+use Rattle.clap.specs.Words.{Row, Text, first_of, kind_of, one_of}
+use Rattle.clap.specs.Words.{IsAmong, fault_of, subcommand_of}
+use Rattle.clap.specs.ValueTests.{is_unsigned_in}
+use Rattle.clap.specs.declared.error.Error.{Error}
+use Rattle.clap.specs.declared.error.kind.ErrorKind.{ErrorKind}
+use Rattle.clap.specs.declared.error.kind.ErrorKind.TheVariants as kind
+use Rattle.std.specs.declared.io.ErrorKind.{ErrorKind as IoErrorKind}
+use Rattle.std.specs.declared.io.ErrorKind.TheVariants as io
+use Rattle.dnsv_program.specs.CommandLine.Commands.{program_app, question_word}
+use Rattle.dnsv_program.specs.CommandLine.Moment.{last_moment}
+use Rattle.dnsv_program.specs.declared.command_line.request.Request.{Request}
+use Rattle.dnsv_program.specs.declared.command_line.request.Request.TheVariants as request
+use Rattle.dnsv_program.specs.declared.command_line.CommandLineError.{CommandLineError}
+use Rattle.dnsv_program.specs.declared.command_line.CommandLineError.TheVariants as line
+
+-- ---- what the words ask for
+
+-- the number up to the last that a text says: decimal digits, which may follow a `+`
+abbrev pub number_said : ℕ → Text → Option ℕ
+number_said last text =
+    if is_unsigned_in 0 last text then Some (digits_value 10 (without_leading_plus text))
+    else None
+
+-- whether a flag was given, by its text
+abbrev pub flag_said : Option Text → Bool
+flag_said None = false
+flag_said (Some text) = bytes_eq text (codes "true")
+
+-- a subcommand and the values of its options ask for the request
+abbrev pub Asks : Text → List Row → Request → Type 0
+Asks name rows (request.Show capture) = (name ≡ codes "show")
+    × (first_of (codes "capture") rows ≡ Some (string_bytes capture))
+Asks name rows (request.List capture moment statements all json) = (name ≡ codes "list")
+    × (first_of (codes "capture") rows ≡ Some (string_bytes capture))
+    × (option_and_then (number_said last_moment) (first_of (codes "moment") rows) ≡ Some moment)
+    × (first_of (codes "statements") rows ≡ option_map string_bytes statements)
+    × (flag_said (one_of (codes "all") rows) ≡ all)
+    × (flag_said (one_of (codes "json") rows) ≡ json)
+Asks name rows (request.Check capture anchors moment asked rtype statements keys macs json why) = (name ≡ question_word why)
+    × (first_of (codes "capture") rows ≡ Some (string_bytes capture))
+    × (first_of (codes "anchors") rows ≡ Some (string_bytes anchors))
+    × (option_and_then (number_said last_moment) (first_of (codes "moment") rows) ≡ Some moment)
+    × (first_of (codes "name") rows ≡ Some (string_bytes asked))
+    × (option_and_then (number_said 65535) (first_of (codes "type") rows) ≡ Some rtype.0)
+    × (first_of (codes "statements") rows ≡ option_map string_bytes statements)
+    × (first_of (codes "keys") rows ≡ option_map string_bytes keys)
+    × (first_of (codes "macs") rows ≡ option_map string_bytes macs)
+    × (flag_said (one_of (codes "json") rows) ≡ json)
+
+-- the program takes the words, and their subcommand and its values ask for the request
+abbrev pub IsAccepted : List Text → Request → Type 0
+IsAccepted words asked = (fault_of program_app words ≡ [])
+    × ((name : Text) × (rows : List Row)
+    × (subcommand_of program_app words ≡ Some (name, rows)) × Asks name rows asked)
+
+-- ---- why they ask for nothing
+
+-- help was asked for, or the words have a mistake, of a kind that the program gives at them
+abbrev pub IsRefused : List Text → CommandLineError → Type 0
+IsRefused words line.OutOfMemory = ⊤
+IsRefused words line.NotText = ⊥
+IsRefused words (line.Help refusal) =
+    (kind_of refusal ≡ kind.DisplayHelp) × IsAmong kind.DisplayHelp (fault_of program_app words)
+IsRefused words (line.Misused refusal) =
+    (kind_of refusal ≢ kind.DisplayHelp) × IsAmong (kind_of refusal) (fault_of program_app words)
+
+abbrev pub error_of_kind : ErrorKind → Error → CommandLineError
+error_of_kind kind.OutOfMemory refusal = line.OutOfMemory
+error_of_kind kind.DisplayHelp refusal = line.Help refusal
+error_of_kind _ refusal = line.Misused refusal
+
+abbrev pub command_line_error : Error → CommandLineError
+command_line_error refusal = error_of_kind (kind_of refusal) refusal
+
+-- what goes wrong where the words are handed out
+abbrev pub words_error : IoErrorKind → CommandLineError
+words_error io.OutOfMemory = line.OutOfMemory
+words_error _ = line.NotText
+
+-- the exit status: 1 without memory, 0 after help, else 2
+abbrev pub command_line_code : CommandLineError → ℕ
+command_line_code line.OutOfMemory = 1
+command_line_code line.NotText = 2
+command_line_code (line.Help refusal) = 0
+command_line_code (line.Misused refusal) = 2
+
+-- ---- what the subcommands need of their matches
+
+abbrev pub HasValue : Text → List Row → Type 0
+HasValue option rows = is_some (first_of option rows) ≡ true
+
+abbrev pub HasCapture : List Row → Type 0
+HasCapture rows = HasValue (codes "capture") rows
+
+-- the text of a number up to the last
+abbrev pub HasNumber : Text → ℕ → List Row → Type 0
+HasNumber option last rows = (text : Text) × (first_of option rows ≡ Some text)
+    × (one_of option rows ≡ Some text) × (is_unsigned_in 0 last text ≡ true)
+
+-- the text of a flag is a truth value's, or it has none
+abbrev pub IsFlag : Option Text → Type 0
+IsFlag text = (text ≡ None) ⊎ ((text ≡ Some (codes "true")) ⊎ (text ≡ Some (codes "false")))
+
+abbrev pub HasListValues : List Row → Type 0
+HasListValues rows = HasCapture rows × HasNumber (codes "moment") last_moment rows × IsFlag (one_of (codes "all") rows)
+    × IsFlag (one_of (codes "json") rows)
+
+abbrev pub HasCheckValues : List Row → Type 0
+HasCheckValues rows = HasCapture rows × HasValue (codes "anchors") rows
+    × HasNumber (codes "moment") last_moment rows × HasValue (codes "name") rows
+    × HasNumber (codes "type") 65535 rows × IsFlag (one_of (codes "json") rows)

@@ -1,0 +1,120 @@
+-- The commands of the program as `clap` sees them.
+use Rattle.std.specs.Prelude.{ℕ, Bool, true, false, List, codes, Some}
+use Rattle.clap.specs.Words.{App, Rule, new_app, new_rule, with_rule, with_subcommand}
+use Rattle.clap.specs.declared.builder.action.ArgAction.TheVariants.{SetTrue}
+use Rattle.clap.specs.declared.builder.value_parser.ValueParser.TheVariants as parser
+use Rattle.dnsv_program.specs.CommandLine.Moment.{last_moment}
+
+-- `--capture FILE`, which has to be there
+abbrev pub capture_rule : Rule
+capture_rule = record (new_rule (codes "capture")) {
+  long = Some (codes "capture");
+  value_names = 1;
+  required = true;
+}
+
+-- `--moment N`, which has to be there, with a decimal number up to the last moment
+abbrev pub moment_rule : Rule
+moment_rule = record (new_rule (codes "moment")) {
+  long = Some (codes "moment");
+  value_names = 1;
+  parser = Some (parser.Unsigned 0 last_moment);
+  required = true;
+}
+
+-- `--anchors FILE`, which has to be there
+abbrev pub anchors_rule : Rule
+anchors_rule = record (new_rule (codes "anchors")) {
+  long = Some (codes "anchors");
+  value_names = 1;
+  required = true;
+}
+
+-- `--name NAME`, which has to be there
+abbrev pub name_rule : Rule
+name_rule = record (new_rule (codes "name")) {
+  long = Some (codes "name");
+  value_names = 1;
+  required = true;
+}
+
+-- `--type N`, which has to be there, with a decimal number up to 65535
+abbrev pub type_rule : Rule
+type_rule = record (new_rule (codes "type")) {
+  long = Some (codes "type");
+  value_names = 1;
+  parser = Some (parser.Unsigned 0 65535);
+  required = true;
+}
+
+-- `--statements FILE`
+abbrev pub statements_rule : Rule
+statements_rule = record (new_rule (codes "statements")) {
+  long = Some (codes "statements");
+  value_names = 1;
+}
+
+-- `--keys FILE`
+abbrev pub keys_rule : Rule
+keys_rule = record (new_rule (codes "keys")) {
+  long = Some (codes "keys");
+  value_names = 1;
+}
+
+-- `--macs FILE`
+abbrev pub macs_rule : Rule
+macs_rule = record (new_rule (codes "macs")) {
+  long = Some (codes "macs");
+  value_names = 1;
+}
+
+-- `--all`, which takes no value
+abbrev pub all_rule : Rule
+all_rule = record (new_rule (codes "all")) {
+  long = Some (codes "all");
+  action = Some SetTrue;
+}
+
+-- `--json`, which takes no value
+abbrev pub json_rule : Rule
+json_rule = record (new_rule (codes "json")) {
+  long = Some (codes "json");
+  action = Some SetTrue;
+}
+
+-- `show --capture FILE`
+abbrev pub show_app : App
+show_app = with_rule (new_app (codes "show")) capture_rule
+
+-- `list --capture FILE --moment N [--statements FILE] [--all] [--json]`
+abbrev pub list_app : App
+list_app = with_rule (with_rule (with_rule (with_rule (with_rule (new_app (codes "list")) capture_rule) moment_rule)
+    statements_rule) all_rule) json_rule
+
+-- the subcommands for a question: that for its verdict, and the one that says besides why it stands
+abbrev pub question_word : Bool → List ℕ
+question_word false = codes "check"
+question_word true = codes "explain"
+
+-- this word, and `--capture FILE --anchors FILE --moment N --name NAME --type N [--statements FILE] [--keys FILE]
+-- [--macs FILE] [--json]`
+abbrev pub asking_app : List ℕ → App
+asking_app word = with_rule (with_rule (with_rule (with_rule (with_rule (with_rule (with_rule (with_rule (with_rule
+    (new_app word) capture_rule) anchors_rule) moment_rule) name_rule) type_rule) statements_rule)
+    keys_rule) macs_rule) json_rule
+
+abbrev pub question_app : Bool → App
+question_app why = asking_app (question_word why)
+
+-- the program, which wants one of its subcommands
+abbrev pub bare_app : App
+bare_app = record (new_app (codes "dnssec_check")) {
+  top = record (new_app (codes "dnssec_check")).top {
+    disable_help_subcommand = true;
+    subcommand_required = true;
+  };
+}
+
+abbrev pub program_app : App
+program_app = with_subcommand (with_subcommand (with_subcommand (with_subcommand bare_app show_app.top) list_app.top)
+    (question_app false).top) (question_app true).top

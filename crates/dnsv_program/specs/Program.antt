@@ -1,0 +1,124 @@
+-- How the program ends, where its machine tells the words of the command line and the octets of files.
+use Rattle.std.specs.Prelude.{◌≡◌, ◌⊎◌, ◌↔◌, ◌<◌, ◌≤◌, ◌-◌, ◌^◌, ℕ, Bool, not, List, [], ◌∷◌, Option, Some, None, find}
+use Rattle.std.specs.Option.{option_map}
+use Rattle.std.specs.Io.KnownBytes.{Appends}
+use Rattle.dnsv_message.specs.Streams.Counted.{AppendsBeginning, failures_of, inner_of}
+use Rattle.dnsv_message.specs.declared.streams.counted.Counted.{Counted}
+use Rattle.clap.specs.Words.{Text}
+use Rattle.dnsv_program.specs.declared.command_line.request.Request.{Request}
+use Rattle.dnsv_program.specs.declared.command_line.CommandLineError.{CommandLineError}
+use Rattle.dnsv_program.specs.declared.status.Fault.{Fault}
+use Rattle.dnsv_program.specs.declared.status.Fault.TheVariants as fault
+use Rattle.dnsv_program.specs.declared.status.InputFile.{InputFile}
+use Rattle.dnsv_program.specs.declared.status.InputFile.TheVariants.{Anchors, Capture, Keys, Macs, Statements}
+use Rattle.dnsv_program.specs.declared.status.Status.{Status}
+use Rattle.dnsv_program.specs.declared.status.Place.{Place}
+use Rattle.dnsv_program.specs.declared.status.Refusal.{Refusal}
+use Rattle.dnsv_program.specs.Files.Faults.{OfFailedRead, OfOctets}
+use Rattle.dnsv_program.specs.Files.{Files}
+use Rattle.dnsv_program.specs.CommandLine.{IsAccepted, IsRefused, command_line_code}
+use Rattle.dnsv_program.specs.CommandLine.Paths.{anchors_of, capture_of, keys_of, macs_of, statements_of}
+use Rattle.dnsv_program.specs.Run.{IsTextAskedFor, IsFirstFault, IsReached}
+use Rattle.dnsv_program.specs.Status.{fault_line, status_code}
+
+-- ---- files
+
+-- the files that the request names hold these octets
+pub record AreFilesAt (octets_at : List ℕ → Option (List ℕ)) (request : Request) (files : Files) : Type 0 where
+  pub capture : octets_at (capture_of request) ≡ Some files.capture
+  pub anchors : option_map octets_at (anchors_of request) ≡ option_map (λ octets. Some octets) files.anchors
+  pub statements : option_map octets_at (statements_of request) ≡ option_map (λ octets. Some octets) files.statements
+  pub keys : option_map octets_at (keys_of request) ≡ option_map (λ octets. Some octets) files.keys
+  pub macs : option_map octets_at (macs_of request) ≡ option_map (λ octets. Some octets) files.macs
+
+-- a file with its path, where one is given, before others
+abbrev pub given_path : InputFile → Option (List ℕ) → List (InputFile × List ℕ) → List (InputFile × List ℕ)
+given_path file None others = others
+given_path file (Some path) others = (file, path) ∷ others
+
+-- the files of a request with their paths, in the order in which they are opened
+abbrev pub paths_of : Request → List (InputFile × List ℕ)
+paths_of request = (Capture, capture_of request)
+    ∷ given_path Anchors (anchors_of request) (given_path Statements (statements_of request)
+    (given_path Keys (keys_of request) (given_path Macs (macs_of request) [])))
+
+-- the first of the files that doesn't open
+abbrev pub first_unopened : (List ℕ → Bool) → List (InputFile × List ℕ) → Option InputFile
+first_unopened opens paths = option_map (λ file. file.0) (find (λ file. not (opens file.1)) paths)
+
+-- ---- ends
+
+-- the exit statuses of a whole text
+abbrev pub IsEnd : ℕ → Type 0
+IsEnd code = (code ≡ 0) ⊎ ((3 ≤ code) × (code ≤ 6))
+
+-- the words ask for something, and the output got just what the files that they name have for it, which ends with
+-- this exit status
+pub record WroteText (words : List Text) (octets_at : List ℕ → Option (List ℕ))
+    (old new : Option (List ℕ)) (code : ℕ) : Type 0 where
+  pub request : Request
+  pub accepted : IsAccepted words request
+  pub text : (files : Files) → AreFilesAt octets_at request files
+      → (status : Status) × (text : List ℕ) × IsTextAskedFor request files status text
+      × (status_code status ≡ code) × Appends old new text
+
+-- the words ask for something, and the output got a beginning of what the files that they name have for it
+pub record BeganText (words : List Text) (octets_at : List ℕ → Option (List ℕ))
+    (old new : Option (List ℕ)) : Type 0 where
+  pub request : Request
+  pub accepted : IsAccepted words request
+  pub text : (files : Files) → AreFilesAt octets_at request files
+      → (status : Status) × (text : List ℕ) × IsTextAskedFor request files status text × AppendsBeginning old new text
+
+-- the words ask for something, and the first fault of the files that they name is a refusal
+pub record RefusedFiles (words : List Text) (octets_at : List ℕ → Option (List ℕ)) : Type 0 where
+  pub request : Request
+  pub accepted : IsAccepted words request
+  pub refused : (files : Files) → AreFilesAt octets_at request files
+      → (why : Refusal) × (place : Place) × IsFirstFault request files (fault.Refused why place)
+
+-- the words ask for nothing, which the program ends with this exit status
+pub record RefusedWords (words : List Text) (code : ℕ) : Type 0 where
+  pub error : CommandLineError
+  pub refused : IsRefused words error
+  pub code_told : command_line_code error ≡ code
+
+-- ---- help
+
+-- The output got a text, and no write of it failed. What help says is clap's; tests see that it is all of it.
+abbrev pub HasWritten : {W : Type 0} → (W → Option (List ℕ)) → Counted W → Counted W → Type 0
+HasWritten contents old new = (failures_of new ≡ failures_of old)
+    × ((text : List ℕ) × Appends (contents (inner_of old)) (contents (inner_of new)) text)
+
+-- ---- the line that is told
+
+-- a stream got the line of the fault; or a beginning of it, and then a write failed: by the count of its calls that
+-- failed, unless that began at its greatest value
+abbrev pub HasToldIn : {W : Type 0} → (W → Option (List ℕ)) → Counted W → Counted W → Fault → Type 0
+HasToldIn contents old new told =
+    Appends (contents (inner_of old)) (contents (inner_of new)) (fault_line told)
+    ⊎ ((failures_of old < 2 ^ 64 - 1 → failures_of old < failures_of new)
+    × AppendsBeginning (contents (inner_of old)) (contents (inner_of new)) (fault_line told))
+
+-- where this fault is told, a write of the output failed, or the output is as it was
+abbrev pub LeavesOutput : {W : Type 0} → Counted W → Counted W → Fault → Type 0
+LeavesOutput old new fault.WriteFailed = failures_of old < 2 ^ 64 - 1 → failures_of old < failures_of new
+LeavesOutput old new _ = new ≡ old
+
+-- The words ask for something, and the fault is the first that it has: by the octets of the files that they name, and
+-- by which of these open.
+pub record FailedRequest (words : List Text) (octets_at : List ℕ → Option (List ℕ))
+    (opens_at : List ℕ → Option Bool) (told : Fault) : Type 0 where
+  pub request : Request
+  pub accepted : IsAccepted words request
+  pub first : (files : Files) → AreFilesAt octets_at request files → OfOctets (IsFirstFault request files) told
+  pub reached : (files : Files) → AreFilesAt octets_at request files → OfFailedRead (IsReached request files) told
+  pub unopened : (opens : List ℕ → Bool) → ((path : List ℕ) → opens_at path ≡ Some (opens path))
+      → (file : InputFile) → (told ≡ fault.OpenFailed file)
+      ↔ (first_unopened opens (paths_of request) ≡ Some file)
+
+-- memory was wanting for the words or for help, or help wasn't written
+abbrev pub FailedWords : List Text → Fault → Type 0
+FailedWords words told =
+    ((told ≡ fault.OutOfMemory) × (RefusedWords words 0 ⊎ RefusedWords words 1))
+    ⊎ ((told ≡ fault.WriteFailed) × RefusedWords words 0)

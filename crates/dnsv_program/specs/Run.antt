@@ -1,0 +1,147 @@
+-- What a request asks of its files, and what is their first fault.
+use Rattle.std.specs.Prelude.{◌≡◌, ◌⊎◌, ⊤, ℕ, Bool, true, false, List, string_bytes}
+use Rattle.dnsv_names.specs.Name.{Labels}
+use Rattle.dnsv_message.specs.Message.{Contents}
+use Rattle.dnsv_canonical.specs.Rrsets.{IsQuestion}
+use Rattle.dnsv_chain.specs.declared.anchor.Anchor.{Anchor}
+use Rattle.dnsv_program.specs.declared.opening.Opening.{Opening}
+use Rattle.dnsv_program.specs.declared.opening.Opening.TheVariants.{Plain}
+use Rattle.dnsv_program.specs.declared.command_line.request.Request.{Request}
+use Rattle.dnsv_program.specs.declared.command_line.request.Request.TheVariants as request
+use Rattle.dnsv_program.specs.declared.status.Fault.{Fault}
+use Rattle.dnsv_program.specs.declared.status.Fault.TheVariants as fault
+use Rattle.dnsv_program.specs.declared.status.InputFile.{InputFile}
+use Rattle.dnsv_program.specs.declared.status.InputFile.TheVariants.{Anchors, Capture, Keys, Macs, Statements}
+use Rattle.dnsv_program.specs.declared.status.Status.{Status}
+use Rattle.dnsv_program.specs.declared.status.Status.TheVariants.{Done}
+use Rattle.dnsv_program.specs.Files.Anchors.{HasAnchors, IsFaultOfAnchors}
+use Rattle.dnsv_program.specs.Files.Capture.{AnyMessage, NewEvidence, Holds, IsFaultOfCapture}
+use Rattle.dnsv_program.specs.Texts.Checking.{IsCheck, IsStopped}
+use Rattle.dnsv_program.specs.Opening.Given.{IsOpeningOf, IsOpeningReached, IsFaultOfOpening}
+use Rattle.dnsv_program.specs.Files.{Files, octets_or_none}
+use Rattle.dnsv_program.specs.Texts.Listing.{IsListing}
+use Rattle.dnsv_program.specs.CommandLine.Question.{IsQuestionRefused, Spells}
+use Rattle.dnsv_program.specs.Texts.Showing.{IsShowing}
+use Rattle.dnsv_program.specs.Files.Statements.{IsFaultOfStatements}
+use Rattle.dnsv_program.specs.Texts.Todo.{IsTodo}
+
+-- ---- the text
+
+-- the question is one that can be asked, and the end and the text are those of its check
+abbrev pub IsAnswered : Bool → Bool → List ℕ → ℕ → ℕ → Files → Status → List ℕ → Type 0
+IsAnswered json why asked rtype moment files end text =
+    (name : Labels) × Spells asked name × IsQuestion name rtype × IsCheck json why name rtype moment files end text
+
+-- what each signature signs, or what a verifier still has to check
+abbrev pub IsListed : Bool → Bool → ℕ → Files → List ℕ → Type 0
+IsListed true json moment files text = IsListing json moment files.capture text
+IsListed false json moment files text = IsTodo json moment files text
+
+-- over these files the request ends so, with this text: in JSON, and with why the verdict stands, where it asks for that
+abbrev pub IsTextAskedFor : Request → Files → Status → List ℕ → Type 0
+IsTextAskedFor (request.Show capture) files end text = (end ≡ Done) × IsShowing files.capture text
+IsTextAskedFor (request.List capture moment statements all json) files end text =
+    (end ≡ Done) × IsListed all json moment files text
+IsTextAskedFor (request.Check capture anchors moment asked rtype statements keys macs json why) files end text =
+    IsAnswered json why (string_bytes asked) rtype.0 moment files end text
+
+-- ---- the first fault
+
+-- the file holds messages in such frames, each of them evidence besides those before it
+abbrev pub HasEvidence : Opening → List ℕ → Type 0
+HasEvidence opening file = (messages : List Contents) × Holds NewEvidence opening file messages
+
+-- the file of captured messages has this fault; or it has none, and the file of statements has it
+abbrev pub IsFirstFaultOfTodo : Files → Fault → Type 0
+IsFirstFaultOfTodo files fault =
+    IsFaultOfCapture NewEvidence Plain files.capture fault
+    ⊎ (HasEvidence Plain files.capture × IsFaultOfStatements (octets_or_none files.statements) fault)
+
+-- where only the file of captured messages is read, that has this fault
+abbrev pub IsFirstFaultOfList : Bool → Files → Fault → Type 0
+IsFirstFaultOfList true files fault = IsFaultOfCapture NewEvidence Plain files.capture fault
+IsFirstFaultOfList false files fault = IsFirstFaultOfTodo files fault
+
+-- behind the file of captured messages, the first fault is in the trust anchors, and then in the statements
+abbrev pub IsFirstFaultBehind : Files → Fault → Type 0
+IsFirstFaultBehind files fault =
+    IsFaultOfAnchors (octets_or_none files.anchors) fault
+    ⊎ (((anchors : List Anchor) × HasAnchors (octets_or_none files.anchors) anchors)
+    × IsFaultOfStatements (octets_or_none files.statements) fault)
+
+-- where frames are opened so, the first fault is in the file of captured messages, and then in those behind it
+abbrev pub IsFirstFaultOfEvidence : Opening → Files → Fault → Type 0
+IsFirstFaultOfEvidence opening files fault =
+    IsFaultOfCapture NewEvidence opening files.capture fault
+    ⊎ (HasEvidence opening files.capture × IsFirstFaultBehind files fault)
+
+-- the first fault is in the files of keys and MACs, and then in the others
+abbrev pub IsFirstFaultOfFiles : ℕ → Files → Fault → Type 0
+IsFirstFaultOfFiles moment files fault =
+    IsFaultOfOpening files.keys files.macs fault
+    ⊎ ((opening : Opening) × IsOpeningOf files.keys files.macs moment opening
+    × IsFirstFaultOfEvidence opening files fault)
+
+-- the question is refused so
+abbrev pub IsFaultOfQuestion : List ℕ → ℕ → Fault → Type 0
+IsFaultOfQuestion asked rtype (fault.Refused why place) = IsQuestionRefused asked rtype why place
+IsFaultOfQuestion asked rtype _ = ⊥
+
+-- the first of the files that is at fault has this fault; or none is, and an alias can't be followed
+abbrev pub IsFirstFaultOfName : Labels → ℕ → ℕ → Files → Fault → Type 0
+IsFirstFaultOfName name rtype moment files fault =
+    IsFirstFaultOfFiles moment files fault ⊎ IsStopped name rtype moment files fault
+
+-- the question is refused, and else this is the first fault of the files and of the way from its name
+abbrev pub IsFirstFaultOfCheck : List ℕ → ℕ → ℕ → Files → Fault → Type 0
+IsFirstFaultOfCheck asked rtype moment files fault =
+    IsFaultOfQuestion asked rtype fault
+    ⊎ ((name : Labels) × Spells asked name × IsQuestion name rtype × IsFirstFaultOfName name rtype moment files fault)
+
+-- the first fault, in the order of the work
+abbrev pub IsFirstFault : Request → Files → Fault → Type 0
+IsFirstFault (request.Show capture) files fault = IsFaultOfCapture AnyMessage Plain files.capture fault
+IsFirstFault (request.List capture moment statements all json) files fault = IsFirstFaultOfList all files fault
+IsFirstFault (request.Check capture anchors moment asked rtype statements keys macs json why) files fault =
+    IsFirstFaultOfCheck (string_bytes asked) rtype.0 moment files fault
+
+-- ---- what a failed read comes behind
+
+-- only the file of captured messages is read
+abbrev pub IsCaptureReached : InputFile → Type 0
+IsCaptureReached Capture = ⊤
+IsCaptureReached _ = ⊥
+
+-- the statements are read behind evidence
+abbrev pub IsReachedByTodo : Files → InputFile → Type 0
+IsReachedByTodo files Capture = ⊤
+IsReachedByTodo files Statements = HasEvidence Plain files.capture
+IsReachedByTodo files _ = ⊥
+
+abbrev pub IsReachedByList : Bool → Files → InputFile → Type 0
+IsReachedByList true files file = IsCaptureReached file
+IsReachedByList false files file = IsReachedByTodo files file
+
+-- the file of captured messages is read behind the keys and MACs, the anchors behind evidence, and the statements
+-- behind the anchors
+abbrev pub IsReachedOfFiles : ℕ → Files → InputFile → Type 0
+IsReachedOfFiles moment files Keys = ⊤
+IsReachedOfFiles moment files Macs = IsOpeningReached files.keys Macs
+IsReachedOfFiles moment files Capture = (opening : Opening) × IsOpeningOf files.keys files.macs moment opening
+IsReachedOfFiles moment files Anchors =
+    (opening : Opening) × IsOpeningOf files.keys files.macs moment opening × HasEvidence opening files.capture
+IsReachedOfFiles moment files Statements =
+    (opening : Opening) × IsOpeningOf files.keys files.macs moment opening × HasEvidence opening files.capture
+    × ((anchors : List Anchor) × HasAnchors (octets_or_none files.anchors) anchors)
+
+-- the question can be asked, and the files before this one are in order
+abbrev pub IsReachedByCheck : List ℕ → ℕ → ℕ → Files → InputFile → Type 0
+IsReachedByCheck asked rtype moment files file =
+    ((name : Labels) × Spells asked name × IsQuestion name rtype) × IsReachedOfFiles moment files file
+
+-- The request reads the file, and what comes before it in the order of the work is in order.
+abbrev pub IsReached : Request → Files → InputFile → Type 0
+IsReached (request.Show capture) files file = IsCaptureReached file
+IsReached (request.List capture moment statements all json) files file = IsReachedByList all files file
+IsReached (request.Check capture anchors moment asked rtype statements keys macs json why) files file =
+    IsReachedByCheck (string_bytes asked) rtype.0 moment files file

@@ -1,0 +1,206 @@
+//! The command line.
+ghost use Rattle.std.specs.Prelude.{◌≡◌, ◌≤◌, ⊤, IfErr, IfOk, codes, map, option_and_then, string_bytes};
+ghost use Rattle.std.specs.IoError.{error_kind as io_error_kind};
+ghost use Rattle.std.specs.Option.{option_map};
+ghost use Rattle.clap.specs.Words.{first_of, found_of, one_of, rows_of};
+ghost use Rattle.dnsv_program.specs.CommandLine.Commands.{question_word};
+ghost use Rattle.dnsv_program.specs.CommandLine.{Asks, HasCapture, HasCheckValues, HasListValues, HasNumber, HasValue};
+ghost use Rattle.dnsv_program.specs.CommandLine.{IsAccepted, IsFlag, IsRefused, command_line_code, command_line_error, flag_said, number_said, words_error};
+ghost use Rattle.dnsv_program.specs.declared.command_line.CommandLineError.TheVariants.{OutOfMemory};
+
+pub mod commands;
+pub mod moment;
+pub mod question;
+pub mod request;
+
+use crate::command_line::commands::program;
+use crate::command_line::moment::Moment;
+use crate::command_line::request::Request;
+use clap::ArgMatches;
+use clap::error::ErrorKind;
+use dnsv_names::RecordType;
+use std::alloc::{AllocError, Global};
+use std::convert::AsStr;
+use std::io;
+use thiserror::Error;
+
+/// Why the command line gives no request. The text, for the user, ends with a newline.
+#[derive(Debug, Drop, Error)]
+pub enum CommandLineError {
+    /// Memory ran out.
+    #[error("out of memory\n")]
+    OutOfMemory,
+    /// A word is no text in UTF-8.
+    #[error("error: a word of the command line is not UTF-8\n")]
+    NotText,
+    /// Help was asked for.
+    #[error(transparent)]
+    Help(clap::Error),
+    /// The words are no command of the program.
+    #[error(transparent)]
+    Misused(clap::Error),
+}
+
+impl CommandLineError {
+    /// The exit status of the program: 1 without memory, 0 after help, else 2.
+    pub fn code(&self) -> u8
+        ensures { result ≡ command_line_code self.now }
+    {
+        match self {
+            CommandLineError::OutOfMemory => 1,
+            CommandLineError::Help(_) => 0,
+            CommandLineError::NotText | CommandLineError::Misused(_) => 2,
+        }
+    }
+}
+
+impl From<AllocError> for CommandLineError {
+    ghost from_gives = { λ _ error. error ≡ OutOfMemory };
+
+    fn from(_error: AllocError) -> CommandLineError {
+        CommandLineError::OutOfMemory
+    }
+}
+
+/// What handing out the words of the command line ran into.
+impl From<io::Error> for CommandLineError {
+    ghost from_gives = { λ failure error. error ≡ words_error (io_error_kind failure) };
+
+    fn from(failure: io::Error) -> CommandLineError {
+        match failure.kind() {
+            io::ErrorKind::OutOfMemory => CommandLineError::OutOfMemory,
+            _ => CommandLineError::NotText,
+        }
+    }
+}
+
+impl From<clap::Error> for CommandLineError {
+    ghost from_gives = { λ refusal error. error ≡ command_line_error refusal };
+
+    fn from(refusal: clap::Error) -> CommandLineError {
+        match refusal.kind() {
+            ErrorKind::OutOfMemory => CommandLineError::OutOfMemory,
+            ErrorKind::DisplayHelp => CommandLineError::Help(refusal),
+            _ => CommandLineError::Misused(refusal),
+        }
+    }
+}
+
+/// Reads the words of the command line, of which the first is the program's name.
+///
+/// Whatever `clap` takes for the commands `show --capture FILE`,
+/// `list --capture FILE --moment N [--statements FILE] [--all] [--json]` and
+/// `check --capture FILE --anchors FILE --moment N --name NAME --type N` with `[--statements FILE]`, `[--keys FILE]`,
+/// `[--macs FILE]` and `[--json]`, and for `explain` with the words of `check`, is a request, and each error is one that
+/// `clap` gives there, or the want of memory.
+pub fn read_command_line<S: AsStr>(alloc: Global, words: &[S]) -> Result<Request, CommandLineError>
+    ensures accepted { IfOk result (λ request. IsAccepted (map S.text words.now) request) }
+    ensures refused { IfErr result (λ error. IsRefused (map S.text words.now) error) }
+{
+    let matches = program(alloc)?.try_get_matches_from(words)?;
+    let (name, values) = matches.subcommand().unwrap();
+    if name == "show" {
+        Ok(show_request(alloc, values)?)
+    } else if name == "list" {
+        Ok(list_request(alloc, values)?)
+    } else {
+        Ok(check_request(alloc, values, name == "explain")?)
+    }
+}
+
+/// The request of the matches of `show`.
+fn show_request(alloc: Global, show: &ArgMatches<'_>) -> Result<Request, AllocError>
+    requires { HasCapture (rows_of (found_of show.now)) }
+    ensures { IfOk result (Asks (codes "show") (rows_of (found_of show.now))) }
+{
+    let capture = value(alloc, show, "capture")?;
+    Ok(Request::Show { capture })
+}
+
+/// The request of the matches of `list`.
+fn list_request(alloc: Global, list: &ArgMatches<'_>) -> Result<Request, AllocError>
+    requires { HasListValues (rows_of (found_of list.now)) }
+    ensures { IfOk result (Asks (codes "list") (rows_of (found_of list.now))) }
+{
+    let capture = value(alloc, list, "capture")?;
+    let moment = Moment::new(number(list, "moment", Moment::LAST)).unwrap();
+    let statements = given_value(alloc, list, "statements")?;
+    let all = flag(list, "all");
+    let json = flag(list, "json");
+    Ok(Request::List {
+        capture,
+        moment,
+        statements,
+        all,
+        json,
+    })
+}
+
+/// The request of the matches of `check`, or of `explain`.
+fn check_request(alloc: Global, check: &ArgMatches<'_>, why: bool) -> Result<Request, AllocError>
+    requires { HasCheckValues (rows_of (found_of check.now)) }
+    ensures { IfOk result (Asks (question_word why) (rows_of (found_of check.now))) }
+{
+    let capture = value(alloc, check, "capture")?;
+    let anchors = value(alloc, check, "anchors")?;
+    let moment = Moment::new(number(check, "moment", Moment::LAST)).unwrap();
+    let name = value(alloc, check, "name")?;
+    let rtype = RecordType(number(check, "type", 65_535) as u16);
+    let statements = given_value(alloc, check, "statements")?;
+    let keys = given_value(alloc, check, "keys")?;
+    let macs = given_value(alloc, check, "macs")?;
+    let json = flag(check, "json");
+    Ok(Request::Check {
+        capture,
+        anchors,
+        moment,
+        name,
+        rtype,
+        statements,
+        keys,
+        macs,
+        json,
+        why,
+    })
+}
+
+/// The number of an option that is there, which is at most the last.
+fn number(matches: &ArgMatches<'_>, option: &str, last: u64) -> u64
+    requires { HasNumber option.now last (rows_of (found_of matches.now)) }
+    ensures said { option_and_then (number_said last) (first_of option.now (rows_of (found_of matches.now)))
+        ≡ Some result }
+    ensures bound { result ≤ last }
+{
+    matches.get_one::<u64>(option).unwrap()
+}
+
+/// Whether a flag was given.
+fn flag(matches: &ArgMatches<'_>, option: &str) -> bool
+    requires { IsFlag (one_of option.now (rows_of (found_of matches.now))) }
+    ensures { flag_said (one_of option.now (rows_of (found_of matches.now))) ≡ result }
+{
+    matches.get_flag(option)
+}
+
+/// The value of an option that is there.
+fn value(alloc: Global, matches: &ArgMatches<'_>, option: &str) -> Result<String, AllocError>
+    requires { HasValue option.now (rows_of (found_of matches.now)) }
+    ensures { IfOk result (λ text. first_of option.now (rows_of (found_of matches.now)) ≡ Some (string_bytes text)) }
+{
+    String::from_str(alloc, matches.get_str(option).unwrap())
+}
+
+/// The value of an option that may not be there.
+fn given_value(
+    alloc: Global,
+    matches: &ArgMatches<'_>,
+    option: &str,
+) -> Result<Option<String>, AllocError>
+    ensures { IfOk result (λ text. first_of option.now (rows_of (found_of matches.now))
+        ≡ option_map string_bytes text) }
+{
+    match matches.get_str(option) {
+        Some(text) => Ok(Some(String::from_str(alloc, text)?)),
+        None => Ok(None),
+    }
+}

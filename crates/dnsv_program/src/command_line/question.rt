@@ -1,0 +1,35 @@
+//! Questions on the command line.
+ghost use Rattle.std.specs.Prelude.{◌≡◌, IfErr, IfOk};
+ghost use Rattle.dnsv_canonical.specs.Rrsets.{IsQuestion};
+ghost use Rattle.dnsv_program.specs.CommandLine.Commands as specs;
+ghost use Rattle.dnsv_program.specs.CommandLine.Question.{IsQuestionRefused, Spells};
+ghost use Rattle.dnsv_program.specs.Told.{IsFaultOf};
+
+use crate::status::{Fault, Place, Refusal};
+use dnsv_canonical::is_question;
+use dnsv_names::{Name, RecordType};
+
+/// The subcommand for a question: that for its verdict, or the one that says besides why it stands.
+pub fn question_word(why: bool) -> &'static str
+    ensures { result.now ≡ specs.question_word why }
+{
+    if why { "explain" } else { "check" }
+}
+
+/// The name of a question, whose type can be asked for at it.
+///
+/// The fault is the first: of the name, and then that its type can't be asked for.
+pub fn question_name(text: &[u8], rtype: RecordType) -> Result<Name, Fault>
+    ensures name { IfOk result (Spells text.now) }
+    ensures question { IfOk result (λ name. IsQuestion name rtype.0) }
+    ensures fault { IfErr result (IsFaultOf (IsQuestionRefused text.now rtype.0)) }
+{
+    let name = match Name::parse(text) {
+        Ok(name) => name,
+        Err(error) => return Err(Fault::Refused(Refusal::Name(error), Place::NOWHERE)),
+    };
+    if !is_question(&name, rtype) {
+        return Err(Fault::Refused(Refusal::BadQuestion, Place::NOWHERE));
+    }
+    Ok(name)
+}

@@ -1,0 +1,119 @@
+//! What the program is asked to do.
+ghost use Rattle.std.specs.Prelude.{◌≡◌};
+ghost use Rattle.std.specs.Option.{option_map};
+ghost use Rattle.dnsv_program.specs.CommandLine.Paths.{anchors_of, capture_of, keys_of, macs_of, statements_of};
+
+use crate::command_line::moment::Moment;
+use dnsv_names::RecordType;
+
+/// What the program is asked to do.
+#[derive(Debug, Drop)]
+pub enum Request {
+    /// Show every message with its questions and records.
+    Show {
+        /// The path of the file of captured messages.
+        capture: String,
+    },
+    /// List the signatures that a verifier still has to check, or the signed octets of all.
+    List {
+        /// The path of the file of captured messages.
+        capture: String,
+        moment: Moment,
+        /// The path of the file of statements.
+        statements: Option<String>,
+        /// List the signed octets of each signature of each RRset. No statements are read then.
+        all: bool,
+        /// Write JSON in place of lines.
+        json: bool,
+    },
+    /// Say what the evidence proves of a question, and why that stands.
+    Check {
+        /// The path of the file of captured messages.
+        capture: String,
+        /// The path of the file of trust anchors.
+        anchors: String,
+        moment: Moment,
+        /// The name that is asked for, as text.
+        name: String,
+        /// The type that is asked for.
+        rtype: RecordType,
+        /// The path of the file of statements.
+        statements: Option<String>,
+        /// The path of the file of keys, by which the messages were signed.
+        keys: Option<String>,
+        /// The path of the file of the MACs of requests. It is read where keys are.
+        macs: Option<String>,
+        /// Write JSON in place of lines.
+        json: bool,
+        /// Say besides why the verdict stands.
+        why: bool,
+    },
+}
+
+impl Request {
+    /// The path of the file of captured messages.
+    pub fn capture(&self) -> &str
+        ensures { result.now ≡ capture_of self.now }
+    {
+        match self {
+            Request::Show { capture }
+            | Request::List { capture, .. }
+            | Request::Check { capture, .. } => capture.as_str(),
+        }
+    }
+
+    /// The path of the file of trust anchors, where one is read.
+    pub fn anchors(&self) -> Option<&str>
+        ensures { option_map (λ path. path.now) result ≡ anchors_of self.now }
+    {
+        match self {
+            Request::Check { anchors, .. } => Some(anchors.as_str()),
+            _ => None,
+        }
+    }
+
+    /// The path of the file of statements, where one is read.
+    pub fn statements(&self) -> Option<&str>
+        ensures { option_map (λ path. path.now) result ≡ statements_of self.now }
+    {
+        match self {
+            Request::List {
+                statements: Some(path),
+                all: false,
+                ..
+            }
+            | Request::Check {
+                statements: Some(path),
+                ..
+            } => Some(path.as_str()),
+            _ => None,
+        }
+    }
+
+    /// The path of the file of keys, where one is read.
+    pub fn keys(&self) -> Option<&str>
+        ensures { option_map (λ path. path.now) result ≡ keys_of self.now }
+    {
+        match self {
+            Request::Check {
+                keys: Some(path),
+                ..
+            } => Some(path.as_str()),
+            _ => None,
+        }
+    }
+
+    /// The path of the file of the MACs of requests, where one is read: never without keys.
+    pub fn macs(&self) -> Option<&str>
+        ensures { option_map (λ path. path.now) result ≡ macs_of self.now }
+    {
+        match self {
+            Request::Check {
+                keys: Some(_),
+                macs: Some(path),
+                ..
+            } => Some(path.as_str()),
+            _ => None,
+        }
+    }
+}

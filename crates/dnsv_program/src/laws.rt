@@ -1,0 +1,110 @@
+//! What the definitions of a request's text and of its first fault say of each other, for files of octets.
+ghost use Rattle.std.specs.Prelude.{◌≡◌, ◌⊎◌, Bool, List, Option, ℕ};
+ghost use Rattle.dnsv_names.specs.Octets.{AreOctets};
+ghost use Rattle.dnsv_message.specs.Streams.Frames.{IsTooLong};
+ghost use Rattle.dnsv_program.specs.Files.Capture.{AnyMessage, IsRefusal, NewEvidence};
+ghost use Rattle.dnsv_program.specs.declared.opening.Opening.TheVariants.{Plain};
+ghost use Rattle.dnsv_program.specs.Texts.Listing.{IsListing};
+ghost use Rattle.dnsv_program.specs.Texts.Showing.{IsShowing};
+ghost use Rattle.dnsv_program.specs.Files.{Files};
+ghost use Rattle.dnsv_program.specs.Layers.{LayerLaws};
+ghost use Rattle.dnsv_program.specs.Opening.Macs.{HasMacs, IsFaultOfMacs};
+ghost use Rattle.dnsv_program.specs.Run.{IsFirstFault, IsTextAskedFor};
+ghost use Rattle.dnsv_program.specs.declared.status.Status.{Status};
+ghost use Rattle.dnsv_program.specs.declared.status.Fault.{Fault};
+ghost use Rattle.dnsv_program.specs.declared.command_line.request.Request.{Request};
+ghost use Rattle.dnsv_program.specs.declared.status.Place.{Place};
+ghost use Rattle.dnsv_program.specs.declared.status.Refusal.{Refusal};
+
+use dnsv_canonical::{evidence_or_one_refusal, one_signed_data, rrsets_are_well_formed};
+use dnsv_chain::a_text_is_one_list_of_anchors;
+use dnsv_explain::a_report_has_one_explanation;
+use dnsv_message::{
+    message_or_fault, no_fault_of_a_message, no_fault_of_memory, one_answer, one_fault, one_message,
+};
+use dnsv_names::{a_text_has_one_list_of_lines, a_text_has_one_reading};
+use dnsv_records::record_laws;
+use dnsv_tsig::{one_answer as one_opened, one_ring_or_fault};
+use dnsv_verdict::a_question_leads_one_way;
+use dnsv_verifier::a_table_is_its_verifier;
+
+/// What the layers below say of all that the program reads: it is read in one way.
+fn layers()
+    ensures { LayerLaws }
+{
+    a_text_has_one_reading();
+    one_message();
+    no_fault_of_a_message();
+    one_fault();
+    one_answer();
+    one_opened();
+    one_ring_or_fault();
+    record_laws();
+    one_signed_data();
+    evidence_or_one_refusal();
+    a_table_is_its_verifier();
+    a_text_is_one_list_of_anchors();
+    a_question_leads_one_way();
+    a_report_has_one_explanation();
+}
+
+/// A request has at most one text and end for its files.
+pub fn one_text()
+    ensures { (asked : Request) (files : Files) → AreOctets files.capture
+        → (s t : Status) (a b : List ℕ) → IsTextAskedFor asked files s a → IsTextAskedFor asked files t b
+        → (s ≡ t) × (a ≡ b) }
+{
+    layers();
+}
+
+/// Files for which a request has a text have no fault.
+pub fn no_fault_of_a_text()
+    ensures { (asked : Request) (files : Files) → AreOctets files.capture
+        → (end : Status) (text : List ℕ) (fault : Fault)
+        → IsTextAskedFor asked files end text → IsFirstFault asked files fault → ⊥ }
+{
+    layers();
+}
+
+/// For a request files have at most one first fault.
+pub fn one_first_fault()
+    ensures { (asked : Request) (files : Files) → AreOctets files.capture → (a b : Fault)
+        → IsFirstFault asked files a → IsFirstFault asked files b → a ≡ b }
+{
+    layers();
+}
+
+/// A text is one list of the MACs of requests, or has one fault, and never both.
+pub fn one_list_of_macs_or_fault()
+    ensures some { (text : List ℕ) → ((macs : List (Option (List ℕ))) × HasMacs text macs)
+        ⊎ ((fault : Fault) × IsFaultOfMacs text fault) }
+    ensures macs { (text : List ℕ) (a b : List (Option (List ℕ))) → HasMacs text a → HasMacs text b → a ≡ b }
+    ensures fault { (text : List ℕ) (a b : Fault) → IsFaultOfMacs text a → IsFaultOfMacs text b → a ≡ b }
+    ensures apart { (text : List ℕ) (macs : List (Option (List ℕ))) (fault : Fault) → HasMacs text macs
+        → IsFaultOfMacs text fault → ⊥ }
+{
+    a_text_has_one_list_of_lines();
+}
+
+/// A file of octets is shown, or refused, or has an octet too many.
+pub fn every_file_is_shown_or_refused()
+    ensures { (file : List ℕ) → AreOctets file → ((text : List ℕ) × IsShowing file text)
+        ⊎ (((why : Refusal) × (place : Place) × IsRefusal AnyMessage Plain file why place) ⊎ IsTooLong file) }
+{
+    one_answer();
+    message_or_fault();
+    no_fault_of_memory();
+}
+
+/// A file of octets is listed, or refused, or has an octet too many.
+pub fn every_file_is_listed_or_refused()
+    ensures { (json : Bool) (moment : ℕ) (file : List ℕ) → AreOctets file → ((text : List ℕ) × IsListing json moment file text)
+        ⊎ (((why : Refusal) × (place : Place) × IsRefusal NewEvidence Plain file why place) ⊎ IsTooLong file) }
+{
+    one_answer();
+    message_or_fault();
+    no_fault_of_memory();
+    evidence_or_one_refusal();
+    one_signed_data();
+    rrsets_are_well_formed();
+}
