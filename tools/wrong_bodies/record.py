@@ -41,7 +41,9 @@ class Record:
     def changed_since(self, commit):
         folders = [str(self.folder / name) for name in FOLDERS]
         try:
-            return {Path(file).stem for file in told(self.tree, "diff", "--no-renames", "--name-only", commit, "--", *folders)}
+            # An edit that only moved, as from one folder to the other, is what it was.
+            moved = ("--find-renames=100%", "--diff-filter=r")
+            return {Path(file).stem for file in told(self.tree, "diff", *moved, "--name-only", commit, "--", *folders)}
         except Unknown:
             # Of a commit that isn't here nobody knows what the edits were.
             return set(self.commits())

@@ -38,6 +38,16 @@ class Recorded(Room):
         self.commit("Another body")
         self.assertEqual(self.record().standing(), {"two"})
 
+    def test_an_edit_that_moved_stands_as_it_was(self):
+        for name in ("one", "two"):
+            self.record().note(name, True)
+        self.commit("Told")
+        self.git("mv", "crates/lower/must-fail/one.edit", "crates/lower/wrong-bodies/one.edit")
+        self.git("mv", "crates/lower/wrong-bodies/two.edit", "crates/lower/must-fail/two.edit")
+        self.write("crates/lower/must-fail/two.edit", EDIT.replace("2", "3"))
+        self.commit("Moved")
+        self.assertEqual(self.record().standing(), {"one"})
+
     def test_the_commit_is_the_last_of_the_crates(self):
         commit = commit_of(self.room)
         self.write("crates/lower/out/one", "")
