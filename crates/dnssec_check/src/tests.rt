@@ -22,9 +22,11 @@ mod desk;
 mod explaining;
 mod key_files;
 mod listing;
+mod names;
 mod reading;
 mod showing;
 mod signed;
+mod streams;
 mod system;
 
 use system::{File, Page, System};

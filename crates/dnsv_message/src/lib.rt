@@ -27,8 +27,6 @@ mod number;
 mod rdata;
 mod rdata_ref;
 mod record;
-#[cfg(test)]
-mod samples;
 mod section;
 mod streams;
 

@@ -226,6 +226,3 @@ impl<'b> RdataOctets<'b> {
         }
     }
 }
-
-#[cfg(test)]
-mod tests;

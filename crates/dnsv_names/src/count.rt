@@ -56,18 +56,3 @@ pub fn counts_add_up()
     ensures twice { (before a b : ℕ) → counted (counted before a) b ≡ counted before (a + b) }
     ensures nothing { (before : ℕ) → before ≤ count_limit → counted before 0 ≡ before }
 {}
-
-#[cfg(test)]
-mod tests {
-    use super::*;
-
-    #[test]
-    fn stops_at_its_greatest_value(rt: HostRuntime) {
-        let mut count = Count::default();
-        count.add(u64::MAX - 1);
-        count.add(1);
-        assert!(rt; count.value() == u64::MAX);
-        count.add(7);
-        assert!(rt; count.value() == u64::MAX);
-    }
-}

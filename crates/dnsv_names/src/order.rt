@@ -146,6 +146,3 @@ pub fn names_at_or_below_are_an_interval()
     ensures { (above x y z : Labels) → IsAtOrBelow x above → IsAtOrBelow z above
         → IsBefore x y → IsBefore y z → IsAtOrBelow y above }
 {}
-
-#[cfg(test)]
-mod tests;

@@ -51,6 +51,3 @@ impl PartialOrd for NameRefByWire<'_> {
         Some(self.cmp(other))
     }
 }
-
-#[cfg(test)]
-mod tests;

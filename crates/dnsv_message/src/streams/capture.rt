@@ -122,6 +122,3 @@ pub fn one_answer()
     ensures octets { (file : List ℕ) (messages : List (List ℕ)) → AreOctets file → IsCapture file messages →
         AllByRecursion AreOctets messages }
 {}
-
-#[cfg(test)]
-mod tests;

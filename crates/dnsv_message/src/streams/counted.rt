@@ -143,6 +143,3 @@ fn write_in_turn<W: Write>(writer: &mut W, octets: &[u8]) -> io::Result<()>
     }
     Ok(())
 }
-
-#[cfg(test)]
-mod tests;

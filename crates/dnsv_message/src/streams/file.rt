@@ -60,6 +60,3 @@ pub(crate) fn read_piece<R: Read>(
 {
     Ok(reader.read(piece)?)
 }
-
-#[cfg(test)]
-mod tests;

@@ -1,4 +1,4 @@
-//! A stream and a reader for tests.
+//! A stream, and a reader that gives octets a few at a time.
 use std::io;
 use std::io::{ErrorKind, Read};
 

@@ -1,6 +1,9 @@
-use super::*;
-use crate::samples::{LONG_STREAM, Pieces, STREAM};
+//! A capture is read as it comes.
+use super::pieces::{LONG_STREAM, Pieces, STREAM};
+use bumpalo::Bump;
+use dnsv_message::{Counted, ReadError, read_capture};
 use dnsv_names::u16_at;
+use std::alloc::Global;
 use std::io::ErrorKind;
 use std::test::Fail;
 

@@ -1,5 +1,7 @@
-use super::*;
-use crate::samples::{LONG_STREAM, Pieces, STREAM};
+//! A file is read as it comes.
+use super::pieces::{LONG_STREAM, Pieces, STREAM};
+use dnsv_message::{Counted, ReadError, read_all};
+use std::alloc::Global;
 use std::io::ErrorKind;
 use std::test::Fail;
 

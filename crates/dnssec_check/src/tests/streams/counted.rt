@@ -1,4 +1,7 @@
-use super::*;
+//! Calls of a reader or writer, and which of them fail.
+use dnsv_message::Counted;
+use std::io;
+use std::io::{Read, Write};
 
 // Takes so many octets, and then none.
 #[derive(Drop)]
