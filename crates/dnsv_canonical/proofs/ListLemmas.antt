@@ -1,5 +1,5 @@
 -- Facts about each element of a list.
-use Rattle.std.proofs.Common.{◌≡◌, ℕ, ◌+◌, ◌<◌, Bool, true, false, cond, List, [], ◌∷◌, ◌++◌, length, get_or, take, map, Vec, refl, sym, subst, arith}
+use Rattle.std.proofs.Common.{◌≡◌, ℕ, suc, ◌+◌, ◌<◌, Bool, true, false, cond, List, [], ◌∷◌, ◌++◌, length, get_or, take, map, append_assoc, refl, sym, ap, ◌∙◌, subst, arith}
 use Rattle.std.proofs.lemmas.List.{map_more, get_or-map, length-map}
 use Rattle.std.proofs.lemmas.List.Elements.{All-from_recursion, All-get_or}
 use Rattle.std.specs.Prelude.{filter}
@@ -14,13 +14,6 @@ pub each_borrowed : (P : List ℕ → Type 0) (slices : List (Bor (List ℕ))) (
 each_borrowed P slices i d each within =
     subst P (get_or-map (λ (r : Bor (List ℕ)). r.now) slices i d d.now within)
     (each_at P (map (λ r. r.now) slices) i d.now each (omega (arith, within, length-map slices (λ (r : Bor (List ℕ)). r.now))))
-
--- the octets of a vector at a place
-pub each_vector : {Y : Type 0} (P : List ℕ → Type 0) (vectors : List (Vec ℕ Y)) (i : ℕ) (x : Vec ℕ Y) → AllByRecursion P (map (λ v. v.items) vectors) → i < length vectors → x ≡ get_or vectors i x → P x.items
-each_vector {Y} P vectors i x each within at =
-    subst (λ (v : Vec ℕ Y). P v.items) (sym at)
-    (subst P (get_or-map (λ (v : Vec ℕ Y). v.items) vectors i x x.items within)
-    (each_at P (map (λ (v : Vec ℕ Y). v.items) vectors) i x.items each (omega (arith, within, length-map vectors (λ (v : Vec ℕ Y). v.items)))))
 
 pub each_front : {X : Type 0} (P : X → Type 0) (xs ys : List X) → AllByRecursion P (xs ++ ys) → AllByRecursion P xs
 each_front P [] ys each = tt
@@ -51,3 +44,20 @@ read_more R slices i d before after value within so_far is pushed =
     subst (λ rdata. AllZip R rdata after) (sym (map_more (λ (r : Bor (List ℕ)). r.now) slices i d within))
     (subst (λ values. AllZip R (map (λ (r : Bor (List ℕ)). r.now) (take i slices) ++ (get_or slices i d).now ∷ []) values) (sym pushed)
     (pairs_more R (map (λ (r : Bor (List ℕ)). r.now) (take i slices)) before (get_or slices i d).now value so_far is))
+
+-- ---- lists that are gone through by value
+
+pub parts_more : {X : Type 0} (read left rest all : List X) (x : X) → left ≡ x ∷ rest → read ++ left ≡ all → (read ++ x ∷ []) ++ rest ≡ all
+parts_more read left rest all x next parts = append_assoc read (x ∷ []) rest ∙ ap (λ list. read ++ list) (sym next) ∙ parts
+
+pub size_more : {X : Type 0} (left rest : List X) (x : X) (size less : ℕ) → left ≡ x ∷ rest → less + 1 ≡ size → size ≡ length left → less ≡ length rest
+size_more left rest x size less next one is = let longer : length left ≡ suc (length rest) = ap length next in omega (arith, one, is, longer)
+
+pub none_left : {X : Type 0} (left : List X) (size : ℕ) → size ≡ 0 → size ≡ length left → left ≡ []
+none_left [] size none is = refl
+none_left (x ∷ left) size none is = absurd (omega (arith, none, is))
+
+pub next_of : {X : Type 0} (P : X → Type 0) (read left rest all : List X) (x : X) → AllByRecursion P all → read ++ left ≡ all → left ≡ x ∷ rest → P x
+next_of P read left rest all x each parts next =
+    let of_left : AllByRecursion P (x ∷ rest) = subst (AllByRecursion P) next (each_behind P read left (subst (AllByRecursion P) (sym parts) each)) in
+    of_left.0

@@ -1,5 +1,5 @@
 -- A message is evidence, or is refused for just one reason.
-use Rattle.std.proofs.Common.{◌≡◌, ◌≢◌, ◌⊎◌, inl, inr, ⊎_elim, ℕ, zero, suc, ◌+◌, ◌≤◌, Bool, true, false, List, [], ◌∷◌, ◌++◌, length, get_or, take, drop, Option, Some, None, Ok, refl, sym, ap, ◌∙◌, subst, arith, append_assoc, length-append, ◌↔◌}
+use Rattle.std.proofs.Common.{◌≡◌, ◌≢◌, ◌⊎◌, inl, inr, ⊎_elim, ℕ, zero, suc, ◌+◌, ◌≤◌, Bool, true, false, List, [], ◌∷◌, ◌++◌, length, get_or, take, drop, Option, Some, None, refl, sym, ap, ◌∙◌, subst, arith, append_assoc, length-append, ◌↔◌}
 use Rattle.std.specs.Prelude.{Contains, bit_and, flat_map, nat_eq, ◌&&◌}
 use Rattle.std.specs.Cmp.Lexicographic.{pointwise}
 use Rattle.std.specs.List.{AllByRecursion, list_any}
@@ -23,7 +23,6 @@ use Rattle.dnsv_records.specs.Dnskey.{IsDnskey}
 use Rattle.dnsv_records.specs.Ds.{IsDs}
 use Rattle.dnsv_records.specs.Nsec.{IsNsec}
 use Rattle.dnsv_records.specs.Nsec3.{IsNsec3, IsUsable}
-use Rattle.dnsv_records.specs.Reading.{Gives}
 use Rattle.dnsv_records.specs.Rrsig.{IsRrsig}
 use Rattle.dnsv_canonical.specs.declared.capture.CaptureError.{CaptureError}
 use Rattle.dnsv_canonical.specs.declared.capture.CaptureError.TheVariants.{OutOfMemory, NotAResponse, Truncated, BadRdata, Limit}
@@ -229,10 +228,10 @@ module _ (laws : RecordLaws) where
   found_in rdata =
       ⊎_elim
       (λ (read : (nsec3 : Nsec3) × IsNsec3 rdata nsec3).
-      let every : (other : Nsec3) → IsNsec3 rdata other → Gives (Ok read.0) other = λ other is. inl (ap Ok (laws.one_nsec3 rdata read.0 other read.1 is)) in
+      let one : (other : Nsec3) → IsNsec3 rdata other → read.0 ≡ other = λ other is. laws.one_nsec3 rdata read.0 other read.1 is in
       ⊎_elim
-      (λ (usable : IsUsable read.0). record { found = Some read.0.parameters; reads = pair_of_usable rdata read.0 read.1 usable every })
-      (λ (unusable : ¬ IsUsable read.0). record { found = None; reads = no_pair_unusable rdata read.0 unusable every })
+      (λ (usable : IsUsable read.0). record { found = Some read.0.parameters; reads = pair_of_usable rdata read.0 read.1 usable one })
+      (λ (unusable : ¬ IsUsable read.0). record { found = None; reads = no_pair_unusable rdata read.0 unusable one })
       (usable_or read.0))
       (λ (none : ¬ ((nsec3 : Nsec3) × IsNsec3 rdata nsec3)). record { found = None; reads = λ parameters. (λ same. cc, λ of. absurd (none (of.0, of.1))) })
       (laws.nsec3 rdata)

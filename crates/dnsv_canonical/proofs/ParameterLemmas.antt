@@ -1,6 +1,6 @@
 -- The pairs of iterations and salt, record by record.
-use Rattle.std.proofs.Common.{◌≡◌, ◌⊎◌, inl, inr, ⊎_elim, ℕ, suc, ◌+◌, ◌<◌, ◌≤◌, Bool, true, false, ◌&&◌, List, [], ◌∷◌, ◌++◌, length, get_or, map, take, drop, sym, ap, ◌∙◌, subst, append_assoc, arith, length-append, ◌↔◌, Option, Some, None, Ok, Err}
-use Rattle.std.proofs.lemmas.List.{append-nil, map-append, map_more, take-append-drop, take_more}
+use Rattle.std.proofs.Common.{◌≡◌, ◌⊎◌, inl, inr, ⊎_elim, ℕ, suc, ◌+◌, ◌<◌, ◌≤◌, Bool, true, ◌&&◌, List, [], ◌∷◌, ◌++◌, length, get_or, take, drop, sym, ap, ◌∙◌, subst, append_assoc, arith, length-append, ◌↔◌, Option, Some, None}
+use Rattle.std.proofs.lemmas.List.{append-nil, take-append-drop, take_more}
 use Rattle.std.proofs.lemmas.Bool.{and_from, and_parts, eqb-true}
 use Rattle.std.proofs.lemmas.List.Elements.{Contains-append_left, Contains-push, Contains-push_cases}
 use Rattle.std.proofs.lemmas.List.Folds.{list_any_at}
@@ -9,22 +9,19 @@ use Rattle.std.proofs.lemmas.Cmp.{lists_equiv, nat_eq_equiv}
 use Rattle.std.proofs.lemmas.Slice.Eq.{bytes_eq-Decides}
 use Rattle.std.proofs.lemmas.Grind.{flat_map-append}
 use Rattle.std.specs.Cmp.Lexicographic.{pointwise}
-use Rattle.std.specs.Prelude.{Contains, nat_eq, if◌then◌else◌, ◌==◌}
-use Rattle.std.specs.Borrow.{Bor}
+use Rattle.std.specs.Prelude.{Contains, nat_eq, slice_get, if◌then◌else◌, ◌==◌}
 use Rattle.std.specs.List.{list_any}
-use Rattle.dnsv_records.specs.declared.error.Field.{Field}
-use Rattle.dnsv_records.specs.declared.error.RecordError.TheVariants as records
 use Rattle.dnsv_records.specs.declared.nsec3.Nsec3.{Nsec3}
 use Rattle.dnsv_records.specs.declared.nsec3.Nsec3Parameters.{Nsec3Parameters}
 use Rattle.dnsv_records.specs.Nsec3.{IsNsec3, IsUsable}
-use Rattle.dnsv_records.specs.Reading.{Gives}
 use Rattle.dnsv_canonical.specs.Evidence.{IsDistinct, AreParameters, AtMost, AreUsableParameters, AreParametersAmong, nsec3_rdata}
 use Rattle.dnsv_canonical.specs.Kept.{IsParametersRefusal}
+use Rattle.dnsv_canonical.specs.Rdata.{rdata_of_type}
 use Rattle.dnsv_canonical.specs.Rrsets.{ReceivedRrset}
 use Rattle.dnsv_canonical.specs.declared.capture.CaptureError.{CaptureError}
 use Rattle.dnsv_canonical.specs.declared.capture.CaptureError.TheVariants.{OutOfMemory, NotAResponse, Truncated, BadRdata, Limit}
 use Rattle.dnsv_canonical.proofs.LimitLemmas.{few_where_distinct}
-use Rattle.dnsv_canonical.proofs.ReadableLemmas.{given_none, given_same}
+use Rattle.dnsv_canonical.proofs.OrderLemmas.{take_next}
 
 -- ---- whether a pair is known
 
@@ -94,22 +91,16 @@ module _ (earlier : List (List ℕ)) (pairs : List Nsec3Parameters) (are : ArePa
 
 -- ---- the pair of one record
 
-pub pair_of_usable : (rdata : List ℕ) (nsec3 : Nsec3) → IsNsec3 rdata nsec3 → IsUsable nsec3 → ((other : Nsec3) → IsNsec3 rdata other → Gives (Ok nsec3) other) → (pair : Nsec3Parameters) → (Some nsec3.parameters ≡ Some pair) ↔ AreUsableParameters rdata pair
-pair_of_usable rdata nsec3 is usable every pair = (
+pub pair_of_usable : (rdata : List ℕ) (nsec3 : Nsec3) → IsNsec3 rdata nsec3 → IsUsable nsec3 → ((other : Nsec3) → IsNsec3 rdata other → nsec3 ≡ other) → (pair : Nsec3Parameters) → (Some nsec3.parameters ≡ Some pair) ↔ AreUsableParameters rdata pair
+pair_of_usable rdata nsec3 is usable one pair = (
   λ same. let equal : pair ≡ nsec3.parameters = cc in (nsec3, is, usable, equal),
-  λ of. ap (λ (n : Nsec3). Some n.parameters) (given_same nsec3 of.0 (every of.0 of.1)) ∙ ap Some (sym of.3),
+  λ of. ap (λ (n : Nsec3). Some n.parameters) (one of.0 of.1) ∙ ap Some (sym of.3),
 )
 
-pub no_pair_unusable : (rdata : List ℕ) (nsec3 : Nsec3) → ¬ IsUsable nsec3 → ((other : Nsec3) → IsNsec3 rdata other → Gives (Ok nsec3) other) → (pair : Nsec3Parameters) → (None ≡ Some pair) ↔ AreUsableParameters rdata pair
-no_pair_unusable rdata nsec3 unusable every pair = (
+pub no_pair_unusable : (rdata : List ℕ) (nsec3 : Nsec3) → ¬ IsUsable nsec3 → ((other : Nsec3) → IsNsec3 rdata other → nsec3 ≡ other) → (pair : Nsec3Parameters) → (None ≡ Some pair) ↔ AreUsableParameters rdata pair
+no_pair_unusable rdata nsec3 unusable one pair = (
   λ none. cc,
-  λ of. absurd (unusable (subst IsUsable (sym (given_same nsec3 of.0 (every of.0 of.1))) of.2)),
-)
-
-pub no_pair_bad : (rdata : List ℕ) (field : Field) → ((other : Nsec3) → IsNsec3 rdata other → Gives (Err (records.BadRdata field)) other) → (pair : Nsec3Parameters) → (None ≡ Some pair) ↔ AreUsableParameters rdata pair
-no_pair_bad rdata field every pair = (
-  λ none. cc,
-  λ of. given_none _ of.0 field (every of.0 of.1),
+  λ of. absurd (unusable (subst IsUsable (sym (one of.0 of.1)) of.2)),
 )
 
 -- ---- more records, and more RRsets
@@ -150,14 +141,11 @@ refused_of earlier part more rest all error is refused =
     (append_assoc (earlier ++ part) more rest ∙ append_assoc earlier part (more ++ rest) ∙ ap (λ xs. earlier ++ xs) (sym (append_assoc part more rest) ∙ is))
     (refused_part ((earlier ++ part) ++ more) rest error refused)
 
-pub refused_record : (earlier : List (List ℕ)) (received : List (Bor (List ℕ))) (i : ℕ) (d : Bor (List ℕ)) (error : CaptureError) → i < length received
-    → IsParametersRefusal ((earlier ++ map (λ r. r.now) (take i received)) ++ (get_or received i d).now ∷ []) error → IsParametersRefusal (earlier ++ map (λ r. r.now) received) error
-refused_record earlier received i d error within refused =
-    let rest : List (List ℕ) = map (λ (r : Bor (List ℕ)). r.now) (drop (i + 1) received) in
-    refused_of earlier (map (λ (r : Bor (List ℕ)). r.now) (take i received)) ((get_or received i d).now ∷ []) rest (map (λ (r : Bor (List ℕ)). r.now) received) error
-    (ap (λ xs. xs ++ rest) (sym (map_more (λ (r : Bor (List ℕ)). r.now) received i d within))
-    ∙ sym (map-append (λ (r : Bor (List ℕ)). r.now) (take (i + 1) received) (drop (i + 1) received))
-    ∙ ap (map (λ (r : Bor (List ℕ)). r.now)) (take-append-drop (i + 1) received))
+pub refused_record : (earlier received : List (List ℕ)) (i : ℕ) (rdata : List ℕ) (error : CaptureError) → slice_get received i ≡ Some rdata
+    → IsParametersRefusal ((earlier ++ take i received) ++ rdata ∷ []) error → IsParametersRefusal (earlier ++ received) error
+refused_record earlier received i rdata error at refused =
+    refused_of earlier (take i received) (rdata ∷ []) (drop (i + 1) received) received error
+    (ap (λ xs. xs ++ drop (i + 1) received) (sym (take_next received i rdata at)) ∙ take-append-drop (i + 1) received)
     refused
 
 pub refused_rrset : (earlier : List (List ℕ)) (rrsets : List ReceivedRrset) (i : ℕ) (x : ReceivedRrset) (error : CaptureError) → i < length rrsets → x ≡ get_or rrsets i x
@@ -172,9 +160,5 @@ refused_rrset earlier rrsets i x error within at refused =
 
 -- ---- RRsets with NSEC3 records
 
--- whether an RRset has NSEC3 records
-pub nsec3_rdata_none : (rrset : ReceivedRrset) → (rrset.rtype == 50) ≡ false → nsec3_rdata (rrset ∷ []) ≡ []
-nsec3_rdata_none rrset other = ap (λ b. (if b then rrset.rdata else []) ++ []) other
-
-pub nsec3_rdata_of : (rrset : ReceivedRrset) → (rrset.rtype == 50) ≡ true → nsec3_rdata (rrset ∷ []) ≡ rrset.rdata
-nsec3_rdata_of rrset is = ap (λ b. (if b then rrset.rdata else []) ++ []) is ∙ append-nil rrset.rdata
+pub nsec3_rdata_of : (rrset : ReceivedRrset) → rdata_of_type 50 rrset ≡ nsec3_rdata (rrset ∷ [])
+nsec3_rdata_of rrset = sym (append-nil (rdata_of_type 50 rrset))

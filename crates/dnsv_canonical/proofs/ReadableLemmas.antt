@@ -3,6 +3,7 @@ pub mod WellFormedLemmas
 use Rattle.std.proofs.Common.{◌≡◌, inl, inr, ℕ, ◌+◌, ◌<◌, Bool, true, false, List, ◌∷◌, ◌++◌, length, get_or, take, drop, refl, sym, ap, ◌∙◌, subst, arith, append_assoc, Result, Ok, Err, IfOk, IfErr, ◌↔◌, IsTrue}
 use Rattle.std.proofs.lemmas.List.{drop_more, take-append-drop, length-take-le, length-append}
 use Rattle.std.specs.List.{AllByRecursion}
+use Rattle.std.specs.Prelude.{OnOk}
 use Rattle.std.specs.declared.alloc.AllocError.{AllocError}
 use Rattle.dnsv_message.specs.declared.record.Record.{Record}
 use Rattle.dnsv_message.specs.Message.{Contents, records_of}
@@ -108,6 +109,10 @@ module _ (held : Evidence) (message : Contents) (whole : IsWhole message) where
 pub IfErr-weaker : {X : Type 0} (P Q : CaptureError → Type 0) (result : Result X CaptureError) → ((error : CaptureError) → P error → Q error) → IfErr result P → IfErr result Q
 IfErr-weaker P Q (Ok value) weaker holds = tt
 IfErr-weaker P Q (Err error) weaker holds = weaker error holds
+
+pub OnOk-weaker : {X E A B : Type 0} (result : Result X E) → (A → B) → OnOk result A → OnOk result B
+OnOk-weaker (Ok value) weaker holds = weaker holds
+OnOk-weaker (Err error) weaker holds = tt
 
 -- ---- types whose RDATA is laid out
 

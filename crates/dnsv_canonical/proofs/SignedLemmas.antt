@@ -1,18 +1,22 @@
 -- Records one after another in the signed data.
-use Rattle.std.proofs.Common.{◌≡◌, ℕ, ◌+◌, ◌-◌, ◌<◌, ◌≤◌, List, [], ◌∷◌, ◌++◌, length, get_or, take, drop, map, Option, Some, None, refl, sym, ap, ◌∙◌, append_assoc, arith, length-append}
-use Rattle.std.proofs.lemmas.List.{flat_map_more, length-map, map_more, take-append-drop}
+use Rattle.std.proofs.Common.{◌≡◌, ℕ, ◌+◌, ◌-◌, ◌<◌, ◌≤◌, List, [], ◌∷◌, ◌++◌, length, get_or, take, drop, map, Option, Some, None, false, refl, sym, ap, ◌∙◌, append_assoc, arith, length-append}
+use Rattle.std.proofs.lemmas.List.{append-nil, flat_map_more, length-map, map_more, take-append-drop}
+use Rattle.std.specs.Borrow.{Bor}
 use Rattle.std.specs.Char.{to_ascii_lowercase}
 use Rattle.std.specs.List.{AllByRecursion, flat_map}
-use Rattle.std.specs.Int.{w16, w32, to_be_bytes}
-use Rattle.dnsv_names.specs.Name.{Labels, wire}
+use Rattle.std.specs.List.Sorted.{IsStrictlySortedBy}
+use Rattle.std.specs.Option.{is_some}
+use Rattle.std.specs.Int.{w16, to_be_bytes}
+use Rattle.dnsv_names.specs.Name.{Labels}
 use Rattle.dnsv_records.specs.declared.rrsig.Rrsig.{Rrsig}
 use Rattle.dnsv_canonical.specs.Canonical.{IsCanonical}
 use Rattle.dnsv_canonical.specs.CanonicalRdata.{octets_around_names, names_lowered, canonical_form}
 use Rattle.dnsv_canonical.specs.SignedData.{signed_front, signed_owner, signed_record, IsSignedData}
+use Rattle.dnsv_canonical.specs.SignedRecords.{AddsSigned}
 use Rattle.dnsv_canonical.proofs.CanonicalLemmas.{IsMember-from_contains, canonical_unique, member_passes}
 
 -- one more record at the end, written in three parts
-records_more : {X : Type 0} (f : X → List ℕ) (record_of : List ℕ → List ℕ) (start before after front size : List ℕ) (xs : List X) (i : ℕ) (d : X) → i < length xs → record_of (f (get_or xs i d)) ≡ front ++ size ++ f (get_or xs i d) → before ≡ start ++ flat_map record_of (map f (take i xs)) → after ≡ before ++ front ++ size ++ f (get_or xs i d) → after ≡ start ++ flat_map record_of (map f (take (i + 1) xs))
+pub records_more : {X : Type 0} (f : X → List ℕ) (record_of : List ℕ → List ℕ) (start before after front size : List ℕ) (xs : List X) (i : ℕ) (d : X) → i < length xs → record_of (f (get_or xs i d)) ≡ front ++ size ++ f (get_or xs i d) → before ≡ start ++ flat_map record_of (map f (take i xs)) → after ≡ before ++ front ++ size ++ f (get_or xs i d) → after ≡ start ++ flat_map record_of (map f (take (i + 1) xs))
 records_more f record_of start before after front size xs i d within parts so_far written =
     written
     ∙ ap (λ ys. ys ++ f (get_or xs i d)) (append_assoc before front size)
@@ -22,10 +26,29 @@ records_more f record_of start before after front size xs i d within parts so_fa
     ∙ flat_map_more record_of start (map f (take i xs)) (f (get_or xs i d))
     ∙ ap (λ ys. start ++ flat_map record_of ys) (sym (map_more f xs i d within))
 
-pub signed_more : {X : Type 0} (f : X → List ℕ) (owner : Labels) (rtype ttl : ℕ) (start before after front : List ℕ) (xs : List X) (i : ℕ) (d : X) → i < length xs → front ≡ wire owner ++ to_be_bytes w16 rtype ++ to_be_bytes w16 1 ++ to_be_bytes w32 ttl → before ≡ start ++ flat_map (signed_record owner rtype ttl) (map f (take i xs)) → after ≡ before ++ front ++ to_be_bytes w16 (length (f (get_or xs i d))) ++ f (get_or xs i d) → after ≡ start ++ flat_map (signed_record owner rtype ttl) (map f (take (i + 1) xs))
-signed_more f owner rtype ttl start before after front xs i d within front_is so_far written =
-    records_more f (signed_record owner rtype ttl) start before after front (to_be_bytes w16 (length (f (get_or xs i d)))) xs i d within
-    (ap (λ ys. ys ++ to_be_bytes w16 (length (f (get_or xs i d))) ++ f (get_or xs i d)) (sym front_is)) so_far written
+-- one RDATA alone is in order
+pub one_signed : (front : List ℕ) (forms : List (Bor (List ℕ))) (d : Bor (List ℕ)) (old new : List ℕ) → length forms ≡ 1
+    → new ≡ old ++ front ++ to_be_bytes w16 (length (get_or forms 0 d).now) ++ (get_or forms 0 d).now → AddsSigned front (map (λ r. r.now) forms) old new
+unfolding IsStrictlySortedBy
+one_signed front [] d old new one written = absurd (omega (arith, one))
+one_signed front (x ∷ y ∷ forms) d old new one written = absurd (omega (arith, one))
+one_signed front (x ∷ []) d old new one written =
+    let size : List ℕ = to_be_bytes w16 (length x.now) in
+    record {
+      canonical = x.now ∷ [];
+      are = record { rising = (tt, tt); members = λ rdata. (λ there. there, λ there. there) };
+      added = written ∙ ap (λ ys. ys ++ x.now) (append_assoc old front size) ∙ append_assoc old (front ++ size) x.now
+          ∙ ap (λ ys. old ++ ys) (sym (append-nil (front ++ size ++ x.now)));
+    }
+
+pub not_some : {X : Type 0} (found : Option X) → is_some found ≡ false → found ≡ None
+not_some None none = refl
+not_some (Some x) none = cc
+
+-- where no name is brought to lower case, RDATA keeps its form
+pub kept_forms : (rtype : ℕ) (received : List (List ℕ)) → octets_around_names rtype ≡ None → map (canonical_form rtype) received ≡ received
+kept_forms rtype [] none = refl
+kept_forms rtype (rdata ∷ others) none = λ i. names_lowered (none i) rdata ∷ kept_forms rtype others none i
 
 -- a signature signs at most one thing
 pub signed_data_unique : (owner : Labels) (rtype : ℕ) (received : List (List ℕ)) (rrsig : Rrsig) (a b : Option (List ℕ)) → IsSignedData owner rtype received rrsig a → IsSignedData owner rtype received rrsig b → a ≡ b
@@ -55,13 +78,12 @@ names_lowered_length (Some (before, behind)) rdata =
       ap length (take-append-drop before rdata),
     )
 
-forms_short : (rtype : ℕ) (received : List (List ℕ)) → AllByRecursion (λ rdata. length rdata ≤ 65535) received → AllByRecursion (λ rdata. length rdata ≤ 65535) (map (canonical_form rtype) received)
+pub forms_short : (rtype : ℕ) (received : List (List ℕ)) → AllByRecursion (λ rdata. length rdata ≤ 65535) received → AllByRecursion (λ rdata. length rdata ≤ 65535) (map (canonical_form rtype) received)
 forms_short rtype [] each = tt
 forms_short rtype (rdata ∷ others) each = (omega (arith, each.0, names_lowered_length (octets_around_names rtype) rdata), forms_short rtype others each.1)
 
--- RDATA is as long in canonical form
-pub canonical_short : (rtype : ℕ) (received canonical : List (List ℕ)) (i : ℕ) (x : List ℕ) → AllByRecursion (λ rdata. length rdata ≤ 65535) received → IsCanonical (map (canonical_form rtype) received) canonical
+-- what stands in the canonical list is one of the forms
+pub canonical_short : (forms canonical : List (List ℕ)) (i : ℕ) (x : List ℕ) → AllByRecursion (λ rdata. length rdata ≤ 65535) forms → IsCanonical forms canonical
     → i < length canonical → get_or canonical i x ≡ x → length x ≤ 65535
-canonical_short rtype received canonical i x each is within at =
-    member_passes (λ rdata. length rdata ≤ 65535) (map (canonical_form rtype) received) x (forms_short rtype received each)
-    (IsMember-from_contains _ x ((is.members x).0 (i, within, at)))
+canonical_short forms canonical i x each is within at =
+    member_passes (λ rdata. length rdata ≤ 65535) forms x each (IsMember-from_contains _ x ((is.members x).0 (i, within, at)))

@@ -5,6 +5,7 @@ pub mod Evidence
 pub mod Index
 pub mod Kept
 pub mod SignedData
+pub mod SignedRecords
 pub mod Rrsets
 pub mod ByRrset
 pub mod Rdata

@@ -12,20 +12,20 @@ use std::collections::{BTreeMap, BTreeSet};
 
 /// RDATA by the type and owner of the RRset that it belongs to or covers. It's a tree, so that n records take time
 /// in proportion to n log n, whatever their owners are.
-pub type RdataByRrset<'a> = BTreeMap<(RecordType, NameRefByWire<'a>), Vec<&'a [u8]>>;
+pub type RdataByRrset<'a, 'b> = BTreeMap<(RecordType, NameRefByWire<'a>), Vec<&'b [u8]>>;
 
 /// Adds RDATA behind what is there for the type and owner.
-pub fn add<'a>(
+pub fn add<'a, 'b>(
     alloc: Global,
-    by_rrset: &mut RdataByRrset<'a>,
+    by_rrset: &mut RdataByRrset<'a, 'b>,
     rtype: RecordType,
     owner: &'a NameRef<'a>,
-    rdata: &'a [u8],
+    rdata: &'b [u8],
 ) -> Result<(), AllocError>
     ensures { OnOk result ((t : ℕ) (name : Labels) → rdata_at by_rrset.new t name ≡ rdata_at by_rrset.old t name
         ++ (if t == rtype.0 && same_name name owner.now then rdata.now ∷ [] else [])) }
 {
-    let mut first = Vec::new(alloc);
+    let mut first = Vec::with_capacity(alloc, 1)?;
     first.push(rdata)?;
     // Mostly nothing is there, and one search does.
     if let Some(mut received) = by_rrset.insert((rtype, NameRefByWire(owner)), first)? {
@@ -36,12 +36,12 @@ pub fn add<'a>(
 }
 
 /// Takes out the RDATA that is there for the type and owner: none where nothing is.
-pub fn take_rdata<'a>(
+pub fn take_rdata<'a, 'b>(
     alloc: Global,
-    by_rrset: &mut RdataByRrset<'a>,
+    by_rrset: &mut RdataByRrset<'a, 'b>,
     rtype: RecordType,
     owner: &'a NameRef<'a>,
-) -> Vec<&'a [u8]>
+) -> Vec<&'b [u8]>
     ensures value { map (λ r. r.now) result.items ≡ rdata_at by_rrset.old rtype.0 owner.now }
     ensures left { (t : ℕ) (name : Labels) → rdata_at by_rrset.new t name
         ≡ (if rtype.0 == t && same_name owner.now name then [] else rdata_at by_rrset.old t name) }
@@ -53,12 +53,12 @@ pub fn take_rdata<'a>(
 }
 
 /// The RDATA that is there for the type and owner, in order, of equal ones the first.
-pub fn distinct_rdata<'a>(
+pub fn distinct_rdata<'a, 'b>(
     alloc: Global,
-    by_rrset: &RdataByRrset<'a>,
+    by_rrset: &RdataByRrset<'a, 'b>,
     rtype: RecordType,
     owner: &'a NameRef<'a>,
-) -> Result<Vec<&'a [u8]>, AllocError>
+) -> Result<Vec<&'b [u8]>, AllocError>
     ensures once { IfOk result (λ first_ones. map (λ r. r.now) first_ones.items
         ≡ first_appearances bytes_eq (rdata_at by_rrset.now rtype.0 owner.now)) }
     // The type has 16 bits, which a caller needs to know of signatures.

@@ -90,7 +90,7 @@ impl ReadFrom for Nsec3 {
 /// The records of an RRset, as read from its RDATA in their order, in canonical order.
 pub fn in_canonical_order<'a, T: ReadFrom>(
     alloc: Global,
-    rrset: &'a Rrset,
+    rrset: &'a Rrset<'_>,
     values: &'a [T],
 ) -> Result<Vec<ReadRecord<'a, T>>, AllocError>
     requires { AllZip T.reads rrset.now.rdata values.now }

@@ -1,4 +1,4 @@
-//! Captures: evidence in memory of its own. What may be read of a message, the limits, and the index of the RRsets.
+//! Captures: evidence out of messages in an arena. What may be read of a message, the limits, and the index of the RRsets.
 
 mod index;
 mod limits;
@@ -16,9 +16,10 @@ ghost use Rattle.dnsv_canonical.specs.declared.capture.CaptureError.TheVariants.
 use crate::capture::index::Index;
 use crate::capture::limits::{MESSAGE_LIMIT, are_small, fresh_parameters, records_with};
 use crate::capture::readable::check_rdata;
-use crate::draft::message_rrsets;
 use crate::expanded::Sections;
+use crate::received::message_rrsets;
 use crate::rrset::{Rrset, to_rrsets};
+use bumpalo::Bump;
 use dnsv_message::{Message, messages_fit};
 use dnsv_names::{Count, Name, RecordType};
 use dnsv_records::{Nsec3Parameters, Rrsig};
@@ -80,20 +81,22 @@ impl<T: Drop> From<AllocFailed<T>> for CaptureError {
     }
 }
 
-/// Captured messages as evidence: their RRsets with their signatures, in memory of their own.
+/// Captured messages as evidence: their RRsets with their signatures, whose RDATA stands in the arena.
 #[derive(Drop)]
-pub struct Capture {
+pub struct Capture<'b> {
     alloc: Global,
+    /// The arena that the messages stand in.
+    bump: &'b Bump,
     messages: usize,
     records: usize,
-    rrsets: Vec<Rrset>,
+    rrsets: Vec<Rrset<'b>>,
     /// The parameters of the NSEC3 records that can be used, each once.
     parameters: Vec<Nsec3Parameters>,
     /// The RRsets by owner and type.
     index: Index,
 }
 
-impl Model for Capture {
+impl<'b> Model for Capture<'b> {
     ghost use Rattle.dnsv_canonical.specs.Evidence.{Evidence};
     ghost use Rattle.dnsv_canonical.specs.Kept.{IsHeld};
 
@@ -112,13 +115,14 @@ impl Model for Capture {
     }) capture.parameters.items capture.index.numbers.items capture.index.starts.items };
 }
 
-impl Capture {
-    /// A capture without messages. It takes no memory, and keeps the allocator.
-    pub fn new(alloc: Global) -> Capture
+impl<'b> Capture<'b> {
+    /// A capture without messages, for those of the arena. It takes no memory, and keeps the allocator.
+    pub fn new(alloc: Global, bump: &'b Bump) -> Capture<'b>
         ensures { result ≡ no_evidence }
     {
         Capture {
             alloc,
+            bump,
             messages: 0,
             records: 0,
             rrsets: Vec::new(alloc),
@@ -129,7 +133,7 @@ impl Capture {
 
     /// Adds a message. It is refused for the first of these that holds, and the capture then stays as it was:
     /// it is a query, it was cut to fit, a record can't be read, the capture would pass a limit.
-    pub fn add(&mut self, message: &Message<'_>) -> Result<(), CaptureError>
+    pub fn add(&mut self, message: &Message<'b>) -> Result<(), CaptureError>
         ensures added { OnOk result (self.new ≡ with_message self.old message.now) }
         ensures whole { OnOk result (IsWhole message.now) }
         ensures readable { OnOk result (AllByRecursion IsReadable (records_of message.now)) }
@@ -140,27 +144,27 @@ impl Capture {
         ensures unchanged { OnErr result (self.new ≡ self.old) }
     {
         check_whole(message)?;
-        check_rdata(self.alloc, message)?;
+        let sections = Sections::of(self.alloc, self.bump, message)?;
+        check_rdata(self.alloc, message, &sections)?;
         let Some(records) = records_with(self.records, message) else {
             return Err(CaptureError::Limit);
         };
         if self.messages >= MESSAGE_LIMIT {
             return Err(CaptureError::Limit);
         }
-        let sections = Sections::of(self.alloc, message)?;
-        let drafts = message_rrsets(self.alloc, self.messages + 1, &sections)?;
-        if !are_small(self.alloc, drafts.as_slice())? {
+        let received = message_rrsets(self.alloc, self.messages + 1, &sections)?;
+        if !are_small(self.alloc, received.as_slice())? {
             return Err(CaptureError::Limit);
         }
-        let mut parameters = fresh_parameters(
-            self.alloc,
-            self.parameters.as_slice(),
-            drafts.as_slice(),
-        )?;
         // What is true of every message.
         message.is_of_octets();
         messages_fit();
-        let mut rrsets = to_rrsets(self.alloc, drafts.as_slice())?;
+        let mut rrsets = to_rrsets(self.alloc, received)?;
+        let mut parameters = fresh_parameters(
+            self.alloc,
+            self.parameters.as_slice(),
+            rrsets.as_slice(),
+        )?;
         let index = self
             .index
             .with(self.alloc, self.rrsets.as_slice(), rrsets.as_slice())?;
@@ -177,7 +181,7 @@ impl Capture {
     }
 
     /// The RRsets of the messages by first appearance; they are numbered from 1.
-    pub fn rrsets(&self) -> &[Rrset]
+    pub fn rrsets(&self) -> &[Rrset<'b>]
         ensures value { result.now ≡ self.now.rrsets }
         ensures well_formed { AllByRecursion IsWellFormed self.now.rrsets }
         ensures limits { IsWithinLimits self.now }

@@ -1,7 +1,8 @@
 //! Records whose RDATA is at hand as octets one after another.
 ghost use Rattle.std.specs.Prelude.{◌≡◌, IfOk};
 
-use dnsv_message::{Class, Message, NameRef, RdataOctets, Record, Section};
+use bumpalo::Bump;
+use dnsv_message::{Class, Message, NameRef, Record, Section};
 use dnsv_names::{RecordType, Ttl};
 use std::alloc::{AllocError, Global};
 use std::marker::Model;
@@ -13,7 +14,7 @@ pub struct Expanded<'b> {
     pub rtype: RecordType,
     pub class: Class,
     ttl: Ttl,
-    rdata: RdataOctets<'b>,
+    rdata: &'b [u8],
 }
 
 impl<'b> Model for Expanded<'b> {
@@ -26,12 +27,12 @@ impl<'b> Model for Expanded<'b> {
       rtype = expanded.rtype;
       class = expanded.class;
       ttl = expanded.ttl;
-      rdata = expanded.rdata;
+      rdata = expanded.rdata.now;
     } };
 }
 
 impl<'b> Expanded<'b> {
-    fn of(alloc: Global, resource: &Record<'b>) -> Result<Expanded<'b>, AllocError>
+    fn of(alloc: Global, bump: &'b Bump, resource: &Record<'b>) -> Result<Expanded<'b>, AllocError>
         ensures { IfOk result (λ expanded. expanded ≡ resource.now) }
     {
         Ok(Expanded {
@@ -39,15 +40,15 @@ impl<'b> Expanded<'b> {
             rtype: resource.rtype,
             class: resource.class,
             ttl: resource.ttl,
-            rdata: resource.rdata.octets(alloc)?,
+            rdata: resource.rdata.placed(alloc, bump)?,
         })
     }
 
     /// The octets of its RDATA, with every name written out.
-    pub fn rdata(&self) -> &[u8]
+    pub fn rdata(&self) -> &'b [u8]
         ensures { result.now ≡ self.now.rdata }
     {
-        self.rdata.as_slice()
+        self.rdata
     }
 }
 
@@ -60,27 +61,35 @@ pub struct Sections<'b> {
 }
 
 impl<'b> Sections<'b> {
-    /// Those of the message.
-    pub fn of(alloc: Global, message: &Message<'b>) -> Result<Sections<'b>, AllocError>
+    /// Those of the message. Names in RDATA that may be compressed are written out in the arena.
+    pub fn of(
+        alloc: Global,
+        bump: &'b Bump,
+        message: &Message<'b>,
+    ) -> Result<Sections<'b>, AllocError>
         ensures answer { IfOk result (λ sections. sections.answer.items ≡ message.now.answer) }
         ensures authority { IfOk result (λ sections. sections.authority.items ≡ message.now.authority) }
         ensures additional { IfOk result (λ sections. sections.additional.items ≡ message.now.additional) }
     {
         Ok(Sections {
-            answer: all_expanded(alloc, message.records(Section::Answer))?,
-            authority: all_expanded(alloc, message.records(Section::Authority))?,
-            additional: all_expanded(alloc, message.records(Section::Additional))?,
+            answer: all_expanded(alloc, bump, message.records(Section::Answer))?,
+            authority: all_expanded(alloc, bump, message.records(Section::Authority))?,
+            additional: all_expanded(alloc, bump, message.records(Section::Additional))?,
         })
     }
 }
 
 /// The records, in order.
-fn all_expanded<'b>(alloc: Global, records: &[Record<'b>]) -> Result<Vec<Expanded<'b>>, AllocError>
+fn all_expanded<'b>(
+    alloc: Global,
+    bump: &'b Bump,
+    records: &[Record<'b>],
+) -> Result<Vec<Expanded<'b>>, AllocError>
     ensures { IfOk result (λ all. all.items ≡ records.now) }
 {
     let mut all = Vec::with_capacity(alloc, records.len())?;
     for resource in records {
-        all.push(Expanded::of(alloc, resource)?)?;
+        all.push(Expanded::of(alloc, bump, resource)?)?;
     }
     Ok(all)
 }

@@ -71,7 +71,7 @@ fn canonical_form(alloc: Global, rtype: RecordType, rdata: &[u8]) -> Result<Vec<
 
 /// How many octets stand before and behind the names in the type's RDATA: NS, CNAME, PTR and DNAME, SOA, MX and
 /// SRV have names that canonical form lowers.
-fn octets_around_names(rtype: RecordType) -> Option<(usize, usize)>
+pub fn octets_around_names(rtype: RecordType) -> Option<(usize, usize)>
     ensures { result ≡ octets_around_names rtype.0 }
 {
     match rtype {

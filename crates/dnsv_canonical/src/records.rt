@@ -106,7 +106,7 @@ pub fn read_each<T: FromRdata>(alloc: Global, received: &[&[u8]]) -> Result<Vec<
     requires { AllByRecursion (λ rdata. (value : T) × T.is_read rdata value) (map (λ r. r.now) received.now) }
     ensures { IfOk result (λ records. AllZip T.is_read (map (λ r. r.now) received.now) records.items) }
 {
-    let mut records = Vec::new(alloc);
+    let mut records = Vec::with_capacity(alloc, received.len())?;
     for rdata in received {
         records.push(read_one(alloc, rdata)?)?;
     }

@@ -14,8 +14,8 @@ ghost use Rattle.dnsv_canonical.specs.Rdata.{IsRdata, IsWellFormed, rdata_of_typ
 ghost use Rattle.dnsv_canonical.specs.SignedData.{IsSignedData};
 
 use crate::canonical::canonical_rdata;
-use crate::draft::Draft;
 use crate::form::{canonical_forms, slices};
+use crate::received::Received;
 use crate::records::{Records, read_each, read_records};
 use crate::signed::signed_octets;
 use dnsv_message::Section;
@@ -24,64 +24,42 @@ use dnsv_records::{Dnskey, Ds, Nsec, Nsec3, Rrsig};
 use std::alloc::{AllocError, Global};
 use std::marker::Model;
 
-/// An RRset: the IN records of one message, section, owner and type, and the signatures that cover it there.
+/// An RRset: the IN records of one message, section, owner and type, and the signatures that cover it there. Its RDATA
+/// stands in the arena.
 ///
 /// Owners are equal without regard to case. Records of the types 0, OPT, RRSIG and 128 to 255 form no RRset, nor
 /// do those of MD, MF, MB, MG, MR, MINFO, RP, AFSDB, RT, SIG, PX, NXT, NAPTR, KX and A6.
 #[derive(Drop)]
-pub struct Rrset {
-    message: usize,
-    section: Section,
-    owner: Name,
-    rtype: RecordType,
-    rdata: Vec<Vec<u8>>,
+pub struct Rrset<'b> {
+    received: Received<'b>,
     records: Records,
-    signature_rdata: Vec<Vec<u8>>,
     signatures: Vec<Rrsig>,
 }
 
-impl Model for Rrset {
-    ghost use Rattle.std.specs.Prelude.{map};
+impl<'b> Model for Rrset<'b> {
     ghost use Rattle.dnsv_canonical.specs.Rrsets.{ReceivedRrset};
 
     ghost Value = { ReceivedRrset };
 
     ghost use Rattle.dnsv_canonical.specs.Records.{IsKept};
 
-    ghost view = { λ rrset. record {
-      message = rrset.message;
-      section = rrset.section;
-      owner = rrset.owner;
-      rtype = rrset.rtype.0;
-      rdata = map (λ r. r.items) rrset.rdata.items;
-      signatures = map (λ r. r.items) rrset.signature_rdata.items;
-    } };
+    ghost view = { λ rrset. rrset.received };
 
-    ghost invariant = { λ rrset. IsKept (record {
-      message = rrset.message;
-      section = rrset.section;
-      owner = rrset.owner;
-      rtype = rrset.rtype.0;
-      rdata = map (λ r. r.items) rrset.rdata.items;
-      signatures = map (λ r. r.items) rrset.signature_rdata.items;
-    }) rrset.records rrset.signatures.items };
+    ghost invariant = { λ rrset. IsKept rrset.received rrset.records rrset.signatures.items };
 }
 
-impl Rrset {
-    /// The RRset in memory of its own.
-    fn of(alloc: Global, draft: &Draft<'_>) -> Result<Rrset, AllocError>
-        requires { IsWellFormed draft.now }
-        ensures { IfOk result (λ rrset. rrset ≡ draft.now) }
+impl<'b> Rrset<'b> {
+    /// The RRset with its records and signatures read.
+    fn of(alloc: Global, received: Received<'b>) -> Result<Rrset<'b>, AllocError>
+        requires { IsWellFormed received }
+        ensures { IfOk result (λ rrset. rrset ≡ received.entry) }
     {
+        let records = read_records(alloc, received.rtype(), received.rdata())?;
+        let signatures = read_each(alloc, received.signatures())?;
         Ok(Rrset {
-            message: draft.message,
-            section: draft.section,
-            owner: draft.owner.to_name(),
-            rtype: draft.rtype(),
-            rdata: copies(alloc, draft.rdata())?,
-            records: read_records(alloc, draft.rtype(), draft.rdata())?,
-            signature_rdata: copies(alloc, draft.signatures())?,
-            signatures: read_each(alloc, draft.signatures())?,
+            received,
+            records,
+            signatures,
         })
     }
 
@@ -89,28 +67,28 @@ impl Rrset {
     pub fn message(&self) -> usize
         ensures { result ≡ self.now.message }
     {
-        self.message
+        self.received.message
     }
 
     /// The section that its records stand in.
     pub fn section(&self) -> Section
         ensures { result ≡ self.now.section }
     {
-        self.section
+        self.received.section
     }
 
     /// The owner as its first record spells it.
     pub fn owner(&self) -> &Name
         ensures { result.now ≡ self.now.owner }
     {
-        &self.owner
+        &self.received.owner
     }
 
     /// The type of its records.
     pub fn rtype(&self) -> RecordType
         ensures { result.0 ≡ self.now.rtype }
     {
-        self.rtype
+        self.received.rtype()
     }
 
     /// How many records it has: at least one. Equal ones count each.
@@ -118,16 +96,16 @@ impl Rrset {
         ensures count { result ≡ length self.now.rdata }
         ensures well_formed { IsWellFormed self.now }
     {
-        self.rdata.len()
+        self.received.rdata().len()
     }
 
     /// The RDATA of the record at the place, from 0 on, as received.
-    pub fn rdata(&self, place: usize) -> &[u8]
+    pub fn rdata(&self, place: usize) -> &'b [u8]
         requires { place < length self.now.rdata }
         ensures value { (other : List ℕ) → slice_index_or self.now.rdata place other ≡ result.now }
         ensures well_formed { IsRdata self.now.rtype result.now }
     {
-        &self.rdata[place]
+        self.received.rdata()[place]
     }
 
     /// The keys of a DNSKEY RRset, in the order of its RDATA; none of an RRset of another type.
@@ -181,12 +159,12 @@ impl Rrset {
 
 /// The RRset's RDATA in canonical form and order: rising as unsigned octets, a missing octet before any other,
 /// and of equal ones one (RFC 4034 6.2, 6.3).
-pub fn canonical_rrset(alloc: Global, rrset: &Rrset) -> Result<Vec<Vec<u8>>, AllocError>
+pub fn canonical_rrset(alloc: Global, rrset: &Rrset<'_>) -> Result<Vec<Vec<u8>>, AllocError>
     ensures { IfOk result (λ canonical. IsCanonical (map (canonical_form rrset.now.rtype) rrset.now.rdata)
         (map (λ r. r.items) canonical.items)) }
 {
-    let received = slices(alloc, &rrset.rdata)?;
-    let forms = canonical_forms(alloc, rrset.rtype(), received.as_slice())?;
+    let received = rrset.received.rdata();
+    let forms = canonical_forms(alloc, rrset.rtype(), received)?;
     let forms = slices(alloc, forms.as_slice())?;
     let sorted = canonical_rdata(alloc, forms.as_slice())?;
     copies(alloc, sorted.as_slice())
@@ -197,30 +175,27 @@ pub fn canonical_rrset(alloc: Global, rrset: &Rrset) -> Result<Vec<Vec<u8>>, All
 /// owner that Labels tells. `None` where Labels is above the owner's count of labels.
 pub fn signed_data(
     alloc: Global,
-    rrset: &Rrset,
+    rrset: &Rrset<'_>,
     rrsig: &Rrsig,
 ) -> Result<Option<Vec<u8>>, AllocError>
     ensures { IfOk result (λ answer. IsSignedData rrset.now.owner rrset.now.rtype rrset.now.rdata rrsig.now
         (option_map (λ octets. octets.items) answer)) }
 {
-    let received = slices(alloc, &rrset.rdata)?;
-    signed_octets(
-        alloc,
-        rrset.owner(),
-        rrset.rtype(),
-        received.as_slice(),
-        rrsig,
-    )
+    let received = rrset.received.rdata();
+    signed_octets(alloc, rrset.owner(), rrset.rtype(), received, rrsig)
 }
 
-/// The RRsets in memory of their own.
-pub fn to_rrsets(alloc: Global, drafts: &[Draft<'_>]) -> Result<Vec<Rrset>, AllocError>
-    requires { AllByRecursion IsWellFormed drafts.now }
-    ensures { IfOk result (λ rrsets. rrsets.items ≡ drafts.now) }
+/// The RRsets with their records and signatures read.
+pub fn to_rrsets<'b>(
+    alloc: Global,
+    received: Vec<Received<'b>>,
+) -> Result<Vec<Rrset<'b>>, AllocError>
+    requires { AllByRecursion IsWellFormed received.items }
+    ensures { IfOk result (λ rrsets. rrsets.items ≡ received.entry.items) }
 {
-    let mut rrsets = Vec::new(alloc);
-    for draft in drafts {
-        rrsets.push(Rrset::of(alloc, draft)?)?;
+    let mut rrsets = Vec::with_capacity(alloc, received.len())?;
+    for each in received {
+        rrsets.push(Rrset::of(alloc, each)?)?;
     }
     Ok(rrsets)
 }

@@ -60,10 +60,10 @@ fn covered_type(candidate: &Expanded<'_>) -> Option<RecordType>
 }
 
 /// The RDATA of the records by the RRset that they belong to, as received.
-pub fn rdata_by_rrset<'a>(
+pub fn rdata_by_rrset<'a, 'b>(
     alloc: Global,
-    records: &'a [Expanded<'_>],
-) -> Result<RdataByRrset<'a>, AllocError>
+    records: &'a [Expanded<'b>],
+) -> Result<RdataByRrset<'a, 'b>, AllocError>
     ensures { IfOk result (λ by_rrset. (first : Record) → rdata_at by_rrset first.rtype.0 first.name
         ≡ map (λ r. r.rdata) (filter (same_rrset first) (filter is_grouped records.now))) }
 {
@@ -78,10 +78,10 @@ pub fn rdata_by_rrset<'a>(
 }
 
 /// The RDATA of the IN RRSIG records by the RRset that they cover, in order.
-pub fn signatures_by_rrset<'a>(
+pub fn signatures_by_rrset<'a, 'b>(
     alloc: Global,
-    records: &'a [Expanded<'_>],
-) -> Result<RdataByRrset<'a>, AllocError>
+    records: &'a [Expanded<'b>],
+) -> Result<RdataByRrset<'a, 'b>, AllocError>
     ensures { IfOk result (λ by_rrset. (owner : Labels) (rtype : ℕ) → rtype < 2 ^ 16
         → rdata_at by_rrset rtype owner ≡ map (λ r. r.rdata) (filter (is_signature owner rtype) records.now)) }
 {

@@ -4,10 +4,12 @@ ghost use Rattle.std.specs.List.{AllByRecursion};
 ghost use Rattle.std.specs.Option.{option_map};
 ghost use Rattle.std.specs.Int.{w16, w32, to_be_bytes};
 ghost use Rattle.dnsv_names.specs.Name.{Labels, wire};
+ghost use Rattle.dnsv_canonical.specs.CanonicalRdata.{canonical_form};
 ghost use Rattle.dnsv_canonical.specs.SignedData.{signed_label_count, signed_front, signed_owner, IsExpanded, IsSignedData};
+ghost use Rattle.dnsv_canonical.specs.SignedRecords.{AddsSigned};
 
 use crate::canonical::canonical_rdata;
-use crate::form::{canonical_forms, slices};
+use crate::form::{canonical_forms, octets_around_names, slices};
 use dnsv_message::Class;
 use dnsv_names::{ASTERISK_LABEL, Name, RecordType, WIRE_LIMIT};
 use dnsv_records::Rrsig;
@@ -34,12 +36,7 @@ pub fn signed_octets(
     }
     let mut octets = front_octets(alloc, rrsig)?;
     let front = record_front(alloc, owner, rtype, rrsig)?;
-    let forms = canonical_forms(alloc, rtype, received)?;
-    let slices = slices(alloc, forms.as_slice())?;
-    let sorted = canonical_rdata(alloc, slices.as_slice())?;
-    for rdata in &sorted {
-        push_record(&mut octets, front.as_slice(), rdata)?;
-    }
+    push_canonical(alloc, &mut octets, front.as_slice(), rtype, received)?;
     Ok(Some(octets))
 }
 
@@ -78,6 +75,47 @@ fn front_octets(alloc: Global, rrsig: &Rrsig) -> Result<Vec<u8>, AllocError>
     octets.extend_from_slice(&rrsig.key_tag.0.to_be_bytes())?;
     octets.extend_from_slice(rrsig.signer.to_lower().wire())?;
     Ok(octets)
+}
+
+/// Adds the signed records of the RDATA of the type, in canonical form and order.
+fn push_canonical(
+    alloc: Global,
+    octets: &mut Vec<u8>,
+    front: &[u8],
+    rtype: RecordType,
+    received: &[&[u8]],
+) -> Result<(), AllocError>
+    requires { AllByRecursion (λ rdata. length rdata ≤ 65535) (map (λ r. r.now) received.now) }
+    ensures { OnOk result (AddsSigned front.now (map (canonical_form rtype.0) (map (λ r. r.now) received.now))
+        octets.old.items octets.new.items) }
+{
+    if octets_around_names(rtype).is_none() {
+        return push_in_order(alloc, octets, front, received);
+    }
+    let forms = canonical_forms(alloc, rtype, received)?;
+    let slices = slices(alloc, forms.as_slice())?;
+    push_in_order(alloc, octets, front, slices.as_slice())
+}
+
+/// Adds the signed records of the RDATA in canonical order.
+fn push_in_order(
+    alloc: Global,
+    octets: &mut Vec<u8>,
+    front: &[u8],
+    forms: &[&[u8]],
+) -> Result<(), AllocError>
+    requires { AllByRecursion (λ rdata. length rdata ≤ 65535) (map (λ r. r.now) forms.now) }
+    ensures { OnOk result (AddsSigned front.now (map (λ r. r.now) forms.now) octets.old.items octets.new.items) }
+{
+    // One RDATA is in order.
+    if forms.len() == 1 {
+        return push_record(octets, front, forms[0]);
+    }
+    let sorted = canonical_rdata(alloc, forms)?;
+    for rdata in &sorted {
+        push_record(octets, front, rdata)?;
+    }
+    Ok(())
 }
 
 /// Adds a signed record: what begins each of them, the length of its RDATA in 16 bits, and its RDATA.

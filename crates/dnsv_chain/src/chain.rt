@@ -23,7 +23,7 @@ use std::collections::{BTreeMap, BTreeSet};
 /// entry that the table lacks counts as Unknown.
 pub fn trusted(
     alloc: Global,
-    capture: &Capture,
+    capture: &Capture<'_>,
     anchors: &Anchors,
     table: &Table,
 ) -> Result<Trust, AllocError>
@@ -35,7 +35,7 @@ pub fn trusted(
 }
 
 /// DS RRsets by owner that have a signature good under a key of a trusted RRset.
-type Delegations<'a> = ByOwner<'a, &'a Rrset>;
+type Delegations<'a> = ByOwner<'a, &'a Rrset<'a>>;
 
 /// Owner and RDATA of the keys that are kept, to find one again.
 type KnownKeys<'a> = BTreeSet<(ByWire<'a>, ByRdata<'a>)>;
@@ -44,7 +44,7 @@ type KnownKeys<'a> = BTreeSet<(ByWire<'a>, ByRdata<'a>)>;
 /// ancestor, whose RRsets have been looked at before.
 fn trusted_keys<'a>(
     alloc: Global,
-    rrsets: &'a [Rrset],
+    rrsets: &'a [Rrset<'a>],
     anchors: &Anchors,
     table: &Table,
 ) -> Result<TrustedKeys<'a>, AllocError>
@@ -74,7 +74,7 @@ fn trusted_keys<'a>(
 }
 
 /// The RRset of the step.
-fn rrset_at<'a>(rrsets: &'a [Rrset], step: &Step) -> &'a Rrset
+fn rrset_at<'a>(rrsets: &'a [Rrset<'a>], step: &Step) -> &'a Rrset<'a>
     requires { step.now.place < length rrsets.now }
     ensures { (other : ReceivedRrset) → slice_index_or rrsets.now step.now.place other ≡ result.now }
 {
@@ -87,7 +87,7 @@ fn add_delegation<'a>(
     table: &Table,
     keys: &TrustedKeys<'a>,
     delegations: &mut Delegations<'a>,
-    ds: &'a Rrset,
+    ds: &'a Rrset<'a>,
 ) -> Result<(), AllocError>
     ensures { OnOk result (AddsDelegation (table_answer table.now) table.now.moment (values_at keys.now) ds.now
         (rrsets_at delegations.old) (rrsets_at delegations.new)) }
@@ -108,7 +108,7 @@ fn add_trusted<'a>(
     delegations: &Delegations<'a>,
     known: &mut KnownKeys<'a>,
     keys: &mut TrustedKeys<'a>,
-    set: &'a Rrset,
+    set: &'a Rrset<'a>,
 ) -> Result<(), AllocError>
     requires rtype { set.now.rtype ≡ 48 }
     requires known { AreKnown known.old (values_at keys.old) }
@@ -128,8 +128,8 @@ fn is_trusted(
     alloc: Global,
     table: &Table,
     anchors: &Anchors,
-    delegations: &[&Rrset],
-    set: &Rrset,
+    delegations: &[&Rrset<'_>],
+    set: &Rrset<'_>,
 ) -> Result<bool, AllocError>
     requires { set.now.rtype ≡ 48 }
     ensures { IfOk result (λ trusted. IsTrue trusted ↔ IsSignedByVouched (table_answer table.now) table.now.moment
@@ -144,7 +144,7 @@ fn is_trusted(
 }
 
 /// The keys of the DNSKEY RRset.
-fn keys_of(alloc: Global, set: &Rrset) -> Result<Vec<KeyRecord<'_>>, AllocError>
+fn keys_of<'a>(alloc: Global, set: &'a Rrset<'a>) -> Result<Vec<KeyRecord<'a>>, AllocError>
     requires { set.now.rtype ≡ 48 }
     ensures { IfOk result (λ keys. AreKeysOfSet set.now keys.items) }
 {
@@ -159,7 +159,7 @@ fn keys_of(alloc: Global, set: &Rrset) -> Result<Vec<KeyRecord<'_>>, AllocError>
 fn vouched_keys<'a>(
     alloc: Global,
     anchors: &Anchors,
-    delegations: &[&Rrset],
+    delegations: &[&Rrset<'_>],
     keys: Vec<KeyRecord<'a>>,
 ) -> Result<Vec<KeyRecord<'a>>, AllocError>
     ensures { IfOk result (λ vouched. AreVouched anchors.now (map (λ ds. ds.now) delegations.now) keys.entry.items
@@ -175,7 +175,7 @@ fn vouched_keys<'a>(
 }
 
 /// Whether an anchor or a usable record of one of the DS RRsets matches the key.
-fn is_vouched_for(anchors: &Anchors, delegations: &[&Rrset], key: &KeyRecord<'_>) -> bool
+fn is_vouched_for(anchors: &Anchors, delegations: &[&Rrset<'_>], key: &KeyRecord<'_>) -> bool
     ensures { IsTrue result ↔ IsVouchedFor anchors.now (map (λ ds. ds.now) delegations.now) key.now }
 {
     anchors.is_match(key) || is_delegated(delegations, key)
@@ -186,7 +186,7 @@ fn add_keys<'a>(
     alloc: Global,
     known: &mut KnownKeys<'a>,
     keys: &mut TrustedKeys<'a>,
-    set: &'a Rrset,
+    set: &'a Rrset<'a>,
 ) -> Result<(), AllocError>
     requires rtype { set.now.rtype ≡ 48 }
     requires known { AreKnown known.old (values_at keys.old) }

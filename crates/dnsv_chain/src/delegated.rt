@@ -23,7 +23,7 @@ const SHA384: DigestType = DigestType(4);
 /// Whether a usable record of one of the DS RRsets matches the key. The key is digested at most once by each digest
 /// type, however many RRsets name it.
 #[tactic(auto, using(crate::proofs::DelegatedLemmas::delegated_supported))]
-pub fn is_delegated(delegations: &[&Rrset], key: &KeyRecord<'_>) -> bool
+pub fn is_delegated(delegations: &[&Rrset<'_>], key: &KeyRecord<'_>) -> bool
     ensures { IsTrue result ↔ IsDelegatedBySome (map (λ ds. ds.now) delegations.now) key.now }
 {
     if !key.dnskey().algorithm.is_supported() {
@@ -40,7 +40,7 @@ pub fn is_delegated(delegations: &[&Rrset], key: &KeyRecord<'_>) -> bool
 
 /// Whether a record that has the digest type, which is the one that counts in its DS RRset, matches the key.
 #[tactic(auto, using(crate::proofs::DelegatedLemmas::type_names, crate::proofs::DelegatedLemmas::no_type, crate::proofs::DelegatedLemmas::type_by_digest))]
-fn is_delegated_by(delegations: &[&Rrset], digest_type: DigestType, key: &KeyRecord<'_>) -> bool
+fn is_delegated_by(delegations: &[&Rrset<'_>], digest_type: DigestType, key: &KeyRecord<'_>) -> bool
     ensures { IsTrue result
         ↔ HasSome (λ ds. DelegatesByType ds digest_type.0 key.now) (map (λ ds. ds.now) delegations.now) }
 {
@@ -55,7 +55,7 @@ fn is_delegated_by(delegations: &[&Rrset], digest_type: DigestType, key: &KeyRec
 
 /// Whether a record of one of the DS RRsets has the digest type, and the key's algorithm and tag.
 #[tactic(auto, using(crate::proofs::DelegatedLemmas::some_found))]
-fn is_named(delegations: &[&Rrset], digest_type: DigestType, key: &KeyRecord<'_>) -> bool
+fn is_named(delegations: &[&Rrset<'_>], digest_type: DigestType, key: &KeyRecord<'_>) -> bool
     ensures { IsTrue result
         ↔ HasSome (λ ds. NamesByType ds digest_type.0 key.now) (map (λ ds. ds.now) delegations.now) }
 {
@@ -68,7 +68,7 @@ fn is_named(delegations: &[&Rrset], digest_type: DigestType, key: &KeyRecord<'_>
 }
 
 /// Whether it is a DS RRset, and one of its records has the digest type, and the key's algorithm and tag.
-fn names_by_type(ds: &Rrset, digest_type: DigestType, key: &KeyRecord<'_>) -> bool
+fn names_by_type(ds: &Rrset<'_>, digest_type: DigestType, key: &KeyRecord<'_>) -> bool
     ensures { IsTrue result ↔ NamesByType ds.now digest_type.0 key.now }
 {
     match ds.rtype() {
@@ -80,7 +80,7 @@ fn names_by_type(ds: &Rrset, digest_type: DigestType, key: &KeyRecord<'_>) -> bo
 /// Whether such a record has the digest, and its digest type is the one that counts in one of the DS RRsets.
 #[tactic(auto, using(crate::proofs::DelegatedLemmas::some_found))]
 fn has_digest(
-    delegations: &[&Rrset],
+    delegations: &[&Rrset<'_>],
     digest_type: DigestType,
     key: &KeyRecord<'_>,
     digest: &Digest,
@@ -100,7 +100,7 @@ fn has_digest(
 /// digest.
 #[tactic(auto, using(crate::proofs::DelegatedLemmas::digest_is_named))]
 fn delegates_by_digest(
-    ds: &Rrset,
+    ds: &Rrset<'_>,
     digest_type: DigestType,
     key: &KeyRecord<'_>,
     digest: &Digest,

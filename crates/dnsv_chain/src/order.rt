@@ -19,7 +19,7 @@ pub struct Step {
 }
 
 /// The steps for the RRsets.
-pub fn steps(alloc: Global, rrsets: &[Rrset]) -> Result<Vec<Step>, AllocError>
+pub fn steps(alloc: Global, rrsets: &[Rrset<'_>]) -> Result<Vec<Step>, AllocError>
     ensures { IfOk result (λ steps. AreSteps rrsets.now steps.items) }
 {
     let mut steps = Vec::new(alloc);
@@ -37,7 +37,7 @@ pub fn steps(alloc: Global, rrsets: &[Rrset]) -> Result<Vec<Step>, AllocError>
 }
 
 /// Whether it is a DS or DNSKEY RRset.
-fn is_in_chain(rrset: &Rrset) -> bool
+fn is_in_chain(rrset: &Rrset<'_>) -> bool
     ensures { IsTrue result ↔ IsInChain rrset.now }
 {
     rrset.rtype() == RecordType::DS || rrset.rtype() == RecordType::DNSKEY

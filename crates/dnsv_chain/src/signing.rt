@@ -22,7 +22,7 @@ pub type TrustedKeys<'a> = ByOwner<'a, KeyRecord<'a>>;
 pub fn good_numbers<'a>(
     alloc: Global,
     table: &Table,
-    rrset: &'a Rrset,
+    rrset: &'a Rrset<'a>,
     keys: &TrustedKeys<'a>,
 ) -> Result<Vec<usize>, AllocError>
     ensures { IfOk result (λ numbers. AreGoodNumbers (table_answer table.now) table.now.moment rrset.now
@@ -41,7 +41,7 @@ pub fn good_numbers<'a>(
 pub fn is_signed_under_some(
     alloc: Global,
     table: &Table,
-    rrset: &Rrset,
+    rrset: &Rrset<'_>,
     keys: &[KeyRecord<'_>],
 ) -> Result<bool, AllocError>
     ensures { IfOk result (λ signed. IsTrue signed
@@ -61,7 +61,7 @@ pub fn is_signed_under_some(
 fn is_good_under_some(
     alloc: Global,
     table: &Table,
-    rrset: &Rrset,
+    rrset: &Rrset<'_>,
     rrsig: &Rrsig,
     keys: &[KeyRecord<'_>],
 ) -> Result<bool, AllocError>

@@ -47,7 +47,7 @@ impl Trust {
     pub(crate) fn of<'a>(
         alloc: Global,
         table: &Table,
-        rrsets: &'a [Rrset],
+        rrsets: &'a [Rrset<'a>],
         keys: &TrustedKeys<'a>,
     ) -> Result<Trust, AllocError>
         ensures { IfOk result (IsKept (table_answer table.now) table.now.moment rrsets.now (values_at keys.now)) }
@@ -144,7 +144,7 @@ fn copies(alloc: Global, keys: &[ByRdata<'_>]) -> Result<Vec<Dnskey>, AllocError
 fn good_numbers_of_each<'a>(
     alloc: Global,
     table: &Table,
-    rrsets: &'a [Rrset],
+    rrsets: &'a [Rrset<'a>],
     keys: &TrustedKeys<'a>,
 ) -> Result<Vec<Vec<usize>>, AllocError>
     ensures { IfOk result (λ signed. AreSigned (table_answer table.now) table.now.moment rrsets.now

@@ -27,7 +27,7 @@ use std::rc::Rc;
 /// of its proper ancestors, with each iterations and salt of a usable NSEC3 record of a capture (RFC 5155 5, 8).
 #[derive(Drop)]
 pub struct Hashes<'a> {
-    capture: &'a Capture,
+    capture: &'a Capture<'a>,
     name: Name,
     /// In the order of their parameters. Each view that is made with them has a share.
     sets: Rc<Vec<NameHashes<'a>>>,
@@ -49,7 +49,7 @@ impl<'a> Hashes<'a> {
     /// than the iterations for each of the names, with each iterations and salt (RFC 5155 5).
     pub fn new(
         alloc: Global,
-        capture: &'a Capture,
+        capture: &'a Capture<'a>,
         name: &Name,
         count: &mut Count,
     ) -> Result<Hashes<'a>, AllocError>

@@ -46,7 +46,7 @@ mod shown;
 /// it.
 #[derive(Drop)]
 pub struct View<'c, 't> {
-    capture: &'c Capture,
+    capture: &'c Capture<'c>,
     trust: &'t Trust,
     name: Name,
     /// In the order of their parameters, shared with the `Hashes` that the view was made with.
@@ -82,7 +82,7 @@ impl<'c, 't> View<'c, 't> {
     /// one of its proper ancestors, with each iterations and salt of a usable NSEC3 record of the capture (RFC 5155 5).
     pub fn new(
         alloc: Global,
-        capture: &'c Capture,
+        capture: &'c Capture<'c>,
         trust: &'t Trust,
         name: &Name,
         count: &mut Count,
@@ -101,7 +101,7 @@ impl<'c, 't> View<'c, 't> {
     /// Gathers the records for the name that the hashes are kept for, which are those of the capture. Nothing is hashed.
     pub fn with(
         alloc: Global,
-        capture: &'c Capture,
+        capture: &'c Capture<'c>,
         trust: &'t Trust,
         hashes: &Hashes<'c>,
     ) -> Result<View<'c, 't>, AllocError>

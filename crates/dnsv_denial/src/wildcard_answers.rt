@@ -32,7 +32,7 @@ pub type WildcardAnswers = BTreeMap<(usize, usize), Shown>;
 /// may be of one zone and number of labels; the records are asked once for these.
 pub fn wildcard_answers(
     alloc: Global,
-    capture: &Capture,
+    capture: &Capture<'_>,
     trust: &Trust,
     name: &Name,
     zones: &[ZoneRecords<'_>],
@@ -59,7 +59,7 @@ pub fn wildcard_answers(
 
 /// Adds what is shown of the RRset by its signatures with these numbers, from 1 on, unless that is there.
 fn add_answers(
-    rrset: &Rrset,
+    rrset: &Rrset<'_>,
     secured: &[usize],
     name: &Name,
     zones: &[ZoneRecords<'_>],

@@ -21,7 +21,7 @@ use std::marker::Model;
 /// these give, and the entries of which lines tell the numbers.
 #[derive(Drop)]
 pub struct Evidence<'a> {
-    capture: &'a Capture,
+    capture: &'a Capture<'a>,
     anchors: &'a Anchors,
     table: &'a Table,
     trust: &'a Trust,
@@ -52,7 +52,7 @@ impl<'a> Evidence<'a> {
     /// The evidence of the capture, with the trust that it gives under the anchors and the table's answers. Lines tell
     /// the numbers of the entries, if there are any.
     pub fn new(
-        capture: &'a Capture,
+        capture: &'a Capture<'a>,
         anchors: &'a Anchors,
         table: &'a Table,
         trust: &'a Trust,
@@ -75,7 +75,7 @@ impl<'a> Evidence<'a> {
         }
     }
 
-    pub(crate) fn capture(&self) -> &Capture
+    pub(crate) fn capture(&self) -> &Capture<'_>
         ensures { result.now.rrsets ≡ self.now.rrsets }
     {
         self.capture
@@ -103,7 +103,7 @@ impl<'a> Evidence<'a> {
     }
 
     /// The RRsets, which are numbered from 1.
-    pub(crate) fn rrsets(&self) -> &[Rrset]
+    pub(crate) fn rrsets(&self) -> &[Rrset<'_>]
         ensures { result.now ≡ self.now.rrsets }
     {
         self.capture.rrsets()
@@ -128,7 +128,7 @@ impl<'a> Evidence<'a> {
     pub(crate) fn is_good(
         &self,
         alloc: Global,
-        rrset: &Rrset,
+        rrset: &Rrset<'_>,
         rrsig: &Rrsig,
         key: &KeyRecord<'_>,
     ) -> Result<bool, AllocError>
@@ -143,7 +143,7 @@ impl<'a> Evidence<'a> {
     pub(crate) fn todo_of(
         &self,
         alloc: Global,
-        rrset: &Rrset,
+        rrset: &Rrset<'_>,
         rrsig: &Rrsig,
         key: &KeyRecord<'_>,
     ) -> Result<Todo, AllocError>

@@ -64,7 +64,7 @@ impl Explanation {
 /// what fails, with the keys that this is a matter of, and then how far trust holds.
 pub fn explain<V: Verifier>(
     alloc: Global,
-    capture: &Capture,
+    capture: &Capture<'_>,
     anchors: &Anchors,
     moment: u64,
     verifier: &V,

@@ -37,7 +37,7 @@ fn add_rrset(
     keys: &[KeyRecord<'_>],
     lines: &mut Vec<Line>,
     number: usize,
-    rrset: &Rrset,
+    rrset: &Rrset<'_>,
 ) -> Result<(), AllocError>
     requires keys { AreKeysOf evidence.now.rrsets keys.now }
     requires rrset { IsNumbered evidence.now.rrsets number rrset.now }
@@ -62,7 +62,7 @@ fn add_rrset(
 }
 
 /// Adds that the RRset, which has the number, has no signatures.
-fn add_unsigned(lines: &mut Vec<Line>, number: usize, rrset: &Rrset) -> Result<(), AllocError>
+fn add_unsigned(lines: &mut Vec<Line>, number: usize, rrset: &Rrset<'_>) -> Result<(), AllocError>
     ensures { OnOk result (lines.new.items ≡ lines.old.items ++ unsigned_line number rrset.now ∷ []) }
 {
     lines.push(Line::Reason(Reason::Unsigned(UnsignedRrset {

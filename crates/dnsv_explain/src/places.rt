@@ -14,7 +14,7 @@ use std::alloc::{AllocError, Global};
 /// Where each RRset stands that the lines name by its number: each once, by rising number.
 pub fn places_named(
     alloc: Global,
-    capture: &Capture,
+    capture: &Capture<'_>,
     lines: &[Line],
 ) -> Result<Vec<RrsetPlace>, AllocError>
     ensures { IfOk result (λ places. ArePlacesOf capture.now.rrsets lines.now places.items) }
@@ -26,7 +26,7 @@ pub fn places_named(
 /// Where the RRsets with the numbers stand.
 fn places_of(
     alloc: Global,
-    rrsets: &[Rrset],
+    rrsets: &[Rrset<'_>],
     numbers: &[usize],
 ) -> Result<Vec<RrsetPlace>, AllocError>
     ensures { IfOk result (λ places. ArePlacedBy rrsets.now numbers.now places.items) }
@@ -103,7 +103,7 @@ fn named_rrsets(line: &Line) -> ArrayVec<usize, 2>
 /// Adds the place of the RRset with the number, if there is one.
 fn push_place(
     places: &mut Vec<RrsetPlace>,
-    rrsets: &[Rrset],
+    rrsets: &[Rrset<'_>],
     number: usize,
 ) -> Result<(), AllocError>
     ensures { OnOk result (AddsPlace rrsets.now number places.old.items places.new.items) }

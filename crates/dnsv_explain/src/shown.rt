@@ -14,7 +14,7 @@ use std::alloc::{AllocError, Global};
 /// valid: up to 281474976710655, or to the moment where that is greater. All are valid at the moment.
 pub fn holding_of(
     alloc: Global,
-    capture: &Capture,
+    capture: &Capture<'_>,
     lines: &[Line],
     moment: u64,
 ) -> Result<Interval, AllocError>
@@ -26,7 +26,11 @@ pub fn holding_of(
 }
 
 /// The times of the signatures that the lines show.
-fn times_shown(alloc: Global, rrsets: &[Rrset], lines: &[Line]) -> Result<Vec<Times>, AllocError>
+fn times_shown(
+    alloc: Global,
+    rrsets: &[Rrset<'_>],
+    lines: &[Line],
+) -> Result<Vec<Times>, AllocError>
     ensures { IfOk result (λ times. AddsJust (ComesOfSome (ShowsTimes rrsets.now) lines.now) [] times.items) }
 {
     let mut times = Vec::new(alloc);
@@ -37,7 +41,7 @@ fn times_shown(alloc: Global, rrsets: &[Rrset], lines: &[Line]) -> Result<Vec<Ti
 }
 
 /// Adds the times of the signature that the line shows, if it shows one.
-fn push_shown(times: &mut Vec<Times>, rrsets: &[Rrset], line: &Line) -> Result<(), AllocError>
+fn push_shown(times: &mut Vec<Times>, rrsets: &[Rrset<'_>], line: &Line) -> Result<(), AllocError>
     ensures { OnOk result (AddsJust (ShowsTimes rrsets.now line.now) times.old.items times.new.items) }
 {
     let Some(number) = signature_shown(line) else {
@@ -62,7 +66,7 @@ fn signature_shown(line: &Line) -> Option<SignatureNumber>
 }
 
 /// The times of the signature with the number.
-fn times_of(rrsets: &[Rrset], number: SignatureNumber) -> Option<Times>
+fn times_of(rrsets: &[Rrset<'_>], number: SignatureNumber) -> Option<Times>
     ensures { MatchOption result ((times : Times) → ¬ HasTimes rrsets.now number times) (HasTimes rrsets.now number) }
 {
     let Some(rrset) = numbered(rrsets, number.rrset) else {

@@ -13,7 +13,7 @@ use std::alloc::{AllocError, Global};
 pub fn number_among(
     alloc: Global,
     entries: &Entries,
-    rrset: &Rrset,
+    rrset: &Rrset<'_>,
     rrsig: &Rrsig,
     key: &KeyRecord<'_>,
 ) -> Result<Option<usize>, AllocError>

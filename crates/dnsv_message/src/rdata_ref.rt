@@ -2,7 +2,7 @@
 
 mod pieces;
 
-ghost use Rattle.std.specs.Prelude.{◌≡◌, ◌↔◌, ◌≤◌, ◌+◌, ◌++◌, [], ℕ, List, length, nat_eq, IsFalse, IsTrue, IfOk, MatchOption};
+ghost use Rattle.std.specs.Prelude.{◌≡◌, ◌↔◌, ◌≤◌, ◌+◌, ◌++◌, [], ℕ, List, length, nat_eq, IsFalse, IsTrue, IfOk, IfSome, MatchOption};
 ghost use Rattle.std.specs.Cmp.{partial_equiv_from_equiv};
 ghost use Rattle.std.specs.Cmp.Lexicographic.{lists_equiv, pointwise};
 ghost use Rattle.std.proofs.lemmas.Cmp.{nat_eq_equiv};
@@ -14,6 +14,7 @@ use crate::name_at::name_end;
 use crate::number::Class;
 use crate::rdata::{Layout, rdata_at};
 use crate::rdata_ref::pieces::Pieces;
+use bumpalo::Bump;
 use dnsv_names::{Name, RecordType};
 use std::alloc::{AllocError, Global};
 use std::marker::Model;
@@ -119,20 +120,41 @@ impl<'b> RdataRef<'b> {
         Ok(rdata.unwrap())
     }
 
+    /// The octets where they stand in the message, if no name in them may be compressed.
+    fn as_they_stand(&self) -> Option<&'b [u8]>
+        ensures { IfSome result (λ slice. slice.now ≡ self.now) }
+    {
+        if Layout::of(self.rtype, self.class).pointers {
+            return None;
+        }
+        Some(&self.octets[self.start..self.start + self.size as usize])
+    }
+
     /// The octets: those of the message where no name in them may be compressed, and a vector otherwise.
     pub fn octets(&self, alloc: Global) -> Result<RdataOctets<'b>, AllocError>
         ensures { IfOk result (λ octets. octets ≡ self.now) }
     {
-        if Layout::of(self.rtype, self.class).pointers {
-            let octets = self.to_vec(alloc)?;
+        if let Some(slice) = self.as_they_stand() {
             return Ok(RdataOctets {
-                kept: Kept::Written(octets),
+                kept: Kept::Stands(slice),
             });
         }
-        let slice = &self.octets[self.start..self.start + self.size as usize];
+        let octets = self.to_vec(alloc)?;
         Ok(RdataOctets {
-            kept: Kept::Stands(slice),
+            kept: Kept::Written(octets),
         })
+    }
+
+    /// The octets as one slice: those of the message where no name in them may be compressed, and otherwise written
+    /// out in the arena.
+    pub fn placed(&self, alloc: Global, bump: &'b Bump) -> Result<&'b [u8], AllocError>
+        ensures { IfOk result (λ slice. slice.now ≡ self.now) }
+    {
+        if let Some(slice) = self.as_they_stand() {
+            return Ok(slice);
+        }
+        let octets = self.to_vec(alloc)?;
+        Ok(bump.try_alloc_slice_copy(&octets)?)
     }
 }
 

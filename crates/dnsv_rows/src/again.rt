@@ -3,6 +3,7 @@
 use crate::canonical::rrsets::list;
 use crate::evidence::{frames, messages};
 use crate::row::{Row, RowError, printed};
+use bumpalo::Bump;
 use dnsv_canonical::{Capture, CaptureError};
 use dnsv_message::{Framer, Message, ReadError};
 use dnsv_names::Count;
@@ -22,8 +23,9 @@ pub fn answer(row: &Row) -> Result<Option<String>, RowError> {
 /// `add-again CAPTURE`: how often an `add` was refused memory, and what the capture has. Behind each refusal the capture
 /// is looked at, and the message is added again.
 fn add_again(row: &Row) -> Result<String, RowError> {
-    let frames = frames(row, 0)?;
-    let mut capture = Capture::new(row.alloc());
+    let bump = Bump::new(row.alloc());
+    let frames = frames(row, 0, &bump)?;
+    let mut capture = Capture::new(row.alloc(), &bump);
     let mut refusals = 0usize;
     for message in &messages(row.alloc(), &frames)? {
         let refused = is_refused(row.alloc(), &mut capture, message)?;
@@ -35,7 +37,7 @@ fn add_again(row: &Row) -> Result<String, RowError> {
 
 /// How many parameters of NSEC3 records the capture has, its RRsets, and of each the numbers of those with its owner and
 /// type.
-fn told(alloc: Global, capture: &Capture) -> Result<String, RowError> {
+fn told(alloc: Global, capture: &Capture<'_>) -> Result<String, RowError> {
     let parameters = capture.nsec3_parameters().len();
     let rrsets = list(alloc, capture)?;
     let mut text = format!(in alloc; "{parameters} {rrsets}")?;
@@ -55,10 +57,10 @@ fn push_numbers(text: &mut String, numbers: &[usize]) -> Result<(), RowError> {
 }
 
 /// Whether the message was refused once, before it was added.
-fn is_refused(
+fn is_refused<'b>(
     alloc: Global,
-    capture: &mut Capture,
-    message: &Message<'_>,
+    capture: &mut Capture<'b>,
+    message: &Message<'b>,
 ) -> Result<bool, RowError> {
     let before = told(alloc, capture)?;
     match capture.add(message) {

@@ -7,6 +7,7 @@ mod places;
 use crate::chain::trust_in;
 use crate::evidence::capture_or_refusal;
 use crate::row::{Row, RowError, printed};
+use bumpalo::Bump;
 use dnsv_chain::Trust;
 use dnsv_denial::{Hashes, Proof, View};
 use dnsv_names::{Count, Name, RecordType};
@@ -42,7 +43,8 @@ pub fn answer(row: &Row) -> Result<Option<String>, RowError> {
 /// `deny CAPTURE ANCHORS MOMENT NAME TYPE`: the zone and the records of the proof that there is no such name, those of
 /// the proof that the type isn't there, and the unsigned cut.
 fn deny(row: &Row) -> Result<String, RowError> {
-    let evidence = match evidence_of(row)? {
+    let bump = Bump::new(row.alloc());
+    let evidence = match evidence_of(row, &bump)? {
         Ok(evidence) => evidence,
         Err(refusal) => return Ok(refusal),
     };
@@ -54,7 +56,8 @@ fn deny(row: &Row) -> Result<String, RowError> {
 /// `retrust CAPTURE ANCHORS MOMENT NAME TYPE BEFORE`: what `deny` prints, by the hashes that a view under the anchors
 /// BEFORE was made with.
 fn retrust(row: &Row) -> Result<String, RowError> {
-    let evidence = match evidence_of(row)? {
+    let bump = Bump::new(row.alloc());
+    let evidence = match evidence_of(row, &bump)? {
         Ok(evidence) => evidence,
         Err(refusal) => return Ok(refusal),
     };
@@ -67,7 +70,7 @@ fn retrust(row: &Row) -> Result<String, RowError> {
 /// The view of the evidence for the name, by the hashes that a view under another trust was made with.
 fn view_with_hashes_of<'a>(
     alloc: Global,
-    evidence: &'a Evidence,
+    evidence: &'a Evidence<'a>,
     before: &Trust,
     name: &Name,
 ) -> Result<View<'a, 'a>, RowError> {
@@ -79,7 +82,8 @@ fn view_with_hashes_of<'a>(
 /// `closer CAPTURE ANCHORS MOMENT NAME ZONE LABELS`: the zone and the record of the proof that the zone has no closer
 /// name than so many labels, and the next closer name that may be left out.
 fn closer(row: &Row) -> Result<String, RowError> {
-    let evidence = match evidence_of(row)? {
+    let bump = Bump::new(row.alloc());
+    let evidence = match evidence_of(row, &bump)? {
         Ok(evidence) => evidence,
         Err(refusal) => return Ok(refusal),
     };
@@ -101,7 +105,8 @@ fn closer_names(row: &Row, view: &View<'_, '_>) -> Result<String, RowError> {
 
 /// `hashes CAPTURE ANCHORS MOMENT NAME`: how many hashes a view for the name makes.
 fn hashes(row: &Row) -> Result<String, RowError> {
-    let evidence = match evidence_of(row)? {
+    let bump = Bump::new(row.alloc());
+    let evidence = match evidence_of(row, &bump)? {
         Ok(evidence) => evidence,
         Err(refusal) => return Ok(refusal),
     };
@@ -120,7 +125,8 @@ fn hashes(row: &Row) -> Result<String, RowError> {
 
 /// `hash CAPTURE NAME ITERATIONS SALT OTHER`: the hash of the other name among those that are kept for the name.
 fn hash(row: &Row) -> Result<String, RowError> {
-    let capture = match capture_or_refusal(row, 0)? {
+    let bump = Bump::new(row.alloc());
+    let capture = match capture_or_refusal(row, 0, &bump)? {
         Ok(capture) => capture,
         Err(refusal) => return Ok(refusal),
     };
@@ -142,7 +148,7 @@ fn kept_hash(row: &Row, hashes: &Hashes<'_>) -> Result<String, RowError> {
 /// The view of the evidence for the name.
 fn view_of<'a>(
     alloc: Global,
-    evidence: &'a Evidence,
+    evidence: &'a Evidence<'a>,
     name: &Name,
 ) -> Result<View<'a, 'a>, RowError> {
     Ok(View::new(

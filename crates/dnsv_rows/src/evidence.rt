@@ -6,6 +6,7 @@ ghost use Rattle.std.specs.Prelude.{IfOk};
 ghost use Rattle.dnsv_records.specs.Dnskey.{IsDnskey};
 
 use crate::row::{Row, RowError};
+use bumpalo::Bump;
 use dnsv_canonical::{Capture, CaptureError, Rrset};
 use dnsv_message::{Framer, Message};
 use dnsv_records::{Dnskey, RecordError, Rrsig};
@@ -31,26 +32,36 @@ impl Refusal {
 }
 
 /// The capture that the argument writes, or the text of the refusal of a message.
-pub fn capture_or_refusal(row: &Row, place: usize) -> Result<Result<Capture, String>, RowError> {
-    let frames = frames(row, place)?;
-    match capture_of(row.alloc(), messages(row.alloc(), &frames)?.as_slice()) {
+pub fn capture_or_refusal<'b>(
+    row: &Row,
+    place: usize,
+    bump: &'b Bump,
+) -> Result<Result<Capture<'b>, String>, RowError> {
+    let frames = frames(row, place, bump)?;
+    let messages = messages(row.alloc(), &frames)?;
+    match capture_of(row.alloc(), messages.as_slice(), bump) {
         Ok(capture) => Ok(Ok(capture)),
         Err(refusal) => Ok(Err(refusal.text(row.alloc())?)),
     }
 }
 
 /// The capture that the argument writes, of which no message is refused.
-pub fn capture(row: &Row, place: usize) -> Result<Capture, RowError> {
-    let frames = frames(row, place)?;
-    match capture_of(row.alloc(), messages(row.alloc(), &frames)?.as_slice()) {
+pub fn capture<'b>(row: &Row, place: usize, bump: &'b Bump) -> Result<Capture<'b>, RowError> {
+    let frames = frames(row, place, bump)?;
+    let messages = messages(row.alloc(), &frames)?;
+    match capture_of(row.alloc(), messages.as_slice(), bump) {
         Ok(capture) => Ok(capture),
         Err(_) => Err(RowError::Malformed),
     }
 }
 
 /// The capture of the messages, or the first that is refused.
-pub fn capture_of(alloc: Global, messages: &[Message<'_>]) -> Result<Capture, Refusal> {
-    let mut capture = Capture::new(alloc);
+pub fn capture_of<'b>(
+    alloc: Global,
+    messages: &[Message<'b>],
+    bump: &'b Bump,
+) -> Result<Capture<'b>, Refusal> {
+    let mut capture = Capture::new(alloc, bump);
     for (place, message) in messages.iter().enumerate() {
         if let Err(error) = capture.add(message) {
             let message = place.saturating_add(1);
@@ -61,16 +72,20 @@ pub fn capture_of(alloc: Global, messages: &[Message<'_>]) -> Result<Capture, Re
 }
 
 /// The messages that these octets are.
-pub fn messages(alloc: Global, frames: &[Vec<u8>]) -> Result<Vec<Message<'_>>, RowError> {
+pub fn messages<'b>(alloc: Global, frames: &[&'b [u8]]) -> Result<Vec<Message<'b>>, RowError> {
     let mut messages = Vec::new(alloc);
     for octets in frames {
-        messages.push(Message::decode(alloc, octets.as_slice())?)?;
+        messages.push(Message::decode(alloc, octets)?)?;
     }
     Ok(messages)
 }
 
 /// The RRset of the capture whose number, from 1 on, the argument is.
-pub fn rrset<'a>(row: &Row, place: usize, capture: &'a Capture) -> Result<&'a Rrset, RowError> {
+pub fn rrset<'a, 'b>(
+    row: &Row,
+    place: usize,
+    capture: &'a Capture<'b>,
+) -> Result<&'a Rrset<'b>, RowError> {
     let number = row.number(place)?.saturating_sub(1);
     let Ok(index) = usize::try_from(number) else {
         return Err(RowError::Malformed);
@@ -82,7 +97,7 @@ pub fn rrset<'a>(row: &Row, place: usize, capture: &'a Capture) -> Result<&'a Rr
 }
 
 /// The signature of the RRset whose number, from 1 on, the argument is.
-pub fn signature<'a>(row: &Row, place: usize, rrset: &'a Rrset) -> Result<&'a Rrsig, RowError> {
+pub fn signature<'a>(row: &Row, place: usize, rrset: &'a Rrset<'_>) -> Result<&'a Rrsig, RowError> {
     let number = row.number(place)?.saturating_sub(1);
     let Ok(index) = usize::try_from(number) else {
         return Err(RowError::Malformed);
@@ -93,14 +108,18 @@ pub fn signature<'a>(row: &Row, place: usize, rrset: &'a Rrset) -> Result<&'a Rr
     }
 }
 
-/// The octets of the messages that the argument writes.
-pub fn frames(row: &Row, place: usize) -> Result<Vec<Vec<u8>>, RowError> {
+/// The octets of the messages that the argument writes, which are placed in the arena.
+pub fn frames<'b>(row: &Row, place: usize, bump: &'b Bump) -> Result<Vec<&'b [u8]>, RowError> {
     let octets = row.octets(place)?;
     let mut frames = Vec::new(row.alloc());
     let mut framer = Framer::new(row.alloc());
     framer.feed(octets.as_slice(), &mut frames)?;
     framer.finish()?;
-    Ok(frames)
+    let mut placed: Vec<&'b [u8]> = Vec::new(row.alloc());
+    for frame in &frames {
+        placed.push(bump.try_alloc_slice_copy(frame)?)?;
+    }
+    Ok(placed)
 }
 
 /// What the RDATA of a DNSKEY record says.

@@ -5,6 +5,7 @@ use crate::evidence;
 use crate::evidence::verifying::ByFirstOctet;
 use crate::row::{Row, RowError, printed};
 use crate::verifier::statements_of;
+use bumpalo::Bump;
 use dnsv_denial::Proof;
 use dnsv_names::RecordType;
 use dnsv_verdict::{Link, Report, Verdict, VerdictError, validate};
@@ -27,7 +28,8 @@ pub fn answer(row: &Row) -> Result<Option<String>, RowError> {
 /// a record of it, `2.1`, and what is pending by the signatures. `ByFirstOctet` verifies.
 fn validated<V: Verifier>(row: &Row, verifier: &V) -> Result<String, RowError> {
     let alloc = row.alloc();
-    let capture = evidence::capture(row, 0)?;
+    let bump = Bump::new(row.alloc());
+    let capture = evidence::capture(row, 0, &bump)?;
     let anchors = trust_anchors(row, 1)?;
     let (moment, name) = (row.number(2)?, row.name(3)?);
     let rtype = record_type(row, 4)?;

@@ -3,6 +3,7 @@
 use crate::evidence;
 use crate::evidence::capture;
 use crate::row::{Row, RowError, printed};
+use bumpalo::Bump;
 use dnsv_canonical::Rrset;
 use dnsv_names::Count;
 use dnsv_records::{Algorithm, Octets};
@@ -114,7 +115,8 @@ fn hopeful(row: &Row) -> Result<String, RowError> {
 /// `admissible CAPTURE MOMENT RRSET SIGNATURE KEYRRSET KEY`: whether the key may be used to verify the signature, and
 /// what is asked of it: whether some key may, and whether the key may have made it.
 fn admissible(row: &Row) -> Result<String, RowError> {
-    let (capture, moment) = (capture(row, 0)?, row.number(1)?);
+    let bump = Bump::new(row.alloc());
+    let (capture, moment) = (capture(row, 0, &bump)?, row.number(1)?);
     let rrset = evidence::rrset(row, 2, &capture)?;
     let rrsig = evidence::signature(row, 3, rrset)?;
     let set = evidence::rrset(row, 4, &capture)?;
@@ -130,7 +132,7 @@ fn admissible(row: &Row) -> Result<String, RowError> {
 }
 
 /// The RDATA of the key of the RRset whose number, from 1 on, the argument is.
-fn key_rdata<'a>(row: &Row, place: usize, rrset: &'a Rrset) -> Result<&'a [u8], RowError> {
+fn key_rdata<'a>(row: &Row, place: usize, rrset: &'a Rrset<'a>) -> Result<&'a [u8], RowError> {
     let number = row.number(place)?.saturating_sub(1);
     let Ok(index) = usize::try_from(number) else {
         return Err(RowError::Malformed);
@@ -143,7 +145,8 @@ fn key_rdata<'a>(row: &Row, place: usize, rrset: &'a Rrset) -> Result<&'a [u8], 
 
 /// What the statements of the row say of its capture at its moment.
 fn table_of(row: &Row, count: &mut Count) -> Result<Table, RowError> {
-    let (capture, moment) = (capture(row, 0)?, row.number(1)?);
+    let bump = Bump::new(row.alloc());
+    let (capture, moment) = (capture(row, 0, &bump)?, row.number(1)?);
     let statements = statements_of(row, 2)?;
     Ok(ask_all(row.alloc(), &capture, moment, &statements, count)?)
 }

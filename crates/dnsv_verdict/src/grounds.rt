@@ -26,7 +26,7 @@ use std::alloc::{AllocError, Global};
 /// What questions are judged by: the evidence, the trust anchors, and what the verifier says at the moment.
 #[derive(Drop)]
 pub struct Grounds<'a> {
-    pub capture: &'a Capture,
+    pub capture: &'a Capture<'a>,
     pub anchors: &'a Anchors,
     pub table: Table,
     /// What the three make trusted.

@@ -71,7 +71,7 @@ pub struct Judged<'a> {
 /// iterations and salt, whatever the verdict.
 pub fn validate<V: Verifier>(
     alloc: Global,
-    capture: &Capture,
+    capture: &Capture<'_>,
     anchors: &Anchors,
     moment: u64,
     verifier: &V,
@@ -115,7 +115,7 @@ pub fn validate<V: Verifier>(
 /// either.
 pub fn judge<'a, V: Verifier>(
     alloc: Global,
-    capture: &'a Capture,
+    capture: &'a Capture<'a>,
     anchors: &'a Anchors,
     moment: u64,
     verifier: &V,
@@ -181,7 +181,7 @@ fn exact(asked: &Count, table: &Table) -> u64
 
 /// The count of the digests that hash the names of the way: there are so few names, a capture has so few iterations and
 /// salts, and a name so few labels, that their number is below the greatest value of a count.
-fn exact_hashed(hashed: &Count, capture: &Capture, way: &Way) -> u64
+fn exact_hashed(hashed: &Count, capture: &Capture<'_>, way: &Way) -> u64
     requires hashed { (all : List Nsec3Parameters) → AreParameters (nsec3_rdata capture.now.rrsets) all
         → hashed.now ≡ counted 0 (hashes_on (names_on way.now.links way.now.last) all) }
     requires names { AllByRecursion IsName (names_on way.now.links way.now.last) }

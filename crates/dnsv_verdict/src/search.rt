@@ -17,7 +17,7 @@ pub trait Test {
     ghost passes: { Self → ReceivedRrset → Rrsig → Type 0 };
 
     /// Whether they are.
-    fn is_passed_by(&self, rrset: &Rrset, rrsig: &Rrsig) -> bool
+    fn is_passed_by(&self, rrset: &Rrset<'_>, rrsig: &Rrsig) -> bool
         ensures { IsTrue result ↔ passes self.now rrset.now rrsig.now };
 }
 
@@ -35,7 +35,7 @@ pub struct Found<'a> {
 /// The first RRset of the name and type that has a trusted signature with which it passes the test, and the first such
 /// signature; `None` where there is none. RRsets of other types pass none.
 pub fn first_such<'a, T: Test>(
-    capture: &'a Capture,
+    capture: &'a Capture<'a>,
     trust: &Trust,
     name: &Name,
     rtype: RecordType,
@@ -64,7 +64,7 @@ pub fn first_such<'a, T: Test>(
 }
 
 /// The RRset with the number.
-fn rrset_at(rrsets: &[Rrset], number: usize) -> &Rrset
+fn rrset_at<'a, 'b>(rrsets: &'a [Rrset<'b>], number: usize) -> &'a Rrset<'b>
     requires some { 0 < number }
     requires within { number ≤ length rrsets.now }
     ensures { IsNumbered rrsets.now number result.now }
@@ -90,7 +90,7 @@ pub fn earlier<'a>(one: Option<Found<'a>>, other: Option<Found<'a>>) -> Option<F
 
 /// The first of the RRset's signatures with one of these numbers with which it passes the test, behind its number.
 fn first_signature<'a, T: Test>(
-    rrset: &'a Rrset,
+    rrset: &'a Rrset<'a>,
     numbers: &[usize],
     test: &T,
 ) -> Option<(usize, &'a Rrsig)>

@@ -18,7 +18,7 @@ use dnsv_records::Rrsig;
 /// A name, with the evidence, its trust, and what they show of the name.
 #[derive(Drop)]
 struct AtName<'e, 'v, 'c, 't> {
-    capture: &'e Capture,
+    capture: &'e Capture<'e>,
     trust: &'v Trust,
     name: &'v Name,
     view: &'v View<'c, 't>,
@@ -27,7 +27,7 @@ struct AtName<'e, 'v, 'c, 't> {
 /// What the evidence settles: the first that holds of a secure answer, a secure alias, no such name, no data, and a
 /// name that may be unsigned. `None` where it settles nothing.
 pub fn settled(
-    capture: &Capture,
+    capture: &Capture<'_>,
     trust: &Trust,
     name: &Name,
     rtype: RecordType,
@@ -117,7 +117,7 @@ fn opt_out_wildcard_cut(at: &AtName<'_, '_, '_, '_>, rtype: RecordType) -> Optio
 /// The first RRset of the name, and of the type or CNAME, and its first signature, that come from a wildcard and against
 /// which an unsigned delegation may stand (RFC 5155 8.8). The view is of the name, over the same evidence and trust.
 pub fn opt_out_wildcard<'a>(
-    capture: &'a Capture,
+    capture: &'a Capture<'a>,
     trust: &Trust,
     name: &Name,
     rtype: RecordType,
@@ -169,7 +169,7 @@ impl Test for HoldsForName<'_, '_, '_> {
     ghost passes = { λ test rrset rrsig. (rrset.rtype ≡ test.rtype.0)
         × HoldsForName (SecuredIn test.view.now.trust) test.view.now.rrsets test.view.now.name rrset rrsig };
 
-    fn is_passed_by(&self, rrset: &Rrset, rrsig: &Rrsig) -> bool {
+    fn is_passed_by(&self, rrset: &Rrset<'_>, rrsig: &Rrsig) -> bool {
         if rrset.rtype() != self.rtype {
             return false;
         }
@@ -198,7 +198,7 @@ impl Test for IsOptOutWildcard<'_, '_, '_> {
     ghost passes = { λ test rrset rrsig. (rrset.rtype ≡ test.rtype.0)
         × IsOptOutWildcard (SecuredIn test.view.now.trust) test.view.now.rrsets test.view.now.name rrset rrsig };
 
-    fn is_passed_by(&self, rrset: &Rrset, rrsig: &Rrsig) -> bool {
+    fn is_passed_by(&self, rrset: &Rrset<'_>, rrsig: &Rrsig) -> bool {
         if rrset.rtype() != self.rtype || !is_expanded(rrset.owner(), rrsig) {
             return false;
         }

@@ -14,7 +14,7 @@ const UNEXPANDED: [u16; 4] = [43, 47, 48, 50];
 
 /// Whether the key may be used to verify the signature of the RRset at the moment, in seconds since 1970
 /// (RFC 4035 5.3.1).
-pub fn is_admissible(moment: u64, rrset: &Rrset, rrsig: &Rrsig, key: &KeyRecord<'_>) -> bool
+pub fn is_admissible(moment: u64, rrset: &Rrset<'_>, rrsig: &Rrsig, key: &KeyRecord<'_>) -> bool
     ensures { IsTrue result ↔ IsAdmissible moment rrset.now rrsig.now key.now }
 {
     may_have_made(key, rrsig) && is_verifiable(moment, rrset, rrsig)
@@ -22,7 +22,7 @@ pub fn is_admissible(moment: u64, rrset: &Rrset, rrsig: &Rrsig, key: &KeyRecord<
 
 /// Whether some key might verify the signature of the RRset at the moment, in seconds since 1970: what RFC 4035
 /// 5.3.1 asks of the two alone.
-pub fn is_verifiable(moment: u64, rrset: &Rrset, rrsig: &Rrsig) -> bool
+pub fn is_verifiable(moment: u64, rrset: &Rrset<'_>, rrsig: &Rrsig) -> bool
     ensures { IsTrue result ↔ IsVerifiable moment rrset.now rrsig.now }
 {
     is_over(rrset, rrsig)
@@ -39,7 +39,7 @@ pub fn may_have_made(key: &KeyRecord<'_>, rrsig: &Rrsig) -> bool
 }
 
 /// Whether the signature covers the RRset's type and counts no more labels than its owner has.
-fn is_over(rrset: &Rrset, rrsig: &Rrsig) -> bool
+fn is_over(rrset: &Rrset<'_>, rrsig: &Rrsig) -> bool
     ensures { IsTrue result ↔ IsOver rrset.now rrsig.now }
 {
     rrsig.type_covered.0 == rrset.rtype().0

@@ -32,7 +32,7 @@ use std::rc::Rc;
 /// nothing.
 pub fn ask_all<V: Verifier>(
     alloc: Global,
-    capture: &Capture,
+    capture: &Capture<'_>,
     moment: u64,
     verifier: &V,
     count: &mut Count,
@@ -65,7 +65,7 @@ struct Asked {
 }
 
 /// The entries that are asked of the RRsets.
-fn asked_entries(alloc: Global, moment: u64, rrsets: &[Rrset]) -> Result<Asked, AllocError>
+fn asked_entries(alloc: Global, moment: u64, rrsets: &[Rrset<'_>]) -> Result<Asked, AllocError>
     ensures rising { IfOk result (λ asked. IsStrictlySortedBy entry_cmp
         (map (entry_of asked.parts.value) asked.numbers.items)) }
     ensures asked { IfOk result (λ asked. (entry : Entry)

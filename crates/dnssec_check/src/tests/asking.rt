@@ -1,4 +1,5 @@
 //! How often a verifier is asked, which no clause can say.
+use bumpalo::Bump;
 use dnsv_canonical::Capture;
 use dnsv_chain::Anchors;
 use dnsv_explain::explain;
@@ -50,8 +51,8 @@ impl Verifier for Counting {
 }
 
 /// The two messages.
-fn evidence(alloc: Global) -> Result<Capture, Fail> {
-    let mut capture = Capture::new(alloc);
+fn evidence<'b>(alloc: Global, bump: &'b Bump) -> Result<Capture<'b>, Fail> {
+    let mut capture = Capture::new(alloc, bump);
     capture.add(&Message::decode(alloc, KEYS)?)?;
     capture.add(&Message::decode(alloc, HOST)?)?;
     Ok(capture)
@@ -59,7 +60,8 @@ fn evidence(alloc: Global) -> Result<Capture, Fail> {
 
 /// How often it is asked for the verdict on the address of the host, and where that is wanted, for why it stands too.
 fn calls(alloc: Global, why: bool) -> Result<u64, Fail> {
-    let capture = evidence(alloc)?;
+    let bump = Bump::new(alloc);
+    let capture = evidence(alloc, &bump)?;
     let anchors = Anchors::parse(alloc, ANCHOR)?;
     let (host, address) = (Name::parse(b"host.example.")?, RecordType(1));
     let unknown = Counting {
@@ -79,7 +81,7 @@ pub fn is_asked_once_for_each(alloc: Global) -> Result<bool, Fail> {
 }
 
 /// Whether it is asked so often for the table at the moment, and the count grows by as many.
-fn is_asked(alloc: Global, capture: &Capture, moment: u64, times: u64) -> Result<bool, Fail> {
+fn is_asked(alloc: Global, capture: &Capture<'_>, moment: u64, times: u64) -> Result<bool, Fail> {
     let mut count = Count::new();
     let unknown = Counting {
         calls: Cell::new(0),
@@ -91,7 +93,8 @@ fn is_asked(alloc: Global, capture: &Capture, moment: u64, times: u64) -> Result
 
 /// Whether a table asks it once for each entry that is valid at the moment, also where a message was added twice.
 pub fn is_asked_once_by_a_table(alloc: Global) -> Result<bool, Fail> {
-    let mut capture = evidence(alloc)?;
+    let bump = Bump::new(alloc);
+    let mut capture = evidence(alloc, &bump)?;
     let once = is_asked(alloc, &capture, 1500, 2)? && is_asked(alloc, &capture, 2001, 0)?;
     capture.add(&Message::decode(alloc, HOST)?)?;
     Ok(once && is_asked(alloc, &capture, 1500, 2)?)

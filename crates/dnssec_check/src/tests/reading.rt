@@ -1,4 +1,5 @@
 //! What a capture has read of a message.
+use bumpalo::Bump;
 use dnsv_canonical::Capture;
 use dnsv_message::Message;
 use std::alloc::Global;
@@ -16,7 +17,8 @@ const EACH: &[u8] = b"\x00\x01\x84\x00\x00\x00\x00\x05\x00\x00\x00\x00\
 
 /// Whether the message has four RRsets, each with one record of its type, and one signature of the first.
 fn are_read(alloc: Global, message: &Message<'_>) -> Result<bool, Fail> {
-    let mut capture = Capture::new(alloc);
+    let bump = Bump::new(alloc);
+    let mut capture = Capture::new(alloc, &bump);
     capture.add(message)?;
     let [keys, digests, nsecs, nsec3s] = capture.rrsets() else {
         return Ok(false);

@@ -39,8 +39,8 @@ impl Index {
     pub fn with<'a>(
         &self,
         alloc: Global,
-        held: &'a [Rrset],
-        more: &'a [Rrset],
+        held: &'a [Rrset<'a>],
+        more: &'a [Rrset<'a>],
     ) -> Result<Index, AllocError>
         requires { IsIndexOf held.now self.now.numbers.items self.now.starts.items }
         ensures { IfOk result (λ index. IsIndexOf (held.now ++ more.now) index.numbers.items index.starts.items) }
@@ -59,7 +59,7 @@ impl Index {
     /// The numbers of the RRsets of the name and type, rising.
     pub fn at(
         &self,
-        rrsets: &[Rrset],
+        rrsets: &[Rrset<'_>],
         name: &Name,
         rtype: RecordType,
         count: &mut Count,
@@ -77,7 +77,7 @@ impl Index {
     }
 
     /// How many groups don't stand behind the RRset, where those before the place are known not to.
-    fn place_from(&self, rrsets: &[Rrset], from: usize, rrset: &Rrset) -> usize
+    fn place_from(&self, rrsets: &[Rrset<'_>], from: usize, rrset: &Rrset<'_>) -> usize
         requires { IsIndexOf rrsets.now self.now.numbers.items self.now.starts.items }
         ensures parted { (index : IsIndexOf rrsets.now self.now.numbers.items self.now.starts.items)
             → IsPlaceFrom index.firsts (key_of rrset.now) from result }
@@ -95,7 +95,7 @@ impl Index {
     }
 
     /// How many groups don't stand behind the name and type.
-    fn place_behind(&self, rrsets: &[Rrset], name: &Name, rtype: RecordType) -> usize
+    fn place_behind(&self, rrsets: &[Rrset<'_>], name: &Name, rtype: RecordType) -> usize
         requires { IsIndexOf rrsets.now self.now.numbers.items self.now.starts.items }
         ensures parted { (index : IsIndexOf rrsets.now self.now.numbers.items self.now.starts.items)
             → IsPlaceBehind index.firsts (name.now, rtype.0) result }
@@ -111,7 +111,7 @@ impl Index {
     /// The place of the group of the name and type, or that which it would have, and how many were compared.
     fn find(
         &self,
-        rrsets: &[Rrset],
+        rrsets: &[Rrset<'_>],
         name: &Name,
         rtype: RecordType,
     ) -> (Result<usize, usize>, usize)
@@ -137,7 +137,7 @@ impl Index {
     }
 
     /// The first RRset of the group with the place.
-    fn first<'a>(&self, rrsets: &'a [Rrset], place: usize) -> &'a Rrset
+    fn first<'a, 'b>(&self, rrsets: &'a [Rrset<'b>], place: usize) -> &'a Rrset<'b>
         requires index { IsIndexOf rrsets.now self.now.numbers.items self.now.starts.items }
         requires within { place < length self.now.starts.items }
         ensures { (index : IsIndexOf rrsets.now self.now.numbers.items self.now.starts.items)
@@ -171,7 +171,7 @@ impl Index {
 }
 
 /// The RRset with the number.
-fn rrset_at(rrsets: &[Rrset], number: usize) -> &Rrset
+fn rrset_at<'a, 'b>(rrsets: &'a [Rrset<'b>], number: usize) -> &'a Rrset<'b>
     requires some { 0 < number }
     requires within { number ≤ length rrsets.now }
     ensures { IsNumbered rrsets.now number result.now }

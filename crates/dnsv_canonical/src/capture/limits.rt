@@ -1,16 +1,18 @@
 //! How much an RRset and a capture may have.
-ghost use Rattle.std.specs.Prelude.{◌≡◌, ◌↔◌, ◌+◌, ◌<◌, ◌≤◌, ℕ, List, [], ◌∷◌, ◌++◌, length, map, Contains, Option, Some, IfErr, IfOk, IsTrue, OnOk, MatchOption};
-ghost use Rattle.std.specs.List.{AllByRecursion};
+ghost use Rattle.std.specs.Prelude.{◌≡◌, ◌↔◌, ◌+◌, ◌<◌, ◌≤◌, ℕ, List, [], ◌∷◌, ◌++◌, length, map, Contains, IfErr, IfOk, IsTrue, OnOk, MatchOption};
+ghost use Rattle.std.specs.List.{AllByRecursion, AllZip};
 ghost use Rattle.dnsv_message.specs.Message.{records_of};
-ghost use Rattle.dnsv_canonical.specs.Evidence.{AreParameters, IsSmall, AtMost, AreUsableParameters, nsec3_rdata};
+ghost use Rattle.dnsv_records.specs.Nsec3.{IsNsec3};
+ghost use Rattle.dnsv_canonical.specs.Evidence.{AreParameters, IsSmall, AtMost, nsec3_rdata};
 ghost use Rattle.dnsv_canonical.specs.Kept.{IsParametersRefusal};
 
 use crate::canonical::canonical_rdata;
 use crate::capture::CaptureError;
-use crate::draft::Draft;
+use crate::received::Received;
+use crate::rrset::Rrset;
 use dnsv_message::{Message, Section};
 use dnsv_names::RecordType;
-use dnsv_records::{Nsec3, Nsec3Parameters, RecordError};
+use dnsv_records::{Nsec3, Nsec3Parameters, Octets, record_laws};
 use std::alloc::{AllocError, Global};
 
 /// How many messages a capture has at most.
@@ -45,11 +47,11 @@ pub fn records_with(records: usize, message: &Message<'_>) -> Option<usize>
 }
 
 /// Whether each RRset is within its limits.
-pub fn are_small(alloc: Global, drafts: &[Draft<'_>]) -> Result<bool, AllocError>
-    ensures { IfOk result (λ answer. IsTrue answer ↔ AllByRecursion IsSmall drafts.now) }
+pub fn are_small(alloc: Global, rrsets: &[Received<'_>]) -> Result<bool, AllocError>
+    ensures { IfOk result (λ answer. IsTrue answer ↔ AllByRecursion IsSmall rrsets.now) }
 {
-    for draft in drafts {
-        if !is_small(alloc, draft)? {
+    for rrset in rrsets {
+        if !is_small(alloc, rrset)? {
             return Ok(false);
         }
     }
@@ -57,16 +59,16 @@ pub fn are_small(alloc: Global, drafts: &[Draft<'_>]) -> Result<bool, AllocError
 }
 
 /// Whether the RRset is within its limits.
-fn is_small(alloc: Global, draft: &Draft<'_>) -> Result<bool, AllocError>
-    ensures { IfOk result (λ answer. IsTrue answer ↔ IsSmall draft.now) }
+fn is_small(alloc: Global, rrset: &Received<'_>) -> Result<bool, AllocError>
+    ensures { IfOk result (λ answer. IsTrue answer ↔ IsSmall rrset.now) }
 {
-    if draft.signatures().len() > SIGNATURE_LIMIT {
+    if rrset.signatures().len() > SIGNATURE_LIMIT {
         return Ok(false);
     }
-    if draft.rtype() != RecordType::DNSKEY {
+    if rrset.rtype() != RecordType::DNSKEY {
         return Ok(true);
     }
-    has_few_keys(alloc, draft.rdata())
+    has_few_keys(alloc, rrset.rdata())
 }
 
 /// Whether the RDATA is at most 16, equal ones counted once.
@@ -82,17 +84,17 @@ fn has_few_keys(alloc: Global, received: &[&[u8]]) -> Result<bool, AllocError>
 pub fn fresh_parameters(
     alloc: Global,
     kept: &[Nsec3Parameters],
-    drafts: &[Draft<'_>],
+    rrsets: &[Rrset<'_>],
 ) -> Result<Vec<Nsec3Parameters>, CaptureError>
     ensures all { IfOk result (λ fresh. (earlier : List (List ℕ)) → AreParameters earlier kept.now
-        → AreParameters (earlier ++ nsec3_rdata drafts.now) (kept.now ++ fresh.items)) }
+        → AreParameters (earlier ++ nsec3_rdata rrsets.now) (kept.now ++ fresh.items)) }
     ensures few { IfOk result (λ fresh. length kept.now ≤ 8 → length (kept.now ++ fresh.items) ≤ 8) }
     ensures refused { (earlier : List (List ℕ)) → AreParameters earlier kept.now
-        → IfErr result (IsParametersRefusal (earlier ++ nsec3_rdata drafts.now)) }
+        → IfErr result (IsParametersRefusal (earlier ++ nsec3_rdata rrsets.now)) }
 {
     let mut fresh = Vec::new(alloc);
-    for draft in drafts {
-        add_rrset(alloc, kept, &mut fresh, draft)?;
+    for rrset in rrsets {
+        add_rrset(alloc, kept, &mut fresh, rrset)?;
     }
     Ok(fresh)
 }
@@ -102,19 +104,16 @@ fn add_rrset(
     alloc: Global,
     kept: &[Nsec3Parameters],
     fresh: &mut Vec<Nsec3Parameters>,
-    draft: &Draft<'_>,
+    rrset: &Rrset<'_>,
 ) -> Result<(), CaptureError>
     ensures all { OnOk result ((earlier : List (List ℕ)) → AreParameters earlier (kept.now ++ fresh.old.items)
-        → AreParameters (earlier ++ nsec3_rdata (draft.now ∷ [])) (kept.now ++ fresh.new.items)) }
+        → AreParameters (earlier ++ nsec3_rdata (rrset.now ∷ [])) (kept.now ++ fresh.new.items)) }
     ensures few { OnOk result (length (kept.now ++ fresh.old.items) ≤ 8
         → length (kept.now ++ fresh.new.items) ≤ 8) }
     ensures refused { (earlier : List (List ℕ)) → AreParameters earlier (kept.now ++ fresh.old.items)
-        → IfErr result (IsParametersRefusal (earlier ++ nsec3_rdata (draft.now ∷ []))) }
+        → IfErr result (IsParametersRefusal (earlier ++ nsec3_rdata (rrset.now ∷ []))) }
 {
-    if draft.rtype() != RecordType::NSEC3 {
-        return Ok(());
-    }
-    add_records(alloc, kept, fresh, draft.rdata())
+    add_records(alloc, kept, fresh, rrset.nsec3s())
 }
 
 /// Adds the parameters of NSEC3 records that are not among the others.
@@ -122,48 +121,54 @@ fn add_records(
     alloc: Global,
     kept: &[Nsec3Parameters],
     fresh: &mut Vec<Nsec3Parameters>,
-    received: &[&[u8]],
+    nsec3s: &[Nsec3],
 ) -> Result<(), CaptureError>
-    ensures all { OnOk result ((earlier : List (List ℕ)) → AreParameters earlier (kept.now ++ fresh.old.items)
-        → AreParameters (earlier ++ map (λ r. r.now) received.now) (kept.now ++ fresh.new.items)) }
+    ensures all { OnOk result ((earlier received : List (List ℕ)) → AllZip IsNsec3 received nsec3s.now
+        → AreParameters earlier (kept.now ++ fresh.old.items)
+        → AreParameters (earlier ++ received) (kept.now ++ fresh.new.items)) }
     ensures few { OnOk result (length (kept.now ++ fresh.old.items) ≤ 8
         → length (kept.now ++ fresh.new.items) ≤ 8) }
-    ensures refused { (earlier : List (List ℕ)) → AreParameters earlier (kept.now ++ fresh.old.items)
-        → IfErr result (IsParametersRefusal (earlier ++ map (λ r. r.now) received.now)) }
+    ensures refused { (earlier received : List (List ℕ)) → AllZip IsNsec3 received nsec3s.now
+        → AreParameters earlier (kept.now ++ fresh.old.items)
+        → IfErr result (IsParametersRefusal (earlier ++ received)) }
 {
-    for rdata in received {
-        let found = usable_parameters(alloc, rdata)?;
-        add_parameters(kept, fresh, found)?;
+    for nsec3 in nsec3s {
+        add_record(alloc, kept, fresh, nsec3)?;
     }
     Ok(())
 }
 
 /// Adds the parameters of an NSEC3 record, if it can be used and they are not among the others. The ninth are refused.
-fn add_parameters(
+fn add_record(
+    alloc: Global,
     kept: &[Nsec3Parameters],
     fresh: &mut Vec<Nsec3Parameters>,
-    found: Option<Nsec3Parameters>,
+    nsec3: &Nsec3,
 ) -> Result<(), CaptureError>
-    ensures all { OnOk result ((earlier : List (List ℕ)) (rdata : List ℕ)
+    ensures all { OnOk result ((earlier : List (List ℕ)) (rdata : List ℕ) → IsNsec3 rdata nsec3.now
         → AreParameters earlier (kept.now ++ fresh.old.items)
-        → ((parameters : Nsec3Parameters) → (found ≡ Some parameters) ↔ AreUsableParameters rdata parameters)
         → AreParameters (earlier ++ rdata ∷ []) (kept.now ++ fresh.new.items)) }
     ensures few { OnOk result (length (kept.now ++ fresh.old.items) ≤ 8
         → length (kept.now ++ fresh.new.items) ≤ 8) }
-    ensures refused { (earlier : List (List ℕ)) (rdata : List ℕ) → AreParameters earlier (kept.now ++ fresh.old.items)
-        → ((parameters : Nsec3Parameters) → (found ≡ Some parameters) ↔ AreUsableParameters rdata parameters)
+    ensures refused { (earlier : List (List ℕ)) (rdata : List ℕ) → IsNsec3 rdata nsec3.now
+        → AreParameters earlier (kept.now ++ fresh.old.items)
         → IfErr result (IsParametersRefusal (earlier ++ rdata ∷ [])) }
 {
-    let Some(parameters) = found else {
+    record_laws();
+    let parameters = &nsec3.parameters;
+    if !nsec3.is_usable() {
         return Ok(());
-    };
-    if is_among(kept, fresh.as_slice(), &parameters) {
+    }
+    if is_among(kept, fresh.as_slice(), parameters) {
         return Ok(());
     }
     if kept.len().saturating_add(fresh.len()) >= PARAMETERS_LIMIT {
         return Err(CaptureError::Limit);
     }
-    fresh.push(parameters)?;
+    fresh.push(Nsec3Parameters {
+        iterations: parameters.iterations,
+        salt: Octets::copy_of(alloc, parameters.salt.as_slice())?,
+    })?;
     Ok(())
 }
 
@@ -176,20 +181,4 @@ fn is_among(
     ensures { IsTrue result ↔ Contains (kept.now ++ fresh.now) parameters.now }
 {
     kept.contains(parameters) || fresh.contains(parameters)
-}
-
-/// The parameters of an NSEC3 record, if it can be used.
-fn usable_parameters(alloc: Global, rdata: &[u8]) -> Result<Option<Nsec3Parameters>, AllocError>
-    ensures { IfOk result (λ found. (parameters : Nsec3Parameters)
-        → (found ≡ Some parameters) ↔ AreUsableParameters rdata.now parameters) }
-{
-    let nsec3 = match Nsec3::read(alloc, rdata) {
-        Ok(nsec3) => nsec3,
-        Err(RecordError::BadRdata(_)) => return Ok(None),
-        Err(RecordError::OutOfMemory) => return Err(AllocError),
-    };
-    if !nsec3.is_usable() {
-        return Ok(None);
-    }
-    Ok(Some(nsec3.parameters))
 }

@@ -7,27 +7,39 @@ ghost use Rattle.dnsv_canonical.specs.Rdata.{IsLaidOut};
 ghost use Rattle.dnsv_canonical.specs.Kept.{told, IsBadAfter};
 
 use crate::capture::CaptureError;
-use dnsv_message::{Class, Message, Record, Section};
+use crate::expanded::{Expanded, Sections};
+use dnsv_message::{Class, Message};
 use dnsv_names::RecordType;
 use dnsv_records::{Dnskey, Ds, Nsec, Nsec3, RecordError, Rrsig};
 use std::alloc::{AllocError, Global};
 
 /// Whether all of the message's DNSSEC records of class IN can be read: else `BadRdata` tells the first that can't,
 /// by its number through the three sections, from 1 on.
-pub fn check_rdata(alloc: Global, message: &Message<'_>) -> Result<(), CaptureError>
+pub fn check_rdata(
+    alloc: Global,
+    message: &Message<'_>,
+    sections: &Sections<'_>,
+) -> Result<(), CaptureError>
+    requires answer { sections.now.answer.items ≡ message.now.answer }
+    requires authority { sections.now.authority.items ≡ message.now.authority }
+    requires additional { sections.now.additional.items ≡ message.now.additional }
     ensures ok { OnOk result (AllByRecursion IsReadable (records_of message.now)) }
     ensures refused { (held : Evidence) → IsWhole message.now → IfErr result (IsReasonAgainst held message.now) }
 {
-    let answer = message.records(Section::Answer);
-    let authority = message.records(Section::Authority);
-    let additional = message.records(Section::Additional);
+    let answer = sections.answer.as_slice();
+    let authority = sections.authority.as_slice();
+    let additional = sections.additional.as_slice();
     check_section(alloc, 0, answer)?;
     check_section(alloc, answer.len(), authority)?;
     check_section(alloc, answer.len() + authority.len(), additional)
 }
 
 /// Whether the records of a section can be read, before which so many stand.
-fn check_section(alloc: Global, earlier: usize, records: &[Record<'_>]) -> Result<(), CaptureError>
+fn check_section(
+    alloc: Global,
+    earlier: usize,
+    records: &[Expanded<'_>],
+) -> Result<(), CaptureError>
     requires { earlier + length records.now < u64.MAX }
     ensures ok { OnOk result (AllByRecursion IsReadable records.now) }
     ensures refused { IfErr result (IsBadAfter earlier records.now) }
@@ -39,7 +51,7 @@ fn check_section(alloc: Global, earlier: usize, records: &[Record<'_>]) -> Resul
 }
 
 /// Which of the records is the first that can't be read, from 1 on.
-fn first_bad(alloc: Global, records: &[Record<'_>]) -> Result<Option<usize>, AllocError>
+fn first_bad(alloc: Global, records: &[Expanded<'_>]) -> Result<Option<usize>, AllocError>
     ensures { IfOk result (λ found. MatchOption found (AllByRecursion IsReadable records.now)
         (IsFirstBad records.now)) }
 {
@@ -52,14 +64,13 @@ fn first_bad(alloc: Global, records: &[Record<'_>]) -> Result<Option<usize>, All
 }
 
 /// Whether the candidate's RDATA can be read.
-fn is_readable(alloc: Global, candidate: &Record<'_>) -> Result<bool, AllocError>
+fn is_readable(alloc: Global, candidate: &Expanded<'_>) -> Result<bool, AllocError>
     ensures { IfOk result (λ answer. IsTrue answer ↔ IsReadable candidate.now) }
 {
     if candidate.class != Class::IN {
         return Ok(true);
     }
-    let rdata = candidate.rdata.octets(alloc)?;
-    is_laid_out(alloc, candidate.rtype, rdata.as_slice())
+    is_laid_out(alloc, candidate.rtype, candidate.rdata())
 }
 
 /// Whether the RDATA is laid out as the type says.

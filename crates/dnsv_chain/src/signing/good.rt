@@ -15,7 +15,7 @@ use std::alloc::{AllocError, Global};
 pub fn is_good(
     alloc: Global,
     table: &Table,
-    rrset: &Rrset,
+    rrset: &Rrset<'_>,
     rrsig: &Rrsig,
     key: &KeyRecord<'_>,
 ) -> Result<bool, AllocError>

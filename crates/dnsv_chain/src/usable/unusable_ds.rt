@@ -7,7 +7,7 @@ use dnsv_canonical::Rrset;
 use dnsv_names::{Name, RecordType};
 
 /// Whether it is a DS RRset at or above the name with a secured signature, and has no usable record.
-pub fn is_unusable_ds(rrset: &Rrset, secured: &[usize], name: &Name) -> bool
+pub fn is_unusable_ds(rrset: &Rrset<'_>, secured: &[usize], name: &Name) -> bool
     ensures { IsTrue result ↔ IsUnusableDs (λ s. Contains secured.now s) rrset.now name.now }
 {
     if rrset.rtype() != RecordType::DS {

@@ -15,7 +15,7 @@ use std::alloc::{AllocError, Global};
 /// The NSEC records of the capture that the zone secured, in the order of their numbers.
 pub fn nsecs_of<'a>(
     alloc: Global,
-    capture: &'a Capture,
+    capture: &'a Capture<'a>,
     trust: &Trust,
     zone: &Name,
 ) -> Result<Vec<NsecEntry<'a>>, AllocError>
@@ -38,7 +38,7 @@ fn push_nsecs<'a>(
     alloc: Global,
     entries: &mut Vec<NsecEntry<'a>>,
     number: usize,
-    rrset: &'a Rrset,
+    rrset: &'a Rrset<'a>,
 ) -> Result<(), AllocError>
     requires { rrset.now.rtype ≡ 47 }
     ensures { (rrsets : List ReceivedRrset) → IsNumbered rrsets number rrset.now

@@ -19,7 +19,7 @@ use std::alloc::{AllocError, Global};
 /// numbers (RFC 5155 3, 8.2).
 pub fn nsec3s_of<'a>(
     alloc: Global,
-    capture: &'a Capture,
+    capture: &'a Capture<'a>,
     trust: &Trust,
     zone: &Name,
 ) -> Result<Vec<Nsec3Entry<'a>>, AllocError>
@@ -37,7 +37,7 @@ pub fn nsec3s_of<'a>(
 
 /// The hash that the owner of an NSEC3 RRset of the zone spells; `None` where the RRset is another, or the zone
 /// secured it by none of these signatures.
-fn secured_hash(rrset: &Rrset, secured: &[usize], zone: &Name) -> Option<Hash20>
+fn secured_hash(rrset: &Rrset<'_>, secured: &[usize], zone: &Name) -> Option<Hash20>
     ensures { MatchOption result
         ((hash : List ℕ) → ¬ IsNsec3RrsetOf (λ s. Contains secured.now s) rrset.now zone.now hash)
         (IsNsec3RrsetOf (λ s. Contains secured.now s) rrset.now zone.now) }
@@ -74,7 +74,7 @@ fn push_nsec3s<'a>(
     alloc: Global,
     entries: &mut Vec<Nsec3Entry<'a>>,
     number: usize,
-    rrset: &'a Rrset,
+    rrset: &'a Rrset<'a>,
     zone: &Name,
     hash: Hash20,
 ) -> Result<(), AllocError>

@@ -7,7 +7,7 @@ use dnsv_names::Name;
 
 /// Whether one of the RRset's signatures with these numbers, from 1 on, is the zone's, and the RRset is no answer from
 /// a wildcard by it (RFC 4035 5.3.1, 5.3.4).
-pub fn has_zone_signature(rrset: &Rrset, secured: &[usize], zone: &Name) -> bool
+pub fn has_zone_signature(rrset: &Rrset<'_>, secured: &[usize], zone: &Name) -> bool
     ensures { IsTrue result ↔ HasZoneSignature (λ s. Contains secured.now s) rrset.now zone.now }
 {
     for number in secured {
@@ -19,7 +19,7 @@ pub fn has_zone_signature(rrset: &Rrset, secured: &[usize], zone: &Name) -> bool
 }
 
 /// Whether the RRset's signature with the number is such.
-fn is_zone_signature(rrset: &Rrset, number: usize, zone: &Name) -> bool
+fn is_zone_signature(rrset: &Rrset<'_>, number: usize, zone: &Name) -> bool
     ensures { IsTrue result ↔ HasZoneSignature (λ s. s ≡ number) rrset.now zone.now }
 {
     let rrsigs = rrset.signatures();

@@ -13,7 +13,7 @@ use std::alloc::{AllocError, Global};
 /// How many labels the zones have that secured NSEC or NSEC3 records of the capture, each number once.
 pub fn labels_of_signers(
     alloc: Global,
-    capture: &Capture,
+    capture: &Capture<'_>,
     trust: &Trust,
 ) -> Result<Vec<usize>, AllocError>
     ensures { IfOk result (λ labels. HaveLabels (SecuredIn trust.now) capture.now.rrsets labels.items) }
@@ -42,7 +42,7 @@ fn is_denial_type(rtype: RecordType) -> bool
 }
 
 /// Adds the numbers of labels of those who made the RRset's signatures with these numbers.
-fn add_signers(labels: &mut Vec<usize>, rrset: &Rrset, secured: &[usize]) -> Result<(), AllocError>
+fn add_signers(labels: &mut Vec<usize>, rrset: &Rrset<'_>, secured: &[usize]) -> Result<(), AllocError>
     ensures kept { OnOk result ((n : ℕ) → Contains labels.old.items n → Contains labels.new.items n) }
     ensures added { OnOk result ((zone : Labels) → HasZoneSignature (λ s. Contains secured.now s) rrset.now zone
         → Contains labels.new.items (length zone)) }
@@ -54,7 +54,7 @@ fn add_signers(labels: &mut Vec<usize>, rrset: &Rrset, secured: &[usize]) -> Res
 }
 
 /// Adds the number of labels of who made the RRset's signature with the number.
-fn add_signer(labels: &mut Vec<usize>, rrset: &Rrset, number: usize) -> Result<(), AllocError>
+fn add_signer(labels: &mut Vec<usize>, rrset: &Rrset<'_>, number: usize) -> Result<(), AllocError>
     ensures kept { OnOk result ((n : ℕ) → Contains labels.old.items n → Contains labels.new.items n) }
     ensures added { OnOk result ((zone : Labels) → HasZoneSignature (λ s. s ≡ number) rrset.now zone
         → Contains labels.new.items (length zone)) }

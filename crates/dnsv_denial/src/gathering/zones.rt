@@ -27,7 +27,7 @@ use std::alloc::{AllocError, Global};
 /// The records of each zone at or above the name, from the root on.
 pub fn zones_of<'a>(
     alloc: Global,
-    capture: &'a Capture,
+    capture: &'a Capture<'a>,
     trust: &Trust,
     name: &Name,
 ) -> Result<Vec<ZoneRecords<'a>>, AllocError>
@@ -46,7 +46,7 @@ pub fn zones_of<'a>(
 /// The records of the zone. They are looked for only where it has as many labels as one of the signers.
 fn zone_records<'a>(
     alloc: Global,
-    capture: &'a Capture,
+    capture: &'a Capture<'a>,
     trust: &Trust,
     signers: &[usize],
     zone: Name,

@@ -18,7 +18,7 @@ use dnsv_names::Name;
 /// The name from which on the name may be unsigned, or `None` where the evidence shows none (RFC 4035 5.2, RFC 5155
 /// 8.6, 8.9, 9.2).
 pub fn unsigned_cut(
-    capture: &Capture,
+    capture: &Capture<'_>,
     trust: &Trust,
     name: &Name,
     zones: &[ZoneRecords<'_>],

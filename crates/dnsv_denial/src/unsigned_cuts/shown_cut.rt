@@ -44,7 +44,7 @@ pub enum ShownCut {
 
 /// How it is shown from which name on the name may be unsigned, or `None` where the evidence shows none.
 pub fn shown_cut<'a>(
-    capture: &Capture,
+    capture: &Capture<'_>,
     trust: &Trust,
     name: &'a Name,
     zones: &'a [ZoneRecords<'a>],

@@ -92,7 +92,7 @@ fn lowest_own(evidence: &Evidence<'_>, zone: &Name, rrset: usize) -> Option<Sign
 }
 
 /// Whether the signature of the RRset with the number is the zone's, and no wildcard is behind it.
-fn is_own(rrset: &Rrset, number: usize, zone: &Name) -> bool
+fn is_own(rrset: &Rrset<'_>, number: usize, zone: &Name) -> bool
     ensures { IsTrue result ↔ HasZoneSignature (λ s. s ≡ number) rrset.now zone.now }
 {
     let Some(rrsig) = numbered(rrset.signatures(), number) else {

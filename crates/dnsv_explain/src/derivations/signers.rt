@@ -73,9 +73,9 @@ pub fn signed_line(
 fn first_signer<'a>(
     alloc: Global,
     evidence: &Evidence<'_>,
-    rrsets: &'a [Rrset],
+    rrsets: &'a [Rrset<'a>],
     number: SignatureNumber,
-    rrset: &Rrset,
+    rrset: &Rrset<'_>,
     rrsig: &Rrsig,
 ) -> Result<Option<Signer<'a>>, AllocError>
     requires all { rrsets.now ≡ evidence.now.rrsets }
@@ -114,10 +114,10 @@ fn lowest_in<'a>(
     alloc: Global,
     evidence: &Evidence<'_>,
     number: SignatureNumber,
-    rrset: &Rrset,
+    rrset: &Rrset<'_>,
     rrsig: &Rrsig,
     k: usize,
-    set: &'a Rrset,
+    set: &'a Rrset<'a>,
 ) -> Result<Option<Signer<'a>>, AllocError>
     requires set { IsNumbered evidence.now.rrsets k set.now }
     requires rrset { IsNumbered evidence.now.rrsets number.rrset rrset.now }
@@ -140,10 +140,10 @@ fn lowest_in<'a>(
 fn lowest_good_key<'a>(
     alloc: Global,
     evidence: &Evidence<'_>,
-    rrset: &Rrset,
+    rrset: &Rrset<'_>,
     rrsig: &Rrsig,
     k: usize,
-    set: &'a Rrset,
+    set: &'a Rrset<'a>,
 ) -> Result<Option<Signer<'a>>, AllocError>
     requires { set.now.rtype ≡ 48 }
     ensures { IfOk result (λ lowest. MatchOption lowest
@@ -172,7 +172,7 @@ fn is_trusted(
     alloc: Global,
     evidence: &Evidence<'_>,
     number: usize,
-    set: &Rrset,
+    set: &Rrset<'_>,
 ) -> Result<bool, AllocError>
     requires numbered { IsNumbered evidence.now.rrsets number set.now }
     requires rtype { set.now.rtype ≡ 48 }

@@ -65,7 +65,7 @@ pub fn first_way(
     alloc: Global,
     evidence: &Evidence<'_>,
     number: usize,
-    rrset: &Rrset,
+    rrset: &Rrset<'_>,
 ) -> Result<Option<FoundWay>, AllocError>
     requires numbered { IsNumbered evidence.now.rrsets number rrset.now }
     requires rtype { rrset.now.rtype ≡ 48 }

@@ -20,7 +20,7 @@ pub fn best_answer(
     alloc: Global,
     evidence: &Evidence<'_>,
     keys: &[KeyRecord<'_>],
-    rrset: &Rrset,
+    rrset: &Rrset<'_>,
     rrsig: &Rrsig,
 ) -> Result<Option<Answer>, AllocError>
     ensures { IfOk result (IsBestOf (IsAnswered (IsNamedIn keys.now rrsig.now) (setting_in evidence.now) rrset.now

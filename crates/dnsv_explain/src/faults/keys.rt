@@ -15,7 +15,7 @@ use std::alloc::{AllocError, Global};
 /// The keys of the zone, whatever message they came in.
 pub fn keys_at<'a>(
     alloc: Global,
-    rrsets: &'a [Rrset],
+    rrsets: &'a [Rrset<'a>],
     zone: &Name,
 ) -> Result<Vec<KeyRecord<'a>>, AllocError>
     ensures { IfOk result (λ keys. AreKeysAt rrsets.now zone.now keys.items) }
@@ -31,7 +31,7 @@ pub fn keys_at<'a>(
 }
 
 /// Whether the RRset is a DNSKEY RRset of the zone.
-pub fn is_keys_at(rrset: &Rrset, zone: &Name) -> bool
+pub fn is_keys_at(rrset: &Rrset<'_>, zone: &Name) -> bool
     ensures { IsTrue result ↔ IsKeysAt zone.now rrset.now }
 {
     rrset.rtype() == RecordType::DNSKEY && are_equal(rrset.owner(), zone)

@@ -30,7 +30,7 @@ pub fn remark_of(
     evidence: &Evidence<'_>,
     keys: &[KeyRecord<'_>],
     known: bool,
-    rrset: &Rrset,
+    rrset: &Rrset<'_>,
     rrsig: &Rrsig,
 ) -> Result<Remark, AllocError>
     requires all { AreKeysOf evidence.now.rrsets keys.now }

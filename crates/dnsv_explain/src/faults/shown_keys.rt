@@ -46,7 +46,7 @@ fn add_set(
     reasons: &[Line],
     lines: &mut Vec<Line>,
     number: usize,
-    set: &Rrset,
+    set: &Rrset<'_>,
 ) -> Result<(), AllocError>
     requires { IsNumbered evidence.now.rrsets number set.now }
     ensures { OnOk result (AddsThose (AreLinesOfSet (setting_in evidence.now) reasons.now number set.now) lines.old.items
@@ -69,7 +69,7 @@ fn add_keys(
     evidence: &Evidence<'_>,
     lines: &mut Vec<Line>,
     number: usize,
-    set: &Rrset,
+    set: &Rrset<'_>,
     keys: &[KeyRecord<'_>],
 ) -> Result<(), AllocError>
     requires numbered { IsNumbered evidence.now.rrsets number set.now }
@@ -93,7 +93,7 @@ fn add_key(
     evidence: &Evidence<'_>,
     lines: &mut Vec<Line>,
     number: RecordNumber,
-    set: &Rrset,
+    set: &Rrset<'_>,
     key: &KeyRecord<'_>,
 ) -> Result<(), AllocError>
     requires numbered { IsNumbered evidence.now.rrsets number.rrset set.now }
@@ -110,7 +110,7 @@ fn shown_key(
     alloc: Global,
     evidence: &Evidence<'_>,
     number: RecordNumber,
-    set: &Rrset,
+    set: &Rrset<'_>,
     key: &KeyRecord<'_>,
 ) -> Result<ShownKey, AllocError>
     requires numbered { IsNumbered evidence.now.rrsets number.rrset set.now }
@@ -133,7 +133,7 @@ fn lowest_signature(
     alloc: Global,
     evidence: &Evidence<'_>,
     number: usize,
-    set: &Rrset,
+    set: &Rrset<'_>,
     key: &KeyRecord<'_>,
 ) -> Result<Option<usize>, AllocError>
     requires { IsNumbered evidence.now.rrsets number set.now }
@@ -181,7 +181,7 @@ fn lowest_in(
     alloc: Global,
     evidence: &Evidence<'_>,
     number: usize,
-    ds: &Rrset,
+    ds: &Rrset<'_>,
     key: &KeyRecord<'_>,
 ) -> Result<Option<usize>, AllocError>
     requires { IsNumbered evidence.now.rrsets number ds.now }

@@ -32,7 +32,7 @@ pub fn add_signature(
     keys: &[KeyRecord<'_>],
     lines: &mut Vec<Line>,
     number: SignatureNumber,
-    rrset: &Rrset,
+    rrset: &Rrset<'_>,
     rrsig: &Rrsig,
 ) -> Result<(), AllocError>
     requires keys { AreKeysOf evidence.now.rrsets keys.now }
@@ -57,7 +57,7 @@ pub fn add_signature(
 pub fn add_faults(
     lines: &mut Vec<Line>,
     number: SignatureNumber,
-    rrset: &Rrset,
+    rrset: &Rrset<'_>,
     rrsig: &Rrsig,
     faults: &[WhySignature],
 ) -> Result<(), AllocError>
@@ -74,7 +74,7 @@ pub fn add_faults(
 fn add_fault(
     lines: &mut Vec<Line>,
     number: SignatureNumber,
-    rrset: &Rrset,
+    rrset: &Rrset<'_>,
     rrsig: &Rrsig,
     why: WhySignature,
 ) -> Result<(), AllocError>
@@ -90,7 +90,7 @@ fn add_fault(
 fn add_remark(
     lines: &mut Vec<Line>,
     number: SignatureNumber,
-    rrset: &Rrset,
+    rrset: &Rrset<'_>,
     rrsig: &Rrsig,
     remark: Remark,
 ) -> Result<(), AllocError>
@@ -109,7 +109,7 @@ fn add_remark(
 fn add_untrusted(
     lines: &mut Vec<Line>,
     number: SignatureNumber,
-    rrset: &Rrset,
+    rrset: &Rrset<'_>,
     rrsig: &Rrsig,
 ) -> Result<(), AllocError>
     ensures { OnOk result (lines.new.items ≡ lines.old.items
@@ -123,7 +123,7 @@ fn add_untrusted(
 /// The signature with the key that it names.
 pub fn shown(
     number: SignatureNumber,
-    rrset: &Rrset,
+    rrset: &Rrset<'_>,
     rrsig: &Rrsig,
 ) -> Result<ShownSignature, AllocError>
     ensures { IfOk result (λ shown. shown ≡ shown_of number.rrset number.signature rrset.now rrsig.now) }

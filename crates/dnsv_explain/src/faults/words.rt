@@ -25,7 +25,7 @@ pub fn faults_of(
     evidence: &Evidence<'_>,
     keys: &[KeyRecord<'_>],
     known: bool,
-    rrset: &Rrset,
+    rrset: &Rrset<'_>,
     rrsig: &Rrsig,
 ) -> Result<Vec<WhySignature>, AllocError>
     ensures { IfOk result (λ faults. AreFaultsOf (IsNamedIn keys.now rrsig.now) (IsTrue known) (setting_in evidence.now)
@@ -62,14 +62,14 @@ fn those(alloc: Global, words: &[(WhySignature, bool)]) -> Result<Vec<WhySignatu
 }
 
 /// Whether it counts more labels than the owner has.
-fn has_too_many_labels(rrset: &Rrset, rrsig: &Rrsig) -> bool
+fn has_too_many_labels(rrset: &Rrset<'_>, rrsig: &Rrsig) -> bool
     ensures { IsTrue result ↔ (signed_label_count rrset.now.owner < rrsig.now.labels) }
 {
     signed_label_count(rrset.owner()) < rrsig.labels as usize
 }
 
 /// Whether the signer can't be the zone of the RRset (RFC 4035 2.1, 2.2, 2.4).
-fn is_by_another_zone(rrset: &Rrset, rrsig: &Rrsig) -> bool
+fn is_by_another_zone(rrset: &Rrset<'_>, rrsig: &Rrsig) -> bool
     ensures { IsTrue result ↔ (¬ MaySign rrsig.now.signer rrset.now.rtype rrset.now.owner) }
 {
     !may_sign(&rrsig.signer, rrset.rtype(), rrset.owner())
@@ -88,7 +88,7 @@ fn may_sign(signer: &Name, rtype: RecordType, owner: &Name) -> bool
 }
 
 /// Whether it is one of a wildcard, over an RRset of a type that no wildcard stands for.
-fn is_wrongly_expanded(rrset: &Rrset, rrsig: &Rrsig) -> bool
+fn is_wrongly_expanded(rrset: &Rrset<'_>, rrsig: &Rrsig) -> bool
     ensures { IsTrue result ↔ (IsTrue (is_unexpanded rrset.now.rtype) × IsExpanded rrset.now.owner rrsig.now) }
 {
     let rtype = rrset.rtype();

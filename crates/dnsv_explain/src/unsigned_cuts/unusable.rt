@@ -61,7 +61,7 @@ fn first_unusable(evidence: &Evidence<'_>, name: &Name) -> Option<usize>
 }
 
 /// Whether the RRset, which has the number, is such.
-fn is_unusable(evidence: &Evidence<'_>, number: usize, rrset: &Rrset, name: &Name) -> bool
+fn is_unusable(evidence: &Evidence<'_>, number: usize, rrset: &Rrset<'_>, name: &Name) -> bool
     requires { IsNumbered evidence.now.rrsets number rrset.now }
     ensures { IsTrue result ↔ IsUnusableSet (setting_in evidence.now) name.now number }
 {

@@ -35,12 +35,12 @@ use std::io::Read;
 ///
 /// The fault is the first in the order of the work: reading the file, its framing, the number of the MACs of requests,
 /// and then each frame in turn, which is opened and read and then added to those before it.
-pub fn evidence_in<R: Read>(
+pub fn evidence_in<'b, R: Read>(
     alloc: Global,
     opening: &Opening,
     capture: &mut Counted<R>,
-    bump: &Bump,
-) -> Result<Capture, Fault>
+    bump: &'b Bump,
+) -> Result<Capture<'b>, Fault>
     ensures evidence { IfOk result (λ held. IfSome (R.remaining (inner_of capture.old)) (λ file.
         (messages : List Contents) × Holds NewEvidence opening.now file messages × (held ≡ evidence_of messages))) }
     ensures faults { TellsFileFaults InputFile.Capture (IsFaultOfCapture NewEvidence opening.now)
@@ -84,12 +84,12 @@ fn capture_read_fault(error: ReadError) -> Fault
 
 /// The evidence of the frames' messages; the fault is that of the number of MACs, or of the first frame whose message
 /// isn't taken.
-fn evidence_of_frames(
+fn evidence_of_frames<'b>(
     alloc: Global,
     opening: &Opening,
-    frames: &[&[u8]],
-    bump: &Bump,
-) -> Result<Capture, Fault>
+    frames: &[&'b [u8]],
+    bump: &'b Bump,
+) -> Result<Capture<'b>, Fault>
     ensures counted { OnOk result (HasItsMacs opening.now (octets_at_each frames.now)) }
     ensures taken { IfOk result (λ held. (messages : List Contents)
         × AllTaken NewEvidence opening.now no_evidence 1 (octets_at_each frames.now) messages
@@ -104,19 +104,19 @@ fn evidence_of_frames(
 }
 
 /// The evidence of the frames' messages; the fault is that of the first frame whose message isn't taken.
-fn gathered(
+fn gathered<'b>(
     alloc: Global,
     opening: &Opening,
-    frames: &[&[u8]],
-    bump: &Bump,
-) -> Result<Capture, Fault>
+    frames: &[&'b [u8]],
+    bump: &'b Bump,
+) -> Result<Capture<'b>, Fault>
     ensures taken { IfOk result (λ held. (messages : List Contents)
         × AllTaken NewEvidence opening.now no_evidence 1 (octets_at_each frames.now) messages
         × (held ≡ evidence_of messages)) }
     ensures refused { IfErr result
         (IsFaultOf (FirstRefused NewEvidence opening.now no_evidence 1 (octets_at_each frames.now))) }
 {
-    let mut held = Capture::new(alloc);
+    let mut held = Capture::new(alloc, bump);
     for (index, frame) in frames.iter().enumerate() {
         add_frame(alloc, opening, &mut held, frame, index + 1, bump)?;
     }
@@ -124,13 +124,13 @@ fn gathered(
 }
 
 /// Adds the message of the frame with this number to the evidence.
-fn add_frame(
+fn add_frame<'b>(
     alloc: Global,
     opening: &Opening,
-    held: &mut Capture,
-    frame: &[u8],
+    held: &mut Capture<'b>,
+    frame: &'b [u8],
     number: usize,
-    bump: &Bump,
+    bump: &'b Bump,
 ) -> Result<(), Fault>
     ensures taken { OnOk result ((message : Contents)
         × (IsInFrame opening.now number frame.now message × Meets NewEvidence held.old message)

@@ -45,7 +45,7 @@ pub fn judge<V: Verifier>(
     alloc: Global,
     json: bool,
     why: bool,
-    held: &Capture,
+    held: &Capture<'_>,
     anchors: &Anchors,
     moment: Moment,
     verifier: &V,
@@ -84,7 +84,7 @@ fn text_of(
     alloc: Global,
     json: bool,
     asked: &Asked<'_>,
-    rrsets: &[Rrset],
+    rrsets: &[Rrset<'_>],
     report: &Report,
     why: &Option<Explanation>,
 ) -> Result<String, AllocError>
@@ -132,7 +132,7 @@ fn verdict_text(
     alloc: Global,
     name: &Name,
     rtype: RecordType,
-    rrsets: &[Rrset],
+    rrsets: &[Rrset<'_>],
     report: &Report,
 ) -> Result<String, AllocError>
     ensures { IfOk result (λ text. string_bytes text
@@ -217,7 +217,7 @@ pub fn push_cut(text: &mut String, cut: &Name) -> Result<(), AllocError>
 /// Adds a line for each record of a proof.
 pub fn push_proof(
     text: &mut String,
-    rrsets: &[Rrset],
+    rrsets: &[Rrset<'_>],
     records: &[RecordNumber],
 ) -> Result<(), AllocError>
     ensures { OnOk result (string_bytes text.new
@@ -230,7 +230,7 @@ pub fn push_proof(
 }
 
 /// Adds the line of the record with this number.
-fn push_number(text: &mut String, rrsets: &[Rrset], number: &RecordNumber) -> Result<(), AllocError>
+fn push_number(text: &mut String, rrsets: &[Rrset<'_>], number: &RecordNumber) -> Result<(), AllocError>
     ensures { OnOk result (string_bytes text.new ≡ string_bytes text.old ++ specs.proof_line rrsets.now number.now) }
 {
     let place = number.rrset.saturating_sub(1);
@@ -241,7 +241,7 @@ fn push_number(text: &mut String, rrsets: &[Rrset], number: &RecordNumber) -> Re
 }
 
 /// Adds the owner and type of a record of the RRset.
-fn push_record(text: &mut String, rrset: &Rrset) -> Result<(), AllocError>
+fn push_record(text: &mut String, rrset: &Rrset<'_>) -> Result<(), AllocError>
     ensures { OnOk result (string_bytes text.new ≡ string_bytes text.old ++ specs.proof_record_line (Some rrset.now)) }
 {
     let owner = rrset.owner().to_lower();

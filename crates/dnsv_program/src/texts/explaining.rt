@@ -18,7 +18,7 @@ use std::alloc::{AllocError, Global};
 pub fn report_and_why<V: Verifier>(
     alloc: Global,
     why: bool,
-    held: &Capture,
+    held: &Capture<'_>,
     anchors: &Anchors,
     moment: u64,
     verifier: &V,

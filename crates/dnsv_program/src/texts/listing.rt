@@ -16,7 +16,7 @@ pub fn listing(
     alloc: Global,
     json: bool,
     moment: Moment,
-    held: &Capture,
+    held: &Capture<'_>,
 ) -> Result<String, AllocError>
     ensures { IfOk result (λ text. (listed : List SignedOctets) × ListsRrsets 1 held.now.rrsets listed
         × (string_bytes text ≡ listing_text json moment listed)) }
@@ -29,7 +29,7 @@ pub fn listing(
 }
 
 /// A line for each signature.
-fn listing_lines(alloc: Global, rrsets: &[Rrset]) -> Result<String, AllocError>
+fn listing_lines(alloc: Global, rrsets: &[Rrset<'_>]) -> Result<String, AllocError>
     ensures { IfOk result (λ text. (listed : List SignedOctets) × ListsRrsets 1 rrsets.now listed
         × (string_bytes text ≡ listing_text false 0 listed)) }
 {
@@ -39,7 +39,7 @@ fn listing_lines(alloc: Global, rrsets: &[Rrset]) -> Result<String, AllocError>
 }
 
 /// An object with an array, which has an object for each signature.
-fn listing_json(alloc: Global, moment: Moment, rrsets: &[Rrset]) -> Result<String, AllocError>
+fn listing_json(alloc: Global, moment: Moment, rrsets: &[Rrset<'_>]) -> Result<String, AllocError>
     ensures { IfOk result (λ text. (listed : List SignedOctets) × ListsRrsets 1 rrsets.now listed
         × (string_bytes text ≡ listing_text true moment listed)) }
 {
@@ -59,7 +59,7 @@ fn push_rrsets(
     alloc: Global,
     text: &mut String,
     json: bool,
-    rrsets: &[Rrset],
+    rrsets: &[Rrset<'_>],
 ) -> Result<(), AllocError>
     ensures { OnOk result ((listed : List SignedOctets) × ListsRrsets 1 rrsets.now listed
         × (string_bytes text.new ≡ string_bytes text.old ++ listed_part json true listed)) }
@@ -78,7 +78,7 @@ fn push_rrset(
     json: bool,
     first: &mut bool,
     number: usize,
-    rrset: &Rrset,
+    rrset: &Rrset<'_>,
 ) -> Result<(), AllocError>
     ensures { OnOk result ((listed : List SignedOctets) × ListsSignatures number rrset.now 1 rrset.now.signatures listed
         × (string_bytes text.new ≡ string_bytes text.old ++ listed_part json first.old listed)

@@ -14,7 +14,7 @@ use std::alloc::AllocError;
 pub fn push_reason(
     text: &mut String,
     json: bool,
-    rrsets: &[Rrset],
+    rrsets: &[Rrset<'_>],
     verdict: &Verdict,
 ) -> Result<(), AllocError>
     ensures { OnOk result (string_bytes text.new
@@ -53,7 +53,7 @@ fn push_signature(
 fn push_proof(
     text: &mut String,
     json: bool,
-    rrsets: &[Rrset],
+    rrsets: &[Rrset<'_>],
     records: &[RecordNumber],
 ) -> Result<(), AllocError>
     ensures { OnOk result (string_bytes text.new

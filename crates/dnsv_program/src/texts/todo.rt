@@ -15,7 +15,7 @@ use std::alloc::{AllocError, Global};
 pub fn still_to_check<V: Verifier>(
     alloc: Global,
     json: bool,
-    held: &Capture,
+    held: &Capture<'_>,
     moment: Moment,
     verifier: &V,
 ) -> Result<String, AllocError>

@@ -2,6 +2,7 @@
 
 use crate::evidence::{capture, rrset};
 use crate::row::{Row, RowError, printed};
+use bumpalo::Bump;
 use dnsv_canonical::Rrset;
 use std::alloc::Global;
 
@@ -27,11 +28,12 @@ pub fn answer(row: &Row) -> Result<Option<String>, RowError> {
 
 /// `dnskeys CAPTURE RRSET`: of each key of the RRset `FLAGS:PROTOCOL:ALGORITHM:KEY`.
 fn dnskeys(row: &Row) -> Result<String, RowError> {
-    let capture = capture(row, 0)?;
+    let bump = Bump::new(row.alloc());
+    let capture = capture(row, 0, &bump)?;
     keys_of(row.alloc(), rrset(row, 1, &capture)?)
 }
 
-fn keys_of(alloc: Global, rrset: &Rrset) -> Result<String, RowError> {
+fn keys_of(alloc: Global, rrset: &Rrset<'_>) -> Result<String, RowError> {
     let mut texts = Vec::new(alloc);
     for key in rrset.dnskeys() {
         let (flags, protocol, algorithm) = (key.flags.0, key.protocol, key.algorithm.0);
@@ -43,11 +45,12 @@ fn keys_of(alloc: Global, rrset: &Rrset) -> Result<String, RowError> {
 
 /// `ds-records CAPTURE RRSET`: of each DS record of the RRset `TAG:ALGORITHM:DIGESTTYPE:DIGEST`.
 fn ds_records(row: &Row) -> Result<String, RowError> {
-    let capture = capture(row, 0)?;
+    let bump = Bump::new(row.alloc());
+    let capture = capture(row, 0, &bump)?;
     digests_of(row.alloc(), rrset(row, 1, &capture)?)
 }
 
-fn digests_of(alloc: Global, rrset: &Rrset) -> Result<String, RowError> {
+fn digests_of(alloc: Global, rrset: &Rrset<'_>) -> Result<String, RowError> {
     let mut texts = Vec::new(alloc);
     for ds in rrset.ds_records() {
         let (tag, algorithm, digest_type) = (ds.key_tag.0, ds.algorithm.0, ds.digest_type.0);
@@ -59,11 +62,12 @@ fn digests_of(alloc: Global, rrset: &Rrset) -> Result<String, RowError> {
 
 /// `nsecs CAPTURE RRSET`: of each NSEC record of the RRset `NEXT:BITMAP`.
 fn nsecs(row: &Row) -> Result<String, RowError> {
-    let capture = capture(row, 0)?;
+    let bump = Bump::new(row.alloc());
+    let capture = capture(row, 0, &bump)?;
     nexts_of(row.alloc(), rrset(row, 1, &capture)?)
 }
 
-fn nexts_of(alloc: Global, rrset: &Rrset) -> Result<String, RowError> {
+fn nexts_of(alloc: Global, rrset: &Rrset<'_>) -> Result<String, RowError> {
     let mut texts = Vec::new(alloc);
     for nsec in rrset.nsecs() {
         let next = &nsec.next;
@@ -75,11 +79,12 @@ fn nexts_of(alloc: Global, rrset: &Rrset) -> Result<String, RowError> {
 
 /// `nsec3s CAPTURE RRSET`: of each NSEC3 record of the RRset `ITERATIONS:SALT:NEXTHASH:BITMAP`.
 fn nsec3s(row: &Row) -> Result<String, RowError> {
-    let capture = capture(row, 0)?;
+    let bump = Bump::new(row.alloc());
+    let capture = capture(row, 0, &bump)?;
     hashes_of(row.alloc(), rrset(row, 1, &capture)?)
 }
 
-fn hashes_of(alloc: Global, rrset: &Rrset) -> Result<String, RowError> {
+fn hashes_of(alloc: Global, rrset: &Rrset<'_>) -> Result<String, RowError> {
     let mut texts = Vec::new(alloc);
     for nsec3 in rrset.nsec3s() {
         let iterations = nsec3.parameters.iterations.0;
@@ -95,7 +100,8 @@ fn hashes_of(alloc: Global, rrset: &Rrset) -> Result<String, RowError> {
 fn nsec3_parameters(row: &Row) -> Result<String, RowError> {
     let alloc = row.alloc();
     let mut texts = Vec::new(alloc);
-    for parameters in capture(row, 0)?.nsec3_parameters() {
+    let bump = Bump::new(row.alloc());
+    for parameters in capture(row, 0, &bump)?.nsec3_parameters() {
         let iterations = parameters.iterations.0;
         let salt = printed::octets(alloc, parameters.salt.as_slice())?;
         texts.push(format!(in alloc; "{iterations}:{salt}")?)?;

@@ -3,6 +3,7 @@
 use crate::canonical::record_type;
 use crate::evidence::{capture, capture_or_refusal, frames, messages};
 use crate::row::{Row, RowError, printed};
+use bumpalo::Bump;
 use dnsv_canonical::{Capture, CaptureError, Rrset};
 use dnsv_message::Section;
 use dnsv_names::Count;
@@ -31,7 +32,8 @@ pub fn answer(row: &Row) -> Result<Option<String>, RowError> {
 /// `rrsets CAPTURE`: of each RRset `MESSAGE:SECTION:OWNER:TYPE:RECORDS:SIGNATURES`, the last two in number; or why a
 /// message is refused.
 fn rrsets(row: &Row) -> Result<String, RowError> {
-    match capture_or_refusal(row, 0)? {
+    let bump = Bump::new(row.alloc());
+    match capture_or_refusal(row, 0, &bump)? {
         Ok(capture) => list(row.alloc(), &capture),
         Err(refusal) => Ok(refusal),
     }
@@ -39,8 +41,9 @@ fn rrsets(row: &Row) -> Result<String, RowError> {
 
 /// `rrsets-of-the-rest CAPTURE`: the same, where each message that is refused is passed over.
 fn rrsets_of_the_rest(row: &Row) -> Result<String, RowError> {
-    let frames = frames(row, 0)?;
-    let mut capture = Capture::new(row.alloc());
+    let bump = Bump::new(row.alloc());
+    let frames = frames(row, 0, &bump)?;
+    let mut capture = Capture::new(row.alloc(), &bump);
     for message in &messages(row.alloc(), &frames)? {
         let _ = capture.add(message);
     }
@@ -49,7 +52,8 @@ fn rrsets_of_the_rest(row: &Row) -> Result<String, RowError> {
 
 /// `totals CAPTURE`: how many RRsets, records of RRsets, signatures, and parameters of NSEC3 the capture has.
 fn totals(row: &Row) -> Result<String, RowError> {
-    let capture = capture(row, 0)?;
+    let bump = Bump::new(row.alloc());
+    let capture = capture(row, 0, &bump)?;
     let (mut records, mut signatures) = (0usize, 0usize);
     for rrset in capture.rrsets() {
         records = records.saturating_add(rrset.len());
@@ -62,7 +66,8 @@ fn totals(row: &Row) -> Result<String, RowError> {
 /// `at CAPTURE NAME TYPE MOST`: the numbers of the RRsets of the name and type, and whether no more than so many pairs
 /// of a name and a type were compared with these.
 fn at(row: &Row) -> Result<String, RowError> {
-    let capture = capture(row, 0)?;
+    let bump = Bump::new(row.alloc());
+    let capture = capture(row, 0, &bump)?;
     let mut count = Count::new();
     let numbers = capture.at(&row.name(1)?, record_type(row, 2)?, &mut count);
     let mut texts = Vec::new(row.alloc());
@@ -76,7 +81,8 @@ fn at(row: &Row) -> Result<String, RowError> {
 /// `each-at CAPTURE MOST`: how many RRsets are found alone by their owner and type, with no more than so many
 /// compared.
 fn each_at(row: &Row) -> Result<String, RowError> {
-    let capture = capture(row, 0)?;
+    let bump = Bump::new(row.alloc());
+    let capture = capture(row, 0, &bump)?;
     let most = row.number(1)?;
     let mut found = 0usize;
     for (place, rrset) in capture.rrsets().iter().enumerate() {
@@ -87,7 +93,7 @@ fn each_at(row: &Row) -> Result<String, RowError> {
     Ok(format!(in row.alloc(); "{found}")?)
 }
 
-fn is_alone(capture: &Capture, number: usize, rrset: &Rrset, most: u64) -> bool {
+fn is_alone(capture: &Capture<'_>, number: usize, rrset: &Rrset<'_>, most: u64) -> bool {
     let mut count = Count::new();
     let [found] = capture.at(rrset.owner(), rrset.rtype(), &mut count) else {
         return false;
@@ -96,7 +102,7 @@ fn is_alone(capture: &Capture, number: usize, rrset: &Rrset, most: u64) -> bool 
 }
 
 /// Of each RRset what `rrsets` prints.
-pub fn list(alloc: Global, capture: &Capture) -> Result<String, RowError> {
+pub fn list(alloc: Global, capture: &Capture<'_>) -> Result<String, RowError> {
     let mut texts = Vec::new(alloc);
     for rrset in capture.rrsets() {
         texts.push(text_of(alloc, rrset)?)?;
@@ -104,7 +110,7 @@ pub fn list(alloc: Global, capture: &Capture) -> Result<String, RowError> {
     printed::list(alloc, texts.as_slice())
 }
 
-fn text_of(alloc: Global, rrset: &Rrset) -> Result<String, RowError> {
+fn text_of(alloc: Global, rrset: &Rrset<'_>) -> Result<String, RowError> {
     let (message, owner, rtype) = (rrset.message(), rrset.owner(), rrset.rtype().0);
     let section = match rrset.section() {
         Section::Answer => "answer",

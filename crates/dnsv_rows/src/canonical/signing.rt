@@ -2,6 +2,7 @@
 
 use crate::evidence::{capture, rrset, signature};
 use crate::row::{Row, RowError, printed};
+use bumpalo::Bump;
 use dnsv_canonical::{Rrset, canonical_rrset, is_expanded, signed_data};
 use dnsv_records::Rrsig;
 use std::alloc::Global;
@@ -28,11 +29,12 @@ pub fn answer(row: &Row) -> Result<Option<String>, RowError> {
 
 /// `rdata CAPTURE RRSET`: the RDATA of the RRset's records as it came.
 fn rdata(row: &Row) -> Result<String, RowError> {
-    let capture = capture(row, 0)?;
+    let bump = Bump::new(row.alloc());
+    let capture = capture(row, 0, &bump)?;
     received(row.alloc(), rrset(row, 1, &capture)?)
 }
 
-fn received(alloc: Global, rrset: &Rrset) -> Result<String, RowError> {
+fn received(alloc: Global, rrset: &Rrset<'_>) -> Result<String, RowError> {
     let mut texts = Vec::new(alloc);
     for place in 0..rrset.len() {
         texts.push(printed::octets(alloc, rrset.rdata(place))?)?;
@@ -42,7 +44,8 @@ fn received(alloc: Global, rrset: &Rrset) -> Result<String, RowError> {
 
 /// `canonical CAPTURE RRSET`: the RRset's RDATA in canonical form and order, of equal ones one.
 fn canonical(row: &Row) -> Result<String, RowError> {
-    let capture = capture(row, 0)?;
+    let bump = Bump::new(row.alloc());
+    let capture = capture(row, 0, &bump)?;
     let sorted = canonical_rrset(row.alloc(), rrset(row, 1, &capture)?)?;
     printed::octets_list(row.alloc(), sorted.as_slice())
 }
@@ -54,7 +57,8 @@ fn signatures(row: &Row) -> Result<String, RowError> {
         return Err(RowError::Malformed);
     };
     let mut texts = Vec::new(row.alloc());
-    for rrsig in capture(row, 0)?.signatures(number) {
+    let bump = Bump::new(row.alloc());
+    for rrsig in capture(row, 0, &bump)?.signatures(number) {
         texts.push(text_of(row.alloc(), rrsig)?)?;
     }
     printed::list(row.alloc(), texts.as_slice())
@@ -71,7 +75,8 @@ fn text_of(alloc: Global, rrsig: &Rrsig) -> Result<String, RowError> {
 
 /// `signed CAPTURE RRSET SIGNATURE`: the octets that the signature signs, `none` where Labels is too great.
 fn signed(row: &Row) -> Result<String, RowError> {
-    let capture = capture(row, 0)?;
+    let bump = Bump::new(row.alloc());
+    let capture = capture(row, 0, &bump)?;
     let rrset = rrset(row, 1, &capture)?;
     match signed_data(row.alloc(), rrset, signature(row, 2, rrset)?)? {
         Some(octets) => Ok(printed::octets(row.alloc(), octets.as_slice())?),
@@ -81,7 +86,8 @@ fn signed(row: &Row) -> Result<String, RowError> {
 
 /// `expanded CAPTURE RRSET SIGNATURE`: whether a wildcard was signed, which the owner was expanded from.
 fn expanded(row: &Row) -> Result<String, RowError> {
-    let capture = capture(row, 0)?;
+    let bump = Bump::new(row.alloc());
+    let capture = capture(row, 0, &bump)?;
     let rrset = rrset(row, 1, &capture)?;
     let is_expanded = is_expanded(rrset.owner(), signature(row, 2, rrset)?);
     Ok(printed::truth(row.alloc(), is_expanded)?)

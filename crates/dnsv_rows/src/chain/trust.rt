@@ -4,6 +4,7 @@ use super::anchors::trust_anchors;
 use crate::evidence;
 use crate::evidence::verifying::ByFirstOctet;
 use crate::row::{Row, RowError, printed};
+use bumpalo::Bump;
 use dnsv_canonical::Capture;
 use dnsv_chain::{Trust, trusted};
 use dnsv_names::Count;
@@ -27,7 +28,8 @@ pub fn answer(row: &Row) -> Result<Option<String>, RowError> {
 /// `trusted CAPTURE ANCHORS MOMENT`: of each RRset the numbers of its good signatures, parted by `,`.
 fn good_signatures(row: &Row) -> Result<String, RowError> {
     let alloc = row.alloc();
-    let capture = evidence::capture(row, 0)?;
+    let bump = Bump::new(row.alloc());
+    let capture = evidence::capture(row, 0, &bump)?;
     let trust = trust_in(row, &capture, 1)?;
     let mut texts = Vec::new(alloc);
     for before in 0..capture.rrsets().len() {
@@ -38,7 +40,8 @@ fn good_signatures(row: &Row) -> Result<String, RowError> {
 
 /// `trusted-rrset CAPTURE ANCHORS MOMENT RRSET`: the same of the RRset with the number alone.
 fn good_signatures_of(row: &Row) -> Result<String, RowError> {
-    let capture = evidence::capture(row, 0)?;
+    let bump = Bump::new(row.alloc());
+    let capture = evidence::capture(row, 0, &bump)?;
     let trust = trust_in(row, &capture, 1)?;
     match usize::try_from(row.number(3)?) {
         Ok(rrset) => numbers(row.alloc(), trust.signed(rrset)),
@@ -49,7 +52,8 @@ fn good_signatures_of(row: &Row) -> Result<String, RowError> {
 /// `trusted-keys CAPTURE ANCHORS MOMENT ZONE`: the trusted keys of the zone, `FLAGS:PROTOCOL:ALGORITHM:KEY`.
 fn keys(row: &Row) -> Result<String, RowError> {
     let alloc = row.alloc();
-    let capture = evidence::capture(row, 0)?;
+    let bump = Bump::new(row.alloc());
+    let capture = evidence::capture(row, 0, &bump)?;
     let trust = trust_in(row, &capture, 1)?;
     let mut texts = Vec::new(alloc);
     for key in trust.keys(&row.name(3)?) {
@@ -61,7 +65,7 @@ fn keys(row: &Row) -> Result<String, RowError> {
 }
 
 /// The trust in the capture by the anchors of the argument with so many before it, at the moment that the third one is.
-pub fn trust_in(row: &Row, capture: &Capture, anchors: usize) -> Result<Trust, RowError> {
+pub fn trust_in(row: &Row, capture: &Capture<'_>, anchors: usize) -> Result<Trust, RowError> {
     let alloc = row.alloc();
     let anchors = trust_anchors(row, anchors)?;
     let moment = row.number(2)?;

@@ -3,6 +3,7 @@
 use super::evidence::evidence_of;
 use crate::denial::{rtype_of, view_of};
 use crate::row::{Row, RowError};
+use bumpalo::Bump;
 use dnsv_denial::View;
 use dnsv_names::Name;
 use std::alloc::{AllocError, Global};
@@ -11,7 +12,8 @@ use std::alloc::{AllocError, Global};
 /// such name, those of the types that are proved not to be there, and how many labels the unsigned cut has. `-` stands
 /// for what isn't proved. Types are parted by `,`.
 pub fn lacks(row: &Row) -> Result<String, RowError> {
-    let evidence = match evidence_of(row)? {
+    let bump = Bump::new(row.alloc());
+    let evidence = match evidence_of(row, &bump)? {
         Ok(evidence) => evidence,
         Err(refusal) => return Ok(refusal),
     };
@@ -66,7 +68,8 @@ fn append(text: &mut String, mark: &str, item: &str) -> Result<(), AllocError> {
 /// `closers CAPTURE ANCHORS MOMENT ZONE NAME..`: for each name, and each number of labels from 0 to below its own: `+`
 /// where it is proved that the zone has no closer name, `~` where that name may be left out, `*` where both, else `-`.
 pub fn closers(row: &Row) -> Result<String, RowError> {
-    let evidence = match evidence_of(row)? {
+    let bump = Bump::new(row.alloc());
+    let evidence = match evidence_of(row, &bump)? {
         Ok(evidence) => evidence,
         Err(refusal) => return Ok(refusal),
     };

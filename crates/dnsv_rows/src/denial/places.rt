@@ -5,6 +5,7 @@ ghost use Rattle.dnsv_denial.specs.words.ChainSaid.{HasHashes};
 use crate::denial::rtype_of;
 use crate::evidence::capture_or_refusal;
 use crate::row::{Row, RowError};
+use bumpalo::Bump;
 use dnsv_canonical::{Capture, Rrset};
 use dnsv_denial::{
     ChainRecords, HashedRecords, Nsec3Entries, Nsec3Entry, NsecEntry, Places, RecordNumber,
@@ -20,7 +21,8 @@ pub fn answer(row: &Row) -> Result<Option<String>, RowError> {
     if !row.calls("places") && !row.calls("closerplace") {
         return Ok(None);
     }
-    let capture = match capture_or_refusal(row, 0)? {
+    let bump = Bump::new(row.alloc());
+    let capture = match capture_or_refusal(row, 0, &bump)? {
         Ok(capture) => capture,
         Err(refusal) => return Ok(Some(refusal)),
     };
@@ -35,7 +37,10 @@ pub fn answer(row: &Row) -> Result<Option<String>, RowError> {
 }
 
 /// The first record of each NSEC RRset.
-fn nsec_entries<'a>(alloc: Global, capture: &'a Capture) -> Result<Vec<NsecEntry<'a>>, RowError> {
+fn nsec_entries<'a>(
+    alloc: Global,
+    capture: &'a Capture<'a>,
+) -> Result<Vec<NsecEntry<'a>>, RowError> {
     let mut entries = Vec::new(alloc);
     for (before, rrset) in capture.rrsets().iter().enumerate() {
         if let Some(nsec) = rrset.nsecs().first() {
@@ -58,7 +63,10 @@ fn first_of(before: usize) -> RecordNumber {
 }
 
 /// The first record of each NSEC3 RRset, where it is usable and its owner spells a hash.
-fn nsec3_entries<'a>(alloc: Global, capture: &'a Capture) -> Result<Vec<Nsec3Entry<'a>>, RowError> {
+fn nsec3_entries<'a>(
+    alloc: Global,
+    capture: &'a Capture<'a>,
+) -> Result<Vec<Nsec3Entry<'a>>, RowError> {
     let mut entries = Vec::new(alloc);
     for (before, rrset) in capture.rrsets().iter().enumerate() {
         if let Some(entry) = nsec3_entry(first_of(before), rrset) {
@@ -70,7 +78,7 @@ fn nsec3_entries<'a>(alloc: Global, capture: &'a Capture) -> Result<Vec<Nsec3Ent
     Ok(entries)
 }
 
-fn nsec3_entry<'a>(number: RecordNumber, rrset: &'a Rrset) -> Option<Nsec3Entry<'a>> {
+fn nsec3_entry<'a>(number: RecordNumber, rrset: &'a Rrset<'a>) -> Option<Nsec3Entry<'a>> {
     let Some(nsec3) = rrset.nsec3s().first() else {
         return None;
     };

@@ -44,7 +44,7 @@ pub(crate) fn made_signatures<'a>(
     alloc: Global,
     moment: u64,
     keys: &Keys<'_>,
-    rrsets: &'a [Rrset],
+    rrsets: &'a [Rrset<'a>],
 ) -> Result<Vec<Made<'a>>, AllocError>
     ensures { IfOk result (λ made. AddsJust (ComesOfSome (IsMadeIn moment keys.now) rrsets.now) [] made.items) }
 {
@@ -60,7 +60,7 @@ fn add_rrset<'a>(
     alloc: Global,
     moment: u64,
     keys: &Keys<'_>,
-    rrset: &'a Rrset,
+    rrset: &'a Rrset<'a>,
     made: &mut Vec<Made<'a>>,
 ) -> Result<(), AllocError>
     ensures { OnOk result (AddsJust (IsMadeIn moment keys.now rrset.now) made.old.items made.new.items) }
@@ -76,7 +76,7 @@ fn add_signature<'a>(
     alloc: Global,
     moment: u64,
     keys: &Keys<'_>,
-    rrset: &Rrset,
+    rrset: &Rrset<'_>,
     rrsig: &'a Rrsig,
     made: &mut Vec<Made<'a>>,
 ) -> Result<(), AllocError>
@@ -113,7 +113,7 @@ fn is_made_by_one(keys: &[KeyRecord<'_>], rrsig: &Rrsig) -> bool
 }
 
 /// What the signature gives to its entries. `None` where Labels is above the owner's count of labels.
-fn part_of(alloc: Global, rrset: &Rrset, rrsig: &Rrsig) -> Result<Option<SignaturePart>, AllocError>
+fn part_of(alloc: Global, rrset: &Rrset<'_>, rrsig: &Rrsig) -> Result<Option<SignaturePart>, AllocError>
     ensures { IfOk result (λ found. MatchOption found (signed_label_count rrset.now.owner < rrsig.now.labels)
         (IsPartOf rrset.now rrsig.now)) }
 {

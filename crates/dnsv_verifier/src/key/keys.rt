@@ -30,7 +30,7 @@ impl<'a> Model for Keys<'a> {
 
 impl<'a> Keys<'a> {
     /// The keys of all RRsets, whatever message they came in.
-    pub(crate) fn of(alloc: Global, rrsets: &'a [Rrset]) -> Result<Keys<'a>, AllocError>
+    pub(crate) fn of(alloc: Global, rrsets: &'a [Rrset<'a>]) -> Result<Keys<'a>, AllocError>
         ensures { IfOk result (λ keys. AreKeysOf rrsets.now keys) }
     {
         let mut keys = all_keys(alloc, rrsets)?;
@@ -66,7 +66,7 @@ impl<'a> Keys<'a> {
 }
 
 /// The keys of all RRsets, whatever message they came in.
-pub fn all_keys<'a>(alloc: Global, rrsets: &'a [Rrset]) -> Result<Vec<KeyRecord<'a>>, AllocError>
+pub fn all_keys<'a>(alloc: Global, rrsets: &'a [Rrset<'a>]) -> Result<Vec<KeyRecord<'a>>, AllocError>
     ensures { IfOk result (λ keys. AreKeysOf rrsets.now keys.items) }
 {
     let mut keys = Vec::new(alloc);
@@ -77,7 +77,7 @@ pub fn all_keys<'a>(alloc: Global, rrsets: &'a [Rrset]) -> Result<Vec<KeyRecord<
 }
 
 /// Adds the keys of the RRset.
-pub fn add_keys<'a>(rrset: &'a Rrset, keys: &mut Vec<KeyRecord<'a>>) -> Result<(), AllocError>
+pub fn add_keys<'a>(rrset: &'a Rrset<'a>, keys: &mut Vec<KeyRecord<'a>>) -> Result<(), AllocError>
     ensures { OnOk result (AddsJust (IsKeyOf rrset.now) keys.old.items keys.new.items) }
 {
     for (place, dnskey) in rrset.dnskeys().iter().enumerate() {

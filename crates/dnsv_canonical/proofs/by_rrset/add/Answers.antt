@@ -18,7 +18,7 @@ pub returns-in_default : goal.returns-in_default
 returns-in_default c =
     let old = c.args.by_rrset.now in
     let key : Key = (c.args.rtype, record { 0 = c.args.owner }) in
-    rdata_added old old c.insert.new.self key c.new-first.result c.push.new.self c.args.rdata
-    (ap (map (λ r. r.now)) c.new-first.ensures.items ∙ ap octets_of (sym c.in_default.is ∙ c.in_ok-received.ensures.old) ∙ rdata_found old key)
+    rdata_added old old c.insert.new.self key c.in_ok-first.first c.push.new.self c.args.rdata
+    (ap (map (λ r. r.now)) c.in_ok-first.ensures.items ∙ ap octets_of (sym c.in_default.is ∙ c.in_ok-received.ensures.old) ∙ rdata_found old key)
     (λ t name other. refl)
     c.in_ok-push.ensures.items c.in_ok-received.ensures.updates

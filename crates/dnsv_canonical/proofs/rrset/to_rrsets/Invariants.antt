@@ -1,7 +1,8 @@
-use Rattle.std.proofs.Common.{◌≡◌, take}
+use Rattle.std.proofs.Common.{◌≡◌, ◌++◌, length}
 use Rattle.dnsv_canonical.proofs.rrset.to_rrsets.Given as goal
 
--- the RRsets so far
-abbrev pub invariant-loop-draft : goal.invariant-loop-draft
-invariant-loop-draft l =
-    l.rrsets.items ≡ take l.draft-index l.drafts
+-- the RRsets so far, and those that are left
+abbrev pub invariant-loop-each : goal.invariant-loop-each
+invariant-loop-each l =
+    (l.rrsets.items ++ l.each-iterator.rest.items ≡ l.fn.received.items)
+    × (l.each-iterator.rest.len ≡ length l.each-iterator.rest.items)

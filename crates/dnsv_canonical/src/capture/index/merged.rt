@@ -17,7 +17,7 @@ pub struct Merged<'a> {
     /// So many groups of the index that it is made from stand in it.
     pub copied: usize,
     /// The first RRset of its last group.
-    last: Option<&'a Rrset>,
+    last: Option<&'a Rrset<'a>>,
 }
 
 impl<'a> Merged<'a> {
@@ -42,7 +42,7 @@ impl<'a> Merged<'a> {
     pub fn copy_to(
         &mut self,
         index: &Index,
-        held: &'a [Rrset],
+        held: &'a [Rrset<'a>],
         place: usize,
     ) -> Result<(), AllocError>
         requires index { IsIndexOf held.now index.now.numbers.items index.now.starts.items }
@@ -89,7 +89,7 @@ impl<'a> Merged<'a> {
     }
 
     /// Whether the last group is of the RRset's owner and type.
-    fn ends_with(&self, rrset: &Rrset) -> bool
+    fn ends_with(&self, rrset: &Rrset<'_>) -> bool
         ensures { IsTrue result ↔ EndsWith self.now.last (key_of rrset.now) }
     {
         let Some(last) = self.last else {

@@ -13,7 +13,7 @@ use std::marker::Model;
 #[derive(Drop)]
 pub struct NumberedRrset<'a> {
     pub number: usize,
-    pub rrset: &'a Rrset,
+    pub rrset: &'a Rrset<'a>,
 }
 
 impl<'a> Model for NumberedRrset<'a> {
@@ -35,7 +35,7 @@ impl<'a> NumberedRrset<'a> {
 }
 
 /// How the RRset stands to the name and type: by its owner in canonical order, and then by its type.
-pub fn compared(rrset: &Rrset, name: &Name, rtype: RecordType) -> Ordering
+pub fn compared(rrset: &Rrset<'_>, name: &Name, rtype: RecordType) -> Ordering
     ensures { result ≡ key_cmp (key_of rrset.now) (name.now, rtype.0) }
 {
     rrset
@@ -48,7 +48,7 @@ pub fn compared(rrset: &Rrset, name: &Name, rtype: RecordType) -> Ordering
 pub fn in_order<'a>(
     alloc: Global,
     others: usize,
-    rrsets: &'a [Rrset],
+    rrsets: &'a [Rrset<'a>],
 ) -> Result<Vec<NumberedRrset<'a>>, AllocError>
     requires { others + length rrsets.now < u64.MAX }
     ensures { IfOk result (λ sorted. AreInOrder (enumerate_from (others + 1) rrsets.now) sorted.items) }
@@ -63,7 +63,7 @@ pub fn in_order<'a>(
 fn numbered<'a>(
     alloc: Global,
     others: usize,
-    rrsets: &'a [Rrset],
+    rrsets: &'a [Rrset<'a>],
 ) -> Result<Vec<NumberedRrset<'a>>, AllocError>
     requires { others + length rrsets.now < u64.MAX }
     ensures { IfOk result (λ numbered. numbered.items ≡ enumerate_from (others + 1) rrsets.now) }

@@ -43,7 +43,7 @@ fn way_in(
     evidence: &Evidence<'_>,
     set: &KeySet<'_>,
     from: usize,
-    ds: &Rrset,
+    ds: &Rrset<'_>,
 ) -> Result<Option<FoundWay>, AllocError>
     requires set { IsKeySet (setting_in evidence.now) set.now }
     requires ds { IsNumbered evidence.now.rrsets from ds.now }
@@ -76,7 +76,7 @@ fn way_in(
 
 /// Whether the RRset, which has the number, is a DS RRset of the name, and has a signature which is good under a trusted
 /// key.
-pub fn may_delegate(evidence: &Evidence<'_>, number: usize, ds: &Rrset, name: &Name) -> bool
+pub fn may_delegate(evidence: &Evidence<'_>, number: usize, ds: &Rrset<'_>, name: &Name) -> bool
     ensures { IsTrue result ↔ MayDelegate (setting_in evidence.now) number ds.now name.now }
 {
     ds.rtype() == RecordType::DS && *ds.owner() == *name && has_secured(evidence, number)

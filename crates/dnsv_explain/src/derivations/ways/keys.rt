@@ -17,7 +17,7 @@ use std::alloc::{AllocError, Global};
 pub struct KeySet<'a> {
     /// The number of the RRset.
     pub number: usize,
-    pub rrset: &'a Rrset,
+    pub rrset: &'a Rrset<'a>,
     /// Its keys, each RDATA once, in the order of RDATA.
     pub keys: Vec<KeyRecord<'a>>,
 }
@@ -32,7 +32,10 @@ pub struct GoodSignature {
 }
 
 /// The keys of the DNSKEY RRset, each RDATA once, in the order of RDATA.
-pub fn keys_in_order(alloc: Global, set: &Rrset) -> Result<Vec<KeyRecord<'_>>, AllocError>
+pub fn keys_in_order<'a>(
+    alloc: Global,
+    set: &'a Rrset<'a>,
+) -> Result<Vec<KeyRecord<'a>>, AllocError>
     requires { set.now.rtype ≡ 48 }
     ensures { IfOk result (λ keys. AreKeysInOrder set.now keys.items) }
 {
@@ -59,7 +62,7 @@ pub fn lowest_good(
     alloc: Global,
     evidence: &Evidence<'_>,
     number: usize,
-    rrset: &Rrset,
+    rrset: &Rrset<'_>,
     key: &KeyRecord<'_>,
 ) -> Result<Option<GoodSignature>, AllocError>
     requires { IsNumbered evidence.now.rrsets number rrset.now }
@@ -84,7 +87,7 @@ pub fn lowest_where(
     alloc: Global,
     evidence: &Evidence<'_>,
     number: usize,
-    rrset: &Rrset,
+    rrset: &Rrset<'_>,
     key: &KeyRecord<'_>,
     is_match: bool,
 ) -> Result<Option<GoodSignature>, AllocError>

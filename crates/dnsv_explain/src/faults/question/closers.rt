@@ -49,7 +49,7 @@ fn add_closers(
     lines: &mut Vec<Line>,
     rtype: RecordType,
     number: usize,
-    rrset: &Rrset,
+    rrset: &Rrset<'_>,
 ) -> Result<(), AllocError>
     requires at { IsAt evidence.now at.now }
     requires view { view.now ≡ viewed_at at.now }
@@ -76,7 +76,7 @@ fn add_closer(
     view: &View<'_, '_>,
     lines: &mut Vec<Line>,
     number: SignatureNumber,
-    rrset: &Rrset,
+    rrset: &Rrset<'_>,
     rrsig: &Rrsig,
 ) -> Result<(), AllocError>
     requires at { IsAt evidence.now at.now }
@@ -102,7 +102,7 @@ fn is_closer_open(
     evidence: &Evidence<'_>,
     at: &At<'_, '_>,
     view: &View<'_, '_>,
-    rrset: &Rrset,
+    rrset: &Rrset<'_>,
     rrsig: &Rrsig,
 ) -> bool
     requires at { IsAt evidence.now at.now }

@@ -37,7 +37,7 @@ fn add_nsec3s_of(
     lines: &mut Vec<Line>,
     name: &Name,
     number: usize,
-    rrset: &Rrset,
+    rrset: &Rrset<'_>,
 ) -> Result<(), AllocError>
     ensures { OnOk result (AddsThose (AreNsec3sLines name.now number rrset.now) lines.old.items lines.new.items) }
 {
@@ -61,7 +61,7 @@ fn add_nsec3s_of(
 /// Adds that of the record, which has the number, if there is one.
 fn add_nsec3(
     lines: &mut Vec<Line>,
-    rrset: &Rrset,
+    rrset: &Rrset<'_>,
     number: RecordNumber,
     nsec3: &Nsec3,
 ) -> Result<(), AllocError>
@@ -82,7 +82,7 @@ fn add_nsec3(
 /// Adds that the record can't be used, and why.
 fn add_unusable(
     lines: &mut Vec<Line>,
-    rrset: &Rrset,
+    rrset: &Rrset<'_>,
     number: RecordNumber,
     why: WhyNsec3,
 ) -> Result<(), AllocError>
@@ -104,7 +104,7 @@ fn has_many_iterations(nsec3: &Nsec3) -> bool
 }
 
 /// Whether the record can't be used for another reason than its iterations.
-fn is_unusable(rrset: &Rrset, nsec3: &Nsec3) -> bool
+fn is_unusable(rrset: &Rrset<'_>, nsec3: &Nsec3) -> bool
     ensures { IsTrue result ↔ IsUnusableNsec3 rrset.now nsec3.now }
 {
     if has_unknown_fields(nsec3) {
@@ -136,7 +136,7 @@ fn is_hash_label(owner: &Name) -> bool
 }
 
 /// Whether a signature of the RRset is by the zone right above its owner, or it has none.
-fn is_of_its_parent(rrset: &Rrset) -> bool
+fn is_of_its_parent(rrset: &Rrset<'_>) -> bool
     ensures { IsTrue result ↔ IsOfItsParent rrset.now rrset.now.owner }
 {
     let Some(parent) = rrset.owner().parent() else {

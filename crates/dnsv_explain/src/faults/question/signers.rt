@@ -44,7 +44,7 @@ pub fn signers_of(
 /// How many labels the signers of what may answer have.
 fn goal_signers(
     alloc: Global,
-    rrsets: &[Rrset],
+    rrsets: &[Rrset<'_>],
     name: &Name,
     rtype: RecordType,
 ) -> Result<Vec<usize>, AllocError>
@@ -59,7 +59,7 @@ fn goal_signers(
 
 /// Adds those of the RRset, if it may answer.
 fn add_goal_signers(
-    rrset: &Rrset,
+    rrset: &Rrset<'_>,
     name: &Name,
     rtype: RecordType,
     numbers: &mut Vec<usize>,
@@ -74,7 +74,11 @@ fn add_goal_signers(
 }
 
 /// How many labels the signers of what may deny have.
-fn denial_signers(alloc: Global, rrsets: &[Rrset], name: &Name) -> Result<Vec<usize>, AllocError>
+fn denial_signers(
+    alloc: Global,
+    rrsets: &[Rrset<'_>],
+    name: &Name,
+) -> Result<Vec<usize>, AllocError>
     ensures { IfOk result (λ numbers. AreLabelsOf name.now (HasDenialSigner rrsets.now name.now) numbers.items) }
 {
     let mut numbers = Vec::new(alloc);
@@ -86,7 +90,7 @@ fn denial_signers(alloc: Global, rrsets: &[Rrset], name: &Name) -> Result<Vec<us
 
 /// Adds those of the RRset, if it may deny.
 fn add_denial_signers(
-    rrset: &Rrset,
+    rrset: &Rrset<'_>,
     name: &Name,
     numbers: &mut Vec<usize>,
 ) -> Result<(), AllocError>
@@ -100,7 +104,11 @@ fn add_denial_signers(
 }
 
 /// How many labels the signers of the DS RRsets of the zone have that are at or above it.
-pub fn ds_signers(alloc: Global, capture: &Capture, zone: &Name) -> Result<Vec<usize>, AllocError>
+pub fn ds_signers(
+    alloc: Global,
+    capture: &Capture<'_>,
+    zone: &Name,
+) -> Result<Vec<usize>, AllocError>
     ensures { IfOk result (λ numbers. AreLabelsOf zone.now (HasDsSigner capture.now.rrsets zone.now) numbers.items) }
 {
     let mut compared = Count::new();
@@ -113,7 +121,7 @@ pub fn ds_signers(alloc: Global, capture: &Capture, zone: &Name) -> Result<Vec<u
 
 /// Adds those of the RRset with the number.
 fn add_ds_signers(
-    rrsets: &[Rrset],
+    rrsets: &[Rrset<'_>],
     zone: &Name,
     number: usize,
     numbers: &mut Vec<usize>,
@@ -128,7 +136,7 @@ fn add_ds_signers(
 }
 
 /// Adds how many labels those signers of the RRset have that are at or above the name.
-fn add_signers(rrset: &Rrset, name: &Name, numbers: &mut Vec<usize>) -> Result<(), AllocError>
+fn add_signers(rrset: &Rrset<'_>, name: &Name, numbers: &mut Vec<usize>) -> Result<(), AllocError>
     ensures { OnOk result (AddsJust (IsAbove name.now (HasSigner rrset.now)) numbers.old.items numbers.new.items) }
 {
     for rrsig in rrset.signatures() {

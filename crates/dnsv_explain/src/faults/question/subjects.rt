@@ -10,21 +10,21 @@ use dnsv_names::{Name, RecordType};
 use dnsv_records::Rrsig;
 
 /// Whether the RRset may answer the question: it has the name, and the type or CNAME.
-pub fn is_goal(rrset: &Rrset, name: &Name, rtype: RecordType) -> bool
+pub fn is_goal(rrset: &Rrset<'_>, name: &Name, rtype: RecordType) -> bool
     ensures { IsTrue result ↔ IsGoal name.now rtype.0 rrset.now }
 {
     (rrset.rtype() == rtype || rrset.rtype() == RecordType::CNAME) && are_equal(rrset.owner(), name)
 }
 
 /// Whether one of the RRsets may answer.
-pub fn has_goal(rrsets: &[Rrset], name: &Name, rtype: RecordType) -> bool
+pub fn has_goal(rrsets: &[Rrset<'_>], name: &Name, rtype: RecordType) -> bool
     ensures { IsTrue result ↔ HasGoal rrsets.now name.now rtype.0 }
 {
     rrsets.iter().any(|rrset| is_goal(rrset, name, rtype))
 }
 
 /// Whether one that may answer has a signature.
-pub fn has_signed_goal(rrsets: &[Rrset], name: &Name, rtype: RecordType) -> bool
+pub fn has_signed_goal(rrsets: &[Rrset<'_>], name: &Name, rtype: RecordType) -> bool
     ensures { IsTrue result ↔ HasSignedGoal rrsets.now name.now rtype.0 }
 {
     for rrset in rrsets {
@@ -36,7 +36,7 @@ pub fn has_signed_goal(rrsets: &[Rrset], name: &Name, rtype: RecordType) -> bool
 }
 
 /// Whether the RRset may answer and has a signature.
-fn is_signed_goal(rrset: &Rrset, name: &Name, rtype: RecordType) -> bool
+fn is_signed_goal(rrset: &Rrset<'_>, name: &Name, rtype: RecordType) -> bool
     ensures { IsTrue result ↔ IsSignedGoal name.now rtype.0 rrset.now }
 {
     if !is_goal(rrset, name, rtype) {
@@ -47,7 +47,7 @@ fn is_signed_goal(rrset: &Rrset, name: &Name, rtype: RecordType) -> bool
 
 /// Whether the RRset of NSEC or NSEC3 records may deny the name: one of its signers is at or above the name, or none is
 /// at or above the owner.
-pub fn is_denial(rrset: &Rrset, name: &Name) -> bool
+pub fn is_denial(rrset: &Rrset<'_>, name: &Name) -> bool
     ensures { IsTrue result ↔ IsDenial name.now rrset.now }
 {
     if !is_denial_type(rrset.rtype()) {
@@ -68,7 +68,7 @@ fn is_denial_type(rtype: RecordType) -> bool
 
 /// Whether the RRset may deny the name for the zone: it has a signature by the zone, or has no signer at or above its
 /// owner and is at or below the zone.
-fn is_denial_of(rrset: &Rrset, name: &Name, zone: &Name) -> bool
+fn is_denial_of(rrset: &Rrset<'_>, name: &Name, zone: &Name) -> bool
     ensures { IsTrue result ↔ IsDenialOf name.now zone.now rrset.now }
 {
     if !is_denial(rrset, name) {
@@ -84,7 +84,7 @@ fn is_denial_of(rrset: &Rrset, name: &Name, zone: &Name) -> bool
 }
 
 /// Whether one of the RRsets may deny the name for the zone.
-pub fn has_denial(rrsets: &[Rrset], name: &Name, zone: &Name) -> bool
+pub fn has_denial(rrsets: &[Rrset<'_>], name: &Name, zone: &Name) -> bool
     ensures { IsTrue result ↔ HasDenial rrsets.now name.now zone.now }
 {
     for rrset in rrsets {
@@ -96,14 +96,14 @@ pub fn has_denial(rrsets: &[Rrset], name: &Name, zone: &Name) -> bool
 }
 
 /// Whether no signer of the RRset is at or above the owner.
-fn is_stray(rrset: &Rrset) -> bool
+fn is_stray(rrset: &Rrset<'_>) -> bool
     ensures { IsTrue result ↔ IsStray rrset.now }
 {
     !has_signer_above(rrset, rrset.owner())
 }
 
 /// Whether a signer of the RRset is at or above the name.
-fn has_signer_above(rrset: &Rrset, name: &Name) -> bool
+fn has_signer_above(rrset: &Rrset<'_>, name: &Name) -> bool
     ensures { IsTrue result ↔ HasSignerAbove rrset.now name.now }
 {
     is_one_above(rrset.signatures(), name)
@@ -119,7 +119,7 @@ fn is_one_above(rrsigs: &[Rrsig], name: &Name) -> bool
 }
 
 /// Whether the zone is a signer of the RRset.
-pub fn has_signer(rrset: &Rrset, zone: &Name) -> bool
+pub fn has_signer(rrset: &Rrset<'_>, zone: &Name) -> bool
     ensures { IsTrue result ↔ HasSigner rrset.now zone.now }
 {
     is_one_by(rrset.signatures(), zone)

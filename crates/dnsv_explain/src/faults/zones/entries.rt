@@ -110,7 +110,7 @@ fn add_records<'a>(
     said: &mut Vec<Judged<'a>>,
     zone: &Name,
     number: usize,
-    rrset: &'a Rrset,
+    rrset: &'a Rrset<'a>,
 ) -> Result<(), AllocError>
     requires keys { AreKeysAt evidence.now.rrsets zone.now keys.now }
     requires rrset { IsNumbered evidence.now.rrsets number rrset.now }
@@ -130,7 +130,7 @@ fn records_of<'a>(
     alloc: Global,
     keys: &[KeyRecord<'_>],
     number: usize,
-    rrset: &'a Rrset,
+    rrset: &'a Rrset<'a>,
 ) -> Result<Vec<Judged<'a>>, AllocError>
     requires { rrset.now.rtype ≡ 43 }
     ensures { IfOk result (λ group. AreJudged keys.now (AreRecordsOf number rrset.now) group.items) }

@@ -31,7 +31,7 @@ pub fn add_key(
     lines: &mut Vec<Line>,
     zone: &Name,
     number: usize,
-    set: &Rrset,
+    set: &Rrset<'_>,
     key: &KeyRecord<'_>,
 ) -> Result<(), AllocError>
     requires keys { AreKeysOf evidence.now.rrsets keys.now }

@@ -67,7 +67,7 @@ fn is_self_signed(
     zone: &Name,
     meant: Meant<'_>,
     number: usize,
-    set: &Rrset,
+    set: &Rrset<'_>,
 ) -> Result<bool, AllocError>
     requires { IsNumbered evidence.now.rrsets number set.now }
     ensures { IfOk result (λ is. IsTrue is
@@ -91,7 +91,7 @@ fn signs_as_meant(
     evidence: &Evidence<'_>,
     meant: Meant<'_>,
     number: usize,
-    set: &Rrset,
+    set: &Rrset<'_>,
     key: &KeyRecord<'_>,
 ) -> Result<bool, AllocError>
     requires numbered { IsNumbered evidence.now.rrsets number set.now }
@@ -115,7 +115,7 @@ fn add_set(
     zone: &Name,
     meant: Meant<'_>,
     number: usize,
-    set: &Rrset,
+    set: &Rrset<'_>,
 ) -> Result<(), AllocError>
     requires keys { AreKeysOf evidence.now.rrsets keys.now }
     requires set { IsNumbered evidence.now.rrsets number set.now }

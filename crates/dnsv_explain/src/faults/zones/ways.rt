@@ -46,7 +46,7 @@ fn add_way(
     lines: &mut Vec<Line>,
     zone: &Name,
     number: usize,
-    rrset: &Rrset,
+    rrset: &Rrset<'_>,
 ) -> Result<(), AllocError>
     requires keys { AreKeysOf evidence.now.rrsets keys.now }
     requires rrset { IsNumbered evidence.now.rrsets number rrset.now }
@@ -64,7 +64,7 @@ fn add_way(
 
 /// Whether the RRset, which has the number, is a DS RRset of the zone; where the zone has a trust anchor, one that a
 /// parent signs.
-pub fn is_ds_way(evidence: &Evidence<'_>, zone: &Name, number: usize, rrset: &Rrset) -> bool
+pub fn is_ds_way(evidence: &Evidence<'_>, zone: &Name, number: usize, rrset: &Rrset<'_>) -> bool
     requires rrset { IsNumbered evidence.now.rrsets number rrset.now }
     ensures { IsTrue result ↔ IsDsWay (setting_in evidence.now) zone.now number rrset.now }
 {

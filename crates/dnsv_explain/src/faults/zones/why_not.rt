@@ -33,7 +33,7 @@ pub fn add_named(
     keys: &[KeyRecord<'_>],
     lines: &mut Vec<Line>,
     number: SignatureNumber,
-    set: &Rrset,
+    set: &Rrset<'_>,
     key: &KeyRecord<'_>,
     rrsig: &Rrsig,
 ) -> Result<(), AllocError>
@@ -64,7 +64,7 @@ fn why_not_good(
     alloc: Global,
     evidence: &Evidence<'_>,
     keys: &[KeyRecord<'_>],
-    set: &Rrset,
+    set: &Rrset<'_>,
     key: &KeyRecord<'_>,
     rrsig: &Rrsig,
 ) -> Result<Vec<WhySignature>, AllocError>
@@ -87,7 +87,7 @@ fn whys_of(
     evidence: &Evidence<'_>,
     keys: &[KeyRecord<'_>],
     known: bool,
-    set: &Rrset,
+    set: &Rrset<'_>,
     rrsig: &Rrsig,
 ) -> Result<Vec<WhySignature>, AllocError>
     ensures { IfOk result (λ whys. AreWhys (IsNamedIn keys.now rrsig.now) (IsTrue known) (setting_in evidence.now) set.now

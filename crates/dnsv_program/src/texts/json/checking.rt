@@ -21,7 +21,7 @@ use std::alloc::{AllocError, Global};
 pub fn verdict_json(
     alloc: Global,
     asked: &Asked<'_>,
-    rrsets: &[Rrset],
+    rrsets: &[Rrset<'_>],
     report: &Report,
     why: &Option<Explanation>,
 ) -> Result<String, AllocError>
@@ -130,7 +130,7 @@ pub fn push_todo(text: &mut String, entries: &Entries) -> Result<(), AllocError>
 /// Adds the records of a proof.
 pub fn push_records(
     text: &mut String,
-    rrsets: &[Rrset],
+    rrsets: &[Rrset<'_>],
     records: &[RecordNumber],
 ) -> Result<(), AllocError>
     ensures { OnOk result (string_bytes text.new
@@ -149,7 +149,7 @@ pub fn push_records(
 fn push_number(
     text: &mut String,
     first: &mut bool,
-    rrsets: &[Rrset],
+    rrsets: &[Rrset<'_>],
     number: &RecordNumber,
 ) -> Result<(), AllocError>
     ensures text { OnOk result (string_bytes text.new
@@ -164,7 +164,7 @@ fn push_number(
 }
 
 /// Adds the object of a record of the RRset, behind others or as the first.
-fn push_record(text: &mut String, first: &mut bool, rrset: &Rrset) -> Result<(), AllocError>
+fn push_record(text: &mut String, first: &mut bool, rrset: &Rrset<'_>) -> Result<(), AllocError>
     ensures text { OnOk result (string_bytes text.new
         ≡ string_bytes text.old ++ parted first.old (specs.proof_record_json (Some rrset.now))) }
     ensures first { OnOk result (first.new ≡ false) }
@@ -175,7 +175,7 @@ fn push_record(text: &mut String, first: &mut bool, rrset: &Rrset) -> Result<(),
 }
 
 /// Adds the object of a record of the RRset.
-fn push_owner(text: &mut String, rrset: &Rrset) -> Result<(), AllocError>
+fn push_owner(text: &mut String, rrset: &Rrset<'_>) -> Result<(), AllocError>
     ensures { OnOk result (string_bytes text.new ≡ string_bytes text.old ++ specs.record_json rrset.now) }
 {
     let rtype = rrset.rtype().0;

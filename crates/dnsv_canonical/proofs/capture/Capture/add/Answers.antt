@@ -39,7 +39,7 @@ returns-then-not-branch-clause-refused c = (
   c.in_ok-check_rdata.ensures.ok,
   subst (λ held. IsWithinLimits (with_message held c.args.message.now) → ⊥) c.self.view_is
       (large_refused (record { messages = c.self.inside.messages; records = c.self.inside.records; rrsets = c.self.inside.rrsets.items }) c.args.message.now
-      c.as_slice.result.now (c.as_slice.ensures.value ∙ (drafts_are _ c.args.message.now _ _ _ _ c.in_ok-sections.ensures.answer c.in_ok-sections.ensures.authority c.in_ok-sections.ensures.additional c.in_ok-drafts.ensures)) (not_small c.as_slice.result.now c.in_ok-are_small.field-0 c.in_ok-are_small.ensures c.if-not-branch.true)),
+      c.as_slice.result.now (c.as_slice.ensures.value ∙ (drafts_are _ c.args.message.now _ _ _ _ c.in_ok-sections.ensures.answer c.in_ok-sections.ensures.authority c.in_ok-sections.ensures.additional c.in_ok-received.ensures)) (not_small c.as_slice.result.now c.in_ok-are_small.field-0 c.in_ok-are_small.ensures c.if-not-branch.true)),
 )
 
 pub returns-in_err-parameters-clause-refused : goal.returns-in_err-parameters-clause-refused
@@ -49,41 +49,41 @@ returns-in_err-parameters-clause-refused c =
     c.in_ok-check_whole.ensures.ok c.in_ok-check_rdata.ensures.ok
     (λ many. subst (λ held. IsWithinLimits (with_message held c.args.message.now) → ⊥) c.self.view_is
     (many_refused (record { messages = c.self.inside.messages; records = c.self.inside.records; rrsets = c.self.inside.rrsets.items }) c.args.message.now
-    c.as_slice-3.result.now (c.as_slice-3.ensures.value ∙ (drafts_are _ c.args.message.now _ _ _ _ c.in_ok-sections.ensures.answer c.in_ok-sections.ensures.authority c.in_ok-sections.ensures.additional c.in_ok-drafts.ensures)) many))
+    c.as_slice-3.result.now (c.as_slice-3.ensures.value ∙ c.in_ok-rrsets.ensures ∙ (drafts_are _ c.args.message.now _ _ _ _ c.in_ok-sections.ensures.answer c.in_ok-sections.ensures.authority c.in_ok-sections.ensures.additional c.in_ok-received.ensures)) many))
     (c.in_err-parameters.ensures.refused (nsec3_rdata c.self.inside.rrsets.items) (subst (AreParameters (nsec3_rdata c.self.inside.rrsets.items)) (sym c.as_slice-2.ensures.value) c.self.invariant.parameters)))
 
 pub to_rrsets-requires : goal.to_rrsets-requires
 to_rrsets-requires c =
-    subst (AllByRecursion IsWellFormed) (sym (c.as_slice-4.ensures.value ∙ (drafts_are _ c.args.message.now _ _ _ _ c.in_ok-sections.ensures.answer c.in_ok-sections.ensures.authority c.in_ok-sections.ensures.additional c.in_ok-drafts.ensures)))
+    subst (AllByRecursion IsWellFormed) (sym (drafts_are _ c.args.message.now _ _ _ _ c.in_ok-sections.ensures.answer c.in_ok-sections.ensures.authority c.in_ok-sections.ensures.additional c.in_ok-received.ensures))
     (message_well_formed (c.self.inside.messages + 1) c.args.message.now (c.messages_fit.ensures c.args.message.now c.is_of_octets.ensures) c.in_ok-check_rdata.ensures.ok)
 
 pub with-requires : goal.with-requires
-with-requires c = subst (λ (rrsets : List ReceivedRrset). IsIndexOf rrsets c.self.inside.index.numbers.items c.self.inside.index.starts.items) (sym c.as_slice-5.ensures.value) c.self.invariant.index
+with-requires c = subst (λ (rrsets : List ReceivedRrset). IsIndexOf rrsets c.self.inside.index.numbers.items c.self.inside.index.starts.items) (sym c.as_slice-4.ensures.value) c.self.invariant.index
 
 pub invariant_of-self-in_err-append : goal.invariant_of-self-in_err-append
 invariant_of-self-in_err-append c = rw (c.in_err-append.ensures.items, c.in_ok-reserve.ensures.items) c.self.invariant
 
 -- what is kept with the message
-after : (c : goal.After-drop-sections-4) → IsHeld (record { messages = c.self.inside.messages + 1; records = c.in-Some.records; rrsets = c.self.inside.rrsets.items ++ c.in_ok-drafts.drafts.items })
+after : (c : goal.After-drop-sections-4) → IsHeld (record { messages = c.self.inside.messages + 1; records = c.in-Some.records; rrsets = c.self.inside.rrsets.items ++ c.in_ok-received.received.items })
     (c.self.inside.parameters.items ++ c.in_ok-parameters.parameters.items) c.in_ok-index.index.numbers.items c.in_ok-index.index.starts.items
 after c =
-    grown c.self.inside.messages c.self.inside.records c.in-Some.records c.self.inside.rrsets.items c.args.message.now c.self.inside.parameters.items c.in_ok-parameters.parameters.items c.in_ok-drafts.drafts.items
+    grown c.self.inside.messages c.self.inside.records c.in-Some.records c.self.inside.rrsets.items c.args.message.now c.self.inside.parameters.items c.in_ok-parameters.parameters.items c.in_ok-received.received.items
     c.self.inside.index.numbers.items c.self.inside.index.starts.items c.in_ok-index.index.numbers.items c.in_ok-index.index.starts.items
     c.self.invariant (omega arith) c.in-Some.ensures.1
-    (subst (AllByRecursion IsWellFormed) (sym (drafts_are _ c.args.message.now _ _ _ _ c.in_ok-sections.ensures.answer c.in_ok-sections.ensures.authority c.in_ok-sections.ensures.additional c.in_ok-drafts.ensures))
+    (subst (AllByRecursion IsWellFormed) (sym (drafts_are _ c.args.message.now _ _ _ _ c.in_ok-sections.ensures.answer c.in_ok-sections.ensures.authority c.in_ok-sections.ensures.additional c.in_ok-received.ensures))
     (message_well_formed (c.self.inside.messages + 1) c.args.message.now (c.messages_fit.ensures c.args.message.now c.is_of_octets.ensures) c.in_ok-check_rdata.ensures.ok))
     (subst (AllByRecursion IsSmall) c.as_slice.ensures.value (c.in_ok-are_small.ensures.0 c.if-not-branch.false))
-    (subst (λ (drafts : List ReceivedRrset). AreParameters (nsec3_rdata c.self.inside.rrsets.items ++ nsec3_rdata drafts) (c.self.inside.parameters.items ++ c.in_ok-parameters.parameters.items)) c.as_slice-3.ensures.value
+    (subst (λ (drafts : List ReceivedRrset). AreParameters (nsec3_rdata c.self.inside.rrsets.items ++ nsec3_rdata drafts) (c.self.inside.parameters.items ++ c.in_ok-parameters.parameters.items)) (c.as_slice-3.ensures.value ∙ c.in_ok-rrsets.ensures)
     (pairs_so_far c.self.inside.rrsets.items c.as_slice-3.result.now c.self.inside.parameters.items c.as_slice-2.result.now c.in_ok-parameters.parameters.items c.self.invariant.parameters c.as_slice-2.ensures.value c.in_ok-parameters.ensures.all))
     (rw (← c.as_slice-2.ensures.value) (c.in_ok-parameters.ensures.few (rw c.as_slice-2.ensures.value
     ((few_pairs 8 (nsec3_rdata c.self.inside.rrsets.items) c.self.inside.parameters.items c.self.invariant.parameters).1 c.self.invariant.limits.parameters))))
     (subst (λ (rrsets : List ReceivedRrset). IsIndexOf rrsets c.in_ok-index.index.numbers.items c.in_ok-index.index.starts.items)
-    (λ i. c.as_slice-5.ensures.value i ++ (c.as_slice-6.ensures.value ∙ c.in_ok-rrsets.ensures ∙ c.as_slice-4.ensures.value) i) c.in_ok-index.ensures)
+    (λ i. c.as_slice-4.ensures.value i ++ (c.as_slice-5.ensures.value ∙ c.in_ok-rrsets.ensures) i) c.in_ok-index.ensures)
 
 pub invariant_of-self-2 : goal.invariant_of-self-2
 invariant_of-self-2 c =
     rw (
-      c.in_ok-append.ensures.items ∙ ap (λ rrsets. c.self.inside.rrsets.items ++ rrsets) (c.in_ok-rrsets.ensures ∙ c.as_slice-4.ensures.value),
+      c.in_ok-append.ensures.items ∙ ap (λ rrsets. c.self.inside.rrsets.items ++ rrsets) c.in_ok-rrsets.ensures,
       c.in-Ok.ensures.items ∙ ap (λ pairs. pairs ++ c.in_ok-parameters.parameters.items) c.in_ok-reserve.ensures.items,
     ) (after c)
 
@@ -91,5 +91,5 @@ pub returns-clause-limits : goal.returns-clause-limits
 returns-clause-limits c =
     subst (λ held. IsWithinLimits (with_message held c.args.message.now)) c.self.view_is
     (subst IsWithinLimits
-    (grown_is c.self.inside.messages c.self.inside.records c.in-Some.records c.self.inside.rrsets.items c.args.message.now c.in_ok-drafts.drafts.items c.in-Some.ensures.0 (drafts_are _ c.args.message.now _ _ _ _ c.in_ok-sections.ensures.answer c.in_ok-sections.ensures.authority c.in_ok-sections.ensures.additional c.in_ok-drafts.ensures))
+    (grown_is c.self.inside.messages c.self.inside.records c.in-Some.records c.self.inside.rrsets.items c.args.message.now c.in_ok-received.received.items c.in-Some.ensures.0 (drafts_are _ c.args.message.now _ _ _ _ c.in_ok-sections.ensures.answer c.in_ok-sections.ensures.authority c.in_ok-sections.ensures.additional c.in_ok-received.ensures))
     (after c).limits)

@@ -7,5 +7,5 @@ pub returns-then-not-branch : goal.returns-then-not-branch
 returns-then-not-branch c = (
   λ t. let turned : false ≡ true = t in cc,
   λ small. let turned : true ≡ false =
-      sym (c.in_ok-is_small.ensures.1 (subst IsSmall (sym c.draft-item.is) (each_at IsSmall c.args.drafts.now c.loop-draft.draft-index _ small c.loop-draft-test.true))) ∙ c.if-not-branch.true in cc,
+      sym (c.in_ok-is_small.ensures.1 (subst IsSmall (sym c.rrset-item.is) (each_at IsSmall c.args.rrsets.now c.loop-rrset.rrset-index _ small c.loop-rrset-test.true))) ∙ c.if-not-branch.true in cc,
 )

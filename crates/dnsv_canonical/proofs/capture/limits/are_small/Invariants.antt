@@ -4,6 +4,6 @@ use Rattle.dnsv_canonical.specs.Evidence.{IsSmall}
 use Rattle.dnsv_canonical.proofs.capture.limits.are_small.Given as goal
 
 -- the RRsets so far are within their limits
-abbrev pub invariant-loop-draft : goal.invariant-loop-draft
-invariant-loop-draft l =
-    AllByRecursion IsSmall (take l.draft-index l.drafts)
+abbrev pub invariant-loop-rrset : goal.invariant-loop-rrset
+invariant-loop-rrset l =
+    AllByRecursion IsSmall (take l.rrset-index l.rrsets)

@@ -5,4 +5,4 @@ use Rattle.dnsv_canonical.proofs.rrset.Rrset.of.Goals as goal
 
 pub read_each-requires : goal.read_each-requires
 read_each-requires c =
-    subst (AllByRecursion HasRrsig) (sym c.signatures-2.ensures) (signatures_read c.args.draft.now.rtype c.args.draft.now.signatures c.requires.each_signature)
+    subst (AllByRecursion HasRrsig) (sym c.signatures.ensures) (signatures_read c.args.received.rtype c.args.received.signatures c.requires.each_signature)

@@ -1,7 +1,7 @@
 use Rattle.std.proofs.Common.{◌∙◌, sym, ap}
 use Rattle.dnsv_message.specs.declared.rdata.Layout.{Layout}
 use Rattle.dnsv_message.proofs.FollowLemmas.RdataFollowed.{plain_seen}
-use Rattle.dnsv_message.proofs.rdata_ref.RdataRef.octets.Goals as goal
+use Rattle.dnsv_message.proofs.rdata_ref.RdataRef.as_they_stand.Goals as goal
 
 pub returns : goal.returns
 returns c =

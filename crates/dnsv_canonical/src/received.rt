@@ -1,34 +1,34 @@
-//! RRsets as they stand in messages that lie elsewhere.
+//! RRsets as they stand in messages.
 ghost use Rattle.std.specs.Prelude.{◌≡◌, ◌++◌, ◌+◌, IfOk, OnOk, map, List, ℕ};
 ghost use Rattle.dnsv_message.specs.declared.record.Section.{Section};
 
 use crate::by_rrset::{distinct_rdata, take_rdata};
 use crate::expanded::{Expanded, Sections};
 use crate::section::{is_grouped, rdata_by_rrset, signatures_by_rrset};
-use dnsv_message::{NameRef, Section};
-use dnsv_names::RecordType;
+use dnsv_message::Section;
+use dnsv_names::{Name, RecordType};
 use std::alloc::{AllocError, Global};
 use std::marker::Model;
 
-/// An RRset of a message that lies elsewhere: the IN records of one message, section, owner and type, and the
-/// signatures that cover it there.
+/// An RRset as it was received: the IN records of one message, section, owner and type, and the signatures that
+/// cover it there. Its RDATA stands in the message, or where that is compressed, in the arena.
 ///
 /// Owners are equal without regard to case. Records of the types 0, OPT, RRSIG and 128 to 255 form no RRset, nor
 /// do those of MD, MF, MB, MG, MR, MINFO, RP, AFSDB, RT, SIG, PX, NXT, NAPTR, KX and A6.
 #[derive(Drop)]
-pub struct Draft<'a> {
+pub struct Received<'b> {
     /// The number of its message, from 1 on.
     pub message: usize,
     /// The section that its records stand in.
     pub section: Section,
     /// The owner as its first record spells it.
-    pub owner: &'a NameRef<'a>,
+    pub owner: Name,
     rtype: RecordType,
-    rdata: Vec<&'a [u8]>,
-    signatures: Vec<&'a [u8]>,
+    rdata: Vec<&'b [u8]>,
+    signatures: Vec<&'b [u8]>,
 }
 
-impl<'a> Model for Draft<'a> {
+impl<'b> Model for Received<'b> {
     ghost use Rattle.std.specs.Prelude.{map};
     ghost use Rattle.dnsv_canonical.specs.Rrsets.{ReceivedRrset};
 
@@ -37,14 +37,14 @@ impl<'a> Model for Draft<'a> {
     ghost view = { λ rrset. record {
       message = rrset.message;
       section = rrset.section;
-      owner = rrset.owner.now;
+      owner = rrset.owner;
       rtype = rrset.rtype.0;
       rdata = map (λ r. r.now) rrset.rdata.items;
       signatures = map (λ r. r.now) rrset.signatures.items;
     } };
 }
 
-impl<'a> Draft<'a> {
+impl<'b> Received<'b> {
     /// The type of its records.
     pub fn rtype(&self) -> RecordType
         ensures { result.0 ≡ self.now.rtype }
@@ -53,7 +53,7 @@ impl<'a> Draft<'a> {
     }
 
     /// The RDATA of its records as received, in order.
-    pub fn rdata(&self) -> &[&'a [u8]]
+    pub fn rdata(&self) -> &[&'b [u8]]
         ensures { map (λ r. r.now) result.now ≡ self.now.rdata }
     {
         &self.rdata
@@ -61,7 +61,7 @@ impl<'a> Draft<'a> {
 
     /// The RDATA of the IN RRSIG records of its message, section and owner that cover its type, in order, of equal
     /// ones the first. They are numbered from 1.
-    pub fn signatures(&self) -> &[&'a [u8]]
+    pub fn signatures(&self) -> &[&'b [u8]]
         ensures { map (λ r. r.now) result.now ≡ self.now.signatures }
     {
         &self.signatures
@@ -71,11 +71,11 @@ impl<'a> Draft<'a> {
 ghost use Rattle.dnsv_canonical.specs.Rrsets.{rrsets_in};
 
 /// The RRsets of the message with these sections, which has this number.
-pub fn message_rrsets<'a>(
+pub fn message_rrsets<'b>(
     alloc: Global,
     number: usize,
-    sections: &'a Sections<'_>,
-) -> Result<Vec<Draft<'a>>, AllocError>
+    sections: &Sections<'b>,
+) -> Result<Vec<Received<'b>>, AllocError>
     ensures { IfOk result (λ rrsets. rrsets.items ≡ rrsets_in number Section.Answer sections.now.answer.items
         ++ rrsets_in number Section.Authority sections.now.authority.items
         ++ rrsets_in number Section.Additional sections.now.additional.items) }
@@ -91,12 +91,12 @@ pub fn message_rrsets<'a>(
 }
 
 /// Adds the RRsets of a section.
-fn add_section<'a>(
+fn add_section<'b>(
     alloc: Global,
-    rrsets: &mut Vec<Draft<'a>>,
+    rrsets: &mut Vec<Received<'b>>,
     message: usize,
     section: Section,
-    records: &'a [Expanded<'_>],
+    records: &[Expanded<'b>],
 ) -> Result<(), AllocError>
     ensures { OnOk result (rrsets.new.items ≡ rrsets.old.items ++ rrsets_in message section records.now) }
 {
@@ -111,10 +111,10 @@ fn add_section<'a>(
         // The first record of an RRset takes the RDATA of all, and leaves none to the others.
         let rdata = take_rdata(alloc, &mut data, rtype, owner);
         if !rdata.is_empty() {
-            rrsets.push(Draft {
+            rrsets.push(Received {
                 message,
                 section,
-                owner,
+                owner: owner.to_name(),
                 rtype,
                 rdata,
                 signatures: distinct_rdata(alloc, &signatures, rtype, owner)?,
