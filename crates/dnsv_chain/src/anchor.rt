@@ -11,9 +11,9 @@ use dnsv_verifier::KeyRecord;
 #[derive(Debug, Drop)]
 pub enum Anchor {
     /// A DS record of the owner.
-    Ds { owner: Name, ds: Ds },
+    Ds { owner: Name, ds: Ds<'static> },
     /// The RDATA of a DNSKEY record of the owner.
-    Key { owner: Name, rdata: Octets },
+    Key { owner: Name, rdata: Octets<'static> },
 }
 
 impl Anchor {

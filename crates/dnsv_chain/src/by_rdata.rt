@@ -19,7 +19,7 @@ use std::marker::Model;
 #[derive(Drop)]
 pub struct ByRdata<'a> {
     rdata: &'a [u8],
-    dnskey: &'a Dnskey,
+    dnskey: &'a Dnskey<'a>,
 }
 
 impl<'a> Model for ByRdata<'a> {
@@ -33,7 +33,7 @@ impl<'a> Model for ByRdata<'a> {
 
 impl<'a> ByRdata<'a> {
     /// RDATA and the key that it says.
-    pub fn new(rdata: &'a [u8], dnskey: &'a Dnskey) -> ByRdata<'a>
+    pub fn new(rdata: &'a [u8], dnskey: &'a Dnskey<'a>) -> ByRdata<'a>
         ensures { result ≡ (rdata.now, dnskey.now) }
     {
         ByRdata { rdata, dnskey }
@@ -47,7 +47,7 @@ impl<'a> ByRdata<'a> {
     }
 
     /// The key in memory of its own.
-    pub fn to_dnskey(&self, alloc: Global) -> Result<Dnskey, AllocError>
+    pub fn to_dnskey(&self, alloc: Global) -> Result<Dnskey<'static>, AllocError>
         ensures { IfOk result (λ dnskey. dnskey ≡ self.now.1) }
     {
         Ok(Dnskey {

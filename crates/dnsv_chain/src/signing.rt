@@ -30,7 +30,7 @@ pub fn good_numbers<'a>(
 {
     let mut numbers = Vec::new(alloc);
     for (place, rrsig) in rrset.signatures().iter().enumerate() {
-        if is_good_under_some(alloc, table, rrset, rrsig, at(keys, &rrsig.signer))? {
+        if is_good_under_some(alloc, table, rrset, rrsig, at(keys, &rrsig.signer.to_name()))? {
             numbers.push(place + 1)?;
         }
     }
@@ -62,7 +62,7 @@ fn is_good_under_some(
     alloc: Global,
     table: &Table,
     rrset: &Rrset<'_>,
-    rrsig: &Rrsig,
+    rrsig: &Rrsig<'_>,
     keys: &[KeyRecord<'_>],
 ) -> Result<bool, AllocError>
     ensures { IfOk result (λ good. IsTrue good
@@ -82,28 +82,33 @@ fn is_good_under_some(
 }
 
 /// Whether one of the keys may have made the signature.
-fn has_made_one(keys: &[KeyRecord<'_>], rrsig: &Rrsig) -> bool
+fn has_made_one(keys: &[KeyRecord<'_>], rrsig: &Rrsig<'_>) -> bool
     ensures { IsTrue result ↔ MayHaveMadeOne keys.now rrsig.now }
 {
     keys.iter().any(|key| may_have_made(key, rrsig))
 }
 
 /// Whether one of the keys may have made the signature, and the table says Valid of it over the octets.
-fn is_valid_under_some(table: &Table, rrsig: &Rrsig, octets: &[u8], keys: &[KeyRecord<'_>]) -> bool
+fn is_valid_under_some(
+    table: &Table,
+    rrsig: &Rrsig<'_>,
+    octets: &[u8],
+    keys: &[KeyRecord<'_>],
+) -> bool
     ensures { IsTrue result ↔ IsValidBySome (table_answer table.now) rrsig.now octets.now keys.now }
 {
     keys.iter().any(|key| is_valid(table, rrsig, octets, key))
 }
 
 /// Whether the key may have made the signature, and the table says Valid of it over the octets.
-pub(crate) fn is_valid(table: &Table, rrsig: &Rrsig, octets: &[u8], key: &KeyRecord<'_>) -> bool
+pub(crate) fn is_valid(table: &Table, rrsig: &Rrsig<'_>, octets: &[u8], key: &KeyRecord<'_>) -> bool
     ensures { IsTrue result ↔ IsValidBy (table_answer table.now) rrsig.now octets.now key.now }
 {
     may_have_made(key, rrsig) && says_valid(table, rrsig, octets, key)
 }
 
 /// Whether the table says Valid of the signature over the octets under the key.
-fn says_valid(table: &Table, rrsig: &Rrsig, octets: &[u8], key: &KeyRecord<'_>) -> bool
+fn says_valid(table: &Table, rrsig: &Rrsig<'_>, octets: &[u8], key: &KeyRecord<'_>) -> bool
     ensures { IsTrue result ↔ (table_answer table.now (record {
       algorithm = rrsig.now.algorithm;
       key = key.now.dnskey.key;

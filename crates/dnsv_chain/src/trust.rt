@@ -20,7 +20,7 @@ pub struct ZoneKeys {
     /// The owner of the keys.
     pub zone: Name,
     /// The keys, each once, in the order of their RDATA.
-    pub keys: Vec<Dnskey>,
+    pub keys: Vec<Dnskey<'static>>,
 }
 
 /// The trust that a capture gives, under the anchors and the answers that it was worked out with (RFC 4035 5).
@@ -60,7 +60,7 @@ impl Trust {
 
     /// The keys of the zone's trusted DNSKEY RRsets, each once, in the order of their RDATA as unsigned octets: none
     /// where no such RRset is trusted (RFC 4035 5). It takes no memory.
-    pub fn keys(&self, zone: &Name) -> &[Dnskey]
+    pub fn keys(&self, zone: &Name) -> &[Dnskey<'_>]
         ensures { result.now ≡ keys_of self.now zone.now }
     {
         keys_among(&self.zones, zone)
@@ -80,7 +80,7 @@ impl Trust {
 }
 
 /// The keys that are listed for the zone. Few zones are asked for, so a scan does.
-fn keys_among<'a>(zones: &'a [ZoneKeys], zone: &Name) -> &'a [Dnskey]
+fn keys_among<'a>(zones: &'a [ZoneKeys], zone: &Name) -> &'a [Dnskey<'a>]
     ensures { result.now ≡ keys_among (map (λ each. (each.zone, each.keys.items)) zones.now) zone.now }
 {
     for each in zones {
@@ -106,7 +106,10 @@ fn keys_of_zones(alloc: Global, keys: &TrustedKeys<'_>) -> Result<Vec<ZoneKeys>,
 }
 
 /// The keys of the records, each once, in the order of their RDATA.
-fn distinct_keys(alloc: Global, records: &[KeyRecord<'_>]) -> Result<Vec<Dnskey>, AllocError>
+fn distinct_keys(
+    alloc: Global,
+    records: &[KeyRecord<'_>],
+) -> Result<Vec<Dnskey<'static>>, AllocError>
     ensures { IfOk result (λ keys. AreKeysOf records.now keys.items) }
 {
     let distinct = distinct_records(alloc, records)?;
@@ -130,7 +133,7 @@ fn distinct_records<'a>(
 }
 
 /// The keys in memory of their own.
-fn copies(alloc: Global, keys: &[ByRdata<'_>]) -> Result<Vec<Dnskey>, AllocError>
+fn copies(alloc: Global, keys: &[ByRdata<'_>]) -> Result<Vec<Dnskey<'static>>, AllocError>
     ensures { IfOk result (λ copies. copies.items ≡ map (λ key. key.1) keys.now) }
 {
     let mut copies = Vec::new(alloc);

@@ -74,7 +74,7 @@ fn add_answers(
         → AreAnswers (SecuredIn trust) rrsets name.now answers.new) }
 {
     for (place, rrsig) in rrset.signatures().iter().enumerate() {
-        let zone = &rrsig.signer;
+        let zone = &rrsig.signer.to_name();
         let labels = rrsig.labels as usize;
         if !secured.contains(&(place + 1)) || !is_expanded(rrset.owner(), rrsig) {
             continue;

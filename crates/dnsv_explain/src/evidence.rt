@@ -129,7 +129,7 @@ impl<'a> Evidence<'a> {
         &self,
         alloc: Global,
         rrset: &Rrset<'_>,
-        rrsig: &Rrsig,
+        rrsig: &Rrsig<'_>,
         key: &KeyRecord<'_>,
     ) -> Result<bool, AllocError>
         ensures { IfOk result (λ good. IsTrue good
@@ -144,7 +144,7 @@ impl<'a> Evidence<'a> {
         &self,
         alloc: Global,
         rrset: &Rrset<'_>,
-        rrsig: &Rrsig,
+        rrsig: &Rrsig<'_>,
         key: &KeyRecord<'_>,
     ) -> Result<Todo, AllocError>
         ensures { IfOk result (λ todo. (good : IsGood (table_answer self.now.table) self.now.table.moment rrset.now rrsig.now

@@ -14,7 +14,7 @@ pub fn number_among(
     alloc: Global,
     entries: &Entries,
     rrset: &Rrset<'_>,
-    rrsig: &Rrsig,
+    rrsig: &Rrsig<'_>,
     key: &KeyRecord<'_>,
 ) -> Result<Option<usize>, AllocError>
     ensures { IfOk result (λ number. (entry : Entry) → IsEntryOf rrset.now rrsig.now key.now entry
@@ -27,7 +27,12 @@ pub fn number_among(
 }
 
 /// The number of the entry of the signature over the octets under the key.
-fn number_of(entries: &Entries, rrsig: &Rrsig, octets: &[u8], key: &KeyRecord<'_>) -> Option<usize>
+fn number_of(
+    entries: &Entries,
+    rrsig: &Rrsig<'_>,
+    octets: &[u8],
+    key: &KeyRecord<'_>,
+) -> Option<usize>
     ensures { IsTodo entries.now (record {
       algorithm = rrsig.now.algorithm;
       key = key.now.dnskey.key;
@@ -44,7 +49,12 @@ fn number_of(entries: &Entries, rrsig: &Rrsig, octets: &[u8], key: &KeyRecord<'_
 }
 
 /// Whether the entry is that of the signature over the octets under the key.
-fn is_entry(entry: &BorrowedEntry<'_>, rrsig: &Rrsig, octets: &[u8], key: &KeyRecord<'_>) -> bool
+fn is_entry(
+    entry: &BorrowedEntry<'_>,
+    rrsig: &Rrsig<'_>,
+    octets: &[u8],
+    key: &KeyRecord<'_>,
+) -> bool
     ensures { IsTrue result ↔ ((entry.now.algorithm.0 ≡ rrsig.now.algorithm.0) × (entry.now.key ≡ key.now.dnskey.key)
         × (entry.now.signed_data ≡ octets.now) × (entry.now.signature ≡ rrsig.now.signature)) }
 {

@@ -10,3 +10,4 @@ pub mod Nsec3
 pub mod OctetLaws
 pub mod Reading
 pub mod Rrsig
+pub mod Kept

@@ -11,57 +11,74 @@ use std::alloc::{AllocError, Global};
 use std::cmp::Ordering;
 use std::marker::Model;
 
-/// Octets in memory of their own, as a key, a digest or a signature. They are ordered as unsigned octets from the
-/// left, a missing octet before any other (RFC 4034 6.3).
+/// Where octets are kept.
 #[derive(Debug, Drop)]
-pub struct Octets {
-    octets: Vec<u8>,
+enum Kept<'b> {
+    /// In the RDATA that they were read from.
+    Stands(&'b [u8]),
+    /// In a vector of their own.
+    Written(Vec<u8>),
 }
 
-impl Model for Octets {
+/// Octets, as a key, a digest or a signature, which stand in RDATA or in memory of their own. They are ordered as
+/// unsigned octets from the left, a missing octet before any other (RFC 4034 6.3).
+#[derive(Debug, Drop)]
+pub struct Octets<'b> {
+    kept: Kept<'b>,
+}
+
+impl<'b> Model for Octets<'b> {
+    ghost use Rattle.std.specs.Prelude.{List, ℕ};
+    ghost use Rattle.dnsv_records.specs.Kept.{octets_kept};
+
     ghost Value = { List ℕ };
 
-    ghost view = { λ octets. octets.octets.items };
+    ghost view = { λ octets. octets_kept octets.kept };
 }
 
-impl Octets {
+impl<'b> Octets<'b> {
+    /// These octets, where they stand.
+    pub fn of(octets: &'b [u8]) -> Octets<'b>
+        ensures { result ≡ octets.now }
+    {
+        Octets {
+            kept: Kept::Stands(octets),
+        }
+    }
+
     /// A copy of the octets.
-    pub fn copy_of(alloc: Global, octets: &[u8]) -> Result<Octets, AllocError>
+    pub fn copy_of(alloc: Global, octets: &[u8]) -> Result<Octets<'b>, AllocError>
         ensures { IfOk result (λ copy. copy ≡ octets.now) }
     {
-        Ok(Octets {
-            octets: Vec::from_slice(alloc, octets)?,
-        })
+        Ok(Octets::from_vec(Vec::from_slice(alloc, octets)?))
     }
 
     /// The octets of the vector, which takes no memory.
-    pub fn from_vec(octets: Vec<u8>) -> Octets
+    pub fn from_vec(octets: Vec<u8>) -> Octets<'b>
         ensures { result ≡ octets.items }
     {
-        Octets { octets }
-    }
-
-    /// The vector of the octets, which takes no memory.
-    pub fn into_vec(self) -> Vec<u8>
-        ensures { result.items ≡ self }
-    {
-        self.octets
+        Octets {
+            kept: Kept::Written(octets),
+        }
     }
 
     /// The octets.
     pub fn as_slice(&self) -> &[u8]
         ensures { result.now ≡ self.now }
     {
-        &self.octets
+        match &self.kept {
+            Kept::Stands(slice) => slice,
+            Kept::Written(octets) => octets,
+        }
     }
 }
 
-impl PartialEq for Octets {
+impl PartialEq for Octets<'_> {
     ghost eq = { pointwise nat_eq };
 
     ghost laws = { partial_equiv_from_equiv (lists_equiv nat_eq_equiv) };
 
-    fn eq(&self, other: &Octets) -> bool
+    fn eq(&self, other: &Octets<'_>) -> bool
         ensures value { result ≡ pointwise nat_eq self.now other.now }
         ensures same { IsTrue result ↔ (self.now ≡ other.now) }
     {
@@ -69,11 +86,11 @@ impl PartialEq for Octets {
     }
 }
 
-impl Eq for Octets {
+impl Eq for Octets<'_> {
     ghost laws = { lists_equiv nat_eq_equiv };
 }
 
-impl Ord for Octets {
+impl Ord for Octets<'_> {
     ghost cmp = { octets_cmp };
 
     ghost total = { nat_list_cmp_total };
@@ -82,19 +99,19 @@ impl Ord for Octets {
 
     ghost matches_eq = { texts_ties };
 
-    fn cmp(&self, other: &Octets) -> Ordering
+    fn cmp(&self, other: &Octets<'_>) -> Ordering
         ensures { result ≡ octets_cmp self.now other.now }
     {
         compare_octets(self.as_slice(), other.as_slice())
     }
 }
 
-impl PartialOrd for Octets {
+impl PartialOrd for Octets<'_> {
     ghost partial_cmp = { as_partial_cmp octets_cmp };
 
     ghost laws = { partial_order_from_agreeing_total octets_cmp nat_list_cmp_total (λ a b. refl) texts_ties };
 
-    fn partial_cmp(&self, other: &Octets) -> Option<Ordering> {
+    fn partial_cmp(&self, other: &Octets<'_>) -> Option<Ordering> {
         Some(self.cmp(other))
     }
 }

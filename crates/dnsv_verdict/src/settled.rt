@@ -169,7 +169,7 @@ impl Test for HoldsForName<'_, '_, '_> {
     ghost passes = { λ test rrset rrsig. (rrset.rtype ≡ test.rtype.0)
         × HoldsForName (SecuredIn test.view.now.trust) test.view.now.rrsets test.view.now.name rrset rrsig };
 
-    fn is_passed_by(&self, rrset: &Rrset<'_>, rrsig: &Rrsig) -> bool {
+    fn is_passed_by(&self, rrset: &Rrset<'_>, rrsig: &Rrsig<'_>) -> bool {
         if rrset.rtype() != self.rtype {
             return false;
         }
@@ -177,7 +177,7 @@ impl Test for HoldsForName<'_, '_, '_> {
             return true;
         }
         self.view
-            .no_closer(&rrsig.signer, rrsig.labels as usize)
+            .no_closer(&rrsig.signer.to_name(), rrsig.labels as usize)
             .is_some()
     }
 }
@@ -198,12 +198,12 @@ impl Test for IsOptOutWildcard<'_, '_, '_> {
     ghost passes = { λ test rrset rrsig. (rrset.rtype ≡ test.rtype.0)
         × IsOptOutWildcard (SecuredIn test.view.now.trust) test.view.now.rrsets test.view.now.name rrset rrsig };
 
-    fn is_passed_by(&self, rrset: &Rrset<'_>, rrsig: &Rrsig) -> bool {
+    fn is_passed_by(&self, rrset: &Rrset<'_>, rrsig: &Rrsig<'_>) -> bool {
         if rrset.rtype() != self.rtype || !is_expanded(rrset.owner(), rrsig) {
             return false;
         }
         self.view
-            .loose_closer(&rrsig.signer, rrsig.labels as usize)
+            .loose_closer(&rrsig.signer.to_name(), rrsig.labels as usize)
             .is_some()
     }
 }

@@ -21,11 +21,11 @@ pub struct Entry {
     /// The number of the algorithm (RFC 4034 A.1).
     pub algorithm: Algorithm,
     /// The public key, as the field of a DNSKEY record has it (RFC 4034 2.1.4).
-    pub key: Octets,
+    pub key: Octets<'static>,
     /// The octets that are signed (RFC 4034 3.1.8.1).
-    pub signed_data: Octets,
+    pub signed_data: Octets<'static>,
     /// The signature, as the field of an RRSIG record has it (RFC 4034 3.1.8).
-    pub signature: Octets,
+    pub signature: Octets<'static>,
 }
 
 impl Entry {

@@ -9,7 +9,7 @@ use std::alloc::{AllocError, Global};
 
 /// The octets that a field of a text file says: two hex digits for each, in either case, or `-` for no
 /// octets. `None` where it says none. Memory is asked for only where it says octets.
-pub fn hex_octets(alloc: Global, field: &[u8]) -> Result<Option<Octets>, AllocError>
+pub fn hex_octets(alloc: Global, field: &[u8]) -> Result<Option<Octets<'static>>, AllocError>
     ensures value { IfOk result (λ octets. octets ≡ hex_value field.now) }
     ensures refused { OnErr result (IsSome (hex_value field.now)) }
 {
@@ -55,7 +55,7 @@ fn is_digit(octet: u8) -> bool
 }
 
 /// The octets of pairs of hex digits.
-pub(crate) fn decoded(alloc: Global, digits: &[u8]) -> Result<Octets, AllocError>
+pub(crate) fn decoded(alloc: Global, digits: &[u8]) -> Result<Octets<'static>, AllocError>
     requires { IsOk (decode_of digits.now) }
     ensures { IfOk result (λ octets. decode_of digits.now ≡ Ok octets) }
 {

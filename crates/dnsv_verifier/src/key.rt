@@ -11,7 +11,7 @@ ghost use Rattle.dnsv_verifier.specs.Numbers.{key_of, part_of_key};
 
 use crate::entry::parts::{KeyPart, Parts};
 use crate::key::numbered::Numbered;
-use dnsv_names::Name;
+use dnsv_names::{Name, WireName};
 use dnsv_records::{Algorithm, Dnskey, KeyTag, Octets, key_tag};
 use std::alloc::{AllocError, Global};
 use std::cmp::Ordering;
@@ -23,7 +23,7 @@ use std::marker::Model;
 pub struct KeyRecord<'a> {
     owner: &'a Name,
     rdata: &'a [u8],
-    dnskey: &'a Dnskey,
+    dnskey: &'a Dnskey<'a>,
     key_tag: KeyTag,
 }
 
@@ -46,7 +46,7 @@ impl<'a> Model for KeyRecord<'a> {
 
 impl<'a> KeyRecord<'a> {
     /// The record of this owner and RDATA. `dnskey` has to be what was read of that RDATA.
-    pub fn new(owner: &'a Name, rdata: &'a [u8], dnskey: &'a Dnskey) -> KeyRecord<'a>
+    pub fn new(owner: &'a Name, rdata: &'a [u8], dnskey: &'a Dnskey<'a>) -> KeyRecord<'a>
         requires { IsDnskey rdata.now dnskey.now }
         ensures { result ≡ record { owner = owner.now; rdata = rdata.now; dnskey = dnskey.now } }
     {
@@ -73,7 +73,7 @@ impl<'a> KeyRecord<'a> {
     }
 
     /// What the RDATA says.
-    pub fn dnskey(&self) -> &Dnskey
+    pub fn dnskey(&self) -> &Dnskey<'_>
         ensures { result.now ≡ self.now.dnskey }
     {
         self.dnskey
@@ -142,6 +142,6 @@ impl<'a> KeyRecord<'a> {
     pub(crate) fn with_number(&self, number: u32) -> Numbered<'a>
         ensures { result ≡ record { name = name_of_key self.now; number = number } }
     {
-        Numbered::new(self.key_tag, self.dnskey.algorithm, self.owner, number)
+        Numbered::new(self.key_tag, self.dnskey.algorithm, WireName::of(self.owner), number)
     }
 }

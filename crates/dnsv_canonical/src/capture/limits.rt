@@ -81,11 +81,11 @@ fn has_few_keys(alloc: Global, received: &[&[u8]]) -> Result<bool, AllocError>
 
 /// The parameters of the RRsets' NSEC3 records that can be used, each once, but for those that are kept. The ninth
 /// are refused where they are met, so that no more than 8 are ever held.
-pub fn fresh_parameters(
+pub fn fresh_parameters<'b>(
     alloc: Global,
-    kept: &[Nsec3Parameters],
-    rrsets: &[Rrset<'_>],
-) -> Result<Vec<Nsec3Parameters>, CaptureError>
+    kept: &[Nsec3Parameters<'b>],
+    rrsets: &[Rrset<'b>],
+) -> Result<Vec<Nsec3Parameters<'b>>, CaptureError>
     ensures all { IfOk result (λ fresh. (earlier : List (List ℕ)) → AreParameters earlier kept.now
         → AreParameters (earlier ++ nsec3_rdata rrsets.now) (kept.now ++ fresh.items)) }
     ensures few { IfOk result (λ fresh. length kept.now ≤ 8 → length (kept.now ++ fresh.items) ≤ 8) }
@@ -100,11 +100,11 @@ pub fn fresh_parameters(
 }
 
 /// Adds the parameters of the RRset, where it has NSEC3 records, that are not among the others.
-fn add_rrset(
+fn add_rrset<'b>(
     alloc: Global,
-    kept: &[Nsec3Parameters],
-    fresh: &mut Vec<Nsec3Parameters>,
-    rrset: &Rrset<'_>,
+    kept: &[Nsec3Parameters<'b>],
+    fresh: &mut Vec<Nsec3Parameters<'b>>,
+    rrset: &Rrset<'b>,
 ) -> Result<(), CaptureError>
     ensures all { OnOk result ((earlier : List (List ℕ)) → AreParameters earlier (kept.now ++ fresh.old.items)
         → AreParameters (earlier ++ nsec3_rdata (rrset.now ∷ [])) (kept.now ++ fresh.new.items)) }
@@ -117,11 +117,11 @@ fn add_rrset(
 }
 
 /// Adds the parameters of NSEC3 records that are not among the others.
-fn add_records(
+fn add_records<'b>(
     alloc: Global,
-    kept: &[Nsec3Parameters],
-    fresh: &mut Vec<Nsec3Parameters>,
-    nsec3s: &[Nsec3],
+    kept: &[Nsec3Parameters<'b>],
+    fresh: &mut Vec<Nsec3Parameters<'b>>,
+    nsec3s: &[Nsec3<'b>],
 ) -> Result<(), CaptureError>
     ensures all { OnOk result ((earlier received : List (List ℕ)) → AllZip IsNsec3 received nsec3s.now
         → AreParameters earlier (kept.now ++ fresh.old.items)
@@ -139,11 +139,11 @@ fn add_records(
 }
 
 /// Adds the parameters of an NSEC3 record, if it can be used and they are not among the others. The ninth are refused.
-fn add_record(
+fn add_record<'b>(
     alloc: Global,
-    kept: &[Nsec3Parameters],
-    fresh: &mut Vec<Nsec3Parameters>,
-    nsec3: &Nsec3,
+    kept: &[Nsec3Parameters<'b>],
+    fresh: &mut Vec<Nsec3Parameters<'b>>,
+    nsec3: &Nsec3<'b>,
 ) -> Result<(), CaptureError>
     ensures all { OnOk result ((earlier : List (List ℕ)) (rdata : List ℕ) → IsNsec3 rdata nsec3.now
         → AreParameters earlier (kept.now ++ fresh.old.items)
@@ -173,10 +173,10 @@ fn add_record(
 }
 
 /// Whether the parameters are among those of the two lists.
-fn is_among(
-    kept: &[Nsec3Parameters],
-    fresh: &[Nsec3Parameters],
-    parameters: &Nsec3Parameters,
+fn is_among<'b>(
+    kept: &[Nsec3Parameters<'b>],
+    fresh: &[Nsec3Parameters<'b>],
+    parameters: &Nsec3Parameters<'b>,
 ) -> bool
     ensures { IsTrue result ↔ Contains (kept.now ++ fresh.now) parameters.now }
 {

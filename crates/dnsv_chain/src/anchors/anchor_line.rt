@@ -69,7 +69,7 @@ fn ds_of(
     algorithm: &[u8],
     digest_type: &[u8],
     digest: &[u8],
-) -> Result<Option<Ds>, AllocError>
+) -> Result<Option<Ds<'static>>, AllocError>
     ensures found { IfOk result (λ found. MatchOption found
         ((ds : Ds) → IsDsText key_tag.now algorithm.now digest_type.now digest.now ds → ⊥)
         (IsDsText key_tag.now algorithm.now digest_type.now digest.now)) }
@@ -103,7 +103,7 @@ fn dnskey_of(
     protocol: &[u8],
     algorithm: &[u8],
     key: &[u8],
-) -> Result<Option<Octets>, AllocError>
+) -> Result<Option<Octets<'static>>, AllocError>
     ensures found { IfOk result (λ found. MatchOption found
         ((rdata : List ℕ) → IsDnskeyText flags.now protocol.now algorithm.now key.now rdata → ⊥)
         (IsDnskeyText flags.now protocol.now algorithm.now key.now)) }
@@ -133,7 +133,7 @@ fn dnskey_rdata(
     protocol: u8,
     algorithm: u8,
     key: &[u8],
-) -> Result<Octets, AllocError>
+) -> Result<Octets<'static>, AllocError>
     ensures { IfOk result (λ rdata. rdata ≡ to_be_bytes w16 flags ++ protocol ∷ algorithm ∷ key.now) }
 {
     let mut rdata = Vec::from_slice(alloc, &flags.to_be_bytes())?;

@@ -16,7 +16,7 @@ pub fn is_good(
     alloc: Global,
     table: &Table,
     rrset: &Rrset<'_>,
-    rrsig: &Rrsig,
+    rrsig: &Rrsig<'_>,
     key: &KeyRecord<'_>,
 ) -> Result<bool, AllocError>
     ensures { IfOk result (λ good. IsTrue good

@@ -104,7 +104,7 @@ fn usable_entry<'a>(
     number: RecordNumber,
     owner: &'a Name,
     hash: Hash20,
-    nsec3: &'a Nsec3,
+    nsec3: &'a Nsec3<'a>,
 ) -> Option<Nsec3Entry<'a>>
     ensures { MatchOption result (¬ IsUsable nsec3.now) (λ entry. IsEntryOf number owner.now hash nsec3.now entry) }
 {

@@ -11,8 +11,8 @@ use std::alloc::{AllocError, Global};
 /// The parameters in their order, by iterations and then by salt, each once.
 pub fn parameters_in_order<'a>(
     alloc: Global,
-    all: &'a [Nsec3Parameters],
-) -> Result<Vec<&'a Nsec3Parameters>, AllocError>
+    all: &'a [Nsec3Parameters<'a>],
+) -> Result<Vec<&'a Nsec3Parameters<'a>>, AllocError>
     ensures order { IfOk result (λ ordered. IsStrictlySortedBy parameters_cmp
         (map parameters_of (map (λ each. each.now) ordered.items))) }
     ensures members { IfOk result (λ ordered. (each : Nsec3Parameters) → Contains all.now each

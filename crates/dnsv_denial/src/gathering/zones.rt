@@ -76,7 +76,7 @@ fn zone_records<'a>(
 /// `count` grows by how often something is hashed.
 pub fn sets_of<'a>(
     alloc: Global,
-    all: &'a [Nsec3Parameters],
+    all: &'a [Nsec3Parameters<'a>],
     name: &Name,
     count: &mut Count,
 ) -> Result<Vec<NameHashes<'a>>, AllocError>

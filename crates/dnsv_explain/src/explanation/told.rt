@@ -96,7 +96,7 @@ pub fn add_set(
         return Ok(());
     }
     let view = at.view(alloc)?;
-    let Some(shown) = view.shown_no_closer(&rrsig.signer, rrsig.labels as usize) else {
+    let Some(shown) = view.shown_no_closer(&rrsig.signer.to_name(), rrsig.labels as usize) else {
         return Ok(());
     };
     add_denial(alloc, evidence, lines, at.name, &shown)?;

@@ -21,7 +21,7 @@ pub fn best_answer(
     evidence: &Evidence<'_>,
     keys: &[KeyRecord<'_>],
     rrset: &Rrset<'_>,
-    rrsig: &Rrsig,
+    rrsig: &Rrsig<'_>,
 ) -> Result<Option<Answer>, AllocError>
     ensures { IfOk result (IsBestOf (IsAnswered (IsNamedIn keys.now rrsig.now) (setting_in evidence.now) rrset.now
         rrsig.now)) }
@@ -37,7 +37,12 @@ pub fn best_answer(
 }
 
 /// The best answer over the octets.
-fn best_over(table: &Table, keys: &[KeyRecord<'_>], rrsig: &Rrsig, octets: &[u8]) -> Option<Answer>
+fn best_over(
+    table: &Table,
+    keys: &[KeyRecord<'_>],
+    rrsig: &Rrsig<'_>,
+    octets: &[u8],
+) -> Option<Answer>
     ensures { IsBestOf (IsAnsweredBySome (table_answer table.now) rrsig.now octets.now keys.now) result }
 {
     if is_answered(table, keys, rrsig, octets, Answer::Valid) {
@@ -56,7 +61,7 @@ fn best_over(table: &Table, keys: &[KeyRecord<'_>], rrsig: &Rrsig, octets: &[u8]
 fn is_answered(
     table: &Table,
     keys: &[KeyRecord<'_>],
-    rrsig: &Rrsig,
+    rrsig: &Rrsig<'_>,
     octets: &[u8],
     answer: Answer,
 ) -> bool
@@ -70,7 +75,7 @@ fn is_answered(
 fn is_answered_by(
     table: &Table,
     key: &KeyRecord<'_>,
-    rrsig: &Rrsig,
+    rrsig: &Rrsig<'_>,
     octets: &[u8],
     answer: Answer,
 ) -> bool
@@ -80,7 +85,13 @@ fn is_answered_by(
 }
 
 /// Whether the table answers so of the signature over the octets, under the key.
-fn says(table: &Table, key: &KeyRecord<'_>, rrsig: &Rrsig, octets: &[u8], answer: Answer) -> bool
+fn says(
+    table: &Table,
+    key: &KeyRecord<'_>,
+    rrsig: &Rrsig<'_>,
+    octets: &[u8],
+    answer: Answer,
+) -> bool
     ensures { IsTrue result ↔ (table_answer table.now (entry_over rrsig.now octets.now key.now) ≡ answer) }
 {
     let given = table.answer(

@@ -31,7 +31,7 @@ pub fn remark_of(
     keys: &[KeyRecord<'_>],
     known: bool,
     rrset: &Rrset<'_>,
-    rrsig: &Rrsig,
+    rrsig: &Rrsig<'_>,
 ) -> Result<Remark, AllocError>
     requires all { AreKeysOf evidence.now.rrsets keys.now }
     requires known { IsTrue known ↔ HasKeyAt keys.now rrsig.now.signer }
@@ -59,10 +59,10 @@ fn remark_for(best: Option<Answer>, good: Remark) -> Remark
 }
 
 /// What is said of a signature that is good under a key, and under no trusted one.
-fn good_remark(evidence: &Evidence<'_>, rrsig: &Rrsig) -> Remark
+fn good_remark(evidence: &Evidence<'_>, rrsig: &Rrsig<'_>) -> Remark
     ensures { IsGoodRemark (setting_in evidence.now) rrsig.now.signer result }
 {
-    if evidence.is_trusted_zone(&rrsig.signer) {
+    if evidence.is_trusted_zone(&rrsig.signer.to_name()) {
         return Remark::Fault(WhySignature::KeyUntrusted);
     }
     Remark::Untrusted

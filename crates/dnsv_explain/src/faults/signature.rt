@@ -33,7 +33,7 @@ pub fn add_signature(
     lines: &mut Vec<Line>,
     number: SignatureNumber,
     rrset: &Rrset<'_>,
-    rrsig: &Rrsig,
+    rrsig: &Rrsig<'_>,
 ) -> Result<(), AllocError>
     requires keys { AreKeysOf evidence.now.rrsets keys.now }
     requires unsecured { ¬ HasSecured (setting_in evidence.now) number.rrset }
@@ -42,7 +42,7 @@ pub fn add_signature(
     ensures { OnOk result (AddsThose (AreSignatureLines (setting_in evidence.now) number.rrset number.signature rrset.now
         rrsig.now) lines.old.items lines.new.items) }
 {
-    let known = has_keys(keys, &rrsig.signer);
+    let known = has_keys(keys, &rrsig.signer.to_name());
     let faults = faults_of(alloc, evidence, keys, known, rrset, rrsig)?;
     if !faults.is_empty() {
         add_faults(lines, number, rrset, rrsig, &faults)?;
@@ -58,7 +58,7 @@ pub fn add_faults(
     lines: &mut Vec<Line>,
     number: SignatureNumber,
     rrset: &Rrset<'_>,
-    rrsig: &Rrsig,
+    rrsig: &Rrsig<'_>,
     faults: &[WhySignature],
 ) -> Result<(), AllocError>
     ensures { OnOk result (lines.new.items ≡ lines.old.items
@@ -75,7 +75,7 @@ fn add_fault(
     lines: &mut Vec<Line>,
     number: SignatureNumber,
     rrset: &Rrset<'_>,
-    rrsig: &Rrsig,
+    rrsig: &Rrsig<'_>,
     why: WhySignature,
 ) -> Result<(), AllocError>
     ensures { OnOk result (lines.new.items ≡ lines.old.items
@@ -91,7 +91,7 @@ fn add_remark(
     lines: &mut Vec<Line>,
     number: SignatureNumber,
     rrset: &Rrset<'_>,
-    rrsig: &Rrsig,
+    rrsig: &Rrsig<'_>,
     remark: Remark,
 ) -> Result<(), AllocError>
     ensures { OnOk result (lines.new.items ≡ lines.old.items
@@ -110,7 +110,7 @@ fn add_untrusted(
     lines: &mut Vec<Line>,
     number: SignatureNumber,
     rrset: &Rrset<'_>,
-    rrsig: &Rrsig,
+    rrsig: &Rrsig<'_>,
 ) -> Result<(), AllocError>
     ensures { OnOk result (lines.new.items ≡ lines.old.items
         ++ follows_line (shown_of number.rrset number.signature rrset.now rrsig.now) ∷ []) }
@@ -124,7 +124,7 @@ fn add_untrusted(
 pub fn shown(
     number: SignatureNumber,
     rrset: &Rrset<'_>,
-    rrsig: &Rrsig,
+    rrsig: &Rrsig<'_>,
 ) -> Result<ShownSignature, AllocError>
     ensures { IfOk result (λ shown. shown ≡ shown_of number.rrset number.signature rrset.now rrsig.now) }
 {
@@ -136,6 +136,6 @@ pub fn shown(
             tag: rrsig.key_tag,
             algorithm: rrsig.algorithm,
         },
-        signer: rrsig.signer.clone()?,
+        signer: rrsig.signer.to_name(),
     })
 }

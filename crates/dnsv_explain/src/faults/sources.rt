@@ -61,7 +61,7 @@ fn add_zones(
     speaker: usize,
     lines: &mut Vec<Line>,
     rtype: RecordType,
-    parameters: &[&Nsec3Parameters],
+    parameters: &[&Nsec3Parameters<'_>],
 ) -> Result<(), AllocError>
     requires at { IsAt evidence.now at.now }
     requires speaker { speaker ≤ length at.now.name.now }
@@ -87,7 +87,7 @@ fn add_zone(
     speaker: usize,
     lines: &mut Vec<Line>,
     rtype: RecordType,
-    parameters: &[&Nsec3Parameters],
+    parameters: &[&Nsec3Parameters<'_>],
     labels: usize,
 ) -> Result<(), AllocError>
     requires at { IsAt evidence.now at.now }

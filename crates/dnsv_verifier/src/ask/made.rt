@@ -17,7 +17,7 @@ use std::rc::Rc;
 /// A signature that lies elsewhere, with what it gives to its entries.
 #[derive(Drop)]
 pub(crate) struct Made<'a> {
-    pub(crate) rrsig: &'a Rrsig,
+    pub(crate) rrsig: &'a Rrsig<'a>,
     pub(crate) part: Rc<SignaturePart>,
 }
 
@@ -35,7 +35,7 @@ impl<'a> Made<'a> {
         ensures { result ≡ record { name = named_by self.now.rrsig; number = number } }
     {
         let rrsig = self.rrsig;
-        Numbered::new(rrsig.key_tag, rrsig.algorithm, &rrsig.signer, number)
+        Numbered::new(rrsig.key_tag, rrsig.algorithm, rrsig.signer.copied(), number)
     }
 }
 
@@ -77,7 +77,7 @@ fn add_signature<'a>(
     moment: u64,
     keys: &Keys<'_>,
     rrset: &Rrset<'_>,
-    rrsig: &'a Rrsig,
+    rrsig: &'a Rrsig<'a>,
     made: &mut Vec<Made<'a>>,
 ) -> Result<(), AllocError>
     ensures { OnOk result (AddsJust (IsMadeOf moment keys.now rrset.now rrsig.now) made.old.items made.new.items) }
@@ -99,21 +99,25 @@ fn add_signature<'a>(
 }
 
 /// Whether one of the keys may have made the signature.
-fn is_made_by_some(keys: &Keys<'_>, rrsig: &Rrsig) -> bool
+fn is_made_by_some(keys: &Keys<'_>, rrsig: &Rrsig<'_>) -> bool
     ensures { IsTrue result ↔ IsMadeBySome keys.now rrsig.now }
 {
     is_made_by_one(keys.named_by(rrsig), rrsig)
 }
 
 /// Whether one of these keys may have made the signature.
-fn is_made_by_one(keys: &[KeyRecord<'_>], rrsig: &Rrsig) -> bool
+fn is_made_by_one(keys: &[KeyRecord<'_>], rrsig: &Rrsig<'_>) -> bool
     ensures { IsTrue result ↔ IsMadeBySome keys.now rrsig.now }
 {
     keys.iter().any(|key| may_have_made(key, rrsig))
 }
 
 /// What the signature gives to its entries. `None` where Labels is above the owner's count of labels.
-fn part_of(alloc: Global, rrset: &Rrset<'_>, rrsig: &Rrsig) -> Result<Option<SignaturePart>, AllocError>
+fn part_of(
+    alloc: Global,
+    rrset: &Rrset<'_>,
+    rrsig: &Rrsig<'_>,
+) -> Result<Option<SignaturePart>, AllocError>
     ensures { IfOk result (λ found. MatchOption found (signed_label_count rrset.now.owner < rrsig.now.labels)
         (IsPartOf rrset.now rrsig.now)) }
 {

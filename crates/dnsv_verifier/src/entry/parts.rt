@@ -19,7 +19,7 @@ const LIMIT: usize = 1 << 32;
 #[derive(Debug, PartialEq, Eq, PartialOrd, Ord, Drop)]
 pub(crate) struct KeyPart {
     pub(crate) algorithm: Algorithm,
-    pub(crate) key: Octets,
+    pub(crate) key: Octets<'static>,
 }
 
 impl KeyPart {
@@ -39,8 +39,8 @@ impl KeyPart {
 /// signature.
 #[derive(Debug, PartialEq, Eq, PartialOrd, Ord, Drop)]
 pub(crate) struct SignaturePart {
-    pub(crate) signed_data: Octets,
-    pub(crate) signature: Octets,
+    pub(crate) signed_data: Octets<'static>,
+    pub(crate) signature: Octets<'static>,
 }
 
 /// An entry by the numbers of its parts. Entries rise as their numbers do, that of the key first.

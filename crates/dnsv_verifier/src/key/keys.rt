@@ -46,19 +46,20 @@ impl<'a> Keys<'a> {
     }
 
     /// The keys that the signature names.
-    pub(crate) fn named_by(&self, rrsig: &Rrsig) -> &[KeyRecord<'a>]
+    pub(crate) fn named_by(&self, rrsig: &Rrsig<'_>) -> &[KeyRecord<'a>]
         ensures among { (key : DnskeyRecord) → Contains result.now key → Contains self.now key }
         ensures all { (key : DnskeyRecord) → Contains self.now key → MayHaveMade key rrsig.now
             → Contains result.now key }
     {
         let keys = self.keys.as_slice();
+        let signer = &rrsig.signer.to_name();
         let start = keys.partition_point(|key| {
-            key.compared(rrsig.key_tag, rrsig.algorithm, &rrsig.signer)
+            key.compared(rrsig.key_tag, rrsig.algorithm, signer)
                 .is_lt()
         });
         let keys = &keys[start..];
         let count = keys.partition_point(|key| {
-            key.compared(rrsig.key_tag, rrsig.algorithm, &rrsig.signer)
+            key.compared(rrsig.key_tag, rrsig.algorithm, signer)
                 .is_le()
         });
         &keys[..count]
@@ -66,7 +67,10 @@ impl<'a> Keys<'a> {
 }
 
 /// The keys of all RRsets, whatever message they came in.
-pub fn all_keys<'a>(alloc: Global, rrsets: &'a [Rrset<'a>]) -> Result<Vec<KeyRecord<'a>>, AllocError>
+pub fn all_keys<'a>(
+    alloc: Global,
+    rrsets: &'a [Rrset<'a>],
+) -> Result<Vec<KeyRecord<'a>>, AllocError>
     ensures { IfOk result (λ keys. AreKeysOf rrsets.now keys.items) }
 {
     let mut keys = Vec::new(alloc);

@@ -17,7 +17,7 @@ use std::alloc::{AllocError, Global};
 #[derive(Clone, Copy)]
 pub enum Matcher<'a> {
     Anchor(&'a Anchor),
-    Ds(&'a Name, &'a Ds),
+    Ds(&'a Name, &'a Ds<'a>),
 }
 
 impl Matcher<'_> {

@@ -140,7 +140,7 @@ fn add_signers(rrset: &Rrset<'_>, name: &Name, numbers: &mut Vec<usize>) -> Resu
     ensures { OnOk result (AddsJust (IsAbove name.now (HasSigner rrset.now)) numbers.old.items numbers.new.items) }
 {
     for rrsig in rrset.signatures() {
-        add_signer(name, &rrsig.signer, numbers)?;
+        add_signer(name, &rrsig.signer.to_name(), numbers)?;
     }
     Ok(())
 }

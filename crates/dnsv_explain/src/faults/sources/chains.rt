@@ -58,7 +58,7 @@ pub fn add_nsec3s(
     zone: &Name,
     speaks: bool,
     nsec3s: &[Nsec3Entry<'_>],
-    parameters: &[&Nsec3Parameters],
+    parameters: &[&Nsec3Parameters<'_>],
 ) -> Result<(), AllocError>
     requires zone { IsZoneFor at.now zone.now }
     requires parameters { AreAllParameters at.now.hashes.now.rrsets (map (λ each. each.now) parameters.now) }
@@ -82,7 +82,7 @@ fn add_nsec3_chain(
     zone: &Name,
     speaks: bool,
     nsec3s: &[Nsec3Entry<'_>],
-    parameters: &Nsec3Parameters,
+    parameters: &Nsec3Parameters<'_>,
 ) -> Result<(), AllocError>
     requires zone { IsZoneFor at.now zone.now }
     requires made { AreUsed at.now.hashes.now.rrsets (parameters_of parameters.now) }
@@ -103,7 +103,7 @@ fn add_nsec3_chain(
 }
 
 /// Whether one of the records has hashes with the parameters.
-fn has_records(nsec3s: &[Nsec3Entry<'_>], parameters: &Nsec3Parameters) -> bool
+fn has_records(nsec3s: &[Nsec3Entry<'_>], parameters: &Nsec3Parameters<'_>) -> bool
     ensures { IsTrue result ↔ HasEntry (λ entry. (read_nsec3 entry).parameters ≡ parameters_of parameters.now) nsec3s.now }
 {
     for entry in nsec3s {

@@ -56,7 +56,7 @@ fn add_record(
 }
 
 /// The first that is among the types: the one asked, or CNAME; where DS is asked, SOA.
-fn held(types: &TypeBitmap, rtype: RecordType) -> Option<RecordType>
+fn held(types: &TypeBitmap<'_>, rtype: RecordType) -> Option<RecordType>
     ensures { IsHeld (IsInBitmap (λ t. set.contains types.now t)) rtype.0 result }
 {
     if types.contains(rtype) {
@@ -110,7 +110,7 @@ pub fn add_fault(
 fn told_parameters(
     alloc: Global,
     entries: ChainEntries<'_>,
-) -> Result<Option<Nsec3Parameters>, AllocError>
+) -> Result<Option<Nsec3Parameters<'static>>, AllocError>
     ensures { IfOk result (λ told. told ≡ told_parameters entries.entry) }
 {
     let ChainEntries::Nsec3(_, parameters) = entries else {

@@ -19,7 +19,7 @@ use std::alloc::AllocError;
 #[derive(Clone, Copy)]
 pub enum Lead<'a> {
     /// A DS record, of a trust anchor, or of a DS RRset beside these records.
-    Digest(EntryNumber, &'a [Ds], &'a Ds),
+    Digest(EntryNumber, &'a [Ds<'a>], &'a Ds<'a>),
     /// The RDATA of a DNSKEY record, of the trust anchor with the number.
     Key(usize, &'a [u8]),
 }
@@ -143,21 +143,21 @@ fn algorithm_in(rdata: &[u8]) -> u8
 }
 
 /// Whether the key has the tag and the algorithm of the DS record.
-fn names(ds: &Ds, key: &KeyRecord<'_>) -> bool
+fn names(ds: &Ds<'_>, key: &KeyRecord<'_>) -> bool
     ensures { IsTrue result ↔ IsNamed key.now (record { tag = ds.now.key_tag; algorithm = ds.now.algorithm }) }
 {
     ds.key_tag.0 == key.key_tag().0 && ds.algorithm.0 == key.dnskey().algorithm.0
 }
 
 /// Whether the DS record matches the key, by its own owner.
-fn has_digest_of(ds: &Ds, key: &KeyRecord<'_>) -> bool
+fn has_digest_of(ds: &Ds<'_>, key: &KeyRecord<'_>) -> bool
     ensures { IsTrue result ↔ IsMatch key.now.owner ds.now key.now }
 {
     is_match(key.owner(), ds, key)
 }
 
 /// Whether one of the records has a stronger digest type, of those that are supported.
-fn is_ignored(records: &[Ds], ds: &Ds) -> bool
+fn is_ignored(records: &[Ds<'_>], ds: &Ds<'_>) -> bool
     ensures { IsTrue result ↔ IsIgnored records.now ds.now }
 {
     records

@@ -59,7 +59,7 @@ pub fn add_key(
 }
 
 /// Whether one of the signatures has the key's tag and algorithm.
-fn has_signature_of(signatures: &[Rrsig], key: &KeyRecord<'_>) -> bool
+fn has_signature_of(signatures: &[Rrsig<'_>], key: &KeyRecord<'_>) -> bool
     ensures { IsTrue result ↔ HasSignatureOf signatures.now key.now }
 {
     signatures.iter().any(|rrsig| is_named_by(key, rrsig))

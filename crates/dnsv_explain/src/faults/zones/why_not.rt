@@ -35,7 +35,7 @@ pub fn add_named(
     number: SignatureNumber,
     set: &Rrset<'_>,
     key: &KeyRecord<'_>,
-    rrsig: &Rrsig,
+    rrsig: &Rrsig<'_>,
 ) -> Result<(), AllocError>
     requires keys { AreKeysOf evidence.now.rrsets keys.now }
     requires set { IsNumbered evidence.now.rrsets number.rrset set.now }
@@ -52,7 +52,7 @@ pub fn add_named(
 }
 
 /// Whether the signature has the key's tag and algorithm.
-pub fn is_named_by(key: &KeyRecord<'_>, rrsig: &Rrsig) -> bool
+pub fn is_named_by(key: &KeyRecord<'_>, rrsig: &Rrsig<'_>) -> bool
     ensures { IsTrue result ↔ IsNamed key.now (named_by rrsig.now) }
 {
     rrsig.key_tag.0 == key.key_tag().0 && rrsig.algorithm.0 == key.dnskey().algorithm.0
@@ -66,18 +66,18 @@ fn why_not_good(
     keys: &[KeyRecord<'_>],
     set: &Rrset<'_>,
     key: &KeyRecord<'_>,
-    rrsig: &Rrsig,
+    rrsig: &Rrsig<'_>,
 ) -> Result<Vec<WhySignature>, AllocError>
     requires keys { AreKeysOf evidence.now.rrsets keys.now }
     requires among { IsKeyAmong evidence.now.rrsets key.now }
     requires named { IsNamed key.now (named_by rrsig.now) }
     ensures { IfOk result (λ whys. AreWhyNotGood (setting_in evidence.now) key.now set.now rrsig.now whys.items) }
 {
-    if are_equal(&rrsig.signer, key.owner()) {
+    if are_equal(&rrsig.signer.to_name(), key.owner()) {
         let one = std::slice::from_ref(key);
         return Ok(whys_of(alloc, evidence, one, true, set, rrsig)?);
     }
-    let known = has_keys(keys, &rrsig.signer);
+    let known = has_keys(keys, &rrsig.signer.to_name());
     Ok(whys_of(alloc, evidence, keys, known, set, rrsig)?)
 }
 
@@ -88,7 +88,7 @@ fn whys_of(
     keys: &[KeyRecord<'_>],
     known: bool,
     set: &Rrset<'_>,
-    rrsig: &Rrsig,
+    rrsig: &Rrsig<'_>,
 ) -> Result<Vec<WhySignature>, AllocError>
     ensures { IfOk result (λ whys. AreWhys (IsNamedIn keys.now rrsig.now) (IsTrue known) (setting_in evidence.now) set.now
         rrsig.now whys.items) }

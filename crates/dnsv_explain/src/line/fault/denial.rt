@@ -112,7 +112,7 @@ impl fmt::Display for IterationsField {
 pub struct Source {
     pub zone: Name,
     /// Where they are of NSEC3.
-    pub parameters: Option<Nsec3Parameters>,
+    pub parameters: Option<Nsec3Parameters<'static>>,
 }
 
 impl fmt::Display for Source {

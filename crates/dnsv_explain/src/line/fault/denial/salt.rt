@@ -9,7 +9,7 @@ use std::fmt;
 /// A salt as octets in lower case hex, `-` where it has none (RFC 5155 3.3).
 #[derive(Clone, Copy)]
 pub struct SaltText<'a> {
-    pub salt: &'a Octets,
+    pub salt: &'a Octets<'a>,
 }
 
 impl<'a> fmt::Display for SaltText<'a> {

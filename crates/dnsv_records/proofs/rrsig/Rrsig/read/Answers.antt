@@ -9,7 +9,7 @@ returns-clause-found c =
     let rdata = c.args.rdata.now in
     let n = c.in-Some.length in
     let spelled : take n (drop 18 rdata) ≡ wire c.in-Some.signer = ap (take n) (sym (take_rest rdata 18)) ∙ c.in-Some.ensures.spelling in
-    let signature : c.in_ok-signature.signature ≡ drop (18 + n) rdata = c.in_ok-signature.ensures ∙ take_rest rdata (18 + n) in
+    let signature : c.of-signature.result ≡ drop (18 + n) rdata = c.of-signature.ensures ∙ take_rest rdata (18 + n) in
     record {
       head = c.if-rdata-lt-HEAD.false;
       type_covered = c.u16_at.ensures;
@@ -29,8 +29,8 @@ returns-clause-every c = λ rrsig is.
     let n = c.in-Some.length in
     let found = c.in-Some.ensures.every rrsig.signer rrsig.signature is.name (take_rest rdata 18 ∙ is.rest) in
     let parts = behind_name (drop 18 rdata) rrsig.signature c.in-Some.signer rrsig.signer n found is.rest in
-    let signature : c.in_ok-signature.signature ≡ rrsig.signature =
-    c.in_ok-signature.ensures ∙ take_rest rdata (18 + n) ∙ sym (drop-drop n 18 rdata) ∙ parts.1 in
+    let signature : c.of-signature.result ≡ rrsig.signature =
+    c.of-signature.ensures ∙ take_rest rdata (18 + n) ∙ sym (drop-drop n 18 rdata) ∙ parts.1 in
     let signer : c.in-Some.signer ≡ rrsig.signer = parts.0 in
     let type_covered : c.u16_at.result ≡ rrsig.type_covered.0 = c.u16_at.ensures ∙ sym is.type_covered in
     let algorithm = number_at-one rdata 2 (omega arith) ∙ sym is.algorithm in
@@ -50,13 +50,6 @@ returns-clause-every c = λ rrsig is.
       signer = signer i;
       signature = signature i;
     })
-
-pub returns-in_err-signature-clause-every_fault : goal.returns-in_err-signature-clause-every_fault
-returns-in_err-signature-clause-every_fault c = λ field bad.
-    let rdata = c.args.rdata.now in
-    let n = c.in-Some.length in
-    let spelled : take n (drop 18 rdata) ≡ wire c.in-Some.signer = ap (take n) (sym (take_rest rdata 18)) ∙ c.in-Some.ensures.spelling in
-    absurd (no_rrsig_fault rdata c.if-rdata-lt-HEAD.false (c.in-Some.signer, drop (18 + n) rdata, c.in-Some.ensures.name, name_and_rest rdata 18 n c.in-Some.signer spelled) field bad)
 
 pub returns-clause-every_fault : goal.returns-clause-every_fault
 returns-clause-every_fault c = λ field bad.

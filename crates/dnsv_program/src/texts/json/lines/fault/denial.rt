@@ -114,7 +114,7 @@ fn kind_of(source: &Source) -> &'static str
 #[tactic(auto, using(crate::proofs::TextLemmas::Members::no_members))]
 fn push_parameters(
     text: &mut String,
-    parameters: &Option<Nsec3Parameters>,
+    parameters: &Option<Nsec3Parameters<'_>>,
 ) -> Result<(), AllocError>
     ensures { OnOk result (AddsMembers (parameters_members parameters.now) (string_bytes text.old) (string_bytes text.new)) }
 {
@@ -125,7 +125,7 @@ fn push_parameters(
 }
 
 /// Adds the iterations and the salt.
-fn push_hashing(text: &mut String, parameters: &Nsec3Parameters) -> Result<(), AllocError>
+fn push_hashing(text: &mut String, parameters: &Nsec3Parameters<'_>) -> Result<(), AllocError>
     ensures { OnOk result (AddsMembers (parameters_members (Some parameters.now)) (string_bytes text.old)
         (string_bytes text.new)) }
 {
