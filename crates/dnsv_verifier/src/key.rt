@@ -66,14 +66,14 @@ impl<'a> KeyRecord<'a> {
     }
 
     /// The RDATA as received.
-    pub fn rdata(&self) -> &[u8]
+    pub fn rdata(&self) -> &'a [u8]
         ensures { result.now ≡ self.now.rdata }
     {
         self.rdata
     }
 
     /// What the RDATA says.
-    pub fn dnskey(&self) -> &Dnskey<'_>
+    pub fn dnskey(&self) -> &'a Dnskey<'a>
         ensures { result.now ≡ self.now.dnskey }
     {
         self.dnskey
@@ -142,6 +142,11 @@ impl<'a> KeyRecord<'a> {
     pub(crate) fn with_number(&self, number: u32) -> Numbered<'a>
         ensures { result ≡ record { name = name_of_key self.now; number = number } }
     {
-        Numbered::new(self.key_tag, self.dnskey.algorithm, WireName::of(self.owner), number)
+        Numbered::new(
+            self.key_tag,
+            self.dnskey.algorithm,
+            WireName::of(self.owner),
+            number,
+        )
     }
 }

@@ -35,7 +35,12 @@ impl<'a> Made<'a> {
         ensures { result ≡ record { name = named_by self.now.rrsig; number = number } }
     {
         let rrsig = self.rrsig;
-        Numbered::new(rrsig.key_tag, rrsig.algorithm, rrsig.signer.copied(), number)
+        Numbered::new(
+            rrsig.key_tag,
+            rrsig.algorithm,
+            rrsig.signer.copied(),
+            number,
+        )
     }
 }
 

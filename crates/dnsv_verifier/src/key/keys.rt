@@ -54,13 +54,11 @@ impl<'a> Keys<'a> {
         let keys = self.keys.as_slice();
         let signer = &rrsig.signer.to_name();
         let start = keys.partition_point(|key| {
-            key.compared(rrsig.key_tag, rrsig.algorithm, signer)
-                .is_lt()
+            key.compared(rrsig.key_tag, rrsig.algorithm, signer).is_lt()
         });
         let keys = &keys[start..];
         let count = keys.partition_point(|key| {
-            key.compared(rrsig.key_tag, rrsig.algorithm, signer)
-                .is_le()
+            key.compared(rrsig.key_tag, rrsig.algorithm, signer).is_le()
         });
         &keys[..count]
     }

@@ -61,12 +61,16 @@ impl<'a> Numbered<'a> {
         ensures { result ≡ key_name_cmp self.now.name other.now.name }
     {
         let (algorithm, other_algorithm) = (self.algorithm, other.algorithm);
-        let (owner, other_owner) = (&self.owner, &other.owner);
-        self.key_tag
+        let order = self
+            .key_tag
             .0
             .cmp(&other.key_tag.0)
-            .then_with(|| algorithm.0.cmp(&other_algorithm.0))
-            .then_with(|| owner.canonical_cmp(other_owner))
+            .then_with(|| algorithm.0.cmp(&other_algorithm.0));
+        match order {
+            Ordering::Less => Ordering::Less,
+            Ordering::Equal => self.owner.canonical_cmp(&other.owner),
+            Ordering::Greater => Ordering::Greater,
+        }
     }
 }
 
