@@ -7,6 +7,7 @@ ghost use Rattle.dnsv_chain.specs.Trust.{IsTrustOf};
 ghost use Rattle.dnsv_chain.specs.Chain.{AddsDelegation, AddsKeys, AddsTrusted, AreKeysByOwner, AreKeysOfSet, AreKnown, AreVouched, IsSignedByVouched, IsVouchedFor};
 
 use crate::anchors::Anchors;
+use crate::by_owner::key::OwnerKey;
 use crate::by_owner::{ByOwner, add, at};
 use crate::by_rdata::ByRdata;
 use crate::delegated::is_delegated;
@@ -14,19 +15,19 @@ use crate::order::{Step, steps};
 use crate::signing::{TrustedKeys, good_numbers, is_signed_under_some};
 use crate::trust::Trust;
 use dnsv_canonical::{Capture, Rrset};
-use dnsv_names::{ByWire, RecordType};
+use dnsv_names::{RecordType, WireName};
 use dnsv_verifier::{KeyRecord, Table};
 use std::alloc::{AllocError, Global};
 use std::collections::{BTreeMap, BTreeSet};
 
 /// The trust that the capture gives at the table's moment, under the anchors and the table's answers (RFC 4035 5). An
 /// entry that the table lacks counts as Unknown.
-pub fn trusted(
+pub fn trusted<'c>(
     alloc: Global,
-    capture: &Capture<'_>,
+    capture: &'c Capture<'c>,
     anchors: &Anchors,
     table: &Table,
-) -> Result<Trust, AllocError>
+) -> Result<Trust<'c>, AllocError>
     ensures { IfOk result (IsTrustOf (table_answer table.now) table.now.moment capture.now.rrsets anchors.now) }
 {
     let rrsets = capture.rrsets();
@@ -38,7 +39,7 @@ pub fn trusted(
 type Delegations<'a> = ByOwner<'a, &'a Rrset<'a>>;
 
 /// Owner and RDATA of the keys that are kept, to find one again.
-type KnownKeys<'a> = BTreeSet<(ByWire<'a>, ByRdata<'a>)>;
+type KnownKeys<'a> = BTreeSet<(OwnerKey<'a>, ByRdata<'a>)>;
 
 /// The keys of the trusted DNSKEY RRsets. One pass finds them: where a DS RRset is good, its signer is a proper
 /// ancestor, whose RRsets have been looked at before.
@@ -116,7 +117,13 @@ fn add_trusted<'a>(
     ensures trusted { OnOk result (AddsTrusted (table_answer table.now) table.now.moment anchors.now
         (rrsets_at delegations.now) set.now (values_at keys.old) (values_at keys.new)) }
 {
-    if is_trusted(alloc, table, anchors, at(delegations, set.owner()), set)? {
+    if is_trusted(
+        alloc,
+        table,
+        anchors,
+        at(delegations, &WireName::of(set.owner())),
+        set,
+    )? {
         add_keys(alloc, known, keys, set)?;
     }
     Ok(())
@@ -195,7 +202,10 @@ fn add_keys<'a>(
 {
     for (place, dnskey) in set.dnskeys().iter().enumerate() {
         let rdata = set.rdata(place);
-        if known.insert((ByWire(set.owner()), ByRdata::new(rdata, dnskey)))? {
+        if known.insert((
+            OwnerKey(WireName::of(set.owner())),
+            ByRdata::new(rdata, dnskey),
+        ))? {
             let key = KeyRecord::new(set.owner(), rdata, dnskey);
             add(alloc, keys, set.owner(), key)?;
         }

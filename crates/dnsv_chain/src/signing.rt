@@ -30,7 +30,7 @@ pub fn good_numbers<'a>(
 {
     let mut numbers = Vec::new(alloc);
     for (place, rrsig) in rrset.signatures().iter().enumerate() {
-        if is_good_under_some(alloc, table, rrset, rrsig, at(keys, &rrsig.signer.to_name()))? {
+        if is_good_under_some(alloc, table, rrset, rrsig, at(keys, &rrsig.signer))? {
             numbers.push(place + 1)?;
         }
     }

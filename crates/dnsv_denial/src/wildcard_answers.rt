@@ -33,7 +33,7 @@ pub type WildcardAnswers = BTreeMap<(usize, usize), Shown>;
 pub fn wildcard_answers(
     alloc: Global,
     capture: &Capture<'_>,
-    trust: &Trust,
+    trust: &Trust<'_>,
     name: &Name,
     zones: &[ZoneRecords<'_>],
     sets: &[NameHashes<'_>],

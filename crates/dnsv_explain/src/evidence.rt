@@ -24,7 +24,7 @@ pub struct Evidence<'a> {
     capture: &'a Capture<'a>,
     anchors: &'a Anchors,
     table: &'a Table,
-    trust: &'a Trust,
+    trust: &'a Trust<'a>,
     todo: Option<&'a Entries>,
 }
 
@@ -55,7 +55,7 @@ impl<'a> Evidence<'a> {
         capture: &'a Capture<'a>,
         anchors: &'a Anchors,
         table: &'a Table,
-        trust: &'a Trust,
+        trust: &'a Trust<'a>,
         todo: Option<&'a Entries>,
     ) -> Evidence<'a>
         requires { IsTrustOf (table_answer table.now) table.now.moment capture.now.rrsets anchors.now trust.now }
@@ -75,7 +75,7 @@ impl<'a> Evidence<'a> {
         }
     }
 
-    pub(crate) fn capture(&self) -> &Capture<'_>
+    pub(crate) fn capture(&self) -> &'a Capture<'a>
         ensures { result.now.rrsets ≡ self.now.rrsets }
     {
         self.capture
@@ -103,14 +103,14 @@ impl<'a> Evidence<'a> {
     }
 
     /// The RRsets, which are numbered from 1.
-    pub(crate) fn rrsets(&self) -> &[Rrset<'_>]
+    pub(crate) fn rrsets(&self) -> &'a [Rrset<'a>]
         ensures { result.now ≡ self.now.rrsets }
     {
         self.capture.rrsets()
     }
 
     /// The trust anchors, which are numbered from 1.
-    pub(crate) fn anchors(&self) -> &[Anchor]
+    pub(crate) fn anchors(&self) -> &'a [Anchor]
         ensures { result.now ≡ self.now.anchors }
     {
         self.anchors.as_slice()

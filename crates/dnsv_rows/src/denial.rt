@@ -11,7 +11,7 @@ use bumpalo::Bump;
 use dnsv_chain::Trust;
 use dnsv_denial::{Hashes, Proof, View};
 use dnsv_names::{Count, Name, RecordType};
-use evidence::{Evidence, evidence_of};
+use evidence::{Evidence, evidence_in};
 use std::alloc::Global;
 
 /// What the library answers, where it has the call.
@@ -44,10 +44,11 @@ pub fn answer(row: &Row) -> Result<Option<String>, RowError> {
 /// the proof that the type isn't there, and the unsigned cut.
 fn deny(row: &Row) -> Result<String, RowError> {
     let bump = Bump::new(row.alloc());
-    let evidence = match evidence_of(row, &bump)? {
-        Ok(evidence) => evidence,
+    let capture = match capture_or_refusal(row, 0, &bump)? {
+        Ok(capture) => capture,
         Err(refusal) => return Ok(refusal),
     };
+    let evidence = evidence_in(row, &capture)?;
     let name = row.name(3)?;
     let view = view_of(row.alloc(), &evidence, &name)?;
     denials(row.alloc(), &view, rtype_of(row.text(4)?)?)
@@ -57,11 +58,12 @@ fn deny(row: &Row) -> Result<String, RowError> {
 /// BEFORE was made with.
 fn retrust(row: &Row) -> Result<String, RowError> {
     let bump = Bump::new(row.alloc());
-    let evidence = match evidence_of(row, &bump)? {
-        Ok(evidence) => evidence,
+    let capture = match capture_or_refusal(row, 0, &bump)? {
+        Ok(capture) => capture,
         Err(refusal) => return Ok(refusal),
     };
-    let before = trust_in(row, &evidence.capture, 5)?;
+    let evidence = evidence_in(row, &capture)?;
+    let before = trust_in(row, evidence.capture, 5)?;
     let name = row.name(3)?;
     let view = view_with_hashes_of(row.alloc(), &evidence, &before, &name)?;
     denials(row.alloc(), &view, rtype_of(row.text(4)?)?)
@@ -71,22 +73,23 @@ fn retrust(row: &Row) -> Result<String, RowError> {
 fn view_with_hashes_of<'a>(
     alloc: Global,
     evidence: &'a Evidence<'a>,
-    before: &Trust,
+    before: &Trust<'_>,
     name: &Name,
 ) -> Result<View<'a, 'a>, RowError> {
-    let hashes = Hashes::new(alloc, &evidence.capture, name, &mut Count::new())?;
-    View::with(alloc, &evidence.capture, before, &hashes)?;
-    Ok(View::with(alloc, &evidence.capture, &evidence.trust, &hashes)?)
+    let hashes = Hashes::new(alloc, evidence.capture, name, &mut Count::new())?;
+    View::with(alloc, evidence.capture, before, &hashes)?;
+    Ok(View::with(alloc, evidence.capture, &evidence.trust, &hashes)?)
 }
 
 /// `closer CAPTURE ANCHORS MOMENT NAME ZONE LABELS`: the zone and the record of the proof that the zone has no closer
 /// name than so many labels, and the next closer name that may be left out.
 fn closer(row: &Row) -> Result<String, RowError> {
     let bump = Bump::new(row.alloc());
-    let evidence = match evidence_of(row, &bump)? {
-        Ok(evidence) => evidence,
+    let capture = match capture_or_refusal(row, 0, &bump)? {
+        Ok(capture) => capture,
         Err(refusal) => return Ok(refusal),
     };
+    let evidence = evidence_in(row, &capture)?;
     let name = row.name(3)?;
     let view = view_of(row.alloc(), &evidence, &name)?;
     closer_names(row, &view)
@@ -106,15 +109,16 @@ fn closer_names(row: &Row, view: &View<'_, '_>) -> Result<String, RowError> {
 /// `hashes CAPTURE ANCHORS MOMENT NAME`: how many hashes a view for the name makes.
 fn hashes(row: &Row) -> Result<String, RowError> {
     let bump = Bump::new(row.alloc());
-    let evidence = match evidence_of(row, &bump)? {
-        Ok(evidence) => evidence,
+    let capture = match capture_or_refusal(row, 0, &bump)? {
+        Ok(capture) => capture,
         Err(refusal) => return Ok(refusal),
     };
+    let evidence = evidence_in(row, &capture)?;
     let mut count = Count::new();
     let name = row.name(3)?;
     View::new(
         row.alloc(),
-        &evidence.capture,
+        evidence.capture,
         &evidence.trust,
         &name,
         &mut count,
@@ -153,7 +157,7 @@ fn view_of<'a>(
 ) -> Result<View<'a, 'a>, RowError> {
     Ok(View::new(
         alloc,
-        &evidence.capture,
+        evidence.capture,
         &evidence.trust,
         name,
         &mut Count::new(),

@@ -121,7 +121,7 @@ fn admissible(row: &Row) -> Result<String, RowError> {
     let rrsig = evidence::signature(row, 3, rrset)?;
     let set = evidence::rrset(row, 4, &capture)?;
     let rdata = key_rdata(row, 5, set)?;
-    let dnskey = evidence::dnskey_of(row.alloc(), rdata)?;
+    let dnskey = evidence::dnskey_of(rdata)?;
     let key = KeyRecord::new(set.owner(), rdata, &dnskey);
     let admissible = is_admissible(moment, rrset, rrsig, &key);
     let (verifiable, made) = (

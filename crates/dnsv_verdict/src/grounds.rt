@@ -30,7 +30,7 @@ pub struct Grounds<'a> {
     pub anchors: &'a Anchors,
     pub table: Table,
     /// What the three make trusted.
-    pub trust: Trust,
+    pub trust: Trust<'a>,
 }
 
 /// What the evidence would settle if each of the entries that the verifier doesn't know were valid.

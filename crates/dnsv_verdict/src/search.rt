@@ -36,7 +36,7 @@ pub struct Found<'a> {
 /// signature; `None` where there is none. RRsets of other types pass none.
 pub fn first_such<'a, T: Test>(
     capture: &'a Capture<'a>,
-    trust: &Trust,
+    trust: &Trust<'_>,
     name: &Name,
     rtype: RecordType,
     test: &T,

@@ -19,7 +19,7 @@ use dnsv_records::Rrsig;
 #[derive(Drop)]
 struct AtName<'e, 'v, 'c, 't> {
     capture: &'e Capture<'e>,
-    trust: &'v Trust,
+    trust: &'v Trust<'v>,
     name: &'v Name,
     view: &'v View<'c, 't>,
 }
@@ -28,7 +28,7 @@ struct AtName<'e, 'v, 'c, 't> {
 /// name that may be unsigned. `None` where it settles nothing.
 pub fn settled(
     capture: &Capture<'_>,
-    trust: &Trust,
+    trust: &Trust<'_>,
     name: &Name,
     rtype: RecordType,
     view: &View<'_, '_>,
@@ -118,7 +118,7 @@ fn opt_out_wildcard_cut(at: &AtName<'_, '_, '_, '_>, rtype: RecordType) -> Optio
 /// which an unsigned delegation may stand (RFC 5155 8.8). The view is of the name, over the same evidence and trust.
 pub fn opt_out_wildcard<'a>(
     capture: &'a Capture<'a>,
-    trust: &Trust,
+    trust: &Trust<'_>,
     name: &Name,
     rtype: RecordType,
     view: &View<'_, '_>,

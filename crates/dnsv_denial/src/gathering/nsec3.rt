@@ -20,7 +20,7 @@ use std::alloc::{AllocError, Global};
 pub fn nsec3s_of<'a>(
     alloc: Global,
     capture: &'a Capture<'a>,
-    trust: &Trust,
+    trust: &Trust<'_>,
     zone: &Name,
 ) -> Result<Vec<Nsec3Entry<'a>>, AllocError>
     ensures { IfOk result (λ entries. AreNsec3sOf (SecuredIn trust.now) capture.now.rrsets zone.now entries.items) }

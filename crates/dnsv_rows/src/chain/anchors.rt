@@ -69,7 +69,7 @@ fn anchor_text(alloc: Global, anchor: &Anchor) -> Result<String, RowError> {
 fn anchors_match(row: &Row) -> Result<String, RowError> {
     let anchors = trust_anchors(row, 0)?;
     let (owner, rdata) = (row.name(1)?, row.octets(2)?);
-    let dnskey = dnskey_of(row.alloc(), rdata.as_slice())?;
+    let dnskey = dnskey_of(rdata.as_slice())?;
     let is_matched = anchors.is_match(&KeyRecord::new(&owner, rdata.as_slice(), &dnskey));
     Ok(format!(in row.alloc(); "{is_matched}")?)
 }

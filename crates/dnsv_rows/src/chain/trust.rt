@@ -65,7 +65,11 @@ fn keys(row: &Row) -> Result<String, RowError> {
 }
 
 /// The trust in the capture by the anchors of the argument with so many before it, at the moment that the third one is.
-pub fn trust_in(row: &Row, capture: &Capture<'_>, anchors: usize) -> Result<Trust, RowError> {
+pub fn trust_in<'c>(
+    row: &Row,
+    capture: &'c Capture<'c>,
+    anchors: usize,
+) -> Result<Trust<'c>, RowError> {
     let alloc = row.alloc();
     let anchors = trust_anchors(row, anchors)?;
     let moment = row.number(2)?;

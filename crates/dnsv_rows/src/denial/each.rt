@@ -1,7 +1,8 @@
 //! Questions of many names of a zone in one row.
 
-use super::evidence::evidence_of;
+use super::evidence::evidence_in;
 use crate::denial::{rtype_of, view_of};
+use crate::evidence::capture_or_refusal;
 use crate::row::{Row, RowError};
 use bumpalo::Bump;
 use dnsv_denial::View;
@@ -13,10 +14,11 @@ use std::alloc::{AllocError, Global};
 /// for what isn't proved. Types are parted by `,`.
 pub fn lacks(row: &Row) -> Result<String, RowError> {
     let bump = Bump::new(row.alloc());
-    let evidence = match evidence_of(row, &bump)? {
-        Ok(evidence) => evidence,
+    let capture = match capture_or_refusal(row, 0, &bump)? {
+        Ok(capture) => capture,
         Err(refusal) => return Ok(refusal),
     };
+    let evidence = evidence_in(row, &capture)?;
     let mut text = String::new(row.alloc());
     for place in 4..row.count() {
         let name = row.name(place)?;
@@ -69,10 +71,11 @@ fn append(text: &mut String, mark: &str, item: &str) -> Result<(), AllocError> {
 /// where it is proved that the zone has no closer name, `~` where that name may be left out, `*` where both, else `-`.
 pub fn closers(row: &Row) -> Result<String, RowError> {
     let bump = Bump::new(row.alloc());
-    let evidence = match evidence_of(row, &bump)? {
-        Ok(evidence) => evidence,
+    let capture = match capture_or_refusal(row, 0, &bump)? {
+        Ok(capture) => capture,
         Err(refusal) => return Ok(refusal),
     };
+    let evidence = evidence_in(row, &capture)?;
     let zone = row.name(3)?;
     let mut text = String::new(row.alloc());
     for place in 4..row.count() {

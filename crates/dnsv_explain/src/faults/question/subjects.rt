@@ -129,5 +129,7 @@ pub fn has_signer(rrset: &Rrset<'_>, zone: &Name) -> bool
 fn is_one_by(rrsigs: &[Rrsig<'_>], zone: &Name) -> bool
     ensures { IsTrue result ↔ HasOneBy rrsigs.now zone.now }
 {
-    rrsigs.iter().any(|rrsig| are_equal(&rrsig.signer.to_name(), zone))
+    rrsigs
+        .iter()
+        .any(|rrsig| are_equal(&rrsig.signer.to_name(), zone))
 }

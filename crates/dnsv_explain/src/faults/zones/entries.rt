@@ -30,7 +30,7 @@ pub struct Judged<'a> {
 /// those alone. `keys` are those of the zone.
 pub fn said_entries<'a>(
     alloc: Global,
-    evidence: &'a Evidence<'_>,
+    evidence: &'a Evidence<'a>,
     keys: &[KeyRecord<'_>],
     zone: &Name,
 ) -> Result<Vec<Judged<'a>>, AllocError>
@@ -48,7 +48,7 @@ pub fn said_entries<'a>(
 /// Adds those of the anchors at the zone.
 fn add_anchors<'a>(
     alloc: Global,
-    evidence: &'a Evidence<'_>,
+    evidence: &'a Evidence<'a>,
     keys: &[KeyRecord<'_>],
     said: &mut Vec<Judged<'a>>,
     zone: &Name,
@@ -65,7 +65,7 @@ fn add_anchors<'a>(
 /// The anchors at the zone.
 fn anchors_at<'a>(
     alloc: Global,
-    evidence: &'a Evidence<'_>,
+    evidence: &'a Evidence<'a>,
     keys: &[KeyRecord<'_>],
     zone: &Name,
 ) -> Result<Vec<Judged<'a>>, AllocError>
@@ -105,7 +105,7 @@ fn judge<'a>(keys: &[KeyRecord<'_>], lead: Lead<'a>) -> Judged<'a>
 /// Adds those of the records of the RRset, which has the number, if it leads into the zone.
 fn add_records<'a>(
     alloc: Global,
-    evidence: &'a Evidence<'_>,
+    evidence: &'a Evidence<'a>,
     keys: &[KeyRecord<'_>],
     said: &mut Vec<Judged<'a>>,
     zone: &Name,

@@ -81,9 +81,7 @@ pub fn is_ds_way(evidence: &Evidence<'_>, zone: &Name, number: usize, rrset: &Rr
 fn has_parent_signer(evidence: &Evidence<'_>, zone: &Name, signatures: &[Rrsig<'_>]) -> bool
     ensures { IsTrue result ↔ HasParentSigner (setting_in evidence.now) zone.now signatures.now }
 {
-    signatures
-        .iter()
-        .any(|rrsig| may_be_parent(evidence, zone, &rrsig.signer.to_name()))
+    signatures.iter().any(|rrsig| may_be_parent(evidence, zone, &rrsig.signer.to_name()))
 }
 
 /// Whether the signer of a DS RRset of the zone is a parent: it is above the zone, and, if the zone has a trust anchor,
