@@ -10,4 +10,3 @@ pub mod Nsec3
 pub mod OctetLaws
 pub mod Reading
 pub mod Rrsig
-pub mod Kept

@@ -1,5 +1,5 @@
 //! Octets that a record holds.
-ghost use Rattle.std.specs.Prelude.{◌≡◌, List, ℕ, nat_eq, refl, IfOk, IsTrue, ◌↔◌};
+ghost use Rattle.std.specs.Prelude.{◌≡◌, List, ℕ, nat_eq, refl, IsTrue, ◌↔◌};
 ghost use Rattle.std.specs.Cmp.{partial_equiv_from_equiv, partial_order_from_agreeing_total};
 ghost use Rattle.std.specs.Cmp.Lexicographic.{lists_equiv, pointwise, texts_ties};
 ghost use Rattle.std.specs.Ordering.{as_partial_cmp};
@@ -7,33 +7,22 @@ ghost use Rattle.std.proofs.lemmas.Cmp.{nat_eq_equiv, nat_list_cmp_total};
 ghost use Rattle.dnsv_names.specs.Octets.{octets_cmp};
 
 use dnsv_names::compare_octets;
-use std::alloc::{AllocError, Global};
 use std::cmp::Ordering;
 use std::marker::Model;
 
-/// Where octets are kept.
-#[derive(Debug, Drop)]
-enum Kept<'b> {
-    /// In the RDATA that they were read from.
-    Stands(&'b [u8]),
-    /// In a vector of their own.
-    Written(Vec<u8>),
-}
-
-/// Octets, as a key, a digest or a signature, which stand in RDATA or in memory of their own. They are ordered as
-/// unsigned octets from the left, a missing octet before any other (RFC 4034 6.3).
+/// Octets, as a key, a digest or a signature, where they stand. They are ordered as unsigned octets from the left, a
+/// missing octet before any other (RFC 4034 6.3).
 #[derive(Debug, Drop)]
 pub struct Octets<'b> {
-    kept: Kept<'b>,
+    octets: &'b [u8],
 }
 
 impl<'b> Model for Octets<'b> {
     ghost use Rattle.std.specs.Prelude.{List, ℕ};
-    ghost use Rattle.dnsv_records.specs.Kept.{octets_kept};
 
     ghost Value = { List ℕ };
 
-    ghost view = { λ octets. octets_kept octets.kept };
+    ghost view = { λ octets. octets.octets.now };
 }
 
 impl<'b> Octets<'b> {
@@ -41,35 +30,23 @@ impl<'b> Octets<'b> {
     pub fn of(octets: &'b [u8]) -> Octets<'b>
         ensures { result ≡ octets.now }
     {
-        Octets {
-            kept: Kept::Stands(octets),
-        }
+        Octets { octets }
     }
 
-    /// A copy of the octets.
-    pub fn copy_of(alloc: Global, octets: &[u8]) -> Result<Octets<'b>, AllocError>
-        ensures { IfOk result (λ copy. copy ≡ octets.now) }
-    {
-        Ok(Octets::from_vec(Vec::from_slice(alloc, octets)?))
-    }
-
-    /// The octets of the vector, which takes no memory.
-    pub fn from_vec(octets: Vec<u8>) -> Octets<'b>
-        ensures { result ≡ octets.items }
+    /// The octets again, which stand where they stood.
+    pub fn copied(&self) -> Octets<'b>
+        ensures { result ≡ self.now }
     {
         Octets {
-            kept: Kept::Written(octets),
+            octets: self.octets,
         }
     }
 
     /// The octets.
-    pub fn as_slice(&self) -> &[u8]
+    pub fn as_slice(&self) -> &'b [u8]
         ensures { result.now ≡ self.now }
     {
-        match &self.kept {
-            Kept::Stands(slice) => slice,
-            Kept::Written(octets) => octets,
-        }
+        self.octets
     }
 }
 
