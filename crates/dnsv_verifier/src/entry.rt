@@ -17,18 +17,18 @@ use std::cmp::Ordering;
 /// The four values that a signature is verified by (RFC 4035 5.3.3). Entries are ordered by algorithm, key,
 /// signed data and signature, octets as unsigned numbers.
 #[derive(Debug, Drop)]
-pub struct Entry {
+pub struct Entry<'b> {
     /// The number of the algorithm (RFC 4034 A.1).
     pub algorithm: Algorithm,
     /// The public key, as the field of a DNSKEY record has it (RFC 4034 2.1.4).
-    pub key: Octets<'static>,
+    pub key: Octets<'b>,
     /// The octets that are signed (RFC 4034 3.1.8.1).
-    pub signed_data: Octets<'static>,
+    pub signed_data: Octets<'b>,
     /// The signature, as the field of an RRSIG record has it (RFC 4034 3.1.8).
-    pub signature: Octets<'static>,
+    pub signature: Octets<'b>,
 }
 
-impl Entry {
+impl Entry<'_> {
     /// The same entry, without its octets.
     pub fn borrowed(&self) -> BorrowedEntry<'_>
         ensures { result ≡ self.now }
@@ -42,7 +42,7 @@ impl Entry {
     }
 }
 
-impl Ord for Entry {
+impl Ord for Entry<'_> {
     ghost use Rattle.dnsv_verifier.specs.Entry.{entry_cmp};
     ghost use Rattle.dnsv_verifier.specs.EntryLaws.{entry_cmp_total};
 
@@ -54,12 +54,12 @@ impl Ord for Entry {
 
     ghost matches_eq = { λ a b. refl };
 
-    fn cmp(&self, other: &Entry) -> Ordering {
+    fn cmp(&self, other: &Entry<'_>) -> Ordering {
         self.borrowed().stands_to(&other.borrowed())
     }
 }
 
-impl PartialOrd for Entry {
+impl PartialOrd for Entry<'_> {
     ghost use Rattle.dnsv_verifier.specs.Entry.{entry_cmp};
     ghost use Rattle.dnsv_verifier.specs.EntryLaws.{entry_cmp_total};
 
@@ -67,12 +67,12 @@ impl PartialOrd for Entry {
 
     ghost laws = { partial_order_from_agreeing_total entry_cmp entry_cmp_total (λ a b. refl) (λ a b. refl) };
 
-    fn partial_cmp(&self, other: &Entry) -> Option<Ordering> {
+    fn partial_cmp(&self, other: &Entry<'_>) -> Option<Ordering> {
         Some(self.cmp(other))
     }
 }
 
-impl PartialEq for Entry {
+impl PartialEq for Entry<'_> {
     ghost use Rattle.dnsv_verifier.specs.Entry.{entry_cmp};
     ghost use Rattle.dnsv_verifier.specs.EntryLaws.{entry_cmp_total};
 
@@ -80,12 +80,12 @@ impl PartialEq for Entry {
 
     ghost laws = { partial_equiv_from_equiv (eq_by_cmp_equiv entry_cmp_total) };
 
-    fn eq(&self, other: &Entry) -> bool {
+    fn eq(&self, other: &Entry<'_>) -> bool {
         self.cmp(other) == Ordering::Equal
     }
 }
 
-impl Eq for Entry {
+impl Eq for Entry<'_> {
     ghost use Rattle.dnsv_verifier.specs.EntryLaws.{entry_cmp_total};
 
     ghost laws = { eq_by_cmp_equiv entry_cmp_total };

@@ -3,7 +3,7 @@
 pub mod keys;
 pub mod numbered;
 
-ghost use Rattle.std.specs.Prelude.{◌≡◌, ◌↔◌, ◌<◌, Contains, IfOk, IsTrue, length};
+ghost use Rattle.std.specs.Prelude.{◌≡◌, ◌↔◌, ◌<◌, Contains, IsTrue, length};
 ghost use Rattle.dnsv_records.specs.Dnskey.{IsDnskey};
 ghost use Rattle.dnsv_records.specs.Dnskey.KeyTag.{key_tag_of};
 ghost use Rattle.dnsv_verifier.specs.Asking.{CanSign, key_name_cmp, name_of_key};
@@ -12,8 +12,7 @@ ghost use Rattle.dnsv_verifier.specs.Numbers.{key_of, part_of_key};
 use crate::entry::parts::{KeyPart, Parts};
 use crate::key::numbered::Numbered;
 use dnsv_names::{Name, WireName};
-use dnsv_records::{Algorithm, Dnskey, KeyTag, Octets, key_tag};
-use std::alloc::{AllocError, Global};
+use dnsv_records::{Algorithm, Dnskey, KeyTag, key_tag};
 use std::cmp::Ordering;
 use std::marker::Model;
 
@@ -119,18 +118,18 @@ impl<'a> KeyRecord<'a> {
             && self.dnskey.algorithm.is_supported()
     }
 
-    /// What the key gives to its entries, in memory of its own.
-    pub(crate) fn part(&self, alloc: Global) -> Result<KeyPart, AllocError>
-        ensures { IfOk result (λ part. part ≡ part_of_key self.now) }
+    /// What the key gives to its entries.
+    pub(crate) fn part(&self) -> KeyPart<'a>
+        ensures { result ≡ part_of_key self.now }
     {
-        Ok(KeyPart {
+        KeyPart {
             algorithm: self.dnskey.algorithm,
-            key: Octets::copy_of(alloc, self.dnskey.key.as_slice())?,
-        })
+            key: self.dnskey.key.copied(),
+        }
     }
 
     /// The number of what the key gives to its entries.
-    pub(crate) fn number_in(&self, parts: &Parts) -> u32
+    pub(crate) fn number_in(&self, parts: &Parts<'_>) -> u32
         requires { Contains parts.now.keys (part_of_key self.now) }
         ensures value { key_of parts.now result ≡ part_of_key self.now }
         ensures within { result < length parts.now.keys }

@@ -12,7 +12,7 @@ use crate::received::Received;
 use crate::rrset::Rrset;
 use dnsv_message::{Message, Section};
 use dnsv_names::RecordType;
-use dnsv_records::{Nsec3, Nsec3Parameters, Octets, record_laws};
+use dnsv_records::{Nsec3, Nsec3Parameters, record_laws};
 use std::alloc::{AllocError, Global};
 
 /// How many messages a capture has at most.
@@ -94,14 +94,13 @@ pub fn fresh_parameters<'b>(
 {
     let mut fresh = Vec::new(alloc);
     for rrset in rrsets {
-        add_rrset(alloc, kept, &mut fresh, rrset)?;
+        add_rrset(kept, &mut fresh, rrset)?;
     }
     Ok(fresh)
 }
 
 /// Adds the parameters of the RRset, where it has NSEC3 records, that are not among the others.
 fn add_rrset<'b>(
-    alloc: Global,
     kept: &[Nsec3Parameters<'b>],
     fresh: &mut Vec<Nsec3Parameters<'b>>,
     rrset: &Rrset<'b>,
@@ -113,12 +112,11 @@ fn add_rrset<'b>(
     ensures refused { (earlier : List (List ℕ)) → AreParameters earlier (kept.now ++ fresh.old.items)
         → IfErr result (IsParametersRefusal (earlier ++ nsec3_rdata (rrset.now ∷ []))) }
 {
-    add_records(alloc, kept, fresh, rrset.nsec3s())
+    add_records(kept, fresh, rrset.nsec3s())
 }
 
 /// Adds the parameters of NSEC3 records that are not among the others.
 fn add_records<'b>(
-    alloc: Global,
     kept: &[Nsec3Parameters<'b>],
     fresh: &mut Vec<Nsec3Parameters<'b>>,
     nsec3s: &[Nsec3<'b>],
@@ -133,14 +131,13 @@ fn add_records<'b>(
         → IfErr result (IsParametersRefusal (earlier ++ received)) }
 {
     for nsec3 in nsec3s {
-        add_record(alloc, kept, fresh, nsec3)?;
+        add_record(kept, fresh, nsec3)?;
     }
     Ok(())
 }
 
 /// Adds the parameters of an NSEC3 record, if it can be used and they are not among the others. The ninth are refused.
 fn add_record<'b>(
-    alloc: Global,
     kept: &[Nsec3Parameters<'b>],
     fresh: &mut Vec<Nsec3Parameters<'b>>,
     nsec3: &Nsec3<'b>,
@@ -167,7 +164,7 @@ fn add_record<'b>(
     }
     fresh.push(Nsec3Parameters {
         iterations: parameters.iterations,
-        salt: Octets::copy_of(alloc, parameters.salt.as_slice())?,
+        salt: parameters.salt.copied(),
     })?;
     Ok(())
 }

@@ -8,17 +8,17 @@ use crate::entry::parts::SignaturePart;
 use crate::key::KeyRecord;
 use crate::key::keys::Keys;
 use crate::key::numbered::Numbered;
+use bumpalo::Bump;
 use dnsv_canonical::{Rrset, signed_data};
 use dnsv_records::{Octets, Rrsig};
 use std::alloc::{AllocError, Global};
 use std::marker::Model;
-use std::rc::Rc;
 
 /// A signature that lies elsewhere, with what it gives to its entries.
 #[derive(Drop)]
 pub(crate) struct Made<'a> {
     pub(crate) rrsig: &'a Rrsig<'a>,
-    pub(crate) part: Rc<SignaturePart>,
+    pub(crate) part: SignaturePart<'a>,
 }
 
 impl<'a> Model for Made<'a> {
@@ -26,7 +26,7 @@ impl<'a> Model for Made<'a> {
 
     ghost Value = { MadeSignature };
 
-    ghost view = { λ made. record { rrsig = made.rrsig.now; part = made.part.value } };
+    ghost view = { λ made. record { rrsig = made.rrsig.now; part = made.part } };
 }
 
 impl<'a> Made<'a> {
@@ -47,6 +47,7 @@ impl<'a> Made<'a> {
 /// The signatures of the RRsets that can be verified at the moment, and that some key may have made.
 pub(crate) fn made_signatures<'a>(
     alloc: Global,
+    bump: &'a Bump,
     moment: u64,
     keys: &Keys<'_>,
     rrsets: &'a [Rrset<'a>],
@@ -55,7 +56,7 @@ pub(crate) fn made_signatures<'a>(
 {
     let mut made = Vec::new(alloc);
     for rrset in rrsets {
-        add_rrset(alloc, moment, keys, rrset, &mut made)?;
+        add_rrset(alloc, bump, moment, keys, rrset, &mut made)?;
     }
     Ok(made)
 }
@@ -63,6 +64,7 @@ pub(crate) fn made_signatures<'a>(
 /// Adds such signatures of the RRset.
 fn add_rrset<'a>(
     alloc: Global,
+    bump: &'a Bump,
     moment: u64,
     keys: &Keys<'_>,
     rrset: &'a Rrset<'a>,
@@ -71,7 +73,7 @@ fn add_rrset<'a>(
     ensures { OnOk result (AddsJust (IsMadeIn moment keys.now rrset.now) made.old.items made.new.items) }
 {
     for rrsig in rrset.signatures() {
-        add_signature(alloc, moment, keys, rrset, rrsig, made)?;
+        add_signature(alloc, bump, moment, keys, rrset, rrsig, made)?;
     }
     Ok(())
 }
@@ -79,6 +81,7 @@ fn add_rrset<'a>(
 /// Adds the signature if it is such.
 fn add_signature<'a>(
     alloc: Global,
+    bump: &'a Bump,
     moment: u64,
     keys: &Keys<'_>,
     rrset: &Rrset<'_>,
@@ -93,13 +96,10 @@ fn add_signature<'a>(
     if !is_made_by_some(keys, rrsig) {
         return Ok(());
     }
-    let Some(part) = part_of(alloc, rrset, rrsig)? else {
+    let Some(part) = part_of(alloc, bump, rrset, rrsig)? else {
         return Ok(());
     };
-    made.push(Made {
-        rrsig,
-        part: Rc::new(alloc, part)?,
-    })?;
+    made.push(Made { rrsig, part })?;
     Ok(())
 }
 
@@ -117,12 +117,13 @@ fn is_made_by_one(keys: &[KeyRecord<'_>], rrsig: &Rrsig<'_>) -> bool
     keys.iter().any(|key| may_have_made(key, rrsig))
 }
 
-/// What the signature gives to its entries. `None` where Labels is above the owner's count of labels.
-fn part_of(
+/// What the signature gives to its entries, its signed data in the arena. `None` where Labels is above the owner's count of labels.
+fn part_of<'a>(
     alloc: Global,
+    bump: &'a Bump,
     rrset: &Rrset<'_>,
-    rrsig: &Rrsig<'_>,
-) -> Result<Option<SignaturePart>, AllocError>
+    rrsig: &'a Rrsig<'a>,
+) -> Result<Option<SignaturePart<'a>>, AllocError>
     ensures { IfOk result (λ found. MatchOption found (signed_label_count rrset.now.owner < rrsig.now.labels)
         (IsPartOf rrset.now rrsig.now)) }
 {
@@ -130,7 +131,7 @@ fn part_of(
         return Ok(None);
     };
     Ok(Some(SignaturePart {
-        signed_data: Octets::from_vec(octets),
-        signature: Octets::copy_of(alloc, rrsig.signature.as_slice())?,
+        signed_data: Octets::of(bump.try_alloc_slice_copy(&octets)?),
+        signature: rrsig.signature.copied(),
     }))
 }

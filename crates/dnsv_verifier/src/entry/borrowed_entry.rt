@@ -1,5 +1,5 @@
 //! Entries whose parts lie elsewhere, and their order.
-ghost use Rattle.std.specs.Prelude.{◌≡◌, IfOk};
+ghost use Rattle.std.specs.Prelude.{◌≡◌};
 ghost use Rattle.dnsv_verifier.specs.Entry.{entry_cmp};
 
 use crate::answer::Answer;
@@ -7,7 +7,6 @@ use crate::entry::Entry;
 use crate::verifier::Verifier;
 use dnsv_names::compare_octets;
 use dnsv_records::{Algorithm, Octets};
-use std::alloc::{AllocError, Global};
 use std::cmp::Ordering;
 use std::marker::Model;
 
@@ -84,16 +83,16 @@ impl<'a> BorrowedEntry<'a> {
         self.signature
     }
 
-    /// The entry with octets of its own.
-    pub fn to_entry(&self, alloc: Global) -> Result<Entry, AllocError>
-        ensures { IfOk result (λ entry. entry ≡ self.now) }
+    /// The entry by value, whose octets stand where they stood.
+    pub fn to_entry(&self) -> Entry<'a>
+        ensures { result ≡ self.now }
     {
-        Ok(Entry {
+        Entry {
             algorithm: self.algorithm,
-            key: Octets::copy_of(alloc, self.key)?,
-            signed_data: Octets::copy_of(alloc, self.signed_data)?,
-            signature: Octets::copy_of(alloc, self.signature)?,
-        })
+            key: Octets::of(self.key),
+            signed_data: Octets::of(self.signed_data),
+            signature: Octets::of(self.signature),
+        }
     }
 
     /// What the verifier says of the entry.
