@@ -6,7 +6,7 @@ use Rattle.dnsv_verifier.proofs.entry.parts.Parts.of.Goals as goal
 pub invariant_of-result : goal.invariant_of-result
 invariant_of-result c = (
   rising_keys c.sort_unstable.new.self.items c.dedup.new.self.items c.sort_unstable.ensures.sorted (dedup_is _ _ _ c.dedup.ensures.filtered),
-  rising_signatures (λ part. part.value) c.sort_unstable-2.new.self.items c.dedup-2.new.self.items c.sort_unstable-2.ensures.sorted (dedup_is _ _ _ c.dedup-2.ensures.filtered),
+  rising_signatures c.sort_unstable-2.new.self.items c.dedup-2.new.self.items c.sort_unstable-2.ensures.sorted (dedup_is _ _ _ c.dedup-2.ensures.filtered),
   subst (λ n. n ≤ 4294967296) (c.len.ensures ∙ c.dedup.new.self.ok.0) c.if-len-gt-LIMIT.false,
   subst (λ n. n ≤ 4294967296) (c.len-else-len-gt-LIMIT.ensures ∙ c.dedup-2.new.self.ok.0) c.if-len-gt-LIMIT-2.false,
 )
@@ -17,4 +17,4 @@ returns-clause-keys c =
 
 pub returns-clause-signatures : goal.returns-clause-signatures
 returns-clause-signatures c =
-    kept_signatures (λ part. part.value) c.args.signatures.items c.sort_unstable-2.new.self.items c.dedup-2.new.self.items c.sort_unstable-2.ensures.permutation (dedup_is _ _ _ c.dedup-2.ensures.filtered)
+    kept_signatures c.args.signatures.items c.sort_unstable-2.new.self.items c.dedup-2.new.self.items c.sort_unstable-2.ensures.permutation (dedup_is _ _ _ c.dedup-2.ensures.filtered)
