@@ -25,8 +25,8 @@ use std::collections::{BTreeMap, BTreeSet};
 pub fn trusted<'c>(
     alloc: Global,
     capture: &'c Capture<'c>,
-    anchors: &Anchors,
-    table: &Table,
+    anchors: &Anchors<'_>,
+    table: &Table<'_>,
 ) -> Result<Trust<'c>, AllocError>
     ensures { IfOk result (IsTrustOf (table_answer table.now) table.now.moment capture.now.rrsets anchors.now) }
 {
@@ -46,8 +46,8 @@ type KnownKeys<'a> = BTreeSet<(OwnerKey<'a>, ByRdata<'a>)>;
 fn trusted_keys<'a>(
     alloc: Global,
     rrsets: &'a [Rrset<'a>],
-    anchors: &Anchors,
-    table: &Table,
+    anchors: &Anchors<'_>,
+    table: &Table<'_>,
 ) -> Result<TrustedKeys<'a>, AllocError>
     ensures { IfOk result (λ keys. AreKeysByOwner (table_answer table.now) table.now.moment rrsets.now anchors.now
         (values_at keys)) }
@@ -85,7 +85,7 @@ fn rrset_at<'a>(rrsets: &'a [Rrset<'a>], step: &Step) -> &'a Rrset<'a>
 /// Adds the DS RRset where one of its signatures is good under one of the signer's keys.
 fn add_delegation<'a>(
     alloc: Global,
-    table: &Table,
+    table: &Table<'_>,
     keys: &TrustedKeys<'a>,
     delegations: &mut Delegations<'a>,
     ds: &'a Rrset<'a>,
@@ -104,8 +104,8 @@ fn add_delegation<'a>(
 /// usable record of one of the DS RRsets at its owner.
 fn add_trusted<'a>(
     alloc: Global,
-    table: &Table,
-    anchors: &Anchors,
+    table: &Table<'_>,
+    anchors: &Anchors<'_>,
     delegations: &Delegations<'a>,
     known: &mut KnownKeys<'a>,
     keys: &mut TrustedKeys<'a>,
@@ -133,8 +133,8 @@ fn add_trusted<'a>(
 /// RRsets. No key is digested where none signs it.
 fn is_trusted(
     alloc: Global,
-    table: &Table,
-    anchors: &Anchors,
+    table: &Table<'_>,
+    anchors: &Anchors<'_>,
     delegations: &[&Rrset<'_>],
     set: &Rrset<'_>,
 ) -> Result<bool, AllocError>
@@ -165,7 +165,7 @@ fn keys_of<'a>(alloc: Global, set: &'a Rrset<'a>) -> Result<Vec<KeyRecord<'a>>, 
 /// Those of the keys that match an anchor or a usable record of one of the DS RRsets.
 fn vouched_keys<'a>(
     alloc: Global,
-    anchors: &Anchors,
+    anchors: &Anchors<'_>,
     delegations: &[&Rrset<'_>],
     keys: Vec<KeyRecord<'a>>,
 ) -> Result<Vec<KeyRecord<'a>>, AllocError>
@@ -182,7 +182,7 @@ fn vouched_keys<'a>(
 }
 
 /// Whether an anchor or a usable record of one of the DS RRsets matches the key.
-fn is_vouched_for(anchors: &Anchors, delegations: &[&Rrset<'_>], key: &KeyRecord<'_>) -> bool
+fn is_vouched_for(anchors: &Anchors<'_>, delegations: &[&Rrset<'_>], key: &KeyRecord<'_>) -> bool
     ensures { IsTrue result ↔ IsVouchedFor anchors.now (map (λ ds. ds.now) delegations.now) key.now }
 {
     anchors.is_match(key) || is_delegated(delegations, key)

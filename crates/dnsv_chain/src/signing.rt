@@ -21,7 +21,7 @@ pub type TrustedKeys<'a> = ByOwner<'a, KeyRecord<'a>>;
 /// The numbers of the signatures, from 1 on, that are good under one of their signer's keys, rising.
 pub fn good_numbers<'a>(
     alloc: Global,
-    table: &Table,
+    table: &Table<'_>,
     rrset: &'a Rrset<'a>,
     keys: &TrustedKeys<'a>,
 ) -> Result<Vec<usize>, AllocError>
@@ -40,7 +40,7 @@ pub fn good_numbers<'a>(
 /// Whether the RRset has a signature that is good under one of the keys.
 pub fn is_signed_under_some(
     alloc: Global,
-    table: &Table,
+    table: &Table<'_>,
     rrset: &Rrset<'_>,
     keys: &[KeyRecord<'_>],
 ) -> Result<bool, AllocError>
@@ -60,7 +60,7 @@ pub fn is_signed_under_some(
 #[tactic(auto, using(crate::proofs::SigningLemmas::none_made, crate::proofs::SigningLemmas::not_verifiable, crate::proofs::SigningLemmas::never_signed))]
 fn is_good_under_some(
     alloc: Global,
-    table: &Table,
+    table: &Table<'_>,
     rrset: &Rrset<'_>,
     rrsig: &Rrsig<'_>,
     keys: &[KeyRecord<'_>],
@@ -90,7 +90,7 @@ fn has_made_one(keys: &[KeyRecord<'_>], rrsig: &Rrsig<'_>) -> bool
 
 /// Whether one of the keys may have made the signature, and the table says Valid of it over the octets.
 fn is_valid_under_some(
-    table: &Table,
+    table: &Table<'_>,
     rrsig: &Rrsig<'_>,
     octets: &[u8],
     keys: &[KeyRecord<'_>],
@@ -101,14 +101,14 @@ fn is_valid_under_some(
 }
 
 /// Whether the key may have made the signature, and the table says Valid of it over the octets.
-pub(crate) fn is_valid(table: &Table, rrsig: &Rrsig<'_>, octets: &[u8], key: &KeyRecord<'_>) -> bool
+pub(crate) fn is_valid(table: &Table<'_>, rrsig: &Rrsig<'_>, octets: &[u8], key: &KeyRecord<'_>) -> bool
     ensures { IsTrue result ↔ IsValidBy (table_answer table.now) rrsig.now octets.now key.now }
 {
     may_have_made(key, rrsig) && says_valid(table, rrsig, octets, key)
 }
 
 /// Whether the table says Valid of the signature over the octets under the key.
-fn says_valid(table: &Table, rrsig: &Rrsig<'_>, octets: &[u8], key: &KeyRecord<'_>) -> bool
+fn says_valid(table: &Table<'_>, rrsig: &Rrsig<'_>, octets: &[u8], key: &KeyRecord<'_>) -> bool
     ensures { IsTrue result ↔ (table_answer table.now (record {
       algorithm = rrsig.now.algorithm;
       key = key.now.dnskey.key;

@@ -47,7 +47,7 @@ impl<'c> Trust<'c> {
     /// What the keys of the trusted RRsets make good.
     pub(crate) fn of(
         alloc: Global,
-        table: &Table,
+        table: &Table<'_>,
         rrsets: &'c [Rrset<'c>],
         keys: &TrustedKeys<'c>,
     ) -> Result<Trust<'c>, AllocError>
@@ -147,7 +147,7 @@ fn copies<'c>(alloc: Global, keys: &[ByRdata<'c>]) -> Result<Vec<Dnskey<'c>>, Al
 /// For each RRset the numbers of its good signatures.
 fn good_numbers_of_each<'a>(
     alloc: Global,
-    table: &Table,
+    table: &Table<'_>,
     rrsets: &'a [Rrset<'a>],
     keys: &TrustedKeys<'a>,
 ) -> Result<Vec<Vec<usize>>, AllocError>

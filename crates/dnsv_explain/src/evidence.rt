@@ -22,10 +22,10 @@ use std::marker::Model;
 #[derive(Drop)]
 pub struct Evidence<'a> {
     capture: &'a Capture<'a>,
-    anchors: &'a Anchors,
-    table: &'a Table,
+    anchors: &'a Anchors<'a>,
+    table: &'a Table<'a>,
     trust: &'a Trust<'a>,
-    todo: Option<&'a Entries>,
+    todo: Option<&'a Entries<'a>>,
 }
 
 impl<'a> Model for Evidence<'a> {
@@ -53,10 +53,10 @@ impl<'a> Evidence<'a> {
     /// the numbers of the entries, if there are any.
     pub fn new(
         capture: &'a Capture<'a>,
-        anchors: &'a Anchors,
-        table: &'a Table,
+        anchors: &'a Anchors<'a>,
+        table: &'a Table<'a>,
         trust: &'a Trust<'a>,
-        todo: Option<&'a Entries>,
+        todo: Option<&'a Entries<'a>>,
     ) -> Evidence<'a>
         requires { IsTrustOf (table_answer table.now) table.now.moment capture.now.rrsets anchors.now trust.now }
         ensures { result ≡ record {
@@ -89,7 +89,7 @@ impl<'a> Evidence<'a> {
     }
 
     /// What the verifier says.
-    pub(crate) fn table(&self) -> &Table
+    pub(crate) fn table(&self) -> &Table<'_>
         ensures { result.now ≡ self.now.table }
     {
         self.table
@@ -110,7 +110,7 @@ impl<'a> Evidence<'a> {
     }
 
     /// The trust anchors, which are numbered from 1.
-    pub(crate) fn anchors(&self) -> &'a [Anchor]
+    pub(crate) fn anchors(&self) -> &'a [Anchor<'a>]
         ensures { result.now ≡ self.now.anchors }
     {
         self.anchors.as_slice()

@@ -12,7 +12,7 @@ use std::alloc::{AllocError, Global};
 /// The number among the entries of what is asked of the signature of the RRset under the key, which may be used for it.
 pub fn number_among(
     alloc: Global,
-    entries: &Entries,
+    entries: &Entries<'_>,
     rrset: &Rrset<'_>,
     rrsig: &Rrsig<'_>,
     key: &KeyRecord<'_>,
@@ -28,7 +28,7 @@ pub fn number_among(
 
 /// The number of the entry of the signature over the octets under the key.
 fn number_of(
-    entries: &Entries,
+    entries: &Entries<'_>,
     rrsig: &Rrsig<'_>,
     octets: &[u8],
     key: &KeyRecord<'_>,

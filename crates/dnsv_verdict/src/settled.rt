@@ -26,13 +26,13 @@ struct AtName<'e, 'v, 'c, 't> {
 
 /// What the evidence settles: the first that holds of a secure answer, a secure alias, no such name, no data, and a
 /// name that may be unsigned. `None` where it settles nothing.
-pub fn settled(
-    capture: &Capture<'_>,
+pub fn settled<'a>(
+    capture: &'a Capture<'a>,
     trust: &Trust<'_>,
     name: &Name,
     rtype: RecordType,
     view: &View<'_, '_>,
-) -> Option<Verdict>
+) -> Option<Verdict<'a>>
     requires { view.now ≡ record { rrsets = capture.now.rrsets; trust = trust.now; name = name.now } }
     ensures { MatchOption result (¬ IsSettled (SecuredIn trust.now) capture.now.rrsets name.now rtype.0)
         (IsSettledAs (SecuredIn trust.now) capture.now.rrsets name.now rtype.0) }

@@ -14,7 +14,7 @@ use std::alloc::{AllocError, Global};
 #[tactic(auto, using(crate::proofs::SigningLemmas::GoodLemmas::not_admissible, crate::proofs::SigningLemmas::GoodLemmas::never_signed))]
 pub fn is_good(
     alloc: Global,
-    table: &Table,
+    table: &Table<'_>,
     rrset: &Rrset<'_>,
     rrsig: &Rrsig<'_>,
     key: &KeyRecord<'_>,

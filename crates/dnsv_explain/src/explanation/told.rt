@@ -30,7 +30,7 @@ pub fn add_settled(
     at: &At<'_, '_>,
     lines: &mut Vec<Line>,
     rtype: RecordType,
-    verdict: &Verdict,
+    verdict: &Verdict<'_>,
 ) -> Result<(), AllocError>
     requires at { IsAt evidence.now at.now }
     requires verdict { IsSettledAsBy (basis_in evidence.now) at.now.name.now rtype.0 verdict.now }

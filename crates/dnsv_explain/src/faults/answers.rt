@@ -38,7 +38,7 @@ pub fn best_answer(
 
 /// The best answer over the octets.
 fn best_over(
-    table: &Table,
+    table: &Table<'_>,
     keys: &[KeyRecord<'_>],
     rrsig: &Rrsig<'_>,
     octets: &[u8],
@@ -59,7 +59,7 @@ fn best_over(
 
 /// Whether the table answers so over the octets, under one of the keys that may have made the signature.
 fn is_answered(
-    table: &Table,
+    table: &Table<'_>,
     keys: &[KeyRecord<'_>],
     rrsig: &Rrsig<'_>,
     octets: &[u8],
@@ -73,7 +73,7 @@ fn is_answered(
 
 /// Whether the key may have made the signature, and the table answers so over the octets.
 fn is_answered_by(
-    table: &Table,
+    table: &Table<'_>,
     key: &KeyRecord<'_>,
     rrsig: &Rrsig<'_>,
     octets: &[u8],
@@ -86,7 +86,7 @@ fn is_answered_by(
 
 /// Whether the table answers so of the signature over the octets, under the key.
 fn says(
-    table: &Table,
+    table: &Table<'_>,
     key: &KeyRecord<'_>,
     rrsig: &Rrsig<'_>,
     octets: &[u8],

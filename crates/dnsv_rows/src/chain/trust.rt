@@ -71,9 +71,17 @@ pub fn trust_in<'c>(
     anchors: usize,
 ) -> Result<Trust<'c>, RowError> {
     let alloc = row.alloc();
-    let anchors = trust_anchors(row, anchors)?;
+    let bump = Bump::new(alloc);
+    let anchors = trust_anchors(row, anchors, &bump)?;
     let moment = row.number(2)?;
-    let table = ask_all(alloc, capture, moment, &ByFirstOctet, &mut Count::new())?;
+    let table = ask_all(
+        alloc,
+        &bump,
+        capture,
+        moment,
+        &ByFirstOctet,
+        &mut Count::new(),
+    )?;
     Ok(trusted(alloc, capture, &anchors, &table)?)
 }
 

@@ -16,7 +16,7 @@ use std::alloc::{AllocError, Global};
 /// What may match a key: a trust anchor, or a record of the DS RRset of the owner.
 #[derive(Clone, Copy)]
 pub enum Matcher<'a> {
-    Anchor(&'a Anchor),
+    Anchor(&'a Anchor<'a>),
     Ds(&'a Name, &'a Ds<'a>),
 }
 

@@ -9,7 +9,7 @@ use dnsv_verifier::{BorrowedEntry, Entries};
 use std::alloc::{AllocError, Global};
 
 /// The object with the entries.
-pub fn todo_json(alloc: Global, moment: Moment, entries: &Entries) -> Result<String, AllocError>
+pub fn todo_json(alloc: Global, moment: Moment, entries: &Entries<'_>) -> Result<String, AllocError>
     ensures { IfOk result (λ text. string_bytes text ≡ specs.todo_text true moment entries.now) }
 {
     let mut text = String::new(alloc);
@@ -24,7 +24,7 @@ pub fn todo_json(alloc: Global, moment: Moment, entries: &Entries) -> Result<Str
 }
 
 /// Adds an array of the objects of entries.
-pub fn push_entries(text: &mut String, entries: &Entries) -> Result<(), AllocError>
+pub fn push_entries(text: &mut String, entries: &Entries<'_>) -> Result<(), AllocError>
     ensures { OnOk result (string_bytes text.new
         ≡ string_bytes text.old ++ array (map specs.todo_json entries.now)) }
 {
@@ -35,7 +35,7 @@ pub fn push_entries(text: &mut String, entries: &Entries) -> Result<(), AllocErr
 }
 
 /// Adds the objects of entries, with commas between them.
-fn push_objects(text: &mut String, entries: &Entries) -> Result<(), AllocError>
+fn push_objects(text: &mut String, entries: &Entries<'_>) -> Result<(), AllocError>
     ensures { OnOk result (string_bytes text.new
         ≡ string_bytes text.old ++ parted true (map specs.todo_json entries.now)) }
 {
