@@ -83,7 +83,7 @@ fn anchors_at<'a>(
 }
 
 /// What leads by the anchor, which has the number.
-fn lead_of(number: usize, anchor: &Anchor<'_>) -> Lead<'_>
+fn lead_of<'a>(number: usize, anchor: &'a Anchor<'a>) -> Lead<'a>
     ensures { wanted_of result ≡ wanted_anchor number anchor.now }
 {
     match anchor {
