@@ -48,7 +48,7 @@ impl<'b> Table<'b> {
         parts: Parts<'b>,
         answers: Vec<(EntryNumbers, Answer)>,
     ) -> Table<'b>
-        requires { IsStrictlySortedBy entry_cmp (map (λ each. each.0) (answers_of parts.entry answers.items)) }
+        requires { IsStrictlySortedBy entry_cmp (map (λ each. each.0) (answers_of parts answers.items)) }
         ensures { result ≡ record { moment = moment; answers = answers_of parts.entry answers.items } }
     {
         Table {

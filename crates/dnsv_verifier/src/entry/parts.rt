@@ -93,10 +93,10 @@ impl<'b> Parts<'b> {
         keys: Vec<KeyPart<'b>, &'b Bump>,
         signatures: Vec<SignaturePart<'b>, &'b Bump>,
     ) -> Result<Parts<'b>, AllocError>
-        ensures keys { IfOk result (λ parts. (part : KeyPart) → Contains keys.items part
+        ensures keys { IfOk result (λ parts. (part : KeyPart) → Contains keys.entry.items part
             → Contains parts.keys part) }
         ensures signatures { IfOk result (λ parts. (part : SignaturePart)
-            → Contains signatures.items part → Contains parts.signatures part) }
+            → Contains signatures.entry.items part → Contains parts.signatures part) }
     {
         let mut keys = keys;
         let mut signatures = signatures;
