@@ -9,7 +9,7 @@ ghost use Rattle.dnsv_names.specs.Count.{counted};
 ghost use Rattle.dnsv_verifier.specs.Admissible.{DnskeyRecord, IsAsked};
 ghost use Rattle.dnsv_verifier.specs.Asking.{MadeSignature};
 ghost use Rattle.dnsv_verifier.specs.Entry.{entry_cmp};
-ghost use Rattle.dnsv_verifier.specs.Numbers.{entry_of, part_of_key};
+ghost use Rattle.dnsv_verifier.specs.Numbers.{entry_of, key_cmp, part_of_key, signature_cmp};
 ghost use Rattle.dnsv_verifier.specs.Table.{IsTableOf};
 ghost use Rattle.dnsv_verifier.specs.declared.entry.Entry.{Entry};
 
@@ -94,6 +94,8 @@ fn parts_of<'b>(
         → Contains parts.keys (part_of_key key)) }
     ensures made { IfOk result (λ parts. (each : MadeSignature) → Contains made.now each
         → Contains parts.signatures each.part) }
+    ensures rising { IfOk result (λ parts. IsStrictlySortedBy key_cmp parts.keys
+        × IsStrictlySortedBy signature_cmp parts.signatures) }
 {
     let keys = key_parts(bump, keys)?;
     let signatures = signature_parts(bump, made)?;

@@ -1,6 +1,7 @@
 //! What entries are made of, each part kept once and numbered by its order.
 ghost use Rattle.std.specs.Prelude.{◌≡◌, ◌<◌, Contains, IfOk, length};
-ghost use Rattle.dnsv_verifier.specs.Numbers.{entry_of, key_cmp, key_of, signature_of};
+ghost use Rattle.std.specs.List.Sorted.{IsStrictlySortedBy};
+ghost use Rattle.dnsv_verifier.specs.Numbers.{entry_of, key_cmp, key_of, signature_cmp, signature_of};
 ghost use Rattle.dnsv_verifier.specs.declared.entry.parts.KeyPart.{KeyPart};
 ghost use Rattle.dnsv_verifier.specs.declared.entry.parts.SignaturePart.{SignaturePart};
 
@@ -97,6 +98,8 @@ impl<'b> Parts<'b> {
             → Contains parts.keys part) }
         ensures signatures { IfOk result (λ parts. (part : SignaturePart)
             → Contains signatures.entry.items part → Contains parts.signatures part) }
+        ensures rising { IfOk result (λ parts. IsStrictlySortedBy key_cmp parts.keys
+            × IsStrictlySortedBy signature_cmp parts.signatures) }
     {
         let mut keys = keys;
         let mut signatures = signatures;
