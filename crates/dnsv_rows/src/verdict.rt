@@ -6,8 +6,10 @@ use crate::evidence::verifying::ByFirstOctet;
 use crate::row::{Row, RowError, printed};
 use crate::verifier::statements_of;
 use bumpalo::Bump;
+use dnsv_canonical::Capture;
+use dnsv_chain::Anchors;
 use dnsv_denial::Proof;
-use dnsv_names::RecordType;
+use dnsv_names::{Name, RecordType};
 use dnsv_verdict::{Link, Report, Verdict, VerdictError, validate};
 use dnsv_verifier::{Entries, Panel, Verifier};
 use std::alloc::Global;
@@ -33,8 +35,24 @@ fn validated<V: Verifier>(row: &Row, verifier: &V) -> Result<String, RowError> {
     let anchors = trust_anchors(row, 1, &bump)?;
     let (moment, name) = (row.number(2)?, row.name(3)?);
     let rtype = record_type(row, 4)?;
-    match validate(
+    told_of(
         alloc, &bump, &capture, &anchors, moment, verifier, &name, rtype,
+    )
+}
+
+/// The same of the capture under the anchors.
+fn told_of<V: Verifier>(
+    alloc: Global,
+    bump: &Bump,
+    capture: &Capture<'_>,
+    anchors: &Anchors<'_>,
+    moment: u64,
+    verifier: &V,
+    name: &Name,
+    rtype: RecordType,
+) -> Result<String, RowError> {
+    match validate(
+        alloc, bump, capture, anchors, moment, verifier, name, rtype,
     ) {
         Ok(report) => told(alloc, &report),
         Err(VerdictError::OutOfMemory) => Err(RowError::OutOfMemory),

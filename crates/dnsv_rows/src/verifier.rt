@@ -74,8 +74,12 @@ fn panel(row: &Row) -> Result<String, RowError> {
 fn asked(row: &Row) -> Result<String, RowError> {
     let bump = Bump::new(row.alloc());
     let capture = capture(row, 0, &bump)?;
+    asked_of(row, &bump, &capture)
+}
+
+fn asked_of(row: &Row, bump: &Bump, capture: &Capture<'_>) -> Result<String, RowError> {
     let mut count = Count::new();
-    let table = table_of(row, &bump, &capture, &mut count)?;
+    let table = table_of(row, bump, capture, &mut count)?;
     let (asked, counted, unknown) = (
         table.len(),
         count.value(),
@@ -86,10 +90,14 @@ fn asked(row: &Row) -> Result<String, RowError> {
 
 /// `table CAPTURE MOMENT STATEMENTS`: the entries that are still to be verified, as `ALGORITHM:KEY:DATA:SIGNATURE`.
 fn table(row: &Row) -> Result<String, RowError> {
-    let alloc = row.alloc();
-    let bump = Bump::new(alloc);
+    let bump = Bump::new(row.alloc());
     let capture = capture(row, 0, &bump)?;
-    let table = table_of(row, &bump, &capture, &mut Count::new())?;
+    unknown_of(row, &bump, &capture)
+}
+
+fn unknown_of(row: &Row, bump: &Bump, capture: &Capture<'_>) -> Result<String, RowError> {
+    let alloc = row.alloc();
+    let table = table_of(row, bump, capture, &mut Count::new())?;
     let mut texts = Vec::new(alloc);
     let unknown = table.unknown(alloc)?;
     for place in 0..unknown.len() {
@@ -111,10 +119,19 @@ fn text_of(alloc: Global, entry: &BorrowedEntry<'_>) -> Result<String, RowError>
 fn hopeful(row: &Row) -> Result<String, RowError> {
     let bump = Bump::new(row.alloc());
     let capture = capture(row, 0, &bump)?;
-    let table = table_of(row, &bump, &capture, &mut Count::new())?;
-    let hopeful = table.hopeful(row.alloc())?;
     let entry = entry(row, 3, &bump)?;
-    let (said, hoped) = (said_by(&table, &entry), said_by(&hopeful, &entry));
+    hoped_of(row, &bump, &capture, &entry)
+}
+
+fn hoped_of(
+    row: &Row,
+    bump: &Bump,
+    capture: &Capture<'_>,
+    entry: &Entry<'_>,
+) -> Result<String, RowError> {
+    let table = table_of(row, bump, capture, &mut Count::new())?;
+    let hopeful = table.hopeful(row.alloc())?;
+    let (said, hoped) = (said_by(&table, entry), said_by(&hopeful, entry));
     let (moment, entries) = (hopeful.moment(), hopeful.len());
     let unknown = hopeful.unknown(row.alloc())?.len();
     Ok(format!(in row.alloc(); "{said:?} {hoped:?} {moment} {entries} {unknown}")?)

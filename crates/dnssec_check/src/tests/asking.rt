@@ -63,17 +63,28 @@ fn calls(alloc: Global, why: bool) -> Result<u64, Fail> {
     let bump = Bump::new(alloc);
     let capture = evidence(alloc, &bump)?;
     let anchors = Anchors::parse(alloc, &bump, ANCHOR)?;
+    calls_for(alloc, &bump, &capture, &anchors, why)
+}
+
+/// How often it is asked about the capture.
+fn calls_for(
+    alloc: Global,
+    bump: &Bump,
+    capture: &Capture<'_>,
+    anchors: &Anchors<'_>,
+    why: bool,
+) -> Result<u64, Fail> {
     let (host, address) = (Name::parse(b"host.example.")?, RecordType(1));
     let unknown = Counting {
         calls: Cell::new(0),
     };
     if why {
         explain(
-            alloc, &bump, &capture, &anchors, 1500, &unknown, &host, address,
+            alloc, bump, capture, anchors, 1500, &unknown, &host, address,
         )?;
     } else {
         validate(
-            alloc, &bump, &capture, &anchors, 1500, &unknown, &host, address,
+            alloc, bump, capture, anchors, 1500, &unknown, &host, address,
         )?;
     }
     Ok(unknown.calls.get())
@@ -85,10 +96,10 @@ pub fn is_asked_once_for_each(alloc: Global) -> Result<bool, Fail> {
 }
 
 /// Whether it is asked so often for the table at the moment, and the count grows by as many.
-fn is_asked<'b>(
+fn is_asked(
     alloc: Global,
-    bump: &'b Bump,
-    capture: &'b Capture<'b>,
+    bump: &Bump,
+    capture: &Capture<'_>,
     moment: u64,
     times: u64,
 ) -> Result<bool, Fail> {

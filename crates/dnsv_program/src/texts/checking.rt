@@ -42,13 +42,13 @@ pub struct Asked<'a> {
 /// asked for, why it stands: in lines, or in JSON.
 ///
 /// An alias that can't be followed is refused, without a place.
-pub fn judge<'a, V: Verifier>(
+pub fn judge<V: Verifier>(
     alloc: Global,
-    bump: &'a Bump,
+    bump: &Bump,
     json: bool,
     why: bool,
-    held: &'a Capture<'a>,
-    anchors: &'a Anchors<'a>,
+    held: &Capture<'_>,
+    anchors: &Anchors<'_>,
     moment: Moment,
     verifier: &V,
     name: &Name,

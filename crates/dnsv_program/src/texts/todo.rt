@@ -13,11 +13,11 @@ use dnsv_verifier::{BorrowedEntry, Entries, Verifier, ask_all};
 use std::alloc::{AllocError, Global};
 
 /// Each entry that the verifier knows nothing of, of those that it is asked about the evidence: in lines, or in JSON.
-pub fn still_to_check<'b, V: Verifier>(
+pub fn still_to_check<V: Verifier>(
     alloc: Global,
-    bump: &'b Bump,
+    bump: &Bump,
     json: bool,
-    held: &'b Capture<'b>,
+    held: &Capture<'_>,
     moment: Moment,
     verifier: &V,
 ) -> Result<String, AllocError>
