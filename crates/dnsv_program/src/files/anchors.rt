@@ -7,7 +7,6 @@ ghost use Rattle.dnsv_program.specs.Files.Faults.{IsAbout, IsTextFault, OfOctets
 ghost use Rattle.dnsv_program.specs.Files.{IsToldBy, given_failures, octets_or_none};
 ghost use Rattle.dnsv_program.specs.Status.{fault_number};
 ghost use Rattle.dnsv_program.specs.Told.{IsAnchorsFault, IsFaultOf};
-ghost use Rattle.dnsv_program.specs.declared.status.InputFile.{InputFile};
 
 use crate::files::text::{octets_in, refused_line};
 use crate::status::{Fault, InputFile, Refusal};
