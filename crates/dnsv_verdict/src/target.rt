@@ -12,7 +12,11 @@ use std::alloc::{AllocError, Global};
 
 /// The target of the RRset with the number, from 1 on: the name that its one record has, in lower case. `None` where no
 /// RRset has the number, or it doesn't have one RDATA in canonical form, or that isn't a name's wire form.
-pub fn target_of(alloc: Global, capture: &Capture<'_>, rrset: usize) -> Result<Option<Name>, AllocError>
+pub fn target_of(
+    alloc: Global,
+    capture: &Capture<'_>,
+    rrset: usize,
+) -> Result<Option<Name>, AllocError>
     ensures { IfOk result (λ found. MatchOption found
         ((target : Labels) → ¬ IsTarget capture.now.rrsets rrset target)
         (IsTarget capture.now.rrsets rrset)) }

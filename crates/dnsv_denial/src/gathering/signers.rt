@@ -42,7 +42,11 @@ fn is_denial_type(rtype: RecordType) -> bool
 }
 
 /// Adds the numbers of labels of those who made the RRset's signatures with these numbers.
-fn add_signers(labels: &mut Vec<usize>, rrset: &Rrset<'_>, secured: &[usize]) -> Result<(), AllocError>
+fn add_signers(
+    labels: &mut Vec<usize>,
+    rrset: &Rrset<'_>,
+    secured: &[usize],
+) -> Result<(), AllocError>
     ensures kept { OnOk result ((n : ℕ) → Contains labels.old.items n → Contains labels.new.items n) }
     ensures added { OnOk result ((zone : Labels) → HasZoneSignature (λ s. Contains secured.now s) rrset.now zone
         → Contains labels.new.items (length zone)) }

@@ -113,7 +113,11 @@ fn is_made_by_one(keys: &[KeyRecord<'_>], rrsig: &Rrsig) -> bool
 }
 
 /// What the signature gives to its entries. `None` where Labels is above the owner's count of labels.
-fn part_of(alloc: Global, rrset: &Rrset<'_>, rrsig: &Rrsig) -> Result<Option<SignaturePart>, AllocError>
+fn part_of(
+    alloc: Global,
+    rrset: &Rrset<'_>,
+    rrsig: &Rrsig,
+) -> Result<Option<SignaturePart>, AllocError>
     ensures { IfOk result (λ found. MatchOption found (signed_label_count rrset.now.owner < rrsig.now.labels)
         (IsPartOf rrset.now rrsig.now)) }
 {

@@ -66,7 +66,10 @@ impl<'a> Keys<'a> {
 }
 
 /// The keys of all RRsets, whatever message they came in.
-pub fn all_keys<'a>(alloc: Global, rrsets: &'a [Rrset<'a>]) -> Result<Vec<KeyRecord<'a>>, AllocError>
+pub fn all_keys<'a>(
+    alloc: Global,
+    rrsets: &'a [Rrset<'a>],
+) -> Result<Vec<KeyRecord<'a>>, AllocError>
     ensures { IfOk result (λ keys. AreKeysOf rrsets.now keys.items) }
 {
     let mut keys = Vec::new(alloc);
