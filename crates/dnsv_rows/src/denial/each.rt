@@ -1,6 +1,6 @@
 //! Questions of many names of a zone in one row.
 
-use super::evidence::evidence_of;
+use super::evidence::{Evidence, evidence_of};
 use crate::denial::{rtype_of, view_of};
 use crate::row::{Row, RowError};
 use bumpalo::Bump;
@@ -13,14 +13,17 @@ use std::alloc::{AllocError, Global};
 /// for what isn't proved. Types are parted by `,`.
 pub fn lacks(row: &Row) -> Result<String, RowError> {
     let bump = Bump::new(row.alloc());
-    let evidence = match evidence_of(row, &bump)? {
-        Ok(evidence) => evidence,
-        Err(refusal) => return Ok(refusal),
-    };
+    match evidence_of(row, &bump)? {
+        Ok(evidence) => lacks_in(row, &evidence),
+        Err(refusal) => Ok(refusal),
+    }
+}
+
+fn lacks_in(row: &Row, evidence: &Evidence<'_>) -> Result<String, RowError> {
     let mut text = String::new(row.alloc());
     for place in 4..row.count() {
         let name = row.name(place)?;
-        let view = view_of(row.alloc(), &evidence, &name)?;
+        let view = view_of(row.alloc(), evidence, &name)?;
         append(&mut text, " ", lacked(row, &view)?.as_str())?;
     }
     Ok(text)
@@ -69,15 +72,18 @@ fn append(text: &mut String, mark: &str, item: &str) -> Result<(), AllocError> {
 /// where it is proved that the zone has no closer name, `~` where that name may be left out, `*` where both, else `-`.
 pub fn closers(row: &Row) -> Result<String, RowError> {
     let bump = Bump::new(row.alloc());
-    let evidence = match evidence_of(row, &bump)? {
-        Ok(evidence) => evidence,
-        Err(refusal) => return Ok(refusal),
-    };
+    match evidence_of(row, &bump)? {
+        Ok(evidence) => closers_in(row, &evidence),
+        Err(refusal) => Ok(refusal),
+    }
+}
+
+fn closers_in(row: &Row, evidence: &Evidence<'_>) -> Result<String, RowError> {
     let zone = row.name(3)?;
     let mut text = String::new(row.alloc());
     for place in 4..row.count() {
         let name = row.name(place)?;
-        let view = view_of(row.alloc(), &evidence, &name)?;
+        let view = view_of(row.alloc(), evidence, &name)?;
         append(
             &mut text,
             " ",
