@@ -9,7 +9,7 @@ ghost use Rattle.std.specs.List.{AllByRecursion, AllZip};
 ghost use Rattle.dnsv_message.specs.Message.{Contents, records_of};
 ghost use Rattle.dnsv_records.specs.Rrsig.{IsRrsig};
 ghost use Rattle.dnsv_canonical.specs.Evidence.{AreParameters, Evidence, IsReadable, IsReasonAgainst, IsWhole, IsWithinLimits, no_evidence, nsec3_rdata, signatures_at, with_message};
-ghost use Rattle.dnsv_canonical.specs.Index.{CountsDigits, numbers_at};
+ghost use Rattle.dnsv_canonical.specs.Index.{CountsHalves, numbers_at};
 ghost use Rattle.dnsv_canonical.specs.Rdata.{IsWellFormed};
 ghost use Rattle.dnsv_canonical.specs.declared.capture.CaptureError.TheVariants.{OutOfMemory};
 
@@ -198,10 +198,11 @@ impl<'b> Capture<'b> {
 
     /// The numbers of the RRsets of the name, without regard to case, and of the type, rising. It takes no memory.
     /// The count grows by one for each pair of name and type that is compared with these: at most by as many as the
-    /// number of RRsets has binary digits.
+    /// number of such pairs has binary digits, and at least by one where RRsets are found, and by one less than those
+    /// digits where none are.
     pub fn at(&self, name: &Name, rtype: RecordType, count: &mut Count) -> &[usize]
         ensures numbers { result.now ≡ numbers_at self.now.rrsets name.now rtype.0 }
-        ensures count { CountsDigits (length self.now.rrsets) count.old count.new }
+        ensures count { CountsHalves self.now.rrsets result.now count.old count.new }
     {
         self.index.at(self.rrsets(), name, rtype, count)
     }

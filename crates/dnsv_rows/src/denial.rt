@@ -8,6 +8,7 @@ use crate::chain::trust_in;
 use crate::evidence::capture_or_refusal;
 use crate::row::{Row, RowError, printed};
 use bumpalo::Bump;
+use dnsv_canonical::Capture;
 use dnsv_chain::Trust;
 use dnsv_denial::{Hashes, Proof, View};
 use dnsv_names::{Count, Name, RecordType};
@@ -44,11 +45,14 @@ pub fn answer(row: &Row) -> Result<Option<String>, RowError> {
 /// the proof that the type isn't there, and the unsigned cut.
 fn deny(row: &Row) -> Result<String, RowError> {
     let bump = Bump::new(row.alloc());
-    let capture = match capture_or_refusal(row, 0, &bump)? {
-        Ok(capture) => capture,
-        Err(refusal) => return Ok(refusal),
-    };
-    let evidence = evidence_in(row, &capture)?;
+    match capture_or_refusal(row, 0, &bump)? {
+        Ok(capture) => denied(row, &capture),
+        Err(refusal) => Ok(refusal),
+    }
+}
+
+fn denied(row: &Row, capture: &Capture<'_>) -> Result<String, RowError> {
+    let evidence = evidence_in(row, capture)?;
     let name = row.name(3)?;
     let view = view_of(row.alloc(), &evidence, &name)?;
     denials(row.alloc(), &view, rtype_of(row.text(4)?)?)
@@ -58,11 +62,14 @@ fn deny(row: &Row) -> Result<String, RowError> {
 /// BEFORE was made with.
 fn retrust(row: &Row) -> Result<String, RowError> {
     let bump = Bump::new(row.alloc());
-    let capture = match capture_or_refusal(row, 0, &bump)? {
-        Ok(capture) => capture,
-        Err(refusal) => return Ok(refusal),
-    };
-    let evidence = evidence_in(row, &capture)?;
+    match capture_or_refusal(row, 0, &bump)? {
+        Ok(capture) => denied_again(row, &capture),
+        Err(refusal) => Ok(refusal),
+    }
+}
+
+fn denied_again(row: &Row, capture: &Capture<'_>) -> Result<String, RowError> {
+    let evidence = evidence_in(row, capture)?;
     let before = trust_in(row, evidence.capture, 5)?;
     let name = row.name(3)?;
     let view = view_with_hashes_of(row.alloc(), &evidence, &before, &name)?;
@@ -85,11 +92,14 @@ fn view_with_hashes_of<'a>(
 /// name than so many labels, and the next closer name that may be left out.
 fn closer(row: &Row) -> Result<String, RowError> {
     let bump = Bump::new(row.alloc());
-    let capture = match capture_or_refusal(row, 0, &bump)? {
-        Ok(capture) => capture,
-        Err(refusal) => return Ok(refusal),
-    };
-    let evidence = evidence_in(row, &capture)?;
+    match capture_or_refusal(row, 0, &bump)? {
+        Ok(capture) => closer_in(row, &capture),
+        Err(refusal) => Ok(refusal),
+    }
+}
+
+fn closer_in(row: &Row, capture: &Capture<'_>) -> Result<String, RowError> {
+    let evidence = evidence_in(row, capture)?;
     let name = row.name(3)?;
     let view = view_of(row.alloc(), &evidence, &name)?;
     closer_names(row, &view)
@@ -109,11 +119,14 @@ fn closer_names(row: &Row, view: &View<'_, '_>) -> Result<String, RowError> {
 /// `hashes CAPTURE ANCHORS MOMENT NAME`: how many hashes a view for the name makes.
 fn hashes(row: &Row) -> Result<String, RowError> {
     let bump = Bump::new(row.alloc());
-    let capture = match capture_or_refusal(row, 0, &bump)? {
-        Ok(capture) => capture,
-        Err(refusal) => return Ok(refusal),
-    };
-    let evidence = evidence_in(row, &capture)?;
+    match capture_or_refusal(row, 0, &bump)? {
+        Ok(capture) => hash_count(row, &capture),
+        Err(refusal) => Ok(refusal),
+    }
+}
+
+fn hash_count(row: &Row, capture: &Capture<'_>) -> Result<String, RowError> {
+    let evidence = evidence_in(row, capture)?;
     let mut count = Count::new();
     let name = row.name(3)?;
     View::new(
@@ -130,12 +143,15 @@ fn hashes(row: &Row) -> Result<String, RowError> {
 /// `hash CAPTURE NAME ITERATIONS SALT OTHER`: the hash of the other name among those that are kept for the name.
 fn hash(row: &Row) -> Result<String, RowError> {
     let bump = Bump::new(row.alloc());
-    let capture = match capture_or_refusal(row, 0, &bump)? {
-        Ok(capture) => capture,
-        Err(refusal) => return Ok(refusal),
-    };
+    match capture_or_refusal(row, 0, &bump)? {
+        Ok(capture) => hash_in(row, &capture),
+        Err(refusal) => Ok(refusal),
+    }
+}
+
+fn hash_in(row: &Row, capture: &Capture<'_>) -> Result<String, RowError> {
     let name = row.name(1)?;
-    let hashes = Hashes::new(row.alloc(), &capture, &name, &mut Count::new())?;
+    let hashes = Hashes::new(row.alloc(), capture, &name, &mut Count::new())?;
     kept_hash(row, &hashes)
 }
 

@@ -141,10 +141,14 @@ fn hoped_of(
 /// what is asked of it: whether some key may, and whether the key may have made it.
 fn admissible(row: &Row) -> Result<String, RowError> {
     let bump = Bump::new(row.alloc());
-    let (capture, moment) = (capture(row, 0, &bump)?, row.number(1)?);
-    let rrset = evidence::rrset(row, 2, &capture)?;
+    admissible_in(row, &capture(row, 0, &bump)?)
+}
+
+fn admissible_in(row: &Row, capture: &Capture<'_>) -> Result<String, RowError> {
+    let moment = row.number(1)?;
+    let rrset = evidence::rrset(row, 2, capture)?;
     let rrsig = evidence::signature(row, 3, rrset)?;
-    let set = evidence::rrset(row, 4, &capture)?;
+    let set = evidence::rrset(row, 4, capture)?;
     let rdata = key_rdata(row, 5, set)?;
     let dnskey = evidence::dnskey_of(rdata)?;
     let key = KeyRecord::new(set.owner(), rdata, &dnskey);

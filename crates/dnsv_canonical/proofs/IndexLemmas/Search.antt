@@ -1,8 +1,7 @@
 -- The search by halves, and what it finds.
-use Rattle.std.proofs.Common.{◌≡◌, ℕ, zero, suc, ◌+◌, ◌-◌, ◌/◌, ◌<◌, ◌≤◌, ◌^◌, List, [], length, get_or, map, take, drop, sym, ap, ◌∙◌, subst, arith}
+use Rattle.std.proofs.Common.{◌≡◌, ◌≢◌, ℕ, zero, suc, ◌+◌, ◌-◌, ◌*◌, ◌/◌, ◌<◌, ◌≤◌, ◌^◌, List, [], ◌∷◌, length, get_or, map, take, drop, sym, ap, ◌∙◌, subst, arith}
 use Rattle.std.proofs.lemmas.Option.{slice_get_within}
 use Rattle.std.proofs.lemmas.List.{drop_all}
-use Rattle.std.proofs.lemmas.List.FromFn.{length-enumerate_from}
 use Rattle.std.specs.Prelude.{Some, slice_get, Err}
 use Rattle.std.specs.List.{AllByRecursion, enumerate_from}
 use Rattle.std.specs.declared.cmp.Ordering.TheVariants.{Less, Equal, Greater}
@@ -10,7 +9,7 @@ use Rattle.dnsv_names.specs.Name.{Labels}
 use Rattle.dnsv_canonical.specs.Rrsets.{IsNumbered, ReceivedRrset}
 use Rattle.dnsv_canonical.specs.Index.{numbers_at}
 use Rattle.dnsv_canonical.specs.Index.Grouping.{AreRising, IsFirstAt, IsFound, IsIndexOf, Key, Numbered, group_of, key_cmp, key_of, stands}
-use Rattle.dnsv_canonical.proofs.IndexLemmas.InOrder.{group_at-same, no_group, none_by_place, numbers_at-group, rises_before, rises_behind}
+use Rattle.dnsv_canonical.proofs.IndexLemmas.InOrder.{each_get, group_at-same, no_group, none_by_place, numbers_at-group, rises_before, rises_behind}
 use Rattle.dnsv_canonical.proofs.IndexLemmas.Layout.{IsHead, length-firsts}
 
 pub within_rrsets : (rrsets : List ReceivedRrset) (number : ℕ) (rrset : ReceivedRrset) → IsNumbered rrsets number rrset → number ≤ length rrsets
@@ -39,8 +38,15 @@ pub halved : (size half left : ℕ) → 0 < size → size < 2 ^ left → half �
 halved size half zero some below at_most = absurd (omega (arith, some, below))
 halved size half (suc fewer) some below at_most = (fewer, omega arith, omega (arith, below, at_most))
 
-pub few_starts : (rrsets : List ReceivedRrset) (numbers starts : List ℕ) → IsIndexOf rrsets numbers starts → length starts ≤ length rrsets
-few_starts rrsets numbers starts index = omega (arith, length-firsts rrsets numbers starts index, index.are.few, length-enumerate_from 1 rrsets)
+-- where so many halvings more are enough for the half, one more is for all of it
+pub doubled : (size half left : ℕ) → size ≤ 2 * half + 2 → half + 1 < 2 * 2 ^ left → size + 1 < 2 * 2 ^ suc left
+doubled size half left at_most below = omega (arith, at_most, below)
+
+pub some_numbers : (rrsets : List ReceivedRrset) (numbers starts : List ℕ) (index : IsIndexOf rrsets numbers starts) (place : ℕ) (first : Numbered) → slice_get index.firsts place ≡ Some first → map (λ (x : Numbered). x.0) (group_of (enumerate_from 1 rrsets) first) ≢ []
+some_numbers rrsets numbers starts index place first at none =
+    let group = each_get (λ (f : Numbered). (others : List Numbered) × (group_of (enumerate_from 1 rrsets) f ≡ f ∷ others)) index.firsts place first index.are.each at in
+    let both : map (λ (x : Numbered). x.0) (first ∷ group.0) ≡ [] = sym (ap (map (λ (x : Numbered). x.0)) group.1) ∙ none in
+    absurd (cc)
 
 pub found_numbers : (rrsets : List ReceivedRrset) (name : Labels) (rtype : ℕ) (first : Numbered) → stands first (name, rtype) ≡ Equal → map (λ (x : Numbered). x.0) (group_of (enumerate_from 1 rrsets) first) ≡ numbers_at rrsets name rtype
 found_numbers rrsets name rtype first equal =

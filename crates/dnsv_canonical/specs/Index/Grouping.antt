@@ -1,4 +1,4 @@
--- RRsets in groups of one owner and type, and how an index keeps them. No public clause cites this module.
+-- RRsets in groups of one owner and type, and how an index keeps them.
 use Rattle.std.specs.Prelude.{◌≡◌, ◌≢◌, ◌⊎◌, ℕ, ◌+◌, ◌-◌, ◌≤◌, ⊤, List, [], ◌∷◌, length, take, drop, map, filter, flat_map, Result, Ok, Err, Some, slice_get}
 use Rattle.std.specs.List.{AllByRecursion, enumerate_from}
 use Rattle.std.specs.List.Sorted.{IsPermutation, IsSortedBy}

@@ -3,9 +3,9 @@
 mod merged;
 mod numbered;
 
-ghost use Rattle.std.specs.Prelude.{◌≡◌, ◌++◌, ◌<◌, ◌≤◌, ◌^◌, ◌-◌, [], ℕ, IfOk, drop, length, List, map, slice_get, Some, take};
+ghost use Rattle.std.specs.Prelude.{◌≡◌, ◌++◌, ◌+◌, ◌*◌, ◌<◌, ◌≤◌, ◌^◌, ◌-◌, [], ℕ, IfErr, IfOk, drop, length, List, map, slice_get, Some, take};
 ghost use Rattle.dnsv_canonical.specs.Rrsets.{IsNumbered};
-ghost use Rattle.dnsv_canonical.specs.Index.{CountsDigits, numbers_at};
+ghost use Rattle.dnsv_canonical.specs.Index.{CountsHalves, numbers_at};
 ghost use Rattle.dnsv_canonical.specs.Index.Grouping.{AreLaid, AreStarts, IsFirstAt, IsFound, IsIndexOf, IsPlaceBehind, IsPlaceFrom, Numbered, key_of, numbers_of};
 
 use crate::capture::index::merged::Merged;
@@ -66,7 +66,7 @@ impl Index {
     ) -> &[usize]
         requires { IsIndexOf rrsets.now self.now.numbers.items self.now.starts.items }
         ensures numbers { result.now ≡ numbers_at rrsets.now name.now rtype.0 }
-        ensures count { CountsDigits (length rrsets.now) count.old count.new }
+        ensures count { CountsHalves rrsets.now result.now count.old count.new }
     {
         let (found, compared) = self.find(rrsets, name, rtype);
         count.add(compared as u64);
@@ -119,7 +119,9 @@ impl Index {
         ensures found { (index : IsIndexOf rrsets.now self.now.numbers.items self.now.starts.items)
             → IsFound index.firsts (name.now, rtype.0) result.0 }
         ensures within { IfOk result.0 (λ place. place < length self.now.starts.items) }
-        ensures compared { (digits : ℕ) → length self.now.starts.items < 2 ^ digits → result.1 ≤ digits }
+        ensures most { (digits : ℕ) → length self.now.starts.items < 2 ^ digits → result.1 ≤ digits }
+        ensures some { IfOk result.0 (λ _. 0 < result.1) }
+        ensures absent { IfErr result.0 (λ _. length self.now.starts.items + 1 < 2 * 2 ^ result.1) }
     {
         let mut low = 0;
         let mut high = self.starts.len();

@@ -232,7 +232,11 @@ pub fn push_proof(
 }
 
 /// Adds the line of the record with this number.
-fn push_number(text: &mut String, rrsets: &[Rrset<'_>], number: &RecordNumber) -> Result<(), AllocError>
+fn push_number(
+    text: &mut String,
+    rrsets: &[Rrset<'_>],
+    number: &RecordNumber,
+) -> Result<(), AllocError>
     ensures { OnOk result (string_bytes text.new ≡ string_bytes text.old ++ specs.proof_line rrsets.now number.now) }
 {
     let place = number.rrset.saturating_sub(1);

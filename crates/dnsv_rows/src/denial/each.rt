@@ -5,6 +5,7 @@ use crate::denial::{rtype_of, view_of};
 use crate::evidence::capture_or_refusal;
 use crate::row::{Row, RowError};
 use bumpalo::Bump;
+use dnsv_canonical::Capture;
 use dnsv_denial::View;
 use dnsv_names::Name;
 use std::alloc::{AllocError, Global};
@@ -14,11 +15,14 @@ use std::alloc::{AllocError, Global};
 /// for what isn't proved. Types are parted by `,`.
 pub fn lacks(row: &Row) -> Result<String, RowError> {
     let bump = Bump::new(row.alloc());
-    let capture = match capture_or_refusal(row, 0, &bump)? {
-        Ok(capture) => capture,
-        Err(refusal) => return Ok(refusal),
-    };
-    let evidence = evidence_in(row, &capture)?;
+    match capture_or_refusal(row, 0, &bump)? {
+        Ok(capture) => lacks_in(row, &capture),
+        Err(refusal) => Ok(refusal),
+    }
+}
+
+fn lacks_in(row: &Row, capture: &Capture<'_>) -> Result<String, RowError> {
+    let evidence = evidence_in(row, capture)?;
     let mut text = String::new(row.alloc());
     for place in 4..row.count() {
         let name = row.name(place)?;
@@ -71,11 +75,14 @@ fn append(text: &mut String, mark: &str, item: &str) -> Result<(), AllocError> {
 /// where it is proved that the zone has no closer name, `~` where that name may be left out, `*` where both, else `-`.
 pub fn closers(row: &Row) -> Result<String, RowError> {
     let bump = Bump::new(row.alloc());
-    let capture = match capture_or_refusal(row, 0, &bump)? {
-        Ok(capture) => capture,
-        Err(refusal) => return Ok(refusal),
-    };
-    let evidence = evidence_in(row, &capture)?;
+    match capture_or_refusal(row, 0, &bump)? {
+        Ok(capture) => closers_in(row, &capture),
+        Err(refusal) => Ok(refusal),
+    }
+}
+
+fn closers_in(row: &Row, capture: &Capture<'_>) -> Result<String, RowError> {
+    let evidence = evidence_in(row, capture)?;
     let zone = row.name(3)?;
     let mut text = String::new(row.alloc());
     for place in 4..row.count() {

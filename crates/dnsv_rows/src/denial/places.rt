@@ -22,18 +22,21 @@ pub fn answer(row: &Row) -> Result<Option<String>, RowError> {
         return Ok(None);
     }
     let bump = Bump::new(row.alloc());
-    let capture = match capture_or_refusal(row, 0, &bump)? {
-        Ok(capture) => capture,
-        Err(refusal) => return Ok(Some(refusal)),
-    };
-    let name = row.name(2)?;
-    let nsecs = nsec_entries(row.alloc(), &capture)?;
-    if !nsecs.is_empty() {
-        return Ok(Some(told(row, &name, &ChainRecords::Nsec(&nsecs))?));
+    match capture_or_refusal(row, 0, &bump)? {
+        Ok(capture) => Ok(Some(told_in(row, &capture)?)),
+        Err(refusal) => Ok(Some(refusal)),
     }
-    let nsec3s = nsec3_entries(row.alloc(), &capture)?;
+}
+
+fn told_in(row: &Row, capture: &Capture<'_>) -> Result<String, RowError> {
+    let name = row.name(2)?;
+    let nsecs = nsec_entries(row.alloc(), capture)?;
+    if !nsecs.is_empty() {
+        return told(row, &name, &ChainRecords::Nsec(&nsecs));
+    }
+    let nsec3s = nsec3_entries(row.alloc(), capture)?;
     let entries = Nsec3Entries::new(row.alloc(), nsec3s)?;
-    Ok(Some(told_by_hashes(row, &name, &entries)?))
+    told_by_hashes(row, &name, &entries)
 }
 
 /// The first record of each NSEC RRset.

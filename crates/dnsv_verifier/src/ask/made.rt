@@ -117,7 +117,8 @@ fn is_made_by_one(keys: &[KeyRecord<'_>], rrsig: &Rrsig<'_>) -> bool
     keys.iter().any(|key| may_have_made(key, rrsig))
 }
 
-/// What the signature gives to its entries, its signed data in the arena. `None` where Labels is above the owner's count of labels.
+/// What the signature gives to its entries, its signed data in the arena. `None` where Labels is above the owner's
+/// count of labels.
 fn part_of<'a>(
     alloc: Global,
     bump: &'a Bump,

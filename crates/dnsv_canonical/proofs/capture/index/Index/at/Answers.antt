@@ -1,7 +1,8 @@
-use Rattle.std.proofs.Common.{◌∙◌, sym, subst, map, arith}
+use Rattle.std.proofs.Common.{ℕ, refl, ◌∙◌, ◌+◌, ◌*◌, ◌<◌, ◌^◌, sym, subst, length, map, arith}
+use Rattle.std.specs.Prelude.{IfErr, IfOk, Result}
 use Rattle.dnsv_canonical.specs.Index.Grouping.{IsFound}
-use Rattle.dnsv_canonical.proofs.IndexLemmas.Search.{few_starts, found_numbers, no_numbers}
-use Rattle.dnsv_canonical.proofs.IndexLemmas.Layout.{mapped_group}
+use Rattle.dnsv_canonical.proofs.IndexLemmas.Search.{found_numbers, no_numbers, some_numbers}
+use Rattle.dnsv_canonical.proofs.IndexLemmas.Layout.{length-firsts, mapped_group}
 use Rattle.std.specs.List.{enumerate_from}
 use Rattle.dnsv_canonical.specs.Index.Grouping.{group_of}
 use Rattle.dnsv_canonical.proofs.capture.index.Index.at.Goals as goal
@@ -15,7 +16,19 @@ returns-in-Ok-clause-numbers c =
 
 pub returns-in-Ok-clause-count : goal.returns-in-Ok-clause-count
 returns-in-Ok-clause-count c =
-    (c.find-found.result.1, c.add.ensures, λ digits below. c.find-found.ensures.compared digits (omega (arith, below, few_starts c.args.rrsets.now c.args.self.now.numbers.items c.args.self.now.starts.items c.requires)))
+    let all = enumerate_from 1 c.args.rrsets.now in
+    let place = subst (IsFound c.requires.firsts (c.args.name.now, c.args.rtype.0)) c.in-Ok.is (c.find-found.ensures.found c.requires) in
+    let numbers = c.group.ensures (map (group_of all) c.requires.firsts) c.requires.laid (group_of all place.0) (mapped_group all c.requires.firsts c.in-Ok.place place.0 place.1) in
+    let firsts = length-firsts c.args.rrsets.now c.args.self.now.numbers.items c.args.self.now.starts.items c.requires in
+    record {
+      compared = c.find-found.result.1;
+      counts = c.add.ensures;
+      firsts = c.requires.firsts;
+      are = c.requires.are;
+      most = λ digits below. c.find-found.ensures.most digits (omega (arith, below, firsts));
+      found = λ some. subst (λ (r : Result ℕ ℕ). IfOk r (λ _. 0 < c.find-found.result.1)) c.in-Ok.is c.find-found.ensures.some;
+      absent = λ none. absurd (some_numbers c.args.rrsets.now c.args.self.now.numbers.items c.args.self.now.starts.items c.requires c.in-Ok.place place.0 place.1 (sym numbers ∙ none));
+    }
 
 pub returns-in-Err-clause-numbers : goal.returns-in-Err-clause-numbers
 returns-in-Err-clause-numbers c =
@@ -23,4 +36,14 @@ returns-in-Err-clause-numbers c =
 
 pub returns-in-Err-clause-count : goal.returns-in-Err-clause-count
 returns-in-Err-clause-count c =
-    (c.find-found.result.1, c.add.ensures, λ digits below. c.find-found.ensures.compared digits (omega (arith, below, few_starts c.args.rrsets.now c.args.self.now.numbers.items c.args.self.now.starts.items c.requires)))
+    let firsts = length-firsts c.args.rrsets.now c.args.self.now.numbers.items c.args.self.now.starts.items c.requires in
+    let halves = subst (λ (r : Result ℕ ℕ). IfErr r (λ _. length c.args.self.now.starts.items + 1 < 2 * 2 ^ c.find-found.result.1)) c.in-Err.is c.find-found.ensures.absent in
+    record {
+      compared = c.find-found.result.1;
+      counts = c.add.ensures;
+      firsts = c.requires.firsts;
+      are = c.requires.are;
+      most = λ digits below. c.find-found.ensures.most digits (omega (arith, below, firsts));
+      found = λ some. absurd (some refl);
+      absent = λ none. omega (arith, halves, firsts);
+    }

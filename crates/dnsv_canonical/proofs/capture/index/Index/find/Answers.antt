@@ -1,9 +1,9 @@
-use Rattle.std.proofs.Common.{◌≡◌, ◌∙◌, ◌-◌, sym, subst, arith, drop}
+use Rattle.std.proofs.Common.{◌≡◌, ◌∙◌, ◌+◌, ◌-◌, ◌*◌, ◌<◌, ◌^◌, suc, length, sym, subst, arith, drop}
 use Rattle.std.specs.List.{AllByRecursion}
 use Rattle.std.specs.declared.cmp.Ordering.TheVariants.{Greater}
 use Rattle.dnsv_canonical.specs.Index.Grouping.{Numbered, stands}
 use Rattle.dnsv_canonical.proofs.IndexLemmas.Layout.{length-firsts}
-use Rattle.dnsv_canonical.proofs.IndexLemmas.Search.{greater_from, halved, less_up_to, none_behind}
+use Rattle.dnsv_canonical.proofs.IndexLemmas.Search.{doubled, greater_from, halved, less_up_to, none_behind}
 use Rattle.dnsv_canonical.proofs.capture.index.Index.find.Goals as goal
 
 pub loop-low-init : goal.loop-low-init
@@ -15,6 +15,9 @@ loop-low-init c = record {
   behind = λ index. none_behind (λ (first : Numbered). stands first (c.args.name.now, c.args.rtype.0) ≡ Greater) index.firsts c.len-high.result
       (omega (arith, c.len-high.ensures, c.args.self.now.starts.ok.0, length-firsts c.args.rrsets.now c.args.self.now.numbers.items c.args.self.now.starts.items index));
   digits = λ digits below. (digits, omega arith, omega (arith, below, c.len-high.ensures, c.args.self.now.starts.ok.0));
+  halves = λ left below.
+      let same : left ≡ 0 + left = omega arith in
+      subst (λ n. length c.args.self.now.starts.items + 1 < 2 * 2 ^ n) same (omega (arith, below, c.len-high.ensures, c.args.self.now.starts.ok.0));
 }
 
 pub loop-low-preserved-in-Less : goal.loop-low-preserved-in-Less
@@ -30,6 +33,9 @@ loop-low-preserved-in-Less c =
           let more = kept.digits digits below in
           let fewer = halved (c.loop-low.high - c.loop-low.low) _ more.0 (omega (arith, c.loop-low-test.true)) more.2 (omega (arith, c.loop-low-test.true)) in
           (fewer.0, omega (arith, more.1, fewer.1), fewer.2);
+      halves = λ left below.
+          subst (λ n. length c.args.self.now.starts.items + 1 < 2 * 2 ^ n) (omega arith)
+          (kept.halves (suc left) (doubled (c.loop-low.high - c.loop-low.low) _ left (omega (arith, c.loop-low-test.true)) below));
     }
 
 pub loop-low-preserved : goal.loop-low-preserved
@@ -45,6 +51,9 @@ loop-low-preserved c =
           let more = kept.digits digits below in
           let fewer = halved (c.loop-low.high - c.loop-low.low) _ more.0 (omega (arith, c.loop-low-test.true)) more.2 (omega (arith, c.loop-low-test.true)) in
           (fewer.0, omega (arith, more.1, fewer.1), fewer.2);
+      halves = λ left below.
+          subst (λ n. length c.args.self.now.starts.items + 1 < 2 * 2 ^ n) (omega arith)
+          (kept.halves (suc left) (doubled (c.loop-low.high - c.loop-low.low) _ left (omega (arith, c.loop-low-test.true)) below));
     }
 
 pub returns-in-Equal-clause-found : goal.returns-in-Equal-clause-found
@@ -59,3 +68,8 @@ returns-clause-found c = λ index.
       kept.before index,
       subst (λ n. AllByRecursion (λ (first : Numbered). stands first (c.args.name.now, c.args.rtype.0) ≡ Greater) (drop n index.firsts)) same (kept.behind index),
     )
+
+pub returns-clause-absent : goal.returns-clause-absent
+returns-clause-absent c =
+    let kept = c.loop-low.invariant in
+    subst (λ n. length c.args.self.now.starts.items + 1 < 2 * 2 ^ n) (omega arith) (kept.halves 0 (omega (arith, kept.order, c.loop-low-test.false)))
