@@ -18,9 +18,9 @@ ghost use Rattle.dnsv_verifier.specs.Asking.{AreKeysOf};
 ghost use Rattle.dnsv_explain.specs.At.{IsAt};
 ghost use Rattle.dnsv_explain.specs.Explained.{setting_in};
 ghost use Rattle.dnsv_explain.specs.faults.Listing.{AddsThose, AreWhere};
-ghost use Rattle.dnsv_explain.specs.faults.NeededSearch.{AreLabelsOf, IsSpeakerFound};
+ghost use Rattle.dnsv_explain.specs.faults.searches.NeededSearch.{AreLabelsOf, IsSpeakerFound};
 ghost use Rattle.dnsv_explain.specs.faults.Order.{AreFaultLines, AreFaultParts, AreEndLines, AreLacking, AreLinesOfDenials};
-ghost use Rattle.dnsv_explain.specs.faults.Repeats.{AreThinned};
+ghost use Rattle.dnsv_explain.specs.faults.searches.Repeats.{AreThinned};
 ghost use Rattle.dnsv_explain.specs.faults.Zones.{IsNeeded};
 
 use crate::evidence::Evidence;

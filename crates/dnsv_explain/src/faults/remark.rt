@@ -3,8 +3,8 @@ ghost use Rattle.std.specs.Prelude.{◌≡◌, ◌↔◌, IfOk, IsTrue};
 ghost use Rattle.dnsv_verifier.specs.Asking.{AreKeysOf};
 ghost use Rattle.dnsv_chain.specs.Trusted.{IsGoodByTrust};
 ghost use Rattle.dnsv_explain.specs.Explained.{setting_in};
-ghost use Rattle.dnsv_explain.specs.faults.KeySearch.{HasKeyAt};
-ghost use Rattle.dnsv_explain.specs.faults.RemarkSearch.{IsGoodRemark, IsRemarkOf, remark_for};
+ghost use Rattle.dnsv_explain.specs.faults.searches.KeySearch.{HasKeyAt};
+ghost use Rattle.dnsv_explain.specs.faults.searches.RemarkSearch.{IsGoodRemark, IsRemarkOf, remark_for};
 
 use crate::evidence::Evidence;
 use crate::faults::answers::best_answer;

@@ -6,7 +6,7 @@ ghost use Rattle.dnsv_explain.specs.Explained.{setting_in};
 ghost use Rattle.dnsv_explain.specs.derivations.SignerSearch.{IsSignatureAt};
 ghost use Rattle.dnsv_explain.specs.derivations.Ways.{HasSecured};
 ghost use Rattle.dnsv_explain.specs.faults.Listing.{AddsThose};
-ghost use Rattle.dnsv_explain.specs.faults.RemarkSearch.{remark_lines};
+ghost use Rattle.dnsv_explain.specs.faults.searches.RemarkSearch.{remark_lines};
 ghost use Rattle.dnsv_explain.specs.faults.RrsetLines.{AreSignatureLines, fault_line, follows_line, shown_of};
 
 use crate::evidence::Evidence;

@@ -13,7 +13,7 @@ ghost use Rattle.std.specs.Prelude.{◌≡◌, ◌++◌, ◌∷◌, [], OnOk};
 ghost use Rattle.dnsv_verifier.specs.Asking.{AreKeysOf};
 ghost use Rattle.dnsv_explain.specs.Explained.{setting_in};
 ghost use Rattle.dnsv_explain.specs.faults.Listing.{AddsThose, AreWhere};
-ghost use Rattle.dnsv_explain.specs.faults.Repeats.{AddsNew};
+ghost use Rattle.dnsv_explain.specs.faults.searches.Repeats.{AddsNew};
 ghost use Rattle.dnsv_explain.specs.faults.ZoneLines.{AreZoneLines, HasNoWay, zone_line};
 ghost use Rattle.dnsv_explain.specs.declared.line.fault.zone.WhyZone.TheVariants as zone_why;
 

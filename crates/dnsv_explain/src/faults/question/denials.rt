@@ -3,7 +3,7 @@ ghost use Rattle.std.specs.Prelude.{◌↔◌, ℕ, IsTrue, OnOk};
 ghost use Rattle.dnsv_verifier.specs.Asking.{AreKeysOf};
 ghost use Rattle.dnsv_explain.specs.Explained.{Setting, setting_in};
 ghost use Rattle.dnsv_explain.specs.faults.Listing.{AddsThose, AreOfNumbered, AreThose};
-ghost use Rattle.dnsv_explain.specs.faults.NeededSearch.{AreLabelsOf};
+ghost use Rattle.dnsv_explain.specs.faults.searches.NeededSearch.{AreLabelsOf};
 ghost use Rattle.dnsv_explain.specs.faults.Order.{AreDenialLines, IsOfNeeded};
 ghost use Rattle.dnsv_explain.specs.faults.Zones.{IsNeeded};
 

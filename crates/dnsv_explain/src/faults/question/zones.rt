@@ -2,9 +2,9 @@
 ghost use Rattle.std.specs.Prelude.{◌≡◌, ◌++◌, ◌∷◌, [], ℕ, OnOk};
 ghost use Rattle.dnsv_verifier.specs.Asking.{AreKeysOf};
 ghost use Rattle.dnsv_explain.specs.Explained.{setting_in};
-ghost use Rattle.dnsv_explain.specs.faults.NeededSearch.{AreLabelsOf};
+ghost use Rattle.dnsv_explain.specs.faults.searches.NeededSearch.{AreLabelsOf};
 ghost use Rattle.dnsv_explain.specs.faults.Order.{AreLinesOfZones};
-ghost use Rattle.dnsv_explain.specs.faults.Repeats.{AddsNew};
+ghost use Rattle.dnsv_explain.specs.faults.searches.Repeats.{AddsNew};
 ghost use Rattle.dnsv_explain.specs.faults.ZoneLines.{zone_line};
 ghost use Rattle.dnsv_explain.specs.faults.Zones.{IsNeeded};
 

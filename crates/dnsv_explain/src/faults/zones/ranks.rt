@@ -5,7 +5,7 @@ ghost use Rattle.dnsv_verifier.specs.Asking.{AreKeysOf};
 ghost use Rattle.dnsv_explain.specs.Explained.{setting_in};
 ghost use Rattle.dnsv_explain.specs.faults.Entries.{entry_rank};
 ghost use Rattle.dnsv_explain.specs.faults.Listing.{AreOfEach};
-ghost use Rattle.dnsv_explain.specs.faults.Repeats.{AddsName, AddsNew, AreSaidOfKeys};
+ghost use Rattle.dnsv_explain.specs.faults.searches.Repeats.{AddsName, AddsNew, AreSaidOfKeys};
 ghost use Rattle.dnsv_explain.specs.faults.ZoneLines.{AreEntryLines, AreRankLines, AreWordLines, entry_line};
 ghost use Rattle.dnsv_explain.specs.faults.ZoneLines.ZoneSearch.{IsJudgedAt, differs, wanted_in, wanted_of};
 

@@ -6,7 +6,7 @@ ghost use Rattle.dnsv_verifier.specs.Admissible.{IsKeyAmong};
 ghost use Rattle.dnsv_verifier.specs.Asking.{AreKeysOf};
 ghost use Rattle.dnsv_explain.specs.Explained.{setting_in};
 ghost use Rattle.dnsv_explain.specs.Following.{IsNamed};
-ghost use Rattle.dnsv_explain.specs.faults.KeySearch.{IsNamedIn};
+ghost use Rattle.dnsv_explain.specs.faults.searches.KeySearch.{IsNamedIn};
 ghost use Rattle.dnsv_explain.specs.faults.Keys.{named_by};
 ghost use Rattle.dnsv_explain.specs.faults.Listing.{AddsThose};
 ghost use Rattle.dnsv_explain.specs.faults.ZoneLines.{AreWhyNotGood, AreWhys};

@@ -1,7 +1,7 @@
 use Rattle.std.proofs.Common.{ℕ, take}
 use Rattle.dnsv_explain.specs.Explained.{setting_in}
 use Rattle.dnsv_explain.specs.faults.Listing.{AddsThose, AreOfNumbered}
-use Rattle.dnsv_explain.specs.faults.NeededSearch.{AreLabelsOf}
+use Rattle.dnsv_explain.specs.faults.searches.NeededSearch.{AreLabelsOf}
 use Rattle.dnsv_explain.specs.faults.Order.{AreDenialLines}
 use Rattle.dnsv_explain.specs.faults.Zones.{IsNeeded}
 use Rattle.dnsv_explain.proofs.faults.question.denials.add_denials.Given as goal

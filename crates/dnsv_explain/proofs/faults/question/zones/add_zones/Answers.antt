@@ -4,7 +4,7 @@ use Rattle.dnsv_names.specs.Name.{Labels}
 use Rattle.dnsv_explain.specs.Explained.{setting_in}
 use Rattle.dnsv_explain.specs.faults.Keys.{IsTrustedZone}
 use Rattle.dnsv_explain.specs.faults.Order.{AreNeededLines}
-use Rattle.dnsv_explain.specs.faults.Repeats.{AddsNew}
+use Rattle.dnsv_explain.specs.faults.searches.Repeats.{AddsNew}
 use Rattle.dnsv_explain.specs.faults.ZoneLines.{AreZoneLines}
 use Rattle.dnsv_explain.proofs.lemmas.faults.question.DownLemmas.{down_all_new, down_next_new, down_none_new}
 use Rattle.dnsv_explain.proofs.lemmas.faults.question.ZoneLemmas.{needed_left, needed_said, no_anchor_added, trusted_left, zones_added}

@@ -1,7 +1,7 @@
 use Rattle.std.proofs.Common.{ℕ, take}
 use Rattle.dnsv_explain.specs.Explained.{setting_in}
 use Rattle.dnsv_explain.specs.faults.Listing.{AreOfNumbered}
-use Rattle.dnsv_explain.specs.faults.Repeats.{AddsNew}
+use Rattle.dnsv_explain.specs.faults.searches.Repeats.{AddsNew}
 use Rattle.dnsv_explain.proofs.lemmas.faults.zones.RankLemmas.{OfRank}
 use Rattle.dnsv_explain.proofs.faults.zones.ranks.add_each_rank.Given as goal
 

@@ -1,7 +1,7 @@
 use Rattle.std.proofs.Common.{take}
 use Rattle.dnsv_explain.specs.Explained.{setting_in}
 use Rattle.dnsv_explain.specs.faults.Listing.{AreOfNumbered}
-use Rattle.dnsv_explain.specs.faults.Repeats.{AddsNew, AreSaidOfKeys}
+use Rattle.dnsv_explain.specs.faults.searches.Repeats.{AddsNew, AreSaidOfKeys}
 use Rattle.dnsv_explain.proofs.lemmas.faults.zones.RankLemmas.{Numbered}
 use Rattle.dnsv_explain.proofs.faults.zones.ranks.add_rank.Given as goal
 
