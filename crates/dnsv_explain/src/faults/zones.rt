@@ -1,5 +1,6 @@
 //! What is said of a zone that isn't trusted.
 
+mod digested;
 mod entries;
 mod lead;
 mod named;
@@ -20,6 +21,7 @@ ghost use Rattle.dnsv_explain.specs.declared.line.fault.zone.WhyZone.TheVariants
 use crate::evidence::Evidence;
 use crate::faults::at::{has_own_anchor, has_rrset, is_anchored};
 use crate::faults::keys::keys_at;
+use crate::faults::zones::digested::digested_keys;
 use crate::faults::zones::entries::said_entries;
 use crate::faults::zones::ranks::add_ranks;
 use crate::faults::zones::ways::add_ways;
@@ -54,7 +56,8 @@ pub fn add_zone_faults(
         return Ok(());
     }
     let its_keys = keys_at(alloc, evidence.rrsets(), zone)?;
-    let said = said_entries(alloc, evidence, &its_keys, zone)?;
+    let digested = digested_keys(alloc, &its_keys)?;
+    let said = said_entries(alloc, evidence, &digested, zone)?;
     add_ranks(alloc, evidence, keys, lines, zone, &said)?;
     Ok(())
 }

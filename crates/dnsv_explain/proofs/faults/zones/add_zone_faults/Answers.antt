@@ -24,17 +24,17 @@ returns-then-not-has_rrset c =
 
 pub said_entries-requires : goal.said_entries-requires
 said_entries-requires c = record {
-  keys = keys_in c.args.evidence.now.rrsets c.rrsets.result.now c.args.zone.now c.in_ok-its_keys.its_keys.items c.deref.result.now
-      c.rrsets.ensures c.deref.ensures.value c.in_ok-its_keys.ensures;
+  keys = keys_in c.args.evidence.now.rrsets c.rrsets.result.now c.args.zone.now c.in_ok-its_keys.its_keys.items c.deref-2.result.now
+      c.rrsets.ensures (c.deref-2.ensures.value ∙ c.in_ok-digested.ensures ∙ c.deref.ensures.value) c.in_ok-its_keys.ensures;
 }
 
 pub add_ranks-requires-clause-judged : goal.add_ranks-requires-clause-judged
 add_ranks-requires-clause-judged c =
     let All : List Judged → Type 0 = λ judged. AllByRecursion (IsJudgedAt c.args.evidence.now.rrsets c.args.zone.now) judged in
-    subst All (sym c.deref-2.ensures.value)
-    (all_judged (setting_in c.args.evidence.now) c.args.zone.now c.deref.result.now
-    (keys_in c.args.evidence.now.rrsets c.rrsets.result.now c.args.zone.now c.in_ok-its_keys.its_keys.items c.deref.result.now
-    c.rrsets.ensures c.deref.ensures.value c.in_ok-its_keys.ensures)
+    subst All (sym c.deref-3.ensures.value)
+    (all_judged (setting_in c.args.evidence.now) c.args.zone.now c.deref-2.result.now
+    (keys_in c.args.evidence.now.rrsets c.rrsets.result.now c.args.zone.now c.in_ok-its_keys.its_keys.items c.deref-2.result.now
+    c.rrsets.ensures (c.deref-2.ensures.value ∙ c.in_ok-digested.ensures ∙ c.deref.ensures.value) c.in_ok-its_keys.ensures)
     c.in_ok-said.said.items c.in_ok-said.ensures.each)
 
 pub returns : goal.returns
@@ -45,4 +45,4 @@ returns c =
     zone_said setting c.args.zone.now _ _ _ _ (c.is_anchored.ensures.0 c.if-not-is_anchored.false)
     c.in_ok-add_ways.ensures c.in_ok-add_no_way.ensures
     (keys_said setting c.args.zone.now c.in_ok-said.said.items _ _ (c.has_rrset.ensures.0 c.if-not-has_rrset.false)
-    c.in_ok-said.ensures.are (subst Adds c.deref-2.ensures.value c.in_ok-add_ranks.ensures))
+    c.in_ok-said.ensures.are (subst Adds c.deref-3.ensures.value c.in_ok-add_ranks.ensures))
