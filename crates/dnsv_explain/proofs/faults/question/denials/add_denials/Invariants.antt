@@ -9,6 +9,6 @@ use Rattle.dnsv_explain.proofs.faults.question.denials.add_denials.Given as goal
 -- what is said of the RRsets so far
 abbrev pub invariant-loop-place : goal.invariant-loop-place
 invariant-loop-place l =
-    (t : ℕ) → AreLabelsOf l.name (IsNeeded (setting_in l.evidence) l.name t) l.needed
-    → AddsThose (AreOfNumbered (AreDenialLines (setting_in l.evidence) l.name t) 1 (take l.place l.rrset-items)) l.initial.lines.items
+    (t : ℕ) → AreLabelsOf l.name (IsNeeded (setting_in l.keyed.evidence.now) l.name t) l.needed
+    → AddsThose (AreOfNumbered (AreDenialLines (setting_in l.keyed.evidence.now) l.name t) 1 (take l.place l.rrset-items)) l.initial.lines.items
     l.lines.items
