@@ -2,8 +2,8 @@
 ghost use Rattle.std.specs.Prelude.{◌≡◌, ◌↔◌, IfOk, IsTrue};
 ghost use Rattle.dnsv_verifier.specs.Table.{table_answer};
 ghost use Rattle.dnsv_explain.specs.Explained.{setting_in};
-ghost use Rattle.dnsv_explain.specs.faults.AnswerSearch.{IsAnsweredBy, IsAnsweredBySome, IsBestOf, entry_over};
-ghost use Rattle.dnsv_explain.specs.faults.KeySearch.{IsNamedIn};
+ghost use Rattle.dnsv_explain.specs.faults.searches.AnswerSearch.{IsAnsweredBy, IsAnsweredBySome, IsBestOf, entry_over};
+ghost use Rattle.dnsv_explain.specs.faults.searches.KeySearch.{IsNamedIn};
 ghost use Rattle.dnsv_explain.specs.faults.SignatureFaults.{IsAnswered};
 
 use crate::evidence::Evidence;

@@ -1,7 +1,7 @@
 //! The keys of the evidence, and those that a signature names.
 ghost use Rattle.std.specs.Prelude.{◌↔◌, IfOk, IsTrue};
 ghost use Rattle.dnsv_names.specs.Name.{SameName};
-ghost use Rattle.dnsv_explain.specs.faults.KeySearch.{HasKeyAt, HasNamed, HasNamedZoneKey, IsNamedTo};
+ghost use Rattle.dnsv_explain.specs.faults.searches.KeySearch.{HasKeyAt, HasNamed, HasNamedZoneKey, IsNamedTo};
 ghost use Rattle.dnsv_explain.specs.faults.Keys.{IsZoneKey};
 ghost use Rattle.dnsv_explain.specs.faults.ZoneLines.{IsKeysAt};
 ghost use Rattle.dnsv_explain.specs.faults.ZoneLines.ZoneSearch.{AreKeysAt};

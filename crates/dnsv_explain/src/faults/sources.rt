@@ -15,7 +15,7 @@ ghost use Rattle.dnsv_names.specs.Name.{rightmost};
 ghost use Rattle.dnsv_explain.specs.At.{IsAt};
 ghost use Rattle.dnsv_explain.specs.Explained.{setting_in};
 ghost use Rattle.dnsv_explain.specs.faults.Listing.{AddsThose, AreOfEach};
-ghost use Rattle.dnsv_explain.specs.faults.NeededSearch.{IsSpeakerFound};
+ghost use Rattle.dnsv_explain.specs.faults.searches.NeededSearch.{IsSpeakerFound};
 ghost use Rattle.dnsv_explain.specs.faults.Order.{AreLacking, AreLinesOfSources, names_up};
 ghost use Rattle.dnsv_explain.specs.faults.Sources.SourceSearch.{AreAllParameters};
 

@@ -5,7 +5,7 @@ ghost use Rattle.dnsv_records.specs.Rrsig.Time.{seconds_on};
 ghost use Rattle.dnsv_canonical.specs.SignedData.{IsExpanded, signed_label_count};
 ghost use Rattle.dnsv_verifier.specs.Admissible.{MaySign, is_unexpanded};
 ghost use Rattle.dnsv_explain.specs.Explained.{setting_in};
-ghost use Rattle.dnsv_explain.specs.faults.KeySearch.{HasNamed, HasNamedZoneKey, IsNamedIn};
+ghost use Rattle.dnsv_explain.specs.faults.searches.KeySearch.{HasNamed, HasNamedZoneKey, IsNamedIn};
 ghost use Rattle.dnsv_explain.specs.faults.SignatureFaults.{AreFaultsOf, expired, not_yet};
 
 use crate::evidence::Evidence;

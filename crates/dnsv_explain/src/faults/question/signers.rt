@@ -2,7 +2,7 @@
 ghost use Rattle.std.specs.Prelude.{◌≡◌, ◌↔◌, Contains, IfOk, IsTrue, OnOk};
 ghost use Rattle.dnsv_names.specs.Name.{SameName};
 ghost use Rattle.dnsv_verifier.specs.Asking.{AddsJust};
-ghost use Rattle.dnsv_explain.specs.faults.NeededSearch.{AreLabelsOf, AreSigners, HasDsSigner, IsAbove, IsDenialLabels, IsDsLabels, IsGoalLabels};
+ghost use Rattle.dnsv_explain.specs.faults.searches.NeededSearch.{AreLabelsOf, AreSigners, HasDsSigner, IsAbove, IsDenialLabels, IsDsLabels, IsGoalLabels};
 ghost use Rattle.dnsv_explain.specs.faults.Zones.{HasDenialSigner, HasGoalSigner, HasSigner};
 
 use crate::evidence::Evidence;

@@ -1,7 +1,7 @@
 //! What may answer a question, and what may deny it.
 ghost use Rattle.std.specs.Prelude.{◌↔◌, IsTrue};
 ghost use Rattle.dnsv_denial.specs.gathering.Gathered.{IsDenialType};
-ghost use Rattle.dnsv_explain.specs.faults.NeededSearch.{HasOneAbove, HasOneBy, IsSignedGoal};
+ghost use Rattle.dnsv_explain.specs.faults.searches.NeededSearch.{HasOneAbove, HasOneBy, IsSignedGoal};
 ghost use Rattle.dnsv_explain.specs.faults.Zones.{HasDenial, HasGoal, HasSignedGoal, HasSigner, HasSignerAbove, IsDenial, IsDenialOf, IsGoal, IsStray};
 
 use crate::faults::keys::are_equal;

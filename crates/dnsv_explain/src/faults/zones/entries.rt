@@ -8,6 +8,7 @@ ghost use Rattle.dnsv_explain.specs.faults.ZoneLines.ZoneSearch.{AddsJudged, Add
 
 use crate::evidence::Evidence;
 use crate::faults::keys::are_equal;
+use crate::faults::zones::digested::DigestedKey;
 use crate::faults::zones::lead::Lead;
 use crate::faults::zones::named::word_of;
 use crate::faults::zones::ways::is_ds_way;
@@ -16,7 +17,6 @@ use dnsv_canonical::{Rrset, in_canonical_order};
 use dnsv_chain::Anchor;
 use dnsv_denial::RecordNumber;
 use dnsv_names::Name;
-use dnsv_verifier::KeyRecord;
 use std::alloc::{AllocError, Global};
 
 /// What leads into a zone, with the word that is said of it; none, where it matches a key.
@@ -31,7 +31,7 @@ pub struct Judged<'a> {
 pub fn said_entries<'a>(
     alloc: Global,
     evidence: &'a Evidence<'a>,
-    keys: &[KeyRecord<'_>],
+    keys: &[DigestedKey<'_>],
     zone: &Name,
 ) -> Result<Vec<Judged<'a>>, AllocError>
     requires keys { AreKeysAt evidence.now.rrsets zone.now keys.now }
@@ -49,7 +49,7 @@ pub fn said_entries<'a>(
 fn add_anchors<'a>(
     alloc: Global,
     evidence: &'a Evidence<'a>,
-    keys: &[KeyRecord<'_>],
+    keys: &[DigestedKey<'_>],
     said: &mut Vec<Judged<'a>>,
     zone: &Name,
 ) -> Result<(), AllocError>
@@ -66,7 +66,7 @@ fn add_anchors<'a>(
 fn anchors_at<'a>(
     alloc: Global,
     evidence: &'a Evidence<'a>,
-    keys: &[KeyRecord<'_>],
+    keys: &[DigestedKey<'_>],
     zone: &Name,
 ) -> Result<Vec<Judged<'a>>, AllocError>
     ensures { IfOk result (λ group. AreJudged keys.now
@@ -93,7 +93,7 @@ fn lead_of<'a>(number: usize, anchor: &'a Anchor<'a>) -> Lead<'a>
 }
 
 /// The lead with its word.
-fn judge<'a>(keys: &[KeyRecord<'_>], lead: Lead<'a>) -> Judged<'a>
+fn judge<'a>(keys: &[DigestedKey<'_>], lead: Lead<'a>) -> Judged<'a>
     ensures { IsJudgedAs keys.now (wanted_of lead.entry) result }
 {
     Judged {
@@ -106,7 +106,7 @@ fn judge<'a>(keys: &[KeyRecord<'_>], lead: Lead<'a>) -> Judged<'a>
 fn add_records<'a>(
     alloc: Global,
     evidence: &'a Evidence<'a>,
-    keys: &[KeyRecord<'_>],
+    keys: &[DigestedKey<'_>],
     said: &mut Vec<Judged<'a>>,
     zone: &Name,
     number: usize,
@@ -128,7 +128,7 @@ fn add_records<'a>(
 /// The records of the DS RRset, which has the number.
 fn records_of<'a>(
     alloc: Global,
-    keys: &[KeyRecord<'_>],
+    keys: &[DigestedKey<'_>],
     number: usize,
     rrset: &'a Rrset<'a>,
 ) -> Result<Vec<Judged<'a>>, AllocError>

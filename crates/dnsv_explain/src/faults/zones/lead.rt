@@ -6,6 +6,7 @@ ghost use Rattle.dnsv_explain.specs.Following.{IsNamed};
 ghost use Rattle.dnsv_explain.specs.faults.Entries.{HasTag, HasUnknownDigest, IsIgnoredBeside, IsMatchOf, IsWantedBy, told_entry, wanted_key};
 ghost use Rattle.dnsv_explain.specs.faults.ZoneLines.ZoneSearch.{IsMeant, wanted_of};
 
+use crate::faults::zones::digested::DigestedKey;
 use crate::line::derivation::KeyName;
 use crate::line::fault::zone::{Entry, EntryNumber};
 use dnsv_chain::{goes_before, is_match};
@@ -111,6 +112,16 @@ impl Lead<'_> {
             Lead::Key(_, rdata) => key.rdata() == rdata,
         }
     }
+
+    /// Whether it matches the key, by the digests that are kept of that.
+    pub fn matches_digested(self, key: &DigestedKey<'_>) -> bool
+        ensures { IsTrue result ↔ IsMatchOf (wanted_of self.entry) key.now }
+    {
+        match self {
+            Lead::Digest(_, _, ds) => key.is_match(ds),
+            Lead::Key(_, rdata) => key.key().rdata() == rdata,
+        }
+    }
 }
 
 /// The keys that are meant: those that the lead matches, or those that have its tag and its algorithm.
@@ -143,7 +154,7 @@ fn algorithm_in(rdata: &[u8]) -> u8
 }
 
 /// Whether the key has the tag and the algorithm of the DS record.
-fn names(ds: &Ds<'_>, key: &KeyRecord<'_>) -> bool
+pub fn names(ds: &Ds<'_>, key: &KeyRecord<'_>) -> bool
     ensures { IsTrue result ↔ IsNamed key.now (record { tag = ds.now.key_tag; algorithm = ds.now.algorithm }) }
 {
     ds.key_tag.0 == key.key_tag().0 && ds.algorithm.0 == key.dnskey().algorithm.0
