@@ -2,8 +2,10 @@
 ghost use Rattle.std.specs.Prelude.{◌≡◌, ◌↔◌, ◌++◌, ◌≤◌, List, ℕ, Some, IfSome, IsTrue, length, take};
 ghost use Rattle.dnsv_names.specs.Name.{IsAtOrBelow, IsName, Labels, same_name, wire};
 ghost use Rattle.dnsv_names.specs.Order.{canonical_cmp};
+ghost use Rattle.dnsv_names.specs.Order.ByWire.{search_cmp};
 
 use crate::name::Name;
+use crate::order::by_wire::octets_order;
 use crate::order::compared;
 use crate::wire::{copied, label_count, wire_length};
 use std::cmp::Ordering;
@@ -97,5 +99,11 @@ impl<'b> WireName<'b> {
         ensures { result ≡ canonical_cmp self.now other.now }
     {
         compared(self.octets, other.octets)
+    }
+    /// Compares two names in the order of `ByWire`: by the length of the wire form, and then by its octets in lower case.
+    pub fn search_cmp(&self, other: &WireName<'_>) -> Ordering
+        ensures { result ≡ search_cmp self.now other.now }
+    {
+        octets_order(self.wire(), other.wire())
     }
 }

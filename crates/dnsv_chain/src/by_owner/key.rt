@@ -1,14 +1,12 @@
 //! Names as keys of what is kept by owner.
-ghost use Rattle.std.specs.Prelude.{◌≡◌, ◌∷◌, refl, length, map};
-ghost use Rattle.std.specs.Char.{to_ascii_lowercase};
+ghost use Rattle.std.specs.Prelude.{refl};
 ghost use Rattle.std.specs.Cmp.{on_equiv, on_total, partial_equiv_from_equiv, partial_order_from_agreeing_total};
 ghost use Rattle.std.specs.Ordering.{as_partial_cmp};
 ghost use Rattle.dnsv_names.specs.Name.{same_name};
-ghost use Rattle.dnsv_names.specs.Octets.{octets_cmp};
 ghost use Rattle.dnsv_names.specs.Order.ByWire.{search_cmp};
 ghost use Rattle.dnsv_names.specs.Order.ByWireLaws.{same_name_equiv, search_cmp_total, search_ties};
 
-use dnsv_names::{WireName, lower_order};
+use dnsv_names::WireName;
 use std::cmp::Ordering;
 
 /// An owner, or the name of one that is looked for, where its wire form stands: by the length of that, and then by its
@@ -40,7 +38,7 @@ impl Ord for OwnerKey<'_> {
     ghost matches_eq = { λ a b. search_ties a.0 b.0 };
 
     fn cmp(&self, other: &Self) -> Ordering {
-        octets_order(self.0.wire(), other.0.wire())
+        self.0.search_cmp(&other.0)
     }
 }
 
@@ -53,15 +51,4 @@ impl PartialOrd for OwnerKey<'_> {
     fn partial_cmp(&self, other: &Self) -> Option<Ordering> {
         Some(self.cmp(other))
     }
-}
-
-/// The order of octets by their number, and then as they are in lower case.
-fn octets_order(a: &[u8], b: &[u8]) -> Ordering
-    ensures { result ≡ octets_cmp (length a.now ∷ map to_ascii_lowercase a.now)
-        (length b.now ∷ map to_ascii_lowercase b.now) }
-{
-    if a.len() != b.len() {
-        return a.len().cmp(&b.len());
-    }
-    lower_order(a, b)
 }
