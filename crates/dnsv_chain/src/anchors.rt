@@ -93,11 +93,7 @@ impl<'b> Anchors<'b> {
     ///
     /// The first line with a fault counts: `Syntax` where it is no anchor, else `TooMany` where 64 anchors, repeats
     /// among them, stand before it.
-    pub fn parse(
-        alloc: Global,
-        bump: &'b Bump,
-        text: &[u8],
-    ) -> Result<Anchors<'b>, AnchorsError>
+    pub fn parse(alloc: Global, bump: &'b Bump, text: &[u8]) -> Result<Anchors<'b>, AnchorsError>
         // What is read is what the file says.
         ensures anchors { IfOk result (AreAnchorsOf text.now) }
         // A refusal is the first fault, unless memory was refused.

@@ -11,7 +11,8 @@ use crate::by_owner::{ByOwner, at};
 use dnsv_canonical::{Rrset, signed_data};
 use dnsv_records::Rrsig;
 use dnsv_verifier::{
-    Answer, KeyRecord, Table, Verifier, a_pair_has_one_entry, is_verifiable, may_have_made,
+    Answer, KeyRecord, Table, Verifier, a_pair_has_one_entry, entry_over, is_verifiable,
+    may_have_made,
 };
 use std::alloc::{AllocError, Global};
 
@@ -101,7 +102,12 @@ fn is_valid_under_some(
 }
 
 /// Whether the key may have made the signature, and the table says Valid of it over the octets.
-pub(crate) fn is_valid(table: &Table<'_>, rrsig: &Rrsig<'_>, octets: &[u8], key: &KeyRecord<'_>) -> bool
+pub(crate) fn is_valid(
+    table: &Table<'_>,
+    rrsig: &Rrsig<'_>,
+    octets: &[u8],
+    key: &KeyRecord<'_>,
+) -> bool
     ensures { IsTrue result ↔ IsValidBy (table_answer table.now) rrsig.now octets.now key.now }
 {
     may_have_made(key, rrsig) && says_valid(table, rrsig, octets, key)
@@ -116,11 +122,5 @@ fn says_valid(table: &Table<'_>, rrsig: &Rrsig<'_>, octets: &[u8], key: &KeyReco
       signature = rrsig.now.signature;
     }) ≡ Answer.Valid) }
 {
-    let answer = table.answer(
-        rrsig.algorithm,
-        key.dnskey().key.as_slice(),
-        octets,
-        rrsig.signature.as_slice(),
-    );
-    answer == Answer::Valid
+    table.answer(&entry_over(rrsig, octets, key)) == Answer::Valid
 }

@@ -51,9 +51,7 @@ fn told_of<V: Verifier>(
     name: &Name,
     rtype: RecordType,
 ) -> Result<String, RowError> {
-    match validate(
-        alloc, bump, capture, anchors, moment, verifier, name, rtype,
-    ) {
+    match validate(alloc, bump, capture, anchors, moment, verifier, name, rtype) {
         Ok(report) => told(alloc, &report),
         Err(VerdictError::OutOfMemory) => Err(RowError::OutOfMemory),
         Err(error) => {
@@ -120,7 +118,7 @@ fn with_records(alloc: Global, word: &str, proof: &Proof) -> Result<String, RowE
 fn with_signatures(alloc: Global, entries: &Entries<'_>) -> Result<String, RowError> {
     let mut text = String::from_str(alloc, "Pending")?;
     for place in 0..entries.len() {
-        let signature = printed::octets(alloc, entries.at(place).signature())?;
+        let signature = printed::octets(alloc, entries.at(place).signature.as_slice())?;
         text = format!(in alloc; "{text} {signature}")?;
     }
     Ok(text)

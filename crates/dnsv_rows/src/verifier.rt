@@ -8,8 +8,8 @@ use dnsv_canonical::{Capture, Rrset};
 use dnsv_names::Count;
 use dnsv_records::{Algorithm, Octets};
 use dnsv_verifier::{
-    Answer, BorrowedEntry, Entry, KeyRecord, Panel, Statements, StatementsError, Table, Verifier,
-    ask_all, is_admissible, is_verifiable, may_have_made,
+    Answer, Entry, KeyRecord, Panel, Statements, StatementsError, Table, Verifier, ask_all,
+    is_admissible, is_verifiable, may_have_made,
 };
 use std::alloc::Global;
 
@@ -106,11 +106,11 @@ fn unknown_of(row: &Row, bump: &Bump, capture: &Capture<'_>) -> Result<String, R
     printed::list(alloc, texts.as_slice())
 }
 
-fn text_of(alloc: Global, entry: &BorrowedEntry<'_>) -> Result<String, RowError> {
-    let algorithm = entry.algorithm().0;
-    let key = printed::octets(alloc, entry.key())?;
-    let signed_data = printed::octets(alloc, entry.signed_data())?;
-    let signature = printed::octets(alloc, entry.signature())?;
+fn text_of(alloc: Global, entry: &Entry<'_>) -> Result<String, RowError> {
+    let algorithm = entry.algorithm.0;
+    let key = printed::octets(alloc, entry.key.as_slice())?;
+    let signed_data = printed::octets(alloc, entry.signed_data.as_slice())?;
+    let signature = printed::octets(alloc, entry.signature.as_slice())?;
     Ok(format!(in alloc; "{algorithm}:{key}:{signed_data}:{signature}")?)
 }
 
@@ -180,14 +180,7 @@ fn table_of<'b>(
     count: &mut Count,
 ) -> Result<Table<'b>, RowError> {
     let (moment, statements) = (row.number(1)?, statements_of(row, 2)?);
-    Ok(ask_all(
-        row.alloc(),
-        bump,
-        capture,
-        moment,
-        &statements,
-        count,
-    )?)
+    Ok(ask_all(row.alloc(), bump, capture, moment, &statements, count)?)
 }
 
 /// The statements of the file that the argument writes.
@@ -219,10 +212,5 @@ fn placed<'b>(row: &Row, place: usize, bump: &'b Bump) -> Result<Octets<'b>, Row
 
 /// What the verifier says of the entry.
 fn said_by<V: Verifier>(verifier: &V, entry: &Entry<'_>) -> Answer {
-    verifier.answer(
-        entry.algorithm,
-        entry.key.as_slice(),
-        entry.signed_data.as_slice(),
-        entry.signature.as_slice(),
-    )
+    verifier.answer(entry)
 }

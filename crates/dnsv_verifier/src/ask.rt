@@ -48,7 +48,7 @@ pub fn ask_all<'b, V: Verifier>(
     let Asked { parts, numbers } = asked;
     let mut answers = Vec::with_capacity(alloc, numbers.len())?;
     for each in numbers {
-        let answer = parts.entry(each).answer_of(verifier);
+        let answer = verifier.answer(&parts.entry(each));
         count.add(1);
         // There is room for all.
         let Ok(()) = answers.push((each, answer)) else {

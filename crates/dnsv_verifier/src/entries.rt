@@ -3,7 +3,7 @@ ghost use Rattle.std.specs.Prelude.{◌≡◌, ◌<◌, length, map, slice_index
 ghost use Rattle.dnsv_verifier.specs.Numbers.{entry_of};
 ghost use Rattle.dnsv_verifier.specs.declared.entry.Entry.{Entry};
 
-use crate::entry::borrowed_entry::BorrowedEntry;
+use crate::entry::Entry;
 use crate::entry::parts::{EntryNumbers, Parts};
 use std::marker::Model;
 
@@ -41,7 +41,7 @@ impl<'b> Entries<'b> {
     }
 
     /// The entry at the place, from 0 on.
-    pub fn at(&self, place: usize) -> BorrowedEntry<'_>
+    pub fn at(&self, place: usize) -> Entry<'_>
         requires { place < length self.now }
         ensures { (other : Entry) → slice_index_or self.now place other ≡ result }
     {

@@ -1,6 +1,5 @@
 //! What a verifier is asked.
 
-pub mod borrowed_entry;
 pub mod packed_entry;
 pub mod parts;
 
@@ -10,8 +9,9 @@ ghost use Rattle.std.specs.Ordering.{as_partial_cmp, eq_by_cmp};
 ghost use Rattle.std.proofs.lemmas.Cmp.{eq_by_cmp_equiv};
 ghost use Rattle.dnsv_verifier.specs.Entry.{entry_cmp};
 
-use crate::entry::borrowed_entry::BorrowedEntry;
-use dnsv_records::{Algorithm, Octets};
+use crate::key::KeyRecord;
+use dnsv_names::compare_octets;
+use dnsv_records::{Algorithm, Octets, Rrsig};
 use std::cmp::Ordering;
 
 /// The four values that a signature is verified by (RFC 4035 5.3.3). Entries are ordered by algorithm, key,
@@ -29,16 +29,36 @@ pub struct Entry<'b> {
 }
 
 impl Entry<'_> {
-    /// The same entry, without its octets.
-    pub fn borrowed(&self) -> BorrowedEntry<'_>
-        ensures { result ≡ self.now }
+    /// How this entry stands to the other: by algorithm, key, signed data and signature.
+    pub(crate) fn stands_to(&self, other: &Entry<'_>) -> Ordering
+        ensures { result ≡ entry_cmp self.now other.now }
     {
-        BorrowedEntry::of(
-            self.algorithm,
-            self.key.as_slice(),
-            self.signed_data.as_slice(),
-            self.signature.as_slice(),
-        )
+        let (key, other_key) = (self.key.as_slice(), other.key.as_slice());
+        let (signed_data, other_data) = (self.signed_data.as_slice(), other.signed_data.as_slice());
+        let (signature, other_signature) = (self.signature.as_slice(), other.signature.as_slice());
+        self.algorithm
+            .0
+            .cmp(&other.algorithm.0)
+            .then_with(|| compare_octets(key, other_key))
+            .then_with(|| compare_octets(signed_data, other_data))
+            .then_with(|| compare_octets(signature, other_signature))
+    }
+}
+
+/// What a verifier is asked about the signature over the octets under the key.
+pub fn entry_over<'a>(rrsig: &'a Rrsig<'a>, octets: &'a [u8], key: &'a KeyRecord<'a>) -> Entry<'a>
+    ensures { result ≡ record {
+      algorithm = rrsig.now.algorithm;
+      key = key.now.dnskey.key;
+      signed_data = octets.now;
+      signature = rrsig.now.signature;
+    } }
+{
+    Entry {
+        algorithm: rrsig.algorithm,
+        key: Octets::of(key.dnskey().key.as_slice()),
+        signed_data: Octets::of(octets),
+        signature: Octets::of(rrsig.signature.as_slice()),
     }
 }
 
@@ -55,7 +75,7 @@ impl Ord for Entry<'_> {
     ghost matches_eq = { λ a b. refl };
 
     fn cmp(&self, other: &Entry<'_>) -> Ordering {
-        self.borrowed().stands_to(&other.borrowed())
+        self.stands_to(other)
     }
 }
 

@@ -7,10 +7,9 @@ ghost use Rattle.dnsv_verifier.specs.Table.{hopeful, unknown_entries};
 
 use crate::answer::Answer;
 use crate::entries::Entries;
-use crate::entry::borrowed_entry::BorrowedEntry;
+use crate::entry::Entry;
 use crate::entry::parts::{EntryNumbers, Parts};
 use crate::verifier::Verifier;
-use dnsv_records::Algorithm;
 use std::alloc::{AllocError, Global};
 use std::marker::Model;
 
@@ -117,18 +116,11 @@ impl Verifier for Table<'_> {
 
     ghost meaning = { table_answer };
 
-    fn answer(
-        &self,
-        algorithm: Algorithm,
-        key: &[u8],
-        signed_data: &[u8],
-        signature: &[u8],
-    ) -> Answer {
-        let asked = BorrowedEntry::of(algorithm, key, signed_data, signature);
+    fn answer(&self, entry: &Entry<'_>) -> Answer {
         let parts = &self.parts;
         let place = self
             .answers
-            .binary_search_by(|(numbers, _)| parts.entry(*numbers).stands_to(&asked));
+            .binary_search_by(|(numbers, _)| parts.entry(*numbers).stands_to(entry));
         match place {
             Ok(place) => self.answers[place].1,
             Err(_) => Answer::Unknown,

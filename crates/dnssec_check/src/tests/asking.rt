@@ -5,9 +5,8 @@ use dnsv_chain::Anchors;
 use dnsv_explain::explain;
 use dnsv_message::Message;
 use dnsv_names::{Count, Name, RecordType};
-use dnsv_records::Algorithm;
 use dnsv_verdict::validate;
-use dnsv_verifier::{Answer, Verifier, ask_all};
+use dnsv_verifier::{Answer, Entry, Verifier, ask_all};
 use std::alloc::Global;
 use std::cell::Cell;
 use std::test::Fail;
@@ -38,13 +37,7 @@ impl Verifier for Counting {
 
     ghost meaning = { λ _ _. Unknown };
 
-    fn answer(
-        &self,
-        _algorithm: Algorithm,
-        _key: &[u8],
-        _signed_data: &[u8],
-        _signature: &[u8],
-    ) -> Answer {
+    fn answer(&self, _entry: &Entry<'_>) -> Answer {
         self.calls.set(self.calls.get().saturating_add(1));
         Answer::Unknown
     }
@@ -116,7 +109,8 @@ fn is_asked(
 pub fn is_asked_once_by_a_table(alloc: Global) -> Result<bool, Fail> {
     let bump = Bump::new(alloc);
     let mut capture = evidence(alloc, &bump)?;
-    let once = is_asked(alloc, &bump, &capture, 1500, 2)? && is_asked(alloc, &bump, &capture, 2001, 0)?;
+    let once = is_asked(alloc, &bump, &capture, 1500, 2)?
+        && is_asked(alloc, &bump, &capture, 2001, 0)?;
     capture.add(&Message::decode(alloc, HOST)?)?;
     Ok(once && is_asked(alloc, &bump, &capture, 1500, 2)?)
 }

@@ -10,7 +10,8 @@ use crate::evidence::Evidence;
 use dnsv_canonical::{Rrset, signed_data};
 use dnsv_records::Rrsig;
 use dnsv_verifier::{
-    Answer, KeyRecord, Table, Verifier, a_pair_has_one_entry, is_verifiable, may_have_made,
+    Answer, KeyRecord, Table, Verifier, a_pair_has_one_entry, entry_over, is_verifiable,
+    may_have_made,
 };
 use std::alloc::{AllocError, Global};
 
@@ -94,11 +95,5 @@ fn says(
 ) -> bool
     ensures { IsTrue result ↔ (table_answer table.now (entry_over rrsig.now octets.now key.now) ≡ answer) }
 {
-    let given = table.answer(
-        rrsig.algorithm,
-        key.dnskey().key.as_slice(),
-        octets,
-        rrsig.signature.as_slice(),
-    );
-    given == answer
+    table.answer(&entry_over(rrsig, octets, key)) == answer
 }

@@ -72,7 +72,9 @@ pub fn judge<V: Verifier>(
         moment,
     };
     let seconds = moment.seconds();
-    match report_and_why(alloc, bump, why, held, anchors, seconds, verifier, name, rtype) {
+    match report_and_why(
+        alloc, bump, why, held, anchors, seconds, verifier, name, rtype,
+    ) {
         Ok((report, told)) => Ok(Outcome {
             status: status_of(&report.verdict),
             text: text_of(alloc, json, &asked, held.rrsets(), &report, &told)?,

@@ -35,7 +35,9 @@ pub fn report_and_why<'a, V: Verifier>(
         ⊎ IsRefusal (basis_of held.now.rrsets anchors.now moment (V.meaning verifier.now)) name.now rtype.0 error) }
 {
     if why {
-        let (report, explanation) = explain(alloc, bump, held, anchors, moment, verifier, name, rtype)?;
+        let (report, explanation) = explain(
+            alloc, bump, held, anchors, moment, verifier, name, rtype,
+        )?;
         return Ok((report, Some(explanation)));
     }
     let report = validate(alloc, bump, held, anchors, moment, verifier, name, rtype)?;

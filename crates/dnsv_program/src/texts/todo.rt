@@ -9,7 +9,7 @@ use crate::texts::json::todo::todo_json;
 use bumpalo::Bump;
 use dnsv_canonical::Capture;
 use dnsv_names::Count;
-use dnsv_verifier::{BorrowedEntry, Entries, Verifier, ask_all};
+use dnsv_verifier::{Entries, Entry, Verifier, ask_all};
 use std::alloc::{AllocError, Global};
 
 /// Each entry that the verifier knows nothing of, of those that it is asked about the evidence: in lines, or in JSON.
@@ -67,15 +67,15 @@ pub fn push_entries(text: &mut String, entries: &Entries<'_>) -> Result<(), Allo
 }
 
 /// Adds the line of an entry.
-fn push_entry(text: &mut String, entry: &BorrowedEntry<'_>) -> Result<(), AllocError>
+fn push_entry(text: &mut String, entry: &Entry<'_>) -> Result<(), AllocError>
     ensures { OnOk result (string_bytes text.new ≡ string_bytes text.old ++ todo_line entry.now) }
 {
-    let algorithm = entry.algorithm().0;
+    let algorithm = entry.algorithm.0;
     write!(text, "todo {algorithm} ")?;
-    push_hex_text(text, entry.key())?;
+    push_hex_text(text, entry.key.as_slice())?;
     text.push_str(" ")?;
-    push_hex_text(text, entry.signed_data())?;
+    push_hex_text(text, entry.signed_data.as_slice())?;
     text.push_str(" ")?;
-    push_hex_text(text, entry.signature())?;
+    push_hex_text(text, entry.signature.as_slice())?;
     text.push_str("\n")
 }

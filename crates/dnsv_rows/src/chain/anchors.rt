@@ -79,11 +79,7 @@ fn anchors_match(row: &Row) -> Result<String, RowError> {
 }
 
 /// The trust anchors that the argument is a text of.
-pub fn trust_anchors<'b>(
-    row: &Row,
-    place: usize,
-    bump: &'b Bump,
-) -> Result<Anchors<'b>, RowError> {
+pub fn trust_anchors<'b>(row: &Row, place: usize, bump: &'b Bump) -> Result<Anchors<'b>, RowError> {
     match Anchors::parse(row.alloc(), bump, row.octets(place)?.as_slice()) {
         Ok(anchors) => Ok(anchors),
         Err(AnchorsError::OutOfMemory) => Err(RowError::OutOfMemory),

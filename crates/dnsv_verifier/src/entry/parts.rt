@@ -5,7 +5,7 @@ ghost use Rattle.dnsv_verifier.specs.Numbers.{entry_of, key_cmp, key_of, signatu
 ghost use Rattle.dnsv_verifier.specs.declared.entry.parts.KeyPart.{KeyPart};
 ghost use Rattle.dnsv_verifier.specs.declared.entry.parts.SignaturePart.{SignaturePart};
 
-use crate::entry::borrowed_entry::BorrowedEntry;
+use crate::entry::Entry;
 use bumpalo::Bump;
 use bumpalo::collections::into_bump_slice;
 use dnsv_names::compare_octets;
@@ -155,12 +155,17 @@ impl<'b> Parts<'b> {
     }
 
     /// The entry of the numbers, and one without octets where they are of nothing.
-    pub(crate) fn entry(&self, numbers: EntryNumbers) -> BorrowedEntry<'_>
+    pub(crate) fn entry(&self, numbers: EntryNumbers) -> Entry<'_>
         ensures { result ≡ entry_of self.now numbers }
     {
         let (algorithm, key) = self.key_at(numbers.key as usize);
         let (signed_data, signature) = self.signature_at(numbers.signature as usize);
-        BorrowedEntry::of(algorithm, key, signed_data, signature)
+        Entry {
+            algorithm,
+            key: Octets::of(key),
+            signed_data: Octets::of(signed_data),
+            signature: Octets::of(signature),
+        }
     }
 
     /// The key at the place.

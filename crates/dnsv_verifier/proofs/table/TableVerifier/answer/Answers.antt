@@ -12,7 +12,7 @@ use Rattle.dnsv_verifier.proofs.table.TableVerifier.answer.Goals as goal
 
 pub returns-in-Ok : goal.returns-in-Ok
 returns-in-Ok c =
-    let asked : Entry = record { algorithm = c.args.algorithm; key = c.args.key.now; signed_data = c.args.signed_data.now; signature = c.args.signature.now } in
+    let asked : Entry = c.args.entry.now in
     let entry : EntryNumbers × Answer → Entry = λ each. entry_of c.self.inside.parts each.0 in
     let value : EntryNumbers × Answer → Answer = λ each. each.1 in
     let by_entry = c.in-Ok.ensures.position (λ each. entry_cmp (entry_of c.self.inside.parts each.0) asked) (always_returns_same _ _ _ (λ a r f called. search rules)) in
@@ -24,7 +24,7 @@ returns-in-Ok c =
 
 pub returns-in-Err : goal.returns-in-Err
 returns-in-Err c =
-    let asked : Entry = record { algorithm = c.args.algorithm; key = c.args.key.now; signed_data = c.args.signed_data.now; signature = c.args.signature.now } in
+    let asked : Entry = c.args.entry.now in
     let entry : EntryNumbers × Answer → Entry = λ each. entry_of c.self.inside.parts each.0 in
     let value : EntryNumbers × Answer → Answer = λ each. each.1 in
     let by_entry = c.in-Err.ensures.position (λ each. entry_cmp (entry_of c.self.inside.parts each.0) asked) (always_returns_same _ _ _ (λ a r f called. search rules)) in

@@ -13,8 +13,8 @@ use crate::texts::json::members::{
 use crate::texts::json::push_octets;
 use dnsv_denial::RecordNumber;
 use dnsv_explain::{
-    DenialUnproved, DnameAbove, MissingAnswer, Role, Source, SourceFault, SourceParameters, UnusableNsec3, WhyNsec3,
-    WhySource,
+    DenialUnproved, DnameAbove, MissingAnswer, Role, Source, SourceFault, SourceParameters,
+    UnusableNsec3, WhyNsec3, WhySource,
 };
 use dnsv_names::Name;
 use dnsv_records::Iterations;
