@@ -16,9 +16,8 @@ const EACH: &[u8] = b"\x00\x01\x84\x00\x00\x00\x00\x05\x00\x00\x00\x00\
 \x07\x07\x07\x07\x07\x07\x07\x07\x07\x07\x07\x07\x07\x07\x07\x07\x07\x07\x07\x07";
 
 /// Whether the message has four RRsets, each with one record of its type, and one signature of the first.
-fn are_read(alloc: Global, message: &Message<'_>) -> Result<bool, Fail> {
-    let bump = Bump::new(alloc);
-    let mut capture = Capture::new(alloc, &bump);
+fn are_read<'b>(alloc: Global, bump: &'b Bump, message: &Message<'b>) -> Result<bool, Fail> {
+    let mut capture = Capture::new(alloc, bump);
     capture.add(message)?;
     let [keys, digests, nsecs, nsec3s] = capture.rrsets() else {
         return Ok(false);
@@ -30,5 +29,6 @@ fn are_read(alloc: Global, message: &Message<'_>) -> Result<bool, Fail> {
 
 /// Whether a record of each type that is read is found in what a capture holds.
 pub fn is_each_type_read(alloc: Global) -> Result<bool, Fail> {
-    are_read(alloc, &Message::decode(alloc, EACH)?)
+    let bump = Bump::new(alloc);
+    are_read(alloc, &bump, &Message::decode(alloc, EACH)?)
 }
