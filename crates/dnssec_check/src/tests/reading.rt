@@ -15,20 +15,26 @@ const EACH: &[u8] = b"\x00\x01\x84\x00\x00\x00\x00\x05\x00\x00\x00\x00\
 \x00\x00\x32\x00\x01\x00\x00\x00\x05\x00\x1b\x01\x00\x00\x0c\x01\x07\x14\
 \x07\x07\x07\x07\x07\x07\x07\x07\x07\x07\x07\x07\x07\x07\x07\x07\x07\x07\x07\x07";
 
-/// Whether the message has four RRsets, each with one record of its type, and one signature of the first.
-fn are_read<'b>(alloc: Global, bump: &'b Bump, message: &Message<'b>) -> Result<bool, Fail> {
+/// What a capture holds of the message.
+fn held<'b>(alloc: Global, bump: &'b Bump) -> Result<Capture<'b>, Fail> {
     let mut capture = Capture::new(alloc, bump);
-    capture.add(message)?;
+    capture.add(&Message::decode(alloc, EACH)?)?;
+    Ok(capture)
+}
+
+/// Whether the capture has four RRsets, each with one record of its type, and one signature of the first.
+fn are_read(capture: &Capture<'_>) -> bool {
     let [keys, digests, nsecs, nsec3s] = capture.rrsets() else {
-        return Ok(false);
+        return false;
     };
     let signed = keys.dnskeys().len() == 1 && keys.signatures().len() == 1;
     let denied = nsecs.nsecs().len() == 1 && nsec3s.nsec3s().len() == 1;
-    Ok(signed && denied && digests.ds_records().len() == 1)
+    signed && denied && digests.ds_records().len() == 1
 }
 
 /// Whether a record of each type that is read is found in what a capture holds.
 pub fn is_each_type_read(alloc: Global) -> Result<bool, Fail> {
     let bump = Bump::new(alloc);
-    are_read(alloc, &bump, &Message::decode(alloc, EACH)?)
+    let capture = held(alloc, &bump)?;
+    Ok(are_read(&capture))
 }
