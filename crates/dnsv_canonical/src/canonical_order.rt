@@ -71,19 +71,19 @@ pub trait ReadFrom {
     ghost reads: { List ℕ → Self → Type 0 };
 }
 
-impl ReadFrom for Dnskey {
+impl ReadFrom for Dnskey<'_> {
     ghost reads = { IsDnskey };
 }
 
-impl ReadFrom for Ds {
+impl ReadFrom for Ds<'_> {
     ghost reads = { IsDs };
 }
 
-impl ReadFrom for Nsec {
+impl ReadFrom for Nsec<'_> {
     ghost reads = { IsNsec };
 }
 
-impl ReadFrom for Nsec3 {
+impl ReadFrom for Nsec3<'_> {
     ghost reads = { IsNsec3 };
 }
 

@@ -91,7 +91,7 @@ pub struct Capture<'b> {
     records: usize,
     rrsets: Vec<Rrset<'b>>,
     /// The parameters of the NSEC3 records that can be used, each once.
-    parameters: Vec<Nsec3Parameters>,
+    parameters: Vec<Nsec3Parameters<'b>>,
     /// The RRsets by owner and type.
     index: Index,
 }
@@ -190,7 +190,7 @@ impl<'b> Capture<'b> {
     }
 
     /// The parameters of the usable NSEC3 records of all RRsets, each once: at most 8.
-    pub fn nsec3_parameters(&self) -> &[Nsec3Parameters]
+    pub fn nsec3_parameters(&self) -> &[Nsec3Parameters<'b>]
         ensures { AreParameters (nsec3_rdata self.now.rrsets) result.now }
     {
         &self.parameters
@@ -209,7 +209,7 @@ impl<'b> Capture<'b> {
 
     /// The signatures of the RRset with the number, from 1 on; none where no RRset has it. They are numbered
     /// from 1 too.
-    pub fn signatures(&self, rrset: usize) -> &[Rrsig]
+    pub fn signatures(&self, rrset: usize) -> &[Rrsig<'b>]
         ensures { AllZip IsRrsig (signatures_at self.now.rrsets rrset) result.now }
     {
         let rrsets = self.rrsets();

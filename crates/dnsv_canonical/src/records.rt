@@ -11,84 +11,84 @@ use std::alloc::{AllocError, Global};
 
 /// The records of an RRset, in the order of its RDATA.
 #[derive(Drop)]
-pub enum Records {
-    Dnskeys(Vec<Dnskey>),
-    DsRecords(Vec<Ds>),
-    Nsecs(Vec<Nsec>),
-    Nsec3s(Vec<Nsec3>),
+pub enum Records<'b> {
+    Dnskeys(Vec<Dnskey<'b>>),
+    DsRecords(Vec<Ds<'b>>),
+    Nsecs(Vec<Nsec<'b>>),
+    Nsec3s(Vec<Nsec3<'b>>),
     /// RDATA of other types isn't read.
     Unread,
 }
 
 /// A record that is read from its RDATA.
-pub trait FromRdata: Drop + Sized {
+pub trait FromRdata<'b>: Drop + Sized {
     /// The RDATA is this record.
     ghost is_read: { List ℕ → Self → Type 0 };
 
     /// Reads RDATA that is such a record.
-    fn from_rdata(alloc: Global, rdata: &[u8]) -> Result<Self, RecordError>
+    fn from_rdata(rdata: &'b [u8]) -> Result<Self, RecordError>
         ensures found { IfOk result (is_read rdata.now) }
         ensures fails { (value : Self) → is_read rdata.now value → IfErr result (λ error. error ≡ OutOfMemory) };
 }
 
-impl FromRdata for Dnskey {
+impl<'b> FromRdata<'b> for Dnskey<'b> {
     ghost use Rattle.dnsv_records.specs.Dnskey.{IsDnskey};
 
     ghost is_read = { IsDnskey };
 
-    fn from_rdata(alloc: Global, rdata: &[u8]) -> Result<Dnskey, RecordError> {
-        Dnskey::read(alloc, rdata)
+    fn from_rdata(rdata: &'b [u8]) -> Result<Dnskey<'b>, RecordError> {
+        Dnskey::read(rdata)
     }
 }
 
-impl FromRdata for Ds {
+impl<'b> FromRdata<'b> for Ds<'b> {
     ghost use Rattle.dnsv_records.specs.Ds.{IsDs};
 
     ghost is_read = { IsDs };
 
-    fn from_rdata(alloc: Global, rdata: &[u8]) -> Result<Ds, RecordError> {
-        Ds::read(alloc, rdata)
+    fn from_rdata(rdata: &'b [u8]) -> Result<Ds<'b>, RecordError> {
+        Ds::read(rdata)
     }
 }
 
-impl FromRdata for Nsec {
+impl<'b> FromRdata<'b> for Nsec<'b> {
     ghost use Rattle.dnsv_records.specs.Nsec.{IsNsec};
 
     ghost is_read = { IsNsec };
 
-    fn from_rdata(alloc: Global, rdata: &[u8]) -> Result<Nsec, RecordError> {
-        Nsec::read(alloc, rdata)
+    fn from_rdata(rdata: &'b [u8]) -> Result<Nsec<'b>, RecordError> {
+        Nsec::read(rdata)
     }
 }
 
-impl FromRdata for Nsec3 {
+impl<'b> FromRdata<'b> for Nsec3<'b> {
     ghost use Rattle.dnsv_records.specs.Nsec3.{IsNsec3};
 
     ghost is_read = { IsNsec3 };
 
-    fn from_rdata(alloc: Global, rdata: &[u8]) -> Result<Nsec3, RecordError> {
-        Nsec3::read(alloc, rdata)
+    fn from_rdata(rdata: &'b [u8]) -> Result<Nsec3<'b>, RecordError> {
+        Nsec3::read(rdata)
     }
 }
 
-impl FromRdata for Rrsig {
+impl<'b> FromRdata<'b> for Rrsig<'b> {
     ghost use Rattle.dnsv_records.specs.Rrsig.{IsRrsig};
 
     ghost is_read = { IsRrsig };
 
-    fn from_rdata(alloc: Global, rdata: &[u8]) -> Result<Rrsig, RecordError> {
-        Rrsig::read(alloc, rdata)
+    fn from_rdata(rdata: &'b [u8]) -> Result<Rrsig<'b>, RecordError> {
+        Rrsig::read(rdata)
     }
 }
 
 ghost use Rattle.dnsv_canonical.specs.Records.{AreRecords};
 
 /// Reads the RDATA of records of the type.
-pub fn read_records(
+pub fn read_records<'b>(
     alloc: Global,
     rtype: RecordType,
-    received: &[&[u8]],
-) -> Result<Records, AllocError>
+    received: &[&'b [u8]],
+) -> Result<Records<'b>, AllocError>
     requires { AllByRecursion (IsLaidOut rtype.0) (map (λ r. r.now) received.now) }
     ensures { IfOk result (AreRecords rtype.0 (map (λ r. r.now) received.now)) }
 {
@@ -102,23 +102,26 @@ pub fn read_records(
 }
 
 /// Reads RDATA of one kind.
-pub fn read_each<T: FromRdata>(alloc: Global, received: &[&[u8]]) -> Result<Vec<T>, AllocError>
+pub fn read_each<'b, T: FromRdata<'b>>(
+    alloc: Global,
+    received: &[&'b [u8]],
+) -> Result<Vec<T>, AllocError>
     requires { AllByRecursion (λ rdata. (value : T) × T.is_read rdata value) (map (λ r. r.now) received.now) }
     ensures { IfOk result (λ records. AllZip T.is_read (map (λ r. r.now) received.now) records.items) }
 {
     let mut records = Vec::with_capacity(alloc, received.len())?;
     for rdata in received {
-        records.push(read_one(alloc, rdata)?)?;
+        records.push(read_one(rdata)?)?;
     }
     Ok(records)
 }
 
 /// Reads RDATA that is a record of the kind.
-fn read_one<T: FromRdata>(alloc: Global, rdata: &[u8]) -> Result<T, AllocError>
+fn read_one<'b, T: FromRdata<'b>>(rdata: &'b [u8]) -> Result<T, AllocError>
     requires { (value : T) × T.is_read rdata.now value }
     ensures { IfOk result (λ value. T.is_read rdata.now value) }
 {
-    match T::from_rdata(alloc, rdata) {
+    match T::from_rdata(rdata) {
         Ok(value) => Ok(value),
         Err(RecordError::OutOfMemory) => Err(AllocError),
         Err(RecordError::BadRdata(_)) => unreachable!(),

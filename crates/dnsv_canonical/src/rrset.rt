@@ -32,8 +32,8 @@ use std::marker::Model;
 #[derive(Drop)]
 pub struct Rrset<'b> {
     received: Received<'b>,
-    records: Records,
-    signatures: Vec<Rrsig>,
+    records: Records<'b>,
+    signatures: Vec<Rrsig<'b>>,
 }
 
 impl<'b> Model for Rrset<'b> {
@@ -109,7 +109,7 @@ impl<'b> Rrset<'b> {
     }
 
     /// The keys of a DNSKEY RRset, in the order of its RDATA; none of an RRset of another type.
-    pub fn dnskeys(&self) -> &[Dnskey]
+    pub fn dnskeys(&self) -> &[Dnskey<'b>]
         ensures { AllZip IsDnskey (rdata_of_type 48 self.now) result.now }
     {
         match &self.records {
@@ -119,7 +119,7 @@ impl<'b> Rrset<'b> {
     }
 
     /// The records of a DS RRset, in the order of its RDATA; none of an RRset of another type.
-    pub fn ds_records(&self) -> &[Ds]
+    pub fn ds_records(&self) -> &[Ds<'b>]
         ensures { AllZip IsDs (rdata_of_type 43 self.now) result.now }
     {
         match &self.records {
@@ -129,7 +129,7 @@ impl<'b> Rrset<'b> {
     }
 
     /// The records of an NSEC RRset, in the order of its RDATA; none of an RRset of another type.
-    pub fn nsecs(&self) -> &[Nsec]
+    pub fn nsecs(&self) -> &[Nsec<'b>]
         ensures { AllZip IsNsec (rdata_of_type 47 self.now) result.now }
     {
         match &self.records {
@@ -139,7 +139,7 @@ impl<'b> Rrset<'b> {
     }
 
     /// The records of an NSEC3 RRset, in the order of its RDATA; none of an RRset of another type.
-    pub fn nsec3s(&self) -> &[Nsec3]
+    pub fn nsec3s(&self) -> &[Nsec3<'b>]
         ensures { AllZip IsNsec3 (rdata_of_type 50 self.now) result.now }
     {
         match &self.records {
@@ -150,7 +150,7 @@ impl<'b> Rrset<'b> {
 
     /// The IN RRSIG records of its message, section and owner that cover its type, in order, of those with equal
     /// RDATA the first. They are numbered from 1.
-    pub fn signatures(&self) -> &[Rrsig]
+    pub fn signatures(&self) -> &[Rrsig<'b>]
         ensures { AllZip IsRrsig self.now.signatures result.now }
     {
         &self.signatures
@@ -176,7 +176,7 @@ pub fn canonical_rrset(alloc: Global, rrset: &Rrset<'_>) -> Result<Vec<Vec<u8>>,
 pub fn signed_data(
     alloc: Global,
     rrset: &Rrset<'_>,
-    rrsig: &Rrsig,
+    rrsig: &Rrsig<'_>,
 ) -> Result<Option<Vec<u8>>, AllocError>
     ensures { IfOk result (λ answer. IsSignedData rrset.now.owner rrset.now.rtype rrset.now.rdata rrsig.now
         (option_map (λ octets. octets.items) answer)) }

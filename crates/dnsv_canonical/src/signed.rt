@@ -25,7 +25,7 @@ pub fn signed_octets(
     owner: &Name,
     rtype: RecordType,
     received: &[&[u8]],
-    rrsig: &Rrsig,
+    rrsig: &Rrsig<'_>,
 ) -> Result<Option<Vec<u8>>, AllocError>
     requires { AllByRecursion (λ rdata. length rdata ≤ 65535) (map (λ r. r.now) received.now) }
     ensures { IfOk result (λ answer. IsSignedData owner.now rtype.0 (map (λ r. r.now) received.now) rrsig.now
@@ -54,14 +54,14 @@ pub fn signed_label_count(owner: &Name) -> usize
 
 /// Whether the signature is expanded over the owner: a wildcard with fewer labels was signed, and the owner is a name
 /// that it stands for (RFC 4035 5.3.2).
-pub fn is_expanded(owner: &Name, rrsig: &Rrsig) -> bool
+pub fn is_expanded(owner: &Name, rrsig: &Rrsig<'_>) -> bool
     ensures { IsTrue result ↔ IsExpanded owner.now rrsig.now }
 {
     (rrsig.labels as usize) < signed_label_count(owner)
 }
 
 /// What is signed before the records: the RDATA without the signature, its signer in lower case.
-fn front_octets(alloc: Global, rrsig: &Rrsig) -> Result<Vec<u8>, AllocError>
+fn front_octets(alloc: Global, rrsig: &Rrsig<'_>) -> Result<Vec<u8>, AllocError>
     ensures { IfOk result (λ octets. octets.items ≡ signed_front rrsig.now) }
 {
     // The octets before the signer, and a signer.
@@ -73,7 +73,7 @@ fn front_octets(alloc: Global, rrsig: &Rrsig) -> Result<Vec<u8>, AllocError>
     octets.extend_from_slice(&rrsig.expiration.0.to_be_bytes())?;
     octets.extend_from_slice(&rrsig.inception.0.to_be_bytes())?;
     octets.extend_from_slice(&rrsig.key_tag.0.to_be_bytes())?;
-    octets.extend_from_slice(rrsig.signer.to_lower().wire())?;
+    octets.extend_from_slice(rrsig.signer.to_name().to_lower().wire())?;
     Ok(octets)
 }
 
@@ -135,7 +135,7 @@ fn record_front(
     alloc: Global,
     owner: &Name,
     rtype: RecordType,
-    rrsig: &Rrsig,
+    rrsig: &Rrsig<'_>,
 ) -> Result<Vec<u8>, AllocError>
     requires { rrsig.now.labels ≤ signed_label_count owner.now }
     ensures { IfOk result (λ octets. octets.items ≡ wire (signed_owner owner.now rrsig.now.labels)

@@ -84,18 +84,20 @@ none_lead records number none leads = none leads.ds leads.among (leads.supported
 
 -- ---- by a digest type
 
+-- what is told of one of the RRsets tells the same one of something else
+some_too : (Is Also : ReceivedRrset → Type 0) (rrsets : List ReceivedRrset) → ((rrset : ReceivedRrset) → Is rrset → Also rrset)
+    → HasSome Is rrsets → HasSome Also rrsets
+some_too Is Also rrsets more some = record { rrset = some.rrset; among = some.among; is = more some.rrset some.is }
+
 pub type_names : (delegations : List ReceivedRrset) (number : ℕ) (key : DnskeyRecord)
     → HasSome (λ ds. DelegatesByType ds number key) delegations → HasSome (λ ds. NamesByType ds number key) delegations
-type_names delegations number key some = record {
-  rrset = some.rrset;
-  among = some.among;
-  is = record {
-    rtype = some.is.rtype;
-    records = some.is.records;
-    read = some.is.read;
-    named = match_is_named some.rrset.owner some.is.records number key some.is.matching;
-  };
-}
+type_names delegations number key =
+    some_too (λ ds. DelegatesByType ds number key) (λ ds. NamesByType ds number key) delegations (λ ds by. record {
+      rtype = by.rtype;
+      records = by.records;
+      read = by.read;
+      named = match_is_named ds.owner by.records number key by.matching;
+    })
 
 pub no_type : (delegations : List ReceivedRrset) (number : ℕ) (key : DnskeyRecord) → ds_digest_of number key.owner key.rdata ≡ None
     → HasSome (λ ds. DelegatesByType ds number key) delegations → ⊥
@@ -105,29 +107,21 @@ pub type_by_digest : (delegations : List ReceivedRrset) (number : ℕ) (key : Dn
     → ds_digest_of number key.owner key.rdata ≡ Some digest
     → HasSome (λ ds. DelegatesByDigest ds number key digest) delegations ↔ HasSome (λ ds. DelegatesByType ds number key) delegations
 type_by_digest delegations number key digest is = (
-  λ some. record {
-    rrset = some.rrset;
-    among = some.among;
-    is = record {
-      rtype = some.is.rtype;
-      records = some.is.records;
-      read = some.is.read;
-      leads = some.is.leads;
-      matching = (by_digest some.rrset.owner some.is.records number key digest is some.is.owner).0 some.is.named;
-    };
-  },
-  λ some. record {
-    rrset = some.rrset;
-    among = some.among;
-    is = record {
-      rtype = some.is.rtype;
-      owner = some.is.matching.matching.same_owner;
-      records = some.is.records;
-      read = some.is.read;
-      leads = some.is.leads;
-      named = (by_digest some.rrset.owner some.is.records number key digest is some.is.matching.matching.same_owner).1 some.is.matching;
-    };
-  },
+  some_too (λ ds. DelegatesByDigest ds number key digest) (λ ds. DelegatesByType ds number key) delegations (λ ds by. record {
+    rtype = by.rtype;
+    records = by.records;
+    read = by.read;
+    leads = by.leads;
+    matching = (by_digest ds.owner by.records number key digest is by.owner).0 by.named;
+  }),
+  some_too (λ ds. DelegatesByType ds number key) (λ ds. DelegatesByDigest ds number key digest) delegations (λ ds by. record {
+    rtype = by.rtype;
+    owner = by.matching.matching.same_owner;
+    records = by.records;
+    read = by.read;
+    leads = by.leads;
+    named = (by_digest ds.owner by.records number key digest is by.matching.matching.same_owner).1 by.matching;
+  }),
 )
 
 -- ---- by the three

@@ -13,7 +13,7 @@ use Rattle.std.specs.List.Sorted.{IsPermutation, IsSorted, IsStrictlySortedBy}
 use Rattle.std.specs.Map.{lookup}
 use Rattle.std.specs.Option.{option_map_or}
 use Rattle.dnsv_names.specs.Name.{Labels, SameName, same_name}
-use Rattle.dnsv_names.specs.declared.order.by_wire.ByWire.{ByWire}
+use Rattle.dnsv_chain.specs.declared.by_owner.key.OwnerKey.{OwnerKey}
 use Rattle.dnsv_records.specs.Dnskey.{IsDnskey}
 use Rattle.dnsv_records.specs.declared.dnskey.Dnskey.{Dnskey}
 use Rattle.dnsv_message.specs.declared.record.Section.TheVariants as section
@@ -63,7 +63,7 @@ no_keys = record {
 
 module _ {Y : Type 0} where
   -- one owner more
-  pub zone_more : (all rest : List (ByWire × Vec DnskeyRecord Y)) (kept : ByWire × Vec DnskeyRecord Y) (zones : List (Labels × List Dnskey)) (zone : Labels × List Dnskey)
+  pub zone_more : (all rest : List (OwnerKey × Vec DnskeyRecord Y)) (kept : OwnerKey × Vec DnskeyRecord Y) (zones : List (Labels × List Dnskey)) (zone : Labels × List Dnskey)
       → IsZoneOf kept zone → AreZonesBefore all (kept ∷ rest) zones → AreZonesBefore all rest (zones ++ zone ∷ [])
   zone_more all rest kept zones zone is before = record {
     done = before.done ++ kept ∷ [];
@@ -71,18 +71,18 @@ module _ {Y : Type 0} where
     each = zip_push IsZoneOf before.done zones kept zone before.each is;
   }
 
-  pub all_zones : (all : List (ByWire × Vec DnskeyRecord Y)) (zones : List (Labels × List Dnskey)) → AreZonesBefore all [] zones → AllZip IsZoneOf all zones
+  pub all_zones : (all : List (OwnerKey × Vec DnskeyRecord Y)) (zones : List (Labels × List Dnskey)) → AreZonesBefore all [] zones → AllZip IsZoneOf all zones
   all_zones all zones before =
-      subst (λ (list : List (ByWire × Vec DnskeyRecord Y)). AllZip IsZoneOf list zones) (sym (append-nil before.done) ∙ before.parted) before.each
+      subst (λ (list : List (OwnerKey × Vec DnskeyRecord Y)). AllZip IsZoneOf list zones) (sym (append-nil before.done) ∙ before.parted) before.each
 
-  pub zones_found : (entries : List (ByWire × Vec DnskeyRecord Y)) (zones : List (Labels × List Dnskey)) (name : Labels) → AllZip IsZoneOf entries zones
-      → AreKeysOf (option_map_or (λ kept. kept.items) (lookup (λ key. same_name name key.0.now) entries) []) (keys_among zones name)
+  pub zones_found : (entries : List (OwnerKey × Vec DnskeyRecord Y)) (zones : List (Labels × List Dnskey)) (name : Labels) → AllZip IsZoneOf entries zones
+      → AreKeysOf (option_map_or (λ kept. kept.items) (lookup (λ key. same_name name key.0) entries) []) (keys_among zones name)
   zones_found [] [] name each = no_keys
   zones_found [] (z ∷ zones) name each = absurd each
   zones_found (e ∷ entries) [] name each = absurd each
   zones_found (e ∷ entries) (z ∷ zones) name each =
-      subst (λ (owner : Labels). AreKeysOf (option_map_or (λ kept. kept.items) (cond (same_name name e.0.0.now) (Some e.1) (lookup (λ key. same_name name key.0.now) entries)) []) (option_map_or (λ keys. keys) (cond (same_name name owner) (Some z.1) (lookup (λ zone. same_name name zone) zones)) [])) (sym each.0.0)
-      (elim (same_name name e.0.0.now) as (λ b. AreKeysOf (option_map_or (λ kept. kept.items) (cond b (Some e.1) (lookup (λ key. same_name name key.0.now) entries)) []) (option_map_or (λ keys. keys) (cond b (Some z.1) (lookup (λ zone. same_name name zone) zones)) [])) [
+      subst (λ (owner : Labels). AreKeysOf (option_map_or (λ kept. kept.items) (cond (same_name name e.0.0) (Some e.1) (lookup (λ key. same_name name key.0) entries)) []) (option_map_or (λ keys. keys) (cond (same_name name owner) (Some z.1) (lookup (λ zone. same_name name zone) zones)) [])) (sym each.0.0)
+      (elim (same_name name e.0.0) as (λ b. AreKeysOf (option_map_or (λ kept. kept.items) (cond b (Some e.1) (lookup (λ key. same_name name key.0) entries)) []) (option_map_or (λ keys. keys) (cond b (Some z.1) (lookup (λ zone. same_name name zone) zones)) [])) [
         | true ↦ each.0.1
         | false ↦ zones_found entries zones name each.1
       ])

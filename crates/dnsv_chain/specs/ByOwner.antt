@@ -5,14 +5,14 @@ use Rattle.std.specs.Map.{lookup}
 use Rattle.std.specs.Option.{option_map_or}
 use denote.Ref.{Bor}
 use Rattle.dnsv_names.specs.Name.{Labels, same_name}
-use Rattle.dnsv_names.specs.declared.order.by_wire.ByWire.{ByWire}
+use Rattle.dnsv_chain.specs.declared.by_owner.key.OwnerKey.{OwnerKey}
 use Rattle.dnsv_canonical.specs.Rrsets.{ReceivedRrset}
 
 -- the values that are kept for the owner, in order: none where nothing is
-abbrev pub values_at : {T Y : Type 0} → BTreeMap ByWire (Vec T Y) → Labels → List T
+abbrev pub values_at : {T Y : Type 0} → BTreeMap OwnerKey (Vec T Y) → Labels → List T
 values_at by_owner owner =
-    option_map_or (λ values. values.items) (lookup (λ key. same_name owner key.0.now) by_owner.entries) []
+    option_map_or (λ values. values.items) (lookup (λ key. same_name owner key.0) by_owner.entries) []
 
 -- RRsets that are kept so and lie elsewhere
-abbrev pub rrsets_at : {Y : Type 0} → BTreeMap ByWire (Vec (Bor ReceivedRrset) Y) → Labels → List ReceivedRrset
+abbrev pub rrsets_at : {Y : Type 0} → BTreeMap OwnerKey (Vec (Bor ReceivedRrset) Y) → Labels → List ReceivedRrset
 rrsets_at by_owner owner = map (λ rrset. rrset.now) (values_at by_owner owner)

@@ -5,7 +5,7 @@ use Rattle.std.specs.Ordering.{ordering_then}
 use Rattle.std.specs.declared.cmp.Ordering.{Ordering}
 use Rattle.dnsv_names.specs.Name.{Labels, SameName}
 use Rattle.dnsv_names.specs.Order.ByWire.{search_cmp}
-use Rattle.dnsv_names.specs.declared.order.by_wire.ByWire.{ByWire}
+use Rattle.dnsv_chain.specs.declared.by_owner.key.OwnerKey.{OwnerKey}
 use Rattle.dnsv_records.specs.declared.dnskey.Dnskey.{Dnskey}
 use Rattle.dnsv_canonical.specs.Canonical.{rdata_cmp}
 use Rattle.dnsv_canonical.specs.Rrsets.{ReceivedRrset}
@@ -83,13 +83,13 @@ pub record IsDelegation
   pub signed : IsSignedUnder meaning moment ds above
 
 -- by owner, and by RDATA as unsigned octets
-abbrev pub known_cmp : ByWire × (List ℕ × Dnskey) → ByWire × (List ℕ × Dnskey) → Ordering
-known_cmp a b = ordering_then (search_cmp a.0.0.now b.0.0.now) (rdata_cmp a.1.0 b.1.0)
+abbrev pub known_cmp : OwnerKey × (List ℕ × Dnskey) → OwnerKey × (List ℕ × Dnskey) → Ordering
+known_cmp a b = ordering_then (search_cmp a.0.0 b.0.0) (rdata_cmp a.1.0 b.1.0)
 
 -- each owner and RDATA is that of a key that is kept for the owner
-pub record AreKnown (known : BTreeSet (ByWire × (List ℕ × Dnskey))) (keys : Labels → List DnskeyRecord) : Type 0 where
-  pub each : (key : ByWire × (List ℕ × Dnskey)) → contains known_cmp known key ≡ true
-      → HasRdata (keys key.0.0.now) key.1.0
+pub record AreKnown (known : BTreeSet (OwnerKey × (List ℕ × Dnskey))) (keys : Labels → List DnskeyRecord) : Type 0 where
+  pub each : (key : OwnerKey × (List ℕ × Dnskey)) → contains known_cmp known key ≡ true
+      → HasRdata (keys key.0.0) key.1.0
 
 -- ---- the walk
 

@@ -3,7 +3,7 @@ use Rattle.std.specs.Prelude.{◌≡◌, ℕ, List, ◌++◌, Contains, Vec, map
 use Rattle.std.specs.BTreeMap.{BTreeMap}
 use Rattle.std.specs.List.{AllZip}
 use Rattle.dnsv_names.specs.Name.{Labels}
-use Rattle.dnsv_names.specs.declared.order.by_wire.ByWire.{ByWire}
+use Rattle.dnsv_chain.specs.declared.by_owner.key.OwnerKey.{OwnerKey}
 use Rattle.dnsv_records.specs.declared.dnskey.Dnskey.{Dnskey}
 use Rattle.dnsv_canonical.specs.Canonical.{IsCanonical}
 use Rattle.dnsv_canonical.specs.Rrsets.{ReceivedRrset}
@@ -26,17 +26,17 @@ pub record AreKeysOf (records : List DnskeyRecord) (keys : List Dnskey) : Type 0
   pub keys_are : keys ≡ map (λ each. each.1) distinct
 
 -- the zone has the keys that are kept for the owner
-abbrev pub IsZoneOf : {Y : Type 0} → ByWire × Vec DnskeyRecord Y → Labels × List Dnskey → Type 0
-IsZoneOf kept zone = (zone.0 ≡ kept.0.0.now) × AreKeysOf kept.1.items zone.1
+abbrev pub IsZoneOf : {Y : Type 0} → OwnerKey × Vec DnskeyRecord Y → Labels × List Dnskey → Type 0
+IsZoneOf kept zone = (zone.0 ≡ kept.0.0) × AreKeysOf kept.1.items zone.1
 
 -- for each owner that has keys, in order, those keys
-abbrev pub AreZones : {Y : Type 0} → BTreeMap ByWire (Vec DnskeyRecord Y) → List (Labels × List Dnskey) → Type 0
+abbrev pub AreZones : {Y : Type 0} → BTreeMap OwnerKey (Vec DnskeyRecord Y) → List (Labels × List Dnskey) → Type 0
 AreZones by_owner zones = AllZip IsZoneOf by_owner.entries zones
 
 -- the same of the owners before the rest
 pub record AreZonesBefore
-    {Y : Type 0} (all rest : List (ByWire × Vec DnskeyRecord Y)) (zones : List (Labels × List Dnskey)) : Type 0 where
-  pub done : List (ByWire × Vec DnskeyRecord Y)
+    {Y : Type 0} (all rest : List (OwnerKey × Vec DnskeyRecord Y)) (zones : List (Labels × List Dnskey)) : Type 0 where
+  pub done : List (OwnerKey × Vec DnskeyRecord Y)
   pub parted : done ++ rest ≡ all
   pub each : AllZip IsZoneOf done zones
 

@@ -9,14 +9,14 @@ use dnsv_verifier::KeyRecord;
 
 /// A trust anchor: what a validator is told to begin with (RFC 4033 2, RFC 4035 5).
 #[derive(Debug, Drop)]
-pub enum Anchor {
+pub enum Anchor<'b> {
     /// A DS record of the owner.
-    Ds { owner: Name, ds: Ds },
+    Ds { owner: Name, ds: Ds<'b> },
     /// The RDATA of a DNSKEY record of the owner.
-    Key { owner: Name, rdata: Octets },
+    Key { owner: Name, rdata: Octets<'b> },
 }
 
-impl Anchor {
+impl Anchor<'_> {
     /// The owner.
     pub fn owner(&self) -> &Name
         ensures { result.now ≡ anchor_owner self.now }

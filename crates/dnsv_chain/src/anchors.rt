@@ -9,6 +9,7 @@ ghost use Rattle.dnsv_chain.specs.declared.anchors.AnchorsError.{AnchorsError};
 
 use crate::anchor::Anchor;
 use crate::anchors::anchor_line::anchor_of;
+use bumpalo::Bump;
 use dnsv_names::{Line, Lines};
 use dnsv_verifier::KeyRecord;
 use std::alloc::{AllocError, AllocFailed, Global};
@@ -67,13 +68,13 @@ impl<T: Drop> From<AllocFailed<T>> for AnchorsError {
     }
 }
 
-/// The trust anchors of a file, in the order of its lines: at most 64. A repeat counts.
+/// The trust anchors of a file, in the order of its lines: at most 64. A repeat counts. Their octets lie in an arena.
 #[derive(Debug, Drop)]
-pub struct Anchors {
-    anchors: Vec<Anchor>,
+pub struct Anchors<'b> {
+    anchors: Vec<Anchor<'b>>,
 }
 
-impl Model for Anchors {
+impl<'b> Model for Anchors<'b> {
     ghost use Rattle.std.specs.Prelude.{List};
     ghost use Rattle.dnsv_chain.specs.declared.anchor.Anchor.{Anchor};
 
@@ -82,7 +83,7 @@ impl Model for Anchors {
     ghost view = { λ anchors. anchors.anchors.items };
 }
 
-impl Anchors {
+impl<'b> Anchors<'b> {
     ghost use Rattle.dnsv_chain.specs.Anchor.{HasAnchorMatch};
 
     /// Reads a file of trust anchors. Each line that counts is a DS record, `DS`, its owner, key tag, algorithm and
@@ -92,7 +93,7 @@ impl Anchors {
     ///
     /// The first line with a fault counts: `Syntax` where it is no anchor, else `TooMany` where 64 anchors, repeats
     /// among them, stand before it.
-    pub fn parse(alloc: Global, text: &[u8]) -> Result<Anchors, AnchorsError>
+    pub fn parse(alloc: Global, bump: &'b Bump, text: &[u8]) -> Result<Anchors<'b>, AnchorsError>
         // What is read is what the file says.
         ensures anchors { IfOk result (AreAnchorsOf text.now) }
         // A refusal is the first fault, unless memory was refused.
@@ -105,14 +106,14 @@ impl Anchors {
             anchors: Vec::new(alloc),
         };
         for line in Lines::new(text) {
-            anchors.add(alloc, &line)?;
+            anchors.add(alloc, bump, &line)?;
         }
         Ok(anchors)
     }
 
     /// Adds the anchor of a line, behind at most 64. Where memory is refused, the line says an anchor, and there is
     /// room for it.
-    fn add(&mut self, alloc: Global, line: &Line) -> Result<(), AnchorsError>
+    fn add(&mut self, alloc: Global, bump: &'b Bump, line: &Line) -> Result<(), AnchorsError>
         requires { length self.old ≤ 64 }
         ensures added { OnOk result ((anchor : Anchor) × IsAnchorLine line.now.octets anchor
             × (length self.old < 64) × (self.new ≡ self.old ++ anchor ∷ [])) }
@@ -121,9 +122,9 @@ impl Anchors {
             ⊎ IsFaultOfLine error line.now self.old) }
     {
         if self.anchors.len() >= ANCHOR_LIMIT {
-            return Err(refused_at_limit(alloc, line));
+            return Err(refused_at_limit(alloc, bump, line));
         }
-        let Some(anchor) = anchor_of(alloc, line)? else {
+        let Some(anchor) = anchor_of(alloc, bump, line)? else {
             return Err(AnchorsError::Syntax(line.number()));
         };
         self.anchors.push(anchor)?;
@@ -131,7 +132,7 @@ impl Anchors {
     }
 
     /// The anchors, in the order of their lines.
-    pub fn as_slice(&self) -> &[Anchor]
+    pub fn as_slice(&self) -> &[Anchor<'b>]
         ensures { result.now ≡ self.now }
     {
         &self.anchors
@@ -146,10 +147,10 @@ impl Anchors {
 }
 
 /// What a line behind 64 anchors is refused for, whether or not there is memory for an anchor.
-fn refused_at_limit(alloc: Global, line: &Line) -> AnchorsError
+fn refused_at_limit(alloc: Global, bump: &Bump, line: &Line) -> AnchorsError
     ensures { (before : List Anchor) → length before ≡ 64 → IsFaultOfLine result line.now before }
 {
-    match anchor_of(alloc, line) {
+    match anchor_of(alloc, bump, line) {
         Ok(None) => AnchorsError::Syntax(line.number()),
         Ok(Some(_)) | Err(_) => AnchorsError::TooMany(line.number()),
     }

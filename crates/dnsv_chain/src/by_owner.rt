@@ -1,14 +1,18 @@
 //! Values by the owner of their records.
+
+pub mod key;
+
 ghost use Rattle.std.specs.Prelude.{◌≡◌, ◌++◌, ◌∷◌, [], OnOk, if◌then◌else◌};
 ghost use Rattle.dnsv_names.specs.Name.{Labels, same_name};
 ghost use Rattle.dnsv_chain.specs.ByOwner.{values_at};
 
-use dnsv_names::{ByWire, Name};
+use crate::by_owner::key::OwnerKey;
+use dnsv_names::{Name, WireName};
 use std::alloc::{AllocError, Global};
 use std::collections::BTreeMap;
 
 /// Values by owner. It's a tree, so that a search among n owners takes time in proportion to log n.
-pub type ByOwner<'a, T> = BTreeMap<ByWire<'a>, Vec<T>>;
+pub type ByOwner<'a, T> = BTreeMap<OwnerKey<'a>, Vec<T>>;
 
 /// Adds a value behind what is there for the owner.
 pub fn add<'a, T: Drop>(
@@ -20,20 +24,20 @@ pub fn add<'a, T: Drop>(
     ensures { OnOk result ((name : Labels) → values_at by_owner.new name
         ≡ values_at by_owner.old name ++ (if same_name name owner.now then value ∷ [] else [])) }
 {
-    let mut values = match by_owner.remove(&ByWire(owner)) {
+    let mut values = match by_owner.remove(&OwnerKey(WireName::of(owner))) {
         Some(values) => values,
         None => Vec::new(alloc),
     };
     values.push(value)?;
-    by_owner.insert(ByWire(owner), values)?;
+    by_owner.insert(OwnerKey(WireName::of(owner)), values)?;
     Ok(())
 }
 
 /// What is there for the owner, in the order in which it was added.
-pub fn at<'m, 'a, T>(by_owner: &'m ByOwner<'a, T>, owner: &'a Name) -> &'m [T]
+pub fn at<'m, 'a, T>(by_owner: &'m ByOwner<'a, T>, owner: &WireName<'a>) -> &'m [T]
     ensures { result.now ≡ values_at by_owner.now owner.now }
 {
-    match by_owner.get(&ByWire(owner)) {
+    match by_owner.get(&OwnerKey(owner.copied())) {
         Some(values) => values,
         None => &[],
     }

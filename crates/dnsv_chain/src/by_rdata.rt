@@ -1,5 +1,5 @@
 //! Keys by their RDATA.
-ghost use Rattle.std.specs.Prelude.{◌≡◌, List, ℕ, nat_eq, refl, IfOk};
+ghost use Rattle.std.specs.Prelude.{◌≡◌, List, ℕ, nat_eq, refl};
 ghost use Rattle.std.specs.Cmp.{on_equiv, on_total, partial_equiv_from_equiv, partial_order_from_agreeing_total};
 ghost use Rattle.std.specs.Cmp.Lexicographic.{lists_equiv, pointwise, texts_ties};
 ghost use Rattle.std.specs.Ordering.{as_partial_cmp};
@@ -10,7 +10,6 @@ ghost use Rattle.dnsv_records.specs.declared.dnskey.Dnskey.{Dnskey};
 use dnsv_names::compare_octets;
 use dnsv_records::{Dnskey, Octets};
 use dnsv_verifier::KeyRecord;
-use std::alloc::{AllocError, Global};
 use std::cmp::Ordering;
 use std::marker::Model;
 
@@ -19,7 +18,7 @@ use std::marker::Model;
 #[derive(Drop)]
 pub struct ByRdata<'a> {
     rdata: &'a [u8],
-    dnskey: &'a Dnskey,
+    dnskey: &'a Dnskey<'a>,
 }
 
 impl<'a> Model for ByRdata<'a> {
@@ -33,29 +32,29 @@ impl<'a> Model for ByRdata<'a> {
 
 impl<'a> ByRdata<'a> {
     /// RDATA and the key that it says.
-    pub fn new(rdata: &'a [u8], dnskey: &'a Dnskey) -> ByRdata<'a>
+    pub fn new(rdata: &'a [u8], dnskey: &'a Dnskey<'a>) -> ByRdata<'a>
         ensures { result ≡ (rdata.now, dnskey.now) }
     {
         ByRdata { rdata, dnskey }
     }
 
     /// The key of the record.
-    pub fn of(key: &'a KeyRecord<'_>) -> ByRdata<'a>
+    pub fn of(key: &KeyRecord<'a>) -> ByRdata<'a>
         ensures { result ≡ (key.now.rdata, key.now.dnskey) }
     {
         ByRdata::new(key.rdata(), key.dnskey())
     }
 
-    /// The key in memory of its own.
-    pub fn to_dnskey(&self, alloc: Global) -> Result<Dnskey, AllocError>
-        ensures { IfOk result (λ dnskey. dnskey ≡ self.now.1) }
+    /// The key again, which stands where it stood.
+    pub fn to_dnskey(&self) -> Dnskey<'a>
+        ensures { result ≡ self.now.1 }
     {
-        Ok(Dnskey {
+        Dnskey {
             flags: self.dnskey.flags,
             protocol: self.dnskey.protocol,
             algorithm: self.dnskey.algorithm,
-            key: Octets::copy_of(alloc, self.dnskey.key.as_slice())?,
-        })
+            key: Octets::of(self.dnskey.key.as_slice()),
+        }
     }
 }
 

@@ -7,6 +7,7 @@ ghost use Rattle.dnsv_chain.specs.Trust.{IsTrustOf};
 ghost use Rattle.dnsv_chain.specs.Chain.{AddsDelegation, AddsKeys, AddsTrusted, AreKeysByOwner, AreKeysOfSet, AreKnown, AreVouched, IsSignedByVouched, IsVouchedFor};
 
 use crate::anchors::Anchors;
+use crate::by_owner::key::OwnerKey;
 use crate::by_owner::{ByOwner, add, at};
 use crate::by_rdata::ByRdata;
 use crate::delegated::is_delegated;
@@ -14,19 +15,19 @@ use crate::order::{Step, steps};
 use crate::signing::{TrustedKeys, good_numbers, is_signed_under_some};
 use crate::trust::Trust;
 use dnsv_canonical::{Capture, Rrset};
-use dnsv_names::{ByWire, RecordType};
+use dnsv_names::{RecordType, WireName};
 use dnsv_verifier::{KeyRecord, Table};
 use std::alloc::{AllocError, Global};
 use std::collections::{BTreeMap, BTreeSet};
 
 /// The trust that the capture gives at the table's moment, under the anchors and the table's answers (RFC 4035 5). An
 /// entry that the table lacks counts as Unknown.
-pub fn trusted(
+pub fn trusted<'c>(
     alloc: Global,
-    capture: &Capture<'_>,
-    anchors: &Anchors,
-    table: &Table,
-) -> Result<Trust, AllocError>
+    capture: &'c Capture<'c>,
+    anchors: &Anchors<'_>,
+    table: &Table<'_>,
+) -> Result<Trust<'c>, AllocError>
     ensures { IfOk result (IsTrustOf (table_answer table.now) table.now.moment capture.now.rrsets anchors.now) }
 {
     let rrsets = capture.rrsets();
@@ -38,15 +39,15 @@ pub fn trusted(
 type Delegations<'a> = ByOwner<'a, &'a Rrset<'a>>;
 
 /// Owner and RDATA of the keys that are kept, to find one again.
-type KnownKeys<'a> = BTreeSet<(ByWire<'a>, ByRdata<'a>)>;
+type KnownKeys<'a> = BTreeSet<(OwnerKey<'a>, ByRdata<'a>)>;
 
 /// The keys of the trusted DNSKEY RRsets. One pass finds them: where a DS RRset is good, its signer is a proper
 /// ancestor, whose RRsets have been looked at before.
 fn trusted_keys<'a>(
     alloc: Global,
     rrsets: &'a [Rrset<'a>],
-    anchors: &Anchors,
-    table: &Table,
+    anchors: &Anchors<'_>,
+    table: &Table<'_>,
 ) -> Result<TrustedKeys<'a>, AllocError>
     ensures { IfOk result (λ keys. AreKeysByOwner (table_answer table.now) table.now.moment rrsets.now anchors.now
         (values_at keys)) }
@@ -84,7 +85,7 @@ fn rrset_at<'a>(rrsets: &'a [Rrset<'a>], step: &Step) -> &'a Rrset<'a>
 /// Adds the DS RRset where one of its signatures is good under one of the signer's keys.
 fn add_delegation<'a>(
     alloc: Global,
-    table: &Table,
+    table: &Table<'_>,
     keys: &TrustedKeys<'a>,
     delegations: &mut Delegations<'a>,
     ds: &'a Rrset<'a>,
@@ -103,8 +104,8 @@ fn add_delegation<'a>(
 /// usable record of one of the DS RRsets at its owner.
 fn add_trusted<'a>(
     alloc: Global,
-    table: &Table,
-    anchors: &Anchors,
+    table: &Table<'_>,
+    anchors: &Anchors<'_>,
     delegations: &Delegations<'a>,
     known: &mut KnownKeys<'a>,
     keys: &mut TrustedKeys<'a>,
@@ -116,7 +117,13 @@ fn add_trusted<'a>(
     ensures trusted { OnOk result (AddsTrusted (table_answer table.now) table.now.moment anchors.now
         (rrsets_at delegations.now) set.now (values_at keys.old) (values_at keys.new)) }
 {
-    if is_trusted(alloc, table, anchors, at(delegations, set.owner()), set)? {
+    if is_trusted(
+        alloc,
+        table,
+        anchors,
+        at(delegations, &WireName::of(set.owner())),
+        set,
+    )? {
         add_keys(alloc, known, keys, set)?;
     }
     Ok(())
@@ -126,8 +133,8 @@ fn add_trusted<'a>(
 /// RRsets. No key is digested where none signs it.
 fn is_trusted(
     alloc: Global,
-    table: &Table,
-    anchors: &Anchors,
+    table: &Table<'_>,
+    anchors: &Anchors<'_>,
     delegations: &[&Rrset<'_>],
     set: &Rrset<'_>,
 ) -> Result<bool, AllocError>
@@ -158,7 +165,7 @@ fn keys_of<'a>(alloc: Global, set: &'a Rrset<'a>) -> Result<Vec<KeyRecord<'a>>, 
 /// Those of the keys that match an anchor or a usable record of one of the DS RRsets.
 fn vouched_keys<'a>(
     alloc: Global,
-    anchors: &Anchors,
+    anchors: &Anchors<'_>,
     delegations: &[&Rrset<'_>],
     keys: Vec<KeyRecord<'a>>,
 ) -> Result<Vec<KeyRecord<'a>>, AllocError>
@@ -175,7 +182,7 @@ fn vouched_keys<'a>(
 }
 
 /// Whether an anchor or a usable record of one of the DS RRsets matches the key.
-fn is_vouched_for(anchors: &Anchors, delegations: &[&Rrset<'_>], key: &KeyRecord<'_>) -> bool
+fn is_vouched_for(anchors: &Anchors<'_>, delegations: &[&Rrset<'_>], key: &KeyRecord<'_>) -> bool
     ensures { IsTrue result ↔ IsVouchedFor anchors.now (map (λ ds. ds.now) delegations.now) key.now }
 {
     anchors.is_match(key) || is_delegated(delegations, key)
@@ -195,7 +202,10 @@ fn add_keys<'a>(
 {
     for (place, dnskey) in set.dnskeys().iter().enumerate() {
         let rdata = set.rdata(place);
-        if known.insert((ByWire(set.owner()), ByRdata::new(rdata, dnskey)))? {
+        if known.insert((
+            OwnerKey(WireName::of(set.owner())),
+            ByRdata::new(rdata, dnskey),
+        ))? {
             let key = KeyRecord::new(set.owner(), rdata, dnskey);
             add(alloc, keys, set.owner(), key)?;
         }

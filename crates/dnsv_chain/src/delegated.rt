@@ -120,7 +120,7 @@ fn delegates_by_digest(
 }
 
 /// Whether the digest type is the one that counts among the records.
-fn leads_in(records: &[Ds], digest_type: DigestType) -> bool
+fn leads_in(records: &[Ds<'_>], digest_type: DigestType) -> bool
     ensures { IsTrue result ↔ Leads records.now digest_type.0 }
 {
     match leading_digest_type(records) {

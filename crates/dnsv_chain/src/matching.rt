@@ -13,7 +13,7 @@ use dnsv_verifier::KeyRecord;
 
 /// Whether a DS record of the owner matches the key (RFC 4035 5.2): the key is the owner's, algorithm and key tag
 /// agree, and the digest is the key's by a digest type that is supported.
-pub fn is_match(owner: &Name, ds: &Ds, key: &KeyRecord<'_>) -> bool
+pub fn is_match(owner: &Name, ds: &Ds<'_>, key: &KeyRecord<'_>) -> bool
     ensures { IsTrue result ↔ IsMatch owner.now ds.now key.now }
 {
     names_key(ds, key) && is_owner(owner, key) && has_digest_of(ds, key)
@@ -27,14 +27,14 @@ pub(crate) fn is_owner(owner: &Name, key: &KeyRecord<'_>) -> bool
 }
 
 /// Whether the record has the key's algorithm and tag.
-fn names_key(ds: &Ds, key: &KeyRecord<'_>) -> bool
+fn names_key(ds: &Ds<'_>, key: &KeyRecord<'_>) -> bool
     ensures { IsTrue result ↔ NamesKey ds.now key.now }
 {
     ds.algorithm.0 == key.dnskey().algorithm.0 && ds.key_tag.0 == key.key_tag().0
 }
 
 /// Whether the record's digest is the key's (RFC 4034 5.1.4).
-fn has_digest_of(ds: &Ds, key: &KeyRecord<'_>) -> bool
+fn has_digest_of(ds: &Ds<'_>, key: &KeyRecord<'_>) -> bool
     ensures { IsTrue result ↔ HasDigestOf ds.now key.now }
 {
     match digest_of(ds.digest_type, key) {
@@ -51,7 +51,7 @@ pub(crate) fn digest_of(digest_type: DigestType, key: &KeyRecord<'_>) -> Option<
 }
 
 /// Whether a usable record of a DS RRset of the owner matches the key.
-pub fn has_usable_match(owner: &Name, records: &[Ds], key: &KeyRecord<'_>) -> bool
+pub fn has_usable_match(owner: &Name, records: &[Ds<'_>], key: &KeyRecord<'_>) -> bool
     ensures { IsTrue result ↔ HasUsableMatch owner.now records.now key.now }
 {
     if !key.dnskey().algorithm.is_supported() {
@@ -68,7 +68,7 @@ pub fn has_usable_match(owner: &Name, records: &[Ds], key: &KeyRecord<'_>) -> bo
 #[tactic(auto, using(crate::proofs::MatchingLemmas::same_owner, crate::proofs::MatchingLemmas::match_is_named, crate::proofs::MatchingLemmas::no_digest))]
 fn has_leading_match(
     owner: &Name,
-    records: &[Ds],
+    records: &[Ds<'_>],
     digest_type: DigestType,
     key: &KeyRecord<'_>,
 ) -> bool
@@ -87,7 +87,7 @@ fn has_leading_match(
 }
 
 /// Whether a record has the digest type, and the key's algorithm and tag.
-pub(crate) fn has_named(records: &[Ds], digest_type: DigestType, key: &KeyRecord<'_>) -> bool
+pub(crate) fn has_named(records: &[Ds<'_>], digest_type: DigestType, key: &KeyRecord<'_>) -> bool
     ensures { IsTrue result ↔ HasNamed records.now digest_type.0 key.now }
 {
     records.iter().any(|ds| ds.digest_type.0 == digest_type.0 && names_key(ds, key))
@@ -95,7 +95,7 @@ pub(crate) fn has_named(records: &[Ds], digest_type: DigestType, key: &KeyRecord
 
 /// Whether such a record has the digest.
 pub(crate) fn has_named_digest(
-    records: &[Ds],
+    records: &[Ds<'_>],
     digest_type: DigestType,
     key: &KeyRecord<'_>,
     digest: &Digest,

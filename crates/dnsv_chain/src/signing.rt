@@ -11,7 +11,8 @@ use crate::by_owner::{ByOwner, at};
 use dnsv_canonical::{Rrset, signed_data};
 use dnsv_records::Rrsig;
 use dnsv_verifier::{
-    Answer, KeyRecord, Table, Verifier, a_pair_has_one_entry, is_verifiable, may_have_made,
+    Answer, KeyRecord, Table, Verifier, a_pair_has_one_entry, entry_over, is_verifiable,
+    may_have_made,
 };
 use std::alloc::{AllocError, Global};
 
@@ -21,7 +22,7 @@ pub type TrustedKeys<'a> = ByOwner<'a, KeyRecord<'a>>;
 /// The numbers of the signatures, from 1 on, that are good under one of their signer's keys, rising.
 pub fn good_numbers<'a>(
     alloc: Global,
-    table: &Table,
+    table: &Table<'_>,
     rrset: &'a Rrset<'a>,
     keys: &TrustedKeys<'a>,
 ) -> Result<Vec<usize>, AllocError>
@@ -40,7 +41,7 @@ pub fn good_numbers<'a>(
 /// Whether the RRset has a signature that is good under one of the keys.
 pub fn is_signed_under_some(
     alloc: Global,
-    table: &Table,
+    table: &Table<'_>,
     rrset: &Rrset<'_>,
     keys: &[KeyRecord<'_>],
 ) -> Result<bool, AllocError>
@@ -60,9 +61,9 @@ pub fn is_signed_under_some(
 #[tactic(auto, using(crate::proofs::SigningLemmas::none_made, crate::proofs::SigningLemmas::not_verifiable, crate::proofs::SigningLemmas::never_signed))]
 fn is_good_under_some(
     alloc: Global,
-    table: &Table,
+    table: &Table<'_>,
     rrset: &Rrset<'_>,
-    rrsig: &Rrsig,
+    rrsig: &Rrsig<'_>,
     keys: &[KeyRecord<'_>],
 ) -> Result<bool, AllocError>
     ensures { IfOk result (λ good. IsTrue good
@@ -82,28 +83,38 @@ fn is_good_under_some(
 }
 
 /// Whether one of the keys may have made the signature.
-fn has_made_one(keys: &[KeyRecord<'_>], rrsig: &Rrsig) -> bool
+fn has_made_one(keys: &[KeyRecord<'_>], rrsig: &Rrsig<'_>) -> bool
     ensures { IsTrue result ↔ MayHaveMadeOne keys.now rrsig.now }
 {
     keys.iter().any(|key| may_have_made(key, rrsig))
 }
 
 /// Whether one of the keys may have made the signature, and the table says Valid of it over the octets.
-fn is_valid_under_some(table: &Table, rrsig: &Rrsig, octets: &[u8], keys: &[KeyRecord<'_>]) -> bool
+fn is_valid_under_some(
+    table: &Table<'_>,
+    rrsig: &Rrsig<'_>,
+    octets: &[u8],
+    keys: &[KeyRecord<'_>],
+) -> bool
     ensures { IsTrue result ↔ IsValidBySome (table_answer table.now) rrsig.now octets.now keys.now }
 {
     keys.iter().any(|key| is_valid(table, rrsig, octets, key))
 }
 
 /// Whether the key may have made the signature, and the table says Valid of it over the octets.
-pub(crate) fn is_valid(table: &Table, rrsig: &Rrsig, octets: &[u8], key: &KeyRecord<'_>) -> bool
+pub(crate) fn is_valid(
+    table: &Table<'_>,
+    rrsig: &Rrsig<'_>,
+    octets: &[u8],
+    key: &KeyRecord<'_>,
+) -> bool
     ensures { IsTrue result ↔ IsValidBy (table_answer table.now) rrsig.now octets.now key.now }
 {
     may_have_made(key, rrsig) && says_valid(table, rrsig, octets, key)
 }
 
 /// Whether the table says Valid of the signature over the octets under the key.
-fn says_valid(table: &Table, rrsig: &Rrsig, octets: &[u8], key: &KeyRecord<'_>) -> bool
+fn says_valid(table: &Table<'_>, rrsig: &Rrsig<'_>, octets: &[u8], key: &KeyRecord<'_>) -> bool
     ensures { IsTrue result ↔ (table_answer table.now (record {
       algorithm = rrsig.now.algorithm;
       key = key.now.dnskey.key;
@@ -111,11 +122,5 @@ fn says_valid(table: &Table, rrsig: &Rrsig, octets: &[u8], key: &KeyRecord<'_>) 
       signature = rrsig.now.signature;
     }) ≡ Answer.Valid) }
 {
-    let answer = table.answer(
-        rrsig.algorithm,
-        key.dnskey().key.as_slice(),
-        octets,
-        rrsig.signature.as_slice(),
-    );
-    answer == Answer::Valid
+    table.answer(&entry_over(rrsig, octets, key)) == Answer::Valid
 }

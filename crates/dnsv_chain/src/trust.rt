@@ -16,21 +16,22 @@ use std::marker::Model;
 
 /// A zone with its trusted keys.
 #[derive(Drop)]
-pub struct ZoneKeys {
+pub struct ZoneKeys<'c> {
     /// The owner of the keys.
     pub zone: Name,
     /// The keys, each once, in the order of their RDATA.
-    pub keys: Vec<Dnskey>,
+    pub keys: Vec<Dnskey<'c>>,
 }
 
 /// The trust that a capture gives, under the anchors and the answers that it was worked out with (RFC 4035 5).
+/// Its keys stand in the capture.
 #[derive(Drop)]
-pub struct Trust {
-    zones: Vec<ZoneKeys>,
+pub struct Trust<'c> {
+    zones: Vec<ZoneKeys<'c>>,
     signed: Vec<Vec<usize>>,
 }
 
-impl Model for Trust {
+impl<'c> Model for Trust<'c> {
     ghost use Rattle.std.specs.Prelude.{map};
     ghost use Rattle.dnsv_chain.specs.Trust.{KeptTrust};
 
@@ -42,14 +43,14 @@ impl Model for Trust {
     } };
 }
 
-impl Trust {
+impl<'c> Trust<'c> {
     /// What the keys of the trusted RRsets make good.
-    pub(crate) fn of<'a>(
+    pub(crate) fn of(
         alloc: Global,
-        table: &Table,
-        rrsets: &'a [Rrset<'a>],
-        keys: &TrustedKeys<'a>,
-    ) -> Result<Trust, AllocError>
+        table: &Table<'_>,
+        rrsets: &'c [Rrset<'c>],
+        keys: &TrustedKeys<'c>,
+    ) -> Result<Trust<'c>, AllocError>
         ensures { IfOk result (IsKept (table_answer table.now) table.now.moment rrsets.now (values_at keys.now)) }
     {
         Ok(Trust {
@@ -60,7 +61,7 @@ impl Trust {
 
     /// The keys of the zone's trusted DNSKEY RRsets, each once, in the order of their RDATA as unsigned octets: none
     /// where no such RRset is trusted (RFC 4035 5). It takes no memory.
-    pub fn keys(&self, zone: &Name) -> &[Dnskey]
+    pub fn keys(&self, zone: &Name) -> &[Dnskey<'c>]
         ensures { result.now ≡ keys_of self.now zone.now }
     {
         keys_among(&self.zones, zone)
@@ -80,7 +81,7 @@ impl Trust {
 }
 
 /// The keys that are listed for the zone. Few zones are asked for, so a scan does.
-fn keys_among<'a>(zones: &'a [ZoneKeys], zone: &Name) -> &'a [Dnskey]
+fn keys_among<'t, 'c>(zones: &'t [ZoneKeys<'c>], zone: &Name) -> &'t [Dnskey<'c>]
     ensures { result.now ≡ keys_among (map (λ each. (each.zone, each.keys.items)) zones.now) zone.now }
 {
     for each in zones {
@@ -92,13 +93,13 @@ fn keys_among<'a>(zones: &'a [ZoneKeys], zone: &Name) -> &'a [Dnskey]
 }
 
 /// The keys of each zone.
-fn keys_of_zones(alloc: Global, keys: &TrustedKeys<'_>) -> Result<Vec<ZoneKeys>, AllocError>
+fn keys_of_zones<'c>(alloc: Global, keys: &TrustedKeys<'c>) -> Result<Vec<ZoneKeys<'c>>, AllocError>
     ensures { IfOk result (λ zones. AreZones keys.now (map (λ each. (each.zone, each.keys.items)) zones.items)) }
 {
     let mut zones = Vec::new(alloc);
     for (zone, records) in keys {
         zones.push(ZoneKeys {
-            zone: zone.0.clone()?,
+            zone: zone.0.to_name(),
             keys: distinct_keys(alloc, records.as_slice())?,
         })?;
     }
@@ -106,7 +107,10 @@ fn keys_of_zones(alloc: Global, keys: &TrustedKeys<'_>) -> Result<Vec<ZoneKeys>,
 }
 
 /// The keys of the records, each once, in the order of their RDATA.
-fn distinct_keys(alloc: Global, records: &[KeyRecord<'_>]) -> Result<Vec<Dnskey>, AllocError>
+fn distinct_keys<'c>(
+    alloc: Global,
+    records: &[KeyRecord<'c>],
+) -> Result<Vec<Dnskey<'c>>, AllocError>
     ensures { IfOk result (λ keys. AreKeysOf records.now keys.items) }
 {
     let distinct = distinct_records(alloc, records)?;
@@ -114,10 +118,10 @@ fn distinct_keys(alloc: Global, records: &[KeyRecord<'_>]) -> Result<Vec<Dnskey>
 }
 
 /// The records, of each RDATA one, in the order of RDATA.
-fn distinct_records<'a>(
+fn distinct_records<'c>(
     alloc: Global,
-    records: &'a [KeyRecord<'_>],
-) -> Result<Vec<ByRdata<'a>>, AllocError>
+    records: &[KeyRecord<'c>],
+) -> Result<Vec<ByRdata<'c>>, AllocError>
     ensures { IfOk result (λ distinct. AreDistinct records.now distinct.items) }
 {
     let mut distinct = Vec::new(alloc);
@@ -129,13 +133,13 @@ fn distinct_records<'a>(
     Ok(distinct)
 }
 
-/// The keys in memory of their own.
-fn copies(alloc: Global, keys: &[ByRdata<'_>]) -> Result<Vec<Dnskey>, AllocError>
+/// The keys, which stand where they stood.
+fn copies<'c>(alloc: Global, keys: &[ByRdata<'c>]) -> Result<Vec<Dnskey<'c>>, AllocError>
     ensures { IfOk result (λ copies. copies.items ≡ map (λ key. key.1) keys.now) }
 {
     let mut copies = Vec::new(alloc);
     for key in keys {
-        copies.push(key.to_dnskey(alloc)?)?;
+        copies.push(key.to_dnskey())?;
     }
     Ok(copies)
 }
@@ -143,7 +147,7 @@ fn copies(alloc: Global, keys: &[ByRdata<'_>]) -> Result<Vec<Dnskey>, AllocError
 /// For each RRset the numbers of its good signatures.
 fn good_numbers_of_each<'a>(
     alloc: Global,
-    table: &Table,
+    table: &Table<'_>,
     rrsets: &'a [Rrset<'a>],
     keys: &TrustedKeys<'a>,
 ) -> Result<Vec<Vec<usize>>, AllocError>

@@ -24,14 +24,14 @@ pub fn goes_before(first: DigestType, other: DigestType) -> bool
 
 /// Whether a record is usable in the DS RRset of these records: its algorithm and its digest type are supported, and
 /// no record of the RRset has a supported digest type that is stronger (RFC 4509 3).
-pub fn is_usable(records: &[Ds], ds: &Ds) -> bool
+pub fn is_usable(records: &[Ds<'_>], ds: &Ds<'_>) -> bool
     ensures { IsTrue result ↔ IsUsable records.now ds.now }
 {
     ds.algorithm.is_supported() && is_supported(ds.digest_type) && !is_ignored(records, ds)
 }
 
 /// Whether the DS RRset of these records has a usable one.
-pub fn has_usable(records: &[Ds]) -> bool
+pub fn has_usable(records: &[Ds<'_>]) -> bool
     ensures { IsTrue result ↔ HasUsable records.now }
 {
     match leading_digest_type(records) {
@@ -41,7 +41,7 @@ pub fn has_usable(records: &[Ds]) -> bool
 }
 
 /// Whether a record has the digest type, and an algorithm that is supported.
-fn has_supported(records: &[Ds], digest_type: DigestType) -> bool
+fn has_supported(records: &[Ds<'_>], digest_type: DigestType) -> bool
     ensures { IsTrue result ↔ HasSupported records.now digest_type.0 }
 {
     records.iter().any(|ds| ds.digest_type.0 == digest_type.0 && ds.algorithm.is_supported())
@@ -49,7 +49,7 @@ fn has_supported(records: &[Ds], digest_type: DigestType) -> bool
 
 /// The digest type whose records count in the DS RRset: the strongest of those that are supported, `None` where no
 /// record has one. Finding it once spares the search for a stronger one for each record.
-pub(crate) fn leading_digest_type(records: &[Ds]) -> Option<DigestType>
+pub(crate) fn leading_digest_type(records: &[Ds<'_>]) -> Option<DigestType>
     ensures { IsLeading records.now result }
 {
     let mut leading = None;
@@ -79,7 +79,7 @@ fn is_supported(digest_type: DigestType) -> bool
 }
 
 /// Whether the record is ignored beside another of the DS RRset.
-fn is_ignored(records: &[Ds], ds: &Ds) -> bool
+fn is_ignored(records: &[Ds<'_>], ds: &Ds<'_>) -> bool
     ensures { IsTrue result ↔ IsIgnored records.now ds.now }
 {
     records

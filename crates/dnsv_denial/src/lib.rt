@@ -11,7 +11,7 @@ pub use forms::proof_form::{ProofForm, WildcardParts};
 pub use forms::wildcard_answer::{no_closer, opts_out_next_closer};
 pub use gathering::nsec::nsecs_of;
 pub use gathering::nsec3::nsec3s_of;
-pub use gathering::parameters::parameters_in_order;
+pub use gathering::parameters::{OrderedParameters, parameters_in_order};
 pub use proving::proof::Proof;
 pub use proving::proof_part::{PartName, PartRelation, ProofPart};
 pub use proving::shown_denial::ShownDenial;

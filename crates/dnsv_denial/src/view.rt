@@ -47,7 +47,7 @@ mod shown;
 #[derive(Drop)]
 pub struct View<'c, 't> {
     capture: &'c Capture<'c>,
-    trust: &'t Trust,
+    trust: &'t Trust<'t>,
     name: Name,
     /// In the order of their parameters, shared with the `Hashes` that the view was made with.
     sets: Rc<Vec<NameHashes<'c>>>,
@@ -83,7 +83,7 @@ impl<'c, 't> View<'c, 't> {
     pub fn new(
         alloc: Global,
         capture: &'c Capture<'c>,
-        trust: &'t Trust,
+        trust: &'t Trust<'t>,
         name: &Name,
         count: &mut Count,
     ) -> Result<View<'c, 't>, AllocError>
@@ -102,7 +102,7 @@ impl<'c, 't> View<'c, 't> {
     pub fn with(
         alloc: Global,
         capture: &'c Capture<'c>,
-        trust: &'t Trust,
+        trust: &'t Trust<'t>,
         hashes: &Hashes<'c>,
     ) -> Result<View<'c, 't>, AllocError>
         requires { hashes.now.rrsets ≡ capture.now.rrsets }

@@ -33,7 +33,7 @@ pub type WildcardAnswers = BTreeMap<(usize, usize), Shown>;
 pub fn wildcard_answers(
     alloc: Global,
     capture: &Capture<'_>,
-    trust: &Trust,
+    trust: &Trust<'_>,
     name: &Name,
     zones: &[ZoneRecords<'_>],
     sets: &[NameHashes<'_>],
@@ -74,7 +74,7 @@ fn add_answers(
         → AreAnswers (SecuredIn trust) rrsets name.now answers.new) }
 {
     for (place, rrsig) in rrset.signatures().iter().enumerate() {
-        let zone = &rrsig.signer;
+        let zone = &rrsig.signer.to_name();
         let labels = rrsig.labels as usize;
         if !secured.contains(&(place + 1)) || !is_expanded(rrset.owner(), rrsig) {
             continue;

@@ -22,10 +22,10 @@ use std::marker::Model;
 #[derive(Drop)]
 pub struct Evidence<'a> {
     capture: &'a Capture<'a>,
-    anchors: &'a Anchors,
-    table: &'a Table,
-    trust: &'a Trust,
-    todo: Option<&'a Entries>,
+    anchors: &'a Anchors<'a>,
+    table: &'a Table<'a>,
+    trust: &'a Trust<'a>,
+    todo: Option<&'a Entries<'a>>,
 }
 
 impl<'a> Model for Evidence<'a> {
@@ -53,10 +53,10 @@ impl<'a> Evidence<'a> {
     /// the numbers of the entries, if there are any.
     pub fn new(
         capture: &'a Capture<'a>,
-        anchors: &'a Anchors,
-        table: &'a Table,
-        trust: &'a Trust,
-        todo: Option<&'a Entries>,
+        anchors: &'a Anchors<'a>,
+        table: &'a Table<'a>,
+        trust: &'a Trust<'a>,
+        todo: Option<&'a Entries<'a>>,
     ) -> Evidence<'a>
         requires { IsTrustOf (table_answer table.now) table.now.moment capture.now.rrsets anchors.now trust.now }
         ensures { result ≡ record {
@@ -75,7 +75,7 @@ impl<'a> Evidence<'a> {
         }
     }
 
-    pub(crate) fn capture(&self) -> &Capture<'_>
+    pub(crate) fn capture(&self) -> &'a Capture<'a>
         ensures { result.now.rrsets ≡ self.now.rrsets }
     {
         self.capture
@@ -89,7 +89,7 @@ impl<'a> Evidence<'a> {
     }
 
     /// What the verifier says.
-    pub(crate) fn table(&self) -> &Table
+    pub(crate) fn table(&self) -> &Table<'_>
         ensures { result.now ≡ self.now.table }
     {
         self.table
@@ -103,14 +103,14 @@ impl<'a> Evidence<'a> {
     }
 
     /// The RRsets, which are numbered from 1.
-    pub(crate) fn rrsets(&self) -> &[Rrset<'_>]
+    pub(crate) fn rrsets(&self) -> &'a [Rrset<'a>]
         ensures { result.now ≡ self.now.rrsets }
     {
         self.capture.rrsets()
     }
 
     /// The trust anchors, which are numbered from 1.
-    pub(crate) fn anchors(&self) -> &[Anchor]
+    pub(crate) fn anchors(&self) -> &'a [Anchor<'a>]
         ensures { result.now ≡ self.now.anchors }
     {
         self.anchors.as_slice()
@@ -129,7 +129,7 @@ impl<'a> Evidence<'a> {
         &self,
         alloc: Global,
         rrset: &Rrset<'_>,
-        rrsig: &Rrsig,
+        rrsig: &Rrsig<'_>,
         key: &KeyRecord<'_>,
     ) -> Result<bool, AllocError>
         ensures { IfOk result (λ good. IsTrue good
@@ -144,7 +144,7 @@ impl<'a> Evidence<'a> {
         &self,
         alloc: Global,
         rrset: &Rrset<'_>,
-        rrsig: &Rrsig,
+        rrsig: &Rrsig<'_>,
         key: &KeyRecord<'_>,
     ) -> Result<Todo, AllocError>
         ensures { IfOk result (λ todo. (good : IsGood (table_answer self.now.table) self.now.table.moment rrset.now rrsig.now

@@ -26,6 +26,7 @@ use crate::explanation::told::add_set;
 use crate::explanation::verdict::{add_verdict, is_settled};
 use crate::line::Line;
 use crate::line::derivation::SignatureNumber;
+use bumpalo::Bump;
 use dnsv_canonical::Capture;
 use dnsv_chain::Anchors;
 use dnsv_names::{Name, RecordType};
@@ -62,15 +63,16 @@ impl Explanation {
 /// verdict at the last name, and where the RRsets stand. Of a verdict that needs no more answers it is told how long the
 /// signatures hold that show it, of one that depends on answers what may be hoped, and of Bogus and Indeterminate first
 /// what fails, with the keys that this is a matter of, and then how far trust holds.
-pub fn explain<V: Verifier>(
+pub fn explain<'a, V: Verifier>(
     alloc: Global,
-    capture: &Capture<'_>,
-    anchors: &Anchors,
+    bump: &'a Bump,
+    capture: &'a Capture<'a>,
+    anchors: &'a Anchors<'a>,
     moment: u64,
     verifier: &V,
     name: &Name,
     rtype: RecordType,
-) -> Result<(Report, Explanation), VerdictError>
+) -> Result<(Report<'a>, Explanation), VerdictError>
     ensures report { IfOk result (λ told. IsReport (basis_of capture.now.rrsets anchors.now moment (V.meaning
         verifier.now)) name.now rtype.0 told.0) }
     ensures explanation { IfOk result (λ told. IsExplanationOf (basis_of capture.now.rrsets anchors.now moment (V.meaning
@@ -78,7 +80,9 @@ pub fn explain<V: Verifier>(
     ensures refused { Refuses (basis_of capture.now.rrsets anchors.now moment (V.meaning verifier.now)) name.now rtype.0
         result }
 {
-    let judged = judge(alloc, capture, anchors, moment, verifier, name, rtype, true)?;
+    let judged = judge(
+        alloc, bump, capture, anchors, moment, verifier, name, rtype, true,
+    )?;
     let explanation = explanation_of(alloc, &judged, rtype)?;
     Ok((judged.report, explanation))
 }

@@ -2,6 +2,7 @@
 
 mod answers;
 mod at;
+mod keyed;
 mod keys;
 pub mod question;
 pub mod questioned;
@@ -14,37 +15,34 @@ pub mod zones;
 
 ghost use Rattle.std.specs.Prelude.{◌≡◌, ◌++◌, ◌∷◌, [], OnOk};
 ghost use Rattle.dnsv_canonical.specs.Rrsets.{IsNumbered};
-ghost use Rattle.dnsv_verifier.specs.Asking.{AreKeysOf};
-ghost use Rattle.dnsv_explain.specs.Explained.{setting_in};
 ghost use Rattle.dnsv_explain.specs.faults.Listing.{AddsThose};
 ghost use Rattle.dnsv_explain.specs.faults.RrsetLines.{AreRrsetLines, unsigned_line};
+ghost use Rattle.dnsv_explain.specs.faults.searches.KeySearch.{HasItsKeys, setting_of};
 
-use crate::evidence::Evidence;
+use crate::faults::keyed::KeyedEvidence;
 use crate::faults::signature::add_signature;
 use crate::line::Line;
 use crate::line::derivation::SignatureNumber;
 use crate::line::fault::Reason;
 use crate::line::fault::signature::UnsignedRrset;
 use dnsv_canonical::Rrset;
-use dnsv_verifier::KeyRecord;
 use std::alloc::{AllocError, Global};
 
 /// Adds why the RRset, which has the number, proves nothing: nothing where one of its signatures is good under a trusted
-/// key, that it has no signatures, or what is wrong with each of them. `keys` are those of the evidence.
+/// key, that it has no signatures, or what is wrong with each of them.
 fn add_rrset(
     alloc: Global,
-    evidence: &Evidence<'_>,
-    keys: &[KeyRecord<'_>],
+    keyed: &KeyedEvidence<'_>,
     lines: &mut Vec<Line>,
     number: usize,
     rrset: &Rrset<'_>,
 ) -> Result<(), AllocError>
-    requires keys { AreKeysOf evidence.now.rrsets keys.now }
-    requires rrset { IsNumbered evidence.now.rrsets number rrset.now }
-    ensures { OnOk result (AddsThose (AreRrsetLines (setting_in evidence.now) number rrset.now) lines.old.items
+    requires keys { HasItsKeys keyed.now }
+    requires rrset { IsNumbered keyed.now.evidence.now.rrsets number rrset.now }
+    ensures { OnOk result (AddsThose (AreRrsetLines (setting_of keyed.now) number rrset.now) lines.old.items
         lines.new.items) }
 {
-    if !evidence.secured(number).is_empty() {
+    if !keyed.evidence.secured(number).is_empty() {
         return Ok(());
     }
     if rrset.signatures().is_empty() {
@@ -56,7 +54,7 @@ fn add_rrset(
             rrset: number,
             signature: place + 1,
         };
-        add_signature(alloc, evidence, keys, lines, each, rrset, rrsig)?;
+        add_signature(alloc, keyed, lines, each, rrset, rrsig)?;
     }
     Ok(())
 }

@@ -22,6 +22,7 @@ pub use line::cut::{Cut, InsecureCase, UnusableDs, WhyUnusable};
 pub use line::denial::{Chain, Form, Part, Proof, RecordPlace, Relation, Role};
 pub use line::derivation::{KeyName, SignatureNumber, SignedRrset, Todo, TrustedKeys, Voucher};
 pub use line::fault::Reason;
+pub use line::fault::denial::parameters::SourceParameters;
 pub use line::fault::denial::{
     DenialUnproved, DnameAbove, MissingAnswer, Source, SourceFault, UnusableNsec3, WhyNsec3,
     WhySource,

@@ -6,15 +6,15 @@ ghost use Rattle.dnsv_explain.specs.Explained.{IsTodo};
 
 use dnsv_canonical::{Rrset, signed_data};
 use dnsv_records::Rrsig;
-use dnsv_verifier::{BorrowedEntry, Entries, KeyRecord};
+use dnsv_verifier::{Entries, Entry, KeyRecord};
 use std::alloc::{AllocError, Global};
 
 /// The number among the entries of what is asked of the signature of the RRset under the key, which may be used for it.
 pub fn number_among(
     alloc: Global,
-    entries: &Entries,
+    entries: &Entries<'_>,
     rrset: &Rrset<'_>,
-    rrsig: &Rrsig,
+    rrsig: &Rrsig<'_>,
     key: &KeyRecord<'_>,
 ) -> Result<Option<usize>, AllocError>
     ensures { IfOk result (λ number. (entry : Entry) → IsEntryOf rrset.now rrsig.now key.now entry
@@ -27,7 +27,12 @@ pub fn number_among(
 }
 
 /// The number of the entry of the signature over the octets under the key.
-fn number_of(entries: &Entries, rrsig: &Rrsig, octets: &[u8], key: &KeyRecord<'_>) -> Option<usize>
+fn number_of(
+    entries: &Entries<'_>,
+    rrsig: &Rrsig<'_>,
+    octets: &[u8],
+    key: &KeyRecord<'_>,
+) -> Option<usize>
     ensures { IsTodo entries.now (record {
       algorithm = rrsig.now.algorithm;
       key = key.now.dnskey.key;
@@ -44,12 +49,12 @@ fn number_of(entries: &Entries, rrsig: &Rrsig, octets: &[u8], key: &KeyRecord<'_
 }
 
 /// Whether the entry is that of the signature over the octets under the key.
-fn is_entry(entry: &BorrowedEntry<'_>, rrsig: &Rrsig, octets: &[u8], key: &KeyRecord<'_>) -> bool
+fn is_entry(entry: &Entry<'_>, rrsig: &Rrsig<'_>, octets: &[u8], key: &KeyRecord<'_>) -> bool
     ensures { IsTrue result ↔ ((entry.now.algorithm.0 ≡ rrsig.now.algorithm.0) × (entry.now.key ≡ key.now.dnskey.key)
         × (entry.now.signed_data ≡ octets.now) × (entry.now.signature ≡ rrsig.now.signature)) }
 {
-    entry.algorithm().0 == rrsig.algorithm.0
-        && entry.key() == key.dnskey().key.as_slice()
-        && entry.signed_data() == octets
-        && entry.signature() == rrsig.signature.as_slice()
+    entry.algorithm.0 == rrsig.algorithm.0
+        && entry.key.as_slice() == key.dnskey().key.as_slice()
+        && entry.signed_data.as_slice() == octets
+        && entry.signature.as_slice() == rrsig.signature.as_slice()
 }

@@ -14,6 +14,17 @@ pub record Contents : Type 0 where
   pub authority : List Record
   pub additional : List Record
 
+-- the message with these parts
+abbrev pub contents_of : ℕ → ℕ → List Question → List Record → List Record → List Record → Contents
+contents_of id flags questions answer authority additional = record {
+  id = id;
+  flags = flags;
+  questions = questions;
+  answer = answer;
+  authority = authority;
+  additional = additional;
+}
+
 -- the records of one section
 abbrev pub section_of : Contents → Section → List Record
 section_of message Answer = message.answer

@@ -25,29 +25,17 @@ pub struct Message<'b> {
 }
 
 impl<'b> Model for Message<'b> {
-    ghost use Rattle.dnsv_message.specs.Message.{Contents};
+    ghost use Rattle.dnsv_message.specs.Message.{Contents, contents_of};
     ghost use Rattle.dnsv_message.specs.Grammar.{IsMessage};
 
     ghost Value = { Contents };
 
-    ghost view = { λ message. record {
-      id = message.id;
-      flags = message.flags.0;
-      questions = message.questions.items;
-      answer = message.answer.items;
-      authority = message.authority.items;
-      additional = message.additional.items;
-    } };
+    ghost view = { λ message. contents_of message.id message.flags.0 message.questions.items message.answer.items
+        message.authority.items message.additional.items };
 
     // A message is what some octets are.
-    ghost invariant = { λ message. IsMessage (record {
-      id = message.id;
-      flags = message.flags.0;
-      questions = message.questions.items;
-      answer = message.answer.items;
-      authority = message.authority.items;
-      additional = message.additional.items;
-    }) };
+    ghost invariant = { λ message. IsMessage (contents_of message.id message.flags.0 message.questions.items
+        message.answer.items message.authority.items message.additional.items) };
 }
 
 /// How many octets the header has.

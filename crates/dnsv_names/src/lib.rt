@@ -34,6 +34,7 @@ pub use tree::tree_laws::{
     wildcards_stand_right_below,
 };
 pub use wire::lower::lower_order;
+pub use wire_name::WireName;
 
 mod circle;
 mod count;
@@ -48,3 +49,4 @@ mod stored_name;
 mod text;
 mod tree;
 mod wire;
+mod wire_name;

@@ -64,7 +64,7 @@ impl Hash for Name {
 }
 
 /// The canonical order of the names whose wire forms these are.
-fn compared(a: &[u8], b: &[u8]) -> Ordering
+pub fn compared(a: &[u8], b: &[u8]) -> Ordering
     requires first { SpellsName a.now }
     requires second { SpellsName b.now }
     ensures { result ≡ canonical_cmp (labels_of a.now) (labels_of b.now) }

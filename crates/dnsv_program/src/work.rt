@@ -16,6 +16,7 @@ ghost use Rattle.dnsv_program.specs.Texts.Showing.{IsShowing};
 use crate::command_line::moment::Moment;
 use crate::command_line::question::question_name;
 use crate::command_line::request::Request;
+use crate::files::anchors::anchors_in;
 use crate::files::capture::evidence_in;
 use crate::files::text::text_in;
 use crate::opening::{Opening, opening_in};
@@ -177,7 +178,7 @@ fn list<R: Read>(
         return Ok(listing(alloc, json, moment, &held)?);
     }
     let statements: Statements = text_in(alloc, InputFile::Statements, &mut inputs.statements)?;
-    Ok(still_to_check(alloc, json, &held, moment, &statements)?)
+    Ok(still_to_check(alloc, bump, json, &held, moment, &statements)?)
 }
 
 /// The verdict on the question, if it is one that can be asked, and why it stands, where that is asked for.
@@ -225,10 +226,11 @@ fn check_question<R: Read>(
 {
     let opening = opening_in(alloc, moment, &mut inputs.keys, &mut inputs.macs)?;
     let held = evidence_in(alloc, &opening, &mut inputs.capture, bump)?;
-    let anchors = text_in(alloc, InputFile::Anchors, &mut inputs.anchors)?;
+    let anchors = anchors_in(alloc, bump, &mut inputs.anchors)?;
     let statements: Statements = text_in(alloc, InputFile::Statements, &mut inputs.statements)?;
     judge(
         alloc,
+        bump,
         json,
         why,
         &held,

@@ -42,16 +42,11 @@ one_ds rdata a b p q =
     let digest : a.digest ≡ b.digest = p.digest ∙ sym q.digest in
     λ i. record { key_tag = record { 0 = key_tag i }; algorithm = record { 0 = algorithm i }; digest_type = record { 0 = digest_type i }; digest = digest i }
 
-pub one_rrsig : (rdata : List ℕ) (a b : Rrsig) → IsRrsig rdata a → IsRrsig rdata b → a ≡ b
-one_rrsig rdata a b p q =
-    let behind = wire-front a.signer b.signer a.signature b.signature p.name.each q.name.each (sym p.rest ∙ q.rest) in
-    let type_covered : a.type_covered.0 ≡ b.type_covered.0 = p.type_covered ∙ sym q.type_covered in
-    let algorithm : a.algorithm.0 ≡ b.algorithm.0 = p.algorithm ∙ sym q.algorithm in
-    let labels : a.labels ≡ b.labels = p.labels ∙ sym q.labels in
-    let original_ttl : a.original_ttl.0 ≡ b.original_ttl.0 = p.original_ttl ∙ sym q.original_ttl in
-    let expiration : a.expiration.0 ≡ b.expiration.0 = p.expiration ∙ sym q.expiration in
-    let inception : a.inception.0 ≡ b.inception.0 = p.inception ∙ sym q.inception in
-    let key_tag : a.key_tag.0 ≡ b.key_tag.0 = p.key_tag ∙ sym q.key_tag in
+-- an RRSIG is its fields
+pub same_rrsig : (a b : Rrsig) → a.type_covered.0 ≡ b.type_covered.0 → a.algorithm.0 ≡ b.algorithm.0 → a.labels ≡ b.labels
+    → a.original_ttl.0 ≡ b.original_ttl.0 → a.expiration.0 ≡ b.expiration.0 → a.inception.0 ≡ b.inception.0
+    → a.key_tag.0 ≡ b.key_tag.0 → a.signer ≡ b.signer → a.signature ≡ b.signature → a ≡ b
+same_rrsig a b type_covered algorithm labels original_ttl expiration inception key_tag signer signature =
     λ i. record {
       type_covered = record { 0 = type_covered i };
       algorithm = record { 0 = algorithm i };
@@ -60,9 +55,16 @@ one_rrsig rdata a b p q =
       expiration = record { 0 = expiration i };
       inception = record { 0 = inception i };
       key_tag = record { 0 = key_tag i };
-      signer = behind.0 i;
-      signature = behind.1 i;
+      signer = signer i;
+      signature = signature i;
     }
+
+pub one_rrsig : (rdata : List ℕ) (a b : Rrsig) → IsRrsig rdata a → IsRrsig rdata b → a ≡ b
+one_rrsig rdata a b p q =
+    let behind = wire-front a.signer b.signer a.signature b.signature p.name.each q.name.each (sym p.rest ∙ q.rest) in
+    same_rrsig a b (p.type_covered ∙ sym q.type_covered) (p.algorithm ∙ sym q.algorithm) (p.labels ∙ sym q.labels)
+    (p.original_ttl ∙ sym q.original_ttl) (p.expiration ∙ sym q.expiration) (p.inception ∙ sym q.inception)
+    (p.key_tag ∙ sym q.key_tag) behind.0 behind.1
 
 pub one_nsec : (rdata : List ℕ) (a b : Nsec) → IsNsec rdata a → IsNsec rdata b → a ≡ b
 one_nsec rdata a b p q =

@@ -6,7 +6,6 @@ use crate::error::{Field, RecordError};
 use crate::number::Algorithm;
 use crate::octets::Octets;
 use dnsv_names::u16_at;
-use std::alloc::Global;
 
 /// The flags of a DNSKEY (RFC 4034 2.1.1).
 #[derive(Clone, Copy, Debug, PartialEq, Eq, PartialOrd, Ord, Hash)]
@@ -25,22 +24,22 @@ impl DnskeyFlags {
 
 /// A public key (RFC 4034 2.1).
 #[derive(Debug, PartialEq, Eq, Drop)]
-pub struct Dnskey {
+pub struct Dnskey<'b> {
     pub flags: DnskeyFlags,
     /// 3, in a key that DNSSEC uses (RFC 4034 2.1.2).
     pub protocol: u8,
     pub algorithm: Algorithm,
     /// The key itself, in the format of its algorithm.
-    pub key: Octets,
+    pub key: Octets<'b>,
 }
 
-impl Dnskey {
+impl<'b> Dnskey<'b> {
     ghost use Rattle.std.specs.Prelude.{◌<◌, ◌≡◌, ◌⊎◌, ◌↔◌, IfOk, length};
     ghost use Rattle.dnsv_records.specs.Dnskey.{IsDnskey, DnskeyFault};
     ghost use Rattle.dnsv_records.specs.Reading.{IsFirstFault, Gives};
 
     /// Reads a DNSKEY's RDATA. `BadRdata` names the head where fewer than 4 octets are there.
-    pub fn read(alloc: Global, rdata: &[u8]) -> Result<Dnskey, RecordError>
+    pub fn read(rdata: &'b [u8]) -> Result<Dnskey<'b>, RecordError>
         ensures found { IfOk result (IsDnskey rdata.now) }
         ensures every { (key : Dnskey) → IsDnskey rdata.now key → Gives result key }
         ensures fault { IsFirstFault result (DnskeyFault rdata.now) }
@@ -55,7 +54,7 @@ impl Dnskey {
             flags: DnskeyFlags(u16_at(rdata, 0)),
             protocol: rdata[2],
             algorithm: Algorithm(rdata[3]),
-            key: Octets::copy_of(alloc, &rdata[4..])?,
+            key: Octets::of(&rdata[4..]),
         })
     }
 }

@@ -3,27 +3,26 @@ use crate::error::{Field, RecordError};
 use crate::number::{Algorithm, DigestType, KeyTag};
 use crate::octets::Octets;
 use dnsv_names::u16_at;
-use std::alloc::Global;
 
 /// A delegation's link to a key of the zone below (RFC 4034 5.1).
 #[derive(Debug, PartialEq, Eq, Drop)]
-pub struct Ds {
+pub struct Ds<'b> {
     /// The tag of the key.
     pub key_tag: KeyTag,
     /// The algorithm of the key.
     pub algorithm: Algorithm,
     /// The hash that made the digest.
     pub digest_type: DigestType,
-    pub digest: Octets,
+    pub digest: Octets<'b>,
 }
 
-impl Ds {
+impl<'b> Ds<'b> {
     ghost use Rattle.std.specs.Prelude.{◌≡◌, IfOk};
     ghost use Rattle.dnsv_records.specs.Ds.{IsDs, DsFault};
     ghost use Rattle.dnsv_records.specs.Reading.{IsFirstFault, Gives};
 
     /// Reads a DS's RDATA. `BadRdata` names the head where fewer than 4 octets are there.
-    pub fn read(alloc: Global, rdata: &[u8]) -> Result<Ds, RecordError>
+    pub fn read(rdata: &'b [u8]) -> Result<Ds<'b>, RecordError>
         ensures found { IfOk result (IsDs rdata.now) }
         ensures every { (ds : Ds) → IsDs rdata.now ds → Gives result ds }
         ensures fault { IsFirstFault result (DsFault rdata.now) }
@@ -38,7 +37,7 @@ impl Ds {
             key_tag: KeyTag(u16_at(rdata, 0)),
             algorithm: Algorithm(rdata[2]),
             digest_type: DigestType(rdata[3]),
-            digest: Octets::copy_of(alloc, &rdata[4..])?,
+            digest: Octets::of(&rdata[4..]),
         })
     }
 }

@@ -2,25 +2,24 @@
 use crate::bitmap::TypeBitmap;
 use crate::error::{Field, RecordError};
 use dnsv_names::Name;
-use std::alloc::Global;
 
 /// Which types an owner has, and which owner is the next of the zone (RFC 4034 4.1).
 #[derive(Debug, Drop)]
-pub struct Nsec {
+pub struct Nsec<'b> {
     /// The next owner in canonical order, as it is spelled; behind the last one the apex.
     pub next: Name,
     /// The types that the owner has.
-    pub types: TypeBitmap,
+    pub types: TypeBitmap<'b>,
 }
 
-impl Nsec {
+impl<'b> Nsec<'b> {
     ghost use Rattle.std.specs.Prelude.{◌≡◌, IfOk};
     ghost use Rattle.dnsv_records.specs.Nsec.{IsNsec, NsecFault};
     ghost use Rattle.dnsv_records.specs.Reading.{IsFirstFault, Gives};
 
     /// Reads an NSEC's RDATA. `BadRdata` names the name where no uncompressed name is at the front,
     /// and the bitmap where what follows is none.
-    pub fn read(alloc: Global, rdata: &[u8]) -> Result<Nsec, RecordError>
+    pub fn read(rdata: &'b [u8]) -> Result<Nsec<'b>, RecordError>
         ensures found { IfOk result (IsNsec rdata.now) }
         ensures every { (nsec : Nsec) → IsNsec rdata.now nsec → Gives result nsec }
         ensures fault { IsFirstFault result (NsecFault rdata.now) }
@@ -31,7 +30,7 @@ impl Nsec {
         let Some((next, length)) = Name::read(rdata) else {
             return Err(RecordError::BadRdata(Field::Name));
         };
-        let types = TypeBitmap::read(alloc, &rdata[length..])?;
+        let types = TypeBitmap::read(&rdata[length..])?;
         Ok(Nsec { next, types })
     }
 }

@@ -4,7 +4,6 @@ use crate::error::{Field, RecordError};
 use crate::number::split_counted;
 use crate::octets::Octets;
 use dnsv_names::{Hash20, u16_at};
-use std::alloc::Global;
 
 /// How many octets stand before the salt's length.
 const HEAD: usize = 4;
@@ -49,32 +48,32 @@ impl Iterations {
 /// The NSEC3 parameters of a record: what its hash was made with (RFC 5155 3.1.3, 3.1.5). They are ordered by
 /// iterations, and then by the octets of the salt.
 #[derive(Debug, PartialEq, Eq, PartialOrd, Ord, Drop)]
-pub struct Nsec3Parameters {
+pub struct Nsec3Parameters<'b> {
     pub iterations: Iterations,
     /// The octets that each hash is made with besides.
-    pub salt: Octets,
+    pub salt: Octets<'b>,
 }
 
 /// Which types the name with the owner's hash has, and which hash is the next of the zone (RFC 5155 3.1).
 #[derive(Debug, Drop)]
-pub struct Nsec3 {
+pub struct Nsec3<'b> {
     pub algorithm: HashAlgorithm,
     pub flags: Nsec3Flags,
-    pub parameters: Nsec3Parameters,
+    pub parameters: Nsec3Parameters<'b>,
     /// The next owner's hash; behind the last one the first.
-    pub next_hash: Octets,
+    pub next_hash: Octets<'b>,
     /// The types that the name has.
-    pub types: TypeBitmap,
+    pub types: TypeBitmap<'b>,
 }
 
-impl Nsec3 {
+impl<'b> Nsec3<'b> {
     ghost use Rattle.std.specs.Prelude.{◌≡◌, IfOk, IsTrue, ◌↔◌, MatchOption};
     ghost use Rattle.dnsv_records.specs.Nsec3.{IsNsec3, Nsec3Fault, IsUsable, IsUsed};
     ghost use Rattle.dnsv_records.specs.Reading.{IsFirstFault, Gives};
 
     /// Reads an NSEC3's RDATA. `BadRdata` names the first of head, salt, hash and bitmap that is not
     /// there or is wrong. A hash of no octets is read too.
-    pub fn read(alloc: Global, rdata: &[u8]) -> Result<Nsec3, RecordError>
+    pub fn read(rdata: &'b [u8]) -> Result<Nsec3<'b>, RecordError>
         ensures found { IfOk result (IsNsec3 rdata.now) }
         ensures every { (nsec3 : Nsec3) → IsNsec3 rdata.now nsec3 → Gives result nsec3 }
         ensures fault { IsFirstFault result (Nsec3Fault rdata.now) }
@@ -91,15 +90,15 @@ impl Nsec3 {
         let Some((next_hash, bits)) = split_counted(behind_salt) else {
             return Err(RecordError::BadRdata(Field::Hash));
         };
-        let types = TypeBitmap::read(alloc, bits)?;
+        let types = TypeBitmap::read(bits)?;
         Ok(Nsec3 {
             algorithm: HashAlgorithm(rdata[0]),
             flags: Nsec3Flags(rdata[1]),
             parameters: Nsec3Parameters {
                 iterations: Iterations(u16_at(rdata, 2)),
-                salt: Octets::copy_of(alloc, salt)?,
+                salt: Octets::of(salt),
             },
-            next_hash: Octets::copy_of(alloc, next_hash)?,
+            next_hash: Octets::of(next_hash),
             types,
         })
     }
@@ -116,7 +115,7 @@ impl Nsec3 {
     }
 
     /// The record as one that may carry a denial; `None` where it isn't [usable](Nsec3::is_usable).
-    pub fn usable(&self) -> Option<UsableNsec3<'_>>
+    pub fn usable<'a>(&'a self) -> Option<UsableNsec3<'a>>
         ensures { MatchOption result (¬ IsUsable self.now) (IsUsed self.now) }
     {
         if !self.is_usable() {
@@ -137,9 +136,9 @@ impl Nsec3 {
 pub struct UsableNsec3<'a> {
     /// Whether unsigned delegations may be left out between the owner and the next hash (RFC 5155 3.1.2.1).
     pub is_opt_out: bool,
-    pub parameters: &'a Nsec3Parameters,
+    pub parameters: &'a Nsec3Parameters<'a>,
     /// The next owner's hash; behind the last one the first.
     pub next_hash: Hash20,
     /// The types that the name with the owner's hash has.
-    pub types: &'a TypeBitmap,
+    pub types: &'a TypeBitmap<'a>,
 }

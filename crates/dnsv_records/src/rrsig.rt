@@ -3,15 +3,14 @@ use crate::error::{Field, RecordError};
 use crate::number::{Algorithm, KeyTag};
 use crate::octets::Octets;
 use crate::time::{Expiration, Inception};
-use dnsv_names::{Name, RecordType, Ttl, u16_at, u32_at};
-use std::alloc::Global;
+use dnsv_names::{RecordType, Ttl, WireName, u16_at, u32_at};
 
 /// How many octets stand before the signer's name.
 const HEAD: usize = 18;
 
 /// A signature over an RRset (RFC 4034 3.1).
 #[derive(Debug, Drop)]
-pub struct Rrsig {
+pub struct Rrsig<'b> {
     /// The type of the records that are signed.
     pub type_covered: RecordType,
     pub algorithm: Algorithm,
@@ -24,18 +23,18 @@ pub struct Rrsig {
     /// The tag of the key that signed.
     pub key_tag: KeyTag,
     /// The zone whose key signed, as it is spelled.
-    pub signer: Name,
-    pub signature: Octets,
+    pub signer: WireName<'b>,
+    pub signature: Octets<'b>,
 }
 
-impl Rrsig {
+impl<'b> Rrsig<'b> {
     ghost use Rattle.std.specs.Prelude.{◌≡◌, IfOk};
     ghost use Rattle.dnsv_records.specs.Rrsig.{IsRrsig, RrsigFault};
     ghost use Rattle.dnsv_records.specs.Reading.{IsFirstFault, Gives};
 
     /// Reads an RRSIG's RDATA. `BadRdata` names the head where fewer than 18 octets are there, and
     /// the name where no uncompressed name follows.
-    pub fn read(alloc: Global, rdata: &[u8]) -> Result<Rrsig, RecordError>
+    pub fn read(rdata: &'b [u8]) -> Result<Rrsig<'b>, RecordError>
         ensures found { IfOk result (IsRrsig rdata.now) }
         ensures every { (rrsig : Rrsig) → IsRrsig rdata.now rrsig → Gives result rrsig }
         ensures fault { IsFirstFault result (RrsigFault rdata.now) }
@@ -46,10 +45,10 @@ impl Rrsig {
         if rdata.len() < HEAD {
             return Err(RecordError::BadRdata(Field::Head));
         }
-        let Some((signer, length)) = Name::read(&rdata[HEAD..]) else {
+        let Some((signer, length)) = WireName::read(&rdata[HEAD..]) else {
             return Err(RecordError::BadRdata(Field::Name));
         };
-        let signature = Octets::copy_of(alloc, &rdata[HEAD + length..])?;
+        let signature = Octets::of(&rdata[HEAD + length..]);
         Ok(Rrsig {
             type_covered: RecordType(u16_at(rdata, 0)),
             algorithm: Algorithm(rdata[2]),

@@ -12,7 +12,7 @@ use dnsv_canonical::Capture;
 use dnsv_chain::Trust;
 use dnsv_denial::{Hashes, Proof, View};
 use dnsv_names::{Count, Name, RecordType};
-use evidence::{Evidence, evidence_of};
+use evidence::{Evidence, evidence_in};
 use std::alloc::Global;
 
 /// What the library answers, where it has the call.
@@ -45,15 +45,16 @@ pub fn answer(row: &Row) -> Result<Option<String>, RowError> {
 /// the proof that the type isn't there, and the unsigned cut.
 fn deny(row: &Row) -> Result<String, RowError> {
     let bump = Bump::new(row.alloc());
-    match evidence_of(row, &bump)? {
-        Ok(evidence) => denied(row, &evidence),
+    match capture_or_refusal(row, 0, &bump)? {
+        Ok(capture) => denied(row, &capture),
         Err(refusal) => Ok(refusal),
     }
 }
 
-fn denied(row: &Row, evidence: &Evidence<'_>) -> Result<String, RowError> {
+fn denied(row: &Row, capture: &Capture<'_>) -> Result<String, RowError> {
+    let evidence = evidence_in(row, capture)?;
     let name = row.name(3)?;
-    let view = view_of(row.alloc(), evidence, &name)?;
+    let view = view_of(row.alloc(), &evidence, &name)?;
     denials(row.alloc(), &view, rtype_of(row.text(4)?)?)
 }
 
@@ -61,16 +62,17 @@ fn denied(row: &Row, evidence: &Evidence<'_>) -> Result<String, RowError> {
 /// BEFORE was made with.
 fn retrust(row: &Row) -> Result<String, RowError> {
     let bump = Bump::new(row.alloc());
-    match evidence_of(row, &bump)? {
-        Ok(evidence) => denied_again(row, &evidence),
+    match capture_or_refusal(row, 0, &bump)? {
+        Ok(capture) => denied_again(row, &capture),
         Err(refusal) => Ok(refusal),
     }
 }
 
-fn denied_again(row: &Row, evidence: &Evidence<'_>) -> Result<String, RowError> {
-    let before = trust_in(row, &evidence.capture, 5)?;
+fn denied_again(row: &Row, capture: &Capture<'_>) -> Result<String, RowError> {
+    let evidence = evidence_in(row, capture)?;
+    let before = trust_in(row, evidence.capture, 5)?;
     let name = row.name(3)?;
-    let view = view_with_hashes_of(row.alloc(), evidence, &before, &name)?;
+    let view = view_with_hashes_of(row.alloc(), &evidence, &before, &name)?;
     denials(row.alloc(), &view, rtype_of(row.text(4)?)?)
 }
 
@@ -78,27 +80,28 @@ fn denied_again(row: &Row, evidence: &Evidence<'_>) -> Result<String, RowError> 
 fn view_with_hashes_of<'a>(
     alloc: Global,
     evidence: &'a Evidence<'a>,
-    before: &Trust,
+    before: &Trust<'_>,
     name: &Name,
 ) -> Result<View<'a, 'a>, RowError> {
-    let hashes = Hashes::new(alloc, &evidence.capture, name, &mut Count::new())?;
-    View::with(alloc, &evidence.capture, before, &hashes)?;
-    Ok(View::with(alloc, &evidence.capture, &evidence.trust, &hashes)?)
+    let hashes = Hashes::new(alloc, evidence.capture, name, &mut Count::new())?;
+    View::with(alloc, evidence.capture, before, &hashes)?;
+    Ok(View::with(alloc, evidence.capture, &evidence.trust, &hashes)?)
 }
 
 /// `closer CAPTURE ANCHORS MOMENT NAME ZONE LABELS`: the zone and the record of the proof that the zone has no closer
 /// name than so many labels, and the next closer name that may be left out.
 fn closer(row: &Row) -> Result<String, RowError> {
     let bump = Bump::new(row.alloc());
-    match evidence_of(row, &bump)? {
-        Ok(evidence) => closer_in(row, &evidence),
+    match capture_or_refusal(row, 0, &bump)? {
+        Ok(capture) => closer_in(row, &capture),
         Err(refusal) => Ok(refusal),
     }
 }
 
-fn closer_in(row: &Row, evidence: &Evidence<'_>) -> Result<String, RowError> {
+fn closer_in(row: &Row, capture: &Capture<'_>) -> Result<String, RowError> {
+    let evidence = evidence_in(row, capture)?;
     let name = row.name(3)?;
-    let view = view_of(row.alloc(), evidence, &name)?;
+    let view = view_of(row.alloc(), &evidence, &name)?;
     closer_names(row, &view)
 }
 
@@ -116,18 +119,19 @@ fn closer_names(row: &Row, view: &View<'_, '_>) -> Result<String, RowError> {
 /// `hashes CAPTURE ANCHORS MOMENT NAME`: how many hashes a view for the name makes.
 fn hashes(row: &Row) -> Result<String, RowError> {
     let bump = Bump::new(row.alloc());
-    match evidence_of(row, &bump)? {
-        Ok(evidence) => hash_count(row, &evidence),
+    match capture_or_refusal(row, 0, &bump)? {
+        Ok(capture) => hash_count(row, &capture),
         Err(refusal) => Ok(refusal),
     }
 }
 
-fn hash_count(row: &Row, evidence: &Evidence<'_>) -> Result<String, RowError> {
+fn hash_count(row: &Row, capture: &Capture<'_>) -> Result<String, RowError> {
+    let evidence = evidence_in(row, capture)?;
     let mut count = Count::new();
     let name = row.name(3)?;
     View::new(
         row.alloc(),
-        &evidence.capture,
+        evidence.capture,
         &evidence.trust,
         &name,
         &mut count,
@@ -169,7 +173,7 @@ fn view_of<'a>(
 ) -> Result<View<'a, 'a>, RowError> {
     Ok(View::new(
         alloc,
-        &evidence.capture,
+        evidence.capture,
         &evidence.trust,
         name,
         &mut Count::new(),

@@ -9,7 +9,7 @@ use crate::row::{Row, RowError};
 use bumpalo::Bump;
 use dnsv_canonical::{Capture, CaptureError, Rrset};
 use dnsv_message::{Framer, Message};
-use dnsv_records::{Dnskey, RecordError, Rrsig};
+use dnsv_records::{Dnskey, Rrsig};
 use std::alloc::Global;
 
 /// A message that isn't added to a capture: its number, from 1 on, and why.
@@ -97,7 +97,11 @@ pub fn rrset<'a, 'b>(
 }
 
 /// The signature of the RRset whose number, from 1 on, the argument is.
-pub fn signature<'a>(row: &Row, place: usize, rrset: &'a Rrset<'_>) -> Result<&'a Rrsig, RowError> {
+pub fn signature<'a, 'b>(
+    row: &Row,
+    place: usize,
+    rrset: &'a Rrset<'b>,
+) -> Result<&'a Rrsig<'b>, RowError> {
     let number = row.number(place)?.saturating_sub(1);
     let Ok(index) = usize::try_from(number) else {
         return Err(RowError::Malformed);
@@ -123,12 +127,11 @@ pub fn frames<'b>(row: &Row, place: usize, bump: &'b Bump) -> Result<Vec<&'b [u8
 }
 
 /// What the RDATA of a DNSKEY record says.
-pub fn dnskey_of(alloc: Global, rdata: &[u8]) -> Result<Dnskey, RowError>
+pub fn dnskey_of(rdata: &[u8]) -> Result<Dnskey<'_>, RowError>
     ensures { IfOk result (IsDnskey rdata.now) }
 {
-    match Dnskey::read(alloc, rdata) {
+    match Dnskey::read(rdata) {
         Ok(dnskey) => Ok(dnskey),
-        Err(RecordError::OutOfMemory) => Err(RowError::OutOfMemory),
         Err(_) => Err(RowError::Malformed),
     }
 }

@@ -6,8 +6,10 @@ use crate::evidence::verifying::ByFirstOctet;
 use crate::row::{Row, RowError, printed};
 use crate::verifier::statements_of;
 use bumpalo::Bump;
+use dnsv_canonical::Capture;
+use dnsv_chain::Anchors;
 use dnsv_denial::Proof;
-use dnsv_names::RecordType;
+use dnsv_names::{Name, RecordType};
 use dnsv_verdict::{Link, Report, Verdict, VerdictError, validate};
 use dnsv_verifier::{Entries, Panel, Verifier};
 use std::alloc::Global;
@@ -30,10 +32,26 @@ fn validated<V: Verifier>(row: &Row, verifier: &V) -> Result<String, RowError> {
     let alloc = row.alloc();
     let bump = Bump::new(row.alloc());
     let capture = evidence::capture(row, 0, &bump)?;
-    let anchors = trust_anchors(row, 1)?;
+    let anchors = trust_anchors(row, 1, &bump)?;
     let (moment, name) = (row.number(2)?, row.name(3)?);
     let rtype = record_type(row, 4)?;
-    match validate(alloc, &capture, &anchors, moment, verifier, &name, rtype) {
+    told_of(
+        alloc, &bump, &capture, &anchors, moment, verifier, &name, rtype,
+    )
+}
+
+/// The same of the capture under the anchors.
+fn told_of<V: Verifier>(
+    alloc: Global,
+    bump: &Bump,
+    capture: &Capture<'_>,
+    anchors: &Anchors<'_>,
+    moment: u64,
+    verifier: &V,
+    name: &Name,
+    rtype: RecordType,
+) -> Result<String, RowError> {
+    match validate(alloc, bump, capture, anchors, moment, verifier, name, rtype) {
         Ok(report) => told(alloc, &report),
         Err(VerdictError::OutOfMemory) => Err(RowError::OutOfMemory),
         Err(error) => {
@@ -52,7 +70,7 @@ fn validated_together(row: &Row) -> Result<String, RowError> {
     validated(row, &Panel::new(members))
 }
 
-fn told(alloc: Global, report: &Report) -> Result<String, RowError> {
+fn told(alloc: Global, report: &Report<'_>) -> Result<String, RowError> {
     let verdict = verdict_text(alloc, &report.verdict)?;
     let links = links_text(alloc, report.links.as_slice())?;
     let (asked, hashed) = (report.asked, report.hashed);
@@ -69,7 +87,7 @@ fn links_text(alloc: Global, links: &[Link]) -> Result<String, RowError> {
     Ok(text)
 }
 
-fn verdict_text(alloc: Global, verdict: &Verdict) -> Result<String, RowError> {
+fn verdict_text(alloc: Global, verdict: &Verdict<'_>) -> Result<String, RowError> {
     Ok(match verdict {
         Verdict::SecureAnswer { rrset, signature } => {
             format!(in alloc; "SecureAnswer {rrset}.{signature}")?
@@ -97,10 +115,10 @@ fn with_records(alloc: Global, word: &str, proof: &Proof) -> Result<String, RowE
 }
 
 /// What is pending by the signatures of the entries.
-fn with_signatures(alloc: Global, entries: &Entries) -> Result<String, RowError> {
+fn with_signatures(alloc: Global, entries: &Entries<'_>) -> Result<String, RowError> {
     let mut text = String::from_str(alloc, "Pending")?;
     for place in 0..entries.len() {
-        let signature = printed::octets(alloc, entries.at(place).signature())?;
+        let signature = printed::octets(alloc, entries.at(place).signature.as_slice())?;
         text = format!(in alloc; "{text} {signature}")?;
     }
     Ok(text)

@@ -8,8 +8,8 @@ use dnsv_canonical::{Capture, Rrset};
 use dnsv_names::Count;
 use dnsv_records::{Algorithm, Octets};
 use dnsv_verifier::{
-    Answer, BorrowedEntry, Entry, KeyRecord, Panel, Statements, StatementsError, Table, Verifier,
-    ask_all, is_admissible, is_verifiable, may_have_made,
+    Answer, Entry, KeyRecord, Panel, Statements, StatementsError, Table, Verifier, ask_all,
+    is_admissible, is_verifiable, may_have_made,
 };
 use std::alloc::Global;
 
@@ -40,7 +40,8 @@ pub fn answer(row: &Row) -> Result<Option<String>, RowError> {
 fn statements(row: &Row) -> Result<String, RowError> {
     match Statements::parse(row.alloc(), row.octets(0)?.as_slice()) {
         Ok(statements) => {
-            let said = said_by(&statements, &entry(row, 1)?);
+            let bump = Bump::new(row.alloc());
+            let said = said_by(&statements, &entry(row, 1, &bump)?);
             Ok(format!(in row.alloc(); "{said:?}")?)
         }
         Err(error) => refused(row.alloc(), &error),
@@ -63,15 +64,22 @@ fn panel(row: &Row) -> Result<String, RowError> {
     for place in 4..row.count() {
         members.push(Box::new(row.alloc(), statements_of(row, place)?)?)?;
     }
-    let said = said_by(&Panel::new(members), &entry(row, 0)?);
+    let bump = Bump::new(row.alloc());
+    let said = said_by(&Panel::new(members), &entry(row, 0, &bump)?);
     Ok(format!(in row.alloc(); "{said:?}")?)
 }
 
 /// `asked CAPTURE MOMENT STATEMENTS`: how many entries are asked of the statements and are counted, and how many
 /// they know nothing of.
 fn asked(row: &Row) -> Result<String, RowError> {
+    let bump = Bump::new(row.alloc());
+    let capture = capture(row, 0, &bump)?;
+    asked_of(row, &bump, &capture)
+}
+
+fn asked_of(row: &Row, bump: &Bump, capture: &Capture<'_>) -> Result<String, RowError> {
     let mut count = Count::new();
-    let table = table_of(row, &mut count)?;
+    let table = table_of(row, bump, capture, &mut count)?;
     let (asked, counted, unknown) = (
         table.len(),
         count.value(),
@@ -82,8 +90,14 @@ fn asked(row: &Row) -> Result<String, RowError> {
 
 /// `table CAPTURE MOMENT STATEMENTS`: the entries that are still to be verified, as `ALGORITHM:KEY:DATA:SIGNATURE`.
 fn table(row: &Row) -> Result<String, RowError> {
+    let bump = Bump::new(row.alloc());
+    let capture = capture(row, 0, &bump)?;
+    unknown_of(row, &bump, &capture)
+}
+
+fn unknown_of(row: &Row, bump: &Bump, capture: &Capture<'_>) -> Result<String, RowError> {
     let alloc = row.alloc();
-    let table = table_of(row, &mut Count::new())?;
+    let table = table_of(row, bump, capture, &mut Count::new())?;
     let mut texts = Vec::new(alloc);
     let unknown = table.unknown(alloc)?;
     for place in 0..unknown.len() {
@@ -92,21 +106,32 @@ fn table(row: &Row) -> Result<String, RowError> {
     printed::list(alloc, texts.as_slice())
 }
 
-fn text_of(alloc: Global, entry: &BorrowedEntry<'_>) -> Result<String, RowError> {
-    let algorithm = entry.algorithm().0;
-    let key = printed::octets(alloc, entry.key())?;
-    let signed_data = printed::octets(alloc, entry.signed_data())?;
-    let signature = printed::octets(alloc, entry.signature())?;
+fn text_of(alloc: Global, entry: &Entry<'_>) -> Result<String, RowError> {
+    let algorithm = entry.algorithm.0;
+    let key = printed::octets(alloc, entry.key.as_slice())?;
+    let signed_data = printed::octets(alloc, entry.signed_data.as_slice())?;
+    let signature = printed::octets(alloc, entry.signature.as_slice())?;
     Ok(format!(in alloc; "{algorithm}:{key}:{signed_data}:{signature}")?)
 }
 
 /// `hopeful CAPTURE MOMENT STATEMENTS ALGORITHM KEY DATA SIGNATURE`: what the table says of the entry, and the hopeful
 /// one, and the moment, entries and unknown entries of the latter.
 fn hopeful(row: &Row) -> Result<String, RowError> {
-    let table = table_of(row, &mut Count::new())?;
+    let bump = Bump::new(row.alloc());
+    let capture = capture(row, 0, &bump)?;
+    let entry = entry(row, 3, &bump)?;
+    hoped_of(row, &bump, &capture, &entry)
+}
+
+fn hoped_of(
+    row: &Row,
+    bump: &Bump,
+    capture: &Capture<'_>,
+    entry: &Entry<'_>,
+) -> Result<String, RowError> {
+    let table = table_of(row, bump, capture, &mut Count::new())?;
     let hopeful = table.hopeful(row.alloc())?;
-    let entry = entry(row, 3)?;
-    let (said, hoped) = (said_by(&table, &entry), said_by(&hopeful, &entry));
+    let (said, hoped) = (said_by(&table, entry), said_by(&hopeful, entry));
     let (moment, entries) = (hopeful.moment(), hopeful.len());
     let unknown = hopeful.unknown(row.alloc())?.len();
     Ok(format!(in row.alloc(); "{said:?} {hoped:?} {moment} {entries} {unknown}")?)
@@ -125,7 +150,7 @@ fn admissible_in(row: &Row, capture: &Capture<'_>) -> Result<String, RowError> {
     let rrsig = evidence::signature(row, 3, rrset)?;
     let set = evidence::rrset(row, 4, capture)?;
     let rdata = key_rdata(row, 5, set)?;
-    let dnskey = evidence::dnskey_of(row.alloc(), rdata)?;
+    let dnskey = evidence::dnskey_of(rdata)?;
     let key = KeyRecord::new(set.owner(), rdata, &dnskey);
     let admissible = is_admissible(moment, rrset, rrsig, &key);
     let (verifiable, made) = (
@@ -147,12 +172,15 @@ fn key_rdata<'a>(row: &Row, place: usize, rrset: &'a Rrset<'a>) -> Result<&'a [u
     Ok(rrset.rdata(index))
 }
 
-/// What the statements of the row say of its capture at its moment.
-fn table_of(row: &Row, count: &mut Count) -> Result<Table, RowError> {
-    let bump = Bump::new(row.alloc());
-    let (capture, moment) = (capture(row, 0, &bump)?, row.number(1)?);
-    let statements = statements_of(row, 2)?;
-    Ok(ask_all(row.alloc(), &capture, moment, &statements, count)?)
+/// What the statements of the row say of the capture at its moment.
+fn table_of<'b>(
+    row: &Row,
+    bump: &'b Bump,
+    capture: &'b Capture<'b>,
+    count: &mut Count,
+) -> Result<Table<'b>, RowError> {
+    let (moment, statements) = (row.number(1)?, statements_of(row, 2)?);
+    Ok(ask_all(row.alloc(), bump, capture, moment, &statements, count)?)
 }
 
 /// The statements of the file that the argument writes.
@@ -164,24 +192,25 @@ pub fn statements_of(row: &Row, place: usize) -> Result<Statements, RowError> {
 }
 
 /// The entry that four arguments write, from the place on.
-fn entry(row: &Row, place: usize) -> Result<Entry, RowError> {
+fn entry<'b>(row: &Row, place: usize, bump: &'b Bump) -> Result<Entry<'b>, RowError> {
     let Ok(algorithm) = u8::try_from(row.number(place)?) else {
         return Err(RowError::Malformed);
     };
     Ok(Entry {
         algorithm: Algorithm(algorithm),
-        key: Octets::from_vec(row.octets(place.saturating_add(1))?),
-        signed_data: Octets::from_vec(row.octets(place.saturating_add(2))?),
-        signature: Octets::from_vec(row.octets(place.saturating_add(3))?),
+        key: placed(row, place.saturating_add(1), bump)?,
+        signed_data: placed(row, place.saturating_add(2), bump)?,
+        signature: placed(row, place.saturating_add(3), bump)?,
     })
 }
 
+/// The octets that the argument writes, in the arena.
+fn placed<'b>(row: &Row, place: usize, bump: &'b Bump) -> Result<Octets<'b>, RowError> {
+    let octets = row.octets(place)?;
+    Ok(Octets::of(bump.try_alloc_slice_copy(&octets)?))
+}
+
 /// What the verifier says of the entry.
-fn said_by<V: Verifier>(verifier: &V, entry: &Entry) -> Answer {
-    verifier.answer(
-        entry.algorithm,
-        entry.key.as_slice(),
-        entry.signed_data.as_slice(),
-        entry.signature.as_slice(),
-    )
+fn said_by<V: Verifier>(verifier: &V, entry: &Entry<'_>) -> Answer {
+    verifier.answer(entry)
 }

@@ -27,10 +27,10 @@ use std::alloc::{AllocError, Global};
 #[derive(Drop)]
 pub struct Grounds<'a> {
     pub capture: &'a Capture<'a>,
-    pub anchors: &'a Anchors,
-    pub table: Table,
+    pub anchors: &'a Anchors<'a>,
+    pub table: Table<'a>,
     /// What the three make trusted.
-    pub trust: Trust,
+    pub trust: Trust<'a>,
 }
 
 /// What the evidence would settle if each of the entries that the verifier doesn't know were valid.
@@ -39,7 +39,7 @@ pub struct Hope<'a> {
     /// The same evidence and anchors, with the hopeful table and its trust.
     pub grounds: Grounds<'a>,
     /// One of the first five verdicts.
-    pub verdict: Verdict,
+    pub verdict: Verdict<'a>,
 }
 
 /// The verdict at the name, for the type. `hashed` grows by the SHA-1 digests that are worked out, and the trail, if it
@@ -51,7 +51,7 @@ pub fn verdict_at<'a>(
     name: &Name,
     rtype: RecordType,
     hashed: &mut Count,
-) -> Result<Verdict, AllocError>
+) -> Result<Verdict<'a>, AllocError>
     requires { HasTrust grounds.now }
     ensures value { (meaning : Entry → Answer) (moment : ℕ)
         → IsTableOf meaning moment grounds.now.capture.now.rrsets grounds.now.table
@@ -76,7 +76,7 @@ fn verdict_by<'a>(
     name: &Name,
     rtype: RecordType,
     trail: &mut Trail<'a>,
-) -> Result<Verdict, AllocError>
+) -> Result<Verdict<'a>, AllocError>
     requires trust { HasTrust grounds.now }
     requires rrsets { hashes.now.rrsets ≡ grounds.now.capture.now.rrsets }
     requires name { hashes.now.name ≡ name.now }
@@ -111,7 +111,7 @@ fn settled_on<'a>(
     hashes: &Hashes<'a>,
     name: &Name,
     rtype: RecordType,
-) -> Result<Option<Verdict>, AllocError>
+) -> Result<Option<Verdict<'a>>, AllocError>
     requires rrsets { hashes.now.rrsets ≡ grounds.now.capture.now.rrsets }
     requires name { hashes.now.name ≡ name.now }
     ensures { IfOk result (λ found. MatchOption found
@@ -167,7 +167,7 @@ fn hope_for<'a>(
 }
 
 /// Whether a trust anchor is at or above the name.
-fn has_anchor(anchors: &Anchors, name: &Name) -> bool
+fn has_anchor(anchors: &Anchors<'_>, name: &Name) -> bool
     ensures { IsTrue result ↔ HasAnchor anchors.now name.now }
 {
     anchors

@@ -26,6 +26,7 @@ use crate::trail::Trail;
 use crate::verdict::Verdict;
 use crate::way::{Way, follow};
 use crate::ways::a_question_leads_one_way;
+use bumpalo::Bump;
 use dnsv_canonical::{Capture, is_question};
 use dnsv_chain::{Anchors, trusted};
 use dnsv_denial::Hashes;
@@ -35,13 +36,13 @@ use std::alloc::Global;
 
 /// The verdict on a question, and what it took.
 #[derive(Debug, Drop)]
-pub struct Report {
+pub struct Report<'a> {
     /// The secure aliases that lead from the name that was asked for to the last one.
     pub links: Links,
     /// The last name: the one that was asked for where there are no links, else the target of the last of them.
     pub last: Name,
     /// The verdict at the last name, which is no alias.
-    pub verdict: Verdict,
+    pub verdict: Verdict<'a>,
     /// How much the verifier was asked.
     pub asked: u64,
     /// How many SHA-1 digests were worked out to hash names for NSEC3 (RFC 5155 5).
@@ -52,7 +53,7 @@ pub struct Report {
 /// of the way is made of its hashes and the trust of the grounds, and by the trust of the hope where it is Pending.
 #[derive(Drop)]
 pub struct Judged<'a> {
-    pub report: Report,
+    pub report: Report<'a>,
     pub grounds: Grounds<'a>,
     /// Those for the name of each link, in order, and for the last name. They are empty where nothing is kept.
     pub hashes: Vec<Hashes<'a>>,
@@ -68,16 +69,17 @@ pub struct Judged<'a> {
 /// has no one target, `AliasLoop` where its target is a name of the way, `TooManyLinks` where it would be the ninth
 /// link. Of these the first is told, in the order 704, 702, 703, 701 at each alias. The verifier is asked once for each
 /// distinct entry that may be verified at the moment, and not again; each name of the way is hashed once with each
-/// iterations and salt, whatever the verdict.
-pub fn validate<V: Verifier>(
+/// iterations and salt, whatever the verdict. What the verifier is asked lies in the arena.
+pub fn validate<'a, V: Verifier>(
     alloc: Global,
-    capture: &Capture<'_>,
-    anchors: &Anchors,
+    bump: &'a Bump,
+    capture: &'a Capture<'a>,
+    anchors: &'a Anchors<'a>,
     moment: u64,
     verifier: &V,
     name: &Name,
     rtype: RecordType,
-) -> Result<Report, VerdictError>
+) -> Result<Report<'a>, VerdictError>
     // The links lead to the last name, where the verdict is.
     ensures verdict { IfOk result (λ report. IsVerdictOf (basis_of capture.now.rrsets anchors.now moment (V.meaning
         verifier.now)) name.now rtype.0 report.links report.last report.verdict) }
@@ -105,7 +107,7 @@ pub fn validate<V: Verifier>(
         → IsErrOf result error ⊎ IsErrOf result VerdictError.OutOfMemory }
 {
     let judged = judge(
-        alloc, capture, anchors, moment, verifier, name, rtype, false,
+        alloc, bump, capture, anchors, moment, verifier, name, rtype, false,
     )?;
     Ok(judged.report)
 }
@@ -115,8 +117,9 @@ pub fn validate<V: Verifier>(
 /// either.
 pub fn judge<'a, V: Verifier>(
     alloc: Global,
+    bump: &'a Bump,
     capture: &'a Capture<'a>,
-    anchors: &'a Anchors,
+    anchors: &'a Anchors<'a>,
     moment: u64,
     verifier: &V,
     name: &Name,
@@ -142,7 +145,7 @@ pub fn judge<'a, V: Verifier>(
     a_whole_chain_is_told_by_the_verdict();
     a_table_is_its_verifier();
     let mut asked = Count::new();
-    let table = ask_all(alloc, capture, moment, verifier, &mut asked)?;
+    let table = ask_all(alloc, bump, capture, moment, verifier, &mut asked)?;
     let trust = trusted(alloc, capture, anchors, &table)?;
     let grounds = Grounds {
         capture,
@@ -170,7 +173,7 @@ pub fn judge<'a, V: Verifier>(
 }
 
 /// The count of a table's entries: they lie in memory, so their number is below the greatest value of a count.
-fn exact(asked: &Count, table: &Table) -> u64
+fn exact(asked: &Count, table: &Table<'_>) -> u64
     requires { asked.now ≡ counted 0 (length table.now.answers) }
     ensures { result ≡ length table.now.answers }
 {

@@ -17,7 +17,7 @@ pub trait Test {
     ghost passes: { Self → ReceivedRrset → Rrsig → Type 0 };
 
     /// Whether they are.
-    fn is_passed_by(&self, rrset: &Rrset<'_>, rrsig: &Rrsig) -> bool
+    fn is_passed_by(&self, rrset: &Rrset<'_>, rrsig: &Rrsig<'_>) -> bool
         ensures { IsTrue result ↔ passes self.now rrset.now rrsig.now };
 }
 
@@ -29,14 +29,14 @@ pub struct Found<'a> {
     /// The number of the signature.
     pub signature: usize,
     /// The signature.
-    pub rrsig: &'a Rrsig,
+    pub rrsig: &'a Rrsig<'a>,
 }
 
 /// The first RRset of the name and type that has a trusted signature with which it passes the test, and the first such
 /// signature; `None` where there is none. RRsets of other types pass none.
 pub fn first_such<'a, T: Test>(
     capture: &'a Capture<'a>,
-    trust: &Trust,
+    trust: &Trust<'_>,
     name: &Name,
     rtype: RecordType,
     test: &T,
@@ -93,7 +93,7 @@ fn first_signature<'a, T: Test>(
     rrset: &'a Rrset<'a>,
     numbers: &[usize],
     test: &T,
-) -> Option<(usize, &'a Rrsig)>
+) -> Option<(usize, &'a Rrsig<'a>)>
     ensures { MatchOption result ((s : ℕ) → ¬ IsFound (T.passes test.now) rrset.now numbers.now s)
         (λ found. IsFirstFound (T.passes test.now) rrset.now numbers.now found.0 found.1.now) }
 {

@@ -19,20 +19,20 @@ use dnsv_records::Rrsig;
 #[derive(Drop)]
 struct AtName<'e, 'v, 'c, 't> {
     capture: &'e Capture<'e>,
-    trust: &'v Trust,
+    trust: &'v Trust<'v>,
     name: &'v Name,
     view: &'v View<'c, 't>,
 }
 
 /// What the evidence settles: the first that holds of a secure answer, a secure alias, no such name, no data, and a
 /// name that may be unsigned. `None` where it settles nothing.
-pub fn settled(
-    capture: &Capture<'_>,
-    trust: &Trust,
+pub fn settled<'a>(
+    capture: &'a Capture<'a>,
+    trust: &Trust<'_>,
     name: &Name,
     rtype: RecordType,
     view: &View<'_, '_>,
-) -> Option<Verdict>
+) -> Option<Verdict<'a>>
     requires { view.now ≡ record { rrsets = capture.now.rrsets; trust = trust.now; name = name.now } }
     ensures { MatchOption result (¬ IsSettled (SecuredIn trust.now) capture.now.rrsets name.now rtype.0)
         (IsSettledAs (SecuredIn trust.now) capture.now.rrsets name.now rtype.0) }
@@ -118,7 +118,7 @@ fn opt_out_wildcard_cut(at: &AtName<'_, '_, '_, '_>, rtype: RecordType) -> Optio
 /// which an unsigned delegation may stand (RFC 5155 8.8). The view is of the name, over the same evidence and trust.
 pub fn opt_out_wildcard<'a>(
     capture: &'a Capture<'a>,
-    trust: &Trust,
+    trust: &Trust<'_>,
     name: &Name,
     rtype: RecordType,
     view: &View<'_, '_>,
@@ -169,7 +169,7 @@ impl Test for HoldsForName<'_, '_, '_> {
     ghost passes = { λ test rrset rrsig. (rrset.rtype ≡ test.rtype.0)
         × HoldsForName (SecuredIn test.view.now.trust) test.view.now.rrsets test.view.now.name rrset rrsig };
 
-    fn is_passed_by(&self, rrset: &Rrset<'_>, rrsig: &Rrsig) -> bool {
+    fn is_passed_by(&self, rrset: &Rrset<'_>, rrsig: &Rrsig<'_>) -> bool {
         if rrset.rtype() != self.rtype {
             return false;
         }
@@ -177,7 +177,7 @@ impl Test for HoldsForName<'_, '_, '_> {
             return true;
         }
         self.view
-            .no_closer(&rrsig.signer, rrsig.labels as usize)
+            .no_closer(&rrsig.signer.to_name(), rrsig.labels as usize)
             .is_some()
     }
 }
@@ -198,12 +198,12 @@ impl Test for IsOptOutWildcard<'_, '_, '_> {
     ghost passes = { λ test rrset rrsig. (rrset.rtype ≡ test.rtype.0)
         × IsOptOutWildcard (SecuredIn test.view.now.trust) test.view.now.rrsets test.view.now.name rrset rrsig };
 
-    fn is_passed_by(&self, rrset: &Rrset<'_>, rrsig: &Rrsig) -> bool {
+    fn is_passed_by(&self, rrset: &Rrset<'_>, rrsig: &Rrsig<'_>) -> bool {
         if rrset.rtype() != self.rtype || !is_expanded(rrset.owner(), rrsig) {
             return false;
         }
         self.view
-            .loose_closer(&rrsig.signer, rrsig.labels as usize)
+            .loose_closer(&rrsig.signer.to_name(), rrsig.labels as usize)
             .is_some()
     }
 }

@@ -38,9 +38,9 @@ pub struct Way {
 
 /// A way to its end, and the verdict there, which is that on the question.
 #[derive(Drop)]
-pub struct Followed {
+pub struct Followed<'a> {
     pub way: Way,
-    pub verdict: Verdict,
+    pub verdict: Verdict<'a>,
 }
 
 /// Follows secure aliases from the name on, and gives the verdict at the last name, which is none. `hashed` grows by
@@ -57,7 +57,7 @@ pub fn follow<'a>(
     rtype: RecordType,
     hashed: &mut Count,
     trail: &mut Trail<'a>,
-) -> Result<Followed, VerdictError>
+) -> Result<Followed<'a>, VerdictError>
     requires { HasTrust grounds.now }
     ensures value { (meaning : Entry → Answer) (moment : ℕ)
         → IsTableOf meaning moment grounds.now.capture.now.rrsets grounds.now.table
@@ -95,7 +95,7 @@ pub fn follow<'a>(
 }
 
 /// The RRset and the signature of a secure alias.
-fn alias_of(verdict: &Verdict) -> Option<(usize, usize)>
+fn alias_of(verdict: &Verdict<'_>) -> Option<(usize, usize)>
     ensures { MatchOption result (¬ IsAlias verdict.now) (λ found. verdict.now ≡ SecureAlias found.0 found.1) }
 {
     match verdict {

@@ -3,8 +3,8 @@ use Rattle.std.proofs.Common.{◌≡◌, ◌↔◌, ◌⊎◌, ℕ, ◌+◌, ◌
 use Rattle.std.proofs.lemmas.Bool.{cases_order}
 use Rattle.std.proofs.lemmas.Bool.Decides.{nat_tests}
 use Rattle.std.proofs.lemmas.Cmp.{eq_by_cmp_equiv, nat_cmp_total, nat_list_cmp_total, on_total, then_total, tied_itself}
-use Rattle.std.proofs.lemmas.List.{append-nil, get_or-map, length-map, map-append, map-id, take_more}
-use Rattle.std.proofs.lemmas.List.Kept.{Any-dedup, Contains-dedup, Contains-from_dedup, IsStrictlySortedBy-dedup}
+use Rattle.std.proofs.lemmas.List.{append-nil, get_or-map, length-map, map-append, take_more}
+use Rattle.std.proofs.lemmas.List.Kept.{Contains-dedup, Contains-from_dedup, IsStrictlySortedBy-dedup}
 use Rattle.std.proofs.lemmas.List.Sorted.{Contains-permutation, IsPermutation-sym}
 use Rattle.std.proofs.lemmas.Map.Keys.{Less-from_sorted}
 use Rattle.std.specs.Cmp.{IsTotalOrder, both_tied, nat_cmp_is}
@@ -157,29 +157,13 @@ signature_Equal a b e =
     let both = then_Equal (octets_cmp a.signed_data b.signed_data) (octets_cmp a.signature b.signature) e in
     λ i. record { signed_data = octets_Equal a.signed_data b.signed_data both.0 i; signature = octets_Equal a.signature b.signature both.1 i }
 
--- what holds at a place holds of what is made of it
-held_mapped : {X Y : Type 0} (f : X → Y) (P : Y → Type 0) (xs : List X) (k : ℕ) (e : Y) → k < length xs → ((d : X) → P (f (get_or xs k d))) → P (get_or (map f xs) k e)
-held_mapped f P [] k e within holds = absurd (omega (arith, within))
-held_mapped f P (x ∷ xs) zero e within holds = holds x
-held_mapped f P (x ∷ xs) (suc k) e within holds = held_mapped f P xs k e (omega (arith, within)) holds
-
 pub key_found : (keys : List KeyPart) (asked : KeyPart) (number : ℕ) (d : KeyPart) → HoldsAt (λ part. key_cmp part asked ≡ Equal) keys number → get_or keys number d ≡ asked
 key_found keys asked number d holds = key_Equal (get_or keys number d) asked (holds d)
 
-pub signature_found : {X : Type 0} (value : X → SignaturePart) (signatures : List X) (asked : SignaturePart) (number : ℕ) (d : SignaturePart) → number < length signatures → HoldsAt (λ x. signature_cmp (value x) asked ≡ Equal) signatures number → get_or (map value signatures) number d ≡ asked
-signature_found value signatures asked number d within holds =
-    signature_Equal (get_or (map value signatures) number d) asked (held_mapped value (λ part. signature_cmp part asked ≡ Equal) signatures number d within holds)
+pub signature_found : (signatures : List SignaturePart) (asked : SignaturePart) (number : ℕ) (d : SignaturePart) → HoldsAt (λ part. signature_cmp part asked ≡ Equal) signatures number → get_or signatures number d ≡ asked
+signature_found signatures asked number d holds = signature_Equal (get_or signatures number d) asked (holds d)
 
 -- ---- putting parts in order
-
-each_mapped : {X Y : Type 0} (f : X → Y) (P : Y → Type 0) (xs : List X) → AllByRecursion (λ x. P (f x)) xs → AllByRecursion P (map f xs)
-each_mapped f P [] all = tt
-each_mapped f P (x ∷ xs) all = (all.0, each_mapped f P xs all.1)
-
-rising_mapped : {X Y : Type 0} (f : X → Y) (R : Y → Y → Ordering) (xs : List X) → IsStrictlySortedBy (λ a b. R (f a) (f b)) xs → IsStrictlySortedBy R (map f xs)
-unfolding IsStrictlySortedBy
-rising_mapped f R [] rises = tt
-rising_mapped f R (x ∷ xs) rises = (each_mapped f (λ y. R (f x) y ≡ Less) xs rises.0, rising_mapped f R xs rises.1)
 
 number_ties : (x y : ℕ) → nat_eq x y ≡ eq_by_cmp nat_cmp x y
 number_ties x y =
@@ -202,32 +186,25 @@ numbers_ties x y = both_tied _ _ _ _ (number_ties x.key y.key) (number_ties x.si
 pub rising_keys : (sorted kept : List KeyPart) → IsSorted key_cmp sorted → kept ≡ dedup (λ x y. nat_eq x.algorithm.0 y.algorithm.0 && pointwise nat_eq x.key y.key) sorted → IsStrictlySortedBy key_cmp kept
 rising_keys sorted kept ordered is = subst (IsStrictlySortedBy key_cmp) (sym is) (IsStrictlySortedBy-dedup key_cmp_total key_ties sorted ordered)
 
-pub rising_signatures : {X : Type 0} (value : X → SignaturePart) (sorted kept : List X) → IsSorted (λ a b. signature_cmp (value a) (value b)) sorted → kept ≡ dedup (λ x y. pointwise nat_eq (value x).signed_data (value y).signed_data && pointwise nat_eq (value x).signature (value y).signature) sorted → IsStrictlySortedBy signature_cmp (map value kept)
-rising_signatures value sorted kept ordered is =
-    rising_mapped value signature_cmp kept
-    (subst (IsStrictlySortedBy (λ a b. signature_cmp (value a) (value b))) (sym is) (IsStrictlySortedBy-dedup (on_total value signature_cmp_total) (λ x y. signature_ties (value x) (value y)) sorted ordered))
+pub rising_signatures : (sorted kept : List SignaturePart) → IsSorted signature_cmp sorted → kept ≡ dedup (λ x y. pointwise nat_eq x.signed_data y.signed_data && pointwise nat_eq x.signature y.signature) sorted → IsStrictlySortedBy signature_cmp kept
+rising_signatures sorted kept ordered is = subst (IsStrictlySortedBy signature_cmp) (sym is) (IsStrictlySortedBy-dedup signature_cmp_total signature_ties sorted ordered)
 
 pub rising_numbers : (sorted kept : List EntryNumbers) → IsSorted numbers_cmp sorted → kept ≡ dedup (λ x y. nat_eq x.key y.key && nat_eq x.signature y.signature) sorted → IsStrictlySortedBy numbers_cmp kept
 rising_numbers sorted kept ordered is = subst (IsStrictlySortedBy numbers_cmp) (sym is) (IsStrictlySortedBy-dedup numbers_cmp_total numbers_ties sorted ordered)
 
--- sorting and dropping repeats keeps what each is seen as
-kept_value : {X K : Type 0} (cmp : K → K → Ordering) → IsTotalOrder cmp → ((a b : K) → cmp a b ≡ Equal → a ≡ b) → (value : X → K) (received sorted kept : List X) → IsPermutation received sorted → kept ≡ dedup (λ x y. eq_by_cmp cmp (value x) (value y)) sorted → (k : K) → Contains (map value received) k → Contains (map value kept) k
-kept_value {X} cmp total exact value received sorted kept moves is k found =
-    let from = contains_from_map value received k found in
-    let any = Any-dedup (eq_by_cmp_equiv (on_total value total)) sorted from.0 (Contains-permutation received sorted from.0 moves from.1) in
-    let same : value from.0 ≡ value any.1 = exact (value from.0) (value any.1) (is_eq-Equal (cmp (value from.0) (value any.1)) any.4) in
-    let there : Contains kept any.1 = subst (λ (xs : List X). Contains xs any.1) (sym is) (any.0, any.2, any.3) in
-    subst (λ v. Contains (map value kept) v) (sym same ∙ from.2) (contains_map value kept any.1 there)
+-- sorting and dropping repeats keeps each
+kept_part : {K : Type 0} (cmp : K → K → Ordering) → IsTotalOrder cmp → ((a b : K) → cmp a b ≡ Equal → a ≡ b) → (received sorted kept : List K) → IsPermutation received sorted → kept ≡ dedup (eq_by_cmp cmp) sorted → (k : K) → Contains received k → Contains kept k
+kept_part {K} cmp total exact received sorted kept moves is k found =
+    subst (λ (parts : List K). Contains parts k) (sym is)
+    (Contains-dedup (eq_by_cmp_equiv total) (λ x y tied. exact x y (is_eq-Equal (cmp x y) tied)) sorted k (Contains-permutation received sorted k moves found))
 
 pub kept_keys : (received sorted kept : List KeyPart) → IsPermutation received sorted → kept ≡ dedup (λ x y. nat_eq x.algorithm.0 y.algorithm.0 && pointwise nat_eq x.key y.key) sorted → (part : KeyPart) → Contains received part → Contains kept part
-kept_keys received sorted kept moves is part found =
-    subst (λ (parts : List KeyPart). Contains parts part) (map-id kept)
-    (kept_value key_cmp key_cmp_total key_Equal (λ part. part) received sorted kept moves (is ∙ (λ i. dedup (λ x y. key_ties x y i) sorted)) part
-    (subst (λ (parts : List KeyPart). Contains parts part) (sym (map-id received)) found))
+kept_keys received sorted kept moves is =
+    kept_part key_cmp key_cmp_total key_Equal received sorted kept moves (is ∙ (λ i. dedup (λ x y. key_ties x y i) sorted))
 
-pub kept_signatures : {X : Type 0} (value : X → SignaturePart) (received sorted kept : List X) → IsPermutation received sorted → kept ≡ dedup (λ x y. pointwise nat_eq (value x).signed_data (value y).signed_data && pointwise nat_eq (value x).signature (value y).signature) sorted → (part : SignaturePart) → Contains (map value received) part → Contains (map value kept) part
-kept_signatures value received sorted kept moves is =
-    kept_value signature_cmp signature_cmp_total signature_Equal value received sorted kept moves (is ∙ (λ i. dedup (λ x y. signature_ties (value x) (value y) i) sorted))
+pub kept_signatures : (received sorted kept : List SignaturePart) → IsPermutation received sorted → kept ≡ dedup (λ x y. pointwise nat_eq x.signed_data y.signed_data && pointwise nat_eq x.signature y.signature) sorted → (part : SignaturePart) → Contains received part → Contains kept part
+kept_signatures received sorted kept moves is =
+    kept_part signature_cmp signature_cmp_total signature_Equal received sorted kept moves (is ∙ (λ i. dedup (λ x y. signature_ties x y i) sorted))
 
 pub kept_numbers : (sorted kept : List EntryNumbers) → kept ≡ dedup (λ x y. nat_eq x.key y.key && nat_eq x.signature y.signature) sorted → kept ≡ dedup (eq_by_cmp numbers_cmp) sorted
 kept_numbers sorted kept is = is ∙ (λ i. dedup (λ x y. numbers_ties x y i) sorted)

@@ -14,7 +14,7 @@ const UNEXPANDED: [u16; 4] = [43, 47, 48, 50];
 
 /// Whether the key may be used to verify the signature of the RRset at the moment, in seconds since 1970
 /// (RFC 4035 5.3.1).
-pub fn is_admissible(moment: u64, rrset: &Rrset<'_>, rrsig: &Rrsig, key: &KeyRecord<'_>) -> bool
+pub fn is_admissible(moment: u64, rrset: &Rrset<'_>, rrsig: &Rrsig<'_>, key: &KeyRecord<'_>) -> bool
     ensures { IsTrue result ↔ IsAdmissible moment rrset.now rrsig.now key.now }
 {
     may_have_made(key, rrsig) && is_verifiable(moment, rrset, rrsig)
@@ -22,24 +22,24 @@ pub fn is_admissible(moment: u64, rrset: &Rrset<'_>, rrsig: &Rrsig, key: &KeyRec
 
 /// Whether some key might verify the signature of the RRset at the moment, in seconds since 1970: what RFC 4035
 /// 5.3.1 asks of the two alone.
-pub fn is_verifiable(moment: u64, rrset: &Rrset<'_>, rrsig: &Rrsig) -> bool
+pub fn is_verifiable(moment: u64, rrset: &Rrset<'_>, rrsig: &Rrsig<'_>) -> bool
     ensures { IsTrue result ↔ IsVerifiable moment rrset.now rrsig.now }
 {
     is_over(rrset, rrsig)
         && time_valid(rrsig.inception, rrsig.expiration, moment)
-        && may_sign(&rrsig.signer, rrset.rtype(), rrset.owner())
+        && may_sign(&rrsig.signer.to_name(), rrset.rtype(), rrset.owner())
         && !is_wrongly_expanded(rrset.rtype(), rrset.owner(), rrsig)
 }
 
 /// Whether the key may have made the signature: what RFC 4035 5.3.1 asks of the two alone.
-pub fn may_have_made(key: &KeyRecord<'_>, rrsig: &Rrsig) -> bool
+pub fn may_have_made(key: &KeyRecord<'_>, rrsig: &Rrsig<'_>) -> bool
     ensures { IsTrue result ↔ MayHaveMade key.now rrsig.now }
 {
-    names(rrsig, key) && is_zone_key_of(&rrsig.signer, key)
+    names(rrsig, key) && is_zone_key_of(&rrsig.signer.to_name(), key)
 }
 
 /// Whether the signature covers the RRset's type and counts no more labels than its owner has.
-fn is_over(rrset: &Rrset<'_>, rrsig: &Rrsig) -> bool
+fn is_over(rrset: &Rrset<'_>, rrsig: &Rrsig<'_>) -> bool
     ensures { IsTrue result ↔ IsOver rrset.now rrsig.now }
 {
     rrsig.type_covered.0 == rrset.rtype().0
@@ -59,7 +59,7 @@ fn may_sign(signer: &Name, rtype: RecordType, owner: &Name) -> bool
 }
 
 /// Whether the signature is expanded over the owner, in an RRset of a type that no wildcard stands for.
-fn is_wrongly_expanded(rtype: RecordType, owner: &Name, rrsig: &Rrsig) -> bool
+fn is_wrongly_expanded(rtype: RecordType, owner: &Name, rrsig: &Rrsig<'_>) -> bool
     ensures { IsTrue result ↔ (IsTrue (is_unexpanded rtype.0) × IsExpanded owner.now rrsig.now) }
 {
     UNEXPANDED.contains(&rtype.0) && is_expanded(owner, rrsig)
@@ -81,7 +81,7 @@ fn are_equal(a: &Name, b: &Name) -> bool
 }
 
 /// Whether the signature names the key, by an algorithm that is supported and by its tag.
-fn names(rrsig: &Rrsig, key: &KeyRecord<'_>) -> bool
+fn names(rrsig: &Rrsig<'_>, key: &KeyRecord<'_>) -> bool
     ensures { IsTrue result ↔ Names rrsig.now key.now }
 {
     key.key_tag().0 == rrsig.key_tag.0

@@ -9,7 +9,7 @@ ghost use Rattle.dnsv_names.specs.Count.{counted};
 ghost use Rattle.dnsv_verifier.specs.Admissible.{DnskeyRecord, IsAsked};
 ghost use Rattle.dnsv_verifier.specs.Asking.{MadeSignature};
 ghost use Rattle.dnsv_verifier.specs.Entry.{entry_cmp};
-ghost use Rattle.dnsv_verifier.specs.Numbers.{entry_of, part_of_key};
+ghost use Rattle.dnsv_verifier.specs.Numbers.{entry_of, key_cmp, part_of_key, signature_cmp};
 ghost use Rattle.dnsv_verifier.specs.Table.{IsTableOf};
 ghost use Rattle.dnsv_verifier.specs.declared.entry.Entry.{Entry};
 
@@ -20,34 +20,35 @@ use crate::key::KeyRecord;
 use crate::key::keys::Keys;
 use crate::table::Table;
 use crate::verifier::Verifier;
+use bumpalo::Bump;
 use dnsv_canonical::{Capture, Rrset};
 use dnsv_names::Count;
 use std::alloc::{AllocError, Global};
-use std::rc::Rc;
 
 /// Asks the verifier at the moment, in seconds since 1970, about each signature of the capture under each key that may
 /// be used for it (RFC 4035 5.3.1), each distinct entry once.
 ///
 /// The count grows by the number of entries, which are those of the table. A refusal, for want of memory, asks
 /// nothing.
-pub fn ask_all<V: Verifier>(
+pub fn ask_all<'b, V: Verifier>(
     alloc: Global,
-    capture: &Capture<'_>,
+    bump: &'b Bump,
+    capture: &'b Capture<'b>,
     moment: u64,
     verifier: &V,
     count: &mut Count,
-) -> Result<Table, AllocError>
+) -> Result<Table<'b>, AllocError>
     ensures table { IfOk result (λ table. IsTableOf (V.meaning verifier.now) moment capture.now.rrsets table) }
     ensures count { IfOk result (λ table. count.new ≡ counted count.old (length table.answers)) }
     ensures refused { OnErr result (count.new ≡ count.old) }
 {
     // What is true of every count.
     let _ = count.value();
-    let asked = asked_entries(alloc, moment, capture.rrsets())?;
+    let asked = asked_entries(alloc, bump, moment, capture.rrsets())?;
     let Asked { parts, numbers } = asked;
     let mut answers = Vec::with_capacity(alloc, numbers.len())?;
     for each in numbers {
-        let answer = parts.entry(each).answer_of(verifier);
+        let answer = verifier.answer(&parts.entry(each));
         count.add(1);
         // There is room for all.
         let Ok(()) = answers.push((each, answer)) else {
@@ -59,58 +60,72 @@ pub fn ask_all<V: Verifier>(
 
 /// The entries that are asked, each once, rising.
 #[derive(Drop)]
-struct Asked {
-    parts: Rc<Parts>,
+struct Asked<'b> {
+    parts: Parts<'b>,
     numbers: Vec<EntryNumbers>,
 }
 
 /// The entries that are asked of the RRsets.
-fn asked_entries(alloc: Global, moment: u64, rrsets: &[Rrset<'_>]) -> Result<Asked, AllocError>
+fn asked_entries<'b>(
+    alloc: Global,
+    bump: &'b Bump,
+    moment: u64,
+    rrsets: &'b [Rrset<'b>],
+) -> Result<Asked<'b>, AllocError>
     ensures rising { IfOk result (λ asked. IsStrictlySortedBy entry_cmp
-        (map (entry_of asked.parts.value) asked.numbers.items)) }
+        (map (entry_of asked.parts) asked.numbers.items)) }
     ensures asked { IfOk result (λ asked. (entry : Entry)
-        → Contains (map (entry_of asked.parts.value) asked.numbers.items) entry ↔ IsAsked moment rrsets.now entry) }
+        → Contains (map (entry_of asked.parts) asked.numbers.items) entry ↔ IsAsked moment rrsets.now entry) }
 {
     let keys = Keys::of(alloc, rrsets)?;
-    let made = made_signatures(alloc, moment, &keys, rrsets)?;
-    let parts = parts_of(alloc, keys.as_slice(), made.as_slice())?;
+    let made = made_signatures(alloc, bump, moment, &keys, rrsets)?;
+    let parts = parts_of(bump, keys.as_slice(), made.as_slice())?;
     let numbers = entry_numbers(alloc, keys.as_slice(), made.as_slice(), &parts)?;
-    Ok(Asked {
-        parts: Rc::new(alloc, parts)?,
-        numbers,
-    })
+    Ok(Asked { parts, numbers })
 }
 
 /// The parts of the entries of these signatures under these keys.
-fn parts_of(alloc: Global, keys: &[KeyRecord<'_>], made: &[Made<'_>]) -> Result<Parts, AllocError>
+fn parts_of<'b>(
+    bump: &'b Bump,
+    keys: &[KeyRecord<'b>],
+    made: &[Made<'b>],
+) -> Result<Parts<'b>, AllocError>
     ensures keys { IfOk result (λ parts. (key : DnskeyRecord) → Contains keys.now key
         → Contains parts.keys (part_of_key key)) }
     ensures made { IfOk result (λ parts. (each : MadeSignature) → Contains made.now each
         → Contains parts.signatures each.part) }
+    ensures rising { IfOk result (λ parts. IsStrictlySortedBy key_cmp parts.keys
+        × IsStrictlySortedBy signature_cmp parts.signatures) }
 {
-    let keys = key_parts(alloc, keys)?;
-    let signatures = signature_parts(alloc, made)?;
+    let keys = key_parts(bump, keys)?;
+    let signatures = signature_parts(bump, made)?;
     Parts::of(keys, signatures)
 }
 
 /// What the keys give to their entries.
-fn key_parts(alloc: Global, keys: &[KeyRecord<'_>]) -> Result<Vec<KeyPart>, AllocError>
+fn key_parts<'b>(
+    bump: &'b Bump,
+    keys: &[KeyRecord<'b>],
+) -> Result<Vec<KeyPart<'b>, &'b Bump>, AllocError>
     ensures { IfOk result (λ parts. parts.items ≡ map part_of_key keys.now) }
 {
-    let mut parts = Vec::new(alloc);
+    let mut parts = Vec::with_capacity(bump, keys.len())?;
     for key in keys {
-        parts.push(key.part(alloc)?)?;
+        parts.push(key.part())?;
     }
     Ok(parts)
 }
 
 /// What the signatures give to their entries.
-fn signature_parts(alloc: Global, made: &[Made<'_>]) -> Result<Vec<Rc<SignaturePart>>, AllocError>
-    ensures { IfOk result (λ parts. map (λ each. each.value) parts.items ≡ map (λ each. each.part) made.now) }
+fn signature_parts<'b>(
+    bump: &'b Bump,
+    made: &[Made<'b>],
+) -> Result<Vec<SignaturePart<'b>, &'b Bump>, AllocError>
+    ensures { IfOk result (λ parts. parts.items ≡ map (λ each. each.part) made.now) }
 {
-    let mut parts = Vec::new(alloc);
+    let mut parts = Vec::with_capacity(bump, made.len())?;
     for each in made {
-        parts.push(each.part.clone()?)?;
+        parts.push(each.part.copied())?;
     }
     Ok(parts)
 }

@@ -3,33 +3,32 @@ ghost use Rattle.std.specs.Prelude.{◌≡◌, ◌<◌, length, map, slice_index
 ghost use Rattle.dnsv_verifier.specs.Numbers.{entry_of};
 ghost use Rattle.dnsv_verifier.specs.declared.entry.Entry.{Entry};
 
-use crate::entry::borrowed_entry::BorrowedEntry;
+use crate::entry::Entry;
 use crate::entry::parts::{EntryNumbers, Parts};
 use std::marker::Model;
-use std::rc::Rc;
 
 /// What is asked of a verifier, one after another. The octets are those of the table that the entries come from, and
 /// are kept once however many entries have them.
 #[derive(Debug, Drop)]
-pub struct Entries {
-    parts: Rc<Parts>,
+pub struct Entries<'b> {
+    parts: Parts<'b>,
     numbers: Vec<EntryNumbers>,
 }
 
-impl Model for Entries {
+impl<'b> Model for Entries<'b> {
     ghost use Rattle.std.specs.Prelude.{List, map};
     ghost use Rattle.dnsv_verifier.specs.Numbers.{entry_of};
     ghost use Rattle.dnsv_verifier.specs.declared.entry.Entry.{Entry};
 
     ghost Value = { List Entry };
 
-    ghost view = { λ entries. map (entry_of entries.parts.value) entries.numbers.items };
+    ghost view = { λ entries. map (entry_of entries.parts) entries.numbers.items };
 }
 
-impl Entries {
+impl<'b> Entries<'b> {
     /// The entries of these numbers.
-    pub(crate) fn new(parts: Rc<Parts>, numbers: Vec<EntryNumbers>) -> Entries
-        ensures { result ≡ map (entry_of parts.value) numbers.items }
+    pub(crate) fn new(parts: Parts<'b>, numbers: Vec<EntryNumbers>) -> Entries<'b>
+        ensures { result ≡ map (entry_of parts.entry) numbers.items }
     {
         Entries { parts, numbers }
     }
@@ -42,7 +41,7 @@ impl Entries {
     }
 
     /// The entry at the place, from 0 on.
-    pub fn at(&self, place: usize) -> BorrowedEntry<'_>
+    pub fn at(&self, place: usize) -> Entry<'_>
         requires { place < length self.now }
         ensures { (other : Entry) → slice_index_or self.now place other ≡ result }
     {

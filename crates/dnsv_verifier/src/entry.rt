@@ -1,6 +1,5 @@
 //! What a verifier is asked.
 
-pub mod borrowed_entry;
 pub mod packed_entry;
 pub mod parts;
 
@@ -10,39 +9,60 @@ ghost use Rattle.std.specs.Ordering.{as_partial_cmp, eq_by_cmp};
 ghost use Rattle.std.proofs.lemmas.Cmp.{eq_by_cmp_equiv};
 ghost use Rattle.dnsv_verifier.specs.Entry.{entry_cmp};
 
-use crate::entry::borrowed_entry::BorrowedEntry;
-use dnsv_records::{Algorithm, Octets};
+use crate::key::KeyRecord;
+use dnsv_names::compare_octets;
+use dnsv_records::{Algorithm, Octets, Rrsig};
 use std::cmp::Ordering;
 
 /// The four values that a signature is verified by (RFC 4035 5.3.3). Entries are ordered by algorithm, key,
 /// signed data and signature, octets as unsigned numbers.
 #[derive(Debug, Drop)]
-pub struct Entry {
+pub struct Entry<'b> {
     /// The number of the algorithm (RFC 4034 A.1).
     pub algorithm: Algorithm,
     /// The public key, as the field of a DNSKEY record has it (RFC 4034 2.1.4).
-    pub key: Octets,
+    pub key: Octets<'b>,
     /// The octets that are signed (RFC 4034 3.1.8.1).
-    pub signed_data: Octets,
+    pub signed_data: Octets<'b>,
     /// The signature, as the field of an RRSIG record has it (RFC 4034 3.1.8).
-    pub signature: Octets,
+    pub signature: Octets<'b>,
 }
 
-impl Entry {
-    /// The same entry, without its octets.
-    pub fn borrowed(&self) -> BorrowedEntry<'_>
-        ensures { result ≡ self.now }
+impl Entry<'_> {
+    /// How this entry stands to the other: by algorithm, key, signed data and signature.
+    pub(crate) fn stands_to(&self, other: &Entry<'_>) -> Ordering
+        ensures { result ≡ entry_cmp self.now other.now }
     {
-        BorrowedEntry::of(
-            self.algorithm,
-            self.key.as_slice(),
-            self.signed_data.as_slice(),
-            self.signature.as_slice(),
-        )
+        let (key, other_key) = (self.key.as_slice(), other.key.as_slice());
+        let (signed_data, other_data) = (self.signed_data.as_slice(), other.signed_data.as_slice());
+        let (signature, other_signature) = (self.signature.as_slice(), other.signature.as_slice());
+        self.algorithm
+            .0
+            .cmp(&other.algorithm.0)
+            .then_with(|| compare_octets(key, other_key))
+            .then_with(|| compare_octets(signed_data, other_data))
+            .then_with(|| compare_octets(signature, other_signature))
     }
 }
 
-impl Ord for Entry {
+/// What a verifier is asked about the signature over the octets under the key.
+pub fn entry_over<'a>(rrsig: &'a Rrsig<'a>, octets: &'a [u8], key: &'a KeyRecord<'a>) -> Entry<'a>
+    ensures { result ≡ record {
+      algorithm = rrsig.now.algorithm;
+      key = key.now.dnskey.key;
+      signed_data = octets.now;
+      signature = rrsig.now.signature;
+    } }
+{
+    Entry {
+        algorithm: rrsig.algorithm,
+        key: Octets::of(key.dnskey().key.as_slice()),
+        signed_data: Octets::of(octets),
+        signature: Octets::of(rrsig.signature.as_slice()),
+    }
+}
+
+impl Ord for Entry<'_> {
     ghost use Rattle.dnsv_verifier.specs.Entry.{entry_cmp};
     ghost use Rattle.dnsv_verifier.specs.EntryLaws.{entry_cmp_total};
 
@@ -54,12 +74,12 @@ impl Ord for Entry {
 
     ghost matches_eq = { λ a b. refl };
 
-    fn cmp(&self, other: &Entry) -> Ordering {
-        self.borrowed().stands_to(&other.borrowed())
+    fn cmp(&self, other: &Entry<'_>) -> Ordering {
+        self.stands_to(other)
     }
 }
 
-impl PartialOrd for Entry {
+impl PartialOrd for Entry<'_> {
     ghost use Rattle.dnsv_verifier.specs.Entry.{entry_cmp};
     ghost use Rattle.dnsv_verifier.specs.EntryLaws.{entry_cmp_total};
 
@@ -67,12 +87,12 @@ impl PartialOrd for Entry {
 
     ghost laws = { partial_order_from_agreeing_total entry_cmp entry_cmp_total (λ a b. refl) (λ a b. refl) };
 
-    fn partial_cmp(&self, other: &Entry) -> Option<Ordering> {
+    fn partial_cmp(&self, other: &Entry<'_>) -> Option<Ordering> {
         Some(self.cmp(other))
     }
 }
 
-impl PartialEq for Entry {
+impl PartialEq for Entry<'_> {
     ghost use Rattle.dnsv_verifier.specs.Entry.{entry_cmp};
     ghost use Rattle.dnsv_verifier.specs.EntryLaws.{entry_cmp_total};
 
@@ -80,12 +100,12 @@ impl PartialEq for Entry {
 
     ghost laws = { partial_equiv_from_equiv (eq_by_cmp_equiv entry_cmp_total) };
 
-    fn eq(&self, other: &Entry) -> bool {
+    fn eq(&self, other: &Entry<'_>) -> bool {
         self.cmp(other) == Ordering::Equal
     }
 }
 
-impl Eq for Entry {
+impl Eq for Entry<'_> {
     ghost use Rattle.dnsv_verifier.specs.EntryLaws.{entry_cmp_total};
 
     ghost laws = { eq_by_cmp_equiv entry_cmp_total };

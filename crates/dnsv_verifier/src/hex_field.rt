@@ -4,19 +4,20 @@ ghost use Rattle.std.specs.List.{AllPass};
 ghost use Rattle.hex.specs.Hex.{decode_of, is_hex_digit};
 ghost use Rattle.dnsv_verifier.specs.HexField.{AddsDecoded, AreDigitsOf, hex_value};
 
+use bumpalo::Bump;
 use dnsv_records::Octets;
-use std::alloc::{AllocError, Global};
+use std::alloc::AllocError;
 
 /// The octets that a field of a text file says: two hex digits for each, in either case, or `-` for no
-/// octets. `None` where it says none. Memory is asked for only where it says octets.
-pub fn hex_octets(alloc: Global, field: &[u8]) -> Result<Option<Octets>, AllocError>
+/// octets, in the arena. `None` where it says none. Memory is asked for only where it says octets.
+pub fn hex_octets<'b>(bump: &'b Bump, field: &[u8]) -> Result<Option<Octets<'b>>, AllocError>
     ensures value { IfOk result (λ octets. octets ≡ hex_value field.now) }
     ensures refused { OnErr result (IsSome (hex_value field.now)) }
 {
     let Some(digits) = digits_of(field) else {
         return Ok(None);
     };
-    Ok(Some(decoded(alloc, digits)?))
+    Ok(Some(decoded(bump, digits)?))
 }
 
 /// The digits of the octets that a field says, `None` where it says none.
@@ -54,13 +55,15 @@ fn is_digit(octet: u8) -> bool
     octet.is_ascii_hexdigit()
 }
 
-/// The octets of pairs of hex digits.
-pub(crate) fn decoded(alloc: Global, digits: &[u8]) -> Result<Octets, AllocError>
+/// The octets of pairs of hex digits, in the arena.
+fn decoded<'b>(bump: &'b Bump, digits: &[u8]) -> Result<Octets<'b>, AllocError>
     requires { IsOk (decode_of digits.now) }
     ensures { IfOk result (λ octets. decode_of digits.now ≡ Ok octets) }
 {
-    match hex::decode(alloc, digits) {
-        Ok(octets) => Ok(Octets::from_vec(octets)),
+    // As many octets as will be written.
+    let octets = bump.try_alloc_slice_copy(&digits[..digits.len() / 2])?;
+    match hex::decode_to_slice(digits, octets) {
+        Ok(()) => Ok(Octets::of(octets)),
         Err(_) => Err(AllocError),
     }
 }

@@ -3,7 +3,7 @@
 pub mod keys;
 pub mod numbered;
 
-ghost use Rattle.std.specs.Prelude.{◌≡◌, ◌↔◌, ◌<◌, Contains, IfOk, IsTrue, length};
+ghost use Rattle.std.specs.Prelude.{◌≡◌, ◌↔◌, ◌<◌, Contains, IsTrue, length};
 ghost use Rattle.dnsv_records.specs.Dnskey.{IsDnskey};
 ghost use Rattle.dnsv_records.specs.Dnskey.KeyTag.{key_tag_of};
 ghost use Rattle.dnsv_verifier.specs.Asking.{CanSign, key_name_cmp, name_of_key};
@@ -11,9 +11,8 @@ ghost use Rattle.dnsv_verifier.specs.Numbers.{key_of, part_of_key};
 
 use crate::entry::parts::{KeyPart, Parts};
 use crate::key::numbered::Numbered;
-use dnsv_names::Name;
-use dnsv_records::{Algorithm, Dnskey, KeyTag, Octets, key_tag};
-use std::alloc::{AllocError, Global};
+use dnsv_names::{Name, WireName};
+use dnsv_records::{Algorithm, Dnskey, KeyTag, key_tag};
 use std::cmp::Ordering;
 use std::marker::Model;
 
@@ -23,7 +22,7 @@ use std::marker::Model;
 pub struct KeyRecord<'a> {
     owner: &'a Name,
     rdata: &'a [u8],
-    dnskey: &'a Dnskey,
+    dnskey: &'a Dnskey<'a>,
     key_tag: KeyTag,
 }
 
@@ -46,7 +45,7 @@ impl<'a> Model for KeyRecord<'a> {
 
 impl<'a> KeyRecord<'a> {
     /// The record of this owner and RDATA. `dnskey` has to be what was read of that RDATA.
-    pub fn new(owner: &'a Name, rdata: &'a [u8], dnskey: &'a Dnskey) -> KeyRecord<'a>
+    pub fn new(owner: &'a Name, rdata: &'a [u8], dnskey: &'a Dnskey<'a>) -> KeyRecord<'a>
         requires { IsDnskey rdata.now dnskey.now }
         ensures { result ≡ record { owner = owner.now; rdata = rdata.now; dnskey = dnskey.now } }
     {
@@ -66,14 +65,14 @@ impl<'a> KeyRecord<'a> {
     }
 
     /// The RDATA as received.
-    pub fn rdata(&self) -> &[u8]
+    pub fn rdata(&self) -> &'a [u8]
         ensures { result.now ≡ self.now.rdata }
     {
         self.rdata
     }
 
     /// What the RDATA says.
-    pub fn dnskey(&self) -> &Dnskey
+    pub fn dnskey(&self) -> &'a Dnskey<'a>
         ensures { result.now ≡ self.now.dnskey }
     {
         self.dnskey
@@ -119,18 +118,18 @@ impl<'a> KeyRecord<'a> {
             && self.dnskey.algorithm.is_supported()
     }
 
-    /// What the key gives to its entries, in memory of its own.
-    pub(crate) fn part(&self, alloc: Global) -> Result<KeyPart, AllocError>
-        ensures { IfOk result (λ part. part ≡ part_of_key self.now) }
+    /// What the key gives to its entries.
+    pub(crate) fn part(&self) -> KeyPart<'a>
+        ensures { result ≡ part_of_key self.now }
     {
-        Ok(KeyPart {
+        KeyPart {
             algorithm: self.dnskey.algorithm,
-            key: Octets::copy_of(alloc, self.dnskey.key.as_slice())?,
-        })
+            key: self.dnskey.key.copied(),
+        }
     }
 
     /// The number of what the key gives to its entries.
-    pub(crate) fn number_in(&self, parts: &Parts) -> u32
+    pub(crate) fn number_in(&self, parts: &Parts<'_>) -> u32
         requires { Contains parts.now.keys (part_of_key self.now) }
         ensures value { key_of parts.now result ≡ part_of_key self.now }
         ensures within { result < length parts.now.keys }
@@ -142,6 +141,11 @@ impl<'a> KeyRecord<'a> {
     pub(crate) fn with_number(&self, number: u32) -> Numbered<'a>
         ensures { result ≡ record { name = name_of_key self.now; number = number } }
     {
-        Numbered::new(self.key_tag, self.dnskey.algorithm, self.owner, number)
+        Numbered::new(
+            self.key_tag,
+            self.dnskey.algorithm,
+            WireName::of(self.owner),
+            number,
+        )
     }
 }

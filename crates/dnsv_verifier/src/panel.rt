@@ -4,8 +4,8 @@ ghost use Rattle.dnsv_verifier.specs.Panel.{joint_answer};
 ghost use Rattle.dnsv_verifier.specs.declared.entry.Entry.{Entry};
 
 use crate::answer::Answer;
+use crate::entry::Entry;
 use crate::verifier::Verifier;
-use dnsv_records::Algorithm;
 
 /// Verifiers that are asked together.
 #[derive(Drop)]
@@ -27,35 +27,18 @@ impl Verifier for Panel {
     ghost meaning = { λ panel entry. joint_answer
         (map (λ member. (Verifier-box member).meaning member.value entry) panel.members.items) };
 
-    fn answer(
-        &self,
-        algorithm: Algorithm,
-        key: &[u8],
-        signed_data: &[u8],
-        signature: &[u8],
-    ) -> Answer {
+    fn answer(&self, entry: &Entry<'_>) -> Answer {
         let mut joint = Answer::Unknown;
         for member in &self.members {
-            joint = joint.joined(answer_of(member, algorithm, key, signed_data, signature));
+            joint = joint.joined(answer_of(member, entry));
         }
         joint
     }
 }
 
 /// What one member says.
-fn answer_of(
-    member: &Box<dyn Verifier>,
-    algorithm: Algorithm,
-    key: &[u8],
-    signed_data: &[u8],
-    signature: &[u8],
-) -> Answer
-    ensures { result ≡ meaning member.now (record {
-      algorithm = algorithm;
-      key = key.now;
-      signed_data = signed_data.now;
-      signature = signature.now;
-    }) }
+fn answer_of(member: &Box<dyn Verifier>, entry: &Entry<'_>) -> Answer
+    ensures { result ≡ meaning member.now entry.now }
 {
-    member.answer(algorithm, key, signed_data, signature)
+    member.answer(entry)
 }

@@ -10,12 +10,11 @@ ghost use Rattle.dnsv_verifier.specs.declared.statements.statement.Word.{Word};
 ghost use Rattle.dnsv_verifier.specs.declared.statements.StatementsError.{StatementsError};
 
 use crate::answer::Answer;
-use crate::entry::borrowed_entry::BorrowedEntry;
+use crate::entry::Entry;
 use crate::entry::packed_entry::PackedEntry;
 use crate::statements::statement::{Word, statement_of};
 use crate::verifier::Verifier;
 use dnsv_names::{Line, Lines};
-use dnsv_records::Algorithm;
 use std::alloc::{AllocError, AllocFailed, Global};
 use std::collections::BTreeMap;
 use std::marker::Model;
@@ -126,17 +125,10 @@ impl Statements {
 impl Verifier for Statements {
     ghost meaning = { listed_answer };
 
-    fn answer(
-        &self,
-        algorithm: Algorithm,
-        key: &[u8],
-        signed_data: &[u8],
-        signature: &[u8],
-    ) -> Answer {
-        let asked = BorrowedEntry::of(algorithm, key, signed_data, signature);
+    fn answer(&self, entry: &Entry<'_>) -> Answer {
         let place = self
             .listed
-            .binary_search_by(|(entry, _)| entry.borrowed().stands_to(&asked));
+            .binary_search_by(|(said, _)| said.entry().stands_to(entry));
         match place {
             Ok(place) => self.listed[place].1.answer(),
             Err(_) => Answer::Unknown,

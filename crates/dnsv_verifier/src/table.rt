@@ -7,24 +7,22 @@ ghost use Rattle.dnsv_verifier.specs.Table.{hopeful, unknown_entries};
 
 use crate::answer::Answer;
 use crate::entries::Entries;
-use crate::entry::borrowed_entry::BorrowedEntry;
+use crate::entry::Entry;
 use crate::entry::parts::{EntryNumbers, Parts};
 use crate::verifier::Verifier;
-use dnsv_records::Algorithm;
 use std::alloc::{AllocError, Global};
 use std::marker::Model;
-use std::rc::Rc;
 
 /// What a verifier says at a moment: the entries that it was asked, each once, with its answers. A table is itself a
 /// verifier, which says Unknown of any other entry.
 #[derive(Drop)]
-pub struct Table {
+pub struct Table<'b> {
     moment: u64,
-    parts: Rc<Parts>,
+    parts: Parts<'b>,
     answers: Vec<(EntryNumbers, Answer)>,
 }
 
-impl Model for Table {
+impl<'b> Model for Table<'b> {
     ghost use Rattle.std.specs.Prelude.{map};
     ghost use Rattle.std.specs.List.Sorted.{IsStrictlySortedBy};
     ghost use Rattle.dnsv_verifier.specs.Entry.{entry_cmp};
@@ -35,18 +33,22 @@ impl Model for Table {
 
     ghost view = { λ table. record {
       moment = table.moment;
-      answers = answers_of table.parts.value table.answers.items;
+      answers = answers_of table.parts table.answers.items;
     } };
 
     ghost invariant = { λ table. IsStrictlySortedBy entry_cmp
-        (map (λ each. each.0) (answers_of table.parts.value table.answers.items)) };
+        (map (λ each. each.0) (answers_of table.parts table.answers.items)) };
 }
 
-impl Table {
+impl<'b> Table<'b> {
     /// The table of these answers, whose entries rise.
-    pub(crate) fn new(moment: u64, parts: Rc<Parts>, answers: Vec<(EntryNumbers, Answer)>) -> Table
-        requires { IsStrictlySortedBy entry_cmp (map (λ each. each.0) (answers_of parts.value answers.items)) }
-        ensures { result ≡ record { moment = moment; answers = answers_of parts.value answers.items } }
+    pub(crate) fn new(
+        moment: u64,
+        parts: Parts<'b>,
+        answers: Vec<(EntryNumbers, Answer)>,
+    ) -> Table<'b>
+        requires { IsStrictlySortedBy entry_cmp (map (λ each. each.0) (answers_of parts answers.items)) }
+        ensures { result ≡ record { moment = moment; answers = answers_of parts.entry answers.items } }
     {
         Table {
             moment,
@@ -72,7 +74,7 @@ impl Table {
 
     /// The entries that are still to be verified: those whose answer is Unknown, by rising algorithm, key, signed data
     /// and signature, octets as unsigned numbers. Their octets stay the table's.
-    pub fn unknown(&self, alloc: Global) -> Result<Entries, AllocError>
+    pub fn unknown(&self, alloc: Global) -> Result<Entries<'b>, AllocError>
         ensures value { IfOk result (λ entries. entries ≡ unknown_entries self.now) }
         ensures rising { IfOk result (λ entries. IsStrictlySortedBy entry_cmp entries) }
     {
@@ -82,7 +84,7 @@ impl Table {
                 unknown.push(*numbers)?;
             }
         }
-        Ok(Entries::new(self.parts.clone()?, unknown))
+        Ok(Entries::new(self.parts.copied(), unknown))
     }
 
     /// Whether there are no entries that are still to be verified. It takes no memory.
@@ -98,34 +100,27 @@ impl Table {
     }
 
     /// The best that may come of the table: the same moment and entries, each Unknown one Valid. It asks nobody.
-    pub fn hopeful(&self, alloc: Global) -> Result<Table, AllocError>
+    pub fn hopeful(&self, alloc: Global) -> Result<Table<'b>, AllocError>
         ensures { IfOk result (λ table. table ≡ hopeful self.now) }
     {
         let mut answers = Vec::with_capacity(alloc, self.answers.len())?;
         for (numbers, answer) in &self.answers {
             answers.push((*numbers, answer.hoped()))?;
         }
-        Ok(Table::new(self.moment, self.parts.clone()?, answers))
+        Ok(Table::new(self.moment, self.parts.copied(), answers))
     }
 }
 
-impl Verifier for Table {
+impl Verifier for Table<'_> {
     ghost use Rattle.dnsv_verifier.specs.Table.{table_answer};
 
     ghost meaning = { table_answer };
 
-    fn answer(
-        &self,
-        algorithm: Algorithm,
-        key: &[u8],
-        signed_data: &[u8],
-        signature: &[u8],
-    ) -> Answer {
-        let asked = BorrowedEntry::of(algorithm, key, signed_data, signature);
+    fn answer(&self, entry: &Entry<'_>) -> Answer {
         let parts = &self.parts;
         let place = self
             .answers
-            .binary_search_by(|(numbers, _)| parts.entry(*numbers).stands_to(&asked));
+            .binary_search_by(|(numbers, _)| parts.entry(*numbers).stands_to(entry));
         match place {
             Ok(place) => self.answers[place].1,
             Err(_) => Answer::Unknown,

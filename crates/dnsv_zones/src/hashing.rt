@@ -25,7 +25,7 @@ pub struct HashedNames {
 pub fn hash_names(
     alloc: Global,
     name: &Name,
-    parameters: &Nsec3Parameters,
+    parameters: &Nsec3Parameters<'_>,
     count: &mut Count,
 ) -> Result<HashedNames, AllocError>
     ensures hashes { IfOk result (λ hashed. AreHashes (sha1_hash (parameters_of parameters.now)) name.now
@@ -42,7 +42,7 @@ pub fn hash_names(
 fn hash_above(
     alloc: Global,
     name: &Name,
-    parameters: &Nsec3Parameters,
+    parameters: &Nsec3Parameters<'_>,
     count: &mut Count,
 ) -> Result<Vec<Hash20>, AllocError>
     ensures hashes { IfOk result (λ hashes. AreEach
@@ -71,7 +71,7 @@ fn hash_above(
 fn hash_wildcards(
     alloc: Global,
     name: &Name,
-    parameters: &Nsec3Parameters,
+    parameters: &Nsec3Parameters<'_>,
     count: &mut Count,
 ) -> Result<Vec<Hash20>, AllocError>
     ensures hashes { IfOk result (λ hashes. AreEach

@@ -8,7 +8,7 @@ use dnsv_names::{Name, covers};
 use dnsv_records::Nsec;
 
 /// Whether the name lies between the owner and the next one (RFC 4035 5.4).
-pub fn is_covered(owner: &Name, nsec: &Nsec, name: &Name) -> bool
+pub fn is_covered(owner: &Name, nsec: &Nsec<'_>, name: &Name) -> bool
     ensures { IsTrue result ↔ Covers (nsec_record owner.now nsec.now) name.now }
 {
     covers(owner, &nsec.next, name)
@@ -16,7 +16,7 @@ pub fn is_covered(owner: &Name, nsec: &Nsec, name: &Name) -> bool
 
 /// Whether the record may speak of the name: it isn't that of a delegation or a DNAME above the name
 /// (RFC 6840 4.1).
-pub fn is_no_cut_above(owner: &Name, nsec: &Nsec, name: &Name) -> bool
+pub fn is_no_cut_above(owner: &Name, nsec: &Nsec<'_>, name: &Name) -> bool
     ensures { IsTrue result ↔ IsNoCutAbove (nsec_record owner.now nsec.now) name.now }
 {
     if name == owner {
@@ -29,7 +29,7 @@ pub fn is_no_cut_above(owner: &Name, nsec: &Nsec, name: &Name) -> bool
 }
 
 /// Whether the name is no node: the record covers it, may speak of it, and the next owner isn't at or below it.
-pub fn is_absent(owner: &Name, nsec: &Nsec, name: &Name) -> bool
+pub fn is_absent(owner: &Name, nsec: &Nsec<'_>, name: &Name) -> bool
     ensures { IsTrue result ↔ IsAbsentBy (nsec_record owner.now nsec.now) name.now }
 {
     if nsec.next.is_at_or_below(name) {
@@ -42,7 +42,7 @@ pub fn is_absent(owner: &Name, nsec: &Nsec, name: &Name) -> bool
 }
 
 /// Whether the name is an empty non-terminal: the record covers it and may speak of it, and the next owner is below.
-pub fn is_empty_non_terminal(owner: &Name, nsec: &Nsec, name: &Name) -> bool
+pub fn is_empty_non_terminal(owner: &Name, nsec: &Nsec<'_>, name: &Name) -> bool
     ensures { IsTrue result ↔ IsEmptyNonTerminalBy (nsec_record owner.now nsec.now) name.now }
 {
     if !nsec.next.is_at_or_below(name) {
@@ -55,7 +55,7 @@ pub fn is_empty_non_terminal(owner: &Name, nsec: &Nsec, name: &Name) -> bool
 }
 
 /// Whether the record's owner or the next one is at or below the name, which so is a node.
-pub fn is_node(owner: &Name, nsec: &Nsec, name: &Name) -> bool
+pub fn is_node(owner: &Name, nsec: &Nsec<'_>, name: &Name) -> bool
     ensures { IsTrue result ↔ IsNodeBy (nsec_record owner.now nsec.now) name.now }
 {
     if owner.is_at_or_below(name) {

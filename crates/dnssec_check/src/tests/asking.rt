@@ -5,9 +5,8 @@ use dnsv_chain::Anchors;
 use dnsv_explain::explain;
 use dnsv_message::Message;
 use dnsv_names::{Count, Name, RecordType};
-use dnsv_records::Algorithm;
 use dnsv_verdict::validate;
-use dnsv_verifier::{Answer, Verifier, ask_all};
+use dnsv_verifier::{Answer, Entry, Verifier, ask_all};
 use std::alloc::Global;
 use std::cell::Cell;
 use std::test::Fail;
@@ -38,13 +37,7 @@ impl Verifier for Counting {
 
     ghost meaning = { λ _ _. Unknown };
 
-    fn answer(
-        &self,
-        _algorithm: Algorithm,
-        _key: &[u8],
-        _signed_data: &[u8],
-        _signature: &[u8],
-    ) -> Answer {
+    fn answer(&self, _entry: &Entry<'_>) -> Answer {
         self.calls.set(self.calls.get().saturating_add(1));
         Answer::Unknown
     }
@@ -62,15 +55,30 @@ fn evidence<'b>(alloc: Global, bump: &'b Bump) -> Result<Capture<'b>, Fail> {
 fn calls(alloc: Global, why: bool) -> Result<u64, Fail> {
     let bump = Bump::new(alloc);
     let capture = evidence(alloc, &bump)?;
-    let anchors = Anchors::parse(alloc, ANCHOR)?;
+    let anchors = Anchors::parse(alloc, &bump, ANCHOR)?;
+    calls_for(alloc, &bump, &capture, &anchors, why)
+}
+
+/// How often it is asked about the capture.
+fn calls_for(
+    alloc: Global,
+    bump: &Bump,
+    capture: &Capture<'_>,
+    anchors: &Anchors<'_>,
+    why: bool,
+) -> Result<u64, Fail> {
     let (host, address) = (Name::parse(b"host.example.")?, RecordType(1));
     let unknown = Counting {
         calls: Cell::new(0),
     };
     if why {
-        explain(alloc, &capture, &anchors, 1500, &unknown, &host, address)?;
+        explain(
+            alloc, bump, capture, anchors, 1500, &unknown, &host, address,
+        )?;
     } else {
-        validate(alloc, &capture, &anchors, 1500, &unknown, &host, address)?;
+        validate(
+            alloc, bump, capture, anchors, 1500, &unknown, &host, address,
+        )?;
     }
     Ok(unknown.calls.get())
 }
@@ -81,12 +89,18 @@ pub fn is_asked_once_for_each(alloc: Global) -> Result<bool, Fail> {
 }
 
 /// Whether it is asked so often for the table at the moment, and the count grows by as many.
-fn is_asked(alloc: Global, capture: &Capture<'_>, moment: u64, times: u64) -> Result<bool, Fail> {
+fn is_asked(
+    alloc: Global,
+    bump: &Bump,
+    capture: &Capture<'_>,
+    moment: u64,
+    times: u64,
+) -> Result<bool, Fail> {
     let mut count = Count::new();
     let unknown = Counting {
         calls: Cell::new(0),
     };
-    let table = ask_all(alloc, capture, moment, &unknown, &mut count)?;
+    let table = ask_all(alloc, bump, capture, moment, &unknown, &mut count)?;
     let told = table.moment() == moment && count.value() == times;
     Ok(told && unknown.calls.get() == times)
 }
@@ -95,7 +109,8 @@ fn is_asked(alloc: Global, capture: &Capture<'_>, moment: u64, times: u64) -> Re
 pub fn is_asked_once_by_a_table(alloc: Global) -> Result<bool, Fail> {
     let bump = Bump::new(alloc);
     let mut capture = evidence(alloc, &bump)?;
-    let once = is_asked(alloc, &capture, 1500, 2)? && is_asked(alloc, &capture, 2001, 0)?;
+    let once = is_asked(alloc, &bump, &capture, 1500, 2)?
+        && is_asked(alloc, &bump, &capture, 2001, 0)?;
     capture.add(&Message::decode(alloc, HOST)?)?;
-    Ok(once && is_asked(alloc, &capture, 1500, 2)?)
+    Ok(once && is_asked(alloc, &bump, &capture, 1500, 2)?)
 }

@@ -12,7 +12,7 @@ use crate::received::Received;
 use crate::rrset::Rrset;
 use dnsv_message::{Message, Section};
 use dnsv_names::RecordType;
-use dnsv_records::{Nsec3, Nsec3Parameters, Octets, record_laws};
+use dnsv_records::{Nsec3, Nsec3Parameters, record_laws};
 use std::alloc::{AllocError, Global};
 
 /// How many messages a capture has at most.
@@ -81,11 +81,11 @@ fn has_few_keys(alloc: Global, received: &[&[u8]]) -> Result<bool, AllocError>
 
 /// The parameters of the RRsets' NSEC3 records that can be used, each once, but for those that are kept. The ninth
 /// are refused where they are met, so that no more than 8 are ever held.
-pub fn fresh_parameters(
+pub fn fresh_parameters<'b>(
     alloc: Global,
-    kept: &[Nsec3Parameters],
-    rrsets: &[Rrset<'_>],
-) -> Result<Vec<Nsec3Parameters>, CaptureError>
+    kept: &[Nsec3Parameters<'b>],
+    rrsets: &[Rrset<'b>],
+) -> Result<Vec<Nsec3Parameters<'b>>, CaptureError>
     ensures all { IfOk result (λ fresh. (earlier : List (List ℕ)) → AreParameters earlier kept.now
         → AreParameters (earlier ++ nsec3_rdata rrsets.now) (kept.now ++ fresh.items)) }
     ensures few { IfOk result (λ fresh. length kept.now ≤ 8 → length (kept.now ++ fresh.items) ≤ 8) }
@@ -94,17 +94,16 @@ pub fn fresh_parameters(
 {
     let mut fresh = Vec::new(alloc);
     for rrset in rrsets {
-        add_rrset(alloc, kept, &mut fresh, rrset)?;
+        add_rrset(kept, &mut fresh, rrset)?;
     }
     Ok(fresh)
 }
 
 /// Adds the parameters of the RRset, where it has NSEC3 records, that are not among the others.
-fn add_rrset(
-    alloc: Global,
-    kept: &[Nsec3Parameters],
-    fresh: &mut Vec<Nsec3Parameters>,
-    rrset: &Rrset<'_>,
+fn add_rrset<'b>(
+    kept: &[Nsec3Parameters<'b>],
+    fresh: &mut Vec<Nsec3Parameters<'b>>,
+    rrset: &Rrset<'b>,
 ) -> Result<(), CaptureError>
     ensures all { OnOk result ((earlier : List (List ℕ)) → AreParameters earlier (kept.now ++ fresh.old.items)
         → AreParameters (earlier ++ nsec3_rdata (rrset.now ∷ [])) (kept.now ++ fresh.new.items)) }
@@ -113,15 +112,14 @@ fn add_rrset(
     ensures refused { (earlier : List (List ℕ)) → AreParameters earlier (kept.now ++ fresh.old.items)
         → IfErr result (IsParametersRefusal (earlier ++ nsec3_rdata (rrset.now ∷ []))) }
 {
-    add_records(alloc, kept, fresh, rrset.nsec3s())
+    add_records(kept, fresh, rrset.nsec3s())
 }
 
 /// Adds the parameters of NSEC3 records that are not among the others.
-fn add_records(
-    alloc: Global,
-    kept: &[Nsec3Parameters],
-    fresh: &mut Vec<Nsec3Parameters>,
-    nsec3s: &[Nsec3],
+fn add_records<'b>(
+    kept: &[Nsec3Parameters<'b>],
+    fresh: &mut Vec<Nsec3Parameters<'b>>,
+    nsec3s: &[Nsec3<'b>],
 ) -> Result<(), CaptureError>
     ensures all { OnOk result ((earlier received : List (List ℕ)) → AllZip IsNsec3 received nsec3s.now
         → AreParameters earlier (kept.now ++ fresh.old.items)
@@ -133,17 +131,16 @@ fn add_records(
         → IfErr result (IsParametersRefusal (earlier ++ received)) }
 {
     for nsec3 in nsec3s {
-        add_record(alloc, kept, fresh, nsec3)?;
+        add_record(kept, fresh, nsec3)?;
     }
     Ok(())
 }
 
 /// Adds the parameters of an NSEC3 record, if it can be used and they are not among the others. The ninth are refused.
-fn add_record(
-    alloc: Global,
-    kept: &[Nsec3Parameters],
-    fresh: &mut Vec<Nsec3Parameters>,
-    nsec3: &Nsec3,
+fn add_record<'b>(
+    kept: &[Nsec3Parameters<'b>],
+    fresh: &mut Vec<Nsec3Parameters<'b>>,
+    nsec3: &Nsec3<'b>,
 ) -> Result<(), CaptureError>
     ensures all { OnOk result ((earlier : List (List ℕ)) (rdata : List ℕ) → IsNsec3 rdata nsec3.now
         → AreParameters earlier (kept.now ++ fresh.old.items)
@@ -167,16 +164,16 @@ fn add_record(
     }
     fresh.push(Nsec3Parameters {
         iterations: parameters.iterations,
-        salt: Octets::copy_of(alloc, parameters.salt.as_slice())?,
+        salt: parameters.salt.copied(),
     })?;
     Ok(())
 }
 
 /// Whether the parameters are among those of the two lists.
-fn is_among(
-    kept: &[Nsec3Parameters],
-    fresh: &[Nsec3Parameters],
-    parameters: &Nsec3Parameters,
+fn is_among<'b>(
+    kept: &[Nsec3Parameters<'b>],
+    fresh: &[Nsec3Parameters<'b>],
+    parameters: &Nsec3Parameters<'b>,
 ) -> bool
     ensures { IsTrue result ↔ Contains (kept.now ++ fresh.now) parameters.now }
 {

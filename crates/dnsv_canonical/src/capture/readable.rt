@@ -78,11 +78,11 @@ fn is_laid_out(alloc: Global, rtype: RecordType, rdata: &[u8]) -> Result<bool, A
     ensures { IfOk result (λ answer. IsTrue answer ↔ IsLaidOut rtype.0 rdata.now) }
 {
     match rtype {
-        RecordType::DS => was_read(Ds::read(alloc, rdata)),
-        RecordType::RRSIG => was_read(Rrsig::read(alloc, rdata)),
-        RecordType::NSEC => was_read(Nsec::read(alloc, rdata)),
-        RecordType::DNSKEY => was_read(Dnskey::read(alloc, rdata)),
-        RecordType::NSEC3 => was_read(Nsec3::read(alloc, rdata)),
+        RecordType::DS => was_read(Ds::read(rdata)),
+        RecordType::RRSIG => was_read(Rrsig::read(rdata)),
+        RecordType::NSEC => was_read(Nsec::read(rdata)),
+        RecordType::DNSKEY => was_read(Dnskey::read(rdata)),
+        RecordType::NSEC3 => was_read(Nsec3::read(rdata)),
         _ => Ok(true),
     }
 }

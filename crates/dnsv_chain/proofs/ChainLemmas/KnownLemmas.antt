@@ -13,13 +13,13 @@ use Rattle.dnsv_names.specs.Name.{Labels, SameName, same_name}
 use Rattle.dnsv_names.specs.Order.ByWire.{search_cmp}
 use Rattle.dnsv_names.specs.Order.ByWireLaws.{search_ties}
 use Rattle.dnsv_names.specs.Order.OrderLaws.{same_name_Decides}
-use Rattle.dnsv_names.specs.declared.order.by_wire.ByWire.{ByWire}
+use Rattle.dnsv_chain.specs.declared.by_owner.key.OwnerKey.{OwnerKey}
 use Rattle.dnsv_records.specs.declared.dnskey.Dnskey.{Dnskey}
 use Rattle.dnsv_canonical.specs.Canonical.{rdata_cmp}
 use Rattle.dnsv_verifier.specs.Admissible.{DnskeyRecord}
 use Rattle.dnsv_chain.specs.Chain.{AreKnown, HasRdata, known_cmp}
 
-pub none_known : (known : BTreeSet (ByWire × (List ℕ × Dnskey))) (keys : Labels → List DnskeyRecord) → known.keys ≡ [] → AreKnown known keys
+pub none_known : (known : BTreeSet (OwnerKey × (List ℕ × Dnskey))) (keys : Labels → List DnskeyRecord) → known.keys ≡ [] → AreKnown known keys
 none_known known keys none = record {
   each = λ key there. absurd (false≢true (sym (λ i. contains known_cmp (record { keys = none i }) key) ∙ there));
 }
@@ -30,31 +30,31 @@ both_equal Equal b same = (refl, same)
 both_equal Greater b same = absurd (false≢true same)
 
 -- what compares as equal has equal names and the same octets
-same_key : (a b : ByWire × (List ℕ × Dnskey)) → is_eq (known_cmp a b) ≡ true → SameName a.0.0.now b.0.0.now × (a.1.0 ≡ b.1.0)
+same_key : (a b : OwnerKey × (List ℕ × Dnskey)) → is_eq (known_cmp a b) ≡ true → SameName a.0.0 b.0.0 × (a.1.0 ≡ b.1.0)
 same_key a b same =
-    let both = both_equal (search_cmp a.0.0.now b.0.0.now) (rdata_cmp a.1.0 b.1.0) same in (
-      (same_name_Decides a.0.0.now b.0.0.now).0 (search_ties a.0.0.now b.0.0.now ∙ both.0),
+    let both = both_equal (search_cmp a.0.0 b.0.0) (rdata_cmp a.1.0 b.1.0) same in (
+      (same_name_Decides a.0.0 b.0.0).0 (search_ties a.0.0 b.0.0 ∙ both.0),
       (bytes_decides a.1.0 b.1.0).0 (texts_ties a.1.0 b.1.0 ∙ both.1),
     )
 
-module _ (old_keys new_keys : Labels → List DnskeyRecord) (old new : BTreeSet (ByWire × (List ℕ × Dnskey))) (key : ByWire × (List ℕ × Dnskey)) where
+module _ (old_keys new_keys : Labels → List DnskeyRecord) (old new : BTreeSet (OwnerKey × (List ℕ × Dnskey))) (key : OwnerKey × (List ℕ × Dnskey)) where
   -- one key more
   pub known_more : AreKnown old old_keys → Updates known_cmp old new key true
       → ((zone : Labels) (k : DnskeyRecord) → Contains (old_keys zone) k → Contains (new_keys zone) k)
       → ((a b : Labels) → SameName a b → new_keys a ≡ new_keys b)
-      → HasRdata (new_keys key.0.0.now) key.1.0 → AreKnown new new_keys
+      → HasRdata (new_keys key.0.0) key.1.0 → AreKnown new new_keys
   known_more known updates kept same has = record {
-    each = λ q there. elim (is_eq (known_cmp key q)) as (λ b. is_eq (known_cmp key q) ≡ b → cond b true (contains known_cmp old q) ≡ true → HasRdata (new_keys q.0.0.now) q.1.0) [
+    each = λ q there. elim (is_eq (known_cmp key q)) as (λ b. is_eq (known_cmp key q) ≡ b → cond b true (contains known_cmp old q) ≡ true → HasRdata (new_keys q.0.0) q.1.0) [
       | true ↦ λ is _.
           let alike = same_key key q is in
-          subst (λ (octets : List ℕ). HasRdata (new_keys q.0.0.now) octets) alike.1
-          (subst (λ (list : List DnskeyRecord). HasRdata list key.1.0) (same key.0.0.now q.0.0.now alike.0) has)
-      | false ↦ λ _ before. let found = known.each q before in (found.0, kept q.0.0.now found.0 found.1, found.2)
+          subst (λ (octets : List ℕ). HasRdata (new_keys q.0.0) octets) alike.1
+          (subst (λ (list : List DnskeyRecord). HasRdata list key.1.0) (same key.0.0 q.0.0 alike.0) has)
+      | false ↦ λ _ before. let found = known.each q before in (found.0, kept q.0.0 found.0 found.1, found.2)
     ] refl (sym (updates.0 q) ∙ there);
   }
 
 -- no key more
-pub known_unchanged : (keys : Labels → List DnskeyRecord) (old new : BTreeSet (ByWire × (List ℕ × Dnskey))) (added : Bool) → added ≡ false
+pub known_unchanged : (keys : Labels → List DnskeyRecord) (old new : BTreeSet (OwnerKey × (List ℕ × Dnskey))) (added : Bool) → added ≡ false
     → OnFalse added (new.keys ≡ old.keys) → AreKnown old keys → AreKnown new keys
 known_unchanged keys old new true is same known = absurd (false≢true (sym is))
 known_unchanged keys old new false is same known = record {
@@ -62,7 +62,7 @@ known_unchanged keys old new false is same known = record {
 }
 
 -- an owner and RDATA that are known are those of a key
-pub found_known : (known : BTreeSet (ByWire × (List ℕ × Dnskey))) (keys : Labels → List DnskeyRecord) (key : ByWire × (List ℕ × Dnskey)) (owner : Labels) → key.0.0.now ≡ owner
+pub found_known : (known : BTreeSet (OwnerKey × (List ℕ × Dnskey))) (keys : Labels → List DnskeyRecord) (key : OwnerKey × (List ℕ × Dnskey)) (owner : Labels) → key.0.0 ≡ owner
     → AreKnown known keys → not (contains known_cmp known key) ≡ false → HasRdata (keys owner) key.1.0
 found_known known keys key owner same are found =
     subst (λ (name : Labels). HasRdata (keys name) key.1.0) same (are.each key (elim (contains known_cmp known key) as (λ b. not b ≡ false → b ≡ true) [

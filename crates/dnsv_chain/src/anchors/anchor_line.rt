@@ -7,6 +7,8 @@ ghost use Rattle.dnsv_chain.specs.AnchorFile.{IsAnchorLine, IsDnskeyText, IsDsTe
 ghost use Rattle.dnsv_chain.specs.declared.anchor.Anchor.{Anchor};
 
 use crate::anchor::Anchor;
+use bumpalo::Bump;
+use bumpalo::collections::into_bump_slice;
 use dnsv_names::{Line, Name, base64_octets, decimal_u8, decimal_u16, is_base64};
 use dnsv_records::{Algorithm, DigestType, Ds, KeyTag, Octets};
 use dnsv_verifier::hex_octets;
@@ -14,8 +16,13 @@ use std::alloc::{AllocError, Global};
 
 type SixFields<'a> = (&'a [u8], &'a [u8], &'a [u8], &'a [u8], &'a [u8], &'a [u8]);
 
-/// The anchor that a line says, `None` where it says none. Memory is asked for only where it says one.
-pub(crate) fn anchor_of(alloc: Global, line: &Line) -> Result<Option<Anchor>, AllocError>
+/// The anchor that a line says, its octets in the arena; `None` where it says none. Memory is asked for only where it
+/// says one.
+pub(crate) fn anchor_of<'b>(
+    alloc: Global,
+    bump: &'b Bump,
+    line: &Line,
+) -> Result<Option<Anchor<'b>>, AllocError>
     ensures found { IfOk result (λ found. MatchOption found
         ((anchor : Anchor) → IsAnchorLine line.now.octets anchor → ⊥) (IsAnchorLine line.now.octets)) }
     ensures refused { OnErr result ((anchor : Anchor) × IsAnchorLine line.now.octets anchor) }
@@ -27,13 +34,13 @@ pub(crate) fn anchor_of(alloc: Global, line: &Line) -> Result<Option<Anchor>, Al
         return Ok(None);
     };
     if is_word(word, b"DS") {
-        let Some(ds) = ds_of(alloc, first, second, third, last)? else {
+        let Some(ds) = ds_of(bump, first, second, third, last)? else {
             return Ok(None);
         };
         return Ok(Some(Anchor::Ds { owner, ds }));
     }
     if is_word(word, b"KEY") {
-        let Some(rdata) = dnskey_of(alloc, first, second, third, last)? else {
+        let Some(rdata) = dnskey_of(alloc, bump, first, second, third, last)? else {
             return Ok(None);
         };
         return Ok(Some(Anchor::Key { owner, rdata }));
@@ -63,13 +70,13 @@ fn is_word(field: &[u8], word: &[u8]) -> bool
 }
 
 /// The DS record of these fields, `None` where they are none. Memory is asked for only where they are one.
-fn ds_of(
-    alloc: Global,
+fn ds_of<'b>(
+    bump: &'b Bump,
     key_tag: &[u8],
     algorithm: &[u8],
     digest_type: &[u8],
     digest: &[u8],
-) -> Result<Option<Ds>, AllocError>
+) -> Result<Option<Ds<'b>>, AllocError>
     ensures found { IfOk result (λ found. MatchOption found
         ((ds : Ds) → IsDsText key_tag.now algorithm.now digest_type.now digest.now ds → ⊥)
         (IsDsText key_tag.now algorithm.now digest_type.now digest.now)) }
@@ -84,7 +91,7 @@ fn ds_of(
     let Some(digest_type) = decimal_u8(digest_type) else {
         return Ok(None);
     };
-    let Some(digest) = hex_octets(alloc, digest)? else {
+    let Some(digest) = hex_octets(bump, digest)? else {
         return Ok(None);
     };
     Ok(Some(Ds {
@@ -97,13 +104,14 @@ fn ds_of(
 
 /// The RDATA of the DNSKEY record of these fields, `None` where they are none. Memory is asked for only where they are
 /// one.
-fn dnskey_of(
+fn dnskey_of<'b>(
     alloc: Global,
+    bump: &'b Bump,
     flags: &[u8],
     protocol: &[u8],
     algorithm: &[u8],
     key: &[u8],
-) -> Result<Option<Octets>, AllocError>
+) -> Result<Option<Octets<'b>>, AllocError>
     ensures found { IfOk result (λ found. MatchOption found
         ((rdata : List ℕ) → IsDnskeyText flags.now protocol.now algorithm.now key.now rdata → ⊥)
         (IsDnskeyText flags.now protocol.now algorithm.now key.now)) }
@@ -123,22 +131,22 @@ fn dnskey_of(
         return Ok(None);
     }
     let key = base64_octets(alloc, key)?;
-    Ok(Some(dnskey_rdata(alloc, flags, protocol, algorithm, &key)?))
+    Ok(Some(dnskey_rdata(bump, flags, protocol, algorithm, &key)?))
 }
 
 /// The RDATA of a DNSKEY record (RFC 4034 2.1).
-fn dnskey_rdata(
-    alloc: Global,
+fn dnskey_rdata<'b>(
+    bump: &'b Bump,
     flags: u16,
     protocol: u8,
     algorithm: u8,
     key: &[u8],
-) -> Result<Octets, AllocError>
+) -> Result<Octets<'b>, AllocError>
     ensures { IfOk result (λ rdata. rdata ≡ to_be_bytes w16 flags ++ protocol ∷ algorithm ∷ key.now) }
 {
-    let mut rdata = Vec::from_slice(alloc, &flags.to_be_bytes())?;
+    let mut rdata = Vec::from_slice(bump, &flags.to_be_bytes())?;
     rdata.push(protocol)?;
     rdata.push(algorithm)?;
     rdata.extend_from_slice(key)?;
-    Ok(Octets::from_vec(rdata))
+    Ok(Octets::of(into_bump_slice(rdata)))
 }

@@ -14,9 +14,9 @@ use std::alloc::{AllocError, Global};
 #[tactic(auto, using(crate::proofs::SigningLemmas::GoodLemmas::not_admissible, crate::proofs::SigningLemmas::GoodLemmas::never_signed))]
 pub fn is_good(
     alloc: Global,
-    table: &Table,
+    table: &Table<'_>,
     rrset: &Rrset<'_>,
-    rrsig: &Rrsig,
+    rrsig: &Rrsig<'_>,
     key: &KeyRecord<'_>,
 ) -> Result<bool, AllocError>
     ensures { IfOk result (λ good. IsTrue good

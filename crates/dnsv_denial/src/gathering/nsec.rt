@@ -16,7 +16,7 @@ use std::alloc::{AllocError, Global};
 pub fn nsecs_of<'a>(
     alloc: Global,
     capture: &'a Capture<'a>,
-    trust: &Trust,
+    trust: &Trust<'_>,
     zone: &Name,
 ) -> Result<Vec<NsecEntry<'a>>, AllocError>
     ensures { IfOk result (λ entries. AreNsecsOf (SecuredIn trust.now) capture.now.rrsets zone.now entries.items) }

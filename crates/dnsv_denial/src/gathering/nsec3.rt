@@ -20,7 +20,7 @@ use std::alloc::{AllocError, Global};
 pub fn nsec3s_of<'a>(
     alloc: Global,
     capture: &'a Capture<'a>,
-    trust: &Trust,
+    trust: &Trust<'_>,
     zone: &Name,
 ) -> Result<Vec<Nsec3Entry<'a>>, AllocError>
     ensures { IfOk result (λ entries. AreNsec3sOf (SecuredIn trust.now) capture.now.rrsets zone.now entries.items) }
@@ -104,7 +104,7 @@ fn usable_entry<'a>(
     number: RecordNumber,
     owner: &'a Name,
     hash: Hash20,
-    nsec3: &'a Nsec3,
+    nsec3: &'a Nsec3<'a>,
 ) -> Option<Nsec3Entry<'a>>
     ensures { MatchOption result (¬ IsUsable nsec3.now) (λ entry. IsEntryOf number owner.now hash nsec3.now entry) }
 {

@@ -8,19 +8,26 @@ ghost use Rattle.dnsv_denial.specs.words.EvidenceWords.{parameters_cmp};
 use dnsv_records::Nsec3Parameters;
 use std::alloc::{AllocError, Global};
 
+/// Parameters of NSEC3 records where they stand, in the order of what they are.
+#[derive(Debug, PartialEq, Eq, PartialOrd, Ord, Drop)]
+pub struct OrderedParameters<'a> {
+    /// The parameters.
+    pub parameters: &'a Nsec3Parameters<'a>,
+}
+
 /// The parameters in their order, by iterations and then by salt, each once.
 pub fn parameters_in_order<'a>(
     alloc: Global,
-    all: &'a [Nsec3Parameters],
-) -> Result<Vec<&'a Nsec3Parameters>, AllocError>
+    all: &'a [Nsec3Parameters<'a>],
+) -> Result<Vec<OrderedParameters<'a>>, AllocError>
     ensures order { IfOk result (λ ordered. IsStrictlySortedBy parameters_cmp
-        (map parameters_of (map (λ each. each.now) ordered.items))) }
+        (map parameters_of (map (λ each. each.parameters.now) ordered.items))) }
     ensures members { IfOk result (λ ordered. (each : Nsec3Parameters) → Contains all.now each
-        ↔ Contains (map (λ each. each.now) ordered.items) each) }
+        ↔ Contains (map (λ each. each.parameters.now) ordered.items) each) }
 {
     let mut ordered = Vec::new(alloc);
     for parameters in all {
-        ordered.push(parameters)?;
+        ordered.push(OrderedParameters { parameters })?;
     }
     ordered.sort_unstable();
     ordered.dedup();

@@ -27,7 +27,7 @@ fn is_zone_signature(rrset: &Rrset<'_>, number: usize, zone: &Name) -> bool
         return false;
     }
     let rrsig = &rrsigs[number - 1];
-    if rrsig.signer == *zone {
+    if rrsig.signer.is_same(zone) {
         return !is_expanded(rrset.owner(), rrsig);
     }
     false

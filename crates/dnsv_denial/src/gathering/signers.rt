@@ -14,7 +14,7 @@ use std::alloc::{AllocError, Global};
 pub fn labels_of_signers(
     alloc: Global,
     capture: &Capture<'_>,
-    trust: &Trust,
+    trust: &Trust<'_>,
 ) -> Result<Vec<usize>, AllocError>
     ensures { IfOk result (λ labels. HaveLabels (SecuredIn trust.now) capture.now.rrsets labels.items) }
 {

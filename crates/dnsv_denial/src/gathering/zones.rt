@@ -28,7 +28,7 @@ use std::alloc::{AllocError, Global};
 pub fn zones_of<'a>(
     alloc: Global,
     capture: &'a Capture<'a>,
-    trust: &Trust,
+    trust: &Trust<'_>,
     name: &Name,
 ) -> Result<Vec<ZoneRecords<'a>>, AllocError>
     ensures { IfOk result (λ zones. AreZones (SecuredIn trust.now) capture.now.rrsets name.now zones.items) }
@@ -47,7 +47,7 @@ pub fn zones_of<'a>(
 fn zone_records<'a>(
     alloc: Global,
     capture: &'a Capture<'a>,
-    trust: &Trust,
+    trust: &Trust<'_>,
     signers: &[usize],
     zone: Name,
 ) -> Result<ZoneRecords<'a>, AllocError>
@@ -76,7 +76,7 @@ fn zone_records<'a>(
 /// `count` grows by how often something is hashed.
 pub fn sets_of<'a>(
     alloc: Global,
-    all: &'a [Nsec3Parameters],
+    all: &'a [Nsec3Parameters<'a>],
     name: &Name,
     count: &mut Count,
 ) -> Result<Vec<NameHashes<'a>>, AllocError>
@@ -92,12 +92,10 @@ pub fn sets_of<'a>(
     let _ = count.value();
     let ordered = parameters_in_order(alloc, all)?;
     let mut sets = Vec::new(alloc);
-    for parameters in ordered.iter() {
-        let hashed = hash_names(alloc, name, *parameters, count)?;
-        sets.push(NameHashes {
-            parameters: *parameters,
-            hashed,
-        })?;
+    for each in ordered.iter() {
+        let parameters = each.parameters;
+        let hashed = hash_names(alloc, name, parameters, count)?;
+        sets.push(NameHashes { parameters, hashed })?;
     }
     Ok(sets)
 }

@@ -11,7 +11,7 @@ pub struct NsecEntry<'a> {
     /// The owner of the record.
     pub owner: &'a Name,
     /// The RDATA of the record.
-    pub nsec: &'a Nsec,
+    pub nsec: &'a Nsec<'a>,
 }
 
 /// A usable NSEC3 record with its owner. Entries stand in the order of their records' numbers.
@@ -26,9 +26,9 @@ pub struct Nsec3Entry<'a> {
     /// Whether unsigned delegations may be left out between the owner and the next hash (RFC 5155 3.1.2.1).
     pub is_opt_out: bool,
     /// What the hashes are made with.
-    pub parameters: &'a Nsec3Parameters,
+    pub parameters: &'a Nsec3Parameters<'a>,
     /// The next owner's hash; behind the last one the first.
     pub next_hash: Hash20,
     /// The types that the name with the owner's hash has.
-    pub types: &'a TypeBitmap,
+    pub types: &'a TypeBitmap<'a>,
 }

@@ -14,7 +14,7 @@ pub struct HashedRecords<'a> {
     /// The question's name.
     pub name: &'a Name,
     /// What the hashes are made with.
-    pub parameters: &'a Nsec3Parameters,
+    pub parameters: &'a Nsec3Parameters<'a>,
     /// The hash of the question's rightmost n labels, for n from 0 on: of the root, and at last of the whole name.
     pub above: &'a [Hash20],
     /// The hash of the wildcard right below the question's rightmost n labels, for n from 0 on.

@@ -26,14 +26,15 @@ pub struct Nsec3Entries<'a> {
 
 impl<'a> Model for Nsec3Entries<'a> {
     ghost use Rattle.std.specs.Prelude.{List};
+    ghost use Rattle.std.specs.Ordering.{nat_cmp};
     ghost use Rattle.dnsv_denial.specs.records.HashIndex.{IsIndexOf};
     ghost use Rattle.dnsv_denial.specs.declared.records.entry.Nsec3Entry.{Nsec3Entry};
-    ghost use Rattle.dnsv_records.specs.contracts.bitmap.TypeBitmap as bitmap;
-    ghost use Rattle.std.specs.Coded.{codes};
+    ghost use Rattle.std.specs.Coded.{codes, coded_ℕ};
+    ghost use Rattle.std.specs.FinSet as set;
 
     ghost Value = { List Nsec3Entry };
 
-    ghost coded = { Prim.hlevel (codes, bitmap.the_row.coded) };
+    ghost coded = { Prim.hlevel (codes, set.code {R = nat_cmp} coded_ℕ) };
 
     ghost view = { λ indexed. indexed.entries.items };
 

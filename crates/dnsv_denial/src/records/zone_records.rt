@@ -19,7 +19,7 @@ use dnsv_zones::HashedNames;
 #[derive(Drop)]
 pub struct NameHashes<'a> {
     /// What the hashes are made with.
-    pub parameters: &'a Nsec3Parameters,
+    pub parameters: &'a Nsec3Parameters<'a>,
     /// The hashes.
     pub hashed: HashedNames,
 }

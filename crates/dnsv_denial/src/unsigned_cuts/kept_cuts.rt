@@ -19,7 +19,7 @@ use dnsv_names::Name;
 /// 8.6, 8.9, 9.2).
 pub fn unsigned_cut(
     capture: &Capture<'_>,
-    trust: &Trust,
+    trust: &Trust<'_>,
     name: &Name,
     zones: &[ZoneRecords<'_>],
     sets: &[NameHashes<'_>],

@@ -45,7 +45,7 @@ pub enum ShownCut {
 /// How it is shown from which name on the name may be unsigned, or `None` where the evidence shows none.
 pub fn shown_cut<'a>(
     capture: &Capture<'_>,
-    trust: &Trust,
+    trust: &Trust<'_>,
     name: &'a Name,
     zones: &'a [ZoneRecords<'a>],
     sets: &'a [NameHashes<'a>],

@@ -10,7 +10,7 @@ use dnsv_names::Name;
 
 /// How many labels the highest owner at or above the name has of whose DS RRsets one is secured and has no usable
 /// record; or `None` where there is none (RFC 4035 5.2). It takes no memory.
-pub fn highest_unusable_ds(capture: &Capture<'_>, trust: &Trust, name: &Name) -> Option<usize>
+pub fn highest_unusable_ds(capture: &Capture<'_>, trust: &Trust<'_>, name: &Name) -> Option<usize>
     ensures { MatchOption result
         ((labels : ℕ) → ¬ IsUnusableDsCut (SecuredIn trust.now) capture.now.rrsets name.now labels)
         (IsFewest (IsUnusableDsCut (SecuredIn trust.now) capture.now.rrsets name.now)) }

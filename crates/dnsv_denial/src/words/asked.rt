@@ -46,7 +46,7 @@ impl AskedTypes {
     ghost use Rattle.dnsv_denial.specs.words.Asked.{said_types};
 
     /// Whether the types are such.
-    pub fn are(self, types: &TypeBitmap) -> bool
+    pub fn are(self, types: &TypeBitmap<'_>) -> bool
         ensures { IsTrue result ↔ said_types self (IsInBitmap (λ t. set.contains types.now t)) }
     {
         match self {

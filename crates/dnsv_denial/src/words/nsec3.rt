@@ -24,7 +24,7 @@ pub struct Match<'a> {
     /// The hash.
     pub hash: Hash20,
     /// What it is made with.
-    pub parameters: &'a Nsec3Parameters,
+    pub parameters: &'a Nsec3Parameters<'a>,
     /// What the types are to be.
     pub types: AskedTypes,
 }
@@ -50,7 +50,7 @@ pub struct Cover<'a> {
     /// The hash.
     pub hash: Hash20,
     /// What it is made with.
-    pub parameters: &'a Nsec3Parameters,
+    pub parameters: &'a Nsec3Parameters<'a>,
     /// Whether the record is to have the Opt-Out flag.
     pub is_opt_out: bool,
 }
@@ -71,7 +71,7 @@ impl Word<Nsec3Entry<'_>> for Cover<'_> {
 }
 
 /// Whether hashes with the one parameters are made as those with the others.
-fn same_parameters(a: &Nsec3Parameters, b: &Nsec3Parameters) -> bool
+fn same_parameters(a: &Nsec3Parameters<'_>, b: &Nsec3Parameters<'_>) -> bool
     ensures { IsTrue result ↔ (parameters_of a.now ≡ parameters_of b.now) }
 {
     if a.iterations.0 != b.iterations.0 {

@@ -98,7 +98,7 @@ fn is_own(rrset: &Rrset<'_>, number: usize, zone: &Name) -> bool
     let Some(rrsig) = numbered(rrset.signatures(), number) else {
         return false;
     };
-    if rrsig.signer == *zone {
+    if rrsig.signer.is_same(zone) {
         return !is_expanded(rrset.owner(), rrsig);
     }
     false

@@ -76,7 +76,7 @@ fn first_signer<'a>(
     rrsets: &'a [Rrset<'a>],
     number: SignatureNumber,
     rrset: &Rrset<'_>,
-    rrsig: &Rrsig,
+    rrsig: &Rrsig<'_>,
 ) -> Result<Option<Signer<'a>>, AllocError>
     requires all { rrsets.now ≡ evidence.now.rrsets }
     requires rrset { IsNumbered evidence.now.rrsets number.rrset rrset.now }
@@ -115,7 +115,7 @@ fn lowest_in<'a>(
     evidence: &Evidence<'_>,
     number: SignatureNumber,
     rrset: &Rrset<'_>,
-    rrsig: &Rrsig,
+    rrsig: &Rrsig<'_>,
     k: usize,
     set: &'a Rrset<'a>,
 ) -> Result<Option<Signer<'a>>, AllocError>
@@ -141,7 +141,7 @@ fn lowest_good_key<'a>(
     alloc: Global,
     evidence: &Evidence<'_>,
     rrset: &Rrset<'_>,
-    rrsig: &Rrsig,
+    rrsig: &Rrsig<'_>,
     k: usize,
     set: &'a Rrset<'a>,
 ) -> Result<Option<Signer<'a>>, AllocError>

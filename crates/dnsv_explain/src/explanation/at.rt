@@ -36,7 +36,7 @@ impl<'s, 'a> At<'s, 'a> {
 }
 
 /// The evidence of the grounds, with their trust, and the entries of which lines tell the numbers.
-pub fn evidence_of<'e>(grounds: &'e Grounds<'_>, todo: Option<&'e Entries>) -> Evidence<'e>
+pub fn evidence_of<'e>(grounds: &'e Grounds<'_>, todo: Option<&'e Entries<'e>>) -> Evidence<'e>
     requires { HasTrust grounds.now }
     ensures { result ≡ explained_by grounds.now (option_map_or (λ entries. entries.now) todo.entry []) }
 {

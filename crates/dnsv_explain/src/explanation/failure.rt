@@ -36,7 +36,7 @@ pub fn add_failure(
 }
 
 /// Whether nothing is proved.
-pub fn is_unproved(verdict: &Verdict) -> bool
+pub fn is_unproved(verdict: &Verdict<'_>) -> bool
     ensures { IsTrue result ↔ IsUnproved verdict.now }
 {
     match verdict {

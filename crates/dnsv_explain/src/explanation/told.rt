@@ -30,7 +30,7 @@ pub fn add_settled(
     at: &At<'_, '_>,
     lines: &mut Vec<Line>,
     rtype: RecordType,
-    verdict: &Verdict,
+    verdict: &Verdict<'_>,
 ) -> Result<(), AllocError>
     requires at { IsAt evidence.now at.now }
     requires verdict { IsSettledAsBy (basis_in evidence.now) at.now.name.now rtype.0 verdict.now }
@@ -96,7 +96,7 @@ pub fn add_set(
         return Ok(());
     }
     let view = at.view(alloc)?;
-    let Some(shown) = view.shown_no_closer(&rrsig.signer, rrsig.labels as usize) else {
+    let Some(shown) = view.shown_no_closer(&rrsig.signer.to_name(), rrsig.labels as usize) else {
         return Ok(());
     };
     add_denial(alloc, evidence, lines, at.name, &shown)?;

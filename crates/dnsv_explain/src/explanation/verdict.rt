@@ -65,7 +65,7 @@ fn add_hope<'a>(
     evidence: &Evidence<'_>,
     grounds: &Grounds<'a>,
     hope: &Hope<'a>,
-    unknown: &Entries,
+    unknown: &Entries<'_>,
     hashes: &Hashes<'a>,
     lines: &mut Vec<Line>,
     name: &Name,
@@ -91,14 +91,14 @@ fn add_hope<'a>(
 }
 
 /// Whether the verdict needs no more answers, and is one of those that something proves.
-pub fn is_settled(verdict: &Verdict) -> bool
+pub fn is_settled(verdict: &Verdict<'_>) -> bool
     ensures { IsTrue result ↔ IsSettledVerdict verdict.now }
 {
     kind_of(verdict).is_some()
 }
 
 /// The word of a verdict that needs no more answers.
-fn kind_of(verdict: &Verdict) -> Option<Kind>
+fn kind_of(verdict: &Verdict<'_>) -> Option<Kind>
     ensures { result ≡ told_kind verdict.now }
 {
     match verdict {

@@ -44,7 +44,7 @@ pub fn add_wildcard_cut(
         return Ok(());
     };
     let labels = found.rrsig.labels as usize;
-    let Some(shown) = view.shown_loose_closer(&found.rrsig.signer, labels) else {
+    let Some(shown) = view.shown_loose_closer(&found.rrsig.signer.to_name(), labels) else {
         return Ok(());
     };
     let number = SignatureNumber {

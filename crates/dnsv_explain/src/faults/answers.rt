@@ -2,15 +2,16 @@
 ghost use Rattle.std.specs.Prelude.{◌≡◌, ◌↔◌, IfOk, IsTrue};
 ghost use Rattle.dnsv_verifier.specs.Table.{table_answer};
 ghost use Rattle.dnsv_explain.specs.Explained.{setting_in};
-ghost use Rattle.dnsv_explain.specs.faults.AnswerSearch.{IsAnsweredBy, IsAnsweredBySome, IsBestOf, entry_over};
-ghost use Rattle.dnsv_explain.specs.faults.KeySearch.{IsNamedIn};
+ghost use Rattle.dnsv_explain.specs.faults.searches.AnswerSearch.{IsAnsweredBy, IsAnsweredBySome, IsBestOf, entry_over};
+ghost use Rattle.dnsv_explain.specs.faults.searches.KeySearch.{IsNamedIn};
 ghost use Rattle.dnsv_explain.specs.faults.SignatureFaults.{IsAnswered};
 
 use crate::evidence::Evidence;
 use dnsv_canonical::{Rrset, signed_data};
 use dnsv_records::Rrsig;
 use dnsv_verifier::{
-    Answer, KeyRecord, Table, Verifier, a_pair_has_one_entry, is_verifiable, may_have_made,
+    Answer, KeyRecord, Table, Verifier, a_pair_has_one_entry, entry_over, is_verifiable,
+    may_have_made,
 };
 use std::alloc::{AllocError, Global};
 
@@ -21,7 +22,7 @@ pub fn best_answer(
     evidence: &Evidence<'_>,
     keys: &[KeyRecord<'_>],
     rrset: &Rrset<'_>,
-    rrsig: &Rrsig,
+    rrsig: &Rrsig<'_>,
 ) -> Result<Option<Answer>, AllocError>
     ensures { IfOk result (IsBestOf (IsAnswered (IsNamedIn keys.now rrsig.now) (setting_in evidence.now) rrset.now
         rrsig.now)) }
@@ -37,7 +38,12 @@ pub fn best_answer(
 }
 
 /// The best answer over the octets.
-fn best_over(table: &Table, keys: &[KeyRecord<'_>], rrsig: &Rrsig, octets: &[u8]) -> Option<Answer>
+fn best_over(
+    table: &Table<'_>,
+    keys: &[KeyRecord<'_>],
+    rrsig: &Rrsig<'_>,
+    octets: &[u8],
+) -> Option<Answer>
     ensures { IsBestOf (IsAnsweredBySome (table_answer table.now) rrsig.now octets.now keys.now) result }
 {
     if is_answered(table, keys, rrsig, octets, Answer::Valid) {
@@ -54,9 +60,9 @@ fn best_over(table: &Table, keys: &[KeyRecord<'_>], rrsig: &Rrsig, octets: &[u8]
 
 /// Whether the table answers so over the octets, under one of the keys that may have made the signature.
 fn is_answered(
-    table: &Table,
+    table: &Table<'_>,
     keys: &[KeyRecord<'_>],
-    rrsig: &Rrsig,
+    rrsig: &Rrsig<'_>,
     octets: &[u8],
     answer: Answer,
 ) -> bool
@@ -68,9 +74,9 @@ fn is_answered(
 
 /// Whether the key may have made the signature, and the table answers so over the octets.
 fn is_answered_by(
-    table: &Table,
+    table: &Table<'_>,
     key: &KeyRecord<'_>,
-    rrsig: &Rrsig,
+    rrsig: &Rrsig<'_>,
     octets: &[u8],
     answer: Answer,
 ) -> bool
@@ -80,14 +86,14 @@ fn is_answered_by(
 }
 
 /// Whether the table answers so of the signature over the octets, under the key.
-fn says(table: &Table, key: &KeyRecord<'_>, rrsig: &Rrsig, octets: &[u8], answer: Answer) -> bool
+fn says(
+    table: &Table<'_>,
+    key: &KeyRecord<'_>,
+    rrsig: &Rrsig<'_>,
+    octets: &[u8],
+    answer: Answer,
+) -> bool
     ensures { IsTrue result ↔ (table_answer table.now (entry_over rrsig.now octets.now key.now) ≡ answer) }
 {
-    let given = table.answer(
-        rrsig.algorithm,
-        key.dnskey().key.as_slice(),
-        octets,
-        rrsig.signature.as_slice(),
-    );
-    given == answer
+    table.answer(&entry_over(rrsig, octets, key)) == answer
 }

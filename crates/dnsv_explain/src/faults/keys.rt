@@ -1,7 +1,7 @@
 //! The keys of the evidence, and those that a signature names.
 ghost use Rattle.std.specs.Prelude.{◌↔◌, IfOk, IsTrue};
 ghost use Rattle.dnsv_names.specs.Name.{SameName};
-ghost use Rattle.dnsv_explain.specs.faults.KeySearch.{HasKeyAt, HasNamed, HasNamedZoneKey, IsNamedTo};
+ghost use Rattle.dnsv_explain.specs.faults.searches.KeySearch.{HasKeyAt, HasNamed, HasNamedZoneKey, IsNamedTo};
 ghost use Rattle.dnsv_explain.specs.faults.Keys.{IsZoneKey};
 ghost use Rattle.dnsv_explain.specs.faults.ZoneLines.{IsKeysAt};
 ghost use Rattle.dnsv_explain.specs.faults.ZoneLines.ZoneSearch.{AreKeysAt};
@@ -45,14 +45,14 @@ pub fn has_keys(keys: &[KeyRecord<'_>], zone: &Name) -> bool
 }
 
 /// Whether the signature names one of the keys.
-pub fn has_named(keys: &[KeyRecord<'_>], rrsig: &Rrsig) -> bool
+pub fn has_named(keys: &[KeyRecord<'_>], rrsig: &Rrsig<'_>) -> bool
     ensures { IsTrue result ↔ HasNamed keys.now rrsig.now }
 {
     keys.iter().any(|key| is_named(key, rrsig))
 }
 
 /// Whether it names one that a zone may sign with.
-pub fn has_named_zone_key(keys: &[KeyRecord<'_>], rrsig: &Rrsig) -> bool
+pub fn has_named_zone_key(keys: &[KeyRecord<'_>], rrsig: &Rrsig<'_>) -> bool
     ensures { IsTrue result ↔ HasNamedZoneKey keys.now rrsig.now }
 {
     keys.iter()
@@ -60,12 +60,12 @@ pub fn has_named_zone_key(keys: &[KeyRecord<'_>], rrsig: &Rrsig) -> bool
 }
 
 /// Whether the signature names the key: it is one of the signer, with the tag and the algorithm (RFC 4034 3.1).
-pub fn is_named(key: &KeyRecord<'_>, rrsig: &Rrsig) -> bool
+pub fn is_named(key: &KeyRecord<'_>, rrsig: &Rrsig<'_>) -> bool
     ensures { IsTrue result ↔ IsNamedTo rrsig.now key.now }
 {
     key.key_tag().0 == rrsig.key_tag.0
         && key.dnskey().algorithm.0 == rrsig.algorithm.0
-        && *key.owner() == rrsig.signer
+        && rrsig.signer.is_same(key.owner())
 }
 
 /// Whether the names are equal, without regard to case (RFC 4343).

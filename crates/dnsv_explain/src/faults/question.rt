@@ -14,17 +14,18 @@ mod subjects;
 mod zones;
 
 ghost use Rattle.std.specs.Prelude.{◌≡◌, ◌≢◌, ◌↔◌, ◌⊎◌, [], ℕ, IfOk, IsTrue, OnOk};
-ghost use Rattle.dnsv_verifier.specs.Asking.{AreKeysOf};
 ghost use Rattle.dnsv_explain.specs.At.{IsAt};
 ghost use Rattle.dnsv_explain.specs.Explained.{setting_in};
 ghost use Rattle.dnsv_explain.specs.faults.Listing.{AddsThose, AreWhere};
-ghost use Rattle.dnsv_explain.specs.faults.NeededSearch.{AreLabelsOf, IsSpeakerFound};
+ghost use Rattle.dnsv_explain.specs.faults.searches.NeededSearch.{AreLabelsOf, IsSpeakerFound};
 ghost use Rattle.dnsv_explain.specs.faults.Order.{AreFaultLines, AreFaultParts, AreEndLines, AreLacking, AreLinesOfDenials};
-ghost use Rattle.dnsv_explain.specs.faults.Repeats.{AreThinned};
+ghost use Rattle.dnsv_explain.specs.faults.searches.Repeats.{AreThinned};
 ghost use Rattle.dnsv_explain.specs.faults.Zones.{IsNeeded};
+ghost use Rattle.dnsv_explain.specs.faults.searches.KeySearch.{HasItsKeys, setting_of};
 
 use crate::evidence::Evidence;
 use crate::explanation::at::At;
+use crate::faults::keyed::KeyedEvidence;
 use crate::faults::question::closers::closer_lines;
 use crate::faults::question::denials::add_denials;
 use crate::faults::question::dnames::dname_lines;
@@ -40,7 +41,7 @@ use crate::faults::question::zones::add_zones;
 use crate::faults::sources::add_lacking;
 use crate::line::Line;
 use dnsv_names::{Name, RecordType};
-use dnsv_verifier::{KeyRecord, all_keys};
+use dnsv_verifier::all_keys;
 use std::alloc::{AllocError, Global};
 
 /// Adds what fails of the question, whose name `at` has, where the evidence settles nothing: the first link that fails, seen
@@ -77,6 +78,10 @@ fn fault_parts(
     let view = at.view(alloc)?;
     let all = all_keys(alloc, evidence.rrsets())?;
     let keys = all.as_slice();
+    let keyed = KeyedEvidence {
+        evidence: &*evidence,
+        keys,
+    };
     let signers = signers_of(alloc, evidence, name, rtype)?;
     let zones = needed_zones(alloc, evidence, &signers, name, rtype)?;
     let needed = zones.as_slice();
@@ -87,10 +92,10 @@ fn fault_parts(
     let lacking = asks_sources(&signers, dnames.as_slice());
 
     let mut lines = Vec::new(alloc);
-    add_zones(alloc, evidence, keys, needed, &mut lines, name)?;
+    add_zones(alloc, &keyed, needed, &mut lines, name)?;
     lines.append(&mut dnames)?;
-    add_goals(alloc, evidence, keys, &mut lines, name, rtype)?;
-    add_all_denials(alloc, evidence, keys, needed, &mut lines, name, denied)?;
+    add_goals(alloc, &keyed, &mut lines, name, rtype)?;
+    add_all_denials(alloc, &keyed, needed, &mut lines, name, denied)?;
     lines.append(&mut closers)?;
     add_sources(alloc, evidence, at, speaker, &mut lines, rtype, lacking)?;
     add_end(evidence, speaker, &mut lines, name, rtype)?;
@@ -122,23 +127,22 @@ fn asks_sources(signers: &Signers, dnames: &[Line]) -> bool
 /// Adds what is said of what may deny, if that is asked.
 fn add_all_denials(
     alloc: Global,
-    evidence: &Evidence<'_>,
-    keys: &[KeyRecord<'_>],
+    keyed: &KeyedEvidence<'_>,
     needed: &[usize],
     lines: &mut Vec<Line>,
     name: &Name,
     asked: bool,
 ) -> Result<(), AllocError>
-    requires { AreKeysOf evidence.now.rrsets keys.now }
-    ensures { (t : ℕ) → AreLabelsOf name.now (IsNeeded (setting_in evidence.now) name.now t) needed.now
-        → OnOk result (AddsThose (AreWhere (IsTrue asked) (AreLinesOfDenials (setting_in evidence.now) name.now t))
+    requires { HasItsKeys keyed.now }
+    ensures { (t : ℕ) → AreLabelsOf name.now (IsNeeded (setting_of keyed.now) name.now t) needed.now
+        → OnOk result (AddsThose (AreWhere (IsTrue asked) (AreLinesOfDenials (setting_of keyed.now) name.now t))
         lines.old.items lines.new.items) }
 {
     if !asked {
         return Ok(());
     }
-    add_denials(alloc, evidence, keys, needed, lines, name)?;
-    add_nsec3s(alloc, evidence, lines, name)?;
+    add_denials(alloc, keyed, needed, lines, name)?;
+    add_nsec3s(alloc, keyed.evidence, lines, name)?;
     Ok(())
 }
 

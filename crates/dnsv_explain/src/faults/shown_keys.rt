@@ -201,7 +201,7 @@ fn lowest_in(
 }
 
 /// Whether the record of a DS RRset of the owner can be used, and matches the key.
-fn is_usable_match(values: &[Ds], owner: &Name, ds: &Ds, key: &KeyRecord<'_>) -> bool
+fn is_usable_match(values: &[Ds<'_>], owner: &Name, ds: &Ds<'_>, key: &KeyRecord<'_>) -> bool
     ensures { IsTrue result ↔ (IsUsable values.now ds.now × IsMatch owner.now ds.now key.now) }
 {
     is_usable(values, ds) && is_match(owner, ds, key)

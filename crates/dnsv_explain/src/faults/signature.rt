@@ -1,15 +1,14 @@
 //! The lines of signatures that prove nothing.
 ghost use Rattle.std.specs.Prelude.{◌≡◌, ◌++◌, ◌∷◌, [], IfOk, OnOk, map};
 ghost use Rattle.dnsv_canonical.specs.Rrsets.{IsNumbered};
-ghost use Rattle.dnsv_verifier.specs.Asking.{AreKeysOf};
-ghost use Rattle.dnsv_explain.specs.Explained.{setting_in};
 ghost use Rattle.dnsv_explain.specs.derivations.SignerSearch.{IsSignatureAt};
 ghost use Rattle.dnsv_explain.specs.derivations.Ways.{HasSecured};
 ghost use Rattle.dnsv_explain.specs.faults.Listing.{AddsThose};
-ghost use Rattle.dnsv_explain.specs.faults.RemarkSearch.{remark_lines};
+ghost use Rattle.dnsv_explain.specs.faults.searches.RemarkSearch.{remark_lines};
 ghost use Rattle.dnsv_explain.specs.faults.RrsetLines.{AreSignatureLines, fault_line, follows_line, shown_of};
+ghost use Rattle.dnsv_explain.specs.faults.searches.KeySearch.{HasItsKeys, setting_of};
 
-use crate::evidence::Evidence;
+use crate::faults::keyed::KeyedEvidence;
 use crate::faults::keys::has_keys;
 use crate::faults::remark::{Remark, remark_of};
 use crate::faults::words::faults_of;
@@ -21,34 +20,32 @@ use crate::line::fault::signature::{
 };
 use dnsv_canonical::Rrset;
 use dnsv_records::Rrsig;
-use dnsv_verifier::KeyRecord;
 use std::alloc::{AllocError, Global};
 
 /// Adds what is said of the signature with the number, of an RRset of which none is good under a trusted key: all that
-/// is wrong with it before a verifier is asked, or else a remark. `keys` are those of the evidence.
+/// is wrong with it before a verifier is asked, or else a remark.
 pub fn add_signature(
     alloc: Global,
-    evidence: &Evidence<'_>,
-    keys: &[KeyRecord<'_>],
+    keyed: &KeyedEvidence<'_>,
     lines: &mut Vec<Line>,
     number: SignatureNumber,
     rrset: &Rrset<'_>,
-    rrsig: &Rrsig,
+    rrsig: &Rrsig<'_>,
 ) -> Result<(), AllocError>
-    requires keys { AreKeysOf evidence.now.rrsets keys.now }
-    requires unsecured { ¬ HasSecured (setting_in evidence.now) number.rrset }
-    requires rrset { IsNumbered evidence.now.rrsets number.rrset rrset.now }
+    requires keys { HasItsKeys keyed.now }
+    requires unsecured { ¬ HasSecured (setting_of keyed.now) number.rrset }
+    requires rrset { IsNumbered keyed.now.evidence.now.rrsets number.rrset rrset.now }
     requires its { IsSignatureAt rrset.now number.signature rrsig.now }
-    ensures { OnOk result (AddsThose (AreSignatureLines (setting_in evidence.now) number.rrset number.signature rrset.now
+    ensures { OnOk result (AddsThose (AreSignatureLines (setting_of keyed.now) number.rrset number.signature rrset.now
         rrsig.now) lines.old.items lines.new.items) }
 {
-    let known = has_keys(keys, &rrsig.signer);
-    let faults = faults_of(alloc, evidence, keys, known, rrset, rrsig)?;
+    let known = has_keys(keyed.keys, &rrsig.signer.to_name());
+    let faults = faults_of(alloc, keyed.evidence, keyed.keys, known, rrset, rrsig)?;
     if !faults.is_empty() {
         add_faults(lines, number, rrset, rrsig, &faults)?;
         return Ok(());
     }
-    let remark = remark_of(alloc, evidence, keys, known, rrset, rrsig)?;
+    let remark = remark_of(alloc, keyed, known, rrset, rrsig)?;
     add_remark(lines, number, rrset, rrsig, remark)?;
     Ok(())
 }
@@ -58,7 +55,7 @@ pub fn add_faults(
     lines: &mut Vec<Line>,
     number: SignatureNumber,
     rrset: &Rrset<'_>,
-    rrsig: &Rrsig,
+    rrsig: &Rrsig<'_>,
     faults: &[WhySignature],
 ) -> Result<(), AllocError>
     ensures { OnOk result (lines.new.items ≡ lines.old.items
@@ -75,7 +72,7 @@ fn add_fault(
     lines: &mut Vec<Line>,
     number: SignatureNumber,
     rrset: &Rrset<'_>,
-    rrsig: &Rrsig,
+    rrsig: &Rrsig<'_>,
     why: WhySignature,
 ) -> Result<(), AllocError>
     ensures { OnOk result (lines.new.items ≡ lines.old.items
@@ -91,7 +88,7 @@ fn add_remark(
     lines: &mut Vec<Line>,
     number: SignatureNumber,
     rrset: &Rrset<'_>,
-    rrsig: &Rrsig,
+    rrsig: &Rrsig<'_>,
     remark: Remark,
 ) -> Result<(), AllocError>
     ensures { OnOk result (lines.new.items ≡ lines.old.items
@@ -110,7 +107,7 @@ fn add_untrusted(
     lines: &mut Vec<Line>,
     number: SignatureNumber,
     rrset: &Rrset<'_>,
-    rrsig: &Rrsig,
+    rrsig: &Rrsig<'_>,
 ) -> Result<(), AllocError>
     ensures { OnOk result (lines.new.items ≡ lines.old.items
         ++ follows_line (shown_of number.rrset number.signature rrset.now rrsig.now) ∷ []) }
@@ -124,7 +121,7 @@ fn add_untrusted(
 pub fn shown(
     number: SignatureNumber,
     rrset: &Rrset<'_>,
-    rrsig: &Rrsig,
+    rrsig: &Rrsig<'_>,
 ) -> Result<ShownSignature, AllocError>
     ensures { IfOk result (λ shown. shown ≡ shown_of number.rrset number.signature rrset.now rrsig.now) }
 {
@@ -136,6 +133,6 @@ pub fn shown(
             tag: rrsig.key_tag,
             algorithm: rrsig.algorithm,
         },
-        signer: rrsig.signer.clone()?,
+        signer: rrsig.signer.to_name(),
     })
 }

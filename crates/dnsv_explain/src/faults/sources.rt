@@ -15,7 +15,7 @@ ghost use Rattle.dnsv_names.specs.Name.{rightmost};
 ghost use Rattle.dnsv_explain.specs.At.{IsAt};
 ghost use Rattle.dnsv_explain.specs.Explained.{setting_in};
 ghost use Rattle.dnsv_explain.specs.faults.Listing.{AddsThose, AreOfEach};
-ghost use Rattle.dnsv_explain.specs.faults.NeededSearch.{IsSpeakerFound};
+ghost use Rattle.dnsv_explain.specs.faults.searches.NeededSearch.{IsSpeakerFound};
 ghost use Rattle.dnsv_explain.specs.faults.Order.{AreLacking, AreLinesOfSources, names_up};
 ghost use Rattle.dnsv_explain.specs.faults.Sources.SourceSearch.{AreAllParameters};
 
@@ -23,9 +23,8 @@ use crate::evidence::Evidence;
 use crate::explanation::at::At;
 use crate::faults::sources::chains::{add_nsec3s, add_nsecs};
 use crate::line::Line;
-use dnsv_denial::{nsec3s_of, nsecs_of, parameters_in_order};
+use dnsv_denial::{OrderedParameters, nsec3s_of, nsecs_of, parameters_in_order};
 use dnsv_names::RecordType;
-use dnsv_records::Nsec3Parameters;
 use std::alloc::{AllocError, Global};
 
 /// Adds what the records of the zone lack that should speak of the question's name, chain by chain; and of the zones above
@@ -61,11 +60,11 @@ fn add_zones(
     speaker: usize,
     lines: &mut Vec<Line>,
     rtype: RecordType,
-    parameters: &[&Nsec3Parameters],
+    parameters: &[OrderedParameters<'_>],
 ) -> Result<(), AllocError>
     requires at { IsAt evidence.now at.now }
     requires speaker { speaker ≤ length at.now.name.now }
-    requires parameters { AreAllParameters evidence.now.rrsets (map (λ each. each.now) parameters.now) }
+    requires parameters { AreAllParameters evidence.now.rrsets (map (λ each. each.parameters.now) parameters.now) }
     ensures { OnOk result (AddsThose (AreOfEach (AreLinesOfSources (setting_in evidence.now) at.now.name.now rtype.0
         (rightmost at.now.name.now speaker)) (names_up at.now.name.now)) lines.old.items lines.new.items) }
 {
@@ -87,12 +86,12 @@ fn add_zone(
     speaker: usize,
     lines: &mut Vec<Line>,
     rtype: RecordType,
-    parameters: &[&Nsec3Parameters],
+    parameters: &[OrderedParameters<'_>],
     labels: usize,
 ) -> Result<(), AllocError>
     requires at { IsAt evidence.now at.now }
     requires speaker { speaker ≤ length at.now.name.now }
-    requires parameters { AreAllParameters evidence.now.rrsets (map (λ each. each.now) parameters.now) }
+    requires parameters { AreAllParameters evidence.now.rrsets (map (λ each. each.parameters.now) parameters.now) }
     requires within { labels ≤ length at.now.name.now }
     ensures { OnOk result (AddsThose (AreLinesOfSources (setting_in evidence.now) at.now.name.now rtype.0
         (rightmost at.now.name.now speaker) (rightmost at.now.name.now labels)) lines.old.items lines.new.items) }

@@ -5,7 +5,7 @@ ghost use Rattle.dnsv_records.specs.Rrsig.Time.{seconds_on};
 ghost use Rattle.dnsv_canonical.specs.SignedData.{IsExpanded, signed_label_count};
 ghost use Rattle.dnsv_verifier.specs.Admissible.{MaySign, is_unexpanded};
 ghost use Rattle.dnsv_explain.specs.Explained.{setting_in};
-ghost use Rattle.dnsv_explain.specs.faults.KeySearch.{HasNamed, HasNamedZoneKey, IsNamedIn};
+ghost use Rattle.dnsv_explain.specs.faults.searches.KeySearch.{HasNamed, HasNamedZoneKey, IsNamedIn};
 ghost use Rattle.dnsv_explain.specs.faults.SignatureFaults.{AreFaultsOf, expired, not_yet};
 
 use crate::evidence::Evidence;
@@ -26,7 +26,7 @@ pub fn faults_of(
     keys: &[KeyRecord<'_>],
     known: bool,
     rrset: &Rrset<'_>,
-    rrsig: &Rrsig,
+    rrsig: &Rrsig<'_>,
 ) -> Result<Vec<WhySignature>, AllocError>
     ensures { IfOk result (λ faults. AreFaultsOf (IsNamedIn keys.now rrsig.now) (IsTrue known) (setting_in evidence.now)
         rrset.now rrsig.now faults.items) }
@@ -62,17 +62,17 @@ fn those(alloc: Global, words: &[(WhySignature, bool)]) -> Result<Vec<WhySignatu
 }
 
 /// Whether it counts more labels than the owner has.
-fn has_too_many_labels(rrset: &Rrset<'_>, rrsig: &Rrsig) -> bool
+fn has_too_many_labels(rrset: &Rrset<'_>, rrsig: &Rrsig<'_>) -> bool
     ensures { IsTrue result ↔ (signed_label_count rrset.now.owner < rrsig.now.labels) }
 {
     signed_label_count(rrset.owner()) < rrsig.labels as usize
 }
 
 /// Whether the signer can't be the zone of the RRset (RFC 4035 2.1, 2.2, 2.4).
-fn is_by_another_zone(rrset: &Rrset<'_>, rrsig: &Rrsig) -> bool
+fn is_by_another_zone(rrset: &Rrset<'_>, rrsig: &Rrsig<'_>) -> bool
     ensures { IsTrue result ↔ (¬ MaySign rrsig.now.signer rrset.now.rtype rrset.now.owner) }
 {
-    !may_sign(&rrsig.signer, rrset.rtype(), rrset.owner())
+    !may_sign(&rrsig.signer.to_name(), rrset.rtype(), rrset.owner())
 }
 
 /// Whether the signer may be the zone of an RRset of the type at the owner.
@@ -88,7 +88,7 @@ fn may_sign(signer: &Name, rtype: RecordType, owner: &Name) -> bool
 }
 
 /// Whether it is one of a wildcard, over an RRset of a type that no wildcard stands for.
-fn is_wrongly_expanded(rrset: &Rrset<'_>, rrsig: &Rrsig) -> bool
+fn is_wrongly_expanded(rrset: &Rrset<'_>, rrsig: &Rrsig<'_>) -> bool
     ensures { IsTrue result ↔ (IsTrue (is_unexpanded rrset.now.rtype) × IsExpanded rrset.now.owner rrsig.now) }
 {
     let rtype = rrset.rtype();
@@ -96,21 +96,21 @@ fn is_wrongly_expanded(rrset: &Rrset<'_>, rrsig: &Rrsig) -> bool
 }
 
 /// Whether its algorithm isn't supported.
-fn has_unknown_algorithm(rrsig: &Rrsig) -> bool
+fn has_unknown_algorithm(rrsig: &Rrsig<'_>) -> bool
     ensures { IsTrue result ↔ (¬ IsTrue (is_supported rrsig.now.algorithm.0)) }
 {
     !rrsig.algorithm.is_supported()
 }
 
 /// Whether the moment is before the inception (RFC 1982 3.2, RFC 4034 3.1.5).
-fn is_not_yet(moment: u64, rrsig: &Rrsig) -> bool
+fn is_not_yet(moment: u64, rrsig: &Rrsig<'_>) -> bool
     ensures { IsTrue result ↔ (2 ^ 31 ≤ seconds_on rrsig.now.inception.0 moment) }
 {
     seconds_since(rrsig.inception.0, moment) >= HALF
 }
 
 /// By how much it is, with the signature's times.
-fn not_yet(moment: u64, rrsig: &Rrsig) -> SignatureTimes
+fn not_yet(moment: u64, rrsig: &Rrsig<'_>) -> SignatureTimes
     ensures { result ≡ not_yet moment rrsig.now }
 {
     SignatureTimes {
@@ -121,14 +121,14 @@ fn not_yet(moment: u64, rrsig: &Rrsig) -> SignatureTimes
 }
 
 /// Whether the moment is behind the expiration.
-fn is_expired(moment: u64, rrsig: &Rrsig) -> bool
+fn is_expired(moment: u64, rrsig: &Rrsig<'_>) -> bool
     ensures { IsTrue result ↔ (2 ^ 31 ≤ seconds_on moment rrsig.now.expiration.0) }
 {
     seconds_left(rrsig.expiration.0, moment) >= HALF
 }
 
 /// By how much it is, with the signature's times.
-fn expired(moment: u64, rrsig: &Rrsig) -> SignatureTimes
+fn expired(moment: u64, rrsig: &Rrsig<'_>) -> SignatureTimes
     ensures { result ≡ expired moment rrsig.now }
 {
     SignatureTimes {
@@ -139,14 +139,14 @@ fn expired(moment: u64, rrsig: &Rrsig) -> SignatureTimes
 }
 
 /// Whether the signer has keys, and none of these may have made it.
-fn is_key_missing(keys: &[KeyRecord<'_>], known: bool, rrsig: &Rrsig) -> bool
+fn is_key_missing(keys: &[KeyRecord<'_>], known: bool, rrsig: &Rrsig<'_>) -> bool
     ensures { IsTrue result ↔ (IsTrue known × (¬ HasNamed keys.now rrsig.now)) }
 {
     known && !has_named(keys, rrsig)
 }
 
 /// Whether keys may have made it, none of which a zone may sign with.
-fn has_no_zone_key(keys: &[KeyRecord<'_>], rrsig: &Rrsig) -> bool
+fn has_no_zone_key(keys: &[KeyRecord<'_>], rrsig: &Rrsig<'_>) -> bool
     ensures { IsTrue result ↔ (HasNamed keys.now rrsig.now × (¬ HasNamedZoneKey keys.now rrsig.now)) }
 {
     has_named(keys, rrsig) && !has_named_zone_key(keys, rrsig)

@@ -1,5 +1,6 @@
 //! What is said of a zone that isn't trusted.
 
+mod digested;
 mod entries;
 mod lead;
 mod named;
@@ -10,16 +11,18 @@ mod ways;
 mod why_not;
 
 ghost use Rattle.std.specs.Prelude.{◌≡◌, ◌++◌, ◌∷◌, [], OnOk};
-ghost use Rattle.dnsv_verifier.specs.Asking.{AreKeysOf};
 ghost use Rattle.dnsv_explain.specs.Explained.{setting_in};
 ghost use Rattle.dnsv_explain.specs.faults.Listing.{AddsThose, AreWhere};
-ghost use Rattle.dnsv_explain.specs.faults.Repeats.{AddsNew};
+ghost use Rattle.dnsv_explain.specs.faults.searches.Repeats.{AddsNew};
 ghost use Rattle.dnsv_explain.specs.faults.ZoneLines.{AreZoneLines, HasNoWay, zone_line};
 ghost use Rattle.dnsv_explain.specs.declared.line.fault.zone.WhyZone.TheVariants as zone_why;
+ghost use Rattle.dnsv_explain.specs.faults.searches.KeySearch.{HasItsKeys, setting_of};
 
 use crate::evidence::Evidence;
 use crate::faults::at::{has_own_anchor, has_rrset, is_anchored};
+use crate::faults::keyed::KeyedEvidence;
 use crate::faults::keys::keys_at;
+use crate::faults::zones::digested::digested_keys;
 use crate::faults::zones::entries::said_entries;
 use crate::faults::zones::ranks::add_ranks;
 use crate::faults::zones::ways::add_ways;
@@ -27,35 +30,34 @@ use crate::line::Line;
 use crate::line::fault::Reason;
 use crate::line::fault::zone::{WhyZone, ZoneFault};
 use dnsv_names::{Name, RecordType};
-use dnsv_verifier::KeyRecord;
 use std::alloc::{AllocError, Global};
 
 /// What is said of the zone, which isn't trusted: that no trust anchor is at or above it. Or else what is wrong with each
 /// DS RRset that leads into it, or that there is none; and that it has no keys, or why nothing that leads into it leads
-/// to one that signs them. `keys` are those of the evidence.
+/// to one that signs them.
 pub fn add_zone_faults(
     alloc: Global,
-    evidence: &Evidence<'_>,
-    keys: &[KeyRecord<'_>],
+    keyed: &KeyedEvidence<'_>,
     lines: &mut Vec<Line>,
     zone: &Name,
 ) -> Result<(), AllocError>
-    requires keys { AreKeysOf evidence.now.rrsets keys.now }
-    ensures { OnOk result (AddsNew (AreZoneLines (setting_in evidence.now) zone.now) lines.old.items lines.new.items) }
+    requires keys { HasItsKeys keyed.now }
+    ensures { OnOk result (AddsNew (AreZoneLines (setting_of keyed.now) zone.now) lines.old.items lines.new.items) }
 {
-    if !is_anchored(evidence, zone) {
+    if !is_anchored(keyed.evidence, zone) {
         add_zone_fault(lines, WhyZone::NoAnchor, zone)?;
         return Ok(());
     }
-    add_ways(alloc, evidence, keys, lines, zone)?;
-    add_no_way(evidence, lines, zone)?;
-    if !has_rrset(evidence, zone, RecordType::DNSKEY) {
+    add_ways(alloc, keyed, lines, zone)?;
+    add_no_way(keyed.evidence, lines, zone)?;
+    if !has_rrset(keyed.evidence, zone, RecordType::DNSKEY) {
         add_zone_fault(lines, WhyZone::DnskeyMissing, zone)?;
         return Ok(());
     }
-    let its_keys = keys_at(alloc, evidence.rrsets(), zone)?;
-    let said = said_entries(alloc, evidence, &its_keys, zone)?;
-    add_ranks(alloc, evidence, keys, lines, zone, &said)?;
+    let its_keys = keys_at(alloc, keyed.evidence.rrsets(), zone)?;
+    let digested = digested_keys(alloc, &its_keys)?;
+    let said = said_entries(alloc, keyed.evidence, &digested, zone)?;
+    add_ranks(alloc, keyed, lines, zone, &said)?;
     Ok(())
 }
 

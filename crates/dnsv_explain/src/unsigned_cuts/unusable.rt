@@ -124,7 +124,7 @@ fn add_why(
 }
 
 /// Why the record can't be used among these: the first that is so. Of one that can be used, `DigestIgnored`.
-fn why_unusable(records: &[Ds], ds: &Ds) -> WhyUnusable
+fn why_unusable(records: &[Ds<'_>], ds: &Ds<'_>) -> WhyUnusable
     ensures { ¬ IsUsable records.now ds.now → IsWhy result records.now ds.now }
 {
     if !ds.algorithm.is_supported() {

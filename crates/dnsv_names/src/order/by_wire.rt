@@ -10,6 +10,7 @@ ghost use Rattle.dnsv_names.specs.Octets.{octets_cmp};
 
 use crate::name::Name;
 use crate::wire::lower::lower_order;
+use crate::wire_name::WireName;
 use std::cmp::Ordering;
 
 /// A name in an order to search by, which costs less than the canonical one: by the length of its wire form,
@@ -41,7 +42,7 @@ impl Ord for ByWire<'_> {
     ghost matches_eq = { λ a b. search_ties a.0.now b.0.now };
 
     fn cmp(&self, other: &Self) -> Ordering {
-        octets_order(self.0.wire(), other.0.wire())
+        WireName::of(self.0).search_cmp(&WireName::of(other.0))
     }
 }
 
@@ -57,7 +58,7 @@ impl PartialOrd for ByWire<'_> {
 }
 
 /// The order of octets by their number, and then as they are in lower case.
-fn octets_order(a: &[u8], b: &[u8]) -> Ordering
+pub(crate) fn octets_order(a: &[u8], b: &[u8]) -> Ordering
     ensures { result ≡ octets_cmp (length a.now ∷ map to_ascii_lowercase a.now)
         (length b.now ∷ map to_ascii_lowercase b.now) }
 {

@@ -1,26 +1,48 @@
 //! Files of trust anchors.
-ghost use Rattle.std.specs.Prelude.{◌≡◌};
+ghost use Rattle.std.specs.Prelude.{◌≡◌, ◌≤◌, IfErr, IfOk, List, Option, ℕ, length};
 ghost use Rattle.dnsv_chain.specs.AnchorsError.{anchors_error_code};
+ghost use Rattle.dnsv_message.specs.Streams.Frames.{file_limit};
+ghost use Rattle.dnsv_program.specs.Files.Anchors.{AreAnchorsRefused, HasAnchors};
+ghost use Rattle.dnsv_program.specs.Files.Faults.{IsAbout, IsTextFault, OfOctets, TellsFailedReads};
+ghost use Rattle.dnsv_program.specs.Files.{IsToldBy, given_failures, octets_or_none};
 ghost use Rattle.dnsv_program.specs.Status.{fault_number};
-ghost use Rattle.dnsv_program.specs.Told.{IsAnchorsFault};
+ghost use Rattle.dnsv_program.specs.Told.{IsAnchorsFault, IsFaultOf};
 
-use crate::files::text::{FromText, refused_line};
-use crate::status::{Fault, Refusal};
+use crate::files::text::{octets_in, refused_line};
+use crate::status::{Fault, InputFile, Refusal};
+use bumpalo::Bump;
 use dnsv_chain::{Anchors, AnchorsError};
+use dnsv_message::Counted;
 use std::alloc::Global;
+use std::io::Read;
 
-impl FromText for Anchors {
-    ghost use Rattle.dnsv_program.specs.Files.Anchors.{AreAnchorsRefused, HasAnchors};
+/// The trust anchors of the file, whose octets lie in the arena; none where it isn't given.
+///
+/// The fault is the first: reading the file, and then its first line that is at fault.
+pub fn anchors_in<'b, R: Read>(
+    alloc: Global,
+    bump: &'b Bump,
+    reader: &mut Option<Counted<R>>,
+) -> Result<Anchors<'b>, Fault>
+    ensures said { (octets : Option (List ℕ)) → IsToldBy R.remaining reader.old octets
+        → IfOk result (HasAnchors (octets_or_none octets)) }
+    ensures faults { (octets : Option (List ℕ)) → IsToldBy R.remaining reader.old octets
+        → IfErr result (OfOctets (IsTextFault InputFile.Anchors AreAnchorsRefused (octets_or_none octets))) }
+    ensures reads { TellsFailedReads InputFile.Anchors (given_failures reader.old) (given_failures reader.new) result }
+    ensures about { IfErr result (IsAbout InputFile.Anchors) }
+{
+    let octets = octets_in(alloc, InputFile::Anchors, reader)?;
+    anchors_of(alloc, bump, &octets)
+}
 
-    ghost says = { HasAnchors };
-
-    ghost is_refused = { AreAnchorsRefused };
-
-    fn from_text(alloc: Global, text: &[u8]) -> Result<Anchors, Fault> {
-        match Anchors::parse(alloc, text) {
-            Ok(anchors) => Ok(anchors),
-            Err(error) => Err(anchors_fault(error)),
-        }
+/// The trust anchors of a text; the fault is that of its first line at fault.
+fn anchors_of<'b>(alloc: Global, bump: &'b Bump, text: &[u8]) -> Result<Anchors<'b>, Fault>
+    ensures said { IfOk result (λ value. length text.now ≤ file_limit → HasAnchors text.now value) }
+    ensures fault { IfErr result (IsFaultOf (AreAnchorsRefused text.now)) }
+{
+    match Anchors::parse(alloc, bump, text) {
+        Ok(anchors) => Ok(anchors),
+        Err(error) => Err(anchors_fault(error)),
     }
 }
 

@@ -69,7 +69,7 @@ pub fn given_text_in<T: FromText, R: Read>(
 }
 
 /// The octets of the file; none where it isn't given.
-fn octets_in<R: Read>(
+pub fn octets_in<R: Read>(
     alloc: Global,
     file: InputFile,
     reader: &mut Option<Counted<R>>,

@@ -13,6 +13,7 @@ use crate::status::{Fault, Place, Refusal, Status};
 use crate::texts::explaining::{push_why, report_and_why};
 use crate::texts::json::checking::verdict_json;
 use crate::texts::reason::push_reason;
+use bumpalo::Bump;
 use dnsv_canonical::{Capture, Rrset};
 use dnsv_chain::Anchors;
 use dnsv_denial::RecordNumber;
@@ -43,10 +44,11 @@ pub struct Asked<'a> {
 /// An alias that can't be followed is refused, without a place.
 pub fn judge<V: Verifier>(
     alloc: Global,
+    bump: &Bump,
     json: bool,
     why: bool,
     held: &Capture<'_>,
-    anchors: &Anchors,
+    anchors: &Anchors<'_>,
     moment: Moment,
     verifier: &V,
     name: &Name,
@@ -70,7 +72,9 @@ pub fn judge<V: Verifier>(
         moment,
     };
     let seconds = moment.seconds();
-    match report_and_why(alloc, why, held, anchors, seconds, verifier, name, rtype) {
+    match report_and_why(
+        alloc, bump, why, held, anchors, seconds, verifier, name, rtype,
+    ) {
         Ok((report, told)) => Ok(Outcome {
             status: status_of(&report.verdict),
             text: text_of(alloc, json, &asked, held.rrsets(), &report, &told)?,
@@ -85,7 +89,7 @@ fn text_of(
     json: bool,
     asked: &Asked<'_>,
     rrsets: &[Rrset<'_>],
-    report: &Report,
+    report: &Report<'_>,
     why: &Option<Explanation>,
 ) -> Result<String, AllocError>
     ensures { IfOk result (λ text. string_bytes text
@@ -115,7 +119,7 @@ fn verdict_fault(error: VerdictError) -> Fault
 }
 
 /// The end of a run by the verdict.
-pub fn status_of(verdict: &Verdict) -> Status
+pub fn status_of(verdict: &Verdict<'_>) -> Status
     ensures { result ≡ specs.verdict_status verdict.now }
 {
     match verdict {
@@ -133,7 +137,7 @@ fn verdict_text(
     name: &Name,
     rtype: RecordType,
     rrsets: &[Rrset<'_>],
-    report: &Report,
+    report: &Report<'_>,
 ) -> Result<String, AllocError>
     ensures { IfOk result (λ text. string_bytes text
         ≡ specs.verdict_text name.now rtype.0 rrsets.now report.now.links report.now.verdict) }
@@ -167,7 +171,7 @@ fn push_alias(text: &mut String, link: &Link) -> Result<(), AllocError>
 /// Adds the verdict's word, and the name and type that are asked for.
 fn push_verdict(
     text: &mut String,
-    verdict: &Verdict,
+    verdict: &Verdict<'_>,
     name: &Name,
     rtype: RecordType,
 ) -> Result<(), AllocError>
@@ -182,7 +186,7 @@ fn push_verdict(
 }
 
 /// The verdict's word.
-pub fn verdict_word(verdict: &Verdict) -> &'static str
+pub fn verdict_word(verdict: &Verdict<'_>) -> &'static str
     ensures { result.now ≡ specs.verdict_word verdict.now }
 {
     match verdict {

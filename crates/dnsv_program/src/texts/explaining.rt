@@ -6,6 +6,7 @@ ghost use Rattle.dnsv_verdict.specs.declared.error.VerdictError.TheVariants as V
 ghost use Rattle.dnsv_program.specs.Texts.Checking.{IsWhy};
 ghost use Rattle.dnsv_program.specs.Texts.Why.{why_line, why_lines};
 
+use bumpalo::Bump;
 use dnsv_canonical::Capture;
 use dnsv_chain::Anchors;
 use dnsv_explain::{Explanation, Line, explain};
@@ -15,16 +16,17 @@ use dnsv_verifier::Verifier;
 use std::alloc::{AllocError, Global};
 
 /// The report on the question, and where that is asked for, why its verdict stands.
-pub fn report_and_why<V: Verifier>(
+pub fn report_and_why<'a, V: Verifier>(
     alloc: Global,
+    bump: &'a Bump,
     why: bool,
-    held: &Capture<'_>,
-    anchors: &Anchors,
+    held: &'a Capture<'a>,
+    anchors: &'a Anchors<'a>,
     moment: u64,
     verifier: &V,
     name: &Name,
     rtype: RecordType,
-) -> Result<(Report, Option<Explanation>), VerdictError>
+) -> Result<(Report<'a>, Option<Explanation>), VerdictError>
     ensures verdict { IfOk result (λ told. IsVerdictOf (basis_of held.now.rrsets anchors.now moment (V.meaning
         verifier.now)) name.now rtype.0 told.0.links told.0.last told.0.verdict) }
     ensures why { IfOk result (λ told. IsWhy why (basis_of held.now.rrsets anchors.now moment (V.meaning verifier.now))
@@ -33,10 +35,12 @@ pub fn report_and_why<V: Verifier>(
         ⊎ IsRefusal (basis_of held.now.rrsets anchors.now moment (V.meaning verifier.now)) name.now rtype.0 error) }
 {
     if why {
-        let (report, explanation) = explain(alloc, held, anchors, moment, verifier, name, rtype)?;
+        let (report, explanation) = explain(
+            alloc, bump, held, anchors, moment, verifier, name, rtype,
+        )?;
         return Ok((report, Some(explanation)));
     }
-    let report = validate(alloc, held, anchors, moment, verifier, name, rtype)?;
+    let report = validate(alloc, bump, held, anchors, moment, verifier, name, rtype)?;
     Ok((report, None))
 }
 

@@ -15,7 +15,7 @@ pub fn push_reason(
     text: &mut String,
     json: bool,
     rrsets: &[Rrset<'_>],
-    verdict: &Verdict,
+    verdict: &Verdict<'_>,
 ) -> Result<(), AllocError>
     ensures { OnOk result (string_bytes text.new
         ≡ string_bytes text.old ++ reason_text json rrsets.now verdict.now) }
@@ -78,7 +78,7 @@ fn push_cut(text: &mut String, json: bool, cut: &Name) -> Result<(), AllocError>
 }
 
 /// Adds the entries that are still to be checked.
-fn push_entries(text: &mut String, json: bool, entries: &Entries) -> Result<(), AllocError>
+fn push_entries(text: &mut String, json: bool, entries: &Entries<'_>) -> Result<(), AllocError>
     ensures { OnOk result (string_bytes text.new ≡ string_bytes text.old ++ entries_text json entries.now) }
 {
     if json {

@@ -6,14 +6,16 @@ ghost use Rattle.dnsv_program.specs.Texts.Todo.{todo_line, todo_text};
 use crate::command_line::moment::Moment;
 use crate::texts::hex_text::push_hex_text;
 use crate::texts::json::todo::todo_json;
+use bumpalo::Bump;
 use dnsv_canonical::Capture;
 use dnsv_names::Count;
-use dnsv_verifier::{BorrowedEntry, Entries, Verifier, ask_all};
+use dnsv_verifier::{Entries, Entry, Verifier, ask_all};
 use std::alloc::{AllocError, Global};
 
 /// Each entry that the verifier knows nothing of, of those that it is asked about the evidence: in lines, or in JSON.
 pub fn still_to_check<V: Verifier>(
     alloc: Global,
+    bump: &Bump,
     json: bool,
     held: &Capture<'_>,
     moment: Moment,
@@ -24,7 +26,7 @@ pub fn still_to_check<V: Verifier>(
         × (string_bytes text ≡ todo_text json moment (unknown_entries table))) }
 {
     let mut asked = Count::new();
-    let table = ask_all(alloc, held, moment.seconds(), verifier, &mut asked)?;
+    let table = ask_all(alloc, bump, held, moment.seconds(), verifier, &mut asked)?;
     let unknown = table.unknown(alloc)?;
     Ok(text_of(alloc, json, moment, &unknown)?)
 }
@@ -34,7 +36,7 @@ fn text_of(
     alloc: Global,
     json: bool,
     moment: Moment,
-    entries: &Entries,
+    entries: &Entries<'_>,
 ) -> Result<String, AllocError>
     ensures { IfOk result (λ text. string_bytes text ≡ todo_text json moment entries.now) }
 {
@@ -46,7 +48,7 @@ fn text_of(
 }
 
 /// A line for each entry.
-fn todo_lines(alloc: Global, entries: &Entries) -> Result<String, AllocError>
+fn todo_lines(alloc: Global, entries: &Entries<'_>) -> Result<String, AllocError>
     ensures { IfOk result (λ text. string_bytes text ≡ flat_map todo_line entries.now) }
 {
     let mut text = String::new(alloc);
@@ -55,7 +57,7 @@ fn todo_lines(alloc: Global, entries: &Entries) -> Result<String, AllocError>
 }
 
 /// Adds a line for each entry.
-pub fn push_entries(text: &mut String, entries: &Entries) -> Result<(), AllocError>
+pub fn push_entries(text: &mut String, entries: &Entries<'_>) -> Result<(), AllocError>
     ensures { OnOk result (string_bytes text.new ≡ string_bytes text.old ++ flat_map todo_line entries.now) }
 {
     for place in 0..entries.len() {
@@ -65,15 +67,15 @@ pub fn push_entries(text: &mut String, entries: &Entries) -> Result<(), AllocErr
 }
 
 /// Adds the line of an entry.
-fn push_entry(text: &mut String, entry: &BorrowedEntry<'_>) -> Result<(), AllocError>
+fn push_entry(text: &mut String, entry: &Entry<'_>) -> Result<(), AllocError>
     ensures { OnOk result (string_bytes text.new ≡ string_bytes text.old ++ todo_line entry.now) }
 {
-    let algorithm = entry.algorithm().0;
+    let algorithm = entry.algorithm.0;
     write!(text, "todo {algorithm} ")?;
-    push_hex_text(text, entry.key())?;
+    push_hex_text(text, entry.key.as_slice())?;
     text.push_str(" ")?;
-    push_hex_text(text, entry.signed_data())?;
+    push_hex_text(text, entry.signed_data.as_slice())?;
     text.push_str(" ")?;
-    push_hex_text(text, entry.signature())?;
+    push_hex_text(text, entry.signature.as_slice())?;
     text.push_str("\n")
 }

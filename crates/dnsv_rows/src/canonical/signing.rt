@@ -64,10 +64,10 @@ fn signatures(row: &Row) -> Result<String, RowError> {
     printed::list(row.alloc(), texts.as_slice())
 }
 
-fn text_of(alloc: Global, rrsig: &Rrsig) -> Result<String, RowError> {
+fn text_of(alloc: Global, rrsig: &Rrsig<'_>) -> Result<String, RowError> {
     let (rtype, algorithm, labels) = (rrsig.type_covered.0, rrsig.algorithm.0, rrsig.labels);
     let (ttl, end, start) = (rrsig.original_ttl.0, rrsig.expiration.0, rrsig.inception.0);
-    let (tag, signer) = (rrsig.key_tag.0, &rrsig.signer);
+    let (tag, signer) = (rrsig.key_tag.0, rrsig.signer.to_name());
     let octets = printed::octets(alloc, rrsig.signature.as_slice())?;
     let front = format!(in alloc; "{rtype}:{algorithm}:{labels}:{ttl}:{end}:{start}")?;
     Ok(format!(in alloc; "{front}:{tag}:{signer}:{octets}")?)

@@ -2,6 +2,7 @@
 
 use crate::evidence::dnskey_of;
 use crate::row::{Row, RowError, printed};
+use bumpalo::Bump;
 use dnsv_chain::{Anchor, Anchors, AnchorsError};
 use dnsv_names::Name;
 use dnsv_verifier::KeyRecord;
@@ -23,7 +24,8 @@ pub fn answer(row: &Row) -> Result<Option<String>, RowError> {
 
 /// `anchors TEXT`: how many trust anchors the text has, or its refusal.
 fn anchors(row: &Row) -> Result<String, RowError> {
-    match Anchors::parse(row.alloc(), row.octets(0)?.as_slice()) {
+    let bump = Bump::new(row.alloc());
+    match Anchors::parse(row.alloc(), &bump, row.octets(0)?.as_slice()) {
         Ok(anchors) => {
             let count = anchors.as_slice().len();
             Ok(format!(in row.alloc(); "{count}")?)
@@ -45,13 +47,14 @@ fn refused(alloc: Global, error: &AnchorsError) -> Result<String, RowError> {
 /// `anchor-list TEXT`: each anchor of the text, `DS:OWNER:TAG:ALGORITHM:DIGESTTYPE:DIGEST` or `KEY:OWNER:RDATA`.
 fn anchor_list(row: &Row) -> Result<String, RowError> {
     let mut texts = Vec::new(row.alloc());
-    for anchor in trust_anchors(row, 0)?.as_slice() {
+    let bump = Bump::new(row.alloc());
+    for anchor in trust_anchors(row, 0, &bump)?.as_slice() {
         texts.push(anchor_text(row.alloc(), anchor)?)?;
     }
     printed::list(row.alloc(), texts.as_slice())
 }
 
-fn anchor_text(alloc: Global, anchor: &Anchor) -> Result<String, RowError> {
+fn anchor_text(alloc: Global, anchor: &Anchor<'_>) -> Result<String, RowError> {
     Ok(match anchor {
         Anchor::Ds { owner, ds } => {
             let (tag, algorithm, digest_type) = (ds.key_tag.0, ds.algorithm.0, ds.digest_type.0);
@@ -67,16 +70,17 @@ fn anchor_text(alloc: Global, anchor: &Anchor) -> Result<String, RowError> {
 
 /// `anchors-match TEXT OWNER RDATA`: whether an anchor of the text matches the DNSKEY record.
 fn anchors_match(row: &Row) -> Result<String, RowError> {
-    let anchors = trust_anchors(row, 0)?;
+    let bump = Bump::new(row.alloc());
+    let anchors = trust_anchors(row, 0, &bump)?;
     let (owner, rdata) = (row.name(1)?, row.octets(2)?);
-    let dnskey = dnskey_of(row.alloc(), rdata.as_slice())?;
+    let dnskey = dnskey_of(rdata.as_slice())?;
     let is_matched = anchors.is_match(&KeyRecord::new(&owner, rdata.as_slice(), &dnskey));
     Ok(format!(in row.alloc(); "{is_matched}")?)
 }
 
 /// The trust anchors that the argument is a text of.
-pub fn trust_anchors(row: &Row, place: usize) -> Result<Anchors, RowError> {
-    match Anchors::parse(row.alloc(), row.octets(place)?.as_slice()) {
+pub fn trust_anchors<'b>(row: &Row, place: usize, bump: &'b Bump) -> Result<Anchors<'b>, RowError> {
+    match Anchors::parse(row.alloc(), bump, row.octets(place)?.as_slice()) {
         Ok(anchors) => Ok(anchors),
         Err(AnchorsError::OutOfMemory) => Err(RowError::OutOfMemory),
         Err(_) => Err(RowError::Malformed),

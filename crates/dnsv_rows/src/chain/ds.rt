@@ -3,7 +3,7 @@
 use crate::evidence::dnskey_of;
 use crate::row::{Row, RowError, printed};
 use dnsv_chain::{has_usable, has_usable_match, is_match, is_usable};
-use dnsv_records::{Ds, RecordError};
+use dnsv_records::{Ds, Octets};
 use dnsv_verifier::KeyRecord;
 use std::alloc::Global;
 
@@ -48,7 +48,7 @@ fn is_some_usable(row: &Row) -> Result<String, RowError> {
 fn matched(row: &Row) -> Result<String, RowError> {
     let alloc = row.alloc();
     let (owner, rdata) = (row.name(0)?, row.octets(1)?);
-    let dnskey = dnskey_of(alloc, rdata.as_slice())?;
+    let dnskey = dnskey_of(rdata.as_slice())?;
     let key = KeyRecord::new(&owner, rdata.as_slice(), &dnskey);
     let mut texts = Vec::new(alloc);
     for ds in &ds_records(row, 2)? {
@@ -62,14 +62,14 @@ fn matched(row: &Row) -> Result<String, RowError> {
 /// DNSKEY record.
 fn is_some_matched(row: &Row) -> Result<String, RowError> {
     let (owner, rdata) = (row.name(0)?, row.octets(1)?);
-    let dnskey = dnskey_of(row.alloc(), rdata.as_slice())?;
+    let dnskey = dnskey_of(rdata.as_slice())?;
     let key = KeyRecord::new(&owner, rdata.as_slice(), &dnskey);
     let found = has_usable_match(&owner, ds_records(row, 2)?.as_slice(), &key);
     Ok(format!(in row.alloc(); "{found}")?)
 }
 
 /// The DS records whose RDATA the arguments from a place on are.
-fn ds_records(row: &Row, place: usize) -> Result<Vec<Ds>, RowError> {
+fn ds_records(row: &Row, place: usize) -> Result<Vec<Ds<'static>>, RowError> {
     let mut records = Vec::new(row.alloc());
     for each in place..row.count() {
         records.push(ds_of(row.alloc(), row.octets(each)?.as_slice())?)?;
@@ -77,10 +77,14 @@ fn ds_records(row: &Row, place: usize) -> Result<Vec<Ds>, RowError> {
     Ok(records)
 }
 
-fn ds_of(alloc: Global, rdata: &[u8]) -> Result<Ds, RowError> {
-    match Ds::read(alloc, rdata) {
-        Ok(ds) => Ok(ds),
-        Err(RecordError::OutOfMemory) => Err(RowError::OutOfMemory),
-        Err(_) => Err(RowError::Malformed),
-    }
+fn ds_of(alloc: Global, rdata: &[u8]) -> Result<Ds<'static>, RowError> {
+    let Ok(ds) = Ds::read(rdata) else {
+        return Err(RowError::Malformed);
+    };
+    Ok(Ds {
+        key_tag: ds.key_tag,
+        algorithm: ds.algorithm,
+        digest_type: ds.digest_type,
+        digest: Octets::copy_of(alloc, ds.digest.as_slice())?,
+    })
 }

@@ -6,7 +6,7 @@ use crate::evidence::verifying::ByFirstOctet;
 use crate::row::{Row, RowError, printed};
 use bumpalo::Bump;
 use dnsv_canonical::Capture;
-use dnsv_chain::{Trust, trusted};
+use dnsv_chain::{Anchors, Trust, trusted};
 use dnsv_names::Count;
 use dnsv_verifier::ask_all;
 use std::alloc::Global;
@@ -65,12 +65,29 @@ fn keys(row: &Row) -> Result<String, RowError> {
 }
 
 /// The trust in the capture by the anchors of the argument with so many before it, at the moment that the third one is.
-pub fn trust_in(row: &Row, capture: &Capture<'_>, anchors: usize) -> Result<Trust, RowError> {
+pub fn trust_in<'c>(
+    row: &Row,
+    capture: &'c Capture<'c>,
+    anchors: usize,
+) -> Result<Trust<'c>, RowError> {
     let alloc = row.alloc();
-    let anchors = trust_anchors(row, anchors)?;
+    let bump = Bump::new(alloc);
     let moment = row.number(2)?;
-    let table = ask_all(alloc, capture, moment, &ByFirstOctet, &mut Count::new())?;
-    Ok(trusted(alloc, capture, &anchors, &table)?)
+    let anchors = trust_anchors(row, anchors, &bump)?;
+    trust_by(alloc, &bump, capture, &anchors, moment)
+}
+
+/// The trust in the capture by the anchors at the moment; what is asked lies in the arena.
+fn trust_by<'c>(
+    alloc: Global,
+    bump: &Bump,
+    capture: &'c Capture<'c>,
+    anchors: &Anchors<'_>,
+    moment: u64,
+) -> Result<Trust<'c>, RowError> {
+    let mut count = Count::new();
+    let table = ask_all(alloc, bump, capture, moment, &ByFirstOctet, &mut count)?;
+    Ok(trusted(alloc, capture, anchors, &table)?)
 }
 
 /// The numbers parted by `,`, `-` for none.

@@ -1,9 +1,11 @@
 //! Questions of many names of a zone in one row.
 
-use super::evidence::{Evidence, evidence_of};
+use super::evidence::evidence_in;
 use crate::denial::{rtype_of, view_of};
+use crate::evidence::capture_or_refusal;
 use crate::row::{Row, RowError};
 use bumpalo::Bump;
+use dnsv_canonical::Capture;
 use dnsv_denial::View;
 use dnsv_names::Name;
 use std::alloc::{AllocError, Global};
@@ -13,17 +15,18 @@ use std::alloc::{AllocError, Global};
 /// for what isn't proved. Types are parted by `,`.
 pub fn lacks(row: &Row) -> Result<String, RowError> {
     let bump = Bump::new(row.alloc());
-    match evidence_of(row, &bump)? {
-        Ok(evidence) => lacks_in(row, &evidence),
+    match capture_or_refusal(row, 0, &bump)? {
+        Ok(capture) => lacks_in(row, &capture),
         Err(refusal) => Ok(refusal),
     }
 }
 
-fn lacks_in(row: &Row, evidence: &Evidence<'_>) -> Result<String, RowError> {
+fn lacks_in(row: &Row, capture: &Capture<'_>) -> Result<String, RowError> {
+    let evidence = evidence_in(row, capture)?;
     let mut text = String::new(row.alloc());
     for place in 4..row.count() {
         let name = row.name(place)?;
-        let view = view_of(row.alloc(), evidence, &name)?;
+        let view = view_of(row.alloc(), &evidence, &name)?;
         append(&mut text, " ", lacked(row, &view)?.as_str())?;
     }
     Ok(text)
@@ -72,18 +75,19 @@ fn append(text: &mut String, mark: &str, item: &str) -> Result<(), AllocError> {
 /// where it is proved that the zone has no closer name, `~` where that name may be left out, `*` where both, else `-`.
 pub fn closers(row: &Row) -> Result<String, RowError> {
     let bump = Bump::new(row.alloc());
-    match evidence_of(row, &bump)? {
-        Ok(evidence) => closers_in(row, &evidence),
+    match capture_or_refusal(row, 0, &bump)? {
+        Ok(capture) => closers_in(row, &capture),
         Err(refusal) => Ok(refusal),
     }
 }
 
-fn closers_in(row: &Row, evidence: &Evidence<'_>) -> Result<String, RowError> {
+fn closers_in(row: &Row, capture: &Capture<'_>) -> Result<String, RowError> {
+    let evidence = evidence_in(row, capture)?;
     let zone = row.name(3)?;
     let mut text = String::new(row.alloc());
     for place in 4..row.count() {
         let name = row.name(place)?;
-        let view = view_of(row.alloc(), evidence, &name)?;
+        let view = view_of(row.alloc(), &evidence, &name)?;
         append(
             &mut text,
             " ",

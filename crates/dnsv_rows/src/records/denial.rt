@@ -33,7 +33,7 @@ pub fn answer(row: &Row) -> Result<Option<String>, RowError> {
 fn bitmap(row: &Row) -> Result<String, RowError> {
     let alloc = row.alloc();
     let octets = row.octets(0)?;
-    match TypeBitmap::read(alloc, octets.as_slice()) {
+    match TypeBitmap::read(octets.as_slice()) {
         Ok(types) => told::types(row, 1, &types),
         Err(error) => Ok(told::refused(alloc, &error)?),
     }
@@ -43,7 +43,7 @@ fn bitmap(row: &Row) -> Result<String, RowError> {
 fn bitmap_written(row: &Row) -> Result<String, RowError> {
     let alloc = row.alloc();
     let octets = row.octets(0)?;
-    match TypeBitmap::read(alloc, octets.as_slice()) {
+    match TypeBitmap::read(octets.as_slice()) {
         Ok(types) => Ok(printed::octets(alloc, types.write())?),
         Err(error) => Ok(told::refused(alloc, &error)?),
     }
@@ -53,13 +53,13 @@ fn bitmap_written(row: &Row) -> Result<String, RowError> {
 fn nsec(row: &Row) -> Result<String, RowError> {
     let alloc = row.alloc();
     let rdata = row.octets(0)?;
-    match Nsec::read(alloc, rdata.as_slice()) {
+    match Nsec::read(rdata.as_slice()) {
         Ok(nsec) => nsec_told(row, &nsec),
         Err(error) => Ok(told::refused(alloc, &error)?),
     }
 }
 
-fn nsec_told(row: &Row, nsec: &Nsec) -> Result<String, RowError> {
+fn nsec_told(row: &Row, nsec: &Nsec<'_>) -> Result<String, RowError> {
     let next = &nsec.next;
     let types = told::types(row, 1, &nsec.types)?;
     Ok(format!(in row.alloc(); "next {next} {types}")?)
@@ -69,13 +69,13 @@ fn nsec_told(row: &Row, nsec: &Nsec) -> Result<String, RowError> {
 fn nsec3(row: &Row) -> Result<String, RowError> {
     let alloc = row.alloc();
     let rdata = row.octets(0)?;
-    match Nsec3::read(alloc, rdata.as_slice()) {
+    match Nsec3::read(rdata.as_slice()) {
         Ok(nsec3) => nsec3_told(row, &nsec3),
         Err(error) => Ok(told::refused(alloc, &error)?),
     }
 }
 
-fn nsec3_told(row: &Row, nsec3: &Nsec3) -> Result<String, RowError> {
+fn nsec3_told(row: &Row, nsec3: &Nsec3<'_>) -> Result<String, RowError> {
     let alloc = row.alloc();
     let algorithm = nsec3.algorithm.0;
     let flags = nsec3.flags.0;
@@ -85,7 +85,7 @@ fn nsec3_told(row: &Row, nsec3: &Nsec3) -> Result<String, RowError> {
     Ok(format!(in alloc; "algorithm {algorithm} flags {flags} {parameters} next {hash} {types}")?)
 }
 
-fn parameters_told(alloc: Global, parameters: &Nsec3Parameters) -> Result<String, AllocError> {
+fn parameters_told(alloc: Global, parameters: &Nsec3Parameters<'_>) -> Result<String, AllocError> {
     let iterations = parameters.iterations.0;
     let salt = told::octets(alloc, &parameters.salt)?;
     format!(in alloc; "iterations {iterations} salt {salt}")
@@ -95,7 +95,7 @@ fn parameters_told(alloc: Global, parameters: &Nsec3Parameters) -> Result<String
 fn usable_nsec3(row: &Row) -> Result<String, RowError> {
     let alloc = row.alloc();
     let rdata = row.octets(0)?;
-    let nsec3 = match Nsec3::read(alloc, rdata.as_slice()) {
+    let nsec3 = match Nsec3::read(rdata.as_slice()) {
         Ok(nsec3) => nsec3,
         Err(error) => return Ok(told::refused(alloc, &error)?),
     };
@@ -116,8 +116,9 @@ fn usable_told(row: &Row, usable: &UsableNsec3<'_>) -> Result<String, RowError> 
 
 /// `nsec3_parameters OCTETS OCTETS`: how the parameters of two records compare.
 fn parameters_compared(row: &Row) -> Result<String, RowError> {
-    let one = nsec3_of(row, 0)?;
-    let other = nsec3_of(row, 1)?;
+    let (one, other) = (row.octets(0)?, row.octets(1)?);
+    let one = nsec3_of(one.as_slice())?;
+    let other = nsec3_of(other.as_slice())?;
     let order = match one.parameters.cmp(&other.parameters) {
         Ordering::Less => "<",
         Ordering::Equal => "=",
@@ -126,9 +127,9 @@ fn parameters_compared(row: &Row) -> Result<String, RowError> {
     Ok(String::from_str(row.alloc(), order)?)
 }
 
-/// The record whose RDATA the argument is.
-fn nsec3_of(row: &Row, place: usize) -> Result<Nsec3, RowError> {
-    match Nsec3::read(row.alloc(), row.octets(place)?.as_slice()) {
+/// The record whose RDATA the octets are.
+fn nsec3_of(rdata: &[u8]) -> Result<Nsec3<'_>, RowError> {
+    match Nsec3::read(rdata) {
         Ok(nsec3) => Ok(nsec3),
         Err(_) => Err(RowError::Malformed),
     }

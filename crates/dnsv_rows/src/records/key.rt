@@ -29,13 +29,13 @@ pub fn answer(row: &Row) -> Result<Option<String>, RowError> {
 fn dnskey(row: &Row) -> Result<String, RowError> {
     let alloc = row.alloc();
     let rdata = row.octets(0)?;
-    match Dnskey::read(alloc, rdata.as_slice()) {
+    match Dnskey::read(rdata.as_slice()) {
         Ok(key) => Ok(dnskey_told(alloc, &key)?),
         Err(error) => Ok(told::refused(alloc, &error)?),
     }
 }
 
-fn dnskey_told(alloc: Global, dnskey: &Dnskey) -> Result<String, AllocError> {
+fn dnskey_told(alloc: Global, dnskey: &Dnskey<'_>) -> Result<String, AllocError> {
     let flags = dnskey.flags.0;
     let protocol = dnskey.protocol;
     let algorithm = dnskey.algorithm.0;
@@ -59,13 +59,13 @@ fn is_supported(row: &Row) -> Result<String, RowError> {
 fn ds(row: &Row) -> Result<String, RowError> {
     let alloc = row.alloc();
     let rdata = row.octets(0)?;
-    match Ds::read(alloc, rdata.as_slice()) {
+    match Ds::read(rdata.as_slice()) {
         Ok(ds) => Ok(ds_told(alloc, &ds)?),
         Err(error) => Ok(told::refused(alloc, &error)?),
     }
 }
 
-fn ds_told(alloc: Global, ds: &Ds) -> Result<String, AllocError> {
+fn ds_told(alloc: Global, ds: &Ds<'_>) -> Result<String, AllocError> {
     let tag = ds.key_tag.0;
     let algorithm = ds.algorithm.0;
     let digest_type = ds.digest_type.0;
@@ -78,21 +78,21 @@ fn ds_told(alloc: Global, ds: &Ds) -> Result<String, AllocError> {
 fn rrsig(row: &Row) -> Result<String, RowError> {
     let alloc = row.alloc();
     let rdata = row.octets(0)?;
-    match Rrsig::read(alloc, rdata.as_slice()) {
+    match Rrsig::read(rdata.as_slice()) {
         Ok(rrsig) => Ok(rrsig_told(alloc, &rrsig)?),
         Err(error) => Ok(told::refused(alloc, &error)?),
     }
 }
 
-fn rrsig_told(alloc: Global, rrsig: &Rrsig) -> Result<String, AllocError> {
+fn rrsig_told(alloc: Global, rrsig: &Rrsig<'_>) -> Result<String, AllocError> {
     let front = rrsig_front(alloc, rrsig)?;
     let times = rrsig_times(alloc, rrsig)?;
-    let signer = &rrsig.signer;
+    let signer = rrsig.signer.to_name();
     let signature = told::octets(alloc, &rrsig.signature)?;
     format!(in alloc; "{front} {times} signer {signer} signature {signature}")
 }
 
-fn rrsig_front(alloc: Global, rrsig: &Rrsig) -> Result<String, AllocError> {
+fn rrsig_front(alloc: Global, rrsig: &Rrsig<'_>) -> Result<String, AllocError> {
     let covered = rrsig.type_covered.0;
     let algorithm = rrsig.algorithm.0;
     let labels = rrsig.labels;
@@ -100,7 +100,7 @@ fn rrsig_front(alloc: Global, rrsig: &Rrsig) -> Result<String, AllocError> {
     format!(in alloc; "covers {covered} algorithm {algorithm} labels {labels} ttl {ttl}")
 }
 
-fn rrsig_times(alloc: Global, rrsig: &Rrsig) -> Result<String, AllocError> {
+fn rrsig_times(alloc: Global, rrsig: &Rrsig<'_>) -> Result<String, AllocError> {
     let expiration = rrsig.expiration.0;
     let inception = rrsig.inception.0;
     let tag = rrsig.key_tag.0;

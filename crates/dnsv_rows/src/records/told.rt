@@ -9,7 +9,7 @@ use std::alloc::{AllocError, Global};
 const LONG: usize = 64;
 
 /// Octets in hex; many of the same octet as rows write them, `01^65531`.
-pub fn octets(alloc: Global, octets: &Octets) -> Result<String, AllocError> {
+pub fn octets(alloc: Global, octets: &Octets<'_>) -> Result<String, AllocError> {
     let all = octets.as_slice();
     let count = all.len();
     match all.first() {
@@ -31,7 +31,7 @@ fn are_all(octets: &[u8], one: u8) -> bool {
 }
 
 /// How many octets spell the set, and which of the types that the row names from the place on are in it.
-pub fn types(row: &Row, from: usize, types: &TypeBitmap) -> Result<String, RowError> {
+pub fn types(row: &Row, from: usize, types: &TypeBitmap<'_>) -> Result<String, RowError> {
     let alloc = row.alloc();
     let size = types.write().len();
     let mut text = format!(in alloc; "octets {size} types")?;

@@ -8,17 +8,17 @@ use crate::entry::parts::SignaturePart;
 use crate::key::KeyRecord;
 use crate::key::keys::Keys;
 use crate::key::numbered::Numbered;
+use bumpalo::Bump;
 use dnsv_canonical::{Rrset, signed_data};
 use dnsv_records::{Octets, Rrsig};
 use std::alloc::{AllocError, Global};
 use std::marker::Model;
-use std::rc::Rc;
 
 /// A signature that lies elsewhere, with what it gives to its entries.
 #[derive(Drop)]
 pub(crate) struct Made<'a> {
-    pub(crate) rrsig: &'a Rrsig,
-    pub(crate) part: Rc<SignaturePart>,
+    pub(crate) rrsig: &'a Rrsig<'a>,
+    pub(crate) part: SignaturePart<'a>,
 }
 
 impl<'a> Model for Made<'a> {
@@ -26,7 +26,7 @@ impl<'a> Model for Made<'a> {
 
     ghost Value = { MadeSignature };
 
-    ghost view = { λ made. record { rrsig = made.rrsig.now; part = made.part.value } };
+    ghost view = { λ made. record { rrsig = made.rrsig.now; part = made.part } };
 }
 
 impl<'a> Made<'a> {
@@ -35,13 +35,19 @@ impl<'a> Made<'a> {
         ensures { result ≡ record { name = named_by self.now.rrsig; number = number } }
     {
         let rrsig = self.rrsig;
-        Numbered::new(rrsig.key_tag, rrsig.algorithm, &rrsig.signer, number)
+        Numbered::new(
+            rrsig.key_tag,
+            rrsig.algorithm,
+            rrsig.signer.copied(),
+            number,
+        )
     }
 }
 
 /// The signatures of the RRsets that can be verified at the moment, and that some key may have made.
 pub(crate) fn made_signatures<'a>(
     alloc: Global,
+    bump: &'a Bump,
     moment: u64,
     keys: &Keys<'_>,
     rrsets: &'a [Rrset<'a>],
@@ -50,7 +56,7 @@ pub(crate) fn made_signatures<'a>(
 {
     let mut made = Vec::new(alloc);
     for rrset in rrsets {
-        add_rrset(alloc, moment, keys, rrset, &mut made)?;
+        add_rrset(alloc, bump, moment, keys, rrset, &mut made)?;
     }
     Ok(made)
 }
@@ -58,6 +64,7 @@ pub(crate) fn made_signatures<'a>(
 /// Adds such signatures of the RRset.
 fn add_rrset<'a>(
     alloc: Global,
+    bump: &'a Bump,
     moment: u64,
     keys: &Keys<'_>,
     rrset: &'a Rrset<'a>,
@@ -66,7 +73,7 @@ fn add_rrset<'a>(
     ensures { OnOk result (AddsJust (IsMadeIn moment keys.now rrset.now) made.old.items made.new.items) }
 {
     for rrsig in rrset.signatures() {
-        add_signature(alloc, moment, keys, rrset, rrsig, made)?;
+        add_signature(alloc, bump, moment, keys, rrset, rrsig, made)?;
     }
     Ok(())
 }
@@ -74,10 +81,11 @@ fn add_rrset<'a>(
 /// Adds the signature if it is such.
 fn add_signature<'a>(
     alloc: Global,
+    bump: &'a Bump,
     moment: u64,
     keys: &Keys<'_>,
     rrset: &Rrset<'_>,
-    rrsig: &'a Rrsig,
+    rrsig: &'a Rrsig<'a>,
     made: &mut Vec<Made<'a>>,
 ) -> Result<(), AllocError>
     ensures { OnOk result (AddsJust (IsMadeOf moment keys.now rrset.now rrsig.now) made.old.items made.new.items) }
@@ -88,36 +96,35 @@ fn add_signature<'a>(
     if !is_made_by_some(keys, rrsig) {
         return Ok(());
     }
-    let Some(part) = part_of(alloc, rrset, rrsig)? else {
+    let Some(part) = part_of(alloc, bump, rrset, rrsig)? else {
         return Ok(());
     };
-    made.push(Made {
-        rrsig,
-        part: Rc::new(alloc, part)?,
-    })?;
+    made.push(Made { rrsig, part })?;
     Ok(())
 }
 
 /// Whether one of the keys may have made the signature.
-fn is_made_by_some(keys: &Keys<'_>, rrsig: &Rrsig) -> bool
+fn is_made_by_some(keys: &Keys<'_>, rrsig: &Rrsig<'_>) -> bool
     ensures { IsTrue result ↔ IsMadeBySome keys.now rrsig.now }
 {
     is_made_by_one(keys.named_by(rrsig), rrsig)
 }
 
 /// Whether one of these keys may have made the signature.
-fn is_made_by_one(keys: &[KeyRecord<'_>], rrsig: &Rrsig) -> bool
+fn is_made_by_one(keys: &[KeyRecord<'_>], rrsig: &Rrsig<'_>) -> bool
     ensures { IsTrue result ↔ IsMadeBySome keys.now rrsig.now }
 {
     keys.iter().any(|key| may_have_made(key, rrsig))
 }
 
-/// What the signature gives to its entries. `None` where Labels is above the owner's count of labels.
-fn part_of(
+/// What the signature gives to its entries, its signed data in the arena. `None` where Labels is above the owner's
+/// count of labels.
+fn part_of<'a>(
     alloc: Global,
+    bump: &'a Bump,
     rrset: &Rrset<'_>,
-    rrsig: &Rrsig,
-) -> Result<Option<SignaturePart>, AllocError>
+    rrsig: &'a Rrsig<'a>,
+) -> Result<Option<SignaturePart<'a>>, AllocError>
     ensures { IfOk result (λ found. MatchOption found (signed_label_count rrset.now.owner < rrsig.now.labels)
         (IsPartOf rrset.now rrsig.now)) }
 {
@@ -125,7 +132,7 @@ fn part_of(
         return Ok(None);
     };
     Ok(Some(SignaturePart {
-        signed_data: Octets::from_vec(octets),
-        signature: Octets::copy_of(alloc, rrsig.signature.as_slice())?,
+        signed_data: Octets::of(bump.try_alloc_slice_copy(&octets)?),
+        signature: rrsig.signature.copied(),
     }))
 }

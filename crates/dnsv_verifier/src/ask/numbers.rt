@@ -17,7 +17,7 @@ pub(crate) fn entry_numbers(
     alloc: Global,
     keys: &[KeyRecord<'_>],
     made: &[Made<'_>],
-    parts: &Parts,
+    parts: &Parts<'_>,
 ) -> Result<Vec<EntryNumbers>, AllocError>
     requires keys { (key : DnskeyRecord) → Contains keys.now key → Contains parts.now.keys (part_of_key key) }
     requires made { (each : MadeSignature) → Contains made.now each → Contains parts.now.signatures each.part }
@@ -35,7 +35,7 @@ pub(crate) fn entry_numbers(
 fn numbered_keys<'a>(
     alloc: Global,
     keys: &[KeyRecord<'a>],
-    parts: &Parts,
+    parts: &Parts<'_>,
 ) -> Result<Vec<Numbered<'a>>, AllocError>
     requires { (key : DnskeyRecord) → Contains keys.now key → Contains parts.now.keys (part_of_key key) }
     ensures { IfOk result (λ numbered. GivesEach (IsNumberedKey parts.now) CanSign keys.now numbered.items) }
@@ -51,7 +51,7 @@ fn numbered_keys<'a>(
 /// Adds the key if it can sign.
 fn add_key<'a>(
     key: &KeyRecord<'a>,
-    parts: &Parts,
+    parts: &Parts<'_>,
     numbered: &mut Vec<Numbered<'a>>,
 ) -> Result<(), AllocError>
     requires { Contains parts.now.keys (part_of_key key.now) }
@@ -68,7 +68,7 @@ fn add_key<'a>(
 fn numbered_signatures<'a>(
     alloc: Global,
     made: &[Made<'a>],
-    parts: &Parts,
+    parts: &Parts<'_>,
 ) -> Result<Vec<Numbered<'a>>, AllocError>
     requires { (each : MadeSignature) → Contains made.now each → Contains parts.now.signatures each.part }
     ensures are { IfOk result (λ numbered. GivesEach (IsNumberedSignature parts.now) IsAny made.now numbered.items) }
@@ -86,7 +86,7 @@ fn numbered_signatures<'a>(
 /// Adds the signature.
 fn add_signature<'a>(
     made: &Made<'a>,
-    parts: &Parts,
+    parts: &Parts<'_>,
     numbered: &mut Vec<Numbered<'a>>,
 ) -> Result<(), AllocError>
     requires { Contains parts.now.signatures made.now.part }

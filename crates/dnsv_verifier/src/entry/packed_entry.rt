@@ -6,9 +6,9 @@ ghost use Rattle.std.proofs.lemmas.Cmp.{eq_by_cmp_equiv};
 ghost use Rattle.hex.specs.Hex.{decode_of};
 ghost use Rattle.dnsv_verifier.specs.Entry.{entry_cmp};
 
-use crate::entry::borrowed_entry::BorrowedEntry;
+use crate::entry::Entry;
 use crate::hex_field::push_decoded;
-use dnsv_records::Algorithm;
+use dnsv_records::{Algorithm, Octets};
 use std::alloc::{AllocError, Global};
 use std::cmp::Ordering;
 use std::marker::Model;
@@ -73,16 +73,16 @@ impl PackedEntry {
         })
     }
 
-    /// The same entry, without its octets.
-    pub(crate) fn borrowed(&self) -> BorrowedEntry<'_>
+    /// The entry, whose octets stay where they are.
+    pub(crate) fn entry(&self) -> Entry<'_>
         ensures { result ≡ self.now }
     {
-        BorrowedEntry::of(
-            self.algorithm,
-            &self.octets[..self.data_at],
-            &self.octets[self.data_at..self.signature_at],
-            &self.octets[self.signature_at..],
-        )
+        Entry {
+            algorithm: self.algorithm,
+            key: Octets::of(&self.octets[..self.data_at]),
+            signed_data: Octets::of(&self.octets[self.data_at..self.signature_at]),
+            signature: Octets::of(&self.octets[self.signature_at..]),
+        }
     }
 }
 
@@ -98,7 +98,7 @@ impl Ord for PackedEntry {
     ghost matches_eq = { λ a b. refl };
 
     fn cmp(&self, other: &PackedEntry) -> Ordering {
-        self.borrowed().stands_to(&other.borrowed())
+        self.entry().stands_to(&other.entry())
     }
 }
 

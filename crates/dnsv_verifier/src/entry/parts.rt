@@ -1,28 +1,30 @@
 //! What entries are made of, each part kept once and numbered by its order.
-ghost use Rattle.std.specs.Prelude.{◌≡◌, ◌<◌, Contains, IfOk, length, map};
-ghost use Rattle.dnsv_verifier.specs.Numbers.{entry_of, key_cmp, key_of, signature_of};
+ghost use Rattle.std.specs.Prelude.{◌≡◌, ◌<◌, Contains, IfOk, length};
+ghost use Rattle.std.specs.List.Sorted.{IsStrictlySortedBy};
+ghost use Rattle.dnsv_verifier.specs.Numbers.{entry_of, key_cmp, key_of, signature_cmp, signature_of};
 ghost use Rattle.dnsv_verifier.specs.declared.entry.parts.KeyPart.{KeyPart};
 ghost use Rattle.dnsv_verifier.specs.declared.entry.parts.SignaturePart.{SignaturePart};
 
-use crate::entry::borrowed_entry::BorrowedEntry;
+use crate::entry::Entry;
+use bumpalo::Bump;
+use bumpalo::collections::into_bump_slice;
 use dnsv_names::compare_octets;
 use dnsv_records::{Algorithm, Octets};
 use std::alloc::AllocError;
 use std::cmp::Ordering;
 use std::marker::Model;
-use std::rc::Rc;
 
 /// The most parts of a kind that have numbers.
 const LIMIT: usize = 1 << 32;
 
 /// What a key gives to the entries that it has. Such parts are ordered by algorithm and key.
 #[derive(Debug, PartialEq, Eq, PartialOrd, Ord, Drop)]
-pub(crate) struct KeyPart {
+pub(crate) struct KeyPart<'b> {
     pub(crate) algorithm: Algorithm,
-    pub(crate) key: Octets,
+    pub(crate) key: Octets<'b>,
 }
 
-impl KeyPart {
+impl KeyPart<'_> {
     /// How the part stands to one of this algorithm and key.
     fn compared(&self, algorithm: Algorithm, key: &[u8]) -> Ordering
         ensures { result ≡ key_cmp self.now (record { algorithm = algorithm; key = key.now }) }
@@ -38,9 +40,21 @@ impl KeyPart {
 /// What a signature gives to the entries that it has, one for each key. Such parts are ordered by signed data and
 /// signature.
 #[derive(Debug, PartialEq, Eq, PartialOrd, Ord, Drop)]
-pub(crate) struct SignaturePart {
-    pub(crate) signed_data: Octets,
-    pub(crate) signature: Octets,
+pub(crate) struct SignaturePart<'b> {
+    pub(crate) signed_data: Octets<'b>,
+    pub(crate) signature: Octets<'b>,
+}
+
+impl<'b> SignaturePart<'b> {
+    /// The part again, whose octets stand where they stood.
+    pub(crate) fn copied(&self) -> SignaturePart<'b>
+        ensures { result ≡ self.now }
+    {
+        SignaturePart {
+            signed_data: self.signed_data.copied(),
+            signature: self.signature.copied(),
+        }
+    }
 }
 
 /// An entry by the numbers of its parts. Entries rise as their numbers do, that of the key first.
@@ -52,38 +66,40 @@ pub(crate) struct EntryNumbers {
 
 /// The parts of entries, each once. Both kinds rise, so that a part's number is its place.
 #[derive(Debug, Drop)]
-pub(crate) struct Parts {
-    keys: Vec<KeyPart>,
-    signatures: Vec<Rc<SignaturePart>>,
+pub(crate) struct Parts<'b> {
+    keys: &'b [KeyPart<'b>],
+    signatures: &'b [SignaturePart<'b>],
 }
 
-impl Model for Parts {
-    ghost use Rattle.std.specs.Prelude.{◌≤◌, length, map};
+impl<'b> Model for Parts<'b> {
+    ghost use Rattle.std.specs.Prelude.{◌≤◌, length};
     ghost use Rattle.std.specs.List.Sorted.{IsStrictlySortedBy};
     ghost use Rattle.dnsv_verifier.specs.Numbers.{PartLists, key_cmp, signature_cmp};
 
     ghost Value = { PartLists };
 
     ghost view = { λ parts. record {
-      keys = parts.keys.items;
-      signatures = map (λ part. part.value) parts.signatures.items;
+      keys = parts.keys.now;
+      signatures = parts.signatures.now;
     } };
 
-    ghost invariant = { λ parts. IsStrictlySortedBy key_cmp parts.keys.items
-        × IsStrictlySortedBy signature_cmp (map (λ part. part.value) parts.signatures.items)
-        × (length parts.keys.items ≤ 4294967296) × (length parts.signatures.items ≤ 4294967296) };
+    ghost invariant = { λ parts. IsStrictlySortedBy key_cmp parts.keys.now
+        × IsStrictlySortedBy signature_cmp parts.signatures.now
+        × (length parts.keys.now ≤ 4294967296) × (length parts.signatures.now ≤ 4294967296) };
 }
 
-impl Parts {
+impl<'b> Parts<'b> {
     /// The parts of these lists, each once. More than 2^32 of either are refused as want of memory.
     pub(crate) fn of(
-        keys: Vec<KeyPart>,
-        signatures: Vec<Rc<SignaturePart>>,
-    ) -> Result<Parts, AllocError>
-        ensures keys { IfOk result (λ parts. (part : KeyPart) → Contains keys.items part
+        keys: Vec<KeyPart<'b>, &'b Bump>,
+        signatures: Vec<SignaturePart<'b>, &'b Bump>,
+    ) -> Result<Parts<'b>, AllocError>
+        ensures keys { IfOk result (λ parts. (part : KeyPart) → Contains keys.entry.items part
             → Contains parts.keys part) }
         ensures signatures { IfOk result (λ parts. (part : SignaturePart)
-            → Contains (map (λ each. each.value) signatures.items) part → Contains parts.signatures part) }
+            → Contains signatures.entry.items part → Contains parts.signatures part) }
+        ensures rising { IfOk result (λ parts. IsStrictlySortedBy key_cmp parts.keys
+            × IsStrictlySortedBy signature_cmp parts.signatures) }
     {
         let mut keys = keys;
         let mut signatures = signatures;
@@ -94,7 +110,20 @@ impl Parts {
         if keys.len() > LIMIT || signatures.len() > LIMIT {
             return Err(AllocError);
         }
-        Ok(Parts { keys, signatures })
+        Ok(Parts {
+            keys: into_bump_slice(keys),
+            signatures: into_bump_slice(signatures),
+        })
+    }
+
+    /// The parts again, which stand where they stood.
+    pub(crate) fn copied(&self) -> Parts<'b>
+        ensures { result ≡ self.now }
+    {
+        Parts {
+            keys: self.keys,
+            signatures: self.signatures,
+        }
     }
 
     /// The number of a key that is one of the parts.
@@ -113,12 +142,12 @@ impl Parts {
     }
 
     /// The number of what a signature gives, which is one of the parts.
-    pub(crate) fn signature_number(&self, part: &SignaturePart) -> u32
+    pub(crate) fn signature_number(&self, part: &SignaturePart<'_>) -> u32
         requires { Contains self.now.signatures part.now }
         ensures value { signature_of self.now result ≡ part.now }
         ensures within { result < length self.now.signatures }
     {
-        let place = self.signatures.binary_search_by(|each| (**each).cmp(part));
+        let place = self.signatures.binary_search_by(|each| each.cmp(part));
         let Ok(place) = place else {
             unreachable!();
         };
@@ -126,12 +155,17 @@ impl Parts {
     }
 
     /// The entry of the numbers, and one without octets where they are of nothing.
-    pub(crate) fn entry(&self, numbers: EntryNumbers) -> BorrowedEntry<'_>
+    pub(crate) fn entry(&self, numbers: EntryNumbers) -> Entry<'_>
         ensures { result ≡ entry_of self.now numbers }
     {
         let (algorithm, key) = self.key_at(numbers.key as usize);
         let (signed_data, signature) = self.signature_at(numbers.signature as usize);
-        BorrowedEntry::of(algorithm, key, signed_data, signature)
+        Entry {
+            algorithm,
+            key: Octets::of(key),
+            signed_data: Octets::of(signed_data),
+            signature: Octets::of(signature),
+        }
     }
 
     /// The key at the place.

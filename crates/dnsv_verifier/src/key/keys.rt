@@ -46,20 +46,19 @@ impl<'a> Keys<'a> {
     }
 
     /// The keys that the signature names.
-    pub(crate) fn named_by(&self, rrsig: &Rrsig) -> &[KeyRecord<'a>]
+    pub(crate) fn named_by(&self, rrsig: &Rrsig<'_>) -> &[KeyRecord<'a>]
         ensures among { (key : DnskeyRecord) → Contains result.now key → Contains self.now key }
         ensures all { (key : DnskeyRecord) → Contains self.now key → MayHaveMade key rrsig.now
             → Contains result.now key }
     {
         let keys = self.keys.as_slice();
+        let signer = &rrsig.signer.to_name();
         let start = keys.partition_point(|key| {
-            key.compared(rrsig.key_tag, rrsig.algorithm, &rrsig.signer)
-                .is_lt()
+            key.compared(rrsig.key_tag, rrsig.algorithm, signer).is_lt()
         });
         let keys = &keys[start..];
         let count = keys.partition_point(|key| {
-            key.compared(rrsig.key_tag, rrsig.algorithm, &rrsig.signer)
-                .is_le()
+            key.compared(rrsig.key_tag, rrsig.algorithm, signer).is_le()
         });
         &keys[..count]
     }

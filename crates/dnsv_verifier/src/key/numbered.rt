@@ -3,7 +3,7 @@ ghost use Rattle.std.specs.Prelude.{◌≡◌, ◌<◌, Contains};
 ghost use Rattle.std.specs.List.Sorted.{IsSortedByKey};
 ghost use Rattle.dnsv_verifier.specs.Asking.{NumberedName, key_name_cmp};
 
-use dnsv_names::Name;
+use dnsv_names::WireName;
 use dnsv_records::{Algorithm, KeyTag};
 use std::cmp::Ordering;
 use std::marker::Model;
@@ -13,7 +13,7 @@ use std::marker::Model;
 pub(crate) struct Numbered<'a> {
     key_tag: KeyTag,
     algorithm: Algorithm,
-    owner: &'a Name,
+    owner: WireName<'a>,
     number: u32,
 }
 
@@ -23,7 +23,7 @@ impl<'a> Model for Numbered<'a> {
     ghost Value = { NumberedName };
 
     ghost view = { λ each. record {
-      name = record { tag = each.key_tag.0; algorithm = each.algorithm.0; owner = each.owner.now };
+      name = record { tag = each.key_tag.0; algorithm = each.algorithm.0; owner = each.owner };
       number = each.number;
     } };
 }
@@ -33,11 +33,11 @@ impl<'a> Numbered<'a> {
     pub(crate) fn new(
         key_tag: KeyTag,
         algorithm: Algorithm,
-        owner: &'a Name,
+        owner: WireName<'a>,
         number: u32,
     ) -> Numbered<'a>
         ensures { result ≡ record {
-          name = record { tag = key_tag.0; algorithm = algorithm.0; owner = owner.now };
+          name = record { tag = key_tag.0; algorithm = algorithm.0; owner = owner.entry };
           number = number;
         } }
     {
@@ -61,12 +61,16 @@ impl<'a> Numbered<'a> {
         ensures { result ≡ key_name_cmp self.now.name other.now.name }
     {
         let (algorithm, other_algorithm) = (self.algorithm, other.algorithm);
-        let (owner, other_owner) = (self.owner, other.owner);
-        self.key_tag
+        let order = self
+            .key_tag
             .0
             .cmp(&other.key_tag.0)
-            .then_with(|| algorithm.0.cmp(&other_algorithm.0))
-            .then_with(|| owner.cmp(other_owner))
+            .then_with(|| algorithm.0.cmp(&other_algorithm.0));
+        match order {
+            Ordering::Less => Ordering::Less,
+            Ordering::Equal => self.owner.canonical_cmp(&other.owner),
+            Ordering::Greater => Ordering::Greater,
+        }
     }
 }
 

@@ -1,9 +1,9 @@
-use Rattle.std.proofs.Common.{[]}
+use Rattle.std.proofs.Common.{[], refl}
 use Rattle.dnsv_canonical.proofs.ListLemmas.{each_borrowed, read_more}
 use Rattle.dnsv_canonical.proofs.records.read_each.Goals as goal
 
 pub read_one-requires : goal.read_one-requires
-read_one-requires g c = each_borrowed _ c.args.received.now c.loop-rdata.rdata-index _ c.requires c.loop-rdata-test.true
+read_one-requires g c = λ k. ((refl, tt), each_borrowed _ c.args.received.now c.loop-rdata.rdata-index _ c.requires c.loop-rdata-test.true)
 
 pub loop-rdata-preserved : goal.loop-rdata-preserved
 loop-rdata-preserved g c =

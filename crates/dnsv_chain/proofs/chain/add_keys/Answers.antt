@@ -2,7 +2,7 @@ use Rattle.std.proofs.Common.{◌≡◌, ◌++◌, ◌∷◌, [], List, ℕ, if�
 use Rattle.std.proofs.lemmas.List.Elements.{Contains-append_left}
 use Rattle.std.specs.List.{Contains}
 use Rattle.dnsv_names.specs.Name.{Labels, same_name}
-use Rattle.dnsv_names.specs.declared.order.by_wire.ByWire.{ByWire}
+use Rattle.dnsv_chain.specs.declared.by_owner.key.OwnerKey.{OwnerKey}
 use Rattle.dnsv_records.specs.declared.dnskey.Dnskey.{Dnskey}
 use Rattle.dnsv_verifier.proofs.KeyLemmas.{reads_as}
 use Rattle.dnsv_verifier.specs.Admissible.{DnskeyRecord}
@@ -30,8 +30,8 @@ loop-place-preserved c =
     let i : ℕ = c.loop-place.place in
     let dnskeys = c.dnskeys-dnskey-items.result.now in
     let rdata = c.rdata-rdata.result.now in
-    let owner : c.owner.result.now ≡ set.owner = c.owner.ensures in
-    let key : ByWire × (List ℕ × Dnskey) = (record { 0 = c.owner.result }, c.new.result) in
+    let owner : c.of.result ≡ set.owner = c.of.ensures ∙ c.owner.ensures in
+    let key : OwnerKey × (List ℕ × Dnskey) = (record { 0 = c.of.result }, c.new.result) in
     let octets : key.1.0 ≡ rdata = ap (λ (each : List ℕ × Dnskey). each.0) c.new.ensures in
     elim c.if-branch.branch [
       | then-branch+in_ok-add w ↦
@@ -46,7 +46,7 @@ loop-place-preserved c =
             known = known_more new newer c.loop-place.known c.insert.new.self key c.loop-place.invariant.known c.in_ok-insert.ensures.updates
                 (λ zone k among. subst (λ (keys : List DnskeyRecord). Contains keys k) (sym (adds zone)) (Contains-append_left (new zone) (if same_name zone set.owner then w.new-key.result ∷ [] else []) k among))
                 (λ a b same. values_same w.add.new.by_owner a b same)
-                (subst (λ (each : List ℕ). HasRdata (newer c.owner.result.now) each) (sym octets)
+                (subst (λ (each : List ℕ). HasRdata (newer c.of.result) each) (sym octets)
                 (subst (λ (name : Labels). HasRdata (newer name) rdata) (sym owner)
                 (subst (λ (octets : List ℕ). HasRdata (newer set.owner) octets) (ap (λ (k : DnskeyRecord). k.rdata) made)
                 (added_key set.owner w.new-key.result (new set.owner) (newer set.owner) (adds set.owner)))));

@@ -14,10 +14,10 @@ loop-zone-preserved c =
     let entries = c.args.keys.now.entries in
     let rest = c.next.new.self in
     let first = rest_more deref_pair c.loop-zone.zone-iterator rest c.next.result (c.in-Some.zone, c.in-Some.records) c.in-Some.is c.next.ensures.steps in
-    let name : c.in_ok-clone.field-0 ≡ c.in-Some.zone.now.0.now = search rules in
+    let name : c.to_name.result ≡ c.in-Some.zone.now.0 = search rules in
     let keys : AreKeysOf c.in-Some.records.now.items c.in_ok-distinct_keys.field-0.items =
     subst (λ (records : List DnskeyRecord). AreKeysOf records c.in_ok-distinct_keys.field-0.items) c.as_slice.ensures.value c.in_ok-distinct_keys.ensures in
     subst (λ (zones : List (Labels × List Dnskey)). AreZonesBefore entries rest zones)
-    (sym (ap (map (λ each. (each.zone, each.keys.items))) c.in_ok-push.ensures.items ∙ map-append (λ each. (each.zone, each.keys.items)) c.loop-zone.zones.items (record { zone = c.in_ok-clone.field-0; keys = c.in_ok-distinct_keys.field-0 } ∷ [])))
-    (zone_more entries rest (c.in-Some.zone.now, c.in-Some.records.now) (map (λ each. (each.zone, each.keys.items)) c.loop-zone.zones.items) (c.in_ok-clone.field-0, c.in_ok-distinct_keys.field-0.items) (name, keys)
+    (sym (ap (map (λ each. (each.zone, each.keys.items))) c.in_ok-push.ensures.items ∙ map-append (λ each. (each.zone, each.keys.items)) c.loop-zone.zones.items (record { zone = c.to_name.result; keys = c.in_ok-distinct_keys.field-0 } ∷ [])))
+    (zone_more entries rest (c.in-Some.zone.now, c.in-Some.records.now) (map (λ each. (each.zone, each.keys.items)) c.loop-zone.zones.items) (c.to_name.result, c.in_ok-distinct_keys.field-0.items) (name, keys)
     (rw (← first) c.loop-zone.invariant))

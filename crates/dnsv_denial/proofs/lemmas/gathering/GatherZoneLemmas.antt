@@ -1,5 +1,5 @@
 -- Zones and parameters that are gathered one after another.
-use Rattle.std.proofs.Common.{◌≡◌, ◌↔◌, ◌&&◌, Bor, Bool, true, ℕ, zero, suc, ◌+◌, ◌<◌, ◌≤◌, List, [], ◌∷◌, ◌++◌, length, get_or, map, take, refl, sym, ap, ◌∙◌, subst, arith, length-append}
+use Rattle.std.proofs.Common.{◌≡◌, ◌↔◌, ◌&&◌, Bool, true, ℕ, zero, suc, ◌+◌, ◌<◌, ◌≤◌, List, [], ◌∷◌, ◌++◌, length, get_or, map, take, refl, sym, ap, ◌∙◌, subst, arith, length-append}
 use Rattle.std.proofs.lemmas.Bool.{and_from, and_parts, eqb-true}
 use Rattle.std.proofs.lemmas.Cmp.{nat_eq_equiv, lists_equiv, on_total}
 use Rattle.std.proofs.lemmas.List.{map-append, take_all, take_more}
@@ -24,6 +24,7 @@ use Rattle.dnsv_canonical.proofs.CanonicalLemmas.{each_map}
 use Rattle.dnsv_canonical.specs.Rrsets.{ReceivedRrset}
 use Rattle.dnsv_denial.specs.gathering.Kept.{IsSetOf, IsZoneOf}
 use Rattle.dnsv_denial.specs.words.EvidenceWords.{parameters_cmp}
+use Rattle.dnsv_denial.specs.declared.gathering.parameters.OrderedParameters.{OrderedParameters}
 use Rattle.dnsv_denial.specs.declared.records.zone_records.NameHashes.{NameHashes}
 use Rattle.dnsv_denial.specs.declared.records.zone_records.ZoneRecords.{ZoneRecords}
 use Rattle.dnsv_denial.proofs.lemmas.proving.ZoneChainLemmas.{parameters_total}
@@ -83,45 +84,45 @@ rising_map f R [] rises = tt
 rising_map f R (x ∷ xs) rises = (each_map f (λ y. R (f x) y ≡ Less) xs rises.0, rising_map f R xs rises.1)
 
 -- what a sort and then a `dedup` leave of references to parameters
-module _ (given sorted kept : List (Bor Nsec3Parameters)) (ordered : IsSorted (λ (a b : Bor Nsec3Parameters). parameters_cmp (parameters_of a.now) (parameters_of b.now)) sorted) (is : kept ≡ dedup (λ (a b : Bor Nsec3Parameters). parameters_eq a.now b.now) sorted) where
-  pub put_in_order : IsStrictlySortedBy parameters_cmp (map parameters_of (map (λ each. each.now) kept))
-  put_in_order = rw is (rising_map parameters_of parameters_cmp _ (rising_map (λ (each : Bor Nsec3Parameters). each.now) (λ a b. parameters_cmp (parameters_of a) (parameters_of b)) _
-      (IsStrictlySortedBy-dedup (on_total (λ (each : Bor Nsec3Parameters). parameters_of each.now) parameters_total) (λ a b. ties a.now b.now) sorted ordered)))
+module _ (given sorted kept : List OrderedParameters) (ordered : IsSorted (λ (a b : OrderedParameters). parameters_cmp (parameters_of a.parameters.now) (parameters_of b.parameters.now)) sorted) (is : kept ≡ dedup (λ (a b : OrderedParameters). parameters_eq a.parameters.now b.parameters.now) sorted) where
+  pub put_in_order : IsStrictlySortedBy parameters_cmp (map parameters_of (map (λ each. each.parameters.now) kept))
+  put_in_order = rw is (rising_map parameters_of parameters_cmp _ (rising_map (λ (each : OrderedParameters). each.parameters.now) (λ a b. parameters_cmp (parameters_of a) (parameters_of b)) _
+      (IsStrictlySortedBy-dedup (on_total (λ (each : OrderedParameters). parameters_of each.parameters.now) parameters_total) (λ a b. ties a.parameters.now b.parameters.now) sorted ordered)))
 
-  pub members_in_order : IsPermutation given sorted → (x : Nsec3Parameters) → Contains (map (λ each. each.now) given) x ↔ Contains (map (λ each. each.now) kept) x
+  pub members_in_order : IsPermutation given sorted → (x : Nsec3Parameters) → Contains (map (λ each. each.parameters.now) given) x ↔ Contains (map (λ each. each.parameters.now) kept) x
   members_in_order moved x =
-      let mapped : IsPermutation (map (λ (b : Bor Nsec3Parameters). b.now) given) (map (λ (b : Bor Nsec3Parameters). b.now) sorted) = IsPermutation-map (λ b. b.now) given sorted moved in
-      let whole : map (λ (b : Bor Nsec3Parameters). b.now) kept ≡ dedup parameters_eq (map (λ b. b.now) sorted) = ap (map (λ b. b.now)) is ∙ map-dedup (λ (b : Bor Nsec3Parameters). b.now) parameters_eq sorted in (
-        λ found. rw whole (Contains-dedup parameters_equiv same_parameters (map (λ b. b.now) sorted) x
-            (Contains-permutation (map (λ b. b.now) given) (map (λ b. b.now) sorted) x mapped found)),
-        λ found. Contains-permutation (map (λ b. b.now) sorted) (map (λ b. b.now) given) x
-            (IsPermutation-sym (map (λ (b : Bor Nsec3Parameters). b.now) given) (map (λ b. b.now) sorted) mapped)
-            (Contains-from_dedup parameters_eq (map (λ b. b.now) sorted) x (subst (λ xs. Contains xs x) whole found)),
+      let mapped : IsPermutation (map (λ (b : OrderedParameters). b.parameters.now) given) (map (λ (b : OrderedParameters). b.parameters.now) sorted) = IsPermutation-map (λ b. b.parameters.now) given sorted moved in
+      let whole : map (λ (b : OrderedParameters). b.parameters.now) kept ≡ dedup parameters_eq (map (λ b. b.parameters.now) sorted) = ap (map (λ b. b.parameters.now)) is ∙ map-dedup (λ (b : OrderedParameters). b.parameters.now) parameters_eq sorted in (
+        λ found. rw whole (Contains-dedup parameters_equiv same_parameters (map (λ b. b.parameters.now) sorted) x
+            (Contains-permutation (map (λ b. b.parameters.now) given) (map (λ b. b.parameters.now) sorted) x mapped found)),
+        λ found. Contains-permutation (map (λ b. b.parameters.now) sorted) (map (λ b. b.parameters.now) given) x
+            (IsPermutation-sym (map (λ (b : OrderedParameters). b.parameters.now) given) (map (λ b. b.parameters.now) sorted) mapped)
+            (Contains-from_dedup parameters_eq (map (λ b. b.parameters.now) sorted) x (subst (λ xs. Contains xs x) whole found)),
       )
 
 -- ---- sets
 
 -- the sets of the parameters so far
-pub record AreSetsTo (name : Labels) (ordered : List (Bor Nsec3Parameters)) (i : ℕ) (sets : List NameHashes) : Type 0 where
-  pub same : map (λ set. set.parameters.now) sets ≡ map (λ each. each.now) (take i ordered)
+pub record AreSetsTo (name : Labels) (ordered : List OrderedParameters) (i : ℕ) (sets : List NameHashes) : Type 0 where
+  pub same : map (λ set. set.parameters.now) sets ≡ map (λ each. each.parameters.now) (take i ordered)
   pub hashed : AllByRecursion (IsSetOf name) sets
 
-pub no_sets : (name : Labels) (ordered : List (Bor Nsec3Parameters)) → AreSetsTo name ordered 0 []
+pub no_sets : (name : Labels) (ordered : List OrderedParameters) → AreSetsTo name ordered 0 []
 no_sets name ordered = record { same = refl; hashed = tt }
 
-pub set_more : (name : Labels) (ordered : List (Bor Nsec3Parameters)) (i : ℕ) (sets : List NameHashes) (set : NameHashes) (each : Bor Nsec3Parameters)
-    → i < length ordered → each ≡ get_or ordered i each → set.parameters.now ≡ each.now → IsSetOf name set → AreSetsTo name ordered i sets
+pub set_more : (name : Labels) (ordered : List OrderedParameters) (i : ℕ) (sets : List NameHashes) (set : NameHashes) (each : OrderedParameters)
+    → i < length ordered → each ≡ get_or ordered i each → set.parameters.now ≡ each.parameters.now → IsSetOf name set → AreSetsTo name ordered i sets
     → AreSetsTo name ordered (i + 1) (sets ++ set ∷ [])
 set_more name ordered i sets set each within is its of so_far =
     let next : take (i + 1) ordered ≡ take i ordered ++ each ∷ [] = take_more ordered i each within ∙ ap (λ e. take i ordered ++ e ∷ []) (sym is) in
     record {
       same = map-append (λ (s : NameHashes). s.parameters.now) sets (set ∷ [])
-          ∙ ap (λ front. front ++ set.parameters.now ∷ []) so_far.same ∙ ap (λ e. map (λ (b : Bor Nsec3Parameters). b.now) (take i ordered) ++ e ∷ []) its
-          ∙ sym (map-append (λ (b : Bor Nsec3Parameters). b.now) (take i ordered) (each ∷ []))
-          ∙ sym (ap (map (λ (b : Bor Nsec3Parameters). b.now)) next);
+          ∙ ap (λ front. front ++ set.parameters.now ∷ []) so_far.same ∙ ap (λ e. map (λ (b : OrderedParameters). b.parameters.now) (take i ordered) ++ e ∷ []) its
+          ∙ sym (map-append (λ (b : OrderedParameters). b.parameters.now) (take i ordered) (each ∷ []))
+          ∙ sym (ap (map (λ (b : OrderedParameters). b.parameters.now)) next);
       hashed = recursion-append (IsSetOf name) sets (set ∷ []) so_far.hashed (of, tt);
     }
 
-pub all_sets : (name : Labels) (ordered : List (Bor Nsec3Parameters)) (i : ℕ) (sets : List NameHashes) → length ordered ≤ i → AreSetsTo name ordered i sets
-    → map (λ set. set.parameters.now) sets ≡ map (λ each. each.now) ordered
-all_sets name ordered i sets whole so_far = so_far.same ∙ ap (map (λ (b : Bor Nsec3Parameters). b.now)) (take_all i ordered whole)
+pub all_sets : (name : Labels) (ordered : List OrderedParameters) (i : ℕ) (sets : List NameHashes) → length ordered ≤ i → AreSetsTo name ordered i sets
+    → map (λ set. set.parameters.now) sets ≡ map (λ each. each.parameters.now) ordered
+all_sets name ordered i sets whole so_far = so_far.same ∙ ap (map (λ (b : OrderedParameters). b.parameters.now)) (take_all i ordered whole)

@@ -1,6 +1,6 @@
 -- The first proof of a denial, zone by zone from the one with most labels.
 use Rattle.std.proofs.Common.{◌≡◌, ℕ, ◌+◌, ◌<◌, ◌≤◌, List, length, refl, sym, ap, ◌∙◌, subst, ⊎_elim, arith}
-use Rattle.std.specs.Prelude.{slice_index_or}
+use Rattle.std.specs.Prelude.{Option, Some, None, MatchOption, slice_index_or}
 use Rattle.std.proofs.lemmas.Bool.{cases_lt}
 use Rattle.std.proofs.lemmas.Option.{slice_get_read}
 use Rattle.dnsv_names.specs.Name.{IsAtOrBelow, Labels, SameName, rightmost}
@@ -122,3 +122,15 @@ kept_at Secured rrsets name apex zones n kept are count under is here =
       same = subst (λ z. SameName z apex) (sym spelled) (rightmost_same name apex under);
       is = at.1;
     }
+
+-- what the zone that is kept shows of a denial leads to what is asked of the zone as it is spelled
+pub led_at : (Secured : ℕ → ℕ → Type 0) (rrsets : List ReceivedRrset) (denial : Denial) (name apex : Labels) (kept : ZoneRecords)
+    (found : Option ShownDenial) (IsNot : Type 0) (Is : ShownDenial → Type 0)
+    → (SameName kept.zone apex → ((chain : Chain) → ¬ StandsAs Secured rrsets denial name kept.zone chain) → IsNot)
+    → ((shown : ShownDenial) → SameName kept.zone apex → kept.zone ≡ rightmost name (length apex)
+    → IsZoneProof Secured rrsets denial name kept.zone shown → Is shown)
+    → IsKeptAt Secured rrsets name apex kept
+    → MatchOption found ((chain : Chain) → ¬ StandsAs Secured rrsets denial name kept.zone chain) (IsZoneProof Secured rrsets denial name kept.zone)
+    → MatchOption found IsNot Is
+led_at Secured rrsets denial name apex kept None IsNot Is none some at told = none at.same told
+led_at Secured rrsets denial name apex kept (Some shown) IsNot Is none some at told = some shown at.same at.spelled told

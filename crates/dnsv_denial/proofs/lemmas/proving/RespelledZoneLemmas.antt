@@ -17,7 +17,7 @@ use Rattle.dnsv_denial.specs.forms.ShownUnsigned.{ShowsOptOutCloser}
 use Rattle.dnsv_denial.specs.forms.ShownUnsigned.ShowsOptOutCloser.{opt_out_closer}
 use Rattle.dnsv_denial.specs.gathering.Evidence.{IsNsecAt, IsNsec3At, IsSecuredBy}
 use Rattle.dnsv_denial.specs.gathering.Kept.{IsZoneProof}
-use Rattle.dnsv_denial.specs.proving.FirstProof.{AreRecordsOf, IsFirstNoCloser, IsFirstOfZone, ProofRecords, StandsBy}
+use Rattle.dnsv_denial.specs.proving.FirstProof.{AreRecordsOf, CanProveNoCloser, IsFirstNoCloser, IsFirstOfZone, ProofRecords, StandsBy}
 use Rattle.dnsv_denial.specs.proving.ShownDenials.{IsShownNoCloser}
 use Rattle.dnsv_denial.specs.unsigned_cuts.Cuts.{HasOptedOutNextCloser}
 use Rattle.dnsv_denial.specs.unsigned_cuts.ShownCut.{IsShownOptOutCloser}
@@ -123,6 +123,10 @@ module _ (Secured : ℕ → ℕ → Type 0) (rrsets : List ReceivedRrset) (name 
     above = above_as a b same form.above;
     next_closer = (form.next_closer.0, absent_as a b same chain (rightmost name (labels + 1)) form.next_closer.0 form.next_closer.1);
   }
+
+  pub none_closer : (a b : Labels) → SameName a b
+      → ((chain : Chain) → ¬ StandsBy Secured rrsets (λ said each. NoCloserForm said each name labels) a chain) → ¬ CanProveNoCloser Secured rrsets name labels b
+  none_closer a b same none proved = none proved.0 (closer_as b a (sym same) proved.0 proved.1)
 
   shows_as : (a b : Labels) → SameName a b → (chain : Chain) (form : ProofForm RecordNumber)
       → ShowsNoCloser number_cmp (evidence_said Secured rrsets a chain) a name labels form → ShowsNoCloser number_cmp (evidence_said Secured rrsets b chain) b name labels form

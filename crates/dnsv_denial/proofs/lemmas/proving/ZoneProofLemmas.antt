@@ -1,7 +1,7 @@
 -- The first proof of a zone, chain by chain.
 use Rattle.std.proofs.Common.{◌≡◌, ℕ, ◌+◌, ◌<◌, ◌≤◌, List, inl, inr, refl, sym, subst, ⊎_elim, arith}
 use Rattle.std.proofs.lemmas.Bool.{cases_lt}
-use Rattle.std.specs.Prelude.{Option, Some, None, MatchOption, slice_get}
+use Rattle.std.specs.Prelude.{Some, slice_get}
 use Rattle.dnsv_names.specs.Name.{Labels, rightmost}
 use Rattle.dnsv_zones.specs.chains.Nsec3Chain.{Parameters}
 use Rattle.dnsv_zones.specs.forms.RecordWords.{words}
@@ -19,10 +19,6 @@ use Rattle.dnsv_names.specs.Tree.{wildcard_of}
 use Rattle.dnsv_denial.specs.declared.forms.denial.Denial.{Denial}
 use Rattle.dnsv_denial.specs.declared.forms.denial.Denial.TheVariants.{NoName, NoData, NoCloser, Delegation, OptOut, OptOutCloser}
 use Rattle.dnsv_denial.specs.declared.records.number.RecordNumber.{RecordNumber}
-
-pub option_leads : {X : Type 0} (found : Option X) (N M : Type 0) (P Q : X → Type 0) → (N → M) → ((x : X) → P x → Q x) → MatchOption found N P → MatchOption found M Q
-option_leads None N M P Q none some is = none is
-option_leads (Some x) N M P Q none some is = some x is
 
 -- a denial by a chain has a record of it
 module _ (Secured : ℕ → ℕ → Type 0) (rrsets : List ReceivedRrset) (zone : Labels) (parameters : Parameters) where

@@ -6,7 +6,7 @@ use Rattle.dnsv_records.specs.declared.rrsig.Rrsig.{Rrsig}
 use Rattle.dnsv_canonical.specs.Rrsets.{ReceivedRrset}
 use Rattle.dnsv_verifier.specs.Admissible.{DnskeyRecord}
 use Rattle.dnsv_verifier.specs.Asking.{AreKeysOf}
-use Rattle.dnsv_explain.specs.faults.KeySearch.{HasKeyAt, IsNamedIn}
+use Rattle.dnsv_explain.specs.faults.searches.KeySearch.{HasKeyAt, IsNamedIn}
 use Rattle.dnsv_explain.specs.faults.Keys.{HasKeys, IsNamedBy}
 
 module _ (rrsets : List ReceivedRrset) (keys : List DnskeyRecord) (all : AreKeysOf rrsets keys) where

@@ -9,10 +9,10 @@ use Rattle.dnsv_verifier.specs.declared.answer.Answer.{Answer}
 use Rattle.dnsv_verifier.specs.declared.answer.Answer.TheVariants.{Valid, Invalid, Unknown}
 use Rattle.dnsv_chain.specs.Trusted.{IsGoodByTrust}
 use Rattle.dnsv_explain.specs.Explained.{Setting}
-use Rattle.dnsv_explain.specs.faults.AnswerSearch.{IsBestOf}
-use Rattle.dnsv_explain.specs.faults.KeySearch.{HasKeyAt, IsNamedIn}
+use Rattle.dnsv_explain.specs.faults.searches.AnswerSearch.{IsBestOf}
+use Rattle.dnsv_explain.specs.faults.searches.KeySearch.{HasKeyAt, IsNamedIn}
 use Rattle.dnsv_explain.specs.faults.Keys.{HasKeys, IsNamedBy, IsTrustedZone}
-use Rattle.dnsv_explain.specs.faults.RemarkSearch.{IsGoodRemark, IsRemarkOf, remark_for}
+use Rattle.dnsv_explain.specs.faults.searches.RemarkSearch.{IsGoodRemark, IsRemarkOf, remark_for}
 use Rattle.dnsv_explain.specs.faults.RrsetLines.{IsOfAnswers, IsTrueOf}
 use Rattle.dnsv_explain.specs.faults.RrsetLines.IsRemark.{no_keys, of_answers, untrusted, nothing}
 use Rattle.dnsv_explain.specs.faults.SignatureFaults.{IsAnswered}

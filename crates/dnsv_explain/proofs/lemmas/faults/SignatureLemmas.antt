@@ -16,10 +16,10 @@ use Rattle.dnsv_chain.specs.Trusted.{IsGoodByTrust, IsSecured}
 use Rattle.dnsv_explain.specs.Explained.{Setting}
 use Rattle.dnsv_explain.specs.derivations.SignerSearch.{IsSignatureAt}
 use Rattle.dnsv_explain.specs.derivations.Ways.{HasSecured}
-use Rattle.dnsv_explain.specs.faults.KeySearch.{HasKeyAt, IsNamedIn}
+use Rattle.dnsv_explain.specs.faults.searches.KeySearch.{HasKeyAt, IsNamedIn}
 use Rattle.dnsv_explain.specs.faults.Keys.{HasKeys, IsNamedBy}
 use Rattle.dnsv_explain.specs.faults.Listing.{AddsThose, AreOfNumbered}
-use Rattle.dnsv_explain.specs.faults.RemarkSearch.{IsRemarkOf, remark_lines}
+use Rattle.dnsv_explain.specs.faults.searches.RemarkSearch.{IsRemarkOf, remark_lines}
 use Rattle.dnsv_explain.specs.faults.RrsetLines.{AreFaults, AreLinesAt, AreLinesOfEach, AreLinesOfNumber, AreRrsetLines, AreSignatureLines, fault_line, shown_of, unsigned_line}
 use Rattle.dnsv_explain.specs.faults.RrsetLines.AreLinesOfNumber.{no_rrset, of_rrset}
 use Rattle.dnsv_explain.specs.faults.RrsetLines.AreRrsetLines.{secured, unproved, unsigned}

@@ -9,8 +9,8 @@ use Rattle.dnsv_verifier.specs.declared.answer.Answer.{Answer}
 use Rattle.dnsv_verifier.specs.declared.answer.Answer.TheVariants.{Valid, Invalid, Unknown}
 use Rattle.dnsv_verifier.specs.declared.entry.Entry.{Entry}
 use Rattle.dnsv_explain.specs.Explained.{Setting}
-use Rattle.dnsv_explain.specs.faults.AnswerSearch.{IsAnsweredBySome, IsBestOf, entry_over}
-use Rattle.dnsv_explain.specs.faults.KeySearch.{IsNamedIn}
+use Rattle.dnsv_explain.specs.faults.searches.AnswerSearch.{IsAnsweredBySome, IsBestOf, entry_over}
+use Rattle.dnsv_explain.specs.faults.searches.KeySearch.{IsNamedIn}
 use Rattle.dnsv_explain.specs.faults.SignatureFaults.{IsAnswered}
 
 -- the best of the same answers

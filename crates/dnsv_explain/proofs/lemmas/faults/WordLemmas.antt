@@ -8,7 +8,7 @@ use Rattle.dnsv_verifier.specs.Admissible.{DnskeyRecord}
 use Rattle.dnsv_verifier.specs.declared.answer.Answer.{Answer}
 use Rattle.dnsv_verifier.specs.declared.answer.Answer.TheVariants.{Valid, Invalid, Unknown}
 use Rattle.dnsv_explain.specs.Explained.{Setting}
-use Rattle.dnsv_explain.specs.faults.KeySearch.{HasNamed, HasNamedZoneKey, IsNamedIn}
+use Rattle.dnsv_explain.specs.faults.searches.KeySearch.{HasNamed, HasNamedZoneKey, IsNamedIn}
 use Rattle.dnsv_explain.specs.faults.Keys.{IsZoneKey}
 use Rattle.dnsv_explain.specs.faults.Listing.{AreThose}
 use Rattle.dnsv_explain.specs.faults.SignatureFaults.{AreFaultsOf, IsAnswered, IsFaultOf, asked_before, expired, not_yet}

@@ -31,7 +31,7 @@ pub fn way_by_anchor(
 }
 
 /// How the anchor, which has the number, is told.
-fn voucher_of(number: usize, anchor: &Anchor) -> Voucher
+fn voucher_of(number: usize, anchor: &Anchor<'_>) -> Voucher
     ensures { IsVoucherOf number anchor.now result }
 {
     match anchor {

@@ -16,8 +16,8 @@ use std::alloc::{AllocError, Global};
 /// What may match a key: a trust anchor, or a record of the DS RRset of the owner.
 #[derive(Clone, Copy)]
 pub enum Matcher<'a> {
-    Anchor(&'a Anchor),
-    Ds(&'a Name, &'a Ds),
+    Anchor(&'a Anchor<'a>),
+    Ds(&'a Name, &'a Ds<'a>),
 }
 
 impl Matcher<'_> {

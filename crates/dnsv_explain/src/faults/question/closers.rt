@@ -77,14 +77,14 @@ fn add_closer(
     lines: &mut Vec<Line>,
     number: SignatureNumber,
     rrset: &Rrset<'_>,
-    rrsig: &Rrsig,
+    rrsig: &Rrsig<'_>,
 ) -> Result<(), AllocError>
     requires at { IsAt evidence.now at.now }
     requires view { view.now ≡ viewed_at at.now }
     ensures { OnOk result (AddsThose (AreLinesOfCloser (setting_in evidence.now) at.now.name.now number.rrset rrset.now
         number.signature rrsig.now) lines.old.items lines.new.items) }
 {
-    if !at.name.is_at_or_below(&rrsig.signer) {
+    if !at.name.is_at_or_below(&rrsig.signer.to_name()) {
         return Ok(());
     }
     if !is_closer_open(evidence, at, view, rrset, rrsig) {
@@ -103,7 +103,7 @@ fn is_closer_open(
     at: &At<'_, '_>,
     view: &View<'_, '_>,
     rrset: &Rrset<'_>,
-    rrsig: &Rrsig,
+    rrsig: &Rrsig<'_>,
 ) -> bool
     requires at { IsAt evidence.now at.now }
     requires view { view.now ≡ viewed_at at.now }
@@ -112,7 +112,7 @@ fn is_closer_open(
     if !is_expanded(rrset.owner(), rrsig) {
         return false;
     }
-    view.no_closer(&rrsig.signer, rrsig.labels as usize)
+    view.no_closer(&rrsig.signer.to_name(), rrsig.labels as usize)
         .is_none()
 }
 

@@ -1,42 +1,40 @@
 //! What is said of what may deny a question.
 ghost use Rattle.std.specs.Prelude.{◌↔◌, ℕ, IsTrue, OnOk};
-ghost use Rattle.dnsv_verifier.specs.Asking.{AreKeysOf};
-ghost use Rattle.dnsv_explain.specs.Explained.{Setting, setting_in};
+ghost use Rattle.dnsv_explain.specs.Explained.{Setting};
 ghost use Rattle.dnsv_explain.specs.faults.Listing.{AddsThose, AreOfNumbered, AreThose};
-ghost use Rattle.dnsv_explain.specs.faults.NeededSearch.{AreLabelsOf};
+ghost use Rattle.dnsv_explain.specs.faults.searches.NeededSearch.{AreLabelsOf};
 ghost use Rattle.dnsv_explain.specs.faults.Order.{AreDenialLines, IsOfNeeded};
 ghost use Rattle.dnsv_explain.specs.faults.Zones.{IsNeeded};
+ghost use Rattle.dnsv_explain.specs.faults.searches.KeySearch.{HasItsKeys, setting_of};
 
-use crate::evidence::Evidence;
 use crate::faults::add_rrset;
+use crate::faults::keyed::KeyedEvidence;
 use crate::faults::question::signers::is_among;
 use crate::faults::question::subjects::is_denial;
 use crate::line::Line;
 use dnsv_names::Name;
-use dnsv_verifier::KeyRecord;
 use std::alloc::{AllocError, Global};
 
 /// Adds why each RRset that may deny the name proves nothing, but not that the signer of a zone that isn't needed isn't
-/// trusted. `needed` are the numbers of labels of the needed zones, and `keys` those of the evidence.
+/// trusted. `needed` are the numbers of labels of the needed zones.
 pub fn add_denials(
     alloc: Global,
-    evidence: &Evidence<'_>,
-    keys: &[KeyRecord<'_>],
+    keyed: &KeyedEvidence<'_>,
     needed: &[usize],
     lines: &mut Vec<Line>,
     name: &Name,
 ) -> Result<(), AllocError>
-    requires { AreKeysOf evidence.now.rrsets keys.now }
-    ensures { (t : ℕ) → AreLabelsOf name.now (IsNeeded (setting_in evidence.now) name.now t) needed.now
-        → OnOk result (AddsThose (AreOfNumbered (AreDenialLines (setting_in evidence.now) name.now t) 1 evidence.now.rrsets)
-        lines.old.items lines.new.items) }
+    requires { HasItsKeys keyed.now }
+    ensures { (t : ℕ) → AreLabelsOf name.now (IsNeeded (setting_of keyed.now) name.now t) needed.now
+        → OnOk result (AddsThose (AreOfNumbered (AreDenialLines (setting_of keyed.now) name.now t) 1
+        keyed.now.evidence.now.rrsets) lines.old.items lines.new.items) }
 {
-    for (place, rrset) in evidence.rrsets().iter().enumerate() {
+    for (place, rrset) in keyed.evidence.rrsets().iter().enumerate() {
         if !is_denial(rrset, name) {
             continue;
         }
         let mut all = Vec::new(alloc);
-        add_rrset(alloc, evidence, keys, &mut all, place + 1, rrset)?;
+        add_rrset(alloc, keyed, &mut all, place + 1, rrset)?;
         keep_of_needed(needed, name, &mut all);
         lines.append(&mut all)?;
     }

@@ -1,7 +1,7 @@
 //! That nothing answers a question.
 ghost use Rattle.std.specs.Prelude.{◌≡◌, IfOk};
 ghost use Rattle.dnsv_explain.specs.Explained.{setting_in};
-ghost use Rattle.dnsv_explain.specs.faults.NeededSearch.{IsSpeakerFound};
+ghost use Rattle.dnsv_explain.specs.faults.searches.NeededSearch.{IsSpeakerFound};
 ghost use Rattle.dnsv_explain.specs.faults.Order.{IsEndLine, missing_line};
 
 use crate::evidence::Evidence;

@@ -2,7 +2,7 @@
 ghost use Rattle.std.specs.Prelude.{◌≡◌, ◌↔◌, ◌<◌, ◌≤◌, IsTrue, length};
 ghost use Rattle.dnsv_names.specs.Name.{rightmost};
 ghost use Rattle.dnsv_explain.specs.Explained.{setting_in};
-ghost use Rattle.dnsv_explain.specs.faults.NeededSearch.{AreSigners, IsAboveFound, IsOfSigners, IsSpeakerFound};
+ghost use Rattle.dnsv_explain.specs.faults.searches.NeededSearch.{AreSigners, IsAboveFound, IsOfSigners, IsSpeakerFound};
 ghost use Rattle.dnsv_explain.specs.faults.Zones.{IsKnownZone};
 
 use crate::evidence::Evidence;

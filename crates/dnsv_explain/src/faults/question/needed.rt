@@ -4,7 +4,7 @@ ghost use Rattle.dnsv_names.specs.Name.{rightmost};
 ghost use Rattle.dnsv_verifier.specs.Asking.{AddsJust};
 ghost use Rattle.dnsv_verdict.specs.Verdict.{HasAnchor};
 ghost use Rattle.dnsv_explain.specs.Explained.{setting_in};
-ghost use Rattle.dnsv_explain.specs.faults.NeededSearch.{AreLabelsOf, AreSigners, HasDsSigner, HasWay, IsAbove, IsAnchoredDenier, IsAnchoredSpeaker, IsNeededBy, IsNumberWhere};
+ghost use Rattle.dnsv_explain.specs.faults.searches.NeededSearch.{AreLabelsOf, AreSigners, HasDsSigner, HasWay, IsAbove, IsAnchoredDenier, IsAnchoredSpeaker, IsNeededBy, IsNumberWhere};
 ghost use Rattle.dnsv_explain.specs.faults.Zones.{IsNeeded, IsNeededFirst, IsParent};
 
 use crate::evidence::Evidence;

@@ -63,7 +63,7 @@ fn add_nsec3(
     lines: &mut Vec<Line>,
     rrset: &Rrset<'_>,
     number: RecordNumber,
-    nsec3: &Nsec3,
+    nsec3: &Nsec3<'_>,
 ) -> Result<(), AllocError>
     ensures { OnOk result (AddsThose (AreNsec3Lines rrset.now number nsec3.now) lines.old.items lines.new.items) }
 {
@@ -97,14 +97,14 @@ fn add_unusable(
 }
 
 /// Whether the record asks for more iterations than this profile takes (RFC 5155 10.3).
-fn has_many_iterations(nsec3: &Nsec3) -> bool
+fn has_many_iterations(nsec3: &Nsec3<'_>) -> bool
     ensures { IsTrue result ↔ (500 < nsec3.now.parameters.iterations.0) }
 {
     nsec3.parameters.iterations > Iterations::LIMIT
 }
 
 /// Whether the record can't be used for another reason than its iterations.
-fn is_unusable(rrset: &Rrset<'_>, nsec3: &Nsec3) -> bool
+fn is_unusable(rrset: &Rrset<'_>, nsec3: &Nsec3<'_>) -> bool
     ensures { IsTrue result ↔ IsUnusableNsec3 rrset.now nsec3.now }
 {
     if has_unknown_fields(nsec3) {
@@ -117,7 +117,7 @@ fn is_unusable(rrset: &Rrset<'_>, nsec3: &Nsec3) -> bool
 }
 
 /// Whether its algorithm isn't SHA-1, a flag isn't known, or its next hash has another length (RFC 5155 3.1, 8.2).
-fn has_unknown_fields(nsec3: &Nsec3) -> bool
+fn has_unknown_fields(nsec3: &Nsec3<'_>) -> bool
     ensures { IsTrue result ↔ HasUnknownFields nsec3.now }
 {
     nsec3.algorithm != HashAlgorithm::SHA1

@@ -3,7 +3,7 @@ ghost use Rattle.std.specs.Prelude.{◌≡◌, ◌↔◌, ◌++◌, ◌∷◌, [
 ghost use Rattle.dnsv_canonical.specs.Rrsets.{first_appearances};
 ghost use Rattle.dnsv_explain.specs.Explained.{setting_in};
 ghost use Rattle.dnsv_explain.specs.faults.Listing.{AreThose};
-ghost use Rattle.dnsv_explain.specs.faults.NeededSearch.{IsSaidWhere};
+ghost use Rattle.dnsv_explain.specs.faults.searches.NeededSearch.{IsSaidWhere};
 ghost use Rattle.dnsv_explain.specs.faults.Order.{IsSaid, same_text};
 ghost use Rattle.dnsv_explain.specs.line.{line_text};
 

@@ -2,7 +2,7 @@
 ghost use Rattle.std.specs.Prelude.{◌≡◌, ◌↔◌, Contains, IfOk, IsTrue, OnOk};
 ghost use Rattle.dnsv_names.specs.Name.{SameName};
 ghost use Rattle.dnsv_verifier.specs.Asking.{AddsJust};
-ghost use Rattle.dnsv_explain.specs.faults.NeededSearch.{AreLabelsOf, AreSigners, HasDsSigner, IsAbove, IsDenialLabels, IsDsLabels, IsGoalLabels};
+ghost use Rattle.dnsv_explain.specs.faults.searches.NeededSearch.{AreLabelsOf, AreSigners, HasDsSigner, IsAbove, IsDenialLabels, IsDsLabels, IsGoalLabels};
 ghost use Rattle.dnsv_explain.specs.faults.Zones.{HasDenialSigner, HasGoalSigner, HasSigner};
 
 use crate::evidence::Evidence;
@@ -140,7 +140,7 @@ fn add_signers(rrset: &Rrset<'_>, name: &Name, numbers: &mut Vec<usize>) -> Resu
     ensures { OnOk result (AddsJust (IsAbove name.now (HasSigner rrset.now)) numbers.old.items numbers.new.items) }
 {
     for rrsig in rrset.signatures() {
-        add_signer(name, &rrsig.signer, numbers)?;
+        add_signer(name, &rrsig.signer.to_name(), numbers)?;
     }
     Ok(())
 }

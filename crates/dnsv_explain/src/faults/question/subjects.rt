@@ -1,7 +1,7 @@
 //! What may answer a question, and what may deny it.
 ghost use Rattle.std.specs.Prelude.{◌↔◌, IsTrue};
 ghost use Rattle.dnsv_denial.specs.gathering.Gathered.{IsDenialType};
-ghost use Rattle.dnsv_explain.specs.faults.NeededSearch.{HasOneAbove, HasOneBy, IsSignedGoal};
+ghost use Rattle.dnsv_explain.specs.faults.searches.NeededSearch.{HasOneAbove, HasOneBy, IsSignedGoal};
 ghost use Rattle.dnsv_explain.specs.faults.Zones.{HasDenial, HasGoal, HasSignedGoal, HasSigner, HasSignerAbove, IsDenial, IsDenialOf, IsGoal, IsStray};
 
 use crate::faults::keys::are_equal;
@@ -110,12 +110,12 @@ fn has_signer_above(rrset: &Rrset<'_>, name: &Name) -> bool
 }
 
 /// Whether the signer of one of the signatures is at or above the name.
-fn is_one_above(rrsigs: &[Rrsig], name: &Name) -> bool
+fn is_one_above(rrsigs: &[Rrsig<'_>], name: &Name) -> bool
     ensures { IsTrue result ↔ HasOneAbove rrsigs.now name.now }
 {
     rrsigs
         .iter()
-        .any(|rrsig| name.is_at_or_below(&rrsig.signer))
+        .any(|rrsig| name.is_at_or_below(&rrsig.signer.to_name()))
 }
 
 /// Whether the zone is a signer of the RRset.
@@ -126,8 +126,10 @@ pub fn has_signer(rrset: &Rrset<'_>, zone: &Name) -> bool
 }
 
 /// Whether the zone is the signer of one of the signatures.
-fn is_one_by(rrsigs: &[Rrsig], zone: &Name) -> bool
+fn is_one_by(rrsigs: &[Rrsig<'_>], zone: &Name) -> bool
     ensures { IsTrue result ↔ HasOneBy rrsigs.now zone.now }
 {
-    rrsigs.iter().any(|rrsig| are_equal(&rrsig.signer, zone))
+    rrsigs
+        .iter()
+        .any(|rrsig| are_equal(&rrsig.signer.to_name(), zone))
 }

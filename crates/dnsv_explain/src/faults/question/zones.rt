@@ -1,39 +1,36 @@
 //! What is said of the zones that a question needs.
 ghost use Rattle.std.specs.Prelude.{◌≡◌, ◌++◌, ◌∷◌, [], ℕ, OnOk};
-ghost use Rattle.dnsv_verifier.specs.Asking.{AreKeysOf};
-ghost use Rattle.dnsv_explain.specs.Explained.{setting_in};
-ghost use Rattle.dnsv_explain.specs.faults.NeededSearch.{AreLabelsOf};
+ghost use Rattle.dnsv_explain.specs.faults.searches.NeededSearch.{AreLabelsOf};
 ghost use Rattle.dnsv_explain.specs.faults.Order.{AreLinesOfZones};
-ghost use Rattle.dnsv_explain.specs.faults.Repeats.{AddsNew};
+ghost use Rattle.dnsv_explain.specs.faults.searches.Repeats.{AddsNew};
 ghost use Rattle.dnsv_explain.specs.faults.ZoneLines.{zone_line};
 ghost use Rattle.dnsv_explain.specs.faults.Zones.{IsNeeded};
+ghost use Rattle.dnsv_explain.specs.faults.searches.KeySearch.{HasItsKeys, setting_of};
 
-use crate::evidence::Evidence;
 use crate::faults::at::is_anchored;
+use crate::faults::keyed::KeyedEvidence;
 use crate::faults::question::signers::is_among;
 use crate::faults::zones::add_zone_faults;
 use crate::line::Line;
 use crate::line::fault::Reason;
 use crate::line::fault::zone::{WhyZone, ZoneFault};
 use dnsv_names::Name;
-use dnsv_verifier::KeyRecord;
 use std::alloc::{AllocError, Global};
 
 /// Adds that no trust anchor is at or above the name, or what is said of the needed zones that aren't trusted, from few
-/// labels to many. `needed` are their numbers of labels, and `keys` those of the evidence.
+/// labels to many. `needed` are their numbers of labels.
 pub fn add_zones(
     alloc: Global,
-    evidence: &Evidence<'_>,
-    keys: &[KeyRecord<'_>],
+    keyed: &KeyedEvidence<'_>,
     needed: &[usize],
     lines: &mut Vec<Line>,
     name: &Name,
 ) -> Result<(), AllocError>
-    requires { AreKeysOf evidence.now.rrsets keys.now }
-    ensures { (t : ℕ) → AreLabelsOf name.now (IsNeeded (setting_in evidence.now) name.now t) needed.now
-        → OnOk result (AddsNew (AreLinesOfZones (setting_in evidence.now) name.now t) lines.old.items lines.new.items) }
+    requires { HasItsKeys keyed.now }
+    ensures { (t : ℕ) → AreLabelsOf name.now (IsNeeded (setting_of keyed.now) name.now t) needed.now
+        → OnOk result (AddsNew (AreLinesOfZones (setting_of keyed.now) name.now t) lines.old.items lines.new.items) }
 {
-    if !is_anchored(evidence, name) {
+    if !is_anchored(keyed.evidence, name) {
         add_no_anchor(lines, name)?;
         return Ok(());
     }
@@ -42,10 +39,10 @@ pub fn add_zones(
             continue;
         }
         let zone = name.suffix(labels);
-        if evidence.is_trusted_zone(&zone) {
+        if keyed.evidence.is_trusted_zone(&zone) {
             continue;
         }
-        add_zone_faults(alloc, evidence, keys, lines, &zone)?;
+        add_zone_faults(alloc, keyed, lines, &zone)?;
     }
     Ok(())
 }

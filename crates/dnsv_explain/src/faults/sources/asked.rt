@@ -66,7 +66,7 @@ fn hash_for(hashes: &Hashes<'_>, entries: ChainEntries<'_>, name: &Name) -> Hash
 }
 
 /// The hash of the name with the parameters, which is kept for the question.
-fn hash_of(hashes: &Hashes<'_>, parameters: &Nsec3Parameters, name: &Name) -> Hash20
+fn hash_of(hashes: &Hashes<'_>, parameters: &Nsec3Parameters<'_>, name: &Name) -> Hash20
     requires made { AreUsed hashes.now.rrsets (parameters_of parameters.now) }
     requires asked { IsAsked hashes.now.name name.now }
     ensures { result ≡ (sha1_hash (parameters_of parameters.now)).of name.now }

@@ -9,7 +9,7 @@ pub enum ChainEntries<'a> {
     /// The zone's NSEC records (RFC 4034 4).
     Nsec(&'a [NsecEntry<'a>]),
     /// Its NSEC3 records, of which those with the parameters are meant (RFC 5155 3).
-    Nsec3(&'a [Nsec3Entry<'a>], &'a Nsec3Parameters),
+    Nsec3(&'a [Nsec3Entry<'a>], &'a Nsec3Parameters<'a>),
 }
 
 /// A chain of a zone at or above the question's name.

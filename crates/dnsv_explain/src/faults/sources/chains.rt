@@ -17,7 +17,7 @@ use crate::faults::sources::chain::{ChainEntries, ZoneChain};
 use crate::faults::sources::lacks::add_chain;
 use crate::faults::sources::records::has_parameters;
 use crate::line::Line;
-use dnsv_denial::{Nsec3Entry, NsecEntry};
+use dnsv_denial::{Nsec3Entry, NsecEntry, OrderedParameters};
 use dnsv_names::{Name, RecordType};
 use dnsv_records::Nsec3Parameters;
 use std::alloc::{AllocError, Global};
@@ -58,17 +58,18 @@ pub fn add_nsec3s(
     zone: &Name,
     speaks: bool,
     nsec3s: &[Nsec3Entry<'_>],
-    parameters: &[&Nsec3Parameters],
+    parameters: &[OrderedParameters<'_>],
 ) -> Result<(), AllocError>
     requires zone { IsZoneFor at.now zone.now }
-    requires parameters { AreAllParameters at.now.hashes.now.rrsets (map (λ each. each.now) parameters.now) }
+    requires parameters { AreAllParameters at.now.hashes.now.rrsets (map (λ each. each.parameters.now) parameters.now) }
     ensures { (setting : Setting) (speaker : Labels) → AreNsec3sOf (SecuredIn setting) setting.rrsets zone.now nsec3s.now
         → (IsTrue speaks ↔ SameName zone.now speaker)
         → OnOk result (AddsThose (AreOfEach (λ each. AreLinesOfChain setting at.now.name.now rtype.0 speaker zone.now
-        (ByNsec3 (parameters_of each.now))) parameters.now) lines.old.items lines.new.items) }
+        (ByNsec3 (parameters_of each.parameters.now))) parameters.now) lines.old.items lines.new.items) }
 {
     for each in parameters {
-        add_nsec3_chain(alloc, at, lines, rtype, zone, speaks, nsec3s, each)?;
+        let parameters = each.parameters;
+        add_nsec3_chain(alloc, at, lines, rtype, zone, speaks, nsec3s, parameters)?;
     }
     Ok(())
 }
@@ -82,7 +83,7 @@ fn add_nsec3_chain(
     zone: &Name,
     speaks: bool,
     nsec3s: &[Nsec3Entry<'_>],
-    parameters: &Nsec3Parameters,
+    parameters: &Nsec3Parameters<'_>,
 ) -> Result<(), AllocError>
     requires zone { IsZoneFor at.now zone.now }
     requires made { AreUsed at.now.hashes.now.rrsets (parameters_of parameters.now) }
@@ -103,7 +104,7 @@ fn add_nsec3_chain(
 }
 
 /// Whether one of the records has hashes with the parameters.
-fn has_records(nsec3s: &[Nsec3Entry<'_>], parameters: &Nsec3Parameters) -> bool
+fn has_records(nsec3s: &[Nsec3Entry<'_>], parameters: &Nsec3Parameters<'_>) -> bool
     ensures { IsTrue result ↔ HasEntry (λ entry. (read_nsec3 entry).parameters ≡ parameters_of parameters.now) nsec3s.now }
 {
     for entry in nsec3s {

@@ -10,10 +10,11 @@ use crate::faults::sources::chain::{ChainEntries, ZoneChain};
 use crate::faults::sources::records::RecordAt;
 use crate::line::Line;
 use crate::line::fault::Reason;
+use crate::line::fault::denial::parameters::SourceParameters;
 use crate::line::fault::denial::{Source, SourceFault, WhySource};
 use dnsv_denial::RecordNumber;
 use dnsv_names::{Name, RecordType};
-use dnsv_records::{Nsec3Parameters, Octets, TypeBitmap};
+use dnsv_records::TypeBitmap;
 use dnsv_zones::denies;
 use std::alloc::{AllocError, Global};
 
@@ -56,7 +57,7 @@ fn add_record(
 }
 
 /// The first that is among the types: the one asked, or CNAME; where DS is asked, SOA.
-fn held(types: &TypeBitmap, rtype: RecordType) -> Option<RecordType>
+fn held(types: &TypeBitmap<'_>, rtype: RecordType) -> Option<RecordType>
     ensures { IsHeld (IsInBitmap (λ t. set.contains types.now t)) rtype.0 result }
 {
     if types.contains(rtype) {
@@ -110,14 +111,11 @@ pub fn add_fault(
 fn told_parameters(
     alloc: Global,
     entries: ChainEntries<'_>,
-) -> Result<Option<Nsec3Parameters>, AllocError>
+) -> Result<Option<SourceParameters>, AllocError>
     ensures { IfOk result (λ told. told ≡ told_parameters entries.entry) }
 {
     let ChainEntries::Nsec3(_, parameters) = entries else {
         return Ok(None);
     };
-    Ok(Some(Nsec3Parameters {
-        iterations: parameters.iterations,
-        salt: Octets::copy_of(alloc, parameters.salt.as_slice())?,
-    }))
+    Ok(Some(SourceParameters::copy_of(alloc, parameters)?))
 }

@@ -19,7 +19,7 @@ use std::alloc::{AllocError, Global};
 pub struct RecordAt<'a> {
     pub number: RecordNumber,
     /// The types that the name has by it.
-    pub types: &'a TypeBitmap,
+    pub types: &'a TypeBitmap<'a>,
 }
 
 /// The records at the name, in the order of their numbers.
@@ -71,7 +71,7 @@ fn has_owner(entry: &NsecEntry<'_>, name: &Name) -> bool
 fn nsec3s_at<'a>(
     alloc: Global,
     entries: &'a [Nsec3Entry<'a>],
-    parameters: &Nsec3Parameters,
+    parameters: &Nsec3Parameters<'_>,
     hash: &Hash20,
 ) -> Result<Vec<RecordAt<'a>>, AllocError>
     ensures { IfOk result (λ records. AreOfEach (IsFoundOf (λ entry. HasHash (parameters_of parameters.now) hash.now
@@ -91,7 +91,7 @@ fn nsec3s_at<'a>(
 }
 
 /// Whether the record has the hash, made with the parameters.
-pub fn has_hash(entry: &Nsec3Entry<'_>, parameters: &Nsec3Parameters, hash: &Hash20) -> bool
+pub fn has_hash(entry: &Nsec3Entry<'_>, parameters: &Nsec3Parameters<'_>, hash: &Hash20) -> bool
     ensures { IsTrue result ↔ HasHash (parameters_of parameters.now) hash.now (read_nsec3 entry.now) }
 {
     if entry.hash != *hash {
@@ -101,7 +101,7 @@ pub fn has_hash(entry: &Nsec3Entry<'_>, parameters: &Nsec3Parameters, hash: &Has
 }
 
 /// Whether its hashes are made with the parameters.
-pub fn has_parameters(entry: &Nsec3Entry<'_>, parameters: &Nsec3Parameters) -> bool
+pub fn has_parameters(entry: &Nsec3Entry<'_>, parameters: &Nsec3Parameters<'_>) -> bool
     ensures { IsTrue result ↔ ((read_nsec3 entry.now).parameters ≡ parameters_of parameters.now) }
 {
     if entry.parameters.iterations.0 != parameters.iterations.0 {

@@ -39,7 +39,7 @@ fn has_node(entries: &[NsecEntry<'_>], name: &Name) -> bool
 }
 
 /// Whether one of the records has the hash, and neither a delegation nor a DNAME is there.
-fn has_open(entries: &[Nsec3Entry<'_>], parameters: &Nsec3Parameters, hash: &Hash20) -> bool
+fn has_open(entries: &[Nsec3Entry<'_>], parameters: &Nsec3Parameters<'_>, hash: &Hash20) -> bool
     ensures { IsTrue result ↔ HasEntry (λ entry. HasHash (parameters_of parameters.now) hash.now (read_nsec3 entry)
         × (¬ IsClosed (IsInBitmap (read_nsec3 entry).types))) entries.now }
 {
@@ -52,7 +52,7 @@ fn has_open(entries: &[Nsec3Entry<'_>], parameters: &Nsec3Parameters, hash: &Has
 }
 
 /// Whether the record has the hash, and neither a delegation nor a DNAME is there.
-fn is_open(entry: &Nsec3Entry<'_>, parameters: &Nsec3Parameters, hash: &Hash20) -> bool
+fn is_open(entry: &Nsec3Entry<'_>, parameters: &Nsec3Parameters<'_>, hash: &Hash20) -> bool
     ensures { IsTrue result ↔ (HasHash (parameters_of parameters.now) hash.now (read_nsec3 entry.now)
         × (¬ IsClosed (IsInBitmap (read_nsec3 entry.now).types))) }
 {
@@ -82,7 +82,7 @@ fn has_absent(entries: &[NsecEntry<'_>], name: &Name) -> bool
 }
 
 /// Whether one of the records covers the hash.
-fn has_cover(entries: &[Nsec3Entry<'_>], parameters: &Nsec3Parameters, hash: &Hash20) -> bool
+fn has_cover(entries: &[Nsec3Entry<'_>], parameters: &Nsec3Parameters<'_>, hash: &Hash20) -> bool
     ensures { IsTrue result ↔ HasEntry (λ entry. CoversHash (parameters_of parameters.now) hash.now (read_nsec3 entry))
         entries.now }
 {
@@ -95,7 +95,7 @@ fn has_cover(entries: &[Nsec3Entry<'_>], parameters: &Nsec3Parameters, hash: &Ha
 }
 
 /// Whether the record covers the hash.
-fn is_cover(entry: &Nsec3Entry<'_>, parameters: &Nsec3Parameters, hash: &Hash20) -> bool
+fn is_cover(entry: &Nsec3Entry<'_>, parameters: &Nsec3Parameters<'_>, hash: &Hash20) -> bool
     ensures { IsTrue result ↔ CoversHash (parameters_of parameters.now) hash.now (read_nsec3 entry.now) }
 {
     if !covers(&entry.hash, &entry.next_hash, hash) {

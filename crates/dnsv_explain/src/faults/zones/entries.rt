@@ -8,6 +8,7 @@ ghost use Rattle.dnsv_explain.specs.faults.ZoneLines.ZoneSearch.{AddsJudged, Add
 
 use crate::evidence::Evidence;
 use crate::faults::keys::are_equal;
+use crate::faults::zones::digested::DigestedKey;
 use crate::faults::zones::lead::Lead;
 use crate::faults::zones::named::word_of;
 use crate::faults::zones::ways::is_ds_way;
@@ -16,7 +17,6 @@ use dnsv_canonical::{Rrset, in_canonical_order};
 use dnsv_chain::Anchor;
 use dnsv_denial::RecordNumber;
 use dnsv_names::Name;
-use dnsv_verifier::KeyRecord;
 use std::alloc::{AllocError, Global};
 
 /// What leads into a zone, with the word that is said of it; none, where it matches a key.
@@ -30,8 +30,8 @@ pub struct Judged<'a> {
 /// those alone. `keys` are those of the zone.
 pub fn said_entries<'a>(
     alloc: Global,
-    evidence: &'a Evidence<'_>,
-    keys: &[KeyRecord<'_>],
+    evidence: &'a Evidence<'a>,
+    keys: &[DigestedKey<'_>],
     zone: &Name,
 ) -> Result<Vec<Judged<'a>>, AllocError>
     requires keys { AreKeysAt evidence.now.rrsets zone.now keys.now }
@@ -48,8 +48,8 @@ pub fn said_entries<'a>(
 /// Adds those of the anchors at the zone.
 fn add_anchors<'a>(
     alloc: Global,
-    evidence: &'a Evidence<'_>,
-    keys: &[KeyRecord<'_>],
+    evidence: &'a Evidence<'a>,
+    keys: &[DigestedKey<'_>],
     said: &mut Vec<Judged<'a>>,
     zone: &Name,
 ) -> Result<(), AllocError>
@@ -65,8 +65,8 @@ fn add_anchors<'a>(
 /// The anchors at the zone.
 fn anchors_at<'a>(
     alloc: Global,
-    evidence: &'a Evidence<'_>,
-    keys: &[KeyRecord<'_>],
+    evidence: &'a Evidence<'a>,
+    keys: &[DigestedKey<'_>],
     zone: &Name,
 ) -> Result<Vec<Judged<'a>>, AllocError>
     ensures { IfOk result (λ group. AreJudged keys.now
@@ -83,7 +83,7 @@ fn anchors_at<'a>(
 }
 
 /// What leads by the anchor, which has the number.
-fn lead_of(number: usize, anchor: &Anchor) -> Lead<'_>
+fn lead_of<'a>(number: usize, anchor: &'a Anchor<'a>) -> Lead<'a>
     ensures { wanted_of result ≡ wanted_anchor number anchor.now }
 {
     match anchor {
@@ -93,7 +93,7 @@ fn lead_of(number: usize, anchor: &Anchor) -> Lead<'_>
 }
 
 /// The lead with its word.
-fn judge<'a>(keys: &[KeyRecord<'_>], lead: Lead<'a>) -> Judged<'a>
+fn judge<'a>(keys: &[DigestedKey<'_>], lead: Lead<'a>) -> Judged<'a>
     ensures { IsJudgedAs keys.now (wanted_of lead.entry) result }
 {
     Judged {
@@ -105,8 +105,8 @@ fn judge<'a>(keys: &[KeyRecord<'_>], lead: Lead<'a>) -> Judged<'a>
 /// Adds those of the records of the RRset, which has the number, if it leads into the zone.
 fn add_records<'a>(
     alloc: Global,
-    evidence: &'a Evidence<'_>,
-    keys: &[KeyRecord<'_>],
+    evidence: &'a Evidence<'a>,
+    keys: &[DigestedKey<'_>],
     said: &mut Vec<Judged<'a>>,
     zone: &Name,
     number: usize,
@@ -128,7 +128,7 @@ fn add_records<'a>(
 /// The records of the DS RRset, which has the number.
 fn records_of<'a>(
     alloc: Global,
-    keys: &[KeyRecord<'_>],
+    keys: &[DigestedKey<'_>],
     number: usize,
     rrset: &'a Rrset<'a>,
 ) -> Result<Vec<Judged<'a>>, AllocError>

@@ -6,6 +6,7 @@ ghost use Rattle.dnsv_explain.specs.Following.{IsNamed};
 ghost use Rattle.dnsv_explain.specs.faults.Entries.{HasTag, HasUnknownDigest, IsIgnoredBeside, IsMatchOf, IsWantedBy, told_entry, wanted_key};
 ghost use Rattle.dnsv_explain.specs.faults.ZoneLines.ZoneSearch.{IsMeant, wanted_of};
 
+use crate::faults::zones::digested::DigestedKey;
 use crate::line::derivation::KeyName;
 use crate::line::fault::zone::{Entry, EntryNumber};
 use dnsv_chain::{goes_before, is_match};
@@ -19,7 +20,7 @@ use std::alloc::AllocError;
 #[derive(Clone, Copy)]
 pub enum Lead<'a> {
     /// A DS record, of a trust anchor, or of a DS RRset beside these records.
-    Digest(EntryNumber, &'a [Ds], &'a Ds),
+    Digest(EntryNumber, &'a [Ds<'a>], &'a Ds<'a>),
     /// The RDATA of a DNSKEY record, of the trust anchor with the number.
     Key(usize, &'a [u8]),
 }
@@ -111,6 +112,16 @@ impl Lead<'_> {
             Lead::Key(_, rdata) => key.rdata() == rdata,
         }
     }
+
+    /// Whether it matches the key, by the digests that are kept of that.
+    pub fn matches_digested(self, key: &DigestedKey<'_>) -> bool
+        ensures { IsTrue result ↔ IsMatchOf (wanted_of self.entry) key.now }
+    {
+        match self {
+            Lead::Digest(_, _, ds) => key.is_match(ds),
+            Lead::Key(_, rdata) => key.key().rdata() == rdata,
+        }
+    }
 }
 
 /// The keys that are meant: those that the lead matches, or those that have its tag and its algorithm.
@@ -143,21 +154,21 @@ fn algorithm_in(rdata: &[u8]) -> u8
 }
 
 /// Whether the key has the tag and the algorithm of the DS record.
-fn names(ds: &Ds, key: &KeyRecord<'_>) -> bool
+pub fn names(ds: &Ds<'_>, key: &KeyRecord<'_>) -> bool
     ensures { IsTrue result ↔ IsNamed key.now (record { tag = ds.now.key_tag; algorithm = ds.now.algorithm }) }
 {
     ds.key_tag.0 == key.key_tag().0 && ds.algorithm.0 == key.dnskey().algorithm.0
 }
 
 /// Whether the DS record matches the key, by its own owner.
-fn has_digest_of(ds: &Ds, key: &KeyRecord<'_>) -> bool
+fn has_digest_of(ds: &Ds<'_>, key: &KeyRecord<'_>) -> bool
     ensures { IsTrue result ↔ IsMatch key.now.owner ds.now key.now }
 {
     is_match(key.owner(), ds, key)
 }
 
 /// Whether one of the records has a stronger digest type, of those that are supported.
-fn is_ignored(records: &[Ds], ds: &Ds) -> bool
+fn is_ignored(records: &[Ds<'_>], ds: &Ds<'_>) -> bool
     ensures { IsTrue result ↔ IsIgnored records.now ds.now }
 {
     records

@@ -3,12 +3,12 @@ ghost use Rattle.std.specs.Prelude.{◌↔◌, IsTrue};
 ghost use Rattle.dnsv_explain.specs.faults.Entries.{HasTag, IsMatchOf, IsWantedBy};
 ghost use Rattle.dnsv_explain.specs.faults.ZoneLines.ZoneSearch.{HasAmong, IsKeyWordBy, IsWordBy, wanted_of};
 
+use crate::faults::zones::digested::DigestedKey;
 use crate::faults::zones::lead::Lead;
 use crate::line::fault::zone::WhyEntry;
-use dnsv_verifier::KeyRecord;
 
 /// The first word that is true of what leads into the zone with the keys. `None`, where it matches one of them.
-pub fn word_of(keys: &[KeyRecord<'_>], lead: Lead<'_>) -> Option<WhyEntry>
+pub fn word_of(keys: &[DigestedKey<'_>], lead: Lead<'_>) -> Option<WhyEntry>
     ensures { IsWordBy keys.now (wanted_of lead.entry) result }
 {
     if !lead.key_name().algorithm.is_supported() {
@@ -24,7 +24,7 @@ pub fn word_of(keys: &[KeyRecord<'_>], lead: Lead<'_>) -> Option<WhyEntry>
 }
 
 /// The first word of what could be used, by the keys.
-fn key_word(keys: &[KeyRecord<'_>], lead: Lead<'_>) -> Option<WhyEntry>
+fn key_word(keys: &[DigestedKey<'_>], lead: Lead<'_>) -> Option<WhyEntry>
     ensures { IsKeyWordBy keys.now (wanted_of lead.entry) result }
 {
     if !has_tagged(keys, lead) {
@@ -40,22 +40,22 @@ fn key_word(keys: &[KeyRecord<'_>], lead: Lead<'_>) -> Option<WhyEntry>
 }
 
 /// Whether one of the keys has its tag.
-fn has_tagged(keys: &[KeyRecord<'_>], lead: Lead<'_>) -> bool
+fn has_tagged(keys: &[DigestedKey<'_>], lead: Lead<'_>) -> bool
     ensures { IsTrue result ↔ HasAmong (HasTag (wanted_of lead.entry)) keys.now }
 {
-    keys.iter().any(|key| lead.has_tag(key))
+    keys.iter().any(|key| lead.has_tag(key.key()))
 }
 
 /// Whether one of the keys has its tag and its algorithm.
-fn has_wanted(keys: &[KeyRecord<'_>], lead: Lead<'_>) -> bool
+fn has_wanted(keys: &[DigestedKey<'_>], lead: Lead<'_>) -> bool
     ensures { IsTrue result ↔ HasAmong (IsWantedBy (wanted_of lead.entry)) keys.now }
 {
-    keys.iter().any(|key| lead.is_wanted(key))
+    keys.iter().any(|key| lead.is_wanted(key.key()))
 }
 
 /// Whether it matches one of the keys.
-fn has_matched(keys: &[KeyRecord<'_>], lead: Lead<'_>) -> bool
+fn has_matched(keys: &[DigestedKey<'_>], lead: Lead<'_>) -> bool
     ensures { IsTrue result ↔ HasAmong (IsMatchOf (wanted_of lead.entry)) keys.now }
 {
-    keys.iter().any(|key| lead.matches(key))
+    keys.iter().any(|key| lead.matches_digested(key))
 }

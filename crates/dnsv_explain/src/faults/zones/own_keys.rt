@@ -2,15 +2,14 @@
 ghost use Rattle.std.specs.Prelude.{◌↔◌, IsTrue, OnOk};
 ghost use Rattle.dnsv_canonical.specs.Rrsets.{IsNumbered};
 ghost use Rattle.dnsv_chain.specs.Trusted.{IsKeyOf};
-ghost use Rattle.dnsv_verifier.specs.Asking.{AreKeysOf};
-ghost use Rattle.dnsv_explain.specs.Explained.{setting_in};
 ghost use Rattle.dnsv_explain.specs.faults.Listing.{AddsThose};
 ghost use Rattle.dnsv_explain.specs.faults.ZoneLines.{AreKeyLines};
 ghost use Rattle.dnsv_explain.specs.faults.ZoneLines.ZoneSearch.{HasSignatureOf, IsNotSelfSigned};
+ghost use Rattle.dnsv_explain.specs.faults.searches.KeySearch.{HasItsKeys, setting_of};
 
 use crate::derivations::ways::keys::key_name;
-use crate::evidence::Evidence;
 use crate::faults::add_unsigned;
+use crate::faults::keyed::KeyedEvidence;
 use crate::faults::zones::why_not::{add_named, is_named_by};
 use crate::line::Line;
 use crate::line::derivation::SignatureNumber;
@@ -26,18 +25,17 @@ use std::alloc::{AllocError, Global};
 /// with its tag and algorithm, or what is wrong with these.
 pub fn add_key(
     alloc: Global,
-    evidence: &Evidence<'_>,
-    keys: &[KeyRecord<'_>],
+    keyed: &KeyedEvidence<'_>,
     lines: &mut Vec<Line>,
     zone: &Name,
     number: usize,
     set: &Rrset<'_>,
     key: &KeyRecord<'_>,
 ) -> Result<(), AllocError>
-    requires keys { AreKeysOf evidence.now.rrsets keys.now }
-    requires set { IsNumbered evidence.now.rrsets number set.now }
+    requires keys { HasItsKeys keyed.now }
+    requires set { IsNumbered keyed.now.evidence.now.rrsets number set.now }
     requires stands { IsKeyOf set.now key.now }
-    ensures { OnOk result (AddsThose (AreKeyLines (setting_in evidence.now) zone.now number set.now key.now) lines.old.items
+    ensures { OnOk result (AddsThose (AreKeyLines (setting_of keyed.now) zone.now number set.now key.now) lines.old.items
         lines.new.items) }
 {
     if set.signatures().is_empty() {
@@ -53,13 +51,13 @@ pub fn add_key(
             rrset: number,
             signature: place + 1,
         };
-        add_named(alloc, evidence, keys, lines, each, set, key, rrsig)?;
+        add_named(alloc, keyed, lines, each, set, key, rrsig)?;
     }
     Ok(())
 }
 
 /// Whether one of the signatures has the key's tag and algorithm.
-fn has_signature_of(signatures: &[Rrsig], key: &KeyRecord<'_>) -> bool
+fn has_signature_of(signatures: &[Rrsig<'_>], key: &KeyRecord<'_>) -> bool
     ensures { IsTrue result ↔ HasSignatureOf signatures.now key.now }
 {
     signatures.iter().any(|rrsig| is_named_by(key, rrsig))

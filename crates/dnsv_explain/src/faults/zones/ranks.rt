@@ -1,15 +1,14 @@
 //! The lines of what leads into a zone, by rank.
 ghost use Rattle.std.specs.Prelude.{◌≡◌, ◌++◌, ◌∷◌, [], IfOk, OnOk, map};
 ghost use Rattle.std.specs.List.{AllByRecursion};
-ghost use Rattle.dnsv_verifier.specs.Asking.{AreKeysOf};
-ghost use Rattle.dnsv_explain.specs.Explained.{setting_in};
 ghost use Rattle.dnsv_explain.specs.faults.Entries.{entry_rank};
 ghost use Rattle.dnsv_explain.specs.faults.Listing.{AreOfEach};
-ghost use Rattle.dnsv_explain.specs.faults.Repeats.{AddsName, AddsNew, AreSaidOfKeys};
+ghost use Rattle.dnsv_explain.specs.faults.searches.Repeats.{AddsName, AddsNew, AreSaidOfKeys};
 ghost use Rattle.dnsv_explain.specs.faults.ZoneLines.{AreEntryLines, AreRankLines, AreWordLines, entry_line};
 ghost use Rattle.dnsv_explain.specs.faults.ZoneLines.ZoneSearch.{IsJudgedAt, differs, wanted_in, wanted_of};
+ghost use Rattle.dnsv_explain.specs.faults.searches.KeySearch.{HasItsKeys, setting_of};
 
-use crate::evidence::Evidence;
+use crate::faults::keyed::KeyedEvidence;
 use crate::faults::zones::entries::Judged;
 use crate::faults::zones::lead::{Lead, Meant};
 use crate::faults::zones::self_faults::add_self_faults;
@@ -17,57 +16,45 @@ use crate::line::Line;
 use crate::line::fault::Reason;
 use crate::line::fault::zone::{EntryFault, WhyEntry};
 use dnsv_names::Name;
-use dnsv_verifier::KeyRecord;
 use std::alloc::{AllocError, Global};
 use std::collections::BTreeSet;
 
 /// Tags and algorithms of keys.
 type KeyNames = BTreeSet<(u16, u8)>;
 
-/// Adds what is said of each that leads into the zone: what needs least to be mended comes first. `keys` are those of the
-/// evidence.
+/// Adds what is said of each that leads into the zone: what needs least to be mended comes first.
 pub fn add_ranks(
     alloc: Global,
-    evidence: &Evidence<'_>,
-    keys: &[KeyRecord<'_>],
+    keyed: &KeyedEvidence<'_>,
     lines: &mut Vec<Line>,
     zone: &Name,
     said: &[Judged<'_>],
 ) -> Result<(), AllocError>
-    requires keys { AreKeysOf evidence.now.rrsets keys.now }
-    requires judged { AllByRecursion (IsJudgedAt evidence.now.rrsets zone.now) said.now }
-    ensures { OnOk result (AddsNew (AreEntryLines (setting_in evidence.now) zone.now (map wanted_in said.now))
+    requires keys { HasItsKeys keyed.now }
+    requires judged { AllByRecursion (IsJudgedAt keyed.now.evidence.now.rrsets zone.now) said.now }
+    ensures { OnOk result (AddsNew (AreEntryLines (setting_of keyed.now) zone.now (map wanted_in said.now))
         lines.old.items lines.new.items) }
 {
-    add_each_rank(
-        alloc,
-        evidence,
-        keys,
-        lines,
-        zone,
-        said,
-        &[0, 1, 2, 3, 5, 6],
-    )?;
+    add_each_rank(alloc, keyed, lines, zone, said, &[0, 1, 2, 3, 5, 6])?;
     Ok(())
 }
 
 /// Adds what is said of those that have each of the ranks.
 fn add_each_rank(
     alloc: Global,
-    evidence: &Evidence<'_>,
-    keys: &[KeyRecord<'_>],
+    keyed: &KeyedEvidence<'_>,
     lines: &mut Vec<Line>,
     zone: &Name,
     said: &[Judged<'_>],
     ranks: &[u8],
 ) -> Result<(), AllocError>
-    requires keys { AreKeysOf evidence.now.rrsets keys.now }
-    requires judged { AllByRecursion (IsJudgedAt evidence.now.rrsets zone.now) said.now }
-    ensures { OnOk result (AddsNew (AreOfEach (λ rank. AreOfEach (AreRankLines (setting_in evidence.now) zone.now rank)
+    requires keys { HasItsKeys keyed.now }
+    requires judged { AllByRecursion (IsJudgedAt keyed.now.evidence.now.rrsets zone.now) said.now }
+    ensures { OnOk result (AddsNew (AreOfEach (λ rank. AreOfEach (AreRankLines (setting_of keyed.now) zone.now rank)
         (map wanted_in said.now)) ranks.now) lines.old.items lines.new.items) }
 {
     for rank in ranks {
-        add_rank(alloc, evidence, keys, lines, zone, said, *rank)?;
+        add_rank(alloc, keyed, lines, zone, said, *rank)?;
     }
     Ok(())
 }
@@ -75,16 +62,15 @@ fn add_each_rank(
 /// Adds what is said of those that have the rank.
 fn add_rank(
     alloc: Global,
-    evidence: &Evidence<'_>,
-    keys: &[KeyRecord<'_>],
+    keyed: &KeyedEvidence<'_>,
     lines: &mut Vec<Line>,
     zone: &Name,
     said: &[Judged<'_>],
     rank: u8,
 ) -> Result<(), AllocError>
-    requires keys { AreKeysOf evidence.now.rrsets keys.now }
-    requires judged { AllByRecursion (IsJudgedAt evidence.now.rrsets zone.now) said.now }
-    ensures { OnOk result (AddsNew (AreOfEach (AreRankLines (setting_in evidence.now) zone.now rank)
+    requires keys { HasItsKeys keyed.now }
+    requires judged { AllByRecursion (IsJudgedAt keyed.now.evidence.now.rrsets zone.now) said.now }
+    ensures { OnOk result (AddsNew (AreOfEach (AreRankLines (setting_of keyed.now) zone.now rank)
         (map wanted_in said.now)) lines.old.items lines.new.items) }
 {
     let mut names = BTreeSet::new(alloc);
@@ -92,7 +78,7 @@ fn add_rank(
         if rank_of(each.word) != rank {
             continue;
         }
-        add_word(alloc, evidence, keys, &mut names, lines, zone, each)?;
+        add_word(alloc, keyed, &mut names, lines, zone, each)?;
     }
     Ok(())
 }
@@ -115,18 +101,17 @@ fn rank_of(word: Option<WhyEntry>) -> u8
 /// and algorithm that is said once: `names` are those of which it is said.
 fn add_word(
     alloc: Global,
-    evidence: &Evidence<'_>,
-    keys: &[KeyRecord<'_>],
+    keyed: &KeyedEvidence<'_>,
     names: &mut KeyNames,
     lines: &mut Vec<Line>,
     zone: &Name,
     each: &Judged<'_>,
 ) -> Result<(), AllocError>
-    requires keys { AreKeysOf evidence.now.rrsets keys.now }
-    requires names { AreSaidOfKeys (setting_in evidence.now) zone.now lines.old.items names.old }
-    ensures adds { OnOk result (AddsNew (AreWordLines (setting_in evidence.now) zone.now (wanted_in each.now) each.now.word)
+    requires keys { HasItsKeys keyed.now }
+    requires names { AreSaidOfKeys (setting_of keyed.now) zone.now lines.old.items names.old }
+    ensures adds { OnOk result (AddsNew (AreWordLines (setting_of keyed.now) zone.now (wanted_in each.now) each.now.word)
         lines.old.items lines.new.items) }
-    ensures names { OnOk result (AreSaidOfKeys (setting_in evidence.now) zone.now lines.new.items names.new) }
+    ensures names { OnOk result (AreSaidOfKeys (setting_of keyed.now) zone.now lines.new.items names.new) }
 {
     let lead = each.lead;
     let Some(why) = each.word else {
@@ -134,7 +119,7 @@ fn add_word(
             lead,
             is_matched: true,
         };
-        add_self_faults(alloc, evidence, keys, lines, zone, meant)?;
+        add_self_faults(alloc, keyed, lines, zone, meant)?;
         return Ok(());
     };
     add_entry_fault(lines, zone, lead, why)?;
@@ -149,7 +134,7 @@ fn add_word(
         lead,
         is_matched: false,
     };
-    add_self_faults(alloc, evidence, keys, lines, zone, meant)?;
+    add_self_faults(alloc, keyed, lines, zone, meant)?;
     Ok(())
 }
 

@@ -2,14 +2,15 @@
 ghost use Rattle.std.specs.Prelude.{◌↔◌, IfOk, IsTrue, OnOk};
 ghost use Rattle.dnsv_canonical.specs.Rrsets.{IsNumbered};
 ghost use Rattle.dnsv_chain.specs.Trusted.{IsKeyOf, SignsItsSet};
-ghost use Rattle.dnsv_verifier.specs.Asking.{AreKeysOf};
 ghost use Rattle.dnsv_explain.specs.Explained.{setting_in};
 ghost use Rattle.dnsv_explain.specs.faults.Listing.{AddsThose};
 ghost use Rattle.dnsv_explain.specs.faults.ZoneLines.{AreSelfFaults, AreSetLines, IsSomeSelfSigned};
 ghost use Rattle.dnsv_explain.specs.faults.ZoneLines.ZoneSearch.{IsMeant, IsSelfSignedIn};
+ghost use Rattle.dnsv_explain.specs.faults.searches.KeySearch.{HasItsKeys, setting_of};
 
 use crate::derivations::ways::keys::{keys_in_order, lowest_good};
 use crate::evidence::Evidence;
+use crate::faults::keyed::KeyedEvidence;
 use crate::faults::keys::is_keys_at;
 use crate::faults::zones::lead::Meant;
 use crate::faults::zones::own_keys::add_key;
@@ -19,25 +20,23 @@ use dnsv_names::Name;
 use dnsv_verifier::KeyRecord;
 use std::alloc::{AllocError, Global};
 
-/// Adds why no key of the zone that is meant signs a DNSKEY RRset in which it stands; nothing where one does. `keys` are
-/// those of the evidence.
+/// Adds why no key of the zone that is meant signs a DNSKEY RRset in which it stands; nothing where one does.
 pub fn add_self_faults(
     alloc: Global,
-    evidence: &Evidence<'_>,
-    keys: &[KeyRecord<'_>],
+    keyed: &KeyedEvidence<'_>,
     lines: &mut Vec<Line>,
     zone: &Name,
     meant: Meant<'_>,
 ) -> Result<(), AllocError>
-    requires keys { AreKeysOf evidence.now.rrsets keys.now }
-    ensures { OnOk result (AddsThose (AreSelfFaults (setting_in evidence.now) zone.now
+    requires keys { HasItsKeys keyed.now }
+    ensures { OnOk result (AddsThose (AreSelfFaults (setting_of keyed.now) zone.now
         (IsMeant meant.entry)) lines.old.items lines.new.items) }
 {
-    if is_some_self_signed(alloc, evidence, zone, meant)? {
+    if is_some_self_signed(alloc, keyed.evidence, zone, meant)? {
         return Ok(());
     }
-    for (place, set) in evidence.rrsets().iter().enumerate() {
-        add_set(alloc, evidence, keys, lines, zone, meant, place + 1, set)?;
+    for (place, set) in keyed.evidence.rrsets().iter().enumerate() {
+        add_set(alloc, keyed, lines, zone, meant, place + 1, set)?;
     }
     Ok(())
 }
@@ -109,17 +108,16 @@ fn signs_as_meant(
 /// Adds why none of the keys that are meant signs the RRset, which has the number, by RDATA.
 fn add_set(
     alloc: Global,
-    evidence: &Evidence<'_>,
-    keys: &[KeyRecord<'_>],
+    keyed: &KeyedEvidence<'_>,
     lines: &mut Vec<Line>,
     zone: &Name,
     meant: Meant<'_>,
     number: usize,
     set: &Rrset<'_>,
 ) -> Result<(), AllocError>
-    requires keys { AreKeysOf evidence.now.rrsets keys.now }
-    requires set { IsNumbered evidence.now.rrsets number set.now }
-    ensures { OnOk result (AddsThose (AreSetLines (setting_in evidence.now) zone.now (IsMeant meant.entry) number set.now)
+    requires keys { HasItsKeys keyed.now }
+    requires set { IsNumbered keyed.now.evidence.now.rrsets number set.now }
+    ensures { OnOk result (AddsThose (AreSetLines (setting_of keyed.now) zone.now (IsMeant meant.entry) number set.now)
         lines.old.items lines.new.items) }
 {
     if !is_keys_at(set, zone) {
@@ -130,7 +128,7 @@ fn add_set(
         if !meant.is(key) {
             continue;
         }
-        add_key(alloc, evidence, keys, lines, zone, number, set, key)?;
+        add_key(alloc, keyed, lines, zone, number, set, key)?;
     }
     Ok(())
 }

@@ -1,39 +1,38 @@
 //! The lines of DS RRsets that lead into a zone.
 ghost use Rattle.std.specs.Prelude.{◌↔◌, IsTrue, OnOk};
 ghost use Rattle.dnsv_canonical.specs.Rrsets.{IsNumbered};
-ghost use Rattle.dnsv_verifier.specs.Asking.{AreKeysOf};
 ghost use Rattle.dnsv_explain.specs.Explained.{setting_in};
 ghost use Rattle.dnsv_explain.specs.faults.Listing.{AddsThose, AreOfNumbered, AreThose};
 ghost use Rattle.dnsv_explain.specs.faults.ZoneLines.{AreWayLines, IsOfParent};
 ghost use Rattle.dnsv_explain.specs.faults.ZoneLines.ZoneSearch.{HasParentSigner};
 ghost use Rattle.dnsv_explain.specs.faults.Zones.{IsDsWay, MayBeParent};
+ghost use Rattle.dnsv_explain.specs.faults.searches.KeySearch.{HasItsKeys, setting_of};
 
 use crate::evidence::Evidence;
 use crate::faults::add_rrset;
 use crate::faults::at::{has_own_anchor, is_anchored};
+use crate::faults::keyed::KeyedEvidence;
 use crate::faults::keys::are_equal;
 use crate::line::Line;
 use dnsv_canonical::Rrset;
 use dnsv_names::{Name, RecordType};
 use dnsv_records::Rrsig;
-use dnsv_verifier::KeyRecord;
 use std::alloc::{AllocError, Global};
 
 /// Adds what is said of each DS RRset that leads into the zone, but that signers aren't trusted which are no parents of
-/// it. `keys` are those of the evidence.
+/// it.
 pub fn add_ways(
     alloc: Global,
-    evidence: &Evidence<'_>,
-    keys: &[KeyRecord<'_>],
+    keyed: &KeyedEvidence<'_>,
     lines: &mut Vec<Line>,
     zone: &Name,
 ) -> Result<(), AllocError>
-    requires keys { AreKeysOf evidence.now.rrsets keys.now }
-    ensures { OnOk result (AddsThose (AreOfNumbered (AreWayLines (setting_in evidence.now) zone.now) 1 evidence.now.rrsets)
+    requires keys { HasItsKeys keyed.now }
+    ensures { OnOk result (AddsThose (AreOfNumbered (AreWayLines (setting_of keyed.now) zone.now) 1 keyed.now.evidence.now.rrsets)
         lines.old.items lines.new.items) }
 {
-    for (place, rrset) in evidence.rrsets().iter().enumerate() {
-        add_way(alloc, evidence, keys, lines, zone, place + 1, rrset)?;
+    for (place, rrset) in keyed.evidence.rrsets().iter().enumerate() {
+        add_way(alloc, keyed, lines, zone, place + 1, rrset)?;
     }
     Ok(())
 }
@@ -41,24 +40,23 @@ pub fn add_ways(
 /// Adds what is said of the RRset, which has the number, if it leads into the zone.
 fn add_way(
     alloc: Global,
-    evidence: &Evidence<'_>,
-    keys: &[KeyRecord<'_>],
+    keyed: &KeyedEvidence<'_>,
     lines: &mut Vec<Line>,
     zone: &Name,
     number: usize,
     rrset: &Rrset<'_>,
 ) -> Result<(), AllocError>
-    requires keys { AreKeysOf evidence.now.rrsets keys.now }
-    requires rrset { IsNumbered evidence.now.rrsets number rrset.now }
-    ensures { OnOk result (AddsThose (AreWayLines (setting_in evidence.now) zone.now number rrset.now) lines.old.items
+    requires keys { HasItsKeys keyed.now }
+    requires rrset { IsNumbered keyed.now.evidence.now.rrsets number rrset.now }
+    ensures { OnOk result (AddsThose (AreWayLines (setting_of keyed.now) zone.now number rrset.now) lines.old.items
         lines.new.items) }
 {
-    if !is_ds_way(evidence, zone, number, rrset) {
+    if !is_ds_way(keyed.evidence, zone, number, rrset) {
         return Ok(());
     }
     let mut all = Vec::new(alloc);
-    add_rrset(alloc, evidence, keys, &mut all, number, rrset)?;
-    add_of_parents(evidence, lines, zone, all)?;
+    add_rrset(alloc, keyed, &mut all, number, rrset)?;
+    add_of_parents(keyed.evidence, lines, zone, all)?;
     Ok(())
 }
 
@@ -78,12 +76,10 @@ pub fn is_ds_way(evidence: &Evidence<'_>, zone: &Name, number: usize, rrset: &Rr
 }
 
 /// Whether one of the signatures is by a parent of the zone, if they are those of a DS RRset of it.
-fn has_parent_signer(evidence: &Evidence<'_>, zone: &Name, signatures: &[Rrsig]) -> bool
+fn has_parent_signer(evidence: &Evidence<'_>, zone: &Name, signatures: &[Rrsig<'_>]) -> bool
     ensures { IsTrue result ↔ HasParentSigner (setting_in evidence.now) zone.now signatures.now }
 {
-    signatures
-        .iter()
-        .any(|rrsig| may_be_parent(evidence, zone, &rrsig.signer))
+    signatures.iter().any(|rrsig| may_be_parent(evidence, zone, &rrsig.signer.to_name()))
 }
 
 /// Whether the signer of a DS RRset of the zone is a parent: it is above the zone, and, if the zone has a trust anchor,

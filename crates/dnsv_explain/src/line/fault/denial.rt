@@ -5,12 +5,14 @@ ghost use Rattle.dnsv_explain.specs.line.faults.Denial.{denial_unproved_text, dn
 ghost use Rattle.dnsv_explain.specs.line.faults.ExtendedErrors.{nsec3_error};
 
 use crate::line::denial::Role;
+use crate::line::fault::denial::parameters::SourceParameters;
 use crate::line::fault::denial::salt::SaltText;
 use dnsv_denial::RecordNumber;
 use dnsv_names::{Name, RecordType};
-use dnsv_records::{Iterations, Nsec3Parameters};
+use dnsv_records::Iterations;
 use std::fmt;
 
+pub mod parameters;
 mod salt;
 
 /// That a DNAME stands above the question's name: the RRset, or the record of a denial that has the type.
@@ -112,7 +114,7 @@ impl fmt::Display for IterationsField {
 pub struct Source {
     pub zone: Name,
     /// Where they are of NSEC3.
-    pub parameters: Option<Nsec3Parameters>,
+    pub parameters: Option<SourceParameters>,
 }
 
 impl fmt::Display for Source {
@@ -122,9 +124,9 @@ impl fmt::Display for Source {
         let zone = self.zone.to_lower();
         match &self.parameters {
             Some(parameters) => {
-                let iterations = parameters.iterations.0;
+                let iterations = parameters.iterations().0;
                 let salt = SaltText {
-                    salt: &parameters.salt,
+                    salt: parameters.salt(),
                 };
                 write!(f, "nsec3 {zone}")?;
                 write!(f, " iterations {iterations} salt {salt}")

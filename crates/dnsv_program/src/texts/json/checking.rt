@@ -22,7 +22,7 @@ pub fn verdict_json(
     alloc: Global,
     asked: &Asked<'_>,
     rrsets: &[Rrset<'_>],
-    report: &Report,
+    report: &Report<'_>,
     why: &Option<Explanation>,
 ) -> Result<String, AllocError>
     ensures { IfOk result (λ text. string_bytes text
@@ -44,7 +44,7 @@ fn push_verdict(
     text: &mut String,
     why: bool,
     asked: &Asked<'_>,
-    verdict: &Verdict,
+    verdict: &Verdict<'_>,
 ) -> Result<(), AllocError>
     ensures { OnOk result (string_bytes text.new ≡ string_bytes text.old
         ++ (codes "{" ++ parted true (specs.verdict_members why asked.now.name.now asked.now.rtype.0 asked.now.moment
@@ -118,7 +118,7 @@ pub fn push_cut(text: &mut String, cut: &Name) -> Result<(), AllocError>
 }
 
 /// Adds the entries that are still to be checked.
-pub fn push_todo(text: &mut String, entries: &Entries) -> Result<(), AllocError>
+pub fn push_todo(text: &mut String, entries: &Entries<'_>) -> Result<(), AllocError>
     ensures { OnOk result (string_bytes text.new
         ≡ string_bytes text.old ++ parted false (specs.todo_member entries.now ∷ [])) }
 {

@@ -5,11 +5,11 @@ ghost use Rattle.dnsv_program.specs.Texts.Todo as specs;
 
 use crate::command_line::moment::Moment;
 use crate::texts::json::{push_comma, push_octets};
-use dnsv_verifier::{BorrowedEntry, Entries};
+use dnsv_verifier::{Entries, Entry};
 use std::alloc::{AllocError, Global};
 
 /// The object with the entries.
-pub fn todo_json(alloc: Global, moment: Moment, entries: &Entries) -> Result<String, AllocError>
+pub fn todo_json(alloc: Global, moment: Moment, entries: &Entries<'_>) -> Result<String, AllocError>
     ensures { IfOk result (λ text. string_bytes text ≡ specs.todo_text true moment entries.now) }
 {
     let mut text = String::new(alloc);
@@ -24,7 +24,7 @@ pub fn todo_json(alloc: Global, moment: Moment, entries: &Entries) -> Result<Str
 }
 
 /// Adds an array of the objects of entries.
-pub fn push_entries(text: &mut String, entries: &Entries) -> Result<(), AllocError>
+pub fn push_entries(text: &mut String, entries: &Entries<'_>) -> Result<(), AllocError>
     ensures { OnOk result (string_bytes text.new
         ≡ string_bytes text.old ++ array (map specs.todo_json entries.now)) }
 {
@@ -35,7 +35,7 @@ pub fn push_entries(text: &mut String, entries: &Entries) -> Result<(), AllocErr
 }
 
 /// Adds the objects of entries, with commas between them.
-fn push_objects(text: &mut String, entries: &Entries) -> Result<(), AllocError>
+fn push_objects(text: &mut String, entries: &Entries<'_>) -> Result<(), AllocError>
     ensures { OnOk result (string_bytes text.new
         ≡ string_bytes text.old ++ parted true (map specs.todo_json entries.now)) }
 {
@@ -47,11 +47,7 @@ fn push_objects(text: &mut String, entries: &Entries) -> Result<(), AllocError>
 }
 
 /// Adds the object of an entry, behind others or as the first.
-fn push_entry(
-    text: &mut String,
-    first: &mut bool,
-    entry: &BorrowedEntry<'_>,
-) -> Result<(), AllocError>
+fn push_entry(text: &mut String, first: &mut bool, entry: &Entry<'_>) -> Result<(), AllocError>
     ensures text { OnOk result (string_bytes text.new
         ≡ string_bytes text.old ++ parted first.old (specs.todo_json entry.now ∷ [])) }
     ensures first { OnOk result (first.new ≡ false) }
@@ -62,16 +58,16 @@ fn push_entry(
 }
 
 /// Adds the object of an entry.
-fn push_members(text: &mut String, entry: &BorrowedEntry<'_>) -> Result<(), AllocError>
+fn push_members(text: &mut String, entry: &Entry<'_>) -> Result<(), AllocError>
     ensures { OnOk result (string_bytes text.new ≡ string_bytes text.old ++ specs.todo_json entry.now) }
 {
-    let algorithm = entry.algorithm().0;
+    let algorithm = entry.algorithm.0;
     write!(text, "{{\"algorithm\":{algorithm},\"key\":")?;
-    push_octets(text, entry.key())?;
+    push_octets(text, entry.key.as_slice())?;
     text.push_str(",\"data\":")?;
-    push_octets(text, entry.signed_data())?;
+    push_octets(text, entry.signed_data.as_slice())?;
     text.push_str(",\"signature\":")?;
-    push_octets(text, entry.signature())?;
+    push_octets(text, entry.signature.as_slice())?;
     text.push_str("}")?;
     Ok(())
 }

@@ -38,7 +38,7 @@ pub new-requires : goal.new-requires
 new-requires g c =
     let start : into_iter_items c.into_iter-each-iterator.result ≡ c.in_ok-asked.asked.numbers.items = search rules in
     let all : c.loop-each.yielded ≡ c.in_ok-asked.asked.numbers.items = yielded_all _ _ _ (nil_from_length _ (sym c.loop-each.each-iterator.rest.ok.0 ∙ c.in-None.ensures.steps.0)) (c.loop-each.invariant.whole ∙ start) in
-    let parts = c.in_ok-asked.asked.parts.value in
+    let parts = c.in_ok-asked.asked.parts in
     let listed = ap (answers_of parts) (c.loop-each.invariant.said ∙ ap (map (λ each. (each, g.V.Verifier.meaning c.args.verifier.now (entry_of parts each)))) all) ∙ answered_numbers (g.V.Verifier.meaning c.args.verifier.now) parts c.in_ok-asked.asked.numbers.items in
     subst (λ answers. IsStrictlySortedBy entry_cmp (map (λ each. each.0) answers)) (sym listed)
     (subst (IsStrictlySortedBy entry_cmp) (sym (keys_of-answered (g.V.Verifier.meaning c.args.verifier.now) (map (entry_of parts) c.in_ok-asked.asked.numbers.items))) c.in_ok-asked.ensures.rising)
@@ -47,7 +47,7 @@ pub returns-clause-table : goal.returns-clause-table
 returns-clause-table g c =
     let start : into_iter_items c.into_iter-each-iterator.result ≡ c.in_ok-asked.asked.numbers.items = search rules in
     let all : c.loop-each.yielded ≡ c.in_ok-asked.asked.numbers.items = yielded_all _ _ _ (nil_from_length _ (sym c.loop-each.each-iterator.rest.ok.0 ∙ c.in-None.ensures.steps.0)) (c.loop-each.invariant.whole ∙ start) in
-    let parts = c.in_ok-asked.asked.parts.value in
+    let parts = c.in_ok-asked.asked.parts in
     let listed = ap (answers_of parts) (c.loop-each.invariant.said ∙ ap (map (λ each. (each, g.V.Verifier.meaning c.args.verifier.now (entry_of parts each)))) all) ∙ answered_numbers (g.V.Verifier.meaning c.args.verifier.now) parts c.in_ok-asked.asked.numbers.items in
     rw (c.new.ensures, ← c.rrsets.ensures.value)
     record {

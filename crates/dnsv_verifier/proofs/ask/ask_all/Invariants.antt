@@ -8,7 +8,7 @@ use Rattle.dnsv_verifier.proofs.ask.ask_all.Given as goal
 -- those that were asked, and who is left
 abbrev pub invariant-loop-each : goal.invariant-loop-each
 invariant-loop-each g l = record {
-  said : l.answers.items ≡ map (λ each. (each, g.V.Verifier.meaning l.verifier (entry_of l.parts.value each))) l.yielded;
+  said : l.answers.items ≡ map (λ each. (each, g.V.Verifier.meaning l.verifier (entry_of l.parts each))) l.yielded;
   number : vec_len l.answers ≡ length l.yielded;
   ticks : l.count ≡ counted l.initial.count (length l.yielded);
   whole : l.yielded ++ into_iter_items l.each-iterator ≡ into_iter_items l.initial.each-iterator;

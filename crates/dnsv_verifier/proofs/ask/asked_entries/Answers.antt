@@ -1,9 +1,8 @@
 use Rattle.std.proofs.Common.{List, [], map, sym, ◌∙◌, subst}
 use Rattle.std.specs.List.{Contains}
-use Rattle.std.specs.List.Sorted.{IsStrictlySortedBy}
 use Rattle.dnsv_verifier.specs.Admissible.{DnskeyRecord}
 use Rattle.dnsv_verifier.specs.Asking.{AddsJust, ComesOfSome, IsEntryOfMade, MadeSignature}
-use Rattle.dnsv_verifier.specs.Numbers.{PartLists, entry_of, key_cmp, signature_cmp}
+use Rattle.dnsv_verifier.specs.Numbers.{entry_of}
 use Rattle.dnsv_verifier.proofs.EntryLemmas.{just_asked}
 use Rattle.dnsv_verifier.proofs.NumberLemmas.{rising_entries}
 use Rattle.dnsv_verifier.proofs.ask.asked_entries.Goals as goal
@@ -14,15 +13,11 @@ entry_numbers-requires-clause-made c = λ each found.
 
 pub returns-clause-rising : goal.returns-clause-rising
 returns-clause-rising c =
-    let keys = subst (λ (parts : PartLists). IsStrictlySortedBy key_cmp parts.keys) c.parts.view_is c.parts.invariant.0 in
-    let signatures = subst (λ (parts : PartLists). IsStrictlySortedBy signature_cmp parts.signatures) c.parts.view_is c.parts.invariant.1 in
-    rw c.in_ok-new.ensures.ok
-    (rising_entries c.in_ok-parts.parts keys signatures c.in_ok-numbers.numbers.items c.in_ok-numbers.ensures.all c.in_ok-numbers.ensures.rising)
+    rising_entries c.in_ok-parts.parts c.in_ok-parts.ensures.rising.0 c.in_ok-parts.ensures.rising.1 c.in_ok-numbers.numbers.items c.in_ok-numbers.ensures.all c.in_ok-numbers.ensures.rising
 
 pub returns-clause-asked : goal.returns-clause-asked
 returns-clause-asked c =
     let entries = map (entry_of c.in_ok-parts.parts) c.in_ok-numbers.numbers.items in
     let by_made = subst (λ (mades : List MadeSignature). AddsJust (ComesOfSome (IsEntryOfMade c.as_slice-3.result.now) mades) [] entries) c.as_slice-4.ensures.value c.in_ok-numbers.ensures.adds in
     let adds = subst (λ (keys : List DnskeyRecord). AddsJust (ComesOfSome (IsEntryOfMade keys) c.in_ok-made.made.items) [] entries) c.as_slice-3.ensures by_made in
-    rw c.in_ok-new.ensures.ok
-    (just_asked c.args.moment c.args.rrsets.now c.in_ok-keys.keys c.in_ok-keys.ensures c.in_ok-made.made.items c.in_ok-made.ensures entries adds)
+    just_asked c.args.moment c.args.rrsets.now c.in_ok-keys.keys c.in_ok-keys.ensures c.in_ok-made.made.items c.in_ok-made.ensures entries adds

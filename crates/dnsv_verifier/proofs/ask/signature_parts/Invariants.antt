@@ -3,4 +3,4 @@ use Rattle.dnsv_verifier.proofs.ask.signature_parts.Given as goal
 
 -- the parts of the signatures so far
 abbrev pub invariant-loop-each : goal.invariant-loop-each
-invariant-loop-each l = map (λ each. each.value) l.parts.items ≡ map (λ each. each.part) (take l.each-index l.made)
+invariant-loop-each l = l.parts.items ≡ map (λ each. each.part) (take l.each-index l.made)

@@ -36,7 +36,7 @@ pub returns-clause-all : goal.returns-clause-all
 returns-clause-all c = λ earlier rdata is are.
     subst (λ pairs. AreParameters (earlier ++ rdata ∷ []) pairs)
     (append_assoc c.args.kept.now c.args.fresh.now.items (c.args.nsec3.now.parameters ∷ [])
-    ∙ ap (λ salt. c.args.kept.now ++ (c.args.fresh.now.items ++ record { iterations = c.args.nsec3.now.parameters.iterations; salt = salt } ∷ [])) (sym (c.in_ok-copy_of.ensures ∙ c.as_slice-2.ensures))
+    ∙ ap (λ salt. c.args.kept.now ++ (c.args.fresh.now.items ++ record { iterations = c.args.nsec3.now.parameters.iterations; salt = salt } ∷ [])) (sym c.copied.ensures)
     ∙ ap (λ fresh. c.args.kept.now ++ fresh) (sym c.in_ok-push.ensures.items))
     (AreParameters-new earlier (c.args.kept.now ++ c.args.fresh.now.items) are rdata (Some c.args.nsec3.now.parameters)
     (pair_of_usable rdata c.args.nsec3.now is (c.is_usable.ensures.0 c.if-not-is_usable.false) (λ other. c.record_laws.ensures.one_nsec3 rdata c.args.nsec3.now other is))
@@ -48,8 +48,8 @@ returns-clause-few c = λ few.
     omega (
       arith,
       ap (λ fresh. length (c.args.kept.now ++ fresh)) c.in_ok-push.ensures.items,
-      length-append c.args.kept.now (c.args.fresh.now.items ++ record { iterations = c.args.nsec3.now.parameters.iterations; salt = c.in_ok-copy_of.field-0 } ∷ []),
-      length-append c.args.fresh.now.items (record { iterations = c.args.nsec3.now.parameters.iterations; salt = c.in_ok-copy_of.field-0 } ∷ []),
+      length-append c.args.kept.now (c.args.fresh.now.items ++ record { iterations = c.args.nsec3.now.parameters.iterations; salt = c.copied.result } ∷ []),
+      length-append c.args.fresh.now.items (record { iterations = c.args.nsec3.now.parameters.iterations; salt = c.copied.result } ∷ []),
       c.if-saturating_add-ge-PARAMETERS_LIMIT.false,
       c.saturating_add.ensures,
       c.len.ensures,

@@ -12,6 +12,6 @@ returns-clause-order c =
 pub returns-clause-members : goal.returns-clause-members
 returns-clause-members c = λ each.
     let given = c.loop-parameters.invariant ∙ take_all c.loop-parameters.parameters-index c.args.all.now c.loop-parameters-test.false in
-    subst (λ xs. Contains xs each ↔ Contains (map (λ each. each.now) c.dedup.new.self.items) each) given
+    subst (λ xs. Contains xs each ↔ Contains (map (λ each. each.parameters.now) c.dedup.new.self.items) each) given
     (members_in_order c.loop-parameters.ordered.items c.sort_unstable.new.self.items c.dedup.new.self.items c.sort_unstable.ensures.sorted (dedup_is _ _ _ c.dedup.ensures.filtered)
     c.sort_unstable.ensures.permutation each)

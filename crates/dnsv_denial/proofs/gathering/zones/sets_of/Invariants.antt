@@ -5,7 +5,7 @@ use Rattle.dnsv_zones.specs.chains.HashedNames.{hashes_for}
 use Rattle.dnsv_denial.proofs.lemmas.gathering.GatherZoneLemmas.{AreSetsTo}
 use Rattle.dnsv_denial.proofs.gathering.zones.sets_of.Given as goal
 
-abbrev pub invariant-loop-parameters : goal.invariant-loop-parameters
-invariant-loop-parameters l =
-    AreSetsTo l.name l.parameters-items l.parameters-index l.sets.items
+abbrev pub invariant-loop-each : goal.invariant-loop-each
+invariant-loop-each l =
+    AreSetsTo l.name l.each-items l.each-index l.sets.items
     × (l.count ≡ counted l.initial.count (hashes_for l.name (map (λ set. set.parameters.now) l.sets.items)))

@@ -3,8 +3,8 @@ use Rattle.dnsv_canonical.specs.SignedData.{IsSignedData}
 use Rattle.dnsv_verifier.specs.Admissible.{IsVerifiable}
 use Rattle.dnsv_verifier.specs.Table.{TableContents, table_answer}
 use Rattle.dnsv_explain.specs.Explained.{setting_in}
-use Rattle.dnsv_explain.specs.faults.AnswerSearch.{IsAnsweredBySome, IsBestOf}
-use Rattle.dnsv_explain.specs.faults.KeySearch.{IsNamedIn}
+use Rattle.dnsv_explain.specs.faults.searches.AnswerSearch.{IsAnsweredBySome, IsBestOf}
+use Rattle.dnsv_explain.specs.faults.searches.KeySearch.{IsNamedIn}
 use Rattle.dnsv_explain.specs.faults.SignatureFaults.{IsAnswered}
 use Rattle.dnsv_explain.proofs.lemmas.faults.VerifierLemmas.{answers_over, best_same}
 use Rattle.dnsv_explain.proofs.faults.answers.best_answer.Goals as goal

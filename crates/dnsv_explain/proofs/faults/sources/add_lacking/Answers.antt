@@ -1,9 +1,9 @@
-use Rattle.std.proofs.Common.{Bor, List, inl, inr, map, refl, subst, sym}
+use Rattle.std.proofs.Common.{List, inl, inr, map, refl, subst, sym}
 use Rattle.std.proofs.lemmas.Option.{MatchOption-at_none, MatchOption-at_some}
 use Rattle.dnsv_names.specs.Name.{rightmost}
-use Rattle.dnsv_records.specs.declared.nsec3.Nsec3Parameters.{Nsec3Parameters}
 use Rattle.dnsv_canonical.specs.Evidence.{AreParameters, nsec3_rdata}
 use Rattle.dnsv_canonical.specs.Rrsets.{ReceivedRrset}
+use Rattle.dnsv_denial.specs.declared.gathering.parameters.OrderedParameters.{OrderedParameters}
 use Rattle.dnsv_explain.specs.Explained.{setting_in}
 use Rattle.dnsv_explain.specs.faults.Listing.{AreOfEach}
 use Rattle.dnsv_explain.specs.faults.Order.{AreLacking, AreLinesOfSources, names_up}
@@ -22,9 +22,9 @@ add_zones-requires-clause-parameters c =
     let rrsets = c.args.evidence.now.rrsets in
     let given = c.nsec3_parameters-all.result.now in
     let Are : List ReceivedRrset → Type 0 = λ each. AreParameters (nsec3_rdata each) given in
-    let All : List (Bor Nsec3Parameters) → Type 0 = λ each. AreAllParameters rrsets (map (λ one. one.now) each) in
+    let All : List OrderedParameters → Type 0 = λ each. AreAllParameters rrsets (map (λ one. one.parameters.now) each) in
     subst All (sym c.deref.ensures.value)
-    (all_parameters rrsets given (map (λ one. one.now) c.in_ok-parameters.parameters.items)
+    (all_parameters rrsets given (map (λ one. one.parameters.now) c.in_ok-parameters.parameters.items)
     (subst Are c.capture.ensures c.nsec3_parameters-all.ensures) c.in_ok-parameters.ensures.order c.in_ok-parameters.ensures.members)
 
 pub returns : goal.returns

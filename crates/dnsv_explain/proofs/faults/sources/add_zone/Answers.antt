@@ -51,6 +51,6 @@ returns c =
     c.add_nsec3s.new.lines.items in
     let Below : Labels → Type 0 = λ each. IsAtOrBelow speaker each in
     subst To c.suffix-zone.ensures.labels
-    (zone_added setting name speaker zone c.args.rtype.0 (λ each. each.now) c.args.parameters.now _ _ _ c.requires.parameters
+    (zone_added setting name speaker zone c.args.rtype.0 (λ each. each.parameters.now) c.args.parameters.now _ _ _ c.requires.parameters
     (subst Below (sym c.suffix-zone.ensures.labels) (speaks_or_above name c.args.speaker c.args.labels c.if-labels-speaker.false))
     (c.in_ok-add_nsecs.ensures setting speaker nsecs test) (c.in_ok-add_nsec3s.ensures setting speaker nsec3s test))

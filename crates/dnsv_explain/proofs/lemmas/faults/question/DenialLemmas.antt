@@ -7,7 +7,7 @@ use Rattle.dnsv_names.specs.Tree.TreeLaws.{at_or_below_length}
 use Rattle.dnsv_canonical.specs.Rrsets.{ReceivedRrset}
 use Rattle.dnsv_explain.specs.Explained.{Setting}
 use Rattle.dnsv_explain.specs.faults.Listing.{AddsThose, AreThose}
-use Rattle.dnsv_explain.specs.faults.NeededSearch.{AreLabelsOf}
+use Rattle.dnsv_explain.specs.faults.searches.NeededSearch.{AreLabelsOf}
 use Rattle.dnsv_explain.specs.faults.Order.{AreDenialLines, IsOfNeeded}
 use Rattle.dnsv_explain.specs.faults.RrsetLines.{AreRrsetLines}
 use Rattle.dnsv_explain.specs.faults.Zones.{IsDenial, IsNeeded}

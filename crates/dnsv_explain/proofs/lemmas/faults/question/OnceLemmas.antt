@@ -14,7 +14,7 @@ use Rattle.dnsv_canonical.specs.Rrsets.{first_appearances}
 use Rattle.dnsv_names.specs.Name.{Labels}
 use Rattle.dnsv_verdict.specs.Verdict.{HasAnchor}
 use Rattle.dnsv_explain.specs.Explained.{Setting}
-use Rattle.dnsv_explain.specs.faults.NeededSearch.{IsSaidWhere}
+use Rattle.dnsv_explain.specs.faults.searches.NeededSearch.{IsSaidWhere}
 use Rattle.dnsv_explain.specs.faults.Order.{IsSaid, same_text}
 use Rattle.dnsv_explain.specs.line.{line_text}
 use Rattle.dnsv_explain.specs.declared.line.Line.{Line}

@@ -6,9 +6,9 @@ use Rattle.dnsv_verifier.specs.Admissible.{DnskeyRecord}
 use Rattle.dnsv_verifier.specs.Asking.{AreKeysOf}
 use Rattle.dnsv_explain.specs.Explained.{Setting}
 use Rattle.dnsv_explain.specs.faults.Listing.{AddsThose, AreOfEach, AreOfNumbered, AreParted, AreWhere}
-use Rattle.dnsv_explain.specs.faults.NeededSearch.{AreSigners}
+use Rattle.dnsv_explain.specs.faults.searches.NeededSearch.{AreSigners}
 use Rattle.dnsv_explain.specs.faults.Order.{AreDnameLines, AreEndLines, AreFaultParts, AreGoalClosers, AreGoalLines, AreLacking, AreLinesOfDenials, AreLinesOfZones, names_down}
-use Rattle.dnsv_explain.specs.faults.Repeats.{AddsNew, AreThinned}
+use Rattle.dnsv_explain.specs.faults.searches.Repeats.{AddsNew, AreThinned}
 use Rattle.dnsv_explain.specs.faults.Zones.{HasSignedGoal}
 use Rattle.dnsv_explain.specs.declared.faults.question.signers.Signers.{Signers}
 use Rattle.dnsv_explain.specs.declared.line.Line.{Line}

@@ -6,8 +6,8 @@ use Rattle.std.specs.List.{AllByRecursion, Contains, list_any}
 use Rattle.dnsv_canonical.proofs.GroupLemmas.{first_appearances-push}
 use Rattle.dnsv_canonical.specs.Rrsets.{first_appearances}
 use Rattle.dnsv_explain.specs.faults.Listing.{AddsThose, AreOfNumbered, AreThose}
-use Rattle.dnsv_explain.specs.faults.Repeats.{AddsNew, IsThinned}
-use Rattle.dnsv_explain.specs.faults.Repeats.IsThinned.{whole, without}
+use Rattle.dnsv_explain.specs.faults.searches.Repeats.{AddsNew, IsThinned}
+use Rattle.dnsv_explain.specs.faults.searches.Repeats.IsThinned.{whole, without}
 use Rattle.dnsv_explain.specs.declared.line.Line.{Line}
 use Rattle.dnsv_explain.proofs.lemmas.faults.ListingLemmas.{all_added, next_added, none_added}
 use Rattle.dnsv_explain.proofs.lemmas.faults.TruthLemmas.{first_or_rest, none_in}

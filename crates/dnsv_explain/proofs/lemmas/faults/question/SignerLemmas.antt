@@ -10,7 +10,7 @@ use Rattle.dnsv_canonical.specs.Index.{numbers_at}
 use Rattle.dnsv_canonical.specs.Rrsets.{IsNumbered, ReceivedRrset}
 use Rattle.dnsv_verifier.proofs.AskLemmas.{adds_nothing, adds_same}
 use Rattle.dnsv_verifier.specs.Asking.{AddsJust, ComesOfSome}
-use Rattle.dnsv_explain.specs.faults.NeededSearch.{AreLabelsOf, AreSigners, HasDsSigner, IsAbove, IsDenialLabels, IsDsLabels, IsGoalLabels, IsNumberWhere}
+use Rattle.dnsv_explain.specs.faults.searches.NeededSearch.{AreLabelsOf, AreSigners, HasDsSigner, IsAbove, IsDenialLabels, IsDsLabels, IsGoalLabels, IsNumberWhere}
 use Rattle.dnsv_explain.specs.faults.Zones.{HasDenialSigner, HasGoalSigner, HasSignedGoal, HasSigner}
 use Rattle.dnsv_explain.specs.declared.faults.question.signers.Signers.{Signers}
 use Rattle.dnsv_explain.proofs.lemmas.NumberedLemmas.{among, same_number}

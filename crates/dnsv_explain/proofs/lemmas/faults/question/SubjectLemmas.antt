@@ -13,7 +13,7 @@ use Rattle.dnsv_records.specs.declared.rrsig.Rrsig.{Rrsig}
 use Rattle.dnsv_canonical.specs.Rrsets.{ReceivedRrset}
 use Rattle.dnsv_chain.proofs.ZipLemmas.{zip_at, zip_length}
 use Rattle.dnsv_verifier.specs.Admissible.{IsSignatureOf}
-use Rattle.dnsv_explain.specs.faults.NeededSearch.{HasOneAbove, HasOneBy}
+use Rattle.dnsv_explain.specs.faults.searches.NeededSearch.{HasOneAbove, HasOneBy}
 use Rattle.dnsv_explain.specs.faults.Zones.{HasSigner, HasSignerAbove}
 
 -- ---- a list that may be empty

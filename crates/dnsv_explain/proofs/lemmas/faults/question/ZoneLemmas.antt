@@ -10,9 +10,9 @@ use Rattle.dnsv_verdict.specs.Verdict.{HasAnchor}
 use Rattle.dnsv_explain.specs.Explained.{Setting}
 use Rattle.dnsv_explain.specs.faults.Keys.{IsTrustedZone}
 use Rattle.dnsv_explain.specs.faults.Listing.{AddsThose, AreOfEach}
-use Rattle.dnsv_explain.specs.faults.NeededSearch.{AreLabelsOf}
+use Rattle.dnsv_explain.specs.faults.searches.NeededSearch.{AreLabelsOf}
 use Rattle.dnsv_explain.specs.faults.Order.{AreDnameLines, AreLinesOfZones, AreNeededLines, IsLowestDname, dname_line, names_down}
-use Rattle.dnsv_explain.specs.faults.Repeats.{AddsNew}
+use Rattle.dnsv_explain.specs.faults.searches.Repeats.{AddsNew}
 use Rattle.dnsv_explain.specs.faults.ZoneLines.{AreZoneLines, zone_line}
 use Rattle.dnsv_explain.specs.faults.Zones.{HasRrset, IsNeeded}
 use Rattle.dnsv_explain.specs.declared.line.Line.{Line}

@@ -15,12 +15,12 @@ use Rattle.dnsv_denial.specs.gathering.Evidence.{IsRecordAt}
 use Rattle.dnsv_explain.specs.Explained.{Setting}
 use Rattle.dnsv_explain.specs.faults.Keys.{IsTrustedZone}
 use Rattle.dnsv_explain.specs.faults.Listing.{AreOfNumbered, AreThose}
-use Rattle.dnsv_explain.specs.faults.Order.{AreCloserLines, AreDenialLines, AreDnameLines, AreEndLines, AreFaultLines, AreFaultParts, AreGoalClosers, AreGoalLines, AreLacking, AreLinesOfDenials, AreLinesOfZones, AreNeededLines, AreNsec3At, AreNsec3Lines, AreNsec3sLines, IsCloserOpen, IsEndLine, IsLowestDname, IsOfNeeded, IsSaid, IsSpeakerOf, closer_line, dname_line, names_down, same_text}
+use Rattle.dnsv_explain.specs.faults.Order.{AreCloserLines, AreDenialLines, AreDnameLines, AreEndLines, AreFaultLines, AreFaultParts, AreGoalClosers, AreGoalLines, AreLacking, AreLinesOfDenials, AreLinesOfZones, AreNeededLines, AreNsec3At, AreNsec3Lines, AreNsec3sLines, IsCloserOpen, IsEndLine, IsLowestDname, IsOfNeeded, IsSaid, IsSpeakerOf, closer_line, dname_line, names_down, nsec3_line, same_text}
 use Rattle.dnsv_explain.specs.faults.Order.AreNsec3Lines.{iterations, unusable, usable}
 use Rattle.dnsv_explain.specs.faults.Order.IsEndLine.{denied, missing}
 use Rattle.dnsv_explain.specs.faults.Order.IsSpeakerOf.{none, speaker}
 use Rattle.dnsv_explain.specs.faults.RrsetLines.{AreRrsetLines, shown_of}
-use Rattle.dnsv_explain.specs.faults.Truth.{IsReasonTrue, MaySpeak}
+use Rattle.dnsv_explain.specs.faults.Truth.{IsReasonTrue, IsTrueOfNsec3, MaySpeak}
 use Rattle.dnsv_explain.specs.faults.ZoneLines.{AreZoneLines}
 use Rattle.dnsv_explain.specs.faults.Zones.{HasGoal, HasRrset, HasSignedGoal, IsDenial, IsGoal, IsNeeded}
 use Rattle.dnsv_explain.specs.unsigned_cuts.UnsignedCuts.{record_of}
@@ -28,6 +28,7 @@ use Rattle.dnsv_explain.specs.declared.line.Line.{Line}
 use Rattle.dnsv_explain.specs.declared.line.Line.TheVariants as line
 use Rattle.dnsv_explain.specs.declared.line.fault.Reason.{Reason}
 use Rattle.dnsv_explain.specs.declared.line.fault.Reason.TheVariants as reason
+use Rattle.dnsv_explain.specs.declared.line.fault.denial.WhyNsec3.{WhyNsec3}
 use Rattle.dnsv_explain.specs.declared.line.fault.denial.WhyNsec3.TheVariants as nsec3
 use Rattle.dnsv_explain.specs.declared.line.fault.zone.WhyZone.TheVariants as zone_why
 use Rattle.dnsv_explain.proofs.lemmas.faults.TruthLemmas.{rrset_so}
@@ -111,27 +112,11 @@ module _ (setting : Setting) (name : Labels) (t : ℕ) where
           → IsRecordAt setting.rrsets (record_of k place) rrset rdata
       record_at place rdata at = record { is_rrset = numbered; canonical = canonical; is_canonical = is_canonical; is_rdata = at }
 
-      record_so : (place : ℕ) (rdata : List ℕ) (lines : List Line) → IsNumbered canonical place rdata → (fields : Nsec3)
-          → IsNsec3 rdata fields → AreNsec3Lines rrset (record_of k place) fields lines → AreSo lines
-      record_so place rdata lines at fields read (iterations many) =
-          one_so IsSo lines
-          (reason.Nsec3 (record {
-            why = nsec3.Iterations fields.parameters.iterations;
-            owner = rrset.owner;
-            number = record_of k place;
-          })) refl
-          (record {
-            rrset = rrset;
-            rdata = rdata;
-            at = record_at place rdata at;
-            rtype = rtype;
-            owner = refl;
-            fields = fields;
-            read = read;
-            is = (many, refl);
-          })
-      record_so place rdata lines at fields read (unusable few is) =
-          one_so IsSo lines (reason.Nsec3 (record { why = nsec3.Unusable; owner = rrset.owner; number = record_of k place })) refl
+      word_so : (why : WhyNsec3) (place : ℕ) (rdata : List ℕ) → IsNumbered canonical place rdata → (fields : Nsec3)
+          → IsNsec3 rdata fields → IsTrueOfNsec3 rrset fields why
+          → AreSo (nsec3_line rrset (record_of k place) why ∷ [])
+      word_so why place rdata at fields read is =
+          one_so IsSo _ (reason.Nsec3 (record { why = why; owner = rrset.owner; number = record_of k place })) refl
           (record {
             rrset = rrset;
             rdata = rdata;
@@ -142,6 +127,12 @@ module _ (setting : Setting) (name : Labels) (t : ℕ) where
             read = read;
             is = is;
           })
+
+      record_so : (place : ℕ) (rdata : List ℕ) (lines : List Line) → IsNumbered canonical place rdata → (fields : Nsec3)
+          → IsNsec3 rdata fields → AreNsec3Lines rrset (record_of k place) fields lines → AreSo lines
+      record_so place rdata lines at fields read (iterations many) =
+          word_so (nsec3.Iterations fields.parameters.iterations) place rdata at fields read (many, refl)
+      record_so place rdata lines at fields read (unusable few is) = word_so nsec3.Unusable place rdata at fields read is
       record_so place rdata lines at fields read (usable few is) = none_so IsSo lines refl
 
       at_so : (place : ℕ) (rdata : List ℕ) (lines : List Line) → IsNumbered canonical place rdata → AreNsec3At k rrset place rdata lines

@@ -22,7 +22,7 @@ use Rattle.dnsv_explain.specs.Explained.{Setting}
 use Rattle.dnsv_explain.specs.Following.{IsNamed}
 use Rattle.dnsv_explain.specs.derivations.SignerSearch.{IsSignatureAt}
 use Rattle.dnsv_explain.specs.derivations.Ways.{HasSecured}
-use Rattle.dnsv_explain.specs.faults.AnswerSearch.{entry_over}
+use Rattle.dnsv_explain.specs.faults.searches.AnswerSearch.{entry_over}
 use Rattle.dnsv_explain.specs.faults.Keys.{HasKeys, IsNamedBy, IsTrustedZone, IsZoneKey, named_by}
 use Rattle.dnsv_explain.specs.faults.RrsetLines.{AreFaults, AreLinesAt, AreRrsetLines, AreSignatureLines, IsOfAnswers, IsRemark, IsTrueOf, fault_line, follows_line, shown_of}
 use Rattle.dnsv_explain.specs.faults.RrsetLines.AreRrsetLines.{secured, unsigned, unproved}

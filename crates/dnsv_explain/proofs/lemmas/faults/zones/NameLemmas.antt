@@ -14,7 +14,7 @@ use Rattle.dnsv_explain.specs.Explained.{Setting}
 use Rattle.dnsv_explain.specs.faults.Entries.{IsWantedBy, Wanted}
 use Rattle.dnsv_explain.specs.faults.Entries.Wanted.{by_digest, whole_key}
 use Rattle.dnsv_explain.specs.faults.Listing.{AddsThose}
-use Rattle.dnsv_explain.specs.faults.Repeats.{AddsName, AddsNew, AreSaidOfKeys, HasSelfFaults, key_name_cmp}
+use Rattle.dnsv_explain.specs.faults.searches.Repeats.{AddsName, AddsNew, AreSaidOfKeys, HasSelfFaults, key_name_cmp}
 use Rattle.dnsv_explain.specs.faults.ZoneLines.{AreSelfFaults}
 use Rattle.dnsv_explain.specs.declared.line.Line.{Line}
 use Rattle.dnsv_explain.specs.declared.line.derivation.KeyName.{KeyName}

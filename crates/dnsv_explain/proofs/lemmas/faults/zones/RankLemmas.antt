@@ -6,7 +6,7 @@ use Rattle.dnsv_names.specs.Name.{Labels}
 use Rattle.dnsv_explain.specs.Explained.{Setting}
 use Rattle.dnsv_explain.specs.faults.Entries.{IsMatchOf, IsWantedBy, Wanted, entry_rank}
 use Rattle.dnsv_explain.specs.faults.Listing.{AddsThose, AreOfEach, AreOfNumbered}
-use Rattle.dnsv_explain.specs.faults.Repeats.{AddsNew}
+use Rattle.dnsv_explain.specs.faults.searches.Repeats.{AddsNew}
 use Rattle.dnsv_explain.specs.faults.ZoneLines.{AreRankLines, AreSelfFaults, AreWordLines, entry_line}
 use Rattle.dnsv_explain.specs.faults.ZoneLines.AreRankLines.{said, unsaid}
 use Rattle.dnsv_explain.specs.faults.ZoneLines.ZoneSearch.{IsJudgedAt, differs, wanted_in}

@@ -10,8 +10,8 @@ use Rattle.dnsv_verifier.specs.declared.answer.Answer.{Answer}
 use Rattle.dnsv_verifier.specs.declared.answer.Answer.TheVariants.{Valid, Invalid, Unknown}
 use Rattle.dnsv_explain.specs.Explained.{Setting}
 use Rattle.dnsv_explain.specs.Following.{IsNamed}
-use Rattle.dnsv_explain.specs.faults.AnswerSearch.{IsBestOf}
-use Rattle.dnsv_explain.specs.faults.KeySearch.{HasKeyAt, IsNamedIn}
+use Rattle.dnsv_explain.specs.faults.searches.AnswerSearch.{IsBestOf}
+use Rattle.dnsv_explain.specs.faults.searches.KeySearch.{HasKeyAt, IsNamedIn}
 use Rattle.dnsv_explain.specs.faults.Keys.{HasKeys, IsNamedBy, named_by}
 use Rattle.dnsv_explain.specs.faults.SignatureFaults.{AreFaultsOf, IsAnswered, IsFaultOf, IsVerifierWord}
 use Rattle.dnsv_explain.specs.faults.ZoneLines.{AreWhyNotGood, AreWhys, MayBeBy}

@@ -3,42 +3,22 @@ ghost use Rattle.std.specs.Prelude.{Some};
 ghost use Rattle.std.specs.List.{flat_map};
 ghost use Rattle.dnsv_explain.specs.line.faults.Salt.{octet_text, salt_text};
 
-use dnsv_records::Octets;
 use std::fmt;
 
 /// A salt as octets in lower case hex, `-` where it has none (RFC 5155 3.3).
 #[derive(Clone, Copy)]
 pub struct SaltText<'a> {
-    pub salt: &'a Octets,
+    pub salt: &'a [u8],
 }
 
 impl<'a> fmt::Display for SaltText<'a> {
     ghost output = { λ text. Some (salt_text text.salt.now) };
 
     fn fmt<W: fmt::Write>(&self, f: &mut fmt::Formatter<W>) -> fmt::Result {
-        let octets = OctetsText {
-            octets: self.salt.as_slice(),
-        };
-        write!(f, "{octets}")
-    }
-}
-
-/// Octets in lower case hex, `-` where there are none.
-#[derive(Clone, Copy)]
-struct OctetsText<'a> {
-    octets: &'a [u8],
-}
-
-impl<'a> fmt::Display for OctetsText<'a> {
-    ghost output = { λ text. Some (salt_text text.octets.now) };
-
-    fn fmt<W: fmt::Write>(&self, f: &mut fmt::Formatter<W>) -> fmt::Result {
-        if self.octets.is_empty() {
+        if self.salt.is_empty() {
             return f.write_str("-");
         }
-        let digits = DigitsText {
-            octets: self.octets,
-        };
+        let digits = DigitsText { octets: self.salt };
         write!(f, "{digits}")
     }
 }

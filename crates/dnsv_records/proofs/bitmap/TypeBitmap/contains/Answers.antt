@@ -7,9 +7,9 @@ use Rattle.dnsv_records.proofs.bitmap.TypeBitmap.contains.Goals as goal
 
 pub returns : goal.returns
 returns c =
-    let octets = c.self.inside.octets.items in
+    let octets = c.self.inside.octets.now in
     let t = c.args.rtype.0 in
     let bits : c.window_bits-bits.result.now ≡ bits_of (blocks_of octets) (t / 256) =
-    c.window_bits-bits.ensures ∙ ap (λ xs. bits_of (blocks_of xs) (t / 256)) c.as_slice.ensures.value in
+    c.window_bits-bits.ensures in
     c.has_bit.ensures ∙ ap (λ xs. has_bit xs c.from.result) bits ∙ ap (has_bit (bits_of (blocks_of octets) (t / 256))) c.from.ensures
     ∙ sym (types_of-in octets t (omega arith)) ∙ ap (λ types. set.contains types t) c.self.view_is

@@ -14,16 +14,11 @@ returns-then-not-are_blocks-clause-fault c = λ some.
 
 pub returns-clause-found : goal.returns-clause-found
 returns-clause-found c =
-    rw c.in_ok-from_slice.ensures.items (Bitmap-types_of c.args.octets.now c.if-not-are_blocks.ensures)
+    Bitmap-types_of c.args.octets.now c.if-not-are_blocks.ensures
 
 pub returns-clause-every : goal.returns-clause-every
 returns-clause-every c = λ types spelled.
-    inl (ap Ok (ap types_of c.in_ok-from_slice.ensures.items ∙ types_of-Bitmap c.args.octets.now types spelled))
-
-pub returns-in_err-from_slice-clause-every_fault : goal.returns-in_err-from_slice-clause-every_fault
-returns-in_err-from_slice-clause-every_fault c = λ field bad.
-    let octets = c.args.octets.now in
-    absurd (no_bitmap_fault octets (types_of octets, Bitmap-types_of octets c.if-not-are_blocks.ensures) field bad)
+    inl (ap Ok (types_of-Bitmap c.args.octets.now types spelled))
 
 pub returns-clause-every_fault : goal.returns-clause-every_fault
 returns-clause-every_fault c = λ field bad.

@@ -48,8 +48,8 @@ returns-clause-every c = λ nsec3 is.
     let algorithm = number_at-one rdata 0 (omega arith) ∙ sym is.algorithm in
     let flags = number_at-one rdata 1 (omega arith) ∙ sym is.flags in
     let iterations = c.u16_at.ensures ∙ sym is.iterations in
-    let salt_copied = c.in_ok-copy_of.ensures ∙ salt.0 in
-    let hash_copied = c.in_ok-copy_of-2.ensures ∙ hash.0 in
+    let salt_copied = c.of.ensures ∙ salt.0 in
+    let hash_copied = c.of-2.ensures ∙ hash.0 in
     inl (λ i. Ok record {
       algorithm = record { 0 = algorithm i };
       flags = record { 0 = flags i };
@@ -71,22 +71,6 @@ returns-in_err-types-clause-every_fault c = λ field bad.
     let salt = sym (take_rest rdata 4) ∙ c.in-Some.ensures.found in
     let behind = nsec3_fault_behind rdata c.in-Some.salt.now c.in-Some.behind_salt.now c.in-Some-split_counted.next_hash.now c.in-Some-split_counted.bits.now c.if-rdata-lt-HEAD.false salt c.in-Some-split_counted.ensures.found field bad in
     rw (p.1, p.2) (same_error c.in_err-types.field-0.0 (BadRdata field) (c.in_err-types.ensures.every_fault field behind))
-
-pub returns-in_err-copy_of-clause-every_fault : goal.returns-in_err-copy_of-clause-every_fault
-returns-in_err-copy_of-clause-every_fault c = λ field bad.
-    let rdata = c.args.rdata.now in
-    let salt = sym (take_rest rdata 4) ∙ c.in-Some.ensures.found in
-    let behind = nsec3_fault_behind rdata c.in-Some.salt.now c.in-Some.behind_salt.now c.in-Some-split_counted.next_hash.now c.in-Some-split_counted.bits.now c.if-rdata-lt-HEAD.false salt c.in-Some-split_counted.ensures.found field bad in
-    let told = c.in_ok-types.ensures.every_fault field behind in
-    cc
-
-pub returns-in_err-copy_of-2-clause-every_fault : goal.returns-in_err-copy_of-2-clause-every_fault
-returns-in_err-copy_of-2-clause-every_fault c = λ field bad.
-    let rdata = c.args.rdata.now in
-    let salt = sym (take_rest rdata 4) ∙ c.in-Some.ensures.found in
-    let behind = nsec3_fault_behind rdata c.in-Some.salt.now c.in-Some.behind_salt.now c.in-Some-split_counted.next_hash.now c.in-Some-split_counted.bits.now c.if-rdata-lt-HEAD.false salt c.in-Some-split_counted.ensures.found field bad in
-    let told = c.in_ok-types.ensures.every_fault field behind in
-    cc
 
 pub returns-clause-every_fault : goal.returns-clause-every_fault
 returns-clause-every_fault c = λ field bad.

@@ -14,8 +14,8 @@ pub returns : goal.returns
 returns c =
     let verifiable : IsVerifiable c.args.moment c.args.rrset.now c.args.rrsig.now = c.is_verifiable.ensures.0 c.if-not-is_verifiable.false in
     let by_some : IsMadeBySome c.args.keys.now c.args.rrsig.now = c.is_made_by_some.ensures.0 c.if-not-is_made_by_some.false in
-    let of : IsPartOf c.args.rrset.now c.args.rrsig.now c.in_ok-new.field-0.value = rw c.in_ok-new.ensures.ok (search rules) in
-    let made : MadeSignature = record { rrsig = c.args.rrsig.now; part = c.in_ok-new.field-0.value } in
+    let of : IsPartOf c.args.rrset.now c.args.rrsig.now c.in-Some.part = search rules in
+    let made : MadeSignature = record { rrsig = c.args.rrsig.now; part = c.in-Some.part } in
     let it : IsMadeOf c.args.moment c.args.keys.now c.args.rrset.now c.args.rrsig.now made =
     record { same = refl; verifiable = verifiable; by_some = by_some; part_of = of } in
     rw c.in_ok-push.ensures.items

@@ -4,5 +4,5 @@ use Rattle.dnsv_verifier.proofs.panel.PanelVerifier.answer.Given as goal
 
 abbrev pub invariant-loop-member : goal.invariant-loop-member
 invariant-loop-member g l =
-    joint_answer (map (λ member. (g.dyn-1.0.entry member.vtable).1.meaning member.value record { algorithm = l.algorithm; key = l.key; signed_data = l.signed_data; signature = l.signature }) l.member-items)
-    ≡ joined l.joint (joint_answer (map (λ member. (g.dyn-1.0.entry member.vtable).1.meaning member.value record { algorithm = l.algorithm; key = l.key; signed_data = l.signed_data; signature = l.signature }) (drop l.member-index l.member-items)))
+    joint_answer (map (λ member. (g.dyn-1.0.entry member.vtable).1.meaning member.value l.entry) l.member-items)
+    ≡ joined l.joint (joint_answer (map (λ member. (g.dyn-1.0.entry member.vtable).1.meaning member.value l.entry) (drop l.member-index l.member-items)))

@@ -11,7 +11,7 @@ use Rattle.dnsv_verifier.proofs.statements.StatementsVerifier.answer.Goals as go
 
 pub returns-in-Ok : goal.returns-in-Ok
 returns-in-Ok c =
-    let asked : Entry = record { algorithm = c.args.algorithm; key = c.args.key.now; signed_data = c.args.signed_data.now; signature = c.args.signature.now } in
+    let asked : Entry = c.args.entry.now in
     let by_entry = c.in-Ok.ensures.position (λ each. entry_cmp each.0 asked) (always_returns_same _ _ _ (λ a r f called. search rules)) in
     let place_is = rw c.deref.ensures.value at c.in-Ok.ensures.bound in
     let tied = rw c.deref.ensures.value at by_entry in
@@ -20,7 +20,7 @@ returns-in-Ok c =
 
 pub returns-in-Err : goal.returns-in-Err
 returns-in-Err c =
-    let asked : Entry = record { algorithm = c.args.algorithm; key = c.args.key.now; signed_data = c.args.signed_data.now; signature = c.args.signature.now } in
+    let asked : Entry = c.args.entry.now in
     let by_entry = c.in-Err.ensures.position (λ each. entry_cmp each.0 asked) (always_returns_same _ _ _ (λ a r f called. search rules)) in
     let absent = ap (λ (all : List (Entry × Word)). lookup (λ each. is_eq (entry_cmp asked each)) all) (sym (pairs_again _)) ∙ absent_from (λ (each : Entry × Word). each.0) (λ (each : Entry × Word). each.1) _ (rw c.deref.ensures.value c.self.invariant) asked c.in-Err.field-0 by_entry in
     rw (← c.self.view_is, ← c.deref.ensures.value) (sym (ap (λ (word : Option Word). answer_by word) absent))

@@ -10,14 +10,14 @@ use Rattle.dnsv_verifier.proofs.table.Table.hopeful.Goals as goal
 
 pub new-requires : goal.new-requires
 new-requires c =
-    let same : c.in_ok-clone.field-0.value ≡ c.self.inside.parts.value = search rules in
+    let same : c.copied.result ≡ c.self.inside.parts = search rules in
     let all = c.loop-numbers.invariant ∙ ap (map (λ each. (each.0, hoped_answer each.1))) (take_all _ _ c.loop-numbers-test.false ∙ c.deref-numbers-items.ensures.value) in
-    let listed = (λ i. answers_of (same i) (all i)) ∙ hoped_answers c.self.inside.parts.value c.self.inside.answers.items in
+    let listed = (λ i. answers_of (same i) (all i)) ∙ hoped_answers c.self.inside.parts c.self.inside.answers.items in
     subst (λ answers. IsStrictlySortedBy entry_cmp (map (λ each. each.0) answers)) (sym listed) (rising_hoped _ c.self.invariant)
 
 pub returns : goal.returns
 returns c =
-    let same : c.in_ok-clone.field-0.value ≡ c.self.inside.parts.value = search rules in
+    let same : c.copied.result ≡ c.self.inside.parts = search rules in
     let all = c.loop-numbers.invariant ∙ ap (map (λ each. (each.0, hoped_answer each.1))) (take_all _ _ c.loop-numbers-test.false ∙ c.deref-numbers-items.ensures.value) in
-    let listed = (λ i. answers_of (same i) (all i)) ∙ hoped_answers c.self.inside.parts.value c.self.inside.answers.items in
+    let listed = (λ i. answers_of (same i) (all i)) ∙ hoped_answers c.self.inside.parts c.self.inside.answers.items in
     c.new.ensures ∙ (λ i. record { moment = c.self.inside.moment; answers = listed i }) ∙ ap hopeful c.self.view_is

@@ -16,19 +16,19 @@ use Rattle.dnsv_verifier.proofs.table.Table.unknown.Goals.{then-eq+in_ok-push, e
 
 pub returns-clause-value : goal.returns-clause-value
 returns-clause-value c =
-    let same : c.in_ok-clone.field-0.value ≡ c.self.inside.parts.value = search rules in
+    let same : c.copied.result ≡ c.self.inside.parts = search rules in
     let numbers = c.loop-numbers.invariant
     ∙ ap (λ items. map (λ each. each.0) (filter (λ each. is_unknown each.1) items)) (take_all _ _ c.loop-numbers-test.false ∙ c.deref-numbers-items.ensures.value) in
     c.new.ensures ∙ (λ i. map (entry_of (same i)) (numbers i))
-    ∙ unknown_listed c.self.inside.parts.value c.self.inside.answers.items ∙ ap unknown_entries c.self.view_is
+    ∙ unknown_listed c.self.inside.parts c.self.inside.answers.items ∙ ap unknown_entries c.self.view_is
 
 pub returns-clause-rising : goal.returns-clause-rising
 returns-clause-rising c =
-    let same : c.in_ok-clone.field-0.value ≡ c.self.inside.parts.value = search rules in
+    let same : c.copied.result ≡ c.self.inside.parts = search rules in
     let numbers = c.loop-numbers.invariant
     ∙ ap (λ items. map (λ each. each.0) (filter (λ each. is_unknown each.1) items)) (take_all _ _ c.loop-numbers-test.false ∙ c.deref-numbers-items.ensures.value) in
-    let all = c.new.ensures ∙ (λ i. map (entry_of (same i)) (numbers i)) ∙ unknown_listed c.self.inside.parts.value c.self.inside.answers.items in
-    subst (λ (entries : List Entry). IsStrictlySortedBy entry_cmp entries) (sym all) (rising_filtered (λ each. is_unknown each.1) (answers_of c.self.inside.parts.value c.self.inside.answers.items) c.self.invariant)
+    let all = c.new.ensures ∙ (λ i. map (entry_of (same i)) (numbers i)) ∙ unknown_listed c.self.inside.parts c.self.inside.answers.items in
+    subst (λ (entries : List Entry). IsStrictlySortedBy entry_cmp entries) (sym all) (rising_filtered (λ each. is_unknown each.1) (answers_of c.self.inside.parts c.self.inside.answers.items) c.self.invariant)
 
 pub loop-numbers-preserved : goal.loop-numbers-preserved
 loop-numbers-preserved c =

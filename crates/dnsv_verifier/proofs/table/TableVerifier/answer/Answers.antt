@@ -12,10 +12,10 @@ use Rattle.dnsv_verifier.proofs.table.TableVerifier.answer.Goals as goal
 
 pub returns-in-Ok : goal.returns-in-Ok
 returns-in-Ok c =
-    let asked : Entry = record { algorithm = c.args.algorithm; key = c.args.key.now; signed_data = c.args.signed_data.now; signature = c.args.signature.now } in
-    let entry : EntryNumbers × Answer → Entry = λ each. entry_of c.self.inside.parts.value each.0 in
+    let asked : Entry = c.args.entry.now in
+    let entry : EntryNumbers × Answer → Entry = λ each. entry_of c.self.inside.parts each.0 in
     let value : EntryNumbers × Answer → Answer = λ each. each.1 in
-    let by_entry = c.in-Ok.ensures.position (λ each. entry_cmp (entry_of c.self.inside.parts.value each.0) asked) (always_returns_same _ _ _ (λ a r f called. search rules)) in
+    let by_entry = c.in-Ok.ensures.position (λ each. entry_cmp (entry_of c.self.inside.parts each.0) asked) (always_returns_same _ _ _ (λ a r f called. search rules)) in
     let place_is = rw c.deref.ensures.value at c.in-Ok.ensures.bound in
     let tied = rw c.deref.ensures.value at by_entry in
     let rising : IsStrictlySortedBy entry_cmp (map entry c.self.inside.answers.items) = subst (IsStrictlySortedBy entry_cmp) (entries_listed entry value c.self.inside.answers.items) c.self.invariant in
@@ -24,10 +24,10 @@ returns-in-Ok c =
 
 pub returns-in-Err : goal.returns-in-Err
 returns-in-Err c =
-    let asked : Entry = record { algorithm = c.args.algorithm; key = c.args.key.now; signed_data = c.args.signed_data.now; signature = c.args.signature.now } in
-    let entry : EntryNumbers × Answer → Entry = λ each. entry_of c.self.inside.parts.value each.0 in
+    let asked : Entry = c.args.entry.now in
+    let entry : EntryNumbers × Answer → Entry = λ each. entry_of c.self.inside.parts each.0 in
     let value : EntryNumbers × Answer → Answer = λ each. each.1 in
-    let by_entry = c.in-Err.ensures.position (λ each. entry_cmp (entry_of c.self.inside.parts.value each.0) asked) (always_returns_same _ _ _ (λ a r f called. search rules)) in
+    let by_entry = c.in-Err.ensures.position (λ each. entry_cmp (entry_of c.self.inside.parts each.0) asked) (always_returns_same _ _ _ (λ a r f called. search rules)) in
     let rising : IsStrictlySortedBy entry_cmp (map entry c.self.inside.answers.items) = subst (IsStrictlySortedBy entry_cmp) (entries_listed entry value c.self.inside.answers.items) c.self.invariant in
     let absent = absent_from entry value c.self.inside.answers.items rising asked c.in-Err.field-0 (rw c.deref.ensures.value at by_entry) in
     rw (← c.self.view_is) (sym (ap (λ (answer : Option Answer). unwrap_or answer Unknown) absent))

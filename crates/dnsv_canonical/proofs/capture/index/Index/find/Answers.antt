@@ -3,7 +3,7 @@ use Rattle.std.specs.List.{AllByRecursion}
 use Rattle.std.specs.declared.cmp.Ordering.TheVariants.{Greater}
 use Rattle.dnsv_canonical.specs.Index.Grouping.{Numbered, stands}
 use Rattle.dnsv_canonical.proofs.IndexLemmas.Layout.{length-firsts}
-use Rattle.dnsv_canonical.proofs.IndexLemmas.Search.{doubled, greater_from, halved, less_up_to, none_behind}
+use Rattle.dnsv_canonical.proofs.IndexLemmas.Search.{digits_left, greater_from, halves_left, less_up_to, none_behind}
 use Rattle.dnsv_canonical.proofs.capture.index.Index.find.Goals as goal
 
 pub loop-low-init : goal.loop-low-init
@@ -29,13 +29,8 @@ loop-low-preserved-in-Less c =
       few = omega (arith, c.loop-low-test.true, kept.few, kept.order);
       before = λ index. less_up_to (c.args.name.now, c.args.rtype.0) index.firsts _ c.first.result.now index.are.rising (c.first.ensures index) (sym c.compared.ensures ∙ c.in-Less.is);
       behind = kept.behind;
-      digits = λ digits below.
-          let more = kept.digits digits below in
-          let fewer = halved (c.loop-low.high - c.loop-low.low) _ more.0 (omega (arith, c.loop-low-test.true)) more.2 (omega (arith, c.loop-low-test.true)) in
-          (fewer.0, omega (arith, more.1, fewer.1), fewer.2);
-      halves = λ left below.
-          subst (λ n. length c.args.self.now.starts.items + 1 < 2 * 2 ^ n) (omega arith)
-          (kept.halves (suc left) (doubled (c.loop-low.high - c.loop-low.low) _ left (omega (arith, c.loop-low-test.true)) below));
+      digits = λ digits below. digits_left c.loop-low.count (c.loop-low.high - c.loop-low.low) _ digits (omega (arith, c.loop-low-test.true)) (omega (arith, c.loop-low-test.true)) (kept.digits digits below);
+      halves = λ left below. halves_left (length c.args.self.now.starts.items) c.loop-low.count (c.loop-low.high - c.loop-low.low) _ left (omega (arith, c.loop-low-test.true)) below kept.halves;
     }
 
 pub loop-low-preserved : goal.loop-low-preserved
@@ -47,13 +42,8 @@ loop-low-preserved c =
       few = omega (arith, c.loop-low-test.true, kept.few, kept.order);
       before = kept.before;
       behind = λ index. greater_from (c.args.name.now, c.args.rtype.0) index.firsts _ c.first.result.now index.are.rising (c.first.ensures index) (sym c.compared.ensures ∙ c.in-Greater.is);
-      digits = λ digits below.
-          let more = kept.digits digits below in
-          let fewer = halved (c.loop-low.high - c.loop-low.low) _ more.0 (omega (arith, c.loop-low-test.true)) more.2 (omega (arith, c.loop-low-test.true)) in
-          (fewer.0, omega (arith, more.1, fewer.1), fewer.2);
-      halves = λ left below.
-          subst (λ n. length c.args.self.now.starts.items + 1 < 2 * 2 ^ n) (omega arith)
-          (kept.halves (suc left) (doubled (c.loop-low.high - c.loop-low.low) _ left (omega (arith, c.loop-low-test.true)) below));
+      digits = λ digits below. digits_left c.loop-low.count (c.loop-low.high - c.loop-low.low) _ digits (omega (arith, c.loop-low-test.true)) (omega (arith, c.loop-low-test.true)) (kept.digits digits below);
+      halves = λ left below. halves_left (length c.args.self.now.starts.items) c.loop-low.count (c.loop-low.high - c.loop-low.low) _ left (omega (arith, c.loop-low-test.true)) below kept.halves;
     }
 
 pub returns-in-Equal-clause-found : goal.returns-in-Equal-clause-found

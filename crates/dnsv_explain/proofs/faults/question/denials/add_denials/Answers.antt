@@ -12,16 +12,16 @@ use Rattle.dnsv_explain.proofs.faults.question.denials.add_denials.Goals as goal
 
 pub loop-place-init : goal.loop-place-init
 loop-place-init c = λ t are.
-    none_added (AreOfNumbered (AreDenialLines (setting_in c.args.evidence.now) c.args.name.now t) 1 []) c.args.lines.now.items refl
+    none_added (AreOfNumbered (AreDenialLines (setting_in c.args.keyed.now.evidence.now) c.args.name.now t) 1 []) c.args.lines.now.items refl
 
 pub add_rrset-requires-clause-rrset : goal.add_rrset-requires-clause-rrset
 add_rrset-requires-clause-rrset c =
-    numbered_at c.args.evidence.now.rrsets c.rrsets-rrset-items.result.now c.loop-place.place c.rrset-item.result
+    numbered_at c.args.keyed.now.evidence.now.rrsets c.rrsets-rrset-items.result.now c.loop-place.place c.rrset-item.result
     c.rrsets-rrset-items.ensures c.loop-place-test.true c.rrset-item.is
 
 pub loop-place-preserved-then-not-is_denial : goal.loop-place-preserved-then-not-is_denial
 loop-place-preserved-then-not-is_denial c = λ t are.
-    let Are : ℕ → ReceivedRrset → List Line → Type 0 = AreDenialLines (setting_in c.args.evidence.now) c.args.name.now t in
+    let Are : ℕ → ReceivedRrset → List Line → Type 0 = AreDenialLines (setting_in c.args.keyed.now.evidence.now) c.args.name.now t in
     let place = c.loop-place.place in
     let rrset = c.rrset-item.result in
     next_added Are c.rrsets-rrset-items.result.now place rrset rrset c.args.lines.now.items _ _ c.loop-place-test.true c.rrset-item.is
@@ -30,7 +30,7 @@ loop-place-preserved-then-not-is_denial c = λ t are.
 
 pub loop-place-preserved : goal.loop-place-preserved
 loop-place-preserved c = λ t are.
-    let setting = setting_in c.args.evidence.now in
+    let setting = setting_in c.args.keyed.now.evidence.now in
     let place = c.loop-place.place in
     let rrset = c.rrset-item.result in
     next_added (AreDenialLines setting c.args.name.now t) c.rrsets-rrset-items.result.now place rrset rrset c.args.lines.now.items _ _
@@ -42,8 +42,8 @@ loop-place-preserved c = λ t are.
 pub returns : goal.returns
 returns c = λ t are.
     let Are : List ReceivedRrset → Type 0 = λ rrsets.
-    AddsThose (AreOfNumbered (AreDenialLines (setting_in c.args.evidence.now) c.args.name.now t) 1 rrsets) c.args.lines.now.items
+    AddsThose (AreOfNumbered (AreDenialLines (setting_in c.args.keyed.now.evidence.now) c.args.name.now t) 1 rrsets) c.args.lines.now.items
     c.loop-place.lines.items in
     subst Are c.rrsets-rrset-items.ensures
-    (all_added (AreDenialLines (setting_in c.args.evidence.now) c.args.name.now t) c.rrsets-rrset-items.result.now
+    (all_added (AreDenialLines (setting_in c.args.keyed.now.evidence.now) c.args.name.now t) c.rrsets-rrset-items.result.now
     c.loop-place.place c.args.lines.now.items _ c.loop-place-test.false (c.loop-place.invariant t are))

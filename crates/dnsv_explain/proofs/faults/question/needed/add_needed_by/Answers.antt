@@ -5,7 +5,7 @@ use Rattle.dnsv_verifier.proofs.AskLemmas.{adds_nothing}
 use Rattle.dnsv_verifier.specs.Asking.{AddsJust}
 use Rattle.dnsv_explain.specs.Explained.{setting_in}
 use Rattle.dnsv_explain.specs.faults.Keys.{IsTrustedZone}
-use Rattle.dnsv_explain.specs.faults.NeededSearch.{HasWay, IsAbove, IsNeededBy}
+use Rattle.dnsv_explain.specs.faults.searches.NeededSearch.{HasWay, IsAbove, IsNeededBy}
 use Rattle.dnsv_explain.specs.faults.Zones.{IsParent}
 use Rattle.dnsv_explain.proofs.lemmas.faults.question.needed.NeededLemmas.{next_needed, none_needed, parents_needed, untrusted_added}
 use Rattle.dnsv_explain.proofs.lemmas.faults.question.SignerLemmas.{in_same, same_in}

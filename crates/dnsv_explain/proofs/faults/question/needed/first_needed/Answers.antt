@@ -1,7 +1,7 @@
 use Rattle.std.proofs.Common.{List, ℕ, subst}
 use Rattle.dnsv_verifier.specs.Asking.{AddsJust}
 use Rattle.dnsv_explain.specs.Explained.{setting_in}
-use Rattle.dnsv_explain.specs.faults.NeededSearch.{IsAbove, IsAnchoredSpeaker}
+use Rattle.dnsv_explain.specs.faults.searches.NeededSearch.{IsAbove, IsAnchoredSpeaker}
 use Rattle.dnsv_explain.proofs.lemmas.AnswerLemmas.{none_there}
 use Rattle.dnsv_explain.proofs.lemmas.faults.SignatureLemmas.{member}
 use Rattle.dnsv_explain.proofs.lemmas.faults.question.needed.FirstLemmas.{goals_needed, others_needed}

@@ -1,6 +1,6 @@
 use Rattle.std.proofs.Common.{rules}
 use Rattle.dnsv_explain.specs.Explained.{setting_in}
-use Rattle.dnsv_explain.specs.faults.NeededSearch.{IsSaidWhere}
+use Rattle.dnsv_explain.specs.faults.searches.NeededSearch.{IsSaidWhere}
 use Rattle.dnsv_explain.specs.faults.Order.{IsSaid}
 use Rattle.dnsv_explain.proofs.lemmas.faults.KeptLemmas.{those_kept}
 use Rattle.dnsv_explain.proofs.lemmas.faults.ListingLemmas.{those_same}

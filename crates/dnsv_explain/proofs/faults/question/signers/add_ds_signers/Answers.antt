@@ -1,5 +1,5 @@
 use Rattle.dnsv_verifier.proofs.AskLemmas.{adds_nothing}
-use Rattle.dnsv_explain.specs.faults.NeededSearch.{IsDsLabels}
+use Rattle.dnsv_explain.specs.faults.searches.NeededSearch.{IsDsLabels}
 use Rattle.dnsv_explain.proofs.lemmas.faults.question.SignerLemmas.{numbered_signers}
 use Rattle.dnsv_explain.proofs.faults.question.signers.add_ds_signers.Goals as goal
 

@@ -1,7 +1,7 @@
 use Rattle.std.proofs.Common.{sym, ◌∙◌}
 use Rattle.std.proofs.lemmas.Bool.{false≢true}
 use Rattle.dnsv_verifier.proofs.AskLemmas.{adds_nothing, adds_same}
-use Rattle.dnsv_explain.specs.faults.NeededSearch.{IsAbove, IsGoalLabels}
+use Rattle.dnsv_explain.specs.faults.searches.NeededSearch.{IsAbove, IsGoalLabels}
 use Rattle.dnsv_explain.specs.faults.Zones.{HasSigner}
 use Rattle.dnsv_explain.proofs.faults.question.signers.add_goal_signers.Goals as goal
 

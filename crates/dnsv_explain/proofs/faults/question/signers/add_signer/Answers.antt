@@ -3,7 +3,7 @@ use Rattle.std.proofs.lemmas.Bool.{false≢true}
 use Rattle.dnsv_names.specs.Name.{SameName}
 use Rattle.dnsv_verifier.specs.Asking.{AddsJust}
 use Rattle.dnsv_verifier.proofs.AskLemmas.{adds_nothing}
-use Rattle.dnsv_explain.specs.faults.NeededSearch.{IsAbove}
+use Rattle.dnsv_explain.specs.faults.searches.NeededSearch.{IsAbove}
 use Rattle.dnsv_explain.proofs.lemmas.faults.question.SignerLemmas.{at_above, signer_added}
 use Rattle.dnsv_explain.proofs.faults.question.signers.add_signer.Goals as goal
 

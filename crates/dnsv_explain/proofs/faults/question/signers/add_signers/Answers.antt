@@ -1,7 +1,7 @@
 use Rattle.dnsv_names.specs.Name.{SameName}
 use Rattle.dnsv_records.specs.declared.rrsig.Rrsig.{Rrsig}
 use Rattle.dnsv_verifier.proofs.AskLemmas.{some_all, some_more, some_none}
-use Rattle.dnsv_explain.specs.faults.NeededSearch.{IsAbove}
+use Rattle.dnsv_explain.specs.faults.searches.NeededSearch.{IsAbove}
 use Rattle.dnsv_explain.proofs.lemmas.faults.question.SignerLemmas.{signers_added}
 use Rattle.dnsv_explain.proofs.faults.question.signers.add_signers.Goals as goal
 

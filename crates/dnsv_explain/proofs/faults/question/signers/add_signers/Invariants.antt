@@ -2,7 +2,7 @@ use Rattle.std.proofs.Common.{take}
 use Rattle.dnsv_names.specs.Name.{SameName}
 use Rattle.dnsv_records.specs.declared.rrsig.Rrsig.{Rrsig}
 use Rattle.dnsv_verifier.specs.Asking.{AddsJust, ComesOfSome}
-use Rattle.dnsv_explain.specs.faults.NeededSearch.{IsAbove}
+use Rattle.dnsv_explain.specs.faults.searches.NeededSearch.{IsAbove}
 use Rattle.dnsv_explain.proofs.faults.question.signers.add_signers.Given as goal
 
 -- the signers so far

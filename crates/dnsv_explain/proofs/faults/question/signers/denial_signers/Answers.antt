@@ -1,5 +1,5 @@
 use Rattle.dnsv_verifier.proofs.AskLemmas.{some_all, some_more}
-use Rattle.dnsv_explain.specs.faults.NeededSearch.{IsDenialLabels}
+use Rattle.dnsv_explain.specs.faults.searches.NeededSearch.{IsDenialLabels}
 use Rattle.dnsv_explain.proofs.lemmas.faults.question.SignerLemmas.{denial_labels}
 use Rattle.dnsv_explain.proofs.faults.question.signers.denial_signers.Goals as goal
 

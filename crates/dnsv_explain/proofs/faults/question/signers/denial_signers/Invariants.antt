@@ -1,6 +1,6 @@
 use Rattle.std.proofs.Common.{[], take}
 use Rattle.dnsv_verifier.specs.Asking.{AddsJust, ComesOfSome}
-use Rattle.dnsv_explain.specs.faults.NeededSearch.{IsDenialLabels}
+use Rattle.dnsv_explain.specs.faults.searches.NeededSearch.{IsDenialLabels}
 use Rattle.dnsv_explain.proofs.faults.question.signers.denial_signers.Given as goal
 
 -- the signers of the RRsets so far

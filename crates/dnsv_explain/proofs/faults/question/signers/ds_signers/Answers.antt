@@ -3,7 +3,7 @@ use Rattle.std.proofs.lemmas.List.{get_or_default}
 use Rattle.dnsv_canonical.specs.Rrsets.{ReceivedRrset}
 use Rattle.dnsv_verifier.specs.Asking.{AddsJust}
 use Rattle.dnsv_verifier.proofs.AskLemmas.{some_all, some_more}
-use Rattle.dnsv_explain.specs.faults.NeededSearch.{IsDsLabels}
+use Rattle.dnsv_explain.specs.faults.searches.NeededSearch.{IsDsLabels}
 use Rattle.dnsv_explain.proofs.lemmas.faults.question.SignerLemmas.{ds_labels}
 use Rattle.dnsv_explain.proofs.faults.question.signers.ds_signers.Goals as goal
 

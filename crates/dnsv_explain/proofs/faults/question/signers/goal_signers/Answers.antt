@@ -1,5 +1,5 @@
 use Rattle.dnsv_verifier.proofs.AskLemmas.{some_all, some_more}
-use Rattle.dnsv_explain.specs.faults.NeededSearch.{IsGoalLabels}
+use Rattle.dnsv_explain.specs.faults.searches.NeededSearch.{IsGoalLabels}
 use Rattle.dnsv_explain.proofs.lemmas.faults.question.SignerLemmas.{goal_labels}
 use Rattle.dnsv_explain.proofs.faults.question.signers.goal_signers.Goals as goal
 

@@ -1,6 +1,6 @@
 use Rattle.std.proofs.Common.{refl, sym, ◌∙◌}
 use Rattle.std.proofs.lemmas.Bool.{false≢true}
-use Rattle.dnsv_explain.specs.faults.NeededSearch.{IsSignedGoal}
+use Rattle.dnsv_explain.specs.faults.searches.NeededSearch.{IsSignedGoal}
 use Rattle.dnsv_explain.proofs.lemmas.faults.question.SubjectLemmas.{none_all, none_first, none_next, one_here}
 use Rattle.dnsv_explain.proofs.faults.question.subjects.has_signed_goal.Goals as goal
 

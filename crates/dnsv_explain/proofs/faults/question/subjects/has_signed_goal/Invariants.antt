@@ -1,4 +1,4 @@
-use Rattle.dnsv_explain.specs.faults.NeededSearch.{IsSignedGoal}
+use Rattle.dnsv_explain.specs.faults.searches.NeededSearch.{IsSignedGoal}
 use Rattle.dnsv_explain.proofs.lemmas.faults.question.SubjectLemmas.{NoneTo}
 use Rattle.dnsv_explain.proofs.faults.question.subjects.has_signed_goal.Given as goal
 

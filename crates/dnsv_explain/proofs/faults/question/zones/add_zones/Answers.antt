@@ -4,7 +4,7 @@ use Rattle.dnsv_names.specs.Name.{Labels}
 use Rattle.dnsv_explain.specs.Explained.{setting_in}
 use Rattle.dnsv_explain.specs.faults.Keys.{IsTrustedZone}
 use Rattle.dnsv_explain.specs.faults.Order.{AreNeededLines}
-use Rattle.dnsv_explain.specs.faults.Repeats.{AddsNew}
+use Rattle.dnsv_explain.specs.faults.searches.Repeats.{AddsNew}
 use Rattle.dnsv_explain.specs.faults.ZoneLines.{AreZoneLines}
 use Rattle.dnsv_explain.proofs.lemmas.faults.question.DownLemmas.{down_all_new, down_next_new, down_none_new}
 use Rattle.dnsv_explain.proofs.lemmas.faults.question.ZoneLemmas.{needed_left, needed_said, no_anchor_added, trusted_left, zones_added}
@@ -12,16 +12,16 @@ use Rattle.dnsv_explain.proofs.faults.question.zones.add_zones.Goals as goal
 
 pub returns-then-not-is_anchored : goal.returns-then-not-is_anchored
 returns-then-not-is_anchored c = λ t are.
-    no_anchor_added (setting_in c.args.evidence.now) c.args.name.now t c.args.lines.now.items _
+    no_anchor_added (setting_in c.args.keyed.now.evidence.now) c.args.name.now t c.args.lines.now.items _
     (λ has. false≢true (sym c.if-not-is_anchored.true ∙ c.is_anchored.ensures.1 has)) c.in_ok-add_no_anchor.ensures
 
 pub loop-labels-init : goal.loop-labels-init
 loop-labels-init c = λ t are.
-    down_none_new (AreNeededLines (setting_in c.args.evidence.now) c.args.name.now t) c.args.name.now c.args.lines.now.items
+    down_none_new (AreNeededLines (setting_in c.args.keyed.now.evidence.now) c.args.name.now t) c.args.name.now c.args.lines.now.items
 
 pub loop-labels-preserved-then-not-is_among : goal.loop-labels-preserved-then-not-is_among
 loop-labels-preserved-then-not-is_among c = λ t are.
-    let setting = setting_in c.args.evidence.now in
+    let setting = setting_in c.args.keyed.now.evidence.now in
     let labels = c.loop-labels.labels in
     let within : labels ≤ length c.args.name.now = omega (arith, c.loop-labels-test.true, c.labels-labels-end.ensures.count) in
     down_next_new (AreNeededLines setting c.args.name.now t) c.args.name.now labels c.args.lines.now.items _ _ within
@@ -31,7 +31,7 @@ loop-labels-preserved-then-not-is_among c = λ t are.
 
 pub loop-labels-preserved-then-is_trusted_zone : goal.loop-labels-preserved-then-is_trusted_zone
 loop-labels-preserved-then-is_trusted_zone c = λ t are.
-    let setting = setting_in c.args.evidence.now in
+    let setting = setting_in c.args.keyed.now.evidence.now in
     let labels = c.loop-labels.labels in
     let Trusted : Labels → Type 0 = IsTrustedZone setting in
     down_next_new (AreNeededLines setting c.args.name.now t) c.args.name.now labels c.args.lines.now.items _ _
@@ -41,7 +41,7 @@ loop-labels-preserved-then-is_trusted_zone c = λ t are.
 
 pub loop-labels-preserved : goal.loop-labels-preserved
 loop-labels-preserved c = λ t are.
-    let setting = setting_in c.args.evidence.now in
+    let setting = setting_in c.args.keyed.now.evidence.now in
     let labels = c.loop-labels.labels in
     let within : labels ≤ length c.args.name.now = omega (arith, c.loop-labels-test.true, c.labels-labels-end.ensures.count) in
     let Trusted : Labels → Type 0 = IsTrustedZone setting in
@@ -54,6 +54,6 @@ loop-labels-preserved c = λ t are.
 
 pub returns : goal.returns
 returns c = λ t are.
-    zones_added (setting_in c.args.evidence.now) c.args.name.now t c.args.lines.now.items _ (c.is_anchored.ensures.0 c.if-not-is_anchored.false)
-    (down_all_new (AreNeededLines (setting_in c.args.evidence.now) c.args.name.now t) c.args.name.now c.loop-labels.labels c.args.lines.now.items _
+    zones_added (setting_in c.args.keyed.now.evidence.now) c.args.name.now t c.args.lines.now.items _ (c.is_anchored.ensures.0 c.if-not-is_anchored.false)
+    (down_all_new (AreNeededLines (setting_in c.args.keyed.now.evidence.now) c.args.name.now t) c.args.name.now c.loop-labels.labels c.args.lines.now.items _
     (omega (arith, c.loop-labels-test.false, c.labels-labels-end.ensures.count)) (c.loop-labels.invariant t are))

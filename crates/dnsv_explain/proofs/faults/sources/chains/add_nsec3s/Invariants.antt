@@ -14,5 +14,5 @@ abbrev pub invariant-loop-each : goal.invariant-loop-each
 invariant-loop-each l =
     (setting : Setting) (speaker : Labels) → AreNsec3sOf (SecuredIn setting) setting.rrsets l.zone l.nsec3s
     → (IsTrue l.speaks ↔ SameName l.zone speaker)
-    → AddsThose (AreOfNumbered (λ (n : ℕ) each. AreLinesOfChain setting l.at.name.now l.rtype.0 speaker l.zone (ByNsec3 (parameters_of each.now))) 1
+    → AddsThose (AreOfNumbered (λ (n : ℕ) each. AreLinesOfChain setting l.at.name.now l.rtype.0 speaker l.zone (ByNsec3 (parameters_of each.parameters.now))) 1
     (take l.each-index l.parameters)) l.initial.lines.items l.lines.items

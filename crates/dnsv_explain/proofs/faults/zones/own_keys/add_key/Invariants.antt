@@ -7,5 +7,5 @@ use Rattle.dnsv_explain.proofs.faults.zones.own_keys.add_key.Given as goal
 -- what is said of the signatures so far
 abbrev pub invariant-loop-place : goal.invariant-loop-place
 invariant-loop-place l =
-    AddsThose (AreOfNumbered (AreNamedLines (setting_in l.evidence) l.key l.number l.set) 1 (take l.place l.set.signatures))
+    AddsThose (AreOfNumbered (AreNamedLines (setting_in l.keyed.evidence.now) l.key l.number l.set) 1 (take l.place l.set.signatures))
     l.initial.lines.items l.lines.items

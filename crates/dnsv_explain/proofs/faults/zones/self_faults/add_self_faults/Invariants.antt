@@ -8,5 +8,5 @@ use Rattle.dnsv_explain.proofs.faults.zones.self_faults.add_self_faults.Given as
 -- the lines of the RRsets so far
 abbrev pub invariant-loop-place : goal.invariant-loop-place
 invariant-loop-place l =
-    AddsThose (AreOfNumbered (AreSetLines (setting_in l.evidence) l.zone (IsMeant l.meant)) 1 (take l.place l.evidence.rrsets))
+    AddsThose (AreOfNumbered (AreSetLines (setting_in l.keyed.evidence.now) l.zone (IsMeant l.meant)) 1 (take l.place l.keyed.evidence.now.rrsets))
     l.initial.lines.items l.lines.items

@@ -7,5 +7,5 @@ use Rattle.dnsv_explain.proofs.faults.zones.ways.add_ways.Given as goal
 -- the lines of the RRsets so far
 abbrev pub invariant-loop-place : goal.invariant-loop-place
 invariant-loop-place l =
-    AddsThose (AreOfNumbered (AreWayLines (setting_in l.evidence) l.zone) 1 (take l.place l.evidence.rrsets))
+    AddsThose (AreOfNumbered (AreWayLines (setting_in l.keyed.evidence.now) l.zone) 1 (take l.place l.keyed.evidence.now.rrsets))
     l.initial.lines.items l.lines.items

@@ -1,6 +1,6 @@
 use Rattle.std.proofs.Common.{◌==◌, ◌++◌, ◌∷◌, [], List, ap, subst, sym, ◌∙◌, IsTrue}
 use Rattle.dnsv_explain.specs.Explained.{setting_in}
-use Rattle.dnsv_explain.specs.faults.KeySearch.{IsNamedIn}
+use Rattle.dnsv_explain.specs.faults.searches.KeySearch.{IsNamedIn}
 use Rattle.dnsv_explain.specs.faults.SignatureFaults.{AreFaultsOf}
 use Rattle.dnsv_explain.specs.faults.ZoneLines.{AreWhys}
 use Rattle.dnsv_explain.specs.faults.ZoneLines.AreWhys.{faulty}

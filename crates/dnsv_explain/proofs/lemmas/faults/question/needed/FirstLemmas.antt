@@ -11,7 +11,7 @@ use Rattle.dnsv_verifier.proofs.AskLemmas.{adds_nothing, adds_same}
 use Rattle.dnsv_verifier.specs.Asking.{AddsJust, ComesOfSome}
 use Rattle.dnsv_verdict.specs.Verdict.{HasAnchor}
 use Rattle.dnsv_explain.specs.Explained.{Setting}
-use Rattle.dnsv_explain.specs.faults.NeededSearch.{AreLabelsOf, AreSigners, IsAbove, IsAnchoredDenier, IsAnchoredSpeaker, IsNumberWhere}
+use Rattle.dnsv_explain.specs.faults.searches.NeededSearch.{AreLabelsOf, AreSigners, IsAbove, IsAnchoredDenier, IsAnchoredSpeaker, IsNumberWhere}
 use Rattle.dnsv_explain.specs.faults.Zones.{HasGoalSigner, HasSignedGoal, IsNeededFirst, IsSpeaker}
 use Rattle.dnsv_explain.specs.faults.Zones.IsNeededFirst.{denying, signer, speaker}
 use Rattle.dnsv_explain.specs.declared.faults.question.signers.Signers.{Signers}

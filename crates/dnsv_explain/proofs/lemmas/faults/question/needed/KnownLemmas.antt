@@ -8,7 +8,7 @@ use Rattle.dnsv_names.specs.Tree.TreeLaws.{at_or_below_length, below_by_length, 
 use Rattle.dnsv_zones.specs.zones.TypeNumbers.{ds}
 use Rattle.dnsv_verdict.specs.Verdict.{HasAnchor}
 use Rattle.dnsv_explain.specs.Explained.{Setting}
-use Rattle.dnsv_explain.specs.faults.NeededSearch.{AreSigners, IsAnchoredZone, IsOfSigners}
+use Rattle.dnsv_explain.specs.faults.searches.NeededSearch.{AreSigners, IsAnchoredZone, IsOfSigners}
 use Rattle.dnsv_explain.specs.faults.Zones.{HasOwnAnchor, HasRrset, IsAnchoredAbove, IsKnownAs, IsKnownZone, IsSpeaker}
 use Rattle.dnsv_explain.specs.declared.faults.question.signers.Signers.{Signers}
 use Rattle.dnsv_explain.proofs.lemmas.faults.question.SameLemmas.{anchor_same, known_same}

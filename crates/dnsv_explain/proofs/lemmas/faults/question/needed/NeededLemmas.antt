@@ -10,7 +10,7 @@ use Rattle.dnsv_verifier.specs.Asking.{AddsJust}
 use Rattle.dnsv_zones.specs.zones.TypeNumbers.{ds}
 use Rattle.dnsv_explain.specs.Explained.{Setting}
 use Rattle.dnsv_explain.specs.faults.Keys.{IsTrustedZone}
-use Rattle.dnsv_explain.specs.faults.NeededSearch.{AreLabelsOf, IsAbove, IsNeededBy}
+use Rattle.dnsv_explain.specs.faults.searches.NeededSearch.{AreLabelsOf, IsAbove, IsNeededBy}
 use Rattle.dnsv_explain.specs.faults.Zones.{HasOwnAnchor, HasRrset, IsAnchoredAbove, IsNeeded, IsNeededFirst, IsParent, NeedsAbove}
 use Rattle.dnsv_explain.specs.faults.Zones.IsNeeded.{above, first}
 use Rattle.dnsv_explain.specs.faults.Zones.NeedsAbove.{known_above, parent}

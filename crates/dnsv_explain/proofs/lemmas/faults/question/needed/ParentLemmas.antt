@@ -10,7 +10,7 @@ use Rattle.dnsv_verifier.proofs.AskLemmas.{adds_same}
 use Rattle.dnsv_verifier.specs.Asking.{AddsJust, ComesOfSome}
 use Rattle.dnsv_verdict.specs.Verdict.{HasAnchor}
 use Rattle.dnsv_explain.specs.Explained.{Setting}
-use Rattle.dnsv_explain.specs.faults.NeededSearch.{AreLabelsOf, HasDsSigner, IsAbove, IsNumberWhere}
+use Rattle.dnsv_explain.specs.faults.searches.NeededSearch.{AreLabelsOf, HasDsSigner, IsAbove, IsNumberWhere}
 use Rattle.dnsv_explain.specs.faults.Zones.{HasOwnAnchor, IsParent}
 use Rattle.dnsv_explain.proofs.lemmas.faults.question.SignerLemmas.{in_same}
 

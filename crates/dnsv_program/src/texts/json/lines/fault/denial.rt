@@ -13,11 +13,11 @@ use crate::texts::json::members::{
 use crate::texts::json::push_octets;
 use dnsv_denial::RecordNumber;
 use dnsv_explain::{
-    DenialUnproved, DnameAbove, MissingAnswer, Role, Source, SourceFault, UnusableNsec3, WhyNsec3,
-    WhySource,
+    DenialUnproved, DnameAbove, MissingAnswer, Role, Source, SourceFault, SourceParameters,
+    UnusableNsec3, WhyNsec3, WhySource,
 };
 use dnsv_names::Name;
-use dnsv_records::{Iterations, Nsec3Parameters};
+use dnsv_records::Iterations;
 use std::alloc::AllocError;
 
 /// Adds the members for a DNAME above the name.
@@ -114,7 +114,7 @@ fn kind_of(source: &Source) -> &'static str
 #[tactic(auto, using(crate::proofs::TextLemmas::Members::no_members))]
 fn push_parameters(
     text: &mut String,
-    parameters: &Option<Nsec3Parameters>,
+    parameters: &Option<SourceParameters>,
 ) -> Result<(), AllocError>
     ensures { OnOk result (AddsMembers (parameters_members parameters.now) (string_bytes text.old) (string_bytes text.new)) }
 {
@@ -125,13 +125,13 @@ fn push_parameters(
 }
 
 /// Adds the iterations and the salt.
-fn push_hashing(text: &mut String, parameters: &Nsec3Parameters) -> Result<(), AllocError>
+fn push_hashing(text: &mut String, parameters: &SourceParameters) -> Result<(), AllocError>
     ensures { OnOk result (AddsMembers (parameters_members (Some parameters.now)) (string_bytes text.old)
         (string_bytes text.new)) }
 {
-    push_number(text, "iterations", u64::from(parameters.iterations.0))?;
+    push_number(text, "iterations", u64::from(parameters.iterations().0))?;
     push_key(text, "salt")?;
-    push_salt(text, parameters.salt.as_slice())?;
+    push_salt(text, parameters.salt())?;
     Ok(())
 }
 

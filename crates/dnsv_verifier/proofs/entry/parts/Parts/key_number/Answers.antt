@@ -1,4 +1,4 @@
-use Rattle.std.proofs.Common.{◌≡◌, List, [], get_or, sym, ap, ◌∙◌, subst, rules}
+use Rattle.std.proofs.Common.{◌≡◌, List, sym, ap, ◌∙◌, subst, rules}
 use Rattle.std.proofs.lemmas.Fn.{always_returns_same}
 use Rattle.std.proofs.lemmas.List.{map-id}
 use Rattle.std.specs.List.{Contains}
@@ -12,16 +12,15 @@ use Rattle.dnsv_verifier.proofs.entry.parts.Parts.key_number.Goals as goal
 pub unreachable-requires : goal.unreachable-requires
 unreachable-requires c =
     let asked : KeyPart = record { algorithm = c.args.algorithm; key = c.args.key.now } in
-    let keys = c.self.inside.keys.items in
+    let keys = c.self.inside.keys.now in
     let position = c.in_default.ensures.position (λ part. key_cmp part asked) (always_returns_same _ _ _ (λ a r f called. search rules)) in
     let listed = subst (λ (parts : PartLists). Contains parts.keys asked) (sym c.self.view_is) c.requires in
     not_missed key_cmp key_cmp_total (λ part. part) keys (subst (IsStrictlySortedBy key_cmp) (sym (map-id keys)) c.self.invariant.0) asked
-    (subst (λ (parts : List KeyPart). Contains parts asked) (sym (map-id keys)) listed) c.in_default.field-0 (rw c.deref.ensures.value at position)
+    (subst (λ (parts : List KeyPart). Contains parts asked) (sym (map-id keys)) listed) c.in_default.field-0 position
 
 pub returns-clause-value : goal.returns-clause-value
 returns-clause-value c =
     let asked : KeyPart = record { algorithm = c.args.algorithm; key = c.args.key.now } in
     let position = c.in-Ok.ensures.position (λ part. key_cmp part asked) (always_returns_same _ _ _ (λ a r f called. search rules)) in
     ap (λ (parts : PartLists). key_of parts c.in-Ok.place) (sym c.self.view_is)
-    ∙ ap (λ (keys : List KeyPart). get_or keys c.in-Ok.place (record { algorithm = record { 0 = 0 }; key = [] })) (sym c.deref.ensures.value)
-    ∙ key_found c.deref.result.now asked c.in-Ok.place _ position
+    ∙ key_found c.self.inside.keys.now asked c.in-Ok.place _ position

@@ -4,7 +4,17 @@ use Rattle.dnsv_names.specs.Name.{Labels, SameName}
 use Rattle.dnsv_records.specs.Dnskey.KeyTag.{key_tag_of}
 use Rattle.dnsv_records.specs.declared.rrsig.Rrsig.{Rrsig}
 use Rattle.dnsv_verifier.specs.Admissible.{DnskeyRecord}
+use Rattle.dnsv_verifier.specs.Asking.{AreKeysOf}
+use Rattle.dnsv_explain.specs.Explained.{Setting, setting_in}
 use Rattle.dnsv_explain.specs.faults.Keys.{IsZoneKey}
+use Rattle.dnsv_explain.specs.declared.faults.keyed.KeyedEvidence.{KeyedEvidence}
+
+-- the keys are all that the evidence has
+abbrev pub HasItsKeys : KeyedEvidence → Type 0
+HasItsKeys keyed = AreKeysOf keyed.evidence.now.rrsets keyed.keys.now
+
+abbrev pub setting_of : KeyedEvidence → Setting
+setting_of keyed = setting_in keyed.evidence.now
 
 -- the key is one of the signer, and has the tag and the algorithm
 pub record IsNamedTo (rrsig : Rrsig) (key : DnskeyRecord) : Type 0 where
