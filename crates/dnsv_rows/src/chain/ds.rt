@@ -3,7 +3,7 @@
 use crate::evidence::dnskey_of;
 use crate::row::{Row, RowError, printed};
 use dnsv_chain::{has_usable, has_usable_match, is_match, is_usable};
-use dnsv_records::{Ds, Octets};
+use dnsv_records::Ds;
 use dnsv_verifier::KeyRecord;
 use std::alloc::Global;
 
@@ -27,7 +27,8 @@ pub fn answer(row: &Row) -> Result<Option<String>, RowError> {
 /// `usable-ds RDATA..`: which records of the DS RRset count, by their numbers from 1 on.
 fn usable(row: &Row) -> Result<String, RowError> {
     let alloc = row.alloc();
-    let records = ds_records(row, 0)?;
+    let rdata = rdata_from(row, 0)?;
+    let records = ds_records(alloc, rdata.as_slice())?;
     let mut numbers = Vec::new(alloc);
     for (before, ds) in records.iter().enumerate() {
         if is_usable(records.as_slice(), ds) {
@@ -40,7 +41,9 @@ fn usable(row: &Row) -> Result<String, RowError> {
 
 /// `has-usable-ds RDATA..`: whether some record of the DS RRset counts.
 fn is_some_usable(row: &Row) -> Result<String, RowError> {
-    let found = has_usable(ds_records(row, 0)?.as_slice());
+    let rdata = rdata_from(row, 0)?;
+    let records = ds_records(row.alloc(), rdata.as_slice())?;
+    let found = has_usable(records.as_slice());
     Ok(format!(in row.alloc(); "{found}")?)
 }
 
@@ -50,8 +53,9 @@ fn matched(row: &Row) -> Result<String, RowError> {
     let (owner, rdata) = (row.name(0)?, row.octets(1)?);
     let dnskey = dnskey_of(rdata.as_slice())?;
     let key = KeyRecord::new(&owner, rdata.as_slice(), &dnskey);
+    let ds_rdata = rdata_from(row, 2)?;
     let mut texts = Vec::new(alloc);
-    for ds in &ds_records(row, 2)? {
+    for ds in &ds_records(alloc, ds_rdata.as_slice())? {
         let is_matched = is_match(&owner, ds, &key);
         texts.push(format!(in alloc; "{is_matched}")?)?;
     }
@@ -64,27 +68,33 @@ fn is_some_matched(row: &Row) -> Result<String, RowError> {
     let (owner, rdata) = (row.name(0)?, row.octets(1)?);
     let dnskey = dnskey_of(rdata.as_slice())?;
     let key = KeyRecord::new(&owner, rdata.as_slice(), &dnskey);
-    let found = has_usable_match(&owner, ds_records(row, 2)?.as_slice(), &key);
+    let ds_rdata = rdata_from(row, 2)?;
+    let records = ds_records(row.alloc(), ds_rdata.as_slice())?;
+    let found = has_usable_match(&owner, records.as_slice(), &key);
     Ok(format!(in row.alloc(); "{found}")?)
 }
 
-/// The DS records whose RDATA the arguments from a place on are.
-fn ds_records(row: &Row, place: usize) -> Result<Vec<Ds<'static>>, RowError> {
-    let mut records = Vec::new(row.alloc());
+/// The RDATA that the arguments from a place on are.
+fn rdata_from(row: &Row, place: usize) -> Result<Vec<Vec<u8>>, RowError> {
+    let mut rdata = Vec::new(row.alloc());
     for each in place..row.count() {
-        records.push(ds_of(row.alloc(), row.octets(each)?.as_slice())?)?;
+        rdata.push(row.octets(each)?)?;
+    }
+    Ok(rdata)
+}
+
+/// The DS records with these RDATA.
+fn ds_records(alloc: Global, rdata: &[Vec<u8>]) -> Result<Vec<Ds<'_>>, RowError> {
+    let mut records = Vec::new(alloc);
+    for octets in rdata {
+        records.push(ds_of(octets.as_slice())?)?;
     }
     Ok(records)
 }
 
-fn ds_of(alloc: Global, rdata: &[u8]) -> Result<Ds<'static>, RowError> {
-    let Ok(ds) = Ds::read(rdata) else {
-        return Err(RowError::Malformed);
-    };
-    Ok(Ds {
-        key_tag: ds.key_tag,
-        algorithm: ds.algorithm,
-        digest_type: ds.digest_type,
-        digest: Octets::copy_of(alloc, ds.digest.as_slice())?,
-    })
+fn ds_of(rdata: &[u8]) -> Result<Ds<'_>, RowError> {
+    match Ds::read(rdata) {
+        Ok(ds) => Ok(ds),
+        Err(_) => Err(RowError::Malformed),
+    }
 }
