@@ -27,10 +27,14 @@ pub fn answer(row: &Row) -> Result<Option<String>, RowError> {
 
 /// `trusted CAPTURE ANCHORS MOMENT`: of each RRset the numbers of its good signatures, parted by `,`.
 fn good_signatures(row: &Row) -> Result<String, RowError> {
-    let alloc = row.alloc();
     let bump = Bump::new(row.alloc());
     let capture = evidence::capture(row, 0, &bump)?;
-    let trust = trust_in(row, &capture, 1)?;
+    good_signatures_in(row, &capture)
+}
+
+fn good_signatures_in(row: &Row, capture: &Capture<'_>) -> Result<String, RowError> {
+    let alloc = row.alloc();
+    let trust = trust_in(row, capture, 1)?;
     let mut texts = Vec::new(alloc);
     for before in 0..capture.rrsets().len() {
         texts.push(numbers(alloc, trust.signed(before.saturating_add(1)))?)?;
@@ -42,7 +46,11 @@ fn good_signatures(row: &Row) -> Result<String, RowError> {
 fn good_signatures_of(row: &Row) -> Result<String, RowError> {
     let bump = Bump::new(row.alloc());
     let capture = evidence::capture(row, 0, &bump)?;
-    let trust = trust_in(row, &capture, 1)?;
+    good_signatures_of_in(row, &capture)
+}
+
+fn good_signatures_of_in(row: &Row, capture: &Capture<'_>) -> Result<String, RowError> {
+    let trust = trust_in(row, capture, 1)?;
     match usize::try_from(row.number(3)?) {
         Ok(rrset) => numbers(row.alloc(), trust.signed(rrset)),
         Err(_) => Err(RowError::Malformed),
@@ -51,10 +59,14 @@ fn good_signatures_of(row: &Row) -> Result<String, RowError> {
 
 /// `trusted-keys CAPTURE ANCHORS MOMENT ZONE`: the trusted keys of the zone, `FLAGS:PROTOCOL:ALGORITHM:KEY`.
 fn keys(row: &Row) -> Result<String, RowError> {
-    let alloc = row.alloc();
     let bump = Bump::new(row.alloc());
     let capture = evidence::capture(row, 0, &bump)?;
-    let trust = trust_in(row, &capture, 1)?;
+    keys_in(row, &capture)
+}
+
+fn keys_in(row: &Row, capture: &Capture<'_>) -> Result<String, RowError> {
+    let alloc = row.alloc();
+    let trust = trust_in(row, capture, 1)?;
     let mut texts = Vec::new(alloc);
     for key in trust.keys(&row.name(3)?) {
         let (flags, protocol, algorithm) = (key.flags.0, key.protocol, key.algorithm.0);
