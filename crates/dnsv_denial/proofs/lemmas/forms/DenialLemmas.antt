@@ -1,5 +1,5 @@
 -- Denials by numbers are denials by places, and what shows a denial carries its form.
-use Rattle.std.proofs.Common.{ℕ, ◌+◌, ◌<◌, ◌⊎◌, List, [], ◌∷◌, ◌++◌, Option, inl, inr, subst, ⊎_elim}
+use Rattle.std.proofs.Common.{ℕ, ◌+◌, ◌<◌, List, [], ◌∷◌, ◌++◌, Option, inl, inr, subst, ⊎_elim}
 use Rattle.std.specs.Prelude.{Some, None}
 use Rattle.std.specs.List.{AllByRecursion}
 use Rattle.std.specs.Ordering.{nat_cmp}
@@ -25,10 +25,9 @@ use Rattle.dnsv_denial.specs.records.RecordsAt.{listed}
 use Rattle.dnsv_denial.specs.declared.forms.denial.Denial.{Denial}
 use Rattle.dnsv_denial.specs.declared.forms.denial.Denial.TheVariants as denied
 use Rattle.dnsv_denial.specs.declared.forms.proof_form.ProofForm.{ProofForm}
-use Rattle.dnsv_denial.specs.declared.forms.proof_form.ProofForm.TheVariants.{NoName, NoData, EmptyNonTerminal, WildcardNoData, EmptyWildcard, NoCloser, Delegation, OptOut, WildcardOptOut, OptOutCloser}
 use Rattle.dnsv_denial.specs.declared.forms.proof_form.WildcardParts.{WildcardParts}
 use Rattle.dnsv_denial.specs.declared.records.number.RecordNumber.{RecordNumber}
-use Rattle.dnsv_denial.proofs.lemmas.words.IndexLemmas.{SaysAlike, SayAlike, words_from}
+use Rattle.dnsv_denial.proofs.lemmas.words.IndexLemmas.{SayAlike, words_from}
 
 -- ---- what shows a denial carries its form
 

@@ -7,7 +7,7 @@ use Rattle.std.specs.declared.cmp.Ordering.{Ordering}
 use Rattle.dnsv_names.specs.Name.{Labels, rightmost}
 use Rattle.dnsv_names.specs.Tree.{wildcard_of}
 use Rattle.dnsv_zones.specs.forms.Forms.{EndsAt, NoNameForm, NoDataForm, EmptyForm, NoWildcardDataForm, EmptyWildcardForm}
-use Rattle.dnsv_zones.specs.forms.Parts.{IsEncloserPart, AreEndParts, AreNoNameParts, AreNoDataParts, AreWildcardParts}
+use Rattle.dnsv_zones.specs.forms.Parts.{IsEncloserPart, AreNoNameParts, AreNoDataParts, AreWildcardParts}
 use Rattle.dnsv_zones.specs.forms.Parts.AreNoDataParts.{at_name as part_at_name, empty as part_empty, at_wildcard as parts_at_wildcard, empty_wildcard as parts_empty_wildcard}
 use Rattle.dnsv_zones.specs.forms.Parts.IsEncloserPart.{no_record, a_record}
 use Rattle.dnsv_zones.specs.forms.RecordWords.{RecordWords, words}

@@ -1,5 +1,5 @@
 -- What is found of cuts is shown by some chain, and how it is shown tells the cut.
-use Rattle.std.proofs.Common.{◌≡◌, ℕ, ◌+◌, Option, List}
+use Rattle.std.proofs.Common.{◌≡◌, ℕ, Option, List}
 use Rattle.std.specs.Prelude.{Some, None}
 use Rattle.dnsv_names.specs.Name.{Labels}
 use Rattle.dnsv_canonical.specs.Rrsets.{ReceivedRrset}

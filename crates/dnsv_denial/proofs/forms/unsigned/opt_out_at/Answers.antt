@@ -1,9 +1,6 @@
-use Rattle.std.proofs.Common.{ℕ, ◌+◌, ⊎_elim, arith, refl}
+use Rattle.std.proofs.Common.{refl}
 use Rattle.std.specs.Prelude.{Some}
-use Rattle.dnsv_names.specs.Name.{rightmost}
-use Rattle.dnsv_names.specs.Tree.{wildcard_of}
 use Rattle.dnsv_denial.specs.forms.ShownUnsigned.ShowsOptOut.{opt_out, wildcard_opt_out}
-use Rattle.dnsv_denial.specs.words.ChainSaid.{chain_said}
 use Rattle.dnsv_denial.proofs.lemmas.forms.CutLemmas.{none_out_by_nsec}
 use Rattle.dnsv_denial.proofs.forms.unsigned.opt_out_at.Goals as goal
 

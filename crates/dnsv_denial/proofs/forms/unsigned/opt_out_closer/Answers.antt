@@ -1,4 +1,3 @@
-use Rattle.std.proofs.Common.{arith}
 use Rattle.dnsv_denial.specs.forms.ShownUnsigned.ShowsOptOutCloser.{opt_out_closer}
 use Rattle.dnsv_denial.proofs.forms.unsigned.opt_out_closer.Goals as goal
 
