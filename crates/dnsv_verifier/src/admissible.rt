@@ -48,7 +48,7 @@ fn is_over(rrset: &Rrset<'_>, rrsig: &Rrsig<'_>) -> bool
 
 /// Whether the signer may be the zone of an RRset of the type at the owner (RFC 4035 2.1, 2.2, 2.4).
 #[tactic(auto, using(crate::proofs::AdmissibleLemmas::dnskey_signer, crate::proofs::AdmissibleLemmas::ds_signer, crate::proofs::AdmissibleLemmas::other_signer))]
-fn may_sign(signer: &Name, rtype: RecordType, owner: &Name) -> bool
+pub fn may_sign(signer: &Name, rtype: RecordType, owner: &Name) -> bool
     ensures { IsTrue result ↔ MaySign signer.now rtype.0 owner.now }
 {
     match rtype {

@@ -9,13 +9,12 @@ ghost use Rattle.dnsv_explain.specs.faults.searches.KeySearch.{HasNamed, HasName
 ghost use Rattle.dnsv_explain.specs.faults.SignatureFaults.{AreFaultsOf, expired, not_yet};
 
 use crate::evidence::Evidence;
-use crate::faults::keys::{are_equal, has_named, has_named_zone_key};
+use crate::faults::keys::{has_named, has_named_zone_key};
 use crate::interval::{HALF, seconds_left, seconds_since};
 use crate::line::fault::signature::{SignatureTimes, WhySignature};
 use dnsv_canonical::{Rrset, is_expanded, signed_label_count};
-use dnsv_names::{Name, RecordType};
 use dnsv_records::Rrsig;
-use dnsv_verifier::KeyRecord;
+use dnsv_verifier::{KeyRecord, may_sign};
 use std::alloc::{AllocError, Global};
 
 /// All that is wrong with the signature of the RRset before a verifier is asked, where one of the keys may have made it.
@@ -73,18 +72,6 @@ fn is_by_another_zone(rrset: &Rrset<'_>, rrsig: &Rrsig<'_>) -> bool
     ensures { IsTrue result ↔ (¬ MaySign rrsig.now.signer rrset.now.rtype rrset.now.owner) }
 {
     !may_sign(&rrsig.signer.to_name(), rrset.rtype(), rrset.owner())
-}
-
-/// Whether the signer may be the zone of an RRset of the type at the owner.
-#[tactic(auto, using(dnsv_verifier::proofs::AdmissibleLemmas::dnskey_signer, dnsv_verifier::proofs::AdmissibleLemmas::ds_signer, dnsv_verifier::proofs::AdmissibleLemmas::other_signer))]
-fn may_sign(signer: &Name, rtype: RecordType, owner: &Name) -> bool
-    ensures { IsTrue result ↔ MaySign signer.now rtype.0 owner.now }
-{
-    match rtype {
-        RecordType::DNSKEY => are_equal(owner, signer),
-        RecordType::DS => !are_equal(owner, signer) && owner.is_at_or_below(signer),
-        _ => owner.is_at_or_below(signer),
-    }
 }
 
 /// Whether it is one of a wildcard, over an RRset of a type that no wildcard stands for.
