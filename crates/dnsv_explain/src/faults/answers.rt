@@ -1,8 +1,8 @@
 //! What a verifier says of a signature under the keys that may have made it.
-ghost use Rattle.std.specs.Prelude.{◌≡◌, ◌↔◌, IfOk, IsTrue};
+ghost use Rattle.std.specs.Prelude.{◌↔◌, IfOk, IsTrue};
 ghost use Rattle.dnsv_verifier.specs.Table.{table_answer};
 ghost use Rattle.dnsv_explain.specs.Explained.{setting_in};
-ghost use Rattle.dnsv_explain.specs.faults.searches.AnswerSearch.{IsAnsweredBy, IsAnsweredBySome, IsBestOf, entry_over};
+ghost use Rattle.dnsv_explain.specs.faults.searches.AnswerSearch.{IsAnsweredBy, IsAnsweredBySome, IsBestOf};
 ghost use Rattle.dnsv_explain.specs.faults.searches.KeySearch.{IsNamedIn};
 ghost use Rattle.dnsv_explain.specs.faults.SignatureFaults.{IsAnswered};
 
@@ -82,18 +82,5 @@ fn is_answered_by(
 ) -> bool
     ensures { IsTrue result ↔ IsAnsweredBy (table_answer table.now) rrsig.now octets.now answer key.now }
 {
-    may_have_made(key, rrsig) && says(table, key, rrsig, octets, answer)
-}
-
-/// Whether the table answers so of the signature over the octets, under the key.
-fn says(
-    table: &Table<'_>,
-    key: &KeyRecord<'_>,
-    rrsig: &Rrsig<'_>,
-    octets: &[u8],
-    answer: Answer,
-) -> bool
-    ensures { IsTrue result ↔ (table_answer table.now (entry_over rrsig.now octets.now key.now) ≡ answer) }
-{
-    table.answer(&entry_over(rrsig, octets, key)) == answer
+    may_have_made(key, rrsig) && table.answer(&entry_over(rrsig, octets, key)) == answer
 }

@@ -21,6 +21,7 @@ ghost use Rattle.dnsv_explain.specs.faults.Sources.SourceSearch.{AreAllParameter
 
 use crate::evidence::Evidence;
 use crate::explanation::at::At;
+use crate::faults::sources::chain::SourceZone;
 use crate::faults::sources::chains::{add_nsec3s, add_nsecs};
 use crate::line::Line;
 use dnsv_denial::{OrderedParameters, nsec3s_of, nsecs_of, parameters_in_order};
@@ -99,12 +100,15 @@ fn add_zone(
     if labels > speaker {
         return Ok(());
     }
-    let zone = at.name.suffix(labels);
-    let speaks = labels == speaker;
+    let name = at.name.suffix(labels);
+    let zone = SourceZone {
+        name: &name,
+        speaks: labels == speaker,
+    };
     let (capture, trust) = (evidence.capture(), &at.grounds.trust);
-    let nsecs = nsecs_of(alloc, capture, trust, &zone)?;
-    add_nsecs(alloc, at, lines, rtype, &zone, speaks, &nsecs)?;
-    let nsec3s = nsec3s_of(alloc, capture, trust, &zone)?;
-    add_nsec3s(alloc, at, lines, rtype, &zone, speaks, &nsec3s, parameters)?;
+    let nsecs = nsecs_of(alloc, capture, trust, &name)?;
+    add_nsecs(alloc, at, lines, rtype, &zone, &nsecs)?;
+    let nsec3s = nsec3s_of(alloc, capture, trust, &name)?;
+    add_nsec3s(alloc, at, lines, rtype, &zone, &nsec3s, parameters)?;
     Ok(())
 }

@@ -12,6 +12,14 @@ pub enum ChainEntries<'a> {
     Nsec3(&'a [Nsec3Entry<'a>], &'a Nsec3Parameters<'a>),
 }
 
+/// A zone at or above the question's name, whose records are looked through.
+#[derive(Clone, Copy)]
+pub struct SourceZone<'a> {
+    pub name: &'a Name,
+    /// Whether it is the zone that should speak of the question's name.
+    pub speaks: bool,
+}
+
 /// A chain of a zone at or above the question's name.
 #[derive(Clone, Copy)]
 pub struct ZoneChain<'a> {

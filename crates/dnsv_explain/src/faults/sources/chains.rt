@@ -2,7 +2,6 @@
 ghost use Rattle.std.specs.Prelude.{◌≡◌, ◌↔◌, IsTrue, OnOk, map};
 ghost use Rattle.dnsv_names.specs.Name.{Labels, SameName};
 ghost use Rattle.dnsv_zones.specs.chains.Rdata.{parameters_of};
-ghost use Rattle.dnsv_denial.specs.QuestionHashes.{AreUsed};
 ghost use Rattle.dnsv_denial.specs.gathering.Gathered.{AreNsecsOf, AreNsec3sOf};
 ghost use Rattle.dnsv_denial.specs.records.Record.{read_nsec3};
 ghost use Rattle.dnsv_denial.specs.words.EvidenceWords.Chain.{ByNsec, ByNsec3};
@@ -13,93 +12,69 @@ ghost use Rattle.dnsv_explain.specs.faults.Order.{AreLinesOfChain};
 ghost use Rattle.dnsv_explain.specs.faults.Sources.SourceSearch.{AreAllParameters, HasEntry, IsZoneFor};
 
 use crate::explanation::at::At;
-use crate::faults::sources::chain::{ChainEntries, ZoneChain};
+use crate::faults::sources::chain::{ChainEntries, SourceZone, ZoneChain};
 use crate::faults::sources::lacks::add_chain;
 use crate::faults::sources::records::has_parameters;
 use crate::line::Line;
 use dnsv_denial::{Nsec3Entry, NsecEntry, OrderedParameters};
-use dnsv_names::{Name, RecordType};
+use dnsv_names::RecordType;
 use dnsv_records::Nsec3Parameters;
 use std::alloc::{AllocError, Global};
 
-/// Adds what is said of the zone's NSEC records, if it has some. `speaks` tells whether it is the zone that should speak.
-pub fn add_nsecs(
+/// Adds what is said of the zone's NSEC records, if it has some.
+pub fn add_nsecs<'a>(
     alloc: Global,
     at: &At<'_, '_>,
     lines: &mut Vec<Line>,
     rtype: RecordType,
-    zone: &Name,
-    speaks: bool,
-    nsecs: &[NsecEntry<'_>],
+    zone: &SourceZone<'a>,
+    nsecs: &'a [NsecEntry<'a>],
 ) -> Result<(), AllocError>
-    requires { IsZoneFor at.now zone.now }
-    ensures { (setting : Setting) (speaker : Labels) → AreNsecsOf (SecuredIn setting) setting.rrsets zone.now nsecs.now
-        → (IsTrue speaks ↔ SameName zone.now speaker)
-        → OnOk result (AddsThose (AreLinesOfChain setting at.now.name.now rtype.0 speaker zone.now ByNsec)
+    requires { IsZoneFor at.now zone.now.name.now }
+    ensures { (setting : Setting) (speaker : Labels) → AreNsecsOf (SecuredIn setting) setting.rrsets zone.now.name.now nsecs.now
+        → (IsTrue zone.now.speaks ↔ SameName zone.now.name.now speaker)
+        → OnOk result (AddsThose (AreLinesOfChain setting at.now.name.now rtype.0 speaker zone.now.name.now ByNsec)
         lines.old.items lines.new.items) }
 {
     if nsecs.is_empty() {
         return Ok(());
     }
     let chain = ZoneChain {
-        zone,
+        zone: zone.name,
         entries: ChainEntries::Nsec(nsecs),
     };
-    add_chain(alloc, at, &chain, lines, rtype, speaks)?;
+    add_chain(alloc, at, &chain, lines, rtype, zone.speaks)?;
     Ok(())
 }
 
-/// Adds what is said of its NSEC3 records with each of the parameters, which are those of all.
-pub fn add_nsec3s(
+/// Adds what is said of its NSEC3 records with each of the parameters, which are those of all, if it has some.
+pub fn add_nsec3s<'a>(
     alloc: Global,
     at: &At<'_, '_>,
     lines: &mut Vec<Line>,
     rtype: RecordType,
-    zone: &Name,
-    speaks: bool,
-    nsec3s: &[Nsec3Entry<'_>],
-    parameters: &[OrderedParameters<'_>],
+    zone: &SourceZone<'a>,
+    nsec3s: &'a [Nsec3Entry<'a>],
+    parameters: &'a [OrderedParameters<'a>],
 ) -> Result<(), AllocError>
-    requires zone { IsZoneFor at.now zone.now }
+    requires zone { IsZoneFor at.now zone.now.name.now }
     requires parameters { AreAllParameters at.now.hashes.now.rrsets (map (λ each. each.parameters.now) parameters.now) }
-    ensures { (setting : Setting) (speaker : Labels) → AreNsec3sOf (SecuredIn setting) setting.rrsets zone.now nsec3s.now
-        → (IsTrue speaks ↔ SameName zone.now speaker)
-        → OnOk result (AddsThose (AreOfEach (λ each. AreLinesOfChain setting at.now.name.now rtype.0 speaker zone.now
+    ensures { (setting : Setting) (speaker : Labels) → AreNsec3sOf (SecuredIn setting) setting.rrsets zone.now.name.now nsec3s.now
+        → (IsTrue zone.now.speaks ↔ SameName zone.now.name.now speaker)
+        → OnOk result (AddsThose (AreOfEach (λ each. AreLinesOfChain setting at.now.name.now rtype.0 speaker zone.now.name.now
         (ByNsec3 (parameters_of each.parameters.now))) parameters.now) lines.old.items lines.new.items) }
 {
     for each in parameters {
         let parameters = each.parameters;
-        add_nsec3_chain(alloc, at, lines, rtype, zone, speaks, nsec3s, parameters)?;
+        if !has_records(nsec3s, parameters) {
+            continue;
+        }
+        let chain = ZoneChain {
+            zone: zone.name,
+            entries: ChainEntries::Nsec3(nsec3s, parameters),
+        };
+        add_chain(alloc, at, &chain, lines, rtype, zone.speaks)?;
     }
-    Ok(())
-}
-
-/// Adds what is said of those with the parameters, if there are some.
-fn add_nsec3_chain(
-    alloc: Global,
-    at: &At<'_, '_>,
-    lines: &mut Vec<Line>,
-    rtype: RecordType,
-    zone: &Name,
-    speaks: bool,
-    nsec3s: &[Nsec3Entry<'_>],
-    parameters: &Nsec3Parameters<'_>,
-) -> Result<(), AllocError>
-    requires zone { IsZoneFor at.now zone.now }
-    requires made { AreUsed at.now.hashes.now.rrsets (parameters_of parameters.now) }
-    ensures { (setting : Setting) (speaker : Labels) → AreNsec3sOf (SecuredIn setting) setting.rrsets zone.now nsec3s.now
-        → (IsTrue speaks ↔ SameName zone.now speaker)
-        → OnOk result (AddsThose (AreLinesOfChain setting at.now.name.now rtype.0 speaker zone.now
-        (ByNsec3 (parameters_of parameters.now))) lines.old.items lines.new.items) }
-{
-    if !has_records(nsec3s, parameters) {
-        return Ok(());
-    }
-    let chain = ZoneChain {
-        zone,
-        entries: ChainEntries::Nsec3(nsec3s, parameters),
-    };
-    add_chain(alloc, at, &chain, lines, rtype, speaks)?;
     Ok(())
 }
 

@@ -21,11 +21,11 @@ returns-then-labels-speaker c =
 
 pub add_nsecs-requires : goal.add_nsecs-requires
 add_nsecs-requires c =
-    zone_for c.args.evidence.now c.args.at.now c.requires.at c.args.labels c.suffix-zone.result c.requires.within c.suffix-zone.ensures.labels
+    zone_for c.args.evidence.now c.args.at.now c.requires.at c.args.labels c.suffix-name.result c.requires.within c.suffix-name.ensures.labels
 
 pub add_nsec3s-requires-clause-zone : goal.add_nsec3s-requires-clause-zone
 add_nsec3s-requires-clause-zone c =
-    zone_for c.args.evidence.now c.args.at.now c.requires.at c.args.labels c.suffix-zone.result c.requires.within c.suffix-zone.ensures.labels
+    zone_for c.args.evidence.now c.args.at.now c.requires.at c.args.labels c.suffix-name.result c.requires.within c.suffix-name.ensures.labels
 
 pub add_nsec3s-requires-clause-parameters : goal.add_nsec3s-requires-clause-parameters
 add_nsec3s-requires-clause-parameters c = parameters_here c.args.evidence.now c.args.at.now c.requires.at _ c.requires.parameters
@@ -35,7 +35,7 @@ returns c =
     let setting = setting_in c.args.evidence.now in
     let name = c.args.at.now.name.now in
     let trust = c.args.at.now.grounds.now.trust in
-    let zone = c.suffix-zone.result in
+    let zone = c.suffix-name.result in
     let speaker = rightmost name c.args.speaker in
     let good = its_trust c.args.evidence.now c.args.at.now c.requires.at in
     let Nsecs : List ReceivedRrset → Type 0 = λ each. AreNsecsOf (KeptIn trust) each zone c.in_ok-nsecs.nsecs.items in
@@ -46,11 +46,11 @@ returns c =
     (nsecs_good setting trust good zone c.in_ok-nsecs.nsecs.items (subst Nsecs c.capture-capture.ensures c.in_ok-nsecs.ensures)) in
     let nsec3s = subst Good3 (sym c.deref-2.ensures.value)
     (nsec3s_good setting trust good zone c.in_ok-nsec3s.nsec3s.items (subst Nsec3s c.capture-capture.ensures c.in_ok-nsec3s.ensures)) in
-    let test = speaks_test name c.args.speaker c.args.labels zone c.requires.speaker c.requires.within c.suffix-zone.ensures.labels in
+    let test = speaks_test name c.args.speaker c.args.labels zone c.requires.speaker c.requires.within c.suffix-name.ensures.labels in
     let To : Labels → Type 0 = λ each. AddsThose (AreLinesOfSources setting name c.args.rtype.0 speaker each) c.args.lines.now.items
     c.add_nsec3s.new.lines.items in
     let Below : Labels → Type 0 = λ each. IsAtOrBelow speaker each in
-    subst To c.suffix-zone.ensures.labels
+    subst To c.suffix-name.ensures.labels
     (zone_added setting name speaker zone c.args.rtype.0 (λ each. each.parameters.now) c.args.parameters.now _ _ _ c.requires.parameters
-    (subst Below (sym c.suffix-zone.ensures.labels) (speaks_or_above name c.args.speaker c.args.labels c.if-labels-speaker.false))
+    (subst Below (sym c.suffix-name.ensures.labels) (speaks_or_above name c.args.speaker c.args.labels c.if-labels-speaker.false))
     (c.in_ok-add_nsecs.ensures setting speaker nsecs test) (c.in_ok-add_nsec3s.ensures setting speaker nsec3s test))

@@ -12,7 +12,7 @@ use Rattle.dnsv_explain.proofs.faults.sources.chains.add_nsec3s.Given as goal
 -- what is said of the chains with the parameters so far
 abbrev pub invariant-loop-each : goal.invariant-loop-each
 invariant-loop-each l =
-    (setting : Setting) (speaker : Labels) → AreNsec3sOf (SecuredIn setting) setting.rrsets l.zone l.nsec3s
-    → (IsTrue l.speaks ↔ SameName l.zone speaker)
-    → AddsThose (AreOfNumbered (λ (n : ℕ) each. AreLinesOfChain setting l.at.name.now l.rtype.0 speaker l.zone (ByNsec3 (parameters_of each.parameters.now))) 1
+    (setting : Setting) (speaker : Labels) → AreNsec3sOf (SecuredIn setting) setting.rrsets l.zone.name.now l.nsec3s
+    → (IsTrue l.zone.speaks ↔ SameName l.zone.name.now speaker)
+    → AddsThose (AreOfNumbered (λ (n : ℕ) each. AreLinesOfChain setting l.at.name.now l.rtype.0 speaker l.zone.name.now (ByNsec3 (parameters_of each.parameters.now))) 1
     (take l.each-index l.parameters)) l.initial.lines.items l.lines.items
