@@ -3,7 +3,7 @@
 mod answers;
 mod at;
 mod keyed;
-mod keys;
+pub mod keys;
 pub mod question;
 pub mod questioned;
 mod remark;

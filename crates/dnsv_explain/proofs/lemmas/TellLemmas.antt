@@ -1,5 +1,5 @@
 -- What is told at one name of a way, by a view of what the evidence says there.
-use Rattle.std.proofs.Common.{◌≡◌, ◌⊎◌, ◌<◌, ◌∙◌, ◌+◌, ◌-◌, ℕ, zero, suc, List, [], ◌∷◌, ◌++◌, arith, get_or, length, map, refl, sym, ap, subst, ⊎_elim}
+use Rattle.std.proofs.Common.{◌≡◌, ◌<◌, ◌∙◌, ◌+◌, ◌-◌, ℕ, zero, suc, List, [], ◌∷◌, ◌++◌, arith, get_or, length, map, refl, sym, ap, subst, ⊎_elim}
 use Rattle.std.specs.List.{AllZip}
 use Rattle.dnsv_names.specs.Name.{Labels, rightmost}
 use Rattle.dnsv_records.specs.Rrsig.{IsRrsig}

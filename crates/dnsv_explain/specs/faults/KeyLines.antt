@@ -1,18 +1,16 @@
 -- Which keys are told, and what is told of each (RFC 4035 5.2).
-use Rattle.std.specs.Prelude.{◌≡◌, ◌≢◌, ◌⊎◌, ◌+◌, ◌≤◌, ℕ, List, [], ◌∷◌, Option, Some, None, Contains}
+use Rattle.std.specs.Prelude.{◌≡◌, ◌≢◌, ◌⊎◌, ◌≤◌, ℕ, List, [], ◌∷◌, Option, Some, None, Contains}
 use Rattle.dnsv_names.specs.Name.{Labels, SameName}
-use Rattle.dnsv_records.specs.Dnskey.{IsDnskey}
 use Rattle.dnsv_canonical.specs.Rrsets.{IsNumbered, ReceivedRrset}
 use Rattle.dnsv_chain.specs.Anchor.{IsAnchorMatch}
 use Rattle.dnsv_chain.specs.declared.anchor.Anchor.{Anchor}
-use Rattle.dnsv_denial.specs.gathering.Evidence.{IsRecordAt}
 use Rattle.dnsv_denial.specs.words.EvidenceWords.{number_cmp}
 use Rattle.dnsv_denial.specs.declared.records.number.RecordNumber.{RecordNumber}
 use Rattle.dnsv_explain.specs.Explained.{Setting}
 use Rattle.dnsv_verifier.specs.Admissible.{DnskeyRecord}
 use Rattle.std.specs.declared.cmp.Ordering.TheVariants.{Less}
 use Rattle.dnsv_explain.specs.Following.{IsDsMatch, IsGoodUnder, IsNamed}
-use Rattle.dnsv_explain.specs.derivations.WaySearch.{AreKeysInOrder, IsLowestGood, signature_of}
+use Rattle.dnsv_explain.specs.derivations.WaySearch.{AreKeysInOrder, signature_of}
 use Rattle.dnsv_explain.specs.faults.Listing.{AreOfNumbered, AreWhere}
 use Rattle.dnsv_explain.specs.unsigned_cuts.UnsignedCuts.{record_of}
 use Rattle.dnsv_explain.specs.declared.line.Line.{Line}

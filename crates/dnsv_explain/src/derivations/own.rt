@@ -8,6 +8,7 @@ ghost use Rattle.dnsv_explain.specs.Saying.{Adds};
 
 use crate::derivations::derivation;
 use crate::evidence::Evidence;
+use crate::faults::keys::is_signer;
 use crate::line::Line;
 use crate::line::derivation::SignatureNumber;
 use crate::numbered::numbered;
@@ -98,7 +99,7 @@ fn is_own(rrset: &Rrset<'_>, number: usize, zone: &Name) -> bool
     let Some(rrsig) = numbered(rrset.signatures(), number) else {
         return false;
     };
-    if rrsig.signer.is_same(zone) {
+    if is_signer(zone, rrsig) {
         return !is_expanded(rrset.owner(), rrsig);
     }
     false

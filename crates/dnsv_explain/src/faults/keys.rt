@@ -65,7 +65,14 @@ pub fn is_named(key: &KeyRecord<'_>, rrsig: &Rrsig<'_>) -> bool
 {
     key.key_tag().0 == rrsig.key_tag.0
         && key.dnskey().algorithm.0 == rrsig.algorithm.0
-        && rrsig.signer.is_same(key.owner())
+        && is_signer(key.owner(), rrsig)
+}
+
+/// Whether the name is the signer of the signature, without regard to case (RFC 4343).
+pub fn is_signer(name: &Name, rrsig: &Rrsig<'_>) -> bool
+    ensures { IsTrue result ↔ SameName rrsig.now.signer name.now }
+{
+    rrsig.signer.is_same(name)
 }
 
 /// Whether the names are equal, without regard to case (RFC 4343).

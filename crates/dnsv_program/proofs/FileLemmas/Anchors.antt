@@ -1,5 +1,5 @@
 -- A text of trust anchors is one list of them, or has one fault.
-use Rattle.std.proofs.Common.{◌≡◌, ℕ, List}
+use Rattle.std.proofs.Common.{◌≡◌, ◌⊎◌, inl, inr, subst, sym, ℕ, List}
 use Rattle.dnsv_chain.specs.AnchorFile.{AreAnchorsOf, IsFaultOf}
 use Rattle.dnsv_chain.specs.declared.anchor.Anchor.{Anchor}
 use Rattle.dnsv_chain.specs.declared.anchors.AnchorsError.{AnchorsError}
@@ -11,12 +11,33 @@ use Rattle.dnsv_program.specs.declared.status.Place.{Place}
 use Rattle.dnsv_program.specs.declared.status.Refusal.{Refusal}
 use Rattle.dnsv_program.specs.declared.status.Refusal.TheVariants as refusal
 use Rattle.dnsv_program.specs.Files.Anchors.{AreAnchorsRefused, HasAnchors, IsFaultOfAnchors, TellsAnchorsError}
+use Rattle.dnsv_program.specs.Told.{IsAnchorsFault}
+use Rattle.dnsv_program.specs.Told as told
 use Rattle.dnsv_program.proofs.FileLemmas.Text.{no_text_fault, one_at_line, one_text_fault, told_by_one}
 
 one_telling : (error : AnchorsError) (a b : Refusal) (p q : Place) → TellsAnchorsError error a p → TellsAnchorsError error b q → fault.Refused a p ≡ fault.Refused b q
 one_telling anchors.OutOfMemory a b p q x y = absurd x
 one_telling (anchors.Syntax number) a b p q x y = one_at_line number (refusal.AnchorLine (anchors.Syntax number)) a b p q x.0 x.1 y.0 y.1
 one_telling (anchors.TooMany number) a b p q x y = one_at_line number (refusal.AnchorLine (anchors.TooMany number)) a b p q x.0 x.1 y.0 y.1
+
+-- what refuses the text is told as its fault
+pub refused_text : (text : List ℕ) (error : AnchorsError) (found : Fault) → (error ≡ anchors.OutOfMemory) ⊎ IsFaultOf text error
+    → IsAnchorsFault error found → told.IsFaultOf (AreAnchorsRefused text) found
+refused_text text anchors.OutOfMemory found why is = subst (told.IsFaultOf (AreAnchorsRefused text)) (sym is) tt
+refused_text text (anchors.Syntax line) (fault.Refused why place) (inl is) tells = cc
+refused_text text (anchors.Syntax line) (fault.Refused why place) (inr is) tells = (anchors.Syntax line, is, tells)
+refused_text text (anchors.TooMany line) (fault.Refused why place) (inl is) tells = cc
+refused_text text (anchors.TooMany line) (fault.Refused why place) (inr is) tells = (anchors.TooMany line, is, tells)
+refused_text text (anchors.Syntax line) fault.OutOfMemory why tells = absurd tells
+refused_text text (anchors.Syntax line) (fault.ReadFailed file) why tells = absurd tells
+refused_text text (anchors.Syntax line) (fault.TooLong file) why tells = absurd tells
+refused_text text (anchors.Syntax line) (fault.OpenFailed file) why tells = absurd tells
+refused_text text (anchors.Syntax line) fault.WriteFailed why tells = absurd tells
+refused_text text (anchors.TooMany line) fault.OutOfMemory why tells = absurd tells
+refused_text text (anchors.TooMany line) (fault.ReadFailed file) why tells = absurd tells
+refused_text text (anchors.TooMany line) (fault.TooLong file) why tells = absurd tells
+refused_text text (anchors.TooMany line) (fault.OpenFailed file) why tells = absurd tells
+refused_text text (anchors.TooMany line) fault.WriteFailed why tells = absurd tells
 
 pub no_anchors_fault : (text : List ℕ) (said : List Anchor) (told : Fault)
     → ((error : AnchorsError) → AreAnchorsOf text said → IsFaultOf text error → ⊥)

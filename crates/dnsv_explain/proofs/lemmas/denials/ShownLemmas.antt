@@ -1,5 +1,5 @@
 -- What the parts of a shown denial say, and that their records are signed by the zone.
-use Rattle.std.proofs.Common.{◌≡◌, ◌+◌, ℕ, List, [], ◌∷◌, ◌++◌, Option, Some, None, length, refl, sym, ap, ◌∙◌, subst, arith}
+use Rattle.std.proofs.Common.{◌≡◌, ℕ, List, [], ◌∷◌, ◌++◌, Option, Some, None, length, refl, sym, ap, ◌∙◌, subst, arith}
 use Rattle.std.specs.List.{AllByRecursion, Contains}
 use Rattle.dnsv_names.specs.Name.{Labels, SameName, lower_case, rightmost}
 use Rattle.dnsv_names.specs.Tree.AncestorLaws.{rightmost_above, rightmost_same}

@@ -1,6 +1,5 @@
 -- The keys that a signature names, found among all keys.
-use Rattle.std.proofs.Common.{◌≡◌, ◌↔◌, List, sym}
-use Rattle.std.specs.List.{Contains}
+use Rattle.std.proofs.Common.{◌↔◌, List, sym}
 use Rattle.dnsv_names.specs.Name.{Labels}
 use Rattle.dnsv_records.specs.declared.rrsig.Rrsig.{Rrsig}
 use Rattle.dnsv_canonical.specs.Rrsets.{ReceivedRrset}

@@ -1,14 +1,14 @@
 -- What fails, and the keys that it is a matter of, are lines that follow from none before.
-use Rattle.std.proofs.Common.{◌≡◌, ◌⊎◌, ⊎_elim, inl, inr, ◌+◌, ℕ, List, [], ◌∷◌, ◌++◌, sym, subst}
-use Rattle.std.specs.List.{AllByRecursion, Contains}
+use Rattle.std.proofs.Common.{inl, inr, ◌+◌, ℕ, List, [], ◌∷◌, ◌++◌, sym, subst}
+use Rattle.std.specs.List.{AllByRecursion}
 use Rattle.dnsv_names.specs.Name.{Labels}
 use Rattle.dnsv_canonical.proofs.EvidenceLemmas.{first_appearances_kept}
-use Rattle.dnsv_canonical.specs.Rrsets.{ReceivedRrset, first_appearances}
+use Rattle.dnsv_canonical.specs.Rrsets.{ReceivedRrset}
 use Rattle.dnsv_verifier.specs.Admissible.{DnskeyRecord}
 use Rattle.dnsv_explain.specs.Explained.{Setting}
 use Rattle.dnsv_explain.specs.Explanation.{IsFailureTold}
 use Rattle.dnsv_explain.specs.Following.{EachFollows, Follows}
-use Rattle.dnsv_explain.specs.faults.KeyLines.{AreLinesOfKeysAsked, AreLinesOfSet, IsKeyLine}
+use Rattle.dnsv_explain.specs.faults.KeyLines.{AreLinesOfSet, IsKeyLine}
 use Rattle.dnsv_explain.specs.faults.Listing.{AreOfNumbered, AreThose}
 use Rattle.dnsv_explain.specs.faults.Order.{IsSaid, same_text}
 use Rattle.dnsv_explain.specs.declared.line.Line.{Line}

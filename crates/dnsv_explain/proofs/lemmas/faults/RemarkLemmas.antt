@@ -1,6 +1,5 @@
 -- What is remarked of a signature.
-use Rattle.std.proofs.Common.{◌≡◌, ◌↔◌, ℕ, Bool, List, Option, Some, None, refl, IsTrue}
-use Rattle.std.proofs.lemmas.Bool.{false≢true}
+use Rattle.std.proofs.Common.{List, Option, Some, None}
 use Rattle.dnsv_records.specs.declared.rrsig.Rrsig.{Rrsig}
 use Rattle.dnsv_canonical.specs.Rrsets.{ReceivedRrset}
 use Rattle.dnsv_verifier.specs.Admissible.{DnskeyRecord, IsGoodAmong}
@@ -11,7 +10,7 @@ use Rattle.dnsv_chain.specs.Trusted.{IsGoodByTrust}
 use Rattle.dnsv_explain.specs.Explained.{Setting}
 use Rattle.dnsv_explain.specs.faults.searches.AnswerSearch.{IsBestOf}
 use Rattle.dnsv_explain.specs.faults.searches.KeySearch.{HasKeyAt, IsNamedIn}
-use Rattle.dnsv_explain.specs.faults.Keys.{HasKeys, IsNamedBy, IsTrustedZone}
+use Rattle.dnsv_explain.specs.faults.Keys.{HasKeys, IsNamedBy}
 use Rattle.dnsv_explain.specs.faults.searches.RemarkSearch.{IsGoodRemark, IsRemarkOf, remark_for}
 use Rattle.dnsv_explain.specs.faults.RrsetLines.{IsOfAnswers, IsTrueOf}
 use Rattle.dnsv_explain.specs.faults.RrsetLines.IsRemark.{no_keys, of_answers, untrusted, nothing}

@@ -1,5 +1,5 @@
 -- What is said to fail of an RRset is so.
-use Rattle.std.proofs.Common.{◌≡◌, ◌<◌, ◌≤◌, ◌+◌, ◌-◌, ◌⊎◌, ℕ, suc, inl, inr, List, [], ◌∷◌, ◌++◌, Some, length, map, get_or, refl, sym, ap, ◌∙◌, subst, ⊎_elim, arith}
+use Rattle.std.proofs.Common.{◌≡◌, ◌+◌, ◌-◌, ◌⊎◌, ℕ, suc, inl, inr, List, [], ◌∷◌, Some, refl, sym, subst, ⊎_elim, arith}
 use Rattle.std.proofs.lemmas.List.Elements.{Contains-append_cases, Contains-push_cases}
 use Rattle.std.specs.List.{Contains, slice_get}
 use Rattle.dnsv_names.specs.Name.{Labels}
@@ -20,7 +20,6 @@ use Rattle.dnsv_explain.specs.declared.line.Line.{Line}
 use Rattle.dnsv_explain.specs.declared.line.Line.TheVariants as line
 use Rattle.dnsv_explain.specs.declared.line.fault.Reason.{Reason}
 use Rattle.dnsv_explain.specs.declared.line.fault.Reason.TheVariants as reason
-use Rattle.dnsv_explain.specs.declared.line.fault.signature.ShownSignature.{ShownSignature}
 use Rattle.dnsv_explain.specs.declared.line.fault.signature.WhySignature.{WhySignature}
 
 -- ---- members of lists

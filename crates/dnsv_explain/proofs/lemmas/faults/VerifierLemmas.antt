@@ -1,6 +1,5 @@
 -- What a verifier says of a signature under some keys.
 use Rattle.std.proofs.Common.{◌≡◌, ◌↔◌, ℕ, List, Option, Some, None, refl, ap, ◌∙◌, arith}
-use Rattle.std.specs.List.{Contains}
 use Rattle.dnsv_records.specs.declared.rrsig.Rrsig.{Rrsig}
 use Rattle.dnsv_canonical.specs.Rrsets.{ReceivedRrset}
 use Rattle.dnsv_canonical.specs.SignedData.{IsSignedData}

@@ -1,6 +1,5 @@
 -- The words that are said of a signature.
-use Rattle.std.proofs.Common.{◌≡◌, ◌≤◌, ◌^◌, ◌↔◌, ℕ, Bool, List, [], ◌∷◌, filter, map, sym, subst, IsTrue}
-use Rattle.std.specs.List.{Contains}
+use Rattle.std.proofs.Common.{◌≡◌, ◌≤◌, ◌^◌, ◌↔◌, Bool, List, [], ◌∷◌, filter, map, sym, subst, IsTrue}
 use Rattle.dnsv_records.specs.Rrsig.Time.{seconds_on}
 use Rattle.dnsv_records.specs.declared.rrsig.Rrsig.{Rrsig}
 use Rattle.dnsv_canonical.specs.Rrsets.{ReceivedRrset}

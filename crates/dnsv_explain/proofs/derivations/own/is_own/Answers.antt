@@ -11,13 +11,13 @@ returns-in_default c = (
       c.in_default.ensures has),
 )
 
-pub returns-then-eq : goal.returns-then-eq
-returns-then-eq c =
+pub returns-then-is_signer : goal.returns-then-is_signer
+returns-then-is_signer c =
     let expanded : Type 0 = IsExpanded c.args.rrset.now.owner c.in-Some.rrsig.now in
     let test = rw c.owner.ensures at c.is_expanded.ensures in (
       λ yes.
           its_own c.args.rrset.now c.args.zone.now c.args.number c.signatures.result.now c.signatures.ensures c.in-Some.rrsig.now
-          c.in-Some.ensures (c.eq.ensures.same.0 c.if-eq.true) (not_so c.is_expanded.result expanded test yes),
+          c.in-Some.ensures (c.is_signer.ensures.0 c.if-is_signer.true) (not_so c.is_expanded.result expanded test yes),
       λ has.
           so_not c.is_expanded.result expanded test
           (its_rrsig c.args.rrset.now c.args.zone.now c.args.number c.signatures.result.now c.signatures.ensures c.in-Some.rrsig.now
@@ -28,9 +28,9 @@ pub returns : goal.returns
 returns c = (
   λ never. absurd (false≢true never),
   λ has.
-      let same = c.eq.ensures.same.1
+      let same = c.is_signer.ensures.1
       (its_rrsig c.args.rrset.now c.args.zone.now c.args.number c.signatures.result.now c.signatures.ensures c.in-Some.rrsig.now
       c.in-Some.ensures has).0 in
-      let isnt = c.if-eq.false in
+      let isnt = c.if-is_signer.false in
       cc,
 )

@@ -51,7 +51,7 @@ returns-in_default-shown_no_closer c =
     let test = rw c.owner.ensures at c.is_expanded.ensures in
     let is_rrset : IsNumbered explained.rrsets c.args.number.rrset rrset =
     in_list explained.rrsets c.rrsets.result.now c.args.number.rrset rrset c.rrsets.ensures c.in-Some.ensures in
-    absurd (c.in_default-shown_no_closer.ensures.first
+    absurd ((rw c.to_name.ensures at c.in_default-shown_no_closer.ensures.first)
     (closer_there c.args.at.now.grounds.now explained c.requires.at.evidence c.requires.at.trust c.in_ok-view.view c.args.at.now.name.now
     c.in_ok-view.ensures rrsig.labels rrsig.signer
     (must_hold (setting_in explained) c.args.at.now.name.now c.args.number c.requires.secure rrset is_rrset rrsig
@@ -78,6 +78,6 @@ returns c =
     (in_list explained.rrsets c.rrsets.result.now c.args.number.rrset rrset c.rrsets.ensures c.in-Some.ensures)
     c.signatures.ensures c.in-Some-numbered.ensures)
     (test.0 c.if-not-is_expanded.false)
-    c.in-Some-shown_no_closer.ensures.first
+    (rw c.to_name.ensures at c.in-Some-shown_no_closer.ensures.first)
     (subst Told c.deref.ensures.value (MatchOption-at_some _ _ c.in-Some-2.more c.in-Some-2.is c.in_ok-more.ensures))
     c.in_ok-append.ensures.items c.in_ok-add_denial.ensures

@@ -15,7 +15,7 @@ returns-in_default c =
 pub returns-in_default-shown_loose_closer : goal.returns-in_default-shown_loose_closer
 returns-in_default-shown_loose_closer c =
     let found = c.in-Some.found in
-    absurd (c.in_default-shown_loose_closer.ensures
+    absurd ((rw c.to_name.ensures at c.in_default-shown_loose_closer.ensures)
     (covered_there c.args.at.now.grounds.now c.args.evidence.now c.requires.at.evidence c.requires.at.trust c.args.view.now
     c.args.at.now.name.now c.requires.view c.args.rtype.0
     found.rrset found.signature c.in-Some.ensures.0 found.rrsig.now c.in-Some.ensures.1))
@@ -35,7 +35,7 @@ add_unsigned-requires c =
     let is =
     open_shown c.args.at.now.grounds.now c.args.evidence.now c.requires.at.evidence c.requires.at.trust c.args.view.now
     c.args.at.now.name.now c.requires.view c.args.rtype.0
-    found.rrset found.signature c.in-Some.ensures.0 found.rrsig.now c.in-Some.ensures.1 shown c.in-Some-shown_loose_closer.ensures in
+    found.rrset found.signature c.in-Some.ensures.0 found.rrsig.now c.in-Some.ensures.1 shown (rw c.to_name.ensures at c.in-Some-shown_loose_closer.ensures) in
     subst At (sym (c.of-cut.ensures is.0)) is.1
 
 pub returns : goal.returns
@@ -45,9 +45,9 @@ returns c =
     let is =
     open_shown c.args.at.now.grounds.now c.args.evidence.now c.requires.at.evidence c.requires.at.trust c.args.view.now
     c.args.at.now.name.now c.requires.view c.args.rtype.0
-    found.rrset found.signature c.in-Some.ensures.0 found.rrsig.now c.in-Some.ensures.1 shown c.in-Some-shown_loose_closer.ensures in
+    found.rrset found.signature c.in-Some.ensures.0 found.rrsig.now c.in-Some.ensures.1 shown (rw c.to_name.ensures at c.in-Some-shown_loose_closer.ensures) in
     open_added c.args.at.now.grounds.now c.args.evidence.now c.requires.at.evidence c.requires.at.trust c.args.view.now
     c.args.at.now.name.now c.requires.view c.args.rtype.0
     found.rrset found.signature c.in-Some.ensures.0 found.rrsig.now c.in-Some.ensures.1 shown c.of-cut.result c.args.lines.now.items _ _
-    c.in-Some-shown_loose_closer.ensures c.requires.none (c.of-cut.ensures is.0) c.in_ok-add_derivation.ensures
+    (rw c.to_name.ensures at c.in-Some-shown_loose_closer.ensures) c.requires.none (c.of-cut.ensures is.0) c.in_ok-add_derivation.ensures
     c.in_ok-add_unsigned.ensures

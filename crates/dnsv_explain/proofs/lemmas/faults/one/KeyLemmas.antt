@@ -9,7 +9,6 @@ use Rattle.dnsv_explain.specs.faults.KeyLines.{AreLinesOfKeysAsked, AreLinesOfSe
 use Rattle.dnsv_explain.specs.faults.Listing.{AreOfNumbered}
 use Rattle.dnsv_explain.specs.declared.line.Line.{Line}
 use Rattle.dnsv_explain.specs.declared.line.Line.TheVariants as line
-use Rattle.dnsv_explain.specs.declared.line.derivation.KeyName.{KeyName}
 use Rattle.dnsv_explain.specs.declared.line.fault.key.ShownKey.{ShownKey}
 use Rattle.dnsv_explain.proofs.lemmas.faults.one.ListLemmas.{IsOneList, one_numbered, one_where}
 use Rattle.dnsv_explain.proofs.lemmas.faults.one.SourceLemmas.{same_number}

@@ -1,5 +1,5 @@
 -- What fails of a question is one list.
-use Rattle.std.proofs.Common.{◌≡◌, ◌≢◌, ◌∙◌, ◌⊎◌, ◌<◌, ◌≤◌, ◌+◌, inl, inr, ℕ, List, [], ◌∷◌, ◌++◌, Option, Some, None, arith, length, map, refl, sym, ap, subst}
+use Rattle.std.proofs.Common.{◌≡◌, ◌≢◌, ◌∙◌, ◌⊎◌, ◌≤◌, ◌+◌, inl, inr, ℕ, List, [], ◌∷◌, ◌++◌, Option, Some, arith, length, map, refl, sym, ap, subst}
 use Rattle.dnsv_names.specs.Name.{Labels, IsAtOrBelow, rightmost}
 use Rattle.dnsv_names.specs.Order.{IsBelow}
 use Rattle.dnsv_names.specs.Tree.AncestorLaws.{rightmost_length}
@@ -12,16 +12,15 @@ use Rattle.dnsv_canonical.specs.Canonical.{IsCanonical}
 use Rattle.dnsv_canonical.specs.CanonicalRdata.{canonical_form}
 use Rattle.dnsv_canonical.specs.Rrsets.{ReceivedRrset, first_appearances}
 use Rattle.dnsv_denial.specs.declared.records.number.RecordNumber.{RecordNumber}
-use Rattle.dnsv_verdict.specs.Verdict.{HasAnchor}
 use Rattle.dnsv_explain.specs.Explained.{Setting}
 use Rattle.dnsv_explain.specs.faults.Keys.{IsTrustedZone}
-use Rattle.dnsv_explain.specs.faults.Listing.{AreOfEach, AreOfNumbered, AreThose, AreWhere}
+use Rattle.dnsv_explain.specs.faults.Listing.{AreOfNumbered, AreThose, AreWhere}
 use Rattle.dnsv_explain.specs.faults.Order.{AreCloserLines, AreDenialLines, AreDnameLines, AreEndLines, AreFaultLines, AreFaultParts, AreGoalClosers, AreGoalLines, AreLacking, AreLinesOfCloser, AreLinesOfDenials, AreLinesOfZones, AreNeededLines, AreNsec3At, AreNsec3Lines, AreNsec3sLines, HasNoDenial, IsCloserOpen, IsEndLine, IsLowestDname, IsOfNeeded, IsSaid, IsSpeakerOf, closer_line, dname_line, missing_line, names_down, same_text, unproved_line}
 use Rattle.dnsv_explain.specs.faults.Order.AreNsec3Lines.{iterations, unusable, usable}
 use Rattle.dnsv_explain.specs.faults.Order.IsEndLine.{denied, missing}
 use Rattle.dnsv_explain.specs.faults.Order.IsSpeakerOf.{speaker, none}
 use Rattle.dnsv_explain.specs.faults.RrsetLines.{AreRrsetLines, shown_of}
-use Rattle.dnsv_explain.specs.faults.ZoneLines.{AreZoneLines, zone_line}
+use Rattle.dnsv_explain.specs.faults.ZoneLines.{AreZoneLines}
 use Rattle.dnsv_explain.specs.faults.Zones.{HasDenial, HasGoal, HasRrset, HasSignedGoal, IsDenial, IsGoal, IsNeeded, IsSpeaker}
 use Rattle.dnsv_explain.specs.unsigned_cuts.UnsignedCuts.{record_of}
 use Rattle.dnsv_explain.specs.declared.line.Line.{Line}

@@ -1,16 +1,14 @@
 -- What the records of a chain lack is one list.
-use Rattle.std.proofs.Common.{◌≡◌, ◌≢◌, ◌⊎◌, ◌∙◌, ◌<◌, ◌≤◌, ◌+◌, ⊎_elim, inl, inr, ℕ, Bool, List, [], ◌∷◌, ◌++◌, Option, Some, None, arith, length, refl, sym, ap, subst}
+use Rattle.std.proofs.Common.{◌≡◌, ◌≢◌, ◌∙◌, ◌+◌, ⊎_elim, ℕ, Bool, List, [], ◌∷◌, Option, Some, None, refl, sym, ap, subst}
 use Rattle.std.specs.Ordering.{ordering_reverse}
-use Rattle.std.specs.List.{Contains}
 use Rattle.std.specs.declared.cmp.Ordering.{Ordering}
 use Rattle.std.specs.declared.cmp.Ordering.TheVariants.{Less, Equal, Greater}
-use Rattle.dnsv_names.specs.Name.{Labels, SameName, rightmost}
+use Rattle.dnsv_names.specs.Name.{Labels, rightmost}
 use Rattle.dnsv_names.specs.Tree.{wildcard_of}
 use Rattle.dnsv_names.specs.declared.number.RecordType.{RecordType}
 use Rattle.dnsv_records.proofs.OneRecord.{one_nsec, one_nsec3}
 use Rattle.dnsv_records.specs.Nsec.{IsNsec}
 use Rattle.dnsv_records.specs.Nsec3.{IsNsec3}
-use Rattle.dnsv_records.specs.declared.nsec.Nsec.{Nsec}
 use Rattle.dnsv_records.specs.declared.nsec3.Nsec3.{Nsec3}
 use Rattle.dnsv_records.specs.declared.nsec3.Nsec3Parameters.{Nsec3Parameters}
 use Rattle.dnsv_zones.specs.chains.HashedNames.{sha1_hash}
@@ -29,7 +27,7 @@ use Rattle.dnsv_denial.specs.words.EvidenceWords.{Chain, evidence_said, number_c
 use Rattle.dnsv_denial.specs.words.EvidenceWords.Chain.{ByNsec, ByNsec3}
 use Rattle.dnsv_denial.specs.declared.records.number.RecordNumber.{RecordNumber}
 use Rattle.dnsv_verdict.proofs.OneProof.{number_exact, number_total}
-use Rattle.dnsv_explain.specs.faults.Listing.{AreOfEach, AreParted, AreWhere}
+use Rattle.dnsv_explain.specs.faults.Listing.{AreOfEach, AreParted}
 use Rattle.dnsv_explain.specs.faults.Sources.{AreAt, AreCloserLines, AreHeldLines, AreHeldOf, AreSourceLines, AreWildcardLines, IsClosedLine, IsCovered, IsFirstClosed, IsHeld, IsLongestThere, IsParametersOf, IsSourceOf, source_line, why_held}
 use Rattle.dnsv_explain.specs.faults.Sources.AreHeldOf.{denying, holding}
 use Rattle.dnsv_explain.specs.faults.Sources.AreSourceLines.{closed, at_name, at_zone, no_encloser, enclosed}

@@ -1,5 +1,5 @@
 -- The first closed record above a question's name.
-use Rattle.std.proofs.Common.{◌≡◌, ◌≢◌, ◌⊎◌, ◌+◌, ◌<◌, ◌≤◌, ℕ, Bool, true, false, Option, Some, None, List, [], ◌∷◌, inl, inr, length, map, refl, sym, ap, ◌∙◌, subst, arith, ⊎_elim, if◌then◌else◌}
+use Rattle.std.proofs.Common.{◌≡◌, ◌≢◌, ◌+◌, ◌<◌, ◌≤◌, ℕ, Bool, true, false, Option, Some, None, List, [], ◌∷◌, inl, inr, length, map, refl, sym, ap, ◌∙◌, subst, arith, ⊎_elim, if◌then◌else◌}
 use Rattle.std.proofs.lemmas.Bool.{cases_lt, false≢true}
 use Rattle.std.specs.FinSet as set
 use Rattle.std.specs.List.{AllByRecursion}
@@ -19,7 +19,6 @@ use Rattle.dnsv_explain.specs.Explained.{Setting}
 use Rattle.dnsv_explain.specs.faults.Sources.{HasNoneClosed, IsClosedAbove, IsClosedLine, dname_record_line, source_line}
 use Rattle.dnsv_explain.specs.faults.Sources.IsClosedLine.{by_dname, by_delegation}
 use Rattle.dnsv_explain.specs.faults.Sources.SourceSearch.{AreOf, IsAskedAs, IsClosedFound, IsFirstClosedAt, IsFirstIn, closed_line, said_by, types_of}
-use Rattle.dnsv_explain.specs.declared.explanation.at.At.{At}
 use Rattle.dnsv_explain.specs.declared.faults.sources.asked.Asked.{Asked}
 use Rattle.dnsv_explain.specs.declared.faults.sources.chain.ZoneChain.{ZoneChain}
 use Rattle.dnsv_explain.specs.declared.faults.sources.closed.Closed.{Closed}

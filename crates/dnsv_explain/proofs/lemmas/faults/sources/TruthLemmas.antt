@@ -1,5 +1,5 @@
 -- What is said that sources lack is so.
-use Rattle.std.proofs.Common.{◌≡◌, ◌≢◌, ◌⊎◌, ◌<◌, ◌≤◌, ◌+◌, ℕ, Bool, true, false, Some, None, List, [], ◌∷◌, inl, inr, length, refl, sym, subst, arith, ⊎_elim}
+use Rattle.std.proofs.Common.{◌≡◌, ◌⊎◌, ◌<◌, ◌≤◌, ◌+◌, ℕ, Bool, true, false, Some, None, List, [], ◌∷◌, inl, inr, length, refl, sym, subst, arith, ⊎_elim}
 use Rattle.std.proofs.lemmas.Bool.{cases_lt, false≢true}
 use Rattle.dnsv_names.specs.Name.{Labels, rightmost}
 use Rattle.dnsv_names.specs.Order.{IsBelow}
@@ -25,7 +25,6 @@ use Rattle.dnsv_explain.specs.faults.Sources.IsClosedLine.{by_delegation, by_dna
 use Rattle.dnsv_explain.specs.faults.Sources.IsHeld.{alias, apex, asked, none}
 use Rattle.dnsv_explain.specs.faults.Truth.{IsReasonTrue}
 use Rattle.dnsv_explain.specs.declared.line.Line.{Line}
-use Rattle.dnsv_explain.specs.declared.line.Line.TheVariants as line
 use Rattle.dnsv_explain.specs.declared.line.denial.Role.TheVariants as role
 use Rattle.dnsv_explain.specs.declared.line.fault.Reason.{Reason}
 use Rattle.dnsv_explain.specs.declared.line.fault.Reason.TheVariants as reason

@@ -1,17 +1,16 @@
 -- DS RRsets that lead into a zone.
 use Rattle.std.proofs.Common.{◌≡◌, ℕ, inl, List, [], ◌++◌, sym, ap, ◌∙◌, subst}
 use Rattle.std.specs.List.{AllZip}
-use Rattle.dnsv_names.specs.Name.{IsAtOrBelow, Labels, SameName}
+use Rattle.dnsv_names.specs.Name.{Labels, SameName}
 use Rattle.dnsv_records.specs.Rrsig.{IsRrsig}
 use Rattle.dnsv_records.specs.declared.rrsig.Rrsig.{Rrsig}
 use Rattle.dnsv_canonical.specs.Rrsets.{IsNumbered, ReceivedRrset}
-use Rattle.dnsv_verdict.specs.Verdict.{HasAnchor}
 use Rattle.dnsv_explain.specs.Explained.{Setting}
 use Rattle.dnsv_explain.specs.faults.Listing.{AddsThose, AreThose}
 use Rattle.dnsv_explain.specs.faults.RrsetLines.{AreRrsetLines}
 use Rattle.dnsv_explain.specs.faults.ZoneLines.{AreWayLines, IsOfParent}
 use Rattle.dnsv_explain.specs.faults.ZoneLines.ZoneSearch.{HasParentSigner}
-use Rattle.dnsv_explain.specs.faults.Zones.{HasOwnAnchor, IsDsWay, MayBeParent}
+use Rattle.dnsv_explain.specs.faults.Zones.{HasOwnAnchor, IsDsWay}
 use Rattle.dnsv_explain.specs.declared.line.Line.{Line}
 use Rattle.dnsv_explain.proofs.lemmas.faults.ListingLemmas.{added_as}
 use Rattle.dnsv_explain.proofs.lemmas.faults.zones.OwnKeyLemmas.{its_rrsig, its_signature}

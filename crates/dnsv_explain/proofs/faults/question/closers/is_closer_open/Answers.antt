@@ -31,7 +31,7 @@ returns c =
     (IsFirstNoCloser (KeptIn view.trust) view.rrsets view.name rrsig.labels rrsig.signer)
     (closer_there grounds evidence c.requires.at.evidence c.requires.at.trust view name c.requires.view rrsig.labels rrsig.signer)
     (closer_back grounds evidence c.requires.at.evidence c.requires.at.trust view name c.requires.view rrsig.labels rrsig.signer)
-    (λ proof found. (found.chain, found.stands)) c.no_closer.ensures.first c.is_none.ensures in (
+    (λ proof found. (found.chain, found.stands)) (rw c.to_name.ensures at c.no_closer.ensures.first) c.is_none.ensures in (
       λ yes. record {
         expanded = subst Expanded c.owner.ensures (c.is_expanded.ensures.0 c.if-not-is_expanded.false);
         unproved = open_or_not.0 yes;

@@ -13,7 +13,7 @@ pub loop-rrsig-preserved : goal.loop-rrsig-preserved
 loop-rrsig-preserved c =
     some_more (λ (rrsig : Rrsig). IsAbove c.args.name.now (SameName rrsig.signer)) c.signatures-rrsig-items.result.now
     c.loop-rrsig.rrsig-index c.rrsig-item.result _ _ _ c.loop-rrsig-test.true c.rrsig-item.is c.loop-rrsig.invariant
-    c.in_ok-add_signer.ensures
+    (rw c.to_name.ensures at c.in_ok-add_signer.ensures)
 
 pub returns : goal.returns
 returns c =

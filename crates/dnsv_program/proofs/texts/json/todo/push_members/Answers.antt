@@ -7,7 +7,7 @@ use Rattle.dnsv_program.proofs.texts.json.todo.push_members.Goals as goal
 pub returns : goal.returns
 returns c =
     let entry = c.args.entry.now in
-    let s1 : string_bytes c.write.new.self ≡ string_bytes c.args.text.now ++ (codes "{\"algorithm\":" ++ (decimal entry.algorithm.0 ++ codes ",\"key\":")) = rw (← c.algorithm-algorithm.ensures) c.in_ok-write.ensures.bytes in
+    let s1 : string_bytes c.write.new.self ≡ string_bytes c.args.text.now ++ (codes "{\"algorithm\":" ++ (decimal entry.algorithm.0 ++ codes ",\"key\":")) = c.in_ok-write.ensures.bytes in
     let s2 : string_bytes c.push_octets.new.text ≡ string_bytes c.write.new.self ++ octets_json entry.key = search rules in
     let s3 : string_bytes c.push_str.new.self ≡ string_bytes c.push_octets.new.text ++ codes ",\"data\":" = c.in_ok-push_str.ensures.bytes in
     let s4 : string_bytes c.push_octets-2.new.text ≡ string_bytes c.push_str.new.self ++ octets_json entry.signed_data = search rules in
