@@ -9,7 +9,7 @@ use Rattle.dnsv_canonical.specs.Evidence.{evidence_of}
 use Rattle.dnsv_canonical.specs.Rrsets.{ReceivedRrset}
 use Rattle.dnsv_canonical.specs.SignedData.{IsSignedData}
 use Rattle.dnsv_tsig.specs.Key.{SharedKey}
-use Rattle.dnsv_verifier.specs.Table.{IsTableOf, TableContents, unknown_entries}
+use Rattle.dnsv_verifier.specs.Table.{IsTableOf, unknown_entries}
 use Rattle.dnsv_verifier.specs.declared.answer.Answer.{Answer}
 use Rattle.dnsv_verifier.specs.declared.entry.Entry.{Entry}
 use Rattle.dnsv_verdict.specs.Verdict.{Basis, basis_of}

@@ -1,5 +1,5 @@
 -- The steps in which the objects of JSON are written.
-use Rattle.std.proofs.Common.{◌≡◌, Bool, true, false, List, [], ◌∷◌, ◌++◌, ℕ, refl, sym, ap, ◌∙◌, append_assoc, codes}
+use Rattle.std.proofs.Common.{◌≡◌, true, false, List, [], ◌∷◌, ◌++◌, ℕ, refl, sym, ap, ◌∙◌, append_assoc, codes}
 use Rattle.std.proofs.lemmas.List.{append-nil}
 use Rattle.dnsv_program.specs.Texts.Json.{member, object, object_line, parted, quoted}
 use Rattle.dnsv_program.proofs.TextLemmas.Json.{parted-append}
