@@ -1,6 +1,7 @@
 -- Derivations, and how they are looked for.
 pub mod ClimbLemmas
 pub mod DerivationLemmas
+pub mod HeldLemmas
 pub mod OwnLemmas
 pub mod SignerLemmas
 pub mod WayLemmas

@@ -1,7 +1,7 @@
 use Rattle.std.proofs.lemmas.Result.{err_from_is_err_and}
 use Rattle.dnsv_verdict.proofs.ReportLemmas.{same_refusal}
 use Rattle.dnsv_verdict.specs.Verdict.{Basis, basis_of}
-use Rattle.dnsv_explain.proofs.lemmas.RefusalLemmas.{explained_of, not_refused, without_memory}
+use Rattle.dnsv_explain.proofs.lemmas.telling.RefusalLemmas.{explained_of, not_refused, without_memory}
 use Rattle.dnsv_explain.proofs.explanation.explain.Goals as goal
 
 pub explanation_of-requires-clause-verdict : goal.explanation_of-requires-clause-verdict

@@ -1,4 +1,4 @@
-use Rattle.dnsv_explain.proofs.lemmas.WholeLemmas.{open_ended, settled_ended, settled_way_follows, way_added}
+use Rattle.dnsv_explain.proofs.lemmas.telling.WholeLemmas.{open_ended, settled_ended, settled_way_follows, way_added}
 use Rattle.dnsv_explain.proofs.explanation.explanation_of.Goals as goal
 
 pub add_end-requires : goal.add_end-requires

@@ -4,8 +4,8 @@ use Rattle.dnsv_canonical.specs.Rrsets.{ReceivedRrset}
 use Rattle.dnsv_denial.specs.QuestionHashes.{HashedQuestion}
 use Rattle.dnsv_verdict.specs.Report.{hashed_in}
 use Rattle.dnsv_verdict.specs.declared.link.Link.{Link}
-use Rattle.dnsv_explain.proofs.lemmas.TellLemmas.{hashed_on, todo_same}
-use Rattle.dnsv_explain.proofs.lemmas.WholeLemmas.{failed_ended, way_added}
+use Rattle.dnsv_explain.proofs.lemmas.telling.TellLemmas.{hashed_on, todo_same}
+use Rattle.dnsv_explain.proofs.lemmas.telling.WholeLemmas.{failed_ended, way_added}
 use Rattle.dnsv_explain.proofs.explanation.failed.Goals as goal
 
 -- behind the hashes for the names of the links stand those for the last name

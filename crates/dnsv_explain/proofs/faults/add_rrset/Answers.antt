@@ -1,5 +1,5 @@
 use Rattle.dnsv_explain.specs.Explained.{setting_in}
-use Rattle.dnsv_explain.proofs.lemmas.faults.SignatureLemmas.{empty, member, secured_added, signature_more, signature_there, signatures_all, some_left, unproved_added, unsigned_added, unsecured_where}
+use Rattle.dnsv_explain.proofs.lemmas.faults.signatures.SignatureLemmas.{empty, member, secured_added, signature_more, signature_there, signatures_all, some_left, unproved_added, unsigned_added, unsecured_where}
 use Rattle.dnsv_explain.proofs.faults.add_rrset.Goals as goal
 
 pub returns-then-not-is_empty : goal.returns-then-not-is_empty

@@ -1,4 +1,4 @@
-use Rattle.dnsv_explain.proofs.lemmas.ExplanationLemmas.{explanation_follows}
+use Rattle.dnsv_explain.proofs.lemmas.telling.ExplanationLemmas.{explanation_follows}
 use Rattle.dnsv_explain.proofs.laws.explanations_follow.Goals as goal
 
 pub returns : goal.returns

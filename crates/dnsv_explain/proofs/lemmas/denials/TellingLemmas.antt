@@ -16,7 +16,7 @@ use Rattle.dnsv_explain.specs.unsigned_cuts.UnsignedCuts.{IsCaseTold}
 use Rattle.dnsv_explain.specs.declared.line.Line.{Line}
 use Rattle.dnsv_explain.specs.declared.line.cut.InsecureCase.{InsecureCase}
 use Rattle.dnsv_explain.proofs.lemmas.denials.ShownLemmas.{ShownFacts, part_fits, record_signed}
-use Rattle.dnsv_explain.proofs.lemmas.SayingLemmas.{both_added}
+use Rattle.dnsv_explain.proofs.lemmas.telling.SayingLemmas.{both_added}
 
 module _ (setting : Setting) (name : Labels) (shown : ShownDenial) where
   pub its_records : (zone : Labels) (records : List RecordNumber) → zone ≡ shown.proof.zone → records ≡ shown.proof.records

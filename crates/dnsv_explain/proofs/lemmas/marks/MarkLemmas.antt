@@ -33,8 +33,8 @@ use Rattle.dnsv_explain.specs.declared.line.Kind.TheVariants as kind
 use Rattle.dnsv_explain.specs.declared.line.Line.{Line}
 use Rattle.dnsv_explain.specs.declared.line.Line.TheVariants as line
 use Rattle.dnsv_explain.specs.declared.line.place.RrsetPlace.{RrsetPlace}
-use Rattle.dnsv_explain.proofs.lemmas.ExplanationLemmas.{explanation_follows}
-use Rattle.dnsv_explain.proofs.lemmas.FollowingLemmas.{all_true, no_lines, said_secured}
+use Rattle.dnsv_explain.proofs.lemmas.telling.ExplanationLemmas.{explanation_follows}
+use Rattle.dnsv_explain.proofs.lemmas.telling.FollowingLemmas.{all_true, no_lines, said_secured}
 use Rattle.dnsv_explain.proofs.lemmas.intervals.MomentLemmas.{is_first}
 use Rattle.dnsv_explain.proofs.lemmas.marks.HopedLemmas.{IsIts, each_then, unknown_of}
 use Rattle.dnsv_explain.proofs.lemmas.marks.HopedLemmas.IsIts.{known, under_hope}

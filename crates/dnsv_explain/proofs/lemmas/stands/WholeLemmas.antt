@@ -26,8 +26,8 @@ use Rattle.dnsv_explain.specs.Saying.{AreEach}
 use Rattle.dnsv_explain.specs.derivations.OwnDerivations.{SecuredIn}
 use Rattle.dnsv_explain.specs.intervals.Holding.{AreShownValidAt}
 use Rattle.dnsv_explain.specs.declared.line.Line.{Line}
-use Rattle.dnsv_explain.proofs.lemmas.ExplanationLemmas.{holding_follows}
-use Rattle.dnsv_explain.proofs.lemmas.FollowingLemmas.{all_true, no_lines, said_secured}
+use Rattle.dnsv_explain.proofs.lemmas.telling.ExplanationLemmas.{holding_follows}
+use Rattle.dnsv_explain.proofs.lemmas.telling.FollowingLemmas.{all_true, no_lines, said_secured}
 use Rattle.dnsv_explain.proofs.lemmas.intervals.MomentLemmas.{first_or_behind, follow_at}
 use Rattle.dnsv_explain.proofs.lemmas.stands.CutLemmas.{unsigned_stands}
 use Rattle.dnsv_explain.proofs.lemmas.stands.ToldLemmas.{Lies, back, front, no_data_stands, no_name_stands, set_stands}

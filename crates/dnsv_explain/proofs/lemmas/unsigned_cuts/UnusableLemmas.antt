@@ -30,7 +30,7 @@ use Rattle.dnsv_explain.specs.declared.line.cut.InsecureCase.TheVariants as case
 use Rattle.dnsv_explain.specs.declared.line.cut.UnusableDs.{UnusableDs}
 use Rattle.dnsv_explain.specs.declared.line.derivation.SignatureNumber.{SignatureNumber}
 use Rattle.dnsv_explain.proofs.lemmas.derivations.ClimbLemmas.{number_is}
-use Rattle.dnsv_explain.proofs.lemmas.SayingLemmas.{both_added}
+use Rattle.dnsv_explain.proofs.lemmas.telling.SayingLemmas.{both_added}
 use Rattle.dnsv_explain.proofs.lemmas.NumberedLemmas.{same_number}
 use Rattle.dnsv_explain.proofs.lemmas.derivations.WayLemmas.KeysLemmas.{mapped_long, mapped_there, read_there}
 use Rattle.dnsv_explain.proofs.lemmas.derivations.WayLemmas.RankLemmas.{ds_read, forms_of}

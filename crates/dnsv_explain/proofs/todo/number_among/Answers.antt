@@ -1,6 +1,6 @@
 use Rattle.std.proofs.Common.{None, Some, rules}
 use Rattle.dnsv_canonical.specs.SignedData.{IsSignedData}
-use Rattle.dnsv_explain.proofs.lemmas.TodoLemmas.{its_number, never_asked}
+use Rattle.dnsv_explain.proofs.lemmas.marks.TodoLemmas.{its_number, never_asked}
 use Rattle.dnsv_explain.proofs.todo.number_among.Goals as goal
 
 pub returns-in_default : goal.returns-in_default

@@ -1,6 +1,6 @@
 use Rattle.std.proofs.Common.{arith, sym, ◌∙◌}
 use Rattle.std.proofs.lemmas.Bool.{false≢true}
-use Rattle.dnsv_explain.proofs.lemmas.TodoLemmas.{entry_is, entry_over, entry_parts, is_here, none_more, none_yet, not_among}
+use Rattle.dnsv_explain.proofs.lemmas.marks.TodoLemmas.{entry_is, entry_over, entry_parts, is_here, none_more, none_yet, not_among}
 use Rattle.dnsv_explain.proofs.todo.number_of.Goals as goal
 
 pub loop-place-init : goal.loop-place-init

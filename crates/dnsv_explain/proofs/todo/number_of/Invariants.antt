@@ -1,4 +1,4 @@
-use Rattle.dnsv_explain.proofs.lemmas.TodoLemmas.{NoneYet, entry_over}
+use Rattle.dnsv_explain.proofs.lemmas.marks.TodoLemmas.{NoneYet, entry_over}
 use Rattle.dnsv_explain.proofs.todo.number_of.Given as goal
 
 -- none so far is the entry

@@ -1,7 +1,7 @@
 use Rattle.std.proofs.Common.{refl}
 use Rattle.std.proofs.lemmas.List.Elements.{Contains-get_or}
 use Rattle.dnsv_explain.specs.Denials.{IsPartTold}
-use Rattle.dnsv_explain.proofs.lemmas.SayingLemmas.{all_added, next_added, none_added}
+use Rattle.dnsv_explain.proofs.lemmas.telling.SayingLemmas.{all_added, next_added, none_added}
 use Rattle.dnsv_explain.proofs.denials.part.add_parts.Goals as goal
 
 pub loop-part-init : goal.loop-part-init

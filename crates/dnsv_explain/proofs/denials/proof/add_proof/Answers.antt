@@ -4,7 +4,7 @@ use Rattle.dnsv_explain.specs.Denials.{IsFormTold, IsProofOf, IsProofSaid}
 use Rattle.dnsv_explain.specs.Saying.{Adds}
 use Rattle.dnsv_explain.specs.declared.line.Line.TheVariants as line
 use Rattle.dnsv_explain.specs.declared.line.denial.Form.{Form}
-use Rattle.dnsv_explain.proofs.lemmas.SayingLemmas.{nothing_added}
+use Rattle.dnsv_explain.proofs.lemmas.telling.SayingLemmas.{nothing_added}
 use Rattle.dnsv_explain.proofs.denials.proof.add_proof.Goals as goal
 
 pub returns-in_default : goal.returns-in_default

@@ -1,5 +1,5 @@
 use Rattle.dnsv_explain.specs.Explained.{setting_in}
-use Rattle.dnsv_explain.proofs.lemmas.ExplanationLemmas.{end_added, valid_there}
+use Rattle.dnsv_explain.proofs.lemmas.telling.ExplanationLemmas.{end_added, valid_there}
 use Rattle.dnsv_explain.proofs.explanation.end.add_end.Goals as goal
 
 pub holding_of-requires : goal.holding_of-requires

@@ -1,4 +1,4 @@
-use Rattle.dnsv_explain.proofs.lemmas.ExplanationLemmas.{places_added}
+use Rattle.dnsv_explain.proofs.lemmas.telling.ExplanationLemmas.{places_added}
 use Rattle.dnsv_explain.proofs.explanation.end.add_places_named.Goals as goal
 
 pub returns : goal.returns

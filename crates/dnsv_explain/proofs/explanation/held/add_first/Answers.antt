@@ -1,7 +1,7 @@
 use Rattle.std.proofs.Common.{◌∙◌, refl, sym}
 use Rattle.std.proofs.lemmas.Bool.{false≢true}
 use Rattle.dnsv_explain.specs.Explained.{setting_in}
-use Rattle.dnsv_explain.proofs.lemmas.HeldLemmas.{first_added, none_first_added, none_more, none_trusted}
+use Rattle.dnsv_explain.proofs.lemmas.derivations.HeldLemmas.{first_added, none_first_added, none_more, none_trusted}
 use Rattle.dnsv_explain.proofs.explanation.held.add_first.Goals as goal
 
 pub loop-number-init : goal.loop-number-init

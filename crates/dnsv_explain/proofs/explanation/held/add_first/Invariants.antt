@@ -1,6 +1,6 @@
 use Rattle.std.proofs.Common.{◌≡◌}
 use Rattle.dnsv_explain.specs.Explained.{setting_in}
-use Rattle.dnsv_explain.proofs.lemmas.HeldLemmas.{NoneTrusted}
+use Rattle.dnsv_explain.proofs.lemmas.derivations.HeldLemmas.{NoneTrusted}
 use Rattle.dnsv_explain.proofs.explanation.held.add_first.Given as goal
 
 -- none so far is trusted, and nothing is added

@@ -2,7 +2,7 @@ use Rattle.std.proofs.Common.{◌≡◌, ◌+◌, ℕ, length, arith, subst}
 use Rattle.dnsv_explain.specs.Explained.{setting_in}
 use Rattle.dnsv_explain.specs.Saying.{Adds}
 use Rattle.dnsv_explain.specs.derivations.HeldTo.{IsHeldBelow}
-use Rattle.dnsv_explain.proofs.lemmas.HeldLemmas.{more_held, none_held}
+use Rattle.dnsv_explain.proofs.lemmas.derivations.HeldLemmas.{more_held, none_held}
 use Rattle.dnsv_explain.proofs.explanation.held.add_held.Goals as goal
 
 pub loop-count-init : goal.loop-count-init

@@ -1,5 +1,5 @@
 use Rattle.dnsv_explain.specs.Explained.{setting_in}
-use Rattle.dnsv_explain.proofs.lemmas.HeldLemmas.{held_at_added}
+use Rattle.dnsv_explain.proofs.lemmas.derivations.HeldLemmas.{held_at_added}
 use Rattle.dnsv_explain.proofs.explanation.held.add_held_at.Goals as goal
 
 pub returns : goal.returns

@@ -2,8 +2,8 @@ use Rattle.std.proofs.Common.{refl}
 use Rattle.dnsv_explain.specs.Explained.{setting_in}
 use Rattle.dnsv_explain.specs.derivations.HeldTo.{IsLowestDerived}
 use Rattle.dnsv_explain.specs.derivations.HeldTo.IsLowestDerived.{unsigned}
-use Rattle.dnsv_explain.proofs.lemmas.HeldLemmas.{lowest_added}
-use Rattle.dnsv_explain.proofs.lemmas.SayingLemmas.{nothing_added}
+use Rattle.dnsv_explain.proofs.lemmas.derivations.HeldLemmas.{lowest_added}
+use Rattle.dnsv_explain.proofs.lemmas.telling.SayingLemmas.{nothing_added}
 use Rattle.dnsv_explain.proofs.lemmas.unsigned_cuts.UnusableLemmas.{lowest_good}
 use Rattle.dnsv_explain.proofs.explanation.held.add_lowest.Goals as goal
 

@@ -1,7 +1,7 @@
 use Rattle.std.proofs.Common.{refl}
 use Rattle.dnsv_explain.specs.Explained.{setting_in}
 use Rattle.dnsv_explain.specs.derivations.HeldTo.{IsLowestDerived}
-use Rattle.dnsv_explain.proofs.lemmas.SayingLemmas.{all_added, next_added, none_added}
+use Rattle.dnsv_explain.proofs.lemmas.telling.SayingLemmas.{all_added, next_added, none_added}
 use Rattle.dnsv_explain.proofs.explanation.held.add_signed.Goals as goal
 
 pub loop-number-init : goal.loop-number-init

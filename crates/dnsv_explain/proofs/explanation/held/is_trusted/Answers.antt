@@ -1,5 +1,5 @@
 use Rattle.dnsv_explain.specs.Explained.{setting_in}
-use Rattle.dnsv_explain.proofs.lemmas.HeldLemmas.{line_or_not}
+use Rattle.dnsv_explain.proofs.lemmas.derivations.HeldLemmas.{line_or_not}
 use Rattle.dnsv_explain.proofs.explanation.held.is_trusted.Goals as goal
 
 pub returns : goal.returns

@@ -1,4 +1,4 @@
-use Rattle.dnsv_explain.proofs.lemmas.TellLemmas.{data_there, no_data_added, no_data_shown}
+use Rattle.dnsv_explain.proofs.lemmas.telling.TellLemmas.{data_there, no_data_added, no_data_shown}
 use Rattle.dnsv_explain.proofs.explanation.told.add_no_data.Goals as goal
 
 pub returns-in_default : goal.returns-in_default

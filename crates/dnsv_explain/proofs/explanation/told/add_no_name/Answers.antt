@@ -1,4 +1,4 @@
-use Rattle.dnsv_explain.proofs.lemmas.TellLemmas.{name_there, no_name_added, no_name_shown}
+use Rattle.dnsv_explain.proofs.lemmas.telling.TellLemmas.{name_there, no_name_added, no_name_shown}
 use Rattle.dnsv_explain.proofs.explanation.told.add_no_name.Goals as goal
 
 pub returns-in_default : goal.returns-in_default

@@ -6,8 +6,8 @@ use Rattle.dnsv_explain.specs.Explained.{setting_in}
 use Rattle.dnsv_explain.specs.derivations.OwnDerivations.{IsSignatureTold}
 use Rattle.dnsv_explain.specs.declared.line.Line.{Line}
 use Rattle.dnsv_explain.proofs.lemmas.NumberedLemmas.{in_list}
-use Rattle.dnsv_explain.proofs.lemmas.SecureLemmas.{its_signature, must_hold, never_rrset, never_signature}
-use Rattle.dnsv_explain.proofs.lemmas.TellLemmas.{closer_there, no_closer_shown, owned_added, signature_at, wildcard_added}
+use Rattle.dnsv_explain.proofs.lemmas.telling.SecureLemmas.{its_signature, must_hold, never_rrset, never_signature}
+use Rattle.dnsv_explain.proofs.lemmas.telling.TellLemmas.{closer_there, no_closer_shown, owned_added, signature_at, wildcard_added}
 use Rattle.dnsv_explain.proofs.explanation.told.add_set.Goals as goal
 
 pub returns-in_default : goal.returns-in_default

@@ -2,9 +2,9 @@ use Rattle.std.proofs.Common.{◌∙◌, List, ap, sym}
 use Rattle.dnsv_canonical.specs.Rrsets.{ReceivedRrset}
 use Rattle.dnsv_verdict.specs.Grounds.{basis_by}
 use Rattle.dnsv_verdict.specs.Report.{hashed_in}
-use Rattle.dnsv_explain.proofs.lemmas.HopeLemmas.{hope_settled, hope_told}
-use Rattle.dnsv_explain.proofs.lemmas.SecureLemmas.{has_kind}
-use Rattle.dnsv_explain.proofs.lemmas.TellLemmas.{todo_same}
+use Rattle.dnsv_explain.proofs.lemmas.marks.HopeLemmas.{hope_settled, hope_told}
+use Rattle.dnsv_explain.proofs.lemmas.telling.SecureLemmas.{has_kind}
+use Rattle.dnsv_explain.proofs.lemmas.telling.TellLemmas.{todo_same}
 use Rattle.dnsv_explain.proofs.explanation.verdict.add_hope.Goals as goal
 
 pub returns-in_default : goal.returns-in_default

@@ -1,6 +1,6 @@
 use Rattle.std.proofs.Common.{[]}
-use Rattle.dnsv_explain.proofs.lemmas.SecureLemmas.{settled_by}
-use Rattle.dnsv_explain.proofs.lemmas.TellLemmas.{todo_same}
+use Rattle.dnsv_explain.proofs.lemmas.telling.SecureLemmas.{settled_by}
+use Rattle.dnsv_explain.proofs.lemmas.telling.TellLemmas.{todo_same}
 use Rattle.dnsv_explain.proofs.explanation.verdict.add_verdict.Goals as goal
 
 pub add_settled-requires-clause-at : goal.add_settled-requires-clause-at

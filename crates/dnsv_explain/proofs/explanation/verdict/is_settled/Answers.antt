@@ -1,4 +1,4 @@
-use Rattle.dnsv_explain.proofs.lemmas.SecureLemmas.{word_or_not}
+use Rattle.dnsv_explain.proofs.lemmas.telling.SecureLemmas.{word_or_not}
 use Rattle.dnsv_explain.proofs.explanation.verdict.is_settled.Goals as goal
 
 pub returns : goal.returns

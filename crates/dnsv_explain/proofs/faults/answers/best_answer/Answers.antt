@@ -6,7 +6,7 @@ use Rattle.dnsv_explain.specs.Explained.{setting_in}
 use Rattle.dnsv_explain.specs.faults.searches.AnswerSearch.{IsAnsweredBySome, IsBestOf}
 use Rattle.dnsv_explain.specs.faults.searches.KeySearch.{IsNamedIn}
 use Rattle.dnsv_explain.specs.faults.SignatureFaults.{IsAnswered}
-use Rattle.dnsv_explain.proofs.lemmas.faults.VerifierLemmas.{answers_over, best_same}
+use Rattle.dnsv_explain.proofs.lemmas.faults.signatures.VerifierLemmas.{answers_over, best_same}
 use Rattle.dnsv_explain.proofs.faults.answers.best_answer.Goals as goal
 
 pub returns : goal.returns

@@ -4,7 +4,7 @@ use Rattle.dnsv_canonical.specs.Rrsets.{ReceivedRrset}
 use Rattle.dnsv_explain.specs.Explained.{setting_in}
 use Rattle.dnsv_explain.specs.faults.Order.{AreEndLines}
 use Rattle.dnsv_explain.specs.faults.Zones.{HasGoal}
-use Rattle.dnsv_explain.proofs.lemmas.faults.ListingLemmas.{none_added, those_added}
+use Rattle.dnsv_explain.proofs.lemmas.faults.lists.ListingLemmas.{none_added, those_added}
 use Rattle.dnsv_explain.proofs.faults.question.add_end.Goals as goal
 
 pub returns-then-has_goal : goal.returns-then-has_goal

@@ -3,7 +3,7 @@ use Rattle.std.proofs.lemmas.Bool.{false≢true}
 use Rattle.dnsv_explain.specs.Explained.{setting_in}
 use Rattle.dnsv_explain.specs.faults.searches.RemarkSearch.{IsRemarkOf}
 use Rattle.dnsv_explain.specs.declared.faults.remark.Remark.{Remark}
-use Rattle.dnsv_explain.proofs.lemmas.faults.RemarkLemmas.{is_remark, is_unknown_signer}
+use Rattle.dnsv_explain.proofs.lemmas.faults.signatures.RemarkLemmas.{is_remark, is_unknown_signer}
 use Rattle.dnsv_explain.proofs.faults.remark.remark_of.Goals as goal
 
 pub returns-then-not-known : goal.returns-then-not-known

@@ -1,7 +1,7 @@
 use Rattle.std.proofs.Common.{sym}
 use Rattle.dnsv_explain.specs.Explained.{setting_in}
 use Rattle.dnsv_explain.specs.faults.KeyLines.{IsKeyLine}
-use Rattle.dnsv_explain.proofs.lemmas.faults.ListingLemmas.{all_added, next_added}
+use Rattle.dnsv_explain.proofs.lemmas.faults.lists.ListingLemmas.{all_added, next_added}
 use Rattle.dnsv_explain.proofs.faults.shown_keys.add_keys.Goals as goal
 
 pub add_key-requires-clause-stands : goal.add_key-requires-clause-stands

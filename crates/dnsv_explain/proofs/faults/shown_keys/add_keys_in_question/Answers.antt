@@ -3,7 +3,7 @@ use Rattle.dnsv_canonical.specs.Rrsets.{ReceivedRrset}
 use Rattle.dnsv_explain.specs.Explained.{setting_in}
 use Rattle.dnsv_explain.specs.faults.KeyLines.{AreLinesOfSet}
 use Rattle.dnsv_explain.proofs.lemmas.NumberedLemmas.{all_passed, numbered_at}
-use Rattle.dnsv_explain.proofs.lemmas.faults.ListingLemmas.{all_added, next_added}
+use Rattle.dnsv_explain.proofs.lemmas.faults.lists.ListingLemmas.{all_added, next_added}
 use Rattle.dnsv_explain.proofs.faults.shown_keys.add_keys_in_question.Goals as goal
 
 pub add_set-requires : goal.add_set-requires

@@ -3,8 +3,8 @@ use Rattle.std.proofs.lemmas.Bool.{false≢true}
 use Rattle.dnsv_explain.specs.Explained.{setting_in}
 use Rattle.dnsv_explain.specs.faults.KeyLines.{IsMatchedByAnchor}
 use Rattle.dnsv_explain.proofs.lemmas.NumberedLemmas.{all_passed, numbered_at}
-use Rattle.dnsv_explain.proofs.lemmas.faults.LowestLemmas.{found, none_first, none_found, none_next}
-use Rattle.dnsv_explain.proofs.lemmas.faults.ShownKeyLemmas.{anchor_counted, anchor_never, anchor_within}
+use Rattle.dnsv_explain.proofs.lemmas.faults.lists.LowestLemmas.{found, none_first, none_found, none_next}
+use Rattle.dnsv_explain.proofs.lemmas.faults.signatures.ShownKeyLemmas.{anchor_counted, anchor_never, anchor_within}
 use Rattle.dnsv_explain.proofs.faults.shown_keys.lowest_anchor.Goals as goal
 
 pub loop-place-init : goal.loop-place-init

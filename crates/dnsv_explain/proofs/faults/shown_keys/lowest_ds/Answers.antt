@@ -3,7 +3,7 @@ use Rattle.dnsv_explain.specs.Explained.{setting_in}
 use Rattle.dnsv_explain.specs.faults.KeyLines.{IsLowestOf, IsMatchedByDs}
 use Rattle.dnsv_explain.specs.unsigned_cuts.UnsignedCuts.{record_of}
 use Rattle.dnsv_explain.proofs.lemmas.NumberedLemmas.{all_passed, numbered_at}
-use Rattle.dnsv_explain.proofs.lemmas.faults.ShownKeyLemmas.{ds_lowest, no_ds_at_all, no_ds_first, no_ds_next}
+use Rattle.dnsv_explain.proofs.lemmas.faults.signatures.ShownKeyLemmas.{ds_lowest, no_ds_at_all, no_ds_first, no_ds_next}
 use Rattle.dnsv_explain.proofs.faults.shown_keys.lowest_ds.Goals as goal
 
 pub loop-before-init : goal.loop-before-init

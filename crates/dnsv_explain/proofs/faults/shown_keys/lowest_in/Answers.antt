@@ -5,8 +5,8 @@ use Rattle.dnsv_chain.specs.Ds.{IsMatch}
 use Rattle.dnsv_explain.specs.Explained.{setting_in}
 use Rattle.dnsv_explain.specs.faults.KeyLines.{IsMatchedByDs}
 use Rattle.dnsv_explain.specs.unsigned_cuts.UnsignedCuts.{record_of}
-use Rattle.dnsv_explain.proofs.lemmas.faults.LowestLemmas.{found, none_first, none_found, none_next}
-use Rattle.dnsv_explain.proofs.lemmas.faults.ShownKeyLemmas.{ds_counted, ds_found, ds_never, ds_within}
+use Rattle.dnsv_explain.proofs.lemmas.faults.lists.LowestLemmas.{found, none_first, none_found, none_next}
+use Rattle.dnsv_explain.proofs.lemmas.faults.signatures.ShownKeyLemmas.{ds_counted, ds_found, ds_never, ds_within}
 use Rattle.dnsv_explain.proofs.faults.shown_keys.lowest_in.Goals as goal
 
 pub loop-place-init : goal.loop-place-init

@@ -1,7 +1,7 @@
 use Rattle.std.proofs.Common.{get_or, refl}
 use Rattle.dnsv_explain.specs.faults.RrsetLines.{fault_line, shown_of}
 use Rattle.dnsv_explain.specs.declared.line.fault.signature.WhySignature.TheVariants.{Labels}
-use Rattle.dnsv_explain.proofs.lemmas.faults.ListingLemmas.{line_all, line_more}
+use Rattle.dnsv_explain.proofs.lemmas.faults.lists.ListingLemmas.{line_all, line_more}
 use Rattle.dnsv_explain.proofs.faults.signature.add_faults.Goals as goal
 
 pub loop-why-preserved : goal.loop-why-preserved

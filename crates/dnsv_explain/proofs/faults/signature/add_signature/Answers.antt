@@ -4,7 +4,7 @@ use Rattle.dnsv_explain.specs.faults.searches.KeySearch.{IsNamedIn}
 use Rattle.dnsv_explain.specs.faults.SignatureFaults.{AreFaultsOf}
 use Rattle.dnsv_explain.specs.declared.line.fault.signature.WhySignature.{WhySignature}
 use Rattle.std.specs.Prelude.{IsTrue}
-use Rattle.dnsv_explain.proofs.lemmas.faults.SignatureLemmas.{empty, faults_added, remark_added, some_left, unsecured}
+use Rattle.dnsv_explain.proofs.lemmas.faults.signatures.SignatureLemmas.{empty, faults_added, remark_added, some_left, unsecured}
 use Rattle.dnsv_explain.proofs.faults.signature.add_signature.Goals as goal
 
 pub remark_of-requires-clause-unsecured : goal.remark_of-requires-clause-unsecured

@@ -8,7 +8,7 @@ use Rattle.dnsv_explain.specs.Explained.{setting_in}
 use Rattle.dnsv_explain.specs.faults.Listing.{AreOfEach}
 use Rattle.dnsv_explain.specs.faults.Order.{AreLacking, AreLinesOfSources, names_up}
 use Rattle.dnsv_explain.specs.faults.Sources.SourceSearch.{AreAllParameters}
-use Rattle.dnsv_explain.proofs.lemmas.faults.ListingLemmas.{added_as, none_added}
+use Rattle.dnsv_explain.proofs.lemmas.faults.lists.ListingLemmas.{added_as, none_added}
 use Rattle.dnsv_explain.proofs.lemmas.faults.sources.ZoneLemmas.{all_parameters}
 use Rattle.dnsv_explain.proofs.faults.sources.add_lacking.Goals as goal
 

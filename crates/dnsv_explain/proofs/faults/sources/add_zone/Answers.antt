@@ -9,7 +9,7 @@ use Rattle.dnsv_explain.specs.Explained.{setting_in}
 use Rattle.dnsv_explain.specs.derivations.OwnDerivations.{SecuredIn}
 use Rattle.dnsv_explain.specs.faults.Listing.{AddsThose}
 use Rattle.dnsv_explain.specs.faults.Order.{AreLinesOfSources}
-use Rattle.dnsv_explain.proofs.lemmas.faults.ListingLemmas.{none_added}
+use Rattle.dnsv_explain.proofs.lemmas.faults.lists.ListingLemmas.{none_added}
 use Rattle.dnsv_explain.proofs.lemmas.faults.sources.ZoneLemmas.{below_speaker, its_trust, nsec3s_good, nsecs_good, parameters_here, speaks_or_above, speaks_test, zone_added, zone_for}
 use Rattle.dnsv_explain.proofs.faults.sources.add_zone.Goals as goal
 

@@ -2,7 +2,7 @@ use Rattle.std.proofs.Common.{◌-◌, ℕ, arith, ap, ◌∙◌}
 use Rattle.dnsv_names.specs.Name.{rightmost}
 use Rattle.dnsv_explain.specs.Explained.{setting_in}
 use Rattle.dnsv_explain.specs.faults.Order.{AreLinesOfSources, names_up}
-use Rattle.dnsv_explain.proofs.lemmas.faults.ListingLemmas.{all_added, each_added, next_added}
+use Rattle.dnsv_explain.proofs.lemmas.faults.lists.ListingLemmas.{all_added, each_added, next_added}
 use Rattle.dnsv_explain.proofs.lemmas.faults.sources.ZoneLemmas.{rightmost_up, up_count}
 use Rattle.dnsv_explain.proofs.faults.sources.add_zones.Goals as goal
 

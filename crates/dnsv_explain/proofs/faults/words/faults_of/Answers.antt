@@ -2,7 +2,7 @@ use Rattle.std.proofs.Common.{◌≤◌, ◌^◌, ◌↔◌, ◌∙◌, ℕ, ap,
 use Rattle.dnsv_records.specs.Rrsig.Time.{seconds_on}
 use Rattle.dnsv_explain.specs.Explained.{setting_in}
 use Rattle.dnsv_explain.specs.faults.SignatureFaults.{expired, not_yet}
-use Rattle.dnsv_explain.proofs.lemmas.faults.WordLemmas.{faults_are}
+use Rattle.dnsv_explain.proofs.lemmas.faults.signatures.WordLemmas.{faults_are}
 use Rattle.dnsv_explain.proofs.faults.words.faults_of.Goals as goal
 
 pub returns : goal.returns

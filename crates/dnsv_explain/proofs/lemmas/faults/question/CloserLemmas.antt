@@ -16,8 +16,8 @@ use Rattle.dnsv_explain.specs.faults.RrsetLines.{shown_of}
 use Rattle.dnsv_explain.specs.faults.Zones.{IsGoal}
 use Rattle.dnsv_explain.specs.declared.line.Line.{Line}
 use Rattle.dnsv_explain.specs.declared.line.fault.signature.ShownSignature.{ShownSignature}
-use Rattle.dnsv_explain.proofs.lemmas.faults.ListingLemmas.{added_as, all_added, next_added, those_added}
-use Rattle.dnsv_explain.proofs.lemmas.faults.SignatureLemmas.{rdata_within, read_at}
+use Rattle.dnsv_explain.proofs.lemmas.faults.lists.ListingLemmas.{added_as, all_added, next_added, those_added}
+use Rattle.dnsv_explain.proofs.lemmas.faults.signatures.SignatureLemmas.{rdata_within, read_at}
 
 module _ (setting : Setting) (name : Labels) (k : ℕ) (rrset : ReceivedRrset) where
   module _ (rrsigs : List Rrsig) (each : AllZip IsRrsig rrset.signatures rrsigs) where

@@ -9,7 +9,7 @@ use Rattle.dnsv_explain.specs.faults.Listing.{AddsThose, AreOfEach}
 use Rattle.dnsv_explain.specs.faults.Order.{names_down}
 use Rattle.dnsv_explain.specs.faults.searches.Repeats.{AddsNew}
 use Rattle.dnsv_explain.specs.declared.line.Line.{Line}
-use Rattle.dnsv_explain.proofs.lemmas.faults.ListingLemmas.{none_added}
+use Rattle.dnsv_explain.proofs.lemmas.faults.lists.ListingLemmas.{none_added}
 use Rattle.dnsv_explain.proofs.lemmas.faults.question.RepeatLemmas.{both_new, new_as, none_new}
 
 -- ---- the names

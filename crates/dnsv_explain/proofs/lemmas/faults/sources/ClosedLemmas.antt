@@ -26,7 +26,7 @@ use Rattle.dnsv_explain.specs.declared.faults.sources.records.RecordAt.{RecordAt
 use Rattle.dnsv_explain.specs.declared.line.Line.{Line}
 use Rattle.dnsv_explain.specs.declared.line.fault.denial.Source.{Source}
 use Rattle.dnsv_explain.specs.declared.line.fault.denial.WhySource.TheVariants as why
-use Rattle.dnsv_explain.proofs.lemmas.faults.ShownKeyLemmas.{itself, never_both}
+use Rattle.dnsv_explain.proofs.lemmas.faults.signatures.ShownKeyLemmas.{itself, never_both}
 use Rattle.dnsv_explain.proofs.lemmas.faults.sources.FoundLemmas.{any_as}
 use Rattle.dnsv_explain.proofs.lemmas.faults.sources.SaidLemmas.{records_rising, types_from, types_to}
 

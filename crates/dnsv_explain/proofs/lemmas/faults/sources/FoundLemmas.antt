@@ -15,7 +15,7 @@ use Rattle.dnsv_denial.specs.declared.records.number.RecordNumber.{RecordNumber}
 use Rattle.dnsv_explain.specs.faults.Listing.{AreOfEach, AreOfNumbered}
 use Rattle.dnsv_explain.specs.faults.Sources.SourceSearch.{HasEntry, IsEntry, IsFoundOf}
 use Rattle.dnsv_explain.specs.declared.faults.sources.records.RecordAt.{RecordAt}
-use Rattle.dnsv_explain.proofs.lemmas.faults.ListingLemmas.{each_of_numbered, numbered_all, numbered_next}
+use Rattle.dnsv_explain.proofs.lemmas.faults.lists.ListingLemmas.{each_of_numbered, numbered_all, numbered_next}
 
 -- ---- members that are such
 

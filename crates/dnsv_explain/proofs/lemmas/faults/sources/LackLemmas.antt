@@ -25,7 +25,7 @@ use Rattle.dnsv_explain.specs.declared.line.Line.{Line}
 use Rattle.dnsv_explain.specs.declared.line.denial.Role.TheVariants as role
 use Rattle.dnsv_explain.specs.declared.line.fault.denial.Source.{Source}
 use Rattle.dnsv_explain.specs.declared.line.fault.denial.WhySource.TheVariants as why
-use Rattle.dnsv_explain.proofs.lemmas.faults.ListingLemmas.{added_as, none_added, nowhere_added, parted_added, those_added, where_added}
+use Rattle.dnsv_explain.proofs.lemmas.faults.lists.ListingLemmas.{added_as, none_added, nowhere_added, parted_added, those_added, where_added}
 use Rattle.dnsv_explain.proofs.lemmas.faults.sources.FoundLemmas.{any_of_member}
 use Rattle.dnsv_explain.proofs.lemmas.faults.sources.SaidLemmas.{records_rising, types_from, types_to}
 

@@ -20,7 +20,7 @@ use Rattle.dnsv_explain.specs.declared.faults.zones.entries.Judged.{Judged}
 use Rattle.dnsv_explain.specs.declared.line.fault.zone.WhyEntry.{WhyEntry}
 use Rattle.dnsv_explain.proofs.lemmas.derivations.WayLemmas.KeysLemmas.{from, read_there}
 use Rattle.dnsv_explain.proofs.lemmas.derivations.WayLemmas.RankLemmas.{ds_read, forms_of}
-use Rattle.dnsv_explain.proofs.lemmas.faults.ListingLemmas.{numbered_next, those_next, those_skip}
+use Rattle.dnsv_explain.proofs.lemmas.faults.lists.ListingLemmas.{numbered_next, those_next, those_skip}
 
 none_or_not : {X : Type 0} (o : Option X) → (o ≡ None) ⊎ (o ≢ None)
 none_or_not None = inl refl

@@ -25,8 +25,8 @@ use Rattle.dnsv_explain.specs.declared.line.Line.{Line}
 use Rattle.dnsv_explain.specs.declared.line.derivation.SignatureNumber.{SignatureNumber}
 use Rattle.dnsv_explain.specs.declared.line.fault.signature.WhySignature.{WhySignature}
 use Rattle.dnsv_explain.proofs.lemmas.NumberedLemmas.{among}
-use Rattle.dnsv_explain.proofs.lemmas.faults.ListingLemmas.{added_as, all_added, next_added, none_added, those_added}
-use Rattle.dnsv_explain.proofs.lemmas.faults.SignatureLemmas.{rdata_within, read_at, zip_nothing}
+use Rattle.dnsv_explain.proofs.lemmas.faults.lists.ListingLemmas.{added_as, all_added, next_added, none_added, those_added}
+use Rattle.dnsv_explain.proofs.lemmas.faults.signatures.SignatureLemmas.{rdata_within, read_at, zip_nothing}
 
 -- ---- signatures, and what is read of them
 

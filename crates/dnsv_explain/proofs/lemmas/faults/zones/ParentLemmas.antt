@@ -12,7 +12,7 @@ use Rattle.dnsv_explain.specs.faults.ZoneLines.{AreWayLines, IsOfParent}
 use Rattle.dnsv_explain.specs.faults.ZoneLines.ZoneSearch.{HasParentSigner}
 use Rattle.dnsv_explain.specs.faults.Zones.{HasOwnAnchor, IsDsWay}
 use Rattle.dnsv_explain.specs.declared.line.Line.{Line}
-use Rattle.dnsv_explain.proofs.lemmas.faults.ListingLemmas.{added_as}
+use Rattle.dnsv_explain.proofs.lemmas.faults.lists.ListingLemmas.{added_as}
 use Rattle.dnsv_explain.proofs.lemmas.faults.zones.OwnKeyLemmas.{its_rrsig, its_signature}
 
 module _ (setting : Setting) (zone : Labels) where

@@ -15,7 +15,7 @@ use Rattle.dnsv_explain.specs.declared.line.Line.{Line}
 use Rattle.dnsv_explain.specs.declared.line.fault.zone.WhyEntry.{WhyEntry}
 use Rattle.dnsv_explain.specs.declared.line.fault.zone.WhyEntry.TheVariants as why
 use Rattle.dnsv_explain.proofs.lemmas.derivations.WayLemmas.KeysLemmas.{read_there}
-use Rattle.dnsv_explain.proofs.lemmas.faults.ListingLemmas.{added_as, each_added, each_of_numbered, none_added, parted_added}
+use Rattle.dnsv_explain.proofs.lemmas.faults.lists.ListingLemmas.{added_as, each_added, each_of_numbered, none_added, parted_added}
 use Rattle.dnsv_explain.proofs.lemmas.faults.question.RepeatLemmas.{all_new, both_new, new_as, next_new}
 
 -- of what is mapped to

@@ -20,7 +20,7 @@ use Rattle.dnsv_explain.specs.declared.derivations.ways.keys.GoodSignature.{Good
 use Rattle.dnsv_explain.specs.declared.line.Line.{Line}
 use Rattle.dnsv_explain.proofs.lemmas.NumberedLemmas.{among, numbered_at}
 use Rattle.dnsv_explain.proofs.lemmas.derivations.WayLemmas.SearchLemmas.{same_keys, stands_at}
-use Rattle.dnsv_explain.proofs.lemmas.faults.ListingLemmas.{added_as, each_added, next_added, none_added, nowhere_added, where_added}
+use Rattle.dnsv_explain.proofs.lemmas.faults.lists.ListingLemmas.{added_as, each_added, next_added, none_added, nowhere_added, where_added}
 
 -- a key of an RRset's keys in order stands in it
 pub key_stands : (set : ReceivedRrset) (keys items : List DnskeyRecord) → items ≡ keys → AreKeysInOrder set keys → (i : ℕ) (key : DnskeyRecord)

@@ -3,7 +3,7 @@ use Rattle.std.proofs.lemmas.Bool.{false≢true}
 use Rattle.dnsv_explain.specs.Explained.{setting_in}
 use Rattle.dnsv_explain.specs.faults.Listing.{AreOfNumbered}
 use Rattle.dnsv_explain.specs.faults.Order.{AreCloserLines, AreGoalClosers}
-use Rattle.dnsv_explain.proofs.lemmas.faults.ListingLemmas.{none_added}
+use Rattle.dnsv_explain.proofs.lemmas.faults.lists.ListingLemmas.{none_added}
 use Rattle.dnsv_explain.proofs.lemmas.faults.question.CloserLemmas.{closer_more, closers_all}
 use Rattle.dnsv_explain.proofs.faults.question.closers.add_closers.Goals as goal
 

@@ -3,7 +3,7 @@ use Rattle.dnsv_canonical.specs.Rrsets.{ReceivedRrset}
 use Rattle.dnsv_explain.specs.Explained.{setting_in}
 use Rattle.dnsv_explain.specs.faults.Listing.{AddsThose, AreOfNumbered}
 use Rattle.dnsv_explain.specs.faults.Order.{AreGoalClosers}
-use Rattle.dnsv_explain.proofs.lemmas.faults.ListingLemmas.{all_added, next_added, none_added}
+use Rattle.dnsv_explain.proofs.lemmas.faults.lists.ListingLemmas.{all_added, next_added, none_added}
 use Rattle.dnsv_explain.proofs.lemmas.faults.question.PartLemmas.{made_of}
 use Rattle.dnsv_explain.proofs.faults.question.closers.closer_lines.Goals as goal
 

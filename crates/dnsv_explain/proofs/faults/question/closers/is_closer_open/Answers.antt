@@ -6,7 +6,7 @@ use Rattle.dnsv_chain.specs.Trust.{SecuredIn as KeptIn}
 use Rattle.dnsv_denial.specs.proving.FirstProof.{CanProveNoCloser, IsFirstNoCloser}
 use Rattle.dnsv_explain.specs.Explained.{setting_in}
 use Rattle.dnsv_explain.specs.derivations.OwnDerivations.{SecuredIn}
-use Rattle.dnsv_explain.proofs.lemmas.TellLemmas.{closer_back, closer_there}
+use Rattle.dnsv_explain.proofs.lemmas.telling.TellLemmas.{closer_back, closer_there}
 use Rattle.dnsv_explain.proofs.lemmas.faults.question.CloserLemmas.{none_proved}
 use Rattle.dnsv_explain.proofs.faults.question.closers.is_closer_open.Goals as goal
 

@@ -6,7 +6,7 @@ use Rattle.dnsv_explain.specs.faults.Listing.{AddsThose, AreOfNumbered}
 use Rattle.dnsv_explain.specs.faults.Order.{AreDenialLines}
 use Rattle.dnsv_explain.specs.declared.line.Line.{Line}
 use Rattle.dnsv_explain.proofs.lemmas.NumberedLemmas.{numbered_at}
-use Rattle.dnsv_explain.proofs.lemmas.faults.ListingLemmas.{all_added, next_added, none_added}
+use Rattle.dnsv_explain.proofs.lemmas.faults.lists.ListingLemmas.{all_added, next_added, none_added}
 use Rattle.dnsv_explain.proofs.lemmas.faults.question.DenialLemmas.{denial_said}
 use Rattle.dnsv_explain.proofs.faults.question.denials.add_denials.Goals as goal
 

@@ -1,6 +1,6 @@
 use Rattle.std.proofs.Common.{rules}
 use Rattle.dnsv_explain.specs.faults.Order.{IsOfNeeded}
-use Rattle.dnsv_explain.proofs.lemmas.faults.KeptLemmas.{those_kept}
+use Rattle.dnsv_explain.proofs.lemmas.faults.lists.KeptLemmas.{those_kept}
 use Rattle.dnsv_explain.proofs.faults.question.denials.keep_of_needed.Goals as goal
 
 pub returns : goal.returns

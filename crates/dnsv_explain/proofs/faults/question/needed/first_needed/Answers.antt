@@ -3,7 +3,7 @@ use Rattle.dnsv_verifier.specs.Asking.{AddsJust}
 use Rattle.dnsv_explain.specs.Explained.{setting_in}
 use Rattle.dnsv_explain.specs.faults.searches.NeededSearch.{IsAbove, IsAnchoredSpeaker}
 use Rattle.dnsv_explain.proofs.lemmas.AnswerLemmas.{none_there}
-use Rattle.dnsv_explain.proofs.lemmas.faults.SignatureLemmas.{member}
+use Rattle.dnsv_explain.proofs.lemmas.faults.signatures.SignatureLemmas.{member}
 use Rattle.dnsv_explain.proofs.lemmas.faults.question.needed.FirstLemmas.{goals_needed, others_needed}
 use Rattle.dnsv_explain.proofs.lemmas.faults.question.SignerLemmas.{same_in}
 use Rattle.dnsv_explain.proofs.faults.question.needed.first_needed.Goals as goal

@@ -2,7 +2,7 @@ use Rattle.std.proofs.Common.{[], List, subst, refl}
 use Rattle.dnsv_canonical.specs.Rrsets.{ReceivedRrset}
 use Rattle.dnsv_explain.specs.faults.Listing.{AddsThose, AreOfNumbered}
 use Rattle.dnsv_explain.specs.faults.Order.{AreNsec3sLines}
-use Rattle.dnsv_explain.proofs.lemmas.faults.ListingLemmas.{all_added, next_added, none_added}
+use Rattle.dnsv_explain.proofs.lemmas.faults.lists.ListingLemmas.{all_added, next_added, none_added}
 use Rattle.dnsv_explain.proofs.faults.question.nsec3s.add_nsec3s.Goals as goal
 
 pub loop-place-init : goal.loop-place-init

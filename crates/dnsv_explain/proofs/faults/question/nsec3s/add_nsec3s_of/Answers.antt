@@ -3,7 +3,7 @@ use Rattle.std.proofs.lemmas.Bool.{eqb-true, false≢true, not-false}
 use Rattle.std.proofs.lemmas.Bool.Decides.{Decides-eqb}
 use Rattle.dnsv_explain.specs.faults.Listing.{AreOfNumbered}
 use Rattle.dnsv_explain.specs.faults.Order.{AreNsec3At, AreNsec3sLines}
-use Rattle.dnsv_explain.proofs.lemmas.faults.ListingLemmas.{none_added}
+use Rattle.dnsv_explain.proofs.lemmas.faults.lists.ListingLemmas.{none_added}
 use Rattle.dnsv_explain.proofs.lemmas.faults.question.Nsec3Lemmas.{record_more, records_said}
 use Rattle.dnsv_explain.proofs.faults.question.nsec3s.add_nsec3s_of.Goals as goal
 

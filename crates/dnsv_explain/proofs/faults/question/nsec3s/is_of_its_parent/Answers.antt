@@ -1,6 +1,6 @@
 use Rattle.std.proofs.Common.{refl}
 use Rattle.std.proofs.lemmas.Bool.{false≢true}
-use Rattle.dnsv_explain.proofs.lemmas.faults.SignatureLemmas.{empty, some_left, zip_nothing, zip_something}
+use Rattle.dnsv_explain.proofs.lemmas.faults.signatures.SignatureLemmas.{empty, some_left, zip_nothing, zip_something}
 use Rattle.dnsv_explain.proofs.lemmas.faults.question.Nsec3Lemmas.{no_parent, signed_parent, unsigned_parent}
 use Rattle.dnsv_explain.proofs.faults.question.nsec3s.is_of_its_parent.Goals as goal
 

@@ -2,8 +2,8 @@ use Rattle.std.proofs.Common.{rules}
 use Rattle.dnsv_explain.specs.Explained.{setting_in}
 use Rattle.dnsv_explain.specs.faults.searches.NeededSearch.{IsSaidWhere}
 use Rattle.dnsv_explain.specs.faults.Order.{IsSaid}
-use Rattle.dnsv_explain.proofs.lemmas.faults.KeptLemmas.{those_kept}
-use Rattle.dnsv_explain.proofs.lemmas.faults.ListingLemmas.{those_same}
+use Rattle.dnsv_explain.proofs.lemmas.faults.lists.KeptLemmas.{those_kept}
+use Rattle.dnsv_explain.proofs.lemmas.faults.lists.ListingLemmas.{those_same}
 use Rattle.dnsv_explain.proofs.lemmas.faults.question.OnceLemmas.{said_where}
 use Rattle.dnsv_explain.proofs.faults.question.once.keep_said.Goals as goal
 

@@ -1,7 +1,7 @@
 use Rattle.std.proofs.Common.{◌≡◌, [], sym, ◌∙◌}
 use Rattle.std.proofs.lemmas.Bool.{false≢true}
 use Rattle.dnsv_explain.proofs.lemmas.AnswerLemmas.{not_so, so_not}
-use Rattle.dnsv_explain.proofs.lemmas.faults.SignatureLemmas.{zip_nothing, zip_something}
+use Rattle.dnsv_explain.proofs.lemmas.faults.signatures.SignatureLemmas.{zip_nothing, zip_something}
 use Rattle.dnsv_explain.proofs.lemmas.faults.question.SubjectLemmas.{no_elements}
 use Rattle.dnsv_explain.proofs.faults.question.subjects.is_signed_goal.Goals as goal
 

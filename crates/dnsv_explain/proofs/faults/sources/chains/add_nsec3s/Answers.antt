@@ -3,7 +3,7 @@ use Rattle.dnsv_zones.specs.chains.Rdata.{parameters_of}
 use Rattle.dnsv_denial.specs.words.EvidenceWords.Chain.{ByNsec3}
 use Rattle.dnsv_explain.specs.declared.faults.sources.chain.ChainEntries.TheVariants.{Nsec3}
 use Rattle.dnsv_explain.specs.faults.Order.{AreLinesOfChain}
-use Rattle.dnsv_explain.proofs.lemmas.faults.ListingLemmas.{all_added, each_added, next_added}
+use Rattle.dnsv_explain.proofs.lemmas.faults.lists.ListingLemmas.{all_added, each_added, next_added}
 use Rattle.dnsv_explain.proofs.lemmas.faults.sources.ChainLemmas.{no_records, nsec3s_with}
 use Rattle.dnsv_explain.proofs.lemmas.faults.sources.ZoneLemmas.{mapped_among, used}
 use Rattle.dnsv_explain.proofs.faults.sources.chains.add_nsec3s.Goals as goal

@@ -1,5 +1,5 @@
 use Rattle.dnsv_explain.specs.declared.faults.sources.chain.ChainEntries.TheVariants.{Nsec}
-use Rattle.dnsv_explain.proofs.lemmas.faults.SignatureLemmas.{empty, some_left}
+use Rattle.dnsv_explain.proofs.lemmas.faults.signatures.SignatureLemmas.{empty, some_left}
 use Rattle.dnsv_explain.proofs.lemmas.faults.sources.ChainLemmas.{no_nsecs, no_records, some_nsecs}
 use Rattle.dnsv_explain.proofs.faults.sources.chains.add_nsecs.Goals as goal
 

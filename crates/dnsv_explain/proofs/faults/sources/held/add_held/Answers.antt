@@ -1,6 +1,6 @@
 use Rattle.std.proofs.Common.{ℕ}
 use Rattle.dnsv_explain.specs.faults.Sources.SourceSearch.{AreHeldBy, told_source}
-use Rattle.dnsv_explain.proofs.lemmas.faults.ListingLemmas.{all_added, each_added, next_added}
+use Rattle.dnsv_explain.proofs.lemmas.faults.lists.ListingLemmas.{all_added, each_added, next_added}
 use Rattle.dnsv_explain.proofs.faults.sources.held.add_held.Goals as goal
 
 pub loop-record-preserved : goal.loop-record-preserved

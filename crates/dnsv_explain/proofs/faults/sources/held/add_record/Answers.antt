@@ -1,7 +1,7 @@
 use Rattle.std.proofs.Common.{◌++◌, ◌∷◌, [], inl, inr, refl, ap, ◌∙◌}
 use Rattle.dnsv_explain.specs.faults.Sources.SourceSearch.{AreHeldBy, told_source}
 use Rattle.dnsv_explain.specs.faults.Sources.{source_line, why_held}
-use Rattle.dnsv_explain.proofs.lemmas.faults.ListingLemmas.{none_added, those_added}
+use Rattle.dnsv_explain.proofs.lemmas.faults.lists.ListingLemmas.{none_added, those_added}
 use Rattle.dnsv_explain.proofs.faults.sources.held.add_record.Goals as goal
 
 pub returns-then-denies : goal.returns-then-denies

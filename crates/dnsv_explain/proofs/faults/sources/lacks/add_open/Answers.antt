@@ -1,7 +1,7 @@
 use Rattle.std.proofs.Common.{List, arith, sym, subst}
 use Rattle.dnsv_explain.specs.faults.Sources.SourceSearch.{AreRecordsAt}
 use Rattle.dnsv_explain.specs.declared.faults.sources.records.RecordAt.{RecordAt}
-use Rattle.dnsv_explain.proofs.lemmas.faults.SignatureLemmas.{empty, some_left}
+use Rattle.dnsv_explain.proofs.lemmas.faults.signatures.SignatureLemmas.{empty, some_left}
 use Rattle.dnsv_explain.proofs.lemmas.faults.sources.LackLemmas.{asked_whole, at_name_added, at_zone_added, enclosed_added, no_encloser_added}
 use Rattle.dnsv_explain.proofs.faults.sources.lacks.add_open.Goals as goal
 

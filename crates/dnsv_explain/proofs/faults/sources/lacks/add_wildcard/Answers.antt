@@ -4,7 +4,7 @@ use Rattle.dnsv_names.specs.Name.{Labels, rightmost}
 use Rattle.dnsv_explain.specs.faults.Listing.{AddsThose, AreOfEach}
 use Rattle.dnsv_explain.specs.faults.Sources.SourceSearch.{AreHeldBy, AreRecordsAt, IsCoveredBy, IsEmptyBy, told_source}
 use Rattle.dnsv_explain.specs.declared.faults.sources.records.RecordAt.{RecordAt}
-use Rattle.dnsv_explain.proofs.lemmas.faults.SignatureLemmas.{empty, some_left}
+use Rattle.dnsv_explain.proofs.lemmas.faults.signatures.SignatureLemmas.{empty, some_left}
 use Rattle.dnsv_explain.specs.faults.Sources.{source_line}
 use Rattle.dnsv_explain.specs.declared.line.denial.Role.TheVariants.{Wildcard}
 use Rattle.dnsv_explain.specs.declared.line.fault.denial.WhySource.TheVariants.{CoverMissing}

@@ -3,7 +3,7 @@ use Rattle.std.proofs.lemmas.Bool.{false≢true}
 use Rattle.dnsv_names.specs.Name.{Labels, SameName}
 use Rattle.dnsv_explain.specs.faults.ZoneLines.{AreAnchorWanted}
 use Rattle.dnsv_explain.specs.faults.ZoneLines.ZoneSearch.{wanted_of}
-use Rattle.dnsv_explain.proofs.lemmas.faults.ListingLemmas.{at_in, past_in, within_in}
+use Rattle.dnsv_explain.proofs.lemmas.faults.lists.ListingLemmas.{at_in, past_in, within_in}
 use Rattle.dnsv_explain.proofs.lemmas.faults.zones.EntryLemmas.{judged_all, judged_next, judged_skip}
 use Rattle.dnsv_explain.proofs.faults.zones.entries.anchors_at.Goals as goal
 

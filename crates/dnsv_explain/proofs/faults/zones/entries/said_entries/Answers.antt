@@ -1,7 +1,7 @@
 use Rattle.dnsv_explain.specs.Explained.{setting_in}
 use Rattle.dnsv_explain.specs.faults.ZoneLines.{AreAnchorsSaid, AreRecordsSaid}
 use Rattle.dnsv_explain.proofs.lemmas.NumberedLemmas.{numbered_at}
-use Rattle.dnsv_explain.proofs.lemmas.faults.ListingLemmas.{at_in, past_in, within_in}
+use Rattle.dnsv_explain.proofs.lemmas.faults.lists.ListingLemmas.{at_in, past_in, within_in}
 use Rattle.dnsv_explain.proofs.lemmas.faults.zones.EntryLemmas.{groups_all, groups_first, groups_next}
 use Rattle.dnsv_explain.proofs.faults.zones.entries.said_entries.Goals as goal
 

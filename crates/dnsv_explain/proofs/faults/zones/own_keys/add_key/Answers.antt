@@ -1,7 +1,7 @@
 use Rattle.std.proofs.Common.{sym, ◌∙◌}
 use Rattle.std.proofs.lemmas.Bool.{false≢true}
 use Rattle.dnsv_explain.specs.Explained.{setting_in}
-use Rattle.dnsv_explain.proofs.lemmas.faults.SignatureLemmas.{empty, some_left, zip_something}
+use Rattle.dnsv_explain.proofs.lemmas.faults.signatures.SignatureLemmas.{empty, some_left, zip_something}
 use Rattle.dnsv_explain.proofs.lemmas.faults.zones.OwnKeyLemmas.{key_named, key_unsigned, key_without, named_all, named_more}
 use Rattle.dnsv_explain.proofs.faults.zones.own_keys.add_key.Goals as goal
 

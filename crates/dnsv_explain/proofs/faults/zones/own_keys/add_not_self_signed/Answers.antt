@@ -1,7 +1,7 @@
 use Rattle.std.proofs.Common.{◌++◌, ◌∷◌, [], ap, refl, ◌∙◌}
 use Rattle.dnsv_explain.specs.faults.ZoneLines.{not_self_signed_line}
 use Rattle.dnsv_explain.specs.faults.ZoneLines.ZoneSearch.{IsNotSelfSigned}
-use Rattle.dnsv_explain.proofs.lemmas.faults.ListingLemmas.{those_added}
+use Rattle.dnsv_explain.proofs.lemmas.faults.lists.ListingLemmas.{those_added}
 use Rattle.dnsv_explain.proofs.faults.zones.own_keys.add_not_self_signed.Goals as goal
 
 pub returns : goal.returns

@@ -4,7 +4,7 @@ use Rattle.dnsv_explain.specs.Explained.{setting_in}
 use Rattle.dnsv_explain.specs.faults.ZoneLines.{AreSetLines}
 use Rattle.dnsv_explain.specs.faults.ZoneLines.ZoneSearch.{IsMeant}
 use Rattle.dnsv_explain.proofs.lemmas.NumberedLemmas.{numbered_at}
-use Rattle.dnsv_explain.proofs.lemmas.faults.ListingLemmas.{all_in, next_in}
+use Rattle.dnsv_explain.proofs.lemmas.faults.lists.ListingLemmas.{all_in, next_in}
 use Rattle.dnsv_explain.proofs.lemmas.faults.zones.SelfLemmas.{self_added, self_silent}
 use Rattle.dnsv_explain.proofs.faults.zones.self_faults.add_self_faults.Goals as goal
 

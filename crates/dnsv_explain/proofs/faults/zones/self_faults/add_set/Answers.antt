@@ -3,7 +3,7 @@ use Rattle.std.proofs.lemmas.Bool.{false≢true}
 use Rattle.dnsv_explain.specs.Explained.{setting_in}
 use Rattle.dnsv_explain.specs.faults.ZoneLines.ZoneSearch.{IsMeant}
 use Rattle.dnsv_explain.proofs.lemmas.derivations.WayLemmas.SearchLemmas.{same_keys}
-use Rattle.dnsv_explain.proofs.lemmas.faults.ListingLemmas.{all_added}
+use Rattle.dnsv_explain.proofs.lemmas.faults.lists.ListingLemmas.{all_added}
 use Rattle.dnsv_explain.proofs.lemmas.faults.zones.SelfLemmas.{OfKey, key_added, key_passed, key_stands, keys_added, other_set}
 use Rattle.std.proofs.Common.{ℕ}
 use Rattle.dnsv_explain.proofs.faults.zones.self_faults.add_set.Goals as goal

@@ -2,7 +2,7 @@ use Rattle.std.proofs.Common.{sym, ◌∙◌}
 use Rattle.std.proofs.lemmas.Bool.{false≢true}
 use Rattle.dnsv_explain.specs.Explained.{setting_in}
 use Rattle.dnsv_explain.specs.faults.ZoneLines.ZoneSearch.{IsMeant, IsSelfSignedIn}
-use Rattle.dnsv_explain.proofs.lemmas.faults.ListingLemmas.{at_in, past_in, within_in}
+use Rattle.dnsv_explain.proofs.lemmas.faults.lists.ListingLemmas.{at_in, past_in, within_in}
 use Rattle.dnsv_explain.proofs.lemmas.faults.zones.SelfLemmas.{none_all, none_next, none_signed}
 use Rattle.dnsv_explain.proofs.faults.zones.self_faults.is_some_self_signed.Goals as goal
 

@@ -2,7 +2,7 @@ use Rattle.std.proofs.Common.{ap, length, sym, ◌∙◌}
 use Rattle.std.proofs.lemmas.Bool.{false≢true}
 use Rattle.dnsv_explain.specs.Explained.{setting_in}
 use Rattle.dnsv_explain.specs.faults.ZoneLines.{IsOfParent}
-use Rattle.dnsv_explain.proofs.lemmas.faults.MovedLemmas.{all_moved, none_moved, one_dropped, one_moved, parts_more, size_more}
+use Rattle.dnsv_explain.proofs.lemmas.faults.lists.MovedLemmas.{all_moved, none_moved, one_dropped, one_moved, parts_more, size_more}
 use Rattle.dnsv_explain.proofs.faults.zones.ways.add_of_parents.Goals as goal
 
 pub loop-line-init : goal.loop-line-init

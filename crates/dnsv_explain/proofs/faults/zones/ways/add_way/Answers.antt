@@ -2,7 +2,7 @@ use Rattle.std.proofs.Common.{inr, refl, sym, ◌∙◌}
 use Rattle.std.proofs.lemmas.Bool.{false≢true}
 use Rattle.dnsv_explain.specs.Explained.{setting_in}
 use Rattle.dnsv_explain.specs.faults.ZoneLines.{AreWayLines}
-use Rattle.dnsv_explain.proofs.lemmas.faults.ListingLemmas.{none_added}
+use Rattle.dnsv_explain.proofs.lemmas.faults.lists.ListingLemmas.{none_added}
 use Rattle.dnsv_explain.proofs.lemmas.faults.zones.ParentLemmas.{way_added}
 use Rattle.dnsv_explain.proofs.faults.zones.ways.add_way.Goals as goal
 

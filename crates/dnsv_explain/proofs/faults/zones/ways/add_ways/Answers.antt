@@ -1,7 +1,7 @@
 use Rattle.dnsv_explain.specs.Explained.{setting_in}
 use Rattle.dnsv_explain.specs.faults.ZoneLines.{AreWayLines}
 use Rattle.dnsv_explain.proofs.lemmas.NumberedLemmas.{numbered_at}
-use Rattle.dnsv_explain.proofs.lemmas.faults.ListingLemmas.{all_in, next_in}
+use Rattle.dnsv_explain.proofs.lemmas.faults.lists.ListingLemmas.{all_in, next_in}
 use Rattle.dnsv_explain.proofs.faults.zones.ways.add_ways.Goals as goal
 
 pub add_way-requires-clause-rrset : goal.add_way-requires-clause-rrset

@@ -19,9 +19,9 @@ use Rattle.dnsv_explain.specs.declared.faults.remark.Remark.{Remark}
 use Rattle.dnsv_explain.specs.declared.faults.remark.Remark.TheVariants.{Nothing, Untrusted, Fault}
 use Rattle.dnsv_explain.specs.declared.line.fault.signature.WhySignature.{WhySignature}
 use Rattle.dnsv_explain.specs.declared.line.fault.signature.WhySignature.TheVariants as why
-use Rattle.dnsv_explain.proofs.lemmas.faults.KeyLemmas.{keys_same, named_same}
-use Rattle.dnsv_explain.proofs.lemmas.faults.VerifierLemmas.{best_same}
-use Rattle.dnsv_explain.proofs.lemmas.faults.WordLemmas.{answered_same}
+use Rattle.dnsv_explain.proofs.lemmas.faults.signatures.KeyLemmas.{keys_same, named_same}
+use Rattle.dnsv_explain.proofs.lemmas.faults.signatures.VerifierLemmas.{best_same}
+use Rattle.dnsv_explain.proofs.lemmas.faults.signatures.WordLemmas.{answered_same}
 
 module _ (setting : Setting) (keys : List DnskeyRecord) (all : AreKeysOf setting.rrsets keys) (rrset : ReceivedRrset) (rrsig : Rrsig) where
   abbrev Given : Answer → Type 0

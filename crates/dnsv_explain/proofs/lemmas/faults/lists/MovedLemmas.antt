@@ -2,7 +2,7 @@
 use Rattle.std.proofs.Common.{◌≡◌, ◌+◌, ◌++◌, ◌∷◌, [], ℕ, suc, List, append_assoc, append-nil, arith, length, refl, sym, ap, ◌∙◌, subst}
 use Rattle.dnsv_explain.specs.faults.Listing.{AddsThose, AreThose}
 use Rattle.dnsv_explain.specs.declared.line.Line.{Line}
-use Rattle.dnsv_explain.proofs.lemmas.faults.ListingLemmas.{none_added, those_end, those_past}
+use Rattle.dnsv_explain.proofs.lemmas.faults.lists.ListingLemmas.{none_added, those_end, those_past}
 
 module _ {X : Type 0} where
   pub parts_more : (read left rest all : List X) (x : X) → left ≡ x ∷ rest → read ++ left ≡ all → (read ++ x ∷ []) ++ rest ≡ all

@@ -38,7 +38,7 @@ use Rattle.dnsv_explain.specs.unsigned_cuts.ShownCuts.IsShownUnsigned.{closer_op
 use Rattle.dnsv_explain.specs.declared.line.Line.{Line}
 use Rattle.dnsv_explain.specs.declared.line.cut.InsecureCase.TheVariants as case
 use Rattle.dnsv_explain.specs.declared.line.derivation.SignatureNumber.{SignatureNumber}
-use Rattle.dnsv_explain.proofs.lemmas.SayingLemmas.{both_added}
+use Rattle.dnsv_explain.proofs.lemmas.telling.SayingLemmas.{both_added}
 use Rattle.dnsv_explain.proofs.lemmas.denials.TrustLemmas.{kept_good}
 use Rattle.dnsv_explain.proofs.lemmas.intervals.ShownLemmas.{rdata_at}
 

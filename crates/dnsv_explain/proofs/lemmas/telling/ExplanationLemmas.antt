@@ -25,8 +25,8 @@ use Rattle.dnsv_explain.specs.declared.line.cut.InsecureCase.TheVariants as case
 use Rattle.dnsv_explain.specs.declared.line.derivation.SignatureNumber.{SignatureNumber}
 use Rattle.dnsv_explain.specs.declared.line.place.RrsetPlace.{RrsetPlace}
 use Rattle.dnsv_explain.proofs.lemmas.faults.QuietLemmas.{failure_follows}
-use Rattle.dnsv_explain.proofs.lemmas.HeldLemmas.{held_follows}
-use Rattle.dnsv_explain.proofs.lemmas.HopeLemmas.{still_follow}
+use Rattle.dnsv_explain.proofs.lemmas.derivations.HeldLemmas.{held_follows}
+use Rattle.dnsv_explain.proofs.lemmas.marks.HopeLemmas.{still_follow}
 use Rattle.dnsv_explain.proofs.lemmas.denials.FollowLemmas.{behind, both_follow, denial_follows, each_follow, expanded_follows, first_of, unsigned_follows}
 use Rattle.dnsv_explain.proofs.lemmas.derivations.DerivationLemmas.{derivation_follows}
 use Rattle.dnsv_explain.proofs.lemmas.unsigned_cuts.CutFollowLemmas.{cut_follows}

@@ -12,8 +12,8 @@ use Rattle.dnsv_explain.specs.Following.{EachFollows}
 use Rattle.dnsv_explain.specs.Places.{ArePlacesTold}
 use Rattle.dnsv_explain.specs.Saying.{Adds, AreBoth, AreEach}
 use Rattle.dnsv_explain.specs.declared.line.Line.{Line}
-use Rattle.dnsv_explain.proofs.lemmas.ExplanationLemmas.{way_follows}
-use Rattle.dnsv_explain.proofs.lemmas.SayingLemmas.{both_added}
+use Rattle.dnsv_explain.proofs.lemmas.telling.ExplanationLemmas.{way_follows}
+use Rattle.dnsv_explain.proofs.lemmas.telling.SayingLemmas.{both_added}
 
 -- what needs no more answers is proved
 pub settled_apart : (verdict : Verdict) → IsSettledVerdict verdict → ¬ IsUnproved verdict

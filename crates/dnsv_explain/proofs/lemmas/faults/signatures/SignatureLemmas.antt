@@ -30,9 +30,9 @@ use Rattle.dnsv_explain.specs.declared.line.Line.{Line}
 use Rattle.dnsv_explain.specs.declared.line.fault.signature.WhySignature.{WhySignature}
 use Rattle.dnsv_explain.proofs.lemmas.AnswerLemmas.{none_there}
 use Rattle.dnsv_explain.proofs.lemmas.NumberedLemmas.{numbered_at}
-use Rattle.dnsv_explain.proofs.lemmas.faults.KeyLemmas.{keys_same, named_same}
-use Rattle.dnsv_explain.proofs.lemmas.faults.ListingLemmas.{added_as, all_added, next_added, none_added, those_added}
-use Rattle.dnsv_explain.proofs.lemmas.faults.WordLemmas.{faults_same}
+use Rattle.dnsv_explain.proofs.lemmas.faults.signatures.KeyLemmas.{keys_same, named_same}
+use Rattle.dnsv_explain.proofs.lemmas.faults.lists.ListingLemmas.{added_as, all_added, next_added, none_added, those_added}
+use Rattle.dnsv_explain.proofs.lemmas.faults.signatures.WordLemmas.{faults_same}
 
 -- of an RRset without a good signature none is good by trust
 pub unsecured : (setting : Setting) (k s : ℕ) (rrset : ReceivedRrset) (rrsig : Rrsig) → ¬ HasSecured setting k

@@ -25,7 +25,7 @@ use Rattle.dnsv_explain.specs.declared.line.Kind.{Kind}
 use Rattle.dnsv_explain.specs.declared.line.Line.{Line}
 use Rattle.dnsv_explain.specs.declared.line.Line.TheVariants as line
 use Rattle.dnsv_explain.specs.declared.line.derivation.SignatureNumber.{SignatureNumber}
-use Rattle.dnsv_explain.proofs.lemmas.SayingLemmas.{both_added}
+use Rattle.dnsv_explain.proofs.lemmas.telling.SayingLemmas.{both_added}
 use Rattle.dnsv_explain.proofs.lemmas.intervals.MomentLemmas.{each_follows_then, good_as}
 
 -- ---- answers

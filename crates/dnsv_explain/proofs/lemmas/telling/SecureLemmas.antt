@@ -32,7 +32,7 @@ use Rattle.dnsv_explain.specs.declared.line.Kind.TheVariants as kind
 use Rattle.dnsv_explain.specs.declared.line.Line.{Line}
 use Rattle.dnsv_explain.specs.declared.line.derivation.SignatureNumber.{SignatureNumber}
 use Rattle.dnsv_explain.proofs.lemmas.NumberedLemmas.{same_number}
-use Rattle.dnsv_explain.proofs.lemmas.TellLemmas.{at_same, within_same}
+use Rattle.dnsv_explain.proofs.lemmas.telling.TellLemmas.{at_same, within_same}
 use Rattle.dnsv_explain.proofs.lemmas.derivations.SignerLemmas.{no_signature}
 
 -- ---- a secure RRset

@@ -14,7 +14,7 @@ use Rattle.dnsv_explain.specs.faults.SignatureFaults.{AreFaultsOf, IsAnswered, I
 use Rattle.dnsv_explain.specs.declared.line.fault.signature.SignatureTimes.{SignatureTimes}
 use Rattle.dnsv_explain.specs.declared.line.fault.signature.WhySignature.{WhySignature}
 use Rattle.dnsv_explain.specs.declared.line.fault.signature.WhySignature.TheVariants as why
-use Rattle.dnsv_explain.proofs.lemmas.faults.ListingLemmas.{those_of, those_same}
+use Rattle.dnsv_explain.proofs.lemmas.faults.lists.ListingLemmas.{those_of, those_same}
 
 module _ (keys : List DnskeyRecord) (rrsig : Rrsig) where
   pub key_missing : (known b : Bool) → (IsTrue b ↔ (IsTrue known × (¬ HasNamed keys rrsig)))

@@ -17,7 +17,7 @@ use Rattle.dnsv_explain.specs.derivations.Ways.{IsTrustedLine, IsTrustedSet}
 use Rattle.dnsv_explain.specs.declared.line.Line.{Line}
 use Rattle.dnsv_explain.specs.declared.line.derivation.SignatureNumber.{SignatureNumber}
 use Rattle.dnsv_explain.specs.declared.line.derivation.TrustedKeys.{TrustedKeys}
-use Rattle.dnsv_explain.proofs.lemmas.SayingLemmas.{both_added, nothing_added}
+use Rattle.dnsv_explain.proofs.lemmas.telling.SayingLemmas.{both_added, nothing_added}
 use Rattle.dnsv_explain.proofs.lemmas.denials.FollowLemmas.{both_follow, each_follow}
 use Rattle.dnsv_explain.proofs.lemmas.derivations.ClimbLemmas.{number_is}
 use Rattle.dnsv_explain.proofs.lemmas.derivations.DerivationLemmas.{derivation_follows}

@@ -1,0 +1,8 @@
+-- What is told of a verdict: its lines, that each follows, and what is refused in their place.
+pub mod ExplanationLemmas
+pub mod FollowingLemmas
+pub mod RefusalLemmas
+pub mod SayingLemmas
+pub mod SecureLemmas
+pub mod TellLemmas
+pub mod WholeLemmas
