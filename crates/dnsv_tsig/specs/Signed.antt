@@ -2,6 +2,7 @@
 use Rattle.std.specs.Prelude.{◌≡◌, ℕ, List, [], ◌∷◌, ◌++◌}
 use Rattle.dnsv_message.specs.declared.record.Record.{Record}
 
--- where there is a last record, the octets are its RDATA
+-- where there is a last record, and it is a TSIG record, the octets are its RDATA
 pub record IsLastRdata (records : List Record) (rdata : List ℕ) : Type 0 where
-  pub is : (others : List Record) (last : Record) → records ≡ others ++ last ∷ [] → rdata ≡ last.rdata
+  pub is : (others : List Record) (last : Record) → records ≡ others ++ last ∷ [] → last.rtype.0 ≡ 250
+      → rdata ≡ last.rdata

@@ -34,7 +34,7 @@ pub struct Signature<'a> {
 }
 
 impl<'a> Signature<'a> {
-    /// The one TSIG record of a message, whose RDATA is that of the last record. `NoTsig` where it has none, and `Form`
+    /// The one TSIG record of a message, whose RDATA is that of the last record, where it is one. `NoTsig` where it has none, and `Form`
     /// where it has several, or the one isn't formed as it has to be.
     pub fn of(
         message: &'a Message<'_>,
@@ -98,14 +98,18 @@ fn is_in_time(now: u64, time_signed: u64, fudge: u16) -> bool
     now.abs_diff(time_signed) <= u64::from(fudge)
 }
 
-/// The RDATA of the last record of a message's additional section, or none where that has no records.
+/// The RDATA of the last record of a message's additional section, where that is a TSIG record; it has no compressed
+/// names, so memory is taken for none. Nothing where it is another record, or there is none.
 pub fn last_rdata<'b>(alloc: Global, message: &Message<'b>) -> Result<RdataOctets<'b>, AllocError>
     ensures { IfOk result (IsLastRdata message.now.additional) }
 {
-    match message.records(Section::Additional).last() {
-        Some(last) => last.rdata.octets(alloc),
-        None => Ok(RdataOctets::none()),
+    let Some(last) = message.records(Section::Additional).last() else {
+        return Ok(RdataOctets::none());
+    };
+    if last.rtype != TSIG {
+        return Ok(RdataOctets::none());
     }
+    last.rdata.octets(alloc)
 }
 
 /// Whether no record of the three lists is a TSIG record.
@@ -130,7 +134,7 @@ fn lacks_tsig(records: &[Record<'_>]) -> bool
 
 /// What the record with this RDATA says, where it is a TSIG record that is formed as it has to be.
 fn signed_by<'a>(resource: &Record<'_>, rdata: &'a [u8]) -> Option<Tsig<'a>>
-    requires { rdata.now ≡ resource.now.rdata }
+    requires { resource.now.rtype.0 ≡ 250 → rdata.now ≡ resource.now.rdata }
     ensures { MatchOption result
         ((tsig : TsigFields) → Signs resource.now tsig → ⊥)
         (λ tsig. Signs resource.now tsig) }
