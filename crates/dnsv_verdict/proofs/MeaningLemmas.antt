@@ -1,6 +1,6 @@
 -- What verdicts mean for each zone that has the records which they rest on in its chain.
 pub mod CompleteLemmas
-use Rattle.std.proofs.Common.{◌⊎◌, ℕ, List, inl, inr, ⊎_elim}
+use Rattle.std.proofs.Common.{◌⊎◌, ℕ, List, [], ◌∷◌, inl, inr, subst, sym, ⊎_elim}
 use Rattle.dnsv_names.specs.Name.{Labels}
 use Rattle.dnsv_records.specs.declared.rrsig.Rrsig.{Rrsig}
 use Rattle.dnsv_zones.specs.forms.Forms.{NoCloserForm}
@@ -17,10 +17,12 @@ use Rattle.dnsv_denial.specs.unsigned_cuts.Cuts.{HasUnsignedCut, IsUnsignedCut}
 use Rattle.dnsv_denial.specs.words.EvidenceWords.{evidence_said}
 use Rattle.dnsv_verdict.proofs.SearchLemmas.OptOutLemmas.{such_too}
 use Rattle.dnsv_verdict.specs.Insecure.{IsOptOutWildcardCut}
-use Rattle.dnsv_verdict.specs.Meaning.{IsOwnOrFromWildcard, IsShownFromWildcard, IsTrueOfZones, MeansOptOutWildcardCut}
+use Rattle.dnsv_verdict.specs.Meaning.{AreOwnOrFromWildcards, IsOwnOrFromWildcard, IsShownFromWildcard, IsTrueOfZones, MeansOptOutWildcardCut}
 use Rattle.dnsv_verdict.specs.Secure.{IsSecureSet}
 use Rattle.dnsv_verdict.specs.Settled.{IsSettledAs}
 use Rattle.dnsv_verdict.specs.Verdict.{Basis, IsVerdictAt}
+use Rattle.dnsv_verdict.specs.Way.{LeadTo}
+use Rattle.dnsv_verdict.specs.declared.link.Link.{Link}
 use Rattle.dnsv_verdict.specs.declared.verdict.Verdict.{Verdict}
 use Rattle.dnsv_verdict.specs.declared.verdict.Verdict.TheVariants.{SecureAnswer, SecureAlias, SecureNoName, SecureNoData, Insecure, Pending, Bogus, Indeterminate}
 
@@ -68,3 +70,14 @@ verdict_means basis name t (Insecure cut) is = settled_means _ basis.rrsets name
 verdict_means basis name t (Pending entries) is = tt
 verdict_means basis name t Bogus is = tt
 verdict_means basis name t Indeterminate is = tt
+
+-- and so is what each alias on a way says
+pub aliases_mean : (basis : Basis) (t : ℕ) (name : Labels) (links : List Link) (last : Labels) → LeadTo basis t name links last
+    → AreOwnOrFromWildcards (IsSecured basis.meaning basis.moment basis.rrsets basis.anchors) basis.rrsets links
+aliases_mean basis t name [] last leads = tt
+aliases_mean basis t name (link ∷ links) last (is, target, is_target, asked, leads) =
+    let Means : Labels → Type 0 = λ each. IsOwnOrFromWildcard (IsSecured basis.meaning basis.moment basis.rrsets basis.anchors)
+    basis.rrsets each link.rrset link.signature in (
+      subst Means (sym is.0) (verdict_means basis name t (SecureAlias link.rrset link.signature) is.1),
+      aliases_mean basis t target links last leads,
+    )

@@ -1,5 +1,6 @@
 -- What a verdict says of zones.
 use Rattle.std.specs.Prelude.{◌⊎◌, ◌+◌, ℕ, List}
+use Rattle.std.specs.List.{AllByRecursion}
 use Rattle.dnsv_names.specs.Name.{Labels, rightmost}
 use Rattle.dnsv_names.specs.Tree.{wildcard_of}
 use Rattle.dnsv_records.specs.declared.rrsig.Rrsig.{Rrsig}
@@ -14,6 +15,7 @@ use Rattle.dnsv_denial.specs.words.EvidenceWords.{Chain, evidence_said}
 use Rattle.dnsv_denial.specs.declared.records.number.RecordNumber.{RecordNumber}
 use Rattle.dnsv_verdict.specs.Insecure.{IsOptOutWildcardCut}
 use Rattle.dnsv_verdict.specs.Secure.{IsSecuredAt}
+use Rattle.dnsv_verdict.specs.declared.link.Link.{Link}
 use Rattle.dnsv_verdict.specs.declared.verdict.Verdict.{Verdict}
 use Rattle.dnsv_verdict.specs.declared.verdict.Verdict.TheVariants.{SecureAnswer, SecureAlias, SecureNoName, SecureNoData, Insecure}
 
@@ -36,6 +38,11 @@ abbrev pub IsOwnOrFromWildcard : (ℕ → ℕ → Type 0) → List ReceivedRrset
 IsOwnOrFromWildcard Secured rrsets name =
     IsSecuredAt Secured rrsets name
     (λ rrset rrsig. (¬ IsExpanded rrset.owner rrsig) ⊎ IsShownFromWildcard Secured rrsets name rrsig)
+
+-- each alias on a way is the name's own, or is shown to be from a wildcard
+abbrev pub AreOwnOrFromWildcards : (ℕ → ℕ → Type 0) → List ReceivedRrset → List Link → Type 0
+AreOwnOrFromWildcards Secured rrsets =
+    AllByRecursion (λ link. IsOwnOrFromWildcard Secured rrsets link.name link.rrset link.signature)
 
 -- ---- cuts
 

@@ -8,7 +8,7 @@ use Rattle.dnsv_verifier.specs.Asked.{IsNumberAsked}
 use Rattle.dnsv_verdict.specs.Complete.{TellsWholeChains}
 use Rattle.dnsv_verdict.specs.Grounds.{HasHope}
 use Rattle.dnsv_verdict.specs.Hashed.{IsFewHashedOn, IsNumberHashedOn}
-use Rattle.dnsv_verdict.specs.Meaning.{IsTrueOfZones}
+use Rattle.dnsv_verdict.specs.Meaning.{AreOwnOrFromWildcards, IsTrueOfZones}
 use Rattle.dnsv_verdict.specs.Verdict.{Basis}
 use Rattle.dnsv_verdict.specs.Way.{IsRefusal, IsVerdictOf, names_on}
 use Rattle.dnsv_verdict.specs.declared.error.VerdictError.{VerdictError}
@@ -21,11 +21,13 @@ use Rattle.dnsv_verdict.specs.declared.verdict.Verdict.{Verdict}
 
 -- ---- what is told
 
--- the verdict on the question, what it says of zones, and how much was asked and hashed
+-- the verdict on the question, what it and the aliases before it say of zones, and how much was asked and hashed
 pub record IsReport (basis : Basis) (name : Labels) (t : ℕ) (report : Report) : Type 0 where
   pub verdict : IsVerdictOf basis name t report.links report.last report.verdict
   pub meaning : IsTrueOfZones (IsSecured basis.meaning basis.moment basis.rrsets basis.anchors) basis.rrsets
       report.last t report.verdict
+  pub aliases : AreOwnOrFromWildcards (IsSecured basis.meaning basis.moment basis.rrsets basis.anchors) basis.rrsets
+      report.links
   pub whole_chains : TellsWholeChains basis report.last t report.verdict
   pub asked : IsNumberAsked basis.moment basis.rrsets report.asked
   pub hashed : IsNumberHashedOn basis.rrsets (names_on report.links report.last) report.hashed

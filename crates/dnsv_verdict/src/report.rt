@@ -11,7 +11,7 @@ ghost use Rattle.dnsv_chain.specs.Trusted.{IsSecured};
 ghost use Rattle.dnsv_verdict.specs.Complete.{TellsWholeChains};
 ghost use Rattle.dnsv_verdict.specs.Grounds.{AreGroundsOf, basis_by};
 ghost use Rattle.dnsv_verdict.specs.Hashed.{IsFewHashedOn, IsNumberHashedOn, hashes_on};
-ghost use Rattle.dnsv_verdict.specs.Meaning.{IsTrueOfZones};
+ghost use Rattle.dnsv_verdict.specs.Meaning.{AreOwnOrFromWildcards, IsTrueOfZones};
 ghost use Rattle.dnsv_verdict.specs.Report.{IsKept, IsReport, Refuses};
 ghost use Rattle.dnsv_verifier.specs.Asked.{IsNumberAsked};
 ghost use Rattle.dnsv_verdict.specs.Verdict.{basis_of};
@@ -88,6 +88,9 @@ pub fn validate<'a, V: Verifier>(
     ensures meaning { IfOk result (λ report. IsTrueOfZones
         (IsSecured (V.meaning verifier.now) moment capture.now.rrsets anchors.now) capture.now.rrsets report.last
         rtype.0 report.verdict) }
+    // Each alias is its name's own, or each zone that has the records of its proof in its chain has it from the wildcard.
+    ensures aliases { IfOk result (λ report. AreOwnOrFromWildcards
+        (IsSecured (V.meaning verifier.now) moment capture.now.rrsets anchors.now) capture.now.rrsets report.links) }
     // Where nothing answers, what the zone of a whole chain denies is told.
     ensures whole_chains { IfOk result (λ report. TellsWholeChains (basis_of capture.now.rrsets anchors.now moment
         (V.meaning verifier.now)) report.last rtype.0 report.verdict) }

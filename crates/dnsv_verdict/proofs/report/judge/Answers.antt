@@ -3,7 +3,7 @@ use Rattle.std.proofs.Common.{Bool, refl, subst, sym}
 use Rattle.std.specs.Prelude.{IsTrue}
 use Rattle.std.proofs.lemmas.Result.{err_from_is_err_and}
 use Rattle.dnsv_canonical.specs.Rrsets.{IsQuestion}
-use Rattle.dnsv_verdict.proofs.MeaningLemmas.{verdict_means}
+use Rattle.dnsv_verdict.proofs.MeaningLemmas.{aliases_mean, verdict_means}
 use Rattle.dnsv_verdict.proofs.ReportLemmas.{none_refused, no_memory, no_question, number_asked, refused_on_way, table_of_itself}
 use Rattle.dnsv_verdict.proofs.WayLemmas.{last_is_question}
 use Rattle.dnsv_verdict.specs.Verdict.{Basis, basis_of}
@@ -21,6 +21,7 @@ returns-clause-report g c =
     record {
       verdict = is;
       meaning = verdict_means basis way.last c.args.rtype.0 c.in_ok-followed.followed.verdict is.is_verdict;
+      aliases = aliases_mean basis c.args.rtype.0 c.args.name.now way.links way.last is.way.leads;
       whole_chains = c.a_whole_chain_is_told_by_the_verdict.ensures basis way.last c.args.rtype.0 c.in_ok-followed.followed.verdict
           (last_is_question basis c.args.rtype.0 c.args.name.now way.links way.last is.way.leads asked) is.is_verdict;
       asked = number_asked basis.meaning c.args.moment c.args.capture.now.rrsets c.in_ok-table.table c.exact.result c.in_ok-table.ensures.table c.exact.ensures;
