@@ -13,6 +13,7 @@ use Rattle.dnsv_tsig.specs.Errors.{key_file_error_code, tsig_error_code}
 use Rattle.dnsv_canonical.specs.CaptureError.{capture_error_code}
 use Rattle.dnsv_verifier.specs.StatementsError.{statements_error_code}
 use Rattle.dnsv_chain.specs.AnchorsError.{anchors_error_code}
+use Rattle.dnsv_verdict.specs.VerdictError.{verdict_error_code}
 use Rattle.dnsv_program.specs.declared.status.Status.{Status}
 use Rattle.dnsv_program.specs.declared.status.Status.TheVariants.{Done, Insecure, Pending, Bogus, Indeterminate}
 use Rattle.dnsv_program.specs.declared.status.InputFile.{InputFile}
@@ -36,11 +37,8 @@ status_code Indeterminate = 6
 -- that of the layer below, where the refusal is that layer's
 abbrev pub refusal_number : Refusal → ℕ
 refusal_number (refusal.Name error) = code_of error
-refusal_number refusal.BadQuestion = 701
+refusal_number (refusal.Question error) = verdict_error_code error
 refusal_number (refusal.KeyLine error) = key_file_error_code error
-refusal_number refusal.AliasLoop = 702
-refusal_number refusal.TooManyLinks = 703
-refusal_number refusal.AliasTargets = 704
 refusal_number refusal.MacSyntax = 801
 refusal_number refusal.MacCount = 802
 refusal_number refusal.ZeroLength = 208

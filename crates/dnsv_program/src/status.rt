@@ -7,6 +7,7 @@ use dnsv_chain::AnchorsError;
 use dnsv_message::DecodeError;
 use dnsv_names::NameError;
 use dnsv_tsig::{KeyFileError, TsigError};
+use dnsv_verdict::VerdictError;
 use dnsv_verifier::StatementsError;
 use std::alloc::{AllocError, AllocFailed};
 
@@ -77,16 +78,10 @@ impl InputFile {
 pub enum Refusal {
     /// The question's name is no text of a name (RFC 1035 5.1).
     Name(NameError),
-    /// The question's type can't be asked for at the name, or at the target of an alias.
-    BadQuestion,
+    /// The question has no verdict: its type can't be asked for, or an alias can't be followed.
+    Question(VerdictError),
     /// A line of the file of keys is at fault.
     KeyLine(KeyFileError),
-    /// An alias leads back to a name that led to it.
-    AliasLoop,
-    /// More than eight aliases lead on from the name.
-    TooManyLinks,
-    /// An alias has no one target.
-    AliasTargets,
     /// A line of the file of request MACs is neither a MAC nor `-`.
     MacSyntax,
     /// The file of request MACs has more or fewer than the capture has messages.
@@ -114,11 +109,8 @@ impl Refusal {
     {
         match self {
             Refusal::Name(error) => error.code(),
-            Refusal::BadQuestion => 701,
+            Refusal::Question(error) => error.code(),
             Refusal::KeyLine(error) => error.code(),
-            Refusal::AliasLoop => 702,
-            Refusal::TooManyLinks => 703,
-            Refusal::AliasTargets => 704,
             Refusal::MacSyntax => 801,
             Refusal::MacCount => 802,
             Refusal::ZeroLength => 208,

@@ -4,6 +4,7 @@ use Rattle.dnsv_names.specs.Name.{Labels, IsName}
 use Rattle.dnsv_names.specs.Text.{FirstFault, IsTextOf}
 use Rattle.dnsv_names.specs.declared.error.NameError.{NameError}
 use Rattle.dnsv_canonical.specs.Rrsets.{IsQuestion}
+use Rattle.dnsv_verdict.specs.declared.error.VerdictError.TheVariants.{BadQuestion}
 use Rattle.dnsv_program.specs.declared.status.Place.{Place}
 use Rattle.dnsv_program.specs.declared.status.Refusal.{Refusal}
 use Rattle.dnsv_program.specs.declared.status.Refusal.TheVariants as refusal
@@ -21,7 +22,7 @@ IsNameRefused text why place =
 
 -- the type can't be asked for at the name
 abbrev pub IsTypeRefused : Labels → ℕ → Refusal → Place → Type 0
-IsTypeRefused name rtype why place = (¬ IsQuestion name rtype) × (why ≡ refusal.BadQuestion) × IsNowhere place
+IsTypeRefused name rtype why place = (¬ IsQuestion name rtype) × (why ≡ refusal.Question BadQuestion) × IsNowhere place
 
 -- the question is refused: its name, or else its type
 abbrev pub IsQuestionRefused : List ℕ → ℕ → Refusal → Place → Type 0

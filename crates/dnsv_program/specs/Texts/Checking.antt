@@ -200,10 +200,10 @@ reason_text json rrsets verdict =
 -- how a question is refused that has no verdict
 abbrev pub verdict_fault : VerdictError → Fault
 verdict_fault error.OutOfMemory = fault.OutOfMemory
-verdict_fault error.BadQuestion = fault.Refused refusal.BadQuestion nowhere
-verdict_fault error.AliasLoop = fault.Refused refusal.AliasLoop nowhere
-verdict_fault error.TooManyLinks = fault.Refused refusal.TooManyLinks nowhere
-verdict_fault error.AliasTargets = fault.Refused refusal.AliasTargets nowhere
+verdict_fault error.BadQuestion = fault.Refused (refusal.Question error.BadQuestion) nowhere
+verdict_fault error.AliasLoop = fault.Refused (refusal.Question error.AliasLoop) nowhere
+verdict_fault error.TooManyLinks = fault.Refused (refusal.Question error.TooManyLinks) nowhere
+verdict_fault error.AliasTargets = fault.Refused (refusal.Question error.AliasTargets) nowhere
 
 -- ---- the files
 

@@ -8,6 +8,7 @@ ghost use Rattle.dnsv_program.specs.Told.{IsFaultOf};
 use crate::status::{Fault, Place, Refusal};
 use dnsv_canonical::is_question;
 use dnsv_names::{Name, RecordType};
+use dnsv_verdict::VerdictError;
 
 /// The subcommand for a question: that for its verdict, or the one that says besides why it stands.
 pub fn question_word(why: bool) -> &'static str
@@ -29,7 +30,7 @@ pub fn question_name(text: &[u8], rtype: RecordType) -> Result<Name, Fault>
         Err(error) => return Err(Fault::Refused(Refusal::Name(error), Place::NOWHERE)),
     };
     if !is_question(&name, rtype) {
-        return Err(Fault::Refused(Refusal::BadQuestion, Place::NOWHERE));
+        return Err(Fault::Refused(Refusal::Question(VerdictError::BadQuestion), Place::NOWHERE));
     }
     Ok(name)
 }

@@ -5,7 +5,9 @@ ghost use Rattle.dnsv_verdict.specs.Way.{IsRefusedFor, IsVerdictOf};
 ghost use Rattle.dnsv_verdict.specs.declared.error.VerdictError.{VerdictError};
 ghost use Rattle.dnsv_verdict.specs.declared.report.Report.{Report};
 ghost use Rattle.dnsv_verdict.specs.Verdict.{basis_of};
+ghost use Rattle.dnsv_verdict.specs.VerdictError.{verdict_error_code};
 ghost use Rattle.dnsv_explain.specs.declared.line.Line.{Line};
+ghost use Rattle.dnsv_program.specs.Status.{fault_number};
 ghost use Rattle.dnsv_program.specs.Texts.Checking as specs;
 
 use crate::command_line::moment::Moment;
@@ -106,16 +108,13 @@ fn text_of(
 
 /// The fault by which it is told that a question has no verdict. It has no place.
 fn verdict_fault(error: VerdictError) -> Fault
-    ensures { result ≡ specs.verdict_fault error }
+    ensures told { result ≡ specs.verdict_fault error }
+    ensures number { fault_number result ≡ verdict_error_code error }
 {
-    let refusal = match error {
-        VerdictError::OutOfMemory => return Fault::OutOfMemory,
-        VerdictError::BadQuestion => Refusal::BadQuestion,
-        VerdictError::AliasLoop => Refusal::AliasLoop,
-        VerdictError::TooManyLinks => Refusal::TooManyLinks,
-        VerdictError::AliasTargets => Refusal::AliasTargets,
-    };
-    Fault::Refused(refusal, Place::NOWHERE)
+    match error {
+        VerdictError::OutOfMemory => Fault::OutOfMemory,
+        _ => Fault::Refused(Refusal::Question(error), Place::NOWHERE),
+    }
 }
 
 /// The end of a run by the verdict.

@@ -20,8 +20,8 @@ pub returns-in-Err-clause-only : goal.returns-in-Err-clause-only
 returns-in-Err-clause-only g c =
     let basis : Basis = basis_of c.args.held.now.rrsets c.args.anchors.now c.args.moment (g.V.Verifier.meaning c.args.verifier.now) in
     let told : (c.in-Err.error ≡ OutOfMemory) ⊎ IsRefusal basis c.args.name.now c.args.rtype.0 c.in-Err.error = rw (← c.seconds-seconds.ensures.value) c.in-Err.ensures.refused in
-    ⊎_elim (λ (memory : c.in-Err.error ≡ OutOfMemory). inl (c.verdict_fault.ensures ∙ ap verdict_fault memory))
+    ⊎_elim (λ (memory : c.in-Err.error ≡ OutOfMemory). inl (c.verdict_fault.ensures.told ∙ ap verdict_fault memory))
     (λ (refusal : IsRefusal basis c.args.name.now c.args.rtype.0 c.in-Err.error).
     ⊎_elim (λ (unasked : (c.in-Err.error ≡ BadQuestion) × (¬ IsQuestion c.args.name.now c.args.rtype.0)). absurd (unasked.1 c.requires))
     (λ (stopped : IsQuestion c.args.name.now c.args.rtype.0 × IsRefusedFor basis c.args.name.now c.args.rtype.0 c.in-Err.error).
-    inr (c.in-Err.error, stopped.1, c.verdict_fault.ensures)) refusal) told
+    inr (c.in-Err.error, stopped.1, c.verdict_fault.ensures.told)) refusal) told
