@@ -7,16 +7,16 @@ from tool import TOOLS
 
 CRATES = TOOLS.parent / "crates"
 BEGINS = re.compile(r"\bCount::(?:new|default)\(\)")
-# Where a count is begun, and why.
+# Where counts are begun, how many, and why.
 NAMED = {
-    "dnsv_names/src/count.rt": "the default of a count, and its test",
-    "dnsv_verdict/src/report.rt": "the two numbers that a report tells",
-    "dnsv_verdict/src/search.rt": "pairs compared by a capture's index, which no report tells",
-    "dnsv_explain/src/explanation/held.rt": "pairs compared by a capture's index, which no line tells",
-    "dnsv_explain/src/faults/at.rt": "the same",
-    "dnsv_explain/src/faults/question/dnames.rt": "the same",
-    "dnsv_explain/src/faults/question/signers.rt": "the same",
-    "dnsv_program/src/texts/todo.rt": "`list` asks a verifier, and prints no number",
+    "dnsv_names/src/count.rt": 1,  # the default of a count
+    "dnsv_verdict/src/report.rt": 2,  # the two numbers that a report tells
+    "dnsv_verdict/src/search.rt": 1,  # pairs compared by a capture's index, which no report tells
+    "dnsv_explain/src/explanation/held.rt": 1,  # pairs compared by a capture's index, which no line tells
+    "dnsv_explain/src/faults/at.rt": 1,  # the same
+    "dnsv_explain/src/faults/question/dnames.rt": 1,  # the same
+    "dnsv_explain/src/faults/question/signers.rt": 1,  # the same
+    "dnsv_program/src/texts/todo.rt": 1,  # `list` asks a verifier, and prints no number
 }
 
 
@@ -28,8 +28,8 @@ def sources():
 
 class Counts(unittest.TestCase):
     def test_a_count_is_begun_only_where_it_is_told(self):
-        begins = {str(file.relative_to(CRATES)) for file in sources() if BEGINS.search(file.read_text())}
-        self.assertEqual(begins, set(NAMED))
+        begun = {str(file.relative_to(CRATES)): len(BEGINS.findall(file.read_text())) for file in sources()}
+        self.assertEqual({file: number for file, number in begun.items() if number}, NAMED)
 
 
 if __name__ == "__main__":

@@ -61,10 +61,18 @@ class Desk(unittest.TestCase):
         status, output, errors = run_program(PROGRAM, subcommand, *words)
         return status, output.decode(), errors
 
-    def verdict(self, owner="host.example.", rtype=1, **files):
+    def verdict(self, owner="host.example.", rtype=1, subcommand="check", **files):
         """The same of `check`, with the zone's key as the anchor where no other is given."""
         given = {"capture": KEYS + HOST, "anchors": ANCHOR, "statements": GOOD_KEYS + GOOD_HOST, **files}
-        return self.told("check", "--moment", MOMENT, "--name", owner, "--type", rtype, **given)
+        return self.told(subcommand, "--moment", MOMENT, "--name", owner, "--type", rtype, **given)
+
+    def assert_explained(self, word, **given):
+        """`explain` tells this verdict, what `check` tells, and more behind it."""
+        status, output, errors = self.verdict(**given)
+        self.assertEqual((output.split()[0], errors), (word, ""))
+        told, explained, errors = self.verdict(subcommand="explain", **given)
+        self.assertEqual((told, explained[:len(output)], errors), (status, output, ""))
+        self.assertGreater(len(explained), len(output))
 
     def assert_answer(self, rrset, **files):
         self.assertEqual(self.verdict(**files), (0, f"SecureAnswer host.example. 1\nrrset {rrset} signature 1\n", ""))

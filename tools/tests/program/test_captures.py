@@ -114,6 +114,12 @@ class Signatures(Desk):
         wanted = f"Pending {self.OWNERS[-1]} 1\n" + self.lines[-1].replace(b"good", b"todo").decode()
         self.assertEqual(self.verdict(statements=b"".join(self.lines[:-1]), **given), (4, wanted, ""))
 
+    def test_each_verdict_is_explained(self):
+        given = {"owner": self.OWNERS[-1], "capture": self.capture}
+        good = b"".join(self.lines)
+        for word, statements in (("SecureAnswer", good), ("Pending", b""), ("Bogus", good.replace(b"good", b"bad"))):
+            self.assert_explained(word, statements=statements, **given)
+
 
 class LongName(Desk):
     """A name of 127 labels, and eight salts of 500 iterations: 1,022,040 hashes of SHA-1."""
@@ -137,6 +143,8 @@ class LongName(Desk):
         status, output, errors = self.verdict(statements=b"", **given)
         self.assertEqual((status, output.split("\n")[0], output.count("\ntodo "), errors),
                          (4, f"Pending {self.NAME} 1", 9, ""))
+        self.assert_explained("SecureNoName", statements=statements, **given)
+        self.assert_explained("Pending", statements=b"", **given)
         ninth = message(signed(*self.of_ninth_salt(), signer="."))
         self.assertEqual(self.verdict(**{**given, "capture": capture + ninth}), (7, "", "refused 403 message 10\n"))
 
