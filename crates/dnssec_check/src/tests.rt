@@ -7,7 +7,7 @@
 //! of command lines, the first counts.
 //! Behind them stands how the program has to end: `=> STATUS`, and then what it prints, on the standard error behind `! `;
 //! or lines `~ TEXT`, which have to stand somewhere in what is printed. Only how often a verifier is asked no row can say
-//! (`asking`), and what a capture has read of a message (`reading`).
+//! (`asking`).
 use crate::samples::hex_named;
 use dnsv_program::exit_status_on;
 use std::alloc::Global;
@@ -23,7 +23,6 @@ mod explaining;
 mod key_files;
 mod listing;
 mod names;
-mod reading;
 mod showing;
 mod signed;
 mod streams;
@@ -60,12 +59,6 @@ fn a_verifier_is_asked_once_for_each_entry(rt: HostRuntime) -> Result<(), Fail> 
 #[test]
 fn a_table_asks_a_verifier_once_for_each_entry(rt: HostRuntime) -> Result<(), Fail> {
     assert!(rt; asking::is_asked_once_by_a_table(rt.alloc())?);
-    Ok(())
-}
-
-#[test]
-fn a_capture_reads_each_type(rt: HostRuntime) -> Result<(), Fail> {
-    assert!(rt; reading::is_each_type_read(rt.alloc())?);
     Ok(())
 }
 

@@ -8,6 +8,14 @@ OPEN = "no proof: expected answers in ./proofs/names/first/Answers.antt; `search
 STANDS = "not proved; it stands on `Rattle.upper.proofs.names.first.Answers.returns`, which antt refuses"
 CALLS = "no proof: it calls `upper::names::last`, which is not proved"
 ANSWERS = "use Rattle.upper.proofs.names.first.Goals as goal\n\npub returns : goal.returns\nreturns c = c.one.ensures.0\n"
+WITH_A_LEMMA = """use Rattle.upper.proofs.names.first.Goals as goal
+
+same : (c : goal.After-one) → c.one.result ≡ c.args.x
+same c = c.one.ensures.0
+
+pub returns : goal.returns
+returns c = sym (same c)
+"""
 
 # What antt says of an answer that meets its goal and fails, and of one that doesn't fit.
 FAILS = (
@@ -21,14 +29,23 @@ FAILS = (
     "`omega`: the goal does not follow from what it read. All of that holds, and the goal fails, at `c.args.x` = 0.",
     "`search`: no proof of `mathlib.Core.Path.◌≡◌ (Prim.Native.Nat.◌+◌ c.args.x 1) c.args.x` was found. `grind`",
 )
+NO_SUCH_GOAL = (
+    "`goal.returns`: module `Rattle.upper.proofs.names.first.Goals` has no `returns` that can be named from here",
+    # The same, cut short.
+    "`goal.returns`: module `Rattle.upper.proofs.names.first.Goals`",
+)
 DOES_NOT_FIT = (
     "this λ is checked against `Unit {0}`, which is not a function or extension (path) type",
     "a tuple is checked against `mathlib.Core.Path.◌≡◌ c.args.x c.args.x`, which is not a `×` type",
     "record `Rattle.upper.proofs.names.first.Lts.Start` has no field `gone`\n  the fields that can be named here are `args`",
     "record `Rattle.upper.proofs.names.first.Lts.Start` (nearest: `one-2`)",
     "`c.one` is not in scope: not a local variable, nor a definition admitted earlier",
-    "`goal.returns`: module `Rattle.upper.proofs.names.first.Goals` has no `returns` that can be named from here",
+    "`same.first`: module `Rattle.upper.proofs.lemmas.Same` has no `first` that can be named from here",
+    "`same` cannot be unfolded because it was not admitted: it has an error, a hole, or an implicit argument",
+    *NO_SUCH_GOAL,
 )
+# The judge knows none of these words.
+UNKNOWN = "this λ has 2 binders, but its type has room for only 1"
 
 
 class Judge(unittest.TestCase):
@@ -66,16 +83,37 @@ class Judge(unittest.TestCase):
                 self.assertEqual(self.kind_of(self.trial(), OPEN, error), judge.Kind.UNSETTLED)
                 self.assertEqual(self.kind_of(self.trial(), "proved", error), judge.Kind.PROVED)
 
+    def test_nor_does_one_that_is_refused_in_other_words(self):
+        self.assertEqual(self.kind_of(self.trial(), OPEN, UNKNOWN), judge.Kind.UNSETTLED)
+
     def test_nor_does_one_whose_calls_have_other_numbers(self):
         error = "as printed, the two types differ only where one has `c.one-b.result` (expected) and the other has `c.one.result` (found)"
         for old, new, kind in (("one(x)", "one(one(x))", judge.Kind.UNSETTLED), ("one(x)", "one(y)", judge.Kind.REFUSED)):
             self.assertEqual(self.kind_of(self.trial(old, new), OPEN, error), kind)
 
+    def test_the_first_line_tells_that_an_answer_does_not_fit(self):
+        for error in DOES_NOT_FIT:
+            with self.subTest(error):
+                self.assertEqual(self.kind_of(self.trial(), OPEN, f"{error}\n  {FAILS[1]}"), judge.Kind.UNSETTLED)
+
+    def test_a_line_behind_it_does_not_tell_so(self):
+        for error in DOES_NOT_FIT:
+            with self.subTest(error):
+                self.assertEqual(self.kind_of(self.trial(), OPEN, f"{FAILS[1]}\n  {error}"), judge.Kind.REFUSED)
+
+    def test_an_answer_fails_with_the_lemma_that_it_leans_on(self):
+        error = f"./proofs/names/first/Answers.antt:4:10: error: `same`: {FAILS[1]}\n"
+        told, trial = judge.Told("upper", f"{error}fn upper::names::first: {STANDS}\n"), self.trial()
+        self.assertEqual(judge.judged(trial, told, lambda file: WITH_A_LEMMA, False), judge.AGAIN)
+        self.assertEqual(trial.names_in("proofs/names/first/Answers.antt"), {"same", "returns"})
+
     def test_a_goal_that_is_new_where_an_answer_is_left_over_settles_nothing(self):
         said = OPEN.replace("`returns`", "`returns-in-Some`")
-        trial = self.trial()
-        self.assertEqual(self.judged(trial, said, DOES_NOT_FIT[-1]), judge.AGAIN)
-        self.assertEqual(self.judged(trial, said).kind, judge.Kind.UNSETTLED)
+        for error in NO_SUCH_GOAL:
+            with self.subTest(error):
+                trial = self.trial()
+                self.assertEqual(self.judged(trial, said, error), judge.AGAIN)
+                self.assertEqual(self.judged(trial, said).kind, judge.Kind.UNSETTLED)
 
     def test_nor_does_a_goal_of_a_step_that_the_body_adds(self):
         rows = (("copy(a)", "copy(a); copy(b)", "slice_bounds-copy-end-in-loop-3", judge.Kind.UNSETTLED),

@@ -64,6 +64,12 @@ fn ended(desk: &Desk<'_>) -> (u8, Vec<u8>, Vec<u8>) {
     (code, output.into_inner(), errors.into_inner())
 }
 
+// Whether the program ends so on the machine, with nothing on its output, and this on its errors.
+fn ends(desk: &Desk<'_>, status: u8, told: &[u8]) -> bool {
+    let (code, output, errors) = ended(desk);
+    code == status && output.is_empty() && errors.as_slice() == told
+}
+
 #[test]
 fn tells_want_of_memory_at_the_words(rt: HostRuntime) {
     let mut desk = Desk {
@@ -72,11 +78,7 @@ fn tells_want_of_memory_at_the_words(rt: HostRuntime) {
         has_room: false,
         octets: &[],
     };
-    let (code, output, errors) = ended(&desk);
-    assert_eq!(rt; code, 1);
-    assert_eq!(rt; output.len(), 0);
-    assert_eq!(rt; errors.as_slice(), b"fault 90\n".as_slice());
+    assert!(rt; ends(&desk, 1, b"fault 90\n"));
     desk.has_room = true;
-    let (code, output, errors) = ended(&desk);
-    assert_eq!(rt; (code, output.len(), errors.len()), (0, 0, 0));
+    assert!(rt; ends(&desk, 0, b""));
 }

@@ -1,6 +1,6 @@
-//! Names as keys, by order and by hash, names and RDATA of messages, and how far a count goes.
+//! Names as keys, by order and by hash, and names and RDATA of messages.
 use dnsv_message::{Class, NameRef, NameRefByWire, RdataRef, rdata_ref_at};
-use dnsv_names::{Count, Name, RecordType};
+use dnsv_names::{Name, RecordType};
 use std::alloc::Global;
 use std::collections::{BTreeMap, HashMap};
 use std::test::Fail;
@@ -74,14 +74,4 @@ fn rdata_is_equal_however_its_names_are_compressed(rt: HostRuntime) -> Result<()
     assert!(rt; is_mail_example(b"\x07example\x00\x00\x0a\x04mail\xc0\x00", 9));
     assert!(rt; !is_mail_example(b"\x07Example\x00\x00\x0a\x04mail\xc0\x00", 9));
     Ok(())
-}
-
-#[test]
-fn a_count_stops_at_its_greatest_value(rt: HostRuntime) {
-    let mut count = Count::default();
-    count.add(u64::MAX - 1);
-    count.add(1);
-    assert!(rt; count.value() == u64::MAX);
-    count.add(7);
-    assert!(rt; count.value() == u64::MAX);
 }

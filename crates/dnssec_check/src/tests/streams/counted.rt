@@ -25,6 +25,11 @@ fn takes(writer: &mut Counted<Full>, octets: &[u8], count: usize, failures: u64)
     taken == Some(count) && writer.failures() == failures
 }
 
+// Whether the writer neither takes all of the octets nor is flushed, after which so many calls have failed.
+fn is_full(writer: &mut Counted<Full>, octets: &[u8], failures: u64) -> bool {
+    writer.write_all(octets).is_err() && writer.flush().is_err() && writer.failures() == failures
+}
+
 #[test]
 fn counts_failed_writes(rt: HostRuntime) {
     let mut writer = Counted::new(Full(3));
@@ -32,9 +37,7 @@ fn counts_failed_writes(rt: HostRuntime) {
     assert!(rt; takes(&mut writer, b"cd", 1, 0), "one octet was taken");
     assert!(rt; takes(&mut writer, b"", 0, 0), "there was none to take");
     assert!(rt; takes(&mut writer, b"d", 0, 1));
-    assert!(rt; writer.write_all(b"d").is_err());
-    assert!(rt; writer.flush().is_err());
-    assert!(rt; writer.failures() == 3);
+    assert!(rt; is_full(&mut writer, b"d", 3));
 }
 
 // Counts its calls, the first of which fails.
@@ -136,10 +139,11 @@ fn writes_in_turn_until_a_write_fails(rt: HostRuntime) {
     assert!(rt; ends(&mut writer, b"defg", 1, 0), "the call failed once");
 }
 
-// Whether the writer gets the octets as they are.
+// Whether the writer gets the octets as they are, and no call has failed.
 fn gets(writer: &mut Counted<Vec<u8>>, octets: &[u8]) -> bool {
     writer.write_all(octets).is_ok()
         && writer.flush().is_ok()
+        && writer.failures() == 0
         && writer.get_ref().as_slice() == octets
 }
 
@@ -147,7 +151,6 @@ fn gets(writer: &mut Counted<Vec<u8>>, octets: &[u8]) -> bool {
 fn passes_written_octets_on(rt: HostRuntime) {
     let mut writer = Counted::new(Vec::new(rt.alloc()));
     assert!(rt; gets(&mut writer, b"abc"));
-    assert!(rt; writer.failures() == 0);
 }
 
 // Whether the reader has two octets, and they are these.
@@ -156,11 +159,16 @@ fn gives(reader: &mut Counted<&[u8]>, octets: [u8; 2]) -> bool {
     reader.read_exact(&mut two).is_ok() && two == octets
 }
 
+// Whether the reader hasn't two octets any more, after which so many calls have failed.
+fn runs_out(reader: &mut Counted<&[u8]>, failures: u64) -> bool {
+    let mut two = [0u8; 2];
+    reader.read_exact(&mut two).is_err() && reader.failures() == failures
+}
+
 #[test]
 fn passes_read_octets_on(rt: HostRuntime) {
     let octets: &[u8] = b"abc";
     let mut reader = Counted::new(octets);
     assert!(rt; gives(&mut reader, *b"ab"));
-    assert!(rt; !gives(&mut reader, *b"c\0"));
-    assert!(rt; reader.failures() == 1);
+    assert!(rt; runs_out(&mut reader, 1));
 }
