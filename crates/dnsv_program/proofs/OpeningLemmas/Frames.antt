@@ -1,6 +1,7 @@
--- A frame that isn't opened is refused, or memory was wanting.
+-- Octets that are no message, and a frame that isn't opened, are refused, or memory was wanting.
 use Rattle.std.proofs.Common.{◌≡◌, ◌⊎◌, ℕ, List, Option, Some, None, inl, inr, subst, sym}
 use Rattle.std.specs.Prelude.{Err, Result}
+use Rattle.dnsv_message.specs.Grammar.{FaultOf}
 use Rattle.dnsv_message.specs.declared.errors.DecodeError.{DecodeError}
 use Rattle.dnsv_message.specs.declared.errors.DecodeError.TheVariants as decode
 use Rattle.dnsv_tsig.specs.Answer.{tsig_answer_of}
@@ -14,7 +15,7 @@ use Rattle.dnsv_program.specs.declared.status.InputFile.{InputFile}
 use Rattle.dnsv_program.specs.declared.status.Place.{Place}
 use Rattle.dnsv_program.specs.declared.status.Refusal.{Refusal}
 use Rattle.dnsv_program.specs.Status.{TellsMessageError, TellsTsigError}
-use Rattle.dnsv_program.specs.Told.{IsDecodeFault, IsFaultOf, IsTsigFault, IsUnopenedAt}
+use Rattle.dnsv_program.specs.Told.{IsDecodeFault, IsFaultOf, IsTsigFault, IsUnopenedAt, IsUnreadableAt}
 
 module _ (number : ℕ) where
   -- ---- octets that are no message
@@ -73,6 +74,23 @@ module _ (number : ℕ) where
   no_message_unwritten decode.LongName is = is
   no_message_unwritten (decode.BadRdata k) is = is
   no_message_unwritten decode.TrailingBytes is = is
+
+  unreadable_told : (octets : List ℕ) (error : DecodeError) (told : Fault) → FaultOf octets error → IsDecodeFault error number told
+      → IsFaultOf (IsUnreadableAt octets number) told
+  unreadable_told octets error (fault.Refused why place) at is =
+      let said = message_told_as error why place is in ((error, at, said.0), said.1, said.2)
+  unreadable_told octets error fault.OutOfMemory at is = tt
+  unreadable_told octets error (fault.ReadFailed file) at is = no_message_read file error is
+  unreadable_told octets error (fault.TooLong file) at is = no_message_long file error is
+  unreadable_told octets error (fault.OpenFailed file) at is = no_message_unopened file error is
+  unreadable_told octets error fault.WriteFailed at is = no_message_unwritten error is
+
+  pub not_read : (octets : List ℕ) (error : DecodeError) (told : Fault) → (error ≡ decode.OutOfMemory) ⊎ FaultOf octets error
+      → IsDecodeFault error number told → IsFaultOf (IsUnreadableAt octets number) told
+  not_read octets error told (inl memory) is =
+      let same : told ≡ fault.OutOfMemory = subst (λ e. IsDecodeFault e number told) memory is in
+      subst (IsFaultOf (IsUnreadableAt octets number)) (sym same) tt
+  not_read octets error told (inr at) is = unreadable_told octets error told at is
 
   -- ---- frames that aren't opened
 
