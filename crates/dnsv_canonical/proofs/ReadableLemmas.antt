@@ -1,46 +1,29 @@
 -- Records that can be read, and the first that can't.
 pub mod WellFormedLemmas
-use Rattle.std.proofs.Common.{◌≡◌, inl, inr, ℕ, ◌+◌, ◌<◌, Bool, true, false, List, ◌∷◌, ◌++◌, length, get_or, take, drop, refl, sym, ap, ◌∙◌, subst, arith, append_assoc, Result, Ok, Err, IfOk, IfErr, ◌↔◌, IsTrue}
+use Rattle.std.proofs.Common.{◌≡◌, ℕ, ◌+◌, ◌<◌, Bool, true, false, List, ◌∷◌, ◌++◌, length, get_or, take, drop, refl, sym, ap, ◌∙◌, subst, arith, append_assoc, Result, Ok, Err, IfOk, IfErr, ◌↔◌, IsTrue}
 use Rattle.std.proofs.lemmas.List.{drop_more, take-append-drop, length-take-le, length-append}
 use Rattle.std.specs.List.{AllByRecursion}
 use Rattle.std.specs.Prelude.{OnOk}
-use Rattle.std.specs.declared.alloc.AllocError.{AllocError}
+use Rattle.std.specs.Result.{is_ok}
 use Rattle.dnsv_message.specs.declared.record.Record.{Record}
 use Rattle.dnsv_message.specs.Message.{Contents, records_of}
 use Rattle.dnsv_records.specs.declared.error.RecordError.{RecordError}
-use Rattle.dnsv_records.specs.declared.error.RecordError.TheVariants as records
 use Rattle.dnsv_records.specs.declared.nsec.Nsec.{Nsec}
 use Rattle.dnsv_records.specs.declared.nsec3.Nsec3.{Nsec3}
 use Rattle.dnsv_records.specs.Nsec.{IsNsec}
 use Rattle.dnsv_records.specs.Nsec3.{IsNsec3}
-use Rattle.dnsv_records.specs.Reading.{Gives}
 use Rattle.dnsv_names.specs.PartLaws.{recursion-append}
 use Rattle.dnsv_canonical.specs.Evidence.{Evidence, IsWhole, IsReadable, IsFirstBad, IsReasonAgainst}
 use Rattle.dnsv_canonical.specs.Rdata.{IsLaidOut}
-use Rattle.dnsv_canonical.specs.Kept.{told, IsBadAfter}
+use Rattle.dnsv_canonical.specs.Kept.{IsBadAfter}
 use Rattle.dnsv_canonical.specs.declared.capture.CaptureError.{CaptureError}
 use Rattle.dnsv_canonical.specs.declared.capture.CaptureError.TheVariants.{OutOfMemory, NotAResponse, Truncated, BadRdata, Limit}
 
 -- ---- whether RDATA was read
 
-pub given_none : {V : Type 0} (P : Type 0) (value : V) (field : _) → Gives (Err (records.BadRdata field)) value → P
-given_none P value field (inl given) = cc
-given_none P value field (inr given) = cc
-
-pub given_same : {V : Type 0} (value other : V) → Gives (Ok value) other → value ≡ other
-given_same value other (inl given) = cc
-given_same value other (inr given) = cc
-
--- what can be read fails for want of memory alone
-pub fails_alone : {V : Type 0} (result : Result V RecordError) (value : V) → Gives result value → IfErr result (λ error. error ≡ records.OutOfMemory)
-fails_alone (Ok found) value given = tt
-fails_alone (Err error) value (inl given) = cc
-fails_alone (Err error) value (inr given) = cc
-
-pub told_decides : {V : Type 0} (P : V → Type 0) (result : Result V RecordError) → IfOk result P → ((value : V) → P value → Gives result value) → IfOk (told result) (λ answer. IsTrue answer ↔ ((value : V) × P value))
-told_decides P (Ok value) found every = (λ _. (value, found), λ _. refl)
-told_decides P (Err (records.BadRdata field)) found every = (λ t. let none : false ≡ true = t in cc, λ read. given_none _ read.0 field (every read.0 read.1))
-told_decides P (Err records.OutOfMemory) found every = tt
+pub reads_decide : {V : Type 0} (P : V → Type 0) (result : Result V RecordError) → IfOk result P → ((value : V) → P value → result ≡ Ok value) → IsTrue (is_ok result) ↔ ((value : V) × P value)
+reads_decide P (Ok value) found every = (λ _. (value, found), λ _. refl)
+reads_decide P (Err error) found every = (λ t. let none : false ≡ true = t in cc, λ read. let none = every read.0 read.1 in cc)
 
 -- ---- the first that can't be read
 
@@ -120,14 +103,14 @@ pub IfOk-same : {A B E : Type 0} (answer : Result Bool E) → IfOk answer (λ ye
 IfOk-same (Ok answer) decides to from = (λ t. to (decides.0 t), λ b. decides.1 (from b))
 IfOk-same (Err error) decides to from = tt
 
-pub laid_out_nsec : (rtype : ℕ) (rdata : List ℕ) → rtype ≡ 47 → (answer : Result Bool AllocError) → IfOk answer (λ yes. IsTrue yes ↔ ((nsec : Nsec) × IsNsec rdata nsec)) → IfOk answer (λ yes. IsTrue yes ↔ IsLaidOut rtype rdata)
-laid_out_nsec rtype rdata is answer decides =
-    IfOk-same answer decides
-    (λ read. record { ds = λ other. absurd (omega (arith, is, other)); rrsig = λ other. absurd (omega (arith, is, other)); nsec = λ _. read; dnskey = λ other. absurd (omega (arith, is, other)); nsec3 = λ other. absurd (omega (arith, is, other)) })
-    (λ laid. laid.nsec is)
+pub laid_out_nsec : (rtype : ℕ) (rdata : List ℕ) → rtype ≡ 47 → (answer : Bool) → (IsTrue answer ↔ ((nsec : Nsec) × IsNsec rdata nsec)) → IsTrue answer ↔ IsLaidOut rtype rdata
+laid_out_nsec rtype rdata is answer decides = (
+  λ yes. record { ds = λ other. absurd (omega (arith, is, other)); rrsig = λ other. absurd (omega (arith, is, other)); nsec = λ _. decides.0 yes; dnskey = λ other. absurd (omega (arith, is, other)); nsec3 = λ other. absurd (omega (arith, is, other)) },
+  λ laid. decides.1 (laid.nsec is),
+)
 
-pub laid_out_nsec3 : (rtype : ℕ) (rdata : List ℕ) → rtype ≡ 50 → (answer : Result Bool AllocError) → IfOk answer (λ yes. IsTrue yes ↔ ((nsec3 : Nsec3) × IsNsec3 rdata nsec3)) → IfOk answer (λ yes. IsTrue yes ↔ IsLaidOut rtype rdata)
-laid_out_nsec3 rtype rdata is answer decides =
-    IfOk-same answer decides
-    (λ read. record { ds = λ other. absurd (omega (arith, is, other)); rrsig = λ other. absurd (omega (arith, is, other)); nsec = λ other. absurd (omega (arith, is, other)); dnskey = λ other. absurd (omega (arith, is, other)); nsec3 = λ _. read })
-    (λ laid. laid.nsec3 is)
+pub laid_out_nsec3 : (rtype : ℕ) (rdata : List ℕ) → rtype ≡ 50 → (answer : Bool) → (IsTrue answer ↔ ((nsec3 : Nsec3) × IsNsec3 rdata nsec3)) → IsTrue answer ↔ IsLaidOut rtype rdata
+laid_out_nsec3 rtype rdata is answer decides = (
+  λ yes. record { ds = λ other. absurd (omega (arith, is, other)); rrsig = λ other. absurd (omega (arith, is, other)); nsec = λ other. absurd (omega (arith, is, other)); dnskey = λ other. absurd (omega (arith, is, other)); nsec3 = λ _. decides.0 yes },
+  λ laid. decides.1 (laid.nsec3 is),
+)

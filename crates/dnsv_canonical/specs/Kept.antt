@@ -1,23 +1,13 @@
 -- Steps of taking a message. No public clause cites this module.
-use Rattle.std.specs.Prelude.{◌≡◌, ℕ, ◌+◌, Bool, true, false, List, ⊤, Result, Ok, Err}
+use Rattle.std.specs.Prelude.{◌≡◌, ℕ, ◌+◌, List, ⊤}
 use Rattle.std.specs.List.{AllByRecursion}
-use Rattle.std.specs.declared.alloc.AllocError.{AllocError}
-use Rattle.std.specs.Allocator.{alloc_error}
 use Rattle.dnsv_message.specs.declared.record.Record.{Record}
-use Rattle.dnsv_records.specs.declared.error.RecordError.{RecordError}
-use Rattle.dnsv_records.specs.declared.error.RecordError.TheVariants as records
 use Rattle.dnsv_canonical.specs.declared.capture.CaptureError.{CaptureError}
 use Rattle.dnsv_canonical.specs.declared.capture.CaptureError.TheVariants.{OutOfMemory, BadRdata, Limit}
 use Rattle.dnsv_records.specs.declared.nsec3.Nsec3Parameters.{Nsec3Parameters}
 use Rattle.dnsv_canonical.specs.Evidence.{Evidence, AtMost, IsFirstBad, AreParameters, AreParametersAmong, IsWithinLimits, nsec3_rdata}
 use Rattle.dnsv_canonical.specs.Index.Grouping.{IsIndexOf}
 use Rattle.dnsv_canonical.specs.Rdata.{IsWellFormed}
-
--- whether something was read, unless memory ran out
-abbrev pub told : {T : Type 0} → Result T RecordError → Result Bool AllocError
-told (Ok value) = Ok true
-told (Err (records.BadRdata field)) = Ok false
-told (Err records.OutOfMemory) = Err alloc_error
 
 -- behind so many records, the error tells the first of these that can't be read
 abbrev pub IsBadAfter : ℕ → List Record → CaptureError → Type 0

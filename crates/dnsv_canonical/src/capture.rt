@@ -145,7 +145,7 @@ impl<'b> Capture<'b> {
     {
         check_whole(message)?;
         let sections = Sections::of(self.alloc, self.bump, message)?;
-        check_rdata(self.alloc, message, &sections)?;
+        check_rdata(message, &sections)?;
         let Some(records) = records_with(self.records, message) else {
             return Err(CaptureError::Limit);
         };

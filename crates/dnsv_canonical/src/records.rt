@@ -1,8 +1,6 @@
 //! The records of an RRset as they are read from their RDATA.
-ghost use Rattle.std.specs.Prelude.{◌≡◌, List, ℕ, IfOk, IfErr, map};
+ghost use Rattle.std.specs.Prelude.{◌≡◌, List, ℕ, IfOk, Ok, map};
 ghost use Rattle.std.specs.List.{AllByRecursion, AllZip};
-ghost use Rattle.dnsv_records.specs.declared.error.RecordError.{RecordError};
-ghost use Rattle.dnsv_records.specs.declared.error.RecordError.TheVariants.{OutOfMemory};
 ghost use Rattle.dnsv_canonical.specs.Rdata.{IsLaidOut};
 
 use dnsv_names::RecordType;
@@ -28,7 +26,7 @@ pub trait FromRdata<'b>: Drop + Sized {
     /// Reads RDATA that is such a record.
     fn from_rdata(rdata: &'b [u8]) -> Result<Self, RecordError>
         ensures found { IfOk result (is_read rdata.now) }
-        ensures fails { (value : Self) → is_read rdata.now value → IfErr result (λ error. error ≡ OutOfMemory) };
+        ensures every { (value : Self) → is_read rdata.now value → result ≡ Ok value };
 }
 
 impl<'b> FromRdata<'b> for Dnskey<'b> {
@@ -111,19 +109,18 @@ pub fn read_each<'b, T: FromRdata<'b>>(
 {
     let mut records = Vec::with_capacity(alloc, received.len())?;
     for rdata in received {
-        records.push(read_one(rdata)?)?;
+        records.push(read_one(rdata))?;
     }
     Ok(records)
 }
 
 /// Reads RDATA that is a record of the kind.
-fn read_one<'b, T: FromRdata<'b>>(rdata: &'b [u8]) -> Result<T, AllocError>
+fn read_one<'b, T: FromRdata<'b>>(rdata: &'b [u8]) -> T
     requires { (value : T) × T.is_read rdata.now value }
-    ensures { IfOk result (λ value. T.is_read rdata.now value) }
+    ensures { T.is_read rdata.now result }
 {
     match T::from_rdata(rdata) {
-        Ok(value) => Ok(value),
-        Err(RecordError::OutOfMemory) => Err(AllocError),
+        Ok(value) => value,
         Err(RecordError::BadRdata(_)) => unreachable!(),
     }
 }

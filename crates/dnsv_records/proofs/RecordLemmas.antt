@@ -1,5 +1,5 @@
 -- What readers of RDATA share.
-use Rattle.std.proofs.Common.{◌≡◌, ℕ, ◌+◌, ◌<◌, ◌≤◌, List, ◌∷◌, ◌++◌, length, get_or, take, drop, refl, sym, ap, ◌∙◌, inr, ⊎_elim, arith, Ok, Err, Result, Option, Some, subst}
+use Rattle.std.proofs.Common.{◌≡◌, ℕ, ◌+◌, ◌<◌, ◌≤◌, List, ◌∷◌, ◌++◌, length, get_or, take, drop, refl, sym, ap, ◌∙◌, arith, Ok, Err, Result, Option, Some, subst}
 use Rattle.std.proofs.lemmas.List.{take_at, drop_at, drop-drop, drop_more, take-append-drop}
 use Rattle.std.specs.Int.Digits.{AllBelowBase}
 use Rattle.dnsv_names.specs.Name.{Labels, IsName, wire}
@@ -9,14 +9,14 @@ use Rattle.dnsv_records.specs.OctetLaws.{take_part, length_part}
 use Rattle.dnsv_records.specs.declared.error.Field.{Field}
 use Rattle.dnsv_records.specs.declared.error.Field.TheVariants.{Head, Name, Salt, Hash, Bitmap as BitmapField}
 use Rattle.dnsv_records.specs.declared.error.RecordError.{RecordError}
-use Rattle.dnsv_records.specs.declared.error.RecordError.TheVariants.{OutOfMemory, BadRdata}
+use Rattle.dnsv_records.specs.declared.error.RecordError.TheVariants.{BadRdata}
 use Rattle.dnsv_records.specs.Bitmap.{IsBitmap, BitmapFault}
 use Rattle.dnsv_names.specs.Octets.{number_at}
 use Rattle.dnsv_records.specs.Layout.{BeginsWithName, IsCounted, BeginsWithCounted}
 use Rattle.dnsv_records.specs.Rrsig.{RrsigFault}
 use Rattle.dnsv_records.specs.Nsec.{NsecFault}
 use Rattle.dnsv_records.specs.Nsec3.{Nsec3Fault}
-use Rattle.dnsv_records.specs.Reading.{Gives, NamesFault}
+use Rattle.dnsv_records.specs.Reading.{NamesFault}
 
 -- a number of one octet
 pub number_at-one : (octets : List ℕ) (place : ℕ) → place < length octets → get_or octets place 0 ≡ number_at octets place 1
@@ -24,21 +24,11 @@ number_at-one octets place within = rw (drop_more octets place 0 within) (omega 
 
 -- what is at fault in a part is at fault in the whole
 pub bitmap_fault : (error : RecordError) (bits : List ℕ) (IsFault : Field → Type 0) → ((IsBitmap bits → ⊥) → IsFault BitmapField) → NamesFault error (BitmapFault bits) → NamesFault error IsFault
-bitmap_fault OutOfMemory bits IsFault bad fault = tt
 bitmap_fault (BadRdata Head) bits IsFault bad fault = absurd fault
 bitmap_fault (BadRdata Name) bits IsFault bad fault = absurd fault
 bitmap_fault (BadRdata Salt) bits IsFault bad fault = absurd fault
 bitmap_fault (BadRdata Hash) bits IsFault bad fault = absurd fault
 bitmap_fault (BadRdata BitmapField) bits IsFault bad fault = bad fault
-
--- an error that isn't owed to the part is want of memory
-pub Gives-err : {T U : Type 0} (error : RecordError) (part : T) (whole : U) → Gives {T = T} (Err error) part → Gives {T = U} (Err error) whole
-Gives-err error part whole given =
-    ⊎_elim (λ (no : Err error ≡ Ok part). cc) (λ (out : Err error ≡ Err OutOfMemory). let same : error ≡ OutOfMemory = cc in inr (ap Err same)) given
-
-pub Gives-ok : {T : Type 0} (answer value : T) → Gives (Ok answer) value → answer ≡ value
-Gives-ok answer value given =
-    ⊎_elim (λ (yes : Ok answer ≡ Ok value). cc) (λ (out : Ok answer ≡ Err OutOfMemory). cc) given
 
 -- the name at the front, and what is behind it
 pub behind_name : (octets rest : List ℕ) (found name : Labels) (n : ℕ) → ◌≡◌ {A = Option (Labels × ℕ)} (Some (found, n)) (Some (name, length (wire name))) → octets ≡ wire name ++ rest → (found ≡ name) × (drop n octets ≡ rest)

@@ -7,7 +7,7 @@ ghost use Rattle.std.specs.Coded.{coded_ℕ};
 ghost use Rattle.std.specs.FinSet as set;
 ghost use Rattle.dnsv_records.specs.Bitmap.{Types, Bitmap, BitmapFault};
 ghost use Rattle.dnsv_records.specs.Bitmap.Blocks.{types_of, AreBlocks};
-ghost use Rattle.dnsv_records.specs.Reading.{IsFirstFault, Gives};
+ghost use Rattle.dnsv_records.specs.Reading.{IsFirstFault};
 
 use crate::bitmap::blocks::{are_blocks, has_bit, window_bits};
 use crate::error::{Field, RecordError};
@@ -37,9 +37,8 @@ impl<'b> TypeBitmap<'b> {
     /// no octets or more than 32, ends with an octet 0, or its window is not above the one before.
     pub fn read(octets: &'b [u8]) -> Result<TypeBitmap<'b>, RecordError>
         ensures found { IfOk result (Bitmap octets.now) }
-        ensures every { (types : Types) → Bitmap octets.now types → Gives result types }
+        ensures every { (types : Types) → Bitmap octets.now types → result ≡ Ok types }
         ensures fault { IsFirstFault result (BitmapFault octets.now) }
-        // What is at fault is told, whether or not memory is left.
         ensures every_fault { (field : Field) → BitmapFault octets.now field
             → result ≡ Err (RecordError.BadRdata field) }
     {

@@ -36,14 +36,13 @@ pub struct Dnskey<'b> {
 impl<'b> Dnskey<'b> {
     ghost use Rattle.std.specs.Prelude.{◌<◌, ◌≡◌, ◌⊎◌, ◌↔◌, IfOk, length};
     ghost use Rattle.dnsv_records.specs.Dnskey.{IsDnskey, DnskeyFault};
-    ghost use Rattle.dnsv_records.specs.Reading.{IsFirstFault, Gives};
+    ghost use Rattle.dnsv_records.specs.Reading.{IsFirstFault};
 
     /// Reads a DNSKEY's RDATA. `BadRdata` names the head where fewer than 4 octets are there.
     pub fn read(rdata: &'b [u8]) -> Result<Dnskey<'b>, RecordError>
         ensures found { IfOk result (IsDnskey rdata.now) }
-        ensures every { (key : Dnskey) → IsDnskey rdata.now key → Gives result key }
+        ensures every { (key : Dnskey) → IsDnskey rdata.now key → result ≡ Ok key }
         ensures fault { IsFirstFault result (DnskeyFault rdata.now) }
-        // What is at fault is told, whether or not memory is left.
         ensures every_fault { (field : Field) → DnskeyFault rdata.now field
             → result ≡ Err (RecordError.BadRdata field) }
     {

@@ -19,14 +19,13 @@ pub struct Ds<'b> {
 impl<'b> Ds<'b> {
     ghost use Rattle.std.specs.Prelude.{◌≡◌, IfOk};
     ghost use Rattle.dnsv_records.specs.Ds.{IsDs, DsFault};
-    ghost use Rattle.dnsv_records.specs.Reading.{IsFirstFault, Gives};
+    ghost use Rattle.dnsv_records.specs.Reading.{IsFirstFault};
 
     /// Reads a DS's RDATA. `BadRdata` names the head where fewer than 4 octets are there.
     pub fn read(rdata: &'b [u8]) -> Result<Ds<'b>, RecordError>
         ensures found { IfOk result (IsDs rdata.now) }
-        ensures every { (ds : Ds) → IsDs rdata.now ds → Gives result ds }
+        ensures every { (ds : Ds) → IsDs rdata.now ds → result ≡ Ok ds }
         ensures fault { IsFirstFault result (DsFault rdata.now) }
-        // What is at fault is told, whether or not memory is left.
         ensures every_fault { (field : Field) → DsFault rdata.now field
             → result ≡ Err (RecordError.BadRdata field) }
     {

@@ -1,8 +1,4 @@
 //! Why RDATA isn't read.
-ghost use Rattle.std.specs.Prelude.{◌≡◌};
-ghost use Rattle.dnsv_records.specs.declared.error.RecordError.TheVariants.{OutOfMemory};
-
-use std::alloc::AllocError;
 use thiserror::Error;
 
 /// The fields of the records, from the left, that may be refused.
@@ -23,17 +19,7 @@ pub enum Field {
 /// Why octets are not a record's RDATA.
 #[derive(Debug, Drop, Error)]
 pub enum RecordError {
-    #[error("out of memory")]
-    OutOfMemory,
     /// The first field from the left that is not there or is wrong.
     #[error("bad RDATA: {0:?}")]
     BadRdata(Field),
-}
-
-impl From<AllocError> for RecordError {
-    ghost from_gives = { λ _ error. error ≡ OutOfMemory };
-
-    fn from(_error: AllocError) -> RecordError {
-        RecordError::OutOfMemory
-    }
 }

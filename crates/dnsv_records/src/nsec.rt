@@ -15,15 +15,14 @@ pub struct Nsec<'b> {
 impl<'b> Nsec<'b> {
     ghost use Rattle.std.specs.Prelude.{◌≡◌, IfOk};
     ghost use Rattle.dnsv_records.specs.Nsec.{IsNsec, NsecFault};
-    ghost use Rattle.dnsv_records.specs.Reading.{IsFirstFault, Gives};
+    ghost use Rattle.dnsv_records.specs.Reading.{IsFirstFault};
 
     /// Reads an NSEC's RDATA. `BadRdata` names the name where no uncompressed name is at the front,
     /// and the bitmap where what follows is none.
     pub fn read(rdata: &'b [u8]) -> Result<Nsec<'b>, RecordError>
         ensures found { IfOk result (IsNsec rdata.now) }
-        ensures every { (nsec : Nsec) → IsNsec rdata.now nsec → Gives result nsec }
+        ensures every { (nsec : Nsec) → IsNsec rdata.now nsec → result ≡ Ok nsec }
         ensures fault { IsFirstFault result (NsecFault rdata.now) }
-        // What is at fault is told, whether or not memory is left.
         ensures every_fault { (field : Field) → NsecFault rdata.now field
             → result ≡ Err (RecordError.BadRdata field) }
     {

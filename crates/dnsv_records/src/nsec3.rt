@@ -69,15 +69,14 @@ pub struct Nsec3<'b> {
 impl<'b> Nsec3<'b> {
     ghost use Rattle.std.specs.Prelude.{◌≡◌, IfOk, IsTrue, ◌↔◌, MatchOption};
     ghost use Rattle.dnsv_records.specs.Nsec3.{IsNsec3, Nsec3Fault, IsUsable, IsUsed};
-    ghost use Rattle.dnsv_records.specs.Reading.{IsFirstFault, Gives};
+    ghost use Rattle.dnsv_records.specs.Reading.{IsFirstFault};
 
     /// Reads an NSEC3's RDATA. `BadRdata` names the first of head, salt, hash and bitmap that is not
     /// there or is wrong. A hash of no octets is read too.
     pub fn read(rdata: &'b [u8]) -> Result<Nsec3<'b>, RecordError>
         ensures found { IfOk result (IsNsec3 rdata.now) }
-        ensures every { (nsec3 : Nsec3) → IsNsec3 rdata.now nsec3 → Gives result nsec3 }
+        ensures every { (nsec3 : Nsec3) → IsNsec3 rdata.now nsec3 → result ≡ Ok nsec3 }
         ensures fault { IsFirstFault result (Nsec3Fault rdata.now) }
-        // What is at fault is told, whether or not memory is left.
         ensures every_fault { (field : Field) → Nsec3Fault rdata.now field
             → result ≡ Err (RecordError.BadRdata field) }
     {

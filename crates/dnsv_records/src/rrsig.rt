@@ -30,15 +30,14 @@ pub struct Rrsig<'b> {
 impl<'b> Rrsig<'b> {
     ghost use Rattle.std.specs.Prelude.{◌≡◌, IfOk};
     ghost use Rattle.dnsv_records.specs.Rrsig.{IsRrsig, RrsigFault};
-    ghost use Rattle.dnsv_records.specs.Reading.{IsFirstFault, Gives};
+    ghost use Rattle.dnsv_records.specs.Reading.{IsFirstFault};
 
     /// Reads an RRSIG's RDATA. `BadRdata` names the head where fewer than 18 octets are there, and
     /// the name where no uncompressed name follows.
     pub fn read(rdata: &'b [u8]) -> Result<Rrsig<'b>, RecordError>
         ensures found { IfOk result (IsRrsig rdata.now) }
-        ensures every { (rrsig : Rrsig) → IsRrsig rdata.now rrsig → Gives result rrsig }
+        ensures every { (rrsig : Rrsig) → IsRrsig rdata.now rrsig → result ≡ Ok rrsig }
         ensures fault { IsFirstFault result (RrsigFault rdata.now) }
-        // What is at fault is told, whether or not memory is left.
         ensures every_fault { (field : Field) → RrsigFault rdata.now field
             → result ≡ Err (RecordError.BadRdata field) }
     {

@@ -46,11 +46,8 @@ pub fn types(row: &Row, from: usize, types: &TypeBitmap<'_>) -> Result<String, R
 
 /// The refusal, with the field that it names.
 pub fn refused(alloc: Global, error: &RecordError) -> Result<String, AllocError> {
-    let text = match error {
-        RecordError::OutOfMemory => "out of memory",
-        RecordError::BadRdata(field) => refused_field(*field),
-    };
-    String::from_str(alloc, text)
+    let RecordError::BadRdata(field) = error;
+    String::from_str(alloc, refused_field(*field))
 }
 
 fn refused_field(field: Field) -> &'static str {

@@ -7,5 +7,5 @@ read_one-requires g c = λ k. ((refl, tt), each_borrowed _ c.args.received.now c
 
 pub loop-rdata-preserved : goal.loop-rdata-preserved
 loop-rdata-preserved g c =
-    read_more g.T.FromRdata.is_read c.args.received.now c.loop-rdata.rdata-index (record { ref_ptr = (0, 0); now = [] }) c.loop-rdata.records.items c.push.new.self.items c.in_ok-read_one.field-0
-    c.loop-rdata-test.true c.loop-rdata.invariant c.in_ok-read_one.ensures c.in_ok-push.ensures.items
+    read_more g.T.FromRdata.is_read c.args.received.now c.loop-rdata.rdata-index (record { ref_ptr = (0, 0); now = [] }) c.loop-rdata.records.items c.push.new.self.items c.read_one.result
+    c.loop-rdata-test.true c.loop-rdata.invariant c.read_one.ensures c.in_ok-push.ensures.items

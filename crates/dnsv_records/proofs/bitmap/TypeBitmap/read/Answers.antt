@@ -1,4 +1,4 @@
-use Rattle.std.proofs.Common.{Ok, ap, inl, ◌∙◌}
+use Rattle.std.proofs.Common.{Ok, ap, ◌∙◌}
 use Rattle.dnsv_records.specs.Bitmap.Blocks.{types_of}
 use Rattle.dnsv_records.proofs.BitmapLemmas.{AreBlocks-Bitmap, Bitmap-types_of, types_of-Bitmap}
 use Rattle.dnsv_records.proofs.RecordLemmas.{no_bitmap_fault}
@@ -18,7 +18,7 @@ returns-clause-found c =
 
 pub returns-clause-every : goal.returns-clause-every
 returns-clause-every c = λ types spelled.
-    inl (ap Ok (types_of-Bitmap c.args.octets.now types spelled))
+    ap Ok (types_of-Bitmap c.args.octets.now types spelled)
 
 pub returns-clause-every_fault : goal.returns-clause-every_fault
 returns-clause-every_fault c = λ field bad.

@@ -1,19 +1,19 @@
-use Rattle.std.proofs.Common.{◌-◌, ◌++◌, Ok, length, take, drop, sym, ap, subst, inl, ◌∙◌}
+use Rattle.std.proofs.Common.{◌≡◌, ◌-◌, ◌++◌, Ok, length, take, drop, sym, ap, subst, ◌∙◌}
 use Rattle.std.proofs.lemmas.List.{take_rest, take-append-drop}
 use Rattle.std.proofs.lemmas.Result.{err_from_is_err_and}
 use Rattle.dnsv_names.specs.Name.{wire}
 use Rattle.dnsv_records.specs.declared.error.RecordError.TheVariants.{BadRdata}
 use Rattle.dnsv_records.specs.Bitmap.{Bitmap, BitmapFault}
-use Rattle.dnsv_records.proofs.RecordLemmas.{bitmap_fault, Gives-err, Gives-ok, behind_name, same_error, nsec_fault_behind}
+use Rattle.dnsv_records.proofs.RecordLemmas.{bitmap_fault, behind_name, same_error, nsec_fault_behind}
 use Rattle.dnsv_records.proofs.nsec.Nsec.read.Goals as goal
 
 pub returns-in_err-types-clause-every : goal.returns-in_err-types-clause-every
 returns-in_err-types-clause-every c = λ nsec is.
-    let p = err_from_is_err_and c.from_residual.result c.from_residual.ensures.1 in
     let rdata = c.args.rdata.now in
     let parts = behind_name rdata is.bits c.in-Some.next nsec.next c.in-Some.length (c.in-Some.ensures.every nsec.next is.bits is.name is.whole) is.whole in
     let spelled = subst (λ xs. Bitmap xs nsec.types) (sym (take_rest rdata c.in-Some.length ∙ parts.1)) is.bitmap in
-    rw (p.1, p.2) (Gives-err c.in_err-types.field-0.0 nsec.types nsec (c.in_err-types.ensures.every nsec.types spelled))
+    let none = c.in_err-types.ensures.every nsec.types spelled in
+    cc
 
 pub returns-in_err-types-clause-fault : goal.returns-in_err-types-clause-fault
 returns-in_err-types-clause-fault c =
@@ -35,8 +35,9 @@ returns-clause-every c = λ nsec is.
     let rdata = c.args.rdata.now in
     let parts = behind_name rdata is.bits c.in-Some.next nsec.next c.in-Some.length (c.in-Some.ensures.every nsec.next is.bits is.name is.whole) is.whole in
     let spelled = subst (λ xs. Bitmap xs nsec.types) (sym (take_rest rdata c.in-Some.length ∙ parts.1)) is.bitmap in
-    let types = Gives-ok c.in_ok-types.types nsec.types (c.in_ok-types.ensures.every nsec.types spelled) in
-    inl (λ i. Ok record { next = parts.0 i; types = types i })
+    let told = c.in_ok-types.ensures.every nsec.types spelled in
+    let types : c.in_ok-types.types ≡ nsec.types = cc in
+    λ i. Ok record { next = parts.0 i; types = types i }
 
 pub returns-in_err-types-clause-every_fault : goal.returns-in_err-types-clause-every_fault
 returns-in_err-types-clause-every_fault c = λ field bad.

@@ -1,4 +1,4 @@
-use Rattle.std.proofs.Common.{◌≡◌, ◌+◌, ◌++◌, Ok, take, drop, sym, ap, inl, ◌∙◌, arith}
+use Rattle.std.proofs.Common.{◌≡◌, ◌+◌, ◌++◌, Ok, take, drop, sym, ap, ◌∙◌, arith}
 use Rattle.std.proofs.lemmas.List.{take_rest, drop-drop}
 use Rattle.dnsv_names.specs.Name.{wire}
 use Rattle.dnsv_records.proofs.OneRecord.{same_rrsig}
@@ -35,9 +35,9 @@ returns-clause-every c = λ rrsig is.
     let signer : c.in-Some.signer ≡ rrsig.signer = parts.0 in
     let algorithm = number_at-one rdata 2 (omega arith) ∙ sym is.algorithm in
     let labels = number_at-one rdata 3 (omega arith) ∙ sym is.labels in
-    inl (ap Ok (same_rrsig _ rrsig (c.u16_at.ensures ∙ sym is.type_covered) algorithm labels
+    ap Ok (same_rrsig _ rrsig (c.u16_at.ensures ∙ sym is.type_covered) algorithm labels
     (c.u32_at.ensures ∙ sym is.original_ttl) (c.u32_at-2.ensures ∙ sym is.expiration) (c.u32_at-3.ensures ∙ sym is.inception)
-    (c.u16_at-2.ensures ∙ sym is.key_tag) signer signature))
+    (c.u16_at-2.ensures ∙ sym is.key_tag) signer signature)
 
 pub returns-clause-every_fault : goal.returns-clause-every_fault
 returns-clause-every_fault c = λ field bad.
