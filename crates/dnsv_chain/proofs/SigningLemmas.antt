@@ -13,7 +13,7 @@ use Rattle.dnsv_records.specs.Rrsig.{IsRrsig}
 use Rattle.dnsv_records.specs.declared.rrsig.Rrsig.{Rrsig}
 use Rattle.dnsv_canonical.specs.Rrsets.{ReceivedRrset}
 use Rattle.dnsv_canonical.specs.SignedData.{IsSignedData}
-use Rattle.dnsv_verifier.specs.Admissible.{DnskeyRecord, IsEntryOf, IsGood, IsVerifiable}
+use Rattle.dnsv_verifier.specs.Admissible.{DnskeyRecord, IsEntryOf, IsGood, IsVerifiable, entry_over}
 use Rattle.dnsv_verifier.specs.declared.answer.Answer.{Answer}
 use Rattle.dnsv_verifier.specs.declared.entry.Entry.{Entry}
 use Rattle.dnsv_chain.proofs.ZipLemmas.{zip_at, zip_length}
@@ -41,8 +41,7 @@ module _ (meaning : Entry → Answer) (moment : ℕ) (rrset : ReceivedRrset) (rr
       → ((key : DnskeyRecord) (a b : Entry) → IsEntryOf rrset rrsig key a → IsEntryOf rrset rrsig key b → a ≡ b)
       → IsValidBySome meaning rrsig octets keys ↔ IsGoodUnderSome meaning moment rrset rrsig keys
   good_if_valid octets verifiable signed one =
-      let entry_of : DnskeyRecord → Entry = λ key. record { algorithm = rrsig.algorithm; key = key.dnskey.key; signed_data = octets; signature = rrsig.signature } in
-      let entry_is : (key : DnskeyRecord) → IsEntryOf rrset rrsig key (entry_of key) = λ key. record { algorithm = refl; key_field = refl; signed_data = signed; signature = refl } in (
+      let entry_is : (key : DnskeyRecord) → IsEntryOf rrset rrsig key (entry_over rrsig octets key) = λ key. record { algorithm = refl; key_field = refl; signed_data = signed; signature = refl } in (
         λ some. record {
           key = some.key;
           among = some.among;
@@ -55,7 +54,7 @@ module _ (meaning : Entry → Answer) (moment : ℕ) (rrset : ReceivedRrset) (rr
               zone_key = some.valid.made.zone_key;
               named = some.valid.made.named;
             };
-            entry = entry_of some.key;
+            entry = entry_over rrsig octets some.key;
             is = entry_is some.key;
             valid = some.valid.valid;
           };
@@ -65,7 +64,7 @@ module _ (meaning : Entry → Answer) (moment : ℕ) (rrset : ReceivedRrset) (rr
           among = good.among;
           valid = record {
             made = record { zone_key = good.good.admissible.zone_key; named = good.good.admissible.named };
-            valid = ap meaning (one good.key (entry_of good.key) good.good.entry (entry_is good.key) good.good.is) ∙ good.good.valid;
+            valid = ap meaning (one good.key (entry_over rrsig octets good.key) good.good.entry (entry_is good.key) good.good.is) ∙ good.good.valid;
           };
         },
       )

@@ -5,7 +5,7 @@ use Rattle.dnsv_names.specs.Name.{Labels}
 use Rattle.dnsv_records.specs.Rrsig.{IsRrsig}
 use Rattle.dnsv_records.specs.declared.rrsig.Rrsig.{Rrsig}
 use Rattle.dnsv_canonical.specs.Rrsets.{IsNumbered, ReceivedRrset}
-use Rattle.dnsv_verifier.specs.Admissible.{DnskeyRecord, IsGood, MayHaveMade}
+use Rattle.dnsv_verifier.specs.Admissible.{DnskeyRecord, IsGood, MayHaveMade, entry_over}
 use Rattle.dnsv_verifier.specs.declared.answer.Answer.{Answer}
 use Rattle.dnsv_verifier.specs.declared.answer.Answer.TheVariants.{Valid}
 use Rattle.dnsv_verifier.specs.declared.entry.Entry.{Entry}
@@ -20,12 +20,7 @@ pub record MayHaveMadeOne (keys : List DnskeyRecord) (rrsig : Rrsig) : Type 0 wh
 -- the key may have made the signature, and the verifier says Valid of it over the octets
 pub record IsValidBy (meaning : Entry → Answer) (rrsig : Rrsig) (octets : List ℕ) (key : DnskeyRecord) : Type 0 where
   pub made : MayHaveMade key rrsig
-  pub valid : meaning (record {
-    algorithm = rrsig.algorithm;
-    key = key.dnskey.key;
-    signed_data = octets;
-    signature = rrsig.signature;
-  }) ≡ Valid
+  pub valid : meaning (entry_over rrsig octets key) ≡ Valid
 
 -- so it is with one of the keys
 pub record IsValidBySome (meaning : Entry → Answer) (rrsig : Rrsig) (octets : List ℕ) (keys : List DnskeyRecord)

@@ -3,6 +3,7 @@
 pub mod good;
 
 ghost use Rattle.std.specs.Prelude.{◌↔◌, ◌≡◌, IfOk, IsTrue};
+ghost use Rattle.dnsv_verifier.specs.Admissible.{entry_over};
 ghost use Rattle.dnsv_verifier.specs.Table.{table_answer};
 ghost use Rattle.dnsv_chain.specs.ByOwner.{values_at};
 ghost use Rattle.dnsv_chain.specs.Signing.{AreGoodNumbers, IsGoodUnderSome, IsSignedUnderSome, IsValidBy, IsValidBySome, MayHaveMadeOne};
@@ -115,12 +116,7 @@ pub(crate) fn is_valid(
 
 /// Whether the table says Valid of the signature over the octets under the key.
 fn says_valid(table: &Table<'_>, rrsig: &Rrsig<'_>, octets: &[u8], key: &KeyRecord<'_>) -> bool
-    ensures { IsTrue result ↔ (table_answer table.now (record {
-      algorithm = rrsig.now.algorithm;
-      key = key.now.dnskey.key;
-      signed_data = octets.now;
-      signature = rrsig.now.signature;
-    }) ≡ Answer.Valid) }
+    ensures { IsTrue result ↔ (table_answer table.now (entry_over rrsig.now octets.now key.now) ≡ Answer.Valid) }
 {
     table.answer(&entry_over(rrsig, octets, key)) == Answer::Valid
 }

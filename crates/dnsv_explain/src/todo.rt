@@ -1,6 +1,6 @@
 //! Numbers of what is asked of a verifier.
 ghost use Rattle.std.specs.Prelude.{◌↔◌, ◌≡◌, IfOk, IsTrue};
-ghost use Rattle.dnsv_verifier.specs.Admissible.{IsEntryOf};
+ghost use Rattle.dnsv_verifier.specs.Admissible.{IsEntryOf, entry_over};
 ghost use Rattle.dnsv_verifier.specs.declared.entry.Entry.{Entry};
 ghost use Rattle.dnsv_explain.specs.Explained.{IsTodo};
 
@@ -33,12 +33,7 @@ fn number_of(
     octets: &[u8],
     key: &KeyRecord<'_>,
 ) -> Option<usize>
-    ensures { IsTodo entries.now (record {
-      algorithm = rrsig.now.algorithm;
-      key = key.now.dnskey.key;
-      signed_data = octets.now;
-      signature = rrsig.now.signature;
-    }) result }
+    ensures { IsTodo entries.now (entry_over rrsig.now octets.now key.now) result }
 {
     for place in 0..entries.len() {
         if is_entry(&entries.at(place), rrsig, octets, key) {

@@ -97,6 +97,15 @@ pub record IsEntryOf (rrset : ReceivedRrset) (rrsig : Rrsig) (key : DnskeyRecord
   pub signed_data : IsSignedData rrset.owner rrset.rtype rrset.rdata rrsig (Some entry.signed_data)
   pub signature : entry.signature ≡ rrsig.signature
 
+-- what a verifier is asked of the signature over the octets, under the key
+abbrev pub entry_over : Rrsig → List ℕ → DnskeyRecord → Entry
+entry_over rrsig octets key = record {
+  algorithm = rrsig.algorithm;
+  key = key.dnskey.key;
+  signed_data = octets;
+  signature = rrsig.signature;
+}
+
 -- the signature of the RRset is good under the key: the key may be used, and the verifier says Valid
 pub record IsGood (meaning : Entry → Answer) (moment : ℕ) (rrset : ReceivedRrset) (rrsig : Rrsig) (key : DnskeyRecord)
     : Type 0 where

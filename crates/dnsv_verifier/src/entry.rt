@@ -7,6 +7,7 @@ ghost use Rattle.std.specs.Prelude.{◌≡◌, refl};
 ghost use Rattle.std.specs.Cmp.{partial_equiv_from_equiv, partial_order_from_agreeing_total};
 ghost use Rattle.std.specs.Ordering.{as_partial_cmp, eq_by_cmp};
 ghost use Rattle.std.proofs.lemmas.Cmp.{eq_by_cmp_equiv};
+ghost use Rattle.dnsv_verifier.specs.Admissible.{entry_over};
 ghost use Rattle.dnsv_verifier.specs.Entry.{entry_cmp};
 
 use crate::key::KeyRecord;
@@ -47,12 +48,7 @@ impl Entry<'_> {
 
 /// What a verifier is asked about the signature over the octets under the key.
 pub fn entry_over<'a>(rrsig: &'a Rrsig<'a>, octets: &'a [u8], key: &'a KeyRecord<'a>) -> Entry<'a>
-    ensures { result ≡ record {
-      algorithm = rrsig.now.algorithm;
-      key = key.now.dnskey.key;
-      signed_data = octets.now;
-      signature = rrsig.now.signature;
-    } }
+    ensures { result ≡ entry_over rrsig.now octets.now key.now }
 {
     Entry {
         algorithm: rrsig.algorithm,

@@ -3,7 +3,7 @@ use Rattle.std.proofs.Common.{◌≡◌, ◌↔◌, ℕ, List, Some, None, refl,
 use Rattle.dnsv_records.specs.declared.rrsig.Rrsig.{Rrsig}
 use Rattle.dnsv_canonical.specs.Rrsets.{ReceivedRrset}
 use Rattle.dnsv_canonical.specs.SignedData.{IsSignedData}
-use Rattle.dnsv_verifier.specs.Admissible.{DnskeyRecord, IsAdmissible, IsEntryOf, IsGood}
+use Rattle.dnsv_verifier.specs.Admissible.{DnskeyRecord, IsAdmissible, IsEntryOf, IsGood, entry_over}
 use Rattle.dnsv_verifier.specs.declared.answer.Answer.{Answer}
 use Rattle.dnsv_verifier.specs.declared.entry.Entry.{Entry}
 use Rattle.dnsv_chain.specs.Signing.{IsValidBy}
@@ -22,7 +22,7 @@ module _ (meaning : Entry → Answer) (moment : ℕ) (rrset : ReceivedRrset) (rr
       → ((a b : Entry) → IsEntryOf rrset rrsig key a → IsEntryOf rrset rrsig key b → a ≡ b)
       → IsValidBy meaning rrsig octets key ↔ IsGood meaning moment rrset rrsig key
   good_if_valid octets admissible signed one =
-      let entry : Entry = record { algorithm = rrsig.algorithm; key = key.dnskey.key; signed_data = octets; signature = rrsig.signature } in
+      let entry : Entry = entry_over rrsig octets key in
       let is : IsEntryOf rrset rrsig key entry = record { algorithm = refl; key_field = refl; signed_data = signed; signature = refl } in (
         λ by. record { admissible = admissible; entry = entry; is = is; valid = by.valid },
         λ good. record {

@@ -7,15 +7,10 @@ use Rattle.dnsv_canonical.proofs.SignedLemmas.{signed_data_unique}
 use Rattle.dnsv_canonical.specs.Rrsets.{IsNumbered, ReceivedRrset}
 use Rattle.dnsv_canonical.specs.SignedData.{IsSignedData}
 use Rattle.dnsv_verifier.proofs.EntryLemmas.{one_entry}
-use Rattle.dnsv_verifier.specs.Admissible.{DnskeyRecord, IsEntryOf}
+use Rattle.dnsv_verifier.specs.Admissible.{DnskeyRecord, IsEntryOf, entry_over}
 use Rattle.dnsv_verifier.specs.declared.entry.Entry.{Entry}
 use Rattle.dnsv_explain.specs.Explained.{IsTodo}
 use Rattle.dnsv_explain.proofs.lemmas.NumberedLemmas.{numbered_at}
-
--- the entry of the signature over the octets under the key
-abbrev pub entry_over : Rrsig → DnskeyRecord → List ℕ → Entry
-entry_over rrsig key octets =
-    record { algorithm = rrsig.algorithm; key = key.dnskey.key; signed_data = octets; signature = rrsig.signature }
 
 module _ (rrset : ReceivedRrset) (rrsig : Rrsig) (key : DnskeyRecord) where
   -- what signs nothing has no entry
@@ -26,12 +21,12 @@ module _ (rrset : ReceivedRrset) (rrsig : Rrsig) (key : DnskeyRecord) where
 
   pub its_number : (entries : List Entry) (octets : List ℕ) (number : Option ℕ)
       → IsSignedData rrset.owner rrset.rtype rrset.rdata rrsig (Some octets)
-      → IsTodo entries (entry_over rrsig key octets) number → (entry : Entry) → IsEntryOf rrset rrsig key entry → IsTodo entries entry number
+      → IsTodo entries (entry_over rrsig octets key) number → (entry : Entry) → IsEntryOf rrset rrsig key entry → IsTodo entries entry number
   its_number entries octets number signed todo entry is =
       let Of : Entry → Type 0 = λ each. IsTodo entries each number in
-      let over : IsEntryOf rrset rrsig key (entry_over rrsig key octets) =
+      let over : IsEntryOf rrset rrsig key (entry_over rrsig octets key) =
       record { algorithm = refl; key_field = refl; signed_data = signed; signature = refl } in
-      subst Of (one_entry rrset rrsig key (entry_over rrsig key octets) entry over is) todo
+      subst Of (one_entry rrset rrsig key (entry_over rrsig octets key) entry over is) todo
 
 -- ---- one after another
 
@@ -62,7 +57,7 @@ module _ (entries : List Entry) (wanted : Entry) where
 -- the entry by its four values
 pub entry_is : (found : Entry) (rrsig : Rrsig) (key : DnskeyRecord) (octets : List ℕ)
     → (found.algorithm.0 ≡ rrsig.algorithm.0) × (found.key ≡ key.dnskey.key) × (found.signed_data ≡ octets) × (found.signature ≡ rrsig.signature)
-    → found ≡ entry_over rrsig key octets
+    → found ≡ entry_over rrsig octets key
 entry_is found rrsig key octets same = λ i. record {
   algorithm = record { 0 = same.0 i };
   key = same.1 i;
@@ -70,7 +65,7 @@ entry_is found rrsig key octets same = λ i. record {
   signature = same.3 i;
 }
 
-pub entry_parts : (found : Entry) (rrsig : Rrsig) (key : DnskeyRecord) (octets : List ℕ) → found ≡ entry_over rrsig key octets
+pub entry_parts : (found : Entry) (rrsig : Rrsig) (key : DnskeyRecord) (octets : List ℕ) → found ≡ entry_over rrsig octets key
     → (found.algorithm.0 ≡ rrsig.algorithm.0) × (found.key ≡ key.dnskey.key) × (found.signed_data ≡ octets) × (found.signature ≡ rrsig.signature)
 entry_parts found rrsig key octets is = (
   ap (λ (each : Entry). each.algorithm.0) is,

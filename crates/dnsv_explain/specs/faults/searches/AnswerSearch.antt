@@ -1,19 +1,10 @@
 -- How the best answer to a signature is looked for. No public clause cites this module.
 use Rattle.std.specs.Prelude.{◌≡◌, ℕ, List, Option, Some, None, Contains}
 use Rattle.dnsv_records.specs.declared.rrsig.Rrsig.{Rrsig}
-use Rattle.dnsv_verifier.specs.Admissible.{DnskeyRecord, MayHaveMade}
+use Rattle.dnsv_verifier.specs.Admissible.{DnskeyRecord, MayHaveMade, entry_over}
 use Rattle.dnsv_verifier.specs.declared.answer.Answer.{Answer}
 use Rattle.dnsv_verifier.specs.declared.answer.Answer.TheVariants.{Valid, Invalid, Unknown}
 use Rattle.dnsv_verifier.specs.declared.entry.Entry.{Entry}
-
--- what is asked of the signature over the octets, under the key
-abbrev pub entry_over : Rrsig → List ℕ → DnskeyRecord → Entry
-entry_over rrsig octets key = record {
-  algorithm = rrsig.algorithm;
-  key = key.dnskey.key;
-  signed_data = octets;
-  signature = rrsig.signature;
-}
 
 -- the key may have made the signature, and the answer over the octets is this one
 pub record IsAnsweredBy

@@ -3,12 +3,12 @@ use Rattle.std.proofs.Common.{◌≡◌, ◌↔◌, ℕ, List, Option, Some, Non
 use Rattle.dnsv_records.specs.declared.rrsig.Rrsig.{Rrsig}
 use Rattle.dnsv_canonical.specs.Rrsets.{ReceivedRrset}
 use Rattle.dnsv_canonical.specs.SignedData.{IsSignedData}
-use Rattle.dnsv_verifier.specs.Admissible.{DnskeyRecord, IsEntryOf, IsVerifiable}
+use Rattle.dnsv_verifier.specs.Admissible.{DnskeyRecord, IsEntryOf, IsVerifiable, entry_over}
 use Rattle.dnsv_verifier.specs.declared.answer.Answer.{Answer}
 use Rattle.dnsv_verifier.specs.declared.answer.Answer.TheVariants.{Valid, Invalid, Unknown}
 use Rattle.dnsv_verifier.specs.declared.entry.Entry.{Entry}
 use Rattle.dnsv_explain.specs.Explained.{Setting}
-use Rattle.dnsv_explain.specs.faults.searches.AnswerSearch.{IsAnsweredBySome, IsBestOf, entry_over}
+use Rattle.dnsv_explain.specs.faults.searches.AnswerSearch.{IsAnsweredBySome, IsBestOf}
 use Rattle.dnsv_explain.specs.faults.searches.KeySearch.{IsNamedIn}
 use Rattle.dnsv_explain.specs.faults.SignatureFaults.{IsAnswered}
 

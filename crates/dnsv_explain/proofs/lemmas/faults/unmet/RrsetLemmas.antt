@@ -13,7 +13,7 @@ use Rattle.dnsv_canonical.specs.CanonicalRdata.{canonical_form}
 use Rattle.dnsv_canonical.specs.Rdata.{IsSignatureOver, IsWellFormed}
 use Rattle.dnsv_canonical.specs.Rrsets.{IsNumbered, ReceivedRrset}
 use Rattle.dnsv_canonical.specs.SignedData.{signed_front, signed_label_count, signed_owner, signed_record}
-use Rattle.dnsv_verifier.specs.Admissible.{DnskeyRecord, IsAdmissible, IsGoodAmong, MaySign}
+use Rattle.dnsv_verifier.specs.Admissible.{DnskeyRecord, IsAdmissible, IsGoodAmong, MaySign, entry_over}
 use Rattle.dnsv_verifier.specs.declared.answer.Answer.{Answer}
 use Rattle.dnsv_verifier.specs.declared.answer.Answer.TheVariants.{Valid, Invalid, Unknown}
 use Rattle.dnsv_verifier.specs.declared.entry.Entry.{Entry}
@@ -22,7 +22,6 @@ use Rattle.dnsv_explain.specs.Explained.{Setting}
 use Rattle.dnsv_explain.specs.Following.{IsNamed}
 use Rattle.dnsv_explain.specs.derivations.SignerSearch.{IsSignatureAt}
 use Rattle.dnsv_explain.specs.derivations.Ways.{HasSecured}
-use Rattle.dnsv_explain.specs.faults.searches.AnswerSearch.{entry_over}
 use Rattle.dnsv_explain.specs.faults.Keys.{HasKeys, IsNamedBy, IsTrustedZone, IsZoneKey, named_by}
 use Rattle.dnsv_explain.specs.faults.RrsetLines.{AreFaults, AreLinesAt, AreRrsetLines, AreSignatureLines, IsOfAnswers, IsRemark, IsTrueOf, fault_line, follows_line, shown_of}
 use Rattle.dnsv_explain.specs.faults.RrsetLines.AreRrsetLines.{secured, unsigned, unproved}
