@@ -34,8 +34,8 @@ pub struct Signature<'a> {
 }
 
 impl<'a> Signature<'a> {
-    /// The one TSIG record of a message, whose RDATA is that of the last record, where it is one. `NoTsig` where it has none, and `Form`
-    /// where it has several, or the one isn't formed as it has to be.
+    /// The one TSIG record of a message, whose RDATA is that of the last record, where it is one. `NoTsig` where it has
+    /// none, and `Form` where it has several, or the one isn't formed as it has to be.
     pub fn of(
         message: &'a Message<'_>,
         rdata: &'a RdataOctets<'_>,

@@ -88,7 +88,8 @@ pub fn validate<'a, V: Verifier>(
     ensures meaning { IfOk result (λ report. IsTrueOfZones
         (IsSecured (V.meaning verifier.now) moment capture.now.rrsets anchors.now) capture.now.rrsets report.last
         rtype.0 report.verdict) }
-    // Each alias is its name's own, or each zone that has the records of its proof in its chain has it from the wildcard.
+    // Each alias is its name's own, or each zone that has the records of its proof in its chain has it from the
+    // wildcard.
     ensures aliases { IfOk result (λ report. AreOwnOrFromWildcards
         (IsSecured (V.meaning verifier.now) moment capture.now.rrsets anchors.now) capture.now.rrsets report.links) }
     // Where nothing answers, what the zone of a whole chain denies is told.
