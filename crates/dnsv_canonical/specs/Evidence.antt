@@ -101,9 +101,10 @@ IsEvidence held message =
 
 -- ---- what is refused
 
--- why the message isn't taken besides what is held; each reason leaves out those before it
+-- why the message isn't taken besides what is held; each reason leaves out those before it, and memory can be wanting
+-- only for a response that wasn't cut to fit
 abbrev pub IsReasonAgainst : Evidence → Contents → CaptureError → Type 0
-IsReasonAgainst held message OutOfMemory = ⊤
+IsReasonAgainst held message OutOfMemory = IsWhole message
 IsReasonAgainst held message NotAResponse = ¬ HasQR message.flags
 IsReasonAgainst held message Truncated = HasQR message.flags × HasTC message.flags
 IsReasonAgainst held message (BadRdata k) = IsWhole message × IsFirstBad (records_of message) k

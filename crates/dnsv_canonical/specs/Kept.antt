@@ -11,7 +11,6 @@ use Rattle.dnsv_canonical.specs.Rdata.{IsWellFormed}
 
 -- behind so many records, the error tells the first of these that can't be read
 abbrev pub IsBadAfter : ℕ → List Record → CaptureError → Type 0
-IsBadAfter earlier records OutOfMemory = ⊤
 IsBadAfter earlier records (BadRdata k) = (place : ℕ) × IsFirstBad records place × (k ≡ earlier + place)
 IsBadAfter earlier records _ = ⊥
 

@@ -17,7 +17,7 @@ use Rattle.dnsv_canonical.proofs.capture.Capture.add.Goals as goal
 -- why the pairs aren't all, as a refusal of the message
 pairs_refusal : (held : Evidence) (message : Contents) (received : List (List ℕ)) (error : CaptureError) → IsWhole message → AllByRecursion IsReadable (records_of message)
     → (¬ AtMost 8 (AreParametersAmong received) → ¬ IsWithinLimits (with_message held message)) → IsParametersRefusal received error → IsReasonAgainst held message error
-pairs_refusal held message received OutOfMemory whole readable above refused = tt
+pairs_refusal held message received OutOfMemory whole readable above refused = whole
 pairs_refusal held message received NotAResponse whole readable above refused = absurd refused
 pairs_refusal held message received Truncated whole readable above refused = absurd refused
 pairs_refusal held message received (BadRdata k) whole readable above refused = absurd refused
