@@ -32,7 +32,8 @@ impl PartName {
 
     /// The name, for a question of `name`; the question's where that has too few labels.
     pub fn of(self, name: &Name) -> Name
-        ensures { IsPartName (length name.now) self → result ≡ part_name name.now self }
+        ensures value { IsPartName (length name.now) self → result ≡ part_name name.now self }
+        ensures few { ¬ IsPartName (length name.now) self → result ≡ name.now }
     {
         match self {
             PartName::ClosestEncloser(labels) => above(name, labels),
@@ -44,16 +45,18 @@ impl PartName {
     }
 }
 
-/// So many of the name's rightmost labels.
+/// So many of the name's rightmost labels, or all that it has.
 fn above(name: &Name, labels: usize) -> Name
-    ensures { labels ≤ length name.now → result ≡ rightmost name.now labels }
+    ensures value { labels ≤ length name.now → result ≡ rightmost name.now labels }
+    ensures few { ¬ labels ≤ length name.now → result ≡ name.now }
 {
     name.suffix(labels.min(name.labels()))
 }
 
-/// The next closer name to so many of the name's rightmost labels.
+/// The next closer name to so many of the name's rightmost labels; the name itself where it has no more.
 fn closer(name: &Name, labels: usize) -> Name
-    ensures { labels < length name.now → result ≡ rightmost name.now (labels + 1) }
+    ensures value { labels < length name.now → result ≡ rightmost name.now (labels + 1) }
+    ensures few { ¬ labels < length name.now → result ≡ name.now }
 {
     if labels < name.labels() {
         return next_closer(name, labels);
@@ -61,9 +64,10 @@ fn closer(name: &Name, labels: usize) -> Name
     above(name, labels)
 }
 
-/// The wildcard right below so many of the name's rightmost labels.
+/// The wildcard right below so many of the name's rightmost labels; the name itself where it has no more.
 fn wildcard(name: &Name, labels: usize) -> Name
-    ensures { labels < length name.now → result ≡ wildcard_of (rightmost name.now labels) }
+    ensures value { labels < length name.now → result ≡ wildcard_of (rightmost name.now labels) }
+    ensures few { ¬ labels < length name.now → result ≡ name.now }
 {
     if labels < name.labels() {
         return name.source_of_synthesis(labels);

@@ -15,7 +15,7 @@ add_unsigned-requires c =
     let Shown : ShownCut → Type 0 = λ cut. IsCutShown setting c.args.name.now cut in
     let At : Labels → Type 0 = λ at. IsShownUnsigned setting c.args.name.now c.in-NoDs.shown case.UnsignedDelegation at in
     let is = subst Shown c.in-NoDs.is (cut_shown setting c.args.name.now c.args.cut.now c.requires) in
-    subst At (sym (c.of-at.ensures is.0)) is.1
+    subst At (sym (c.of-at.ensures.value is.0)) is.1
 
 pub add_unusable-requires : goal.add_unusable-requires
 add_unusable-requires c =
@@ -23,7 +23,7 @@ add_unusable-requires c =
     let Shown : ShownCut → Type 0 = λ cut. IsCutShown setting c.args.name.now cut in
     let At : Labels → Type 0 = λ at. (k : ℕ) × IsUnusableSet setting at k in
     let is = subst Shown c.in-NoUsableDs.is (cut_shown setting c.args.name.now c.args.cut.now c.requires) in
-    subst At (sym (c.of-at-in-NoUsableDs.ensures is.0)) (is.1, is.2)
+    subst At (sym (c.of-at-in-NoUsableDs.ensures.value is.0)) (is.1, is.2)
 
 pub add_unsigned-requires-in-OptOut : goal.add_unsigned-requires-in-OptOut
 add_unsigned-requires-in-OptOut c =
@@ -31,7 +31,7 @@ add_unsigned-requires-in-OptOut c =
     let Shown : ShownCut → Type 0 = λ cut. IsCutShown setting c.args.name.now cut in
     let At : Labels → Type 0 = λ at. IsShownUnsigned setting c.args.name.now c.in-OptOut.shown case.OptOut at in
     let is = subst Shown c.in-OptOut.is (cut_shown setting c.args.name.now c.args.cut.now c.requires) in
-    subst At (sym (c.of-at-in-OptOut.ensures is.0)) is.1
+    subst At (sym (c.of-at-in-OptOut.ensures.value is.0)) is.1
 
 pub returns-in_ok-add_unsigned-in-NoDs : goal.returns-in_ok-add_unsigned-in-NoDs
 returns-in_ok-add_unsigned-in-NoDs c =
@@ -42,7 +42,7 @@ returns-in_ok-add_unsigned-in-NoDs c =
     c.args.lines.now.items c.add_unsigned.new.lines.items in
     let Told : ShownCut → Type 0 = λ cut. Adds (IsCutTold setting c.args.name.now cut) c.args.lines.now.items
     c.add_unsigned.new.lines.items in
-    subst Told (sym c.in-NoDs.is) (subst At (c.of-at.ensures is.0) c.in_ok-add_unsigned-in-NoDs.ensures)
+    subst Told (sym c.in-NoDs.is) (subst At (c.of-at.ensures.value is.0) c.in_ok-add_unsigned-in-NoDs.ensures)
 
 pub returns-in_ok-add_unusable-in-NoUsableDs : goal.returns-in_ok-add_unusable-in-NoUsableDs
 returns-in_ok-add_unusable-in-NoUsableDs c =
@@ -52,7 +52,7 @@ returns-in_ok-add_unusable-in-NoUsableDs c =
     let At : Labels → Type 0 = λ at. Adds (IsUnusableTold setting at) c.args.lines.now.items c.add_unusable.new.lines.items in
     let Told : ShownCut → Type 0 = λ cut. Adds (IsCutTold setting c.args.name.now cut) c.args.lines.now.items
     c.add_unusable.new.lines.items in
-    subst Told (sym c.in-NoUsableDs.is) (subst At (c.of-at-in-NoUsableDs.ensures is.0) c.in_ok-add_unusable-in-NoUsableDs.ensures)
+    subst Told (sym c.in-NoUsableDs.is) (subst At (c.of-at-in-NoUsableDs.ensures.value is.0) c.in_ok-add_unusable-in-NoUsableDs.ensures)
 
 pub returns-in_ok-add_unsigned-in-OptOut : goal.returns-in_ok-add_unsigned-in-OptOut
 returns-in_ok-add_unsigned-in-OptOut c =
@@ -63,4 +63,4 @@ returns-in_ok-add_unsigned-in-OptOut c =
     c.args.lines.now.items c.add_unsigned-in-OptOut.new.lines.items in
     let Told : ShownCut → Type 0 = λ cut. Adds (IsCutTold setting c.args.name.now cut) c.args.lines.now.items
     c.add_unsigned-in-OptOut.new.lines.items in
-    subst Told (sym c.in-OptOut.is) (subst At (c.of-at-in-OptOut.ensures is.0) c.in_ok-add_unsigned-in-OptOut.ensures)
+    subst Told (sym c.in-OptOut.is) (subst At (c.of-at-in-OptOut.ensures.value is.0) c.in_ok-add_unsigned-in-OptOut.ensures)

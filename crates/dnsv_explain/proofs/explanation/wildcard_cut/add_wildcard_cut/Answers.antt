@@ -36,7 +36,7 @@ add_unsigned-requires c =
     open_shown c.args.at.now.grounds.now c.args.evidence.now c.requires.at.evidence c.requires.at.trust c.args.view.now
     c.args.at.now.name.now c.requires.view c.args.rtype.0
     found.rrset found.signature c.in-Some.ensures.0 found.rrsig.now c.in-Some.ensures.1 shown (rw c.to_name.ensures at c.in-Some-shown_loose_closer.ensures) in
-    subst At (sym (c.of-cut.ensures is.0)) is.1
+    subst At (sym (c.of-cut.ensures.value is.0)) is.1
 
 pub returns : goal.returns
 returns c =
@@ -49,5 +49,5 @@ returns c =
     open_added c.args.at.now.grounds.now c.args.evidence.now c.requires.at.evidence c.requires.at.trust c.args.view.now
     c.args.at.now.name.now c.requires.view c.args.rtype.0
     found.rrset found.signature c.in-Some.ensures.0 found.rrsig.now c.in-Some.ensures.1 shown c.of-cut.result c.args.lines.now.items _ _
-    (rw c.to_name.ensures at c.in-Some-shown_loose_closer.ensures) c.requires.none (c.of-cut.ensures is.0) c.in_ok-add_derivation.ensures
+    (rw c.to_name.ensures at c.in-Some-shown_loose_closer.ensures) c.requires.none (c.of-cut.ensures.value is.0) c.in_ok-add_derivation.ensures
     c.in_ok-add_unsigned.ensures
