@@ -22,9 +22,9 @@ pub struct Link {
 
 /// A link that stands for none, at the root.
 impl Default for Link {
-    ghost use Rattle.std.specs.Prelude.{⊤};
+    ghost use Rattle.std.specs.Prelude.{◌≡◌, []};
 
-    ghost is_default = { λ _. ⊤ };
+    ghost is_default = { λ link. link ≡ record { name = []; rrset = 0; signature = 0 } };
 
     fn default() -> Link {
         Link {
@@ -36,7 +36,9 @@ impl Default for Link {
 }
 
 /// The name of no labels.
-fn root() -> Name {
+fn root() -> Name
+    ensures { result ≡ [] }
+{
     let Some((root, _length)) = Name::read(&[0]) else {
         unreachable!();
     };

@@ -1,5 +1,5 @@
 //! What is kept of a way beside the verdict at its end.
-ghost use Rattle.std.specs.Prelude.{◌≡◌, OnOk};
+ghost use Rattle.std.specs.Prelude.{◌≡◌, IsFalse, Ok, OnOk};
 ghost use Rattle.dnsv_verdict.specs.Trail.{AddsHashes, IsEmpty, SetsHope};
 
 use crate::grounds::Hope;
@@ -32,7 +32,9 @@ impl<'a> Trail<'a> {
 
     /// Adds the hashes for one name more, if they are kept.
     pub fn add(&mut self, hashes: Hashes<'a>) -> Result<(), AllocError>
-        ensures { OnOk result (AddsHashes hashes.entry self.old self.new) }
+        ensures added { OnOk result (AddsHashes hashes.entry self.old self.new) }
+        // Nothing fails where nothing is kept.
+        ensures unkept { IsFalse self.old.keeps → result ≡ Ok tt }
     {
         if !self.keeps {
             return Ok(());
