@@ -2,6 +2,7 @@
 use Rattle.std.specs.Prelude.{◌≡◌, ◌≢◌, ◌⊎◌, ◌+◌, ◌<◌, ℕ, List, [], Option, Some, None}
 use Rattle.dnsv_names.specs.Name.{Labels, SameName, rightmost}
 use Rattle.dnsv_names.specs.Order.{IsBelow}
+use Rattle.dnsv_names.specs.declared.number.RecordType.{RecordType}
 use Rattle.dnsv_records.specs.Nsec3.{IsNsec3}
 use Rattle.dnsv_records.specs.Rrsig.{IsRrsig}
 use Rattle.dnsv_records.specs.declared.nsec3.Nsec3.{Nsec3}
@@ -104,8 +105,8 @@ pub record IsTrueOfCloser (setting : Setting) (name : Labels) (closer : CloserNa
 
 -- ---- of denials
 
--- the RRset is one of DNAME at the name, which is above the question's; or the record is at the name in some source, and
--- holds DNAME
+-- the name is above the question's; and the RRset is one of DNAME at the name, or the record is at the name in some
+-- source, and holds DNAME
 abbrev pub IsTrueOfDname : Setting → Labels → DnameAbove → Option ℕ → Type 0
 IsTrueOfDname setting name above None =
     (rrset : ReceivedRrset) × IsNumbered setting.rrsets above.rrset rrset × SameName rrset.owner above.name
@@ -113,6 +114,7 @@ IsTrueOfDname setting name above None =
 IsTrueOfDname setting name above (Some place) =
     (zone : Labels) × (chain : Chain) × (evidence_said (SecuredIn setting) setting.rrsets zone chain).TypesAt above.name
     (λ has. has dname) (record { rrset = above.rrset; place = place })
+    × IsBelow name above.name
 
 -- the record asks for too many iterations, or can't be used for another reason
 abbrev pub IsTrueOfNsec3 : ReceivedRrset → Nsec3 → WhyNsec3 → Type 0
@@ -144,6 +146,10 @@ abbrev pub MaySpeak : Setting → Labels → ℕ → Option Labels → Type 0
 MaySpeak setting name t None = (zone : Labels) → ¬ IsSpeaker setting name t zone
 MaySpeak setting name t (Some zone) = IsSpeaker setting name t zone
 
+-- the name and the type are those of the question
+abbrev pub IsAbout : Labels → ℕ → Labels → RecordType → Type 0
+IsAbout name t told rtype = (told ≡ name) × (rtype.0 ≡ t)
+
 -- what fails is so, for the question
 abbrev pub IsReasonTrue : Setting → Labels → ℕ → Reason → Type 0
 IsReasonTrue setting name t (reason.Zone fault) = IsZoneFault setting fault.zone fault.why
@@ -156,6 +162,8 @@ IsReasonTrue setting name t (reason.Dname above) = IsTrueOfDname setting name ab
 IsReasonTrue setting name t (reason.Nsec3 unusable) = IsUnusable setting unusable
 IsReasonTrue setting name t (reason.Source fault) = IsTrueOfSource setting fault
 IsReasonTrue setting name t (reason.AnswerMissing missing) =
-    (¬ HasGoal setting.rrsets name t) × MaySpeak setting name t missing.zone × HasNoDenial setting name missing.zone
+    IsAbout name t missing.name missing.rtype × (¬ HasGoal setting.rrsets name t)
+    × MaySpeak setting name t missing.zone × HasNoDenial setting name missing.zone
 IsReasonTrue setting name t (reason.DenialUnproved denial) =
-    (¬ HasGoal setting.rrsets name t) × IsSpeaker setting name t denial.zone × HasDenial setting.rrsets name denial.zone
+    IsAbout name t denial.name denial.rtype × (¬ HasGoal setting.rrsets name t)
+    × IsSpeaker setting name t denial.zone × HasDenial setting.rrsets name denial.zone

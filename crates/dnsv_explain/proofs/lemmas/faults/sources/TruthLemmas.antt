@@ -173,7 +173,8 @@ module _ (setting : Setting) (name : Labels) (t : ℕ) where
     closed_so : (k : ℕ) (n : RecordNumber) (told : Line) → IsFirstClosed Words zone name k n → IsClosedLine Words source (rightmost name k) n told
         → AllSo (told ∷ [])
     closed_so k n told first (by_dname is) =
-        one_so IsSo (told ∷ []) (reason.Dname (record { name = rightmost name k; rrset = n.rrset; place = Some n.place })) refl (zone, chain, is)
+        one_so IsSo (told ∷ []) (reason.Dname (record { name = rightmost name k; rrset = n.rrset; place = Some n.place })) refl
+        (zone, chain, is, rightmost_below name k first.closed.above)
     closed_so k n told first (by_delegation is) =
         line_so (rightmost name k) (why.Delegation n) (told ∷ [])
         (said_as setting zone chain (rightmost name k) n (λ has. IsClosed has × (¬ has dname)) IsDelegation

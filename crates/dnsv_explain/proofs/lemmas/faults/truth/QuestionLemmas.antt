@@ -165,10 +165,10 @@ module _ (setting : Setting) (name : Labels) (t : ℕ) where
       → AreSo lines
   end_so end lines never (denied zone speaks has) same =
       one_so IsSo lines (reason.DenialUnproved (record { name = name; rtype = record { 0 = t }; zone = zone })) same
-      (never, may_speak (Some zone) speaks, has)
+      ((refl, refl), never, may_speak (Some zone) speaks, has)
   end_so end lines never (missing zone speaks lacks) same =
       one_so IsSo lines (reason.AnswerMissing (record { name = name; rtype = record { 0 = t }; zone = zone })) same
-      (never, may_speak zone speaks, lacks)
+      ((refl, refl), never, may_speak zone speaks, lacks)
 
   ends_so : (lines : List Line) → AreEndLines setting name t lines → AreSo lines
   ends_so lines =
