@@ -3,7 +3,7 @@ ghost use Rattle.std.specs.Prelude.{◌≡◌, ◌↔◌, ◌⊎◌, ◌++◌, �
 ghost use Rattle.dnsv_names.specs.Name.{Labels};
 ghost use Rattle.dnsv_message.specs.Message.{records_of};
 ghost use Rattle.dnsv_tsig.specs.Answer.{LacksTsig, Signs, IsSigned, failed_test, is_in_time};
-ghost use Rattle.dnsv_tsig.specs.Signed.{IsLastRdata};
+ghost use Rattle.dnsv_tsig.specs.Signed.{EndsWithTsig, IsLastRdata};
 ghost use Rattle.dnsv_tsig.specs.Tsig.{TsigFields};
 
 use crate::error::TsigError;
@@ -99,9 +99,10 @@ fn is_in_time(now: u64, time_signed: u64, fudge: u16) -> bool
 }
 
 /// The RDATA of the last record of a message's additional section, where that is a TSIG record; it has no compressed
-/// names, so memory is taken for none. Nothing where it is another record, or there is none.
+/// names, so memory is taken for none. Nothing where it is another record, or there is none; that is never refused.
 pub fn last_rdata<'b>(alloc: Global, message: &Message<'b>) -> Result<RdataOctets<'b>, AllocError>
-    ensures { IfOk result (IsLastRdata message.now.additional) }
+    ensures found { IfOk result (IsLastRdata message.now.additional) }
+    ensures refused { IfErr result (λ _. EndsWithTsig message.now.additional) }
 {
     let Some(last) = message.records(Section::Additional).last() else {
         return Ok(RdataOctets::none());
