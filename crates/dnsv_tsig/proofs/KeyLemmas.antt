@@ -2,7 +2,7 @@
 use Rattle.std.proofs.Common.{◌≡◌, ◌⊎◌, ℕ, Result, Err, List, [], ◌∷◌, ◌++◌, None, inl, inr, ⊎_elim, refl, sym, ap, ◌∙◌, subst, length, get_or, arith}
 use Rattle.base64.specs.Engines.{standard}
 use Rattle.base64.specs.GeneralPurpose.{encode_of}
-use Rattle.dnsv_names.proofs.LineFileLemmas.{SayTogether, first_fault, first_fault_told, say_more}
+use Rattle.dnsv_names.proofs.LineFileLemmas.{SayTogether, begins, first_fault, first_fault_told, say_more}
 use Rattle.dnsv_names.specs.Lines.LineFile.{SayEach}
 use Rattle.dnsv_names.specs.Lines.LineLaws.{HasLines-only}
 use Rattle.dnsv_names.specs.Lines.{HasLines, NumberedLine}
@@ -109,6 +109,15 @@ pub fault_told : {T : Type 0} (text : List ℕ) (before : List NumberedLine) (li
     → (◌≡◌ {A = Result T KeyFileError} (Err error) (Err fault)) ⊎ ((◌≡◌ {A = Result T KeyFileError} (Err error) (Err OutOfMemory)) × BeginsWithKey text)
 fault_told text before line after ring error has so_far (inl wanting) = first_fault_told key_file OutOfMemory text before line after ring error has so_far (inl (wanting.0, (wanting.1.0, wanting.1.1)))
 fault_told text before line after ring error has so_far (inr refused) = first_fault_told key_file OutOfMemory text before line after ring error has so_far (inr refused)
+
+-- memory is refused to a key alone
+pub memory_wanted : (text : List ℕ) (before : List NumberedLine) (line : NumberedLine) (after : List NumberedLine) (ring : List SharedKey) (error : KeyFileError)
+    → HasLines text (before ++ line ∷ after) → SayTogether IsKeyLine HaveOwnNames before ring
+    → ((error ≡ OutOfMemory) × ((key : SharedKey) × IsKeyLine line.octets key × (key_named key.name ring ≡ None))) ⊎ IsFaultOfLine error line ring
+    → error ≡ OutOfMemory → BeginsWithKey text
+memory_wanted text before line after ring error has so_far (inl (out, key)) same = begins IsKeyLine text before line after ring has so_far.each (key.0, key.1)
+memory_wanted text before line after ring error has so_far (inr refused) same =
+    absurd (subst (λ (found : KeyFileError). IsFaultOfLine found line ring) same refused)
 
 -- ---- the keys of a text without a fault
 

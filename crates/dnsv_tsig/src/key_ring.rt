@@ -92,13 +92,16 @@ impl KeyRing {
     /// between them. Empty lines and lines that begin with `#` are passed over, but counted.
     ///
     /// The error is that of the first line that is refused: it is no key's (`Syntax`), or an equal name stood
-    /// before (`DuplicateKey`).
+    /// before (`DuplicateKey`). Want of memory is told only where the first line is a key's, so a file that is empty or
+    /// of comments alone is always read.
     pub fn parse(alloc: Global, text: &[u8]) -> Result<KeyRing, KeyFileError>
         ensures ring { IfOk result (IsRingOf text.now) }
         ensures fault { IfErr result (λ error. (error ≡ KeyFileError.OutOfMemory) ⊎ IsKeyFault text.now error) }
         // A fault is told, unless memory was refused to a key before it.
         ensures every_fault { (fault : KeyFileError) → IsKeyFault text.now fault → (result ≡ Err fault)
             ⊎ ((result ≡ Err KeyFileError.OutOfMemory) × BeginsWithKey text.now) }
+        // Memory is wanted only where the first line is a key's.
+        ensures memory { IfErr result (λ error. error ≡ KeyFileError.OutOfMemory → BeginsWithKey text.now) }
     {
         test_lines(alloc, text)?;
         let keys = keys_of(alloc, text)?;
@@ -114,12 +117,13 @@ impl KeyRing {
 }
 
 /// Tests the lines of a file before a key is kept, so that the names that were seen and the keys never lie in memory
-/// together.
+/// together. Where memory is refused, the first line is a key's.
 fn test_lines(alloc: Global, text: &[u8]) -> Result<(), KeyFileError>
     ensures ring { OnOk result ((ring : List SharedKey) × IsRingOf text.now ring) }
     ensures fault { IfErr result (λ error. (error ≡ KeyFileError.OutOfMemory) ⊎ IsKeyFault text.now error) }
     ensures every_fault { (fault : KeyFileError) → IsKeyFault text.now fault → (result ≡ Err fault)
         ⊎ ((result ≡ Err KeyFileError.OutOfMemory) × BeginsWithKey text.now) }
+    ensures memory { IfErr result (λ error. error ≡ KeyFileError.OutOfMemory → BeginsWithKey text.now) }
 {
     let mut names = BTreeSet::new(alloc);
     for line in Lines::new(text) {
@@ -150,10 +154,11 @@ fn test_line(alloc: Global, names: &mut KeyNames, line: &Line) -> Result<(), Key
     Ok(())
 }
 
-/// The keys of a file without a fault.
+/// The keys of a file without a fault. Where memory is refused, its first line is a key's.
 fn keys_of(alloc: Global, text: &[u8]) -> Result<Vec<Key>, AllocError>
     requires { (ring : List SharedKey) × IsRingOf text.now ring }
-    ensures { IfOk result (λ keys. IsRingOf text.now keys.items) }
+    ensures ring { IfOk result (λ keys. IsRingOf text.now keys.items) }
+    ensures memory { IfErr result (λ _. BeginsWithKey text.now) }
 {
     let mut keys = Vec::new(alloc);
     for line in Lines::new(text) {

@@ -2,7 +2,7 @@ use Rattle.std.proofs.Common.{◌++◌, ◌∷◌, [], refl}
 use Rattle.std.proofs.lemmas.Result.{err_from_is_err_and}
 use Rattle.dnsv_names.proofs.LineFileLemmas.{all_say, has_all, has_more, has_next}
 use Rattle.dnsv_tsig.proofs.KeyLaws.{IsRingOf-no_fault}
-use Rattle.dnsv_tsig.proofs.KeyLemmas.{fault_or_memory, fault_told, none_say, ring_more}
+use Rattle.dnsv_tsig.proofs.KeyLemmas.{fault_or_memory, fault_told, memory_wanted, none_say, ring_more}
 use Rattle.dnsv_tsig.proofs.KeyNamesLemmas.{no_names}
 use Rattle.dnsv_tsig.proofs.key_ring.test_lines.Goals as goal
 
@@ -39,6 +39,15 @@ returns-in_err-test_line-clause-every_fault c = λ fault is.
     (fault_told c.args.text.now c.loop-line.yielded c.in-Some.line c.next.new.self so_far.0 _
     (has_next c.args.text.now c.loop-line.yielded _ _ c.in-Some.line c.in-Some.ensures.steps c.loop-line.invariant.has)
     so_far.1 (c.in_err-test_line.ensures.fault so_far.0 so_far.2) fault is)
+
+pub returns-in_err-test_line-clause-memory : goal.returns-in_err-test_line-clause-memory
+returns-in_err-test_line-clause-memory c =
+    let so_far = c.loop-line.invariant.ring in
+    let p = err_from_is_err_and c.from_residual.result c.from_residual.ensures.1 in
+    rw (p.1, p.2)
+    (memory_wanted c.args.text.now c.loop-line.yielded c.in-Some.line c.next.new.self so_far.0 _
+    (has_next c.args.text.now c.loop-line.yielded _ _ c.in-Some.line c.in-Some.ensures.steps c.loop-line.invariant.has)
+    so_far.1 (c.in_err-test_line.ensures.fault so_far.0 so_far.2))
 
 pub returns-clause-ring : goal.returns-clause-ring
 returns-clause-ring c =
