@@ -1,5 +1,5 @@
 -- Reading a file of statements, line by line.
-use Rattle.std.proofs.Common.{◌≡◌, ℕ, Result, Err, List, [], ◌∷◌, ◌++◌, refl, sym, ap, ◌∙◌, subst, arith, Bool, true, false, cond, Option, Some, None, ◌⊎◌, inl, inr, ⊎_elim}
+use Rattle.std.proofs.Common.{◌≡◌, ℕ, Result, Err, List, [], ◌∷◌, ◌++◌, refl, sym, ap, ◌∙◌, subst, arith, length, length-append, Bool, true, false, cond, Option, Some, None, ◌⊎◌, inl, inr, ⊎_elim}
 use Rattle.std.proofs.lemmas.Cmp.{tied_itself}
 use Rattle.std.proofs.lemmas.List.Elements.{Contains-push, Contains-push_cases, Contains-append_left}
 use Rattle.std.specs.BTreeMap.{BTreeMap}
@@ -29,6 +29,7 @@ pub record SaysSoFar (lines : List NumberedLine) (said : BTreeMap Entry Word) : 
   pub each : SayEach IsStatementOf lines statements
   pub found : (entry : Entry) (word : Word) → said_in said entry ≡ Some word → Contains statements (entry, word)
   pub kept : (entry : Entry) (word : Word) → Contains statements (entry, word) → said_in said entry ≡ Some word
+  pub empty : lines ≡ [] → said.entries ≡ []
 
 words_differ : Good ≡ Bad → ⊥
 words_differ e = cc
@@ -48,6 +49,7 @@ says_none said empty =
       each = tt;
       found = λ entry word e. let nothing = none entry in absurd (cc);
       kept = λ entry word contains. absurd (omega (arith, contains.1));
+      empty = λ same. empty;
     }
 
 is_eq_is : (o : Ordering) → is_eq o ≡ true → o ≡ Equal
@@ -99,6 +101,7 @@ module _ {lines : List NumberedLine} {old new : BTreeMap Entry Word} (line : Num
         each = each_more IsStatementOf lines so_far.statements line (adds.entry, adds.word) so_far.each adds.states;
         found = λ entry word e. found_by entry word (is_eq (entry_cmp adds.entry entry)) refl (sym (adds.updates entry) ∙ e);
         kept = λ entry word contains. adds.updates entry ∙ kept_by entry word (is_eq (entry_cmp adds.entry entry)) refl contains;
+        empty = λ none. absurd (omega (arith, ap length none, length-append lines (line ∷ [])));
       }
 
 -- the first fault
@@ -123,6 +126,26 @@ fault_told text before line after said (Contradiction number) has so_far refuses
     ⊎_elim (λ (out : Contradiction number ≡ OutOfMemory). absurd (cc)) (λ (first : IsFaultOf text (Contradiction number)). inl (ap Err (IsFaultOf-only text (Contradiction number) fault first is)))
     (fault_of text before line after said (Contradiction number) has so_far refuses)
 
+-- memory is refused to a statement alone
+pub memory_wanted : (text : List ℕ) (before : List NumberedLine) (line : NumberedLine) (after : List NumberedLine) (said : BTreeMap Entry Word) (error : StatementsError)
+    → HasLines text (before ++ line ∷ after) → SaysSoFar before said → RefusesLine error line said → error ≡ OutOfMemory → BeginsWithStatement text
+memory_wanted text before line after said OutOfMemory has so_far refuses out =
+    begins IsStatementOf text before line after so_far.statements has so_far.each ((refuses.entry, refuses.word), refuses.states)
+memory_wanted text before line after said (Syntax number) has so_far refuses out = absurd (cc)
+memory_wanted text before line after said (Contradiction number) has so_far refuses out = absurd (cc)
+
+first_says : (text : List ℕ) (lines : List NumberedLine) (statements : List (Entry × Word)) → HasLines text lines
+    → SayEach IsStatementOf lines statements → (lines ≡ [] → ⊥) → BeginsWithStatement text
+first_says text [] statements has each some = absurd (some refl)
+first_says text (line ∷ lines) [] has each some = absurd each
+first_says text (line ∷ lines) (statement ∷ statements) has each some = begins IsStatementOf text [] line lines [] has tt (statement, each.0)
+
+-- and where something was said
+pub memory_to_list : (text : List ℕ) (lines : List NumberedLine) (said : BTreeMap Entry Word) → HasLines text lines
+    → SaysSoFar lines said → (length said.entries ≡ 0 → ⊥) → BeginsWithStatement text
+memory_to_list text lines said has so_far some =
+    first_says text lines so_far.statements has so_far.each (λ none. some (ap length (so_far.empty none)))
+
 -- a text whose lines were all read has no fault
 pub none_at_fault : (text : List ℕ) (lines : List NumberedLine) (said : BTreeMap Entry Word) → HasLines text lines
     → SaysSoFar lines said → (fault : StatementsError) → IsFaultOf text fault → ⊥
@@ -133,6 +156,11 @@ said_by : (lines : List NumberedLine) (said : BTreeMap Entry Word) (so_far : Say
 said_by lines said so_far entry None e = λ word contains. let was = so_far.kept entry word contains in absurd (cc)
 said_by lines said so_far entry (Some Good) e = so_far.found entry Good e
 said_by lines said so_far entry (Some Bad) e = so_far.found entry Bad e
+
+-- nothing is listed where nothing was said
+pub none_listed : (said listed : List (Entry × Word)) → listed ≡ [] → length said ≡ 0 → listed ≡ said
+none_listed [] listed none empty = none
+none_listed (entry ∷ said) listed none empty = absurd (omega (arith, empty))
 
 -- what is listed at the end is what the file says
 pub all_said : (text : List ℕ) (lines : List NumberedLine) (said : BTreeMap Entry Word) (listed : List (Entry × Word)) → HasLines text lines → SaysSoFar lines said → listed ≡ said.entries → (statements : List (Entry × Word)) × AreStatementsOf text statements × ((entry : Entry) → IsSaid statements entry (listed_answer listed entry))

@@ -97,7 +97,8 @@ impl Statements {
     /// key, the signed data and the signature in hex digits, `-` where one has no octets.
     ///
     /// The first line with a fault counts: `Syntax` where it is no statement, else `Contradiction` where it calls
-    /// an entry good that an earlier line called bad, or the other way round. A plain repeat is none.
+    /// an entry good that an earlier line called bad, or the other way round. A plain repeat is none. Want of memory
+    /// is told only where the first line is a statement, so a file that is empty or of comments alone is always read.
     pub fn parse(alloc: Global, text: &[u8]) -> Result<Statements, StatementsError>
         // What is listed is what the file says.
         ensures found { IfOk result (λ listed. (statements : List (Entry × Word))
@@ -109,13 +110,19 @@ impl Statements {
         // A fault is told, unless memory was refused to a statement before it.
         ensures every_fault { (fault : StatementsError) → IsFaultOf text.now fault → (result ≡ Err fault)
             ⊎ ((result ≡ Err StatementsError.OutOfMemory) × BeginsWithStatement text.now) }
+        // Memory is wanted only where the first line is a statement.
+        ensures memory { IfErr result (λ error. error ≡ StatementsError.OutOfMemory → BeginsWithStatement text.now) }
     {
         let mut said = BTreeMap::new(alloc);
         for line in Lines::new(text) {
             add(alloc, &mut said, &line)?;
         }
-        // A map tells with its length that its keys rise.
-        let _ = said.len();
+        // An empty list takes no memory; and a map tells with its length that its keys rise.
+        if said.len() == 0 {
+            return Ok(Statements {
+                listed: Vec::new(alloc),
+            });
+        }
         Ok(Statements {
             listed: said.into_iter().collect(alloc)?,
         })

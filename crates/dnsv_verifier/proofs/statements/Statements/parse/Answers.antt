@@ -1,7 +1,7 @@
-use Rattle.std.proofs.Common.{◌≡◌, rules}
+use Rattle.std.proofs.Common.{◌≡◌, arith, length, rules}
 use Rattle.std.proofs.lemmas.Result.{err_from_is_err_and}
 use Rattle.dnsv_names.proofs.LineFileLemmas.{has_all, has_more, has_next}
-use Rattle.dnsv_verifier.proofs.StatementsLemmas.{all_said, fault_of, fault_told, none_at_fault, says_more, says_none}
+use Rattle.dnsv_verifier.proofs.StatementsLemmas.{all_said, fault_of, fault_told, memory_to_list, memory_wanted, none_at_fault, none_listed, says_more, says_none}
 use Rattle.dnsv_verifier.proofs.statements.Statements.parse.Goals as goal
 
 pub loop-line-init : goal.loop-line-init
@@ -27,9 +27,30 @@ returns-in_err-add-clause-every_fault c = λ fault is.
     rw (p.1, p.2)
     (fault_told c.args.text.now c.loop-line.yielded c.in-Some.line c.next.new.self c.loop-line.said _ (has_next c.args.text.now c.loop-line.yielded _ _ c.in-Some.line c.in-Some.ensures.steps c.loop-line.invariant.has) c.loop-line.invariant.says c.in_err-add.ensures.refuses fault is)
 
+pub returns-in_err-add-clause-memory : goal.returns-in_err-add-clause-memory
+returns-in_err-add-clause-memory c =
+    let p = err_from_is_err_and c.from_residual.result c.from_residual.ensures.1 in
+    rw (p.1, p.2)
+    (memory_wanted c.args.text.now c.loop-line.yielded c.in-Some.line c.next.new.self c.loop-line.said _ (has_next c.args.text.now c.loop-line.yielded _ _ c.in-Some.line c.in-Some.ensures.steps c.loop-line.invariant.has) c.loop-line.invariant.says c.in_err-add.ensures.refuses)
+
 pub returns-in_err-collect-clause-every_fault : goal.returns-in_err-collect-clause-every_fault
 returns-in_err-collect-clause-every_fault c = λ fault is.
     absurd (none_at_fault c.args.text.now c.loop-line.yielded c.loop-line.said (has_all c.args.text.now c.loop-line.yielded _ c.in-None.ensures.steps.0 c.loop-line.invariant.has) c.loop-line.invariant.says fault is)
+
+pub returns-in_err-collect-clause-memory : goal.returns-in_err-collect-clause-memory
+returns-in_err-collect-clause-memory c =
+    let p = err_from_is_err_and c.from_residual-in_err-collect.result c.from_residual-in_err-collect.ensures.1 in
+    rw p.1
+    (λ out. memory_to_list c.args.text.now c.loop-line.yielded c.loop-line.said (has_all c.args.text.now c.loop-line.yielded _ c.in-None.ensures.steps.0 c.loop-line.invariant.has) c.loop-line.invariant.says (λ none. absurd (omega (arith, none, c.len.ensures.len, c.if-len-eq0.false))))
+
+pub returns-then-len-eq0-clause-every_fault : goal.returns-then-len-eq0-clause-every_fault
+returns-then-len-eq0-clause-every_fault c = λ fault is.
+    absurd (none_at_fault c.args.text.now c.loop-line.yielded c.loop-line.said (has_all c.args.text.now c.loop-line.yielded _ c.in-None.ensures.steps.0 c.loop-line.invariant.has) c.loop-line.invariant.says fault is)
+
+pub returns-then-len-eq0-clause-found : goal.returns-then-len-eq0-clause-found
+returns-then-len-eq0-clause-found c =
+    let empty : length c.loop-line.said.entries ≡ 0 = omega (arith, c.len.ensures.len, c.if-len-eq0.true) in
+    all_said c.args.text.now c.loop-line.yielded c.loop-line.said c.new.result.items (has_all c.args.text.now c.loop-line.yielded _ c.in-None.ensures.steps.0 c.loop-line.invariant.has) c.loop-line.invariant.says (none_listed c.loop-line.said.entries _ c.new.ensures.items empty)
 
 pub returns-clause-every_fault : goal.returns-clause-every_fault
 returns-clause-every_fault c = λ fault is.
