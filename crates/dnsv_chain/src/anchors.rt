@@ -92,7 +92,8 @@ impl<'b> Anchors<'b> {
     /// numbers are decimal. Empty lines and lines that begin with `#` are passed over, but counted.
     ///
     /// The first line with a fault counts: `Syntax` where it is no anchor, else `TooMany` where 64 anchors, repeats
-    /// among them, stand before it.
+    /// among them, stand before it. Want of memory is told only where the first line says an anchor, so a file that is
+    /// empty or of comments alone is always read.
     pub fn parse(alloc: Global, bump: &'b Bump, text: &[u8]) -> Result<Anchors<'b>, AnchorsError>
         // What is read is what the file says.
         ensures anchors { IfOk result (AreAnchorsOf text.now) }
@@ -101,6 +102,8 @@ impl<'b> Anchors<'b> {
         // A fault is told, unless memory was refused to an anchor before it.
         ensures every_fault { (fault : AnchorsError) → IsFaultOf text.now fault → (result ≡ Err fault)
             ⊎ ((result ≡ Err AnchorsError.OutOfMemory) × BeginsWithAnchor text.now) }
+        // Memory is wanted only where the first line says an anchor.
+        ensures memory { IfErr result (λ error. error ≡ AnchorsError.OutOfMemory → BeginsWithAnchor text.now) }
     {
         let mut anchors = Anchors {
             anchors: Vec::new(alloc),

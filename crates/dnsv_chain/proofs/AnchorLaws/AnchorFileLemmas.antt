@@ -1,6 +1,6 @@
 -- Reading a file of anchors, line by line.
-use Rattle.std.proofs.Common.{◌≡◌, ◌<◌, ◌⊎◌, inl, inr, ℕ, Result, Err, List, [], ◌∷◌, ◌++◌, length, arith, length-append}
-use Rattle.dnsv_names.proofs.LineFileLemmas.{SayTogether, first_fault, first_fault_told, say_more}
+use Rattle.std.proofs.Common.{◌≡◌, ◌<◌, ◌⊎◌, inl, inr, ℕ, Result, Err, List, [], ◌∷◌, ◌++◌, length, subst, arith, length-append}
+use Rattle.dnsv_names.proofs.LineFileLemmas.{SayTogether, begins, first_fault, first_fault_told, say_more}
 use Rattle.dnsv_names.specs.Lines.{HasLines, NumberedLine}
 use Rattle.dnsv_chain.specs.AnchorFile.{AreFew, BeginsWithAnchor, IsAnchorLine, IsFaultOf, IsFaultOfLine}
 use Rattle.dnsv_chain.specs.declared.anchor.Anchor.{Anchor}
@@ -31,3 +31,13 @@ fault_told text before line after anchors error has so_far (inl (out, room, is))
     first_fault_told anchor_file OutOfMemory text before line after anchors error has so_far (inl (out, is))
 fault_told text before line after anchors error has so_far (inr refused) =
     first_fault_told anchor_file OutOfMemory text before line after anchors error has so_far (inr refused)
+
+-- memory is refused to an anchor alone
+pub memory_wanted : (text : List ℕ) (before : List NumberedLine) (line : NumberedLine) (after : List NumberedLine) (anchors : List Anchor)
+    (error : AnchorsError) → HasLines text (before ++ line ∷ after) → SayTogether IsAnchorLine AreFew before anchors
+    → ((error ≡ OutOfMemory) × (length anchors < 64) × ((anchor : Anchor) × IsAnchorLine line.octets anchor)) ⊎ IsFaultOfLine error line anchors
+    → error ≡ OutOfMemory → BeginsWithAnchor text
+memory_wanted text before line after anchors error has so_far (inl (out, room, is)) same =
+    begins IsAnchorLine text before line after anchors has so_far.each is
+memory_wanted text before line after anchors error has so_far (inr refused) same =
+    absurd (subst (λ (found : AnchorsError). IsFaultOfLine found line anchors) same refused)
