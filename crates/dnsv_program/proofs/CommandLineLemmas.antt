@@ -1,5 +1,6 @@
 -- What the words of a command line ask for.
 pub mod Numbers
+pub mod Question
 pub mod Rows
 pub mod Values
 pub mod Walks

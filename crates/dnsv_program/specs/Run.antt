@@ -87,6 +87,13 @@ abbrev pub IsFaultOfQuestion : List ℕ → ℕ → Fault → Type 0
 IsFaultOfQuestion asked rtype (fault.Refused why place) = IsQuestionRefused asked rtype why place
 IsFaultOfQuestion asked rtype _ = ⊥
 
+-- the request asks a question, which is refused so
+abbrev pub AsksRefused : Request → Fault → Type 0
+AsksRefused (request.Show capture) fault = ⊥
+AsksRefused (request.List capture moment statements all json) fault = ⊥
+AsksRefused (request.Check capture anchors moment asked rtype statements keys macs json why) fault =
+    IsFaultOfQuestion (string_bytes asked) rtype.0 fault
+
 -- the first of the files that is at fault has this fault; or none is, and an alias can't be followed
 abbrev pub IsFirstFaultOfName : Labels → ℕ → ℕ → Files → Fault → Type 0
 IsFirstFaultOfName name rtype moment files fault =

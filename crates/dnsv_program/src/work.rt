@@ -8,6 +8,7 @@ ghost use Rattle.dnsv_program.specs.declared.opening.Opening.TheVariants.{Plain}
 ghost use Rattle.dnsv_program.specs.Files.Faults.{OfFailedRead, TellsFaults};
 ghost use Rattle.dnsv_program.specs.Files.{AreTold, Files};
 ghost use Rattle.dnsv_program.specs.Texts.Checking.{IsCheck};
+ghost use Rattle.dnsv_program.specs.Run.{AsksRefused, IsFaultOfQuestion};
 ghost use Rattle.dnsv_program.specs.Run.{IsAnswered, IsTextAskedFor, IsFirstFault, IsFirstFaultOfCheck};
 ghost use Rattle.dnsv_program.specs.Run.{IsFirstFaultOfName, IsFirstFaultOfList, IsListed};
 ghost use Rattle.dnsv_program.specs.Run.{IsCaptureReached, IsReached, IsReachedByCheck, IsReachedByList, IsReachedOfFiles};
@@ -68,6 +69,9 @@ pub fn run<R: Read, W: Write>(
     // The fault is the first that the files have.
     ensures faults { TellsFaults (IsFirstFault request.now) R.remaining inputs.old inputs.new result }
 
+    // A question that is refused is always told, whatever memory and files there are.
+    ensures question { (fault : Fault) → AsksRefused request.now fault → result ≡ Err fault }
+
     // A failed read is told of a file that the request reads, and what comes before that file is in order.
     ensures reached { (files : Files) → AreTold R.remaining inputs.old files
         → IfErr result (OfFailedRead (IsReached request.now files)) }
@@ -102,6 +106,7 @@ fn outcome_of<R: Read>(
     ensures text { (files : Files) → AreTold R.remaining inputs.old files
         → IfOk result (λ outcome. IsTextAskedFor request.now files outcome.status (string_bytes outcome.text)) }
     ensures faults { TellsFaults (IsFirstFault request.now) R.remaining inputs.old inputs.new result }
+    ensures question { (fault : Fault) → AsksRefused request.now fault → result ≡ Err fault }
     ensures reached { (files : Files) → AreTold R.remaining inputs.old files
         → IfErr result (OfFailedRead (IsReached request.now files)) }
     ensures unwritten { IfErr result (λ fault. fault ≡ Fault.WriteFailed → ⊥) }
@@ -196,6 +201,7 @@ fn check<R: Read>(
         IsAnswered json why asked.now rtype.0 moment files outcome.status (string_bytes outcome.text)) }
     ensures faults { TellsFaults (IsFirstFaultOfCheck asked.now rtype.0 moment) R.remaining inputs.old inputs.new
         result }
+    ensures question { (fault : Fault) → IsFaultOfQuestion asked.now rtype.0 fault → result ≡ Err fault }
     ensures reached { (files : Files) → AreTold R.remaining inputs.old files
         → IfErr result (OfFailedRead (IsReachedByCheck asked.now rtype.0 moment files)) }
     ensures unwritten { IfErr result (λ fault. fault ≡ Fault.WriteFailed → ⊥) }

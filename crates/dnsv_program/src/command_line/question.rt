@@ -2,8 +2,8 @@
 ghost use Rattle.std.specs.Prelude.{◌≡◌, IfErr, IfOk};
 ghost use Rattle.dnsv_canonical.specs.Rrsets.{IsQuestion};
 ghost use Rattle.dnsv_program.specs.CommandLine.Commands as specs;
-ghost use Rattle.dnsv_program.specs.CommandLine.Question.{IsQuestionRefused, Spells};
-ghost use Rattle.dnsv_program.specs.Told.{IsFaultOf};
+ghost use Rattle.dnsv_program.specs.CommandLine.Question.{Spells};
+ghost use Rattle.dnsv_program.specs.Run.{IsFaultOfQuestion};
 
 use crate::status::{Fault, Place, Refusal};
 use dnsv_canonical::is_question;
@@ -19,11 +19,12 @@ pub fn question_word(why: bool) -> &'static str
 
 /// The name of a question, whose type can be asked for at it.
 ///
-/// The fault is the first: of the name, and then that its type can't be asked for.
+/// The fault is the first: of the name, and then that its type can't be asked for. It is always told: no memory is taken.
 pub fn question_name(text: &[u8], rtype: RecordType) -> Result<Name, Fault>
     ensures name { IfOk result (Spells text.now) }
     ensures question { IfOk result (λ name. IsQuestion name rtype.0) }
-    ensures fault { IfErr result (IsFaultOf (IsQuestionRefused text.now rtype.0)) }
+    ensures fault { IfErr result (IsFaultOfQuestion text.now rtype.0) }
+    ensures every_fault { (fault : Fault) → IsFaultOfQuestion text.now rtype.0 fault → result ≡ Err fault }
 {
     let name = match Name::parse(text) {
         Ok(name) => name,
