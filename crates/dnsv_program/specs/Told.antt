@@ -83,6 +83,15 @@ IsFaultOf Holds (fault.TooLong file) = ⊥
 IsFaultOf Holds (fault.OpenFailed file) = ⊥
 IsFaultOf Holds fault.WriteFailed = ⊥
 
+-- the fault is a refusal of which this holds
+abbrev pub IsRefusalOf : (Refusal → Place → Type 0) → Fault → Type 0
+IsRefusalOf Holds (fault.Refused why place) = Holds why place
+IsRefusalOf Holds fault.OutOfMemory = ⊥
+IsRefusalOf Holds (fault.ReadFailed file) = ⊥
+IsRefusalOf Holds (fault.TooLong file) = ⊥
+IsRefusalOf Holds (fault.OpenFailed file) = ⊥
+IsRefusalOf Holds fault.WriteFailed = ⊥
+
 -- besides the evidence that is held, the frame with this number is refused, at this place
 abbrev pub IsRefusedAt : Demand → Opening → Evidence → List ℕ → ℕ → Refusal → Place → Type 0
 IsRefusedAt demand opening held frame number why place =

@@ -2,7 +2,7 @@
 ghost use Rattle.std.specs.Prelude.{◌≡◌, ◌≤◌, ◌↔◌, IsTrue, IfErr, IfOk, List, ℕ, length};
 ghost use Rattle.dnsv_message.specs.Streams.Frames.{file_limit};
 ghost use Rattle.dnsv_program.specs.Opening.Macs.{AreMacsRefused, HasMacs, IsMacLine, IsMacRefused};
-ghost use Rattle.dnsv_program.specs.Told.{IsFaultOf};
+ghost use Rattle.dnsv_program.specs.Told.{IsFaultOf, IsRefusalOf};
 
 use crate::files::text::{FromText, refused_line};
 use crate::opening::RequestMacs;
@@ -61,10 +61,10 @@ fn macs_of(alloc: Global, text: &[u8]) -> Result<Vec<Option<RequestMac>>, Fault>
     Ok(macs)
 }
 
-/// The MAC of a line.
+/// The MAC of a line. No memory is taken: the fault is that the line is none.
 fn mac_of(line: &Line) -> Result<Option<RequestMac>, Fault>
     ensures mac { IfOk result (IsMacLine line.now.octets) }
-    ensures fault { IfErr result (IsFaultOf (IsMacRefused line.now)) }
+    ensures fault { IfErr result (IsRefusalOf (IsMacRefused line.now)) }
 {
     if is_word(line.octets(), b"-") {
         return Ok(None);
