@@ -17,7 +17,7 @@ ghost use Rattle.dnsv_program.specs.Opening.{HasItsMacs, IsInFrame};
 ghost use Rattle.dnsv_program.specs.Files.Faults.{TellsFileFaults};
 ghost use Rattle.dnsv_program.specs.Status.{fault_number};
 ghost use Rattle.dnsv_program.specs.Told.{IsReadFault, IsDecodeFault, IsCaptureFault, IsFaultOf, IsRefusedAt};
-ghost use Rattle.dnsv_program.specs.Told.{IsNoMessageAt, IsTsigFault, IsUnopenedAt, IsUnreadableAt};
+ghost use Rattle.dnsv_program.specs.Told.{IsNoMessageAt, IsTsigFault, IsUnopenedAt, IsUnreadableAt, nowhere};
 ghost use Rattle.dnsv_program.specs.declared.opening.Opening.{Opening};
 ghost use Rattle.dnsv_program.specs.declared.status.Place.{Place};
 ghost use Rattle.dnsv_program.specs.declared.status.Refusal.{Refusal};
@@ -83,7 +83,7 @@ fn capture_read_fault(error: ReadError) -> Fault
 }
 
 /// The evidence of the frames' messages; the fault is that of the number of MACs, or of the first frame whose message
-/// isn't taken.
+/// isn't taken. A wrong number of MACs is always told.
 fn evidence_of_frames<'b>(
     alloc: Global,
     opening: &Opening,
@@ -91,6 +91,8 @@ fn evidence_of_frames<'b>(
     bump: &'b Bump,
 ) -> Result<Capture<'b>, Fault>
     ensures counted { OnOk result (HasItsMacs opening.now (octets_at_each frames.now)) }
+    ensures miscounted { (HasItsMacs opening.now (octets_at_each frames.now) → ⊥)
+        → result ≡ Err (Fault.Refused Refusal.MacCount nowhere) }
     ensures taken { IfOk result (λ held. (messages : List Contents)
         × AllTaken NewEvidence opening.now no_evidence 1 (octets_at_each frames.now) messages
         × (held ≡ evidence_of messages)) }
