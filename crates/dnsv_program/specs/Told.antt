@@ -1,5 +1,5 @@
 -- How the faults of the layers below are told. No public clause cites this module.
-use Rattle.std.specs.Prelude.{◌≡◌, ⊤, ℕ, List, Option, Some, None, Err}
+use Rattle.std.specs.Prelude.{◌≡◌, ◌⊎◌, ⊤, ℕ, List, Option, Some, None, Result, Err}
 use Rattle.dnsv_message.specs.declared.errors.DecodeError.{DecodeError}
 use Rattle.dnsv_message.specs.declared.errors.DecodeError.TheVariants as decode
 use Rattle.dnsv_message.specs.declared.errors.ReadError.{ReadError}
@@ -91,6 +91,11 @@ IsRefusalOf Holds (fault.ReadFailed file) = ⊥
 IsRefusalOf Holds (fault.TooLong file) = ⊥
 IsRefusalOf Holds (fault.OpenFailed file) = ⊥
 IsRefusalOf Holds fault.WriteFailed = ⊥
+
+-- what refuses a text is told, unless it begins with a line that takes memory, and memory was refused
+abbrev pub TellsRefusals : {T : Type 0} → (Refusal → Place → Type 0) → Type 0 → Result T Fault → Type 0
+TellsRefusals IsRefused Begins result = (why : Refusal) (place : Place) → IsRefused why place
+    → (result ≡ Err (fault.Refused why place)) ⊎ ((result ≡ Err fault.OutOfMemory) × Begins)
 
 -- besides the evidence that is held, the frame with this number is refused, at this place
 abbrev pub IsRefusedAt : Demand → Opening → Evidence → List ℕ → ℕ → Refusal → Place → Type 0

@@ -1,6 +1,6 @@
 -- A text of trust anchors is one list of them, or has one fault.
-use Rattle.std.proofs.Common.{◌≡◌, ◌⊎◌, inl, inr, subst, sym, ℕ, List}
-use Rattle.dnsv_chain.specs.AnchorFile.{AreAnchorsOf, IsFaultOf}
+use Rattle.std.proofs.Common.{◌≡◌, ◌⊎◌, inl, inr, subst, sym, ℕ, List, Result, Err}
+use Rattle.dnsv_chain.specs.AnchorFile.{AreAnchorsOf, BeginsWithAnchor, IsFaultOf}
 use Rattle.dnsv_chain.specs.declared.anchor.Anchor.{Anchor}
 use Rattle.dnsv_chain.specs.declared.anchors.AnchorsError.{AnchorsError}
 use Rattle.dnsv_chain.specs.declared.anchors.AnchorsError.TheVariants as anchors
@@ -11,9 +11,9 @@ use Rattle.dnsv_program.specs.declared.status.Place.{Place}
 use Rattle.dnsv_program.specs.declared.status.Refusal.{Refusal}
 use Rattle.dnsv_program.specs.declared.status.Refusal.TheVariants as refusal
 use Rattle.dnsv_program.specs.Files.Anchors.{AreAnchorsRefused, HasAnchors, IsFaultOfAnchors, TellsAnchorsError}
-use Rattle.dnsv_program.specs.Told.{IsAnchorsFault}
+use Rattle.dnsv_program.specs.Told.{IsAnchorsFault, TellsRefusals}
 use Rattle.dnsv_program.specs.Told as told
-use Rattle.dnsv_program.proofs.FileLemmas.Text.{no_text_fault, one_at_line, one_text_fault, told_by_one}
+use Rattle.dnsv_program.proofs.FileLemmas.Text.{every_told, no_text_fault, one_at_line, one_text_fault, told_by_one}
 
 one_telling : (error : AnchorsError) (a b : Refusal) (p q : Place) → TellsAnchorsError error a p → TellsAnchorsError error b q → fault.Refused a p ≡ fault.Refused b q
 one_telling anchors.OutOfMemory a b p q x y = absurd x
@@ -38,6 +38,29 @@ refused_text text (anchors.TooMany line) (fault.ReadFailed file) why tells = abs
 refused_text text (anchors.TooMany line) (fault.TooLong file) why tells = absurd tells
 refused_text text (anchors.TooMany line) (fault.OpenFailed file) why tells = absurd tells
 refused_text text (anchors.TooMany line) fault.WriteFailed why tells = absurd tells
+
+-- a refusal that tells an error is the one that it is told as
+told_as : (error : AnchorsError) (found : Fault) → IsAnchorsFault error found → (why : Refusal) (place : Place) → TellsAnchorsError error why place → found ≡ fault.Refused why place
+told_as anchors.OutOfMemory found is why place tells = absurd tells
+told_as (anchors.Syntax line) (fault.Refused a p) is why place tells = one_telling (anchors.Syntax line) a why p place is tells
+told_as (anchors.Syntax line) fault.OutOfMemory is why place tells = absurd is
+told_as (anchors.Syntax line) (fault.ReadFailed file) is why place tells = absurd is
+told_as (anchors.Syntax line) (fault.TooLong file) is why place tells = absurd is
+told_as (anchors.Syntax line) (fault.OpenFailed file) is why place tells = absurd is
+told_as (anchors.Syntax line) fault.WriteFailed is why place tells = absurd is
+told_as (anchors.TooMany line) (fault.Refused a p) is why place tells = one_telling (anchors.TooMany line) a why p place is tells
+told_as (anchors.TooMany line) fault.OutOfMemory is why place tells = absurd is
+told_as (anchors.TooMany line) (fault.ReadFailed file) is why place tells = absurd is
+told_as (anchors.TooMany line) (fault.TooLong file) is why place tells = absurd is
+told_as (anchors.TooMany line) (fault.OpenFailed file) is why place tells = absurd is
+told_as (anchors.TooMany line) fault.WriteFailed is why place tells = absurd is
+
+-- what refuses the text is told, or memory was refused before it
+pub every_anchors_fault : {T U : Type 0} (text : List ℕ) (error : AnchorsError) (found : Fault) → IsAnchorsFault error found
+    → ((first : AnchorsError) → IsFaultOf text first → Path (Result U AnchorsError) (Err error) (Err first) ⊎ (Path (Result U AnchorsError) (Err error) (Err anchors.OutOfMemory) × BeginsWithAnchor text))
+    → TellsRefusals {T = T} (λ why place. (first : AnchorsError) × IsFaultOf text first × TellsAnchorsError first why place) (BeginsWithAnchor text) (Err found)
+every_anchors_fault text error found is every =
+    every_told (IsFaultOf text) TellsAnchorsError (BeginsWithAnchor text) anchors.OutOfMemory error found (told_as error found is) (λ same. subst (λ (e : AnchorsError). IsAnchorsFault e found) same is) every
 
 pub no_anchors_fault : (text : List ℕ) (said : List Anchor) (told : Fault)
     → ((error : AnchorsError) → AreAnchorsOf text said → IsFaultOf text error → ⊥)

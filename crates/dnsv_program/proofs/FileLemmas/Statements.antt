@@ -1,6 +1,6 @@
 -- A text of statements says one thing of each entry, or has one fault.
-use Rattle.std.proofs.Common.{◌≡◌, ℕ, List, refl, subst}
-use Rattle.dnsv_verifier.specs.Statements.{Agree, IsFaultOf, IsSaid}
+use Rattle.std.proofs.Common.{◌≡◌, ◌⊎◌, ℕ, List, Result, Err, refl, subst}
+use Rattle.dnsv_verifier.specs.Statements.{Agree, BeginsWithStatement, IsFaultOf, IsSaid}
 use Rattle.dnsv_verifier.specs.StatementsLaws.{AreStatementsOf-no_fault, AreStatementsOf-only, IsFaultOf-only}
 use Rattle.dnsv_verifier.specs.declared.answer.Answer.{Answer}
 use Rattle.dnsv_verifier.specs.declared.answer.Answer.TheVariants.{Valid, Invalid, Unknown}
@@ -14,8 +14,9 @@ use Rattle.dnsv_program.specs.declared.status.Fault.TheVariants as fault
 use Rattle.dnsv_program.specs.declared.status.InputFile.TheVariants.{Statements}
 use Rattle.dnsv_program.specs.declared.status.Place.{Place}
 use Rattle.dnsv_program.specs.declared.status.Refusal.{Refusal}
-use Rattle.dnsv_program.proofs.FileLemmas.Text.{no_text_fault, one_at_line, one_text_fault, told_by_one}
+use Rattle.dnsv_program.proofs.FileLemmas.Text.{every_told, no_text_fault, one_at_line, one_text_fault, told_by_one}
 use Rattle.dnsv_program.specs.declared.status.Refusal.TheVariants as refusal
+use Rattle.dnsv_program.specs.Told.{IsStatementsFault, TellsRefusals}
 use Rattle.dnsv_program.specs.Files.Statements.{AreStatementsRefused, IsFaultOfStatements, IsMeaningOf, TellsStatementsError}
 
 -- ---- what is said
@@ -43,6 +44,29 @@ one_telling : (error : StatementsError) (a b : Refusal) (p q : Place) → TellsS
 one_telling statements.OutOfMemory a b p q x y = absurd x
 one_telling (statements.Syntax number) a b p q x y = one_at_line number (refusal.StatementLine (statements.Syntax number)) a b p q x.0 x.1 y.0 y.1
 one_telling (statements.Contradiction number) a b p q x y = one_at_line number (refusal.StatementLine (statements.Contradiction number)) a b p q x.0 x.1 y.0 y.1
+
+-- a refusal that tells an error is the one that it is told as
+told_as : (error : StatementsError) (found : Fault) → IsStatementsFault error found → (why : Refusal) (place : Place) → TellsStatementsError error why place → found ≡ fault.Refused why place
+told_as statements.OutOfMemory found is why place tells = absurd tells
+told_as (statements.Syntax line) (fault.Refused a p) is why place tells = one_telling (statements.Syntax line) a why p place is tells
+told_as (statements.Syntax line) fault.OutOfMemory is why place tells = absurd is
+told_as (statements.Syntax line) (fault.ReadFailed file) is why place tells = absurd is
+told_as (statements.Syntax line) (fault.TooLong file) is why place tells = absurd is
+told_as (statements.Syntax line) (fault.OpenFailed file) is why place tells = absurd is
+told_as (statements.Syntax line) fault.WriteFailed is why place tells = absurd is
+told_as (statements.Contradiction line) (fault.Refused a p) is why place tells = one_telling (statements.Contradiction line) a why p place is tells
+told_as (statements.Contradiction line) fault.OutOfMemory is why place tells = absurd is
+told_as (statements.Contradiction line) (fault.ReadFailed file) is why place tells = absurd is
+told_as (statements.Contradiction line) (fault.TooLong file) is why place tells = absurd is
+told_as (statements.Contradiction line) (fault.OpenFailed file) is why place tells = absurd is
+told_as (statements.Contradiction line) fault.WriteFailed is why place tells = absurd is
+
+-- what refuses the text is told, or memory was refused before it
+pub every_statements_fault : {T U : Type 0} (text : List ℕ) (error : StatementsError) (found : Fault) → IsStatementsFault error found
+    → ((first : StatementsError) → IsFaultOf text first → Path (Result U StatementsError) (Err error) (Err first) ⊎ (Path (Result U StatementsError) (Err error) (Err statements.OutOfMemory) × BeginsWithStatement text))
+    → TellsRefusals {T = T} (λ why place. (first : StatementsError) × IsFaultOf text first × TellsStatementsError first why place) (BeginsWithStatement text) (Err found)
+every_statements_fault text error found is every =
+    every_told (IsFaultOf text) TellsStatementsError (BeginsWithStatement text) statements.OutOfMemory error found (told_as error found is) (λ same. subst (λ (e : StatementsError). IsStatementsFault e found) same is) every
 
 -- a text that has a meaning has no fault
 pub no_statements_fault : (text : List ℕ) (meaning : Entry → Answer) (told : Fault) → IsMeaningOf text meaning → IsFaultOfStatements text told → ⊥

@@ -1,5 +1,5 @@
 -- What is refused in one way has one fault.
-use Rattle.std.proofs.Common.{◌≡◌, ◌<◌, ◌≤◌, ℕ, List, sym, subst, ◌∙◌, arith, length}
+use Rattle.std.proofs.Common.{◌≡◌, ◌⊎◌, ◌<◌, ◌≤◌, ℕ, List, Result, Ok, Err, inl, inr, ⊎_elim, sym, ap, subst, ◌∙◌, arith, length}
 use Rattle.dnsv_program.specs.declared.status.Fault.{Fault}
 use Rattle.dnsv_program.specs.declared.status.Fault.TheVariants as fault
 use Rattle.dnsv_program.specs.declared.status.InputFile.{InputFile}
@@ -8,6 +8,7 @@ use Rattle.dnsv_program.specs.declared.status.Refusal.{Refusal}
 use Rattle.dnsv_message.specs.Streams.Frames.{file_limit}
 use Rattle.dnsv_program.specs.Files.Faults.{IsTextFault}
 use Rattle.dnsv_program.specs.Files.Statements.{IsAtLine}
+use Rattle.dnsv_program.specs.Told.{TellsRefusals}
 
 pub too_many : (size limit : ℕ) → size ≤ limit → limit < size → ⊥
 too_many size limit within past = omega (arith, within, past)
@@ -28,6 +29,49 @@ pub told_by_one : {Error : Type 0} (Is : Error → Type 0) (Tells : Error → Re
     → fault.Refused a p ≡ fault.Refused b q
 told_by_one {Error} Is Tells one told a b p q x y =
     told y.0 a b p q (subst (λ (error : Error). Tells error a p) (one x.0 y.0 x.1 y.1) x.2) y.2
+
+-- what has one error is told as that, or memory was refused before it
+pub every_told : {T U Error : Type 0} (Is : Error → Type 0) (Tells : Error → Refusal → Place → Type 0) (Begins : Type 0) (memory error : Error) (found : Fault)
+    → ((why : Refusal) (place : Place) → Tells error why place → found ≡ fault.Refused why place)
+    → (error ≡ memory → found ≡ fault.OutOfMemory)
+    → ((first : Error) → Is first → Path (Result U Error) (Err error) (Err first) ⊎ (Path (Result U Error) (Err error) (Err memory) × Begins))
+    → TellsRefusals {T = T} (λ why place. (first : Error) × Is first × Tells first why place) Begins (Err found)
+every_told {T} {U} {Error} Is Tells Begins memory error found refused wanting every why place bad =
+    ⊎_elim (λ (same : Path (Result U Error) (Err error) (Err bad.0)).
+    let is : error ≡ bad.0 = cc in
+    inl (ap (λ (f : Fault). Err f) (refused why place (subst (λ (e : Error). Tells e why place) (sym is) bad.2))))
+    (λ (out : Path (Result U Error) (Err error) (Err memory) × Begins).
+    let one : Path (Result U Error) (Err error) (Err memory) = out.0 in
+    let is : error ≡ memory = cc in
+    inr (ap (λ (f : Fault). Err f) (wanting is), out.1)) (every bad.0 bad.1)
+
+-- what has no error isn't refused
+pub never_told : {T U Error : Type 0} (Is : Error → Type 0) (Tells : Error → Refusal → Place → Type 0) (Begins : Type 0) (memory : Error) (x : U) (y : T)
+    → ((first : Error) → Is first → Path (Result U Error) (Ok x) (Err first) ⊎ (Path (Result U Error) (Ok x) (Err memory) × Begins))
+    → TellsRefusals {T = T} (λ why place. (first : Error) × Is first × Tells first why place) Begins (Ok y)
+never_told {T} {U} {Error} Is Tells Begins memory x y every why place bad =
+    absurd (⊎_elim (λ (same : Path (Result U Error) (Ok x) (Err bad.0)). cc)
+    (λ (out : Path (Result U Error) (Ok x) (Err memory) × Begins). let one : Path (Result U Error) (Ok x) (Err memory) = out.0 in cc) (every bad.0 bad.1))
+
+-- what is refused is told alike whatever else the result may be
+pub refusals_alike : {T U : Type 0} (IsRefused : Refusal → Place → Type 0) (Begins : Type 0) (told : Fault)
+    → TellsRefusals {T = T} IsRefused Begins (Err told) → TellsRefusals {T = U} IsRefused Begins (Err told)
+refusals_alike {T} {U} IsRefused Begins told tells why place bad =
+    ⊎_elim (λ (same : Path (Result T Fault) (Err told) (Err (fault.Refused why place))).
+    let is : told ≡ fault.Refused why place = cc in
+    inl (ap (λ (f : Fault). Err f) is))
+    (λ (out : Path (Result T Fault) (Err told) (Err fault.OutOfMemory) × Begins).
+    let one : Path (Result T Fault) (Err told) (Err fault.OutOfMemory) = out.0 in
+    let is : told ≡ fault.OutOfMemory = cc in
+    inr (ap (λ (f : Fault). Err f) is, out.1)) (tells why place bad)
+
+-- what is said isn't refused
+pub no_refusal : {T U : Type 0} (IsRefused : Refusal → Place → Type 0) (Begins : Type 0) (x : T) (y : U)
+    → TellsRefusals {T = T} IsRefused Begins (Ok x) → TellsRefusals {T = U} IsRefused Begins (Ok y)
+no_refusal {T} {U} IsRefused Begins x y tells why place bad =
+    absurd (⊎_elim (λ (same : Path (Result T Fault) (Ok x) (Err (fault.Refused why place))). cc)
+    (λ (out : Path (Result T Fault) (Ok x) (Err fault.OutOfMemory) × Begins).
+    let one : Path (Result T Fault) (Ok x) (Err fault.OutOfMemory) = out.0 in cc) (tells why place bad))
 
 module _ (file : InputFile) (IsRefused : List ℕ → Refusal → Place → Type 0) (text : List ℕ) where
   -- a text within the limit that isn't refused has no fault

@@ -1,8 +1,8 @@
 -- A text of keys is one list of them, or has one fault.
-use Rattle.std.proofs.Common.{◌≡◌, ℕ, List, [], Option, Some, None, refl, sym, ap, ◌∙◌, arith}
+use Rattle.std.proofs.Common.{◌≡◌, ◌⊎◌, ℕ, List, [], Option, Some, None, Result, Err, refl, sym, ap, subst, ◌∙◌, arith}
 use Rattle.dnsv_tsig.proofs.KeyLemmas.{none_say}
 use Rattle.dnsv_tsig.specs.Key.{SharedKey}
-use Rattle.dnsv_tsig.specs.KeyFile.{IsKeyFault, IsRingOf}
+use Rattle.dnsv_tsig.specs.KeyFile.{BeginsWithKey, IsKeyFault, IsRingOf}
 use Rattle.dnsv_tsig.specs.declared.error.KeyFileError.{KeyFileError}
 use Rattle.dnsv_tsig.specs.declared.error.KeyFileError.TheVariants as key_file
 use Rattle.dnsv_program.specs.declared.status.Fault.{Fault}
@@ -13,12 +13,36 @@ use Rattle.dnsv_program.specs.declared.status.Refusal.{Refusal}
 use Rattle.dnsv_program.specs.declared.status.Refusal.TheVariants as refusal
 use Rattle.dnsv_program.specs.Opening.Keys.{AreKeysRefused, HasKeys, IsFaultOfKeys, MayHaveKeys, TellsKeysError}
 use Rattle.dnsv_program.specs.Files.{octets_or_none}
-use Rattle.dnsv_program.proofs.FileLemmas.Text.{no_text_fault, one_at_line, one_text_fault, told_by_one}
+use Rattle.dnsv_program.specs.Told.{IsKeysFault, TellsRefusals}
+use Rattle.dnsv_program.proofs.FileLemmas.Text.{every_told, no_text_fault, one_at_line, one_text_fault, told_by_one}
 
 one_telling : (error : KeyFileError) (a b : Refusal) (p q : Place) → TellsKeysError error a p → TellsKeysError error b q → fault.Refused a p ≡ fault.Refused b q
 one_telling key_file.OutOfMemory a b p q x y = absurd x
 one_telling (key_file.Syntax number) a b p q x y = one_at_line number (refusal.KeyLine (key_file.Syntax number)) a b p q x.0 x.1 y.0 y.1
 one_telling (key_file.DuplicateKey number) a b p q x y = one_at_line number (refusal.KeyLine (key_file.DuplicateKey number)) a b p q x.0 x.1 y.0 y.1
+
+-- a refusal that tells an error is the one that it is told as
+told_as : (error : KeyFileError) (found : Fault) → IsKeysFault error found → (why : Refusal) (place : Place) → TellsKeysError error why place → found ≡ fault.Refused why place
+told_as key_file.OutOfMemory found is why place tells = absurd tells
+told_as (key_file.Syntax line) (fault.Refused a p) is why place tells = one_telling (key_file.Syntax line) a why p place is tells
+told_as (key_file.Syntax line) fault.OutOfMemory is why place tells = absurd is
+told_as (key_file.Syntax line) (fault.ReadFailed file) is why place tells = absurd is
+told_as (key_file.Syntax line) (fault.TooLong file) is why place tells = absurd is
+told_as (key_file.Syntax line) (fault.OpenFailed file) is why place tells = absurd is
+told_as (key_file.Syntax line) fault.WriteFailed is why place tells = absurd is
+told_as (key_file.DuplicateKey line) (fault.Refused a p) is why place tells = one_telling (key_file.DuplicateKey line) a why p place is tells
+told_as (key_file.DuplicateKey line) fault.OutOfMemory is why place tells = absurd is
+told_as (key_file.DuplicateKey line) (fault.ReadFailed file) is why place tells = absurd is
+told_as (key_file.DuplicateKey line) (fault.TooLong file) is why place tells = absurd is
+told_as (key_file.DuplicateKey line) (fault.OpenFailed file) is why place tells = absurd is
+told_as (key_file.DuplicateKey line) fault.WriteFailed is why place tells = absurd is
+
+-- what refuses the text is told, or memory was refused before it
+pub every_keys_fault : {T U : Type 0} (text : List ℕ) (error : KeyFileError) (found : Fault) → IsKeysFault error found
+    → ((first : KeyFileError) → IsKeyFault text first → Path (Result U KeyFileError) (Err error) (Err first) ⊎ (Path (Result U KeyFileError) (Err error) (Err key_file.OutOfMemory) × BeginsWithKey text))
+    → TellsRefusals {T = T} (λ why place. (first : KeyFileError) × IsKeyFault text first × TellsKeysError first why place) (BeginsWithKey text) (Err found)
+every_keys_fault text error found is every =
+    every_told (IsKeyFault text) TellsKeysError (BeginsWithKey text) key_file.OutOfMemory error found (told_as error found is) (λ same. subst (λ (e : KeyFileError). IsKeysFault e found) same is) every
 
 -- no text has no keys
 pub no_keys : HasKeys [] []

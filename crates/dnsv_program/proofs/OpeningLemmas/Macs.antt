@@ -14,16 +14,27 @@ use Rattle.dnsv_program.specs.declared.status.Place.{Place}
 use Rattle.dnsv_program.specs.declared.status.Refusal.{Refusal}
 use Rattle.dnsv_program.specs.declared.status.Refusal.TheVariants as refusal
 use Rattle.dnsv_program.specs.Files.{octets_or_none}
-use Rattle.dnsv_program.specs.Opening.Macs.{AreMacsRefused, HasMacs, IsFaultOfMacs, IsFirstRefused, IsMacLine, IsMacRefused, MayHaveMacs, SayMacs}
+use Rattle.dnsv_program.specs.Opening.Macs.{AreMacsRefused, BeginsWithMac, HasMacs, IsFaultOfMacs, IsFirstRefused, IsMacLine, IsMacRefused, MayHaveMacs, SayMacs}
+use Rattle.dnsv_program.specs.Told.{IsRefusalOf, TellsRefusals}
 use Rattle.dnsv_program.proofs.FileLemmas.Text.{no_text_fault, one_at_line, one_text_fault}
+
+-- the first of the lines says a MAC, or that there was none
+abbrev SaysFirst : List NumberedLine → Type 0
+SaysFirst [] = ⊥
+SaysFirst (line ∷ lines) = (mac : Option (List ℕ)) × IsMacLine line.octets mac
 
 -- what the lines that are left say, behind the MACs so far, is what all lines say
 pub record GoesOn (all : List NumberedLine) (macs : List (Option (List ℕ))) (left : List NumberedLine) : Type 0 where
   pub gives : (more : List (Option (List ℕ))) → SayMacs left more → SayMacs all (macs ++ more)
   pub refused : (why : Refusal) (place : Place) → IsFirstRefused left why place → IsFirstRefused all why place
+  pub begun : (left ≡ all) ⊎ SaysFirst all
 
 pub GoesOn-start : (all : List NumberedLine) → GoesOn all [] all
-GoesOn-start all = record { gives = λ more say. say; refused = λ why place r. r }
+GoesOn-start all = record { gives = λ more say. say; refused = λ why place r. r; begun = inl refl }
+
+first_says : {all : List NumberedLine} (line : NumberedLine) (left : List NumberedLine) (mac : Option (List ℕ)) → ((line ∷ left) ≡ all) ⊎ SaysFirst all → IsMacLine line.octets mac → SaysFirst all
+first_says line left mac (inl same) is = subst SaysFirst same (mac, is)
+first_says line left mac (inr begun) is = begun
 
 -- after one more line
 pub GoesOn-more : {all : List NumberedLine} {macs : List (Option (List ℕ))} (line : NumberedLine) (left : List NumberedLine) (mac : Option (List ℕ))
@@ -31,6 +42,7 @@ pub GoesOn-more : {all : List NumberedLine} {macs : List (Option (List ℕ))} (l
 GoesOn-more {all} {macs} line left mac so_far is = record {
   gives = λ more say. subst (λ each. SayMacs all each) (sym (append_assoc macs (mac ∷ []) more)) (so_far.gives (mac ∷ more) (is, say));
   refused = λ why place r. so_far.refused why place (inr (mac, is, r));
+  begun = inr (first_says line left mac so_far.begun is);
 }
 
 -- after the last
@@ -101,12 +113,41 @@ no_macs_fault text macs told x =
     (λ why place bad. list_stands x.lines macs why place x.say
     (subst (λ lines. IsFirstRefused lines why place) (HasLines-only text bad.0 x.lines bad.1 x.has) bad.2)) told
 
+-- a text whose first line says a MAC begins with one
+begins : {text : List ℕ} (lines : List NumberedLine) → HasLines text lines → SaysFirst lines → BeginsWithMac text
+begins [] has first = absurd first
+begins (line ∷ lines) has first = record { line = line; behind = lines; has = has; value = first.0; says = first.1 }
+
 one_macs_refusal : (text : List ℕ) (a b : Refusal) (p q : Place) → AreMacsRefused text a p → AreMacsRefused text b q → fault.Refused a p ≡ fault.Refused b q
 one_macs_refusal text a b p q x y =
     one_refusal x.0 a b p q x.2 (subst (λ lines. IsFirstRefused lines b q) (HasLines-only text y.0 x.0 y.1 x.1) y.2)
 
 pub one_macs_fault : (text : List ℕ) (a b : Fault) → IsFaultOfMacs text a → IsFaultOfMacs text b → a ≡ b
 one_macs_fault text = one_text_fault Macs AreMacsRefused text (one_macs_refusal text)
+
+-- ---- what is refused is told
+
+module _ {T : Type 0} (text : List ℕ) (all : List NumberedLine) (has : HasLines text all) where
+  -- a line that is refused
+  pub line_told : {macs : List (Option (List ℕ))} (line : NumberedLine) (left : List NumberedLine) (told : Fault)
+      → GoesOn all macs (line ∷ left) → IsRefusalOf (IsMacRefused line) told → TellsRefusals {T = T} (AreMacsRefused text) (BeginsWithMac text) (Err told)
+  line_told line left (fault.Refused a p) so_far is why place bad =
+      inl (ap (λ (f : Fault). Err f) (one_macs_refusal text a why p place (all, has, so_far.refused a p (inl is)) bad))
+  line_told line left fault.OutOfMemory so_far is why place bad = absurd is
+  line_told line left (fault.ReadFailed file) so_far is why place bad = absurd is
+  line_told line left (fault.TooLong file) so_far is why place bad = absurd is
+  line_told line left (fault.OpenFailed file) so_far is why place bad = absurd is
+  line_told line left fault.WriteFailed so_far is why place bad = absurd is
+
+  -- memory that was refused to a line
+  pub memory_told : {macs : List (Option (List ℕ))} (line : NumberedLine) (left : List NumberedLine) (mac : Option (List ℕ))
+      → GoesOn all macs (line ∷ left) → IsMacLine line.octets mac → TellsRefusals {T = T} (AreMacsRefused text) (BeginsWithMac text) (Err fault.OutOfMemory)
+  memory_told line left mac so_far is why place bad = inr (refl, begins all has (first_says line left mac so_far.begun is))
+
+  -- nothing is refused
+  pub none_told : (macs : List (Option (List ℕ))) (x : T) → SayMacs all macs → TellsRefusals {T = T} (AreMacsRefused text) (BeginsWithMac text) (Ok x)
+  none_told macs x say why place bad =
+      absurd (list_stands all macs why place say (subst (λ lines. IsFirstRefused lines why place) (HasLines-only text bad.0 all bad.1 has) bad.2))
 
 -- a file that may be given has one list of MACs
 pub same_macs : (file : Option (List ℕ)) (a b : Option (List (Option (List ℕ)))) → MayHaveMacs file a → MayHaveMacs file b → a ≡ b

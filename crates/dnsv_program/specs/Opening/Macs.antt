@@ -2,6 +2,7 @@
 use Rattle.std.specs.Prelude.{◌≡◌, ◌≤◌, ◌⊎◌, ℕ, List, [], ◌∷◌, Option, Some, None, Ok, codes, length}
 use Rattle.hex.specs.Hex.{decode_of}
 use Rattle.dnsv_message.specs.Streams.Frames.{file_limit}
+use Rattle.dnsv_names.specs.Lines.LineFile.{BeginsWithValue}
 use Rattle.dnsv_names.specs.Lines.{HasLines, NumberedLine}
 use Rattle.dnsv_program.specs.declared.status.Fault.{Fault}
 use Rattle.dnsv_program.specs.declared.status.InputFile.TheVariants.{Macs}
@@ -52,6 +53,10 @@ MayHaveMacs = MayHave HasMacs
 abbrev pub AreMacsRefused : List ℕ → Refusal → Place → Type 0
 AreMacsRefused text why place =
     (lines : List NumberedLine) × HasLines text lines × IsFirstRefused lines why place
+
+-- the first line of the text says a MAC, or that there was none, so that memory is needed before any fault is found
+abbrev pub BeginsWithMac : List ℕ → Type 0
+BeginsWithMac = BeginsWithValue IsMacLine
 
 abbrev pub IsFaultOfMacs : List ℕ → Fault → Type 0
 IsFaultOfMacs = IsTextFault Macs AreMacsRefused

@@ -1,12 +1,13 @@
 //! Files of trust anchors.
 ghost use Rattle.std.specs.Prelude.{◌≡◌, ◌≤◌, IfErr, IfOk, List, Option, ℕ, length};
+ghost use Rattle.dnsv_chain.specs.AnchorFile.{BeginsWithAnchor};
 ghost use Rattle.dnsv_chain.specs.AnchorsError.{anchors_error_code};
 ghost use Rattle.dnsv_message.specs.Streams.Frames.{file_limit};
 ghost use Rattle.dnsv_program.specs.Files.Anchors.{AreAnchorsRefused, HasAnchors};
 ghost use Rattle.dnsv_program.specs.Files.Faults.{IsAbout, IsTextFault, OfOctets, TellsFailedReads};
 ghost use Rattle.dnsv_program.specs.Files.{IsToldBy, given_failures, octets_or_none};
 ghost use Rattle.dnsv_program.specs.Status.{fault_number};
-ghost use Rattle.dnsv_program.specs.Told.{IsAnchorsFault, IsFaultOf};
+ghost use Rattle.dnsv_program.specs.Told.{IsAnchorsFault, IsFaultOf, TellsRefusals};
 
 use crate::files::text::{octets_in, refused_line};
 use crate::status::{Fault, InputFile, Refusal};
@@ -35,10 +36,12 @@ pub fn anchors_in<'b, R: Read>(
     anchors_of(alloc, bump, &octets)
 }
 
-/// The trust anchors of a text; the fault is that of its first line at fault.
+/// The trust anchors of a text; the fault is that of its first line at fault. It is told, unless memory was refused to a
+/// line before it.
 fn anchors_of<'b>(alloc: Global, bump: &'b Bump, text: &[u8]) -> Result<Anchors<'b>, Fault>
     ensures said { IfOk result (λ value. length text.now ≤ file_limit → HasAnchors text.now value) }
     ensures fault { IfErr result (IsFaultOf (AreAnchorsRefused text.now)) }
+    ensures every_fault { TellsRefusals (AreAnchorsRefused text.now) (BeginsWithAnchor text.now) result }
 {
     match Anchors::parse(alloc, bump, text) {
         Ok(anchors) => Ok(anchors),

@@ -10,12 +10,14 @@ use dnsv_verifier::{Statements, StatementsError};
 use std::alloc::Global;
 
 impl FromText for Statements {
-    ghost use Rattle.dnsv_verifier.specs.Statements.{listed_answer};
+    ghost use Rattle.dnsv_verifier.specs.Statements.{BeginsWithStatement, listed_answer};
     ghost use Rattle.dnsv_program.specs.Files.Statements.{AreStatementsRefused, IsMeaningOf};
 
     ghost says = { λ text listed. IsMeaningOf text (listed_answer listed) };
 
     ghost is_refused = { AreStatementsRefused };
+
+    ghost begins = { BeginsWithStatement };
 
     fn from_text(alloc: Global, text: &[u8]) -> Result<Statements, Fault> {
         match Statements::parse(alloc, text) {

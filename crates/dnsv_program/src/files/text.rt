@@ -6,7 +6,7 @@ ghost use Rattle.dnsv_program.specs.Files.Faults.{IsAbout, IsTextFault, OfOctets
 ghost use Rattle.dnsv_program.specs.Files.{IsToldBy, MayHave, given_failures, octets_or_none};
 ghost use Rattle.dnsv_program.specs.Files.Statements.{IsAtLine};
 ghost use Rattle.dnsv_program.specs.Status.{fault_number};
-ghost use Rattle.dnsv_program.specs.Told.{IsFaultOf, IsTextReadFault, TellsTextReadError};
+ghost use Rattle.dnsv_program.specs.Told.{IsFaultOf, IsTextReadFault, TellsRefusals, TellsTextReadError};
 ghost use Rattle.dnsv_program.specs.declared.status.Place.{Place};
 ghost use Rattle.dnsv_program.specs.declared.status.Refusal.{Refusal};
 
@@ -23,10 +23,15 @@ pub trait FromText: Drop + Sized {
     /// The text is refused so, at the place.
     ghost is_refused: { List ℕ → Refusal → Place → Type 0 };
 
-    /// What the text says; the fault is that of its first line at fault.
+    /// The text begins with a line that takes memory.
+    ghost begins: { List ℕ → Type 0 };
+
+    /// What the text says; the fault is that of its first line at fault. It is told, unless memory was refused to a line
+    /// before it.
     fn from_text(alloc: Global, text: &[u8]) -> Result<Self, Fault>
         ensures said { IfOk result (λ value. length text.now ≤ file_limit → says text.now value) }
-        ensures fault { IfErr result (IsFaultOf (is_refused text.now)) };
+        ensures fault { IfErr result (IsFaultOf (is_refused text.now)) }
+        ensures every_fault { TellsRefusals (is_refused text.now) (begins text.now) result };
 }
 
 /// What the file says; one that isn't given says what an empty one does.

@@ -10,11 +10,14 @@ use dnsv_tsig::{KeyFileError, KeyRing};
 use std::alloc::Global;
 
 impl FromText for KeyRing {
+    ghost use Rattle.dnsv_tsig.specs.KeyFile.{BeginsWithKey};
     ghost use Rattle.dnsv_program.specs.Opening.Keys.{AreKeysRefused, HasKeys};
 
     ghost says = { HasKeys };
 
     ghost is_refused = { AreKeysRefused };
+
+    ghost begins = { BeginsWithKey };
 
     fn from_text(alloc: Global, text: &[u8]) -> Result<KeyRing, Fault> {
         match KeyRing::parse(alloc, text) {

@@ -1,8 +1,8 @@
 //! Files of the MACs of requests.
 ghost use Rattle.std.specs.Prelude.{◌≡◌, ◌≤◌, ◌↔◌, IsTrue, IfErr, IfOk, List, ℕ, length};
 ghost use Rattle.dnsv_message.specs.Streams.Frames.{file_limit};
-ghost use Rattle.dnsv_program.specs.Opening.Macs.{AreMacsRefused, HasMacs, IsMacLine, IsMacRefused};
-ghost use Rattle.dnsv_program.specs.Told.{IsFaultOf, IsRefusalOf};
+ghost use Rattle.dnsv_program.specs.Opening.Macs.{AreMacsRefused, BeginsWithMac, HasMacs, IsMacLine, IsMacRefused};
+ghost use Rattle.dnsv_program.specs.Told.{IsFaultOf, IsRefusalOf, TellsRefusals};
 
 use crate::files::text::{FromText, refused_line};
 use crate::opening::RequestMacs;
@@ -36,11 +36,13 @@ impl RequestMac {
 }
 
 impl FromText for RequestMacs {
-    ghost use Rattle.dnsv_program.specs.Opening.Macs.{AreMacsRefused, HasMacs};
+    ghost use Rattle.dnsv_program.specs.Opening.Macs.{AreMacsRefused, BeginsWithMac, HasMacs};
 
     ghost says = { HasMacs };
 
     ghost is_refused = { AreMacsRefused };
+
+    ghost begins = { BeginsWithMac };
 
     fn from_text(alloc: Global, text: &[u8]) -> Result<RequestMacs, Fault> {
         let each = macs_of(alloc, text)?;
@@ -49,10 +51,11 @@ impl FromText for RequestMacs {
 }
 
 /// The MACs of the text, of one request after another, `None` for one that had none. The fault is that of its first line
-/// that is neither 64 hex digits nor `-`.
+/// that is neither 64 hex digits nor `-`; it is told, unless memory was refused to a line before it.
 fn macs_of(alloc: Global, text: &[u8]) -> Result<Vec<Option<RequestMac>>, Fault>
     ensures macs { IfOk result (λ macs. length text.now ≤ file_limit → HasMacs text.now macs.items) }
     ensures fault { IfErr result (IsFaultOf (AreMacsRefused text.now)) }
+    ensures every_fault { TellsRefusals (AreMacsRefused text.now) (BeginsWithMac text.now) result }
 {
     let mut macs = Vec::new(alloc);
     for line in Lines::new(text) {
