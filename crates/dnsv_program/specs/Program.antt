@@ -18,7 +18,7 @@ use Rattle.dnsv_program.specs.Files.Faults.{OfFailedRead, OfOctets}
 use Rattle.dnsv_program.specs.Files.{Files}
 use Rattle.dnsv_program.specs.CommandLine.{IsAccepted, IsRefused, command_line_code}
 use Rattle.dnsv_program.specs.CommandLine.Paths.{anchors_of, capture_of, keys_of, macs_of, statements_of}
-use Rattle.dnsv_program.specs.Run.{IsTextAskedFor, IsFirstFault, IsReached}
+use Rattle.dnsv_program.specs.Run.{AsksRefused, IsTextAskedFor, IsFirstFault, IsReached}
 use Rattle.dnsv_program.specs.Status.{fault_line, status_code}
 
 -- ---- files
@@ -105,6 +105,11 @@ abbrev pub LeavesOutput : {W : Type 0} → Counted W → Counted W → Fault →
 LeavesOutput old new fault.WriteFailed = failures_of old < 2 ^ 64 - 1 → failures_of old < failures_of new
 LeavesOutput old new _ = new ≡ old
 
+-- a question that is refused is told, unless a file doesn't open
+abbrev pub TellsQuestion : Request → Fault → Type 0
+TellsQuestion request told =
+    (refused : Fault) → AsksRefused request refused → (told ≡ refused) ⊎ ((file : InputFile) × (told ≡ fault.OpenFailed file))
+
 -- The words ask for something, and the fault is the first that it has: by the octets of the files that they name, and
 -- by which of these open.
 pub record FailedRequest (words : List Text) (octets_at : List ℕ → Option (List ℕ))
@@ -113,6 +118,7 @@ pub record FailedRequest (words : List Text) (octets_at : List ℕ → Option (L
   pub accepted : IsAccepted words request
   pub first : (files : Files) → AreFilesAt octets_at request files → OfOctets (IsFirstFault request files) told
   pub reached : (files : Files) → AreFilesAt octets_at request files → OfFailedRead (IsReached request files) told
+  pub question : TellsQuestion request told
   pub unopened : (opens : List ℕ → Bool) → ((path : List ℕ) → opens_at path ≡ Some (opens path))
       → (file : InputFile) → (told ≡ fault.OpenFailed file)
       ↔ (first_unopened opens (paths_of request) ≡ Some file)

@@ -1,5 +1,5 @@
 //! What the frames of a file of captured messages are opened by.
-ghost use Rattle.std.specs.Prelude.{◌≡◌, ◌⊎◌, Decides, IfErr, IfOk, List, Option, ℕ};
+ghost use Rattle.std.specs.Prelude.{◌≡◌, ◌⊎◌, Decides, IfErr, IfOk, List, None, Ok, Option, ℕ};
 ghost use Rattle.std.specs.Option.{option_copied};
 ghost use Rattle.dnsv_message.specs.Streams.Frames.{octets_at_each};
 ghost use Rattle.dnsv_program.specs.Opening.{HasItsMacs, request_mac};
@@ -119,6 +119,7 @@ pub fn opening_in<R: Read>(
     ensures keys_reads { TellsFailedReads InputFile.Keys (given_failures keys.old) (given_failures keys.new) result }
     ensures macs_reads { TellsFailedReads InputFile.Macs (given_failures macs.old) (given_failures macs.new) result }
     ensures about { IfErr result (λ told. IsAbout InputFile.Keys told ⊎ IsAbout InputFile.Macs told) }
+    ensures none { keys.old ≡ None → result ≡ Ok Opening.Plain }
 {
     let Some(keys) = given_text_in(alloc, InputFile::Keys, keys)? else {
         return Ok(Opening::Plain);

@@ -7,7 +7,7 @@ ghost use Rattle.dnsv_program.specs.Files.Faults.{OfFailedRead, OfOctets};
 ghost use Rattle.dnsv_program.specs.Files.{AreTold, Files, IsToldBy};
 ghost use Rattle.dnsv_program.specs.CommandLine.{IsAccepted, IsRefused, command_line_code};
 ghost use Rattle.dnsv_program.specs.Program.{AreFilesAt, BeganText, IsEnd, RefusedFiles, RefusedWords, WroteText};
-ghost use Rattle.dnsv_program.specs.Program.{FailedRequest, FailedWords, HasToldIn, HasWritten, LeavesOutput};
+ghost use Rattle.dnsv_program.specs.Program.{FailedRequest, FailedWords, HasToldIn, HasWritten, LeavesOutput, TellsQuestion};
 ghost use Rattle.dnsv_program.specs.Program.{first_unopened, given_path, paths_of};
 ghost use Rattle.dnsv_program.specs.Run.{IsTextAskedFor, IsFirstFault, IsReached};
 ghost use Rattle.dnsv_program.specs.Status.{fault_code, outcome_code};
@@ -105,6 +105,9 @@ fn answer<M: Machine, W: Write>(
         → IfErr result (OfOctets (IsFirstFault request.now files)) }
     ensures reached { (files : Files) → AreFilesAt (M.octets_at machine.now) request.now files
         → IfErr result (OfFailedRead (IsReached request.now files)) }
+
+    // A question that is refused is told where the files open, whatever memory there is.
+    ensures question { IfErr result (TellsQuestion request.now) }
 
     // The first file that doesn't open is the fault.
     ensures unopened { (opens : List ℕ → Bool) → ((path : List ℕ) → M.opens machine.now path ≡ Some (opens path))

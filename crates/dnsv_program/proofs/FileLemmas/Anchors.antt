@@ -1,5 +1,5 @@
 -- A text of trust anchors is one list of them, or has one fault.
-use Rattle.std.proofs.Common.{◌≡◌, ◌⊎◌, inl, inr, subst, sym, ℕ, List, Result, Err}
+use Rattle.std.proofs.Common.{◌≡◌, ◌⊎◌, inl, inr, refl, subst, sym, ℕ, List, Result, Err}
 use Rattle.dnsv_chain.specs.AnchorFile.{AreAnchorsOf, BeginsWithAnchor, IsFaultOf}
 use Rattle.dnsv_chain.specs.declared.anchor.Anchor.{Anchor}
 use Rattle.dnsv_chain.specs.declared.anchors.AnchorsError.{AnchorsError}
@@ -72,3 +72,10 @@ pub one_anchors_fault : (text : List ℕ) (a b : Fault) → ((x y : AnchorsError
     → IsFaultOfAnchors text a → IsFaultOfAnchors text b → a ≡ b
 one_anchors_fault text a b one =
     one_text_fault Anchors AreAnchorsRefused text (told_by_one (IsFaultOf text) TellsAnchorsError one one_telling) a b
+
+-- memory is wanted only for a text that begins with something
+pub wanted_for_anchors : {T : Type 0} (text : List ℕ) (error : AnchorsError) (found : Fault) → IsAnchorsFault error found → (error ≡ anchors.OutOfMemory → BeginsWithAnchor text)
+    → Path (Result T Fault) (Err found) (Err fault.OutOfMemory) → BeginsWithAnchor text
+wanted_for_anchors text anchors.OutOfMemory found tells begins is = begins refl
+wanted_for_anchors text (anchors.Syntax line) found tells begins is = let same : found ≡ fault.OutOfMemory = cc in absurd (subst (IsAnchorsFault (anchors.Syntax line)) same tells)
+wanted_for_anchors text (anchors.TooMany line) found tells begins is = let same : found ≡ fault.OutOfMemory = cc in absurd (subst (IsAnchorsFault (anchors.TooMany line)) same tells)

@@ -2,13 +2,13 @@
 use Rattle.std.proofs.Common.{◌≡◌, ℕ, suc, ◌+◌, ◌<◌, ◌≤◌, List, [], ◌∷◌, ◌++◌, length, get_or, take, drop, refl, sym, ap, subst, ◌∙◌, inl, inr, arith}
 use Rattle.std.proofs.lemmas.List.{drop_more, take_all, take_more, length-map, length-take-le, get_or-map}
 use Rattle.std.specs.List.{fold}
-use Rattle.std.specs.Prelude.{Result, Err}
+use Rattle.std.specs.Prelude.{Result, Ok, Err, OnOk}
 use Rattle.std.specs.Borrow.{Bor}
 use Rattle.dnsv_message.specs.Streams.Frames.{octets_at_each}
 use Rattle.dnsv_message.specs.Message.{Contents}
 use Rattle.dnsv_canonical.specs.declared.capture.CaptureError.{CaptureError}
 use Rattle.dnsv_canonical.specs.declared.capture.CaptureError.TheVariants as capture
-use Rattle.dnsv_canonical.specs.Evidence.{Evidence, IsReasonAgainst, evidence_of, no_evidence, with_message}
+use Rattle.dnsv_canonical.specs.Evidence.{Evidence, IsReasonAgainst, IsWhole, evidence_of, no_evidence, with_message}
 use Rattle.dnsv_program.specs.declared.status.Fault.{Fault}
 use Rattle.dnsv_program.specs.declared.status.Fault.TheVariants as fault
 use Rattle.dnsv_program.specs.declared.status.Place.{Place}
@@ -79,6 +79,21 @@ module _ (opening : Opening) (held : Evidence) (frame : List ℕ) (number : ℕ)
   capture_refused capture.Limit (fault.TooLong file) refused tells = absurd tells
   capture_refused capture.Limit (fault.OpenFailed file) refused tells = absurd tells
   capture_refused capture.Limit fault.WriteFailed refused tells = absurd tells
+
+  -- what it takes is
+  pub message_added : {T E : Type 0} (now : Evidence) (result : Result T E) → OnOk result (Meets NewEvidence held message × (now ≡ with_message held message))
+      → OnOk result ((added : Contents) × (IsInFrame opening number frame added × Meets NewEvidence held added) × (now ≡ with_message held added))
+  message_added now (Ok x) added = (message, (is, added.0), added.1)
+  message_added now (Err e) added = tt
+
+-- memory is wanted for a whole response alone
+pub whole_wanted : {T : Type 0} (held : Evidence) (message : Contents) (number : ℕ) (error : CaptureError) (told : Fault) → IsReasonAgainst held message error
+    → IsCaptureFault error number told → Path (Result T Fault) (Err told) (Err fault.OutOfMemory) → IsWhole message
+whole_wanted held message number capture.OutOfMemory told refused tells is = refused
+whole_wanted held message number capture.NotAResponse told refused tells is = let same : told ≡ fault.OutOfMemory = cc in absurd (subst (IsCaptureFault capture.NotAResponse number) same tells)
+whole_wanted held message number capture.Truncated told refused tells is = let same : told ≡ fault.OutOfMemory = cc in absurd (subst (IsCaptureFault capture.Truncated number) same tells)
+whole_wanted held message number (capture.BadRdata k) told refused tells is = let same : told ≡ fault.OutOfMemory = cc in absurd (subst (IsCaptureFault (capture.BadRdata k) number) same tells)
+whole_wanted held message number capture.Limit told refused tells is = let same : told ≡ fault.OutOfMemory = cc in absurd (subst (IsCaptureFault capture.Limit number) same tells)
 
 -- the messages before the place are taken, and what is refused from there on is the first that is
 pub record MessagesSoFar (demand : Demand) (opening : Opening) (frames : List (List ℕ)) (done : ℕ) (messages : List Contents) : Type 0 where

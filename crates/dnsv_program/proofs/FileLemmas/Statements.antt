@@ -79,3 +79,10 @@ pub one_statements_fault : (text : List ℕ) (a b : Fault) → IsFaultOfStatemen
 one_statements_fault text =
     one_text_fault Statements AreStatementsRefused text
     (told_by_one (IsFaultOf text) TellsStatementsError (IsFaultOf-only text) one_telling)
+
+-- memory is wanted only for a text that begins with something
+pub wanted_for_statements : {T : Type 0} (text : List ℕ) (error : StatementsError) (found : Fault) → IsStatementsFault error found → (error ≡ statements.OutOfMemory → BeginsWithStatement text)
+    → Path (Result T Fault) (Err found) (Err fault.OutOfMemory) → BeginsWithStatement text
+wanted_for_statements text statements.OutOfMemory found tells begins is = begins refl
+wanted_for_statements text (statements.Syntax line) found tells begins is = let same : found ≡ fault.OutOfMemory = cc in absurd (subst (IsStatementsFault (statements.Syntax line)) same tells)
+wanted_for_statements text (statements.Contradiction line) found tells begins is = let same : found ≡ fault.OutOfMemory = cc in absurd (subst (IsStatementsFault (statements.Contradiction line)) same tells)

@@ -65,6 +65,11 @@ refusals_alike {T} {U} IsRefused Begins told tells why place bad =
     let is : told ≡ fault.OutOfMemory = cc in
     inr (ap (λ (f : Fault). Err f) is, out.1)) (tells why place bad)
 
+-- memory is wanted alike
+pub wanted_alike : {T U Begins : Type 0} (told : Fault) → (Path (Result T Fault) (Err told) (Err fault.OutOfMemory) → Begins)
+    → Path (Result U Fault) (Err told) (Err fault.OutOfMemory) → Begins
+wanted_alike {T} {U} told begins out = let same : told ≡ fault.OutOfMemory = cc in begins (ap (λ (f : Fault). Err f) same)
+
 -- what is said isn't refused
 pub no_refusal : {T U : Type 0} (IsRefused : Refusal → Place → Type 0) (Begins : Type 0) (x : T) (y : U)
     → TellsRefusals {T = T} IsRefused Begins (Ok x) → TellsRefusals {T = U} IsRefused Begins (Ok y)

@@ -76,3 +76,10 @@ module _ (one_ring : (text : List ℕ) (a b : List SharedKey) → IsRingOf text 
   same_keys (Some text) None b x y = absurd x
   same_keys (Some text) (Some a) None x y = absurd y
   same_keys (Some text) (Some a) (Some b) x y = ap (λ keys. Some keys) (one_ring text a b x.are y.are)
+
+-- memory is wanted only for a text that begins with something
+pub wanted_for_keys : {T : Type 0} (text : List ℕ) (error : KeyFileError) (found : Fault) → IsKeysFault error found → (error ≡ key_file.OutOfMemory → BeginsWithKey text)
+    → Path (Result T Fault) (Err found) (Err fault.OutOfMemory) → BeginsWithKey text
+wanted_for_keys text key_file.OutOfMemory found tells begins is = begins refl
+wanted_for_keys text (key_file.Syntax line) found tells begins is = let same : found ≡ fault.OutOfMemory = cc in absurd (subst (IsKeysFault (key_file.Syntax line)) same tells)
+wanted_for_keys text (key_file.DuplicateKey line) found tells begins is = let same : found ≡ fault.OutOfMemory = cc in absurd (subst (IsKeysFault (key_file.DuplicateKey line)) same tells)

@@ -127,6 +127,11 @@ one_macs_fault text = one_text_fault Macs AreMacsRefused text (one_macs_refusal 
 
 -- ---- what is refused is told
 
+-- a line says a MAC, or that there was none, so the first does
+pub begins_so : {text : List ℕ} (all : List NumberedLine) (has : HasLines text all) {macs : List (Option (List ℕ))} (line : NumberedLine)
+    (left : List NumberedLine) (mac : Option (List ℕ)) → GoesOn all macs (line ∷ left) → IsMacLine line.octets mac → BeginsWithMac text
+begins_so all has line left mac so_far is = begins all has (first_says line left mac so_far.begun is)
+
 module _ {T : Type 0} (text : List ℕ) (all : List NumberedLine) (has : HasLines text all) where
   -- a line that is refused
   pub line_told : {macs : List (Option (List ℕ))} (line : NumberedLine) (left : List NumberedLine) (told : Fault)
@@ -142,7 +147,7 @@ module _ {T : Type 0} (text : List ℕ) (all : List NumberedLine) (has : HasLine
   -- memory that was refused to a line
   pub memory_told : {macs : List (Option (List ℕ))} (line : NumberedLine) (left : List NumberedLine) (mac : Option (List ℕ))
       → GoesOn all macs (line ∷ left) → IsMacLine line.octets mac → TellsRefusals {T = T} (AreMacsRefused text) (BeginsWithMac text) (Err fault.OutOfMemory)
-  memory_told line left mac so_far is why place bad = inr (refl, begins all has (first_says line left mac so_far.begun is))
+  memory_told line left mac so_far is why place bad = inr (refl, begins_so all has line left mac so_far is)
 
   -- nothing is refused
   pub none_told : (macs : List (Option (List ℕ))) (x : T) → SayMacs all macs → TellsRefusals {T = T} (AreMacsRefused text) (BeginsWithMac text) (Ok x)
@@ -212,3 +217,8 @@ macs_or_fault text lines has =
     ⊎_elim (λ (within : length text ≤ file_limit). within_answer text lines has within (lines_answer lines))
     (λ (long : length text ≤ file_limit → ⊥). inr (fault.TooLong Macs, (refl, past (length text) file_limit long)))
     (at_most_or (length text) file_limit)
+
+-- a line that is refused wants no memory
+pub no_memory_wanted : {T : Type 0} {Begins : Type 0} (IsRefused : Refusal → Place → Type 0) (told : Fault) → IsRefusalOf IsRefused told
+    → Path (Result T Fault) (Err told) (Err fault.OutOfMemory) → Begins
+no_memory_wanted IsRefused told is out = let same : told ≡ fault.OutOfMemory = cc in absurd (subst (IsRefusalOf IsRefused) same is)

@@ -13,9 +13,10 @@ use Rattle.dnsv_program.specs.declared.status.Status.{Status}
 use Rattle.dnsv_program.specs.Files.Faults.{OfFailedRead, OfOctets}
 use Rattle.dnsv_program.specs.Files.{Files}
 use Rattle.dnsv_program.specs.CommandLine.{IsAccepted, IsRefused, command_line_code}
-use Rattle.dnsv_program.specs.Program.{AreFilesAt, FailedRequest, FailedWords, HasToldIn, IsEnd, LeavesOutput, first_unopened, paths_of}
-use Rattle.dnsv_program.specs.Run.{IsFirstFault, IsReached}
+use Rattle.dnsv_program.specs.Program.{AreFilesAt, FailedRequest, FailedWords, HasToldIn, IsEnd, LeavesOutput, TellsQuestion, first_unopened, paths_of}
+use Rattle.dnsv_program.specs.Run.{AsksRefused, IsFirstFault, IsReached}
 use Rattle.dnsv_program.specs.Status.{fault_code, fault_line, outcome_code}
+use Rattle.dnsv_program.specs.Told.{IsOpenFault}
 use Rattle.dnsv_program.proofs.ProgramLemmas.{no_1, no_7, no_end}
 use Rattle.dnsv_program.proofs.ProgramLemmas.Words.{EndsSo, at_most_2, no_7_of_words}
 
@@ -27,6 +28,25 @@ pub told_by_write : {W E T : Type 0} (contents : W → Option (List ℕ)) (old n
     → HasToldIn contents old new told
 told_by_write contents old new told (Ok done) whole begun counted = inl whole
 told_by_write contents old new told (Err error) whole begun counted = inr ((λ below. omega (arith, below, counted)), begun)
+
+-- ---- a question that is refused
+
+-- the run tells it
+pub told_by_run : (request : Request) (outcome : Result Status Fault) → ((refused : Fault) → AsksRefused request refused → outcome ≡ Err refused)
+    → IfErr outcome (TellsQuestion request)
+told_by_run request (Ok status) tells = tt
+told_by_run request (Err told) tells = λ refused asks.
+    let out : Path (Result Status Fault) (Err told) (Err refused) = tells refused asks in
+    let same : told ≡ refused = cc in inl same
+
+-- or a file didn't open
+pub not_opened : (request : Request) (told : Fault) → IsOpenFault told → TellsQuestion request told
+not_opened request (fault.OpenFailed file) is = λ refused asks. inr (file, refl)
+not_opened request fault.OutOfMemory is = absurd is
+not_opened request (fault.ReadFailed file) is = absurd is
+not_opened request (fault.TooLong file) is = absurd is
+not_opened request fault.WriteFailed is = absurd is
+not_opened request (fault.Refused why place) is = absurd is
 
 -- ---- where the words ask for something
 
@@ -56,14 +76,15 @@ module _ (octets_at : List ℕ → Option (List ℕ)) (opens_at : List ℕ → O
       → (outcome ≡ Err (fault.OpenFailed file)) ↔ (first_unopened opens (paths_of request) ≡ Some file)
 
   failed_request : (given : Option (List (List ℕ))) (told : Fault) → IfSome given (λ words. IsAccepted words request)
-      → IsFirst {T = Status} (Err told) → IsBehind {T = Status} (Err told) → TellsUnopened {T = Status} (Err told)
+      → IsFirst {T = Status} (Err told) → IsBehind {T = Status} (Err told) → TellsQuestion request told → TellsUnopened {T = Status} (Err told)
       → IfSome given (λ words. FailedRequest words octets_at opens_at told ⊎ FailedWords words told)
-  failed_request None told accepted first behind unopened = tt
-  failed_request (Some words) told accepted first behind unopened = inl (record {
+  failed_request None told accepted first behind question unopened = tt
+  failed_request (Some words) told accepted first behind question unopened = inl (record {
     request = request;
     accepted = accepted;
     first = first;
     reached = behind;
+    question = question;
     unopened = λ opens tells file. let same = unopened opens tells file in (
       λ is. same.0 (ap (λ (f : Fault). Err f) is),
       λ is. let told_so : Path (Result Status Fault) (Err told) (Err (fault.OpenFailed file)) = same.1 is in cc,
@@ -71,19 +92,20 @@ module _ (octets_at : List ℕ → Option (List ℕ)) (opens_at : List ℕ → O
   })
 
   pub request_told : {W : Type 0} {IsLine : Fault → Type 0} (given : Option (List (List ℕ))) (old new : Counted W) (outcome : Result Status Fault) (code : ℕ)
-      → outcome_code outcome ≡ code → IfSome given (λ words. IsAccepted words request) → IsFirst outcome → IsBehind outcome → TellsUnopened outcome
+      → outcome_code outcome ≡ code → IfSome given (λ words. IsAccepted words request) → IsFirst outcome → IsBehind outcome
+      → IfErr outcome (TellsQuestion request) → TellsUnopened outcome
       → IfErr outcome (λ told. (told ≡ fault.WriteFailed → ⊥) → new ≡ old)
       → (outcome ≡ Err fault.WriteFailed → failures_of old < 2 ^ 64 - 1 → failures_of old < failures_of new)
       → IfErr outcome IsLine → (code ≡ 1) ⊎ (code ≡ 7)
       → (told : Fault) × (fault_code told ≡ code) × IsLine told × LeavesOutput old new told
       × IfSome given (λ words. FailedRequest words octets_at opens_at told ⊎ FailedWords words told)
-  request_told given old new (Ok status) code is accepted first behind unopened untouched failed line ends = absurd (no_fault status code is ends)
-  request_told given old new (Err told) code is accepted first behind unopened untouched failed line ends = (
+  request_told given old new (Ok status) code is accepted first behind question unopened untouched failed line ends = absurd (no_fault status code is ends)
+  request_told given old new (Err told) code is accepted first behind question unopened untouched failed line ends = (
     told,
     is,
     line,
     leaves old new told untouched (λ same. failed (ap (λ (f : Fault). Err f) same)),
-    failed_request given told accepted first behind unopened,
+    failed_request given told accepted first behind question unopened,
   )
 
 pub quiet_at_end : {Same : Type 0} (outcome : Result Status Fault) (code : ℕ) → outcome_code outcome ≡ code → IsEnd code → OnOk outcome Same → Same

@@ -1,5 +1,5 @@
 //! Files of trust anchors.
-ghost use Rattle.std.specs.Prelude.{◌≡◌, ◌≤◌, IfErr, IfOk, List, Option, ℕ, length};
+ghost use Rattle.std.specs.Prelude.{◌≡◌, ◌≤◌, Err, IfErr, IfOk, List, Option, ℕ, length};
 ghost use Rattle.dnsv_chain.specs.AnchorFile.{BeginsWithAnchor};
 ghost use Rattle.dnsv_chain.specs.AnchorsError.{anchors_error_code};
 ghost use Rattle.dnsv_message.specs.Streams.Frames.{file_limit};
@@ -42,6 +42,7 @@ fn anchors_of<'b>(alloc: Global, bump: &'b Bump, text: &[u8]) -> Result<Anchors<
     ensures said { IfOk result (λ value. length text.now ≤ file_limit → HasAnchors text.now value) }
     ensures fault { IfErr result (IsFaultOf (AreAnchorsRefused text.now)) }
     ensures every_fault { TellsRefusals (AreAnchorsRefused text.now) (BeginsWithAnchor text.now) result }
+    ensures memory { result ≡ Err Fault.OutOfMemory → BeginsWithAnchor text.now }
 {
     match Anchors::parse(alloc, bump, text) {
         Ok(anchors) => Ok(anchors),

@@ -1,5 +1,5 @@
 //! The messages of a file of captured messages.
-ghost use Rattle.std.specs.Prelude.{◌≡◌, List, IfErr, IfOk, IfSome, Ok, OnOk, Some, None};
+ghost use Rattle.std.specs.Prelude.{◌≡◌, Err, List, IfErr, IfOk, IfSome, Ok, OnOk, Some, None, ℕ};
 ghost use Rattle.std.specs.Option.{option_copied};
 ghost use Rattle.dnsv_message.specs.Streams.Counted.{inner_of, failures_of};
 ghost use Rattle.dnsv_message.specs.Errors.{decode_error_code};
@@ -8,7 +8,7 @@ ghost use Rattle.dnsv_message.specs.Streams.Frames.{IsCapture, octets_at_each};
 ghost use Rattle.dnsv_message.specs.Grammar.{MessageOf};
 ghost use Rattle.dnsv_message.specs.Message.{Contents};
 ghost use Rattle.dnsv_canonical.specs.CaptureError.{capture_error_code};
-ghost use Rattle.dnsv_canonical.specs.Evidence.{evidence_of, no_evidence, with_message};
+ghost use Rattle.dnsv_canonical.specs.Evidence.{IsWhole, evidence_of, no_evidence, with_message};
 ghost use Rattle.dnsv_tsig.specs.Answer.{tsig_answer_of};
 ghost use Rattle.dnsv_tsig.specs.Errors.{tsig_error_code};
 ghost use Rattle.dnsv_program.specs.Files.Capture.{Demand, NewEvidence, AllTaken, Meets, Holds};
@@ -140,7 +140,22 @@ fn add_frame<'b>(
     ensures refused { IfErr result (IsFaultOf (IsRefusedAt NewEvidence opening.now held.old frame.now number)) }
 {
     let message = message_of(alloc, opening, frame, number, bump)?;
-    match held.add(&message) {
+    add_message(held, &message, number)
+}
+
+/// Adds the message with this number to the evidence. Memory is wanted only for a response that wasn't cut to fit.
+fn add_message<'b>(
+    held: &mut Capture<'b>,
+    message: &Message<'b>,
+    number: usize,
+) -> Result<(), Fault>
+    ensures added { OnOk result (Meets NewEvidence held.old message.now
+        × (held.new ≡ with_message held.old message.now)) }
+    ensures refused { (opening : Opening) (frame : List ℕ) → IsInFrame opening number frame message.now
+        → IfErr result (IsFaultOf (IsRefusedAt NewEvidence opening held.old frame number)) }
+    ensures memory { result ≡ Err Fault.OutOfMemory → IsWhole message.now }
+{
+    match held.add(message) {
         Ok(()) => Ok(()),
         Err(error) => Err(capture_fault(error, number)),
     }

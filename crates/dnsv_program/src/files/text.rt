@@ -1,5 +1,5 @@
 //! Text files, which may be left out.
-ghost use Rattle.std.specs.Prelude.{◌≡◌, ◌<◌, ◌≤◌, Err, IfErr, IfOk, List, Option, ℕ, length};
+ghost use Rattle.std.specs.Prelude.{◌≡◌, ◌<◌, ◌≤◌, Err, IfErr, IfOk, List, None, Ok, Option, ℕ, length};
 ghost use Rattle.dnsv_message.specs.Streams.Frames.{file_limit};
 ghost use Rattle.dnsv_message.specs.ReadError.{IsFileError, read_error_code};
 ghost use Rattle.dnsv_program.specs.Files.Faults.{IsAbout, IsTextFault, OfOctets, TellsFailedReads};
@@ -31,7 +31,9 @@ pub trait FromText: Drop + Sized {
     fn from_text(alloc: Global, text: &[u8]) -> Result<Self, Fault>
         ensures said { IfOk result (λ value. length text.now ≤ file_limit → says text.now value) }
         ensures fault { IfErr result (IsFaultOf (is_refused text.now)) }
-        ensures every_fault { TellsRefusals (is_refused text.now) (begins text.now) result };
+        ensures every_fault { TellsRefusals (is_refused text.now) (begins text.now) result }
+        // Memory is wanted only where the first line says something.
+        ensures memory { result ≡ Err Fault.OutOfMemory → begins text.now };
 }
 
 /// What the file says; one that isn't given says what an empty one does.
@@ -65,6 +67,7 @@ pub fn given_text_in<T: FromText, R: Read>(
         → IfErr result (OfOctets (IsTextFault file T.is_refused (octets_or_none octets))) }
     ensures reads { TellsFailedReads file (given_failures reader.old) (given_failures reader.new) result }
     ensures about { IfErr result (IsAbout file) }
+    ensures none { reader.old ≡ None → result ≡ Ok None }
 {
     if reader.is_none() {
         return Ok(None);
@@ -85,6 +88,7 @@ pub fn octets_in<R: Read>(
         → result ≡ Err (Fault.TooLong file) → file_limit < length (octets_or_none octets) }
     ensures reads { TellsFailedReads file (given_failures reader.old) (given_failures reader.new) result }
     ensures only { IfErr result (IsTextReadFault file) }
+    ensures none { IfErr result (λ _. reader.old ≡ None → ⊥) }
 {
     match reader {
         None => Ok(Vec::new(alloc)),

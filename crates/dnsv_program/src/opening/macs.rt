@@ -1,5 +1,5 @@
 //! Files of the MACs of requests.
-ghost use Rattle.std.specs.Prelude.{◌≡◌, ◌≤◌, ◌↔◌, IsTrue, IfErr, IfOk, List, ℕ, length};
+ghost use Rattle.std.specs.Prelude.{◌≡◌, ◌≤◌, ◌↔◌, Err, IsTrue, IfErr, IfOk, List, ℕ, length};
 ghost use Rattle.dnsv_message.specs.Streams.Frames.{file_limit};
 ghost use Rattle.dnsv_program.specs.Opening.Macs.{AreMacsRefused, BeginsWithMac, HasMacs, IsMacLine, IsMacRefused};
 ghost use Rattle.dnsv_program.specs.Told.{IsFaultOf, IsRefusalOf, TellsRefusals};
@@ -56,6 +56,7 @@ fn macs_of(alloc: Global, text: &[u8]) -> Result<Vec<Option<RequestMac>>, Fault>
     ensures macs { IfOk result (λ macs. length text.now ≤ file_limit → HasMacs text.now macs.items) }
     ensures fault { IfErr result (IsFaultOf (AreMacsRefused text.now)) }
     ensures every_fault { TellsRefusals (AreMacsRefused text.now) (BeginsWithMac text.now) result }
+    ensures memory { result ≡ Err Fault.OutOfMemory → BeginsWithMac text.now }
 {
     let mut macs = Vec::new(alloc);
     for line in Lines::new(text) {

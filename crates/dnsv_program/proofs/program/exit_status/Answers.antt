@@ -39,7 +39,7 @@ returns-in-Err-clause-codes g c = at_most_7 c.in-Err.error _ c.refuse.ensures.co
 pub returns-in-Ok-clause-told : goal.returns-in-Ok-clause-told
 returns-in-Ok-clause-told g c =
     request_told _ _ _ _ _ _ _ _ (sym c.finish.ensures.code) c.in-Ok.ensures.accepted c.answer-outcome.ensures.first c.answer-outcome.ensures.reached
-    c.answer-outcome.ensures.unopened c.answer-outcome.ensures.untouched c.answer-outcome.ensures.write c.finish.ensures.told
+    c.answer-outcome.ensures.question c.answer-outcome.ensures.unopened c.answer-outcome.ensures.untouched c.answer-outcome.ensures.write c.finish.ensures.told
 
 pub returns-in-Ok-clause-quiet : goal.returns-in-Ok-clause-quiet
 returns-in-Ok-clause-quiet g c = λ ends. quiet_at_end _ _ (sym c.finish.ensures.code) ends c.finish.ensures.quiet

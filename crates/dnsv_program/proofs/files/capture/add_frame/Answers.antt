@@ -1,7 +1,7 @@
 use Rattle.std.proofs.Common.{inl}
 use Rattle.std.proofs.lemmas.Result.{err_from_is_err_and}
 use Rattle.dnsv_program.specs.Told.{IsNoMessageAt}
-use Rattle.dnsv_program.proofs.FileLemmas.Capture.{IsFaultOf-weaker, capture_refused}
+use Rattle.dnsv_program.proofs.FileLemmas.Capture.{IsFaultOf-weaker}
 use Rattle.dnsv_program.proofs.files.capture.add_frame.Goals as goal
 
 pub returns-in_err-message-clause-refused : goal.returns-in_err-message-clause-refused
@@ -11,6 +11,4 @@ returns-in_err-message-clause-refused c =
     (λ why place refused. (inl refused.0, refused.1, refused.2)) c.in_err-message.ensures.refused)
 
 pub returns-clause-refused : goal.returns-clause-refused
-returns-clause-refused c =
-    capture_refused c.args.opening.now c.args.held.now c.args.frame.now c.args.number c.in_ok-message.message c.in_ok-message.ensures.found
-    c.in-Err.error c.capture_fault.result c.in-Err.ensures.refused c.capture_fault.ensures.told
+returns-clause-refused c = c.add_message.ensures.refused c.args.opening.now c.args.frame.now c.in_ok-message.ensures.found
