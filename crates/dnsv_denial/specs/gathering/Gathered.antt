@@ -46,11 +46,9 @@ pub record IsNsec3RrsetOf (Secured : ℕ → Type 0) (rrset : ReceivedRrset) (zo
   pub owner : IsHashedOwner zone rrset.owner hash
   pub signed : HasZoneSignature Secured rrset zone
 
--- the entry is the usable NSEC3 record with the number, owner and hash
-pub record IsEntryOf (number : RecordNumber) (owner : Labels) (hash : List ℕ) (nsec3 : Nsec3) (entry : Nsec3Entry)
-    : Type 0 where
+-- the entry is the usable NSEC3 record with the number and hash
+pub record IsEntryOf (number : RecordNumber) (hash : List ℕ) (nsec3 : Nsec3) (entry : Nsec3Entry) : Type 0 where
   pub same_number : entry.number ≡ number
-  pub same_owner : entry.owner.now ≡ owner
   pub same_hash : entry.hash ≡ hash
   pub usable : IsUsable nsec3
   pub opt_out : IsTrue entry.is_opt_out ↔ (nsec3.flags.0 ≡ 1)

@@ -90,7 +90,7 @@ fn push_nsec3s<'a>(
             rrset: number,
             place: place + 1,
         };
-        if let Some(entry) = usable_entry(number, rrset.owner(), hash, each.record) {
+        if let Some(entry) = usable_entry(number, hash, each.record) {
             let Ok(()) = entries.push(entry) else {
                 return Err(AllocError);
             };
@@ -99,21 +99,19 @@ fn push_nsec3s<'a>(
     Ok(())
 }
 
-/// The record with the number, owner and hash, if it is usable.
+/// The record with the number and hash, if it is usable.
 fn usable_entry<'a>(
     number: RecordNumber,
-    owner: &'a Name,
     hash: Hash20,
     nsec3: &'a Nsec3<'a>,
 ) -> Option<Nsec3Entry<'a>>
-    ensures { MatchOption result (¬ IsUsable nsec3.now) (λ entry. IsEntryOf number owner.now hash nsec3.now entry) }
+    ensures { MatchOption result (¬ IsUsable nsec3.now) (λ entry. IsEntryOf number hash nsec3.now entry) }
 {
     let Some(used) = nsec3.usable() else {
         return None;
     };
     Some(Nsec3Entry {
         number,
-        owner,
         hash,
         is_opt_out: used.is_opt_out,
         parameters: used.parameters,

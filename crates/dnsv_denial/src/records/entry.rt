@@ -14,13 +14,11 @@ pub struct NsecEntry<'a> {
     pub nsec: &'a Nsec<'a>,
 }
 
-/// A usable NSEC3 record with its owner. Entries stand in the order of their records' numbers.
+/// A usable NSEC3 record. Entries stand in the order of their records' numbers.
 #[derive(Debug, Drop)]
 pub struct Nsec3Entry<'a> {
     /// Which record of the evidence it is.
     pub number: RecordNumber,
-    /// The owner of the record.
-    pub owner: &'a Name,
     /// The hash that the owner's first label spells (RFC 5155 3).
     pub hash: Hash20,
     /// Whether unsigned delegations may be left out between the owner and the next hash (RFC 5155 3.1.2.1).

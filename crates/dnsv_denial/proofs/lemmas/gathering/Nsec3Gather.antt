@@ -57,7 +57,7 @@ module _ (rrsets : List ReceivedRrset) (zone : Labels) (k : ℕ) (rrset : Receiv
   its_record place rdata there = record_at rrsets k place rrset canonical rdata numbered (forms_of rrset canonical rtype is) there
 
   pub nsec3_added : (place : ℕ) (rdata hash : List ℕ) (nsec3 : Nsec3) (entry : Nsec3Entry) (before now next : List Nsec3Entry)
-      → slice_get canonical place ≡ Some rdata → IsNsec3 rdata nsec3 → IsHashedOwner zone rrset.owner hash → IsEntryOf (record { rrset = k; place = place + 1 }) rrset.owner hash nsec3 entry → next ≡ now ++ entry ∷ []
+      → slice_get canonical place ≡ Some rdata → IsNsec3 rdata nsec3 → IsHashedOwner zone rrset.owner hash → IsEntryOf (record { rrset = k; place = place + 1 }) hash nsec3 entry → next ≡ now ++ entry ∷ []
       → GrownNsec3s (UpTo k place) before now → GrownNsec3s (UpTo k (place + 1)) before next
   nsec3_added place rdata hash nsec3 entry before now next there read owner used pushed so_far =
       let it : IsNsec3Of rrsets zone (record { rrset = k; place = place + 1 }) (read_nsec3 entry) = record {

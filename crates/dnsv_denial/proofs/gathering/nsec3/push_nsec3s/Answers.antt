@@ -18,7 +18,7 @@ loop-place-preserved c = λ rrsets numbered.
     let read = each_at (λ each. IsNsec3 each.rdata.now each.record.now) c.in_ok-records.records.items c.loop-place.place c.each-item.result c.in_ok-records.ensures.read there in
     elim c.match-usable_entry.branch [
       | in-Some+in-Ok w ↦ rw w.entries-is (nsec3_added rrsets c.args.zone.now c.args.number c.args.rrset.now (map (λ each. each.rdata.now) c.in_ok-records.records.items) numbered c.requires.rtype c.in_ok-records.ensures.order
-          c.loop-place.place c.each-item.result.rdata.now c.args.hash c.each-item.result.record.now w.in-Some.entry c.args.entries.now.items c.loop-place.entries.items _ octets read c.requires.owner (rw c.owner.ensures at w.in-Some.ensures) w.in-Ok.ensures.items (c.loop-place.invariant rrsets numbered))
+          c.loop-place.place c.each-item.result.rdata.now c.args.hash c.each-item.result.record.now w.in-Some.entry c.args.entries.now.items c.loop-place.entries.items _ octets read c.requires.owner w.in-Some.ensures w.in-Ok.ensures.items (c.loop-place.invariant rrsets numbered))
       | in_default w ↦ rw w.entries-is (nsec3_passed rrsets c.args.zone.now c.args.number c.args.rrset.now (map (λ each. each.rdata.now) c.in_ok-records.records.items) numbered c.requires.rtype c.in_ok-records.ensures.order
           c.loop-place.place c.each-item.result.rdata.now c.each-item.result.record.now c.args.entries.now.items c.loop-place.entries.items octets read w.in_default.ensures (c.loop-place.invariant rrsets numbered))
     ]
