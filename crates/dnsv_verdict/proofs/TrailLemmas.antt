@@ -1,6 +1,6 @@
 -- What is kept of a way while it is followed, beside what `FollowLemmas` says.
 use Rattle.std.proofs.Common.{◌≡◌, ℕ, Option, None, List, [], ◌∷◌, ◌++◌, map, refl, sym, ap, ◌∙◌, subst}
-use Rattle.std.specs.Prelude.{IsTrue}
+use Rattle.std.specs.Prelude.{IsFalse, IsTrue}
 use Rattle.std.proofs.lemmas.List.{map-append}
 use Rattle.dnsv_names.specs.Name.{Labels}
 use Rattle.dnsv_canonical.specs.Rrsets.{ReceivedRrset}
@@ -39,19 +39,22 @@ one_name grounds name t verdict question before between after is kept adds = rec
       ∙ ap (λ (earlier : List HashedQuestion). earlier ++ question ∷ []) kept.hashes
       ∙ ap (λ (each : HashedQuestion). before.hashes.items ++ each ∷ []) is;
   hope = λ keeps none. subst (λ (hope : Option Hope). HasHope grounds name t verdict hope) (sym adds.hope) (kept.hope keeps none);
+  unkept = λ not. adds.unkept (subst (λ keeps. IsFalse keeps) (sym kept.keeps) not) ∙ kept.unkept not;
 }
 
 -- ---- names one after another
 
--- where the trail was empty at the start, it has the hashes for these names, of which none is hoped for
+-- where the trail was empty at the start, it has the hashes for these names, of which none is hoped for; where nothing
+-- is kept it is as at the start
 pub record IsTrailOf (rrsets : List ReceivedRrset) (names : List Labels) (start trail : Trail) : Type 0 where
   pub keeps : trail.keeps ≡ start.keeps
   pub each_name : IsTrue start.keeps → IsEmpty start → trail.hashes.items ≡ map (hashed_in rrsets) names
   pub none : IsTrue start.keeps → IsEmpty start → trail.hope ≡ None
+  pub unkept : IsFalse start.keeps → trail ≡ start
 
 pub no_trail : (rrsets : List ReceivedRrset) (start : Trail) → IsTrailOf rrsets [] start start
 no_trail rrsets start =
-    record { keeps = refl; each_name = λ keeps empty. empty.hashes; none = λ keeps empty. empty.hope }
+    record { keeps = refl; each_name = λ keeps empty. empty.hashes; none = λ keeps empty. empty.hope; unkept = λ not. refl }
 
 -- the hashes of one name more
 each_name_more : (grounds : Grounds) (t : ℕ) (names : List Labels) (name : Labels) (verdict : Verdict) (start before after : Trail)
@@ -62,6 +65,13 @@ each_name_more grounds t names name verdict start before after so_far more keeps
     more.hashes (subst (λ keeps. IsTrue keeps) (sym so_far.keeps) keeps)
     ∙ ap (λ (earlier : List HashedQuestion). earlier ++ hashed_in grounds.capture.now.rrsets name ∷ []) (so_far.each_name keeps empty)
     ∙ sym (map-append (hashed_in grounds.capture.now.rrsets) names (name ∷ []))
+
+-- where nothing is kept, nothing more
+pub unkept_more : (grounds : Grounds) (t : ℕ) (names : List Labels) (name : Labels) (verdict : Verdict) (start before after : Trail)
+    → IsTrailOf grounds.capture.now.rrsets names start before → Trails grounds name t verdict before after
+    → IsFalse start.keeps → after ≡ start
+unkept_more grounds t names name verdict start before after so_far more not =
+    more.unkept (subst (λ keeps. IsFalse keeps) (sym so_far.keeps) not) ∙ so_far.unkept not
 
 -- an alias more
 pub trail_more : (grounds : Grounds) (t : ℕ) (links : List Link) (last : Labels) (k s : ℕ) (verdict : Verdict) (start before after : Trail)
@@ -76,6 +86,7 @@ trail_more grounds t links last k s verdict start before after alias so_far more
           ∙ ap (λ (names : List Labels). map (hashed_in grounds.capture.now.rrsets) names) (sym (map-append (λ (each : Link). each.name) links (link ∷ [])));
       none = λ keeps empty. subst (λ (each : Verdict). HasHope grounds last t each after.hope) alias
           (more.hope (subst (λ keeps. IsTrue keeps) (sym so_far.keeps) keeps) (so_far.none keeps empty));
+      unkept = unkept_more grounds t (map (λ (each : Link). each.name) links) last verdict start before after so_far more;
     }
 
 -- the end

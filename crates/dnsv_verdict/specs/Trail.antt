@@ -1,5 +1,5 @@
 -- How what is kept of a way grows. No public clause cites this module.
-use Rattle.std.specs.Prelude.{◌≡◌, ◌++◌, ◌∷◌, [], ℕ, IsTrue, Some, None}
+use Rattle.std.specs.Prelude.{◌≡◌, ◌++◌, ◌∷◌, [], ℕ, IsFalse, IsTrue, Some, None}
 use Rattle.dnsv_names.specs.Name.{Labels}
 use Rattle.dnsv_denial.specs.QuestionHashes.{HashedQuestion}
 use Rattle.dnsv_verdict.specs.Grounds.{HasHope}
@@ -14,23 +14,26 @@ pub record IsEmpty (trail : Trail) : Type 0 where
   pub hashes : trail.hashes.items ≡ []
   pub hope : trail.hope ≡ None
 
--- the hashes of one name more, if anything is kept
+-- the hashes of one name more, if anything is kept; else nothing
 pub record AddsHashes (question : HashedQuestion) (before after : Trail) : Type 0 where
   pub keeps : after.keeps ≡ before.keeps
   pub hashes : IsTrue before.keeps → after.hashes.items ≡ before.hashes.items ++ question ∷ []
   pub hope : after.hope ≡ before.hope
+  pub unkept : IsFalse before.keeps → after ≡ before
 
--- the hope, if anything is kept
+-- the hope, if anything is kept; else nothing
 pub record SetsHope (hoped : Hope) (before after : Trail) : Type 0 where
   pub keeps : after.keeps ≡ before.keeps
   pub hashes : after.hashes.items ≡ before.hashes.items
   pub hope : IsTrue before.keeps → after.hope ≡ Some hoped
+  pub unkept : IsFalse before.keeps → after ≡ before
 
--- the hope of the verdict at the name, if anything is kept
+-- the hope of the verdict at the name, if anything is kept; else nothing
 pub record KeepsHope (grounds : Grounds) (name : Labels) (t : ℕ) (verdict : Verdict) (before after : Trail) : Type 0 where
   pub keeps : after.keeps ≡ before.keeps
   pub hashes : after.hashes.items ≡ before.hashes.items
   pub hope : IsTrue before.keeps → before.hope ≡ None → HasHope grounds name t verdict after.hope
+  pub unkept : IsFalse before.keeps → after ≡ before
 
 -- that, and the hashes of the name
 pub record Trails (grounds : Grounds) (name : Labels) (t : ℕ) (verdict : Verdict) (before after : Trail) : Type 0 where
@@ -38,3 +41,4 @@ pub record Trails (grounds : Grounds) (name : Labels) (t : ℕ) (verdict : Verdi
   pub hashes : IsTrue before.keeps → after.hashes.items
       ≡ before.hashes.items ++ hashed_in grounds.capture.now.rrsets name ∷ []
   pub hope : IsTrue before.keeps → before.hope ≡ None → HasHope grounds name t verdict after.hope
+  pub unkept : IsFalse before.keeps → after ≡ before

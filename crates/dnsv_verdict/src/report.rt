@@ -1,5 +1,5 @@
 //! The verdict on a question, and what it took.
-ghost use Rattle.std.specs.Prelude.{◌≡◌, ◌⊎◌, List, IfErr, IfOk, IsErrOf, IsTrue, length};
+ghost use Rattle.std.specs.Prelude.{◌≡◌, ◌⊎◌, [], IfErr, IfOk, IsErrOf, IsFalse, IsTrue, List, None, length};
 ghost use Rattle.std.specs.List.{AllByRecursion};
 ghost use Rattle.dnsv_names.specs.Count.{counted};
 ghost use Rattle.dnsv_names.specs.Name.{IsName};
@@ -141,6 +141,7 @@ pub fn judge<'a, V: Verifier>(
         judged.report.links judged.report.last judged.report.verdict) }
     ensures kept { IsTrue keeps → IfOk result (λ judged. IsKept judged.grounds rtype.0 judged.report.links
         judged.report.last judged.report.verdict judged.hashes.items judged.hope) }
+    ensures unkept { IsFalse keeps → IfOk result (λ judged. (judged.hashes.items ≡ []) × (judged.hope ≡ None)) }
 {
     if !is_question(name, rtype) {
         return Err(VerdictError::BadQuestion);

@@ -1,5 +1,5 @@
 //! The way over secure aliases from the name of a question to the last one.
-ghost use Rattle.std.specs.Prelude.{◌≡◌, ◌⊎◌, ◌↔◌, ◌<◌, ◌++◌, ℕ, List, [], ◌∷◌, Contains, IfErr, IfOk, IsTrue, MatchOption, length};
+ghost use Rattle.std.specs.Prelude.{◌≡◌, ◌⊎◌, ◌↔◌, ◌<◌, ◌++◌, ℕ, List, [], ◌∷◌, Contains, IfErr, IfOk, IsFalse, IsTrue, MatchOption, length};
 ghost use Rattle.std.specs.List.{AllByRecursion};
 ghost use Rattle.dnsv_names.specs.Count.{counted};
 ghost use Rattle.dnsv_names.specs.Name.{IsName, SameName};
@@ -75,6 +75,7 @@ pub fn follow<'a>(
     ensures kept { IfOk result (λ followed. IsTrue trail.old.keeps → IsEmpty trail.old
         → IsKept grounds.now rtype.0 followed.way.links followed.way.last followed.verdict trail.new.hashes.items
         trail.new.hope) }
+    ensures unkept { IfOk result (λ followed. IsFalse trail.old.keeps → trail.new ≡ trail.old) }
 {
     counts_add_up();
     // What is true of every count and of every name.

@@ -26,6 +26,7 @@ returns-in-Some-clause-kept c =
       hashes = refl;
       hope = λ keeps none. settled_without_hope grounds (SecuredIn grounds.trust) grounds.capture.now.rrsets c.args.name.now c.args.rtype.0 c.in-Some.verdict _
           (MatchOption-at_some _ _ c.in-Some.verdict c.in-Some.is c.in_ok-verdict.ensures) none;
+      unkept = λ not. refl;
     }
 
 pub returns-in-Some-2-clause-value : goal.returns-in-Some-2-clause-value

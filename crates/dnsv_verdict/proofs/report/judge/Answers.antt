@@ -1,11 +1,12 @@
 -- what the way comes to, and what it is refused for
-use Rattle.std.proofs.Common.{Bool, refl, subst, sym}
-use Rattle.std.specs.Prelude.{IsTrue}
+use Rattle.std.proofs.Common.{◌∙◌, Bool, ap, refl, subst, sym}
+use Rattle.std.specs.Prelude.{IsFalse, IsTrue}
 use Rattle.std.proofs.lemmas.Result.{err_from_is_err_and}
 use Rattle.dnsv_canonical.specs.Rrsets.{IsQuestion}
 use Rattle.dnsv_verdict.proofs.MeaningLemmas.{aliases_mean, verdict_means}
 use Rattle.dnsv_verdict.proofs.ReportLemmas.{none_refused, no_memory, no_question, number_asked, refused_on_way, table_of_itself}
 use Rattle.dnsv_verdict.proofs.WayLemmas.{last_is_question}
+use Rattle.dnsv_verdict.specs.declared.trail.Trail.{Trail}
 use Rattle.dnsv_verdict.specs.Verdict.{Basis, basis_of}
 use Rattle.dnsv_verdict.specs.Way.{IsVerdictOf}
 use Rattle.dnsv_verifier.specs.Table.{table_answer}
@@ -52,6 +53,11 @@ returns-clause-by_table g c =
 pub returns-clause-kept : goal.returns-clause-kept
 returns-clause-kept g c = λ keeps.
     c.in_ok-followed.ensures.kept (subst (λ (each : Bool). IsTrue each) (sym c.new-trail.ensures.keeps) keeps) c.new-trail.ensures.empty
+
+pub returns-clause-unkept : goal.returns-clause-unkept
+returns-clause-unkept g c = λ not.
+    let same = c.in_ok-followed.ensures.unkept (subst (λ (each : Bool). IsFalse each) (sym c.new-trail.ensures.keeps) not) in
+    (ap (λ (each : Trail). each.hashes.items) same ∙ c.new-trail.ensures.empty.hashes, ap (λ (each : Trail). each.hope) same ∙ c.new-trail.ensures.empty.hope)
 
 pub returns-then-not-is_question-clause-refused : goal.returns-then-not-is_question-clause-refused
 returns-then-not-is_question-clause-refused g c =

@@ -1,8 +1,9 @@
 -- the verdict at the end, a refusal at the last name, and a link more
+use Rattle.std.proofs.Common.{map}
 use Rattle.std.proofs.lemmas.Option.{MatchOption-at_none, MatchOption-at_some}
 use Rattle.std.proofs.lemmas.Result.{err_from_is_err_and}
 use Rattle.dnsv_verdict.proofs.WayLemmas.FollowLemmas.{alias_there, counted_last, followed_more, followed_to_end, refused_at_last}
-use Rattle.dnsv_verdict.proofs.TrailLemmas.{kept_to_end, trail_more}
+use Rattle.dnsv_verdict.proofs.TrailLemmas.{kept_to_end, trail_more, unkept_more}
 use Rattle.dnsv_verdict.proofs.way.follow.Goals as goal
 
 pub returns-in_default-clause-value : goal.returns-in_default-clause-value
@@ -16,6 +17,11 @@ pub returns-in_default-clause-kept : goal.returns-in_default-clause-kept
 returns-in_default-clause-kept c =
     kept_to_end c.args.grounds.now c.args.rtype.0 c.links.way.links c.links.way.last c.in_ok-verdict.verdict c.args.trail.now c.links.trail
     c.verdict_at.new.trail c.links.invariant.1 c.in_ok-verdict.ensures.kept
+
+pub returns-in_default-clause-unkept : goal.returns-in_default-clause-unkept
+returns-in_default-clause-unkept c =
+    unkept_more c.args.grounds.now c.args.rtype.0 (map (λ link. link.name) c.links.way.links) c.links.way.last c.in_ok-verdict.verdict c.args.trail.now
+    c.links.trail c.verdict_at.new.trail c.links.invariant.1 c.in_ok-verdict.ensures.kept
 
 pub returns-in_err-target-clause-refused : goal.returns-in_err-target-clause-refused
 returns-in_err-target-clause-refused c = λ meaning moment of.
