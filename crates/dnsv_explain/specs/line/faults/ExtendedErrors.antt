@@ -1,4 +1,4 @@
--- Which extended DNS error each word has (RFC 8914 4), 0 where none fits.
+-- Which extended DNS error each word has (RFC 8914 4, and 27 of RFC 9276), 0 where none fits.
 use Rattle.std.specs.Prelude.{ℕ}
 use Rattle.dnsv_explain.specs.declared.line.fault.Reason.{Reason}
 use Rattle.dnsv_explain.specs.declared.line.fault.Reason.TheVariants as reason

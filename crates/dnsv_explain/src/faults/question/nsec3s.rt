@@ -116,7 +116,8 @@ fn is_unusable(rrset: &Rrset<'_>, nsec3: &Nsec3<'_>) -> bool
     !is_of_its_parent(rrset)
 }
 
-/// Whether its algorithm isn't SHA-1, a flag isn't known, or its next hash has another length (RFC 5155 3.1, 8.2).
+/// Whether its algorithm isn't SHA-1, a flag isn't known, or its next hash has another length (RFC 5155 3.1, 8.1,
+/// 8.2).
 fn has_unknown_fields(nsec3: &Nsec3<'_>) -> bool
     ensures { IsTrue result ↔ HasUnknownFields nsec3.now }
 {

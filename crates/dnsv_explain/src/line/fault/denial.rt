@@ -48,7 +48,7 @@ pub enum WhyNsec3 {
 }
 
 impl WhyNsec3 {
-    /// The number of the extended DNS error (RFC 8914).
+    /// The number of the extended DNS error (RFC 8914, RFC 9276).
     pub fn extended_error(self) -> u16
         ensures { result ≡ nsec3_error self }
     {
