@@ -14,14 +14,14 @@ const LAST_MOMENT: u64 = 281_474_976_710_655;
 pub const HALF: u32 = 0x8000_0000;
 
 /// When a signature is valid (RFC 4034 3.1.5).
-#[derive(Clone, Copy, Debug, PartialEq, Eq)]
+#[derive(Clone, Copy, Debug)]
 pub struct Times {
     pub inception: Inception,
     pub expiration: Expiration,
 }
 
 /// Moments one after another, in seconds since 1970.
-#[derive(Clone, Copy, Debug, PartialEq, Eq)]
+#[derive(Clone, Copy, Debug)]
 pub struct Interval {
     /// The first of them.
     pub from: u64,

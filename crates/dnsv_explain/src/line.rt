@@ -71,7 +71,7 @@ impl fmt::Display for Line {
 }
 
 /// A verdict that needs no more answers of the verifier, without what carries it.
-#[derive(Clone, Copy, Debug, PartialEq, Eq)]
+#[derive(Clone, Copy, Debug)]
 pub enum Kind {
     SecureAnswer,
     SecureAlias,

@@ -9,7 +9,7 @@ use dnsv_records::DigestType;
 use std::fmt;
 
 /// Why a name may lie in a zone that isn't signed. Each has a number that stays.
-#[derive(Clone, Copy, Debug, PartialEq, Eq)]
+#[derive(Clone, Copy, Debug)]
 pub enum InsecureCase {
     /// 1: a delegation without DS (RFC 4035 5.2).
     UnsignedDelegation,
@@ -64,7 +64,7 @@ impl fmt::Display for Cut {
 }
 
 /// Why a record of a DS RRset can't be used: the first that is so.
-#[derive(Clone, Copy, Debug, PartialEq, Eq)]
+#[derive(Clone, Copy, Debug)]
 pub enum WhyUnusable {
     /// Its algorithm isn't supported.
     Algorithm,

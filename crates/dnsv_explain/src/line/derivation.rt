@@ -26,7 +26,7 @@ impl fmt::Display for SignatureNumber {
 }
 
 /// What a signature or a DS record names a key by, beside its owner (RFC 4034 3.1, 5.1).
-#[derive(Clone, Copy, Debug, PartialEq, Eq)]
+#[derive(Clone, Copy, Debug)]
 pub struct KeyName {
     pub tag: KeyTag,
     pub algorithm: Algorithm,
@@ -42,7 +42,7 @@ impl fmt::Display for KeyName {
 }
 
 /// What matches a key, so that it is the first of a derivation or the next one (RFC 4035 5).
-#[derive(Clone, Copy, Debug, PartialEq, Eq)]
+#[derive(Clone, Copy, Debug)]
 pub enum Voucher {
     /// The DNSKEY record of the trust anchor with the number.
     KeyAnchor(usize),
@@ -69,7 +69,7 @@ impl fmt::Display for Voucher {
 }
 
 /// The number of an entry among those that a verdict depends on, where the verifier doesn't know it.
-#[derive(Clone, Copy, Debug, PartialEq, Eq)]
+#[derive(Clone, Copy, Debug)]
 pub struct Todo(pub Option<usize>);
 
 impl fmt::Display for Todo {

@@ -33,7 +33,7 @@ impl fmt::Display for ShownSignature {
 }
 
 /// From when to when a signature is valid, and how many seconds the moment is off.
-#[derive(Clone, Copy, Debug, PartialEq, Eq)]
+#[derive(Clone, Copy, Debug)]
 pub struct SignatureTimes {
     pub inception: Inception,
     pub expiration: Expiration,
@@ -50,7 +50,7 @@ impl fmt::Display for SignatureTimes {
 }
 
 /// Why a signature proves nothing (RFC 4035 5.3.1, 5.3.3).
-#[derive(Clone, Copy, Debug, PartialEq, Eq)]
+#[derive(Clone, Copy, Debug)]
 pub enum WhySignature {
     /// It counts more labels than the owner has.
     Labels,

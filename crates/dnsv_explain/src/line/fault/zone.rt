@@ -11,7 +11,7 @@ use dnsv_records::DigestType;
 use std::fmt;
 
 /// What a zone lacks.
-#[derive(Clone, Copy, Debug, PartialEq, Eq)]
+#[derive(Clone, Copy, Debug)]
 pub enum WhyZone {
     /// A trust anchor at or above it.
     NoAnchor,
@@ -65,7 +65,7 @@ impl fmt::Display for ZoneFault {
 }
 
 /// A trust anchor by its number, or a record of a DS RRset.
-#[derive(Clone, Copy, Debug, PartialEq, Eq)]
+#[derive(Clone, Copy, Debug)]
 pub enum EntryNumber {
     Anchor(usize),
     Ds(RecordNumber),
@@ -121,7 +121,7 @@ impl fmt::Display for Entry {
 }
 
 /// Why a trust anchor or a DS record matches no key (RFC 4034 5.2, RFC 4035 5.2, RFC 4509 3).
-#[derive(Clone, Copy, Debug, PartialEq, Eq)]
+#[derive(Clone, Copy, Debug)]
 pub enum WhyEntry {
     /// Its algorithm isn't supported.
     Algorithm,
