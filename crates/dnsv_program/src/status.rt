@@ -12,7 +12,7 @@ use dnsv_verifier::StatementsError;
 use std::alloc::{AllocError, AllocFailed};
 
 /// How a run ended that wrote its whole text.
-#[derive(Clone, Copy, Debug, PartialEq, Eq)]
+#[derive(Clone, Copy, Debug)]
 pub enum Status {
     /// The text that was asked for is written. A question's verdict is that the answer, or its absence, is secure.
     Done,
@@ -42,7 +42,7 @@ impl Status {
 }
 
 /// A file that the command line names.
-#[derive(Clone, Copy, Debug, PartialEq, Eq)]
+#[derive(Clone, Copy, Debug)]
 pub enum InputFile {
     /// The file of captured messages.
     Capture,
@@ -74,7 +74,7 @@ impl InputFile {
 
 /// Why the input was refused: what a layer below says of it, which is never want of memory, or a reason of the program's
 /// own.
-#[derive(Clone, Copy, Debug, PartialEq, Eq)]
+#[derive(Clone, Copy, Debug)]
 pub enum Refusal {
     /// The question's name is no text of a name (RFC 1035 5.1).
     Name(NameError),
@@ -125,7 +125,7 @@ impl Refusal {
 }
 
 /// Where in the input a refusal arose, as far as that is known. All numbers count from 1.
-#[derive(Clone, Copy, Debug, PartialEq, Eq)]
+#[derive(Clone, Copy, Debug)]
 pub struct Place {
     /// The message of the capture.
     pub message: Option<usize>,
@@ -145,7 +145,7 @@ impl Place {
 }
 
 /// Why a run wrote no text, or not all of it.
-#[derive(Clone, Copy, Debug, PartialEq, Eq)]
+#[derive(Clone, Copy, Debug)]
 pub enum Fault {
     /// Memory ran out.
     OutOfMemory,

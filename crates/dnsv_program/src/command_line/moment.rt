@@ -6,7 +6,7 @@ ghost use Rattle.dnsv_program.specs.CommandLine.Moment.{IsMoment};
 use std::marker::Model;
 
 /// A moment in seconds since 1970-01-01 00:00:00 UTC, from 0 to 2^48 - 1.
-#[derive(Clone, Copy, Debug, PartialEq, Eq)]
+#[derive(Clone, Copy, Debug)]
 pub struct Moment(u64);
 
 impl Model for Moment {
