@@ -93,7 +93,6 @@ fn nsec3_entry<'a>(number: RecordNumber, rrset: &'a Rrset<'a>) -> Option<Nsec3En
     };
     Some(Nsec3Entry {
         number,
-        owner: rrset.owner(),
         hash,
         is_opt_out: usable.is_opt_out,
         parameters: usable.parameters,
