@@ -6,7 +6,7 @@ import unittest
 from tool import TOOLS
 
 CRATES = TOOLS.parent / "crates"
-BEGINS = re.compile(r"\bCount::(?:new|default)\(\)")
+BEGINS = re.compile(r"\bCount::(?:new|default)\b")
 # Where counts are begun, how many, and why.
 NAMED = {
     "dnsv_names/src/count.rt": 1,  # the default of a count

@@ -3,7 +3,7 @@ import hashlib
 
 BITS_MOST = 4096
 
-# What stands before a hash in the padded message: the DER front of a DigestInfo (RFC 3110 3, RFC 5702 3.1).
+# What stands before a hash in the padded message: the DER front of a DigestInfo (RFC 3110 3, RFC 5702 3.1, 3.2).
 DIGEST_INFO = {
     "sha1": bytes.fromhex("3021300906052b0e03021a05000414"),
     "sha256": bytes.fromhex("3031300d060960864801650304020105000420"),

@@ -40,6 +40,9 @@ class Octets(Desk):
         zeros = LONGEST - 12 - len(b"".join(SIGNED)) - 11
         self.assertEqual(output.split("\n")[5], f"record 5 . 16 1 5 {'00' * zeros}")
 
+    def test_64_of_the_longest_messages_are_evidence(self):
+        self.assert_answer(2, capture=filled(LONGEST) * 64)
+
     def test_the_longest_message_is_opened(self):
         signing = len(keyed(HOST[2:], SECRET, "k.")) - len(HOST)
         longest = keyed(filled(LONGEST - signing)[2:], SECRET, "k.")

@@ -103,11 +103,11 @@ class Words(Desk):
         self.assertEqual(self.given("show", "--capture", ""), (1, b"", "fault 811 capture\n"))
 
     def test_a_word_more_than_can_be_taken_is_refused(self):
-        """The program's name, the subcommand, and eight options with their values."""
+        """The program's name, the subcommand, eight options with their values, and one that has none."""
         files = {"capture": KEYS + HOST, "anchors": ANCHOR, "statements": b"", "keys": b"", "macs": b""}
-        status, output, errors = self.told("check", *ASKED, **files)
+        status, output, errors = self.told("check", *ASKED, "--json", **files)
         self.assertEqual((status, output, errors), (7, "", "refused 802\n"))
-        status, output, errors = self.told("check", *ASKED, "more", **files)
+        status, output, errors = self.told("check", *ASKED, "--json", "more", **files)
         self.assertEqual((status, output, "--help" in errors), (2, "", True))
 
     def test_each_help_tells_the_statuses_of_its_subcommand(self):

@@ -196,14 +196,14 @@ $ dnssec_check check --capture a --anchors b --moment 1 --name c. --type 65536
 ! 
 ~ help
 
-# Words that are all taken are 18; one more has no place.
+# Words that are all taken are 19; one more has no place.
 a = 
-$ dnssec_check check --capture a --anchors a --moment 1 --name c. --type 1 --statements a --keys a --macs a
+$ dnssec_check check --capture a --anchors a --moment 1 --name c. --type 1 --statements a --keys a --macs a --json
 => 6
-Indeterminate c. 1
+{"command":"check","name":"c.","type":1,"moment":1,"verdict":"Indeterminate","status":6,"aliases":[]}
 
 a = 
-$ dnssec_check check --capture a --anchors a --moment 1 --name c. --type 1 --statements a --keys a --macs a a
+$ dnssec_check check --capture a --anchors a --moment 1 --name c. --type 1 --statements a --keys a --macs a --json a
 => 2
 ! 
 ~ help
