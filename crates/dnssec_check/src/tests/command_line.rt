@@ -200,7 +200,7 @@ $ dnssec_check check --capture a --anchors b --moment 1 --name c. --type 65536
 a = 
 $ dnssec_check check --capture a --anchors a --moment 1 --name c. --type 1 --statements a --keys a --macs a --json
 => 6
-{"command":"check","name":"c.","type":1,"moment":1,"verdict":"Indeterminate","status":6,"aliases":[]}
+{\"command\":\"check\",\"name\":\"c.\",\"type\":1,\"moment\":1,\"verdict\":\"Indeterminate\",\"status\":6,\"aliases\":[]}
 
 a = 
 $ dnssec_check check --capture a --anchors a --moment 1 --name c. --type 1 --statements a --keys a --macs a --json a
