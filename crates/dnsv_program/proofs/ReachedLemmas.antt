@@ -1,13 +1,15 @@
 -- What comes before a failed read.
-use Rattle.std.proofs.Common.{◌≡◌, ℕ, Bool, true, false, inl, subst, sym}
-use Rattle.std.specs.Prelude.{Result, Ok, Err, IfErr}
+use Rattle.std.proofs.Common.{◌≡◌, ℕ, Bool, true, false, inl, refl, subst, sym}
+use Rattle.std.specs.Prelude.{List, Option, Some, None, Result, Ok, Err, IfErr}
 use Rattle.dnsv_program.specs.declared.status.Fault.{Fault}
 use Rattle.dnsv_program.specs.declared.status.Fault.TheVariants as fault
 use Rattle.dnsv_program.specs.declared.status.InputFile.{InputFile}
 use Rattle.dnsv_program.specs.declared.status.InputFile.TheVariants.{Anchors, Capture, Keys, Macs, Statements}
 use Rattle.dnsv_program.specs.Opening.Given.{IsOpeningReached}
 use Rattle.dnsv_program.specs.Files.Faults.{IsAbout, OfFailedRead}
-use Rattle.dnsv_program.specs.Files.{Files}
+use Rattle.dnsv_message.specs.Streams.Counted.{inner_of}
+use Rattle.dnsv_message.specs.declared.streams.counted.Counted.{Counted}
+use Rattle.dnsv_program.specs.Files.{Files, IsGiven, IsToldBy}
 use Rattle.dnsv_program.specs.Files.Capture.{NewEvidence, IsFaultOfCapture}
 use Rattle.dnsv_program.specs.declared.opening.Opening.TheVariants.{Plain}
 use Rattle.dnsv_program.specs.Run.{HasEvidence, IsFirstFaultOfList, IsReachedByList, IsReachedOfFiles}
@@ -21,6 +23,23 @@ reached_by Holds file (fault.Refused why place) about holds = tt
 reached_by Holds file (fault.TooLong other) about holds = tt
 reached_by Holds file (fault.OpenFailed other) about holds = tt
 reached_by Holds file fault.WriteFailed about holds = tt
+
+-- and where it has to be given, what holds of it then
+pub reached_given : (Given : Type 0) (Holds : InputFile → Type 0) (file : InputFile) (told : Fault) → IsAbout file told → OfFailedRead (λ _. Given) told
+    → (Given → Holds file) → OfFailedRead Holds told
+reached_given Given Holds file (fault.ReadFailed other) about given holds = subst Holds (sym about) (holds given)
+reached_given Given Holds file fault.OutOfMemory about given holds = tt
+reached_given Given Holds file (fault.Refused why place) about given holds = tt
+reached_given Given Holds file (fault.TooLong other) about given holds = tt
+reached_given Given Holds file (fault.OpenFailed other) about given holds = tt
+reached_given Given Holds file fault.WriteFailed about given holds = tt
+
+-- a reader that is there reads a file that is given
+pub given_file : {R : Type 0} (remaining : R → Option (List ℕ)) (reader : Option (Counted R)) (octets : Option (List ℕ)) → IsToldBy remaining reader octets
+    → IsGiven reader → IsGiven octets
+given_file remaining None octets told given = absurd (given refl)
+given_file remaining (Some reader) None told given = let not : Some (remaining (inner_of reader)) ≡ None = told in cc
+given_file remaining (Some reader) (Some octets) told given = λ none. cc
 
 weaker_told : (P Q : InputFile → Type 0) (told : Fault) → ((file : InputFile) → P file → Q file) → OfFailedRead P told → OfFailedRead Q told
 weaker_told P Q (fault.ReadFailed file) weaker holds = weaker file holds
@@ -36,16 +55,16 @@ pub reached_in : {T : Type 0} (P Q : InputFile → Type 0) (result : Result T Fa
 reached_in P Q (Ok x) weaker holds = tt
 reached_in P Q (Err told) weaker holds = weaker_told P Q told weaker holds
 
-in_files : (moment : ℕ) (files : Files) (file : InputFile) → IsOpeningReached files.keys file → IsReachedOfFiles moment files file
-in_files moment files Keys holds = tt
+in_files : (moment : ℕ) (files : Files) (file : InputFile) → IsOpeningReached files.keys files.macs file → IsReachedOfFiles moment files file
+in_files moment files Keys holds = holds
 in_files moment files Macs holds = holds
 in_files moment files Capture holds = absurd holds
 in_files moment files Anchors holds = absurd holds
 in_files moment files Statements holds = absurd holds
 
 -- the keys and the MACs are read first
-pub reached_sealed : (moment : ℕ) (files : Files) (told : Fault) → OfFailedRead (IsOpeningReached files.keys) told → OfFailedRead (IsReachedOfFiles moment files) told
-reached_sealed moment files told = weaker_told (IsOpeningReached files.keys) (IsReachedOfFiles moment files) told (in_files moment files)
+pub reached_sealed : (moment : ℕ) (files : Files) (told : Fault) → OfFailedRead (IsOpeningReached files.keys files.macs) told → OfFailedRead (IsReachedOfFiles moment files) told
+reached_sealed moment files told = weaker_told (IsOpeningReached files.keys files.macs) (IsReachedOfFiles moment files) told (in_files moment files)
 
 -- a list reads the file of captured messages first
 pub list_captured : (all : Bool) (files : Files) (told : Fault) → IsFaultOfCapture NewEvidence Plain files.capture told → IsFirstFaultOfList all files told
@@ -56,7 +75,7 @@ pub list_reached : (all : Bool) (files : Files) → IsReachedByList all files Ca
 list_reached true files = tt
 list_reached false files = tt
 
--- and the statements behind evidence, where they are read
-pub list_stated : (all : Bool) (files : Files) → all ≡ false → HasEvidence Plain files.capture → IsReachedByList all files Statements
-list_stated true files none has = absurd (false≢true (sym none))
-list_stated false files none has = has
+-- and the statements behind evidence, where they are read and given
+pub list_stated : (all : Bool) (files : Files) → all ≡ false → HasEvidence Plain files.capture → IsGiven files.statements → IsReachedByList all files Statements
+list_stated true files none has given = absurd (false≢true (sym none))
+list_stated false files none has given = (has, given)

@@ -3,7 +3,7 @@ pub mod Anchors
 pub mod Capture
 pub mod Faults
 pub mod Statements
-use Rattle.std.specs.Prelude.{◌≡◌, ℕ, List, [], Option, Some, None, unwrap_or}
+use Rattle.std.specs.Prelude.{◌≡◌, ◌≢◌, ℕ, List, [], Option, Some, None, unwrap_or}
 use Rattle.std.specs.Option.{option_map, option_map_or}
 use Rattle.dnsv_message.specs.Streams.Counted.{inner_of, failures_of}
 use Rattle.dnsv_message.specs.declared.streams.counted.Counted.{Counted}
@@ -16,6 +16,10 @@ pub record Files : Type 0 where
   pub statements : Option (List ℕ)
   pub keys : Option (List ℕ)
   pub macs : Option (List ℕ)
+
+-- the file is given
+abbrev pub IsGiven : {T : Type 0} → Option T → Type 0
+IsGiven file = file ≢ None
 
 -- the octets of a file, or none where it isn't given
 abbrev pub octets_or_none : Option (List ℕ) → List ℕ

@@ -18,7 +18,7 @@ use Rattle.dnsv_program.specs.Files.Anchors.{HasAnchors, IsFaultOfAnchors}
 use Rattle.dnsv_program.specs.Files.Capture.{AnyMessage, NewEvidence, Holds, IsFaultOfCapture}
 use Rattle.dnsv_program.specs.Texts.Checking.{IsCheck, IsStopped}
 use Rattle.dnsv_program.specs.Opening.Given.{IsOpeningOf, IsOpeningReached, IsFaultOfOpening}
-use Rattle.dnsv_program.specs.Files.{Files, octets_or_none}
+use Rattle.dnsv_program.specs.Files.{Files, IsGiven, octets_or_none}
 use Rattle.dnsv_program.specs.Texts.Listing.{IsListing}
 use Rattle.dnsv_program.specs.CommandLine.Question.{IsQuestionRefused, Spells}
 use Rattle.dnsv_program.specs.Texts.Showing.{IsShowing}
@@ -119,10 +119,10 @@ abbrev pub IsCaptureReached : InputFile → Type 0
 IsCaptureReached Capture = ⊤
 IsCaptureReached _ = ⊥
 
--- the statements are read behind evidence
+-- the statements are read behind evidence, where they are given
 abbrev pub IsReachedByTodo : Files → InputFile → Type 0
 IsReachedByTodo files Capture = ⊤
-IsReachedByTodo files Statements = HasEvidence Plain files.capture
+IsReachedByTodo files Statements = HasEvidence Plain files.capture × IsGiven files.statements
 IsReachedByTodo files _ = ⊥
 
 abbrev pub IsReachedByList : Bool → Files → InputFile → Type 0
@@ -130,23 +130,24 @@ IsReachedByList true files file = IsCaptureReached file
 IsReachedByList false files file = IsReachedByTodo files file
 
 -- the file of captured messages is read behind the keys and MACs, the anchors behind evidence, and the statements
--- behind the anchors
+-- behind the anchors, each where it is given
 abbrev pub IsReachedOfFiles : ℕ → Files → InputFile → Type 0
-IsReachedOfFiles moment files Keys = ⊤
-IsReachedOfFiles moment files Macs = IsOpeningReached files.keys Macs
+IsReachedOfFiles moment files Keys = IsOpeningReached files.keys files.macs Keys
+IsReachedOfFiles moment files Macs = IsOpeningReached files.keys files.macs Macs
 IsReachedOfFiles moment files Capture = (opening : Opening) × IsOpeningOf files.keys files.macs moment opening
 IsReachedOfFiles moment files Anchors =
     (opening : Opening) × IsOpeningOf files.keys files.macs moment opening × HasEvidence opening files.capture
+    × IsGiven files.anchors
 IsReachedOfFiles moment files Statements =
     (opening : Opening) × IsOpeningOf files.keys files.macs moment opening × HasEvidence opening files.capture
-    × ((anchors : List Anchor) × HasAnchors (octets_or_none files.anchors) anchors)
+    × ((anchors : List Anchor) × HasAnchors (octets_or_none files.anchors) anchors) × IsGiven files.statements
 
 -- the question can be asked, and the files before this one are in order
 abbrev pub IsReachedByCheck : List ℕ → ℕ → ℕ → Files → InputFile → Type 0
 IsReachedByCheck asked rtype moment files file =
     ((name : Labels) × Spells asked name × IsQuestion name rtype) × IsReachedOfFiles moment files file
 
--- The request reads the file, and what comes before it in the order of the work is in order.
+-- The request reads the file, which is given, and what comes before it in the order of the work is in order.
 abbrev pub IsReached : Request → Files → InputFile → Type 0
 IsReached (request.Show capture) files file = IsCaptureReached file
 IsReached (request.List capture moment statements all json) files file = IsReachedByList all files file

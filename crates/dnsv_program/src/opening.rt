@@ -114,8 +114,9 @@ pub fn opening_in<R: Read>(
     ensures faults { (keys_octets macs_octets : Option (List ℕ)) → IsToldBy R.remaining keys.old keys_octets
         → IsToldBy R.remaining macs.old macs_octets
         → IfErr result (OfOctets (IsFaultOfOpening keys_octets macs_octets)) }
-    ensures reached { (keys_octets : Option (List ℕ)) → IsToldBy R.remaining keys.old keys_octets
-        → IfErr result (OfFailedRead (IsOpeningReached keys_octets)) }
+    ensures reached { (keys_octets macs_octets : Option (List ℕ)) → IsToldBy R.remaining keys.old keys_octets
+        → IsToldBy R.remaining macs.old macs_octets
+        → IfErr result (OfFailedRead (IsOpeningReached keys_octets macs_octets)) }
     ensures keys_reads { TellsFailedReads InputFile.Keys (given_failures keys.old) (given_failures keys.new) result }
     ensures macs_reads { TellsFailedReads InputFile.Macs (given_failures macs.old) (given_failures macs.new) result }
     ensures about { IfErr result (λ told. IsAbout InputFile.Keys told ⊎ IsAbout InputFile.Macs told) }

@@ -1,14 +1,29 @@
 -- What is refused in one way has one fault.
-use Rattle.std.proofs.Common.{◌≡◌, ◌⊎◌, ◌<◌, ◌≤◌, ℕ, List, Result, Ok, Err, inl, inr, ⊎_elim, sym, ap, subst, ◌∙◌, arith, length}
+use Rattle.std.proofs.Common.{◌≡◌, ◌⊎◌, ◌<◌, ◌≤◌, ◌∷◌, [], ℕ, List, Option, None, Result, Ok, Err, inl, inr, ⊎_elim, refl, sym, ap, subst, ◌∙◌, arith, length}
+use Rattle.dnsv_names.specs.Lines.{kept_from}
+use Rattle.dnsv_names.specs.Lines.LineFile.{BeginsWithValue}
+use Rattle.dnsv_names.specs.Lines.LineLaws.{HasLines-only, HasLines-read}
+use Rattle.dnsv_names.specs.Lines.LineReading.{lines_in}
+use Rattle.dnsv_message.specs.declared.streams.counted.Counted.{Counted}
 use Rattle.dnsv_program.specs.declared.status.Fault.{Fault}
 use Rattle.dnsv_program.specs.declared.status.Fault.TheVariants as fault
 use Rattle.dnsv_program.specs.declared.status.InputFile.{InputFile}
 use Rattle.dnsv_program.specs.declared.status.Place.{Place}
 use Rattle.dnsv_program.specs.declared.status.Refusal.{Refusal}
 use Rattle.dnsv_message.specs.Streams.Frames.{file_limit}
+use Rattle.dnsv_program.specs.Files.{IsToldBy}
 use Rattle.dnsv_program.specs.Files.Faults.{IsTextFault}
 use Rattle.dnsv_program.specs.Files.Statements.{IsAtLine}
 use Rattle.dnsv_program.specs.Told.{TellsRefusals}
+
+-- a reader that isn't there tells no octets
+pub none_told : {R : Type 0} (remaining : R → Option (List ℕ)) (reader : Option (Counted R)) → reader ≡ None → IsToldBy remaining reader None
+none_told {R} remaining reader none = subst (λ (each : Option (Counted R)). IsToldBy remaining each None) (sym none) refl
+
+-- and these begin with no line
+pub no_line_of_nothing : {Value : Type 0} (Says : List ℕ → Value → Type 0) → BeginsWithValue Says [] → ⊥
+no_line_of_nothing Says begins =
+    let same = HasLines-only [] (begins.line ∷ begins.behind) (kept_from 1 (lines_in [])) begins.has (HasLines-read []) in cc
 
 pub too_many : (size limit : ℕ) → size ≤ limit → limit < size → ⊥
 too_many size limit within past = omega (arith, within, past)

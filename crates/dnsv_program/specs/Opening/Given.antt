@@ -1,12 +1,12 @@
 -- What the files of keys and of the MACs of requests open the frames of a capture by, and what they are refused for.
-use Rattle.std.specs.Prelude.{◌≡◌, ◌⊎◌, ⊤, ℕ, List, Option, Some, None}
+use Rattle.std.specs.Prelude.{◌≡◌, ◌⊎◌, ℕ, List, Option, Some, None}
 use Rattle.dnsv_tsig.specs.Key.{SharedKey}
 use Rattle.dnsv_program.specs.declared.opening.Opening.{Opening}
 use Rattle.dnsv_program.specs.declared.opening.Opening.TheVariants.{Plain, Signed}
 use Rattle.dnsv_program.specs.declared.status.Fault.{Fault}
 use Rattle.dnsv_program.specs.declared.status.InputFile.{InputFile}
 use Rattle.dnsv_program.specs.declared.status.InputFile.TheVariants.{Keys, Macs}
-use Rattle.dnsv_program.specs.Files.{octets_or_none}
+use Rattle.dnsv_program.specs.Files.{IsGiven, octets_or_none}
 use Rattle.dnsv_program.specs.Opening.Keys.{IsFaultOfKeys, MayHaveKeys}
 use Rattle.dnsv_program.specs.Opening.Macs.{IsFaultOfMacs, MayHaveMacs}
 
@@ -23,8 +23,9 @@ IsFaultOfOpening keys_file macs_file fault =
     IsFaultOfKeys (octets_or_none keys_file) fault
     ⊎ (((keys : List SharedKey) × MayHaveKeys keys_file (Some keys)) × IsFaultOfMacs (octets_or_none macs_file) fault)
 
--- what comes before the file in the order of the work is in order: the keys, before the MACs
-abbrev pub IsOpeningReached : Option (List ℕ) → InputFile → Type 0
-IsOpeningReached keys_file Keys = ⊤
-IsOpeningReached keys_file Macs = (keys : List SharedKey) × MayHaveKeys keys_file (Some keys)
-IsOpeningReached keys_file _ = ⊥
+-- the file is given, and what comes before it in the order of the work is in order: the keys, before the MACs
+abbrev pub IsOpeningReached : Option (List ℕ) → Option (List ℕ) → InputFile → Type 0
+IsOpeningReached keys_file macs_file Keys = IsGiven keys_file
+IsOpeningReached keys_file macs_file Macs =
+    IsGiven macs_file × ((keys : List SharedKey) × MayHaveKeys keys_file (Some keys))
+IsOpeningReached keys_file macs_file _ = ⊥

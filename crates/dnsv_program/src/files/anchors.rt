@@ -1,11 +1,11 @@
 //! Files of trust anchors.
-ghost use Rattle.std.specs.Prelude.{◌≡◌, ◌≤◌, Err, IfErr, IfOk, List, Option, ℕ, length};
+ghost use Rattle.std.specs.Prelude.{◌≡◌, ◌≤◌, Err, IfErr, IfOk, List, None, Option, ℕ, length};
 ghost use Rattle.dnsv_chain.specs.AnchorFile.{BeginsWithAnchor};
 ghost use Rattle.dnsv_chain.specs.AnchorsError.{anchors_error_code};
 ghost use Rattle.dnsv_message.specs.Streams.Frames.{file_limit};
 ghost use Rattle.dnsv_program.specs.Files.Anchors.{AreAnchorsRefused, HasAnchors};
-ghost use Rattle.dnsv_program.specs.Files.Faults.{IsAbout, IsTextFault, OfOctets, TellsFailedReads};
-ghost use Rattle.dnsv_program.specs.Files.{IsToldBy, given_failures, octets_or_none};
+ghost use Rattle.dnsv_program.specs.Files.Faults.{IsAbout, IsTextFault, OfFailedRead, OfOctets, TellsFailedReads};
+ghost use Rattle.dnsv_program.specs.Files.{IsGiven, IsToldBy, given_failures, octets_or_none};
 ghost use Rattle.dnsv_program.specs.Status.{fault_number};
 ghost use Rattle.dnsv_program.specs.Told.{IsAnchorsFault, IsFaultOf, TellsRefusals};
 
@@ -31,6 +31,9 @@ pub fn anchors_in<'b, R: Read>(
         → IfErr result (OfOctets (IsTextFault InputFile.Anchors AreAnchorsRefused (octets_or_none octets))) }
     ensures reads { TellsFailedReads InputFile.Anchors (given_failures reader.old) (given_failures reader.new) result }
     ensures about { IfErr result (IsAbout InputFile.Anchors) }
+    ensures given { IfErr result (OfFailedRead (λ _. IsGiven reader.old)) }
+    // A file that isn't given takes no memory.
+    ensures none { reader.old ≡ None → result ≡ Err Fault.OutOfMemory → ⊥ }
 {
     let octets = octets_in(alloc, InputFile::Anchors, reader)?;
     anchors_of(alloc, bump, &octets)

@@ -1,9 +1,9 @@
 //! Text files, which may be left out.
-ghost use Rattle.std.specs.Prelude.{◌≡◌, ◌<◌, ◌≤◌, Err, IfErr, IfOk, List, None, Ok, Option, ℕ, length};
+ghost use Rattle.std.specs.Prelude.{◌≡◌, ◌<◌, ◌≤◌, [], Err, IfErr, IfOk, List, None, Ok, Option, ℕ, length};
 ghost use Rattle.dnsv_message.specs.Streams.Frames.{file_limit};
 ghost use Rattle.dnsv_message.specs.ReadError.{IsFileError, read_error_code};
-ghost use Rattle.dnsv_program.specs.Files.Faults.{IsAbout, IsTextFault, OfOctets, TellsFailedReads};
-ghost use Rattle.dnsv_program.specs.Files.{IsToldBy, MayHave, given_failures, octets_or_none};
+ghost use Rattle.dnsv_program.specs.Files.Faults.{IsAbout, IsTextFault, OfFailedRead, OfOctets, TellsFailedReads};
+ghost use Rattle.dnsv_program.specs.Files.{IsGiven, IsToldBy, MayHave, given_failures, octets_or_none};
 ghost use Rattle.dnsv_program.specs.Files.Statements.{IsAtLine};
 ghost use Rattle.dnsv_program.specs.Status.{fault_number};
 ghost use Rattle.dnsv_program.specs.Told.{IsFaultOf, IsTextReadFault, TellsRefusals, TellsTextReadError};
@@ -50,6 +50,9 @@ pub fn text_in<T: FromText, R: Read>(
         → IfErr result (OfOctets (IsTextFault file T.is_refused (octets_or_none octets))) }
     ensures reads { TellsFailedReads file (given_failures reader.old) (given_failures reader.new) result }
     ensures about { IfErr result (IsAbout file) }
+    ensures given { IfErr result (OfFailedRead (λ _. IsGiven reader.old)) }
+    // A file that isn't given takes no memory, if a text without octets takes none.
+    ensures none { reader.old ≡ None → result ≡ Err Fault.OutOfMemory → T.begins [] }
 {
     let octets = octets_in(alloc, file, reader)?;
     T::from_text(alloc, &octets)

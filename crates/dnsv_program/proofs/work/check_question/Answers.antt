@@ -8,7 +8,7 @@ use Rattle.dnsv_program.specs.Run.{IsFirstFaultOfFiles, IsFirstFaultOfName, IsRe
 use Rattle.dnsv_program.proofs.TextLemmas.Checking.{all_checked}
 use Rattle.dnsv_program.proofs.FileLemmas.Faults.{TellsFaults-weaker, anchored, captured, has_evidence, reads_then, stated, unsealed}
 use Rattle.dnsv_program.proofs.JudgedLemmas.{all_judged, stopped_there, unjudged_read, unjudged_writes}
-use Rattle.dnsv_program.proofs.ReachedLemmas.{reached_by, reached_sealed}
+use Rattle.dnsv_program.proofs.ReachedLemmas.{given_file, reached_by, reached_given, reached_sealed}
 use Rattle.dnsv_program.proofs.work.check_question.Goals as goal
 
 pub returns-in_err-opening-clause-faults : goal.returns-in_err-opening-clause-faults
@@ -75,7 +75,7 @@ returns-clause-text g c = λ files are.
 pub returns-in_err-opening-clause-reached : goal.returns-in_err-opening-clause-reached
 returns-in_err-opening-clause-reached g c = λ files are.
     let p = err_from_is_err_and c.from_residual.result c.from_residual.ensures.1 in
-    rw (p.1, p.2) (reached_sealed c.args.moment files c.in_err-opening.field-0.0 (c.in_err-opening.ensures.reached files.keys are.keys))
+    rw (p.1, p.2) (reached_sealed c.args.moment files c.in_err-opening.field-0.0 (c.in_err-opening.ensures.reached files.keys files.macs are.keys are.macs))
 
 pub returns-in_err-held-clause-reached : goal.returns-in_err-held-clause-reached
 returns-in_err-held-clause-reached g c = λ files are.
@@ -86,21 +86,23 @@ returns-in_err-held-clause-reached g c = λ files are.
 pub returns-in_err-anchors-clause-reached : goal.returns-in_err-anchors-clause-reached
 returns-in_err-anchors-clause-reached g c = λ files are.
     let p = err_from_is_err_and c.from_residual-in_err-anchors.result c.from_residual-in_err-anchors.ensures.1 in
-    rw (p.1, p.2) (reached_by (IsReachedOfFiles c.args.moment files) Anchors c.in_err-anchors.field-0.0 c.in_err-anchors.ensures.about (
+    rw (p.1, p.2) (reached_given _ (IsReachedOfFiles c.args.moment files) Anchors c.in_err-anchors.field-0.0 c.in_err-anchors.ensures.about c.in_err-anchors.ensures.given (λ given. (
       c.in_ok-opening.opening,
       c.in_ok-opening.ensures.opening files.keys files.macs are.keys are.macs,
       has_evidence c.in_ok-opening.opening _ c.in_ok-held.held c.in_ok-held.ensures.evidence files.capture are.capture,
-    ))
+      given_file g.R.Read.remaining c.args.inputs.now.anchors files.anchors are.anchors given,
+    )))
 
 pub returns-in_err-statements-clause-reached : goal.returns-in_err-statements-clause-reached
 returns-in_err-statements-clause-reached g c = λ files are.
     let p = err_from_is_err_and c.from_residual-in_err-statements.result c.from_residual-in_err-statements.ensures.1 in
-    rw (p.1, p.2) (reached_by (IsReachedOfFiles c.args.moment files) Statements c.in_err-statements.field-0.0 c.in_err-statements.ensures.about (
+    rw (p.1, p.2) (reached_given _ (IsReachedOfFiles c.args.moment files) Statements c.in_err-statements.field-0.0 c.in_err-statements.ensures.about c.in_err-statements.ensures.given (λ given. (
       c.in_ok-opening.opening,
       c.in_ok-opening.ensures.opening files.keys files.macs are.keys are.macs,
       has_evidence c.in_ok-opening.opening _ c.in_ok-held.held c.in_ok-held.ensures.evidence files.capture are.capture,
       (c.in_ok-anchors.anchors, c.in_ok-anchors.ensures.said files.anchors are.anchors),
-    ))
+      given_file g.R.Read.remaining c.args.inputs.now.statements files.statements are.statements given,
+    )))
 
 pub returns-clause-reached : goal.returns-clause-reached
 returns-clause-reached g c = λ files are. unjudged_read _ (IsReachedOfFiles c.args.moment files) c.judge.result c.judge.ensures.only
