@@ -37,6 +37,12 @@ class Selection(Case):
     def test_what_is_too_short_is_dropped(self):
         self.takes(framed(b"\x00\x01\x80", ONE), [ONE], "message 1 of -: too short for a message")
 
+    def test_what_is_too_long_is_dropped(self):
+        longest = message(more=bytes(65535 - len(message())))
+        lines = "\n".join(each.hex() for each in (longest + b"\x00", QUERY[:12] + bytes(65524), longest, ONE))
+        told = "line 1 of -: too long for a message", "line 2 of -: too long for a message"
+        self.takes(lines.encode(), [longest, ONE], *told, kind="--hex")
+
     def test_a_message_without_a_question_is_told_too(self):
         self.takes(framed(QUERY[:12], ONE), [ONE], "a query: no question")
         self.takes(framed(QUERY[:15], ONE), [ONE], "a query: no question")
