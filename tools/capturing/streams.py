@@ -11,14 +11,15 @@ TRIES = 128  # segments behind a gap in which a message has to begin
 
 
 class Run:
-    """Octets behind a gap that stand without one, and where the segments begin that brought them."""
+    """Octets behind a gap that stand without one, where the segments begin that brought them, and for each the last
+    packet up to its end."""
 
     def __init__(self):
         self.octets, self.starts, self.places = bytearray(), [], []
 
     def add(self, octets, place):
         self.starts.append(len(self.octets))
-        self.places.append(place)
+        self.places.append(max([place, *self.places[-1:]]))
         self.octets += octets
 
     def messages(self):

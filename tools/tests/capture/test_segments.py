@@ -91,11 +91,12 @@ class Segments(PacketCase):
 
     def test_of_a_stream_without_its_beginning_whole_messages_are_kept(self):
         a, b, c = self.stream(framed(ONE), framed(TWO))
-        self.takes_of([b, c, udp(THREE)], [THREE, ONE, TWO])
-        self.takes_of([c, b, udp(THREE)], [THREE, ONE, TWO])
+        self.takes_of([b, c, udp(THREE)], [ONE, TWO, THREE])
+        self.takes_of([c, b, udp(THREE)], [ONE, TWO, THREE])
+        self.takes_of([b, udp(THREE), c], [ONE, THREE, TWO])
         self.takes_of([tcp(b"", 77), a, b], [ONE])
         torn = tcp(framed(ONE)[9:], self.START + 9)
-        self.takes_of([torn, c, udp(THREE)], [THREE, TWO], "its beginning isn't in the packet capture")
+        self.takes_of([torn, c, udp(THREE)], [TWO, THREE], "its beginning isn't in the packet capture")
 
     def test_a_message_of_length_0_ends_a_stream(self):
         self.takes_of(self.stream(framed(ONE) + b"\x00\x00" + framed(TWO)), [ONE], "a message of length 0")
