@@ -68,9 +68,10 @@ class Parts:
 
     def needed(self, question):
         """The answers to the question and to those that it leads to, and what leads to their names, in their order."""
-        own = [number for asked in self.followed(question) for number in self.by_question.get(asked, ())]
-        names = names_above({name for number in own for name in self.parts[number].names})
-        return sorted({*own, *(number for name in names for number in self.by_name.get(name, ()))})
+        followed = self.followed(question)
+        own = [number for asked in followed for number in self.by_question.get(asked, ())]
+        names = {asked.name for asked in followed}.union(*(self.parts[number].names for number in own))
+        return sorted({*own, *(number for name in names_above(names) for number in self.by_name.get(name, ()))})
 
     def chosen(self, question, needed):
         """As many as a capture takes: one for each question before the others, those of this question first."""

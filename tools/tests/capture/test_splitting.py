@@ -87,6 +87,9 @@ class Split(Room):
         captures = self.split(last, first, other, two, second)[1]
         self.assertEqual(captures["0002-a.one.test.-1.cap"], framed(last, first, two, second))
         self.assertEqual(captures["0001-c.test.-1.cap"], framed(last))
+        keys = key("test."), key("one.test."), ds("two.test."), ds("three.test.")
+        self.folder = self.room / "without the last answer"
+        self.assertEqual(self.split(first, *keys)[1]["0001-a.one.test.-1.cap"], framed(first, *keys[:3]))
         circle = alias("x.test.", "y.test."), alias("y.test.", "x.test.")
         self.folder = self.room / "circle"
         self.assertEqual(self.split(*circle)[1]["0001-x.test.-1.cap"], framed(*circle))
