@@ -7,7 +7,7 @@ HEADER_SIZE = 12
 MESSAGE_SIZE_MOST = 65535  # what two octets tell (RFC 1035 4.2.2)
 NAME_PARTS_MOST = 255  # of 127 labels, each behind a pointer, and the root
 QR, AA, TC = 0x8000, 0x0400, 0x0200
-TYPE_NS, TYPE_CNAME, TYPE_DS, TYPE_RRSIG, TYPE_DNSKEY, TYPE_TSIG = 2, 5, 43, 46, 48, 250
+TYPE_NS, TYPE_CNAME, TYPE_DS, TYPE_RRSIG, TYPE_NSEC, TYPE_DNSKEY, TYPE_NSEC3, TYPE_TSIG = 2, 5, 43, 46, 47, 48, 50, 250
 ANSWER, AUTHORITY, ADDITIONAL = range(3)
 
 Question = namedtuple("Question", "name kind group")

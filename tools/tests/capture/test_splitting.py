@@ -8,7 +8,8 @@ from tool import PROGRAM, DATA, run, run_program
 from .build import framed, message, name_octets, record
 from .cases import QUERY
 
-TYPES = {"A": 1, "NS": 2, "CNAME": 5, "SOA": 6, "TXT": 16, "DS": 43, "RRSIG": 46, "DNSKEY": 48}
+TYPES = {"A": 1, "NS": 2, "CNAME": 5, "SOA": 6, "TXT": 16, "DS": 43, "RRSIG": 46, "NSEC": 47, "DNSKEY": 48,
+         "NSEC3": 50}
 
 
 def answer(name, kind, *records, flags=0x8400, identifier=1, counts=None):
@@ -100,6 +101,28 @@ class Split(Room):
         other = plain("zone.test.", "TXT")
         _, captures, _ = self.split(referral, with_ds, other, plain("www.zone.test."))
         self.assertEqual(captures["0004-www.zone.test.-1.cap"], framed(referral, with_ds, plain("www.zone.test.")))
+
+    def referral(self, name, kind, counts=(0, 2, 0)):
+        """The referral to zone.test. that a question for the name brought, with a record of this type."""
+        return answer(name, "A", ("zone.test.", kind, bytes(4)), ("zone.test.", "NS", b"\x01n\x00"), flags=0x8000,
+                      counts=counts)
+
+    def test_a_referral_leads_down_to_its_zone_whoever_was_asked_for(self):
+        others = key("test."), plain("other.test."), plain("mail.zone.test.")
+        for kind, answers, leads in (("DS", 0, True), ("NSEC", 0, True), ("NSEC3", 0, True), ("TXT", 0, False),
+                                     ("DS", 1, True), ("NSEC", 1, False)):
+            referral = self.referral("www.zone.test.", kind, (answers, 2 - answers, 0))
+            self.folder = self.room / f"{kind} {answers}"
+            captures = self.split(referral, *others)[1]
+            self.assertEqual(captures["0003-mail.zone.test.-1.cap"], framed(*[referral] * leads, others[0], others[2]))
+            self.assertEqual(captures["0002-other.test.-1.cap"], framed(*others[:2]))
+
+    def test_many_referrals_to_a_zone_do_not_go_before_its_keys(self):
+        referrals = [self.referral(f"n{number}.zone.test.", "DS") for number in range(80)]
+        own = plain("mail.zone.test.")
+        captures = self.split(*referrals, key("zone.test."), own, key("test."))[1]
+        self.assertEqual(captures["0081-mail.zone.test.-1.cap"],
+                         framed(*referrals[:61], key("zone.test."), own, key("test.")))
 
     def test_a_capture_has_at_most_64_messages_and_one_of_each_question_first(self):
         many = [plain("www.test.", "TXT", ("x.", "A", bytes([number]))) for number in range(80)]
