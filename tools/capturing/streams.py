@@ -11,14 +11,15 @@ TRIES = 128  # segments behind a gap in which a message has to begin
 
 
 class Run:
-    """Octets behind a gap that stand without one, where the segments begin that brought them, and for each the last
-    packet up to its end."""
+    """Octets behind a gap that stand without one, where the segments begin that brought them, and for what is new of
+    each where it begins, and the last packet up to its end."""
 
-    def __init__(self):
-        self.octets, self.starts, self.places = bytearray(), [], []
+    def __init__(self, first):
+        self.first, self.octets, self.starts, self.fronts, self.places = first, bytearray(), [], [], []
 
-    def add(self, octets, place):
-        self.starts.append(len(self.octets))
+    def add(self, number, octets, place):
+        self.starts.append(number - self.first)
+        self.fronts.append(len(self.octets))
         self.places.append(max([place, *self.places[-1:]]))
         self.octets += octets
 
@@ -31,7 +32,7 @@ class Run:
             message, tries = frame_at(self.octets, start), tries + 1
             while message:
                 end, tries = start + 2 + len(message), 0
-                found.append((message, self.places[bisect.bisect_left(self.starts, end) - 1]))
+                found.append((message, self.places[bisect.bisect_left(self.fronts, end) - 1]))
                 start, message = end, frame_at(self.octets, end)
         return found, sum(2 + len(message) for message, _ in found) == len(self.octets)
 
@@ -88,8 +89,8 @@ class Stream:
         while self.order:
             if not runs or self.order[0] > self.next:
                 self.next = self.order[0]
-                runs.append(Run())
-            runs[-1].add(*self.take_first())
+                runs.append(Run(self.next))
+            runs[-1].add(self.order[0], *self.take_first())
         return runs
 
     def rest(self):

@@ -80,6 +80,16 @@ class Segments(PacketCase):
         self.takes_of(segments[:2] + segments[5:], [ONE, FIVE], "packet 4 of -: repeats", told)
         self.takes_of(segments[:2] + segments[3:6], [ONE, FOUR], told)
 
+    def test_behind_a_gap_a_message_may_begin_with_a_segment_that_overlaps_another(self):
+        octets = framed(TWO, FOUR)
+        end = len(framed(TWO))
+        for cut in (end + 1, end + 9, len(octets)):
+            pieces = [tcp(octets[9:cut], self.START + 9), tcp(octets[end:], self.START + end), udp(ONE)]
+            for order in (pieces, pieces[::-1]):
+                kept = [FOUR, ONE] if order is pieces else [ONE, FOUR]
+                self.takes_of([tcp(b"", 1000, syn=True), *order], kept, "octets before its end aren't")
+                self.takes_of(order, kept, "its beginning isn't in the packet capture")
+
     def test_what_only_looks_like_a_message_behind_a_gap_is_dropped(self):
         told = "octets before its end aren't in the packet capture"
         longer = (len(TWO) + 1).to_bytes(2, "big") + TWO
