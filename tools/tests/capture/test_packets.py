@@ -112,6 +112,18 @@ class Packets(PacketCase):
         self.takes(file, [ONE], "packet 1 of -: it ends too early")
         self.refuses(pcap([whole], lost=1), "packet 1 of -: it was cut")
 
+    def test_a_packet_that_was_cut_to_the_limit_of_its_interface_is_dropped(self):
+        whole = ethernet(ipv4(udp(ONE)))
+        for order in "<>":
+            for lost in range(1, 9):
+                limit = len(whole) - lost
+                front = build.section(order) + build.interface(1, order, limit)
+                cut = build.simple(whole[:limit], order, len(whole))
+                self.refuses(front + cut, "packet 1 of -: it was cut", "no answer was left")
+            for limit in (0, len(whole), 262144):
+                front = build.section(order) + build.interface(1, order, limit)
+                self.takes(front + build.simple(whole, order), [ONE])
+
     def test_headers_that_are_too_short(self):
         frame, whole = bytearray(ethernet(ipv4(udp(TWO)))), ethernet(ipv4(udp(ONE)))
         frame[14] = 0x44
