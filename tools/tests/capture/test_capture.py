@@ -127,6 +127,12 @@ class CommandLine(Case):
         self.assertEqual((status, errors.count("refused:"), errors.count("Traceback")), (1, 1, 0))
         self.assertEqual(run("capture", "--stream", "-", "--output", "/dev/full", given=framed(ONE))[0], 1)
 
+    def test_an_empty_name_is_that_of_no_file(self):
+        for option in ("--output", "--macs", "--split", "--stream"):
+            status, _, errors = run("capture", "--stream", "-", option, "", given=framed(QUERY, message()))
+            self.assertEqual((status, errors.count("refused: [Errno 2]")), (1, 1), errors)
+        self.assertEqual(run("capture", "--stream", "-", "--split", "", "--macs", "", given=framed(ONE))[:2], (2, b""))
+
     def test_a_pipe_that_is_closed(self):
         with tempfile.TemporaryDirectory() as room:
             path, result = DATA / "dnsviz" / "probe.json", pathlib.Path(room) / "result"
