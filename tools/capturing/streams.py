@@ -95,9 +95,9 @@ class Stream:
 
     def rest(self):
         """What is whole behind the gaps of a stream, and what is dropped of it at its end."""
-        why = None
+        why, gap = None, "octets before its end aren't in the packet capture"
         if self.order:
-            why = "octets before its end aren't in the packet capture"
+            why = gap
         elif self.buffer[:2] == b"\x00\x00":
             why = "what begins with a message of length 0"
         elif self.buffer:
@@ -105,7 +105,7 @@ class Stream:
         found = [run.messages() for run in self.runs()]
         if not self.has_beginning:
             is_read = all(is_whole for _, is_whole in found)
-            why = None if is_read else "its beginning isn't in the packet capture"
+            why = (gap if len(found) > 1 else None) if is_read else "its beginning isn't in the packet capture"
         messages = [Message(*each, (Segment, self.ends)) for each_run, _ in found for each in each_run]
         return messages + ([Omission(self.name, why)] if why else [])
 

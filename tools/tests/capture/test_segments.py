@@ -105,6 +105,11 @@ class Segments(PacketCase):
         self.takes_of([c, b, udp(THREE)], [ONE, TWO, THREE])
         self.takes_of([b, udp(THREE), c], [ONE, THREE, TWO])
         self.takes_of([tcp(b"", 77), a, b], [ONE])
+        end = tcp(b"", self.START + len(framed(ONE, TWO)), fin=True)
+        self.takes_of([b, c, end], [ONE, TWO])
+        for behind in (end, tcp(framed(FOUR), self.START + len(framed(ONE, TWO)))):
+            kept = [ONE] if behind is end else [ONE, FOUR]
+            self.takes_of([b, behind], kept, "octets before its end aren't in the packet capture")
         torn = tcp(framed(ONE)[9:], self.START + 9)
         self.takes_of([torn, c, udp(THREE)], [TWO, THREE], "its beginning isn't in the packet capture")
 
