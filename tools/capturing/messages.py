@@ -69,8 +69,9 @@ def lower(labels):
     return tuple(label.lower() for label in labels)
 
 
-def is_at_or_above(labels, others):
-    return labels == others[len(others) - len(labels):]
+def names_above(names):
+    """The names and all above them."""
+    return {name[place:] for name in names for place in range(len(name) + 1)}
 
 
 # Questions and records

@@ -8,7 +8,7 @@ from command import shown, tell, write
 from .entries import Refusal
 from .frames import framed
 from .messages import (AA, ADDITIONAL, ANSWER, AUTHORITY, TYPE_CNAME, TYPE_DNSKEY, TYPE_DS, TYPE_NS, TYPE_NSEC,
-                       TYPE_NSEC3, Question, flags_of, lower, name_at, name_text, question_of, records_of)
+                       TYPE_NSEC3, Question, flags_of, lower, name_at, name_text, names_above, question_of, records_of)
 from .octets import Incomplete
 
 MESSAGES_MOST = 64
@@ -40,11 +40,6 @@ def part_of(octets):
     leads_to = {question.name} | zones if question.kind in OF_CHAIN or zones or is_referral else ()
     is_asked_for = question.kind in OF_CHAIN or not zones
     return Part(octets, question, names, targets, leads_to, question if is_asked_for else frozenset(zones))
-
-
-def names_above(names):
-    """The names and all above them."""
-    return {name[place:] for name in names for place in range(len(name) + 1)}
 
 
 class Parts:

@@ -1,8 +1,10 @@
 """Tests of tools/capture --split, and of what is told that a capture lacks."""
 import pathlib
 import tempfile
+import time
 import unittest
 
+from capturing.notes import notes_of
 from tool import PROGRAM, DATA, run, run_program
 
 from .build import framed, message, name_octets, record
@@ -191,3 +193,10 @@ class Notes(unittest.TestCase):
         self.assertEqual(self.told(signed, key("Z.test.")), [])
         self.assertEqual(self.told(ds("z.test."), plain("www.z.test."), key("test.")), [lacks.format("z.test.")])
         self.assertEqual(self.told(ds("z.test."), plain("www.test."), key("test.")), [])
+
+    def test_many_delegations_take_no_time(self):
+        messages = [ds(f"z{number}.test.") for number in range(8000)]
+        messages += [plain(f"www.y{number}.test.") for number in range(8000)]
+        start = time.process_time()
+        self.assertEqual(len(notes_of([*messages, plain("www.z7.test.")])), 2)
+        self.assertLess(time.process_time() - start, 4)
