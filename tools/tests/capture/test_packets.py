@@ -94,6 +94,15 @@ class Packets(PacketCase):
         self.takes(pcap(packets), [TWO], "packet 1 of -: a fragment of IP", "packet 3 of -: a fragment of IP",
                    "passed over packets of -: 2 of later fragments of IP (--tshark)")
 
+    def test_what_a_fragment_carries_is_read_as_no_header(self):
+        ends, later = (SERVER_6, CLIENT_6), (44, b"\x00\x00\x08\x00\x00\x00\x00")
+        looks_whole = ipv6(udp(TWO, *ends), [later, (60, bytes(7)), (44, bytes(7))])
+        looks_torn = ipv6((60, *ends, b"\x3c\xff" + bytes(6)), [later])
+        self.takes(pcap([ethernet(each) for each in (looks_whole, looks_torn, ipv4(udp(ONE)))]), [ONE],
+                   "passed over packets of -: 2 of later fragments of IP (--tshark)")
+        first = ipv6(udp(TWO, *ends), [(44, b"\x00\x00\x01\x00\x00\x00\x00"), (44, bytes(7))])
+        self.takes(pcap([ethernet(first), ethernet(ipv4(udp(ONE)))]), [ONE], "packet 1 of -: a fragment of IP")
+
     def test_a_length_of_0_is_that_of_what_is_there(self):
         for ip in (ipv4(udp(ONE)), ipv6(udp(ONE, SERVER_6, CLIENT_6))):
             place = 2 if ip[0] >> 4 == 4 else 4
