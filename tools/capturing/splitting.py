@@ -11,21 +11,21 @@ from .messages import (AA, ADDITIONAL, ANSWER, AUTHORITY, TYPE_CNAME, TYPE_DNSKE
                        TYPE_NSEC3, Question, flags_of, lower, name_at, name_text, names_above, question_of, records_of)
 from .octets import Incomplete
 
-MESSAGES_MOST = 64
+MESSAGES_MOST, RECORDS_MOST = 64, 4096  # more the program refuses (403)
 NAME_SIZE_MOST = 150
 CLASS_IN = 1
 OF_CHAIN, OF_DENIAL = (TYPE_DNSKEY, TYPE_DS), (TYPE_NSEC, TYPE_NSEC3)
 NO_QUESTION = Question((), 0, 0)
 
-Part = namedtuple("Part", "octets question names targets leads_to topic")
+Part = namedtuple("Part", "octets question names targets leads_to topic records")
 
 
 def part_of(octets):
     """A message with the names that it is about, those that its aliases lead to, and those that it leads down to; what
-    it leads to, or else its question, is its topic."""
-    question, targets, owners = question_of(octets) or NO_QUESTION, [], defaultdict(set)
+    it leads to, or else its question, is its topic; and how many records it has."""
+    question, targets, owners, records = question_of(octets) or NO_QUESTION, [], defaultdict(set), 0
     try:
-        for record in records_of(octets):
+        for records, record in enumerate(records_of(octets), 1):
             owners[record.section, record.kind].add(lower(name_at(octets, record.name)))
             if record.kind == TYPE_CNAME:
                 targets.append(lower(name_at(octets, record.front)))
@@ -39,7 +39,7 @@ def part_of(octets):
         zones |= owners[AUTHORITY, TYPE_NS]
     leads_to = {question.name} | zones if question.kind in OF_CHAIN or zones or is_referral else ()
     is_asked_for = question.kind in OF_CHAIN or not zones
-    return Part(octets, question, names, targets, leads_to, question if is_asked_for else frozenset(zones))
+    return Part(octets, question, names, targets, leads_to, question if is_asked_for else frozenset(zones), records)
 
 
 class Parts:
@@ -78,7 +78,17 @@ class Parts:
             part = self.parts[number]
             ranked.append((seen[part.topic], part.question != question, number))
             seen[part.topic] += 1
-        return sorted(number for _, _, number in sorted(ranked)[:MESSAGES_MOST])
+        return sorted(self.fitting(number for _, _, number in sorted(ranked)))
+
+    def fitting(self, numbers):
+        """Those that a capture takes in this order; the first it takes in any case."""
+        taken, records = [], 0
+        for number in numbers:
+            more = self.parts[number].records
+            if not taken or len(taken) < MESSAGES_MOST and records + more <= RECORDS_MOST:
+                taken.append(number)
+                records += more
+        return taken
 
     def captures(self):
         """A question and its answers for each capture; what leads down has none of its own where it is in another."""

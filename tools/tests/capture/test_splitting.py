@@ -132,6 +132,16 @@ class Split(Room):
         self.assertEqual(captures["0001-www.test.-16.cap"], framed(*many[:62], key("test."), ds("test.")))
         self.assertIn("0001-www.test.-16.cap has 64 answers, and there are 18 more", errors)
 
+    def test_a_capture_has_at_most_4096_records(self):
+        for each, taken in ((64, 63), (65, 62), (1000, 4), (4095, 1), (4096, 1), (4097, 1)):
+            many = [plain("www.test.", "TXT", *[("x.", "A", bytes([number]))] * (each - 1))
+                    for number in range(taken + 2)]
+            self.folder = self.room / str(each)
+            _, captures, errors = self.split(*many, key("."))
+            keys = [key(".")] * (taken * each + 2 <= 4096)
+            self.assertEqual(captures["0001-www.test.-16.cap"], framed(*many[:taken], *keys))
+            self.assertIn(f"0001-www.test.-16.cap has {taken + len(keys)} answers", errors)
+
     def test_the_answers_to_the_question_go_before_those_that_lead_to_it(self):
         above = [key("a." * count) for count in range(1, 71)]
         own = plain("a." * 71)
