@@ -208,6 +208,9 @@ class Packed(Case):
         self.takes(gzip.compress(file), [ONE, TWO], kind="--pcap")
         self.takes(gzip.compress(file[:60]) + gzip.compress(file[60:]), [ONE, TWO], kind="--pcap")
         self.takes(gzip.compress(ONE.hex().encode()), [ONE], kind="--hex")
+        for count in (1, 1024, 10240):
+            self.takes(gzip.compress(file[:60]) + bytes(count) + gzip.compress(file[60:]) + bytes(count), [ONE, TWO],
+                       kind="--pcap")
 
     def test_what_is_packed_and_torn_gives_what_is_there(self):
         file = pcap([ethernet(ipv4(udp(each))) for each in (ONE, TWO)])
