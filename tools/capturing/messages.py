@@ -4,9 +4,10 @@ from collections import namedtuple
 from .octets import Incomplete, number_at
 
 HEADER_SIZE = 12
+MESSAGE_SIZE_MOST = 65535  # what two octets tell (RFC 1035 4.2.2)
 NAME_PARTS_MOST = 255  # of 127 labels, each behind a pointer, and the root
 QR, AA, TC = 0x8000, 0x0400, 0x0200
-TYPE_NS, TYPE_CNAME, TYPE_DS, TYPE_RRSIG, TYPE_DNSKEY, TYPE_TSIG = 2, 5, 43, 46, 48, 250
+TYPE_NS, TYPE_CNAME, TYPE_DS, TYPE_RRSIG, TYPE_NSEC, TYPE_DNSKEY, TYPE_NSEC3, TYPE_TSIG = 2, 5, 43, 46, 47, 48, 50, 250
 ANSWER, AUTHORITY, ADDITIONAL = range(3)
 
 Question = namedtuple("Question", "name kind group")
@@ -68,8 +69,9 @@ def lower(labels):
     return tuple(label.lower() for label in labels)
 
 
-def is_at_or_above(labels, others):
-    return labels == others[len(others) - len(labels):]
+def names_above(names):
+    """The names and all above them."""
+    return {name[place:] for name in names for place in range(len(name) + 1)}
 
 
 # Questions and records

@@ -1,5 +1,5 @@
 """What the answers lack that whoever asks for a verdict will stumble over."""
-from .messages import (TYPE_DNSKEY, TYPE_DS, TYPE_RRSIG, is_at_or_above, lower, name_at, name_text, question_of,
+from .messages import (TYPE_DNSKEY, TYPE_DS, TYPE_RRSIG, lower, name_at, name_text, names_above, question_of,
                        records_of)
 from .octets import Incomplete
 
@@ -10,12 +10,12 @@ class Zones:
     """The zones that the answers tell of."""
 
     def __init__(self):
-        self.signers, self.delegated, self.with_keys, self.asked = [], [], set(), []
+        self.signers, self.delegated, self.with_keys, self.asked = [], [], set(), set()
 
     def take(self, octets):
         question = question_of(octets)
         if question and question.kind != TYPE_DS:
-            self.asked.append(question.name)
+            self.asked.add(question.name)
         for record in records_of(octets):
             if record.kind == TYPE_RRSIG:
                 self.signers.append(lower(name_at(octets, record.front + SIGNER)))
@@ -26,7 +26,8 @@ class Zones:
 
     def without_keys(self):
         """Those that signed something, or that a delegation leads to on the way to a name that was asked for."""
-        on_the_way = [zone for zone in self.delegated if any(is_at_or_above(zone, name) for name in self.asked)]
+        above = names_above(self.asked)
+        on_the_way = [zone for zone in self.delegated if zone in above]
         return [zone for zone in dict.fromkeys(self.signers + on_the_way) if zone not in self.with_keys]
 
 

@@ -16,6 +16,8 @@ class Unpacker:
         self.new, self.member, self.octets = new, None, bytearray()
 
     def take(self, piece):
+        """Behind a member octets 0 may stand, which fill a block."""
+        piece = piece if self.member else piece.lstrip(b"\x00")
         while piece:
             self.member = self.member or self.new()
             self.octets += self.member.decompress(piece)

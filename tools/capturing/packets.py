@@ -69,12 +69,12 @@ def ipv6_packet(octets):
     while protocol in (HOP_BY_HOP, ROUTING, FRAGMENT, DESTINATION):
         size = 8
         if protocol == FRAGMENT:
-            fragment = number_at(octets, place + 2, 2)
+            fragment |= number_at(octets, place + 2, 2)
+            if fragment & 0xFFF8:
+                raise Other("later fragments of IP" + BY_TSHARK)
         else:
             size = 8 * (1 + number_at(octets, place + 1, 1))
         protocol, place = number_at(octets, place, 1), place + size
-    if fragment & 0xFFF8:
-        raise Other("later fragments of IP" + BY_TSHARK)
     return IpPacket(octets[8:24], octets[24:40], protocol, octets[place:end], bool(fragment & 1))
 
 

@@ -53,28 +53,28 @@ def blocks_of_pcapng(octets):
         place = end
 
 
-def packet_of_block(kind, body, order, number, links):
-    """A simple block has a packet of the first interface, the other kinds name theirs."""
+def packet_of_block(kind, body, order, number, interfaces):
+    """A simple block has a packet of the first interface, cut to its limit; the others name theirs, and the size."""
     numbers = [int.from_bytes(body[place:place + 4], order) for place in (0, 12, 16)]
-    interface, size, sent = numbers if kind == PACKET else (int.from_bytes(body[:2], order), *numbers[1:])
-    front = 20
+    interface = {PACKET: numbers[0], OLD_PACKET: int.from_bytes(body[:2], order), SIMPLE_PACKET: 0}[kind]
+    link, limit = interfaces[interface] if interface < len(interfaces) else (None, 0)
+    front, size, sent = 20, *numbers[1:]
     if kind == SIMPLE_PACKET:
-        interface, front, sent = 0, 4, numbers[0]
-        size = min(sent, len(body) - front)
-    link = links[interface] if interface < len(links) else None
+        front, sent = 4, numbers[0]
+        size = min(sent, len(body) - front, limit or sent)
     return Packet(number, link, body[front:front + size], size == sent and front + size <= len(body))
 
 
 def packets_of_pcapng(octets):
-    links, number = [], 0
+    interfaces, number = [], 0
     for kind, body, order in blocks_of_pcapng(octets):
         if kind == SECTION:
-            links = []
+            interfaces = []
         elif kind == INTERFACE:
-            links.append(int.from_bytes(body[:2], order))
+            interfaces.append((int.from_bytes(body[:2], order), int.from_bytes(body[4:8], order)))
         elif kind in (OLD_PACKET, SIMPLE_PACKET, PACKET):
             number += 1
-            yield packet_of_block(kind, body, order, number, links)
+            yield packet_of_block(kind, body, order, number, interfaces)
 
 
 def packets_of(octets):

@@ -4,7 +4,7 @@ from collections import Counter
 from command import read, shown
 
 from .dnsviz import entries_of_dnsviz
-from .entries import Message, Omission, PassedOver, Refusal
+from .entries import InPacket, Message, Omission, PassedOver, Refusal
 from .frames import frames_of
 from .octets import Incomplete
 from .packed import unpacked
@@ -55,18 +55,23 @@ def entries_of_packet(packet, place, ports, streams, others):
     return [Message(payload.octets, place, (Datagram, frozenset(payload[:2])))]
 
 
+def in_order(entries, last):
+    """Each entry where its packet stands; what is told of a file or a stream as a whole comes behind the last one."""
+    return sorted(entries, key=lambda entry: entry.place if isinstance(entry.place, InPacket) else last)
+
+
 def entries_of_pcap(octets, path, ports):
     if not is_packet_capture(octets):
         raise Refusal(f"{path}: it is neither a pcap nor a pcapng")
-    streams, entries, others, number = Streams(path), [], Counter(), 0
+    streams, entries, others, place = Streams(path), [], Counter(), InPacket(0, path)
     try:
         for packet in packets_of(octets):
-            number = packet.number
-            entries += entries_of_packet(packet, f"packet {number} of {path}", ports, streams, others)
+            place = InPacket(packet.number, path)
+            entries += entries_of_packet(packet, place, ports, streams, others)
     except TornFile as fault:
-        entries.append(Omission(f"what is behind packet {number} of {path}", str(fault)))
+        entries.append(Omission(f"what is behind {place}", str(fault)))
     passed_over = [PassedOver(f"packets of {path}", others)] if others else []
-    return entries + streams.rest() + passed_over
+    return in_order(entries + streams.rest(), place) + passed_over
 
 
 # All kinds

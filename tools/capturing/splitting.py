@@ -7,53 +7,51 @@ from command import shown, tell, write
 
 from .entries import Refusal
 from .frames import framed
-from .messages import (AA, ADDITIONAL, ANSWER, AUTHORITY, TYPE_CNAME, TYPE_DNSKEY, TYPE_DS, TYPE_NS, Question, flags_of,
-                       lower, name_at, name_text, question_of, records_of)
+from .messages import (AA, ADDITIONAL, ANSWER, AUTHORITY, TYPE_CNAME, TYPE_DNSKEY, TYPE_DS, TYPE_NS, TYPE_NSEC,
+                       TYPE_NSEC3, Question, flags_of, lower, name_at, name_text, names_above, question_of, records_of)
 from .octets import Incomplete
 
-MESSAGES_MOST = 64
+MESSAGES_MOST, RECORDS_MOST = 64, 4096  # more the program refuses (403)
 NAME_SIZE_MOST = 150
 CLASS_IN = 1
-OF_CHAIN = (TYPE_DNSKEY, TYPE_DS)
+OF_CHAIN, OF_DENIAL = (TYPE_DNSKEY, TYPE_DS), (TYPE_NSEC, TYPE_NSEC3)
 NO_QUESTION = Question((), 0, 0)
 
-Part = namedtuple("Part", "octets question names targets leads_down")
+Part = namedtuple("Part", "octets question names targets leads_to topic records")
 
 
 def part_of(octets):
-    """A message with the names that it is about, those that its aliases lead to, and whether it leads to names below
-    that of its question."""
-    question = question_of(octets) or NO_QUESTION
-    names, targets, kinds = {question.name}, [], set()
+    """A message with the names that it is about, those that its aliases lead to, and those that it leads down to; what
+    it leads to, or else its question, is its topic; and how many records it has."""
+    question, targets, owners, records = question_of(octets) or NO_QUESTION, [], defaultdict(set), 0
     try:
-        for record in records_of(octets):
-            kinds.add((record.section, record.kind))
-            if record.section != ADDITIONAL:
-                names.add(lower(name_at(octets, record.name)))
+        for records, record in enumerate(records_of(octets), 1):
+            owners[record.section, record.kind].add(lower(name_at(octets, record.name)))
             if record.kind == TYPE_CNAME:
                 targets.append(lower(name_at(octets, record.front)))
     except Incomplete:
         pass
-    is_referral = not flags_of(octets) & AA and (AUTHORITY, TYPE_NS) in kinds and ANSWER not in dict(kinds)
-    has_chain = any(kind in OF_CHAIN for _, kind in kinds)
-    return Part(octets, question, names, targets, question.kind in OF_CHAIN or has_chain or is_referral)
-
-
-def names_above(names):
-    """The names and all above them."""
-    return {name[place:] for name in names for place in range(len(name) + 1)}
+    names = {question.name}.union(*(found for (section, _), found in owners.items() if section != ADDITIONAL))
+    zones = set().union(*(found for (_, kind), found in owners.items() if kind in OF_CHAIN))
+    has_answer = any(section == ANSWER for section, _ in owners)
+    is_referral = not flags_of(octets) & AA and (AUTHORITY, TYPE_NS) in owners and not has_answer
+    if is_referral and any((AUTHORITY, kind) in owners for kind in OF_DENIAL):
+        zones |= owners[AUTHORITY, TYPE_NS]
+    leads_to = {question.name} | zones if question.kind in OF_CHAIN or zones or is_referral else ()
+    is_asked_for = question.kind in OF_CHAIN or not zones
+    return Part(octets, question, names, targets, leads_to, question if is_asked_for else frozenset(zones), records)
 
 
 class Parts:
-    """The answers, by their questions and by the names that they lead down from."""
+    """The answers, by their questions and by the names that they lead down to."""
 
     def __init__(self, messages):
         self.parts = [part_of(octets) for octets in messages]
         self.by_question, self.by_name = defaultdict(list), defaultdict(list)
         for number, part in enumerate(self.parts):
             self.by_question[part.question].append(number)
-            if part.leads_down:
-                self.by_name[part.question.name].append(number)
+            for name in part.leads_to:
+                self.by_name[name].append(number)
 
     def followed(self, question):
         """The question, and those of its type at the names that aliases lead to from it."""
@@ -68,18 +66,29 @@ class Parts:
 
     def needed(self, question):
         """The answers to the question and to those that it leads to, and what leads to their names, in their order."""
-        own = [number for asked in self.followed(question) for number in self.by_question.get(asked, ())]
-        names = names_above({name for number in own for name in self.parts[number].names})
-        return sorted({*own, *(number for name in names for number in self.by_name.get(name, ()))})
+        followed = self.followed(question)
+        own = [number for asked in followed for number in self.by_question.get(asked, ())]
+        names = {asked.name for asked in followed}.union(*(self.parts[number].names for number in own))
+        return sorted({*own, *(number for name in names_above(names) for number in self.by_name.get(name, ()))})
 
     def chosen(self, question, needed):
-        """As many as a capture takes: one for each question before the others, those of this question first."""
+        """As many as a capture takes: one for each topic before the others, those of this question first."""
         seen, ranked = Counter(), []
         for number in needed:
-            asked = self.parts[number].question
-            ranked.append((seen[asked], asked != question, number))
-            seen[asked] += 1
-        return sorted(number for _, _, number in sorted(ranked)[:MESSAGES_MOST])
+            part = self.parts[number]
+            ranked.append((seen[part.topic], part.question != question, number))
+            seen[part.topic] += 1
+        return sorted(self.fitting(number for _, _, number in sorted(ranked)))
+
+    def fitting(self, numbers):
+        """Those that a capture takes in this order; the first it takes in any case."""
+        taken, records = [], 0
+        for number in numbers:
+            more = self.parts[number].records
+            if not taken or len(taken) < MESSAGES_MOST and records + more <= RECORDS_MOST:
+                taken.append(number)
+                records += more
+        return taken
 
     def captures(self):
         """A question and its answers for each capture; what leads down has none of its own where it is in another."""

@@ -11,14 +11,16 @@ TRIES = 128  # segments behind a gap in which a message has to begin
 
 
 class Run:
-    """Octets behind a gap that stand without one, and where the segments begin that brought them."""
+    """Octets behind a gap that stand without one, where the segments begin that brought them, and for what is new of
+    each where it begins, and the last packet up to its end."""
 
-    def __init__(self):
-        self.octets, self.starts, self.places = bytearray(), [], []
+    def __init__(self, first):
+        self.first, self.octets, self.starts, self.fronts, self.places = first, bytearray(), [], [], []
 
-    def add(self, octets, place):
-        self.starts.append(len(self.octets))
-        self.places.append(place)
+    def add(self, number, octets, place):
+        self.starts.append(number - self.first)
+        self.fronts.append(len(self.octets))
+        self.places.append(max([place, *self.places[-1:]]))
         self.octets += octets
 
     def messages(self):
@@ -30,7 +32,7 @@ class Run:
             message, tries = frame_at(self.octets, start), tries + 1
             while message:
                 end, tries = start + 2 + len(message), 0
-                found.append((message, self.places[bisect.bisect_left(self.starts, end) - 1]))
+                found.append((message, self.places[bisect.bisect_left(self.fronts, end) - 1]))
                 start, message = end, frame_at(self.octets, end)
         return found, sum(2 + len(message) for message, _ in found) == len(self.octets)
 
@@ -87,15 +89,15 @@ class Stream:
         while self.order:
             if not runs or self.order[0] > self.next:
                 self.next = self.order[0]
-                runs.append(Run())
-            runs[-1].add(*self.take_first())
+                runs.append(Run(self.next))
+            runs[-1].add(self.order[0], *self.take_first())
         return runs
 
     def rest(self):
         """What is whole behind the gaps of a stream, and what is dropped of it at its end."""
-        why = None
+        why, gap = None, "octets before its end aren't in the packet capture"
         if self.order:
-            why = "octets before its end aren't in the packet capture"
+            why = gap
         elif self.buffer[:2] == b"\x00\x00":
             why = "what begins with a message of length 0"
         elif self.buffer:
@@ -103,7 +105,7 @@ class Stream:
         found = [run.messages() for run in self.runs()]
         if not self.has_beginning:
             is_read = all(is_whole for _, is_whole in found)
-            why = None if is_read else "its beginning isn't in the packet capture"
+            why = (gap if len(found) > 1 else None) if is_read else "its beginning isn't in the packet capture"
         messages = [Message(*each, (Segment, self.ends)) for each_run, _ in found for each in each_run]
         return messages + ([Omission(self.name, why)] if why else [])
 

@@ -87,8 +87,8 @@ def section(order="<"):
     return block(0x0A0D0D0A, struct.pack(order + "I2Hq", 0x1A2B3C4D, 1, 0, -1), order)
 
 
-def interface(link, order="<"):
-    return block(1, struct.pack(order + "2HI", link, 0, 0), order)
+def interface(link, order="<", limit=0):
+    return block(1, struct.pack(order + "2HI", link, 0, limit), order)
 
 
 def enhanced(number, packet, order="<", sent=None):
@@ -100,5 +100,5 @@ def old(number, packet, order="<"):
     return block(2, struct.pack(order + "2H4I", number, 7, 0, 0, len(packet), len(packet)) + packet, order)
 
 
-def simple(packet, order="<"):
-    return block(3, struct.pack(order + "I", len(packet)) + packet, order)
+def simple(packet, order="<", sent=None):
+    return block(3, struct.pack(order + "I", len(packet) if sent is None else sent) + packet, order)

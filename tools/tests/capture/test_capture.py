@@ -37,6 +37,12 @@ class Selection(Case):
     def test_what_is_too_short_is_dropped(self):
         self.takes(framed(b"\x00\x01\x80", ONE), [ONE], "message 1 of -: too short for a message")
 
+    def test_what_is_too_long_is_dropped(self):
+        longest = message(more=bytes(65535 - len(message())))
+        lines = "\n".join(each.hex() for each in (longest + b"\x00", QUERY[:12] + bytes(65524), longest, ONE))
+        told = "line 1 of -: too long for a message", "line 2 of -: too long for a message"
+        self.takes(lines.encode(), [longest, ONE], *told, kind="--hex")
+
     def test_a_message_without_a_question_is_told_too(self):
         self.takes(framed(QUERY[:12], ONE), [ONE], "a query: no question")
         self.takes(framed(QUERY[:15], ONE), [ONE], "a query: no question")
@@ -121,6 +127,12 @@ class CommandLine(Case):
         self.assertEqual((status, errors.count("refused:"), errors.count("Traceback")), (1, 1, 0))
         self.assertEqual(run("capture", "--stream", "-", "--output", "/dev/full", given=framed(ONE))[0], 1)
 
+    def test_an_empty_name_is_that_of_no_file(self):
+        for option in ("--output", "--macs", "--split", "--stream"):
+            status, _, errors = run("capture", "--stream", "-", option, "", given=framed(QUERY, message()))
+            self.assertEqual((status, errors.count("refused: [Errno 2]")), (1, 1), errors)
+        self.assertEqual(run("capture", "--stream", "-", "--split", "", "--macs", "", given=framed(ONE))[:2], (2, b""))
+
     def test_a_pipe_that_is_closed(self):
         with tempfile.TemporaryDirectory() as room:
             path, result = DATA / "dnsviz" / "probe.json", pathlib.Path(room) / "result"
@@ -196,6 +208,9 @@ class Packed(Case):
         self.takes(gzip.compress(file), [ONE, TWO], kind="--pcap")
         self.takes(gzip.compress(file[:60]) + gzip.compress(file[60:]), [ONE, TWO], kind="--pcap")
         self.takes(gzip.compress(ONE.hex().encode()), [ONE], kind="--hex")
+        for count in (1, 1024, 10240):
+            self.takes(gzip.compress(file[:60]) + bytes(count) + gzip.compress(file[60:]) + bytes(count), [ONE, TWO],
+                       kind="--pcap")
 
     def test_what_is_packed_and_torn_gives_what_is_there(self):
         file = pcap([ethernet(ipv4(udp(each))) for each in (ONE, TWO)])

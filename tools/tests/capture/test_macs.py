@@ -186,6 +186,18 @@ class Connections(Case):
                    tcp(request[9:], 510, CLIENT, SERVER), tcp(answer, 1001), udp(signed(MAC))]
         self.gives_of_packets(begins + packets, OTHER_MAC.hex(), MAC.hex(), dropped=2)
 
+    def test_what_stands_behind_gaps_is_in_the_order_of_its_packets(self):
+        first, last = framed(query()), framed(query(OTHER_MAC))
+        asked = [tcp(first, 501, CLIENT, SERVER), tcp(last, 501 + len(first), CLIENT, SERVER)]
+        answers = [tcp(framed(ANSWER), 1001), tcp(framed(signed(MAC)), 1001 + len(framed(ANSWER)))]
+        to, back = (tcp(b"", 500, CLIENT, SERVER, True), 0), (tcp(b"", 1000, syn=True), 0)
+        gap_to, gap_back = (tcp(b"", 400, CLIENT, SERVER, True), 1), (tcp(b"", 900, syn=True), 1)
+        for begins in ((), (to,), (back,), (to, back), (gap_to, back), (to, gap_back), (gap_to, gap_back)):
+            packets = [packet for packet, _ in begins] + [asked[0], answers[0], asked[1], answers[1]]
+            self.gives_of_packets(packets, MAC.hex(), OTHER_MAC.hex(), dropped=2 + sum(gap for _, gap in begins))
+        earlier = tcp(framed(message(9)), 1001 - len(framed(message(9))))
+        self.gives_of_packets([earlier, asked[0], answers[0]], MAC.hex(), dropped=2)
+
     def test_a_list_in_hex_is_one_connection(self):
         lines = "\n".join(each.hex() for each in (query(), ANSWER))
         self.gives_of("--hex", lines.encode(), [MAC.hex()], 1)

@@ -94,6 +94,15 @@ class Packets(PacketCase):
         self.takes(pcap(packets), [TWO], "packet 1 of -: a fragment of IP", "packet 3 of -: a fragment of IP",
                    "passed over packets of -: 2 of later fragments of IP (--tshark)")
 
+    def test_what_a_fragment_carries_is_read_as_no_header(self):
+        ends, later = (SERVER_6, CLIENT_6), (44, b"\x00\x00\x08\x00\x00\x00\x00")
+        looks_whole = ipv6(udp(TWO, *ends), [later, (60, bytes(7)), (44, bytes(7))])
+        looks_torn = ipv6((60, *ends, b"\x3c\xff" + bytes(6)), [later])
+        self.takes(pcap([ethernet(each) for each in (looks_whole, looks_torn, ipv4(udp(ONE)))]), [ONE],
+                   "passed over packets of -: 2 of later fragments of IP (--tshark)")
+        first = ipv6(udp(TWO, *ends), [(44, b"\x00\x00\x01\x00\x00\x00\x00"), (44, bytes(7))])
+        self.takes(pcap([ethernet(first), ethernet(ipv4(udp(ONE)))]), [ONE], "packet 1 of -: a fragment of IP")
+
     def test_a_length_of_0_is_that_of_what_is_there(self):
         for ip in (ipv4(udp(ONE)), ipv6(udp(ONE, SERVER_6, CLIENT_6))):
             place = 2 if ip[0] >> 4 == 4 else 4
@@ -111,6 +120,18 @@ class Packets(PacketCase):
         file = front + build.enhanced(0, whole[:30], sent=len(whole)) + build.enhanced(0, whole)
         self.takes(file, [ONE], "packet 1 of -: it ends too early")
         self.refuses(pcap([whole], lost=1), "packet 1 of -: it was cut")
+
+    def test_a_packet_that_was_cut_to_the_limit_of_its_interface_is_dropped(self):
+        whole = ethernet(ipv4(udp(ONE)))
+        for order in "<>":
+            for lost in range(1, 9):
+                limit = len(whole) - lost
+                front = build.section(order) + build.interface(1, order, limit)
+                cut = build.simple(whole[:limit], order, len(whole))
+                self.refuses(front + cut, "packet 1 of -: it was cut", "no answer was left")
+            for limit in (0, len(whole), 262144):
+                front = build.section(order) + build.interface(1, order, limit)
+                self.takes(front + build.simple(whole, order), [ONE])
 
     def test_headers_that_are_too_short(self):
         frame, whole = bytearray(ethernet(ipv4(udp(TWO)))), ethernet(ipv4(udp(ONE)))

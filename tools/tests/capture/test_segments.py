@@ -80,6 +80,16 @@ class Segments(PacketCase):
         self.takes_of(segments[:2] + segments[5:], [ONE, FIVE], "packet 4 of -: repeats", told)
         self.takes_of(segments[:2] + segments[3:6], [ONE, FOUR], told)
 
+    def test_behind_a_gap_a_message_may_begin_with_a_segment_that_overlaps_another(self):
+        octets = framed(TWO, FOUR)
+        end = len(framed(TWO))
+        for cut in (end + 1, end + 9, len(octets)):
+            pieces = [tcp(octets[9:cut], self.START + 9), tcp(octets[end:], self.START + end), udp(ONE)]
+            for order in (pieces, pieces[::-1]):
+                kept = [FOUR, ONE] if order is pieces else [ONE, FOUR]
+                self.takes_of([tcp(b"", 1000, syn=True), *order], kept, "octets before its end aren't")
+                self.takes_of(order, kept, "its beginning isn't in the packet capture")
+
     def test_what_only_looks_like_a_message_behind_a_gap_is_dropped(self):
         told = "octets before its end aren't in the packet capture"
         longer = (len(TWO) + 1).to_bytes(2, "big") + TWO
@@ -91,11 +101,17 @@ class Segments(PacketCase):
 
     def test_of_a_stream_without_its_beginning_whole_messages_are_kept(self):
         a, b, c = self.stream(framed(ONE), framed(TWO))
-        self.takes_of([b, c, udp(THREE)], [THREE, ONE, TWO])
-        self.takes_of([c, b, udp(THREE)], [THREE, ONE, TWO])
+        self.takes_of([b, c, udp(THREE)], [ONE, TWO, THREE])
+        self.takes_of([c, b, udp(THREE)], [ONE, TWO, THREE])
+        self.takes_of([b, udp(THREE), c], [ONE, THREE, TWO])
         self.takes_of([tcp(b"", 77), a, b], [ONE])
+        end = tcp(b"", self.START + len(framed(ONE, TWO)), fin=True)
+        self.takes_of([b, c, end], [ONE, TWO])
+        for behind in (end, tcp(framed(FOUR), self.START + len(framed(ONE, TWO)))):
+            kept = [ONE] if behind is end else [ONE, FOUR]
+            self.takes_of([b, behind], kept, "octets before its end aren't in the packet capture")
         torn = tcp(framed(ONE)[9:], self.START + 9)
-        self.takes_of([torn, c, udp(THREE)], [THREE, TWO], "its beginning isn't in the packet capture")
+        self.takes_of([torn, c, udp(THREE)], [TWO, THREE], "its beginning isn't in the packet capture")
 
     def test_a_message_of_length_0_ends_a_stream(self):
         self.takes_of(self.stream(framed(ONE) + b"\x00\x00" + framed(TWO)), [ONE], "a message of length 0")

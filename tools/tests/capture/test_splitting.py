@@ -1,14 +1,17 @@
 """Tests of tools/capture --split, and of what is told that a capture lacks."""
 import pathlib
 import tempfile
+import time
 import unittest
 
+from capturing.notes import notes_of
 from tool import PROGRAM, DATA, run, run_program
 
 from .build import framed, message, name_octets, record
 from .cases import QUERY
 
-TYPES = {"A": 1, "NS": 2, "CNAME": 5, "SOA": 6, "TXT": 16, "DS": 43, "RRSIG": 46, "DNSKEY": 48}
+TYPES = {"A": 1, "NS": 2, "CNAME": 5, "SOA": 6, "TXT": 16, "DS": 43, "RRSIG": 46, "NSEC": 47, "DNSKEY": 48,
+         "NSEC3": 50}
 
 
 def answer(name, kind, *records, flags=0x8400, identifier=1, counts=None):
@@ -87,6 +90,9 @@ class Split(Room):
         captures = self.split(last, first, other, two, second)[1]
         self.assertEqual(captures["0002-a.one.test.-1.cap"], framed(last, first, two, second))
         self.assertEqual(captures["0001-c.test.-1.cap"], framed(last))
+        keys = key("test."), key("one.test."), ds("two.test."), ds("three.test.")
+        self.folder = self.room / "without the last answer"
+        self.assertEqual(self.split(first, *keys)[1]["0001-a.one.test.-1.cap"], framed(first, *keys[:3]))
         circle = alias("x.test.", "y.test."), alias("y.test.", "x.test.")
         self.folder = self.room / "circle"
         self.assertEqual(self.split(*circle)[1]["0001-x.test.-1.cap"], framed(*circle))
@@ -98,11 +104,43 @@ class Split(Room):
         _, captures, _ = self.split(referral, with_ds, other, plain("www.zone.test."))
         self.assertEqual(captures["0004-www.zone.test.-1.cap"], framed(referral, with_ds, plain("www.zone.test.")))
 
+    def referral(self, name, kind, counts=(0, 2, 0)):
+        """The referral to zone.test. that a question for the name brought, with a record of this type."""
+        return answer(name, "A", ("zone.test.", kind, bytes(4)), ("zone.test.", "NS", b"\x01n\x00"), flags=0x8000,
+                      counts=counts)
+
+    def test_a_referral_leads_down_to_its_zone_whoever_was_asked_for(self):
+        others = key("test."), plain("other.test."), plain("mail.zone.test.")
+        for kind, answers, leads in (("DS", 0, True), ("NSEC", 0, True), ("NSEC3", 0, True), ("TXT", 0, False),
+                                     ("DS", 1, True), ("NSEC", 1, False)):
+            referral = self.referral("www.zone.test.", kind, (answers, 2 - answers, 0))
+            self.folder = self.room / f"{kind} {answers}"
+            captures = self.split(referral, *others)[1]
+            self.assertEqual(captures["0003-mail.zone.test.-1.cap"], framed(*[referral] * leads, others[0], others[2]))
+            self.assertEqual(captures["0002-other.test.-1.cap"], framed(*others[:2]))
+
+    def test_many_referrals_to_a_zone_do_not_go_before_its_keys(self):
+        referrals = [self.referral(f"n{number}.zone.test.", "DS") for number in range(80)]
+        own = plain("mail.zone.test.")
+        captures = self.split(*referrals, key("zone.test."), own, key("test."))[1]
+        self.assertEqual(captures["0081-mail.zone.test.-1.cap"],
+                         framed(*referrals[:61], key("zone.test."), own, key("test.")))
+
     def test_a_capture_has_at_most_64_messages_and_one_of_each_question_first(self):
         many = [plain("www.test.", "TXT", ("x.", "A", bytes([number]))) for number in range(80)]
         listed, captures, errors = self.split(*many, key("test."), ds("test."))
         self.assertEqual(captures["0001-www.test.-16.cap"], framed(*many[:62], key("test."), ds("test.")))
         self.assertIn("0001-www.test.-16.cap has 64 answers, and there are 18 more", errors)
+
+    def test_a_capture_has_at_most_4096_records(self):
+        for each, taken in ((64, 63), (65, 62), (1000, 4), (4095, 1), (4096, 1), (4097, 1)):
+            many = [plain("www.test.", "TXT", *[("x.", "A", bytes([number]))] * (each - 1))
+                    for number in range(taken + 2)]
+            self.folder = self.room / str(each)
+            _, captures, errors = self.split(*many, key("."))
+            keys = [key(".")] * (taken * each + 2 <= 4096)
+            self.assertEqual(captures["0001-www.test.-16.cap"], framed(*many[:taken], *keys))
+            self.assertIn(f"0001-www.test.-16.cap has {taken + len(keys)} answers", errors)
 
     def test_the_answers_to_the_question_go_before_those_that_lead_to_it(self):
         above = [key("a." * count) for count in range(1, 71)]
@@ -165,3 +203,10 @@ class Notes(unittest.TestCase):
         self.assertEqual(self.told(signed, key("Z.test.")), [])
         self.assertEqual(self.told(ds("z.test."), plain("www.z.test."), key("test.")), [lacks.format("z.test.")])
         self.assertEqual(self.told(ds("z.test."), plain("www.test."), key("test.")), [])
+
+    def test_many_delegations_take_no_time(self):
+        messages = [ds(f"z{number}.test.") for number in range(8000)]
+        messages += [plain(f"www.y{number}.test.") for number in range(8000)]
+        start = time.process_time()
+        self.assertEqual(len(notes_of([*messages, plain("www.z7.test.")])), 2)
+        self.assertLess(time.process_time() - start, 4)
