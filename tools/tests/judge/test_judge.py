@@ -93,6 +93,16 @@ class Words(Judging):
         self.assertIn("www.bind.test. A: SecureAnswer", lines[0])
         self.assertIn("nosuch.bind.test. A: SecureNoName", lines[1])
 
+    def test_a_file_of_questions_in_the_folder_is_no_list_of_captures_where_questions_are_given(self):
+        shutil.copy(WWW, self.room / "www.cap")
+        questions = self.room / "questions"
+        questions.write_text("www.bind.test A\n")
+        for words in (("www.bind.test/A",), ("--questions", questions)):
+            status, lines, errors = self.noon(self.room, *words)
+            self.assertEqual((status, len(lines), errors), (0, 1, ""))
+        self.assertEqual(self.judge("--records", self.room)[0::2], (0, ""))
+        self.assertIn("isn't one of `capture --split`", self.noon(self.room)[2])
+
     def test_the_standard_input_is_a_capture(self):
         self.assertEqual(self.noon("-", "www.bind.test/A", given=WWW.read_bytes())[0], 0)
 
