@@ -103,6 +103,14 @@ class Words(Judging):
         self.assertEqual(self.judge("--records", self.room)[0::2], (0, ""))
         self.assertIn("isn't one of `capture --split`", self.noon(self.room)[2])
 
+    def test_behind_two_dashes_words_may_begin_with_a_dash(self):
+        options, told = ("--at", NOON, "--anchors", ANCHORS), "-x.bind.test. A: Bogus"
+        for words in ((WWW, *options, "--", "-x.bind.test/A"), (*options, "--", WWW, "-x.bind.test/A"),
+                      (*options, WWW, "--", "-x.bind.test/A"), ("a.test/A", *options, "--", WWW, "-x.bind.test/A")):
+            status, lines, errors = self.judge(*words)
+            self.assertEqual((status, verdicts(lines)[-1:], errors), (5, [told], ""))
+        self.assertIn("error: --: there is no such file", self.noon("--", WWW, "--/A", "--")[2])
+
     def test_the_standard_input_is_a_capture(self):
         self.assertEqual(self.noon("-", "www.bind.test/A", given=WWW.read_bytes())[0], 0)
 
