@@ -43,7 +43,7 @@ def key_missing(told, line):
 
 
 def not_zone_key(_told, line):
-    return about(line), f"{by(line)} is by a key without the flag of zone keys"
+    return about(line), f"{by(line)} is by a key that is no zone key"
 
 
 def bad(_told, line):

@@ -163,6 +163,12 @@ class Samples(unittest.TestCase):
         said, = sentences.how_far(told_by(links[0], links[4]))
         self.assertEqual(said.text, "the chain holds down to here")
 
+    def test_a_key_that_is_no_zone_key_by_its_flags_or_its_protocol(self):
+        """Of the protocol nothing is said, so no more is said than that it is none."""
+        reason = {"line": "reason", "word": "not-zone-key", "ede": 11, "owner": "a.b.", "type": 1, "rrset": 2, "signature": 1,
+                  "tag": 9, "algorithm": 13, "signer": "b."}
+        self.assertEqual(texts(told_by(reason)), ["FAIL a.b. A: the signature by key 9 of b. is by a key that is no zone key [EDE 11]"])
+
     def test_the_first_reason(self):
         self.assertEqual(sentences.first_reason(told_of("roll-gone")).ede, 9)
         self.assertIsNone(sentences.first_reason(told_by()))
