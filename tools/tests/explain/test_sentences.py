@@ -169,6 +169,15 @@ class Samples(unittest.TestCase):
                   "tag": 9, "algorithm": 13, "signer": "b."}
         self.assertEqual(texts(told_by(reason)), ["FAIL a.b. A: the signature by key 9 of b. is by a key that is no zone key [EDE 11]"])
 
+    def test_a_signature_whose_key_has_another_algorithm(self):
+        reason = {"line": "reason", "word": "key-missing", "ede": 9, "owner": "a.b.", "type": 1, "rrset": 2, "signature": 1,
+                  "tag": 9, "algorithm": 13, "signer": "b."}
+        keys = [{"line": "key", "zone": "b.", "rrset": 1, "record": place, "tag": tag, "algorithm": algorithm, "flags": 256}
+                for place, (tag, algorithm) in enumerate(((9, 15), (9, 8), (7, 13)), 1)]
+        front = "FAIL a.b. A: the signature by key 9 of b. needs key 9 (ECDSAP256SHA256); the zone"
+        for there, text in ((keys, "'s is of RSASHA256 and ED25519"), (keys[2:], " has 7"), ([], " has no such key")):
+            self.assertEqual(texts(told_by(reason, *there))[0], f"{front}{text} [EDE 9]")
+
     def test_the_first_reason(self):
         self.assertEqual(sentences.first_reason(told_of("roll-gone")).ede, 9)
         self.assertIsNone(sentences.first_reason(told_by()))
