@@ -17,10 +17,15 @@ OPEN_FAILED, READ_FAILED = 811, 210
 
 def of_unread(task, common):
     """The verdicts of a capture that can't be read."""
-    number = READ_FAILED if isinstance(task.fault, IsADirectoryError) else OPEN_FAILED
+    number = READ_FAILED if is_of_read(task.fault) else OPEN_FAILED
     evidence = {"number": number, "file": "capture"}
     return Judged([Row(moment, question, FAILED, "fault", evidence, None) for moment in common.moments
                    for question in task.questions], [])
+
+
+def is_of_read(fault):
+    """Whether it's one of a read: that of an open has the file's name, but for a folder's, which the program can open."""
+    return isinstance(fault, IsADirectoryError) or (fault.errno is not None and fault.filename is None)
 
 
 def one_by_one(tasks, common, program):

@@ -2,6 +2,7 @@
 import json
 import os
 import shutil
+import subprocess
 
 from tool import TOOLS, run_program
 
@@ -157,6 +158,16 @@ class Ends(Judging):
         status, lines, _ = self.noon("--tsv", path, WWW, "www.bind.test/A")
         self.assertEqual((status, len(lines)), (1, 3))
         self.assertEqual(lines[1], f"{path}\t{NOON}\twww.bind.test.\tA\t1\tfault\t811 capture\t\t\t")
+
+    def test_a_read_that_fails(self):
+        """A file that opens and can't be read where it begins, by its name and as the standard input."""
+        words = ("--program", self.program, "--at", NOON, "--anchors", ANCHORS, "www.bind.test/A")
+        for path in ("/proc/self/mem", "-"):
+            with open("/proc/self/mem", "rb") as given:
+                done = subprocess.run([str(word) for word in (TOOLS / "judge", *words, path)], stdin=given, capture_output=True,
+                                      check=False, text=True)
+            self.assertEqual((done.returncode, done.stderr), (1, ""))
+            self.assertIn(f"fault 210 the capture {path}: the file could be opened, and a read failed; ", done.stdout)
 
     def test_what_is_not_there(self):
         words = ("--at", NOON, WWW, "www.bind.test/A")
