@@ -33,10 +33,15 @@ def is_capture(name):
     return name == "capture" or name.endswith(".cap")
 
 
+def raised(fault):
+    """A folder that can't be read isn't passed over: nobody would know that its captures weren't judged."""
+    raise fault
+
+
 def captures_of_folder(folder, are_own_asked):
     """Its captures and those of the folders in it, by name; what they may be asked is listed beside them."""
     found = []
-    for place, folders, names in os.walk(folder):
+    for place, folders, names in os.walk(folder, onerror=raised):
         folders.sort()
         chosen = [name for name in sorted(names) if is_capture(name)]
         own = questions_of_split(place) if chosen and are_own_asked else {}

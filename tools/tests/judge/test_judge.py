@@ -169,6 +169,20 @@ class Ends(Judging):
             self.assertEqual((done.returncode, done.stderr), (1, ""))
             self.assertIn(f"fault 210 the capture {path}: the file could be opened, and a read failed; ", done.stdout)
 
+    def test_a_folder_that_cannot_be_read_is_told_before_anything_is_judged(self):
+        """One below so many that its path is too long, which is so for root too."""
+        shutil.copy(WWW, self.room / "www.cap")
+        place = os.open(self.room, os.O_RDONLY)
+        for _ in range(20):
+            os.mkdir("d" * 240, dir_fd=place)
+            above, place = place, os.open("d" * 240, os.O_RDONLY, dir_fd=place)
+            os.close(above)
+        os.close(place)
+        for words in (("www.bind.test/A",), ("--records",)):
+            status, lines, errors = self.noon(self.room, *words)
+            self.assertEqual((status, lines, errors.count("\n")), (1, [], 1))
+            self.assertIn("File name too long", errors)
+
     def test_what_is_not_there(self):
         words = ("--at", NOON, WWW, "www.bind.test/A")
         status, lines, errors = self.judge("--anchors", self.room / "none", *words)
