@@ -38,7 +38,7 @@ def lines_of_zone(octets, path):
     text = "\n".join("" if line.startswith("#") else line for line in octets.decode("utf-8", "replace").split("\n"))
     try:
         rrsets = zonefile.read_rrsets(text, rdclass=None, default_ttl=0, origin=".", relativize=False)
-    except (exception.DNSException, ValueError, NotImplementedError) as fault:
+    except (exception.DNSException, ValueError, IndexError, NotImplementedError) as fault:
         raise Refusal(f"the anchors {path}: neither lines `DS ..` and `KEY ..` nor DS and DNSKEY records: "
                       f"{fault}") from fault
     lines = []

@@ -33,23 +33,29 @@ def is_capture(name):
     return name == "capture" or name.endswith(".cap")
 
 
-def captures_of_folder(folder):
+def raised(fault):
+    """A folder that can't be read isn't passed over: nobody would know that its captures weren't judged."""
+    raise fault
+
+
+def captures_of_folder(folder, are_own_asked):
     """Its captures and those of the folders in it, by name; what they may be asked is listed beside them."""
     found = []
-    for place, folders, names in os.walk(folder):
+    for place, folders, names in os.walk(folder, onerror=raised):
         folders.sort()
         chosen = [name for name in sorted(names) if is_capture(name)]
-        own = questions_of_split(place) if chosen else {}
+        own = questions_of_split(place) if chosen and are_own_asked else {}
         found += [Capture(os.path.join(place, name), own.get(name, [])) for name in chosen]
     if not found:
         raise Refusal(f"{escaped(folder)}: no capture is in this folder; captures are called `capture` or `..cap`")
     return found
 
 
-def captures_of(paths):
+def captures_of(paths, are_own_asked=False):
+    """The captures; the list of questions beside them is another's file where it isn't asked for, and isn't read."""
     captures = []
     for path in paths:
-        captures += captures_of_folder(path) if os.path.isdir(path) else [Capture(path, [])]
+        captures += captures_of_folder(path, are_own_asked) if os.path.isdir(path) else [Capture(path, [])]
     return captures
 
 
@@ -60,8 +66,9 @@ def all_of(words, question_files):
         questions += questions_of_file(path)
     if not paths:
         raise WrongLine("no capture is named")
-    captures = captures_of(paths)
-    if questions or question_files:
+    is_asked = bool(questions or question_files)
+    captures = captures_of(paths, not is_asked)
+    if is_asked:
         return [(capture.path, questions) for capture in captures]
     asked = [(capture.path, capture.own) for capture in captures if capture.own]
     if not asked:

@@ -80,6 +80,8 @@ def names_above(names):
 def question_text(octets):
     """The first question's name and type, for people to know the message by."""
     try:
+        if number_at(octets, 4, 2) == 0:
+            return "no question"
         labels = name_at(octets, HEADER_SIZE)
         return f"{name_text(labels)} type {number_at(octets, end_of_name(octets, HEADER_SIZE), 2)}"
     except Incomplete:

@@ -19,6 +19,10 @@ class Explanation:
         """The tags of the zone's keys, each once and rising, but for these."""
         return sorted({each["tag"] for each in self.keys(zone)}.difference(others))
 
+    def algorithms(self, zone, tag):
+        """The algorithms of the zone's keys with this tag, each once and rising."""
+        return sorted({each["algorithm"] for each in self.keys(zone) if each["tag"] == tag})
+
     def signing_tags(self, zone, rrset):
         """The tags of the keys that sign the DNSKEY RRset they are in."""
         return sorted({each["tag"] for each in self.keys(zone) if each["rrset"] == rrset and "signature" in each})

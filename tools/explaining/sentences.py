@@ -50,8 +50,17 @@ def how_far(told):
     links = [line for line in told.lines if line["line"] in ("trusted", "signed")]
     if not links:
         return []
-    last, start = links[-1], next((line for line in links if "anchor" in line), None)
+    last, start = links[-1], start_of(links)
     whole = "the chain holds down to here" + (f", from anchor {start['anchor']} of {start['zone']} on" if start else "")
     if last["line"] == "trusted":
         return [Said(HOLDS, owned(last["zone"], DNSKEY), whole)]
     return [Said(HOLDS, owned(last["owner"], last["type"]), f"signed by {last['signer']}; {whole}")]
+
+
+def start_of(links):
+    """The link that an anchor begins of the chain that ends with the last one: other chains, as those of aliases, may have
+    others. None where it isn't among them."""
+    by_rrset, link = {line["rrset"]: line for line in links}, links[-1]
+    while link is not None and "anchor" not in link:
+        link = by_rrset.pop(link["keys"] if link["line"] == "signed" else link["ds_rrset"], None)
+    return link

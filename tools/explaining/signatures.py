@@ -37,13 +37,19 @@ def expired(told, line):
 
 
 def key_missing(told, line):
-    tags = told.tags(line["signer"])
-    beside = f"the zone has {all_of(map(str, tags))}" if tags else "the zone has no such key"
-    return about(line), f"{by(line)} needs {key_name(line['tag'], line['algorithm'])}; {beside}"
+    return about(line), f"{by(line)} needs {key_name(line['tag'], line['algorithm'])}; {beside(told, line)}"
+
+
+def beside(told, line):
+    """The keys that the signer has; one with the tag is of another algorithm."""
+    others, tags = told.algorithms(line["signer"], line["tag"]), told.tags(line["signer"])
+    if others:
+        return f"the zone's is of {all_of(map(algorithm_name, others))}"
+    return f"the zone has {all_of(map(str, tags))}" if tags else "the zone has no such key"
 
 
 def not_zone_key(_told, line):
-    return about(line), f"{by(line)} is by a key without the flag of zone keys"
+    return about(line), f"{by(line)} is by a key that is no zone key"
 
 
 def bad(_told, line):

@@ -48,7 +48,7 @@ def beside(told, line):
 
 
 def key_algorithm(told, line):
-    others = sorted({each["algorithm"] for each in told.keys(line["zone"]) if each["tag"] == line["tag"]})
+    others = told.algorithms(line["zone"], line["tag"])
     beside = f"the zone's is of {all_of(map(algorithm_name, others))}" if others else "the zone's is of another"
     return owned(line["zone"], DNSKEY), f"{named(line)}; {beside}"
 

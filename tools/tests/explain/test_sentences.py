@@ -144,6 +144,40 @@ class Samples(unittest.TestCase):
         self.assertEqual(texts(told_by(reason, {**reason, "rrset": 7})),
                          ["FAIL b. DNSKEY: the DS names key 9; the zone has no such key [EDE 9]"])
 
+    def test_a_chain_holds_from_the_anchor_that_it_begins_with(self):
+        """Two chains, as an alias has them that leads elsewhere: the one from anchor 1 to a., the other from anchor 2 to d.c."""
+        trusted = {"line": "trusted", "signature": 1, "tag": 9, "algorithm": 13, "digest_type": 2}
+        signed = {"line": "signed", "signature": 1, "tag": 9, "algorithm": 13}
+        links = [{**trusted, "zone": "a.", "rrset": 1, "anchor": 1},
+                 {**signed, "owner": "x.a.", "type": 5, "rrset": 2, "signer": "a.", "keys": 1},
+                 {**trusted, "zone": "c.", "rrset": 3, "anchor": 2},
+                 {**signed, "owner": "d.c.", "type": 43, "rrset": 4, "signer": "c.", "keys": 3},
+                 {**trusted, "zone": "d.c.", "rrset": 5, "ds_rrset": 4, "ds_record": 1}]
+        holds = "the chain holds down to here, from anchor {} of {} on"
+        ends = ((1, "a. DNSKEY", holds.format(1, "a.")), (2, "x.a. CNAME", f"signed by a.; {holds.format(1, 'a.')}"),
+                (3, "c. DNSKEY", holds.format(2, "c.")), (4, "d.c. DS", f"signed by c.; {holds.format(2, 'c.')}"),
+                (5, "d.c. DNSKEY", holds.format(2, "c.")))
+        for count, about, text in ends:
+            said, = sentences.how_far(told_by(*links[:count]))
+            self.assertEqual((said.about, said.text), (about, text))
+        said, = sentences.how_far(told_by(links[0], links[4]))
+        self.assertEqual(said.text, "the chain holds down to here")
+
+    def test_a_key_that_is_no_zone_key_by_its_flags_or_its_protocol(self):
+        """Of the protocol nothing is said, so no more is said than that it is none."""
+        reason = {"line": "reason", "word": "not-zone-key", "ede": 11, "owner": "a.b.", "type": 1, "rrset": 2, "signature": 1,
+                  "tag": 9, "algorithm": 13, "signer": "b."}
+        self.assertEqual(texts(told_by(reason)), ["FAIL a.b. A: the signature by key 9 of b. is by a key that is no zone key [EDE 11]"])
+
+    def test_a_signature_whose_key_has_another_algorithm(self):
+        reason = {"line": "reason", "word": "key-missing", "ede": 9, "owner": "a.b.", "type": 1, "rrset": 2, "signature": 1,
+                  "tag": 9, "algorithm": 13, "signer": "b."}
+        keys = [{"line": "key", "zone": "b.", "rrset": 1, "record": place, "tag": tag, "algorithm": algorithm, "flags": 256}
+                for place, (tag, algorithm) in enumerate(((9, 15), (9, 8), (7, 13)), 1)]
+        front = "FAIL a.b. A: the signature by key 9 of b. needs key 9 (ECDSAP256SHA256); the zone"
+        for there, text in ((keys, "'s is of RSASHA256 and ED25519"), (keys[2:], " has 7"), ([], " has no such key")):
+            self.assertEqual(texts(told_by(reason, *there))[0], f"{front}{text} [EDE 9]")
+
     def test_the_first_reason(self):
         self.assertEqual(sentences.first_reason(told_of("roll-gone")).ede, 9)
         self.assertIsNone(sentences.first_reason(told_by()))

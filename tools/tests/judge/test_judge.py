@@ -2,6 +2,7 @@
 import json
 import os
 import shutil
+import subprocess
 
 from tool import TOOLS, run_program
 
@@ -93,6 +94,24 @@ class Words(Judging):
         self.assertIn("www.bind.test. A: SecureAnswer", lines[0])
         self.assertIn("nosuch.bind.test. A: SecureNoName", lines[1])
 
+    def test_a_file_of_questions_in_the_folder_is_no_list_of_captures_where_questions_are_given(self):
+        shutil.copy(WWW, self.room / "www.cap")
+        questions = self.room / "questions"
+        questions.write_text("www.bind.test A\n")
+        for words in (("www.bind.test/A",), ("--questions", questions)):
+            status, lines, errors = self.noon(self.room, *words)
+            self.assertEqual((status, len(lines), errors), (0, 1, ""))
+        self.assertEqual(self.judge("--records", self.room)[0::2], (0, ""))
+        self.assertIn("isn't one of `capture --split`", self.noon(self.room)[2])
+
+    def test_behind_two_dashes_words_may_begin_with_a_dash(self):
+        options, told = ("--at", NOON, "--anchors", ANCHORS), "-x.bind.test. A: Bogus"
+        for words in ((WWW, *options, "--", "-x.bind.test/A"), (*options, "--", WWW, "-x.bind.test/A"),
+                      (*options, WWW, "--", "-x.bind.test/A"), ("a.test/A", *options, "--", WWW, "-x.bind.test/A")):
+            status, lines, errors = self.judge(*words)
+            self.assertEqual((status, verdicts(lines)[-1:], errors), (5, [told], ""))
+        self.assertIn("error: --: there is no such file", self.noon("--", WWW, "--/A", "--")[2])
+
     def test_the_standard_input_is_a_capture(self):
         self.assertEqual(self.noon("-", "www.bind.test/A", given=WWW.read_bytes())[0], 0)
 
@@ -139,6 +158,30 @@ class Ends(Judging):
         status, lines, _ = self.noon("--tsv", path, WWW, "www.bind.test/A")
         self.assertEqual((status, len(lines)), (1, 3))
         self.assertEqual(lines[1], f"{path}\t{NOON}\twww.bind.test.\tA\t1\tfault\t811 capture\t\t\t")
+
+    def test_a_read_that_fails(self):
+        """A file that opens and can't be read where it begins, by its name and as the standard input."""
+        words = ("--program", self.program, "--at", NOON, "--anchors", ANCHORS, "www.bind.test/A")
+        for path in ("/proc/self/mem", "-"):
+            with open("/proc/self/mem", "rb") as given:
+                done = subprocess.run([str(word) for word in (TOOLS / "judge", *words, path)], stdin=given, capture_output=True,
+                                      check=False, text=True)
+            self.assertEqual((done.returncode, done.stderr), (1, ""))
+            self.assertIn(f"fault 210 the capture {path}: the file could be opened, and a read failed; ", done.stdout)
+
+    def test_a_folder_that_cannot_be_read_is_told_before_anything_is_judged(self):
+        """One below so many that its path is too long, which is so for root too."""
+        shutil.copy(WWW, self.room / "www.cap")
+        place = os.open(self.room, os.O_RDONLY)
+        for _ in range(20):
+            os.mkdir("d" * 240, dir_fd=place)
+            above, place = place, os.open("d" * 240, os.O_RDONLY, dir_fd=place)
+            os.close(above)
+        os.close(place)
+        for words in (("www.bind.test/A",), ("--records",)):
+            status, lines, errors = self.noon(self.room, *words)
+            self.assertEqual((status, lines, errors.count("\n")), (1, [], 1))
+            self.assertIn("File name too long", errors)
 
     def test_what_is_not_there(self):
         words = ("--at", NOON, WWW, "www.bind.test/A")

@@ -100,6 +100,6 @@ class Anchors(unittest.TestCase):
             self.assertEqual(self.of(text), text)
 
     def test_others_are_refused(self):
-        for text in ("example. IN A 192.0.2.1\n", "example. CH DS 1 13 2 00\n", "no anchor at all\n", "$INCLUDE /etc/passwd\n", "\xff\n"):
+        for text in ("example. IN A 192.0.2.1\n", "example. CH DS 1 13 2 00\n", "no anchor at all\n", "$INCLUDE /etc/passwd\n", "\xff\n", '"" DS 1 13 2 00\n'):
             with self.subTest(text), self.assertRaises(faults.Refusal):
                 self.of(text)

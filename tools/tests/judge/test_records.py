@@ -1,4 +1,6 @@
 """Tests of `judge --records`: each record with its numbers, as dnspython writes it."""
+from capturing.frames import framed
+
 from .helper import Judging, capture_of, needs_dns
 
 
@@ -14,6 +16,15 @@ class Records(Judging):
         self.assertEqual(len([line for line in lines if line.startswith(signed)]), 1)
         keys = [line for line in lines if " DNSKEY 257 3 8 " in line and line.endswith(" ; key 28346, flags ZONE SEP")]
         self.assertEqual(len(keys), 1)
+
+    def test_a_message_without_a_question_has_none(self):
+        """As those of a transfer behind the first (RFC 5936 2.2): the owner of its first record isn't what was asked."""
+        record = b"\x01a\x04test\x00" + bytes.fromhex("0001 0001 0000003c 0004 c0000201")
+        path = self.room / "x.cap"
+        path.write_bytes(framed([bytes.fromhex("0001 8400 0000 0001 0000 0000") + record]))
+        self.assertEqual(self.judge("--records", path), (0, [
+            "message 1: identifier 0001, flags QR AA, NOERROR, question -, 1 answer, 0 authority, 0 additional",
+            "message 1 record 1 (answer) RRset 1: a.test. 60 IN A 192.0.2.1"], ""))
 
     def test_it_takes_captures_alone(self):
         self.assertEqual(self.judge("--records", capture_of("bind-www-a"), "a.test/A")[0], 2)
