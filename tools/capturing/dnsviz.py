@@ -4,7 +4,7 @@ import json
 from collections import Counter
 
 from .entries import Message, Omission, PassedOver, Refusal
-from .messages import flags_of, is_message, is_query, is_truncated
+from .messages import is_message, is_query, is_truncated, rcode_of
 
 NO_ERROR, NO_SUCH_NAME = 0, 3
 
@@ -37,7 +37,7 @@ def rank_of(entry):
         return 2
     if is_query(entry.octets) or is_truncated(entry.octets):
         return 2
-    return int(flags_of(entry.octets) & 15 not in (NO_ERROR, NO_SUCH_NAME))
+    return int(rcode_of(entry.octets) not in (NO_ERROR, NO_SUCH_NAME))
 
 
 def entries_of_dnsviz(octets, path):

@@ -7,7 +7,8 @@ HEADER_SIZE = 12
 MESSAGE_SIZE_MOST = 65535  # what two octets tell (RFC 1035 4.2.2)
 NAME_PARTS_MOST = 255  # of 127 labels, each behind a pointer, and the root
 QR, AA, TC = 0x8000, 0x0400, 0x0200
-TYPE_NS, TYPE_CNAME, TYPE_DS, TYPE_RRSIG, TYPE_NSEC, TYPE_DNSKEY, TYPE_NSEC3, TYPE_TSIG = 2, 5, 43, 46, 47, 48, 50, 250
+TYPE_NS, TYPE_CNAME, TYPE_OPT, TYPE_DS, TYPE_RRSIG, TYPE_NSEC, TYPE_DNSKEY, TYPE_NSEC3 = 2, 5, 41, 43, 46, 47, 48, 50
+TYPE_TSIG = 250
 ANSWER, AUTHORITY, ADDITIONAL = range(3)
 
 Question = namedtuple("Question", "name kind group")
@@ -115,6 +116,12 @@ def records_of(octets):
             end = front + 10 + number_at(octets, front + 8, 2)
             yield Record(section, place, number_at(octets, front, 2), front + 10, end)
             place = end
+
+
+def rcode_of(octets):
+    """How it went, of a whole message; the upper octet is in the OPT record, before its RDATA (RFC 6891 6.1.3)."""
+    upper = [number_at(octets, record.front - 6, 1) for record in records_of(octets) if record.kind == TYPE_OPT]
+    return (upper or [0])[0] << 4 | flags_of(octets) & 15
 
 
 def is_message(octets):

@@ -58,6 +58,15 @@ class Probe(unittest.TestCase):
         self.takes(probe(("one.", TRUNCATED), ("ONE.", ONE), ("two.", TWO)), [ONE, TWO], told)
         self.takes(probe(("one.", message(9, "one.", 0x8403), ONE)), [message(9, "one.", 0x8403)], told)
 
+    def test_an_error_may_be_told_by_an_opt_record(self):
+        told = "passed over answers of -: 1 of questions that have one"
+        for low, upper, kept in ((0, 1, TWO), (3, 1, TWO), (7, 1, TWO), (0, 255, TWO), (0, 0, None), (3, 0, None)):
+            opt = b"\x00\x00\x29\x04\xd0" + bytes([upper]) + b"\x00\x80\x00\x00\x00"
+            first = message(8, "two.", 0x8400 | low, opt, 1)
+            self.takes(probe(("two.", first, TWO)), [kept or first], told)
+        refused = message(8, "two.", 0x8405, b"\x00\x00\x29\x04\xd0" + bytes(6), 1)
+        self.takes(probe(("two.", refused, TWO)), [TWO], told)
+
     def test_a_question_without_a_whole_answer_is_told(self):
         lost = {"message": None, "error": "TIMEOUT", "history": []}
         self.takes(probe(("two.", lost, {"message": "!"}, TRUNCATED), ("one.", ONE)), [ONE],
