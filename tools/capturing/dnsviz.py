@@ -3,6 +3,8 @@ import base64
 import json
 from collections import Counter
 
+from command import shown
+
 from .entries import Message, Omission, PassedOver, Refusal
 from .messages import is_message, is_query, is_truncated, rcode_of
 
@@ -22,9 +24,9 @@ def queries_of(octets, path):
 
 
 def answer_of(text, server, response, path):
-    place = f"the answer of {server} to {text} of {path}"
+    place = f"the answer of {shown(server)} to {shown(text)} of {path}"
     if not isinstance(response.get("message"), str):
-        return Omission(place, f"there is none: {response.get('error', 'unknown')}")
+        return Omission(place, f"there is none: {shown(str(response.get('error', 'unknown')))}")
     try:
         return Message(base64.b64decode(response["message"], validate=True), place)
     except ValueError:

@@ -2,7 +2,7 @@
 import json
 import subprocess
 
-from command import read
+from command import read, shown
 
 from .entries import Message, Omission, Refusal
 from .packets import Datagram, Segment
@@ -33,7 +33,7 @@ def run_tshark(path, ports):
         raise Refusal("tshark isn't installed (Debian: tshark)") from fault
     lines = [line for line in done.stderr.decode(errors="replace").splitlines() if line.strip()]
     complaint = (lines or [f"status {done.returncode}"])[-1] if done.returncode else None
-    return done.stdout, complaint and complaint.replace("tshark: ", "", 1)
+    return done.stdout, complaint and shown(complaint.replace("tshark: ", "", 1))
 
 
 def layers_of(text):

@@ -75,6 +75,13 @@ class Probe(unittest.TestCase):
                    "dropped the answer of 192.0.2.3 to two. A of -: truncated: one. type 1")
         self.takes(probe(("two.", FAILED, lost), ("one.", ONE)), [FAILED, ONE], "passed over")
 
+    def test_what_a_terminal_would_obey_is_escaped(self):
+        for odd in ("\x1b[2J", "a\nb", "\r", "\x9b1m", "\u202e", "\udcff"):
+            lost = {"message": None, "error": odd, "history": []}
+            given = probe((odd, lost), ("one.", ONE)).replace(b"192.0.2.1", json.dumps(odd)[1:-1].encode())
+            told = f"the answer of {ascii(odd)} to {ascii(odd + ' A')} of -: there is none: {ascii(odd)}"
+            self.takes(given, [ONE], told)
+
     def test_what_is_no_probe_is_refused(self):
         texts = (b"", b"{", b"[]", b"7", b'{"a": 7}', b'{"a": {"queries": 7}}', b'{"a": {"queries": [7]}}',
                  b'{"a": {"queries": [{"qname": "a."}]}}', b"{" * 100000, b"\xff\xfe", b'{"a":' * 100000,

@@ -119,6 +119,11 @@ class ByTshark(Files):
             self.assertEqual((status, output, errors.count("\n")), (1, b"", 1), errors)
             self.assertIn(f"refused: {path}: tshark: ", errors)
 
+    def test_what_a_terminal_would_obey_is_escaped(self):
+        errors = run("capture", "--tshark", DATA / "no\x1b[2J")[2]
+        self.assertTrue(errors.removesuffix("\n").isprintable(), errors)
+        self.assertEqual(errors.count("no\\x1b[2J"), 2, errors)
+
     def test_other_ports_are_told(self):
         status, _, errors = run("capture", "--tshark", PACKETS / "loopback.pcap")
         self.assertEqual(status, 1)
