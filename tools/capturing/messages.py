@@ -6,7 +6,7 @@ from .octets import Incomplete, number_at
 HEADER_SIZE = 12
 MESSAGE_SIZE_MOST = 65535  # what two octets tell (RFC 1035 4.2.2)
 NAME_PARTS_MOST = 255  # of 127 labels, each behind a pointer, and the root
-QR, AA, TC = 0x8000, 0x0400, 0x0200
+QR, AA, TC, DO = 0x8000, 0x0400, 0x0200, 0x8000
 TYPE_NS, TYPE_CNAME, TYPE_OPT, TYPE_DS, TYPE_RRSIG, TYPE_NSEC, TYPE_DNSKEY, TYPE_NSEC3 = 2, 5, 41, 43, 46, 47, 48, 50
 TYPE_TSIG = 250
 ANSWER, AUTHORITY, ADDITIONAL = range(3)
@@ -118,10 +118,20 @@ def records_of(octets):
             place = end
 
 
+def edns_of(octets):
+    """What the OPT record of a whole message has for a TTL, 0 where there is none (RFC 6891 6.1.3)."""
+    found = [number_at(octets, record.front - 6, 4) for record in records_of(octets) if record.kind == TYPE_OPT]
+    return (found or [0])[0]
+
+
 def rcode_of(octets):
-    """How it went, of a whole message; the upper octet is in the OPT record, before its RDATA (RFC 6891 6.1.3)."""
-    upper = [number_at(octets, record.front - 6, 1) for record in records_of(octets) if record.kind == TYPE_OPT]
-    return (upper or [0])[0] << 4 | flags_of(octets) & 15
+    """How it went, of a whole message; the upper octet is in the OPT record."""
+    return edns_of(octets) >> 24 << 4 | flags_of(octets) & 15
+
+
+def is_with_do(octets):
+    """Whether signatures were asked for, of a whole answer, which repeats the flag (RFC 3225 3)."""
+    return bool(edns_of(octets) & DO)
 
 
 def is_message(octets):

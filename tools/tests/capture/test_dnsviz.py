@@ -67,6 +67,18 @@ class Probe(unittest.TestCase):
         refused = message(8, "two.", 0x8405, b"\x00\x00\x29\x04\xd0" + bytes(6), 1)
         self.takes(probe(("two.", refused, TWO)), [TWO], told)
 
+    def test_an_answer_to_a_query_with_the_flag_do_goes_before_one_without(self):
+        def edns(flags, low=0):
+            return message(8, "two.", 0x8400 | low, b"\x00\x00\x29\x04\xd0\x00\x00" + flags + b"\x00\x00", 1)
+
+        told = "passed over answers of -: 1 of questions that have one"
+        signed, plain = edns(b"\x80\x00"), edns(b"\x7f\xff")
+        for first in (plain, TWO, TRUNCATED, edns(b"\x80\x00", 2)):
+            self.takes(probe(("two.", first, signed)), [signed], told)
+            self.takes(probe(("two.", signed, first)), [signed], told)
+        self.takes(probe(("two.", edns(b"\x80\x00", 2), plain)), [plain], told)
+        self.takes(probe(("two.", plain, TWO)), [plain], told)
+
     def test_a_question_without_a_whole_answer_is_told(self):
         lost = {"message": None, "error": "TIMEOUT", "history": []}
         self.takes(probe(("two.", lost, {"message": "!"}, TRUNCATED), ("one.", ONE)), [ONE],
