@@ -19,6 +19,10 @@ def flags_of(octets):
     return number_at(octets, 2, 2)
 
 
+def opcode_of(octets):
+    return flags_of(octets) >> 11 & 15
+
+
 def is_query(octets):
     return not flags_of(octets) & QR
 
