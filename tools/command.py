@@ -34,9 +34,9 @@ def tell(text):
         sys.stderr = None
 
 
-def shown(path):
-    """A path as a line may have it."""
-    return path if path.isprintable() else ascii(path)
+def shown(text):
+    """A path, or what else a stranger wrote, as a line may have it."""
+    return text if text.isprintable() else ascii(text)
 
 
 def parser_of(text):

@@ -3,10 +3,13 @@ import base64
 import json
 from collections import Counter
 
+from command import shown
+
 from .entries import Message, Omission, PassedOver, Refusal
-from .messages import flags_of, is_message, is_query, is_truncated
+from .messages import is_message, is_query, is_truncated, is_with_do, rcode_of
 
 NO_ERROR, NO_SUCH_NAME = 0, 3
+NO_ANSWER = 3  # the last rank
 
 
 def queries_of(octets, path):
@@ -22,9 +25,9 @@ def queries_of(octets, path):
 
 
 def answer_of(text, server, response, path):
-    place = f"the answer of {server} to {text} of {path}"
+    place = f"the answer of {shown(server)} to {shown(text)} of {path}"
     if not isinstance(response.get("message"), str):
-        return Omission(place, f"there is none: {response.get('error', 'unknown')}")
+        return Omission(place, f"there is none: {shown(str(response.get('error', 'unknown')))}")
     try:
         return Message(base64.b64decode(response["message"], validate=True), place)
     except ValueError:
@@ -32,16 +35,19 @@ def answer_of(text, server, response, path):
 
 
 def rank_of(entry):
-    """An answer that is whole goes before what is none, and among those one without an error of the server."""
+    """An answer that is whole goes before what is none, among those one without an error of the server, and among those
+    one with the flag DO: where nothing came back, dnsviz asks without it, and gets no signatures."""
     if not isinstance(entry, Message) or not is_message(entry.octets):
-        return 2
+        return NO_ANSWER
     if is_query(entry.octets) or is_truncated(entry.octets):
+        return NO_ANSWER
+    if rcode_of(entry.octets) not in (NO_ERROR, NO_SUCH_NAME):
         return 2
-    return int(flags_of(entry.octets) & 15 not in (NO_ERROR, NO_SUCH_NAME))
+    return 0 if is_with_do(entry.octets) else 1
 
 
 def entries_of_dnsviz(octets, path):
-    """Of all answers to a question the first whole one."""
+    """Of all answers to a question the first of the best rank."""
     questions = {}
     for text, responses in queries_of(octets, path):
         answers = questions.setdefault(text.lower(), [])
@@ -49,7 +55,7 @@ def entries_of_dnsviz(octets, path):
     entries, others = [], Counter()
     for answers in questions.values():
         best = min(answers, key=rank_of, default=None)
-        if best is None or rank_of(best) == 2:
+        if best is None or rank_of(best) == NO_ANSWER:
             entries += answers
         else:
             entries.append(best)

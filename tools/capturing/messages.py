@@ -6,8 +6,9 @@ from .octets import Incomplete, number_at
 HEADER_SIZE = 12
 MESSAGE_SIZE_MOST = 65535  # what two octets tell (RFC 1035 4.2.2)
 NAME_PARTS_MOST = 255  # of 127 labels, each behind a pointer, and the root
-QR, AA, TC = 0x8000, 0x0400, 0x0200
-TYPE_NS, TYPE_CNAME, TYPE_DS, TYPE_RRSIG, TYPE_NSEC, TYPE_DNSKEY, TYPE_NSEC3, TYPE_TSIG = 2, 5, 43, 46, 47, 48, 50, 250
+QR, AA, TC, DO = 0x8000, 0x0400, 0x0200, 0x8000
+TYPE_NS, TYPE_CNAME, TYPE_OPT, TYPE_DS, TYPE_RRSIG, TYPE_NSEC, TYPE_DNSKEY, TYPE_NSEC3 = 2, 5, 41, 43, 46, 47, 48, 50
+TYPE_TSIG = 250
 ANSWER, AUTHORITY, ADDITIONAL = range(3)
 
 Question = namedtuple("Question", "name kind group")
@@ -16,6 +17,10 @@ Record = namedtuple("Record", "section name kind front end")
 
 def flags_of(octets):
     return number_at(octets, 2, 2)
+
+
+def opcode_of(octets):
+    return flags_of(octets) >> 11 & 15
 
 
 def is_query(octets):
@@ -117,6 +122,22 @@ def records_of(octets):
             end = front + 10 + number_at(octets, front + 8, 2)
             yield Record(section, place, number_at(octets, front, 2), front + 10, end)
             place = end
+
+
+def edns_of(octets):
+    """What the OPT record of a whole message has for a TTL, 0 where there is none (RFC 6891 6.1.3)."""
+    found = [number_at(octets, record.front - 6, 4) for record in records_of(octets) if record.kind == TYPE_OPT]
+    return (found or [0])[0]
+
+
+def rcode_of(octets):
+    """How it went, of a whole message; the upper octet is in the OPT record."""
+    return edns_of(octets) >> 24 << 4 | flags_of(octets) & 15
+
+
+def is_with_do(octets):
+    """Whether signatures were asked for, of a whole answer, which repeats the flag (RFC 3225 3)."""
+    return bool(edns_of(octets) & DO)
 
 
 def is_message(octets):

@@ -1,6 +1,7 @@
 """Captures by question: the answers to each and to what its aliases lead to, with what leads to their names."""
+import heapq
 import os
-from collections import Counter, defaultdict, namedtuple
+from collections import defaultdict, namedtuple
 from urllib.parse import quote
 
 from command import shown, tell, write
@@ -20,9 +21,14 @@ NO_QUESTION = Question((), 0, 0)
 Part = namedtuple("Part", "octets question names targets leads_to topic records")
 
 
+def uppermost(names):
+    """Those of the names that are below no other."""
+    return frozenset(name for name in names if names.isdisjoint(name[place:] for place in range(1, len(name) + 1)))
+
+
 def part_of(octets):
-    """A message with the names that it is about, those that its aliases lead to, and those that it leads down to; what
-    it leads to, or else its question, is its topic; and how many records it has."""
+    """A message with the names that it is about, those that its aliases lead to, and the uppermost that it leads down
+    to; what it leads to, or else its question, is its topic; and how many records it has."""
     question, targets, owners, records = question_of(octets) or NO_QUESTION, [], defaultdict(set), 0
     try:
         for records, record in enumerate(records_of(octets), 1):
@@ -37,21 +43,30 @@ def part_of(octets):
     is_referral = not flags_of(octets) & AA and (AUTHORITY, TYPE_NS) in owners and not has_answer
     if is_referral and any((AUTHORITY, kind) in owners for kind in OF_DENIAL):
         zones |= owners[AUTHORITY, TYPE_NS]
-    leads_to = {question.name} | zones if question.kind in OF_CHAIN or zones or is_referral else ()
+    leads_to = uppermost({question.name} | zones if question.kind in OF_CHAIN or zones or is_referral else set())
     is_asked_for = question.kind in OF_CHAIN or not zones
     return Part(octets, question, names, targets, leads_to, question if is_asked_for else frozenset(zones), records)
 
 
 class Parts:
-    """The answers, by their questions and by the names that they lead down to."""
+    """The answers by their questions, and in groups: those of one topic that lead down to the same names, or else are
+    for the same question. What has one of a group has all, so that a capture needs no look at each."""
 
     def __init__(self, messages):
         self.parts = [part_of(octets) for octets in messages]
-        self.by_question, self.by_name = defaultdict(list), defaultdict(list)
+        self.least = min((part.records for part in self.parts), default=0)
+        self.by_question, self.groups, self.by_name = defaultdict(list), {}, defaultdict(list)
+        self.names, self.targets = defaultdict(set), defaultdict(set)
         for number, part in enumerate(self.parts):
             self.by_question[part.question].append(number)
-            for name in part.leads_to:
-                self.by_name[name].append(number)
+            self.names[part.question] |= part.names
+            self.targets[part.question].update(part.targets)
+            group = part.leads_to or part.question, part.topic
+            if group not in self.groups:
+                self.groups[group] = []
+                for name in part.leads_to:
+                    self.by_name[name].append(group)
+            self.groups[group].append(number)
 
     def followed(self, question):
         """The question, and those of its type at the names that aliases lead to from it."""
@@ -60,35 +75,39 @@ class Parts:
             asked = waiting.pop()
             if asked not in questions:
                 questions.add(asked)
-                numbers = self.by_question.get(asked, ())
-                waiting += [asked._replace(name=target) for number in numbers for target in self.parts[number].targets]
+                waiting += [asked._replace(name=target) for target in self.targets.get(asked, ())]
         return questions
 
     def needed(self, question):
-        """The answers to the question and to those that it leads to, and what leads to their names, in their order."""
+        """The groups of the answers to the question and to those that it leads to, and what leads to their names."""
         followed = self.followed(question)
-        own = [number for asked in followed for number in self.by_question.get(asked, ())]
-        names = {asked.name for asked in followed}.union(*(self.parts[number].names for number in own))
-        return sorted({*own, *(number for name in names_above(names) for number in self.by_name.get(name, ()))})
+        names = {asked.name for asked in followed}.union(*(self.names.get(asked, ()) for asked in followed))
+        groups = {group for name in names_above(names) for group in self.by_name.get(name, ())}
+        return groups.union(own for own in ((asked, asked) for asked in followed) if own in self.groups)
 
-    def chosen(self, question, needed):
-        """As many as a capture takes: one for each topic before the others, those of this question first."""
-        seen, ranked = Counter(), []
-        for number in needed:
-            part = self.parts[number]
-            ranked.append((seen[part.topic], part.question != question, number))
-            seen[part.topic] += 1
-        return sorted(self.fitting(number for _, _, number in sorted(ranked)))
+    def ranked(self, question, groups):
+        """The answers in the groups: one for each topic before the others, those of this question first."""
+        by_topic = defaultdict(list)
+        for group in groups:
+            by_topic[group[1]].append(self.groups[group])
+        waiting = [heapq.merge(*numbers) for numbers in by_topic.values()]
+        while waiting:
+            level = [(next(numbers, None), numbers) for numbers in waiting]
+            waiting = [numbers for number, numbers in level if number is not None]
+            found = [number for number, _ in level if number is not None]
+            yield from sorted(found, key=lambda number: (self.parts[number].question != question, number))
 
     def fitting(self, numbers):
-        """Those that a capture takes in this order; the first it takes in any case."""
+        """Those that a capture takes in this order, until it has no room for any; the first it takes in any case."""
         taken, records = [], 0
         for number in numbers:
             more = self.parts[number].records
-            if not taken or len(taken) < MESSAGES_MOST and records + more <= RECORDS_MOST:
+            if not taken or records + more <= RECORDS_MOST:
                 taken.append(number)
                 records += more
-        return taken
+            if len(taken) == MESSAGES_MOST or records + self.least > RECORDS_MOST:
+                break
+        return sorted(taken)
 
     def captures(self):
         """A question and its answers for each capture; what leads down has none of its own where it is in another."""
@@ -96,10 +115,11 @@ class Parts:
         for question in sorted(self.by_question, key=lambda question: question.kind in OF_CHAIN):
             if question.kind in OF_CHAIN and used.issuperset(self.by_question[question]):
                 continue
-            needed = self.needed(question)
-            chosen = self.chosen(question, needed)
+            groups = self.needed(question)
+            chosen = self.fitting(self.ranked(question, groups))
             used.update(chosen)
-            yield question, [self.parts[number].octets for number in chosen], len(needed) - len(chosen)
+            count = sum(len(self.groups[group]) for group in groups)
+            yield question, [self.parts[number].octets for number in chosen], count - len(chosen)
 
 
 def file_name(number, question):

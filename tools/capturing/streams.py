@@ -7,7 +7,7 @@ from .frames import frame_at, frames_of
 from .packets import Segment
 
 WINDOW = 2**30  # more than this no receiver takes ahead (RFC 7323 2.3)
-TRIES = 128  # segments behind a gap in which a message has to begin
+TRIES = 2**14  # segments behind a gap in which a message has to begin; a transfer may have thousands before one does
 
 
 class Run:

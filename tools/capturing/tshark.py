@@ -2,7 +2,7 @@
 import json
 import subprocess
 
-from command import read
+from command import read, shown
 
 from .entries import Message, Omission, Refusal
 from .packets import Datagram, Segment
@@ -25,15 +25,15 @@ def words_of(path, ports):
 
 
 def run_tshark(path, ports):
-    """What tshark prints, and its complaint where it ends with a fault."""
-    given = {"input": read("-")} if path == "-" else {"stdin": subprocess.DEVNULL}
+    """What tshark prints, and its complaint where it ends with a fault; a path may be that of a pipe that is open."""
+    given = {"input": read("-")} if path == "-" else {}
     try:
-        done = subprocess.run(words_of(path, ports), **given, capture_output=True, check=False)
+        done = subprocess.run(words_of(path, ports), **given, capture_output=True, check=False, close_fds=False)
     except FileNotFoundError as fault:
         raise Refusal("tshark isn't installed (Debian: tshark)") from fault
     lines = [line for line in done.stderr.decode(errors="replace").splitlines() if line.strip()]
     complaint = (lines or [f"status {done.returncode}"])[-1] if done.returncode else None
-    return done.stdout, complaint and complaint.replace("tshark: ", "", 1)
+    return done.stdout, complaint and shown(complaint.replace("tshark: ", "", 1))
 
 
 def layers_of(text):

@@ -21,6 +21,12 @@ class Selection(Case):
     def test_queries_are_dropped(self):
         self.takes(framed(QUERY, ONE, QUERY), [ONE], "message 1 of -: a query: www.example. type 1", "message 3")
 
+    def test_responses_that_answer_no_question_are_dropped(self):
+        for opcode in range(1, 16):
+            for flags in (0x8000, 0x8400, 0x8600):
+                told = f"message 1 of -: a response of opcode {opcode}, which answers no question: www.example. type 1"
+                self.takes(framed(message(flags=flags | opcode << 11), ONE), [ONE], told)
+
     def test_truncated_answers_are_dropped(self):
         self.takes(framed(message(flags=0x8600), ONE), [ONE], "message 1 of -: truncated: www.example. type 1")
 

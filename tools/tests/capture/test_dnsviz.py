@@ -58,6 +58,27 @@ class Probe(unittest.TestCase):
         self.takes(probe(("one.", TRUNCATED), ("ONE.", ONE), ("two.", TWO)), [ONE, TWO], told)
         self.takes(probe(("one.", message(9, "one.", 0x8403), ONE)), [message(9, "one.", 0x8403)], told)
 
+    def test_an_error_may_be_told_by_an_opt_record(self):
+        told = "passed over answers of -: 1 of questions that have one"
+        for low, upper, kept in ((0, 1, TWO), (3, 1, TWO), (7, 1, TWO), (0, 255, TWO), (0, 0, None), (3, 0, None)):
+            opt = b"\x00\x00\x29\x04\xd0" + bytes([upper]) + b"\x00\x80\x00\x00\x00"
+            first = message(8, "two.", 0x8400 | low, opt, 1)
+            self.takes(probe(("two.", first, TWO)), [kept or first], told)
+        refused = message(8, "two.", 0x8405, b"\x00\x00\x29\x04\xd0" + bytes(6), 1)
+        self.takes(probe(("two.", refused, TWO)), [TWO], told)
+
+    def test_an_answer_to_a_query_with_the_flag_do_goes_before_one_without(self):
+        def edns(flags, low=0):
+            return message(8, "two.", 0x8400 | low, b"\x00\x00\x29\x04\xd0\x00\x00" + flags + b"\x00\x00", 1)
+
+        told = "passed over answers of -: 1 of questions that have one"
+        signed, plain = edns(b"\x80\x00"), edns(b"\x7f\xff")
+        for first in (plain, TWO, TRUNCATED, edns(b"\x80\x00", 2)):
+            self.takes(probe(("two.", first, signed)), [signed], told)
+            self.takes(probe(("two.", signed, first)), [signed], told)
+        self.takes(probe(("two.", edns(b"\x80\x00", 2), plain)), [plain], told)
+        self.takes(probe(("two.", plain, TWO)), [plain], told)
+
     def test_a_question_without_a_whole_answer_is_told(self):
         lost = {"message": None, "error": "TIMEOUT", "history": []}
         self.takes(probe(("two.", lost, {"message": "!"}, TRUNCATED), ("one.", ONE)), [ONE],
@@ -65,6 +86,13 @@ class Probe(unittest.TestCase):
                    "dropped the answer of 192.0.2.2 to two. A of -: it isn't base64",
                    "dropped the answer of 192.0.2.3 to two. A of -: truncated: one. type 1")
         self.takes(probe(("two.", FAILED, lost), ("one.", ONE)), [FAILED, ONE], "passed over")
+
+    def test_what_a_terminal_would_obey_is_escaped(self):
+        for odd in ("\x1b[2J", "a\nb", "\r", "\x9b1m", "\u202e", "\udcff"):
+            lost = {"message": None, "error": odd, "history": []}
+            given = probe((odd, lost), ("one.", ONE)).replace(b"192.0.2.1", json.dumps(odd)[1:-1].encode())
+            told = f"the answer of {ascii(odd)} to {ascii(odd + ' A')} of -: there is none: {ascii(odd)}"
+            self.takes(given, [ONE], told)
 
     def test_what_is_no_probe_is_refused(self):
         texts = (b"", b"{", b"[]", b"7", b'{"a": 7}', b'{"a": {"queries": 7}}', b'{"a": {"queries": [7]}}',

@@ -7,7 +7,7 @@ import tempfile
 import unittest
 from unittest import mock
 
-from tool import DATA, run
+from tool import DATA, TOOLS, run, run_program
 
 from .build import CLIENT, SERVER, ethernet, framed, ipv4, pcap, tcp, udp
 from .cases import ONE, QUERY, THREE, TWO
@@ -74,6 +74,17 @@ class ByTshark(Files):
     def test_fragments_are_joined(self):
         self.check("--tshark", PACKETS / "fragments.pcap", 53, STREAM, ["repeats packet 7"])
 
+    def test_a_pipe_may_be_named_by_its_number(self):
+        given = pcap([ethernet(ipv4(udp(ONE)))])
+        reader, writer = os.pipe()
+        self.addCleanup(os.close, reader)
+        os.set_inheritable(reader, True)
+        with open(writer, "wb") as file:
+            file.write(given)
+        self.assertEqual(run("capture", "--tshark", f"/dev/fd/{reader}")[:2], (0, framed(ONE)))
+        done = run_program(TOOLS / "capture", "--tshark", "/dev/stdin", given=given)
+        self.assertEqual(done[:2], (0, framed(ONE)), done[2])
+
     def test_what_is_encapsulated_is_found(self):
         self.check("--tshark", PACKETS / "vxlan.pcap", 53, FIRST + LAST, ["packet 14 of FILE: repeats packet 8"])
         inner = ipv4(udp(ONE))
@@ -118,6 +129,11 @@ class ByTshark(Files):
             status, output, errors = run("capture", "--tshark", path)
             self.assertEqual((status, output, errors.count("\n")), (1, b"", 1), errors)
             self.assertIn(f"refused: {path}: tshark: ", errors)
+
+    def test_what_a_terminal_would_obey_is_escaped(self):
+        errors = run("capture", "--tshark", DATA / "no\x1b[2J")[2]
+        self.assertTrue(errors.removesuffix("\n").isprintable(), errors)
+        self.assertEqual(errors.count("no\\x1b[2J"), 2, errors)
 
     def test_other_ports_are_told(self):
         status, _, errors = run("capture", "--tshark", PACKETS / "loopback.pcap")

@@ -90,6 +90,13 @@ class Segments(PacketCase):
                 self.takes_of([tcp(b"", 1000, syn=True), *order], kept, "octets before its end aren't")
                 self.takes_of(order, kept, "its beginning isn't in the packet capture")
 
+    def test_behind_a_gap_many_segments_may_begin_within_messages(self):
+        octets = framed(*(message(number, f"n{number}.", more=bytes(19000)) for number in range(150)))
+        pieces = [octets[place:place + 1448] for place in range(0, len(octets), 1448)]
+        segments = self.stream(framed(ONE), *pieces, framed(TWO), framed(FOUR))
+        self.takes_of(segments[:2] + segments[3:], [ONE, TWO, FOUR], "octets before its end aren't")
+        self.takes_of(segments[3:], [TWO, FOUR], "its beginning isn't in the packet capture")
+
     def test_what_only_looks_like_a_message_behind_a_gap_is_dropped(self):
         told = "octets before its end aren't in the packet capture"
         longer = (len(TWO) + 1).to_bytes(2, "big") + TWO

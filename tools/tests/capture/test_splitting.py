@@ -5,6 +5,7 @@ import time
 import unittest
 
 from capturing.notes import notes_of
+from capturing.splitting import Parts
 from tool import PROGRAM, DATA, run, run_program
 
 from .build import framed, message, name_octets, record
@@ -141,6 +142,15 @@ class Split(Room):
             keys = [key(".")] * (taken * each + 2 <= 4096)
             self.assertEqual(captures["0001-www.test.-16.cap"], framed(*many[:taken], *keys))
             self.assertIn(f"0001-www.test.-16.cap has {taken + len(keys)} answers", errors)
+
+    def test_many_answers_that_lead_to_many_questions_take_no_time(self):
+        asked = [plain(f"n{number}.zone.test.") for number in range(8000)]
+        referrals = [self.referral(f"x{number}.zone.test.", "DS") for number in range(8000)]
+        for leads in ([key("zone.test.")] * 8000, referrals):
+            start = time.process_time()
+            found = [each for each in Parts(leads + asked).captures() if asked[-1] in each[1]]
+            self.assertLess(time.process_time() - start, 6)
+            self.assertEqual([each[1:] for each in found], [([*leads[:63], asked[-1]], 7937)])
 
     def test_the_answers_to_the_question_go_before_those_that_lead_to_it(self):
         above = [key("a." * count) for count in range(1, 71)]
