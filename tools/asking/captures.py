@@ -24,8 +24,6 @@ def told_apart(words):
             paths.append(word)
         else:
             raise wrong_word(word)
-    if paths.count("-") > 1:
-        raise WrongLine("the standard input is named twice")
     return paths, questions
 
 

@@ -152,6 +152,13 @@ class Ends(Judging):
         self.assertIn("--macs needs --keys", self.wrong(WWW, "a.test/A", "--macs", ANCHORS))
         self.assertIn("--html is given twice", self.wrong(WWW, "a.test/A", "--html", "a", "--html", "b"))
 
+    def test_the_standard_input_is_read_once(self):
+        keys = ("--keys", ANCHORS)
+        for words in (("-", "-", "a.test/A"), ("-", "--questions", "-"), ("-", "a.test/A", "--anchors", "-"), ("--records", "-", "-"),
+                      ("-", "a.test/A", "--keys", "-"), ("-", "a.test/A", *keys, "--macs", "-"),
+                      (WWW, "--questions", "-", "--questions", "-"), (WWW, "--questions", "-", "--", "-")):
+            self.assertIn("error: the standard input is named twice", self.wrong(*words))
+
     def test_a_capture_that_cannot_be_read(self):
         path = self.room / "x.cap"
         path.symlink_to(self.room / "nowhere")
