@@ -2,7 +2,7 @@
 import os
 from collections import namedtuple
 
-from command import read
+from command import read, shown
 
 from .faults import Refusal, WrongLine, escaped
 from .questions import question_of_word, questions_of_file, questions_of_split, wrong_word
@@ -64,7 +64,9 @@ def all_of(words, question_files):
         questions += questions_of_file(path)
     if not paths:
         raise WrongLine("no capture is named")
-    is_asked = bool(questions or question_files)
+    if question_files and not questions:
+        raise Refusal(f"no question is in {', '.join(map(shown, question_files))}")
+    is_asked = bool(questions)
     captures = captures_of(paths, not is_asked)
     if is_asked:
         return [(capture.path, questions) for capture in captures]

@@ -85,6 +85,19 @@ class Words(Judging):
         path.write_text("www.bind.test/A\nwww.bind.test\n")
         self.assertEqual(self.noon(WWW, "--questions", path), (7, [], f"judge: refused: line 2 of {path} is no question: write NAME/TYPE or NAME TYPE\n"))
 
+    def test_files_without_a_question_are_refused(self):
+        path, other = self.room / "questions", self.room / "others"
+        other.write_text("")
+        shutil.copy(WWW, self.room / "www.cap")
+        for text in ("", "\n", "# none\n \t\r\n"):
+            path.write_text(text)
+            for capture in (WWW, self.room):
+                told = self.noon(capture, "--questions", path)
+                self.assertEqual(told, (7, [], f"judge: refused: no question is in {path}\n"))
+        told = self.noon(WWW, "--questions", path, "--questions", other)
+        self.assertEqual(told, (7, [], f"judge: refused: no question is in {path}, {other}\n"))
+        self.assertEqual(self.noon(WWW, "www.bind.test/A", "--questions", path)[0], 0)
+
     def test_a_split_folder_asks_its_own(self):
         shutil.copy(WWW, self.room / "0001-www.bind.test.-1.cap")
         shutil.copy(NOSUCH, self.room / "0002-nosuch.bind.test.-1.cap")
