@@ -42,6 +42,17 @@ class Lines(Judging):
             self.assertEqual(status, 7)
             self.assertIn(f"a.test. A: refused 401 message 2 of the capture {query}: it is a query; ", lines[0])
 
+    def test_a_name_too_long_for_an_argument_has_its_line(self):
+        path, wrong = self.room / "questions", (("a." * 100000, 104), ("\\097." * 50000, 104), ("a" * 200000 + ".", 103))
+        for name, number in wrong:
+            path.write_text(f"{name} A\nwww.bind.test A\n")
+            status, lines, errors = self.noon(WWW, "--questions", path)
+            self.assertEqual((len(verdicts(lines)), errors), (2, ""))
+            self.assertTrue(lines[-1].startswith("www.bind.test. A: SecureAnswer"))
+            if self.room not in self.program.parents:
+                self.assertEqual(status, 7)
+                self.assertTrue(lines[0].startswith(f"{name} A: refused {number} the name: "))
+
     def test_several_captures_and_moments_stand_in_their_lines(self):
         status, lines, _ = self.judge("--at", "2026-11-22T12:00:00Z", "--at", "2026-11-22T13:00:00+01:00", "--anchors", ANCHORS,
                                       WWW, CUT, "www.bind.test/A")
