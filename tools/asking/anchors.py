@@ -4,7 +4,8 @@ import os
 
 from command import read, shown
 
-from .faults import Failure, Refusal, lacking
+from .faults import Failure, Refusal
+from .zone_file import DS, WrongEntry, ZoneFile
 
 ROOT = "/usr/share/dns/root.ds"
 OWN_WORDS = (b"DS", b"KEY")
@@ -17,7 +18,7 @@ def anchors_of(path):
     octets = read(path or ROOT)
     if is_own_form(octets):
         return octets
-    return "".join(line + "\n" for line in lines_of_zone(octets, shown(path or ROOT))).encode()
+    return ("\n".join(lines_of_zone(octets, shown(path or ROOT))).rstrip("\n") + "\n").encode()
 
 
 def is_own_form(octets):
@@ -29,27 +30,17 @@ def is_own_form(octets):
 
 
 def lines_of_zone(octets, path):
-    """The anchors that the DS and DNSKEY records of a zone file are."""
-    try:
-        from dns import exception, rdataclass, rdatatype, zonefile
-    except ImportError as fault:
-        raise lacking("dnspython", "a zone file of anchors", fault) from fault
+    """The anchors that the DS and DNSKEY records of a zone file are, each on the line on which its record begins: so the program
+    numbers anchors and lines as the file does."""
     # A comment of the program's form is none of a zone file.
-    text = "\n".join("" if line.startswith("#") else line for line in octets.decode("utf-8", "replace").split("\n"))
+    lines = ["" if line.startswith("#") else line for line in octets.decode("utf-8", "replace").split("\n")]
+    anchors = [""] * len(lines)
     try:
-        rrsets = zonefile.read_rrsets(text, rdclass=None, default_ttl=0, origin=".", relativize=False)
-    except (exception.DNSException, ValueError, IndexError, NotImplementedError) as fault:
-        raise Refusal(f"the anchors {path}: neither lines `DS ..` and `KEY ..` nor DS and DNSKEY records: "
-                      f"{fault}") from fault
-    lines = []
-    for rrset in rrsets:
-        for record in rrset:
-            if record.rdclass != rdataclass.IN or record.rdtype not in (rdatatype.DS, rdatatype.DNSKEY):
-                raise Refusal(f"the anchors {path}: a record of {rrset.name} is of class "
-                              f"{rdataclass.to_text(record.rdclass)} and type {rdatatype.to_text(record.rdtype)}, and "
-                              "anchors are DS and DNSKEY records of class IN")
-            lines.append(anchor_line(rrset.name, record, record.rdtype == rdatatype.DS))
-    return lines
+        for each in ZoneFile("\n".join(lines)).entries():
+            anchors[each.line - 1] = anchor_line(each.owner, each.record, each.kind == DS)
+    except WrongEntry as fault:
+        raise Refusal(f"the anchors {path}: neither lines `DS ..` and `KEY ..` nor DS and DNSKEY records: {fault}") from fault
+    return anchors
 
 
 def anchor_line(owner, record, is_ds):

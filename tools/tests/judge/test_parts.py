@@ -91,9 +91,24 @@ class Anchors(unittest.TestCase):
 
     def test_records_of_a_zone_file(self):
         digest = self.DS.split(" ")[-1].upper()
-        for front in ("example. 3600 IN DS", "example. IN DS", "example. DS", "; note\n# note\nExample 3600 DS"):
-            self.assertEqual(self.of(f"{front} 10520 13 2 {digest}").lower(), self.DS.lower())
+        for front in ("example. 3600 IN DS", "example. IN 3600 DS", "example. in 1h30m type43", "example. IN DS", "example. DS",
+                      "example 1H CLASS1 DS", "; note\n# note\nExample 3600 DS", "$TTL 1h ; note\n$ORIGIN example.\n@ DS",
+                      "$ORIGIN x.example.\n$origin example. ; note\n@ IN 5 DS", "$TTL 3600\n \n\t\nexample DS"):
+            self.assertEqual(self.of(f"{front} 10520 13 2 {digest}").lower().lstrip("\n"), self.DS.lower())
         self.assertEqual(self.of("a\\.b. IN DNSKEY 257 3 13 ( AQ\n ID ) ; key"), "KEY a\\.b. 257 3 13 AQID\n")
+
+    def test_each_stands_on_its_line_in_its_order(self):
+        """So the program says of which anchor and line of the file it speaks, also where those of an owner aren't together."""
+        rows = "; note", "$TTL 5", "b. DS 1 8 1 ( " + "00" * 10, "  " + "00" * 10 + " )", "", "a. 5 IN DNSKEY 257 3 8 AQID", " IN DNSKEY 256 3 8 AQIE", \
+            "  ; note", "b. IN 5 DS 2 8 1 " + "11" * 20, "b. IN 5 DS 2 8 1 " + "11" * 20
+        told = ["", "", "DS b. 1 8 1 " + "00" * 20, "", "", "KEY a. 257 3 8 AQID", "KEY a. 256 3 8 AQIE", "", *["DS b. 2 8 1 " + "11" * 20] * 2]
+        self.assertEqual(self.of("\n".join(rows) + "\n").split("\n"), [*told, ""])
+
+    def test_a_refusal_names_the_line(self):
+        for line in ("b. CH DS 1 13 2 00", "b. A 192.0.2.1", "b. 5 5 DS 1 13 2 00", "b. IN IN DS", "b. 5 IN 5 DS", "b. DS 1 13", "b.", "$TTL x",
+                     "$TTL 5 6", "$ORIGIN", "$INCLUDE x", "$GENERATE 1-9 a DS 1 13 2 00", "b. DS 1 8 1 (\n00 )", "1 DS 1 13 2 0", "b. DS 1 8 1 \"00"):
+            with self.subTest(line), self.assertRaisesRegex(faults.Refusal, "^the anchors .*: neither .* records: line 4: "):
+                self.of(f"\na. DS 1 8 1 ( {'00' * 20}\n)\n{line}\n")
 
     def test_the_form_of_the_program_stays(self):
         for text in (self.DS, f"# note\n\n{self.DS}KEY . 257 3 8 AQID", "", "DS bad\n"):
