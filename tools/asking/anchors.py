@@ -1,24 +1,36 @@
-"""Trust anchors in the program's form, out of that or out of records as a zone file has them."""
+"""Trust anchors in the program's form, out of that, out of records as a zone file has them, or out of IANA's XML."""
 import base64
 import os
 
 from command import read, shown
 
 from .faults import Failure, Refusal
+from .root_anchors import is_xml, timed_anchors
 from .zone_file import DS, WrongEntry, ZoneFile
 
 ROOT = "/usr/share/dns/root.ds"
 OWN_WORDS = (b"DS", b"KEY")
 
 
-def anchors_of(path):
-    """The octets of the anchors, which are the system's of the root where no file is named."""
+def anchors_of(path, moments):
+    """The octets of the anchors at each moment, which are the system's of the root where no file is named."""
     if path is None and not os.path.exists(ROOT):
         raise Failure(f"no anchors: {ROOT} isn't there (Debian: dns-root-data); name a file by --anchors")
-    octets = read(path or ROOT)
-    if is_own_form(octets):
-        return octets
-    return ("\n".join(lines_of_zone(octets, shown(path or ROOT))).rstrip("\n") + "\n").encode()
+    octets, where = read(path or ROOT), shown(path or ROOT)
+    if is_xml(octets):
+        anchors = timed_anchors(octets, where)
+        return {moment: joined(lines_at(anchors, moment)) for moment in moments}
+    return dict.fromkeys(moments, octets if is_own_form(octets) else joined(lines_of_zone(octets, where)))
+
+
+def joined(lines):
+    return ("\n".join(lines).rstrip("\n") + "\n").encode()
+
+
+def lines_at(anchors, moment):
+    """Those that may be used at the moment."""
+    return [anchor_line(each.owner, each.record, True) for each in anchors
+            if each.start <= moment and (each.end is None or moment <= each.end)]
 
 
 def is_own_form(octets):
@@ -39,7 +51,8 @@ def lines_of_zone(octets, path):
         for each in ZoneFile("\n".join(lines)).entries():
             anchors[each.line - 1] = anchor_line(each.owner, each.record, each.kind == DS)
     except WrongEntry as fault:
-        raise Refusal(f"the anchors {path}: neither lines `DS ..` and `KEY ..` nor DS and DNSKEY records: {fault}") from fault
+        raise Refusal(f"the anchors {path}: neither lines `DS ..` and `KEY ..` nor DS and DNSKEY records: "
+                      f"line {fault.line}: {fault}") from fault
     return anchors
 
 

@@ -14,7 +14,11 @@ Entry = namedtuple("Entry", "line owner kind record")
 
 
 class WrongEntry(Exception):
-    """A line is neither such a record nor a directive that is read."""
+    """What begins on this line is neither such a record nor a directive that is read."""
+
+    def __init__(self, line, text):
+        super().__init__(text)
+        self.line = line
 
 
 def library():
@@ -46,7 +50,7 @@ class ZoneFile:
                     return
                 found = None if first.is_eol() else self.entry(line, first)
             except (self.dns.exception.DNSException, ValueError, IndexError, NotImplementedError) as fault:
-                raise WrongEntry(f"line {line}: {fault}") from fault
+                raise WrongEntry(line, str(fault)) from fault
             if found:
                 yield found
 

@@ -136,6 +136,18 @@ class Words(Judging):
             self.assertEqual((status, verdicts(lines)[-1:], errors), (5, [told], ""))
         self.assertIn("error: --: there is no such file", self.noon("--", WWW, "--/A", "--")[2])
 
+    def test_anchors_of_xml_hold_at_their_moments(self):
+        fields = ANCHORS.read_text().splitlines()[-1].split()[1:]
+        names = ("Zone", "KeyTag", "Algorithm", "DigestType", "Digest")
+        zone, *digest = (f"<{name}>{field}</{name}>" for name, field in zip(names, fields))
+        path = self.room / "root-anchors.xml"
+        path.write_text(f'<TrustAnchor>{zone}<KeyDigest validFrom="2026-11-22T12:00:00+00:00">{"".join(digest)}</KeyDigest></TrustAnchor>')
+        status, lines, errors = self.judge("--at", NOON, "--at", int(NOON) - 1, "--anchors", path, WWW, "www.bind.test/A")
+        if self.room not in self.program.parents:
+            self.assertEqual((status, verdicts(lines), errors), (6, [
+                "www.bind.test. A at 2026-11-22T12:00:00Z: SecureAnswer, until 2027-03-01 (98 days)",
+                "www.bind.test. A at 2026-11-22T11:59:59Z: Indeterminate"], ""))
+
     def test_the_standard_input_is_a_capture(self):
         self.assertEqual(self.noon("-", "www.bind.test/A", given=WWW.read_bytes())[0], 0)
 

@@ -83,11 +83,11 @@ class Types(unittest.TestCase):
 class Anchors(unittest.TestCase):
     DS = "DS example. 10520 13 2 1ca1593db1dd5784d0fb6c3998b920daec3e4315dd30fce0313fb3a497b54c68\n"
 
-    def of(self, text):
+    def of(self, text, moment=0):
         with tempfile.TemporaryDirectory() as room:
             path = pathlib.Path(room) / "anchors"
             path.write_text(text)
-            return anchors.anchors_of(str(path)).decode()
+            return anchors.anchors_of(str(path), [moment])[moment].decode()
 
     def test_records_of_a_zone_file(self):
         digest = self.DS.split(" ")[-1].upper()
@@ -109,6 +109,37 @@ class Anchors(unittest.TestCase):
                      "$TTL 5 6", "$ORIGIN", "$INCLUDE x", "$GENERATE 1-9 a DS 1 13 2 00", "b. DS 1 8 1 (\n00 )", "1 DS 1 13 2 0", "b. DS 1 8 1 \"00"):
             with self.subTest(line), self.assertRaisesRegex(faults.Refusal, "^the anchors .*: neither .* records: line 4: "):
                 self.of(f"\na. DS 1 8 1 ( {'00' * 20}\n)\n{line}\n")
+
+    XML = """<?xml version="1.0" encoding="UTF-8"?>
+<TrustAnchor id="380DC50D-484E-40D0-A3AE-68F2B18F61C7" source="http://data.iana.org/root-anchors/root-anchors.xml">
+<Zone>.</Zone>
+<KeyDigest id="a" validFrom="1970-01-01T00:16:40+00:00" validUntil="1970-01-01T00:33:20+00:00">
+<KeyTag>1</KeyTag><Algorithm>8</Algorithm><DigestType>1</DigestType><Digest>0000000000000000000000000000000000000000</Digest>
+</KeyDigest>
+<KeyDigest id="b" validFrom="1970-01-01T00:25:00+00:00"><!-- of two lines -->
+<KeyTag> 2 </KeyTag><Algorithm>8</Algorithm><DigestType>1</DigestType>
+<Digest>00000000000000000000
+ABABABABABABABABABAB</Digest><PublicKey>AQID</PublicKey><Flags>257</Flags>
+</KeyDigest>
+</TrustAnchor>
+"""
+
+    def test_xml_of_iana_has_what_is_valid_at_the_moment(self):
+        one, two = "DS . 1 8 1 " + "0" * 40 + "\n", "DS . 2 8 1 " + "0" * 20 + "ab" * 10 + "\n"
+        for moment, told in ((0, "\n"), (999, "\n"), (1000, one), (1499, one), (1500, one + two), (2000, one + two), (2001, two), (1 << 47, two)):
+            for front in ("", "\ufeff", "\n"):
+                text = front + (self.XML if front != "\n" else self.XML.split("\n", 1)[1])
+                self.assertEqual(self.of(text, moment), told)
+
+    def test_other_xml_is_refused(self):
+        changes = ("<TrustAnchor ", "<!DOCTYPE x [<!ENTITY e 'e'>]>\n<TrustAnchor ", "DOCTYPE"), ("</TrustAnchor>", "", "no XML: "), \
+            (">.<", ">.&e;<", "no XML: "), ("TrustAnchor", "TrustAnchors", "'TrustAnchors'"), ("<Zone>.</Zone>", "", "KeyDigest 1: "), \
+            ("<Zone>.<", "<Zone>;<", "KeyDigest 1: "), (" validFrom=", " from=", "KeyDigest 1: '' is no moment"), \
+            ("1970-01-01T00:25:00+00:00", "1970-01-01", "KeyDigest 2: '1970-01-01' is no moment"), ("> 2 <", "> x <", "KeyDigest 2: "), \
+            ("ABAB", "", "KeyDigest 2: digest length"), ("<Digest>", "<Hash>", "no XML: "), (".", "\ufffe", "no XML: ")
+        for old, new, told in changes:
+            with self.subTest(new), self.assertRaisesRegex(faults.Refusal, f"^the anchors .*: .*{told}"):
+                self.of(self.XML.replace(old, new))
 
     def test_the_form_of_the_program_stays(self):
         for text in (self.DS, f"# note\n\n{self.DS}KEY . 257 3 8 AQID", "", "DS bad\n"):
