@@ -44,8 +44,8 @@ def is_own_form(octets):
 def lines_of_zone(octets, path):
     """The anchors that the DS and DNSKEY records of a zone file are, each on the line on which its record begins: so the program
     numbers anchors and lines as the file does."""
-    # A comment of the program's form is none of a zone file.
-    lines = ["" if line.startswith("#") else line for line in octets.decode("utf-8", "replace").split("\n")]
+    # A comment of the program's form is none of a zone file, and to dnspython a CR is no end of a line.
+    lines = ["" if line.startswith("#") else line.rstrip("\r") for line in octets.decode("utf-8", "replace").split("\n")]
     anchors = [""] * len(lines)
     try:
         for each in ZoneFile("\n".join(lines)).entries():

@@ -86,7 +86,7 @@ class Anchors(unittest.TestCase):
     def of(self, text, moment=0):
         with tempfile.TemporaryDirectory() as room:
             path = pathlib.Path(room) / "anchors"
-            path.write_text(text)
+            path.write_bytes(text.encode())
             return anchors.anchors_of(str(path), [moment])[moment].decode()
 
     def test_records_of_a_zone_file(self):
@@ -94,7 +94,8 @@ class Anchors(unittest.TestCase):
         for front in ("example. 3600 IN DS", "example. IN 3600 DS", "example. in 1h30m type43", "example. IN DS", "example. DS",
                       "example 1H CLASS1 DS", "; note\n# note\nExample 3600 DS", "$TTL 1h ; note\n$ORIGIN example.\n@ DS",
                       "$ORIGIN x.example.\n$origin example. ; note\n@ IN 5 DS", "$TTL 3600\n \n\t\nexample DS"):
-            self.assertEqual(self.of(f"{front} 10520 13 2 {digest}").lower().lstrip("\n"), self.DS.lower())
+            for text in (f"{front} 10520 13 2 {digest}", f"{front} 10520 13 2 {digest}".replace("\n", "\r\n")):
+                self.assertEqual(self.of(text).lower().lstrip("\n"), self.DS.lower())
         self.assertEqual(self.of("a\\.b. IN DNSKEY 257 3 13 ( AQ\n ID ) ; key"), "KEY a\\.b. 257 3 13 AQID\n")
 
     def test_each_stands_on_its_line_in_its_order(self):
