@@ -71,8 +71,10 @@ def all_of(words, question_files):
     if is_asked:
         return [(capture.path, questions) for capture in captures]
     asked = [(capture.path, capture.own) for capture in captures if capture.own]
-    if not asked:
-        raise WrongLine("no question is asked; write NAME/TYPE, as www.example.com/AAAA, or name a file by --questions")
+    alone = [path for path in paths if not os.path.isdir(path)]  # a list of questions is a folder's
+    if alone or not asked:
+        raise WrongLine(f"no question is asked of {escaped((alone or paths)[0])}; write NAME/TYPE, as www.example.com/AAAA, or name "
+                        "a file by --questions")
     return asked
 
 

@@ -128,6 +128,14 @@ class Words(Judging):
         self.assertEqual(self.judge("--records", self.room)[0::2], (0, ""))
         self.assertIn("isn't one of `capture --split`", self.noon(self.room)[2])
 
+    def test_a_capture_beside_a_split_folder_is_not_passed_over(self):
+        shutil.copy(WWW, self.room / "1.cap")
+        (self.room / "questions").write_text("1 www.bind.test. 1\n")
+        for words in ((self.room, NOSUCH), (NOSUCH, self.room)):
+            status, lines, errors = self.noon(*words)
+            self.assertEqual((status, lines), (2, []))
+            self.assertIn(f"no question is asked of {NOSUCH}; write NAME/TYPE", errors)
+
     def test_behind_two_dashes_words_may_begin_with_a_dash(self):
         options, told = ("--at", NOON, "--anchors", ANCHORS), "-x.bind.test. A: Bogus"
         for words in ((WWW, *options, "--", "-x.bind.test/A"), (*options, "--", WWW, "-x.bind.test/A"),
