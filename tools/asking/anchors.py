@@ -1,23 +1,36 @@
-"""Trust anchors in the program's form, out of that or out of records as a zone file has them."""
+"""Trust anchors in the program's form, out of that, out of records as a zone file has them, or out of IANA's XML."""
 import base64
 import os
 
 from command import read, shown
 
-from .faults import Failure, Refusal, lacking
+from .faults import Failure, Refusal
+from .root_anchors import is_xml, timed_anchors
+from .zone_file import DS, WrongEntry, ZoneFile
 
 ROOT = "/usr/share/dns/root.ds"
 OWN_WORDS = (b"DS", b"KEY")
 
 
-def anchors_of(path):
-    """The octets of the anchors, which are the system's of the root where no file is named."""
+def anchors_of(path, moments):
+    """The octets of the anchors at each moment, which are the system's of the root where no file is named."""
     if path is None and not os.path.exists(ROOT):
         raise Failure(f"no anchors: {ROOT} isn't there (Debian: dns-root-data); name a file by --anchors")
-    octets = read(path or ROOT)
-    if is_own_form(octets):
-        return octets
-    return "".join(line + "\n" for line in lines_of_zone(octets, shown(path or ROOT))).encode()
+    octets, where = read(path or ROOT), shown(path or ROOT)
+    if is_xml(octets):
+        anchors = timed_anchors(octets, where)
+        return {moment: joined(lines_at(anchors, moment)) for moment in moments}
+    return dict.fromkeys(moments, octets if is_own_form(octets) else joined(lines_of_zone(octets, where)))
+
+
+def joined(lines):
+    return ("\n".join(lines).rstrip("\n") + "\n").encode()
+
+
+def lines_at(anchors, moment):
+    """Those that may be used at the moment."""
+    return [anchor_line(each.owner, each.record, True) for each in anchors
+            if each.start <= moment and (each.end is None or moment <= each.end)]
 
 
 def is_own_form(octets):
@@ -29,27 +42,18 @@ def is_own_form(octets):
 
 
 def lines_of_zone(octets, path):
-    """The anchors that the DS and DNSKEY records of a zone file are."""
+    """The anchors that the DS and DNSKEY records of a zone file are, each on the line on which its record begins: so the program
+    numbers anchors and lines as the file does."""
+    # A comment of the program's form is none of a zone file, and to dnspython a CR is no end of a line.
+    lines = ["" if line.startswith("#") else line.rstrip("\r") for line in octets.decode("utf-8", "replace").split("\n")]
+    anchors = [""] * len(lines)
     try:
-        from dns import exception, rdataclass, rdatatype, zonefile
-    except ImportError as fault:
-        raise lacking("dnspython", "a zone file of anchors", fault) from fault
-    # A comment of the program's form is none of a zone file.
-    text = "\n".join("" if line.startswith("#") else line for line in octets.decode("utf-8", "replace").split("\n"))
-    try:
-        rrsets = zonefile.read_rrsets(text, rdclass=None, default_ttl=0, origin=".", relativize=False)
-    except (exception.DNSException, ValueError, IndexError, NotImplementedError) as fault:
+        for each in ZoneFile("\n".join(lines)).entries():
+            anchors[each.line - 1] = anchor_line(each.owner, each.record, each.kind == DS)
+    except WrongEntry as fault:
         raise Refusal(f"the anchors {path}: neither lines `DS ..` and `KEY ..` nor DS and DNSKEY records: "
-                      f"{fault}") from fault
-    lines = []
-    for rrset in rrsets:
-        for record in rrset:
-            if record.rdclass != rdataclass.IN or record.rdtype not in (rdatatype.DS, rdatatype.DNSKEY):
-                raise Refusal(f"the anchors {path}: a record of {rrset.name} is of class "
-                              f"{rdataclass.to_text(record.rdclass)} and type {rdatatype.to_text(record.rdtype)}, and "
-                              "anchors are DS and DNSKEY records of class IN")
-            lines.append(anchor_line(rrset.name, record, record.rdtype == rdatatype.DS))
-    return lines
+                      f"line {fault.line}: {fault}") from fault
+    return anchors
 
 
 def anchor_line(owner, record, is_ds):

@@ -2,7 +2,7 @@
 import os
 from collections import namedtuple
 
-from command import read
+from command import read, shown
 
 from .faults import Refusal, WrongLine, escaped
 from .questions import question_of_word, questions_of_file, questions_of_split, wrong_word
@@ -24,8 +24,6 @@ def told_apart(words):
             paths.append(word)
         else:
             raise wrong_word(word)
-    if paths.count("-") > 1:
-        raise WrongLine("the standard input is named twice")
     return paths, questions
 
 
@@ -66,13 +64,17 @@ def all_of(words, question_files):
         questions += questions_of_file(path)
     if not paths:
         raise WrongLine("no capture is named")
-    is_asked = bool(questions or question_files)
+    if question_files and not questions:
+        raise Refusal(f"no question is in {', '.join(map(shown, question_files))}")
+    is_asked = bool(questions)
     captures = captures_of(paths, not is_asked)
     if is_asked:
         return [(capture.path, questions) for capture in captures]
     asked = [(capture.path, capture.own) for capture in captures if capture.own]
-    if not asked:
-        raise WrongLine("no question is asked; write NAME/TYPE, as www.example.com/AAAA, or name a file by --questions")
+    alone = [path for path in paths if not os.path.isdir(path)]  # a list of questions is a folder's
+    if alone or not asked:
+        raise WrongLine(f"no question is asked of {escaped((alone or paths)[0])}; write NAME/TYPE, as www.example.com/AAAA, or name "
+                        "a file by --questions")
     return asked
 
 

@@ -20,8 +20,9 @@ edge [arrowsize=0.7 fontname="Helvetica" fontsize=10]
 FRAME = "class=zone; style=rounded; margin=8"
 # A frame's name is a box without lines in it, beside which edges have to pass.
 NAMED = 'shape=plaintext margin=0 fontname="Helvetica-Bold" fontsize=12 class=name'
-# What Graphviz writes besides the picture: what is before it, comments, and titles, which would be numbers of nodes.
-BESIDES = re.compile(r"\A.*?(?=<svg)|<!--.*?-->\n?|<title>.*?</title>\n?", re.DOTALL)
+# What Graphviz writes besides the picture: what is before it, comments, titles, which would be numbers of nodes, and ids,
+# which each picture of a page would have again.
+BESIDES = re.compile(r"\A.*?(?=<svg)|<!--.*?-->\n?|<title>.*?</title>\n?|(?<=<g) id=\"[^\"]*\"", re.DOTALL)
 WIDE = 26  # a longer name is broken at a dot
 NO_BREAK = "\u00a0"  # a blank that stays beside the text of an edge
 

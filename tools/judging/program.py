@@ -9,6 +9,9 @@ from asking.faults import Failure
 
 NAME = "dnssec_check"
 BUILT = os.path.join("crates", NAME, "out", NAME)
+# Characters of a name that the program gets. No name has more, its 255 octets at four each: by these a longer one is refused as by
+# all of it, which may be more than a system takes for an argument.
+NAME_MOST = 4096
 SECURE, INSECURE, PENDING, BOGUS, INDETERMINATE, REFUSED, FAILED, WRONG = 0, 3, 4, 5, 6, 7, 1, 2
 
 # What a run of `explain` says: its status, the verdict's word with the object that explains it, or `refused` or `fault`
@@ -48,8 +51,8 @@ def todo_lines(program, folder, moment):
 
 def told_of(program, folder, files, moment, question):
     """What `explain` says of the question; the folder has these files by the names of the options."""
-    words = ["explain", *(f"--{name}={name}" for name in files), f"--moment={moment}", f"--name={question.name}",
-             f"--type={question.kind}", "--json"]
+    words = ["explain", *(f"--{name}={name}" for name in files), f"--moment={moment}",
+             f"--name={question.name[:NAME_MOST]}", f"--type={question.kind}", "--json"]
     status, output, errors = run(program, words, folder)
     if status in (SECURE, INSECURE, PENDING, BOGUS, INDETERMINATE) and output:
         value = json.loads(output)

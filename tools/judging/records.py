@@ -28,22 +28,27 @@ def lines_of(octets):
     """A line for each message, question and record."""
     dns, evidence = library(), Evidence(octets)
     for number, (message, placed) in enumerate(zip(evidence.messages, evidence.placed), 1):
-        yield escaped(f"message {number}: {header_text(dns, message)}")
+        yield escaped(f"message {number}: {header_text(dns, message, placed)}")
         for each in placed:
             text = record_text(dns, message, each.record)
             yield escaped(f"message {number} record {each.number} {place_text(each)}: {text}")
 
 
-def header_text(dns, octets):
+def header_text(dns, octets, placed):
     try:
         identifier, flags = number_at(octets, 0, 2), number_at(octets, 2, 2)
         counts = [number_at(octets, place, 2) for place in (4, 6, 8, 10)]
     except Incomplete:
         return f"too short, {octets.hex()}"
     names = dns.flags.to_text(flags)
-    response = dns.rcode.to_text(flags & 0xF)
+    response = dns.rcode.to_text(dns.rcode.from_flags(flags, edns_of(octets, placed)))
     told = ", ".join(f"{count} {name}" for count, name in zip(counts[1:], SECTIONS))
     return f"identifier {identifier:04x}, flags {names or '-'}, {response}, question {question_of(dns, octets)}, {told}"
+
+
+def edns_of(octets, placed):
+    """What the OPT record has for a TTL, 0 where there is none: its upper octet is that of the response code (RFC 6891 6.1.3)."""
+    return next((number_at(octets, each.record.front - 6, 4) for each in placed if each.record.kind == TYPE_OPT), 0)
 
 
 def question_of(dns, octets):

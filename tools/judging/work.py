@@ -8,7 +8,7 @@ from verifying.entries import Lacking, Refusal, entry_of, statement_of
 from .evidence import Evidence
 from .program import todo_lines, told_of
 
-# What is the same for all captures; `keys` and `macs` are octets or None.
+# What is the same for all captures; `anchors` has octets by moment, `keys` and `macs` are octets or None.
 Common = namedtuple("Common", "anchors keys macs moments")
 # A verdict: its word, `evidence` what carries it by name, `explained` the object that says why, None where there is none.
 Row = namedtuple("Row", "moment question status word evidence explained")
@@ -38,16 +38,17 @@ def statements_of(lines):
 def judged(octets, questions, common, program):
     """The verdicts on the questions, by moment."""
     with tempfile.TemporaryDirectory(prefix="dnssec_check-") as folder:
-        given = {"capture": octets, "anchors": common.anchors, "keys": common.keys, "macs": common.macs}
+        given = {"capture": octets, "keys": common.keys, "macs": common.macs}
         files = {name: content for name, content in given.items() if content is not None}
         write_files(folder, files)
         todo = dict.fromkeys(line for moment in common.moments for line in todo_lines(program, folder, moment))
         statements, notes = statements_of(todo)
-        files["statements"] = "".join(statements).encode()
+        files["statements"], view, rows = "".join(statements).encode(), View(octets), []
         write_files(folder, {"statements": files["statements"]})
-        view = View(octets)
-        rows = [view.row(moment, question, told_of(program, folder, files, moment, question))
-                for moment in common.moments for question in questions]
+        for moment in common.moments:
+            files["anchors"] = common.anchors[moment]
+            write_files(folder, {"anchors": files["anchors"]})
+            rows += [view.row(moment, question, told_of(program, folder, files, moment, question)) for question in questions]
     return Judged(rows, notes)
 
 

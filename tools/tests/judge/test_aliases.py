@@ -41,7 +41,7 @@ class Aliases(unittest.TestCase):
         output = load("as-json").as_json(words, text) if lines else ""
         self.program.write_text(SAYS.replace("TOLD", repr((status, output, errors))))
         self.program.chmod(0o755)
-        common = Common(ANCHORS.read_bytes(), None, None, [NOON])
+        common = Common({NOON: ANCHORS.read_bytes()}, None, None, [NOON])
         row, = judged(capture.read_bytes(), [question], common, str(self.program)).rows
         return row
 

@@ -1,4 +1,5 @@
 """Tests of the page that tools/judge writes by --html."""
+import re
 import shutil
 import subprocess
 import sys
@@ -21,6 +22,8 @@ class Page(Judging):
                      "message 6 record 1 (answer) RRset 6", "</html>"):
             self.assertIn(part, text)
         self.assertEqual(text.count("<svg "), 2)
+        ids = re.findall(r"<[^>]* id=\"([^\"]*)\"", text)
+        self.assertEqual(ids, ["v1", "v2"])
 
     def test_what_is_refused_has_its_line(self):
         path = self.room / "page.html"

@@ -42,6 +42,17 @@ class Lines(Judging):
             self.assertEqual(status, 7)
             self.assertIn(f"a.test. A: refused 401 message 2 of the capture {query}: it is a query; ", lines[0])
 
+    def test_a_name_too_long_for_an_argument_has_its_line(self):
+        path, wrong = self.room / "questions", (("a." * 100000, 104), ("\\097." * 50000, 104), ("a" * 200000 + ".", 103))
+        for name, number in wrong:
+            path.write_text(f"{name} A\nwww.bind.test A\n")
+            status, lines, errors = self.noon(WWW, "--questions", path)
+            self.assertEqual((len(verdicts(lines)), errors), (2, ""))
+            self.assertTrue(lines[-1].startswith("www.bind.test. A: SecureAnswer"))
+            if self.room not in self.program.parents:
+                self.assertEqual(status, 7)
+                self.assertTrue(lines[0].startswith(f"{name} A: refused {number} the name: "))
+
     def test_several_captures_and_moments_stand_in_their_lines(self):
         status, lines, _ = self.judge("--at", "2026-11-22T12:00:00Z", "--at", "2026-11-22T13:00:00+01:00", "--anchors", ANCHORS,
                                       WWW, CUT, "www.bind.test/A")
@@ -85,6 +96,19 @@ class Words(Judging):
         path.write_text("www.bind.test/A\nwww.bind.test\n")
         self.assertEqual(self.noon(WWW, "--questions", path), (7, [], f"judge: refused: line 2 of {path} is no question: write NAME/TYPE or NAME TYPE\n"))
 
+    def test_files_without_a_question_are_refused(self):
+        path, other = self.room / "questions", self.room / "others"
+        other.write_text("")
+        shutil.copy(WWW, self.room / "www.cap")
+        for text in ("", "\n", "# none\n \t\r\n"):
+            path.write_text(text)
+            for capture in (WWW, self.room):
+                told = self.noon(capture, "--questions", path)
+                self.assertEqual(told, (7, [], f"judge: refused: no question is in {path}\n"))
+        told = self.noon(WWW, "--questions", path, "--questions", other)
+        self.assertEqual(told, (7, [], f"judge: refused: no question is in {path}, {other}\n"))
+        self.assertEqual(self.noon(WWW, "www.bind.test/A", "--questions", path)[0], 0)
+
     def test_a_split_folder_asks_its_own(self):
         shutil.copy(WWW, self.room / "0001-www.bind.test.-1.cap")
         shutil.copy(NOSUCH, self.room / "0002-nosuch.bind.test.-1.cap")
@@ -104,6 +128,14 @@ class Words(Judging):
         self.assertEqual(self.judge("--records", self.room)[0::2], (0, ""))
         self.assertIn("isn't one of `capture --split`", self.noon(self.room)[2])
 
+    def test_a_capture_beside_a_split_folder_is_not_passed_over(self):
+        shutil.copy(WWW, self.room / "1.cap")
+        (self.room / "questions").write_text("1 www.bind.test. 1\n")
+        for words in ((self.room, NOSUCH), (NOSUCH, self.room)):
+            status, lines, errors = self.noon(*words)
+            self.assertEqual((status, lines), (2, []))
+            self.assertIn(f"no question is asked of {NOSUCH}; write NAME/TYPE", errors)
+
     def test_behind_two_dashes_words_may_begin_with_a_dash(self):
         options, told = ("--at", NOON, "--anchors", ANCHORS), "-x.bind.test. A: Bogus"
         for words in ((WWW, *options, "--", "-x.bind.test/A"), (*options, "--", WWW, "-x.bind.test/A"),
@@ -111,6 +143,18 @@ class Words(Judging):
             status, lines, errors = self.judge(*words)
             self.assertEqual((status, verdicts(lines)[-1:], errors), (5, [told], ""))
         self.assertIn("error: --: there is no such file", self.noon("--", WWW, "--/A", "--")[2])
+
+    def test_anchors_of_xml_hold_at_their_moments(self):
+        fields = ANCHORS.read_text().splitlines()[-1].split()[1:]
+        names = ("Zone", "KeyTag", "Algorithm", "DigestType", "Digest")
+        zone, *digest = (f"<{name}>{field}</{name}>" for name, field in zip(names, fields))
+        path = self.room / "root-anchors.xml"
+        path.write_text(f'<TrustAnchor>{zone}<KeyDigest validFrom="2026-11-22T12:00:00+00:00">{"".join(digest)}</KeyDigest></TrustAnchor>')
+        status, lines, errors = self.judge("--at", NOON, "--at", int(NOON) - 1, "--anchors", path, WWW, "www.bind.test/A")
+        if self.room not in self.program.parents:
+            self.assertEqual((status, verdicts(lines), errors), (6, [
+                "www.bind.test. A at 2026-11-22T12:00:00Z: SecureAnswer, until 2027-03-01 (98 days)",
+                "www.bind.test. A at 2026-11-22T11:59:59Z: Indeterminate"], ""))
 
     def test_the_standard_input_is_a_capture(self):
         self.assertEqual(self.noon("-", "www.bind.test/A", given=WWW.read_bytes())[0], 0)
@@ -151,6 +195,13 @@ class Ends(Judging):
         self.assertIn("exclude each other", self.wrong(WWW, "a.test/A", "--tsv", "--jsonl"))
         self.assertIn("--macs needs --keys", self.wrong(WWW, "a.test/A", "--macs", ANCHORS))
         self.assertIn("--html is given twice", self.wrong(WWW, "a.test/A", "--html", "a", "--html", "b"))
+
+    def test_the_standard_input_is_read_once(self):
+        keys = ("--keys", ANCHORS)
+        for words in (("-", "-", "a.test/A"), ("-", "--questions", "-"), ("-", "a.test/A", "--anchors", "-"), ("--records", "-", "-"),
+                      ("-", "a.test/A", "--keys", "-"), ("-", "a.test/A", *keys, "--macs", "-"),
+                      (WWW, "--questions", "-", "--questions", "-"), (WWW, "--questions", "-", "--", "-")):
+            self.assertIn("error: the standard input is named twice", self.wrong(*words))
 
     def test_a_capture_that_cannot_be_read(self):
         path = self.room / "x.cap"

@@ -83,17 +83,64 @@ class Types(unittest.TestCase):
 class Anchors(unittest.TestCase):
     DS = "DS example. 10520 13 2 1ca1593db1dd5784d0fb6c3998b920daec3e4315dd30fce0313fb3a497b54c68\n"
 
-    def of(self, text):
+    def of(self, text, moment=0):
         with tempfile.TemporaryDirectory() as room:
             path = pathlib.Path(room) / "anchors"
-            path.write_text(text)
-            return anchors.anchors_of(str(path)).decode()
+            path.write_bytes(text.encode())
+            return anchors.anchors_of(str(path), [moment])[moment].decode()
 
     def test_records_of_a_zone_file(self):
         digest = self.DS.split(" ")[-1].upper()
-        for front in ("example. 3600 IN DS", "example. IN DS", "example. DS", "; note\n# note\nExample 3600 DS"):
-            self.assertEqual(self.of(f"{front} 10520 13 2 {digest}").lower(), self.DS.lower())
+        for front in ("example. 3600 IN DS", "example. IN 3600 DS", "example. in 1h30m type43", "example. IN DS", "example. DS",
+                      "example 1H CLASS1 DS", "; note\n# note\nExample 3600 DS", "$TTL 1h ; note\n$ORIGIN example.\n@ DS",
+                      "$ORIGIN x.example.\n$origin example. ; note\n@ IN 5 DS", "$TTL 3600\n \n\t\nexample DS"):
+            for text in (f"{front} 10520 13 2 {digest}", f"{front} 10520 13 2 {digest}".replace("\n", "\r\n")):
+                self.assertEqual(self.of(text).lower().lstrip("\n"), self.DS.lower())
         self.assertEqual(self.of("a\\.b. IN DNSKEY 257 3 13 ( AQ\n ID ) ; key"), "KEY a\\.b. 257 3 13 AQID\n")
+
+    def test_each_stands_on_its_line_in_its_order(self):
+        """So the program says of which anchor and line of the file it speaks, also where those of an owner aren't together."""
+        rows = "; note", "$TTL 5", "b. DS 1 8 1 ( " + "00" * 10, "  " + "00" * 10 + " )", "", "a. 5 IN DNSKEY 257 3 8 AQID", " IN DNSKEY 256 3 8 AQIE", \
+            "  ; note", "b. IN 5 DS 2 8 1 " + "11" * 20, "b. IN 5 DS 2 8 1 " + "11" * 20
+        told = ["", "", "DS b. 1 8 1 " + "00" * 20, "", "", "KEY a. 257 3 8 AQID", "KEY a. 256 3 8 AQIE", "", *["DS b. 2 8 1 " + "11" * 20] * 2]
+        self.assertEqual(self.of("\n".join(rows) + "\n").split("\n"), [*told, ""])
+
+    def test_a_refusal_names_the_line(self):
+        for line in ("b. CH DS 1 13 2 00", "b. A 192.0.2.1", "b. 5 5 DS 1 13 2 00", "b. IN IN DS", "b. 5 IN 5 DS", "b. DS 1 13", "b.", "$TTL x",
+                     "$TTL 5 6", "$ORIGIN", "$INCLUDE x", "$GENERATE 1-9 a DS 1 13 2 00", "b. DS 1 8 1 (\n00 )", "1 DS 1 13 2 0", "b. DS 1 8 1 \"00"):
+            with self.subTest(line), self.assertRaisesRegex(faults.Refusal, "^the anchors .*: neither .* records: line 4: "):
+                self.of(f"\na. DS 1 8 1 ( {'00' * 20}\n)\n{line}\n")
+
+    XML = """<?xml version="1.0" encoding="UTF-8"?>
+<TrustAnchor id="380DC50D-484E-40D0-A3AE-68F2B18F61C7" source="http://data.iana.org/root-anchors/root-anchors.xml">
+<Zone>.</Zone>
+<KeyDigest id="a" validFrom="1970-01-01T00:16:40+00:00" validUntil="1970-01-01T00:33:20+00:00">
+<KeyTag>1</KeyTag><Algorithm>8</Algorithm><DigestType>1</DigestType><Digest>0000000000000000000000000000000000000000</Digest>
+</KeyDigest>
+<KeyDigest id="b" validFrom="1970-01-01T00:25:00+00:00"><!-- of two lines -->
+<KeyTag> 2 </KeyTag><Algorithm>8</Algorithm><DigestType>1</DigestType>
+<Digest>00000000000000000000
+ABABABABABABABABABAB</Digest><PublicKey>AQID</PublicKey><Flags>257</Flags>
+</KeyDigest>
+</TrustAnchor>
+"""
+
+    def test_xml_of_iana_has_what_is_valid_at_the_moment(self):
+        one, two = "DS . 1 8 1 " + "0" * 40 + "\n", "DS . 2 8 1 " + "0" * 20 + "ab" * 10 + "\n"
+        for moment, told in ((0, "\n"), (999, "\n"), (1000, one), (1499, one), (1500, one + two), (2000, one + two), (2001, two), (1 << 47, two)):
+            for front in ("", "\ufeff", "\n"):
+                text = front + (self.XML if front != "\n" else self.XML.split("\n", 1)[1])
+                self.assertEqual(self.of(text, moment), told)
+
+    def test_other_xml_is_refused(self):
+        changes = ("<TrustAnchor ", "<!DOCTYPE x [<!ENTITY e 'e'>]>\n<TrustAnchor ", "DOCTYPE"), ("</TrustAnchor>", "", "no XML: "), \
+            (">.<", ">.&e;<", "no XML: "), ("TrustAnchor", "TrustAnchors", "'TrustAnchors'"), ("<Zone>.</Zone>", "", "KeyDigest 1: "), \
+            ("<Zone>.<", "<Zone>;<", "KeyDigest 1: "), (" validFrom=", " from=", "KeyDigest 1: '' is no moment"), \
+            ("1970-01-01T00:25:00+00:00", "1970-01-01", "KeyDigest 2: '1970-01-01' is no moment"), ("> 2 <", "> x <", "KeyDigest 2: "), \
+            ("ABAB", "", "KeyDigest 2: digest length"), ("<Digest>", "<Hash>", "no XML: "), (".", "\ufffe", "no XML: ")
+        for old, new, told in changes:
+            with self.subTest(new), self.assertRaisesRegex(faults.Refusal, f"^the anchors .*: .*{told}"):
+                self.of(self.XML.replace(old, new))
 
     def test_the_form_of_the_program_stays(self):
         for text in (self.DS, f"# note\n\n{self.DS}KEY . 257 3 8 AQID", "", "DS bad\n"):

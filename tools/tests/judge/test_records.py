@@ -26,6 +26,14 @@ class Records(Judging):
             "message 1: identifier 0001, flags QR AA, NOERROR, question -, 1 answer, 0 authority, 0 additional",
             "message 1 record 1 (answer) RRset 1: a.test. 60 IN A 192.0.2.1"], ""))
 
+    def test_a_response_code_has_the_bits_of_the_opt_record(self):
+        path, rows = self.room / "x.cap", ((0, "01", "BADVERS"), (7, "01", "BADCOOKIE"), (3, "00", "NXDOMAIN"), (15, "ff", "4095"))
+        for low, high, word in rows:
+            opt = bytes.fromhex(f"00 0029 04d0 {high}000000 0000")
+            path.write_bytes(framed([bytes.fromhex(f"0001 840{low:x} 0000 0000 0000 0001") + opt]))
+            told = f"message 1: identifier 0001, flags QR AA, {word}, question -, 0 answer, 0 authority, 1 additional"
+            self.assertEqual(self.judge("--records", path)[1][0], told)
+
     def test_it_takes_captures_alone(self):
         self.assertEqual(self.judge("--records", capture_of("bind-www-a"), "a.test/A")[0], 2)
         self.assertEqual(self.judge("--records")[0], 2)

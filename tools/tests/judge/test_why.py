@@ -29,7 +29,7 @@ class Why(unittest.TestCase):
             program = pathlib.Path(room) / "program"
             program.write_text(SAYS.replace("TOLD", repr((json.dumps(value), value["status"]))))
             program.chmod(0o755)
-            common = Common(b"", None, None, [value["moment"]])
+            common = Common({value["moment"]: b""}, None, None, [value["moment"]])
             row, = judged(b"", [Question(value["name"], value["type"])], common, str(program)).rows
         return row
 
