@@ -21,7 +21,6 @@ pub use records::chain_records::ChainRecords;
 pub use records::entry::{Nsec3Entry, NsecEntry};
 pub use records::hashed_records::HashedRecords;
 pub use records::nsec3_entries::Nsec3Entries;
-pub use records::number::RecordNumber;
 pub use unsigned_cuts::cut_meaning::{
     a_shown_encloser_is_an_open_node_of_the_zone, a_shown_unsigned_delegation_is_one_of_the_zone,
     an_opted_out_name_is_no_node_or_an_unsigned_end,

@@ -6,5 +6,4 @@ pub mod hash_places;
 pub mod hashed_records;
 pub mod kept_chain;
 pub mod nsec3_entries;
-pub mod number;
 pub mod zone_records;

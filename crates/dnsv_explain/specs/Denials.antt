@@ -17,7 +17,7 @@ use Rattle.dnsv_denial.specs.declared.proving.proof_part.ProofPart.{ProofPart}
 use Rattle.dnsv_denial.specs.declared.proving.shown_denial.ShownDenial.{ShownDenial}
 use Rattle.dnsv_denial.specs.declared.records.chain_kind.ChainKind.{ChainKind}
 use Rattle.dnsv_denial.specs.declared.records.chain_kind.ChainKind.TheVariants as kind
-use Rattle.dnsv_denial.specs.declared.records.number.RecordNumber.{RecordNumber}
+use Rattle.dnsv_canonical.specs.declared.number.RecordNumber.{RecordNumber}
 use Rattle.dnsv_explain.specs.Explained.{Setting}
 use Rattle.dnsv_explain.specs.Following.Parts.{IsPlaceOfRecord}
 use Rattle.dnsv_explain.specs.derivations.OwnDerivations.{AreRecordsDerived, IsSignatureTold, IsTrustIn}

@@ -25,7 +25,7 @@ use Rattle.dnsv_denial.specs.proving.FirstProof.{CanProveNoData, CanProveNoName}
 use Rattle.dnsv_denial.specs.unsigned_cuts.Cuts.{HasUnsignedCut}
 use Rattle.dnsv_denial.specs.words.EvidenceWords.{Chain, evidence_said}
 use Rattle.dnsv_denial.specs.words.EvidenceWords.Chain.{ByNsec, ByNsec3}
-use Rattle.dnsv_denial.specs.declared.records.number.RecordNumber.{RecordNumber}
+use Rattle.dnsv_canonical.specs.declared.number.RecordNumber.{RecordNumber}
 use Rattle.dnsv_verdict.proofs.CaseLemmas.{some_is_one}
 use Rattle.dnsv_verdict.specs.Secure.{IsSecuredAt}
 use Rattle.dnsv_verdict.specs.Settled.{IsSettled}

@@ -20,7 +20,7 @@ use Rattle.dnsv_denial.specs.proving.FirstProof.{AreRecordsOf, CanBeProved, IsFi
 use Rattle.dnsv_denial.specs.unsigned_cuts.Cuts.{no_ds, no_usable_ds, opt_out, IsUnsignedDelegationCut, IsUnusableDsCut, IsOptOutCut, IsFewest, IsMost, IsUnsignedCut, HasUnsignedCut}
 use Rattle.dnsv_denial.specs.words.EvidenceWords.{Chain, GoesBefore, nsec_first, by_parameters, evidence_said, number_cmp, parameters_cmp}
 use Rattle.dnsv_denial.specs.words.EvidenceWords.Chain.{ByNsec, ByNsec3}
-use Rattle.dnsv_denial.specs.declared.records.number.RecordNumber.{RecordNumber}
+use Rattle.dnsv_canonical.specs.declared.number.RecordNumber.{RecordNumber}
 
 -- ---- orders
 

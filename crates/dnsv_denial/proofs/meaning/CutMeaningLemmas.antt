@@ -25,7 +25,7 @@ use Rattle.dnsv_denial.specs.unsigned_cuts.Cuts.{HasOptedOutNextCloser, IsOptOut
 use Rattle.dnsv_denial.specs.unsigned_cuts.Cuts.IsUnsignedCut.{no_ds, no_usable_ds, opt_out}
 use Rattle.dnsv_denial.specs.words.EvidenceWords.{Chain, evidence_said, nsec3_said}
 use Rattle.dnsv_denial.specs.words.EvidenceWords.Chain.{ByNsec, ByNsec3}
-use Rattle.dnsv_denial.specs.declared.records.number.RecordNumber.{RecordNumber}
+use Rattle.dnsv_canonical.specs.declared.number.RecordNumber.{RecordNumber}
 use Rattle.dnsv_denial.proofs.meaning.ProofMeaningLemmas.{no_nsec3, nsec_say, nsec_no_nsec3, nsec3_no_nsec, nsec3_say, said_with, with_parameters}
 
 module _ (Secured : ℕ → ℕ → Type 0) (rrsets : List ReceivedRrset) (name apex : Labels) (n : RecordNumber) (zone : Zone) where

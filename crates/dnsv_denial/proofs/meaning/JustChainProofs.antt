@@ -27,7 +27,7 @@ use Rattle.dnsv_denial.specs.unsigned_cuts.Cuts.{HasUnsignedCut, IsUnsignedCut}
 use Rattle.dnsv_denial.specs.unsigned_cuts.Cuts.IsUnsignedCut.{no_ds, no_usable_ds, opt_out}
 use Rattle.dnsv_denial.specs.words.EvidenceWords.{Chain, nsec_said, nsec3_said}
 use Rattle.dnsv_denial.specs.words.EvidenceWords.Chain.{ByNsec, ByNsec3}
-use Rattle.dnsv_denial.specs.declared.records.number.RecordNumber.{RecordNumber}
+use Rattle.dnsv_canonical.specs.declared.number.RecordNumber.{RecordNumber}
 use Rattle.dnsv_denial.proofs.meaning.ProofMeaningLemmas.{with_parameters}
 use Rattle.dnsv_denial.proofs.lemmas.proving.WholeChainLemmas.{nsec_to, nsec3_to, no_name_by_nsec, no_data_by_nsec, no_name_by_nsec3, no_data_by_nsec3}
 use Rattle.dnsv_denial.proofs.meaning.WholeChainProofs.{without_opt_out_no_name, without_opt_out_no_data}

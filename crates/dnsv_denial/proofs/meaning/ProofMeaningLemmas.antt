@@ -29,7 +29,7 @@ use Rattle.dnsv_denial.specs.proving.ProofMeaning.{HasProofRecords, IsWithoutCol
 use Rattle.dnsv_denial.specs.proving.ProofMeaning.HasProofRecords.{by_nsec, by_nsec3}
 use Rattle.dnsv_denial.specs.words.EvidenceWords.{Chain, SaidByNsec, SaidByNsec3, nsec_said, nsec3_said, evidence_said, number_cmp}
 use Rattle.dnsv_denial.specs.words.EvidenceWords.Chain.{ByNsec, ByNsec3}
-use Rattle.dnsv_denial.specs.declared.records.number.RecordNumber.{RecordNumber}
+use Rattle.dnsv_canonical.specs.declared.number.RecordNumber.{RecordNumber}
 use Rattle.dnsv_denial.proofs.lemmas.gathering.EvidenceLemmas.{one_nsec_of}
 use Rattle.dnsv_denial.proofs.lemmas.gathering.NumberedLemmas.{one_nsec3_of, nsec_or_nsec3}
 use Rattle.dnsv_denial.proofs.lemmas.forms.PartsForm.{SayNoMore, no_name_by, no_data_by, no_closer_by}

@@ -19,7 +19,7 @@ use Rattle.dnsv_canonical.specs.Canonical.{IsCanonical}
 use Rattle.dnsv_canonical.specs.CanonicalRdata.{canonical_form}
 use Rattle.dnsv_canonical.specs.Rrsets.{IsNumbered, ReceivedRrset}
 use Rattle.dnsv_canonical.specs.SignedData.{IsExpanded}
-use Rattle.dnsv_denial.specs.declared.records.number.RecordNumber.{RecordNumber}
+use Rattle.dnsv_canonical.specs.declared.number.RecordNumber.{RecordNumber}
 
 -- ---- records by their numbers
 

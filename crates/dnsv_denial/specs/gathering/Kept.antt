@@ -15,7 +15,7 @@ use Rattle.dnsv_denial.specs.proving.ChainOf.{IsShownBy, StandsAs}
 use Rattle.dnsv_denial.specs.words.EvidenceWords.{Chain, GoesBefore, parameters_cmp}
 use Rattle.dnsv_denial.specs.declared.forms.denial.Denial.{Denial}
 use Rattle.dnsv_denial.specs.declared.proving.shown_denial.ShownDenial.{ShownDenial}
-use Rattle.dnsv_denial.specs.declared.records.number.RecordNumber.{RecordNumber}
+use Rattle.dnsv_canonical.specs.declared.number.RecordNumber.{RecordNumber}
 use Rattle.dnsv_denial.specs.declared.records.zone_records.NameHashes.{NameHashes}
 use Rattle.dnsv_denial.specs.declared.records.zone_records.ZoneRecords.{ZoneRecords}
 

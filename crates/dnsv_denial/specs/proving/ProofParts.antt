@@ -25,7 +25,7 @@ use Rattle.dnsv_denial.specs.declared.proving.proof_part.PartRelation.TheVariant
 use Rattle.dnsv_denial.specs.declared.proving.proof_part.ProofPart.{ProofPart}
 use Rattle.dnsv_denial.specs.declared.records.chain_kind.ChainKind.{ChainKind}
 use Rattle.dnsv_denial.specs.declared.records.chain_kind.ChainKind.TheVariants.{Nsec, Nsec3}
-use Rattle.dnsv_denial.specs.declared.records.number.RecordNumber.{RecordNumber}
+use Rattle.dnsv_canonical.specs.declared.number.RecordNumber.{RecordNumber}
 
 -- an NSEC record shows a node by its owner or its next name, an NSEC3 record by its hash
 abbrev pub encloser_relation : ChainKind → PartRelation

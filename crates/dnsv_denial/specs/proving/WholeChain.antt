@@ -11,7 +11,7 @@ use Rattle.dnsv_zones.specs.chains.NsecChain.{NsecRecord, IsNsecChainOf}
 use Rattle.dnsv_zones.specs.zones.Zone.{Zone}
 use Rattle.dnsv_canonical.specs.Rrsets.{ReceivedRrset}
 use Rattle.dnsv_denial.specs.gathering.Evidence.{IsNsecAt, IsNsec3At}
-use Rattle.dnsv_denial.specs.declared.records.number.RecordNumber.{RecordNumber}
+use Rattle.dnsv_canonical.specs.declared.number.RecordNumber.{RecordNumber}
 
 -- ---- the whole chain, whatever else is there
 

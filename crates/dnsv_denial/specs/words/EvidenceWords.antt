@@ -12,7 +12,7 @@ use Rattle.dnsv_zones.specs.forms.RecordWords.{RecordWords}
 use Rattle.dnsv_zones.specs.forms.Said.{nsec_records_say, nsec3_records_say}
 use Rattle.dnsv_canonical.specs.Rrsets.{ReceivedRrset}
 use Rattle.dnsv_denial.specs.gathering.Evidence.{IsNsecAt, IsNsec3At}
-use Rattle.dnsv_denial.specs.declared.records.number.RecordNumber.{RecordNumber}
+use Rattle.dnsv_canonical.specs.declared.number.RecordNumber.{RecordNumber}
 
 -- the NSEC record with the number says so
 abbrev pub SaidByNsec : (ℕ → ℕ → Type 0) → List ReceivedRrset → Labels → (NsecRecord → Type 0) → RecordNumber → Type 0

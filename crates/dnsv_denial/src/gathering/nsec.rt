@@ -6,8 +6,7 @@ ghost use Rattle.dnsv_denial.specs.gathering.Gathered.{AreNsecs, AreNsecsOf};
 
 use crate::gathering::secured::has_zone_signature;
 use crate::records::entry::NsecEntry;
-use crate::records::number::RecordNumber;
-use dnsv_canonical::{Capture, Rrset, in_canonical_order};
+use dnsv_canonical::{Capture, RecordNumber, Rrset, in_canonical_order};
 use dnsv_chain::Trust;
 use dnsv_names::{Name, RecordType};
 use std::alloc::{AllocError, Global};

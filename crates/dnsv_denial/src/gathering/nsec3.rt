@@ -8,8 +8,7 @@ ghost use Rattle.dnsv_denial.specs.gathering.Gathered.{AreNsec3s, AreNsec3sOf, I
 
 use crate::gathering::secured::has_zone_signature;
 use crate::records::entry::Nsec3Entry;
-use crate::records::number::RecordNumber;
-use dnsv_canonical::{Capture, Rrset, in_canonical_order};
+use dnsv_canonical::{Capture, RecordNumber, Rrset, in_canonical_order};
 use dnsv_chain::Trust;
 use dnsv_names::{Hash20, Name, RecordType};
 use dnsv_records::{Nsec3, base32hex_read};

@@ -17,7 +17,7 @@ use crate::proving::proof::Proof;
 use crate::proving::shown_denial::ShownDenial;
 use crate::records::chain_kind::ChainKind;
 use crate::records::chain_records::ChainRecords;
-use crate::records::number::RecordNumber;
+use dnsv_canonical::RecordNumber;
 use dnsv_names::Name;
 
 /// How the denial is shown by the records of a chain of the zone, or `None` where they prove none.

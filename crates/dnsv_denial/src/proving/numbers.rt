@@ -7,8 +7,8 @@ ghost use Rattle.dnsv_denial.specs.proving.Numbers.{numbers_of, number_at, recor
 use crate::forms::ends::Places;
 use crate::records::chain_records::ChainRecords;
 use crate::records::entry::{Nsec3Entry, NsecEntry};
-use crate::records::number::RecordNumber;
 use arrayvec::ArrayVec;
+use dnsv_canonical::RecordNumber;
 
 /// The numbers of the chain's records at these places, each once and rising.
 pub fn record_numbers(places: &Places, records: &ChainRecords<'_>) -> ArrayVec<RecordNumber, 3>

@@ -1,8 +1,8 @@
 //! Proofs that a name or a type isn't there, as they are given.
 ghost use Rattle.std.specs.Prelude.{◌≡◌};
 
-use crate::records::number::RecordNumber;
 use arrayvec::ArrayVec;
+use dnsv_canonical::RecordNumber;
 use dnsv_names::Name;
 use std::marker::Model;
 

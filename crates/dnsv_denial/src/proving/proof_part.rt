@@ -6,9 +6,9 @@ ghost use Rattle.dnsv_denial.specs.proving.ProofParts.{encloser_part, form_parts
 
 use crate::forms::proof_form::{ProofForm, WildcardParts};
 use crate::records::chain_kind::ChainKind;
-use crate::records::number::RecordNumber;
 use crate::unsigned_cuts::first_cut::next_closer;
 use arrayvec::ArrayVec;
+use dnsv_canonical::RecordNumber;
 use dnsv_names::Name;
 
 /// What a part of a proof speaks of, by the question's name.

@@ -7,8 +7,8 @@ use crate::forms::proof_form::ProofForm;
 use crate::proving::proof::Proof;
 use crate::proving::proof_part::{ProofPart, form_parts};
 use crate::records::chain_kind::ChainKind;
-use crate::records::number::RecordNumber;
 use arrayvec::ArrayVec;
+use dnsv_canonical::RecordNumber;
 
 /// A proof that a name or a type isn't there, with the form that stands and the record for each of its parts (RFC 4035
 /// 5.4, RFC 5155 8). It lies in the value itself and takes no memory.

@@ -1,5 +1,5 @@
 //! NSEC and NSEC3 records as they are gathered for a proof.
-use crate::records::number::RecordNumber;
+use dnsv_canonical::RecordNumber;
 use dnsv_names::{Hash20, Name};
 use dnsv_records::{Nsec, Nsec3Parameters, TypeBitmap};
 

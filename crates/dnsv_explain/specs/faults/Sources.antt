@@ -12,7 +12,7 @@ use Rattle.dnsv_zones.specs.zones.TypeNumbers.{cname, dname, ds, soa}
 use Rattle.dnsv_zones.specs.zones.Types.{Denies, IsClosed, IsDelegation}
 use Rattle.dnsv_denial.specs.words.EvidenceWords.{Chain, number_cmp}
 use Rattle.dnsv_denial.specs.words.EvidenceWords.Chain.{ByNsec, ByNsec3}
-use Rattle.dnsv_denial.specs.declared.records.number.RecordNumber.{RecordNumber}
+use Rattle.dnsv_canonical.specs.declared.number.RecordNumber.{RecordNumber}
 use Rattle.std.specs.declared.cmp.Ordering.TheVariants.{Less}
 use Rattle.dnsv_explain.specs.faults.Listing.{AreOfEach, AreParted, AreWhere}
 use Rattle.dnsv_explain.specs.declared.line.Line.{Line}

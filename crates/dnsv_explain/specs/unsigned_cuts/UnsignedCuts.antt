@@ -7,7 +7,7 @@ use Rattle.dnsv_records.specs.declared.ds.Ds.{Ds}
 use Rattle.dnsv_canonical.specs.Rrsets.{IsNumbered, ReceivedRrset}
 use Rattle.dnsv_chain.specs.Ds.{HasUsable}
 use Rattle.dnsv_denial.specs.gathering.Evidence.{IsRecordAt}
-use Rattle.dnsv_denial.specs.declared.records.number.RecordNumber.{RecordNumber}
+use Rattle.dnsv_canonical.specs.declared.number.RecordNumber.{RecordNumber}
 use Rattle.dnsv_explain.specs.Explained.{Setting}
 use Rattle.dnsv_explain.specs.derivations.OwnDerivations.{IsSignatureTold}
 use Rattle.dnsv_explain.specs.derivations.Derivations.{IsLowestSecured}

@@ -8,7 +8,8 @@ use crate::evidence::Evidence;
 use crate::line::Line;
 use crate::line::denial::{Part, RecordPlace, Relation, Role};
 use crate::numbered::numbered;
-use dnsv_denial::{PartName, PartRelation, ProofPart, RecordNumber};
+use dnsv_canonical::RecordNumber;
+use dnsv_denial::{PartName, PartRelation, ProofPart};
 use dnsv_names::Name;
 use std::alloc::AllocError;
 

@@ -8,7 +8,8 @@ ghost use Rattle.dnsv_explain.specs.Saying.{Adds};
 
 use crate::line::Line;
 use crate::line::denial::{Chain, Form, Proof};
-use dnsv_denial::{ChainKind, ProofForm, RecordNumber, ShownDenial};
+use dnsv_canonical::RecordNumber;
+use dnsv_denial::{ChainKind, ProofForm, ShownDenial};
 use dnsv_names::Name;
 use std::alloc::AllocError;
 

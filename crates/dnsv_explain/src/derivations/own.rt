@@ -1,6 +1,6 @@
 //! Derivations of the signatures by which a zone's records count.
 ghost use Rattle.std.specs.Prelude.{◌≡◌, ◌↔◌, ℕ, Contains, IsTrue, MatchOption, OnOk};
-ghost use Rattle.dnsv_denial.specs.declared.records.number.RecordNumber.{RecordNumber};
+ghost use Rattle.dnsv_canonical.specs.declared.number.RecordNumber.{RecordNumber};
 ghost use Rattle.dnsv_denial.specs.gathering.Evidence.{HasZoneSignature, IsSecuredBy};
 ghost use Rattle.dnsv_explain.specs.derivations.OwnDerivations.{AreRecordsDerived, IsLowestOwn, IsOwnDerivation, IsOwnSignature, IsSignatureTold, SecuredIn};
 ghost use Rattle.dnsv_explain.specs.Explained.{setting_in};
@@ -12,8 +12,7 @@ use crate::faults::keys::is_signer;
 use crate::line::Line;
 use crate::line::derivation::SignatureNumber;
 use crate::numbered::numbered;
-use dnsv_canonical::{Rrset, is_expanded};
-use dnsv_denial::RecordNumber;
+use dnsv_canonical::{RecordNumber, Rrset, is_expanded};
 use dnsv_names::Name;
 use std::alloc::{AllocError, Global};
 

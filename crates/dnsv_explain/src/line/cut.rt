@@ -3,7 +3,7 @@ ghost use Rattle.std.specs.Prelude.{Some};
 ghost use Rattle.dnsv_explain.specs.line.Cut.{case_number, case_text, unusable_text, why_text};
 
 use crate::line::derivation::KeyName;
-use dnsv_denial::RecordNumber;
+use dnsv_canonical::RecordNumber;
 use dnsv_names::Name;
 use dnsv_records::DigestType;
 use std::fmt;

@@ -2,7 +2,7 @@
 ghost use Rattle.std.specs.Prelude.{Some};
 ghost use Rattle.dnsv_explain.specs.line.Denial.{chain_text, form_text, part_text, proof_text, record_text, relation_text, role_text};
 
-use dnsv_denial::RecordNumber;
+use dnsv_canonical::RecordNumber;
 use dnsv_names::{Name, RecordType};
 use std::fmt;
 

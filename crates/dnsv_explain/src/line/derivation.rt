@@ -2,7 +2,7 @@
 ghost use Rattle.std.specs.Prelude.{Some};
 ghost use Rattle.dnsv_explain.specs.line.Derivation.{key_text, signature_text, signed_text, todo_text, trusted_text, voucher_text};
 
-use dnsv_denial::RecordNumber;
+use dnsv_canonical::RecordNumber;
 use dnsv_names::{Name, RecordType};
 use dnsv_records::{Algorithm, DigestType, KeyTag};
 use std::fmt;

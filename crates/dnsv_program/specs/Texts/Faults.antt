@@ -4,7 +4,7 @@ use Rattle.std.specs.Fmt.{decimal}
 use Rattle.dnsv_names.specs.Name.{Labels}
 use Rattle.dnsv_records.specs.declared.nsec3.Nsec3Parameters.{Nsec3Parameters}
 use Rattle.dnsv_records.specs.declared.number.DigestType.{DigestType}
-use Rattle.dnsv_denial.specs.declared.records.number.RecordNumber.{RecordNumber}
+use Rattle.dnsv_canonical.specs.declared.number.RecordNumber.{RecordNumber}
 use Rattle.dnsv_explain.specs.line.Denial.{role_text}
 use Rattle.dnsv_explain.specs.line.faults.Denial.{nsec3_word}
 use Rattle.dnsv_explain.specs.line.faults.ExtendedErrors.{entry_error, nsec3_error, signature_error, zone_error}

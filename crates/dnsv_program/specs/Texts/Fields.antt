@@ -2,7 +2,7 @@
 use Rattle.std.specs.Prelude.{ℕ, List, [], ◌∷◌, Option, Some, None, codes}
 use Rattle.std.specs.Fmt.{decimal}
 use Rattle.dnsv_names.specs.Name.{Labels}
-use Rattle.dnsv_denial.specs.declared.records.number.RecordNumber.{RecordNumber}
+use Rattle.dnsv_canonical.specs.declared.number.RecordNumber.{RecordNumber}
 use Rattle.dnsv_explain.specs.declared.line.derivation.KeyName.{KeyName}
 use Rattle.dnsv_explain.specs.declared.line.derivation.SignatureNumber.{SignatureNumber}
 use Rattle.dnsv_program.specs.Texts.Json.{member, name_json}

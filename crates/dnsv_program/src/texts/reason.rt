@@ -3,8 +3,7 @@ ghost use Rattle.std.specs.Prelude.{◌≡◌, ◌++◌, OnOk, string_bytes};
 ghost use Rattle.dnsv_program.specs.Texts.Checking.{cut_text, entries_text, proof_text, reason_text, signature_text};
 
 use crate::texts::{checking, json, todo};
-use dnsv_canonical::Rrset;
-use dnsv_denial::RecordNumber;
+use dnsv_canonical::{RecordNumber, Rrset};
 use dnsv_names::Name;
 use dnsv_verdict::Verdict;
 use dnsv_verifier::Entries;

@@ -6,10 +6,10 @@ use crate::denial::rtype_of;
 use crate::evidence::capture_or_refusal;
 use crate::row::{Row, RowError};
 use bumpalo::Bump;
-use dnsv_canonical::{Capture, Rrset};
+use dnsv_canonical::{Capture, RecordNumber, Rrset};
 use dnsv_denial::{
-    ChainRecords, HashedRecords, Nsec3Entries, Nsec3Entry, NsecEntry, Places, RecordNumber,
-    no_closer, no_data, no_name, opt_out, opts_out_next_closer, unsigned_delegation,
+    ChainRecords, HashedRecords, Nsec3Entries, Nsec3Entry, NsecEntry, Places, no_closer, no_data,
+    no_name, opt_out, opts_out_next_closer, unsigned_delegation,
 };
 use dnsv_names::{Count, Hash20, Name};
 use dnsv_records::base32hex_read;

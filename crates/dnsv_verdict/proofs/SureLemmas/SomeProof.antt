@@ -22,7 +22,7 @@ use Rattle.dnsv_denial.specs.proving.FirstProof.{AreRecordsOf, CanBeProved, CanP
 use Rattle.dnsv_denial.specs.unsigned_cuts.Cuts.{no_ds, no_usable_ds, opt_out, IsUnsignedDelegationCut, IsUnusableDsCut, IsOptOutCut, IsUnsignedCut, HasUnsignedCut}
 use Rattle.dnsv_denial.specs.words.EvidenceWords.{Chain, GoesBefore, nsec_first, by_parameters, evidence_said, nsec3_said, number_cmp, parameters_cmp}
 use Rattle.dnsv_denial.specs.words.EvidenceWords.Chain.{ByNsec, ByNsec3}
-use Rattle.dnsv_denial.specs.declared.records.number.RecordNumber.{RecordNumber}
+use Rattle.dnsv_canonical.specs.declared.number.RecordNumber.{RecordNumber}
 use Rattle.dnsv_verdict.proofs.SureLemmas.FiniteLemmas.{IsFinite, finite_each, finite_one, finite_within, some_first, some_sorted}
 use Rattle.dnsv_verdict.proofs.OneProof.{number_exact, number_total, parameters_exact, parameters_total}
 use Rattle.dnsv_verdict.proofs.SureLemmas.{Surely, surely, and_then, by_cases, some_fewest, some_most, some_record}

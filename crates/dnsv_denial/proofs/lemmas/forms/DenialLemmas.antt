@@ -26,7 +26,7 @@ use Rattle.dnsv_denial.specs.declared.forms.denial.Denial.{Denial}
 use Rattle.dnsv_denial.specs.declared.forms.denial.Denial.TheVariants as denied
 use Rattle.dnsv_denial.specs.declared.forms.proof_form.ProofForm.{ProofForm}
 use Rattle.dnsv_denial.specs.declared.forms.proof_form.WildcardParts.{WildcardParts}
-use Rattle.dnsv_denial.specs.declared.records.number.RecordNumber.{RecordNumber}
+use Rattle.dnsv_canonical.specs.declared.number.RecordNumber.{RecordNumber}
 use Rattle.dnsv_denial.proofs.lemmas.words.IndexLemmas.{SayAlike, words_from}
 
 -- ---- what shows a denial carries its form

@@ -29,7 +29,7 @@ use Rattle.dnsv_denial.specs.declared.forms.denial.Denial.TheVariants as denied
 use Rattle.dnsv_denial.specs.declared.forms.proof_form.ProofForm.{ProofForm}
 use Rattle.dnsv_denial.specs.declared.forms.proof_form.ProofForm.TheVariants.{NoName, NoData, EmptyNonTerminal, WildcardNoData, EmptyWildcard, NoCloser, Delegation, OptOut, WildcardOptOut, OptOutCloser}
 use Rattle.dnsv_denial.specs.declared.forms.proof_form.WildcardParts.{WildcardParts}
-use Rattle.dnsv_denial.specs.declared.records.number.RecordNumber.{RecordNumber}
+use Rattle.dnsv_canonical.specs.declared.number.RecordNumber.{RecordNumber}
 use Rattle.dnsv_denial.proofs.lemmas.words.IndexLemmas.{AreInOrder, SaysAlike, SayAlike, first_such_to, words_from}
 
 -- ---- the records of the form are the parts of a proof

@@ -18,7 +18,7 @@ use Rattle.dnsv_denial.specs.gathering.Evidence.{HasZoneSignature, IsHashedOwner
 use Rattle.dnsv_denial.specs.gathering.Gathered.{AreAll, AreNsec3s, AreNsec3sOf, IsEntryOf, IsNsec3RrsetOf}
 use Rattle.dnsv_denial.specs.records.Record.{flags_of, read_nsec3}
 use Rattle.dnsv_denial.specs.declared.records.entry.Nsec3Entry.{Nsec3Entry}
-use Rattle.dnsv_denial.specs.declared.records.number.RecordNumber.{RecordNumber}
+use Rattle.dnsv_canonical.specs.declared.number.RecordNumber.{RecordNumber}
 use Rattle.dnsv_denial.proofs.lemmas.gathering.EvidenceLemmas.{one_numbered, one_record, nsec3_forms}
 use Rattle.dnsv_denial.proofs.lemmas.gathering.Gathering.{UpTo, Grown, grown_none, grown_one, grown_not, grown_all, none_yet, none_here, some_here, all_of_them}
 use Rattle.dnsv_denial.proofs.lemmas.gathering.NsecGather.{record_at, place_within}

@@ -17,7 +17,7 @@ use Rattle.std.specs.Ordering.{nat_cmp, eq_by_cmp}
 use Rattle.std.specs.Prelude.{Contains, nat_eq, ◌↔◌}
 use Rattle.dnsv_denial.specs.proving.FirstProof.{AreRecordsOf}
 use Rattle.dnsv_denial.specs.words.EvidenceWords.{number_cmp}
-use Rattle.dnsv_denial.specs.declared.records.number.RecordNumber.{RecordNumber}
+use Rattle.dnsv_canonical.specs.declared.number.RecordNumber.{RecordNumber}
 
 pub number_cmp_total : IsTotalOrder number_cmp
 number_cmp_total = then_total (on_total (λ (n : RecordNumber). n.rrset) nat_cmp_total) (on_total (λ (n : RecordNumber). n.place) nat_cmp_total)

@@ -15,7 +15,7 @@ use Rattle.dnsv_denial.specs.proving.ZoneChains.{chain_at, chains_of}
 use Rattle.dnsv_denial.specs.words.EvidenceWords.{Chain, GoesBefore, parameters_cmp}
 use Rattle.dnsv_denial.specs.words.EvidenceWords.Chain.{ByNsec, ByNsec3}
 use Rattle.dnsv_denial.specs.words.EvidenceWords.GoesBefore.{nsec_first, by_parameters}
-use Rattle.dnsv_denial.specs.declared.records.number.RecordNumber.{RecordNumber}
+use Rattle.dnsv_canonical.specs.declared.number.RecordNumber.{RecordNumber}
 use Rattle.dnsv_denial.specs.declared.records.zone_records.NameHashes.{NameHashes}
 use Rattle.dnsv_denial.proofs.lemmas.gathering.GatherLemmas.{mapped_at}
 use Rattle.dnsv_denial.proofs.lemmas.words.AlikeLemmas.{any_place}

@@ -24,7 +24,7 @@ use Rattle.dnsv_denial.specs.words.SaidAt.{IsSaidAt}
 use Rattle.dnsv_denial.specs.declared.records.entry.NsecEntry.{NsecEntry}
 use Rattle.dnsv_denial.specs.declared.records.entry.Nsec3Entry.{Nsec3Entry}
 use Rattle.dnsv_denial.specs.declared.records.hashed_records.HashedRecords.{HashedRecords}
-use Rattle.dnsv_denial.specs.declared.records.number.RecordNumber.{RecordNumber}
+use Rattle.dnsv_canonical.specs.declared.number.RecordNumber.{RecordNumber}
 use Rattle.dnsv_denial.specs.declared.records.chain_records.ChainRecords.TheVariants.{Nsec, Nsec3}
 use Rattle.dnsv_denial.proofs.lemmas.gathering.GatherLemmas.{mapped_at, each_at}
 use Rattle.dnsv_denial.proofs.lemmas.words.IndexLemmas.{AreInOrder, SaysAlike, SayAlike}

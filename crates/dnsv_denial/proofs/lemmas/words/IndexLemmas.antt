@@ -11,7 +11,7 @@ use Rattle.dnsv_zones.specs.forms.RecordWords.{RecordWords, words}
 use Rattle.dnsv_zones.proofs.lemmas.chains.MoreLemmas.{SayMore}
 use Rattle.dnsv_denial.specs.proving.Numbers.{number_at}
 use Rattle.dnsv_denial.specs.words.EvidenceWords.{number_cmp}
-use Rattle.dnsv_denial.specs.declared.records.number.RecordNumber.{RecordNumber}
+use Rattle.dnsv_canonical.specs.declared.number.RecordNumber.{RecordNumber}
 
 -- the places are those of the numbers
 pub record SaysAlike (numbers : List RecordNumber) (By : ℕ → Type 0) (Of : RecordNumber → Type 0) : Type 0 where

@@ -15,7 +15,7 @@ use Rattle.dnsv_denial.specs.declared.proving.proof_part.PartName.{PartName}
 use Rattle.dnsv_denial.specs.declared.proving.proof_part.PartRelation.{PartRelation}
 use Rattle.dnsv_denial.specs.declared.proving.proof_part.ProofPart.{ProofPart}
 use Rattle.dnsv_denial.specs.declared.proving.shown_denial.ShownDenial.{ShownDenial}
-use Rattle.dnsv_denial.specs.declared.records.number.RecordNumber.{RecordNumber}
+use Rattle.dnsv_canonical.specs.declared.number.RecordNumber.{RecordNumber}
 use Rattle.dnsv_explain.specs.Explained.{Setting}
 use Rattle.dnsv_explain.specs.Denials.{IsDenialTold, IsExpandedTold, IsPartLine, IsPartSaid, IsPartTold, IsFormTold, IsProofOf, IsProofSaid, IsProofTold, IsShownDenial, IsTellingOf, told_chain, told_form, told_relation, told_role}
 use Rattle.dnsv_explain.specs.derivations.OwnDerivations.{AreRecordsDerived, IsOwnDerivation, SecuredIn}

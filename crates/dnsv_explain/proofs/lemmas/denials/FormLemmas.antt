@@ -21,7 +21,7 @@ use Rattle.dnsv_denial.specs.declared.proving.proof_part.PartName.TheVariants as
 use Rattle.dnsv_denial.specs.declared.proving.proof_part.PartRelation.{PartRelation}
 use Rattle.dnsv_denial.specs.declared.proving.proof_part.PartRelation.TheVariants as related
 use Rattle.dnsv_denial.specs.declared.proving.proof_part.ProofPart.{ProofPart}
-use Rattle.dnsv_denial.specs.declared.records.number.RecordNumber.{RecordNumber}
+use Rattle.dnsv_canonical.specs.declared.number.RecordNumber.{RecordNumber}
 use Rattle.dnsv_explain.specs.Denials.{FitsEncloser, told_relation, told_role}
 use Rattle.dnsv_explain.specs.Following.Parts.{IsWord}
 use Rattle.dnsv_explain.specs.declared.line.denial.Relation.TheVariants as relation

@@ -7,7 +7,7 @@ use Rattle.dnsv_canonical.specs.Rrsets.{ReceivedRrset}
 use Rattle.dnsv_denial.specs.gathering.Evidence.{HasZoneSignature, IsSecuredBy}
 use Rattle.dnsv_denial.specs.words.EvidenceWords.{Chain, SaidByNsec, SaidByNsec3, evidence_said}
 use Rattle.dnsv_denial.specs.words.EvidenceWords.Chain.{ByNsec, ByNsec3}
-use Rattle.dnsv_denial.specs.declared.records.number.RecordNumber.{RecordNumber}
+use Rattle.dnsv_canonical.specs.declared.number.RecordNumber.{RecordNumber}
 use Rattle.dnsv_explain.specs.Following.Parts.{IsMatchFor, IsSaidBy, IsWord}
 use Rattle.dnsv_explain.specs.declared.line.denial.RecordPlace.{RecordPlace}
 use Rattle.dnsv_explain.specs.declared.line.denial.Relation.{Relation}

@@ -24,7 +24,7 @@ use Rattle.dnsv_denial.specs.declared.proving.proof_part.PartRelation.TheVariant
 use Rattle.dnsv_denial.specs.declared.proving.proof_part.ProofPart.{ProofPart}
 use Rattle.dnsv_denial.specs.declared.proving.shown_denial.ShownDenial.{ShownDenial}
 use Rattle.dnsv_denial.specs.declared.records.chain_kind.ChainKind.{ChainKind}
-use Rattle.dnsv_denial.specs.declared.records.number.RecordNumber.{RecordNumber}
+use Rattle.dnsv_canonical.specs.declared.number.RecordNumber.{RecordNumber}
 use Rattle.dnsv_explain.specs.Explained.{Setting}
 use Rattle.dnsv_explain.specs.Denials.{HasRrset, IsPartFit, IsShownBy, IsShownDenial, told_form, told_relation, told_role}
 use Rattle.dnsv_explain.specs.derivations.OwnDerivations.{IsTrustIn, SecuredIn}

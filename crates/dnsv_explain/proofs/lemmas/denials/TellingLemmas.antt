@@ -6,7 +6,7 @@ use Rattle.dnsv_denial.specs.gathering.Evidence.{IsSecuredBy}
 use Rattle.dnsv_denial.specs.proving.ProofParts.{form_parts}
 use Rattle.dnsv_denial.specs.declared.proving.proof_part.ProofPart.{ProofPart}
 use Rattle.dnsv_denial.specs.declared.proving.shown_denial.ShownDenial.{ShownDenial}
-use Rattle.dnsv_denial.specs.declared.records.number.RecordNumber.{RecordNumber}
+use Rattle.dnsv_canonical.specs.declared.number.RecordNumber.{RecordNumber}
 use Rattle.dnsv_explain.specs.Explained.{Setting}
 use Rattle.dnsv_explain.specs.Denials.{IsDenialTold, IsPartFit, IsPartTold, IsProofTold, IsProofWithParts}
 use Rattle.dnsv_explain.specs.derivations.OwnDerivations.{AreRecordsDerived, SecuredIn}

@@ -22,7 +22,7 @@ use Rattle.dnsv_denial.specs.words.EvidenceWords.{number_cmp}
 use Rattle.dnsv_denial.specs.declared.forms.proof_form.ProofForm.{ProofForm}
 use Rattle.dnsv_denial.specs.declared.forms.proof_form.ProofForm.TheVariants as form
 use Rattle.dnsv_denial.specs.declared.forms.proof_form.WildcardParts.{WildcardParts}
-use Rattle.dnsv_denial.specs.declared.records.number.RecordNumber.{RecordNumber}
+use Rattle.dnsv_canonical.specs.declared.number.RecordNumber.{RecordNumber}
 use Rattle.dnsv_verdict.proofs.OneProof.{number_exact, number_total}
 use Rattle.dnsv_explain.proofs.lemmas.one.StepLemmas.{even}
 

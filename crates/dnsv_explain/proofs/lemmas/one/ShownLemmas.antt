@@ -24,7 +24,7 @@ use Rattle.dnsv_denial.specs.unsigned_cuts.ShownCut.IsShownCut.{no_ds, no_usable
 use Rattle.dnsv_denial.specs.words.EvidenceWords.{Chain, GoesBefore, evidence_said, number_cmp}
 use Rattle.dnsv_denial.specs.declared.forms.proof_form.ProofForm.{ProofForm}
 use Rattle.dnsv_denial.specs.declared.proving.shown_denial.ShownDenial.{ShownDenial}
-use Rattle.dnsv_denial.specs.declared.records.number.RecordNumber.{RecordNumber}
+use Rattle.dnsv_canonical.specs.declared.number.RecordNumber.{RecordNumber}
 use Rattle.dnsv_denial.specs.declared.unsigned_cuts.shown_cut.ShownCut.{ShownCut}
 use Rattle.dnsv_denial.specs.declared.unsigned_cuts.shown_cut.ShownCut.TheVariants as cut
 use Rattle.dnsv_verdict.proofs.OneProof.{chains, one_fewest, one_greatest, one_list, one_most}

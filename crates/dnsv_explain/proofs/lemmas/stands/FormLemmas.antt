@@ -23,7 +23,7 @@ use Rattle.dnsv_denial.specs.words.EvidenceWords.{Chain, evidence_said, number_c
 use Rattle.dnsv_denial.specs.words.EvidenceWords.Chain.{ByNsec, ByNsec3}
 use Rattle.dnsv_denial.specs.declared.forms.proof_form.ProofForm.{ProofForm}
 use Rattle.dnsv_denial.specs.declared.forms.proof_form.WildcardParts.{WildcardParts}
-use Rattle.dnsv_denial.specs.declared.records.number.RecordNumber.{RecordNumber}
+use Rattle.dnsv_canonical.specs.declared.number.RecordNumber.{RecordNumber}
 use Rattle.dnsv_explain.specs.declared.line.denial.Relation.TheVariants as relation
 use Rattle.dnsv_explain.specs.declared.line.denial.Role.TheVariants as role
 use Rattle.dnsv_explain.proofs.lemmas.intervals.MomentLemmas.{is_behind, is_first}

@@ -16,7 +16,7 @@ use Rattle.dnsv_denial.specs.proving.ShownDenials.{IsShownNoCloser}
 use Rattle.dnsv_denial.specs.words.EvidenceWords.{Chain, evidence_said, number_cmp}
 use Rattle.dnsv_denial.specs.declared.forms.proof_form.ProofForm.{ProofForm}
 use Rattle.dnsv_denial.specs.declared.proving.shown_denial.ShownDenial.{ShownDenial}
-use Rattle.dnsv_denial.specs.declared.records.number.RecordNumber.{RecordNumber}
+use Rattle.dnsv_canonical.specs.declared.number.RecordNumber.{RecordNumber}
 use Rattle.dnsv_verdict.specs.Secure.{HoldsForName, IsSecureSet}
 use Rattle.dnsv_explain.specs.Denials.{IsDenialTold, IsProofWithParts}
 use Rattle.dnsv_explain.specs.Explained.{Setting}

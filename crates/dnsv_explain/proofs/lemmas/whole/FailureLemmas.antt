@@ -8,7 +8,7 @@ use Rattle.dnsv_names.specs.Name.{Labels}
 use Rattle.dnsv_canonical.proofs.GroupLemmas.AppearanceLemmas.{first_appearances_apart}
 use Rattle.dnsv_canonical.specs.Rrsets.{ReceivedRrset, first_appearances}
 use Rattle.dnsv_verifier.specs.Admissible.{DnskeyRecord}
-use Rattle.dnsv_denial.specs.declared.records.number.RecordNumber.{RecordNumber}
+use Rattle.dnsv_canonical.specs.declared.number.RecordNumber.{RecordNumber}
 use Rattle.dnsv_explain.specs.Explained.{Setting}
 use Rattle.dnsv_explain.specs.Explanation.{IsFailureTold}
 use Rattle.dnsv_explain.specs.Once.{AreOnce}

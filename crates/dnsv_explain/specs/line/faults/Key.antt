@@ -1,7 +1,7 @@
 -- The text of lines that say which keys a zone in question has.
 use Rattle.std.specs.Prelude.{ℕ, List, [], ◌++◌, Option, Some, None, codes}
 use Rattle.std.specs.Fmt.{decimal}
-use Rattle.dnsv_denial.specs.declared.records.number.RecordNumber.{RecordNumber}
+use Rattle.dnsv_canonical.specs.declared.number.RecordNumber.{RecordNumber}
 use Rattle.dnsv_explain.specs.line.Derivation.{lower_text}
 use Rattle.dnsv_explain.specs.declared.line.fault.key.ShownKey.{ShownKey}
 

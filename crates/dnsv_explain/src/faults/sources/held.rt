@@ -12,7 +12,7 @@ use crate::line::Line;
 use crate::line::fault::Reason;
 use crate::line::fault::denial::parameters::SourceParameters;
 use crate::line::fault::denial::{Source, SourceFault, WhySource};
-use dnsv_denial::RecordNumber;
+use dnsv_canonical::RecordNumber;
 use dnsv_names::{Name, RecordType};
 use dnsv_records::TypeBitmap;
 use dnsv_zones::denies;

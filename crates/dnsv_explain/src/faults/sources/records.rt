@@ -9,7 +9,8 @@ ghost use Rattle.dnsv_explain.specs.faults.Sources.SourceSearch.{AreRecordsAt, I
 
 use crate::faults::sources::asked::Asked;
 use crate::faults::sources::chain::ChainEntries;
-use dnsv_denial::{Nsec3Entry, NsecEntry, RecordNumber};
+use dnsv_canonical::RecordNumber;
+use dnsv_denial::{Nsec3Entry, NsecEntry};
 use dnsv_names::{Hash20, Name};
 use dnsv_records::{Nsec3Parameters, TypeBitmap};
 use std::alloc::{AllocError, Global};

@@ -13,9 +13,8 @@ use crate::faults::zones::lead::Lead;
 use crate::faults::zones::named::word_of;
 use crate::faults::zones::ways::is_ds_way;
 use crate::line::fault::zone::{EntryNumber, WhyEntry};
-use dnsv_canonical::{Rrset, in_canonical_order};
+use dnsv_canonical::{RecordNumber, Rrset, in_canonical_order};
 use dnsv_chain::Anchor;
-use dnsv_denial::RecordNumber;
 use dnsv_names::Name;
 use std::alloc::{AllocError, Global};
 

@@ -7,7 +7,7 @@ ghost use Rattle.dnsv_explain.specs.line.faults.ExtendedErrors.{nsec3_error};
 use crate::line::denial::Role;
 use crate::line::fault::denial::parameters::SourceParameters;
 use crate::line::fault::denial::salt::SaltText;
-use dnsv_denial::RecordNumber;
+use dnsv_canonical::RecordNumber;
 use dnsv_names::{Name, RecordType};
 use dnsv_records::Iterations;
 use std::fmt;

@@ -3,7 +3,7 @@ ghost use Rattle.std.specs.Prelude.{Some};
 ghost use Rattle.dnsv_explain.specs.line.faults.Key.{anchor_field, ds_field, shown_key_text, signature_field};
 
 use crate::line::derivation::KeyName;
-use dnsv_denial::RecordNumber;
+use dnsv_canonical::RecordNumber;
 use dnsv_names::Name;
 use dnsv_records::DnskeyFlags;
 use std::fmt;

@@ -5,7 +5,7 @@ ghost use Rattle.dnsv_explain.specs.line.faults.ExtendedErrors.{entry_error, zon
 ghost use Rattle.dnsv_explain.specs.line.faults.Zone.{digest_text, entry_fault_text, entry_number_text, entry_text, entry_word, not_self_signed_text, zone_fault_text, zone_word};
 
 use crate::line::derivation::KeyName;
-use dnsv_denial::RecordNumber;
+use dnsv_canonical::RecordNumber;
 use dnsv_names::Name;
 use dnsv_records::DigestType;
 use std::fmt;

@@ -8,7 +8,7 @@ use Rattle.dnsv_denial.specs.proving.FirstProof.{AreRecordsOf, ProofRecords}
 use Rattle.dnsv_denial.specs.proving.Numbers.{numbers_of, number_at, record_count}
 use Rattle.dnsv_denial.specs.words.ChainSaid.{chain_said}
 use Rattle.dnsv_denial.specs.words.EvidenceWords.{evidence_said, number_cmp}
-use Rattle.dnsv_denial.specs.declared.records.number.RecordNumber.{RecordNumber}
+use Rattle.dnsv_canonical.specs.declared.number.RecordNumber.{RecordNumber}
 use Rattle.dnsv_denial.proofs.lemmas.proving.ChainProofLemmas.{all_labels, chain_alike, chain_bound, chain_kinds, chain_order}
 use Rattle.dnsv_denial.proofs.lemmas.forms.DenialLemmas.{form_by_place, shown_places}
 use Rattle.dnsv_denial.proofs.lemmas.forms.ShowsLemmas.{records_mapped, shown_by_number}

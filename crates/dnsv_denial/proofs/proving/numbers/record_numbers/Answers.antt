@@ -3,7 +3,7 @@ use Rattle.std.proofs.lemmas.List.{take_more, take_all}
 use Rattle.std.specs.List.{list_any}
 use Rattle.std.specs.List.Sorted.{IsPermutation}
 use Rattle.dnsv_denial.specs.proving.Numbers.{numbers_of, number_at}
-use Rattle.dnsv_denial.specs.declared.records.number.RecordNumber.{RecordNumber}
+use Rattle.dnsv_canonical.specs.declared.number.RecordNumber.{RecordNumber}
 use Rattle.dnsv_denial.proofs.lemmas.proving.NumberLemmas.{AreDistinctOf, number_eq, no_numbers, one_more, known_already, in_order}
 use Rattle.dnsv_denial.proofs.proving.numbers.record_numbers.Goals as goal
 use Rattle.dnsv_denial.proofs.proving.numbers.record_numbers.Goals.{then-not-contains, else-not-contains}

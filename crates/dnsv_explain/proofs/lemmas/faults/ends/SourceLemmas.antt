@@ -4,7 +4,7 @@ use Rattle.dnsv_names.specs.Name.{Labels, rightmost}
 use Rattle.dnsv_names.specs.Tree.{wildcard_of}
 use Rattle.dnsv_zones.specs.forms.RecordWords.{RecordWords}
 use Rattle.dnsv_denial.specs.words.EvidenceWords.{Chain, evidence_said}
-use Rattle.dnsv_denial.specs.declared.records.number.RecordNumber.{RecordNumber}
+use Rattle.dnsv_canonical.specs.declared.number.RecordNumber.{RecordNumber}
 use Rattle.dnsv_explain.specs.Explained.{Setting}
 use Rattle.dnsv_explain.specs.derivations.OwnDerivations.{SecuredIn}
 use Rattle.dnsv_explain.specs.faults.Order.{AreLacking, AreLinesOfChain, AreLinesOfSources, chains_by, names_up}

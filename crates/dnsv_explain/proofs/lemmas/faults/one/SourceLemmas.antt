@@ -25,7 +25,7 @@ use Rattle.dnsv_canonical.specs.Rrsets.{ReceivedRrset}
 use Rattle.dnsv_denial.specs.gathering.Evidence.{IsNsecOf, IsNsec3Of}
 use Rattle.dnsv_denial.specs.words.EvidenceWords.{Chain, evidence_said, number_cmp}
 use Rattle.dnsv_denial.specs.words.EvidenceWords.Chain.{ByNsec, ByNsec3}
-use Rattle.dnsv_denial.specs.declared.records.number.RecordNumber.{RecordNumber}
+use Rattle.dnsv_canonical.specs.declared.number.RecordNumber.{RecordNumber}
 use Rattle.dnsv_verdict.proofs.OneProof.{number_exact, number_total}
 use Rattle.dnsv_explain.specs.faults.Listing.{AreOfEach, AreParted}
 use Rattle.dnsv_explain.specs.faults.Sources.{AreAt, AreCloserLines, AreHeldLines, AreHeldOf, AreSourceLines, AreWildcardLines, IsClosedLine, IsCovered, IsFirstClosed, IsHeld, IsLongestThere, IsParametersOf, IsSourceOf, source_line, why_held}

@@ -11,7 +11,7 @@ use Rattle.dnsv_canonical.proofs.CanonicalLemmas.{IsMember, IsMember-from_contai
 use Rattle.dnsv_zones.specs.Any.{Any}
 use Rattle.dnsv_denial.specs.gathering.Gathered.{AreAll}
 use Rattle.dnsv_denial.specs.words.EvidenceWords.{number_cmp}
-use Rattle.dnsv_denial.specs.declared.records.number.RecordNumber.{RecordNumber}
+use Rattle.dnsv_canonical.specs.declared.number.RecordNumber.{RecordNumber}
 use Rattle.dnsv_explain.specs.faults.Listing.{AreOfEach, AreOfNumbered}
 use Rattle.dnsv_explain.specs.faults.Sources.SourceSearch.{HasEntry, IsEntry, IsFoundOf}
 use Rattle.dnsv_explain.specs.declared.faults.sources.records.RecordAt.{RecordAt}

@@ -9,7 +9,7 @@ use Rattle.dnsv_names.specs.Tree.TreeLaws.{at_or_below_length}
 use Rattle.dnsv_zones.specs.Any.{Any}
 use Rattle.dnsv_zones.specs.forms.RecordWords.{RecordWords}
 use Rattle.dnsv_zones.specs.zones.Types.{Denies}
-use Rattle.dnsv_denial.specs.declared.records.number.RecordNumber.{RecordNumber}
+use Rattle.dnsv_canonical.specs.declared.number.RecordNumber.{RecordNumber}
 use Rattle.dnsv_explain.specs.Explained.{Setting}
 use Rattle.dnsv_explain.specs.faults.Listing.{AddsThose, AreOfEach, AreParted}
 use Rattle.dnsv_explain.specs.faults.Sources.{AreCloserLines, AreHeldLines, AreHeldOf, AreSourceLines, AreWildcardLines, HasNoneClosed, HasRecordAt, IsCovered, IsHeld, IsLongestThere, IsShownThere, IsSourceFault, source_line}

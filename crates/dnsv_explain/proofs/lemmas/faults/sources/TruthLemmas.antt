@@ -13,7 +13,7 @@ use Rattle.dnsv_zones.specs.zones.TypeNumbers.{dname, ns, soa}
 use Rattle.dnsv_zones.specs.zones.Types.{Denies, IsClosed, IsDelegation}
 use Rattle.dnsv_denial.specs.words.EvidenceWords.{Chain, evidence_said}
 use Rattle.dnsv_denial.specs.words.EvidenceWords.Chain.{ByNsec, ByNsec3}
-use Rattle.dnsv_denial.specs.declared.records.number.RecordNumber.{RecordNumber}
+use Rattle.dnsv_canonical.specs.declared.number.RecordNumber.{RecordNumber}
 use Rattle.dnsv_explain.specs.Explained.{Setting}
 use Rattle.dnsv_explain.specs.derivations.OwnDerivations.{SecuredIn}
 use Rattle.dnsv_explain.specs.faults.Order.{AreLacking, AreLinesOfChain, AreLinesOfSources, chains_by, names_up}

@@ -18,7 +18,7 @@ use Rattle.dnsv_chain.specs.Trusted.{DelegatesTo, IsSignedUnder}
 use Rattle.dnsv_chain.specs.Trusted.IsTrusted.{anchored, delegated}
 use Rattle.dnsv_chain.specs.declared.anchor.Anchor.{Anchor}
 use Rattle.dnsv_chain.specs.declared.anchor.Anchor.TheVariants as anchor
-use Rattle.dnsv_denial.specs.declared.records.number.RecordNumber.{RecordNumber}
+use Rattle.dnsv_canonical.specs.declared.number.RecordNumber.{RecordNumber}
 use Rattle.dnsv_explain.specs.Explained.{Setting}
 use Rattle.dnsv_explain.specs.derivations.Ways.{HasSecured}
 use Rattle.dnsv_explain.specs.faults.Entries.{IsEntryFault, IsFaultOfEntry, IsMatchOf, Wanted, entry_words}

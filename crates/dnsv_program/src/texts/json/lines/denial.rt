@@ -6,7 +6,7 @@ ghost use Rattle.dnsv_program.specs.Texts.Why.{by_members, case_members, part_me
 
 use crate::texts::json::lines::derivation::push_key_name;
 use crate::texts::json::members::{push_given, push_key, push_named, push_number, push_place};
-use dnsv_denial::RecordNumber;
+use dnsv_canonical::RecordNumber;
 use dnsv_explain::{Cut, Part, Proof, RecordPlace, UnusableDs};
 use std::alloc::AllocError;
 

@@ -5,7 +5,7 @@ ghost use Rattle.dnsv_program.specs.Texts.Fields.{ds_number_members, key_members
 ghost use Rattle.dnsv_program.specs.Texts.Why.{ds_anchor_members, ds_members, signed_members, todo_members, trusted_members, voucher_members};
 
 use crate::texts::json::members::{push_given_place, push_named, push_number, push_place};
-use dnsv_denial::RecordNumber;
+use dnsv_canonical::RecordNumber;
 use dnsv_explain::{KeyName, SignatureNumber, SignedRrset, Todo, TrustedKeys, Voucher};
 use std::alloc::AllocError;
 

@@ -1,6 +1,6 @@
 use Rattle.std.proofs.Common.{inl, inr, refl, ⊎_elim}
 use Rattle.dnsv_names.specs.Name.{rightmost}
-use Rattle.dnsv_denial.specs.declared.records.number.RecordNumber.{RecordNumber}
+use Rattle.dnsv_canonical.specs.declared.number.RecordNumber.{RecordNumber}
 use Rattle.dnsv_explain.specs.faults.Sources.SourceSearch.{said_by}
 use Rattle.dnsv_explain.proofs.lemmas.faults.sources.SaidLemmas.{shown_at}
 use Rattle.dnsv_explain.proofs.faults.sources.enclosers.is_there.Goals as goal

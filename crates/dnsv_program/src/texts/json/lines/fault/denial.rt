@@ -11,7 +11,7 @@ use crate::texts::json::members::{
     push_given, push_given_place, push_key, push_named, push_number, push_place,
 };
 use crate::texts::json::push_octets;
-use dnsv_denial::RecordNumber;
+use dnsv_canonical::RecordNumber;
 use dnsv_explain::{
     DenialUnproved, DnameAbove, MissingAnswer, Role, Source, SourceFault, SourceParameters,
     UnusableNsec3, WhyNsec3, WhySource,

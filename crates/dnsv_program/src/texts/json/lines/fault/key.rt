@@ -6,7 +6,7 @@ ghost use Rattle.dnsv_program.specs.Texts.Json.{AddsMembers};
 use crate::texts::json::lines::denial::push_record_number;
 use crate::texts::json::lines::derivation::{push_ds_number, push_key_name};
 use crate::texts::json::members::{push_given_place, push_named, push_number};
-use dnsv_denial::RecordNumber;
+use dnsv_canonical::RecordNumber;
 use dnsv_explain::ShownKey;
 use std::alloc::AllocError;
 
