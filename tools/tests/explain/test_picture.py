@@ -3,8 +3,8 @@ import html.parser
 import shutil
 import unittest
 
-from explaining import chain, drawn, page, picture, sentences
-from judge.helper import needs_dns_here
+from dnssec_check_tools.explaining import chain, drawn, page, picture, sentences
+from judge.helper import needs_dns
 from .helper import FORMS, lines_of, told_by, told_of
 
 needs_dot = unittest.skipUnless(shutil.which("dot"), "needs dot of Graphviz")
@@ -22,7 +22,7 @@ def states_of(told):
     return boxes, edges
 
 
-@needs_dns_here
+@needs_dns
 class Drawn(unittest.TestCase):
     def test_every_form_of_the_schema_is_drawn(self):
         for form in FORMS:
@@ -88,7 +88,7 @@ class Read(html.parser.HTMLParser):
         self.words.append(data)
 
 
-@needs_dns_here
+@needs_dns
 @needs_dot
 class Pages(unittest.TestCase):
     def page(self, told, *records, capture="a.cap"):

@@ -4,9 +4,9 @@ import pathlib
 import tempfile
 import unittest
 
-from asking.questions import Question
-from judging.text import Lines, evidence_words
-from judging.work import Common, judged
+from dnssec_check_tools.asking.questions import Question
+from dnssec_check_tools.judging.text import Lines, evidence_words
+from dnssec_check_tools.judging.work import Common, judged
 
 from tool import load
 from .helper import EXAMPLES, examples

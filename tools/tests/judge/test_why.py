@@ -4,12 +4,12 @@ import pathlib
 import tempfile
 import unittest
 
-from asking.questions import Question
-from judging.text import Lines, json_line, tsv_line
-from judging.work import Common, judged
+from dnssec_check_tools.asking.questions import Question
+from dnssec_check_tools.judging.text import Lines, json_line, tsv_line
+from dnssec_check_tools.judging.work import Common, judged
 from tool import DATA
 
-from .helper import needs_dns_here
+from .helper import needs_dns
 
 SAYS = """#!/usr/bin/env python3
 import sys
@@ -20,7 +20,7 @@ if sys.argv[1] == "explain":
 """
 
 
-@needs_dns_here
+@needs_dns
 class Why(unittest.TestCase):
     def row(self, name):
         """The verdict that the tool makes of the explanation with this name."""

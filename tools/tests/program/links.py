@@ -6,7 +6,7 @@ import itertools
 import random
 import struct
 
-from judging.evidence import tag_of
+from dnssec_check_tools.judging.evidence import tag_of
 from messages import TYPES, counted, name, record
 from zones import Hashing, Zone, hash_text, nsec3_chain, nsec_chain
 

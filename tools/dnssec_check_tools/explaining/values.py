@@ -1,6 +1,6 @@
 """How values are said to people: types, algorithms and digests by name, moments as dates and distances."""
-from asking.kinds import mnemonic_of
-from asking.moments import moment_text
+from ..asking.kinds import mnemonic_of
+from ..asking.moments import moment_text
 
 # Numbers of the IANA registries "DNS Security Algorithm Numbers" and "Delegation Signer (DS) Resource Record (RR) Type
 # Digest Algorithms".

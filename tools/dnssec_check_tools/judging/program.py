@@ -1,13 +1,15 @@
 """The program `dnssec_check`: where it is, how it's run, and what it says."""
 import json
 import os
+import pathlib
 import shutil
 import subprocess
 from collections import namedtuple
 
-from asking.faults import Failure
+from ..asking.faults import Failure
 
 NAME = "dnssec_check"
+PACKAGE = pathlib.Path(__file__).resolve().parent.parent
 BUILT = os.path.join("crates", NAME, "out", NAME)
 # Characters of a name that the program gets. No name has more, its 255 octets at four each: by these a longer one is refused as by
 # all of it, which may be more than a system takes for an argument.
@@ -20,14 +22,15 @@ Told = namedtuple("Told", "status word value said")
 
 
 def program_of(given, tool):
-    """The path of the program: the one that is named, else on the path, beside the tool as installed, or as built."""
+    """The path of the program: the one that is named, else on the path, beside the tool, beside the package as installed,
+    or as built."""
     if given is not None:
         path = shutil.which(given)
         if path is None:
             raise Failure(f"{given}: there is no such program")
         return os.path.abspath(path)
-    folder = os.path.dirname(os.path.realpath(tool))
-    beside = (os.path.join(folder, "..", "..", "bin", NAME), os.path.join(folder, "..", BUILT))
+    folders = os.path.dirname(os.path.realpath(tool)), PACKAGE.parent
+    beside = (os.path.join(folders[0], NAME), os.path.join(folders[1], "..", "..", "bin", NAME), os.path.join(folders[1], "..", BUILT))
     path = shutil.which(NAME) or next((path for path in beside if os.access(path, os.X_OK)), None)
     if path is None:
         raise Failure(f"{NAME} isn't on the path, and not where the tool was installed; name it by --program")

@@ -1,9 +1,9 @@
 """The RRsets of a capture with their signatures, numbered as the program does, and to what aliases lead."""
 from collections import namedtuple
 
-from capturing.frames import frames_of
-from capturing.messages import TYPE_CNAME, TYPE_RRSIG, lower, name_at, name_text, records_of
-from capturing.octets import Incomplete, number_at
+from ..capturing.frames import frames_of
+from ..capturing.messages import TYPE_CNAME, TYPE_RRSIG, lower, name_at, name_text, records_of
+from ..capturing.octets import Incomplete, number_at
 
 CLASS_IN = 1
 # The types below 128 that form no RRset: 0, the legacy ones, OPT and RRSIG; those of 128 to 255 don't either.

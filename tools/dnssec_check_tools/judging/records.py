@@ -1,7 +1,7 @@
 """The records of a capture as people read them, with their numbers."""
-from asking.faults import escaped, lacking
-from capturing.messages import question_text
-from capturing.octets import Incomplete, number_at
+from ..asking.faults import escaped, lacking
+from ..capturing.messages import question_text
+from ..capturing.octets import Incomplete, number_at
 
 from .evidence import Evidence, tag_of
 

@@ -2,7 +2,7 @@
 import json
 import subprocess
 
-from command import read, shown
+from ..command import read, shown
 
 from .entries import Message, Omission, Refusal
 from .packets import Datagram, Segment

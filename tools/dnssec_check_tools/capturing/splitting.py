@@ -4,7 +4,7 @@ import os
 from collections import defaultdict, namedtuple
 from urllib.parse import quote
 
-from command import shown, tell, write
+from ..command import shown, tell, write
 
 from .entries import Refusal
 from .frames import framed

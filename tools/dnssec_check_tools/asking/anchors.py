@@ -2,7 +2,7 @@
 import base64
 import os
 
-from command import read, shown
+from ..command import read, shown
 
 from .faults import Failure, Refusal
 from .root_anchors import is_xml, timed_anchors
@@ -66,5 +66,5 @@ def anchor_line(owner, record, is_ds):
 
 def wire_text(name):
     """The name as the program reads it."""
-    from capturing.messages import name_text
+    from ..capturing.messages import name_text
     return name_text(name.labels[:-1])

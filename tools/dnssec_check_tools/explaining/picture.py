@@ -3,7 +3,7 @@ import re
 import shutil
 import subprocess
 
-from asking.faults import Failure
+from ..asking.faults import Failure
 
 from .chain import FAILS, FOLLOWS, MISSING, UNDER
 

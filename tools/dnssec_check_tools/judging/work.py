@@ -3,7 +3,7 @@ import os
 import tempfile
 from collections import namedtuple
 
-from verifying.entries import Lacking, Refusal, entry_of, statement_of
+from ..verifying.entries import Lacking, Refusal, entry_of, statement_of
 
 from .evidence import Evidence
 from .program import todo_lines, told_of

@@ -3,7 +3,7 @@ import os
 import re
 from collections import namedtuple
 
-from command import read, shown
+from ..command import read, shown
 
 from .faults import Refusal, WrongLine
 from .kinds import type_of

@@ -1,7 +1,7 @@
 """What the files that are named have in them: their kind, and the messages of each kind."""
 from collections import Counter
 
-from command import read, shown
+from ..command import read, shown
 
 from .dnsviz import entries_of_dnsviz
 from .entries import InPacket, Message, Omission, PassedOver, Refusal

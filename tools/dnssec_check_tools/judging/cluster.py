@@ -7,13 +7,13 @@ import tempfile
 import uuid
 import zipfile
 
-from asking.faults import Failure, lacking
+from ..asking.faults import Failure, lacking
 
 from .program import NAME
 from .work import judged
 
-FOLDERS = ("judging", "asking", "verifying", "capturing")
-MODULES = "dnssec_check_tools.zip"
+PACKAGE = pathlib.Path(__file__).resolve().parent.parent
+MODULES = f"{PACKAGE.name}.zip"
 AHEAD = 8         # captures sent ahead for each thread of the workers
 LOST_MOST = 3     # how often a capture is handed out anew whose workers were lost again and again
 WAIT_SECONDS = 30
@@ -29,15 +29,12 @@ def library():
 
 
 def modules():
-    """The tools' modules, as a file that Python imports from."""
-    tools, octets = pathlib.Path(__file__).resolve().parent.parent, io.BytesIO()
-    files = [tools / "command.py", *(file for folder in FOLDERS for file in sorted((tools / folder).iterdir()))]
+    """The package, as a file that Python imports from."""
+    octets = io.BytesIO()
+    files = [file for file in sorted(PACKAGE.rglob("*")) if file.is_file() and file.suffix != ".pyc"]
     with zipfile.ZipFile(octets, "w") as archive:
-        for folder in FOLDERS:
-            archive.writestr(f"{folder}/__init__.py", b"")  # from a file of modules no folder without one is imported
         for file in files:
-            if file.suffix in (".py", ".tsv"):
-                archive.writestr(str(file.relative_to(tools)), file.read_bytes())
+            archive.writestr(str(file.relative_to(PACKAGE.parent)), file.read_bytes())
     return octets.getvalue()
 
 

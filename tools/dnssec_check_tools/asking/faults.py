@@ -1,4 +1,8 @@
 """How a tool that judges stops, and how it writes what can't be shown."""
+import os
+import sys
+
+DEBIAN = "/usr/bin/python3"  # which Debian's packages serve
 
 
 class WrongLine(Exception):
@@ -14,8 +18,15 @@ class Failure(Exception):
 
 
 def lacking(package, what, fault):
-    """The failure for want of a Python package."""
-    return Failure(f"{what} needs the Python package {package} (Debian: python3-{package}): {fault}")
+    """The failure for want of a Python package, with the interpreter that hasn't got it and how to get it."""
+    return Failure(f"{what} needs the Python package {package}, which {sys.executable} lacks ({how_to_get(package)}): {fault}")
+
+
+def how_to_get(package):
+    """What installs a package for the interpreter that runs: Debian's packages serve Debian's alone."""
+    if os.path.realpath(sys.executable) == os.path.realpath(DEBIAN):
+        return f"Debian: apt-get install python3-{package}"
+    return f"{sys.executable} -m pip install {package}, or run by {DEBIAN} behind apt-get install python3-{package}"
 
 
 def escaped(text):

@@ -4,7 +4,7 @@ import signal
 from collections import namedtuple
 from concurrent.futures import FIRST_COMPLETED, BrokenExecutor, ProcessPoolExecutor, wait
 
-from asking.faults import Failure
+from ..asking.faults import Failure
 
 from .program import FAILED
 from .work import Judged, Row, judged

@@ -1,11 +1,11 @@
 """Verdicts in words, with why they stand, and as the rows of tables."""
 import json
 
-from asking.faults import escaped
-from asking.kinds import mnemonic_of
-from asking.moments import moment_text
-from explaining.explanation import Explanation
-from explaining.sentences import first_reason, holds_until, verdict, why
+from ..asking.faults import escaped
+from ..asking.kinds import mnemonic_of
+from ..asking.moments import moment_text
+from ..explaining.explanation import Explanation
+from ..explaining.sentences import first_reason, holds_until, verdict, why
 
 from .numbers import fault_text
 

@@ -2,7 +2,7 @@
 import os
 from collections import namedtuple
 
-from command import read, shown
+from ..command import read, shown
 
 from .faults import Refusal, WrongLine, escaped
 from .questions import question_of_word, questions_of_file, questions_of_split, wrong_word

@@ -1,7 +1,7 @@
 """The numbers of what is refused or fails, with what is wrong and what to do: the one table of them."""
 import functools
-import pkgutil
 from collections import namedtuple
+from importlib import resources
 
 Number = namedtuple("Number", "number where what remedy")
 # The words of a refusal that tell a place, as they are shown.
@@ -11,7 +11,7 @@ PLACES = ("message", "record", "line")
 @functools.lru_cache(None)
 def numbers():
     """The table by number."""
-    lines = pkgutil.get_data(__name__, "numbers.tsv").decode().splitlines()[1:]
+    lines = resources.files(__package__).joinpath("numbers.tsv").read_text("utf-8").splitlines()[1:]
     rows = (line.split("\t") for line in lines)
     return {int(number): Number(int(number), *texts) for number, *texts in rows}
 
@@ -35,8 +35,3 @@ def fault_text(evidence, paths):
     words = {"-": [place], "name": ["the name"], "type": ["the type"]}.get(where, [place, "of" if place else "", of])
     text = " ".join(word for word in [str(row.number), *words] if word)
     return f"{text}: {lowered(row.what)}; {lowered(row.remedy)}"
-
-
-def manual_text():
-    """The entries of the manual page."""
-    return "".join(f".It {row.number}\n{row.what}\n{row.remedy}\n" for row in numbers().values())

@@ -1,11 +1,11 @@
 """One page of HTML for verdicts: the sentences, a picture of each chain, and the records. It loads nothing, and what
 strangers wrote is text in it."""
-import pkgutil
 from collections import namedtuple
 from html import escape
+from importlib import resources
 
-from asking.faults import escaped
-from asking.moments import moment_text
+from ..asking.faults import escaped
+from ..asking.moments import moment_text
 
 from .drawn import chain_of
 from .picture import svg_of
@@ -27,7 +27,7 @@ def text(words):
 
 def page_of(entries, captures):
     """The page: its entries, and the records of each capture, a line each, by the capture's name."""
-    style = pkgutil.get_data(__name__, "page.css").decode()
+    style = resources.files(__package__).joinpath("page.css").read_text("utf-8")
     body = "".join(section(number, each) for number, each in enumerate(entries, 1))
     body += "".join(details(f"Records of {text(name)}", listing(lines)) for name, lines in captures)
     return ("<!DOCTYPE html>\n<html lang=\"en\">\n<head>\n<meta charset=\"utf-8\">\n"

@@ -20,7 +20,7 @@ class Lacking(Exception):
 
 def curves():
     """Imported where a line needs it: RSA does without the package, and an interrupt of the import has its line too."""
-    import verifying.curves as module
+    from . import curves as module
     return module
 
 

@@ -3,7 +3,7 @@ import base64
 import json
 from collections import Counter
 
-from command import shown
+from ..command import shown
 
 from .entries import Message, Omission, PassedOver, Refusal
 from .messages import is_message, is_query, is_truncated, is_with_do, rcode_of

@@ -1,8 +1,8 @@
 """The page of HTML that --html writes."""
-from asking.kinds import mnemonic_of
-from explaining.explanation import Explanation
-from explaining.page import Entry, page_of
-from explaining.picture import program
+from ..asking.kinds import mnemonic_of
+from ..explaining.explanation import Explanation
+from ..explaining.page import Entry, page_of
+from ..explaining.picture import program
 
 from .records import lines_of
 from .text import Lines
