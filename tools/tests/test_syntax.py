@@ -12,7 +12,7 @@ NAMES = [*SCRIPTS, *(str(path.relative_to(TOOLS)) for folder in (PACKAGE, TOOLS 
 PARTS = {
     "pages": {"dnssec_check_tools"},
     "faults": {"dnssec_check_tools", "failing"},
-    "failing": {"messages", "zones"},  # of rows
+    "failing": {"dnssec_check_tools", "messages", "zones"},  # the last two of rows
     "dnssec_check_tools/verify.py": {"command", "verifying"},
     "dnssec_check_tools/capture.py": {"command", "capturing"},
     "dnssec_check_tools/judge.py": {"command", "asking", "judging"},
