@@ -124,6 +124,12 @@ def records_of(octets):
             place = end
 
 
+def key_tag(rdata):
+    """That of a DNSKEY record by its octets, of every algorithm alike (RFC 4034 B), as the program has it."""
+    total = sum(octet << 8 if place % 2 == 0 else octet for place, octet in enumerate(rdata))
+    return (total + (total >> 16)) & 0xFFFF
+
+
 def edns_of(octets):
     """What the OPT record of a whole message has for a TTL, 0 where there is none (RFC 6891 6.1.3)."""
     found = [number_at(octets, record.front - 6, 4) for record in records_of(octets) if record.kind == TYPE_OPT]

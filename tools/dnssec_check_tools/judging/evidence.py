@@ -54,12 +54,6 @@ def rdata_of_signature(octets, record):
     return bytes(octets[front:front + SIGNER]), labels, bytes(octets[behind:record.end])
 
 
-def tag_of(rdata):
-    """The key tag of a DNSKEY record (RFC 4034 B)."""
-    total = sum(octet << 8 if place % 2 == 0 else octet for place, octet in enumerate(rdata))
-    return (total + (total >> 16)) & 0xFFFF
-
-
 def readable_records(octets):
     """The records up to the first whose owner or RDATA isn't whole."""
     records = []

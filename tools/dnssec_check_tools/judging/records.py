@@ -1,9 +1,9 @@
 """The records of a capture as people read them, with their numbers."""
 from ..asking.faults import escaped, lacking
-from ..capturing.messages import question_text
+from ..capturing.messages import key_tag, question_text
 from ..capturing.octets import Incomplete, number_at
 
-from .evidence import Evidence, tag_of
+from .evidence import Evidence
 
 SECTIONS = ("answer", "authority", "additional")
 TYPE_DNSKEY, TYPE_OPT = 48, 41
@@ -91,4 +91,4 @@ def rdata_text(dns, octets, record, group, size):
 def key_text(rdata):
     flags = int.from_bytes(rdata[:2], "big")
     names = [name for bit, name in ((0x100, "ZONE"), (0x80, "REVOKE"), (1, "SEP")) if flags & bit]
-    return f" ; key {tag_of(rdata)}" + (f", flags {' '.join(names)}" if names else "")
+    return f" ; key {key_tag(rdata)}" + (f", flags {' '.join(names)}" if names else "")
