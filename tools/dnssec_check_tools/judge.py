@@ -23,7 +23,8 @@ that is lost are judged by others.
 
 Types by mnemonic, zone files of anchors and --records need the package dnspython (Debian: python3-dnspython),
 signatures on curves cryptography (python3-cryptography), --scheduler distributed (python3-distributed), and the bar of
-progress, which only a terminal gets, rich (python3-rich). The pictures of --html need Graphviz (graphviz).
+progress, which only a terminal gets, rich (python3-rich). --html needs jinja2 (python3-jinja2), and for its pictures
+Graphviz (graphviz).
 
 exit status: that of the worst verdict, as `dnssec_check check` has it. From the best to the worst: 0, secure; 3,
 Insecure; 4, Pending; 5, Bogus; 6, Indeterminate; 7, an input is refused; 1, the machine failed. 2, the command line is

@@ -20,6 +20,8 @@ PARTS = {
     "dnssec_check_tools/capturing": {"command"},
     "dnssec_check_tools/asking": {"command", "capturing", "dns"},
     "dnssec_check_tools/explaining": {"asking"},
+    "dnssec_check_tools/explaining/page.py": {"asking", "jinja2", "markupsafe"},
+    "dnssec_check_tools/wire.py": {"dns"},
     "dnssec_check_tools/judging": {"asking", "capturing", "explaining", "verifying", "dns"},
     "dnssec_check_tools/judging/cluster.py": {"asking", "distributed"},
     "dnssec_check_tools/judging/progress.py": {"rich"},

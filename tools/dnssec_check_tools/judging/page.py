@@ -1,7 +1,7 @@
 """The page of HTML that --html writes."""
 from ..asking.kinds import mnemonic_of
 from ..explaining.explanation import Explanation
-from ..explaining.page import Entry, page_of
+from ..explaining.page import Entry, library, page_of
 from ..explaining.picture import program
 
 from .records import lines_of
@@ -12,7 +12,7 @@ class Page:
     """What is judged, in its order, and the records of the captures."""
 
     def __init__(self, paths):
-        program()  # without it that is told before anything is judged
+        library(), program()  # what is missing is told before anything is judged
         self.entries, self.records, self.lines = [], {}, Lines(False, False, paths)
 
     def read(self, number, path, octets):

@@ -4,10 +4,11 @@ import shutil
 import subprocess
 import unittest
 
-from .helper import ANCHORS, EXAMPLES, JUDGE, NOON, Judging, capture_of, needs_dns, verdicts
+from .helper import ANCHORS, EXAMPLES, JUDGE, NOON, Judging, capture_of, needs, needs_dns, verdicts
 
 
 @needs_dns
+@needs("jinja2", "jinja2")
 @unittest.skipUnless(shutil.which("dot"), "needs dot of Graphviz")
 class Page(Judging):
     def test_a_page_of_two_captures(self):
