@@ -41,14 +41,13 @@ from .asking.moments import seconds_of
 from .command import parser_of, read, run, tell, write
 from .judging.cluster import by_workers
 from .judging.page import Page
-from .judging.program import FAILED, NAME, REFUSED, program_of
 from .judging.progress import progress
 from .judging.records import lines_of
 from .judging.spread import Task, in_processes, of_unread, one_by_one
 from .judging.text import Lines, json_line, tsv_head, tsv_line
 from .judging.work import Common
+from .program import FAILED, FROM_BEST, NAME, REFUSED, program_of
 
-FROM_BEST = (0, 3, 4, 5, 6, 7, 1)
 INPUTS = ("anchors", "keys", "macs", "questions")  # the options that name a file to read
 
 

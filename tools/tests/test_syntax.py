@@ -15,15 +15,16 @@ PARTS = {
     "failing": {"dnssec_check_tools", "messages", "zones"},  # the last two of rows
     "dnssec_check_tools/verify.py": {"command", "verifying"},
     "dnssec_check_tools/capture.py": {"command", "capturing"},
-    "dnssec_check_tools/judge.py": {"command", "asking", "judging"},
+    "dnssec_check_tools/judge.py": {"command", "asking", "judging", "program"},
+    "dnssec_check_tools/program.py": {"asking"},
     "dnssec_check_tools/verifying/curves.py": {"cryptography"},
     "dnssec_check_tools/capturing": {"command"},
     "dnssec_check_tools/asking": {"command", "capturing", "dns"},
     "dnssec_check_tools/explaining": {"asking"},
     "dnssec_check_tools/explaining/page.py": {"asking", "jinja2", "markupsafe"},
     "dnssec_check_tools/wire.py": {"dns"},
-    "dnssec_check_tools/judging": {"asking", "capturing", "explaining", "verifying", "dns"},
-    "dnssec_check_tools/judging/cluster.py": {"asking", "distributed"},
+    "dnssec_check_tools/judging": {"asking", "capturing", "explaining", "program", "verifying", "dns"},
+    "dnssec_check_tools/judging/cluster.py": {"asking", "distributed", "program"},
     "dnssec_check_tools/judging/progress.py": {"rich"},
 }
 

@@ -8,11 +8,10 @@ import uuid
 import zipfile
 
 from ..asking.faults import Failure, lacking
+from ..program import NAME, PACKAGE, Program
 
-from .program import NAME
 from .work import judged
 
-PACKAGE = pathlib.Path(__file__).resolve().parent.parent
 MODULES = f"{PACKAGE.name}.zip"
 AHEAD = 8         # captures sent ahead for each thread of the workers
 LOST_MOST = 3     # how often a capture is handed out anew whose workers were lost again and again
@@ -40,10 +39,10 @@ def modules():
 
 def at_worker(octets, questions, common):
     """The verdicts on a capture, by the program on the worker's own path."""
-    program = shutil.which(NAME)
-    if program is None:
+    path = shutil.which(NAME)
+    if path is None:
         raise Failure(f"{NAME} isn't on the path of a worker")
-    return judged(octets, questions, common, program)
+    return judged(octets, questions, common, Program(path))
 
 
 def send_modules(client):

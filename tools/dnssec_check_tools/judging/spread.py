@@ -5,8 +5,8 @@ from collections import namedtuple
 from concurrent.futures import FIRST_COMPLETED, BrokenExecutor, ProcessPoolExecutor, wait
 
 from ..asking.faults import Failure
+from ..program import FAILED
 
-from .program import FAILED
 from .work import Judged, Row, judged
 
 # A capture by its place among all, with its octets, or the fault of reading it, and its questions.

@@ -3,10 +3,10 @@ import os
 import tempfile
 from collections import namedtuple
 
+from ..program import EXPLAIN
 from ..verifying.entries import Lacking, Refusal, entry_of, statement_of
 
 from .evidence import Evidence
-from .program import todo_lines, told_of
 
 # What is the same for all captures; `anchors` has octets by moment, `keys` and `macs` are octets or None.
 Common = namedtuple("Common", "anchors keys macs moments")
@@ -41,14 +41,15 @@ def judged(octets, questions, common, program):
         given = {"capture": octets, "keys": common.keys, "macs": common.macs}
         files = {name: content for name, content in given.items() if content is not None}
         write_files(folder, files)
-        todo = dict.fromkeys(line for moment in common.moments for line in todo_lines(program, folder, moment))
+        todo = dict.fromkeys(line for moment in common.moments for line in program.todo(folder, moment))
         statements, notes = statements_of(todo)
         files["statements"], view, rows = "".join(statements).encode(), View(octets), []
         write_files(folder, {"statements": files["statements"]})
         for moment in common.moments:
             files["anchors"] = common.anchors[moment]
             write_files(folder, {"anchors": files["anchors"]})
-            rows += [view.row(moment, question, told_of(program, folder, files, moment, question)) for question in questions]
+            rows += [view.row(moment, question, program.told(EXPLAIN, folder, files, moment, question))
+                     for question in questions]
     return Judged(rows, notes)
 
 
