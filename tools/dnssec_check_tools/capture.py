@@ -41,8 +41,9 @@ command line is wrong.
 import argparse
 import itertools
 import os
+from typing import Any, Dict, Iterable, Iterator, List, Optional, Tuple
 
-from .capturing.entries import Message, Omission, PassedOver, Refusal
+from .capturing.entries import Entry, Message, Omission, PassedOver, Place, Refusal
 from .capturing.frames import framed
 from .capturing.messages import HEADER_SIZE, MESSAGE_SIZE_MOST, is_query, is_truncated, opcode_of, question_text
 from .capturing.notes import notes_of
@@ -59,7 +60,7 @@ QUERY = 0  # the opcode (RFC 1035 4.1.1)
 # Messages
 
 
-def reason_against(octets, mac, earlier):
+def reason_against(octets: bytes, mac: Optional[bytes], earlier: Dict[bytes, Place]) -> Optional[str]:
     """Why a message is no part of the capture file, None where it is one."""
     if len(octets) < HEADER_SIZE:
         return "too short for a message"
@@ -79,7 +80,7 @@ def reason_against(octets, mac, earlier):
     return None
 
 
-def macs_of(entries):
+def macs_of(entries: List[Entry]) -> Iterator[Optional[bytes]]:
     """For each entry the MAC of the request that it answers, None where none before it is that request."""
     requests = Requests()
     for each in entries:
@@ -92,7 +93,7 @@ def macs_of(entries):
         yield mac
 
 
-def refuse_excess(message, mac, count):
+def refuse_excess(message: Message, mac: bytes, count: int) -> None:
     """Refuses what a capture file, or a file of MACs, can't have."""
     question = question_text(message.octets)
     if count == MESSAGES_MOST:
@@ -103,12 +104,13 @@ def refuse_excess(message, mac, count):
                       f"{MAC_SIZE}: {question}")
 
 
-def answers_of(entries, macs, is_limited):
+def answers_of(entries: List[Entry], macs: Iterable[Optional[bytes]], is_limited: bool) -> List[Tuple[bytes, bytes]]:
     """The messages that are kept, with the MACs of their requests; each other one is told."""
-    answers, earlier = [], {}
+    answers: List[Tuple[bytes, bytes]] = []
+    earlier: Dict[bytes, Place] = {}
     for each, mac in zip(entries, macs):
         why = each.why if isinstance(each, Omission) else reason_against(each.octets, mac, earlier)
-        if why:
+        if isinstance(each, Omission) or mac is None or why:
             tell(f"dropped {each.place}: {why}")
         else:
             refuse_excess(each, mac, len(answers) if is_limited else 0)
@@ -117,7 +119,7 @@ def answers_of(entries, macs, is_limited):
     return answers
 
 
-def passed_over_text(entry):
+def passed_over_text(entry: PassedOver) -> str:
     kinds = ", ".join(f"{count} of {kind}" for kind, count in entry.counts.most_common())
     return f"passed over {entry.what}: {kinds}"
 
@@ -125,7 +127,7 @@ def passed_over_text(entry):
 # The command line
 
 
-def port(text):
+def port(text: str) -> int:
     if text.isascii() and text.isdigit() and 1 <= int(text) <= 65535:
         return int(text)
     raise argparse.ArgumentTypeError(f"{text!r} is no number from 1 to 65535")
@@ -134,24 +136,25 @@ def port(text):
 class Source(argparse.Action):
     """Keeps the files of all kinds in the order of the command line."""
 
-    def __call__(self, parser, namespace, value, option=None):
+    def __call__(self, parser: argparse.ArgumentParser, namespace: argparse.Namespace, value: Any, option: Optional[str] = None) -> None:
         namespace.sources = [*namespace.sources, (None if self.dest == "file" else self.dest, value)]
 
 
-def with_options(words):
+def with_options(words: List[str]) -> List[str]:
     """The words with an option at each file that is named alone; each option but --help and --version has a value."""
-    given, words = [], iter(words)
-    for word in words:
+    given: List[str] = []
+    left = iter(words)
+    for word in left:
         if word == "--":
-            return given + [f"--file={name}" for name in words]
+            return given + [f"--file={name}" for name in left]
         is_file = word == "-" or not word.startswith("-")
         given.append(f"--file={word}" if is_file else word)
         if word.startswith("--") and "=" not in word and word not in ("--help", "--version"):
-            given += itertools.islice(words, 1)
+            given += itertools.islice(left, 1)
     return given
 
 
-def command_line():
+def command_line() -> argparse.ArgumentParser:
     parser = parser_of(__doc__)
     parser.usage = "%(prog)s [OPTION ..] FILE .."
     parser.add_argument("--file", action=Source, help=argparse.SUPPRESS)
@@ -168,7 +171,7 @@ def command_line():
     return parser
 
 
-def is_same_file(path, other):
+def is_same_file(path: str, other: str) -> bool:
     """Whether both names are those of one file; a device may be read and written."""
     if "-" in (path, other):
         return path == other
@@ -178,11 +181,11 @@ def is_same_file(path, other):
         return os.path.realpath(path) == os.path.realpath(other)
 
 
-def output_of(options):
+def output_of(options: argparse.Namespace) -> str:
     return "-" if options.output is None else options.output
 
 
-def fault_of(options):
+def fault_of(options: argparse.Namespace) -> Optional[str]:
     """What is wrong with the command line as a whole, None where it is none."""
     paths, output = [path for _, path in options.sources], output_of(options)
     if not paths:
@@ -200,12 +203,12 @@ def fault_of(options):
     return None
 
 
-def make(options):
+def make(options: argparse.Namespace) -> str:
     """Reads, tells and writes; answers what was kept."""
     ports = set(options.port or [53])
     found = [each for kind, path in options.sources for each in entries_of(kind, path, ports)]
     entries = [each for each in found if not isinstance(each, PassedOver)]
-    macs = itertools.repeat(b"") if options.macs is None else macs_of(entries)
+    macs: Iterable[Optional[bytes]] = itertools.repeat(b"") if options.macs is None else macs_of(entries)
     answers = answers_of(entries, macs, options.split is None)
     for each in found:
         if isinstance(each, PassedOver):
@@ -224,7 +227,7 @@ def make(options):
     return kept
 
 
-def main(words):
+def main(words: List[str]) -> int:
     parser = command_line()
     options = parser.parse_args(with_options(words))
     fault = fault_of(options)
@@ -239,7 +242,7 @@ def main(words):
     return 0
 
 
-def start():
+def start() -> None:
     """Runs the tool by the words of the command line."""
     run(main)
 

@@ -2,12 +2,13 @@
 import argparse
 import os
 import sys
+from typing import Any, Callable, List, NoReturn
 
 VERSION = "0.9"  # of the tools, and of the Debian package
 INTERRUPTED = 130
 
 
-def run(main):
+def run(main: Callable[[List[str]], int]) -> NoReturn:
     """Ends with the status of `main`; an interrupt, or a fault of a file that `main` lets through, has one line."""
     try:
         try:
@@ -19,27 +20,33 @@ def run(main):
         status = INTERRUPTED
         tell("interrupted")
     except OSError as fault:
-        status, sys.stdout = 1, None
+        status = 1
+        close_output()
         tell(fault)
     sys.exit(status)
 
 
-def tell(text):
+def close_output() -> None:
+    """Lets nobody try again to write what couldn't be written."""
+    setattr(sys, "stdout", None)
+
+
+def tell(text: Any) -> None:
     """A line on the standard error, behind the tool's name; where that is closed, nobody is left to be told."""
     if sys.stderr is None:
         return
     try:
         print(f"{os.path.basename(sys.argv[0])}: {text}", file=sys.stderr)
     except OSError:
-        sys.stderr = None
+        setattr(sys, "stderr", None)
 
 
-def shown(text):
+def shown(text: Any) -> str:
     """A path, or what else a stranger wrote, as a line may have it."""
     return text if text.isprintable() else ascii(text)
 
 
-def parser_of(text):
+def parser_of(text: Any) -> argparse.ArgumentParser:
     """A parser whose help is the tool's own description: its first line, the options, and the rest."""
     front, details = text.split("\n", 1)
     parser = argparse.ArgumentParser(
@@ -48,7 +55,7 @@ def parser_of(text):
     return parser
 
 
-def read(path):
+def read(path: str) -> bytes:
     if path != "-":
         with open(path, "rb") as file:
             return file.read()
@@ -57,7 +64,7 @@ def read(path):
     return sys.stdin.buffer.read()
 
 
-def write(path, octets):
+def write(path: str, octets: bytes) -> None:
     """Writes it now, so that a fault is met here; what couldn't be written isn't tried again at the end."""
     if path != "-":
         with open(path, "wb") as file:
@@ -69,5 +76,5 @@ def write(path, octets):
         sys.stdout.buffer.write(octets)
         sys.stdout.buffer.flush()
     except OSError:
-        sys.stdout = None
+        close_output()
         raise

@@ -30,12 +30,15 @@ exit status: that of the worst verdict, as `dnssec_check check` has it. From the
 Insecure; 4, Pending; 5, Bogus; 6, Indeterminate; 7, an input is refused; 1, the machine failed. 2, the command line is
 wrong, and nothing was judged; 130, it was interrupted.
 """
+import argparse
 import os
 import sys
+from typing import Any, Dict, Iterable, Iterator, List, Optional, Tuple
 
 from .asking.anchors import ROOT, anchors_of
 from .asking.captures import all_of, captures_of, octets_of, told_apart
 from .asking.faults import Failure, Refusal, WrongLine, escaped
+from .asking.questions import Question
 from .asking.kinds import table
 from .asking.moments import seconds_of
 from .command import parser_of, read, run, tell, write
@@ -45,23 +48,26 @@ from .judging.progress import progress
 from .judging.records import lines_of
 from .judging.spread import Task, in_processes, of_unread, one_by_one
 from .judging.text import Lines, json_line, tsv_head, tsv_line
-from .judging.work import Common
+from .judging.work import Common, Judged, Row
 from .program import FAILED, FROM_BEST, NAME, REFUSED, program_of
 
 INPUTS = ("anchors", "keys", "macs", "questions")  # the options that name a file to read
 
 
-def processors():
+Asked = List[Tuple[str, List[Question]]]  # captures with their questions
+
+
+def processors() -> int:
     return len(os.sched_getaffinity(0)) if hasattr(os, "sched_getaffinity") else os.cpu_count() or 1
 
 
-def number_of_jobs(text):
+def number_of_jobs(text: str) -> int:
     if text.isascii() and text.isdigit() and 0 < int(text) < 10000:
         return int(text)
     raise ValueError
 
 
-def command_line():
+def command_line() -> argparse.ArgumentParser:
     parser = parser_of(__doc__)
     parser.usage = "%(prog)s [OPTION ..] WORD ..\n       %(prog)s --records CAPTURE .."
     parser.add_argument("words", nargs="*", metavar="WORD", help="a question NAME/TYPE, a capture, or a folder of them")
@@ -84,7 +90,7 @@ def command_line():
     return parser
 
 
-def fault_of(options):
+def fault_of(options: argparse.Namespace) -> Optional[str]:
     """What is wrong with the words and options together, None where nothing is."""
     inputs = [path for name in INPUTS for path in getattr(options, name) or ()]
     if (options.words + inputs).count("-") > 1:
@@ -101,41 +107,42 @@ def fault_of(options):
     return None
 
 
-def once(values):
+def once(values: Optional[List[Any]]) -> Any:
     return values[0] if values else None
 
 
-def tasks_of(asked, page):
+def tasks_of(asked: Asked, page: Optional[Page]) -> Iterator[Task]:
     """A task for each capture, read when it's its turn."""
     for number, (path, questions) in enumerate(asked):
         try:
             task = Task(number, octets_of(path), None, questions)
         except OSError as fault:
-            yield Task(number, None, fault, questions)
+            yield Task(number, b"", fault, questions)
             continue
         if page:
             page.read(number, path, task.octets)
         yield task
 
 
-def readable(tasks, report, common):
+def readable(tasks: Iterable[Task], report: "Report", common: Common) -> Iterator[Task]:
     """The tasks that can be judged; of the others the fault is reported."""
     for task in tasks:
         if task.fault is None:
             yield task
         else:
-            report.take(task.number, of_unread(task, common))
+            report.take(task.number, of_unread(task, task.fault, common))
 
 
 class Report:
     """Writes the verdicts in the order of the captures, and keeps the worst status; a page gets them too."""
 
-    def __init__(self, options, asked, common, page):
-        self.asked, self.worst, self.waiting, self.next, self.page = asked, 0, {}, 0, page
+    def __init__(self, options: argparse.Namespace, asked: Asked, common: Common, page: Optional[Page]) -> None:
+        self.asked, self.worst, self.next, self.page = asked, 0, 0, page
+        self.waiting: Dict[int, Judged] = {}
         lines = Lines(len(asked) > 1, len(common.moments) > 1, paths_of(options))
         self.line = json_line if options.jsonl else tsv_line if options.tsv else lines.line
 
-    def take(self, number, judged):
+    def take(self, number: int, judged: Judged) -> None:
         self.waiting[number] = judged
         while self.next in self.waiting:
             path, found = self.asked[self.next][0], self.waiting.pop(self.next)
@@ -143,33 +150,37 @@ class Report:
                 tell(f"{escaped(path)}: {note}")
             self.worst = max([self.worst, *(row.status for row in found.rows)], key=FROM_BEST.index)
             write("-", "".join(self.line(path, row) + "\n" for row in found.rows).encode())
-            for row in found.rows if self.page else ():
-                self.page.add(path, row)
+            for row in found.rows:
+                self.add(path, row)
             self.next += 1
 
+    def add(self, path: str, row: Row) -> None:
+        if self.page:
+            self.page.add(path, row)
 
-def paths_of(options):
+
+def paths_of(options: argparse.Namespace) -> Dict[str, str]:
     """The files that are the same for all captures, by the names of their options."""
     paths = {"anchors": once(options.anchors) or ROOT, "keys": once(options.keys), "macs": once(options.macs)}
     return {name: path for name, path in paths.items() if path}
 
 
-def results_of(tasks, common, options, count):
+def results_of(tasks: Iterable[Task], common: Common, options: argparse.Namespace, count: int) -> Iterator[Tuple[int, Judged]]:
     if options.scheduler:
         return by_workers(tasks, common, once(options.scheduler))
     program, jobs = program_of(once(options.program), sys.argv[0]), min(options.jobs or processors(), count)
     return in_processes(tasks, common, program, jobs) if jobs > 1 else one_by_one(tasks, common, program)
 
 
-def judge(options):
+def judge(options: argparse.Namespace) -> int:
     """Judges all, and answers the worst status."""
     table()  # each line has a type: without dnspython, that's told before anything is judged
     asked = all_of(options.words, options.questions)
     if options.macs and len(asked) > 1:
         raise WrongLine("--macs is of one capture, and there are more")
     moments = list(dict.fromkeys(map(seconds_of, options.at or ["now"])))
-    given = [read(path[0]) if path else None for path in (options.keys, options.macs)]
-    common = Common(anchors_of(once(options.anchors), moments), *given, moments)
+    keys, macs = (read(path[0]) if path else None for path in (options.keys, options.macs))
+    common = Common(anchors_of(once(options.anchors), moments), keys, macs, moments)
     page = Page(paths_of(options)) if options.html else None
     report = Report(options, asked, common, page)
     if options.tsv:
@@ -183,7 +194,7 @@ def judge(options):
     return report.worst
 
 
-def print_records(options):
+def print_records(options: argparse.Namespace) -> int:
     paths, questions = told_apart(options.words)
     if not paths or questions:
         raise WrongLine("--records is followed by captures, and by no question")
@@ -194,7 +205,7 @@ def print_records(options):
     return 0
 
 
-def options_of(parser, words):
+def options_of(parser: argparse.ArgumentParser, words: List[str]) -> argparse.Namespace:
     """The options, and among them the words, which behind `--` are all that stands there."""
     place = words.index("--") if "--" in words else len(words)
     options = parser.parse_intermixed_args(words[:place])
@@ -202,7 +213,7 @@ def options_of(parser, words):
     return options
 
 
-def main(words):
+def main(words: List[str]) -> int:
     parser = command_line()
     options = options_of(parser, words)
     fault = fault_of(options)
@@ -220,7 +231,7 @@ def main(words):
         return FAILED
 
 
-def start():
+def start() -> None:
     """Runs the tool by the words of the command line."""
     run(main)
 

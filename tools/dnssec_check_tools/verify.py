@@ -25,11 +25,12 @@ exit status: 0, every line was answered, also where some are bad; 1, lines were 
 or a line was refused, which the standard error names, and nothing was written; or reading or writing failed; 2, the
 command line is wrong; 130, it was interrupted, and nothing was written.
 """
+from typing import Iterator, List
 from .command import parser_of, read, run, shown, tell, write
-from .verifying.entries import Lacking, Refusal, entry_of, statement_of
+from .verifying.entries import Entry, Lacking, Refusal, entry_of, statement_of
 
 
-def entries_of(path, passes_over):
+def entries_of(path: str, passes_over: bool) -> List[Entry]:
     """The entry of each line of a file; with `passes_over`, lines whose first word isn't `todo` have none."""
     # An octet that is no ASCII becomes a character that no field takes.
     lines = read(path).decode("ascii", "replace").split("\n")
@@ -39,7 +40,7 @@ def entries_of(path, passes_over):
             if not passes_over or line.split(" ")[0] == "todo"]
 
 
-def statements_of(entries):
+def statements_of(entries: List[Entry]) -> Iterator[str]:
     """Each entry's line, but for those whose algorithm can't be had here; these are told."""
     for entry in entries:
         try:
@@ -48,7 +49,7 @@ def statements_of(entries):
             tell(f"left out {entry.place}: {why}")
 
 
-def main(words):
+def main(words: List[str]) -> int:
     parser = parser_of(__doc__)
     parser.add_argument("files", nargs="*", default=["-"], metavar="FILE",
                         help="the lines; the standard input by default")
@@ -64,7 +65,7 @@ def main(words):
     return 0 if len(statements) == len(entries) else 1
 
 
-def start():
+def start() -> None:
     """Runs the tool by the words of the command line."""
     run(main)
 

@@ -98,7 +98,8 @@ def rrsig(covered: int, labels: int, signer: bytes, tag: int, signature: bytes, 
 @functools.lru_cache(None)
 def windows_of(kinds: str) -> Any:
     """The types, which are named with blanks between them, as dnspython keeps those of NSEC and NSEC3 records."""
-    return dns.rdata.from_text(IN, NSEC, f". {kinds}").windows
+    rdata: Any = dns.rdata.from_text(IN, NSEC, f". {kinds}")
+    return rdata.windows
 
 
 def nsec(following: str, kinds: str) -> bytes:

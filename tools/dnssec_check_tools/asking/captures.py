@@ -1,19 +1,23 @@
 """The captures and questions that the words of a command line name."""
 import os
-from collections import namedtuple
+from typing import Dict, List, NamedTuple, Tuple
 
 from ..command import read, shown
 
 from .faults import Refusal, WrongLine, escaped
-from .questions import question_of_word, questions_of_file, questions_of_split, wrong_word
+from .questions import Question, question_of_word, questions_of_file, questions_of_split, wrong_word
 
 SIZE_MOST = 1 << 30  # octets of a file that the program takes
 
-# A capture with the questions that are its own, where its folder lists some.
-Capture = namedtuple("Capture", "path own")
+
+class Capture(NamedTuple):
+    """A capture with the questions that are its own, where its folder lists some."""
+
+    path: str
+    own: List[Question]
 
 
-def told_apart(words):
+def told_apart(words: List[str]) -> Tuple[List[str], List[Question]]:
     """The paths of captures, and the questions, in their order."""
     paths, questions = [], []
     for word in words:
@@ -27,16 +31,16 @@ def told_apart(words):
     return paths, questions
 
 
-def is_capture(name):
+def is_capture(name: str) -> bool:
     return name == "capture" or name.endswith(".cap")
 
 
-def raised(fault):
+def raised(fault: OSError) -> None:
     """A folder that can't be read isn't passed over: nobody would know that its captures weren't judged."""
     raise fault
 
 
-def captures_of_folder(folder, are_own_asked):
+def captures_of_folder(folder: str, are_own_asked: bool) -> List[Capture]:
     """Its captures and those of the folders in it, by name; what they may be asked is listed beside them."""
     found = []
     for place, folders, names in os.walk(folder, onerror=raised):
@@ -49,7 +53,7 @@ def captures_of_folder(folder, are_own_asked):
     return found
 
 
-def captures_of(paths, are_own_asked=False):
+def captures_of(paths: List[str], are_own_asked: bool = False) -> List[Capture]:
     """The captures; the list of questions beside them is another's file where it isn't asked for, and isn't read."""
     captures = []
     for path in paths:
@@ -57,7 +61,7 @@ def captures_of(paths, are_own_asked=False):
     return captures
 
 
-def all_of(words, question_files):
+def all_of(words: List[str], question_files: List[str]) -> List[Tuple[str, List[Question]]]:
     """The captures, each with its questions."""
     paths, questions = told_apart(words)
     for path in question_files:
@@ -78,7 +82,7 @@ def all_of(words, question_files):
     return asked
 
 
-def octets_of(path):
+def octets_of(path: str) -> bytes:
     """What the file has, or as much of it as shows that it's too long."""
     if path == "-":
         return read(path)

@@ -1,4 +1,5 @@
 """The types of records by mnemonic and by number, from the table of dnspython."""
+from typing import Any, Optional
 from .faults import lacking
 
 TYPE_MOST = 65535
@@ -6,7 +7,7 @@ TYPE_MOST = 65535
 NO_TYPES = ("NONE",)
 
 
-def table():
+def table() -> Any:
     """Imported where it's needed, so that help and what needs no type do without it."""
     try:
         from dns import rdatatype
@@ -15,7 +16,7 @@ def table():
     return rdatatype
 
 
-def type_of(text):
+def type_of(text: str) -> Optional[int]:
     """The number of a type as people write it (`AAAA`, `aaaa`, `28`, `TYPE28`), None where it's none."""
     if not text.isascii() or not text.isprintable() or not text:
         return None
@@ -30,5 +31,5 @@ def type_of(text):
         return None
 
 
-def mnemonic_of(number):
+def mnemonic_of(number: int) -> str:
     return table().to_text(number).replace("_", "-")

@@ -10,7 +10,7 @@ YEARS_MOST = 253402300799  # the last second of the year 9999, where ISO's dates
 ZONE = re.compile(r"(?:Z|[+-]\d\d:?\d\d)$", re.IGNORECASE)
 
 
-def seconds_of(text):
+def seconds_of(text: str) -> int:
     """The seconds since 1970 of `now`, a number of seconds or an ISO date with Z or an offset."""
     if text == "now":
         return int(time.time())
@@ -23,7 +23,7 @@ def seconds_of(text):
     return number
 
 
-def of_date(text):
+def of_date(text: str) -> int:
     """The seconds of an ISO date; ValueError where it's none."""
     zone = ZONE.search(text)
     if zone is None or "T" not in text.upper().replace(" ", "T"):
@@ -38,7 +38,7 @@ def of_date(text):
         raise ValueError(f"{text!r} is no moment: {fault}") from fault
 
 
-def moment_text(seconds):
+def moment_text(seconds: int) -> str:
     """An ISO date, while there are such; the number else."""
     if seconds > YEARS_MOST:
         return str(seconds)

@@ -1,6 +1,6 @@
 """Trust anchors as IANA publishes those of the root, in XML (RFC 9718): each with the time within which it may be used."""
-from collections import namedtuple
 from xml.etree import ElementTree
+from typing import Any, List, NamedTuple, Optional
 
 from .faults import Refusal
 from .moments import of_date
@@ -8,15 +8,21 @@ from .zone_file import WrongEntry, ZoneFile
 
 FIELDS = ("KeyTag", "Algorithm", "DigestType", "Digest")
 
-# An anchor's record, its owner's name, and the first and the last moment of its use, None where that has no end.
-Timed = namedtuple("Timed", "owner record start end")
+
+class Timed(NamedTuple):
+    """An anchor's record, its owner's name, and the first and the last moment of its use, None where that has no end."""
+
+    owner: Any
+    record: Any
+    start: int
+    end: Optional[int]
 
 
-def is_xml(octets):
+def is_xml(octets: bytes) -> bool:
     return octets.lstrip(b"\xef\xbb\xbf \t\r\n").startswith(b"<")
 
 
-def timed_anchors(octets, path):
+def timed_anchors(octets: bytes, path: str) -> List[Timed]:
     """The anchors, in their order."""
     tree = tree_of(octets, path)
     if tree.tag != "TrustAnchor":
@@ -25,7 +31,7 @@ def timed_anchors(octets, path):
             for number, each in enumerate(tree.findall("KeyDigest"), 1)]
 
 
-def tree_of(octets, path):
+def tree_of(octets: bytes, path: str) -> ElementTree.Element:
     """The root element. What declares entities, which may unfold to any size, isn't parsed."""
     try:
         text = octets.decode("utf-8-sig")
@@ -36,7 +42,7 @@ def tree_of(octets, path):
     raise Refusal(f"the anchors {path}: XML with a DOCTYPE, which trust anchors have none of (RFC 9718)")
 
 
-def timed(zone, element, place):
+def timed(zone: str, element: ElementTree.Element, place: str) -> Timed:
     """The anchor of an element KeyDigest."""
     words = " ".join([zone, "DS", *(element.findtext(field, "") for field in FIELDS)]).split()
     start, end = element.get("validFrom"), element.get("validUntil")

@@ -1,6 +1,6 @@
 """The DS and DNSKEY records of a zone file (RFC 1035 5.1), by the tokenizer of dnspython."""
 import re
-from collections import namedtuple
+from typing import Any, Iterator, NamedTuple, Optional
 
 from .faults import lacking
 
@@ -9,19 +9,25 @@ CLASS = re.compile(r"IN|CLASS1", re.IGNORECASE)
 DS, DNSKEY = 43, 48
 KINDS = {"DS": DS, "TYPE43": DS, "DNSKEY": DNSKEY, "TYPE48": DNSKEY}
 
-# A record with its owner's name and the number of the line on which it begins.
-Entry = namedtuple("Entry", "line owner kind record")
+
+class Entry(NamedTuple):
+    """A record with its owner's name and the number of the line on which it begins."""
+
+    line: int
+    owner: Any
+    kind: int
+    record: Any
 
 
 class WrongEntry(Exception):
     """What begins on this line is neither such a record nor a directive that is read."""
 
-    def __init__(self, line, text):
+    def __init__(self, line: int, text: str) -> None:
         super().__init__(text)
         self.line = line
 
 
-def library():
+def library() -> Any:
     try:
         import dns.exception
         import dns.name
@@ -35,12 +41,12 @@ def library():
 class ZoneFile:
     """A zone file of which each entry is taken in turn."""
 
-    def __init__(self, text):
+    def __init__(self, text: str) -> None:
         self.dns = library()
         self.tokens = self.dns.tokenizer.Tokenizer(text)
         self.origin = self.owner = self.dns.name.root
 
-    def entries(self):
+    def entries(self) -> Iterator[Entry]:
         """The records."""
         while True:
             line = self.tokens.where()[1]
@@ -54,24 +60,25 @@ class ZoneFile:
             if found:
                 yield found
 
-    def entry(self, line, first):
+    def entry(self, line: int, first: Any) -> Optional[Entry]:
         """What begins with the token; None where it's no record."""
         if not first.is_whitespace():
             if first.value.startswith("$"):
-                return self.directive(first.value)
+                self.directive(first.value)
+                return None
             self.owner = self.tokens.as_name(first, self.origin)
         elif self.is_over():
             return None
         kind = self.kind()
         return Entry(line, self.owner, kind, self.dns.rdata.from_text("IN", kind, self.tokens, self.origin, False))
 
-    def is_over(self):
+    def is_over(self) -> bool:
         """Whether nothing is behind the blanks of a line."""
         token = self.tokens.get()
         self.tokens.unget(token)
         return token.is_eol_or_eof()
 
-    def directive(self, word):
+    def directive(self, word: str) -> None:
         if word.upper() == "$ORIGIN":
             self.origin = self.tokens.get_name(self.origin)
         elif word.upper() == "$TTL":
@@ -80,7 +87,7 @@ class ZoneFile:
             raise ValueError(f"{word} isn't read, only $ORIGIN and $TTL are")
         self.tokens.get_eol()
 
-    def kind(self):
+    def kind(self) -> int:
         """The type, behind a TTL and a class, which come in either order or lack (RFC 1035 5.1)."""
         fronts, word = [TTL, CLASS], self.tokens.get_identifier()
         while fit := next((each for each in fronts if each.fullmatch(word)), None):

@@ -1,18 +1,18 @@
 """The answers of a `dnsviz probe`, which its JSON has in base64."""
 import base64
 import json
-from collections import Counter
+from typing import Any, Counter, Dict, Iterator, List, Tuple
 
 from ..command import shown
 
-from .entries import Message, Omission, PassedOver, Refusal
+from .entries import Entry, Found, Message, Omission, PassedOver, Refusal
 from .messages import is_message, is_query, is_truncated, is_with_do, rcode_of
 
 NO_ERROR, NO_SUCH_NAME = 0, 3
 NO_ANSWER = 3  # the last rank
 
 
-def queries_of(octets, path):
+def queries_of(octets: bytes, path: str) -> Iterator[Tuple[str, List[Tuple[str, Dict[str, Any]]]]]:
     """Each question that was asked, as text, and for each server that was asked what it answered."""
     try:
         for asked in json.loads(octets).values():
@@ -24,7 +24,7 @@ def queries_of(octets, path):
         raise Refusal(f"{path}: no output of dnsviz probe") from fault
 
 
-def answer_of(text, server, response, path):
+def answer_of(text: str, server: str, response: Dict[str, Any], path: str) -> Entry:
     place = f"the answer of {shown(server)} to {shown(text)} of {path}"
     if not isinstance(response.get("message"), str):
         return Omission(place, f"there is none: {shown(str(response.get('error', 'unknown')))}")
@@ -34,7 +34,7 @@ def answer_of(text, server, response, path):
         return Omission(place, "it isn't base64")
 
 
-def rank_of(entry):
+def rank_of(entry: Entry) -> int:
     """An answer that is whole goes before what is none, among those one without an error of the server, and among those
     one with the flag DO: where nothing came back, dnsviz asks without it, and gets no signatures."""
     if not isinstance(entry, Message) or not is_message(entry.octets):
@@ -46,13 +46,14 @@ def rank_of(entry):
     return 0 if is_with_do(entry.octets) else 1
 
 
-def entries_of_dnsviz(octets, path):
+def entries_of_dnsviz(octets: bytes, path: str) -> List[Found]:
     """Of all answers to a question the first of the best rank."""
-    questions = {}
+    questions: Dict[str, List[Entry]] = {}
     for text, responses in queries_of(octets, path):
         answers = questions.setdefault(text.lower(), [])
         answers += [answer_of(text, server, response, path) for server, response in responses]
-    entries, others = [], Counter()
+    entries: List[Found] = []
+    others: Counter[str] = Counter()
     for answers in questions.values():
         best = min(answers, key=rank_of, default=None)
         if best is None or rank_of(best) == NO_ANSWER:
@@ -60,4 +61,4 @@ def entries_of_dnsviz(octets, path):
         else:
             entries.append(best)
             others["questions that have one"] += len(answers) - 1
-    return entries + ([PassedOver(f"answers of {path}", others)] if sum(others.values()) else [])
+    return [*entries, PassedOver(f"answers of {path}", others)] if sum(others.values()) else entries

@@ -1,8 +1,9 @@
 """What packets carry over UDP and TCP: of Ethernet, Linux cooked, loopback and raw IP, with the standard library."""
 import ipaddress
-from collections import namedtuple
+from typing import NamedTuple, Set, Tuple, Union
 
 from .octets import number_at
+from .pcap import Packet
 
 ETHERNET, COOKED, COOKED_2, LOOPBACK, RAW_IP = 1, 113, 276, (0, 108), (12, 14, 101, 228, 229)
 VLAN_TAGS, IPV4, IPV6 = (0x8100, 0x88A8, 0x9100), 0x0800, 0x86DD
@@ -18,9 +19,29 @@ PROTOCOLS = {1: "ICMP", 2: "IGMP", 4: "IP in IP" + BY_TSHARK, 41: "IPv6 in IP" +
              50: "ESP", 51: "AH" + BY_TSHARK, 58: "ICMPv6", 132: "SCTP"}
 TUNNELS = {4789: "VXLAN" + BY_TSHARK, 8472: "VXLAN" + BY_TSHARK, 6081: "Geneve" + BY_TSHARK}
 
-IpPacket = namedtuple("IpPacket", "source target protocol octets is_fragment")
-Datagram = namedtuple("Datagram", "source target octets")
-Segment = namedtuple("Segment", "source target sequence is_syn is_fin is_reset octets")
+
+class IpPacket(NamedTuple):
+    source: bytes
+    target: bytes
+    protocol: int
+    octets: bytes
+    is_fragment: bool
+
+
+class Datagram(NamedTuple):
+    source: str
+    target: str
+    octets: bytes
+
+
+class Segment(NamedTuple):
+    source: str
+    target: str
+    sequence: int
+    is_syn: bool
+    is_fin: bool
+    is_reset: bool
+    octets: bytes
 
 
 class BadPacket(Exception):
@@ -31,7 +52,7 @@ class Other(Exception):
     """A packet carries something else, which its text names."""
 
 
-def ip_octets(packet):
+def ip_octets(packet: Packet) -> bytes:
     """The IP packet in a link's frame."""
     octets, link = packet.octets, packet.link
     if link in RAW_IP:
@@ -50,7 +71,7 @@ def ip_octets(packet):
     return octets[front:]
 
 
-def ipv4_packet(octets):
+def ipv4_packet(octets: bytes) -> IpPacket:
     """RFC 791 3.1; a total length of 0 is left by segmentation in the network card: all that is there is the packet."""
     front, end = number_at(octets, 0, 1) % 16 * 4, number_at(octets, 2, 2) or len(octets)
     fragment, protocol = number_at(octets, 6, 2), number_at(octets, 9, 1)
@@ -61,7 +82,7 @@ def ipv4_packet(octets):
     return IpPacket(octets[12:16], octets[16:20], protocol, octets[front:end], bool(fragment & 0x2000))
 
 
-def ipv6_packet(octets):
+def ipv6_packet(octets: bytes) -> IpPacket:
     """RFC 8200 3 and 4, with the extension headers that may stand before UDP and TCP; a length of 0 as for IPv4."""
     length = number_at(octets, 4, 2)
     place, end = 40, 40 + length if length else len(octets)
@@ -78,7 +99,7 @@ def ipv6_packet(octets):
     return IpPacket(octets[8:24], octets[24:40], protocol, octets[place:end], bool(fragment & 1))
 
 
-def ip_packet(octets):
+def ip_packet(octets: bytes) -> IpPacket:
     version = number_at(octets, 0, 1) // 16
     if version == 4:
         return ipv4_packet(octets)
@@ -87,11 +108,11 @@ def ip_packet(octets):
     raise Other(f"IP version {version}")
 
 
-def end_text(address, port):
+def end_text(address: bytes, port: int) -> str:
     return f"{ipaddress.ip_address(address)} port {port}"
 
 
-def datagram_of(octets, ends):
+def datagram_of(octets: bytes, ends: Tuple[str, str]) -> Datagram:
     """RFC 768; a length of 0 is left by segmentation too (RFC 2675 4)."""
     size = number_at(octets, 4, 2) or len(octets)
     if size > len(octets):
@@ -99,15 +120,16 @@ def datagram_of(octets, ends):
     return Datagram(*ends, octets[8:size])
 
 
-def segment_of(octets, ends):
+def segment_of(octets: bytes, ends: Tuple[str, str]) -> Segment:
     """RFC 9293 3.1."""
     front, flags = number_at(octets, 12, 1) // 16 * 4, number_at(octets, 13, 1)
     if front < 20:
         raise BadPacket("its TCP header is too short")
-    return Segment(*ends, number_at(octets, 4, 4), *(bool(flags & bit) for bit in (SYN, FIN, RST)), octets[front:])
+    is_syn, is_fin, is_reset = (bool(flags & bit) for bit in (SYN, FIN, RST))
+    return Segment(*ends, number_at(octets, 4, 4), is_syn, is_fin, is_reset, octets[front:])
 
 
-def payload_of(packet, ports):
+def payload_of(packet: Packet, ports: Set[int]) -> Union[Datagram, Segment]:
     """The datagram or the segment that a packet carries from or to one of the ports."""
     ip = ip_packet(ip_octets(packet))
     if ip.protocol not in (TCP, UDP):
@@ -121,4 +143,4 @@ def payload_of(packet, ports):
     if not packet.is_whole:
         raise BadPacket("it was cut when it was captured")
     ends = end_text(ip.source, source), end_text(ip.target, target)
-    return (datagram_of if ip.protocol == UDP else segment_of)(ip.octets, ends)
+    return datagram_of(ip.octets, ends) if ip.protocol == UDP else segment_of(ip.octets, ends)

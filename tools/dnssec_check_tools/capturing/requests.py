@@ -1,13 +1,19 @@
 """Which request an answer is for, and its MAC (TSIG, RFC 8945)."""
-from collections import namedtuple
+from typing import Any, Dict, List, NamedTuple, Optional, Tuple
 
+from .entries import Message
 from .messages import TYPE_TSIG, end_of_name, questions_of, records_of
 from .octets import Incomplete, number_at
 
-Tsig = namedtuple("Tsig", "mac identifier")
+Kept = Tuple[Any, ...]
 
 
-def tsig_of(octets):
+class Tsig(NamedTuple):
+    mac: bytes
+    identifier: int
+
+
+def tsig_of(octets: bytes) -> Tsig:
     """The MAC of a message's TSIG record, and the identifier that it covers; without one no octets, and its own."""
     try:
         last = [*records_of(octets)][-1:]
@@ -29,23 +35,24 @@ class Requests:
     has that of the answer.
     """
 
-    def __init__(self):
-        self.macs, self.number = {}, 0
+    def __init__(self) -> None:
+        self.macs: Dict[Kept, Tuple[int, bytes]] = {}
+        self.number = 0
 
-    def places(self, message):
+    def places(self, message: Message) -> Tuple[Kept, List[Kept]]:
         """Where the MAC is kept by the identifier, and where by any identifier that the message tells."""
         front = message.connection, questions_of(message.octets)[0]
         own = number_at(message.octets, 0, 2)
         others = {own, tsig_of(message.octets).identifier}
         return (*front, own, True), [(*front, identifier, False) for identifier in others]
 
-    def keep(self, message):
+    def keep(self, message: Message) -> None:
         self.number += 1
         own, others = self.places(message)
         mac = tsig_of(message.octets).mac
         self.macs.update((place, (self.number, mac)) for place in [own, *others])
 
-    def mac_for(self, message):
+    def mac_for(self, message: Message) -> Optional[bytes]:
         """The MAC of the last request so far that the message answers, None where there is no such request."""
         own, others = self.places(message)
         found = [self.macs[place] for place in ([own] if own in self.macs else others) if place in self.macs]

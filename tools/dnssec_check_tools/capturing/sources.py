@@ -1,22 +1,22 @@
 """What the files that are named have in them: their kind, and the messages of each kind."""
-from collections import Counter
+from typing import Callable, Counter, Dict, List, Optional, Sequence, Set
 
 from ..command import read, shown
 
 from .dnsviz import entries_of_dnsviz
-from .entries import InPacket, Message, Omission, PassedOver, Refusal
+from .entries import Entry, Found, InPacket, Message, Omission, PassedOver, Refusal
 from .frames import frames_of
 from .octets import Incomplete
 from .packed import unpacked
 from .packets import BadPacket, Datagram, Other, Segment, payload_of
-from .pcap import TornFile, is_packet_capture, packets_of
+from .pcap import Packet, TornFile, is_packet_capture, packets_of
 from .streams import Streams
 from .tshark import entries_of_tshark
 
 # Streams of one file, and lists in hex
 
 
-def entries_of_stream(octets, path):
+def entries_of_stream(octets: bytes, path: str) -> List[Entry]:
     messages, end = frames_of(octets)
     if octets[end:end + 2] == b"\x00\x00":
         raise Refusal(f"{path}: a message of length 0 at octet {end}")
@@ -25,14 +25,14 @@ def entries_of_stream(octets, path):
     return [Message(message, f"message {number} of {path}") for number, message in enumerate(messages, 1)]
 
 
-def octets_of_line(line, place):
+def octets_of_line(line: str, place: str) -> bytes:
     try:
         return bytes.fromhex(line.replace(":", " "))
     except ValueError as fault:
         raise Refusal(f"{place}: no message in hex") from fault
 
 
-def entries_of_hex(octets, path):
+def entries_of_hex(octets: bytes, path: str) -> List[Entry]:
     lines = enumerate(octets.decode("ascii", "replace").split("\n"), 1)
     places = [(f"line {number} of {path}", line.strip()) for number, line in lines]
     return [Message(octets_of_line(line, place), place) for place, line in places if line and line[0] not in "#;"]
@@ -41,7 +41,7 @@ def entries_of_hex(octets, path):
 # Packets
 
 
-def entries_of_packet(packet, place, ports, streams, others):
+def entries_of_packet(packet: Packet, place: InPacket, ports: Set[int], streams: Streams, others: Counter[str]) -> List[Entry]:
     """What a packet brings; one that carries something else is counted in `others`."""
     try:
         payload = payload_of(packet, ports)
@@ -55,29 +55,31 @@ def entries_of_packet(packet, place, ports, streams, others):
     return [Message(payload.octets, place, (Datagram, frozenset(payload[:2])))]
 
 
-def in_order(entries, last):
+def in_order(entries: List[Entry], last: InPacket) -> List[Entry]:
     """Each entry where its packet stands; what is told of a file or a stream as a whole comes behind the last one."""
     return sorted(entries, key=lambda entry: entry.place if isinstance(entry.place, InPacket) else last)
 
 
-def entries_of_pcap(octets, path, ports):
+def entries_of_pcap(octets: bytes, path: str, ports: Set[int]) -> List[Found]:
     if not is_packet_capture(octets):
         raise Refusal(f"{path}: it is neither a pcap nor a pcapng")
-    streams, entries, others, place = Streams(path), [], Counter(), InPacket(0, path)
+    streams, place = Streams(path), InPacket(0, path)
+    entries: List[Entry] = []
+    others: Counter[str] = Counter()
     try:
         for packet in packets_of(octets):
             place = InPacket(packet.number, path)
             entries += entries_of_packet(packet, place, ports, streams, others)
     except TornFile as fault:
         entries.append(Omission(f"what is behind {place}", str(fault)))
-    passed_over = [PassedOver(f"packets of {path}", others)] if others else []
-    return in_order(entries + streams.rest(), place) + passed_over
+    ordered = in_order(entries + streams.rest(), place)
+    return [*ordered, PassedOver(f"packets of {path}", others)] if others else [*ordered]
 
 
 # All kinds
 
 
-def kind_of(octets):
+def kind_of(octets: bytes) -> str:
     """The kind of a file that is named alone. Text has no octet 0, and each message has some."""
     if is_packet_capture(octets):
         return "pcap"
@@ -86,7 +88,11 @@ def kind_of(octets):
     return "dnsviz" if octets.lstrip()[:1] == b"{" else "hex"
 
 
-def entries_of(kind, path, ports):
+READERS: Dict[str, Callable[[bytes, str], Sequence[Found]]] = {
+    "stream": entries_of_stream, "hex": entries_of_hex, "dnsviz": entries_of_dnsviz}
+
+
+def entries_of(kind: Optional[str], path: str, ports: Set[int]) -> Sequence[Found]:
     """The entries of a file of this kind, None where that has to be found out."""
     name = shown(path)
     if kind == "tshark":
@@ -97,5 +103,5 @@ def entries_of(kind, path, ports):
     octets, torn = unpacked(octets, name)
     kind = kind or kind_of(octets)
     if kind == "pcap":
-        return entries_of_pcap(octets, name, ports) + torn
-    return {"stream": entries_of_stream, "hex": entries_of_hex, "dnsviz": entries_of_dnsviz}[kind](octets, name) + torn
+        return [*entries_of_pcap(octets, name, ports), *torn]
+    return [*READERS[kind](octets, name), *torn]

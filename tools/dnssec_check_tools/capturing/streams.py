@@ -1,8 +1,9 @@
 """Streams of TCP out of their segments, and the messages in them."""
 import bisect
 import heapq
+from typing import Any, Dict, List, Optional, Tuple
 
-from .entries import Message, Omission
+from .entries import Entry, Message, Omission, Place
 from .frames import frame_at, frames_of
 from .packets import Segment
 
@@ -14,16 +15,19 @@ class Run:
     """Octets behind a gap that stand without one, where the segments begin that brought them, and for what is new of
     each where it begins, and the last packet up to its end."""
 
-    def __init__(self, first):
-        self.first, self.octets, self.starts, self.fronts, self.places = first, bytearray(), [], [], []
+    def __init__(self, first: int) -> None:
+        self.first, self.octets = first, bytearray()
+        self.starts: List[int] = []
+        self.fronts: List[int] = []
+        self.places: List[Any] = []
 
-    def add(self, number, octets, place):
+    def add(self, number: int, octets: bytes, place: Place) -> None:
         self.starts.append(number - self.first)
         self.fronts.append(len(self.octets))
         self.places.append(max([place, *self.places[-1:]]))
         self.octets += octets
 
-    def messages(self):
+    def messages(self) -> Tuple[List[Tuple[bytes, Place]], bool]:
         """Whole messages, from a segment on that begins with one, with where they end; and whether they are all."""
         found, end, tries = [], 0, 0
         for start in self.starts:
@@ -40,17 +44,19 @@ class Run:
 class Stream:
     """One direction of a TCP connection; its octets are numbered on from the first segment's, past 2**32."""
 
-    def __init__(self, segment, path):
+    def __init__(self, segment: Segment, path: str) -> None:
         self.name = f"the TCP stream of {path} from {segment.source} to {segment.target}"
         self.ends = frozenset((segment.source, segment.target))
         self.has_beginning, self.is_closed = segment.is_syn, False
         self.first = self.next = segment.sequence + segment.is_syn
-        self.buffer, self.waiting, self.order = bytearray(), {}, []
+        self.buffer = bytearray()
+        self.waiting: Dict[int, Tuple[bytes, Place]] = {}
+        self.order: List[int] = []
 
-    def number_of(self, sequence):
+    def number_of(self, sequence: int) -> int:
         return self.next + (sequence - self.next + 2**31) % 2**32 - 2**31
 
-    def is_of(self, segment):
+    def is_of(self, segment: Segment) -> bool:
         """Whether it may be a segment of this connection; else the ports were taken for another one."""
         number = self.number_of(segment.sequence + segment.is_syn)
         if segment.is_syn:
@@ -58,7 +64,7 @@ class Stream:
         first = self.first - 1 if self.has_beginning else self.next - WINDOW
         return not segment.octets or first <= number < self.next + WINDOW
 
-    def take(self, segment, place):
+    def take(self, segment: Segment, place: Place) -> List[Entry]:
         """Keeps a segment's octets, and answers the messages that became whole; the longer one of a place counts."""
         number = self.number_of(segment.sequence + segment.is_syn)
         self.is_closed |= segment.is_fin or segment.is_reset
@@ -75,7 +81,7 @@ class Stream:
         del self.buffer[:end]
         return [Message(octets, place, (Segment, self.ends)) for octets in messages]
 
-    def take_first(self):
+    def take_first(self) -> Tuple[bytes, Place]:
         """The octets of the first segment that waits but for those taken before, and where it came from."""
         number = heapq.heappop(self.order)
         octets, place = self.waiting.pop(number)
@@ -83,9 +89,9 @@ class Stream:
         self.next = max(self.next, number) + len(octets)
         return octets, place
 
-    def runs(self):
+    def runs(self) -> List[Run]:
         """What still waits, parted at the gaps."""
-        runs = []
+        runs: List[Run] = []
         while self.order:
             if not runs or self.order[0] > self.next:
                 self.next = self.order[0]
@@ -93,9 +99,10 @@ class Stream:
             runs[-1].add(self.order[0], *self.take_first())
         return runs
 
-    def rest(self):
+    def rest(self) -> List[Entry]:
         """What is whole behind the gaps of a stream, and what is dropped of it at its end."""
-        why, gap = None, "octets before its end aren't in the packet capture"
+        why: Optional[str] = None
+        gap = "octets before its end aren't in the packet capture"
         if self.order:
             why = gap
         elif self.buffer[:2] == b"\x00\x00":
@@ -106,19 +113,21 @@ class Stream:
         if not self.has_beginning:
             is_read = all(is_whole for _, is_whole in found)
             why = (gap if len(found) > 1 else None) if is_read else "its beginning isn't in the packet capture"
-        messages = [Message(*each, (Segment, self.ends)) for each_run, _ in found for each in each_run]
-        return messages + ([Omission(self.name, why)] if why else [])
+        messages: List[Entry] = [Message(*each, (Segment, self.ends)) for each_run, _ in found for each in each_run]
+        return [*messages, Omission(self.name, why)] if why else messages
 
 
 class Streams:
     """The streams of a packet capture that are open."""
 
-    def __init__(self, path):
-        self.path, self.streams = path, {}
+    def __init__(self, path: str) -> None:
+        self.path = path
+        self.streams: Dict[Tuple[str, str], Stream] = {}
 
-    def take(self, segment, place):
+    def take(self, segment: Segment, place: Place) -> List[Entry]:
         """What a segment makes whole, and what is left of a stream that it ends."""
-        entries, ends = [], (segment.source, segment.target)
+        entries: List[Entry] = []
+        ends = segment.source, segment.target
         stream = self.streams.get(ends)
         if stream and not stream.is_of(segment):
             entries, stream = stream.rest(), None
@@ -128,5 +137,5 @@ class Streams:
             stream = self.streams[ends] = Stream(segment, self.path)
         return entries + stream.take(segment, place)
 
-    def rest(self):
+    def rest(self) -> List[Entry]:
         return [entry for stream in self.streams.values() for entry in stream.rest()]

@@ -1,10 +1,11 @@
 """DNS messages that tshark finds in packets: it knows every encapsulation, and joins fragments and segments."""
 import json
 import subprocess
+from typing import Any, Dict, List, Optional, Set, Tuple, Type, Union
 
 from ..command import read, shown
 
-from .entries import Message, Omission, Refusal
+from .entries import Entry, Message, Omission, Refusal
 from .packets import Datagram, Segment
 
 # ICMP quotes packets, and quotes them cut. Behind a segment that is lost tshark finds nothing more.
@@ -14,7 +15,10 @@ PREFERENCES = ("ip.defragment", "ipv6.defragment", "tcp.desegment_tcp_streams", 
                "dns.desegment_dns_messages")
 
 
-def words_of(path, ports):
+Pairs = List[Tuple[str, Any]]
+
+
+def words_of(path: str, ports: Set[int]) -> List[str]:
     """The command line of tshark; an object of its JSON has a key as often as a packet has such a layer."""
     words = ["tshark", "-n", "-r", path, "-T", "json", "-x", "-Y", FILTER, "-j", LAYERS]
     for name in PREFERENCES:
@@ -24,9 +28,9 @@ def words_of(path, ports):
     return words
 
 
-def run_tshark(path, ports):
+def run_tshark(path: str, ports: Set[int]) -> Tuple[bytes, Optional[str]]:
     """What tshark prints, and its complaint where it ends with a fault; a path may be that of a pipe that is open."""
-    given = {"input": read("-")} if path == "-" else {}
+    given: Dict[str, Any] = {"input": read("-")} if path == "-" else {}
     try:
         done = subprocess.run(words_of(path, ports), **given, capture_output=True, check=False, close_fds=False)
     except FileNotFoundError as fault:
@@ -36,7 +40,7 @@ def run_tshark(path, ports):
     return done.stdout, complaint and shown(complaint.replace("tshark: ", "", 1))
 
 
-def layers_of(text):
+def layers_of(text: bytes) -> List[Pairs]:
     """The layers of each packet, pairs of a name and what it holds: objects are lists of pairs here."""
     packets = json.loads(text.decode(errors="replace"), strict=False, object_pairs_hook=lambda pairs: pairs)
     return [dict(dict(packet)["_source"])["layers"] for packet in packets]
@@ -45,11 +49,15 @@ def layers_of(text):
 class Reader:
     """What was met so far of a packet's layers, from outside to inside."""
 
-    def __init__(self, path, ports):
+    def __init__(self, path: str, ports: Set[int]) -> None:
         self.path, self.ports = path, ports
-        self.frame, self.addresses, self.ends, self.raw, self.kind = {}, (), (), "", None
+        self.frame: Dict[str, Any] = {}
+        self.addresses: List[Any] = []
+        self.ends: List[Tuple[Any, int]] = []
+        self.raw = ""
+        self.kind: Union[Type[Datagram], Type[Segment], None] = None
 
-    def take(self, name, value):
+    def take(self, name: str, value: Any) -> List[Entry]:
         """What the layer brings; the octets of a layer stand before it, under its name with `_raw`."""
         if name == "frame":
             self.frame = dict(value)
@@ -64,13 +72,13 @@ class Reader:
             return [self.message(dict(value))]
         return []
 
-    def is_asked_for(self):
+    def is_asked_for(self) -> bool:
         return bool(self.ports & {number for _, number in self.ends})
 
-    def place(self):
+    def place(self) -> str:
         return f"packet {self.frame.get('frame.number')} of {self.path}"
 
-    def message(self, layer):
+    def message(self, layer: Dict[str, Any]) -> Entry:
         """A message over TCP stands behind its length."""
         if self.frame.get("frame.cap_len") != self.frame.get("frame.len"):
             return Omission(self.place(), "it was cut when it was captured")
@@ -78,7 +86,7 @@ class Reader:
         return Message(octets, self.place(), (self.kind, frozenset(self.ends)))
 
 
-def entries_of_packet(layers, path, ports):
+def entries_of_packet(layers: Pairs, path: str, ports: Set[int]) -> List[Entry]:
     """The messages of a packet; one without any that is there is of a stream with a gap."""
     reader = Reader(path, ports)
     entries = [entry for layer in layers for entry in reader.take(*layer)]
@@ -87,7 +95,7 @@ def entries_of_packet(layers, path, ports):
     return entries
 
 
-def entries_of_tshark(path, name, ports):
+def entries_of_tshark(path: str, name: str, ports: Set[int]) -> List[Entry]:
     """What tshark finds in the file; `name` is how the path is told."""
     text, complaint = run_tshark(path, ports)
     entries = []

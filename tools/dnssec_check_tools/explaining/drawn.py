@@ -1,5 +1,7 @@
 """The boxes and edges that each line of an explanation puts into the picture of the chain."""
-from .chain import (FAILS, FOLLOWS, HOLDS, MISSING, PLAIN, UNDER, Chain, anchor_box, ds_box, key_box, keys_box,
+from typing import Callable, Dict, List, Set, Tuple
+from .explanation import Explanation, Line
+from .chain import (FAILS, FOLLOWS, HOLDS, MISSING, PLAIN, UNDER, Chain, Key, anchor_box, ds_box, key_box, keys_box,
                     rrset_box)
 from .holding import UNUSABLE
 from .missing import DNAME, DNSKEY, DS, ROLES
@@ -11,7 +13,7 @@ QUESTION = ("question",)
 OF_ZONES = (DS, DNSKEY)
 
 
-def chain_of(told):
+def chain_of(told: Explanation) -> Chain:
     """The chain of an explanation."""
     chain, signers = Chain(), {line["rrset"]: line["signer"] for line in told.of("signed")}
     scene = Scene(told, chain, signers)
@@ -27,21 +29,22 @@ def chain_of(told):
 class Scene:
     """A chain as it is drawn: who signs which RRset by lines that hold, and what leads to the question."""
 
-    def __init__(self, told, chain, signers):
-        self.told, self.chain, self.signers, self.leading = told, chain, signers, []
+    def __init__(self, told: Explanation, chain: Chain, signers: Dict[int, str]) -> None:
+        self.told, self.chain, self.signers = told, chain, signers
+        self.leading: List[Tuple[Key, str, str, Key]] = []
 
-    def lead(self, box, state, text="", head=QUESTION):
+    def lead(self, box: Key, state: str, text: str = "", head: Key = QUESTION) -> None:
         """An edge to the question, or to what leads to it."""
         self.leading.append((box, state, text, head))
 
-    def join_question(self):
+    def join_question(self) -> None:
         self.lead_over_aliases()
         for box, state, text, head in self.leading:
             if box in self.chain.boxes and head in self.chain.boxes:
                 self.chain.join(box, head, state, text)
         self.lay_under()
 
-    def lead_over_aliases(self):
+    def lead_over_aliases(self) -> None:
         """From each link of the way to the next, and from the last, or the answer, to the question."""
         value = self.told.value
         way = [("rrset", link["rrset"]) for link in value["aliases"]]
@@ -49,7 +52,7 @@ class Scene:
         for place, box in enumerate(way):
             self.lead(box, HOLDS, "alias" if place < len(value["aliases"]) else "", (way + [QUESTION])[place + 1])
 
-    def lay_under(self):
+    def lay_under(self) -> None:
         """What no edge leads to stands under the last link of the chain, and the question under all."""
         links = [line["rrset"] for line in self.told.of("trusted")]
         heads = {each.head for each in self.chain.edges.values()}
@@ -60,14 +63,14 @@ class Scene:
         if last:
             self.chain.join(last, QUESTION, UNDER)
 
-    def voucher(self, line, zone, state):
+    def voucher(self, line: Line, zone: str, state: str) -> Key:
         """The box of the anchor or DS record that a line names by `anchor`, or by `ds_rrset` and `ds_record`."""
         if "anchor" in line:
             return anchor_box(self.chain, line["anchor"], zone, state, line.get("digest_type"))
         place, told = (line["ds_rrset"], line["ds_record"]), line if "digest_type" in line else None
         return ds_box(self.chain, self.signers, place, zone, state, told)
 
-    def of_signature(self, line, state, text=""):
+    def of_signature(self, line: Line, state: str, text: str = "") -> None:
         """The edge from the key that signs to the RRset, whichever zone that is in."""
         tail = key_box(self.chain, line["signer"], line, FOLLOWS if state == FOLLOWS else PLAIN)
         head = rrset_box(self.chain, line["signer"], line["rrset"], line["owner"], line["type"], state)
@@ -76,14 +79,14 @@ class Scene:
         self.chain.join(tail, head, state, text)
 
 
-def trusted(scene, line):
+def trusted(scene: Scene, line: Line) -> None:
     zone = line["zone"]
     key = key_box(scene.chain, zone, line, HOLDS)
     scene.chain.join(scene.voucher(line, zone, HOLDS), key, HOLDS)
     scene.chain.join(key, keys_box(scene.chain, zone, line["rrset"], HOLDS), HOLDS)
 
 
-def signed(scene, line):
+def signed(scene: Scene, line: Line) -> None:
     zone = line["signer"]
     key, keys = key_box(scene.chain, zone, line, HOLDS), ("rrset", line["keys"])
     if (key, keys, "") not in scene.chain.edges:
@@ -92,7 +95,7 @@ def signed(scene, line):
         scene.chain.join(key, head, HOLDS)
 
 
-def signed_boxes(scene, line):
+def signed_boxes(scene: Scene, line: Line) -> List[Key]:
     """The RRset, or of a DS RRset the records that lines name."""
     zone, number = line["signer"], line["rrset"]
     records = sorted(records_of(scene.told, number)) if line["type"] == DS else []
@@ -101,46 +104,46 @@ def signed_boxes(scene, line):
     return [ds_box(scene.chain, scene.signers, (number, record), line["owner"], HOLDS) for record in records]
 
 
-def records_of(told, number):
+def records_of(told: Explanation, number: int) -> Set[int]:
     """The numbers of the records of the DS RRset that are in the picture."""
     by_ds = {line["ds_record"] for line in told.lines if line.get("ds_rrset") == number}
     return by_ds | {line["record"] for line in told.lines if line.get("rrset") == number and names_ds(line)}
 
 
-def names_ds(line):
+def names_ds(line: Line) -> bool:
     return line["line"] == "unusable" or (line["line"] == "reason" and "record" in line and is_voucher(line))
 
 
-def proof(_scene, _line):
+def proof(_scene: Scene, _line: Line) -> None:
     """Its parts have the boxes."""
 
 
-def part(scene, line):
+def part(scene: Scene, line: Line) -> None:
     if "owner" in line:
         cuts = [("cut", each["cut"]) for each in scene.told.of("case")]
         text = f"{ROLES[line['role']]}\n{line['relation']}"
         scene.lead(("rrset", line["rrset"]), HOLDS, text, cuts[0] if cuts else QUESTION)
 
 
-def cut_box(scene, name):
+def cut_box(scene: Scene, name: str) -> Key:
     """The name from which on nothing has to be signed."""
     return scene.chain.add(("cut", name), None, (name, "may be unsigned"), PLAIN)
 
 
-def case(scene, line):
+def case(scene: Scene, line: Line) -> None:
     scene.lead(cut_box(scene, line["cut"]), PLAIN)
 
 
-def unusable(scene, line):
+def unusable(scene: Scene, line: Line) -> None:
     box = ds_box(scene.chain, scene.signers, (line["rrset"], line["record"]), line["owner"], PLAIN, line)
     scene.chain.join(box, cut_box(scene, line["owner"]), PLAIN, UNUSABLE[line["why"]])
 
 
-def unseen(_scene, _line):
+def unseen(_scene: Scene, _line: Line) -> None:
     """Nothing of the picture."""
 
 
-def key(scene, line):
+def key(scene: Scene, line: Line) -> None:
     zone = line["zone"]
     box = key_box(scene.chain, zone, line, PLAIN, (flag_names(line["flags"]),))
     keys = keys_box(scene.chain, zone, line["rrset"], PLAIN)
@@ -153,7 +156,7 @@ def key(scene, line):
         scene.chain.join(ds_box(scene.chain, scene.signers, place, zone, HOLDS), box, HOLDS)
 
 
-def reason(scene, line):
+def reason(scene: Scene, line: Line) -> None:
     if "signer" in line:
         scene.of_signature(line, FAILS, signature_text(scene.told, line))
     elif is_voucher(line):
@@ -162,7 +165,7 @@ def reason(scene, line):
         REASONS[line["word"]](scene, line)
 
 
-def signature_text(told, line):
+def signature_text(told: Explanation, line: Line) -> str:
     """The word, and the window where it is what fails."""
     if line["word"] == "expired":
         return f"expired {date(told.now - line['by'], told.now)}"
@@ -171,37 +174,37 @@ def signature_text(told, line):
     return f"{line['word']} {line['name']}" if line["word"] == "no-closer" else line["word"]
 
 
-def of_voucher(scene, line):
+def of_voucher(scene: Scene, line: Line) -> None:
     """What names a key that isn't there, or isn't the one that it names."""
-    zone, place = line["zone"], (line.get("rrset"), line.get("record"))
+    zone = line["zone"]
     if "anchor" in line:
         tail = anchor_box(scene.chain, line["anchor"], zone, FAILS, line.get("digest_type"))
     else:
-        tail = ds_box(scene.chain, scene.signers, place, zone, FAILS, line)
+        tail = ds_box(scene.chain, scene.signers, (line["rrset"], line["record"]), zone, FAILS, line)
     known = {(each["tag"], each["algorithm"]) for each in scene.told.keys(zone)}
     is_there = (line["tag"], line["algorithm"]) in known
     head = key_box(scene.chain, zone, line, PLAIN if is_there else MISSING)
     scene.chain.join(tail, head, MISSING, line["word"])
 
 
-def not_self_signed(scene, line):
+def not_self_signed(scene: Scene, line: Line) -> None:
     box = key_box(scene.chain, line["zone"], line, PLAIN)
     scene.chain.join(box, keys_box(scene.chain, line["zone"], line["rrset"], PLAIN), MISSING, line["word"])
 
 
-def unsigned(scene, line):
+def unsigned(scene: Scene, line: Line) -> None:
     zone = line["owner"] if line["type"] == DNSKEY else None
     box = rrset_box(scene.chain, zone, line["rrset"], line["owner"], line["type"], FAILS, ("unsigned",))
     if line["type"] not in OF_ZONES:
         scene.lead(box, FAILS)
 
 
-def at_zone(scene, line):
+def at_zone(scene: Scene, line: Line) -> None:
     """What a zone lacks, as an empty box."""
     scene.chain.add((line["word"], line["zone"]), line["zone"], (ABSENT[line["word"]],), MISSING)
 
 
-def at_name(scene, line):
+def at_name(scene: Scene, line: Line) -> None:
     """What a proof lacks, as an empty box with the name."""
     role = (ROLES[line["role"]],) if "role" in line else ()
     box = scene.chain.add((line["word"], line["zone"], line["name"]), line["zone"],
@@ -209,25 +212,25 @@ def at_name(scene, line):
     scene.lead(box, MISSING)
 
 
-def record(scene, line):
+def record(scene: Scene, line: Line) -> None:
     """A record that says something else, or that can't be used."""
-    zone, name = line.get("zone"), line.get("name") or line.get("owner")
+    zone, name = line.get("zone"), line["name"] if line.get("name") else line["owner"]
     kind = line["kind"].upper() if "kind" in line else owned("", line["type"]).strip()
     box = scene.chain.add(("record", line["rrset"], line["record"]), zone, (f"{kind}, record {line['record']}", name), FAILS)
     scene.lead(box, FAILS, line["word"])
 
 
-def dname(scene, line):
+def dname(scene: Scene, line: Line) -> None:
     box = rrset_box(scene.chain, None, line["rrset"], line["name"], DNAME, FAILS)
     scene.lead(box, FAILS, line["word"])
 
 
-def question(scene, line):
+def question(scene: Scene, line: Line) -> None:
     box = scene.chain.add((line["word"],), line.get("zone"), (ABSENT[line["word"]],), MISSING)
     scene.lead(box, MISSING)
 
 
-def follows(scene, line):
+def follows(scene: Scene, line: Line) -> None:
     scene.of_signature(line, FOLLOWS)
 
 

@@ -1,4 +1,5 @@
 """What holds, a sentence for each line that says it."""
+from .explanation import Explanation, Line
 from .missing import DNSKEY, DS, ROLES
 from .said import HAS, HOLDS, WHY, Said
 from .values import SECTIONS, ZONE_KEY, algorithm_name, date, digest_name, flag_names, key_name, owned, until
@@ -21,29 +22,29 @@ UNUSABLE = {"algorithm": "the algorithm isn't supported", "digest-type": "the di
             "digest-ignored": "a stronger digest stands beside it"}
 
 
-def unverified(line):
+def unverified(line: Line) -> str:
     """Said of what holds only if a signature is good that nobody verified yet."""
     return ", if signature {todo} of those to verify is good".format(**line) if "todo" in line else ""
 
 
-def trusted(_told, line):
+def trusted(_told: Explanation, line: Line) -> Said:
     named = f"anchor {line['anchor']}" if "anchor" in line else "the DS"
     digest = f" by {digest_name(line['digest_type'])}" if "digest_type" in line else ""
     text = f"signed by its {key_name(line['tag'], line['algorithm'])}, which {named} names{digest}"
     return Said(HOLDS, owned(line["zone"], DNSKEY), text + unverified(line))
 
 
-def signed(_told, line):
+def signed(_told: Explanation, line: Line) -> Said:
     text = f"signed by {key_name(line['tag'], line['algorithm'])} of {line['signer']}"
     return Said(HOLDS, owned(line["owner"], line["type"]), text + unverified(line))
 
 
-def proof(_told, line):
+def proof(_told: Explanation, line: Line) -> Said:
     encloser = f"; the closest encloser is {line['encloser']}" if "encloser" in line else ""
     return Said(HOLDS, line["zone"], f"its {line['kind'].upper()} records prove that {FORMS[line['form']]}{encloser}")
 
 
-def part(_told, line):
+def part(_told: Explanation, line: Line) -> Said:
     role = ROLES[line["role"]]
     if line["relation"] == "apex":
         return Said(HOLDS, line["name"], f"it is the zone itself ({role})")
@@ -51,26 +52,26 @@ def part(_told, line):
     return Said(HOLDS, line["name"], f"{by} {RELATIONS[line['relation']]} ({role})")
 
 
-def case(_told, line):
+def case(_told: Explanation, line: Line) -> Said:
     by = f", says {line['zone']}" if "zone" in line else ""
     return Said(WHY, line["cut"], CASES[line["case"]] + by)
 
 
-def unusable(_told, line):
+def unusable(_told: Explanation, line: Line) -> Said:
     text = f"it names {key_name(line['tag'], line['algorithm'])} by {digest_name(line['digest_type'])}; {UNUSABLE[line['why']]}"
     return Said(WHY, owned(line["owner"], DS), text)
 
 
-def hope(told, line):
+def hope(told: Explanation, line: Line) -> Said:
     return Said(WHY, told.value["name"], f"{line['kind']}, if the signatures that nobody verified yet are good")
 
 
-def holds(told, line):
+def holds(told: Explanation, line: Line) -> Said:
     text = f"from {date(line['from'], told.now)} {until(line['to'], told.now)}"
     return Said(HOLDS, told.value["name"], text)
 
 
-def key(_told, line):
+def key(_told: Explanation, line: Line) -> Said:
     """What the zone has."""
     name = f"key {line['tag']} ({algorithm_name(line['algorithm'])}, {flag_names(line['flags'])})"
     signs = "signs the keys" if "signature" in line else "doesn't sign the keys"
@@ -78,7 +79,7 @@ def key(_told, line):
     return Said(HAS, owned(line["zone"], DNSKEY), f"{name} {signs}; {named_by(line)}{zone_key}")
 
 
-def named_by(line):
+def named_by(line: Line) -> str:
     """What names the key."""
     anchor, has_ds = line.get("anchor"), "ds_record" in line
     if anchor and has_ds:
@@ -88,6 +89,6 @@ def named_by(line):
     return "neither an anchor nor a DS names it"
 
 
-def rrset(_told, line):
+def rrset(_told: Explanation, line: Line) -> Said:
     text = f"RRset {line['rrset']}, in the {SECTIONS[line['section']]} section of message {line['message']}"
     return Said(HAS, owned(line["owner"], line["type"]), text)

@@ -62,7 +62,7 @@ def markup(text: str) -> Any:
 
 
 def template_text(name: str) -> str:
-    return resources.files(__package__).joinpath(TEMPLATES, name).read_text("utf-8")
+    return resources.files(__package__).joinpath(TEMPLATES).joinpath(name).read_text("utf-8")
 
 
 def shown(value: Any) -> Any:

@@ -2,10 +2,11 @@
 import re
 import shutil
 import subprocess
+from typing import Dict, Iterable, List
 
 from ..asking.faults import Failure
 
-from .chain import FAILS, FOLLOWS, MISSING, UNDER
+from .chain import FAILS, FOLLOWS, MISSING, UNDER, Box, Chain, Edge, Key
 
 DOT = "dot"
 # How a box or an edge is drawn so that it can be told without colour; colours are given by the page, by class.
@@ -27,13 +28,13 @@ WIDE = 26  # a longer name is broken at a dot
 NO_BREAK = "\u00a0"  # a blank that stays beside the text of an edge
 
 
-def quoted(lines):
+def quoted(lines: Iterable[str]) -> str:
     """Lines as the text of DOT, in which a backslash and an ampersand begin something."""
     text = (line.replace("&", "&amp;").replace("\\", "\\\\").replace('"', '\\"') for line in lines)
     return '"' + "\\n".join(text) + '"'
 
 
-def broken(line):
+def broken(line: str) -> List[str]:
     """The line in pieces that aren't wide, parted behind dots of names and at blanks."""
     pieces, rest = [], line
     while len(rest) > WIDE:
@@ -44,7 +45,7 @@ def broken(line):
     return pieces + [rest] if rest else pieces
 
 
-def dot_of(chain):
+def dot_of(chain: Chain) -> str:
     """The chain as the text of DOT. Its nodes have numbers, so only quoted texts are what strangers wrote."""
     numbers = {key: f"n{number}" for number, key in enumerate(chain.boxes)}
     text = FRONT
@@ -56,19 +57,19 @@ def dot_of(chain):
     return text + "".join(edge(numbers, each) for each in chain.edges.values()) + "}\n"
 
 
-def node(numbers, box):
+def node(numbers: Dict[Key, str], box: Box) -> str:
     lines = [piece for line in box.lines for piece in broken(line)]
     return f"{numbers[box.key]} [label={quoted(lines)} class={box.state} {BOX_STYLES.get(box.state, '')}]\n"
 
 
-def edge(numbers, each):
+def edge(numbers: Dict[Key, str], each: Edge) -> str:
     pieces = [f"{NO_BREAK}{piece}{NO_BREAK}" for line in each.text.splitlines() for piece in broken(line)]
     label = f" label={quoted(pieces)}" if pieces else ""
     style = EDGE_STYLES.get(each.state, "")
     return f"{numbers[each.tail]} -> {numbers[each.head]} [class={each.state} {style}{label}]\n"
 
 
-def program():
+def program() -> str:
     """The path of Graphviz."""
     path = shutil.which(DOT)
     if path is None:
@@ -76,7 +77,7 @@ def program():
     return path
 
 
-def svg_of(chain):
+def svg_of(chain: Chain) -> str:
     """The picture, as an element of HTML."""
     done = subprocess.run([program(), "-Tsvg"], input=dot_of(chain).encode(), capture_output=True, check=False)
     if done.returncode:

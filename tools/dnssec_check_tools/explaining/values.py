@@ -1,4 +1,5 @@
 """How values are said to people: types, algorithms and digests by name, moments as dates and distances."""
+from typing import Iterable
 from ..asking.kinds import mnemonic_of
 from ..asking.moments import moment_text
 
@@ -19,32 +20,32 @@ UNITS = (("year", 31557600), ("day", 86400), ("hour", 3600), ("minute", 60))
 FEW, NEAR = 2, 2 * 86400
 
 
-def algorithm_name(number):
+def algorithm_name(number: int) -> str:
     return ALGORITHMS.get(number, f"algorithm {number}")
 
 
-def digest_name(number):
+def digest_name(number: int) -> str:
     return DIGESTS.get(number, f"digest type {number}")
 
 
-def flag_names(flags):
+def flag_names(flags: int) -> str:
     return " ".join(name for bit, name in FLAGS if flags & bit) or "no flags"
 
 
-def owned(owner, kind):
+def owned(owner: str, kind: int) -> str:
     """Records by their owner and type."""
     return f"{owner} {mnemonic_of(kind)}"
 
 
-def key_name(tag, algorithm):
+def key_name(tag: int, algorithm: int) -> str:
     return f"key {tag} ({algorithm_name(algorithm)})"
 
 
-def counted(number, word):
+def counted(number: int, word: str) -> str:
     return f"{number} {word}" + ("" if number == 1 else "s")
 
 
-def distance(seconds):
+def distance(seconds: int) -> str:
     """A length of time in one unit, in so large a one that there are two of it, and no more than there are whole ones."""
     for word, length in UNITS:
         if seconds >= FEW * length:
@@ -52,27 +53,27 @@ def distance(seconds):
     return counted(seconds, "second")
 
 
-def date(moment, now):
+def date(moment: int, now: int) -> str:
     """The day of a moment, with the time where it is near."""
     text = moment_text(moment)
     return text.split("T")[0] if abs(moment - now) >= NEAR else text
 
 
-def ago(seconds, now):
+def ago(seconds: int, now: int) -> str:
     """A moment that lies so many seconds back."""
     return f"{date(now - seconds, now)} ({distance(seconds)} ago)"
 
 
-def ahead(seconds, now):
+def ahead(seconds: int, now: int) -> str:
     """A moment that is so many seconds ahead."""
     return f"{date(now + seconds, now)} (in {distance(seconds)})"
 
 
-def until(moment, now):
+def until(moment: int, now: int) -> str:
     return f"until {date(moment, now)} ({distance(moment - now)})"
 
 
-def all_of(words):
+def all_of(words: Iterable[str]) -> str:
     """The words as a list within a sentence."""
     words = list(words)
     return " and ".join([", ".join(words[:-1]), words[-1]] if len(words) > 1 else words)

@@ -1,16 +1,18 @@
 """Captures judged by the workers of a Dask scheduler. What a worker gets is octets, and the tools' own modules."""
 import io
 import os
-import pathlib
 import shutil
 import tempfile
 import uuid
 import zipfile
+from typing import Any, Callable, Dict, Iterable, Iterator, List, Optional, Tuple, Type
 
 from ..asking.faults import Failure, lacking
+from ..asking.questions import Question
 from ..program import NAME, PACKAGE, Program
 
-from .work import judged
+from .spread import Result, Task
+from .work import Common, Judged, judged
 
 MODULES = f"{PACKAGE.name}.zip"
 AHEAD = 8         # captures sent ahead for each thread of the workers
@@ -18,7 +20,7 @@ LOST_MOST = 3     # how often a capture is handed out anew whose workers were lo
 WAIT_SECONDS = 30
 
 
-def library():
+def library() -> Any:
     """Imported where it's asked for, so that one machine needs none."""
     try:
         import distributed
@@ -27,7 +29,7 @@ def library():
     return distributed
 
 
-def modules():
+def modules() -> bytes:
     """The package, as a file that Python imports from."""
     octets = io.BytesIO()
     files = [file for file in sorted(PACKAGE.rglob("*")) if file.is_file() and file.suffix != ".pyc"]
@@ -37,7 +39,7 @@ def modules():
     return octets.getvalue()
 
 
-def at_worker(octets, questions, common):
+def at_worker(octets: bytes, questions: List[Question], common: Common) -> Judged:
     """The verdicts on a capture, by the program on the worker's own path."""
     path = shutil.which(NAME)
     if path is None:
@@ -45,7 +47,7 @@ def at_worker(octets, questions, common):
     return judged(octets, questions, common, Program(path))
 
 
-def send_modules(client):
+def send_modules(client: Any) -> None:
     with tempfile.TemporaryDirectory() as folder:
         path = os.path.join(folder, MODULES)
         with open(path, "wb") as file:
@@ -56,16 +58,17 @@ def send_modules(client):
 class Run:
     """The captures that are handed out; each has a key of this run and its number, so that none is taken twice."""
 
-    def __init__(self, client, common, lost):
-        self.client, self.common, self.lost, self.name, self.tasks = client, common, lost, uuid.uuid4().hex, {}
+    def __init__(self, client: Any, common: Common, lost: Type[Exception]) -> None:
+        self.client, self.common, self.lost, self.name = client, common, lost, uuid.uuid4().hex
+        self.tasks: Dict[str, Tuple[Task, int]] = {}
 
-    def submit(self, task, count=0):
+    def submit(self, task: Task, count: int = 0) -> Any:
         key = f"dnssec_check-{self.name}-{task.number}-{count}"
         future = self.client.submit(at_worker, task.octets, task.questions, self.common, key=key, pure=False)
         self.tasks[future.key] = task, count
         return future
 
-    def result(self, future, again):
+    def result(self, future: Any, again: Callable[[Any], None]) -> Optional[Result]:
         """The verdicts; None where the capture is handed out anew, since each worker that had it was lost."""
         task, count = self.tasks.pop(future.key)
         try:
@@ -79,7 +82,7 @@ class Run:
             raise Failure(f"a worker failed: {type(fault).__name__}: {fault}") from fault
 
 
-def by_workers(tasks, common, address):
+def by_workers(tasks: Iterable[Task], common: Common, address: str) -> Iterator[Result]:
     """Each capture's number with its verdicts, as they are done."""
     dask = library()
     with client_of(dask, address) as client:
@@ -94,7 +97,7 @@ def by_workers(tasks, common, address):
             yield from taken(run, completed)
 
 
-def taken(run, completed):
+def taken(run: Run, completed: Any) -> List[Result]:
     """The next capture that is done, if it wasn't handed out anew."""
     future = next(completed)
     found = run.result(future, completed.add)
@@ -102,7 +105,7 @@ def taken(run, completed):
     return [found] if found else []
 
 
-def client_of(dask, address):
+def client_of(dask: Any, address: str) -> Any:
     """A client of the scheduler, which has a worker."""
     try:
         client = dask.Client(address, timeout=WAIT_SECONDS)

@@ -1,8 +1,8 @@
 """The RRsets of a capture with their signatures, numbered as the program does, and to what aliases lead."""
-from collections import namedtuple
+from typing import Any, Dict, List, NamedTuple, Optional, Tuple
 
 from ..capturing.frames import frames_of
-from ..capturing.messages import TYPE_CNAME, TYPE_RRSIG, lower, name_at, name_text, records_of
+from ..capturing.messages import TYPE_CNAME, TYPE_RRSIG, Labels, Record, lower, name_at, name_text, records_of
 from ..capturing.octets import Incomplete, number_at
 
 CLASS_IN = 1
@@ -10,41 +10,54 @@ CLASS_IN = 1
 UNGROUPED = {0, 3, 4, 7, 8, 9, 14, 17, 18, 21, 24, 26, 30, 35, 36, 38, 41, 46}
 TAG, SIGNER = 16, 18  # where the key tag and the signer's name stand in the RDATA of an RRSIG record (RFC 4034 3.1)
 
-Signature = namedtuple("Signature", "tag signer")
-# A record with the number of its RRset, and that of its signature where it is one; None where it has none.
-Placed = namedtuple("Placed", "record number rrset signature")
+Key = Tuple[int, Labels, int]
+
+
+class Signature(NamedTuple):
+    tag: int
+    signer: Labels
 
 
 class Rrset:
-    def __init__(self, number, owner, kind):
+    def __init__(self, number: int, owner: Labels, kind: int) -> None:
         self.number, self.owner, self.kind = number, owner, kind
-        self.signatures, self.targets = [], []
+        self.signatures: List[Signature] = []
+        self.targets: List[Optional[str]] = []
 
 
-def forms_rrsets(kind):
+class Placed(NamedTuple):
+    """A record with its RRset, and the number of its signature where it is one; None where it has none."""
+
+    record: Record
+    number: int
+    rrset: Optional[Rrset]
+    signature: Optional[int]
+
+
+def forms_rrsets(kind: int) -> bool:
     return kind not in UNGROUPED and not 128 <= kind <= 255
 
 
-def group_of(octets, record):
+def group_of(octets: bytes, record: Record) -> int:
     return number_at(octets, record.front - 8, 2)
 
 
-def owner_of(octets, record):
+def owner_of(octets: bytes, record: Record) -> Labels:
     return lower(name_at(octets, record.name))
 
 
-def target_of(octets, record):
+def target_of(octets: bytes, record: Record) -> Optional[str]:
     try:
         return name_text(lower(name_at(octets, record.front)))
     except Incomplete:
         return None
 
 
-def signature_of(octets, record):
+def signature_of(octets: bytes, record: Record) -> Signature:
     return Signature(number_at(octets, record.front + TAG, 2), lower(name_at(octets, record.front + SIGNER)))
 
 
-def rdata_of_signature(octets, record):
+def rdata_of_signature(octets: bytes, record: Record) -> Tuple[bytes, Labels, bytes]:
     """The RDATA by which signatures are told apart, its name written out."""
     front, place = record.front, record.front + SIGNER
     labels = name_at(octets, place)
@@ -54,7 +67,7 @@ def rdata_of_signature(octets, record):
     return bytes(octets[front:front + SIGNER]), labels, bytes(octets[behind:record.end])
 
 
-def readable_records(octets):
+def readable_records(octets: bytes) -> List[Record]:
     """The records up to the first whose owner or RDATA isn't whole."""
     records = []
     try:
@@ -71,20 +84,22 @@ def readable_records(octets):
 class Evidence:
     """The RRsets of all messages, by message, section and first appearance."""
 
-    def __init__(self, octets):
+    def __init__(self, octets: bytes) -> None:
         self.messages = frames_of(octets)[0]
-        self.rrsets = []
+        self.rrsets: List[Rrset] = []
         self.placed = [self.place(message) for message in self.messages]
 
-    def place(self, octets):
+    def place(self, octets: bytes) -> List[Placed]:
         """The records of a message, as far as they can be read, each with what it belongs to."""
-        records, found, seen = readable_records(octets), {}, {}
+        records = readable_records(octets)
+        found: Dict[Key, Rrset] = {}
+        seen: Dict[Any, int] = {}
         for record in records:
             if group_of(octets, record) == CLASS_IN and forms_rrsets(record.kind):
                 self.keep(octets, record, found)
         return [self.placed_of(octets, record, number, found, seen) for number, record in enumerate(records, 1)]
 
-    def keep(self, octets, record, found):
+    def keep(self, octets: bytes, record: Record, found: Dict[Key, Rrset]) -> None:
         key = record.section, owner_of(octets, record), record.kind
         if key not in found:
             found[key] = Rrset(len(self.rrsets) + 1, *key[1:])
@@ -93,7 +108,7 @@ class Evidence:
             found[key].targets.append(target_of(octets, record))
 
     @staticmethod
-    def placed_of(octets, record, number, found, seen):
+    def placed_of(octets: bytes, record: Record, number: int, found: Dict[Key, Rrset], seen: Dict[Any, int]) -> Placed:
         """The record with its RRset, or with the RRset that it signs; `seen` has the signatures that are numbered."""
         unplaced = Placed(record, number, None, None)
         if group_of(octets, record) != CLASS_IN:
@@ -113,7 +128,7 @@ class Evidence:
         except (Incomplete, IndexError):
             return unplaced
 
-    def signature(self, rrset, signature):
+    def signature(self, rrset: int, signature: int) -> Optional[Tuple[str, int]]:
         """The signer's name and the key tag; None where the capture has no such signature."""
         try:
             found = self.rrsets[rrset - 1].signatures[signature - 1]
@@ -121,6 +136,6 @@ class Evidence:
             return None
         return name_text(found.signer), found.tag
 
-    def target(self, rrset):
+    def target(self, rrset: int) -> Optional[str]:
         targets = self.rrsets[rrset - 1].targets if rrset <= len(self.rrsets) else []
         return targets[0] if targets else None

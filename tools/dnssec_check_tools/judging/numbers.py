@@ -1,31 +1,37 @@
 """The numbers of what is refused or fails, with what is wrong and what to do: the one table of them."""
 import functools
-from collections import namedtuple
 from importlib import resources
+from typing import Any, Dict, NamedTuple
 
-Number = namedtuple("Number", "number where what remedy")
 # The words of a refusal that tell a place, as they are shown.
 PLACES = ("message", "record", "line")
 
 
+class Number(NamedTuple):
+    number: int
+    where: str
+    what: str
+    remedy: str
+
+
 @functools.lru_cache(None)
-def numbers():
+def numbers() -> Dict[int, Number]:
     """The table by number."""
     lines = resources.files(__package__).joinpath("numbers.tsv").read_text("utf-8").splitlines()[1:]
     rows = (line.split("\t") for line in lines)
     return {int(number): Number(int(number), *texts) for number, *texts in rows}
 
 
-def lowered(sentence):
+def lowered(sentence: str) -> str:
     """A sentence as it stands within another: without its capital and its full stop."""
     is_word = sentence[:2].isupper() and sentence[:2].isalpha()
     front = sentence[0] if is_word or " " not in sentence else sentence[0].lower()
     return front + sentence[1:].rstrip(".").rstrip()
 
 
-def fault_text(evidence, paths):
+def fault_text(evidence: Dict[str, Any], paths: Dict[str, str]) -> str:
     """What is wrong, where, and what to do; `paths` has those of the caller by the names of the options."""
-    row = numbers().get(evidence.get("number"))
+    row = numbers().get(evidence.get("number", -1))
     if row is None:
         return evidence.get("said") or str(evidence.get("number"))
     where = evidence.get("file", row.where)

@@ -7,12 +7,13 @@ from cryptography.exceptions import InvalidSignature, UnsupportedAlgorithm
 from cryptography.hazmat.primitives import hashes
 from cryptography.hazmat.primitives.asymmetric import ec, ed448, ed25519
 from cryptography.hazmat.primitives.asymmetric.utils import encode_dss_signature
+from typing import Any, Callable, Dict
 
 ECDSA = {"P-256": (ec.SECP256R1(), hashes.SHA256()), "P-384": (ec.SECP384R1(), hashes.SHA384())}
-EDDSA = {"Ed25519": ed25519.Ed25519PublicKey, "Ed448": ed448.Ed448PublicKey}
+EDDSA: Dict[str, Any] = {"Ed25519": ed25519.Ed25519PublicKey, "Ed448": ed448.Ed448PublicKey}
 
 
-def is_signed_by_ecdsa(name, key, data, signature):
+def is_signed_by_ecdsa(name: str, key: bytes, data: bytes, signature: bytes) -> bool:
     """A key is the point's two coordinates, a signature the two numbers r and s (RFC 6605 4)."""
     curve, hash_function = ECDSA[name]
     size = (curve.key_size + 7) // 8
@@ -24,12 +25,12 @@ def is_signed_by_ecdsa(name, key, data, signature):
         encode_dss_signature(r, s), data, ec.ECDSA(hash_function))
 
 
-def is_signed_by_eddsa(name, key, data, signature):
+def is_signed_by_eddsa(name: str, key: bytes, data: bytes, signature: bytes) -> bool:
     """Key and signature are octet strings as they are (RFC 8080 3 and 4)."""
     return is_verified(lambda: EDDSA[name].from_public_bytes(key), signature, data)
 
 
-def is_verified(public_key, *parts):
+def is_verified(public_key: Callable[[], Any], *parts: Any) -> bool:
     try:
         public_key().verify(*parts)
     except InvalidSignature:

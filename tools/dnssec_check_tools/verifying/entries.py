@@ -1,13 +1,17 @@
 """What has to be verified, line by line, and the statements that answer it."""
 import re
-from collections import namedtuple
+from typing import Any, NamedTuple, Tuple
 
 from .rsa import Malformed, is_signed_by_rsa
 
 HEX = r"(?:-|(?:[0-9A-Fa-f]{2})+)"
 TODO = re.compile(rf"todo (0|[1-9][0-9]{{0,2}}) ({HEX}) ({HEX}) ({HEX})")
 
-Entry = namedtuple("Entry", "place algorithm fields")
+
+class Entry(NamedTuple):
+    place: str
+    algorithm: int
+    fields: Tuple[str, ...]
 
 
 class Refusal(Exception):
@@ -18,7 +22,7 @@ class Lacking(Exception):
     """An algorithm can't be verified here."""
 
 
-def curves():
+def curves() -> Any:
     """Imported where a line needs it: RSA does without the package, and an interrupt of the import has its line too."""
     from . import curves as module
     return module
@@ -36,7 +40,7 @@ VERIFIERS = {
 }
 
 
-def is_good(algorithm, key, data, signature):
+def is_good(algorithm: int, key: bytes, data: bytes, signature: bytes) -> bool:
     """Whether the signature is one of the data by the key."""
     try:
         return VERIFIERS[algorithm](key, data, signature)
@@ -44,11 +48,11 @@ def is_good(algorithm, key, data, signature):
         return False
 
 
-def octets_of(field):
+def octets_of(field: str) -> bytes:
     return b"" if field == "-" else bytes.fromhex(field)
 
 
-def entry_of(line, place):
+def entry_of(line: str, place: str) -> Entry:
     """The algorithm and the three hex fields of a line to verify."""
     match = TODO.fullmatch(line)
     if not match:
@@ -58,7 +62,7 @@ def entry_of(line, place):
     return Entry(place, int(match[1]), match.groups()[1:])
 
 
-def statement_of(entry):
+def statement_of(entry: Entry) -> str:
     """The line that answers the entry."""
     try:
         word = "good" if is_good(entry.algorithm, *map(octets_of, entry.fields)) else "bad"

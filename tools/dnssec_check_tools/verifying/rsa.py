@@ -1,5 +1,6 @@
 """Signatures of RSA, without a package."""
 import hashlib
+from typing import Tuple
 
 BITS_MOST = 4096
 
@@ -15,14 +16,14 @@ class Malformed(Exception):
     """A key or a signature isn't laid out as its algorithm asks."""
 
 
-def rsa_number(octets):
+def rsa_number(octets: bytes) -> int:
     """An unsigned number of RFC 3110 2, which is odd in every key of RSA."""
     if not octets or octets[0] == 0 or len(octets) * 8 > BITS_MOST or octets[-1] % 2 == 0:
         raise Malformed
     return int.from_bytes(octets, "big")
 
 
-def rsa_key(key, bits_least):
+def rsa_key(key: bytes, bits_least: int) -> Tuple[int, int]:
     """The modulus and the exponent of a key field, as RFC 3110 2 lays them out."""
     front, length = 1, key[0] if key else 0
     if length == 0:
@@ -35,7 +36,7 @@ def rsa_key(key, bits_least):
     return modulus, exponent
 
 
-def is_signed_by_rsa(hash_name, bits_least, key, data, signature):
+def is_signed_by_rsa(hash_name: str, bits_least: int, key: bytes, data: bytes, signature: bytes) -> bool:
     """PKCS #1 v1.5 by its definition (RFC 8017 8.2.2), so that no size of key depends on a package's taste."""
     modulus, exponent = rsa_key(key, bits_least)
     size = (modulus.bit_length() + 7) // 8
