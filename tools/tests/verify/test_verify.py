@@ -8,7 +8,7 @@ from unittest import mock
 from cryptography.exceptions import UnsupportedAlgorithm
 
 from tool import DATA, TOOLS, run, run_program
-from verifying import entries
+from dnssec_check_tools.verifying import entries
 
 P256_ORDER = 0xFFFFFFFF00000000FFFFFFFFFFFFFFFFBCE6FAADA7179E84F3B9CAC2FC632551
 
@@ -190,7 +190,7 @@ class Lacking(unittest.TestCase):
 
     def test_without_the_package_rsa_is_verified(self):
         lines = self.GIVEN.decode().splitlines()
-        with mock.patch.dict(sys.modules, {"verifying.curves": None}):
+        with mock.patch.dict(sys.modules, {"dnssec_check_tools.verifying.curves": None}):
             self.left_out([number for number, line in enumerate(lines, 1) if line.startswith("todo 1")
                            and not line.startswith("todo 10 ")])
 
