@@ -1,8 +1,8 @@
 """The cases of examples/: folders of files, command lines over them, and what has to come of each.
 
-A line of a case's file `commands` has the exit status that has to come and the words of the command line. What has to be
-printed is in files that are named by the subcommand: `check.stdout`, `check.json` for `check --json`, `check.stderr`; and
-`list-all.stdout` for `list --all`. Where a file isn't there, nothing has to be printed.
+A line of a case's file `commands` has the exit status that has to come and the words of the command line. What has to
+be printed is in files that are named by the subcommand: `check.stdout`, `check.stderr`, `check.json` for `check --json`,
+and `list-all.stdout` for `list --all`. Where a file isn't there, nothing has to be printed.
 """
 import pathlib
 import re
@@ -10,7 +10,7 @@ from dataclasses import dataclass
 
 EXAMPLES = pathlib.Path(__file__).resolve().parent.parent / "examples"
 LINE = re.compile(r"(\d+) (\S+(?: \S+)*)")
-FILES = ("capture", "anchors", "statements", "keys", "macs")
+FILES = ("--capture", "--anchors", "--statements", "--keys", "--macs")
 
 
 class WrongLine(ValueError):
@@ -40,18 +40,26 @@ class Example:
         return f"{self.folder.name}/{self.stem}" + (".json" if self.is_json else "")
 
     @property
+    def output_file(self) -> pathlib.Path:
+        return self.folder / (self.stem + (".json" if self.is_json else ".stdout"))
+
+    @property
+    def errors_file(self) -> pathlib.Path:
+        return self.folder / f"{self.stem}.stderr"
+
+    @property
     def output(self) -> bytes:
-        return octets_of(self.folder / (self.stem + (".json" if self.is_json else ".stdout")))
+        return octets_of(self.output_file)
 
     @property
     def errors(self) -> bytes:
-        return octets_of(self.folder / f"{self.stem}.stderr")
+        return octets_of(self.errors_file)
 
     @property
     def files(self) -> dict[str, pathlib.Path]:
         """The paths of its files by their options, `capture` and others."""
         pairs = zip(self.words, self.words[1:])
-        return {word[2:]: (self.folder / path).resolve() for word, path in pairs if word[2:] in FILES}
+        return {word[2:]: (self.folder / path).resolve() for word, path in pairs if word in FILES}
 
 
 def octets_of(path: pathlib.Path) -> bytes:
@@ -61,7 +69,7 @@ def octets_of(path: pathlib.Path) -> bytes:
 def examples_of(folder: pathlib.Path) -> list[Example]:
     """Those of a case, in the order of its lines."""
     path, found = folder / "commands", []
-    for number, line in enumerate(path.read_text().splitlines(), 1):
+    for number, line in enumerate(path.read_text(errors="surrogateescape").splitlines(), 1):
         parts = LINE.fullmatch(line)
         if parts is None:
             raise WrongLine(f"{path}: line {number} isn't an exit status and words, parted by one blank each")

@@ -38,6 +38,20 @@ class Json(unittest.TestCase):
                 self.assertEqual(text, self.as_json(lines.words, lines.output.decode()))
                 self.assert_valid(text)
 
+    def test_the_tool_says_one_example(self):
+        wanted, = [example.output for example in examples() if example.name == "bind-www-a/explain.json"]
+        self.assertEqual(run("as-json", "bind-www-a/explain"), (0, wanted, ""))
+
+    def test_the_tool_says_none_that_has_no_json(self):
+        for name in ("bind-www-a", "bind-www-a/show", "bind-www-a/explain.json", "bind-loop-a/check"):
+            status, output, errors = run("as-json", name)
+            self.assertEqual((status, output), (2, b""), name)
+            self.assertIn(f"{name} is no example that prints lines", errors)
+        for name in ("nobody", "bind-www-a/"):
+            status, output, errors = run("as-json", name)
+            self.assertEqual((status, output), (2, b""), name)
+            self.assertIn(f"there is no case {name}, ", errors)
+
     def test_octets_and_names(self):
         words = ["list", "--moment", "7"]
         self.assertEqual(self.as_json(words, ""), '{"command":"list","moment":7,"todo":[]}\n')
