@@ -1,8 +1,8 @@
 """The cases of examples/: folders of files, command lines over them, and what has to come of each.
 
-A line of a case's file `commands` has the exit status that has to come and the words of the command line. What has to
-be printed is in files that are named by the subcommand: `check.stdout`, `check.stderr`, `check.json` for `check --json`,
-and `list-all.stdout` for `list --all`. Where a file isn't there, nothing has to be printed.
+A line of a case's file `commands` has the exit status that has to come and the words of the command line. What has
+to be printed is in files that are named by the subcommand: `check.stdout`, `check.stderr`, `check.json` for
+`check --json`, and `list-all.stdout` for `list --all`. Where a file isn't there, nothing has to be printed.
 """
 import pathlib
 import re
