@@ -5,8 +5,8 @@ import unittest
 
 from tool import TOOLS
 
-FOLDERS = ("capturing", "verifying", "asking", "explaining", "judging", "failing")
-NAMES = ["verify", "capture", "judge", "pages", "faults", "command.py"]
+FOLDERS = ("capturing", "verifying", "asking", "explaining", "judging", "failing", "as_json")
+NAMES = ["verify", "capture", "judge", "pages", "faults", "examples", "as-json", "cases.py", "command.py"]
 NAMES += [str(path.relative_to(TOOLS)) for folder in FOLDERS for path in sorted((TOOLS / folder).glob("*.py"))]
 # What each imports besides; dnspython (`dns`), distributed and rich only where they're needed.
 PACKAGES = {
@@ -21,8 +21,10 @@ PACKAGES = {
     "judging/cluster.py": {"asking", "distributed"},
     "judging/progress.py": {"rich"},
     "pages": {"command"},
-    "faults": {"command", "failing"},
-    "failing": {"messages", "zones"},  # of rows
+    "examples": {"cases", "command"},
+    "as-json": {"as_json", "cases", "command"},
+    "faults": {"cases", "command", "failing"},
+    "failing": {"cases", "messages", "zones"},  # the last two of rows
 }
 
 
