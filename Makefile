@@ -13,11 +13,11 @@ PYTHON ?= /usr/bin/python3
 all:
 	cd crates/dnssec_check && rt run -- --help
 
-# The verdict of examples/bind-www-a-check before any proof, so it proves nothing; no program is kept.
-example = ../../examples/bind-www-a
+# The verdict of examples/bind-www-a before any proof, so it proves nothing; no program is kept.
+examples = ../../examples
 try:
-	cd crates/dnssec_check && rt try --data capture=$(example)-list/capture \
-		--data anchors=$(example)-check/anchors --data statements=$(example)-check/statements -- \
+	cd crates/dnssec_check && rt try --data capture=$(examples)/bind-www-a/capture \
+		--data anchors=$(examples)/anchors --data statements=$(examples)/bind-www-a/statements -- \
 		check --capture capture --anchors anchors --statements statements \
 		--moment 1795348800 --name www.bind.test. --type 1
 
@@ -27,9 +27,9 @@ test:
 
 # What each signature of a message that a real name server sent signs.
 demo: | $(program)
-	$(program) list --capture examples/www-a-list-all/capture --moment 1795348800 --all
+	$(program) list --capture examples/www-a/capture --moment 1795348800 --all
 
-# What the built program says of each folder of examples/, against what has to come.
+# What the built program says to each command line of examples/, against what has to come.
 examples: | $(program)
 	tools/examples
 

@@ -1,5 +1,5 @@
 """The objects of `why` for what fails, for the keys of a zone, and for what follows."""
-from .fields import numbers, options, signature
+from .fields import Fields, Members, numbers, options, signature
 
 # The reasons that aren't about a signature, an anchor or a DS record, by what their fields begin with.
 SOURCED = ("delegation", "type-held", "match-missing", "encloser-missing", "cover-missing")
@@ -7,14 +7,14 @@ ZONED = ("no-anchor", "dnskey-missing", "ds-missing")
 RECORDS = ("nsec3-iterations", "nsec3-unusable")
 
 
-def entry(fields):
+def entry(fields: Fields) -> Members:
     """ZONE anchor A wants TAG ALG [digest D], or ZONE rrset R record K wants TAG ALG digest D."""
     zone, *rest = fields
     return {"zone": zone, **options(rest, {"anchor": ["anchor"], "rrset": ["rrset"], "record": ["record"],
                                            "wants": ["tag", "algorithm"], "digest": ["digest_type"]})}
 
 
-def source(fields):
+def source(fields: Fields) -> tuple[Members, list[str]]:
     """nsec ZONE, or nsec3 ZONE iterations N salt HEX; and what follows."""
     kind, zone, *rest = fields
     if kind == "nsec":
@@ -23,7 +23,7 @@ def source(fields):
     return {"kind": kind, "zone": zone, "iterations": int(iterations), "salt": salt}, rest
 
 
-def sourced(fields):
+def sourced(fields: Fields) -> Members:
     said, rest = source(fields)
     words = dict(zip(rest[::2], rest[1::2]))
     for word, key in (("role", "role"), ("name", "name"), ("rrset", "rrset"), ("record", "record"), ("holds", "held")):
@@ -32,7 +32,7 @@ def sourced(fields):
     return said
 
 
-def of_signature(fields):
+def of_signature(fields: Fields) -> Members:
     said, rest = signature(fields)
     words = dict(zip(rest[::2], rest[1::2]))
     for word, key in (("from", "inception"), ("to", "expiration"), ("by", "by")):
@@ -41,23 +41,23 @@ def of_signature(fields):
     return said | ({"name": words["name"]} if "name" in words else {})
 
 
-def record(fields):
+def record(fields: Fields) -> Members:
     owner, rtype, *rest = fields
     return {"owner": owner, "type": int(rtype),
             **options(rest, {"rrset": ["rrset"], "record": ["record"], "iterations": ["iterations"]})}
 
 
-def answer(fields):
+def answer(fields: Fields) -> Members:
     name, rtype, *rest = fields
     return {"name": name, "type": int(rtype)} | ({"zone": rest[1]} if rest else {})
 
 
-def dname(fields):
+def dname(fields: Fields) -> Members:
     name, *rest = fields
     return {"name": name, **options(rest, {"rrset": ["rrset"], "record": ["record"]})}
 
 
-def self_signed(fields):
+def self_signed(fields: Fields) -> Members:
     zone, _, rrset, _, tag, algorithm = fields
     return {"zone": zone, **numbers((rrset, tag, algorithm), "rrset", "tag", "algorithm")}
 
@@ -68,18 +68,18 @@ OTHERS |= {word: lambda fields: {"zone": fields[0]} for word in ZONED}
 OTHERS |= {word: sourced for word in SOURCED} | {word: record for word in RECORDS}
 
 
-def reason(fields):
+def reason(fields: Fields) -> Members:
     error, word, *rest = fields
     said = OTHERS.get(word) or (entry if "wants" in rest else of_signature)
     return {"word": word, "ede": int(error), **said(rest)}
 
 
-def follows(fields):
+def follows(fields: Fields) -> Members:
     word, *rest = fields
     return {"word": word, **signature(rest)[0]}
 
 
-def key(fields):
+def key(fields: Fields) -> Members:
     zone, *rest = fields
     return {"zone": zone, **options(rest, {
         "rrset": ["rrset"], "record": ["record"], "tag": ["tag"], "algorithm": ["algorithm"], "flags": ["flags"],

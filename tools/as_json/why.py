@@ -1,26 +1,26 @@
 """The objects of `why`: what each line of an explanation says, by its words."""
 from .fails import follows, key, reason
-from .fields import numbers, options, signature
+from .fields import Fields, Members, numbers, options, signature
 
 
-def trusted(fields):
+def trusted(fields: Fields) -> Members:
     zone, _, rrset, _, number, _, tag, algorithm, *rest = fields
     said = {"zone": zone, **numbers((rrset, number, tag, algorithm), "rrset", "signature", "tag", "algorithm")}
     return said | options(rest, {"anchor": ["anchor"], "ds": ["ds_rrset", "ds_record"], "digest": ["digest_type"],
                                  "todo": ["todo"]})
 
 
-def signed(fields):
+def signed(fields: Fields) -> Members:
     said, rest = signature(fields)
     return said | options(rest, {"keys": ["keys"], "todo": ["todo"]})
 
 
-def proof(fields):
+def proof(fields: Fields) -> Members:
     form, kind, _, zone, *rest = fields
     return {"form": form, "kind": kind, "zone": zone} | ({"encloser": rest[1]} if rest else {})
 
 
-def part(fields):
+def part(fields: Fields) -> Members:
     role, relation, name, *rest = fields
     said = {"role": role, "relation": relation, "name": name}
     if rest:
@@ -29,18 +29,18 @@ def part(fields):
     return said
 
 
-def case(fields):
+def case(fields: Fields) -> Members:
     number, _, cut, *rest = fields
     return {"case": int(number), "cut": cut} | ({"zone": rest[1]} if rest else {})
 
 
-def unusable(fields):
+def unusable(fields: Fields) -> Members:
     why, owner, _, rrset, _, place, _, tag, algorithm, _, digest = fields
     return {"why": why, "owner": owner,
             **numbers((rrset, place, tag, algorithm, digest), "rrset", "record", "tag", "algorithm", "digest_type")}
 
 
-def place(fields):
+def place(fields: Fields) -> Members:
     rrset, _, message, _, section, owner, rtype = fields
     return {**numbers((rrset, message, section), "rrset", "message", "section"), "owner": owner, "type": int(rtype)}
 
@@ -53,7 +53,7 @@ LINES = {
 }
 
 
-def why(line):
+def why(line: Fields) -> Members:
     """The object of a line, from its words."""
     word, *fields = line
     return {"line": word} | LINES[word](fields)

@@ -5,7 +5,9 @@ import signal
 import tempfile
 from collections import namedtuple
 
-FILES = ("capture", "anchors", "statements", "keys", "macs")
+from cases import examples_of, named
+
+SMALL = pathlib.Path(__file__).resolve().parent / "keys-and-host"
 # No run takes a tenth of that; where one does, it is ended.
 SECONDS = 20
 # Files that are written anew again and again wait for a disk; where there is memory for them, they are kept there.
@@ -18,17 +20,11 @@ Tried = namedtuple("Tried", "program library")
 
 
 class Case:
-    """A folder as those of examples/: a command line (`words`), the files that it names, and what has to come."""
+    """A command line with the files that it names, and what has to come, as an example has them."""
 
-    def __init__(self, folder):
-        self.name = folder.name
-        self.words = (folder / "words").read_text().splitlines()
-        self.files = {}
-        for place, option in enumerate(self.words[:-1]):
-            if option[2:] in FILES:
-                self.files[option[2:]] = (folder / self.words[place + 1]).resolve()
-        self.right = Answer(int((folder / "status").read_text()), *((folder / name).read_bytes()
-                                                                    for name in ("stdout", "stderr")))
+    def __init__(self, example):
+        self.name, self.words, self.files = example.name, example.words, example.files
+        self.right = Answer(example.status, example.output, example.errors)
 
     def words_with(self, **others):
         """The command line, with these files in the place of its own."""
@@ -36,6 +32,17 @@ class Case:
         for option, path in paths.items():
             words[words.index(f"--{option}") + 1] = str(path)
         return words
+
+
+def case_of(name):
+    """The example of this name."""
+    example, = named(name)
+    return Case(example)
+
+
+def small_cases():
+    """What `list` and `check` say of the small capture, which is of examples/ and has made-up signatures."""
+    return [Case(example) for example in examples_of(SMALL)]
 
 
 class Spoken:

@@ -77,9 +77,9 @@ class Package(unittest.TestCase):
 
     def use(self):
         """A verdict by the installed commands, from anywhere."""
-        capture = EXAMPLES / "bind-www-a-list" / "capture"
+        capture = EXAMPLES / "bind-www-a" / "capture"
         words = (capture, "www.bind.test/A", "--at", "2026-11-22T12:00:00Z",
-                 "--anchors", EXAMPLES / "bind-www-a-check" / "anchors")
+                 "--anchors", EXAMPLES / "anchors")
         self.assertIn("SecureAnswer", done("/usr/bin/dnssec_check-judge", *words))
         self.assertEqual(done("/usr/bin/dnssec_check-verify", DATA / "todo"), (DATA / "statements").read_text())
         shown = done("/usr/bin/dnssec_check", "show", "--capture", capture)

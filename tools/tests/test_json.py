@@ -2,34 +2,19 @@
 import json
 import unittest
 
-from tool import DATA, PROGRAM, TOOLS, load, run_program
+from tool import DATA, PROGRAM, load, run, run_program
+from cases import EXAMPLES, examples
 
 try:
     import jsonschema
 except ImportError:
     jsonschema = None
 
-EXAMPLES = TOOLS.parent / "examples"
-
-
-def words_of(folder):
-    return (folder / "words").read_text().splitlines()
-
-
-def words_beside(folder):
-    """The words as a folder beside it has them."""
-    return [f"../{folder.name}/{word}" if "/" not in word and (folder / word).is_file() else word
-            for word in words_of(folder)]
-
-
-def text_of(folder):
-    return (folder / "stdout").read_text()
-
 
 def in_lines():
     """The examples of `list`, `check` and `explain` that print a text in lines."""
-    return [path for path in sorted(EXAMPLES.iterdir()) if path.is_dir() and text_of(path)
-            and words_of(path)[0] in ("list", "check", "explain") and "--json" not in words_of(path)]
+    return [each for each in examples()
+            if each.output and each.words[0] in ("list", "check", "explain") and not each.is_json]
 
 
 class Json(unittest.TestCase):
@@ -43,14 +28,29 @@ class Json(unittest.TestCase):
             jsonschema.Draft7Validator(json.loads((DATA / "schema.json").read_text())).validate(json.loads(line))
 
     def test_examples_in_json_say_what_those_in_lines_say(self):
-        folders = sorted(EXAMPLES.glob("*-json"))
-        self.assertGreaterEqual(len(folders), 48)
-        for folder in folders:
-            with self.subTest(folder.name):
-                lines = folder.with_name(folder.name.removesuffix("-json"))
-                self.assertEqual(words_of(folder), words_beside(lines) + ["--json"])
-                self.assertEqual(text_of(folder), self.as_json(words_of(lines), text_of(lines)))
-                self.assert_valid(text_of(folder))
+        there = {example.name: example for example in examples()}
+        in_json = [example for example in there.values() if example.is_json]
+        self.assertGreaterEqual(len(in_json), 48)
+        for example in in_json:
+            with self.subTest(example.name):
+                lines, text = there[example.name.removesuffix(".json")], example.output.decode()
+                self.assertEqual((example.status, example.words), (lines.status, (*lines.words, "--json")))
+                self.assertEqual(text, self.as_json(lines.words, lines.output.decode()))
+                self.assert_valid(text)
+
+    def test_the_tool_says_one_example(self):
+        wanted, = [example.output for example in examples() if example.name == "bind-www-a/explain.json"]
+        self.assertEqual(run("as-json", "bind-www-a/explain"), (0, wanted, ""))
+
+    def test_the_tool_says_none_that_has_no_json(self):
+        for name in ("bind-www-a", "bind-www-a/show", "bind-www-a/explain.json", "bind-loop-a/check"):
+            status, output, errors = run("as-json", name)
+            self.assertEqual((status, output), (2, b""), name)
+            self.assertIn(f"{name} is no example that prints lines", errors)
+        for name in ("nobody", "bind-www-a/"):
+            status, output, errors = run("as-json", name)
+            self.assertEqual((status, output), (2, b""), name)
+            self.assertIn(f"there is no case {name}, ", errors)
 
     def test_octets_and_names(self):
         words = ["list", "--moment", "7"]
@@ -116,19 +116,18 @@ key b. rrset 3 record 2 tag 29000 algorithm 13 flags 257 signature 1 ds 2 1
 
     @unittest.skipUnless(PROGRAM.exists(), "needs the built program")
     def test_program_says_in_json_what_it_says_in_lines(self):
-        folders = in_lines()
-        self.assertGreater(len(folders), 100)
-        for folder in folders:
-            with self.subTest(folder.name):
-                words = words_of(folder)
-                status, output, errors = run_program(PROGRAM, *words, "--json", folder=folder)
-                self.assertEqual((status, errors), (int((folder / "status").read_text()), ""))
-                self.assertEqual(output.decode(), self.as_json(words, text_of(folder)))
+        told = in_lines()
+        self.assertGreater(len(told), 100)
+        for example in told:
+            with self.subTest(example.name):
+                status, output, errors = run_program(PROGRAM, *example.words, "--json", folder=example.folder)
+                self.assertEqual((status, errors), (example.status, ""))
+                self.assertEqual(output.decode(), self.as_json(example.words, example.output.decode()))
                 self.assert_valid(output.decode())
 
     @unittest.skipUnless(PROGRAM.exists(), "needs the built program")
     def test_show_has_no_json(self):
-        status, output, _ = run_program(PROGRAM, "show", "--capture", EXAMPLES / "www-a-list-all" / "capture", "--json")
+        status, output, _ = run_program(PROGRAM, "show", "--capture", EXAMPLES / "www-a" / "capture", "--json")
         self.assertEqual((status, output), (2, b""))
 
 

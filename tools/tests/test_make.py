@@ -8,6 +8,7 @@ import tempfile
 import unittest
 
 from tool import TOOLS, load
+from cases import named
 
 TOP = TOOLS.parent
 PROGRAM, ROWS = (f"crates/{name}/out/{name}" for name in ("dnssec_check", "dnsv_rows"))
@@ -70,11 +71,11 @@ class Targets(unittest.TestCase):
         self.assertEqual(words[:2], ["rt", "try"])
         end = words.index("--")
         files = dict(word.split("=") for word in words[2:end] if word != "--data")
-        wanted = (TOP / "examples/bind-www-a-check/words").read_text().splitlines()
-        here, there = TOP / "crates/dnssec_check", TOP / "examples/bind-www-a-check"
+        example, = named("bind-www-a/check")
+        here, there = TOP / "crates/dnssec_check", example.folder
         given = [(here / files[word]).resolve() if word in files and before.startswith("--") else word
                  for before, word in zip(words[end:], words[end + 1:])]
-        asked = [(there / word).resolve() if (there / word).is_file() else word for word in wanted]
+        asked = [(there / word).resolve() if (there / word).is_file() else word for word in example.words]
         self.assertEqual(pairs_of(given), pairs_of(asked))
 
 

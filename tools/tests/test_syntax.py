@@ -5,14 +5,17 @@ import unittest
 
 from tool import PACKAGE, TOOLS
 
-SCRIPTS = ("pages", "faults")
-NAMES = [*SCRIPTS, *(str(path.relative_to(TOOLS)) for folder in (PACKAGE, TOOLS / "failing")
+SCRIPTS = ("pages", "faults", "examples", "as-json", "cases.py")
+NAMES = [*SCRIPTS, *(str(path.relative_to(TOOLS)) for folder in (PACKAGE, TOOLS / "failing", TOOLS / "as_json")
                      for path in sorted(folder.rglob("*.py")))]
 # What each part imports besides itself; dnspython (`dns`), distributed and rich only where they're needed.
 PARTS = {
     "pages": {"dnssec_check_tools"},
-    "faults": {"dnssec_check_tools", "failing"},
-    "failing": {"dnssec_check_tools", "messages", "zones"},  # the last two of rows
+    "faults": {"cases", "dnssec_check_tools", "failing"},
+    "failing": {"cases", "dnssec_check_tools", "messages", "zones"},  # the last two of rows
+    "examples": {"cases", "dnssec_check_tools"},
+    "as-json": {"as_json", "cases", "dnssec_check_tools"},
+    "as_json": {"as_json"},
     "dnssec_check_tools/verify.py": {"command", "verifying"},
     "dnssec_check_tools/capture.py": {"command", "capturing"},
     "dnssec_check_tools/judge.py": {"command", "asking", "judging", "program"},

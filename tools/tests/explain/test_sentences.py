@@ -54,10 +54,9 @@ class Words(unittest.TestCase):
 @needs_dns
 class Examples(unittest.TestCase):
     def test_each_has_its_sentences_and_a_picture(self):
-        folders = sorted(EXAMPLES.glob("*-explain-json"))
-        for folder in folders:
-            with self.subTest(folder.name):
-                told = Explanation(json.loads((folder / "stdout").read_text()))
+        for path in sorted(EXAMPLES.glob("*/explain.json")):
+            with self.subTest(path.parent.name):
+                told = Explanation(json.loads(path.read_text()))
                 self.assertEqual(sentences.holds_until(told) is not None, told.value["status"] in (0, 3))
                 for line in told.lines:
                     self.assertTrue(str(sentences.sentence(told, line)).isprintable())

@@ -6,6 +6,7 @@ import tempfile
 import unittest
 
 from failing.refusal import built
+from cases import examples_of
 from failing.runs import Bench, Case, Tried
 
 # It asks for memory in five ways, reads the file that is named and writes what it read; a letter on the errors for each
@@ -105,13 +106,13 @@ class Programs(unittest.TestCase):
 
     def case(self, output=b"the answer\n"):
         """A case whose capture has 10 octets."""
-        folder = self.room / "small-show"
+        folder = self.room / "small"
         folder.mkdir(exist_ok=True)
-        files = {"words": b"show\n--capture\ncapture\n", "capture": b"0123456789", "status": b"0\n", "stdout": output,
-                 "stderr": b""}
+        files = {"commands": b"0 show --capture capture\n", "capture": b"0123456789", "show.stdout": output}
         for name, octets in files.items():
             (folder / name).write_bytes(octets)
-        return Case(folder)
+        example, = examples_of(folder)
+        return Case(example)
 
     def script(self, text):
         """A program for bash."""

@@ -41,8 +41,8 @@ class Again(Programs):
 
     def test_a_call_that_is_made_again(self):
         rows = self.rows().rows
-        self.assertEqual(rows["again: add, small-show"], {again.GRANTED: 1, again.OTHERS: 3, again.AGAIN: 1})
-        for name, count in (("small-show", 4), ("small-show, in pieces", 6)):
+        self.assertEqual(rows["again: add, small/show"], {again.GRANTED: 1, again.OTHERS: 3, again.AGAIN: 1})
+        for name, count in (("small/show", 4), ("small/show, in pieces", 6)):
             self.assertEqual(rows[f"again: feed, {name}"], {again.GRANTED: 1, again.OTHERS: count, again.FOR_EVER: 1})
 
     def test_what_goes_wrong(self):

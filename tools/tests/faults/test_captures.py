@@ -1,14 +1,15 @@
 """What tools/faults says of programs that do right, and that do wrong, on captures that are cut, changed or incomplete."""
 import unittest
 
-from tool import PROGRAM, TOOLS
+from tool import PROGRAM
 from failing import captures, denials, documented
-from failing.runs import Answer, Bench, Case
+from failing.runs import Answer, Bench, case_of, small_cases
 from failing.tally import Tally
 from .programs import Programs
 
-DATA = captures.signed_data(Case(TOOLS / "failing" / "keys-and-host-check").right,
-                            (TOOLS.parent / "examples/keys-and-host-list-all/stdout").read_bytes()).decode()
+_, SMALL = small_cases()
+LISTING = case_of("keys-and-host/list-all")
+DATA = captures.signed_data(SMALL.right, LISTING.right.output).decode()
 
 # It answers by the sizes of its three files, without looking into them, and lists the signed data.
 BY_SIZE = r"""
@@ -39,8 +40,7 @@ int main(int count, char **words) {
 
 class Small(Programs):
     def setUp(self):
-        self.small = Case(TOOLS / "failing" / "keys-and-host-check")
-        self.listing = Case(TOOLS.parent / "examples" / "keys-and-host-list-all")
+        self.small, self.listing = SMALL, LISTING
 
     def bench_of(self, flaw):
         size = self.small.files["statements"].stat().st_size
@@ -54,12 +54,12 @@ class Small(Programs):
         sizes = [path.stat().st_size for path in self.small.files.values()]
         self.assertEqual(sizes[0], 191)
         self.assertEqual(total.counts(), (sum(sizes) + 3, 0))
-        self.assertEqual(total.rows["cut: keys-and-host-check, capture"],
+        self.assertEqual(total.rows["cut: keys-and-host/check, capture"],
                          {"refused 209": 189, "Bogus": 2, "SecureAnswer": 1})
 
     def test_beginnings_that_end_wrong(self):
         tally = captures.cut_captures(self.bench_of("cuts").tried, self.small)
-        self.assertEqual(tally.wrong["cut: keys-and-host-check, capture"], [
+        self.assertEqual(tally.wrong["cut: keys-and-host/check, capture"], [
             "the first 100 octets: status -11", r"the first 101 octets: status 7, told 'refused 299\n'",
             r"the first 102 octets: status 5, wrote 'Bogus host.example. 1\n'"])
 
@@ -75,11 +75,11 @@ class Small(Programs):
         return job(self.bench_of(flaw).tried, *given)
 
     def test_each_octet_is_changed(self):
-        self.assertEqual(self.changed().rows, {"octets: keys-and-host-check": {"SecureAnswer": 255}})
+        self.assertEqual(self.changed().rows, {"octets: keys-and-host/check": {"SecureAnswer": 255}})
         for flaw in ("other data", "denies", "fails"):
             tally = self.changed(flaw)
             self.assertEqual(tally.counts(), (0, 255))
-        self.assertTrue(self.changed("fails").wrong["octets: keys-and-host-check"][0].startswith("octet 7 (from 0) as 0: "))
+        self.assertTrue(self.changed("fails").wrong["octets: keys-and-host/check"][0].startswith("octet 7 (from 0) as 0: "))
 
 
 class LeftOut(Programs):
@@ -98,7 +98,7 @@ class LeftOut(Programs):
         self.assertEqual(tally.counts(), (0, 4))
 
     def test_messages_of_a_real_capture(self):
-        case = Case(TOOLS.parent / "examples" / "bind-nosuch-check")
+        case = case_of("bind-nosuch/check")
         count = len(denials.messages_of(case.files["capture"].read_bytes()))
         said = case.right.output.decode()
         show = 'if [ "$1" = show ]; then echo "record 1 Bind.Test. 47 1 5 00"; exit; fi\n'

@@ -3,7 +3,8 @@ import os
 import unittest
 from unittest import mock
 
-from tool import PROGRAM, TOOLS, load, run
+from tool import PROGRAM, load, run
+from cases import examples
 from .programs import Programs
 
 
@@ -25,8 +26,8 @@ class CommandLine(unittest.TestCase):
             self.assertIn(f"\n{part}", tool.__doc__)
 
     def test_what_has_to_come_is_there(self):
-        for name in load("faults").REAL:
-            self.assertTrue((TOOLS.parent / "examples" / name / "words").is_file(), name)
+        there = {example.name for example in examples()}
+        self.assertLessEqual({*load("faults").REAL, *load("faults").ADDED}, there)
 
 
 @unittest.skipUnless(PROGRAM.exists(), "needs the built program")
@@ -36,7 +37,7 @@ class Passing(Programs):
             status, output, errors = run("faults", "cut", "write")
         lines = output.decode().splitlines()
         self.assertEqual((status, errors), (0, ""), output.decode())
-        self.assertIn("cut: keys-and-host-check, capture: 189 refused 209, 2 Bogus, 1 SecureAnswer", lines)
+        self.assertIn("cut: keys-and-host/check, capture: 189 refused 209, 2 Bogus, 1 SecureAnswer", lines)
         self.assertRegex(lines[-1], r"^\d{3,} passed, 0 failed$")
 
 

@@ -28,7 +28,7 @@ class Refusals(Programs):
     def test_what_ends_wrong_is_told_so_that_it_can_be_made_again(self):
         lines = list(self.tally("memory", "goes on").lines())
         self.assertEqual(lines, [
-            "memory: small-show: 1 right answers, 2 wrong",
+            "memory: small/show: 1 right answers, 2 wrong",
             r"  REFUSE=memory REFUSE_FIRST=1 REFUSE_LAST=1, 1 refused: status 0, wrote 'another\n'",
             r"  REFUSE=memory REFUSE_FIRST=1, 1 refused: status 0, wrote 'another\n'"])
         line, = [line for line in self.tally("memory", "crashes").lines() if "LAST" in line]
@@ -64,7 +64,7 @@ class Limits(Programs):
 
     def test_each_limit_is_tried(self):
         tally = self.tally(self.answering("echo fault 90 >&2; exit 1"))
-        self.assertEqual(tally.rows["limits: small-show"], {"`fault 90`": 16, "right answers": 5})
+        self.assertEqual(tally.rows["limits: small/show"], {"`fault 90`": 16, "right answers": 5})
         self.assertEqual(tally.counts(), (22, 0))
 
     def test_what_the_loader_refuses_is_told_apart(self):

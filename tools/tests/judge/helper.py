@@ -7,12 +7,13 @@ import sys
 import tempfile
 import unittest
 
+import cases
 from tool import PROGRAM, TOOLS, load, run_program
 
 EXAMPLES = TOOLS.parent / "examples"
 JUDGE = (sys.executable, TOOLS / "judge")
 NOON = "1795348800"
-ANCHORS = EXAMPLES / "bind-www-a-check" / "anchors"
+ANCHORS = EXAMPLES / "anchors"
 
 # Answers as the examples do. Whatever no example asks is Bogus, and bind.test. says nothing of it.
 BOGUS = {"command": "explain", "name": ".", "type": 0, "moment": 0, "verdict": "Bogus", "status": 5, "aliases": [], "why": []}
@@ -44,24 +45,21 @@ needs_dns = needs("dns", "dnspython")
 
 
 class Example:
-    """A folder of examples/: its command line with the paths of its files, and what has to come."""
+    """An example: its command line with the paths of its files, and what has to come."""
 
-    def __init__(self, folder):
-        self.name = folder.name
-        words = (folder / "words").read_text().splitlines()
-        self.is_json = "--json" in words
-        words = [word for word in words if word != "--json"]
-        self.kind, self.options = words[0], {}
-        for option, text in zip(words[1::2], words[2::2]):
-            self.options[option[2:]] = folder / text if (folder / text).exists() else text
+    def __init__(self, example):
+        self.name, self.is_json = example.name, example.is_json
+        words = [word for word in example.words if word != "--json"]
+        self.kind, self.options = words[0], dict(zip((word[2:] for word in words[1::2]), words[2::2])) | example.files
         self.is_plain = len(words) % 2 == 1  # each option has a value
-        self.status = int((folder / "status").read_text())
-        self.output, self.errors = (folder / "stdout").read_text(), (folder / "stderr").read_text()
+        self.status, self.output, self.errors = example.status, example.output.decode(), example.errors.decode()
 
 
 @functools.lru_cache(None)
 def examples(end):
-    return [Example(folder) for folder in sorted(EXAMPLES.glob(f"*-{end}"))]
+    """Those with names of this end, but for the cases that are there for a refusal or a failure."""
+    return [Example(each) for each in cases.examples()
+            if each.name.endswith(f"/{end}") and not each.folder.name.startswith(("refuses-", "fails-"))]
 
 
 def digest_of(value):
@@ -80,7 +78,7 @@ def explained(example):
 def index():
     """What the double answers, by subcommand and options."""
     told = {}
-    for example in [*examples("check"), *examples("list"), *examples("explain-json")]:
+    for example in [*examples("check"), *examples("list"), *examples("explain.json")]:
         words = sorted([f"--{name}", digest_of(value)] for name, value in example.options.items() if name != "statements")
         kind, output = example.kind, example.output
         if kind == "check":
@@ -120,7 +118,7 @@ class Judging(unittest.TestCase):
 
 
 def capture_of(name):
-    return EXAMPLES / f"{name}-list" / "capture"
+    return EXAMPLES / name / "capture"
 
 
 def verdicts(lines):

@@ -10,11 +10,10 @@ from dnssec_check_tools.judging.work import Common, judged
 from dnssec_check_tools.program import Program
 
 from tool import load
-from .helper import EXAMPLES, examples
+from .helper import ANCHORS, EXAMPLES, examples
 from .test_examples import lines_of
 
-CAPTURE = EXAMPLES / "bind-alias-a-list" / "capture"
-ANCHORS = EXAMPLES / "bind-alias-a-check" / "anchors"
+CAPTURE = EXAMPLES / "bind-alias-a" / "capture"
 NOON = 1795348800
 SAYS = """#!/usr/bin/env python3
 import sys

@@ -46,7 +46,7 @@ class Examples(Judging):
                 self.assertEqual(errors, "")
 
     def test_what_is_pending_without_statements_is_verified(self):
-        example, = (each for each in examples("check") if each.name == "loopback-pending-check")
+        example, = (each for each in examples("check") if each.name == "loopback-pending/check")
         if self.program.name != "dnssec_check" or self.room in self.program.parents:
             self.skipTest("needs the built program")
         status, lines, _ = self.judge("--anchors", example.options["anchors"], "--at", example.options["moment"],

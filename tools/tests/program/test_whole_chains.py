@@ -45,9 +45,9 @@ def looked_up_openly(owner, rtype):
 @unittest.skipUnless(PROGRAM.exists(), "needs the built program")
 class WholeChains(unittest.TestCase):
     def kind(self, chain, owner, rtype):
-        folder = EXAMPLES / f"whole-{chain}-check"
-        words = ("check", "--capture", EXAMPLES / f"whole-{chain}-list" / "capture", "--anchors", folder / "anchors",
-                 "--statements", folder / "statements", "--moment", 1795348800, "--name", owner, "--type", TYPES[rtype])
+        folder = EXAMPLES / f"whole-{chain}"
+        words = ("check", "--capture", folder / "capture", "--anchors", EXAMPLES / "whole-nsec" / "anchors", "--statements",
+                 folder / "statements", "--moment", 1795348800, "--name", owner, "--type", TYPES[rtype])
         status, output, errors = run_program(PROGRAM, *words)
         self.assertEqual((errors, status in (0, 3, 5)), ("", True))
         return output.decode().split(" ")[0]

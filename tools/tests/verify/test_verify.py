@@ -8,6 +8,7 @@ from unittest import mock
 from cryptography.exceptions import UnsupportedAlgorithm
 
 from tool import DATA, TOOLS, run, run_program
+from cases import examples
 from dnssec_check_tools.verifying import entries
 
 P256_ORDER = 0xFFFFFFFF00000000FFFFFFFFFFFFFFFFBCE6FAADA7179E84F3B9CAC2FC632551
@@ -88,14 +89,14 @@ class Examples(unittest.TestCase):
     """What has to be verified of each real capture, and what was said of it."""
 
     def test_the_lists_of_the_examples_get_the_statements_of_their_checks(self):
-        examples = TOOLS.parent / "examples"
-        checks = [path.parent for path in sorted(examples.glob("*-check/statements"))]
-        for check in checks:
-            todo = examples / check.name.replace("-check", "-list") / "stdout"
+        there = {example.name: example for example in examples()}
+        pairs = [(there[f"{check.folder.name}/list"], check) for name, check in there.items()
+                 if name.endswith("/check") and f"{check.folder.name}/list" in there]
+        for listed, check in pairs:
             with self.subTest(check.name):
-                wanted = (0, (check / "statements").read_bytes(), "")
-                self.assertEqual(run("verify", todo), wanted)
-        self.assertGreater(len(checks), 30)
+                wanted = (0, check.files["statements"].read_bytes(), "")
+                self.assertEqual(run("verify", given=listed.output), wanted)
+        self.assertGreater(len(pairs), 30)
 
 
 class CurveKeys(unittest.TestCase):
