@@ -6,6 +6,7 @@ import subprocess
 import tempfile
 import unittest
 
+from guarantees import pages, rows, section
 from tool import DATA, PROGRAM, TOOLS, run_program
 from command import VERSION
 
@@ -68,9 +69,8 @@ class Manual(unittest.TestCase):
                 self.assertEqual(told, set(re.findall(r"^ +(?:-\w, )?--([a-z-]+)", helped, re.MULTILINE)))
 
     def test_the_manual_page_has_each_number_of_the_program(self):
-        text = (TOOLS.parent / "docs" / "GUARANTEES.md").read_text().split("### Numbers of the program")[1]
-        rows = [line.split("|")[1] for line in text.splitlines() if re.match(r"\| \d", line)]
-        numbers = {number for row in rows for number in numbers_of(row)}
+        table = rows(section(pages()["dnsv_program"], "Numbers of the program"))
+        numbers = {number for row in table for number in numbers_of(row[0])}
         self.assertGreater(len(numbers), 15)
         told = {int(item) for item in re.findall(r"^\.It (\d+)$", MANUAL.read_text(), re.MULTILINE)}
         self.assertEqual(numbers - told, set())

@@ -3,6 +3,7 @@ import re
 import unittest
 
 from judging.numbers import fault_text, numbers
+from guarantees import pages, rows, section
 from tool import TOOLS
 
 DOCS = TOOLS.parent / "docs"
@@ -17,9 +18,8 @@ def numbers_of(field):
 
 class Numbers(unittest.TestCase):
     def test_it_has_each_number_of_the_program(self):
-        text = (DOCS / "GUARANTEES.md").read_text().split("### Numbers of the program")[1]
-        rows = [line.split("|")[1] for line in text.splitlines() if re.match(r"\| \d", line)]
-        self.assertEqual({number for row in rows for number in numbers_of(row)}, set(numbers()))
+        table = rows(section(pages()["dnsv_program"], "Numbers of the program"))
+        self.assertEqual({number for row in table for number in numbers_of(row[0])}, set(numbers()))
 
     def test_each_says_what_is_wrong_and_what_to_do(self):
         for row in numbers().values():
