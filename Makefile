@@ -59,7 +59,8 @@ pages: | $(program)
 	tools/pages examples/README.md
 	HOME=$$(mktemp -d) tools/pages README.md dnssec_check "To install it" "The program by itself"
 
-# The program, the tools as dnssec_check-capture, -verify and -judge, their manual pages and bash's completions.
+# The program, the tools as dnssec_check-capture, -verify and -judge, their manual pages, bash's completions, and the schema
+# of what the program writes in JSON.
 tools = capture verify judge
 modules = capturing verifying asking explaining judging
 lib = $(DESTDIR)$(PREFIX)/lib/dnssec_check
@@ -75,6 +76,7 @@ install: | $(program)
 	install -m 644 tools/explaining/page.css $(lib)/explaining
 	install -m 644 docs/dnssec_check.1 $(tools:%=docs/dnssec_check-%.1) $(man)
 	install -m 644 tools/completion/dnssec_check $(completions)
+	install -D -m 644 docs/schema.json $(DESTDIR)$(PREFIX)/share/dnssec_check/schema.json
 	for tool in $(tools); do \
 		ln -sf ../lib/dnssec_check/$$tool $(DESTDIR)$(PREFIX)/bin/dnssec_check-$$tool; \
 		ln -sf dnssec_check $(completions)/dnssec_check-$$tool; \

@@ -3,7 +3,7 @@ what a row names is there, and no cell is empty. Calls come and go, and no check
 import re
 import unittest
 
-from guarantees import CRATES, pages, rows, section
+from pages.guarantees import CRATES, pages, rows, section
 
 USED = re.compile(r"^pub use ([^;]+);", re.MULTILINE)
 IMPL = re.compile(r"impl(?:<.*?>)? (?:(?:\w+::)*(\w+)(?:<.*?>)? for )?(\w+)")

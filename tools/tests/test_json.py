@@ -2,7 +2,7 @@
 import json
 import unittest
 
-from tool import DATA, PROGRAM, TOOLS, load, run_program
+from tool import PROGRAM, TOOLS, load, run_program
 
 try:
     import jsonschema
@@ -10,6 +10,7 @@ except ImportError:
     jsonschema = None
 
 EXAMPLES = TOOLS.parent / "examples"
+SCHEMA = TOOLS.parent / "docs" / "schema.json"
 
 
 def words_of(folder):
@@ -40,7 +41,7 @@ class Json(unittest.TestCase):
         """It is one line of ASCII without spaces, which the schema takes."""
         self.assertRegex(line, r"\A[!-~]+\n\Z")
         if jsonschema is not None:
-            jsonschema.Draft7Validator(json.loads((DATA / "schema.json").read_text())).validate(json.loads(line))
+            jsonschema.Draft7Validator(json.loads(SCHEMA.read_text())).validate(json.loads(line))
 
     def test_examples_in_json_say_what_those_in_lines_say(self):
         folders = sorted(EXAMPLES.glob("*-json"))

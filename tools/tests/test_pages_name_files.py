@@ -3,7 +3,7 @@ and names change, and no check looks at pages."""
 import re
 import unittest
 
-import guarantees
+from pages import guarantees
 from tool import TOOLS
 
 ROOT = TOOLS.parent
