@@ -50,13 +50,31 @@ def numbers():
     return told
 
 
+def code_of_lines():
+    """The code that writes the lines, without its comments."""
+    files = [file for pattern in LINES for file in sorted(CRATES.glob(pattern))]
+    return "\n".join(re.sub(r"//.*", "", file.read_text()) for file in files)
+
+
 def texts_of_lines():
     """The strings of the code that writes the lines of explanations, and their objects in JSON."""
-    files = [file for pattern in LINES for file in sorted(CRATES.glob(pattern))]
-    code = "\n".join(re.sub(r"//.*", "", file.read_text()) for file in files)
-    return re.findall(r'"((?:\\.|[^"\\])*)"', code)
+    return re.findall(r'"((?:\\.|[^"\\])*)"', code_of_lines())
 
 
 def words_of_lines():
     """The words that stand in these strings."""
     return {word for text in texts_of_lines() for word in re.findall(r"[A-Za-z][\w-]*", re.sub(r"\{[^{}]*\}", " ", text))}
+
+
+def errors_of_reasons():
+    """The extended DNS error of each reason, by its word: that of the case, or the case's name as a word. Reasons of one
+    zone's records have one error, and are the case `Source`."""
+    code = code_of_lines()
+    words = dict(re.findall(r'\b(\w+::\w+)(?:\(_\))? => "([\w-]+)"', code))
+    numbered = "".join(re.findall(r"(?s)\bfn extended_error\b.*?\n    }\n", code))
+    found = re.findall(r"\b(\w+::\w+)(?:\(_\))? => (\d+),", numbered)
+    return {(words.get(case) or in_words(case.split("::")[1]), int(number)) for case, number in found}
+
+
+def in_words(name):
+    return re.sub(r"(?<=[a-z])(?=[A-Z])", "-", name).lower()

@@ -22,6 +22,12 @@ def schema(key, line=None):
     return {word for form in forms for word in values(form, key)}
 
 
+def errors():
+    """The extended DNS error of each reason, with its word; those of one zone's records have one, by the word of the code."""
+    reasons_told = [form for form in FORMS if "ede" in form]
+    return {("source" if "kind" in form else form["word"]["const"], form["ede"]["const"]) for form in reasons_told}
+
+
 def keys_of_lines():
     """The members of each line but its word, by it."""
     told = {}
@@ -51,6 +57,9 @@ class Code(unittest.TestCase):
 
     def test_the_schema_has_no_word_that_the_code_lacks(self):
         self.assertEqual(all_of_the_schema() - sources.words_of_lines(), set())
+
+    def test_the_schema_has_the_errors_of_the_code(self):
+        self.assertEqual(errors(), sources.errors_of_reasons())
 
 
 class Manual(unittest.TestCase):
