@@ -59,8 +59,8 @@ pages: | $(program)
 	tools/pages examples/README.md
 	HOME=$$(mktemp -d) tools/pages README.md dnssec_check "To install it" "The program by itself"
 
-# The program, the tools as dnssec_check-capture, -verify and -judge, their manual pages, bash's completions, and the schema
-# of what the program writes in JSON.
+# The program, the tools as dnssec_check-capture, -verify and -judge, their manual pages, bash's completions, and the
+# schema of what the program writes in JSON.
 tools = capture verify judge
 modules = capturing verifying asking explaining judging
 lib = $(DESTDIR)$(PREFIX)/lib/dnssec_check

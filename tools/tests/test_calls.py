@@ -1,5 +1,5 @@
-"""Tests of the tables of public calls in the crates' GUARANTEES.md: each call that a library exports has a row in its page,
-what a row names is there, and no cell is empty. Calls come and go, and no check looks at pages."""
+"""Tests of the tables of public calls in the crates' GUARANTEES.md: each call that a library exports has a row in its
+page, what a row names is there, and no cell is empty. Calls come and go, and no check looks at pages."""
 import re
 import unittest
 

@@ -1,5 +1,5 @@
-"""Tests of the pages: a file that a page links or names is there, and what GUARANTEES.md names stands in the code. Files move
-and names change, and no check looks at pages."""
+"""Tests of the pages: a file that a page links or names is there, and what GUARANTEES.md names stands in the code.
+Files move and names change, and no check looks at pages."""
 import re
 import unittest
 

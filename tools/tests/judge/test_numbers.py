@@ -20,4 +20,3 @@ class Numbers(unittest.TestCase):
         self.assertTrue(fault_text({"number": 601, "line": 3}, paths).startswith("601 line 3 of the anchors root: the line isn't an anchor; write DS "))
         self.assertTrue(fault_text({"number": 811, "file": "capture"}, paths).startswith("811 the capture www.cap: the file can't be opened; "))
         self.assertEqual(fault_text({"said": "killed"}, paths), "killed")
-

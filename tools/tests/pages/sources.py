@@ -63,12 +63,13 @@ def texts_of_lines():
 
 def words_of_lines():
     """The words that stand in these strings."""
-    return {word for text in texts_of_lines() for word in re.findall(r"[A-Za-z][\w-]*", re.sub(r"\{[^{}]*\}", " ", text))}
+    texts = (re.sub(r"\{[^{}]*\}", " ", text) for text in texts_of_lines())
+    return {word for text in texts for word in re.findall(r"[A-Za-z][\w-]*", text)}
 
 
 def errors_of_reasons():
-    """The extended DNS error of each reason, by its word: that of the case, or the case's name as a word. Reasons of one
-    zone's records have one error, and are the case `Source`."""
+    """The extended DNS error of each reason, by its word: that of the case, or the case's name as a word. Reasons of
+    one zone's records have one error, and are the case `Source`."""
     code = code_of_lines()
     words = dict(re.findall(r'\b(\w+::\w+)(?:\(_\))? => "([\w-]+)"', code))
     numbered = "".join(re.findall(r"(?s)\bfn extended_error\b.*?\n    }\n", code))

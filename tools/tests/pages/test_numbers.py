@@ -1,5 +1,5 @@
-"""Tests of the numbers of faults: the code, the manual page, the table of the tools and the pages of the crates have the
-same, with the same exit statuses and texts."""
+"""Tests of the numbers of faults: the code, the manual page, the table of the tools and the pages of the crates have
+the same, with the same exit statuses and texts."""
 import re
 import unittest
 

@@ -1,4 +1,5 @@
-"""Tests of the words of explanations: the code, the schema, the manual page and the sentences of the tools have the same."""
+"""Tests of the words of explanations: the code, the schema, the manual page and the sentences of the tools have the
+same."""
 import json
 import unittest
 
@@ -23,7 +24,7 @@ def schema(key, line=None):
 
 
 def errors():
-    """The extended DNS error of each reason, with its word; those of one zone's records have one, by the word of the code."""
+    """The extended DNS error of each reason, with its word; those of one zone's records have one, as in the code."""
     reasons_told = [form for form in FORMS if "ede" in form]
     return {("source" if "kind" in form else form["word"]["const"], form["ede"]["const"]) for form in reasons_told}
 
@@ -87,8 +88,8 @@ class Manual(unittest.TestCase):
 
     def test_it_has_the_verdicts_that_can_be_hoped_for(self):
         self.assertEqual(hopes(), schema("kind", "hope"))
-        verdicts = {form["properties"]["verdict"]["const"] for form in SCHEMA["oneOf"] if "verdict" in form["properties"]}
-        self.assertEqual(manual.verdicts(), verdicts)
+        told = (form["properties"].get("verdict") for form in SCHEMA["oneOf"])
+        self.assertEqual(manual.verdicts(), {verdict["const"] for verdict in told if verdict})
 
 
 class Sentences(unittest.TestCase):
