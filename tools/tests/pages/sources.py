@@ -51,9 +51,9 @@ def numbers():
 
 
 def code_of_lines():
-    """The code that writes the lines, without its comments."""
+    """The code that writes the lines, without its comments, and without characters that are quotation marks."""
     files = [file for pattern in LINES for file in sorted(CRATES.glob(pattern))]
-    return "\n".join(re.sub(r"//.*", "", file.read_text()) for file in files)
+    return "\n".join(re.sub(r"//.*|'\\?\"'", "", file.read_text()) for file in files)
 
 
 def texts_of_lines():
