@@ -61,8 +61,9 @@ pages: | $(program)
 	tools/pages examples/README.md
 	HOME=$$(mktemp -d) tools/pages README.md dnssec_check "To install it" "The program by itself"
 
-# The program, the tools as dnssec_check-capture, -verify and -judge, their manual pages and bash's completions. A tool
-# starts the package that lies beside it; `pip install .` installs the tools alone, into Python's own place.
+# The program, the tools as dnssec_check-capture, -verify and -judge, their manual pages, bash's completions, and the
+# schema of what the program writes in JSON. A tool starts the package that lies beside it; `pip install .` installs the
+# tools alone, into Python's own place.
 tools = capture verify judge
 package = dnssec_check_tools
 modules = $(shell cd tools && find $(package) -type f ! -path '*/__pycache__/*')
@@ -76,6 +77,7 @@ install: | $(program)
 	for module in $(modules); do install -D -m 644 tools/$$module $(lib)/$$module; done
 	install -m 644 docs/dnssec_check.1 $(tools:%=docs/dnssec_check-%.1) $(man)
 	install -m 644 tools/completion/dnssec_check $(completions)
+	install -D -m 644 docs/schema.json $(DESTDIR)$(PREFIX)/share/dnssec_check/schema.json
 	for tool in $(tools); do \
 		sed '1s|.*|#!$(PYTHON)|' tools/$$tool > $(lib)/$$tool; \
 		chmod 755 $(lib)/$$tool; \

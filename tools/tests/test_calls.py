@@ -1,13 +1,10 @@
-"""Tests of the tables of public calls in GUARANTEES.md: each call that a library exports has a row, what a row names is
-there, and no cell is empty. Calls come and go, and no check looks at pages."""
+"""Tests of the tables of public calls in the crates' GUARANTEES.md: each call that a library exports has a row in its
+page, what a row names is there, and no cell is empty. Calls come and go, and no check looks at pages."""
 import re
 import unittest
 
-from tool import TOOLS
+from pages.guarantees import CRATES, pages, rows, section
 
-ROOT = TOOLS.parent
-CRATES = ROOT / "crates"
-PAGE = (ROOT / "docs" / "GUARANTEES.md").read_text()
 USED = re.compile(r"^pub use ([^;]+);", re.MULTILINE)
 IMPL = re.compile(r"impl(?:<.*?>)? (?:(?:\w+::)*(\w+)(?:<.*?>)? for )?(\w+)")
 TRAIT = re.compile(r"pub trait (\w+)")
@@ -53,19 +50,13 @@ def offered(crate):
     return {(owner, name) for owner, name in calls if (owner or name) in names}
 
 
-def tables():
-    """The rows of each table of calls, without its head, by the crate or the words behind "Calls of"."""
-    parts = (part.split("\n", 1) for part in PAGE.split("\n### Calls of ")[1:])
-    return {title.strip("`"): [line for line in rest.split("\n#")[0].splitlines() if line.startswith("| ")][1:]
-            for title, rest in parts}
+def told():
+    """The rows of calls by crate."""
+    return {crate: rows(section(page, "Calls")) for crate, page in pages().items()}
 
 
-def rows():
-    return [row for each in tables().values() for row in each]
-
-
-def cells(row):
-    return [cell.strip() for cell in row.strip("|").split("|")]
+def each_row():
+    return [row for table in told().values() for row in table]
 
 
 def words_of(text):
@@ -90,17 +81,17 @@ class Calls(unittest.TestCase):
     def test_each_call_of_a_library_has_one_row(self):
         for crate in libraries():
             with self.subTest(crate):
-                told = [call for row in tables()[crate] for call in named(cells(row)[0])]
-                self.assertEqual(in_order(told), in_order(offered(crate)))
+                calls = [call for row in told()[crate] for call in named(row[0])]
+                self.assertEqual(in_order(calls), in_order(offered(crate)))
 
     def test_no_cell_is_empty(self):
-        for row in rows():
-            self.assertEqual([bool(cell) for cell in cells(row)], [True] * 5, row)
+        for row in each_row():
+            self.assertEqual([bool(cell) for cell in row], [True] * 5, row)
 
     def test_the_rows_that_are_told_to_test_a_call_are_there(self):
         there = {line.split(" ")[0] for line in (CRATES / "dnsv_rows" / "stdin").read_text().splitlines()}
-        told = {name for row in rows() for part in ROWS.findall(cells(row)[4]) for name in words_of(part)}
-        self.assertEqual(told - there, set())
+        rows_told = {name for row in each_row() for part in ROWS.findall(row[4]) for name in words_of(part)}
+        self.assertEqual(rows_told - there, set())
 
 
 if __name__ == "__main__":

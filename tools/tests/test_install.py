@@ -6,19 +6,13 @@ import subprocess
 import tempfile
 import unittest
 
-from tool import DATA, PACKAGE, PROGRAM, TOOLS, run_program
+from tool import DATA, PROGRAM, TOOLS, run_program
 from dnssec_check_tools.command import VERSION
 
 DOCS = TOOLS.parent / "docs"
 MANUAL = DOCS / "dnssec_check.1"
 COMMANDS = ("dnssec_check", "dnssec_check-capture", "dnssec_check-judge", "dnssec_check-verify")
 OF_THE_MACHINE = ("outdated mandoc.db", "referenced manual not found")  # which other pages a machine has
-
-
-def numbers_of(row):
-    """The numbers of a table's field such as `201 to 207` or `401, 402`."""
-    numbers = [int(number) for number in re.findall(r"\d+", row)]
-    return range(numbers[0], numbers[1] + 1) if " to " in row else numbers
 
 
 class Install(unittest.TestCase):
@@ -29,6 +23,7 @@ class Install(unittest.TestCase):
             subprocess.run(words, cwd=TOOLS.parent, check=True, capture_output=True)
             place = pathlib.Path(room) / "opt" / "x"
             self.has_its_pages(place / "share")
+            self.has_its_schema(place)
             self.runs(place / "bin", place / "capture")
 
     def has_its_pages(self, share):
@@ -38,6 +33,11 @@ class Install(unittest.TestCase):
             self.assertEqual((share / "man/man1" / page).read_bytes(), (DOCS / page).read_bytes())
             completion = share / "bash-completion/completions" / name
             self.assertEqual(completion.read_bytes(), (TOOLS / "completion/dnssec_check").read_bytes())
+
+    def has_its_schema(self, place):
+        """The schema as it is in docs/, where the manual page says."""
+        path = re.search(r"^\.Pa (\S+schema\.json)", MANUAL.read_text(), re.MULTILINE)[1]
+        self.assertEqual((place / path).read_bytes(), (DOCS / "schema.json").read_bytes())
 
     def runs(self, tools, capture):
         self.assertEqual({path.name for path in tools.iterdir()}, set(COMMANDS))
@@ -66,21 +66,6 @@ class Manual(unittest.TestCase):
                 told = set(re.findall(r"^\.It Fl -([a-z-]+)", page, re.MULTILINE))
                 helped = run_program(TOOLS / name, "--help")[1].decode()
                 self.assertEqual(told, set(re.findall(r"^ +(?:-\w, )?--([a-z-]+)", helped, re.MULTILINE)))
-
-    def test_the_manual_page_has_each_number_of_the_program(self):
-        text = (TOOLS.parent / "docs" / "GUARANTEES.md").read_text().split("### Numbers of the program")[1]
-        rows = [line.split("|")[1] for line in text.splitlines() if re.match(r"\| \d", line)]
-        numbers = {number for row in rows for number in numbers_of(row)}
-        self.assertGreater(len(numbers), 15)
-        told = {int(item) for item in re.findall(r"^\.It (\d+)$", MANUAL.read_text(), re.MULTILINE)}
-        self.assertEqual(numbers - told, set())
-
-    def test_the_manual_page_says_of_each_number_what_the_table_says(self):
-        rows = (PACKAGE / "judging" / "numbers.tsv").read_text().splitlines()[1:]
-        for number, _, what, remedy in (row.split("\t") for row in rows):
-            with self.subTest(number):
-                entry = re.search(rf"^\.It {number}\n(.*?)^\.", MANUAL.read_text(), re.MULTILINE | re.DOTALL)[1]
-                self.assertEqual(" ".join(entry.split()), f"{what} {remedy}")
 
     @unittest.skipUnless(PROGRAM.exists(), "needs the built program")
     def test_the_manual_page_has_each_option_of_the_program(self):

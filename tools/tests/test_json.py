@@ -2,13 +2,15 @@
 import json
 import unittest
 
-from tool import DATA, PROGRAM, load, run, run_program
+from tool import PROGRAM, TOOLS, load, run, run_program
 from cases import EXAMPLES, examples
 
 try:
     import jsonschema
 except ImportError:
     jsonschema = None
+
+SCHEMA = TOOLS.parent / "docs" / "schema.json"
 
 
 def in_lines():
@@ -25,7 +27,7 @@ class Json(unittest.TestCase):
         """It is one line of ASCII without spaces, which the schema takes."""
         self.assertRegex(line, r"\A[!-~]+\n\Z")
         if jsonschema is not None:
-            jsonschema.Draft7Validator(json.loads((DATA / "schema.json").read_text())).validate(json.loads(line))
+            jsonschema.Draft7Validator(json.loads(SCHEMA.read_text())).validate(json.loads(line))
 
     def test_examples_in_json_say_what_those_in_lines_say(self):
         there = {example.name: example for example in examples()}

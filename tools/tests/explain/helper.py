@@ -3,11 +3,11 @@ import itertools
 import json
 
 from dnssec_check_tools.explaining.explanation import Explanation
-from tool import DATA
+from tool import DATA, TOOLS
 
 NOON = 1795348800  # 2026-11-22T12:00:00Z
 DAY = 86400
-SCHEMA = json.loads((DATA / "schema.json").read_text())
+SCHEMA = json.loads((TOOLS.parent / "docs" / "schema.json").read_text())
 FORMS = SCHEMA["definitions"]["line"]["oneOf"]
 # Values of members of which the schema says only that they are numbers.
 NUMBERS = {"case": (1, 2, 3, 4), "flags": (0, 256, 257, 385), "type": (1, 65280), "algorithm": (13, 99),

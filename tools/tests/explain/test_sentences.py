@@ -2,7 +2,7 @@
 import json
 import unittest
 
-from dnssec_check_tools.explaining import drawn, holding, reasons, sentences
+from dnssec_check_tools.explaining import drawn, reasons, sentences
 from dnssec_check_tools.explaining.explanation import Explanation
 from judge.helper import EXAMPLES, needs_dns
 from .helper import FORMS, NOON, DAY, lines_of, told_by, told_of
@@ -38,12 +38,6 @@ class Words(unittest.TestCase):
         self.assertEqual({word for line, word in said if line == "reason"},
                          {*reasons.OF_SIGNATURES, *reasons.OF_VOUCHERS, *reasons.OF_OTHERS})
         self.assertEqual({line for line, _ in said}, set(sentences.LINES))
-
-    def test_every_word_that_a_sentence_is_chosen_by_is_one_of_the_schema(self):
-        chosen = {"form": holding.FORMS, "relation": {**holding.RELATIONS, "apex": ""}, "role": holding.ROLES}
-        for key, table in chosen.items():
-            enums = [form["properties"][key]["enum"] for form in FORMS if key in form["properties"]]
-            self.assertEqual({word for enum in enums for word in enum}, set(table))
 
     def test_names_of_strangers_stay_as_they_are(self):
         line = {"line": "reason", "word": "no-anchor", "ede": 5, "zone": r'a\"b<i>&%s{}\000.'}
