@@ -5,8 +5,9 @@ import unittest
 
 from tool import TOOLS
 
-FOLDERS = ("capturing", "verifying", "asking", "explaining", "judging", "failing")
-NAMES = ["verify", "capture", "judge", "pages", "faults", "command.py"]
+FOLDERS = ("capturing", "verifying", "asking", "explaining", "judging", "failing", "checking", "wrong_bodies")
+NAMES = ["verify", "capture", "judge", "pages", "faults", "check", "packages", "does-not-compile", "wrong-bodies",
+         "command.py"]
 NAMES += [str(path.relative_to(TOOLS)) for folder in FOLDERS for path in sorted((TOOLS / folder).glob("*.py"))]
 # What each imports besides; dnspython (`dns`), distributed and rich only where they're needed.
 PACKAGES = {
@@ -22,6 +23,10 @@ PACKAGES = {
     "judging/progress.py": {"rich"},
     "pages": {"command"},
     "faults": {"command", "failing"},
+    "check": {"command", "checking"},
+    "packages": {"command", "checking"},
+    "does-not-compile": {"command", "wrong_bodies"},
+    "wrong-bodies": {"command", "wrong_bodies"},
     "failing": {"messages", "zones"},  # of rows
 }
 
