@@ -3,7 +3,7 @@ import argparse
 import os
 import sys
 
-VERSION = "0.9"  # of the tools, and of the Debian package
+VERSION = "0.10.0"  # of the tools and of the Debian package, and the one that the program tells
 INTERRUPTED = 130
 
 
