@@ -16,6 +16,10 @@ from .guards import BUILT_BY, TREE, Guard
 from .packages import PATH, lacking, line_for, named
 
 
+# What a shell begins in the background ignores interrupts, and so would the tests that send them.
+INTERRUPTIBLE = ("env", "--default-signal=INT")
+
+
 @dataclass(frozen=True)
 class Result:
     guard: Guard
@@ -48,7 +52,7 @@ def ran(guard: Guard, lanes: int) -> Result:
     if missing:
         return Result(guard, "".join(f"{line}\n" for line in missing), BROKEN, 0)
     begun = time.monotonic()
-    done = subprocess.run(guard.words, cwd=TREE, env=environment(lanes), stdin=subprocess.DEVNULL, stdout=subprocess.PIPE,
+    done = subprocess.run([*INTERRUPTIBLE, *guard.words], cwd=TREE, env=environment(lanes), stdin=subprocess.DEVNULL, stdout=subprocess.PIPE,
                           stderr=subprocess.STDOUT, text=True, errors="replace", check=False)
     count = guard.count(done.stdout, done.returncode)
     return Result(guard, done.stdout, count, time.monotonic() - begun)

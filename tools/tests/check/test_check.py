@@ -1,4 +1,5 @@
 """What tools/check makes of guards that pass, fail and lack something, and which guards there are."""
+import signal
 import unittest
 from unittest import mock
 
@@ -37,6 +38,13 @@ class Check(unittest.TestCase):
         _, output, _ = self.check(known=[shell(name, script.format(name)) for name in ("a", "b")])
         for name in "ab":
             self.assertIn(f"== {name}: 1 passed, 0 failed (0 s)\n" + f"{name}\n" * 3, output)
+
+    def test_a_guard_can_be_interrupted_whoever_began_it(self):
+        script = "import signal; print(signal.getsignal(signal.SIGINT) is signal.default_int_handler, 'passed')"
+        before = signal.signal(signal.SIGINT, signal.SIG_IGN)
+        self.addCleanup(signal.signal, signal.SIGINT, before)
+        guard = Guard("python", ("python3", "-c", script), count=of_status)
+        self.assertEqual(running.ran(guard, 1).printed, "True passed\n")
 
     def test_the_gate_counts_and_the_guards_run_behind_it(self):
         status, output, _ = self.check("--gate", gate=shell("gate", "echo 40 passed, 0 failed"))
