@@ -1,6 +1,7 @@
-# `all`, `try`, `test` and `wrong-bodies` need the kit's command `rt` on the path, and nothing else; `demo`, `examples`,
-# `faults`, `pages`, `install` and `deb` take the program that is built, and build it where there is none.
-.PHONY: all try test demo examples faults wrong-bodies test-tools pages install deb
+# `all`, `try`, `test` and `wrong-bodies` need the kit's command `rt` on the path, and `test` the packages of `packages`
+# besides; `demo`, `examples`, `faults`, `pages`, `install` and `deb` take the program that is built, and build it where there
+# is none. `check` builds nothing.
+.PHONY: all try test check packages demo examples faults wrong-bodies test-tools pages install deb
 
 program = crates/dnssec_check/out/dnssec_check
 rows = crates/dnsv_rows/out/dnsv_rows
@@ -21,9 +22,17 @@ try:
 		check --capture capture --anchors anchors --statements statements \
 		--moment 1795348800 --name www.bind.test. --type 1
 
-# The gate: every proof from nothing, the edits that must be refused, every test and the program.
+# The gate: every proof from nothing, the edits that must be refused, every test and the program. And then the guards.
 test:
-	rt ci
+	tools/check --gate
+
+# The guards: what is shown by running, of the program as it is built, the tools and the pages. The last line counts all.
+check:
+	tools/check
+
+# Debian's packages that the tools, their tests and the guards need.
+packages:
+	tools/packages
 
 # What each signature of a message that a real name server sent signs.
 demo: | $(program)
@@ -34,7 +43,7 @@ examples: | $(program)
 	tools/examples
 
 # What the built program does where memory, a file or a write fails it, and on captures that are cut, changed or
-# incomplete, and what the libraries do that are called again; needs python3 and cc.
+# incomplete, and what the libraries do that are called again; needs python3 and cc. `check` tries a share of it.
 faults: | $(program) $(rows)
 	tools/faults
 
@@ -50,16 +59,13 @@ test-tools:
 	$(PYTHON) -m unittest discover -s tools/tests
 
 # The commands of the pages, against what the pages show, with the program and the tools as they are installed.
-# CAPTURING.md and BREAKS.md need root, and the packages that they name; AUDITING.md needs parallel.
-installed = $(CURDIR)/out/installed
-pages: export PATH := $(installed)/bin:$(PATH)
+# CAPTURING.md and BREAKS.md need root, and the packages that they name; `check` runs the others.
 pages: | $(program)
-	$(MAKE) --silent install PREFIX=$(installed) DESTDIR=
-	tools/pages docs/CAPTURING.md
-	tools/pages docs/BREAKS.md
-	tools/pages docs/AUDITING.md
-	tools/pages examples/README.md
-	HOME=$$(mktemp -d) tools/pages README.md dnssec_check "To install it" "The program by itself"
+	tools/pages --installed docs/CAPTURING.md
+	tools/pages --installed docs/BREAKS.md
+	tools/pages --installed docs/AUDITING.md
+	tools/pages --installed examples/README.md
+	tools/pages --installed README.md dnssec_check "To install it" "The program by itself"
 
 # The program, the tools as dnssec_check-capture, -verify and -judge, their manual pages, bash's completions, and the
 # schema of what the program writes in JSON. A tool starts the package that lies beside it; `pip install .` installs the

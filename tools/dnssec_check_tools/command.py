@@ -4,7 +4,7 @@ import os
 import sys
 from typing import Any, Callable, List, NoReturn
 
-VERSION = "0.9"  # of the tools, and of the Debian package
+VERSION = "0.10.0"  # of the tools and of the Debian package, and the one that the program tells
 INTERRUPTED = 130
 
 

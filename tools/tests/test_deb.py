@@ -60,8 +60,8 @@ class Package(unittest.TestCase):
         for name in COMMANDS:
             self.assertIn(f"./usr/share/man/man1/{name}.1.gz", paths)
             self.assertIn(f"./usr/share/bash-completion/completions/{name}", paths)
-        for name in ("README.md", "docs/AUDITING.md", "docs/CAPTURING.md", "docs/GUARANTEES.md", "examples/README.md",
-                     "crates/dnsv_names/GUARANTEES.md"):
+        for name in ("README.md", "CHANGELOG.md", "SECURITY.md", "docs/AUDITING.md", "docs/CAPTURING.md", "docs/GUARANTEES.md",
+                     "examples/README.md", "crates/dnsv_names/GUARANTEES.md"):
             self.assertIn(f"./usr/share/doc/dnssec-check/{name}", paths)
         self.assertIn("./usr/share/dnssec_check/schema.json", paths)
         self.assertEqual([path for path in paths if "__pycache__" in path or "/tests" in path], [])

@@ -66,6 +66,14 @@ class Targets(unittest.TestCase):
         needing = [command for command in commands if command.split(" ")[0] in ("make", "rt")]
         self.assertEqual(needing, ["make install PREFIX=$HOME/.local"])
 
+    def test_the_guards_build_nothing(self):
+        for target in ("check", "packages"):
+            with self.subTest(target):
+                self.assertEqual(self.make("--dry-run", target), [f"tools/{target}"])
+
+    def test_the_gate_comes_with_the_guards(self):
+        self.assertEqual(self.make("--dry-run", "test"), ["tools/check --gate"])
+
     def test_a_first_verdict_is_that_of_the_example(self):
         words = self.make("try")
         self.assertEqual(words[:2], ["rt", "try"])

@@ -1,9 +1,10 @@
 """Tests of tools/pages: which commands of a page run, and what passes."""
 import pathlib
+import shutil
 import tempfile
 import unittest
 
-from tool import TOOLS, load, run
+from tool import PROGRAM, TOOLS, load, run, run_program
 
 PAGES = ("README.md", "docs/CAPTURING.md", "docs/BREAKS.md", "docs/AUDITING.md", "examples/README.md")
 
@@ -61,6 +62,12 @@ class Pages(unittest.TestCase):
         self.passes(text, 1, "Two")
         self.assertEqual(self.run_page(text)[0], 1)
         self.assertEqual(self.run_page(text, "Four")[:2], (2, ""))
+
+    @unittest.skipUnless(PROGRAM.exists() and shutil.which("make"), "needs the built program, and make")
+    def test_the_installed_program_is_the_first_on_the_path(self):
+        self.page.write_text("    command -v dnssec_check dnssec_check-judge\n    # ../installed/bin/dnssec_check\n"
+                             "    # ../installed/bin/dnssec_check-judge\n\n    find $HOME\n    # ../home\n")
+        self.assertEqual(run_program(TOOLS / "pages", "--installed", self.page), (0, b"2 passed, 0 failed\n", ""))
 
     def test_the_pages_have_commands(self):
         for name in PAGES:

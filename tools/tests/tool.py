@@ -27,6 +27,7 @@ def load(name):
         return importlib.import_module(f"{PACKAGE.name}.{name}")
     loader = importlib.machinery.SourceFileLoader(f"tool_{name}", str(TOOLS / name))
     module = importlib.util.module_from_spec(importlib.util.spec_from_loader(loader.name, loader))
+    sys.modules[loader.name] = module  # where dataclasses look their names up
     loader.exec_module(module)
     return module
 

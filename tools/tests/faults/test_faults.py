@@ -40,6 +40,16 @@ class Passing(Programs):
         self.assertIn("cut: keys-and-host/check, capture: 189 refused 209, 2 Bogus, 1 SecureAnswer", lines)
         self.assertRegex(lines[-1], r"^\d{3,} passed, 0 failed$")
 
+    def test_a_share_tells_its_seed_and_has_of_each_part(self):
+        with mock.patch.dict(os.environ, LANES="1"):
+            status, output, errors = run("faults", "--share", "1/1000", "--seed", "7", "cut", "octets")
+            again = run("faults", "--share", "1/1000", "--seed", "7", "cut", "octets")
+        first, *rows, last = output.decode().splitlines()
+        self.assertEqual((status, errors, first), (0, "", "1/1000 of the jobs of each kind, as --seed 7 chooses them"))
+        self.assertEqual([row.split(":")[0] for row in rows], ["cut", "octets"])
+        self.assertRegex(last, r"^\d{3,} passed, 0 failed$")
+        self.assertEqual(again, (status, output, errors))
+
 
 if __name__ == "__main__":
     unittest.main()

@@ -1,0 +1,73 @@
+"""The guards: each with its command, what it needs, and how its count is read."""
+
+from __future__ import annotations
+
+from dataclasses import dataclass
+from pathlib import Path
+
+from .counts import Reading, of_closing_line, of_unittest
+
+TREE = Path(__file__).resolve().parent.parent.parent
+TESTS = TREE / "tools" / "tests"
+PROGRAM = "crates/dnssec_check/out/dnssec_check"
+ROWS = "crates/dnsv_rows/out/dnsv_rows"
+# What is built by what.
+BUILT_BY = {PROGRAM: "make", ROWS: "cd crates/dnsv_rows && rt run < /dev/null"}
+
+OF_TOOLS = ("python3-cryptography", "python3-dnspython")
+OF_TESTS = (*OF_TOOLS, "debhelper", "dh-python", "dns-root-data", "dpkg-dev", "gcc", "graphviz", "libc6-dev", "mandoc",
+            "python3-distributed", "python3-jsonschema", "python3-rich", "python3-zstandard", "tshark")
+# The tests that take longest.
+LONG = ("tests/judge", "tests/program")
+# The share of the faults that is tried: whole they take longer than all other guards together.
+FAULTS = "1/4"
+
+
+@dataclass(frozen=True)
+class Guard:
+    """A command, run at the top of the repository; it needs Debian's packages, built files and commands of the kit."""
+
+    name: str
+    words: tuple[str, ...]
+    count: Reading = of_closing_line
+    packages: tuple[str, ...] = ()
+    built: tuple[str, ...] = ()
+    kit: tuple[str, ...] = ()
+
+
+GATE = Guard("gate", ("rt", "ci"), kit=("rt",))
+
+
+def of_tests(folder: Path) -> Guard:
+    """The tests of a folder; those that lie in none have the name of the tools."""
+    words = ("python3", "-m", "unittest", *sorted(module_of(file) for file in folder.glob("test_*.py")))
+    name = "tests" if folder == TESTS else f"tests/{folder.name}"
+    return Guard(name, ("env", "-C", str(TESTS), "PYTHONPATH=..", *words), of_unittest, OF_TESTS, (PROGRAM,))
+
+
+def module_of(file: Path) -> str:
+    return ".".join(file.relative_to(TESTS).with_suffix("").parts)
+
+
+def of_page(page: str, *titles: str, packages: tuple[str, ...] = OF_TOOLS) -> Guard:
+    """A page that needs neither root nor a network namespace, or these sections of it."""
+    return Guard(page, ("tools/pages", "--installed", page, *titles), packages=packages, built=(PROGRAM,))
+
+
+def of_loans(crate: str) -> Guard:
+    return Guard(f"does-not-compile/{crate}", ("tools/does-not-compile", crate), kit=("rattle",))
+
+
+def guards() -> list[Guard]:
+    """All but the gate. Those that take long come first, so that none of them is left for the end."""
+    folders = [TESTS, *sorted(folder.parent for folder in TESTS.glob("*/__init__.py"))]
+    crates = sorted(folder.parent.name for folder in (TREE / "crates").glob("*/does-not-compile"))
+    return [
+        *sorted(map(of_tests, folders), key=lambda guard: guard.name not in LONG),
+        Guard("faults", ("tools/faults", "--share", FAULTS), packages=("gcc", "libc6-dev"), built=(PROGRAM, ROWS)),
+        *map(of_loans, crates),
+        Guard("examples", ("tools/examples",), built=(PROGRAM,)),
+        of_page("README.md", "dnssec_check", "To install it", "The program by itself"),
+        of_page("docs/AUDITING.md", packages=(*OF_TOOLS, "parallel")),
+        of_page("examples/README.md"),
+    ]
