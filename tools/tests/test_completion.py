@@ -36,7 +36,7 @@ def options_of(path, *words):
 @unittest.skipUnless(shutil.which("bash"), "needs bash")
 class Completion(unittest.TestCase):
     def test_subcommands_and_options(self):
-        self.assertEqual(offered("dnssec_check", ""), ["show", "list", "check", "explain", "--help"])
+        self.assertEqual(offered("dnssec_check", ""), ["show", "list", "check", "explain", "--help", "--version"])
         self.assertEqual(offered("dnssec_check", "ch"), ["check"])
         self.assertEqual(offered("dnssec_check", "show", "--c"), ["--capture"])
         self.assertEqual(offered("dnssec_check", "check", "--capture", "x", "--ma"), ["--macs"])

@@ -22,20 +22,20 @@ use Rattle.dnsv_explain.specs.Explained.{Setting}
 use Rattle.dnsv_explain.specs.Following.Parts.{IsPlaceOfRecord}
 use Rattle.dnsv_explain.specs.derivations.OwnDerivations.{AreRecordsDerived, IsSignatureTold, IsTrustIn}
 use Rattle.dnsv_explain.specs.Saying.{AreBoth, AreEach, IsOnce}
-use Rattle.dnsv_explain.specs.declared.line.Line.{Line}
-use Rattle.dnsv_explain.specs.declared.line.Line.TheVariants as line
-use Rattle.dnsv_explain.specs.declared.line.denial.Chain.{Chain}
-use Rattle.dnsv_explain.specs.declared.line.denial.Chain.TheVariants as chain
-use Rattle.dnsv_explain.specs.declared.line.denial.Form.{Form}
-use Rattle.dnsv_explain.specs.declared.line.denial.Form.TheVariants as form
-use Rattle.dnsv_explain.specs.declared.line.denial.Part.{Part}
-use Rattle.dnsv_explain.specs.declared.line.denial.Proof.{Proof}
-use Rattle.dnsv_explain.specs.declared.line.denial.RecordPlace.{RecordPlace}
-use Rattle.dnsv_explain.specs.declared.line.denial.Relation.{Relation}
-use Rattle.dnsv_explain.specs.declared.line.denial.Relation.TheVariants as relation
-use Rattle.dnsv_explain.specs.declared.line.denial.Role.{Role}
-use Rattle.dnsv_explain.specs.declared.line.denial.Role.TheVariants as role
-use Rattle.dnsv_explain.specs.declared.line.derivation.SignatureNumber.{SignatureNumber}
+use Rattle.dnsv_lines.specs.declared.line.Line.{Line}
+use Rattle.dnsv_lines.specs.declared.line.Line.TheVariants as line
+use Rattle.dnsv_lines.specs.declared.line.denial.Chain.{Chain}
+use Rattle.dnsv_lines.specs.declared.line.denial.Chain.TheVariants as chain
+use Rattle.dnsv_lines.specs.declared.line.denial.Form.{Form}
+use Rattle.dnsv_lines.specs.declared.line.denial.Form.TheVariants as form
+use Rattle.dnsv_lines.specs.declared.line.denial.Part.{Part}
+use Rattle.dnsv_lines.specs.declared.line.denial.Proof.{Proof}
+use Rattle.dnsv_lines.specs.declared.line.denial.RecordPlace.{RecordPlace}
+use Rattle.dnsv_lines.specs.declared.line.denial.Relation.{Relation}
+use Rattle.dnsv_lines.specs.declared.line.denial.Relation.TheVariants as relation
+use Rattle.dnsv_lines.specs.declared.line.denial.Role.{Role}
+use Rattle.dnsv_lines.specs.declared.line.denial.Role.TheVariants as role
+use Rattle.dnsv_canonical.specs.declared.number.SignatureNumber.{SignatureNumber}
 
 -- ---- what is shown
 

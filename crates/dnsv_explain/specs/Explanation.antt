@@ -31,14 +31,14 @@ use Rattle.dnsv_explain.specs.faults.KeyLines.{AreLinesOfKeysAsked}
 use Rattle.dnsv_explain.specs.faults.Order.{AreFaultLines}
 use Rattle.dnsv_explain.specs.intervals.Holding.{IsHoldingOf}
 use Rattle.dnsv_explain.specs.unsigned_cuts.ShownCuts.{IsCutShownBy, IsCutTold, IsUnsignedTold}
-use Rattle.dnsv_explain.specs.declared.interval.Interval.{Interval}
-use Rattle.dnsv_explain.specs.declared.line.Kind.{Kind}
-use Rattle.dnsv_explain.specs.declared.line.Kind.TheVariants as kind
-use Rattle.dnsv_explain.specs.declared.line.Line.{Line}
-use Rattle.dnsv_explain.specs.declared.line.Line.TheVariants as line
-use Rattle.dnsv_explain.specs.declared.line.cut.InsecureCase.TheVariants as case
-use Rattle.dnsv_explain.specs.declared.line.derivation.SignatureNumber.{SignatureNumber}
-use Rattle.dnsv_explain.specs.declared.line.place.RrsetPlace.{RrsetPlace}
+use Rattle.dnsv_lines.specs.declared.line.interval.Interval.{Interval}
+use Rattle.dnsv_lines.specs.declared.line.Kind.{Kind}
+use Rattle.dnsv_lines.specs.declared.line.Kind.TheVariants as kind
+use Rattle.dnsv_lines.specs.declared.line.Line.{Line}
+use Rattle.dnsv_lines.specs.declared.line.Line.TheVariants as line
+use Rattle.dnsv_lines.specs.declared.line.cut.InsecureCase.TheVariants as case
+use Rattle.dnsv_canonical.specs.declared.number.SignatureNumber.{SignatureNumber}
+use Rattle.dnsv_lines.specs.declared.line.place.RrsetPlace.{RrsetPlace}
 
 -- ---- an RRset that holds for a name
 

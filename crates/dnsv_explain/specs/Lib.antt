@@ -10,5 +10,4 @@ pub mod Saying
 pub mod derivations
 pub mod faults
 pub mod intervals
-pub mod line
 pub mod unsigned_cuts

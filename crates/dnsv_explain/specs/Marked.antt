@@ -4,8 +4,8 @@ use Rattle.dnsv_canonical.specs.Rrsets.{IsNumbered}
 use Rattle.dnsv_verifier.specs.declared.answer.Answer.{Answer}
 use Rattle.dnsv_verifier.specs.declared.answer.Answer.TheVariants.{Valid}
 use Rattle.dnsv_verifier.specs.declared.entry.Entry.{Entry}
-use Rattle.dnsv_explain.specs.declared.line.Line.{Line}
-use Rattle.dnsv_explain.specs.declared.line.Line.TheVariants as line
+use Rattle.dnsv_lines.specs.declared.line.Line.{Line}
+use Rattle.dnsv_lines.specs.declared.line.Line.TheVariants as line
 
 -- the number of an entry that the line tells
 abbrev pub todo_told : Line → Option ℕ

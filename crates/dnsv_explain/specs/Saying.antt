@@ -1,6 +1,6 @@
 -- Lines that are said one after another, each step behind the lines that were said before it.
 use Rattle.std.specs.Prelude.{◌≡◌, ◌⊎◌, List, [], ◌∷◌, ◌++◌}
-use Rattle.dnsv_explain.specs.declared.line.Line.{Line}
+use Rattle.dnsv_lines.specs.declared.line.Line.{Line}
 
 -- the lines of the second step are behind those of the first
 pub record AreBoth (First Second : List Line → List Line → Type 0) (before lines : List Line) : Type 0 where

@@ -12,8 +12,8 @@ use crate::denials::part::add_parts;
 use crate::denials::proof::add_proof;
 use crate::derivations::own::add_records;
 use crate::evidence::Evidence;
-use crate::line::Line;
 use dnsv_denial::ShownDenial;
+use dnsv_lines::Line;
 use dnsv_names::Name;
 use std::alloc::{AllocError, Global};
 

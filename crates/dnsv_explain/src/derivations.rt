@@ -16,8 +16,8 @@ ghost use Rattle.dnsv_explain.specs.derivations.Ways.{IsTrustedSet};
 use crate::derivations::signers::signed_line;
 use crate::derivations::ways::trusted_line;
 use crate::evidence::Evidence;
-use crate::line::Line;
-use crate::line::derivation::{SignatureNumber, Voucher};
+use dnsv_canonical::SignatureNumber;
+use dnsv_lines::{Line, Voucher};
 use std::alloc::{AllocError, Global};
 
 /// The lines that derive that the signature with the number is good under a trusted key, from a trust anchor down, but

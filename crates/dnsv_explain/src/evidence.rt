@@ -7,10 +7,10 @@ ghost use Rattle.dnsv_chain.specs.Trust.{AreSecured, IsTrustOf};
 ghost use Rattle.dnsv_explain.specs.Explained.{IsTodo, setting_in};
 ghost use Rattle.dnsv_explain.specs.faults.Keys.{IsTrustedZone};
 
-use crate::line::derivation::Todo;
 use crate::todo::number_among;
 use dnsv_canonical::{Capture, Rrset};
 use dnsv_chain::{Anchor, Anchors, Trust, is_good};
+use dnsv_lines::Todo;
 use dnsv_names::Name;
 use dnsv_records::Rrsig;
 use dnsv_verifier::{Entries, KeyRecord, Table};

@@ -24,11 +24,10 @@ use crate::explanation::end::{add_end, add_places_named};
 use crate::explanation::failure::{add_failure, is_unproved};
 use crate::explanation::told::add_set;
 use crate::explanation::verdict::{add_verdict, is_settled};
-use crate::line::Line;
-use crate::line::derivation::SignatureNumber;
 use bumpalo::Bump;
-use dnsv_canonical::Capture;
+use dnsv_canonical::{Capture, SignatureNumber};
 use dnsv_chain::Anchors;
+use dnsv_lines::Line;
 use dnsv_names::{Name, RecordType};
 use dnsv_verdict::{Judged, Report, VerdictError, judge};
 use dnsv_verifier::Verifier;
@@ -43,7 +42,7 @@ pub struct Explanation {
 
 impl Model for Explanation {
     ghost use Rattle.std.specs.Prelude.{List};
-    ghost use Rattle.dnsv_explain.specs.declared.line.Line.{Line};
+    ghost use Rattle.dnsv_lines.specs.declared.line.Line.{Line};
 
     ghost Value = { List Line };
 

@@ -21,11 +21,8 @@ ghost use Rattle.dnsv_explain.specs.faults.searches.KeySearch.{HasItsKeys, setti
 
 use crate::faults::keyed::KeyedEvidence;
 use crate::faults::signature::add_signature;
-use crate::line::Line;
-use crate::line::derivation::SignatureNumber;
-use crate::line::fault::Reason;
-use crate::line::fault::signature::UnsignedRrset;
-use dnsv_canonical::Rrset;
+use dnsv_canonical::{Rrset, SignatureNumber};
+use dnsv_lines::{Line, Reason, UnsignedRrset};
 use std::alloc::{AllocError, Global};
 
 /// Adds why the RRset, which has the number, proves nothing: nothing where one of its signatures is good under a trusted

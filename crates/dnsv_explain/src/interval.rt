@@ -1,11 +1,11 @@
 //! From when to when signatures are valid.
-ghost use Rattle.std.specs.Prelude.{◌≡◌, All, Some, max, min};
+ghost use Rattle.std.specs.Prelude.{◌≡◌, All, max, min};
 ghost use Rattle.dnsv_records.specs.Rrsig.Time.{ValidAt, seconds_on};
-ghost use Rattle.dnsv_explain.specs.intervals.Holding.{IsHolding, interval_text};
+ghost use Rattle.dnsv_explain.specs.intervals.Holding.{IsHolding};
 ghost use Rattle.dnsv_explain.specs.intervals.Reach.{IsReach};
 
+use dnsv_lines::Interval;
 use dnsv_records::{Expiration, Inception};
-use std::fmt;
 
 /// The last moment that can be asked of: 48 bits of seconds since 1970, as TSIG has them (RFC 8945 4.2).
 const LAST_MOMENT: u64 = 281_474_976_710_655;
@@ -18,24 +18,6 @@ pub const HALF: u32 = 0x8000_0000;
 pub struct Times {
     pub inception: Inception,
     pub expiration: Expiration,
-}
-
-/// Moments one after another, in seconds since 1970.
-#[derive(Clone, Copy, Debug)]
-pub struct Interval {
-    /// The first of them.
-    pub from: u64,
-    /// The last of them.
-    pub to: u64,
-}
-
-impl fmt::Display for Interval {
-    ghost output = { λ interval. Some (interval_text interval) };
-
-    fn fmt<W: fmt::Write>(&self, f: &mut fmt::Formatter<W>) -> fmt::Result {
-        let (from, to) = (self.from, self.to);
-        write!(f, "from {from} to {to}")
-    }
 }
 
 /// The greatest interval of moments around this one in which each of the signatures is valid: up to 281474976710655,

@@ -32,20 +32,17 @@ ghost use Rattle.dnsv_explain.specs.faults.RrsetLines.{AreLinesOfNumber};
 ghost use Rattle.dnsv_explain.specs.faults.Truth.{IsReasonTrue};
 ghost use Rattle.dnsv_explain.specs.faults.ZoneLines.{AreZoneLines, zone_line};
 ghost use Rattle.dnsv_explain.specs.intervals.Holding.{AreShownValidAt, IsHolding, IsHoldingOf};
-ghost use Rattle.dnsv_explain.specs.line.{line_text};
+ghost use Rattle.dnsv_lines.specs.Rows.{line_text};
 ghost use Rattle.dnsv_explain.specs.unsigned_cuts.ShownCuts.{IsCutShownBy, IsCutTold};
 ghost use Rattle.dnsv_explain.specs.derivations.Ways.{HasSecured};
 
-use crate::interval::{Interval, Times};
-use crate::line::cut::{Cut, UnusableDs};
-use crate::line::denial::Part;
-use crate::line::derivation::{SignatureNumber, SignedRrset, TrustedKeys};
-use crate::line::fault::Reason;
-use crate::line::fault::key::ShownKey;
-use crate::line::fault::signature::UntrustedSigner;
-use crate::line::fault::zone::WhyZone;
-use crate::line::{Kind, Line};
+use crate::interval::Times;
+use dnsv_canonical::SignatureNumber;
 use dnsv_chain::{more_evidence_takes_no_trust_away, trust_depends_on_what_is_asked};
+use dnsv_lines::{
+    Cut, Interval, Kind, Line, Part, Reason, ShownKey, SignedRrset, TrustedKeys, UntrustedSigner,
+    UnusableDs, WhyZone,
+};
 use dnsv_verdict::Verdict;
 use dnsv_verifier::Answer;
 

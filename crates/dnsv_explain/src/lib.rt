@@ -1,6 +1,6 @@
 //! Why a verdict stands: lines that each say a fact of the evidence.
 //!
-//! A `Line` is a fact, and its text is what `Display` writes. An `Interval` is how long signatures hold.
+//! The lines are those of `dnsv_lines`.
 #![tactic(auto)]
 
 pub use derivations::derivation;
@@ -8,7 +8,7 @@ pub use derivations::signers::signed_line;
 pub use derivations::ways::trusted_line;
 pub use evidence::Evidence;
 pub use explanation::{Explanation, explain};
-pub use interval::{Interval, Times, holding};
+pub use interval::{Times, holding};
 pub use laws::{
     a_report_has_one_explanation, bogus_questions_fail_for_a_reason, denials_follow,
     derivations_follow, expanded_signatures_follow, explanations_follow,
@@ -18,25 +18,6 @@ pub use laws::{
     reasons_of_zones_are_true, signatures_hold_in_one_interval, unsigned_cuts_follow,
     untrusted_signers_have_a_reason, verdicts_are_no_worse_as_long_as_explanations_hold,
 };
-pub use line::cut::{Cut, InsecureCase, UnusableDs, WhyUnusable};
-pub use line::denial::{Chain, Form, Part, Proof, RecordPlace, Relation, Role};
-pub use line::derivation::{KeyName, SignatureNumber, SignedRrset, Todo, TrustedKeys, Voucher};
-pub use line::fault::Reason;
-pub use line::fault::denial::parameters::SourceParameters;
-pub use line::fault::denial::{
-    DenialUnproved, DnameAbove, MissingAnswer, Source, SourceFault, UnusableNsec3, WhyNsec3,
-    WhySource,
-};
-pub use line::fault::key::ShownKey;
-pub use line::fault::signature::{
-    CloserName, ShownSignature, SignatureFault, SignatureTimes, UnsignedRrset, UntrustedSigner,
-    WhySignature,
-};
-pub use line::fault::zone::{
-    Entry, EntryFault, EntryNumber, KeyWithoutSignature, WhyEntry, WhyZone, ZoneFault,
-};
-pub use line::place::RrsetPlace;
-pub use line::{Kind, Line};
 pub use places::places_named;
 pub use shown::holding_of;
 
@@ -47,7 +28,6 @@ mod explanation;
 mod faults;
 mod interval;
 mod laws;
-mod line;
 mod numbered;
 mod places;
 mod shown;

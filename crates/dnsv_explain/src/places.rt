@@ -1,14 +1,11 @@
 //! Where the RRsets stand that lines name.
-ghost use Rattle.std.specs.Prelude.{◌≡◌, ◌↔◌, ℕ, Contains, IfOk, OnOk};
+ghost use Rattle.std.specs.Prelude.{◌↔◌, ℕ, Contains, IfOk, OnOk};
 ghost use Rattle.std.specs.List.Sorted.{IsStrictlyIncreasing};
-ghost use Rattle.dnsv_explain.specs.Places.{AddsPlace, ArePlacedBy, ArePlacesOf, NamesRrset, named_rrsets};
+ghost use Rattle.dnsv_explain.specs.Places.{AddsPlace, ArePlacedBy, ArePlacesOf, NamesRrset};
 
-use crate::line::Line;
-use crate::line::derivation::Voucher;
-use crate::line::place::RrsetPlace;
 use crate::numbered::numbered;
-use arrayvec::ArrayVec;
 use dnsv_canonical::{Capture, Rrset};
+use dnsv_lines::{Line, RrsetPlace, push_rrsets};
 use std::alloc::{AllocError, Global};
 
 /// Where each RRset stands that the lines name by its number: each once, by rising number.
@@ -56,48 +53,9 @@ fn all_named(alloc: Global, lines: &[Line]) -> Result<Vec<usize>, AllocError>
 {
     let mut numbers = Vec::new(alloc);
     for line in lines {
-        numbers.extend_from_slice(named_rrsets(line).as_slice())?;
+        push_rrsets(&mut numbers, line)?;
     }
     Ok(numbers)
-}
-
-/// The numbers of RRsets that the line has, but for those of places.
-fn named_rrsets(line: &Line) -> ArrayVec<usize, 2>
-    ensures { result.items ≡ named_rrsets line.now }
-{
-    let mut numbers = ArrayVec::new();
-    match line {
-        Line::Trusted(keys) => {
-            numbers.push(keys.signature.rrset);
-            if let Voucher::Ds(number, _) = keys.voucher {
-                numbers.push(number.rrset);
-            }
-        }
-        Line::Signed(signed) => {
-            numbers.push(signed.signature.rrset);
-            numbers.push(signed.keys);
-        }
-        Line::Part(part) => {
-            if let Some(by) = &part.by {
-                numbers.push(by.number.rrset);
-            }
-        }
-        Line::Unusable(ds) => numbers.push(ds.number.rrset),
-        Line::Reason(reason) => {
-            if let Some(number) = reason.rrset() {
-                numbers.push(number);
-            }
-        }
-        Line::Follows(untrusted) => numbers.push(untrusted.signature.number.rrset),
-        Line::Key(key) => {
-            numbers.push(key.number.rrset);
-            if let Some(ds) = key.ds {
-                numbers.push(ds.rrset);
-            }
-        }
-        _ => {}
-    }
-    numbers
 }
 
 /// Adds the place of the RRset with the number, if there is one.

@@ -3,11 +3,10 @@ ghost use Rattle.std.specs.Prelude.{◌≡◌, [], IfOk, MatchOption, OnOk};
 ghost use Rattle.dnsv_verifier.specs.Asking.{AddsJust, ComesOfSome};
 ghost use Rattle.dnsv_explain.specs.intervals.Holding.{AreShownValidAt, HasTimes, IsHoldingOf, ShowsTimes, signature_shown};
 
-use crate::interval::{Interval, Times, holding};
-use crate::line::Line;
-use crate::line::derivation::SignatureNumber;
+use crate::interval::{Times, holding};
 use crate::numbered::numbered;
-use dnsv_canonical::{Capture, Rrset};
+use dnsv_canonical::{Capture, Rrset, SignatureNumber};
+use dnsv_lines::{Interval, Line};
 use std::alloc::{AllocError, Global};
 
 /// The greatest interval of moments around this one in which each signature of the lines' `Trusted` and `Signed` is

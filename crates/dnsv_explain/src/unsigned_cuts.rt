@@ -9,11 +9,10 @@ ghost use Rattle.dnsv_explain.specs.Saying.{Adds};
 ghost use Rattle.dnsv_explain.specs.unsigned_cuts.ShownCuts.{IsCutShownBy, IsCutTold};
 
 use crate::evidence::Evidence;
-use crate::line::Line;
-use crate::line::cut::InsecureCase;
 use crate::unsigned_cuts::shown::add_unsigned;
 use crate::unsigned_cuts::unusable::add_unusable;
 use dnsv_denial::{PartName, ShownCut};
+use dnsv_lines::{InsecureCase, Line};
 use dnsv_names::Name;
 use std::alloc::{AllocError, Global};
 

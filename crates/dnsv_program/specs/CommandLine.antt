@@ -3,7 +3,7 @@ pub mod Commands
 pub mod Moment
 pub mod Question
 pub mod Paths
-use Rattle.std.specs.Prelude.{◌≡◌, ◌≢◌, ◌⊎◌, ⊤, ℕ, Bool, true, false, List, [], Option, Some, None}
+use Rattle.std.specs.Prelude.{◌≡◌, ◌⊎◌, ⊤, ℕ, Bool, true, false, List, [], Option, Some, None}
 use Rattle.std.specs.Prelude.{if◌then◌else◌, codes, is_some, option_and_then, string_bytes}
 use Rattle.std.specs.Option.{option_map}
 use Rattle.std.specs.Str.{bytes_eq}
@@ -65,18 +65,25 @@ IsAccepted words asked = (fault_of program_app words ≡ [])
 
 -- ---- why they ask for nothing
 
--- help was asked for, or the words have a mistake, of a kind that the program gives at them
+-- of what `clap` ends with, help and the version are what was asked for
+abbrev pub is_asked : ErrorKind → Bool
+is_asked kind.DisplayHelp = true
+is_asked kind.DisplayVersion = true
+is_asked _ = false
+
+-- help or the version was asked for, or the words have a mistake, of a kind that the program gives at them
 abbrev pub IsRefused : List Text → CommandLineError → Type 0
 IsRefused words line.OutOfMemory = ⊤
 IsRefused words line.NotText = ⊥
 IsRefused words (line.Help refusal) =
-    (kind_of refusal ≡ kind.DisplayHelp) × IsAmong kind.DisplayHelp (fault_of program_app words)
+    (is_asked (kind_of refusal) ≡ true) × IsAmong (kind_of refusal) (fault_of program_app words)
 IsRefused words (line.Misused refusal) =
-    (kind_of refusal ≢ kind.DisplayHelp) × IsAmong (kind_of refusal) (fault_of program_app words)
+    (is_asked (kind_of refusal) ≡ false) × IsAmong (kind_of refusal) (fault_of program_app words)
 
 abbrev pub error_of_kind : ErrorKind → Error → CommandLineError
 error_of_kind kind.OutOfMemory refusal = line.OutOfMemory
 error_of_kind kind.DisplayHelp refusal = line.Help refusal
+error_of_kind kind.DisplayVersion refusal = line.Help refusal
 error_of_kind _ refusal = line.Misused refusal
 
 abbrev pub command_line_error : Error → CommandLineError
@@ -87,7 +94,7 @@ abbrev pub words_error : IoErrorKind → CommandLineError
 words_error io.OutOfMemory = line.OutOfMemory
 words_error _ = line.NotText
 
--- the exit status: 1 without memory, 0 after help, else 2
+-- the exit status: 1 without memory, 0 after help or the version, else 2
 abbrev pub command_line_code : CommandLineError → ℕ
 command_line_code line.OutOfMemory = 1
 command_line_code line.NotText = 2

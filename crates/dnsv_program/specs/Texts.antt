@@ -1,7 +1,5 @@
 -- The texts that requests ask for.
 pub mod Checking
-pub mod Faults
-pub mod Fields
 pub mod Hex
 pub mod Json
 pub mod Listing

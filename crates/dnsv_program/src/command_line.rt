@@ -33,7 +33,7 @@ pub enum CommandLineError {
     /// A word is no text in UTF-8.
     #[error("error: a word of the command line is not UTF-8\n")]
     NotText,
-    /// Help was asked for.
+    /// Help was asked for, or the version.
     #[error(transparent)]
     Help(clap::Error),
     /// The words are no command of the program.
@@ -42,7 +42,7 @@ pub enum CommandLineError {
 }
 
 impl CommandLineError {
-    /// The exit status of the program: 1 without memory, 0 after help, else 2.
+    /// The exit status of the program: 1 without memory, 0 after help or the version, else 2.
     pub fn code(&self) -> u8
         ensures { result ≡ command_line_code self.now }
     {
@@ -80,7 +80,7 @@ impl From<clap::Error> for CommandLineError {
     fn from(refusal: clap::Error) -> CommandLineError {
         match refusal.kind() {
             ErrorKind::OutOfMemory => CommandLineError::OutOfMemory,
-            ErrorKind::DisplayHelp => CommandLineError::Help(refusal),
+            ErrorKind::DisplayHelp | ErrorKind::DisplayVersion => CommandLineError::Help(refusal),
             _ => CommandLineError::Misused(refusal),
         }
     }

@@ -269,6 +269,20 @@ $ dnssec_check explain --help
 ~ Exit status: that of check
 ~ dnssec_check explain --capture
 
+# The version: status 0, on the output, in a line; no subcommand has one.
+$ dnssec_check --version
+=> 0
+dnssec_check 0.10.0
+
+$ dnssec_check -V
+=> 0
+dnssec_check 0.10.0
+
+$ dnssec_check list --version
+=> 2
+! error: unexpected argument '--version'
+~ help
+
 # Help that can't be written is a fault as a text's is.
 full
 $ dnssec_check --help
@@ -277,5 +291,10 @@ $ dnssec_check --help
 
 full
 $ dnssec_check check --help
+=> 1
+! fault 812
+
+full
+$ dnssec_check --version
 => 1
 ! fault 812";

@@ -12,10 +12,11 @@ use Rattle.std.specs.List.Sorted.{IsPermutation, IsSorted, IsStrictlyIncreasing}
 use Rattle.std.specs.Ordering.{nat_cmp}
 use Rattle.dnsv_canonical.specs.Rrsets.{IsNumbered, ReceivedRrset}
 use Rattle.dnsv_verifier.specs.Asking.{AddsJust, ComesOfSome}
+use Rattle.dnsv_lines.specs.Rows.{named_rrsets}
 use Rattle.dnsv_explain.specs.Following.{IsPlaceOf}
-use Rattle.dnsv_explain.specs.Places.{AddsPlace, ArePlacedBy, ArePlacesOf, NamesRrset, has_number, named_rrsets, place_numbers}
-use Rattle.dnsv_explain.specs.declared.line.Line.{Line}
-use Rattle.dnsv_explain.specs.declared.line.place.RrsetPlace.{RrsetPlace}
+use Rattle.dnsv_explain.specs.Places.{AddsPlace, ArePlacedBy, ArePlacesOf, NamesRrset, has_number, place_numbers}
+use Rattle.dnsv_lines.specs.declared.line.Line.{Line}
+use Rattle.dnsv_lines.specs.declared.line.place.RrsetPlace.{RrsetPlace}
 
 -- ---- numbers
 
@@ -32,12 +33,10 @@ abbrev pub Names : Line → ℕ → Type 0
 Names line number = Contains (named_rrsets line) number
 
 -- the numbers of a line are added
-pub adds_named : (line : Line) (old : List ℕ) (named slice new : List ℕ) → named ≡ named_rrsets line → slice ≡ named
-    → new ≡ old ++ slice → AddsJust (Names line) old new
-adds_named line old named slice new are same is =
+pub adds_named : (line : Line) (old new : List ℕ) → new ≡ old ++ named_rrsets line → AddsJust (Names line) old new
+adds_named line old new is =
     let Adds : List ℕ → Type 0 = λ each. AddsJust (Names line) old each in
-    let all : new ≡ old ++ named_rrsets line = is ∙ ap (λ each. old ++ each) (same ∙ are) in
-    subst Adds (sym all) (adds_all old (named_rrsets line))
+    subst Adds (sym is) (adds_all old (named_rrsets line))
 
 -- the numbers that lines have
 pub are_named : (lines : List Line) (numbers : List ℕ)

@@ -14,21 +14,21 @@ use Rattle.dnsv_denial.specs.gathering.Evidence.{IsRecordAt}
 use Rattle.dnsv_denial.specs.words.EvidenceWords.{Chain, evidence_said}
 use Rattle.dnsv_denial.specs.words.EvidenceWords.Chain.{ByNsec, ByNsec3}
 use Rattle.dnsv_canonical.specs.declared.number.RecordNumber.{RecordNumber}
-use Rattle.dnsv_explain.specs.declared.line.Line.{Line}
-use Rattle.dnsv_explain.specs.declared.line.Line.TheVariants as line
-use Rattle.dnsv_explain.specs.declared.line.cut.Cut.{Cut}
-use Rattle.dnsv_explain.specs.declared.line.cut.UnusableDs.{UnusableDs}
-use Rattle.dnsv_explain.specs.declared.line.cut.WhyUnusable.{WhyUnusable}
-use Rattle.dnsv_explain.specs.declared.line.cut.WhyUnusable.TheVariants as why
-use Rattle.dnsv_explain.specs.declared.line.denial.Chain.{Chain as ToldChain}
-use Rattle.dnsv_explain.specs.declared.line.denial.Chain.TheVariants as told
-use Rattle.dnsv_explain.specs.declared.line.denial.Part.{Part}
-use Rattle.dnsv_explain.specs.declared.line.denial.Proof.{Proof}
-use Rattle.dnsv_explain.specs.declared.line.denial.RecordPlace.{RecordPlace}
-use Rattle.dnsv_explain.specs.declared.line.denial.Relation.{Relation}
-use Rattle.dnsv_explain.specs.declared.line.denial.Relation.TheVariants as relation
-use Rattle.dnsv_explain.specs.declared.line.denial.Role.{Role}
-use Rattle.dnsv_explain.specs.declared.line.denial.Role.TheVariants as role
+use Rattle.dnsv_lines.specs.declared.line.Line.{Line}
+use Rattle.dnsv_lines.specs.declared.line.Line.TheVariants as line
+use Rattle.dnsv_lines.specs.declared.line.cut.Cut.{Cut}
+use Rattle.dnsv_lines.specs.declared.line.cut.UnusableDs.{UnusableDs}
+use Rattle.dnsv_lines.specs.declared.line.cut.WhyUnusable.{WhyUnusable}
+use Rattle.dnsv_lines.specs.declared.line.cut.WhyUnusable.TheVariants as why
+use Rattle.dnsv_lines.specs.declared.line.denial.Chain.{Chain as ToldChain}
+use Rattle.dnsv_lines.specs.declared.line.denial.Chain.TheVariants as told
+use Rattle.dnsv_lines.specs.declared.line.denial.Part.{Part}
+use Rattle.dnsv_lines.specs.declared.line.denial.Proof.{Proof}
+use Rattle.dnsv_lines.specs.declared.line.denial.RecordPlace.{RecordPlace}
+use Rattle.dnsv_lines.specs.declared.line.denial.Relation.{Relation}
+use Rattle.dnsv_lines.specs.declared.line.denial.Relation.TheVariants as relation
+use Rattle.dnsv_lines.specs.declared.line.denial.Role.{Role}
+use Rattle.dnsv_lines.specs.declared.line.denial.Role.TheVariants as role
 
 -- ---- words
 

@@ -6,7 +6,7 @@ use Rattle.dnsv_explain.specs.Explained.{Setting}
 use Rattle.dnsv_explain.specs.derivations.Derivations.{IsDerivation}
 use Rattle.dnsv_explain.specs.derivations.Derivations.Subject.{keys}
 use Rattle.dnsv_explain.specs.derivations.Ways.{IsTrustedSet}
-use Rattle.dnsv_explain.specs.declared.line.Line.{Line}
+use Rattle.dnsv_lines.specs.declared.line.Line.{Line}
 
 -- how many labels the owner of RRset k has
 abbrev pub labels_at : List ReceivedRrset → ℕ → ℕ

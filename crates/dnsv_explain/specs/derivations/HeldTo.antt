@@ -7,7 +7,7 @@ use Rattle.dnsv_explain.specs.Saying.{AreBoth, AreEach}
 use Rattle.dnsv_explain.specs.derivations.Derivations.{IsDerivation, IsLowestSecured}
 use Rattle.dnsv_explain.specs.derivations.Derivations.Subject.{keys, signature}
 use Rattle.dnsv_explain.specs.derivations.Ways.{HasSecured, IsTrustedSet}
-use Rattle.dnsv_explain.specs.declared.line.Line.{Line}
+use Rattle.dnsv_lines.specs.declared.line.Line.{Line}
 
 -- the lowest signature of RRset k that is good under a trusted key is derived, if it has one
 pub data IsLowestDerived (setting : Setting) (k : ℕ) (before lines : List Line) : Type 0 where

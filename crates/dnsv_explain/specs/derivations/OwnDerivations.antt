@@ -9,8 +9,8 @@ use Rattle.dnsv_explain.specs.Explained.{Setting}
 use Rattle.dnsv_explain.specs.derivations.Derivations.{IsDerivation}
 use Rattle.dnsv_explain.specs.derivations.Derivations.Subject.{signature}
 use Rattle.dnsv_explain.specs.Saying.{AreEach}
-use Rattle.dnsv_explain.specs.declared.line.Line.{Line}
-use Rattle.dnsv_explain.specs.declared.line.derivation.SignatureNumber.{SignatureNumber}
+use Rattle.dnsv_lines.specs.declared.line.Line.{Line}
+use Rattle.dnsv_canonical.specs.declared.number.SignatureNumber.{SignatureNumber}
 
 -- signature s of RRset k is good under a trusted key of its signer
 abbrev pub SecuredIn : Setting → ℕ → ℕ → Type 0

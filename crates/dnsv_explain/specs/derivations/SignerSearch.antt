@@ -10,7 +10,7 @@ use Rattle.dnsv_chain.specs.Trusted.{IsKeyOf}
 use Rattle.dnsv_explain.specs.Explained.{IsTodo, Setting}
 use Rattle.dnsv_explain.specs.Following.{IsNamed}
 use Rattle.dnsv_explain.specs.derivations.Ways.{IsSigner}
-use Rattle.dnsv_explain.specs.declared.line.derivation.SignatureNumber.{SignatureNumber}
+use Rattle.dnsv_canonical.specs.declared.number.SignatureNumber.{SignatureNumber}
 use Rattle.dnsv_explain.specs.declared.derivations.signers.Signer.{Signer}
 
 -- the signature with the number is this one

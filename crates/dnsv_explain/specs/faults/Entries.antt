@@ -10,12 +10,12 @@ use Rattle.dnsv_canonical.specs.Rrsets.{ReceivedRrset}
 use Rattle.dnsv_chain.specs.Ds.{HasDigestOf, IsIgnored, IsSupported}
 use Rattle.dnsv_explain.specs.Following.{IsNamed}
 use Rattle.dnsv_explain.specs.faults.Keys.{IsKeyAt}
-use Rattle.dnsv_explain.specs.declared.line.derivation.KeyName.{KeyName}
-use Rattle.dnsv_explain.specs.declared.line.fault.zone.Entry.{Entry}
-use Rattle.dnsv_explain.specs.declared.line.fault.zone.EntryNumber.{EntryNumber}
-use Rattle.dnsv_explain.specs.declared.line.fault.zone.EntryNumber.TheVariants as entry_number
-use Rattle.dnsv_explain.specs.declared.line.fault.zone.WhyEntry.{WhyEntry}
-use Rattle.dnsv_explain.specs.declared.line.fault.zone.WhyEntry.TheVariants as why
+use Rattle.dnsv_lines.specs.declared.line.derivation.KeyName.{KeyName}
+use Rattle.dnsv_lines.specs.declared.line.fault.zone.Entry.{Entry}
+use Rattle.dnsv_lines.specs.declared.line.fault.zone.EntryNumber.{EntryNumber}
+use Rattle.dnsv_lines.specs.declared.line.fault.zone.EntryNumber.TheVariants as entry_number
+use Rattle.dnsv_lines.specs.declared.line.fault.zone.WhyEntry.{WhyEntry}
+use Rattle.dnsv_lines.specs.declared.line.fault.zone.WhyEntry.TheVariants as why
 
 -- ---- what leads into a zone
 

@@ -13,14 +13,14 @@ use Rattle.dnsv_explain.specs.Following.{IsDsMatch, IsGoodUnder, IsNamed}
 use Rattle.dnsv_explain.specs.derivations.WaySearch.{AreKeysInOrder, signature_of}
 use Rattle.dnsv_explain.specs.faults.Listing.{AreOfNumbered, AreWhere}
 use Rattle.dnsv_explain.specs.unsigned_cuts.UnsignedCuts.{record_of}
-use Rattle.dnsv_explain.specs.declared.line.Line.{Line}
-use Rattle.dnsv_explain.specs.declared.line.Line.TheVariants as line
-use Rattle.dnsv_explain.specs.declared.line.fault.Reason.{Reason}
-use Rattle.dnsv_explain.specs.declared.line.fault.Reason.TheVariants as reason
-use Rattle.dnsv_explain.specs.declared.line.fault.key.ShownKey.{ShownKey}
-use Rattle.dnsv_explain.specs.declared.line.fault.signature.ShownSignature.{ShownSignature}
-use Rattle.dnsv_explain.specs.declared.line.fault.signature.WhySignature.{WhySignature}
-use Rattle.dnsv_explain.specs.declared.line.fault.signature.WhySignature.TheVariants as why
+use Rattle.dnsv_lines.specs.declared.line.Line.{Line}
+use Rattle.dnsv_lines.specs.declared.line.Line.TheVariants as line
+use Rattle.dnsv_lines.specs.declared.line.fault.Reason.{Reason}
+use Rattle.dnsv_lines.specs.declared.line.fault.Reason.TheVariants as reason
+use Rattle.dnsv_lines.specs.declared.line.fault.key.ShownKey.{ShownKey}
+use Rattle.dnsv_lines.specs.declared.line.fault.signature.ShownSignature.{ShownSignature}
+use Rattle.dnsv_lines.specs.declared.line.fault.signature.WhySignature.{WhySignature}
+use Rattle.dnsv_lines.specs.declared.line.fault.signature.WhySignature.TheVariants as why
 use Rattle.dnsv_records.specs.declared.number.DigestType.{DigestType}
 
 -- ---- the zones in question

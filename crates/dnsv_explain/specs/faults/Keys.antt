@@ -7,7 +7,7 @@ use Rattle.dnsv_verifier.specs.Admissible.{DnskeyRecord, IsKeyAmong}
 use Rattle.dnsv_chain.specs.Trusted.{IsTrusted}
 use Rattle.dnsv_explain.specs.Explained.{Setting}
 use Rattle.dnsv_explain.specs.Following.{IsNamed}
-use Rattle.dnsv_explain.specs.declared.line.derivation.KeyName.{KeyName}
+use Rattle.dnsv_lines.specs.declared.line.derivation.KeyName.{KeyName}
 
 -- a key of the zone: a DNSKEY record of the evidence there, whatever message that came in
 pub record IsKeyAt (rrsets : List ReceivedRrset) (zone : Labels) (key : DnskeyRecord) : Type 0 where

@@ -1,7 +1,7 @@
 -- Lists of what is so.
 use Rattle.std.specs.Prelude.{◌≡◌, ◌⊎◌, ◌+◌, ℕ, List, [], ◌∷◌, ◌++◌}
 use Rattle.dnsv_explain.specs.Saying.{Adds}
-use Rattle.dnsv_explain.specs.declared.line.Line.{Line}
+use Rattle.dnsv_lines.specs.declared.line.Line.{Line}
 
 -- those of the list that are such, in its order
 abbrev pub AreThose : {X : Type 0} → (X → Type 0) → List X → List X → Type 0

@@ -32,16 +32,16 @@ use Rattle.dnsv_explain.specs.faults.RrsetLines.{AreRrsetLines, shown_of}
 use Rattle.dnsv_explain.specs.faults.Sources.{AreSourceLines, HasClosedAbove, IsSourceOf}
 use Rattle.dnsv_explain.specs.faults.ZoneLines.{AreZoneLines, zone_line}
 use Rattle.dnsv_explain.specs.faults.Zones.{HasDenial, HasGoal, HasRrset, HasSigner, HasSignedGoal, IsDenial, IsGoal, IsNeeded, IsSpeaker}
-use Rattle.dnsv_explain.specs.line.{line_text}
+use Rattle.dnsv_lines.specs.Rows.{line_text}
 use Rattle.dnsv_explain.specs.unsigned_cuts.UnsignedCuts.{record_of}
-use Rattle.dnsv_explain.specs.declared.line.Line.{Line}
-use Rattle.dnsv_explain.specs.declared.line.Line.TheVariants as line
-use Rattle.dnsv_explain.specs.declared.line.fault.Reason.TheVariants as reason
-use Rattle.dnsv_explain.specs.declared.line.fault.denial.Source.{Source}
-use Rattle.dnsv_explain.specs.declared.line.fault.denial.WhyNsec3.{WhyNsec3}
-use Rattle.dnsv_explain.specs.declared.line.fault.denial.WhyNsec3.TheVariants as nsec3
-use Rattle.dnsv_explain.specs.declared.line.fault.signature.ShownSignature.{ShownSignature}
-use Rattle.dnsv_explain.specs.declared.line.fault.zone.WhyZone.TheVariants as zone_why
+use Rattle.dnsv_lines.specs.declared.line.Line.{Line}
+use Rattle.dnsv_lines.specs.declared.line.Line.TheVariants as line
+use Rattle.dnsv_lines.specs.declared.line.fault.Reason.TheVariants as reason
+use Rattle.dnsv_lines.specs.declared.line.fault.denial.Source.{Source}
+use Rattle.dnsv_lines.specs.declared.line.fault.denial.WhyNsec3.{WhyNsec3}
+use Rattle.dnsv_lines.specs.declared.line.fault.denial.WhyNsec3.TheVariants as nsec3
+use Rattle.dnsv_lines.specs.declared.line.fault.signature.ShownSignature.{ShownSignature}
+use Rattle.dnsv_lines.specs.declared.line.fault.zone.WhyZone.TheVariants as zone_why
 
 -- ---- 1, 2: the zones
 

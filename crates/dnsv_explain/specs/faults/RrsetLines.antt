@@ -9,12 +9,12 @@ use Rattle.dnsv_explain.specs.derivations.Ways.{HasSecured}
 use Rattle.dnsv_explain.specs.faults.Keys.{HasKeys, IsNamedBy, IsTrustedZone, named_by}
 use Rattle.dnsv_explain.specs.faults.Listing.{AreOfNumbered}
 use Rattle.dnsv_explain.specs.faults.SignatureFaults.{AreFaultsOf, IsFaultOf}
-use Rattle.dnsv_explain.specs.declared.line.Line.{Line}
-use Rattle.dnsv_explain.specs.declared.line.Line.TheVariants as line
-use Rattle.dnsv_explain.specs.declared.line.fault.Reason.TheVariants as reason
-use Rattle.dnsv_explain.specs.declared.line.fault.signature.ShownSignature.{ShownSignature}
-use Rattle.dnsv_explain.specs.declared.line.fault.signature.WhySignature.{WhySignature}
-use Rattle.dnsv_explain.specs.declared.line.fault.signature.WhySignature.TheVariants as why
+use Rattle.dnsv_lines.specs.declared.line.Line.{Line}
+use Rattle.dnsv_lines.specs.declared.line.Line.TheVariants as line
+use Rattle.dnsv_lines.specs.declared.line.fault.Reason.TheVariants as reason
+use Rattle.dnsv_lines.specs.declared.line.fault.signature.ShownSignature.{ShownSignature}
+use Rattle.dnsv_lines.specs.declared.line.fault.signature.WhySignature.{WhySignature}
+use Rattle.dnsv_lines.specs.declared.line.fault.signature.WhySignature.TheVariants as why
 
 -- ---- lines
 

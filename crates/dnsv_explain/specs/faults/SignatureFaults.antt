@@ -14,9 +14,9 @@ use Rattle.dnsv_chain.specs.Trusted.{IsGoodByTrust}
 use Rattle.dnsv_explain.specs.Explained.{Setting}
 use Rattle.dnsv_explain.specs.faults.Keys.{IsTrustedZone, IsZoneKey}
 use Rattle.dnsv_explain.specs.faults.Listing.{AreThose}
-use Rattle.dnsv_explain.specs.declared.line.fault.signature.SignatureTimes.{SignatureTimes}
-use Rattle.dnsv_explain.specs.declared.line.fault.signature.WhySignature.{WhySignature}
-use Rattle.dnsv_explain.specs.declared.line.fault.signature.WhySignature.TheVariants as why
+use Rattle.dnsv_lines.specs.declared.line.fault.signature.SignatureTimes.{SignatureTimes}
+use Rattle.dnsv_lines.specs.declared.line.fault.signature.WhySignature.{WhySignature}
+use Rattle.dnsv_lines.specs.declared.line.fault.signature.WhySignature.TheVariants as why
 
 -- ---- what a verifier says
 

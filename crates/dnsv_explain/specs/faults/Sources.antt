@@ -15,14 +15,14 @@ use Rattle.dnsv_denial.specs.words.EvidenceWords.Chain.{ByNsec, ByNsec3}
 use Rattle.dnsv_canonical.specs.declared.number.RecordNumber.{RecordNumber}
 use Rattle.std.specs.declared.cmp.Ordering.TheVariants.{Less}
 use Rattle.dnsv_explain.specs.faults.Listing.{AreOfEach, AreParted, AreWhere}
-use Rattle.dnsv_explain.specs.declared.line.Line.{Line}
-use Rattle.dnsv_explain.specs.declared.line.Line.TheVariants as line
-use Rattle.dnsv_explain.specs.declared.line.denial.Role.{Role}
-use Rattle.dnsv_explain.specs.declared.line.denial.Role.TheVariants as role
-use Rattle.dnsv_explain.specs.declared.line.fault.Reason.TheVariants as reason
-use Rattle.dnsv_explain.specs.declared.line.fault.denial.Source.{Source}
-use Rattle.dnsv_explain.specs.declared.line.fault.denial.WhySource.{WhySource}
-use Rattle.dnsv_explain.specs.declared.line.fault.denial.WhySource.TheVariants as why
+use Rattle.dnsv_lines.specs.declared.line.Line.{Line}
+use Rattle.dnsv_lines.specs.declared.line.Line.TheVariants as line
+use Rattle.dnsv_lines.specs.declared.line.denial.Role.{Role}
+use Rattle.dnsv_lines.specs.declared.line.denial.Role.TheVariants as role
+use Rattle.dnsv_lines.specs.declared.line.fault.Reason.TheVariants as reason
+use Rattle.dnsv_lines.specs.declared.line.fault.denial.Source.{Source}
+use Rattle.dnsv_lines.specs.declared.line.fault.denial.WhySource.{WhySource}
+use Rattle.dnsv_lines.specs.declared.line.fault.denial.WhySource.TheVariants as why
 use Rattle.dnsv_names.specs.declared.number.RecordType.{RecordType}
 
 -- ---- words: `said` is what the records of the source say

@@ -25,20 +25,20 @@ use Rattle.dnsv_explain.specs.faults.SignatureFaults.{IsFaultOf}
 use Rattle.dnsv_explain.specs.faults.Sources.{IsSourceFault, IsSourceOf}
 use Rattle.dnsv_explain.specs.faults.ZoneLines.{HasNamedSignature, HasNoWay, LeadsInto, MayBeBy}
 use Rattle.dnsv_explain.specs.faults.Zones.{HasDenial, HasGoal, HasRrset, IsSpeaker}
-use Rattle.dnsv_explain.specs.declared.line.fault.Reason.{Reason}
-use Rattle.dnsv_explain.specs.declared.line.fault.Reason.TheVariants as reason
-use Rattle.dnsv_explain.specs.declared.line.fault.denial.DnameAbove.{DnameAbove}
-use Rattle.dnsv_explain.specs.declared.line.fault.denial.SourceFault.{SourceFault}
-use Rattle.dnsv_explain.specs.declared.line.fault.denial.UnusableNsec3.{UnusableNsec3}
-use Rattle.dnsv_explain.specs.declared.line.fault.denial.WhyNsec3.{WhyNsec3}
-use Rattle.dnsv_explain.specs.declared.line.fault.denial.WhyNsec3.TheVariants as nsec3
-use Rattle.dnsv_explain.specs.declared.line.fault.signature.CloserName.{CloserName}
-use Rattle.dnsv_explain.specs.declared.line.fault.signature.SignatureFault.{SignatureFault}
-use Rattle.dnsv_explain.specs.declared.line.fault.signature.UnsignedRrset.{UnsignedRrset}
-use Rattle.dnsv_explain.specs.declared.line.fault.zone.EntryFault.{EntryFault}
-use Rattle.dnsv_explain.specs.declared.line.fault.zone.KeyWithoutSignature.{KeyWithoutSignature}
-use Rattle.dnsv_explain.specs.declared.line.fault.zone.WhyZone.{WhyZone}
-use Rattle.dnsv_explain.specs.declared.line.fault.zone.WhyZone.TheVariants as zone_why
+use Rattle.dnsv_lines.specs.declared.line.fault.Reason.{Reason}
+use Rattle.dnsv_lines.specs.declared.line.fault.Reason.TheVariants as reason
+use Rattle.dnsv_lines.specs.declared.line.fault.denial.DnameAbove.{DnameAbove}
+use Rattle.dnsv_lines.specs.declared.line.fault.denial.SourceFault.{SourceFault}
+use Rattle.dnsv_lines.specs.declared.line.fault.denial.UnusableNsec3.{UnusableNsec3}
+use Rattle.dnsv_lines.specs.declared.line.fault.denial.WhyNsec3.{WhyNsec3}
+use Rattle.dnsv_lines.specs.declared.line.fault.denial.WhyNsec3.TheVariants as nsec3
+use Rattle.dnsv_lines.specs.declared.line.fault.signature.CloserName.{CloserName}
+use Rattle.dnsv_lines.specs.declared.line.fault.signature.SignatureFault.{SignatureFault}
+use Rattle.dnsv_lines.specs.declared.line.fault.signature.UnsignedRrset.{UnsignedRrset}
+use Rattle.dnsv_lines.specs.declared.line.fault.zone.EntryFault.{EntryFault}
+use Rattle.dnsv_lines.specs.declared.line.fault.zone.KeyWithoutSignature.{KeyWithoutSignature}
+use Rattle.dnsv_lines.specs.declared.line.fault.zone.WhyZone.{WhyZone}
+use Rattle.dnsv_lines.specs.declared.line.fault.zone.WhyZone.TheVariants as zone_why
 
 -- ---- of a zone
 
@@ -150,7 +150,7 @@ MaySpeak setting name t (Some zone) = IsSpeaker setting name t zone
 abbrev pub IsAbout : Labels → ℕ → Labels → RecordType → Type 0
 IsAbout name t told rtype = (told ≡ name) × (rtype.0 ≡ t)
 
--- what fails is so, for the question
+-- what fails is so, for the question; that no key is vouched for and that an unsigned delegation is unproved is not said
 abbrev pub IsReasonTrue : Setting → Labels → ℕ → Reason → Type 0
 IsReasonTrue setting name t (reason.Zone fault) = IsZoneFault setting fault.zone fault.why
 IsReasonTrue setting name t (reason.Entry fault) = IsTrueOfEntry setting fault
@@ -167,3 +167,5 @@ IsReasonTrue setting name t (reason.AnswerMissing missing) =
 IsReasonTrue setting name t (reason.DenialUnproved denial) =
     IsAbout name t denial.name denial.rtype × (¬ HasGoal setting.rrsets name t)
     × IsSpeaker setting name t denial.zone × HasDenial setting.rrsets name denial.zone
+IsReasonTrue setting name t (reason.NotVouched keys) = ⊥
+IsReasonTrue setting name t (reason.DsUnproved cut) = ⊥

@@ -1,15 +1,14 @@
 -- From when to when signatures are valid (RFC 4034 3.1.5).
-use Rattle.std.specs.Prelude.{◌≡◌, ℕ, ◌≤◌, List, ◌++◌, Option, Some, None, All, Contains, codes, max}
-use Rattle.std.specs.Fmt.{decimal}
+use Rattle.std.specs.Prelude.{◌≡◌, ℕ, ◌≤◌, List, Option, Some, None, All, Contains, max}
 use Rattle.dnsv_records.specs.Rrsig.{IsRrsig}
 use Rattle.dnsv_records.specs.Rrsig.Time.{ValidAt}
 use Rattle.dnsv_records.specs.declared.rrsig.Rrsig.{Rrsig}
 use Rattle.dnsv_canonical.specs.Rrsets.{IsNumbered, ReceivedRrset}
-use Rattle.dnsv_explain.specs.declared.interval.Interval.{Interval}
+use Rattle.dnsv_lines.specs.declared.line.interval.Interval.{Interval}
 use Rattle.dnsv_explain.specs.declared.interval.Times.{Times}
-use Rattle.dnsv_explain.specs.declared.line.Line.{Line}
-use Rattle.dnsv_explain.specs.declared.line.Line.TheVariants as line
-use Rattle.dnsv_explain.specs.declared.line.derivation.SignatureNumber.{SignatureNumber}
+use Rattle.dnsv_lines.specs.declared.line.Line.{Line}
+use Rattle.dnsv_lines.specs.declared.line.Line.TheVariants as line
+use Rattle.dnsv_canonical.specs.declared.number.SignatureNumber.{SignatureNumber}
 
 -- ---- intervals
 
@@ -30,10 +29,6 @@ pub record IsGreatestAround (Holds : ℕ → Type 0) (moment : ℕ) (interval : 
   pub holds : HoldsFrom Holds interval.from interval.to
   pub greatest : (from to : ℕ) → from ≤ moment → moment ≤ to → to ≤ max moment last_moment
       → HoldsFrom Holds from to → (interval.from ≤ from) × (to ≤ interval.to)
-
--- an interval by its first and its last moment
-abbrev pub interval_text : Interval → List ℕ
-interval_text interval = codes "from " ++ decimal interval.from ++ codes " to " ++ decimal interval.to
 
 -- ---- signatures
 

@@ -1,7 +1,7 @@
 -- How far one signature reaches around a moment at which it is valid. No public clause cites this module.
 use Rattle.std.specs.Prelude.{◌≡◌, ℕ, ◌+◌, ◌-◌, ◌^◌, min}
 use Rattle.dnsv_records.specs.Rrsig.Time.{seconds_on}
-use Rattle.dnsv_explain.specs.declared.interval.Interval.{Interval}
+use Rattle.dnsv_lines.specs.declared.line.interval.Interval.{Interval}
 use Rattle.dnsv_explain.specs.declared.interval.Times.{Times}
 
 -- how many seconds before the moment the signature is valid without a break

@@ -17,9 +17,9 @@ use Rattle.dnsv_explain.specs.Denials.{IsProofWithParts}
 use Rattle.dnsv_explain.specs.derivations.OwnDerivations.{AreRecordsDerived, IsTrustIn}
 use Rattle.dnsv_explain.specs.Saying.{AreBoth}
 use Rattle.dnsv_explain.specs.unsigned_cuts.UnsignedCuts.{IsCaseTold, IsUnusableTold}
-use Rattle.dnsv_explain.specs.declared.line.Line.{Line}
-use Rattle.dnsv_explain.specs.declared.line.cut.InsecureCase.{InsecureCase}
-use Rattle.dnsv_explain.specs.declared.line.cut.InsecureCase.TheVariants as case
+use Rattle.dnsv_lines.specs.declared.line.Line.{Line}
+use Rattle.dnsv_lines.specs.declared.line.cut.InsecureCase.{InsecureCase}
+use Rattle.dnsv_lines.specs.declared.line.cut.InsecureCase.TheVariants as case
 
 -- Records of a zone show that a delegation without DS is at the name's so many rightmost labels, or that Opt-Out may
 -- leave one out below a closest encloser of so many, also against an answer from the wildcard there.

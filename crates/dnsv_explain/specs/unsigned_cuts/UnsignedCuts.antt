@@ -14,12 +14,12 @@ use Rattle.dnsv_explain.specs.derivations.Derivations.{IsLowestSecured}
 use Rattle.dnsv_explain.specs.Following.Parts.{IsUnusableRecord}
 use Rattle.dnsv_explain.specs.Saying.{AreBoth}
 use Rattle.dnsv_explain.specs.derivations.Ways.{HasSecured}
-use Rattle.dnsv_explain.specs.declared.line.Line.{Line}
-use Rattle.dnsv_explain.specs.declared.line.Line.TheVariants as line
-use Rattle.dnsv_explain.specs.declared.line.cut.Cut.{Cut}
-use Rattle.dnsv_explain.specs.declared.line.cut.InsecureCase.{InsecureCase}
-use Rattle.dnsv_explain.specs.declared.line.cut.InsecureCase.TheVariants as case
-use Rattle.dnsv_explain.specs.declared.line.cut.UnusableDs.{UnusableDs}
+use Rattle.dnsv_lines.specs.declared.line.Line.{Line}
+use Rattle.dnsv_lines.specs.declared.line.Line.TheVariants as line
+use Rattle.dnsv_lines.specs.declared.line.cut.Cut.{Cut}
+use Rattle.dnsv_lines.specs.declared.line.cut.InsecureCase.{InsecureCase}
+use Rattle.dnsv_lines.specs.declared.line.cut.InsecureCase.TheVariants as case
+use Rattle.dnsv_lines.specs.declared.line.cut.UnusableDs.{UnusableDs}
 
 -- the case is told, with the name at which a zone that isn't signed may begin
 pub record IsCaseTold (kind : InsecureCase) (name : Labels) (zone : Option Labels) (before lines : List Line) : Type 0 where

@@ -5,11 +5,10 @@ ghost use Rattle.dnsv_explain.specs.Denials.{HasRrset, IsPartFit, IsPartLine, Is
 ghost use Rattle.dnsv_explain.specs.Saying.{Adds, AreEach};
 
 use crate::evidence::Evidence;
-use crate::line::Line;
-use crate::line::denial::{Part, RecordPlace, Relation, Role};
 use crate::numbered::numbered;
 use dnsv_canonical::RecordNumber;
 use dnsv_denial::{PartName, PartRelation, ProofPart};
+use dnsv_lines::{Line, Part, RecordPlace, Relation, Role};
 use dnsv_names::Name;
 use std::alloc::AllocError;
 

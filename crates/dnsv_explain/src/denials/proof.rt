@@ -6,10 +6,9 @@ ghost use Rattle.dnsv_denial.specs.forms.ProofForms.{form_encloser};
 ghost use Rattle.dnsv_explain.specs.Denials.{FitsEncloser, IsProofLine, IsProofSaid, IsProofTold, IsSameProof, SameEncloser, told_chain, told_form};
 ghost use Rattle.dnsv_explain.specs.Saying.{Adds};
 
-use crate::line::Line;
-use crate::line::denial::{Chain, Form, Proof};
 use dnsv_canonical::RecordNumber;
 use dnsv_denial::{ChainKind, ProofForm, ShownDenial};
+use dnsv_lines::{Chain, Form, Line, Proof};
 use dnsv_names::Name;
 use std::alloc::AllocError;
 

@@ -9,10 +9,9 @@ ghost use Rattle.dnsv_explain.specs.Saying.{Adds};
 use crate::derivations::derivation;
 use crate::evidence::Evidence;
 use crate::faults::keys::is_signer;
-use crate::line::Line;
-use crate::line::derivation::SignatureNumber;
 use crate::numbered::numbered;
-use dnsv_canonical::{RecordNumber, Rrset, is_expanded};
+use dnsv_canonical::{RecordNumber, Rrset, SignatureNumber, is_expanded};
+use dnsv_lines::Line;
 use dnsv_names::Name;
 use std::alloc::{AllocError, Global};
 

@@ -15,9 +15,9 @@ use crate::derivations::ways::by_anchor::way_by_anchor;
 use crate::derivations::ways::by_ds::way_by_ds;
 use crate::derivations::ways::keys::{GoodSignature, KeySet, keys_in_order};
 use crate::evidence::Evidence;
-use crate::line::derivation::{KeyName, SignatureNumber, TrustedKeys, Voucher};
 use crate::numbered::numbered;
-use dnsv_canonical::Rrset;
+use dnsv_canonical::{Rrset, SignatureNumber};
+use dnsv_lines::{KeyName, TrustedKeys, Voucher};
 use dnsv_names::RecordType;
 use std::alloc::{AllocError, Global};
 

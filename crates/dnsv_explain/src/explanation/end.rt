@@ -8,10 +8,9 @@ ghost use Rattle.dnsv_explain.specs.Saying.{Adds};
 
 use crate::evidence::Evidence;
 use crate::laws::lines_that_follow_are_true;
-use crate::line::Line;
-use crate::line::place::RrsetPlace;
 use crate::places::places_named;
 use crate::shown::holding_of;
+use dnsv_lines::{Line, RrsetPlace};
 use std::alloc::{AllocError, Global};
 
 /// Adds from when to when the signatures that the lines show are valid, and where the RRsets stand that they name.

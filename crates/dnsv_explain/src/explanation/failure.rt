@@ -9,7 +9,7 @@ use crate::evidence::Evidence;
 use crate::explanation::at::At;
 use crate::faults::question::add_question_faults;
 use crate::faults::shown_keys::add_keys_in_question;
-use crate::line::Line;
+use dnsv_lines::Line;
 use dnsv_names::RecordType;
 use dnsv_verdict::Verdict;
 use std::alloc::{AllocError, Global};

@@ -9,7 +9,7 @@ use crate::derivations::own::add_derivation;
 use crate::derivations::ways::trusted_line;
 use crate::derivations::{derive_keys, lowest_secured};
 use crate::evidence::Evidence;
-use crate::line::Line;
+use dnsv_lines::Line;
 use dnsv_names::{Count, Name, RecordType};
 use std::alloc::{AllocError, Global};
 

@@ -39,7 +39,7 @@ use crate::faults::question::signers::{Signers, signers_of};
 use crate::faults::question::subjects::has_goal;
 use crate::faults::question::zones::add_zones;
 use crate::faults::sources::add_lacking;
-use crate::line::Line;
+use dnsv_lines::Line;
 use dnsv_names::{Name, RecordType};
 use dnsv_verifier::all_keys;
 use std::alloc::{AllocError, Global};

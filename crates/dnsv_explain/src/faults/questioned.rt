@@ -3,9 +3,7 @@ ghost use Rattle.std.specs.Prelude.{◌↔◌, IsTrue};
 ghost use Rattle.dnsv_explain.specs.faults.KeyLines.{AsksKeysOf, IsInQuestion, IsOfDnskeys, IsSignerAsked};
 
 use crate::faults::keys::are_equal;
-use crate::line::Line;
-use crate::line::fault::Reason;
-use crate::line::fault::signature::{ShownSignature, SignatureFault, WhySignature};
+use dnsv_lines::{Line, Reason, ShownSignature, SignatureFault, WhySignature};
 use dnsv_names::{Name, RecordType};
 
 /// Whether what fails by one of the lines is a matter of the zone's keys.

@@ -8,8 +8,8 @@ ghost use Rattle.dnsv_explain.specs.faults.searches.RemarkSearch.{IsGoodRemark, 
 use crate::evidence::Evidence;
 use crate::faults::answers::best_answer;
 use crate::faults::keyed::KeyedEvidence;
-use crate::line::fault::signature::WhySignature;
 use dnsv_canonical::Rrset;
+use dnsv_lines::WhySignature;
 use dnsv_records::Rrsig;
 use dnsv_verifier::Answer;
 use std::alloc::{AllocError, Global};

@@ -12,13 +12,10 @@ use crate::faults::keyed::KeyedEvidence;
 use crate::faults::keys::has_keys;
 use crate::faults::remark::{Remark, remark_of};
 use crate::faults::words::faults_of;
-use crate::line::Line;
-use crate::line::derivation::{KeyName, SignatureNumber};
-use crate::line::fault::Reason;
-use crate::line::fault::signature::{
-    ShownSignature, SignatureFault, UntrustedSigner, WhySignature,
+use dnsv_canonical::{Rrset, SignatureNumber};
+use dnsv_lines::{
+    KeyName, Line, Reason, ShownSignature, SignatureFault, UntrustedSigner, WhySignature,
 };
-use dnsv_canonical::Rrset;
 use dnsv_records::Rrsig;
 use std::alloc::{AllocError, Global};
 

@@ -23,8 +23,8 @@ use crate::evidence::Evidence;
 use crate::explanation::at::At;
 use crate::faults::sources::chain::SourceZone;
 use crate::faults::sources::chains::{add_nsec3s, add_nsecs};
-use crate::line::Line;
 use dnsv_denial::{OrderedParameters, nsec3s_of, nsecs_of, parameters_in_order};
+use dnsv_lines::Line;
 use dnsv_names::RecordType;
 use std::alloc::{AllocError, Global};
 

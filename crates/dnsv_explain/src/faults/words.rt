@@ -11,8 +11,8 @@ ghost use Rattle.dnsv_explain.specs.faults.SignatureFaults.{AreFaultsOf, expired
 use crate::evidence::Evidence;
 use crate::faults::keys::{has_named, has_named_zone_key};
 use crate::interval::{HALF, seconds_left, seconds_since};
-use crate::line::fault::signature::{SignatureTimes, WhySignature};
 use dnsv_canonical::{Rrset, is_expanded, signed_label_count};
+use dnsv_lines::{SignatureTimes, WhySignature};
 use dnsv_records::Rrsig;
 use dnsv_verifier::{KeyRecord, may_sign};
 use std::alloc::{AllocError, Global};

@@ -15,7 +15,7 @@ ghost use Rattle.dnsv_explain.specs.Explained.{setting_in};
 ghost use Rattle.dnsv_explain.specs.faults.Listing.{AddsThose, AreWhere};
 ghost use Rattle.dnsv_explain.specs.faults.searches.Repeats.{AddsNew};
 ghost use Rattle.dnsv_explain.specs.faults.ZoneLines.{AreZoneLines, HasNoWay, zone_line};
-ghost use Rattle.dnsv_explain.specs.declared.line.fault.zone.WhyZone.TheVariants as zone_why;
+ghost use Rattle.dnsv_lines.specs.declared.line.fault.zone.WhyZone.TheVariants as zone_why;
 ghost use Rattle.dnsv_explain.specs.faults.searches.KeySearch.{HasItsKeys, setting_of};
 
 use crate::evidence::Evidence;
@@ -26,9 +26,7 @@ use crate::faults::zones::digested::digested_keys;
 use crate::faults::zones::entries::said_entries;
 use crate::faults::zones::ranks::add_ranks;
 use crate::faults::zones::ways::add_ways;
-use crate::line::Line;
-use crate::line::fault::Reason;
-use crate::line::fault::zone::{WhyZone, ZoneFault};
+use dnsv_lines::{Line, Reason, WhyZone, ZoneFault};
 use dnsv_names::{Name, RecordType};
 use std::alloc::{AllocError, Global};
 

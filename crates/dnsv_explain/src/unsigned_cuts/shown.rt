@@ -8,10 +8,9 @@ use crate::denials::part::add_parts;
 use crate::denials::proof::add_proof;
 use crate::derivations::own::add_records;
 use crate::evidence::Evidence;
-use crate::line::Line;
-use crate::line::cut::InsecureCase;
 use crate::unsigned_cuts::unusable::add_case;
 use dnsv_denial::ShownDenial;
+use dnsv_lines::{InsecureCase, Line};
 use dnsv_names::Name;
 use std::alloc::{AllocError, Global};
 

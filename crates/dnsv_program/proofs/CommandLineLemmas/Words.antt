@@ -29,7 +29,7 @@ use Rattle.dnsv_program.proofs.CommandLineLemmas.Values.{check_values, list_valu
 use Rattle.dnsv_program.proofs.CommandLineLemmas.Walks.{AllLeaveValues, level_in}
 use Rattle.clap.proofs.ValueTestLemmas.{accepts-Accepts}
 use Rattle.dnsv_program.specs.CommandLine.Commands.{program_app, question_word}
-use Rattle.dnsv_program.specs.CommandLine.{HasCapture, HasCheckValues, HasListValues, IsFlag, IsRefused, error_of_kind, flag_said, command_line_error, number_said}
+use Rattle.dnsv_program.specs.CommandLine.{HasCapture, HasCheckValues, HasListValues, IsFlag, IsRefused, error_of_kind, flag_said, command_line_error, is_asked, number_said}
 use Rattle.std.specs.Option.{SomeIff}
 use Rattle.dnsv_program.specs.CommandLine.Moment.{IsMoment}
 
@@ -162,8 +162,9 @@ refused_as words e has = go (kind_of e) refl
 
     go : (k : ErrorKind) → kind_of e ≡ k → IsRefused words (error_of_kind k e)
     go kind.OutOfMemory is = tt
-    go kind.DisplayHelp is = (is, subst (λ k. IsAmong k (fault_of program_app words)) is (among kind.DisplayHelp is (λ bad. cc) has))
-    go k is = ((λ help. let bad : k ≡ kind.DisplayHelp = sym is ∙ help in cc), among k is (λ bad. cc) has)
+    go kind.DisplayHelp is = (ap is_asked is, among kind.DisplayHelp is (λ bad. cc) has)
+    go kind.DisplayVersion is = (ap is_asked is, among kind.DisplayVersion is (λ bad. cc) has)
+    go k is = (ap is_asked is, among k is (λ bad. cc) has)
 
 -- `?` passes an error of `clap` up as the program tells it
 pub passed_up : {T : Type 0} (r : Result T CommandLineError) (a : App) (words : List Text) (e : Error) → a ≡ program_app

@@ -19,7 +19,7 @@ use Rattle.dnsv_verdict.specs.declared.report.Report.{Report}
 use Rattle.dnsv_verdict.specs.declared.verdict.Verdict.{Verdict}
 use Rattle.dnsv_explain.specs.Explained.{Explained}
 use Rattle.dnsv_explain.specs.Explanation.{IsExplanation, IsExplanationOf}
-use Rattle.dnsv_explain.specs.declared.line.Line.{Line}
+use Rattle.dnsv_lines.specs.declared.line.Line.{Line}
 use Rattle.dnsv_program.specs.declared.opening.Opening.{Opening}
 use Rattle.dnsv_program.specs.declared.opening.Opening.TheVariants.{Plain, Signed}
 use Rattle.dnsv_program.specs.declared.command_line.request.Request.{Request}

@@ -13,7 +13,7 @@ use Rattle.dnsv_verdict.specs.declared.report.Report.{Report}
 use Rattle.dnsv_verdict.specs.declared.verdict.Verdict.{Verdict}
 use Rattle.dnsv_verdict.specs.declared.verdict.Verdict.TheVariants as verdict
 use Rattle.dnsv_verdict.specs.Verdict.{basis_of}
-use Rattle.dnsv_explain.specs.declared.line.Line.{Line}
+use Rattle.dnsv_lines.specs.declared.line.Line.{Line}
 use Rattle.dnsv_program.specs.Files.Anchors.{HasAnchors}
 use Rattle.dnsv_program.specs.declared.opening.Opening.{Opening}
 use Rattle.dnsv_program.specs.Files.Capture.{Holds, NewEvidence}
@@ -21,7 +21,7 @@ use Rattle.dnsv_program.specs.Opening.Given.{IsOpeningOf}
 use Rattle.dnsv_program.specs.Texts.Checking.{AreInOrder, IsCheck, IsWhy, check_text, reason_members, reason_text, verdict_status}
 use Rattle.dnsv_program.specs.Files.{Files, octets_or_none}
 use Rattle.dnsv_program.specs.Files.Statements.{IsMeaningOf}
-use Rattle.dnsv_program.specs.Texts.Json.{parted}
+use Rattle.dnsv_lines.specs.Json.{parted}
 use Rattle.dnsv_program.specs.declared.texts.checking.Outcome.{Outcome}
 use Rattle.dnsv_program.specs.declared.status.Fault.{Fault}
 use Rattle.dnsv_program.proofs.FileLemmas.Faults.{of_told}

@@ -7,9 +7,9 @@ use Rattle.dnsv_records.specs.declared.rrsig.Rrsig.{Rrsig}
 use Rattle.dnsv_records.specs.Rrsig.{IsRrsig}
 use Rattle.dnsv_canonical.specs.Rrsets.{ReceivedRrset}
 use Rattle.dnsv_canonical.specs.SignedData.{IsSignedData}
-use Rattle.dnsv_program.specs.Texts.Json.{parted, still_first}
+use Rattle.dnsv_lines.specs.Json.{parted, still_first}
 use Rattle.dnsv_program.specs.Texts.Listing.{ListsRrsets, ListsSignatures, SignedOctets, data_json, data_line, listed_part}
-use Rattle.dnsv_program.proofs.TextLemmas.Json.{parted-append, still_first-append}
+use Rattle.dnsv_lines.proofs.JsonLemmas.{parted-append, still_first-append}
 
 -- ---- the text of a part
 

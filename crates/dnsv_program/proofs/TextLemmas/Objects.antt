@@ -1,8 +1,14 @@
 -- The steps in which the objects of JSON are written.
 use Rattle.std.proofs.Common.{◌≡◌, true, false, List, [], ◌∷◌, ◌++◌, ℕ, refl, sym, ap, ◌∙◌, append_assoc, codes}
 use Rattle.std.proofs.lemmas.List.{append-nil}
-use Rattle.dnsv_program.specs.Texts.Json.{member, object, object_line, parted, quoted}
-use Rattle.dnsv_program.proofs.TextLemmas.Json.{parted-append}
+use Rattle.dnsv_lines.specs.Json.{AddsMembers, member, object, parted, quoted}
+use Rattle.dnsv_program.specs.Texts.Json.{object_line}
+use Rattle.dnsv_lines.proofs.JsonLemmas.{parted-append}
+use Rattle.dnsv_lines.proofs.MemberLemmas.{no_members}
+
+-- nothing is written
+pub nothing_written : (s : List ℕ) → AddsMembers [] s s
+nothing_written s = no_members s
 
 -- a member more, behind others, of its key with a comma and a colon and of its value
 pub member_written : (s s1 s2 l v : List ℕ) → s1 ≡ s ++ l → s2 ≡ s1 ++ v → s2 ≡ s ++ (l ++ (v ++ []))

@@ -46,27 +46,6 @@ pub Written-all : {X : Type 0} {text : ℕ → X → List ℕ} {number : ℕ} {x
 Written-all {X} {text} {number} {xs} {done} {before} {now} written all =
     sym (append-nil now) ∙ ap (λ left. now ++ texts_from text (number + done) left) (sym (drop_all done xs all)) ∙ sym written.whole
 
--- the same of texts without numbers
-pub record Joined {X : Type 0} (text : X → List ℕ) (xs : List X) (done : ℕ) (before now : List ℕ) : Type 0 where
-  pub whole : before ++ flat_map text xs ≡ now ++ flat_map text (drop done xs)
-
-pub Joined-start : {X : Type 0} (text : X → List ℕ) (xs : List X) (before : List ℕ) → Joined text xs 0 before before
-Joined-start text xs before = record { whole = refl }
-
-pub Joined-next : {X : Type 0} {text : X → List ℕ} {xs : List X} {done : ℕ} {before now : List ℕ} → Joined text xs done before now
-    → (x : X) (after : List ℕ) → done < length xs → ((d : X) → get_or xs done d ≡ x) → after ≡ now ++ text x → Joined text xs (done + 1) before after
-Joined-next {X} {text} {xs} {done} {before} {now} joined x after within here line = record {
-  whole = joined.whole
-      ∙ ap (λ left. now ++ flat_map text left) (drop_more xs done x within ∙ ap (λ y. y ∷ drop (done + 1) xs) (here x))
-      ∙ sym (append_assoc now (text x) (flat_map text (drop (done + 1) xs)))
-      ∙ ap (λ t. t ++ flat_map text (drop (done + 1) xs)) (sym line);
-}
-
-pub Joined-all : {X : Type 0} {text : X → List ℕ} {xs : List X} {done : ℕ} {before now : List ℕ} → Joined text xs done before now
-    → length xs ≤ done → now ≡ before ++ flat_map text xs
-Joined-all {X} {text} {xs} {done} {before} {now} joined all =
-    sym (append-nil now) ∙ ap (λ left. now ++ flat_map text left) (sym (drop_all done xs all)) ∙ sym joined.whole
-
 -- ---- a message
 
 -- the records of the three sections, numbered on from one to the next

@@ -106,12 +106,13 @@ asking_app word = with_rule (with_rule (with_rule (with_rule (with_rule (with_ru
 abbrev pub question_app : Bool → App
 question_app why = asking_app (question_word why)
 
--- the program, which wants one of its subcommands
+-- the program, which has a version and wants one of its subcommands
 abbrev pub bare_app : App
 bare_app = record (new_app (codes "dnssec_check")) {
   top = record (new_app (codes "dnssec_check")).top {
     disable_help_subcommand = true;
     subcommand_required = true;
+    has_version = true;
   };
 }
 

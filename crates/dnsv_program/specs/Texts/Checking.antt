@@ -20,7 +20,7 @@ use Rattle.dnsv_verdict.specs.declared.verdict.Verdict.TheVariants as verdict
 use Rattle.dnsv_verdict.specs.Verdict.{Basis, basis_of}
 use Rattle.dnsv_verdict.specs.declared.report.Report.{Report}
 use Rattle.dnsv_explain.specs.Explanation.{IsExplanationOf}
-use Rattle.dnsv_explain.specs.declared.line.Line.{Line}
+use Rattle.dnsv_lines.specs.declared.line.Line.{Line}
 use Rattle.dnsv_program.specs.CommandLine.Commands.{question_word}
 use Rattle.dnsv_program.specs.Files.Anchors.{HasAnchors}
 use Rattle.dnsv_program.specs.declared.opening.Opening.{Opening}
@@ -29,7 +29,8 @@ use Rattle.dnsv_program.specs.Opening.Given.{IsOpeningOf}
 use Rattle.dnsv_program.specs.Files.{Files, octets_or_none}
 use Rattle.dnsv_program.specs.Files.Statements.{IsMeaningOf}
 use Rattle.dnsv_program.specs.Status.{status_code}
-use Rattle.dnsv_program.specs.Texts.Json.{array, member, name_json, object, object_line, parted, quoted}
+use Rattle.dnsv_lines.specs.Json.{array, member, name_json, object, parted, quoted}
+use Rattle.dnsv_program.specs.Texts.Json.{object_line}
 use Rattle.dnsv_program.specs.Texts.Todo.{todo_json, todo_line}
 use Rattle.dnsv_program.specs.Texts.Why.{why_lines, why_members}
 use Rattle.dnsv_program.specs.Told.{nowhere}

@@ -11,7 +11,8 @@ use Rattle.dnsv_canonical.specs.Rrsets.{ReceivedRrset}
 use Rattle.dnsv_canonical.specs.SignedData.{IsSignedData}
 use Rattle.dnsv_program.specs.declared.opening.Opening.TheVariants.{Plain}
 use Rattle.dnsv_program.specs.Files.Capture.{Holds, NewEvidence}
-use Rattle.dnsv_program.specs.Texts.Json.{array, member, object, object_line, octets_json, parted, quoted}
+use Rattle.dnsv_lines.specs.Json.{array, member, object, parted, quoted}
+use Rattle.dnsv_program.specs.Texts.Json.{object_line, octets_json}
 
 -- ---- what is listed
 

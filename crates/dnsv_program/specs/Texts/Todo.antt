@@ -11,7 +11,8 @@ use Rattle.dnsv_program.specs.declared.opening.Opening.TheVariants.{Plain}
 use Rattle.dnsv_program.specs.Files.Capture.{Holds, NewEvidence}
 use Rattle.dnsv_program.specs.Files.{Files, octets_or_none}
 use Rattle.dnsv_program.specs.Texts.Hex.{hex_text}
-use Rattle.dnsv_program.specs.Texts.Json.{array, member, object, object_line, octets_json, quoted}
+use Rattle.dnsv_lines.specs.Json.{array, member, object, quoted}
+use Rattle.dnsv_program.specs.Texts.Json.{object_line, octets_json}
 use Rattle.dnsv_program.specs.Files.Statements.{IsMeaningOf}
 
 -- a line: the algorithm, the key, the signed data and the signature

@@ -10,6 +10,9 @@ use crate::command_line::moment::Moment;
 use clap::{Arg, ArgAction, Command, value_parser};
 use std::alloc::{AllocError, Global};
 
+/// The version of the program, which is that of the tools, the package and the change log.
+const VERSION: &str = "0.10.0";
+
 /// The subcommands in the order in which they are used.
 const AFTER_PROGRAM: &str = "\
 From captured messages to a verdict:
@@ -64,6 +67,7 @@ pub fn program<'a>(alloc: Global) -> Result<Command<'a>, AllocError>
 {
     Command::new(alloc, "dnssec_check")
         .about("Says what captured DNS messages prove")
+        .version(VERSION)
         .after_help(AFTER_PROGRAM)
         .disable_help_subcommand(true)
         .subcommand_required(true)

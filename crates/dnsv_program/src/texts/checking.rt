@@ -6,7 +6,7 @@ ghost use Rattle.dnsv_verdict.specs.declared.error.VerdictError.{VerdictError};
 ghost use Rattle.dnsv_verdict.specs.declared.report.Report.{Report};
 ghost use Rattle.dnsv_verdict.specs.Verdict.{basis_of};
 ghost use Rattle.dnsv_verdict.specs.VerdictError.{verdict_error_code};
-ghost use Rattle.dnsv_explain.specs.declared.line.Line.{Line};
+ghost use Rattle.dnsv_lines.specs.declared.line.Line.{Line};
 ghost use Rattle.dnsv_program.specs.Status.{fault_number};
 ghost use Rattle.dnsv_program.specs.Texts.Checking as specs;
 

@@ -1,14 +1,15 @@
 //! The text of `list --all`: what each signature of the captured messages signs.
 ghost use Rattle.std.specs.Prelude.{◌≡◌, ◌++◌, ◌∷◌, [], List, IfOk, OnOk, false, string_bytes, true};
 ghost use Rattle.std.specs.Option.{option_map};
-ghost use Rattle.dnsv_program.specs.Texts.Json.{parted, still_first};
+ghost use Rattle.dnsv_lines.specs.Json.{parted, still_first};
 ghost use Rattle.dnsv_program.specs.Texts.Listing.{ListsRrsets, ListsSignatures, SignedOctets};
 ghost use Rattle.dnsv_program.specs.Texts.Listing.{data_json, data_line, listed_part, listing_text, octets_or_null};
 
 use crate::command_line::moment::Moment;
 use crate::texts::hex_text::push_hex;
-use crate::texts::json::{push_comma, push_octets};
+use crate::texts::json::push_octets;
 use dnsv_canonical::{Capture, Rrset, signed_data};
+use dnsv_lines::push_comma;
 use std::alloc::{AllocError, Global};
 
 /// What each signature of each RRset of the evidence signs: in lines, or in JSON.

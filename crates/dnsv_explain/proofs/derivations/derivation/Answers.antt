@@ -6,7 +6,7 @@ use Rattle.dnsv_explain.specs.derivations.Derivations.{IsDerivation}
 use Rattle.dnsv_explain.specs.derivations.Derivations.IsDerivation.{said_signed}
 use Rattle.dnsv_explain.specs.derivations.Derivations.Subject.{signature}
 use Rattle.dnsv_explain.specs.Explained.{setting_in}
-use Rattle.dnsv_explain.specs.declared.line.Line.{Line}
+use Rattle.dnsv_lines.specs.declared.line.Line.{Line}
 use Rattle.dnsv_explain.proofs.derivations.derivation.Goals as goal
 
 pub returns-then-is_signature_said : goal.returns-then-is_signature_said

@@ -3,7 +3,7 @@ use Rattle.dnsv_explain.specs.Explained.{setting_in}
 use Rattle.dnsv_explain.specs.derivations.Climb.{IsUpTo}
 use Rattle.dnsv_explain.specs.derivations.Derivations.{IsDerivation}
 use Rattle.dnsv_explain.specs.derivations.Derivations.Subject.{keys}
-use Rattle.dnsv_explain.specs.declared.line.Line.{Line}
+use Rattle.dnsv_lines.specs.declared.line.Line.{Line}
 use Rattle.dnsv_explain.proofs.derivations.derive_keys.Goals as goal
 
 pub returns : goal.returns

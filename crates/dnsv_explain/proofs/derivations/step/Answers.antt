@@ -4,9 +4,9 @@ use Rattle.std.proofs.lemmas.Option.{MatchOption-at_some}
 use Rattle.dnsv_explain.specs.Following.{IsSignatureSaid}
 use Rattle.dnsv_explain.specs.Explained.{setting_in}
 use Rattle.dnsv_explain.specs.derivations.Ways.{IsSignedLine}
-use Rattle.dnsv_explain.specs.declared.line.Line.{Line}
-use Rattle.dnsv_explain.specs.declared.line.Line.TheVariants as line
-use Rattle.dnsv_explain.specs.declared.line.derivation.SignatureNumber.{SignatureNumber}
+use Rattle.dnsv_lines.specs.declared.line.Line.{Line}
+use Rattle.dnsv_lines.specs.declared.line.Line.TheVariants as line
+use Rattle.dnsv_canonical.specs.declared.number.SignatureNumber.{SignatureNumber}
 use Rattle.dnsv_explain.proofs.lemmas.derivations.ClimbLemmas.{anchor_alone, by_anchor, by_said, by_signed, ds_secured, number_is, said_before}
 use Rattle.dnsv_explain.proofs.derivations.step.Goals as goal
 

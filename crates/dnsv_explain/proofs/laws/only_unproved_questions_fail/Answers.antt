@@ -1,4 +1,4 @@
-use Rattle.dnsv_explain.specs.declared.line.Line.TheVariants as line
+use Rattle.dnsv_lines.specs.declared.line.Line.TheVariants as line
 use Rattle.dnsv_explain.proofs.lemmas.whole.ProvedLemmas.{line_holds}
 use Rattle.dnsv_explain.proofs.laws.only_unproved_questions_fail.Goals as goal
 

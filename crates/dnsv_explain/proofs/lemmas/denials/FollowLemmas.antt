@@ -28,17 +28,17 @@ use Rattle.dnsv_explain.specs.Saying.{AreBoth, AreEach}
 use Rattle.dnsv_explain.specs.unsigned_cuts.ShownCuts.{IsShownUnsigned, IsUnsignedTold}
 use Rattle.dnsv_explain.specs.unsigned_cuts.ShownCuts.IsShownUnsigned.{closer_opted_out, no_ds, opted_out}
 use Rattle.dnsv_explain.specs.unsigned_cuts.UnsignedCuts.{IsCaseTold}
-use Rattle.dnsv_explain.specs.declared.line.Line.{Line}
-use Rattle.dnsv_explain.specs.declared.line.Line.TheVariants as line
-use Rattle.dnsv_explain.specs.declared.line.cut.InsecureCase.{InsecureCase}
-use Rattle.dnsv_explain.specs.declared.line.denial.Chain.{Chain as ToldChain}
-use Rattle.dnsv_explain.specs.declared.line.denial.Form.{Form}
-use Rattle.dnsv_explain.specs.declared.line.denial.Part.{Part}
-use Rattle.dnsv_explain.specs.declared.line.denial.Proof.{Proof}
-use Rattle.dnsv_explain.specs.declared.line.denial.RecordPlace.{RecordPlace}
-use Rattle.dnsv_explain.specs.declared.line.denial.Relation.{Relation}
-use Rattle.dnsv_explain.specs.declared.line.denial.Role.{Role}
-use Rattle.dnsv_explain.specs.declared.line.derivation.SignatureNumber.{SignatureNumber}
+use Rattle.dnsv_lines.specs.declared.line.Line.{Line}
+use Rattle.dnsv_lines.specs.declared.line.Line.TheVariants as line
+use Rattle.dnsv_lines.specs.declared.line.cut.InsecureCase.{InsecureCase}
+use Rattle.dnsv_lines.specs.declared.line.denial.Chain.{Chain as ToldChain}
+use Rattle.dnsv_lines.specs.declared.line.denial.Form.{Form}
+use Rattle.dnsv_lines.specs.declared.line.denial.Part.{Part}
+use Rattle.dnsv_lines.specs.declared.line.denial.Proof.{Proof}
+use Rattle.dnsv_lines.specs.declared.line.denial.RecordPlace.{RecordPlace}
+use Rattle.dnsv_lines.specs.declared.line.denial.Relation.{Relation}
+use Rattle.dnsv_lines.specs.declared.line.denial.Role.{Role}
+use Rattle.dnsv_canonical.specs.declared.number.SignatureNumber.{SignatureNumber}
 use Rattle.dnsv_explain.proofs.lemmas.stands.FormLemmas.{Counts, delegation_by, each_by, opt_out_by, opt_out_closer_by}
 use Rattle.dnsv_explain.proofs.lemmas.unsigned_cuts.CutLemmas.{closer_above, cut_facts}
 use Rattle.dnsv_explain.proofs.lemmas.denials.FormLemmas.{PartSays, each_member}

@@ -24,8 +24,8 @@ use Rattle.dnsv_denial.specs.declared.proving.proof_part.ProofPart.{ProofPart}
 use Rattle.dnsv_canonical.specs.declared.number.RecordNumber.{RecordNumber}
 use Rattle.dnsv_explain.specs.Denials.{FitsEncloser, told_relation, told_role}
 use Rattle.dnsv_explain.specs.Following.Parts.{IsWord}
-use Rattle.dnsv_explain.specs.declared.line.denial.Relation.TheVariants as relation
-use Rattle.dnsv_explain.specs.declared.line.denial.Role.TheVariants as role
+use Rattle.dnsv_lines.specs.declared.line.denial.Relation.TheVariants as relation
+use Rattle.dnsv_lines.specs.declared.line.denial.Role.TheVariants as role
 use Rattle.dnsv_explain.proofs.lemmas.denials.PartLemmas.{word_signed}
 use Rattle.dnsv_explain.proofs.lemmas.derivations.WayLemmas.KeysLemmas.{each_at}
 

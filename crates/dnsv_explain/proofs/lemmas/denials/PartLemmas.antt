@@ -9,11 +9,11 @@ use Rattle.dnsv_denial.specs.words.EvidenceWords.{Chain, SaidByNsec, SaidByNsec3
 use Rattle.dnsv_denial.specs.words.EvidenceWords.Chain.{ByNsec, ByNsec3}
 use Rattle.dnsv_canonical.specs.declared.number.RecordNumber.{RecordNumber}
 use Rattle.dnsv_explain.specs.Following.Parts.{IsMatchFor, IsSaidBy, IsWord}
-use Rattle.dnsv_explain.specs.declared.line.denial.RecordPlace.{RecordPlace}
-use Rattle.dnsv_explain.specs.declared.line.denial.Relation.{Relation}
-use Rattle.dnsv_explain.specs.declared.line.denial.Relation.TheVariants as relation
-use Rattle.dnsv_explain.specs.declared.line.denial.Role.{Role}
-use Rattle.dnsv_explain.specs.declared.line.denial.Role.TheVariants as role
+use Rattle.dnsv_lines.specs.declared.line.denial.RecordPlace.{RecordPlace}
+use Rattle.dnsv_lines.specs.declared.line.denial.Relation.{Relation}
+use Rattle.dnsv_lines.specs.declared.line.denial.Relation.TheVariants as relation
+use Rattle.dnsv_lines.specs.declared.line.denial.Role.{Role}
+use Rattle.dnsv_lines.specs.declared.line.denial.Role.TheVariants as role
 
 -- the same signature, which counts for the other too
 pub signature_too : (S T : ℕ → Type 0) (rrset : ReceivedRrset) (zone : Labels) (by : HasZoneSignature S rrset zone) → T by.signature

@@ -29,8 +29,8 @@ use Rattle.dnsv_explain.specs.Explained.{Setting}
 use Rattle.dnsv_explain.specs.Denials.{HasRrset, IsPartFit, IsShownBy, IsShownDenial, told_form, told_relation, told_role}
 use Rattle.dnsv_explain.specs.derivations.OwnDerivations.{IsTrustIn, SecuredIn}
 use Rattle.dnsv_explain.specs.Denials.IsShownBy.{no_name, no_data, no_closer}
-use Rattle.dnsv_explain.specs.declared.line.denial.Form.{Form}
-use Rattle.dnsv_explain.specs.declared.line.denial.Form.TheVariants as told
+use Rattle.dnsv_lines.specs.declared.line.denial.Form.{Form}
+use Rattle.dnsv_lines.specs.declared.line.denial.Form.TheVariants as told
 use Rattle.dnsv_explain.proofs.lemmas.denials.PartLemmas.{word_signed, zone_as}
 use Rattle.dnsv_chain.specs.Trust.{KeptTrust, SecuredIn as KeptIn}
 use Rattle.dnsv_explain.proofs.lemmas.denials.FormLemmas.{FormFacts, IsShownPart, IsSigned, PartSays, each_member, no_closer_facts, no_data_facts, no_name_facts}

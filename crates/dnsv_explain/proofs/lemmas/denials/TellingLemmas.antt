@@ -13,8 +13,8 @@ use Rattle.dnsv_explain.specs.derivations.OwnDerivations.{AreRecordsDerived, Sec
 use Rattle.dnsv_explain.specs.Saying.{Adds, AreBoth, AreEach}
 use Rattle.dnsv_explain.specs.unsigned_cuts.ShownCuts.{IsUnsignedTold}
 use Rattle.dnsv_explain.specs.unsigned_cuts.UnsignedCuts.{IsCaseTold}
-use Rattle.dnsv_explain.specs.declared.line.Line.{Line}
-use Rattle.dnsv_explain.specs.declared.line.cut.InsecureCase.{InsecureCase}
+use Rattle.dnsv_lines.specs.declared.line.Line.{Line}
+use Rattle.dnsv_lines.specs.declared.line.cut.InsecureCase.{InsecureCase}
 use Rattle.dnsv_explain.proofs.lemmas.denials.ShownLemmas.{ShownFacts, part_fits, record_signed}
 use Rattle.dnsv_explain.proofs.lemmas.telling.SayingLemmas.{both_added}
 

@@ -14,13 +14,13 @@ use Rattle.dnsv_explain.specs.derivations.Derivations.IsDerivation.{said_trusted
 use Rattle.dnsv_explain.specs.derivations.Derivations.Subject.{keys, signature}
 use Rattle.dnsv_explain.specs.Following.{EachFollows, Follows, FollowsSigned, FollowsTrusted, IsGoodUnder, IsMatchedBy, IsSaidSigned, IsSaidTrusted, IsSignatureSaid, IsVouchedBy}
 use Rattle.dnsv_explain.specs.derivations.Ways.{HasSecured, IsSignedLine, IsTrustedLine}
-use Rattle.dnsv_explain.specs.declared.line.Line.{Line}
-use Rattle.dnsv_explain.specs.declared.line.Line.TheVariants as line
-use Rattle.dnsv_explain.specs.declared.line.derivation.SignatureNumber.{SignatureNumber}
-use Rattle.dnsv_explain.specs.declared.line.derivation.SignedRrset.{SignedRrset}
-use Rattle.dnsv_explain.specs.declared.line.derivation.TrustedKeys.{TrustedKeys}
-use Rattle.dnsv_explain.specs.declared.line.derivation.Voucher.{Voucher}
-use Rattle.dnsv_explain.specs.declared.line.derivation.Voucher.TheVariants as voucher
+use Rattle.dnsv_lines.specs.declared.line.Line.{Line}
+use Rattle.dnsv_lines.specs.declared.line.Line.TheVariants as line
+use Rattle.dnsv_canonical.specs.declared.number.SignatureNumber.{SignatureNumber}
+use Rattle.dnsv_lines.specs.declared.line.derivation.SignedRrset.{SignedRrset}
+use Rattle.dnsv_lines.specs.declared.line.derivation.TrustedKeys.{TrustedKeys}
+use Rattle.dnsv_lines.specs.declared.line.derivation.Voucher.{Voucher}
+use Rattle.dnsv_lines.specs.declared.line.derivation.Voucher.TheVariants as voucher
 
 pub same_as : (a b : Labels) → b ≡ a → SameName a b
 same_as a b same = let As : Labels → Type 0 = λ each. SameName a each in subst As (sym same) (same_of_key a a refl)

@@ -14,9 +14,9 @@ use Rattle.dnsv_explain.specs.derivations.HeldTo.{IsFirstDerived, IsHeldAt, IsHe
 use Rattle.dnsv_explain.specs.derivations.HeldTo.IsLowestDerived.{signed, unsigned}
 use Rattle.dnsv_explain.specs.derivations.OwnDerivations.{IsSignatureTold}
 use Rattle.dnsv_explain.specs.derivations.Ways.{IsTrustedLine, IsTrustedSet}
-use Rattle.dnsv_explain.specs.declared.line.Line.{Line}
-use Rattle.dnsv_explain.specs.declared.line.derivation.SignatureNumber.{SignatureNumber}
-use Rattle.dnsv_explain.specs.declared.line.derivation.TrustedKeys.{TrustedKeys}
+use Rattle.dnsv_lines.specs.declared.line.Line.{Line}
+use Rattle.dnsv_canonical.specs.declared.number.SignatureNumber.{SignatureNumber}
+use Rattle.dnsv_lines.specs.declared.line.derivation.TrustedKeys.{TrustedKeys}
 use Rattle.dnsv_explain.proofs.lemmas.telling.SayingLemmas.{both_added, nothing_added}
 use Rattle.dnsv_explain.proofs.lemmas.denials.FollowLemmas.{both_follow, each_follow}
 use Rattle.dnsv_explain.proofs.lemmas.derivations.ClimbLemmas.{number_is}

@@ -17,8 +17,8 @@ use Rattle.dnsv_explain.specs.Explained.{Setting}
 use Rattle.dnsv_explain.specs.derivations.OwnDerivations.{IsLowestOwn, IsOwnDerivation, IsOwnSignature, IsSignatureTold, SecuredIn}
 use Rattle.dnsv_explain.specs.derivations.OwnSearch.{IsNoneOwn}
 use Rattle.dnsv_explain.specs.Saying.{Adds}
-use Rattle.dnsv_explain.specs.declared.line.Line.{Line}
-use Rattle.dnsv_explain.specs.declared.line.derivation.SignatureNumber.{SignatureNumber}
+use Rattle.dnsv_lines.specs.declared.line.Line.{Line}
+use Rattle.dnsv_canonical.specs.declared.number.SignatureNumber.{SignatureNumber}
 use Rattle.dnsv_explain.proofs.lemmas.derivations.ClimbLemmas.{number_is}
 use Rattle.dnsv_explain.proofs.lemmas.NumberedLemmas.{same_number}
 use Rattle.dnsv_explain.proofs.lemmas.denials.PartLemmas.{signature_too}

@@ -16,7 +16,7 @@ use Rattle.dnsv_explain.specs.Explained.{Setting}
 use Rattle.dnsv_explain.specs.Following.{IsGoodUnder}
 use Rattle.dnsv_explain.specs.derivations.SignerSearch.{IsFirstAmong, IsFirstTo, IsLowestGoodKey, IsLowestIn, IsSignatureAt}
 use Rattle.dnsv_explain.specs.derivations.Ways.{IsFirstSigner, IsSignedLine, IsSigner}
-use Rattle.dnsv_explain.specs.declared.line.derivation.SignatureNumber.{SignatureNumber}
+use Rattle.dnsv_canonical.specs.declared.number.SignatureNumber.{SignatureNumber}
 use Rattle.dnsv_explain.specs.declared.derivations.signers.Signer.{Signer}
 use Rattle.std.specs.List.{AllZip}
 use Rattle.dnsv_names.specs.Name.{Labels}

@@ -11,8 +11,8 @@ use Rattle.dnsv_explain.specs.Following.{EachFollows, Follows}
 use Rattle.dnsv_explain.specs.faults.KeyLines.{AreLinesOfSet, IsKeyLine}
 use Rattle.dnsv_explain.specs.faults.Listing.{AreOfNumbered, AreThose}
 use Rattle.dnsv_explain.specs.faults.Order.{IsSaid, same_text}
-use Rattle.dnsv_explain.specs.declared.line.Line.{Line}
-use Rattle.dnsv_explain.specs.declared.line.Line.TheVariants as line
+use Rattle.dnsv_lines.specs.declared.line.Line.{Line}
+use Rattle.dnsv_lines.specs.declared.line.Line.TheVariants as line
 
 -- the line says what fails, or shows a key
 abbrev pub IsQuiet : Line → Type 0

@@ -8,7 +8,7 @@ use Rattle.std.proofs.lemmas.List.Elements.{All-contains, All-get_or, All-nil, A
 use Rattle.dnsv_records.specs.Rrsig.Time.{ValidAt}
 use Rattle.dnsv_explain.specs.intervals.Holding.{IsHolding, last_moment, AreValidAt, IsGreatestAround}
 use Rattle.dnsv_explain.specs.intervals.Reach.{IsReach, seconds_before, seconds_behind}
-use Rattle.dnsv_explain.specs.declared.interval.Interval.{Interval}
+use Rattle.dnsv_lines.specs.declared.line.interval.Interval.{Interval}
 use Rattle.dnsv_explain.specs.declared.interval.Times.{Times}
 use Rattle.dnsv_explain.proofs.lemmas.intervals.CircleLemmas.{IsBetween, between_within, none_before, none_behind}
 

@@ -11,10 +11,10 @@ use Rattle.dnsv_records.specs.declared.rrsig.Rrsig.{Rrsig}
 use Rattle.dnsv_canonical.specs.Rrsets.{IsNumbered, ReceivedRrset}
 use Rattle.dnsv_verifier.specs.Asking.{AddsJust, ComesOfSome}
 use Rattle.dnsv_explain.specs.intervals.Holding.{AreShownValidAt, AreValidAt, HasTimes, IsGreatestAround, IsHolding, IsHoldingOf, ShowsTimes, signature_shown}
-use Rattle.dnsv_explain.specs.declared.interval.Interval.{Interval}
+use Rattle.dnsv_lines.specs.declared.line.interval.Interval.{Interval}
 use Rattle.dnsv_explain.specs.declared.interval.Times.{Times}
-use Rattle.dnsv_explain.specs.declared.line.Line.{Line}
-use Rattle.dnsv_explain.specs.declared.line.derivation.SignatureNumber.{SignatureNumber}
+use Rattle.dnsv_lines.specs.declared.line.Line.{Line}
+use Rattle.dnsv_canonical.specs.declared.number.SignatureNumber.{SignatureNumber}
 use Rattle.dnsv_explain.proofs.lemmas.NumberedLemmas.{same_number}
 
 -- ---- the times of a signature

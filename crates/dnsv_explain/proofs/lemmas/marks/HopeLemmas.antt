@@ -21,10 +21,10 @@ use Rattle.dnsv_explain.specs.Explained.{Explained, basis_in, explained_by, hope
 use Rattle.dnsv_explain.specs.Explanation.{IsHopeTold, IsSettledTold, IsVerdictTold, told_kind}
 use Rattle.dnsv_explain.specs.Following.{EachFollows, IsGoodUnder}
 use Rattle.dnsv_explain.specs.Saying.{Adds}
-use Rattle.dnsv_explain.specs.declared.line.Kind.{Kind}
-use Rattle.dnsv_explain.specs.declared.line.Line.{Line}
-use Rattle.dnsv_explain.specs.declared.line.Line.TheVariants as line
-use Rattle.dnsv_explain.specs.declared.line.derivation.SignatureNumber.{SignatureNumber}
+use Rattle.dnsv_lines.specs.declared.line.Kind.{Kind}
+use Rattle.dnsv_lines.specs.declared.line.Line.{Line}
+use Rattle.dnsv_lines.specs.declared.line.Line.TheVariants as line
+use Rattle.dnsv_canonical.specs.declared.number.SignatureNumber.{SignatureNumber}
 use Rattle.dnsv_explain.proofs.lemmas.telling.SayingLemmas.{both_added}
 use Rattle.dnsv_explain.proofs.lemmas.intervals.MomentLemmas.{each_follows_then, good_as}
 

@@ -15,13 +15,13 @@ use Rattle.dnsv_explain.specs.Explained.{Explained, IsTodo, Setting, hoped, sett
 use Rattle.dnsv_explain.specs.Following.{EachFollows, Follows, FollowsSigned, FollowsTrusted, IsGoodUnder, IsMatchedBy, IsVouchedBy}
 use Rattle.dnsv_explain.specs.Marked.{AnswersMarked, IsMarked}
 use Rattle.dnsv_explain.specs.derivations.Ways.{HasSecured, IsSignedLine, IsTrustedLine}
-use Rattle.dnsv_explain.specs.declared.line.Line.{Line}
-use Rattle.dnsv_explain.specs.declared.line.Line.TheVariants as line
-use Rattle.dnsv_explain.specs.declared.line.derivation.SignatureNumber.{SignatureNumber}
-use Rattle.dnsv_explain.specs.declared.line.derivation.SignedRrset.{SignedRrset}
-use Rattle.dnsv_explain.specs.declared.line.derivation.TrustedKeys.{TrustedKeys}
-use Rattle.dnsv_explain.specs.declared.line.derivation.Voucher.{Voucher}
-use Rattle.dnsv_explain.specs.declared.line.derivation.Voucher.TheVariants as voucher
+use Rattle.dnsv_lines.specs.declared.line.Line.{Line}
+use Rattle.dnsv_lines.specs.declared.line.Line.TheVariants as line
+use Rattle.dnsv_canonical.specs.declared.number.SignatureNumber.{SignatureNumber}
+use Rattle.dnsv_lines.specs.declared.line.derivation.SignedRrset.{SignedRrset}
+use Rattle.dnsv_lines.specs.declared.line.derivation.TrustedKeys.{TrustedKeys}
+use Rattle.dnsv_lines.specs.declared.line.derivation.Voucher.{Voucher}
+use Rattle.dnsv_lines.specs.declared.line.derivation.Voucher.TheVariants as voucher
 use Rattle.dnsv_explain.proofs.lemmas.NumberedLemmas.{among}
 use Rattle.dnsv_explain.proofs.lemmas.derivations.DerivationLemmas.{same_as}
 use Rattle.dnsv_explain.proofs.lemmas.intervals.MomentLemmas.{good_as, is_behind, is_first, vouched_then}

@@ -24,13 +24,13 @@ use Rattle.dnsv_explain.specs.derivations.OwnDerivations.{AreRecordsDerived, IsO
 use Rattle.dnsv_explain.specs.derivations.Ways.{IsSignedLine, IsTrustedLine}
 use Rattle.dnsv_explain.specs.unsigned_cuts.ShownCuts.{IsCutTold, IsUnsignedTold}
 use Rattle.dnsv_explain.specs.unsigned_cuts.UnsignedCuts.{AreAllTold, IsCaseTold, IsUnusableTold}
-use Rattle.dnsv_explain.specs.declared.line.Line.{Line}
-use Rattle.dnsv_explain.specs.declared.line.Line.TheVariants as line
-use Rattle.dnsv_explain.specs.declared.line.cut.InsecureCase.{InsecureCase}
-use Rattle.dnsv_explain.specs.declared.line.cut.InsecureCase.TheVariants as case
-use Rattle.dnsv_explain.specs.declared.line.cut.UnusableDs.{UnusableDs}
-use Rattle.dnsv_explain.specs.declared.line.denial.Form.{Form}
-use Rattle.dnsv_explain.specs.declared.line.derivation.SignatureNumber.{SignatureNumber}
+use Rattle.dnsv_lines.specs.declared.line.Line.{Line}
+use Rattle.dnsv_lines.specs.declared.line.Line.TheVariants as line
+use Rattle.dnsv_lines.specs.declared.line.cut.InsecureCase.{InsecureCase}
+use Rattle.dnsv_lines.specs.declared.line.cut.InsecureCase.TheVariants as case
+use Rattle.dnsv_lines.specs.declared.line.cut.UnusableDs.{UnusableDs}
+use Rattle.dnsv_lines.specs.declared.line.denial.Form.{Form}
+use Rattle.dnsv_canonical.specs.declared.number.SignatureNumber.{SignatureNumber}
 
 -- the line is one of these settings, if it calls something trusted or good; and it says nothing of what fails
 abbrev pub IsLineOf : (Setting → Type 0) → Line → Type 0

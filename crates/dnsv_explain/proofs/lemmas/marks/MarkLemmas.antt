@@ -28,11 +28,11 @@ use Rattle.dnsv_explain.specs.Explanation.{IsEndTold, IsExplanation, IsExplanati
 use Rattle.dnsv_explain.specs.Following.{EachFollows, IsSignatureSaid}
 use Rattle.dnsv_explain.specs.Marked.{AnswersMarked, IsMarked}
 use Rattle.dnsv_explain.specs.Saying.{AreEach}
-use Rattle.dnsv_explain.specs.declared.line.Kind.{Kind}
-use Rattle.dnsv_explain.specs.declared.line.Kind.TheVariants as kind
-use Rattle.dnsv_explain.specs.declared.line.Line.{Line}
-use Rattle.dnsv_explain.specs.declared.line.Line.TheVariants as line
-use Rattle.dnsv_explain.specs.declared.line.place.RrsetPlace.{RrsetPlace}
+use Rattle.dnsv_lines.specs.declared.line.Kind.{Kind}
+use Rattle.dnsv_lines.specs.declared.line.Kind.TheVariants as kind
+use Rattle.dnsv_lines.specs.declared.line.Line.{Line}
+use Rattle.dnsv_lines.specs.declared.line.Line.TheVariants as line
+use Rattle.dnsv_lines.specs.declared.line.place.RrsetPlace.{RrsetPlace}
 use Rattle.dnsv_explain.proofs.lemmas.telling.ExplanationLemmas.{explanation_follows}
 use Rattle.dnsv_explain.proofs.lemmas.telling.FollowingLemmas.{all_true, no_lines, said_secured}
 use Rattle.dnsv_explain.proofs.lemmas.intervals.MomentLemmas.{is_first}

@@ -20,15 +20,15 @@ use Rattle.dnsv_explain.specs.derivations.Derivations.{IsLowestSecured}
 use Rattle.dnsv_explain.specs.derivations.OwnDerivations.{AreRecordsDerived, IsSignatureTold}
 use Rattle.dnsv_explain.specs.unsigned_cuts.ShownCuts.{IsCutTold, IsUnsignedTold}
 use Rattle.dnsv_explain.specs.unsigned_cuts.UnsignedCuts.{AreAllTold, AreToldFrom, IsCaseTold, IsUnusableTold, record_of}
-use Rattle.dnsv_explain.specs.declared.line.Line.{Line}
-use Rattle.dnsv_explain.specs.declared.line.Line.TheVariants as line
-use Rattle.dnsv_explain.specs.declared.line.cut.Cut.{Cut}
-use Rattle.dnsv_explain.specs.declared.line.cut.InsecureCase.{InsecureCase}
-use Rattle.dnsv_explain.specs.declared.line.cut.InsecureCase.TheVariants as case
-use Rattle.dnsv_explain.specs.declared.line.cut.UnusableDs.{UnusableDs}
-use Rattle.dnsv_explain.specs.declared.line.cut.WhyUnusable.{WhyUnusable}
-use Rattle.dnsv_explain.specs.declared.line.cut.WhyUnusable.TheVariants as why
-use Rattle.dnsv_explain.specs.declared.line.derivation.SignatureNumber.{SignatureNumber}
+use Rattle.dnsv_lines.specs.declared.line.Line.{Line}
+use Rattle.dnsv_lines.specs.declared.line.Line.TheVariants as line
+use Rattle.dnsv_lines.specs.declared.line.cut.Cut.{Cut}
+use Rattle.dnsv_lines.specs.declared.line.cut.InsecureCase.{InsecureCase}
+use Rattle.dnsv_lines.specs.declared.line.cut.InsecureCase.TheVariants as case
+use Rattle.dnsv_lines.specs.declared.line.cut.UnusableDs.{UnusableDs}
+use Rattle.dnsv_lines.specs.declared.line.cut.WhyUnusable.{WhyUnusable}
+use Rattle.dnsv_lines.specs.declared.line.cut.WhyUnusable.TheVariants as why
+use Rattle.dnsv_canonical.specs.declared.number.SignatureNumber.{SignatureNumber}
 use Rattle.dnsv_explain.proofs.lemmas.one.DenialLemmas.{one_with_parts}
 use Rattle.dnsv_explain.proofs.lemmas.one.DerivationLemmas.{one_records, one_signature}
 use Rattle.dnsv_explain.proofs.lemmas.one.SignedLemmas.{one_lowest}

@@ -11,12 +11,12 @@ use Rattle.dnsv_explain.specs.Explained.{Setting}
 use Rattle.dnsv_explain.specs.Following.Parts.{IsPlaceOfRecord}
 use Rattle.dnsv_explain.specs.Saying.{AreEach}
 use Rattle.dnsv_explain.specs.derivations.OwnDerivations.{AreRecordsDerived, IsSignatureTold}
-use Rattle.dnsv_explain.specs.declared.line.Line.TheVariants as line
-use Rattle.dnsv_explain.specs.declared.line.denial.Form.{Form}
-use Rattle.dnsv_explain.specs.declared.line.denial.Part.{Part}
-use Rattle.dnsv_explain.specs.declared.line.denial.Proof.{Proof}
-use Rattle.dnsv_explain.specs.declared.line.denial.RecordPlace.{RecordPlace}
-use Rattle.dnsv_explain.specs.declared.line.derivation.SignatureNumber.{SignatureNumber}
+use Rattle.dnsv_lines.specs.declared.line.Line.TheVariants as line
+use Rattle.dnsv_lines.specs.declared.line.denial.Form.{Form}
+use Rattle.dnsv_lines.specs.declared.line.denial.Part.{Part}
+use Rattle.dnsv_lines.specs.declared.line.denial.Proof.{Proof}
+use Rattle.dnsv_lines.specs.declared.line.denial.RecordPlace.{RecordPlace}
+use Rattle.dnsv_canonical.specs.declared.number.SignatureNumber.{SignatureNumber}
 use Rattle.dnsv_explain.proofs.lemmas.NumberedLemmas.{same_number}
 use Rattle.dnsv_explain.proofs.lemmas.one.DerivationLemmas.{one_records, one_signature}
 use Rattle.dnsv_explain.proofs.lemmas.one.StepLemmas.{IsOne, one_both, one_each, one_once}

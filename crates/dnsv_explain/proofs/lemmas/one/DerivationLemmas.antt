@@ -12,13 +12,13 @@ use Rattle.dnsv_explain.specs.derivations.Derivations.Subject.{keys, signature}
 use Rattle.dnsv_explain.specs.derivations.HeldTo.{IsFirstDerived, IsHeldAt, IsHeldBelow, IsHeldTo, IsLowestDerived}
 use Rattle.dnsv_explain.specs.derivations.HeldTo.IsLowestDerived.{unsigned as none_signed, signed as lowest_signed}
 use Rattle.dnsv_explain.specs.derivations.OwnDerivations.{AreRecordsDerived, IsOwnDerivation, IsSignatureTold}
-use Rattle.dnsv_explain.specs.declared.line.Line.{Line}
-use Rattle.dnsv_explain.specs.declared.line.Line.TheVariants as line
-use Rattle.dnsv_explain.specs.declared.line.derivation.SignatureNumber.{SignatureNumber}
-use Rattle.dnsv_explain.specs.declared.line.derivation.SignedRrset.{SignedRrset}
-use Rattle.dnsv_explain.specs.declared.line.derivation.TrustedKeys.{TrustedKeys}
-use Rattle.dnsv_explain.specs.declared.line.derivation.Voucher.{Voucher}
-use Rattle.dnsv_explain.specs.declared.line.derivation.Voucher.TheVariants as voucher
+use Rattle.dnsv_lines.specs.declared.line.Line.{Line}
+use Rattle.dnsv_lines.specs.declared.line.Line.TheVariants as line
+use Rattle.dnsv_canonical.specs.declared.number.SignatureNumber.{SignatureNumber}
+use Rattle.dnsv_lines.specs.declared.line.derivation.SignedRrset.{SignedRrset}
+use Rattle.dnsv_lines.specs.declared.line.derivation.TrustedKeys.{TrustedKeys}
+use Rattle.dnsv_lines.specs.declared.line.derivation.Voucher.{Voucher}
+use Rattle.dnsv_lines.specs.declared.line.derivation.Voucher.TheVariants as voucher
 use Rattle.dnsv_explain.proofs.lemmas.one.SignedLemmas.{one_lowest, one_own, one_signed}
 use Rattle.dnsv_explain.proofs.lemmas.one.StepLemmas.{IsOne, one_both, one_each}
 use Rattle.dnsv_explain.proofs.lemmas.one.TrustedLemmas.{AreApart, one_trusted}

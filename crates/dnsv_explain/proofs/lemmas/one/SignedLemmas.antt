@@ -7,8 +7,8 @@ use Rattle.dnsv_explain.specs.derivations.Derivations.{IsLowestSecured}
 use Rattle.dnsv_explain.specs.derivations.OwnDerivations.{IsLowestOwn}
 use Rattle.dnsv_explain.specs.derivations.Ways.{IsSignedLine}
 use Rattle.dnsv_names.specs.Name.{Labels}
-use Rattle.dnsv_explain.specs.declared.line.derivation.SignatureNumber.{SignatureNumber}
-use Rattle.dnsv_explain.specs.declared.line.derivation.SignedRrset.{SignedRrset}
+use Rattle.dnsv_canonical.specs.declared.number.SignatureNumber.{SignatureNumber}
+use Rattle.dnsv_lines.specs.declared.line.derivation.SignedRrset.{SignedRrset}
 use Rattle.dnsv_explain.proofs.lemmas.NumberedLemmas.{same_number}
 use Rattle.dnsv_explain.proofs.lemmas.derivations.WayLemmas.SearchLemmas.{one_key}
 use Rattle.dnsv_explain.proofs.lemmas.one.StepLemmas.{even}

@@ -26,11 +26,11 @@ use Rattle.dnsv_canonical.specs.declared.number.RecordNumber.{RecordNumber}
 use Rattle.dnsv_explain.specs.Explained.{IsTodo, Setting}
 use Rattle.dnsv_explain.specs.Following.{IsGoodUnder, IsMatchedBy, IsNamed}
 use Rattle.dnsv_explain.specs.derivations.Ways.{HasSecured, IsFirstWay, IsLess, IsTrustedLine, IsWayInto, Way, voucher_rank}
-use Rattle.dnsv_explain.specs.declared.line.derivation.KeyName.{KeyName}
-use Rattle.dnsv_explain.specs.declared.line.derivation.SignatureNumber.{SignatureNumber}
-use Rattle.dnsv_explain.specs.declared.line.derivation.TrustedKeys.{TrustedKeys}
-use Rattle.dnsv_explain.specs.declared.line.derivation.Voucher.{Voucher}
-use Rattle.dnsv_explain.specs.declared.line.derivation.Voucher.TheVariants as voucher
+use Rattle.dnsv_lines.specs.declared.line.derivation.KeyName.{KeyName}
+use Rattle.dnsv_canonical.specs.declared.number.SignatureNumber.{SignatureNumber}
+use Rattle.dnsv_lines.specs.declared.line.derivation.TrustedKeys.{TrustedKeys}
+use Rattle.dnsv_lines.specs.declared.line.derivation.Voucher.{Voucher}
+use Rattle.dnsv_lines.specs.declared.line.derivation.Voucher.TheVariants as voucher
 use Rattle.dnsv_explain.proofs.lemmas.NumberedLemmas.{among, same_number}
 use Rattle.dnsv_explain.proofs.lemmas.derivations.WayLemmas.SearchLemmas.{one_key}
 use Rattle.dnsv_explain.proofs.lemmas.one.StepLemmas.{even, level}

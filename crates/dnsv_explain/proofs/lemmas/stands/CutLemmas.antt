@@ -26,9 +26,9 @@ use Rattle.dnsv_explain.specs.Saying.{AreBoth}
 use Rattle.dnsv_explain.specs.derivations.OwnDerivations.{AreRecordsDerived, IsSignatureTold}
 use Rattle.dnsv_explain.specs.unsigned_cuts.ShownCuts.{IsCutTold, IsUnsignedTold}
 use Rattle.dnsv_explain.specs.unsigned_cuts.UnsignedCuts.{AreAllTold, IsCaseTold, IsUnusableTold}
-use Rattle.dnsv_explain.specs.declared.line.Line.{Line}
-use Rattle.dnsv_explain.specs.declared.line.cut.InsecureCase.{InsecureCase}
-use Rattle.dnsv_explain.specs.declared.line.cut.InsecureCase.TheVariants as case
+use Rattle.dnsv_lines.specs.declared.line.Line.{Line}
+use Rattle.dnsv_lines.specs.declared.line.cut.InsecureCase.{InsecureCase}
+use Rattle.dnsv_lines.specs.declared.line.cut.InsecureCase.TheVariants as case
 use Rattle.dnsv_explain.proofs.lemmas.denials.PartLemmas.{zone_as}
 use Rattle.dnsv_explain.proofs.lemmas.denials.ShownLemmas.{spelled}
 use Rattle.dnsv_explain.proofs.lemmas.stands.FormLemmas.{Counts, delegation_by, each_by, opt_out_by, opt_out_closer_by}

@@ -24,8 +24,8 @@ use Rattle.dnsv_denial.specs.words.EvidenceWords.Chain.{ByNsec, ByNsec3}
 use Rattle.dnsv_denial.specs.declared.forms.proof_form.ProofForm.{ProofForm}
 use Rattle.dnsv_denial.specs.declared.forms.proof_form.WildcardParts.{WildcardParts}
 use Rattle.dnsv_canonical.specs.declared.number.RecordNumber.{RecordNumber}
-use Rattle.dnsv_explain.specs.declared.line.denial.Relation.TheVariants as relation
-use Rattle.dnsv_explain.specs.declared.line.denial.Role.TheVariants as role
+use Rattle.dnsv_lines.specs.declared.line.denial.Relation.TheVariants as relation
+use Rattle.dnsv_lines.specs.declared.line.denial.Role.TheVariants as role
 use Rattle.dnsv_explain.proofs.lemmas.intervals.MomentLemmas.{is_behind, is_first}
 use Rattle.dnsv_explain.proofs.lemmas.denials.PartLemmas.{nsec_by, nsec3_by, word_by}
 

@@ -25,8 +25,8 @@ use Rattle.dnsv_explain.specs.Explanation.IsSetTold.{as_owned, by_wildcard}
 use Rattle.dnsv_explain.specs.Following.{IsSignatureSaid}
 use Rattle.dnsv_explain.specs.Saying.{AreBoth}
 use Rattle.dnsv_explain.specs.derivations.OwnDerivations.{AreRecordsDerived, IsSignatureTold, SecuredIn}
-use Rattle.dnsv_explain.specs.declared.line.Line.{Line}
-use Rattle.dnsv_explain.specs.declared.line.derivation.SignatureNumber.{SignatureNumber}
+use Rattle.dnsv_lines.specs.declared.line.Line.{Line}
+use Rattle.dnsv_canonical.specs.declared.number.SignatureNumber.{SignatureNumber}
 use Rattle.dnsv_explain.proofs.lemmas.denials.FollowLemmas.{OwnSaid, Said, records_said, said_stays}
 use Rattle.dnsv_explain.proofs.lemmas.denials.FormLemmas.{each_member}
 use Rattle.dnsv_explain.proofs.lemmas.denials.PartLemmas.{secured_too, zone_as}

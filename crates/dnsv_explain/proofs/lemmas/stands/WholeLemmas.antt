@@ -25,7 +25,7 @@ use Rattle.dnsv_explain.specs.Following.{EachFollows, IsSignatureSaid, at_moment
 use Rattle.dnsv_explain.specs.Saying.{AreEach}
 use Rattle.dnsv_explain.specs.derivations.OwnDerivations.{SecuredIn}
 use Rattle.dnsv_explain.specs.intervals.Holding.{AreShownValidAt}
-use Rattle.dnsv_explain.specs.declared.line.Line.{Line}
+use Rattle.dnsv_lines.specs.declared.line.Line.{Line}
 use Rattle.dnsv_explain.proofs.lemmas.telling.ExplanationLemmas.{holding_follows}
 use Rattle.dnsv_explain.proofs.lemmas.telling.FollowingLemmas.{all_true, no_lines, said_secured}
 use Rattle.dnsv_explain.proofs.lemmas.intervals.MomentLemmas.{first_or_behind, follow_at}

@@ -18,12 +18,12 @@ use Rattle.dnsv_explain.specs.Saying.{Adds, AreBoth, AreEach}
 use Rattle.dnsv_explain.specs.derivations.Derivations.Subject.{signature}
 use Rattle.dnsv_explain.specs.intervals.Holding.{AreShownValidAt, IsHoldingOf}
 use Rattle.dnsv_explain.specs.unsigned_cuts.ShownCuts.IsShownUnsigned.{closer_opted_out}
-use Rattle.dnsv_explain.specs.declared.interval.Interval.{Interval}
-use Rattle.dnsv_explain.specs.declared.line.Line.{Line}
-use Rattle.dnsv_explain.specs.declared.line.Line.TheVariants as line
-use Rattle.dnsv_explain.specs.declared.line.cut.InsecureCase.TheVariants as case
-use Rattle.dnsv_explain.specs.declared.line.derivation.SignatureNumber.{SignatureNumber}
-use Rattle.dnsv_explain.specs.declared.line.place.RrsetPlace.{RrsetPlace}
+use Rattle.dnsv_lines.specs.declared.line.interval.Interval.{Interval}
+use Rattle.dnsv_lines.specs.declared.line.Line.{Line}
+use Rattle.dnsv_lines.specs.declared.line.Line.TheVariants as line
+use Rattle.dnsv_lines.specs.declared.line.cut.InsecureCase.TheVariants as case
+use Rattle.dnsv_canonical.specs.declared.number.SignatureNumber.{SignatureNumber}
+use Rattle.dnsv_lines.specs.declared.line.place.RrsetPlace.{RrsetPlace}
 use Rattle.dnsv_explain.proofs.lemmas.faults.QuietLemmas.{failure_follows}
 use Rattle.dnsv_explain.proofs.lemmas.derivations.HeldLemmas.{held_follows}
 use Rattle.dnsv_explain.proofs.lemmas.marks.HopeLemmas.{still_follow}

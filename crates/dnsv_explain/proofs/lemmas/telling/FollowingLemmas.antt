@@ -18,14 +18,14 @@ use Rattle.dnsv_explain.specs.derivations.Ways.{HasSecured, IsWayInto}
 use Rattle.dnsv_explain.proofs.lemmas.NumberedLemmas.{same_number}
 use Rattle.dnsv_explain.proofs.lemmas.denials.PartLemmas.{said_too}
 use Rattle.dnsv_explain.proofs.lemmas.derivations.WayLemmas.{way_leads}
-use Rattle.dnsv_explain.specs.declared.line.Line.{Line}
-use Rattle.dnsv_explain.specs.declared.line.Line.TheVariants as line
-use Rattle.dnsv_explain.specs.declared.line.cut.InsecureCase.{InsecureCase}
-use Rattle.dnsv_explain.specs.declared.line.cut.InsecureCase.TheVariants as case
-use Rattle.dnsv_explain.specs.declared.line.derivation.SignatureNumber.{SignatureNumber}
-use Rattle.dnsv_explain.specs.declared.line.derivation.TrustedKeys.{TrustedKeys}
-use Rattle.dnsv_explain.specs.declared.line.derivation.Voucher.{Voucher}
-use Rattle.dnsv_explain.specs.declared.line.derivation.Voucher.TheVariants as voucher
+use Rattle.dnsv_lines.specs.declared.line.Line.{Line}
+use Rattle.dnsv_lines.specs.declared.line.Line.TheVariants as line
+use Rattle.dnsv_lines.specs.declared.line.cut.InsecureCase.{InsecureCase}
+use Rattle.dnsv_lines.specs.declared.line.cut.InsecureCase.TheVariants as case
+use Rattle.dnsv_canonical.specs.declared.number.SignatureNumber.{SignatureNumber}
+use Rattle.dnsv_lines.specs.declared.line.derivation.TrustedKeys.{TrustedKeys}
+use Rattle.dnsv_lines.specs.declared.line.derivation.Voucher.{Voucher}
+use Rattle.dnsv_lines.specs.declared.line.derivation.Voucher.TheVariants as voucher
 
 -- ---- cases
 

@@ -12,7 +12,7 @@ use Rattle.dnsv_verdict.specs.declared.grounds.Grounds.{Grounds}
 use Rattle.dnsv_verdict.specs.declared.report.Report.{Report}
 use Rattle.dnsv_explain.specs.Explained.{explained_by}
 use Rattle.dnsv_explain.specs.Explanation.{IsExplanation, IsExplanationOf}
-use Rattle.dnsv_explain.specs.declared.line.Line.{Line}
+use Rattle.dnsv_lines.specs.declared.line.Line.{Line}
 
 -- what is explained by the grounds of the question is so of it
 pub explained_of : (basis : Basis) (grounds : Grounds) (t : ℕ) (report : Report) (lines : List Line) → AreGroundsOf basis grounds

@@ -2,7 +2,7 @@
 use Rattle.std.proofs.Common.{◌≡◌, ◌<◌, ◌≤◌, ◌+◌, ℕ, List, [], ◌∷◌, ◌++◌, length, take, get_or, refl, sym, ap, ◌∙◌, subst, append_assoc}
 use Rattle.std.proofs.lemmas.List.{append-nil, take_all, take_more}
 use Rattle.dnsv_explain.specs.Saying.{Adds, AreBoth, AreEach}
-use Rattle.dnsv_explain.specs.declared.line.Line.{Line}
+use Rattle.dnsv_lines.specs.declared.line.Line.{Line}
 
 pub nothing_added : (lines : List Line) (Says : List Line → List Line → Type 0) → Says lines [] → Adds Says lines lines
 nothing_added lines Says says = record { more = []; is = sym (append-nil lines); says = says }

@@ -27,10 +27,10 @@ use Rattle.dnsv_explain.specs.Explanation.{IsSettledTold, IsSignatureAt, IsVerdi
 use Rattle.dnsv_explain.specs.Saying.{Adds}
 use Rattle.dnsv_explain.specs.derivations.HeldTo.{IsHeldTo}
 use Rattle.dnsv_explain.specs.derivations.OwnDerivations.{SecuredIn}
-use Rattle.dnsv_explain.specs.declared.line.Kind.{Kind}
-use Rattle.dnsv_explain.specs.declared.line.Kind.TheVariants as kind
-use Rattle.dnsv_explain.specs.declared.line.Line.{Line}
-use Rattle.dnsv_explain.specs.declared.line.derivation.SignatureNumber.{SignatureNumber}
+use Rattle.dnsv_lines.specs.declared.line.Kind.{Kind}
+use Rattle.dnsv_lines.specs.declared.line.Kind.TheVariants as kind
+use Rattle.dnsv_lines.specs.declared.line.Line.{Line}
+use Rattle.dnsv_canonical.specs.declared.number.SignatureNumber.{SignatureNumber}
 use Rattle.dnsv_explain.proofs.lemmas.NumberedLemmas.{same_number}
 use Rattle.dnsv_explain.proofs.lemmas.telling.TellLemmas.{at_same, within_same}
 use Rattle.dnsv_explain.proofs.lemmas.derivations.SignerLemmas.{no_signature}

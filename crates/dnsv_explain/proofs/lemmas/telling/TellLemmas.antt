@@ -35,9 +35,9 @@ use Rattle.dnsv_explain.specs.Saying.{Adds}
 use Rattle.dnsv_explain.specs.derivations.OwnDerivations.{IsSignatureTold, IsTrustIn, SecuredIn as GoodIn}
 use Rattle.dnsv_explain.specs.unsigned_cuts.ShownCuts.{IsCutShownBy, IsCutTold, IsShownUnsigned, IsUnsignedTold}
 use Rattle.dnsv_explain.specs.unsigned_cuts.ShownCuts.IsShownUnsigned.{closer_opted_out}
-use Rattle.dnsv_explain.specs.declared.line.Line.{Line}
-use Rattle.dnsv_explain.specs.declared.line.cut.InsecureCase.TheVariants as case
-use Rattle.dnsv_explain.specs.declared.line.derivation.SignatureNumber.{SignatureNumber}
+use Rattle.dnsv_lines.specs.declared.line.Line.{Line}
+use Rattle.dnsv_lines.specs.declared.line.cut.InsecureCase.TheVariants as case
+use Rattle.dnsv_canonical.specs.declared.number.SignatureNumber.{SignatureNumber}
 use Rattle.dnsv_explain.proofs.lemmas.telling.SayingLemmas.{both_added}
 use Rattle.dnsv_explain.proofs.lemmas.denials.TrustLemmas.{kept_good}
 use Rattle.dnsv_explain.proofs.lemmas.intervals.ShownLemmas.{rdata_at}

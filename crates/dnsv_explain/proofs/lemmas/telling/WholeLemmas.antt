@@ -11,7 +11,7 @@ use Rattle.dnsv_explain.specs.Explanation.{IsEnd, IsEndTold, IsExplanation, IsFa
 use Rattle.dnsv_explain.specs.Following.{EachFollows}
 use Rattle.dnsv_explain.specs.Places.{ArePlacesTold}
 use Rattle.dnsv_explain.specs.Saying.{Adds, AreBoth, AreEach}
-use Rattle.dnsv_explain.specs.declared.line.Line.{Line}
+use Rattle.dnsv_lines.specs.declared.line.Line.{Line}
 use Rattle.dnsv_explain.proofs.lemmas.telling.ExplanationLemmas.{way_follows}
 use Rattle.dnsv_explain.proofs.lemmas.telling.SayingLemmas.{both_added}
 

@@ -11,7 +11,7 @@ use Rattle.dnsv_explain.specs.derivations.OwnDerivations.{IsTrustIn}
 use Rattle.dnsv_explain.specs.unsigned_cuts.ShownCuts.{IsCutShownBy, IsShownUnsigned}
 use Rattle.dnsv_explain.specs.unsigned_cuts.ShownCuts.IsShownUnsigned.{no_ds as delegation_shown, opted_out}
 use Rattle.dnsv_explain.specs.unsigned_cuts.UnsignedCuts.{IsUnusableSet}
-use Rattle.dnsv_explain.specs.declared.line.cut.InsecureCase.TheVariants as case
+use Rattle.dnsv_lines.specs.declared.line.cut.InsecureCase.TheVariants as case
 use Rattle.dnsv_explain.proofs.lemmas.denials.TrustLemmas.{kept_good}
 
 module _ (setting : Setting) (name : Labels) where

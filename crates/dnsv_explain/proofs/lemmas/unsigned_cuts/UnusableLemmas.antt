@@ -24,11 +24,11 @@ use Rattle.dnsv_explain.specs.Following.Parts.{IsUnusableRecord, IsWhy}
 use Rattle.dnsv_explain.specs.Saying.{Adds, AreBoth}
 use Rattle.dnsv_explain.specs.unsigned_cuts.UnsignedCuts.{AreAllTold, AreFirstTold, AreToldFrom, IsCaseTold, IsFirstUnusable, IsUnusableSet, IsUnusableTold, record_of}
 use Rattle.dnsv_explain.specs.derivations.WaySearch.{MayDelegate}
-use Rattle.dnsv_explain.specs.declared.line.Line.{Line}
-use Rattle.dnsv_explain.specs.declared.line.Line.TheVariants as line
-use Rattle.dnsv_explain.specs.declared.line.cut.InsecureCase.TheVariants as case
-use Rattle.dnsv_explain.specs.declared.line.cut.UnusableDs.{UnusableDs}
-use Rattle.dnsv_explain.specs.declared.line.derivation.SignatureNumber.{SignatureNumber}
+use Rattle.dnsv_lines.specs.declared.line.Line.{Line}
+use Rattle.dnsv_lines.specs.declared.line.Line.TheVariants as line
+use Rattle.dnsv_lines.specs.declared.line.cut.InsecureCase.TheVariants as case
+use Rattle.dnsv_lines.specs.declared.line.cut.UnusableDs.{UnusableDs}
+use Rattle.dnsv_canonical.specs.declared.number.SignatureNumber.{SignatureNumber}
 use Rattle.dnsv_explain.proofs.lemmas.derivations.ClimbLemmas.{number_is}
 use Rattle.dnsv_explain.proofs.lemmas.telling.SayingLemmas.{both_added}
 use Rattle.dnsv_explain.proofs.lemmas.NumberedLemmas.{same_number}

@@ -9,11 +9,11 @@ use Rattle.dnsv_explain.specs.derivations.Derivations.{IsDerivation, Subject}
 use Rattle.dnsv_explain.specs.derivations.Derivations.IsDerivation.{said_trusted, anchored, delegated, said_signed, signed}
 use Rattle.dnsv_explain.specs.derivations.Derivations.Subject.{keys, signature}
 use Rattle.dnsv_explain.specs.derivations.Ways.{IsSignedLine, IsTrustedLine, Way}
-use Rattle.dnsv_explain.specs.declared.line.Line.{Line}
-use Rattle.dnsv_explain.specs.declared.line.Line.TheVariants as line
-use Rattle.dnsv_explain.specs.declared.line.derivation.SignatureNumber.{SignatureNumber}
-use Rattle.dnsv_explain.specs.declared.line.derivation.SignedRrset.{SignedRrset}
-use Rattle.dnsv_explain.specs.declared.line.derivation.TrustedKeys.{TrustedKeys}
+use Rattle.dnsv_lines.specs.declared.line.Line.{Line}
+use Rattle.dnsv_lines.specs.declared.line.Line.TheVariants as line
+use Rattle.dnsv_canonical.specs.declared.number.SignatureNumber.{SignatureNumber}
+use Rattle.dnsv_lines.specs.declared.line.derivation.SignedRrset.{SignedRrset}
+use Rattle.dnsv_lines.specs.declared.line.derivation.TrustedKeys.{TrustedKeys}
 use Rattle.dnsv_explain.proofs.lemmas.faults.TruthLemmas.{first_or_rest, none_in}
 use Rattle.dnsv_explain.proofs.lemmas.one.DerivationLemmas.{never_both, number_of, same_above}
 use Rattle.dnsv_explain.proofs.lemmas.one.SignedLemmas.{one_keys}

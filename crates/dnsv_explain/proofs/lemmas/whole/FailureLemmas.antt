@@ -15,10 +15,10 @@ use Rattle.dnsv_explain.specs.Once.{AreOnce}
 use Rattle.dnsv_explain.specs.faults.KeyLines.{AreLinesOfKeysAsked, AreLinesOfSet, IsKeyLine}
 use Rattle.dnsv_explain.specs.faults.Listing.{AreOfNumbered}
 use Rattle.dnsv_explain.specs.faults.Order.{AreFaultLines, IsSaid, same_text}
-use Rattle.dnsv_explain.specs.line.{line_text}
-use Rattle.dnsv_explain.specs.declared.line.Line.{Line}
-use Rattle.dnsv_explain.specs.declared.line.Line.TheVariants as line
-use Rattle.dnsv_explain.specs.declared.line.fault.signature.UntrustedSigner.{UntrustedSigner}
+use Rattle.dnsv_lines.specs.Rows.{line_text}
+use Rattle.dnsv_lines.specs.declared.line.Line.{Line}
+use Rattle.dnsv_lines.specs.declared.line.Line.TheVariants as line
+use Rattle.dnsv_lines.specs.declared.line.fault.signature.UntrustedSigner.{UntrustedSigner}
 use Rattle.dnsv_explain.proofs.lemmas.faults.TruthLemmas.{those_such}
 use Rattle.dnsv_explain.proofs.lemmas.faults.ends.EachLemmas.{Each, none_each, numbered_each, one_each}
 use Rattle.dnsv_explain.proofs.lemmas.faults.truth.QuestionLemmas.{first_among}

@@ -4,8 +4,8 @@ use Rattle.std.proofs.lemmas.List.Elements.{Contains-append_cases, Contains-appe
 use Rattle.std.specs.List.{Contains}
 use Rattle.dnsv_explain.specs.Once.{AreOnce}
 use Rattle.dnsv_explain.specs.Saying.{AreBoth, AreEach, IsOnce}
-use Rattle.dnsv_explain.specs.declared.line.Line.{Line}
-use Rattle.dnsv_explain.specs.declared.line.Line.TheVariants as line
+use Rattle.dnsv_lines.specs.declared.line.Line.{Line}
+use Rattle.dnsv_lines.specs.declared.line.Line.TheVariants as line
 use Rattle.dnsv_explain.proofs.lemmas.faults.TruthLemmas.{first_or_rest, none_in}
 use Rattle.dnsv_explain.proofs.lemmas.whole.ListLemmas.{once_append, once_one}
 

@@ -13,9 +13,9 @@ use Rattle.dnsv_explain.specs.Once.{AreOnce}
 use Rattle.dnsv_explain.specs.Places.{ArePlacesOf, ArePlacesTold}
 use Rattle.dnsv_explain.specs.Saying.{AreBoth, AreEach}
 use Rattle.dnsv_explain.specs.derivations.HeldTo.{IsHeldTo}
-use Rattle.dnsv_explain.specs.declared.line.Line.{Line}
-use Rattle.dnsv_explain.specs.declared.line.Line.TheVariants as line
-use Rattle.dnsv_explain.specs.declared.line.place.RrsetPlace.{RrsetPlace}
+use Rattle.dnsv_lines.specs.declared.line.Line.{Line}
+use Rattle.dnsv_lines.specs.declared.line.Line.TheVariants as line
+use Rattle.dnsv_lines.specs.declared.line.place.RrsetPlace.{RrsetPlace}
 use Rattle.dnsv_explain.proofs.lemmas.faults.TruthLemmas.{none_in}
 use Rattle.dnsv_explain.proofs.lemmas.whole.DerivationLemmas.{IsBasic}
 use Rattle.dnsv_explain.proofs.lemmas.whole.FailureLemmas.{failure_kinds, failure_once}

@@ -11,9 +11,9 @@ use Rattle.dnsv_explain.specs.Explained.{Explained, Setting, hoped, setting_in}
 use Rattle.dnsv_explain.specs.Explanation.{IsEnd, IsExplanation, IsHopeTold, IsLinkTold, IsSettledTold, IsUnproved}
 use Rattle.dnsv_explain.specs.Places.{ArePlacesTold}
 use Rattle.dnsv_explain.specs.Saying.{AreBoth, AreEach}
-use Rattle.dnsv_explain.specs.declared.line.Line.{Line}
-use Rattle.dnsv_explain.specs.declared.line.Line.TheVariants as line
-use Rattle.dnsv_explain.specs.declared.line.place.RrsetPlace.{RrsetPlace}
+use Rattle.dnsv_lines.specs.declared.line.Line.{Line}
+use Rattle.dnsv_lines.specs.declared.line.Line.TheVariants as line
+use Rattle.dnsv_lines.specs.declared.line.place.RrsetPlace.{RrsetPlace}
 use Rattle.dnsv_explain.proofs.lemmas.marks.LineLemmas.{IsLineOf, both, links_told, settled_told}
 
 abbrev Every : Setting → Type 0

@@ -26,13 +26,13 @@ use Rattle.dnsv_explain.specs.derivations.HeldTo.IsLowestDerived.{unsigned as no
 use Rattle.dnsv_explain.specs.derivations.OwnDerivations.{AreRecordsDerived, IsOwnDerivation, IsSignatureTold}
 use Rattle.dnsv_explain.specs.unsigned_cuts.ShownCuts.{IsCutTold, IsUnsignedTold}
 use Rattle.dnsv_explain.specs.unsigned_cuts.UnsignedCuts.{AreAllTold, AreToldFrom, IsCaseTold, IsUnusableTold}
-use Rattle.dnsv_explain.specs.declared.line.Line.{Line}
-use Rattle.dnsv_explain.specs.declared.line.Line.TheVariants as line
-use Rattle.dnsv_explain.specs.declared.line.cut.InsecureCase.{InsecureCase}
-use Rattle.dnsv_explain.specs.declared.line.cut.InsecureCase.TheVariants as case
-use Rattle.dnsv_explain.specs.declared.line.cut.UnusableDs.{UnusableDs}
-use Rattle.dnsv_explain.specs.declared.line.denial.Form.{Form}
-use Rattle.dnsv_explain.specs.declared.line.derivation.SignatureNumber.{SignatureNumber}
+use Rattle.dnsv_lines.specs.declared.line.Line.{Line}
+use Rattle.dnsv_lines.specs.declared.line.Line.TheVariants as line
+use Rattle.dnsv_lines.specs.declared.line.cut.InsecureCase.{InsecureCase}
+use Rattle.dnsv_lines.specs.declared.line.cut.InsecureCase.TheVariants as case
+use Rattle.dnsv_lines.specs.declared.line.cut.UnusableDs.{UnusableDs}
+use Rattle.dnsv_lines.specs.declared.line.denial.Form.{Form}
+use Rattle.dnsv_canonical.specs.declared.number.SignatureNumber.{SignatureNumber}
 use Rattle.dnsv_explain.proofs.lemmas.faults.TruthLemmas.{first_or_rest, none_in}
 use Rattle.dnsv_explain.proofs.lemmas.whole.DerivationLemmas.{IsBasic, derivation_fresh}
 use Rattle.dnsv_explain.proofs.lemmas.whole.FreshLemmas.{HaveKinds, IsFresh, Lack, both_fresh, each_fresh, kind, kinds_append, kinds_one, lacks, none_fresh, once_fresh, one_fresh, weaker}

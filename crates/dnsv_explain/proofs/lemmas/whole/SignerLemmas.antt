@@ -16,10 +16,10 @@ use Rattle.dnsv_explain.specs.Saying.{AreBoth, AreEach}
 use Rattle.dnsv_explain.specs.derivations.HeldTo.{IsHeldTo}
 use Rattle.dnsv_explain.specs.faults.Ends.{IsExplained, IsTextAmong}
 use Rattle.dnsv_explain.specs.faults.Ends.IsExplained.{by_parent, by_reason}
-use Rattle.dnsv_explain.specs.declared.line.Line.{Line}
-use Rattle.dnsv_explain.specs.declared.line.Line.TheVariants as line
-use Rattle.dnsv_explain.specs.declared.line.fault.signature.UntrustedSigner.{UntrustedSigner}
-use Rattle.dnsv_explain.specs.declared.line.place.RrsetPlace.{RrsetPlace}
+use Rattle.dnsv_lines.specs.declared.line.Line.{Line}
+use Rattle.dnsv_lines.specs.declared.line.Line.TheVariants as line
+use Rattle.dnsv_lines.specs.declared.line.fault.signature.UntrustedSigner.{UntrustedSigner}
+use Rattle.dnsv_lines.specs.declared.line.place.RrsetPlace.{RrsetPlace}
 use Rattle.dnsv_explain.proofs.lemmas.faults.ends.EndLemmas.{signer_explained}
 use Rattle.dnsv_explain.proofs.lemmas.whole.DerivationLemmas.{IsBasic}
 use Rattle.dnsv_explain.proofs.lemmas.whole.FailureLemmas.{follows_fails}

@@ -7,7 +7,7 @@ pub loop-line-preserved : goal.loop-line-preserved
 loop-line-preserved c =
     some_more Names c.args.lines.now c.loop-line.line-index c.line-item.result _ _ _ c.loop-line-test.true c.line-item.is
     c.loop-line.invariant
-    (adds_named c.line-item.result c.loop-line.numbers.items _ _ _ c.named_rrsets.ensures c.as_slice.ensures.value c.in_ok-extend_from_slice.ensures.items)
+    (adds_named c.line-item.result c.loop-line.numbers.items _ c.in_ok-push_rrsets.ensures)
 
 pub returns : goal.returns
 returns c =

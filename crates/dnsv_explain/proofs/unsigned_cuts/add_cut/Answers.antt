@@ -5,7 +5,7 @@ use Rattle.dnsv_explain.specs.Explained.{setting_in}
 use Rattle.dnsv_explain.specs.Saying.{Adds}
 use Rattle.dnsv_explain.specs.unsigned_cuts.ShownCuts.{IsCutTold, IsShownUnsigned, IsUnsignedTold}
 use Rattle.dnsv_explain.specs.unsigned_cuts.UnsignedCuts.{IsUnusableSet, IsUnusableTold}
-use Rattle.dnsv_explain.specs.declared.line.cut.InsecureCase.TheVariants as case
+use Rattle.dnsv_lines.specs.declared.line.cut.InsecureCase.TheVariants as case
 use Rattle.dnsv_explain.proofs.lemmas.unsigned_cuts.CutTellLemmas.{IsCutShown, cut_shown}
 use Rattle.dnsv_explain.proofs.unsigned_cuts.add_cut.Goals as goal
 

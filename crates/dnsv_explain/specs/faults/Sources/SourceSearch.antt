@@ -32,9 +32,9 @@ use Rattle.dnsv_explain.specs.declared.faults.sources.chain.ChainEntries.TheVari
 use Rattle.dnsv_explain.specs.declared.faults.sources.chain.ZoneChain.{ZoneChain}
 use Rattle.dnsv_explain.specs.declared.faults.sources.closed.Closed.{Closed}
 use Rattle.dnsv_explain.specs.declared.faults.sources.records.RecordAt.{RecordAt}
-use Rattle.dnsv_explain.specs.declared.line.Line.{Line}
-use Rattle.dnsv_explain.specs.declared.line.fault.denial.Source.{Source}
-use Rattle.dnsv_explain.specs.declared.line.fault.denial.WhySource.TheVariants as why
+use Rattle.dnsv_lines.specs.declared.line.Line.{Line}
+use Rattle.dnsv_lines.specs.declared.line.fault.denial.Source.{Source}
+use Rattle.dnsv_lines.specs.declared.line.fault.denial.WhySource.TheVariants as why
 
 -- ---- a chain of the question's zones
 

@@ -23,13 +23,13 @@ use Rattle.dnsv_explain.specs.declared.faults.zones.entries.Judged.{Judged}
 use Rattle.dnsv_explain.specs.declared.faults.zones.lead.Lead.{Lead}
 use Rattle.dnsv_explain.specs.declared.faults.zones.lead.Lead.TheVariants as lead
 use Rattle.dnsv_explain.specs.declared.faults.zones.lead.Meant.{Meant}
-use Rattle.dnsv_explain.specs.declared.line.Line.{Line}
-use Rattle.dnsv_explain.specs.declared.line.derivation.KeyName.{KeyName}
-use Rattle.dnsv_explain.specs.declared.line.derivation.SignatureNumber.{SignatureNumber}
-use Rattle.dnsv_explain.specs.declared.line.fault.signature.WhySignature.{WhySignature}
-use Rattle.dnsv_explain.specs.declared.line.fault.signature.WhySignature.TheVariants as signature_why
-use Rattle.dnsv_explain.specs.declared.line.fault.zone.WhyEntry.{WhyEntry}
-use Rattle.dnsv_explain.specs.declared.line.fault.zone.WhyEntry.TheVariants as why
+use Rattle.dnsv_lines.specs.declared.line.Line.{Line}
+use Rattle.dnsv_lines.specs.declared.line.derivation.KeyName.{KeyName}
+use Rattle.dnsv_canonical.specs.declared.number.SignatureNumber.{SignatureNumber}
+use Rattle.dnsv_lines.specs.declared.line.fault.signature.WhySignature.{WhySignature}
+use Rattle.dnsv_lines.specs.declared.line.fault.signature.WhySignature.TheVariants as signature_why
+use Rattle.dnsv_lines.specs.declared.line.fault.zone.WhyEntry.{WhyEntry}
+use Rattle.dnsv_lines.specs.declared.line.fault.zone.WhyEntry.TheVariants as why
 
 -- ---- keys
 

@@ -10,8 +10,8 @@ use Rattle.dnsv_explain.specs.Explained.{Setting}
 use Rattle.dnsv_explain.specs.faults.Keys.{IsTrustedZone}
 use Rattle.dnsv_explain.specs.faults.Zones.{HasDenialSigner, HasGoalSigner, HasOwnAnchor, HasRrset, HasSignedGoal, HasSigner, IsAnchoredAbove, IsDenial, IsGoal, IsKnownZone, IsSpeaker, NeedsAbove}
 use Rattle.dnsv_explain.specs.declared.faults.question.signers.Signers.{Signers}
-use Rattle.dnsv_explain.specs.declared.line.Line.{Line}
-use Rattle.dnsv_explain.specs.declared.line.Line.TheVariants as line
+use Rattle.dnsv_lines.specs.declared.line.Line.{Line}
+use Rattle.dnsv_lines.specs.declared.line.Line.TheVariants as line
 
 -- ---- signatures as they are read
 

@@ -10,9 +10,9 @@ use Rattle.dnsv_explain.specs.faults.Keys.{IsTrustedZone}
 use Rattle.dnsv_explain.specs.faults.RrsetLines.{IsRemark, fault_line, follows_line}
 use Rattle.dnsv_explain.specs.declared.faults.remark.Remark.{Remark}
 use Rattle.dnsv_explain.specs.declared.faults.remark.Remark.TheVariants.{Nothing, Untrusted, Fault}
-use Rattle.dnsv_explain.specs.declared.line.Line.{Line}
-use Rattle.dnsv_explain.specs.declared.line.fault.signature.ShownSignature.{ShownSignature}
-use Rattle.dnsv_explain.specs.declared.line.fault.signature.WhySignature.TheVariants as why
+use Rattle.dnsv_lines.specs.declared.line.Line.{Line}
+use Rattle.dnsv_lines.specs.declared.line.fault.signature.ShownSignature.{ShownSignature}
+use Rattle.dnsv_lines.specs.declared.line.fault.signature.WhySignature.TheVariants as why
 
 -- how it is told
 abbrev pub remark_lines : ShownSignature → Remark → List Line

@@ -11,8 +11,8 @@ use Rattle.dnsv_explain.specs.faults.Entries.{Wanted}
 use Rattle.dnsv_explain.specs.faults.Entries.Wanted.{by_digest, whole_key}
 use Rattle.dnsv_explain.specs.faults.Listing.{AddsThose}
 use Rattle.dnsv_explain.specs.faults.ZoneLines.{AreSelfFaults}
-use Rattle.dnsv_explain.specs.declared.line.Line.{Line}
-use Rattle.dnsv_explain.specs.declared.line.derivation.KeyName.{KeyName}
+use Rattle.dnsv_lines.specs.declared.line.Line.{Line}
+use Rattle.dnsv_lines.specs.declared.line.derivation.KeyName.{KeyName}
 
 -- these are all of the lines, but for some that stand among those before them
 pub data IsThinned (less : List Line) : List Line → Type 0 where

@@ -7,8 +7,8 @@ use crate::derivations::ways::FoundWay;
 use crate::derivations::ways::keys::KeySet;
 use crate::derivations::ways::matcher::{Matcher, way_with};
 use crate::evidence::Evidence;
-use crate::line::derivation::Voucher;
 use dnsv_chain::Anchor;
+use dnsv_lines::Voucher;
 use std::alloc::{AllocError, Global};
 
 /// The first way into the DNSKEY RRset by an anchor: by the anchor of lowest number, then by the lowest key.

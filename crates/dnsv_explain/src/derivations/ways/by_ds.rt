@@ -9,9 +9,9 @@ use crate::derivations::ways::FoundWay;
 use crate::derivations::ways::keys::KeySet;
 use crate::derivations::ways::matcher::{Matcher, way_with};
 use crate::evidence::Evidence;
-use crate::line::derivation::Voucher;
 use dnsv_canonical::{RecordNumber, Rrset, in_canonical_order};
 use dnsv_chain::is_usable;
+use dnsv_lines::Voucher;
 use dnsv_names::{Name, RecordType};
 use std::alloc::{AllocError, Global};
 

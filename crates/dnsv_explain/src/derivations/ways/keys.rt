@@ -6,8 +6,8 @@ ghost use Rattle.dnsv_explain.specs.Following.{IsGoodUnder, IsNamed};
 ghost use Rattle.dnsv_explain.specs.derivations.WaySearch.{AreKeysInOrder, IsLowestGood, signature_of};
 
 use crate::evidence::Evidence;
-use crate::line::derivation::{KeyName, Todo};
 use dnsv_canonical::{ReadRecord, Rrset, in_canonical_order};
+use dnsv_lines::{KeyName, Todo};
 use dnsv_records::Dnskey;
 use dnsv_verifier::KeyRecord;
 use std::alloc::{AllocError, Global};

@@ -6,8 +6,8 @@ ghost use Rattle.dnsv_explain.specs.derivations.WaySearch.{IsFirstUnder, IsKeySe
 use crate::derivations::ways::FoundWay;
 use crate::derivations::ways::keys::{KeySet, key_name, lowest_where};
 use crate::evidence::Evidence;
-use crate::line::derivation::Voucher;
 use dnsv_chain::{Anchor, is_match};
+use dnsv_lines::Voucher;
 use dnsv_names::Name;
 use dnsv_records::Ds;
 use dnsv_verifier::KeyRecord;

@@ -11,7 +11,7 @@ use crate::faults::add_rrset;
 use crate::faults::keyed::KeyedEvidence;
 use crate::faults::question::signers::is_among;
 use crate::faults::question::subjects::is_denial;
-use crate::line::Line;
+use dnsv_lines::Line;
 use dnsv_names::Name;
 use std::alloc::{AllocError, Global};
 

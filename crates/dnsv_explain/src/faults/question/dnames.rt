@@ -5,9 +5,7 @@ ghost use Rattle.dnsv_explain.specs.faults.Listing.{AddsThose, AreOfEach};
 ghost use Rattle.dnsv_explain.specs.faults.Order.{AreDnameLines, names_down};
 
 use crate::evidence::Evidence;
-use crate::line::Line;
-use crate::line::fault::Reason;
-use crate::line::fault::denial::DnameAbove;
+use dnsv_lines::{DnameAbove, Line, Reason};
 use dnsv_names::{Count, Name, RecordType};
 use std::alloc::{AllocError, Global};
 

@@ -6,9 +6,7 @@ ghost use Rattle.dnsv_explain.specs.faults.Order.{IsEndLine, missing_line};
 
 use crate::evidence::Evidence;
 use crate::faults::question::subjects::has_denial;
-use crate::line::Line;
-use crate::line::fault::Reason;
-use crate::line::fault::denial::{DenialUnproved, MissingAnswer};
+use dnsv_lines::{DenialUnproved, Line, MissingAnswer, Reason};
 use dnsv_names::{Name, RecordType};
 use std::alloc::AllocError;
 

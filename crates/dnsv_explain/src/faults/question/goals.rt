@@ -7,7 +7,7 @@ ghost use Rattle.dnsv_explain.specs.faults.searches.KeySearch.{HasItsKeys, setti
 use crate::faults::add_rrset;
 use crate::faults::keyed::KeyedEvidence;
 use crate::faults::question::subjects::is_goal;
-use crate::line::Line;
+use dnsv_lines::Line;
 use dnsv_names::{Name, RecordType};
 use std::alloc::{AllocError, Global};
 

@@ -5,10 +5,8 @@ ghost use Rattle.dnsv_explain.specs.faults.Order.{AreNsec3Lines, AreNsec3sLines,
 
 use crate::evidence::Evidence;
 use crate::faults::question::subjects::{has_signer, is_denial};
-use crate::line::Line;
-use crate::line::fault::Reason;
-use crate::line::fault::denial::{UnusableNsec3, WhyNsec3};
 use dnsv_canonical::{RecordNumber, Rrset, in_canonical_order};
+use dnsv_lines::{Line, Reason, UnusableNsec3, WhyNsec3};
 use dnsv_names::{Name, RecordType};
 use dnsv_records::{HashAlgorithm, Iterations, Nsec3, base32hex_read};
 use std::alloc::{AllocError, Global};

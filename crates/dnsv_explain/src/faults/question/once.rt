@@ -5,11 +5,11 @@ ghost use Rattle.dnsv_explain.specs.Explained.{setting_in};
 ghost use Rattle.dnsv_explain.specs.faults.Listing.{AreThose};
 ghost use Rattle.dnsv_explain.specs.faults.searches.NeededSearch.{IsSaidWhere};
 ghost use Rattle.dnsv_explain.specs.faults.Order.{IsSaid, same_text};
-ghost use Rattle.dnsv_explain.specs.line.{line_text};
+ghost use Rattle.dnsv_lines.specs.Rows.{line_text};
 
 use crate::evidence::Evidence;
 use crate::faults::at::is_anchored;
-use crate::line::Line;
+use dnsv_lines::Line;
 use dnsv_names::Name;
 use std::alloc::{AllocError, Global};
 use std::collections::BTreeSet;

@@ -11,9 +11,7 @@ use crate::faults::at::is_anchored;
 use crate::faults::keyed::KeyedEvidence;
 use crate::faults::question::signers::is_among;
 use crate::faults::zones::add_zone_faults;
-use crate::line::Line;
-use crate::line::fault::Reason;
-use crate::line::fault::zone::{WhyZone, ZoneFault};
+use dnsv_lines::{Line, Reason, WhyZone, ZoneFault};
 use dnsv_names::Name;
 use std::alloc::{AllocError, Global};
 

@@ -4,7 +4,7 @@ ghost use Rattle.dnsv_names.specs.Name.{rightmost};
 ghost use Rattle.dnsv_explain.specs.Explained.{Setting};
 ghost use Rattle.dnsv_explain.specs.faults.Sources.{IsLongestThere, IsShownThere, IsSourceFault};
 ghost use Rattle.dnsv_explain.specs.faults.Sources.SourceSearch.{AreOf, IsFor, said_by};
-ghost use Rattle.dnsv_explain.specs.declared.line.fault.denial.WhySource.TheVariants.{EncloserMissing};
+ghost use Rattle.dnsv_lines.specs.declared.line.fault.denial.WhySource.TheVariants.{EncloserMissing};
 
 use crate::explanation::at::At;
 use crate::faults::sources::asked::asked_above;

@@ -8,11 +8,8 @@ ghost use Rattle.dnsv_explain.specs.faults.Sources.{IsHeld, source_line, why_hel
 
 use crate::faults::sources::chain::{ChainEntries, ZoneChain};
 use crate::faults::sources::records::RecordAt;
-use crate::line::Line;
-use crate::line::fault::Reason;
-use crate::line::fault::denial::parameters::SourceParameters;
-use crate::line::fault::denial::{Source, SourceFault, WhySource};
 use dnsv_canonical::RecordNumber;
+use dnsv_lines::{Line, Reason, Source, SourceFault, SourceParameters, WhySource};
 use dnsv_names::{Name, RecordType};
 use dnsv_records::TypeBitmap;
 use dnsv_zones::denies;

@@ -16,10 +16,7 @@ use crate::faults::sources::enclosers::longest_there;
 use crate::faults::sources::held::{add_fault, add_held};
 use crate::faults::sources::records::records_at;
 use crate::faults::sources::words::{is_covered, is_ruled_out};
-use crate::line::Line;
-use crate::line::denial::Role;
-use crate::line::fault::Reason;
-use crate::line::fault::denial::{DnameAbove, WhySource};
+use dnsv_lines::{DnameAbove, Line, Reason, Role, WhySource};
 use dnsv_names::RecordType;
 use std::alloc::{AllocError, Global};
 

@@ -12,9 +12,9 @@ use crate::faults::zones::digested::DigestedKey;
 use crate::faults::zones::lead::Lead;
 use crate::faults::zones::named::word_of;
 use crate::faults::zones::ways::is_ds_way;
-use crate::line::fault::zone::{EntryNumber, WhyEntry};
 use dnsv_canonical::{RecordNumber, Rrset, in_canonical_order};
 use dnsv_chain::Anchor;
+use dnsv_lines::{EntryNumber, WhyEntry};
 use dnsv_names::Name;
 use std::alloc::{AllocError, Global};
 

@@ -7,10 +7,9 @@ ghost use Rattle.dnsv_explain.specs.faults.Entries.{HasTag, HasUnknownDigest, Is
 ghost use Rattle.dnsv_explain.specs.faults.ZoneLines.ZoneSearch.{IsMeant, wanted_of};
 
 use crate::faults::zones::digested::DigestedKey;
-use crate::line::derivation::KeyName;
-use crate::line::fault::zone::{Entry, EntryNumber};
 use dnsv_chain::{goes_before, is_match};
 use dnsv_digest::DigestAlgorithm;
+use dnsv_lines::{Entry, EntryNumber, KeyName};
 use dnsv_names::Name;
 use dnsv_records::{Algorithm, Ds, KeyTag, key_tag};
 use dnsv_verifier::KeyRecord;

@@ -5,7 +5,7 @@ ghost use Rattle.dnsv_explain.specs.faults.ZoneLines.ZoneSearch.{HasAmong, IsKey
 
 use crate::faults::zones::digested::DigestedKey;
 use crate::faults::zones::lead::Lead;
-use crate::line::fault::zone::WhyEntry;
+use dnsv_lines::WhyEntry;
 
 /// The first word that is true of what leads into the zone with the keys. `None`, where it matches one of them.
 pub fn word_of(keys: &[DigestedKey<'_>], lead: Lead<'_>) -> Option<WhyEntry>

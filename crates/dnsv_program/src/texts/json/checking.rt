@@ -1,16 +1,16 @@
 //! The JSON of `check` and of `explain`: a question's verdict, what carries it, and why it stands.
 ghost use Rattle.std.specs.Prelude.{◌≡◌, ◌++◌, ◌∷◌, [], Some, false, true, codes, is_some, map, IfOk, OnOk, string_bytes};
-ghost use Rattle.dnsv_program.specs.Texts.Json.{array, parted, still_first};
+ghost use Rattle.dnsv_lines.specs.Json.{array, parted, still_first};
 ghost use Rattle.dnsv_program.specs.Texts.Checking as specs;
 
 use crate::command_line::question::question_word;
 use crate::texts::checking::{Asked, status_of, verdict_word};
-use crate::texts::json::lines::push_why;
+use crate::texts::json::explaining::push_why;
 use crate::texts::json::todo::push_entries;
-use crate::texts::json::{push_comma, push_name};
 use crate::texts::reason::push_reason;
 use dnsv_canonical::{RecordNumber, Rrset};
 use dnsv_explain::Explanation;
+use dnsv_lines::{push_comma, push_name};
 use dnsv_names::Name;
 use dnsv_verdict::{Link, Report, Verdict};
 use dnsv_verifier::Entries;

@@ -1,10 +1,11 @@
 //! The JSON of `list` without `--all`: what a verifier still has to check.
 ghost use Rattle.std.specs.Prelude.{◌≡◌, ◌++◌, ◌∷◌, [], false, true, map, IfOk, OnOk, string_bytes};
-ghost use Rattle.dnsv_program.specs.Texts.Json.{array, parted};
+ghost use Rattle.dnsv_lines.specs.Json.{array, parted};
 ghost use Rattle.dnsv_program.specs.Texts.Todo as specs;
 
 use crate::command_line::moment::Moment;
-use crate::texts::json::{push_comma, push_octets};
+use crate::texts::json::push_octets;
+use dnsv_lines::push_comma;
 use dnsv_verifier::{Entries, Entry};
 use std::alloc::{AllocError, Global};
 

@@ -2,7 +2,7 @@ use Rattle.std.proofs.Common.{[], ◌∷◌, refl, sym, subst, inl, inr, ◌∙�
 use Rattle.std.proofs.lemmas.Bool.{false≢true}
 use Rattle.std.proofs.lemmas.List.{append-nil}
 use Rattle.dnsv_explain.specs.Denials.{IsPartSaid}
-use Rattle.dnsv_explain.specs.declared.line.Line.TheVariants as line
+use Rattle.dnsv_lines.specs.declared.line.Line.TheVariants as line
 use Rattle.dnsv_explain.proofs.denials.part.add_part.Goals as goal
 
 pub returns-then-is_part_said : goal.returns-then-is_part_said

@@ -2,8 +2,8 @@ use Rattle.std.proofs.Common.{Option, None, [], ◌∷◌, refl, sym, subst, inl
 use Rattle.std.proofs.lemmas.Bool.{false≢true}
 use Rattle.dnsv_explain.specs.Denials.{IsFormTold, IsProofOf, IsProofSaid}
 use Rattle.dnsv_explain.specs.Saying.{Adds}
-use Rattle.dnsv_explain.specs.declared.line.Line.TheVariants as line
-use Rattle.dnsv_explain.specs.declared.line.denial.Form.{Form}
+use Rattle.dnsv_lines.specs.declared.line.Line.TheVariants as line
+use Rattle.dnsv_lines.specs.declared.line.denial.Form.{Form}
 use Rattle.dnsv_explain.proofs.lemmas.telling.SayingLemmas.{nothing_added}
 use Rattle.dnsv_explain.proofs.denials.proof.add_proof.Goals as goal
 

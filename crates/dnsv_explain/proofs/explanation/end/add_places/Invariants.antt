@@ -1,5 +1,5 @@
 use Rattle.std.proofs.Common.{◌≡◌, ◌++◌, length, map}
-use Rattle.dnsv_explain.specs.declared.line.Line.TheVariants as line
+use Rattle.dnsv_lines.specs.declared.line.Line.TheVariants as line
 use Rattle.dnsv_explain.proofs.explanation.end.add_places.Given as goal
 
 -- the lines of the places so far

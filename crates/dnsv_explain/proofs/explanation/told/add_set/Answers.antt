@@ -4,7 +4,7 @@ use Rattle.std.proofs.lemmas.Option.{MatchOption-at_none, MatchOption-at_some}
 use Rattle.dnsv_canonical.specs.Rrsets.{IsNumbered}
 use Rattle.dnsv_explain.specs.Explained.{setting_in}
 use Rattle.dnsv_explain.specs.derivations.OwnDerivations.{IsSignatureTold}
-use Rattle.dnsv_explain.specs.declared.line.Line.{Line}
+use Rattle.dnsv_lines.specs.declared.line.Line.{Line}
 use Rattle.dnsv_explain.proofs.lemmas.NumberedLemmas.{in_list}
 use Rattle.dnsv_explain.proofs.lemmas.telling.SecureLemmas.{its_signature, must_hold, never_rrset, never_signature}
 use Rattle.dnsv_explain.proofs.lemmas.telling.TellLemmas.{closer_there, no_closer_shown, owned_added, signature_at, wildcard_added}

@@ -3,7 +3,7 @@ use Rattle.std.specs.Cmp.Lexicographic.{bytes_decides}
 use Rattle.dnsv_canonical.specs.Rrsets.{first_appearances}
 use Rattle.dnsv_explain.specs.Explained.{setting_in}
 use Rattle.dnsv_explain.specs.faults.Order.{AreFaultLines, IsSaid, same_text}
-use Rattle.dnsv_explain.specs.line.{line_text}
+use Rattle.dnsv_lines.specs.Rows.{line_text}
 use Rattle.dnsv_explain.proofs.lemmas.faults.lists.ListingLemmas.{those_added}
 use Rattle.dnsv_explain.proofs.lemmas.faults.question.RepeatLemmas.{kept_of_all}
 use Rattle.dnsv_explain.proofs.faults.question.add_question_faults.Goals as goal

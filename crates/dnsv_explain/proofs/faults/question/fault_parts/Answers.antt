@@ -2,7 +2,7 @@ use Rattle.std.proofs.Common.{◌≢◌, ◌≡◌, ◌↔◌, ◌⊎◌, [], �
 use Rattle.dnsv_explain.specs.Explained.{setting_in}
 use Rattle.dnsv_explain.specs.faults.searches.NeededSearch.{AreLabelsOf}
 use Rattle.dnsv_explain.specs.faults.Zones.{IsNeeded}
-use Rattle.dnsv_explain.specs.declared.line.Line.{Line}
+use Rattle.dnsv_lines.specs.declared.line.Line.{Line}
 use Rattle.dnsv_explain.proofs.lemmas.faults.question.PartLemmas.{keys_here, thinned_parts}
 use Rattle.dnsv_explain.proofs.faults.question.fault_parts.Goals as goal
 

@@ -1,6 +1,6 @@
 use Rattle.std.proofs.Common.{get_or, refl}
 use Rattle.dnsv_explain.specs.faults.RrsetLines.{fault_line, shown_of}
-use Rattle.dnsv_explain.specs.declared.line.fault.signature.WhySignature.TheVariants.{Labels}
+use Rattle.dnsv_lines.specs.declared.line.fault.signature.WhySignature.TheVariants.{Labels}
 use Rattle.dnsv_explain.proofs.lemmas.faults.lists.ListingLemmas.{line_all, line_more}
 use Rattle.dnsv_explain.proofs.faults.signature.add_faults.Goals as goal
 

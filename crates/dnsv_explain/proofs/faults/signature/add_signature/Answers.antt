@@ -2,7 +2,7 @@ use Rattle.std.proofs.Common.{◌∙◌, ◌==◌, List, ap, subst}
 use Rattle.dnsv_explain.specs.Explained.{setting_in}
 use Rattle.dnsv_explain.specs.faults.searches.KeySearch.{IsNamedIn}
 use Rattle.dnsv_explain.specs.faults.SignatureFaults.{AreFaultsOf}
-use Rattle.dnsv_explain.specs.declared.line.fault.signature.WhySignature.{WhySignature}
+use Rattle.dnsv_lines.specs.declared.line.fault.signature.WhySignature.{WhySignature}
 use Rattle.std.specs.Prelude.{IsTrue}
 use Rattle.dnsv_explain.proofs.lemmas.faults.signatures.SignatureLemmas.{empty, faults_added, remark_added, some_left, unsecured}
 use Rattle.dnsv_explain.proofs.faults.signature.add_signature.Goals as goal

@@ -7,7 +7,7 @@ use Rattle.dnsv_explain.specs.Explained.{Setting}
 use Rattle.dnsv_explain.specs.Following.{IsGoodUnder, IsMatchedBy}
 use Rattle.dnsv_explain.specs.derivations.WaySearch.{IsFirstUnder, IsFoundWay, IsNoWayBefore, IsNoneUnder, signature_of}
 use Rattle.dnsv_explain.specs.derivations.Ways.{HasSecured, IsWayInto, Way, voucher_rank}
-use Rattle.dnsv_explain.specs.declared.line.derivation.Voucher.{Voucher}
+use Rattle.dnsv_lines.specs.declared.line.derivation.Voucher.{Voucher}
 use Rattle.dnsv_explain.specs.declared.derivations.ways.FoundWay.{FoundWay}
 use Rattle.dnsv_explain.proofs.lemmas.NumberedLemmas.{same_number}
 

@@ -26,8 +26,8 @@ use Rattle.dnsv_explain.specs.Explained.{Setting}
 use Rattle.dnsv_explain.specs.Following.{IsDsMatch, IsMatchedBy}
 use Rattle.dnsv_explain.specs.derivations.WaySearch.{IsFirstUnder, IsFoundWay, IsNoWay, IsNoWayBefore, IsNoneUnder, IsVoucherOf, MayDelegate}
 use Rattle.dnsv_explain.specs.derivations.Ways.{HasSecured, IsLess, IsWayInto, Way, voucher_rank}
-use Rattle.dnsv_explain.specs.declared.line.derivation.Voucher.{Voucher}
-use Rattle.dnsv_explain.specs.declared.line.derivation.Voucher.TheVariants as voucher
+use Rattle.dnsv_lines.specs.declared.line.derivation.Voucher.{Voucher}
+use Rattle.dnsv_lines.specs.declared.line.derivation.Voucher.TheVariants as voucher
 use Rattle.dnsv_explain.specs.declared.derivations.ways.FoundWay.{FoundWay}
 use Rattle.dnsv_explain.proofs.lemmas.NumberedLemmas.{same_number}
 use Rattle.dnsv_explain.proofs.lemmas.derivations.WayLemmas.FirstLemmas.{found_first, none_by, under_too}

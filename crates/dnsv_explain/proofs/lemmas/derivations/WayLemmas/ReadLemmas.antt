@@ -12,7 +12,7 @@ use Rattle.dnsv_canonical.specs.Rrsets.{IsNumbered, ReceivedRrset}
 use Rattle.dnsv_chain.specs.Ds.{IsMatch, IsUsable}
 use Rattle.dnsv_explain.specs.Explained.{Setting}
 use Rattle.dnsv_explain.specs.derivations.WaySearch.{IsFirstUnder, IsFoundWay, IsNoWayBefore, IsNoneUnder, MayDelegate}
-use Rattle.dnsv_explain.specs.declared.line.derivation.Voucher.TheVariants as voucher
+use Rattle.dnsv_lines.specs.declared.line.derivation.Voucher.TheVariants as voucher
 use Rattle.dnsv_explain.specs.declared.derivations.ways.FoundWay.{FoundWay}
 use Rattle.dnsv_explain.proofs.lemmas.derivations.WayLemmas.KeysLemmas.{mapped_long, mapped_there, read_there}
 use Rattle.dnsv_explain.proofs.lemmas.derivations.WayLemmas.RankLemmas.{RecordAt, ds_read, places_end, record_found, record_passed, record_there}

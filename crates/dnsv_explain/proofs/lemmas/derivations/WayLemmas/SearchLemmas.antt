@@ -22,9 +22,9 @@ use Rattle.dnsv_chain.proofs.ZipLemmas.{zip_length}
 use Rattle.dnsv_chain.specs.Trusted.{IsKeyOf}
 use Rattle.dnsv_explain.specs.Explained.{IsTodo, Setting}
 use Rattle.dnsv_explain.specs.Following.{IsGoodUnder, IsNamed}
-use Rattle.dnsv_explain.specs.declared.line.derivation.KeyName.{KeyName}
-use Rattle.dnsv_explain.specs.declared.line.derivation.Todo.{Todo}
-use Rattle.dnsv_explain.specs.declared.line.derivation.Voucher.{Voucher}
+use Rattle.dnsv_lines.specs.declared.line.derivation.KeyName.{KeyName}
+use Rattle.dnsv_lines.specs.declared.line.derivation.Todo.{Todo}
+use Rattle.dnsv_lines.specs.declared.line.derivation.Voucher.{Voucher}
 use Rattle.dnsv_explain.specs.declared.derivations.ways.keys.GoodSignature.{GoodSignature}
 use Rattle.dnsv_explain.specs.derivations.WaySearch.{AreKeysInOrder, IsFirstUnder, IsLowestGood, IsNoneTo, IsNoneYet, SignsAs, signature_of}
 

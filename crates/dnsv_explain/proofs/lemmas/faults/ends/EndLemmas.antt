@@ -20,13 +20,13 @@ use Rattle.dnsv_explain.specs.faults.ZoneLines.{AreZoneLines, zone_line}
 use Rattle.dnsv_explain.specs.faults.Zones.{IsNeeded}
 use Rattle.dnsv_explain.specs.faults.Zones.IsNeeded.{above}
 use Rattle.dnsv_explain.specs.faults.Zones.NeedsAbove.{parent}
-use Rattle.dnsv_explain.specs.line.{line_text}
-use Rattle.dnsv_explain.specs.declared.line.Line.{Line}
-use Rattle.dnsv_explain.specs.declared.line.Line.TheVariants as line
-use Rattle.dnsv_explain.specs.declared.line.fault.Reason.{Reason}
-use Rattle.dnsv_explain.specs.declared.line.fault.Reason.TheVariants as reason
-use Rattle.dnsv_explain.specs.declared.line.fault.signature.UntrustedSigner.{UntrustedSigner}
-use Rattle.dnsv_explain.specs.declared.line.fault.zone.WhyZone.TheVariants as zone_why
+use Rattle.dnsv_lines.specs.Rows.{line_text}
+use Rattle.dnsv_lines.specs.declared.line.Line.{Line}
+use Rattle.dnsv_lines.specs.declared.line.Line.TheVariants as line
+use Rattle.dnsv_lines.specs.declared.line.fault.Reason.{Reason}
+use Rattle.dnsv_lines.specs.declared.line.fault.Reason.TheVariants as reason
+use Rattle.dnsv_lines.specs.declared.line.fault.signature.UntrustedSigner.{UntrustedSigner}
+use Rattle.dnsv_lines.specs.declared.line.fault.zone.WhyZone.TheVariants as zone_why
 use Rattle.dnsv_explain.proofs.lemmas.faults.TruthLemmas.{first_or_rest, none_in, those_such}
 use Rattle.dnsv_explain.proofs.lemmas.faults.question.SameLemmas.{needed_above, needed_same, trusted_same}
 use Rattle.dnsv_explain.proofs.lemmas.faults.truth.QuestionLemmas.{first_among}
@@ -89,6 +89,8 @@ said_same (reason.Nsec3 unusable) a b same is = absurd is
 said_same (reason.Source fault) a b same is = absurd is
 said_same (reason.AnswerMissing missing) a b same is = absurd is
 said_same (reason.DenialUnproved denial) a b same is = absurd is
+said_same (reason.NotVouched keys) a b same is = absurd is
+said_same (reason.DsUnproved cut) a b same is = absurd is
 
 -- ---- zones
 

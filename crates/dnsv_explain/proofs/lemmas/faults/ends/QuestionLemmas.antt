@@ -20,10 +20,10 @@ use Rattle.dnsv_explain.specs.faults.Zones.{HasGoal, HasRrset, HasSignedGoal, Is
 use Rattle.dnsv_explain.specs.faults.Zones.IsNeeded.{above, first}
 use Rattle.dnsv_explain.specs.faults.Zones.IsNeededFirst.{signer}
 use Rattle.dnsv_explain.specs.faults.Zones.NeedsAbove.{parent}
-use Rattle.dnsv_explain.specs.declared.line.Line.{Line}
-use Rattle.dnsv_explain.specs.declared.line.Line.TheVariants as line
-use Rattle.dnsv_explain.specs.declared.line.fault.signature.UntrustedSigner.{UntrustedSigner}
-use Rattle.dnsv_explain.specs.declared.line.fault.zone.WhyZone.TheVariants as zone_why
+use Rattle.dnsv_lines.specs.declared.line.Line.{Line}
+use Rattle.dnsv_lines.specs.declared.line.Line.TheVariants as line
+use Rattle.dnsv_lines.specs.declared.line.fault.signature.UntrustedSigner.{UntrustedSigner}
+use Rattle.dnsv_lines.specs.declared.line.fault.zone.WhyZone.TheVariants as zone_why
 use Rattle.dnsv_explain.proofs.lemmas.faults.TruthLemmas.{those_such}
 use Rattle.dnsv_explain.proofs.lemmas.faults.truth.SoLemmas.{those_among}
 use Rattle.dnsv_explain.proofs.lemmas.faults.unmet.FollowLemmas.{rrset_follows}

@@ -7,11 +7,11 @@ use Rattle.dnsv_explain.specs.faults.RrsetLines.{AreLinesAt, AreRrsetLines, AreS
 use Rattle.dnsv_explain.specs.faults.RrsetLines.AreRrsetLines.{secured, unsigned, unproved}
 use Rattle.dnsv_explain.specs.faults.RrsetLines.AreSignatureLines.{faulty, without_faults}
 use Rattle.dnsv_explain.specs.faults.RrsetLines.IsRemark.{no_keys, of_answers, untrusted, nothing}
-use Rattle.dnsv_explain.specs.declared.line.Line.{Line}
-use Rattle.dnsv_explain.specs.declared.line.Line.TheVariants as line
-use Rattle.dnsv_explain.specs.declared.line.fault.Reason.{Reason}
-use Rattle.dnsv_explain.specs.declared.line.fault.Reason.TheVariants as reason
-use Rattle.dnsv_explain.specs.declared.line.fault.signature.ShownSignature.{ShownSignature}
+use Rattle.dnsv_lines.specs.declared.line.Line.{Line}
+use Rattle.dnsv_lines.specs.declared.line.Line.TheVariants as line
+use Rattle.dnsv_lines.specs.declared.line.fault.Reason.{Reason}
+use Rattle.dnsv_lines.specs.declared.line.fault.Reason.TheVariants as reason
+use Rattle.dnsv_lines.specs.declared.line.fault.signature.ShownSignature.{ShownSignature}
 use Rattle.dnsv_explain.proofs.lemmas.faults.ends.EachLemmas.{Each, mapped_each, none_each, numbered_each, one_each}
 
 -- the signature is one of the RRset

@@ -13,13 +13,13 @@ use Rattle.dnsv_explain.specs.faults.Sources.AreHeldOf.{denying, holding}
 use Rattle.dnsv_explain.specs.faults.Sources.AreSourceLines.{at_name, at_zone, closed, enclosed, no_encloser}
 use Rattle.dnsv_explain.specs.faults.Sources.AreWildcardLines.{covered, held, missing}
 use Rattle.dnsv_explain.specs.faults.Sources.IsClosedLine.{by_delegation, by_dname}
-use Rattle.dnsv_explain.specs.declared.line.Line.{Line}
-use Rattle.dnsv_explain.specs.declared.line.Line.TheVariants as line
-use Rattle.dnsv_explain.specs.declared.line.denial.Role.TheVariants as role
-use Rattle.dnsv_explain.specs.declared.line.fault.Reason.{Reason}
-use Rattle.dnsv_explain.specs.declared.line.fault.denial.Source.{Source}
-use Rattle.dnsv_explain.specs.declared.line.fault.denial.WhySource.{WhySource}
-use Rattle.dnsv_explain.specs.declared.line.fault.denial.WhySource.TheVariants as why
+use Rattle.dnsv_lines.specs.declared.line.Line.{Line}
+use Rattle.dnsv_lines.specs.declared.line.Line.TheVariants as line
+use Rattle.dnsv_lines.specs.declared.line.denial.Role.TheVariants as role
+use Rattle.dnsv_lines.specs.declared.line.fault.Reason.{Reason}
+use Rattle.dnsv_lines.specs.declared.line.fault.denial.Source.{Source}
+use Rattle.dnsv_lines.specs.declared.line.fault.denial.WhySource.{WhySource}
+use Rattle.dnsv_lines.specs.declared.line.fault.denial.WhySource.TheVariants as why
 use Rattle.dnsv_explain.proofs.lemmas.faults.ends.EachLemmas.{Each, both_each, each_each, none_each, one_each, parted_each, where_each}
 
 module _ (Such : Line → Type 0) (is_such : (failed : Reason) → Such (line.Reason failed)) where

@@ -19,15 +19,15 @@ use Rattle.dnsv_explain.specs.faults.ZoneLines.AreRankLines.{said, unsaid}
 use Rattle.dnsv_explain.specs.faults.ZoneLines.AreSetLines.{of_keys, other}
 use Rattle.dnsv_explain.specs.faults.ZoneLines.AreZoneLines.{anchored, no_anchor}
 use Rattle.dnsv_explain.specs.faults.Zones.{IsDsWay, IsParent}
-use Rattle.dnsv_explain.specs.declared.line.Line.{Line}
-use Rattle.dnsv_explain.specs.declared.line.Line.TheVariants as line
-use Rattle.dnsv_explain.specs.declared.line.fault.Reason.{Reason}
-use Rattle.dnsv_explain.specs.declared.line.fault.Reason.TheVariants as reason
-use Rattle.dnsv_explain.specs.declared.line.fault.signature.UntrustedSigner.{UntrustedSigner}
-use Rattle.dnsv_explain.specs.declared.line.fault.signature.WhySignature.{WhySignature}
-use Rattle.dnsv_explain.specs.declared.line.fault.zone.WhyEntry.{WhyEntry}
-use Rattle.dnsv_explain.specs.declared.line.fault.zone.WhyEntry.TheVariants as why
-use Rattle.dnsv_explain.specs.declared.line.fault.zone.WhyZone.TheVariants as zone_why
+use Rattle.dnsv_lines.specs.declared.line.Line.{Line}
+use Rattle.dnsv_lines.specs.declared.line.Line.TheVariants as line
+use Rattle.dnsv_lines.specs.declared.line.fault.Reason.{Reason}
+use Rattle.dnsv_lines.specs.declared.line.fault.Reason.TheVariants as reason
+use Rattle.dnsv_lines.specs.declared.line.fault.signature.UntrustedSigner.{UntrustedSigner}
+use Rattle.dnsv_lines.specs.declared.line.fault.signature.WhySignature.{WhySignature}
+use Rattle.dnsv_lines.specs.declared.line.fault.zone.WhyEntry.{WhyEntry}
+use Rattle.dnsv_lines.specs.declared.line.fault.zone.WhyEntry.TheVariants as why
+use Rattle.dnsv_lines.specs.declared.line.fault.zone.WhyZone.TheVariants as zone_why
 use Rattle.dnsv_explain.proofs.lemmas.faults.TruthLemmas.{those_such}
 use Rattle.dnsv_explain.proofs.lemmas.faults.truth.SoLemmas.{those_among}
 use Rattle.dnsv_explain.proofs.lemmas.faults.unmet.FollowLemmas.{rrset_follows}
@@ -73,6 +73,8 @@ module _ (setting : Setting) (zone : Labels) where
     way_reason (reason.Source fault) is = absurd is
     way_reason (reason.AnswerMissing missing) is = absurd is
     way_reason (reason.DenialUnproved denial) is = absurd is
+    way_reason (reason.NotVouched keys) is = absurd is
+    way_reason (reason.DsUnproved cut) is = absurd is
 
     module _ (all : List Line) (are : AreRrsetLines setting k rrset all) where
       way_follows : (told : UntrustedSigner) → Contains all (line.Follows told) → IsOfParent setting zone (line.Follows told)

@@ -1,7 +1,7 @@
 -- A loop that takes a list of lines apart, and adds those that are such.
 use Rattle.std.proofs.Common.{◌≡◌, ◌+◌, ◌++◌, ◌∷◌, [], ℕ, suc, List, append_assoc, append-nil, arith, length, refl, sym, ap, ◌∙◌, subst}
 use Rattle.dnsv_explain.specs.faults.Listing.{AddsThose, AreThose}
-use Rattle.dnsv_explain.specs.declared.line.Line.{Line}
+use Rattle.dnsv_lines.specs.declared.line.Line.{Line}
 use Rattle.dnsv_explain.proofs.lemmas.faults.lists.ListingLemmas.{none_added, those_end, those_past}
 
 module _ {X : Type 0} where

@@ -4,7 +4,7 @@ use Rattle.dnsv_names.specs.Name.{Labels}
 use Rattle.dnsv_explain.specs.Explained.{Setting}
 use Rattle.dnsv_explain.specs.Explanation.{IsFailureTold}
 use Rattle.dnsv_explain.specs.faults.KeyLines.{AreLinesOfKeysAsked}
-use Rattle.dnsv_explain.specs.declared.line.Line.{Line}
+use Rattle.dnsv_lines.specs.declared.line.Line.{Line}
 use Rattle.dnsv_explain.proofs.lemmas.faults.one.KeyLemmas.{one_keys_asked}
 use Rattle.dnsv_explain.proofs.lemmas.faults.one.LackingLemmas.{one_lacking}
 use Rattle.dnsv_explain.proofs.lemmas.faults.one.OrderLemmas.{one_failure}

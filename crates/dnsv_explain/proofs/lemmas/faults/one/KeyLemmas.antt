@@ -7,9 +7,9 @@ use Rattle.dnsv_explain.specs.Explained.{Setting}
 use Rattle.dnsv_explain.specs.derivations.WaySearch.{AreKeysInOrder}
 use Rattle.dnsv_explain.specs.faults.KeyLines.{AreLinesOfKeysAsked, AreLinesOfSet, IsInQuestion, IsKeyLine, IsLowestDs, IsLowestOf, IsMatchedByAnchor, IsShownKey}
 use Rattle.dnsv_explain.specs.faults.Listing.{AreOfNumbered}
-use Rattle.dnsv_explain.specs.declared.line.Line.{Line}
-use Rattle.dnsv_explain.specs.declared.line.Line.TheVariants as line
-use Rattle.dnsv_explain.specs.declared.line.fault.key.ShownKey.{ShownKey}
+use Rattle.dnsv_lines.specs.declared.line.Line.{Line}
+use Rattle.dnsv_lines.specs.declared.line.Line.TheVariants as line
+use Rattle.dnsv_lines.specs.declared.line.fault.key.ShownKey.{ShownKey}
 use Rattle.dnsv_explain.proofs.lemmas.faults.one.ListLemmas.{IsOneList, one_numbered, one_where}
 use Rattle.dnsv_explain.proofs.lemmas.faults.one.SourceLemmas.{same_number}
 use Rattle.dnsv_explain.proofs.lemmas.faults.one.ZoneLemmas.{one_name, one_order}

@@ -14,8 +14,8 @@ use Rattle.dnsv_explain.specs.faults.Listing.{AreOfEach}
 use Rattle.dnsv_explain.specs.faults.Order.{AreLacking, AreLinesOfChain, AreLinesOfSources, AreParametersOf, HasRecords, IsLackingChain, chains_by, names_up}
 use Rattle.dnsv_explain.specs.faults.Sources.{AreSourceLines, IsSourceOf}
 use Rattle.dnsv_explain.specs.faults.Zones.{IsSpeaker}
-use Rattle.dnsv_explain.specs.declared.line.Line.{Line}
-use Rattle.dnsv_explain.specs.declared.line.fault.denial.Source.{Source}
+use Rattle.dnsv_lines.specs.declared.line.Line.{Line}
+use Rattle.dnsv_lines.specs.declared.line.fault.denial.Source.{Source}
 use Rattle.dnsv_explain.proofs.lemmas.faults.one.ListLemmas.{IsOneList, one_of_each, one_where}
 use Rattle.dnsv_explain.proofs.lemmas.faults.one.MergedLemmas.{one_merged}
 use Rattle.dnsv_explain.proofs.lemmas.faults.one.SourceLemmas.{one_lack, one_source, one_types}

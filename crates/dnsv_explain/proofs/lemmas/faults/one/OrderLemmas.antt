@@ -23,7 +23,7 @@ use Rattle.dnsv_explain.specs.faults.RrsetLines.{AreRrsetLines, shown_of}
 use Rattle.dnsv_explain.specs.faults.ZoneLines.{AreZoneLines}
 use Rattle.dnsv_explain.specs.faults.Zones.{HasDenial, HasGoal, HasRrset, HasSignedGoal, IsDenial, IsGoal, IsNeeded, IsSpeaker}
 use Rattle.dnsv_explain.specs.unsigned_cuts.UnsignedCuts.{record_of}
-use Rattle.dnsv_explain.specs.declared.line.Line.{Line}
+use Rattle.dnsv_lines.specs.declared.line.Line.{Line}
 use Rattle.dnsv_explain.proofs.lemmas.faults.one.ListLemmas.{IsOneList, one_numbered, one_of_each, one_parted, one_those, one_those_of, one_where}
 use Rattle.dnsv_explain.proofs.lemmas.faults.one.RrsetLemmas.{one_rrset}
 use Rattle.dnsv_explain.proofs.lemmas.faults.one.ZoneLemmas.{one_zone}

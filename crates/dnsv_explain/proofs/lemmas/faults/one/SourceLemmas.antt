@@ -34,10 +34,10 @@ use Rattle.dnsv_explain.specs.faults.Sources.AreSourceLines.{closed, at_name, at
 use Rattle.dnsv_explain.specs.faults.Sources.AreWildcardLines.{held, covered, missing}
 use Rattle.dnsv_explain.specs.faults.Sources.IsClosedLine.{by_dname, by_delegation}
 use Rattle.dnsv_explain.specs.faults.Sources.IsHeld.{asked, alias, apex, none}
-use Rattle.dnsv_explain.specs.declared.line.Line.{Line}
-use Rattle.dnsv_explain.specs.declared.line.denial.Role.TheVariants as role
-use Rattle.dnsv_explain.specs.declared.line.fault.denial.Source.{Source}
-use Rattle.dnsv_explain.specs.declared.line.fault.denial.WhySource.TheVariants as why
+use Rattle.dnsv_lines.specs.declared.line.Line.{Line}
+use Rattle.dnsv_lines.specs.declared.line.denial.Role.TheVariants as role
+use Rattle.dnsv_lines.specs.declared.line.fault.denial.Source.{Source}
+use Rattle.dnsv_lines.specs.declared.line.fault.denial.WhySource.TheVariants as why
 use Rattle.dnsv_explain.proofs.lemmas.faults.one.ListLemmas.{IsOneList, one_of_each, one_parted, one_where}
 use Rattle.dnsv_explain.proofs.lemmas.one.StepLemmas.{level}
 use Rattle.dnsv_explain.proofs.lemmas.one.TrustedLemmas.{one_record}

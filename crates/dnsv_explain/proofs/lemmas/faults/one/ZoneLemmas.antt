@@ -30,14 +30,14 @@ use Rattle.dnsv_explain.specs.faults.ZoneLines.AreWhys.{faulty, answered, silent
 use Rattle.dnsv_explain.specs.faults.ZoneLines.AreZoneLines.{no_anchor, anchored}
 use Rattle.dnsv_explain.specs.faults.Zones.{IsDsWay}
 use Rattle.dnsv_explain.specs.unsigned_cuts.UnsignedCuts.{record_of}
-use Rattle.dnsv_explain.specs.declared.line.Line.{Line}
-use Rattle.dnsv_explain.specs.declared.line.derivation.KeyName.{KeyName}
-use Rattle.dnsv_explain.specs.declared.line.fault.signature.WhySignature.{WhySignature}
-use Rattle.dnsv_explain.specs.declared.line.fault.signature.WhySignature.TheVariants as word
-use Rattle.dnsv_explain.specs.declared.line.fault.zone.EntryNumber.TheVariants as entry_number
-use Rattle.dnsv_explain.specs.declared.line.fault.zone.WhyEntry.{WhyEntry}
-use Rattle.dnsv_explain.specs.declared.line.fault.zone.WhyEntry.TheVariants as why
-use Rattle.dnsv_explain.specs.declared.line.fault.zone.WhyZone.TheVariants as zone_why
+use Rattle.dnsv_lines.specs.declared.line.Line.{Line}
+use Rattle.dnsv_lines.specs.declared.line.derivation.KeyName.{KeyName}
+use Rattle.dnsv_lines.specs.declared.line.fault.signature.WhySignature.{WhySignature}
+use Rattle.dnsv_lines.specs.declared.line.fault.signature.WhySignature.TheVariants as word
+use Rattle.dnsv_lines.specs.declared.line.fault.zone.EntryNumber.TheVariants as entry_number
+use Rattle.dnsv_lines.specs.declared.line.fault.zone.WhyEntry.{WhyEntry}
+use Rattle.dnsv_lines.specs.declared.line.fault.zone.WhyEntry.TheVariants as why
+use Rattle.dnsv_lines.specs.declared.line.fault.zone.WhyZone.TheVariants as zone_why
 use Rattle.dnsv_explain.proofs.lemmas.derivations.WayLemmas.SearchLemmas.{one_key}
 use Rattle.dnsv_explain.proofs.lemmas.faults.TruthLemmas.{none_in}
 use Rattle.dnsv_explain.proofs.lemmas.faults.one.ListLemmas.{IsOneList, one_numbered, one_of_each, one_parted, one_those, one_those_of, one_where}

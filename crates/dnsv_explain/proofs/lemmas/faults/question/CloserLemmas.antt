@@ -14,8 +14,8 @@ use Rattle.dnsv_explain.specs.faults.Listing.{AddsThose, AreOfNumbered}
 use Rattle.dnsv_explain.specs.faults.Order.{AreCloserLines, AreGoalClosers, AreLinesOfCloser, IsCloserOpen, closer_line}
 use Rattle.dnsv_explain.specs.faults.RrsetLines.{shown_of}
 use Rattle.dnsv_explain.specs.faults.Zones.{IsGoal}
-use Rattle.dnsv_explain.specs.declared.line.Line.{Line}
-use Rattle.dnsv_explain.specs.declared.line.fault.signature.ShownSignature.{ShownSignature}
+use Rattle.dnsv_lines.specs.declared.line.Line.{Line}
+use Rattle.dnsv_lines.specs.declared.line.fault.signature.ShownSignature.{ShownSignature}
 use Rattle.dnsv_explain.proofs.lemmas.faults.lists.ListingLemmas.{added_as, all_added, next_added, those_added}
 use Rattle.dnsv_explain.proofs.lemmas.faults.signatures.SignatureLemmas.{rdata_within, read_at}
 

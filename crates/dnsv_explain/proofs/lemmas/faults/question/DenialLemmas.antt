@@ -11,7 +11,7 @@ use Rattle.dnsv_explain.specs.faults.searches.NeededSearch.{AreLabelsOf}
 use Rattle.dnsv_explain.specs.faults.Order.{AreDenialLines, IsOfNeeded}
 use Rattle.dnsv_explain.specs.faults.RrsetLines.{AreRrsetLines}
 use Rattle.dnsv_explain.specs.faults.Zones.{IsDenial, IsNeeded}
-use Rattle.dnsv_explain.specs.declared.line.Line.{Line}
+use Rattle.dnsv_lines.specs.declared.line.Line.{Line}
 use Rattle.dnsv_explain.proofs.lemmas.faults.question.PartLemmas.{made_of}
 use Rattle.dnsv_explain.proofs.lemmas.faults.question.SameLemmas.{needed_same}
 

@@ -8,7 +8,7 @@ use Rattle.dnsv_names.specs.Tree.AncestorLaws.{rightmost_all, rightmost_none, ri
 use Rattle.dnsv_explain.specs.faults.Listing.{AddsThose, AreOfEach}
 use Rattle.dnsv_explain.specs.faults.Order.{names_down}
 use Rattle.dnsv_explain.specs.faults.searches.Repeats.{AddsNew}
-use Rattle.dnsv_explain.specs.declared.line.Line.{Line}
+use Rattle.dnsv_lines.specs.declared.line.Line.{Line}
 use Rattle.dnsv_explain.proofs.lemmas.faults.lists.ListingLemmas.{none_added}
 use Rattle.dnsv_explain.proofs.lemmas.faults.question.RepeatLemmas.{both_new, new_as, none_new}
 

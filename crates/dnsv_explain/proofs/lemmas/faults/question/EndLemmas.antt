@@ -7,7 +7,7 @@ use Rattle.dnsv_explain.specs.faults.Order.{IsEndLine, IsSpeakerOf, missing_line
 use Rattle.dnsv_explain.specs.faults.Order.IsEndLine.{denied, missing}
 use Rattle.dnsv_explain.specs.faults.Order.IsSpeakerOf.{none, speaker}
 use Rattle.dnsv_explain.specs.faults.Zones.{HasDenial, IsSpeaker}
-use Rattle.dnsv_explain.specs.declared.line.Line.{Line}
+use Rattle.dnsv_lines.specs.declared.line.Line.{Line}
 
 module _ (setting : Setting) (name : Labels) (rtype : RecordType) (said : Line) where
   pub none_speaks : ((zone : Labels) → ¬ IsSpeaker setting name rtype.0 zone) → said ≡ missing_line name rtype None

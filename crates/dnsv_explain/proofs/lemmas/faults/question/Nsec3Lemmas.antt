@@ -17,8 +17,8 @@ use Rattle.dnsv_explain.specs.faults.Order.AreNsec3Lines.{iterations, unusable, 
 use Rattle.dnsv_explain.specs.faults.Zones.{HasSigner, IsDenial}
 use Rattle.dnsv_explain.specs.unsigned_cuts.UnsignedCuts.{record_of}
 use Rattle.dnsv_canonical.specs.declared.number.RecordNumber.{RecordNumber}
-use Rattle.dnsv_explain.specs.declared.line.Line.{Line}
-use Rattle.dnsv_explain.specs.declared.line.fault.denial.WhyNsec3.TheVariants as why
+use Rattle.dnsv_lines.specs.declared.line.Line.{Line}
+use Rattle.dnsv_lines.specs.declared.line.fault.denial.WhyNsec3.TheVariants as why
 use Rattle.dnsv_explain.proofs.lemmas.derivations.WayLemmas.KeysLemmas.{mapped_long, mapped_there, read_there}
 use Rattle.dnsv_explain.proofs.lemmas.faults.lists.ListingLemmas.{added_as, all_added, next_added, none_added, those_added}
 

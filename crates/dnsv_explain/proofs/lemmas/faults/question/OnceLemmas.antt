@@ -16,9 +16,9 @@ use Rattle.dnsv_verdict.specs.Verdict.{HasAnchor}
 use Rattle.dnsv_explain.specs.Explained.{Setting}
 use Rattle.dnsv_explain.specs.faults.searches.NeededSearch.{IsSaidWhere}
 use Rattle.dnsv_explain.specs.faults.Order.{IsSaid, same_text}
-use Rattle.dnsv_explain.specs.line.{line_text}
-use Rattle.dnsv_explain.specs.declared.line.Line.{Line}
-use Rattle.dnsv_explain.specs.declared.line.Line.TheVariants as line
+use Rattle.dnsv_lines.specs.Rows.{line_text}
+use Rattle.dnsv_lines.specs.declared.line.Line.{Line}
+use Rattle.dnsv_lines.specs.declared.line.Line.TheVariants as line
 
 -- ---- where a trust anchor is at or above the name
 

@@ -11,7 +11,7 @@ use Rattle.dnsv_explain.specs.faults.Order.{AreDnameLines, AreEndLines, AreFault
 use Rattle.dnsv_explain.specs.faults.searches.Repeats.{AddsNew, AreThinned}
 use Rattle.dnsv_explain.specs.faults.Zones.{HasSignedGoal}
 use Rattle.dnsv_explain.specs.declared.faults.question.signers.Signers.{Signers}
-use Rattle.dnsv_explain.specs.declared.line.Line.{Line}
+use Rattle.dnsv_lines.specs.declared.line.Line.{Line}
 use Rattle.dnsv_explain.proofs.lemmas.AnswerLemmas.{not_so, so_not}
 use Rattle.dnsv_explain.proofs.lemmas.faults.lists.ListingLemmas.{added_as, none_added}
 use Rattle.dnsv_explain.proofs.lemmas.faults.question.RepeatLemmas.{thinned_behind}

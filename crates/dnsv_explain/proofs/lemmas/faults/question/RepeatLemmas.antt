@@ -8,7 +8,7 @@ use Rattle.dnsv_canonical.specs.Rrsets.{first_appearances}
 use Rattle.dnsv_explain.specs.faults.Listing.{AddsThose, AreOfNumbered, AreThose}
 use Rattle.dnsv_explain.specs.faults.searches.Repeats.{AddsNew, IsThinned}
 use Rattle.dnsv_explain.specs.faults.searches.Repeats.IsThinned.{whole, without}
-use Rattle.dnsv_explain.specs.declared.line.Line.{Line}
+use Rattle.dnsv_lines.specs.declared.line.Line.{Line}
 use Rattle.dnsv_explain.proofs.lemmas.faults.lists.ListingLemmas.{all_added, next_added, none_added}
 use Rattle.dnsv_explain.proofs.lemmas.faults.TruthLemmas.{first_or_rest, none_in}
 use Rattle.dnsv_explain.proofs.lemmas.intervals.MomentLemmas.{is_behind, is_first}

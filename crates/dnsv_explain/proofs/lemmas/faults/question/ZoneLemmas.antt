@@ -15,8 +15,8 @@ use Rattle.dnsv_explain.specs.faults.Order.{AreDnameLines, AreLinesOfZones, AreN
 use Rattle.dnsv_explain.specs.faults.searches.Repeats.{AddsNew}
 use Rattle.dnsv_explain.specs.faults.ZoneLines.{AreZoneLines, zone_line}
 use Rattle.dnsv_explain.specs.faults.Zones.{HasRrset, IsNeeded}
-use Rattle.dnsv_explain.specs.declared.line.Line.{Line}
-use Rattle.dnsv_explain.specs.declared.line.fault.zone.WhyZone.TheVariants as zone_why
+use Rattle.dnsv_lines.specs.declared.line.Line.{Line}
+use Rattle.dnsv_lines.specs.declared.line.fault.zone.WhyZone.TheVariants as zone_why
 use Rattle.dnsv_explain.proofs.lemmas.faults.lists.ListingLemmas.{added_as, none_added, those_added}
 use Rattle.dnsv_explain.proofs.lemmas.faults.question.RepeatLemmas.{all_new, new_as, none_new}
 

@@ -17,8 +17,8 @@ use Rattle.dnsv_explain.specs.faults.RrsetLines.IsRemark.{no_keys, of_answers, u
 use Rattle.dnsv_explain.specs.faults.SignatureFaults.{IsAnswered}
 use Rattle.dnsv_explain.specs.declared.faults.remark.Remark.{Remark}
 use Rattle.dnsv_explain.specs.declared.faults.remark.Remark.TheVariants.{Nothing, Untrusted, Fault}
-use Rattle.dnsv_explain.specs.declared.line.fault.signature.WhySignature.{WhySignature}
-use Rattle.dnsv_explain.specs.declared.line.fault.signature.WhySignature.TheVariants as why
+use Rattle.dnsv_lines.specs.declared.line.fault.signature.WhySignature.{WhySignature}
+use Rattle.dnsv_lines.specs.declared.line.fault.signature.WhySignature.TheVariants as why
 use Rattle.dnsv_explain.proofs.lemmas.faults.signatures.KeyLemmas.{keys_same, named_same}
 use Rattle.dnsv_explain.proofs.lemmas.faults.signatures.VerifierLemmas.{best_same}
 use Rattle.dnsv_explain.proofs.lemmas.faults.signatures.WordLemmas.{answered_same}

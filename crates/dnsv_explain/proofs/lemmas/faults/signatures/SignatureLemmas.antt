@@ -26,8 +26,8 @@ use Rattle.dnsv_explain.specs.faults.RrsetLines.AreRrsetLines.{secured, unproved
 use Rattle.dnsv_explain.specs.faults.RrsetLines.AreSignatureLines.{faulty, without_faults}
 use Rattle.dnsv_explain.specs.faults.SignatureFaults.{AreFaultsOf}
 use Rattle.dnsv_explain.specs.declared.faults.remark.Remark.{Remark}
-use Rattle.dnsv_explain.specs.declared.line.Line.{Line}
-use Rattle.dnsv_explain.specs.declared.line.fault.signature.WhySignature.{WhySignature}
+use Rattle.dnsv_lines.specs.declared.line.Line.{Line}
+use Rattle.dnsv_lines.specs.declared.line.fault.signature.WhySignature.{WhySignature}
 use Rattle.dnsv_explain.proofs.lemmas.AnswerLemmas.{none_there}
 use Rattle.dnsv_explain.proofs.lemmas.NumberedLemmas.{numbered_at}
 use Rattle.dnsv_explain.proofs.lemmas.faults.signatures.KeyLemmas.{keys_same, named_same}

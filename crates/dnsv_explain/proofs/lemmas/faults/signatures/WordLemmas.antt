@@ -11,9 +11,9 @@ use Rattle.dnsv_explain.specs.faults.searches.KeySearch.{HasNamed, HasNamedZoneK
 use Rattle.dnsv_explain.specs.faults.Keys.{IsZoneKey}
 use Rattle.dnsv_explain.specs.faults.Listing.{AreThose}
 use Rattle.dnsv_explain.specs.faults.SignatureFaults.{AreFaultsOf, IsAnswered, IsFaultOf, asked_before, expired, not_yet}
-use Rattle.dnsv_explain.specs.declared.line.fault.signature.SignatureTimes.{SignatureTimes}
-use Rattle.dnsv_explain.specs.declared.line.fault.signature.WhySignature.{WhySignature}
-use Rattle.dnsv_explain.specs.declared.line.fault.signature.WhySignature.TheVariants as why
+use Rattle.dnsv_lines.specs.declared.line.fault.signature.SignatureTimes.{SignatureTimes}
+use Rattle.dnsv_lines.specs.declared.line.fault.signature.WhySignature.{WhySignature}
+use Rattle.dnsv_lines.specs.declared.line.fault.signature.WhySignature.TheVariants as why
 use Rattle.dnsv_explain.proofs.lemmas.faults.lists.ListingLemmas.{those_of, those_same}
 
 module _ (keys : List DnskeyRecord) (rrsig : Rrsig) where

@@ -21,7 +21,7 @@ use Rattle.dnsv_explain.specs.declared.faults.sources.chain.ChainEntries.{ChainE
 use Rattle.dnsv_explain.specs.declared.faults.sources.chain.ChainEntries.TheVariants.{Nsec, Nsec3}
 use Rattle.dnsv_explain.specs.declared.faults.sources.chain.ZoneChain.{ZoneChain}
 use Rattle.dnsv_explain.specs.declared.faults.sources.closed.Closed.{Closed}
-use Rattle.dnsv_explain.specs.declared.line.Line.{Line}
+use Rattle.dnsv_lines.specs.declared.line.Line.{Line}
 use Rattle.dnsv_explain.proofs.lemmas.faults.lists.ListingLemmas.{added_as, none_added, those_added}
 use Rattle.dnsv_explain.proofs.lemmas.faults.sources.ClosedLemmas.{told_closed}
 use Rattle.dnsv_explain.proofs.lemmas.faults.sources.FoundLemmas.{has_said}

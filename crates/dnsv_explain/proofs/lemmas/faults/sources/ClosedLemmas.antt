@@ -23,9 +23,9 @@ use Rattle.dnsv_explain.specs.declared.faults.sources.asked.Asked.{Asked}
 use Rattle.dnsv_explain.specs.declared.faults.sources.chain.ZoneChain.{ZoneChain}
 use Rattle.dnsv_explain.specs.declared.faults.sources.closed.Closed.{Closed}
 use Rattle.dnsv_explain.specs.declared.faults.sources.records.RecordAt.{RecordAt}
-use Rattle.dnsv_explain.specs.declared.line.Line.{Line}
-use Rattle.dnsv_explain.specs.declared.line.fault.denial.Source.{Source}
-use Rattle.dnsv_explain.specs.declared.line.fault.denial.WhySource.TheVariants as why
+use Rattle.dnsv_lines.specs.declared.line.Line.{Line}
+use Rattle.dnsv_lines.specs.declared.line.fault.denial.Source.{Source}
+use Rattle.dnsv_lines.specs.declared.line.fault.denial.WhySource.TheVariants as why
 use Rattle.dnsv_explain.proofs.lemmas.faults.signatures.ShownKeyLemmas.{itself, never_both}
 use Rattle.dnsv_explain.proofs.lemmas.faults.sources.FoundLemmas.{any_as}
 use Rattle.dnsv_explain.proofs.lemmas.faults.sources.SaidLemmas.{records_rising, types_from, types_to}

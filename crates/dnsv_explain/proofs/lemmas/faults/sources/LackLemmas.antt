@@ -21,10 +21,10 @@ use Rattle.dnsv_explain.specs.declared.faults.sources.asked.Asked.{Asked}
 use Rattle.dnsv_explain.specs.declared.faults.sources.chain.ChainEntries.{ChainEntries}
 use Rattle.dnsv_explain.specs.declared.faults.sources.chain.ZoneChain.{ZoneChain}
 use Rattle.dnsv_explain.specs.declared.faults.sources.records.RecordAt.{RecordAt}
-use Rattle.dnsv_explain.specs.declared.line.Line.{Line}
-use Rattle.dnsv_explain.specs.declared.line.denial.Role.TheVariants as role
-use Rattle.dnsv_explain.specs.declared.line.fault.denial.Source.{Source}
-use Rattle.dnsv_explain.specs.declared.line.fault.denial.WhySource.TheVariants as why
+use Rattle.dnsv_lines.specs.declared.line.Line.{Line}
+use Rattle.dnsv_lines.specs.declared.line.denial.Role.TheVariants as role
+use Rattle.dnsv_lines.specs.declared.line.fault.denial.Source.{Source}
+use Rattle.dnsv_lines.specs.declared.line.fault.denial.WhySource.TheVariants as why
 use Rattle.dnsv_explain.proofs.lemmas.faults.lists.ListingLemmas.{added_as, none_added, nowhere_added, parted_added, those_added, where_added}
 use Rattle.dnsv_explain.proofs.lemmas.faults.sources.FoundLemmas.{any_of_member}
 use Rattle.dnsv_explain.proofs.lemmas.faults.sources.SaidLemmas.{records_rising, types_from, types_to}

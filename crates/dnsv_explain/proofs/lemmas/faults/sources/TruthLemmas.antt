@@ -24,13 +24,13 @@ use Rattle.dnsv_explain.specs.faults.Sources.AreWildcardLines.{covered, held, mi
 use Rattle.dnsv_explain.specs.faults.Sources.IsClosedLine.{by_delegation, by_dname}
 use Rattle.dnsv_explain.specs.faults.Sources.IsHeld.{alias, apex, asked, none}
 use Rattle.dnsv_explain.specs.faults.Truth.{IsReasonTrue}
-use Rattle.dnsv_explain.specs.declared.line.Line.{Line}
-use Rattle.dnsv_explain.specs.declared.line.denial.Role.TheVariants as role
-use Rattle.dnsv_explain.specs.declared.line.fault.Reason.{Reason}
-use Rattle.dnsv_explain.specs.declared.line.fault.Reason.TheVariants as reason
-use Rattle.dnsv_explain.specs.declared.line.fault.denial.Source.{Source}
-use Rattle.dnsv_explain.specs.declared.line.fault.denial.WhySource.{WhySource}
-use Rattle.dnsv_explain.specs.declared.line.fault.denial.WhySource.TheVariants as why
+use Rattle.dnsv_lines.specs.declared.line.Line.{Line}
+use Rattle.dnsv_lines.specs.declared.line.denial.Role.TheVariants as role
+use Rattle.dnsv_lines.specs.declared.line.fault.Reason.{Reason}
+use Rattle.dnsv_lines.specs.declared.line.fault.Reason.TheVariants as reason
+use Rattle.dnsv_lines.specs.declared.line.fault.denial.Source.{Source}
+use Rattle.dnsv_lines.specs.declared.line.fault.denial.WhySource.{WhySource}
+use Rattle.dnsv_lines.specs.declared.line.fault.denial.WhySource.TheVariants as why
 use Rattle.dnsv_explain.proofs.lemmas.faults.one.SourceLemmas.{nsec3_types, nsec_types}
 use Rattle.dnsv_explain.proofs.lemmas.faults.truth.SoLemmas.{AreAllSo, both_so, each_so, none_so, one_so}
 

@@ -32,7 +32,7 @@ use Rattle.dnsv_explain.specs.faults.Listing.{AddsThose, AreOfEach, AreParted}
 use Rattle.dnsv_explain.specs.faults.Order.{AreLinesOfChain, AreLinesOfSources, AreParametersOf, names_up}
 use Rattle.dnsv_explain.specs.faults.Sources.SourceSearch.{AreAllParameters, IsZoneFor}
 use Rattle.dnsv_explain.specs.declared.explanation.at.At.{At}
-use Rattle.dnsv_explain.specs.declared.line.Line.{Line}
+use Rattle.dnsv_lines.specs.declared.line.Line.{Line}
 use Rattle.dnsv_explain.proofs.lemmas.denials.PartLemmas.{secured_too}
 use Rattle.dnsv_explain.proofs.lemmas.faults.lists.ListingLemmas.{added_as, parted_added}
 use Rattle.dnsv_explain.proofs.lemmas.faults.sources.FoundLemmas.{all_as}

@@ -24,13 +24,13 @@ use Rattle.dnsv_explain.specs.faults.Truth.{IsReasonTrue, IsTrueOfNsec3, MaySpea
 use Rattle.dnsv_explain.specs.faults.ZoneLines.{AreZoneLines}
 use Rattle.dnsv_explain.specs.faults.Zones.{HasGoal, HasRrset, HasSignedGoal, IsDenial, IsGoal, IsNeeded}
 use Rattle.dnsv_explain.specs.unsigned_cuts.UnsignedCuts.{record_of}
-use Rattle.dnsv_explain.specs.declared.line.Line.{Line}
-use Rattle.dnsv_explain.specs.declared.line.Line.TheVariants as line
-use Rattle.dnsv_explain.specs.declared.line.fault.Reason.{Reason}
-use Rattle.dnsv_explain.specs.declared.line.fault.Reason.TheVariants as reason
-use Rattle.dnsv_explain.specs.declared.line.fault.denial.WhyNsec3.{WhyNsec3}
-use Rattle.dnsv_explain.specs.declared.line.fault.denial.WhyNsec3.TheVariants as nsec3
-use Rattle.dnsv_explain.specs.declared.line.fault.zone.WhyZone.TheVariants as zone_why
+use Rattle.dnsv_lines.specs.declared.line.Line.{Line}
+use Rattle.dnsv_lines.specs.declared.line.Line.TheVariants as line
+use Rattle.dnsv_lines.specs.declared.line.fault.Reason.{Reason}
+use Rattle.dnsv_lines.specs.declared.line.fault.Reason.TheVariants as reason
+use Rattle.dnsv_lines.specs.declared.line.fault.denial.WhyNsec3.{WhyNsec3}
+use Rattle.dnsv_lines.specs.declared.line.fault.denial.WhyNsec3.TheVariants as nsec3
+use Rattle.dnsv_lines.specs.declared.line.fault.zone.WhyZone.TheVariants as zone_why
 use Rattle.dnsv_explain.proofs.lemmas.faults.TruthLemmas.{rrset_so}
 use Rattle.dnsv_explain.proofs.lemmas.faults.sources.TruthLemmas.{lacking_so}
 use Rattle.dnsv_explain.proofs.lemmas.faults.truth.SoLemmas.{AreAllSo, both_so, each_so, none_so, numbered_so, one_so, parted_so, those_among, where_so}

@@ -4,9 +4,9 @@ use Rattle.std.proofs.lemmas.List.Elements.{Contains-append_cases}
 use Rattle.std.specs.List.{Contains, slice_get}
 use Rattle.dnsv_canonical.specs.Rrsets.{IsNumbered}
 use Rattle.dnsv_explain.specs.faults.Listing.{AreOfEach, AreOfNumbered, AreParted, AreThose, AreWhere}
-use Rattle.dnsv_explain.specs.declared.line.Line.{Line}
-use Rattle.dnsv_explain.specs.declared.line.Line.TheVariants as line
-use Rattle.dnsv_explain.specs.declared.line.fault.Reason.{Reason}
+use Rattle.dnsv_lines.specs.declared.line.Line.{Line}
+use Rattle.dnsv_lines.specs.declared.line.Line.TheVariants as line
+use Rattle.dnsv_lines.specs.declared.line.fault.Reason.{Reason}
 use Rattle.dnsv_explain.proofs.lemmas.faults.TruthLemmas.{first_or_rest, member_of, none_in}
 
 -- ---- lists

@@ -10,9 +10,9 @@ use Rattle.dnsv_explain.specs.faults.Entries.{IsEntryFault, IsFaultOfEntry, IsFi
 use Rattle.dnsv_explain.specs.faults.Listing.{AreOfEach}
 use Rattle.dnsv_explain.specs.faults.ZoneLines.{AreEntryLines, AreRankLines, AreSaidOf, AreSelfFaults, AreWordLines, IsLeftOut, IsSomeSelfSigned, entry_line}
 use Rattle.dnsv_explain.specs.faults.ZoneLines.AreRankLines.{said, unsaid}
-use Rattle.dnsv_explain.specs.declared.line.Line.{Line}
-use Rattle.dnsv_explain.specs.declared.line.fault.zone.WhyEntry.{WhyEntry}
-use Rattle.dnsv_explain.specs.declared.line.fault.zone.WhyEntry.TheVariants as why
+use Rattle.dnsv_lines.specs.declared.line.Line.{Line}
+use Rattle.dnsv_lines.specs.declared.line.fault.zone.WhyEntry.{WhyEntry}
+use Rattle.dnsv_lines.specs.declared.line.fault.zone.WhyEntry.TheVariants as why
 use Rattle.dnsv_explain.proofs.lemmas.faults.TruthLemmas.{first_or_rest, none_in}
 use Rattle.dnsv_explain.proofs.lemmas.faults.unmet.KeyLemmas.{self_unmet}
 use Rattle.dnsv_explain.proofs.lemmas.faults.unmet.ListLemmas.{HasReason, at_front, fewer, kept_in, list_for}

@@ -7,8 +7,8 @@ use Rattle.dnsv_explain.specs.Explained.{Setting}
 use Rattle.dnsv_explain.specs.faults.Listing.{AreOfEach, AreThose}
 use Rattle.dnsv_explain.specs.faults.Order.{AreFaultLines, AreFaultParts, AreNeededLines, IsSaid, names_down, same_text}
 use Rattle.dnsv_explain.specs.faults.ZoneLines.{zone_line}
-use Rattle.dnsv_explain.specs.declared.line.Line.{Line}
-use Rattle.dnsv_explain.specs.declared.line.fault.zone.WhyZone.TheVariants as zone_why
+use Rattle.dnsv_lines.specs.declared.line.Line.{Line}
+use Rattle.dnsv_lines.specs.declared.line.fault.zone.WhyZone.TheVariants as zone_why
 
 -- the lines begin with this one
 abbrev pub BeginWith : Line → List Line → Type 0

@@ -21,12 +21,12 @@ use Rattle.dnsv_explain.specs.faults.RrsetLines.AreSignatureLines.{faulty, witho
 use Rattle.dnsv_explain.specs.faults.RrsetLines.IsRemark.{no_keys, of_answers, untrusted, nothing}
 use Rattle.dnsv_explain.specs.faults.SignatureFaults.{asked_before}
 use Rattle.dnsv_explain.specs.faults.Zones.{HasSigner}
-use Rattle.dnsv_explain.specs.declared.line.Line.{Line}
-use Rattle.dnsv_explain.specs.declared.line.Line.TheVariants as line
-use Rattle.dnsv_explain.specs.declared.line.fault.signature.ShownSignature.{ShownSignature}
-use Rattle.dnsv_explain.specs.declared.line.fault.signature.UntrustedSigner.{UntrustedSigner}
-use Rattle.dnsv_explain.specs.declared.line.fault.signature.WhySignature.{WhySignature}
-use Rattle.dnsv_explain.specs.declared.line.fault.signature.WhySignature.TheVariants as why
+use Rattle.dnsv_lines.specs.declared.line.Line.{Line}
+use Rattle.dnsv_lines.specs.declared.line.Line.TheVariants as line
+use Rattle.dnsv_lines.specs.declared.line.fault.signature.ShownSignature.{ShownSignature}
+use Rattle.dnsv_lines.specs.declared.line.fault.signature.UntrustedSigner.{UntrustedSigner}
+use Rattle.dnsv_lines.specs.declared.line.fault.signature.WhySignature.{WhySignature}
+use Rattle.dnsv_lines.specs.declared.line.fault.signature.WhySignature.TheVariants as why
 use Rattle.dnsv_explain.proofs.lemmas.faults.TruthLemmas.{first_or_rest, member_of, none_in}
 
 -- a trusted zone has keys

@@ -29,10 +29,10 @@ use Rattle.dnsv_explain.specs.faults.Zones.{HasGoal, HasGoalSigner, IsGoal, IsNe
 use Rattle.dnsv_explain.specs.faults.Zones.IsNeeded.{above, first}
 use Rattle.dnsv_explain.specs.faults.Zones.IsNeededFirst.{signer}
 use Rattle.dnsv_explain.specs.faults.Zones.NeedsAbove.{parent}
-use Rattle.dnsv_explain.specs.declared.line.Line.{Line}
-use Rattle.dnsv_explain.specs.declared.line.Line.TheVariants as line
-use Rattle.dnsv_explain.specs.declared.line.fault.Reason.{Reason}
-use Rattle.dnsv_explain.specs.declared.line.fault.zone.WhyZone.TheVariants as zone_why
+use Rattle.dnsv_lines.specs.declared.line.Line.{Line}
+use Rattle.dnsv_lines.specs.declared.line.Line.TheVariants as line
+use Rattle.dnsv_lines.specs.declared.line.fault.Reason.{Reason}
+use Rattle.dnsv_lines.specs.declared.line.fault.zone.WhyZone.TheVariants as zone_why
 use Rattle.dnsv_explain.proofs.lemmas.NumberedLemmas.{same_number}
 use Rattle.dnsv_explain.proofs.lemmas.faults.question.DownLemmas.{down_at, down_length}
 use Rattle.dnsv_explain.proofs.lemmas.faults.question.SameLemmas.{needed_above, needed_same, trusted_same}

@@ -1,12 +1,13 @@
 -- A question that nothing settles, with an anchor at or above its name, has a reason.
-use Rattle.std.proofs.Common.{◌≡◌, ◌≢◌, ◌⊎◌, ◌||◌, ℕ, Bool, true, false, List, [], ◌∷◌, inl, inr, refl, sym, ap, ◌∙◌, subst, ⊎_elim}
+use Rattle.std.proofs.Common.{◌≡◌, ◌≢◌, ◌⊎◌, ◌||◌, ℕ, Bool, true, false, List, [], ◌∷◌, ◌++◌, codes, inl, inr, refl, sym, ap, ◌∙◌, subst, ⊎_elim}
 use Rattle.std.proofs.lemmas.Bool.{false≢true}
 use Rattle.std.proofs.lemmas.Cmp.{lists_equiv, nat_eq_equiv, on_equiv}
 use Rattle.std.proofs.lemmas.List.Elements.{Contains-append_right}
 use Rattle.std.proofs.lemmas.List.Folds.{list_any_at}
 use Rattle.std.proofs.lemmas.Slice.Eq.{bytes_eq-Decides}
 use Rattle.std.specs.Cmp.{IsEquivalence}
-use Rattle.std.specs.List.{Contains, list_any}
+use Rattle.std.specs.List.{Contains, flat_map, list_any}
+use Rattle.std.specs.Str.{bytes_eq}
 use Rattle.dnsv_names.specs.Name.{Labels}
 use Rattle.dnsv_canonical.proofs.GroupLemmas.AppearanceLemmas.{first_appearances_any}
 use Rattle.dnsv_canonical.specs.Rdata.{IsWellFormed}
@@ -17,12 +18,13 @@ use Rattle.dnsv_explain.specs.Explained.{Setting}
 use Rattle.dnsv_explain.specs.derivations.OwnDerivations.{SecuredIn}
 use Rattle.dnsv_explain.specs.faults.Order.{AreFaultLines, IsSaid, same_text}
 use Rattle.dnsv_explain.specs.faults.ZoneLines.{zone_line}
-use Rattle.dnsv_explain.specs.line.{line_text}
-use Rattle.dnsv_explain.specs.declared.line.Line.{Line}
-use Rattle.dnsv_explain.specs.declared.line.Line.TheVariants as line
-use Rattle.dnsv_explain.specs.declared.line.fault.Reason.{Reason}
-use Rattle.dnsv_explain.specs.declared.line.fault.Reason.TheVariants as reason
-use Rattle.dnsv_explain.specs.declared.line.fault.zone.WhyZone.TheVariants as zone_why
+use Rattle.dnsv_lines.specs.Rows.{line_text, reason_row}
+use Rattle.dnsv_lines.specs.Sentence.{field_text, plain}
+use Rattle.dnsv_lines.specs.declared.line.Line.{Line}
+use Rattle.dnsv_lines.specs.declared.line.Line.TheVariants as line
+use Rattle.dnsv_lines.specs.declared.line.fault.Reason.{Reason}
+use Rattle.dnsv_lines.specs.declared.line.fault.Reason.TheVariants as reason
+use Rattle.dnsv_lines.specs.declared.line.fault.zone.WhyZone.TheVariants as zone_why
 use Rattle.dnsv_explain.proofs.lemmas.faults.TruthLemmas.{first_or_rest, none_in}
 use Rattle.dnsv_explain.proofs.lemmas.faults.unmet.GoalLemmas.{parts_unmet}
 use Rattle.dnsv_explain.proofs.lemmas.faults.truth.QuestionLemmas.{question_so}
@@ -30,19 +32,43 @@ use Rattle.dnsv_explain.proofs.lemmas.faults.unmet.ListLemmas.{HasReason, at_fro
 
 -- ---- a line with the text of a reason is one
 
+-- the text of a reason begins with that word
+begins : (failed : Reason) → (reason_row failed).line ≡ codes "reason"
+begins (reason.Zone fault) = refl
+begins (reason.Entry fault) = refl
+begins (reason.NotSelfSigned key) = refl
+begins (reason.Unsigned rrset) = refl
+begins (reason.Signature fault) = refl
+begins (reason.NoCloser closer) = refl
+begins (reason.Dname dname) = refl
+begins (reason.Nsec3 fault) = refl
+begins (reason.Source fault) = refl
+begins (reason.AnswerMissing missing) = refl
+begins (reason.DenialUnproved denial) = refl
+begins (reason.NotVouched keys) = refl
+begins (reason.DsUnproved cut) = refl
+
+abbrev rest : Reason → List ℕ
+rest failed =
+    let sentence = reason_row failed in
+    flat_map field_text (plain (codes "ede") sentence.error ∷ plain (codes "word") sentence.word ∷ sentence.fields)
+
+begun : (each : Line) (failed : Reason) → same_text each (line.Reason failed) ≡ true → bytes_eq (line_text each) (codes "reason" ++ rest failed) ≡ true
+begun each failed same = ap (λ first. bytes_eq (line_text each) (first ++ rest failed)) (sym (begins failed)) ∙ same
+
 alike : (each : Line) (failed : Reason) → same_text each (line.Reason failed) ≡ true → (other : Reason) × (each ≡ line.Reason other)
 alike (line.Reason other) failed same = (other, refl)
-alike (line.Trusted said) failed same = absurd (false≢true same)
-alike (line.Signed said) failed same = absurd (false≢true same)
-alike (line.Proof said) failed same = absurd (false≢true same)
-alike (line.Part said) failed same = absurd (false≢true same)
-alike (line.Case said) failed same = absurd (false≢true same)
-alike (line.Unusable said) failed same = absurd (false≢true same)
-alike (line.Hope said) failed same = absurd (false≢true same)
-alike (line.Holds said) failed same = absurd (false≢true same)
-alike (line.Follows said) failed same = absurd (false≢true same)
-alike (line.Key said) failed same = absurd (false≢true same)
-alike (line.Rrset said) failed same = absurd (false≢true same)
+alike (line.Trusted said) failed same = absurd (false≢true (begun (line.Trusted said) failed same))
+alike (line.Signed said) failed same = absurd (false≢true (begun (line.Signed said) failed same))
+alike (line.Proof said) failed same = absurd (false≢true (begun (line.Proof said) failed same))
+alike (line.Part said) failed same = absurd (false≢true (begun (line.Part said) failed same))
+alike (line.Case said) failed same = absurd (false≢true (begun (line.Case said) failed same))
+alike (line.Unusable said) failed same = absurd (false≢true (begun (line.Unusable said) failed same))
+alike (line.Hope said) failed same = absurd (false≢true (begun (line.Hope said) failed same))
+alike (line.Holds said) failed same = absurd (false≢true (begun (line.Holds said) failed same))
+alike (line.Follows said) failed same = absurd (false≢true (begun (line.Follows said) failed same))
+alike (line.Key said) failed same = absurd (false≢true (begun (line.Key said) failed same))
+alike (line.Rrset said) failed same = absurd (false≢true (begun (line.Rrset said) failed same))
 
 texts_equiv : IsEquivalence same_text
 texts_equiv = on_equiv line_text (lists_equiv nat_eq_equiv)

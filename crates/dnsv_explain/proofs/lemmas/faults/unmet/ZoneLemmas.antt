@@ -30,13 +30,13 @@ use Rattle.dnsv_explain.specs.faults.ZoneLines.{AreAnchorWanted, AreDsWanted, Ar
 use Rattle.dnsv_explain.specs.faults.ZoneLines.AreZoneLines.{anchored as with_anchor, no_anchor}
 use Rattle.dnsv_explain.specs.faults.Zones.{HasOwnAnchor, HasRrset, IsDsWay, IsParent}
 use Rattle.dnsv_explain.specs.unsigned_cuts.UnsignedCuts.{record_of}
-use Rattle.dnsv_explain.specs.declared.line.Line.{Line}
-use Rattle.dnsv_explain.specs.declared.line.Line.TheVariants as line
-use Rattle.dnsv_explain.specs.declared.line.fault.Reason.TheVariants as reason
-use Rattle.dnsv_explain.specs.declared.line.fault.signature.UntrustedSigner.{UntrustedSigner}
-use Rattle.dnsv_explain.specs.declared.line.fault.zone.EntryNumber.TheVariants as entry_number
-use Rattle.dnsv_explain.specs.declared.line.fault.zone.WhyEntry.TheVariants as why
-use Rattle.dnsv_explain.specs.declared.line.fault.zone.WhyZone.TheVariants as zone_why
+use Rattle.dnsv_lines.specs.declared.line.Line.{Line}
+use Rattle.dnsv_lines.specs.declared.line.Line.TheVariants as line
+use Rattle.dnsv_lines.specs.declared.line.fault.Reason.TheVariants as reason
+use Rattle.dnsv_lines.specs.declared.line.fault.signature.UntrustedSigner.{UntrustedSigner}
+use Rattle.dnsv_lines.specs.declared.line.fault.zone.EntryNumber.TheVariants as entry_number
+use Rattle.dnsv_lines.specs.declared.line.fault.zone.WhyEntry.TheVariants as why
+use Rattle.dnsv_lines.specs.declared.line.fault.zone.WhyZone.TheVariants as zone_why
 use Rattle.dnsv_explain.proofs.lemmas.NumberedLemmas.{same_number}
 use Rattle.dnsv_explain.proofs.lemmas.faults.TruthLemmas.{member_of, none_in}
 use Rattle.dnsv_explain.proofs.lemmas.faults.unmet.ListLemmas.{HasReason, at_front, at_of, fewer, kept_in, list_of, numbered_from, there_at}

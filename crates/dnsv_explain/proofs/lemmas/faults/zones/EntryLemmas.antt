@@ -17,7 +17,7 @@ use Rattle.dnsv_explain.specs.faults.Listing.{AreOfNumbered, AreParted, AreThose
 use Rattle.dnsv_explain.specs.faults.ZoneLines.{AreDsWanted, AreRecordsOf, AreSaidOf, IsLeftOut}
 use Rattle.dnsv_explain.specs.faults.ZoneLines.ZoneSearch.{AddsJudged, AddsMatching, AreJudged, AreKeysAt, IsJudgedAs, IsJudgedAt, IsJudgedBy, IsTaken, wanted_in}
 use Rattle.dnsv_explain.specs.declared.faults.zones.entries.Judged.{Judged}
-use Rattle.dnsv_explain.specs.declared.line.fault.zone.WhyEntry.{WhyEntry}
+use Rattle.dnsv_lines.specs.declared.line.fault.zone.WhyEntry.{WhyEntry}
 use Rattle.dnsv_explain.proofs.lemmas.derivations.WayLemmas.KeysLemmas.{from, read_there}
 use Rattle.dnsv_explain.proofs.lemmas.derivations.WayLemmas.RankLemmas.{ds_read, forms_of}
 use Rattle.dnsv_explain.proofs.lemmas.faults.lists.ListingLemmas.{numbered_next, those_next, those_skip}

@@ -16,9 +16,9 @@ use Rattle.dnsv_explain.specs.faults.Entries.Wanted.{by_digest, whole_key}
 use Rattle.dnsv_explain.specs.faults.Listing.{AddsThose}
 use Rattle.dnsv_explain.specs.faults.searches.Repeats.{AddsName, AddsNew, AreSaidOfKeys, HasSelfFaults, key_name_cmp}
 use Rattle.dnsv_explain.specs.faults.ZoneLines.{AreSelfFaults}
-use Rattle.dnsv_explain.specs.declared.line.Line.{Line}
-use Rattle.dnsv_explain.specs.declared.line.derivation.KeyName.{KeyName}
-use Rattle.dnsv_explain.specs.declared.line.fault.zone.EntryNumber.{EntryNumber}
+use Rattle.dnsv_lines.specs.declared.line.Line.{Line}
+use Rattle.dnsv_lines.specs.declared.line.derivation.KeyName.{KeyName}
+use Rattle.dnsv_lines.specs.declared.line.fault.zone.EntryNumber.{EntryNumber}
 use Rattle.dnsv_explain.proofs.lemmas.faults.question.RepeatLemmas.{thinned_repeats}
 use Rattle.dnsv_explain.proofs.lemmas.intervals.MomentLemmas.{is_behind, is_first}
 

@@ -21,9 +21,9 @@ use Rattle.dnsv_explain.specs.faults.RrsetLines.{fault_line, shown_of, unsigned_
 use Rattle.dnsv_explain.specs.faults.ZoneLines.{AreKeyLines, AreNamedLines, AreWhyNotGood, HasNamedSignature}
 use Rattle.dnsv_explain.specs.faults.ZoneLines.AreKeyLines.{named, not_self_signed, unsigned}
 use Rattle.dnsv_explain.specs.faults.ZoneLines.ZoneSearch.{AreNamedBy, HasSignatureOf, IsNotSelfSigned}
-use Rattle.dnsv_explain.specs.declared.line.Line.{Line}
-use Rattle.dnsv_explain.specs.declared.line.derivation.SignatureNumber.{SignatureNumber}
-use Rattle.dnsv_explain.specs.declared.line.fault.signature.WhySignature.{WhySignature}
+use Rattle.dnsv_lines.specs.declared.line.Line.{Line}
+use Rattle.dnsv_canonical.specs.declared.number.SignatureNumber.{SignatureNumber}
+use Rattle.dnsv_lines.specs.declared.line.fault.signature.WhySignature.{WhySignature}
 use Rattle.dnsv_explain.proofs.lemmas.NumberedLemmas.{among}
 use Rattle.dnsv_explain.proofs.lemmas.faults.lists.ListingLemmas.{added_as, all_added, next_added, none_added, those_added}
 use Rattle.dnsv_explain.proofs.lemmas.faults.signatures.SignatureLemmas.{rdata_within, read_at, zip_nothing}

@@ -11,7 +11,7 @@ use Rattle.dnsv_explain.specs.faults.RrsetLines.{AreRrsetLines}
 use Rattle.dnsv_explain.specs.faults.ZoneLines.{AreWayLines, IsOfParent}
 use Rattle.dnsv_explain.specs.faults.ZoneLines.ZoneSearch.{HasParentSigner}
 use Rattle.dnsv_explain.specs.faults.Zones.{HasOwnAnchor, IsDsWay}
-use Rattle.dnsv_explain.specs.declared.line.Line.{Line}
+use Rattle.dnsv_lines.specs.declared.line.Line.{Line}
 use Rattle.dnsv_explain.proofs.lemmas.faults.lists.ListingLemmas.{added_as}
 use Rattle.dnsv_explain.proofs.lemmas.faults.zones.OwnKeyLemmas.{its_rrsig, its_signature}
 

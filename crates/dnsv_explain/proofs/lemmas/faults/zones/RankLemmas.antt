@@ -11,9 +11,9 @@ use Rattle.dnsv_explain.specs.faults.ZoneLines.{AreRankLines, AreSelfFaults, Are
 use Rattle.dnsv_explain.specs.faults.ZoneLines.AreRankLines.{said, unsaid}
 use Rattle.dnsv_explain.specs.faults.ZoneLines.ZoneSearch.{IsJudgedAt, differs, wanted_in}
 use Rattle.dnsv_explain.specs.declared.faults.zones.entries.Judged.{Judged}
-use Rattle.dnsv_explain.specs.declared.line.Line.{Line}
-use Rattle.dnsv_explain.specs.declared.line.fault.zone.WhyEntry.{WhyEntry}
-use Rattle.dnsv_explain.specs.declared.line.fault.zone.WhyEntry.TheVariants as why
+use Rattle.dnsv_lines.specs.declared.line.Line.{Line}
+use Rattle.dnsv_lines.specs.declared.line.fault.zone.WhyEntry.{WhyEntry}
+use Rattle.dnsv_lines.specs.declared.line.fault.zone.WhyEntry.TheVariants as why
 use Rattle.dnsv_explain.proofs.lemmas.derivations.WayLemmas.KeysLemmas.{read_there}
 use Rattle.dnsv_explain.proofs.lemmas.faults.lists.ListingLemmas.{added_as, each_added, each_of_numbered, none_added, parted_added}
 use Rattle.dnsv_explain.proofs.lemmas.faults.question.RepeatLemmas.{all_new, both_new, new_as, next_new}

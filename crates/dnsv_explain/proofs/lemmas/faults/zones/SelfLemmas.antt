@@ -17,7 +17,7 @@ use Rattle.dnsv_explain.specs.faults.ZoneLines.{AreKeyLines, AreSelfFaults, AreS
 use Rattle.dnsv_explain.specs.faults.ZoneLines.AreSetLines.{of_keys, other}
 use Rattle.dnsv_explain.specs.faults.ZoneLines.ZoneSearch.{IsSelfSignedIn}
 use Rattle.dnsv_explain.specs.declared.derivations.ways.keys.GoodSignature.{GoodSignature}
-use Rattle.dnsv_explain.specs.declared.line.Line.{Line}
+use Rattle.dnsv_lines.specs.declared.line.Line.{Line}
 use Rattle.dnsv_explain.proofs.lemmas.NumberedLemmas.{among, numbered_at}
 use Rattle.dnsv_explain.proofs.lemmas.derivations.WayLemmas.SearchLemmas.{same_keys, stands_at}
 use Rattle.dnsv_explain.proofs.lemmas.faults.lists.ListingLemmas.{added_as, each_added, next_added, none_added, nowhere_added, where_added}

@@ -22,14 +22,14 @@ use Rattle.dnsv_explain.specs.faults.ZoneLines.AreRankLines.{said, unsaid}
 use Rattle.dnsv_explain.specs.faults.ZoneLines.AreSetLines.{of_keys, other}
 use Rattle.dnsv_explain.specs.faults.ZoneLines.AreWhys.{answered, faulty, silent}
 use Rattle.dnsv_explain.specs.faults.ZoneLines.AreZoneLines.{anchored, no_anchor}
-use Rattle.dnsv_explain.specs.declared.line.Line.{Line}
-use Rattle.dnsv_explain.specs.declared.line.Line.TheVariants as line
-use Rattle.dnsv_explain.specs.declared.line.fault.Reason.{Reason}
-use Rattle.dnsv_explain.specs.declared.line.fault.Reason.TheVariants as reason
-use Rattle.dnsv_explain.specs.declared.line.fault.signature.WhySignature.{WhySignature}
-use Rattle.dnsv_explain.specs.declared.line.fault.zone.WhyEntry.{WhyEntry}
-use Rattle.dnsv_explain.specs.declared.line.fault.zone.WhyEntry.TheVariants as why
-use Rattle.dnsv_explain.specs.declared.line.fault.zone.WhyZone.TheVariants as zone_why
+use Rattle.dnsv_lines.specs.declared.line.Line.{Line}
+use Rattle.dnsv_lines.specs.declared.line.Line.TheVariants as line
+use Rattle.dnsv_lines.specs.declared.line.fault.Reason.{Reason}
+use Rattle.dnsv_lines.specs.declared.line.fault.Reason.TheVariants as reason
+use Rattle.dnsv_lines.specs.declared.line.fault.signature.WhySignature.{WhySignature}
+use Rattle.dnsv_lines.specs.declared.line.fault.zone.WhyEntry.{WhyEntry}
+use Rattle.dnsv_lines.specs.declared.line.fault.zone.WhyEntry.TheVariants as why
+use Rattle.dnsv_lines.specs.declared.line.fault.zone.WhyZone.TheVariants as zone_why
 use Rattle.dnsv_explain.proofs.lemmas.faults.TruthLemmas.{first_or_rest, member_of, none_in, only_reason, rrset_so, shown_so, those_such}
 use Rattle.dnsv_explain.proofs.lemmas.faults.truth.SoLemmas.{AreAllSo, each_so, none_so, numbered_so, one_so, parted_so, those_among, where_so}
 

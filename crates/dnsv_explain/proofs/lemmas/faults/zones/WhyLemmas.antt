@@ -17,8 +17,8 @@ use Rattle.dnsv_explain.specs.faults.SignatureFaults.{AreFaultsOf, IsAnswered, I
 use Rattle.dnsv_explain.specs.faults.ZoneLines.{AreWhyNotGood, AreWhys, MayBeBy}
 use Rattle.dnsv_explain.specs.faults.ZoneLines.AreWhys.{answered, faulty, silent}
 use Rattle.dnsv_explain.specs.faults.ZoneLines.ZoneSearch.{verifier_word}
-use Rattle.dnsv_explain.specs.declared.line.fault.signature.WhySignature.{WhySignature}
-use Rattle.dnsv_explain.specs.declared.line.fault.signature.WhySignature.TheVariants as why
+use Rattle.dnsv_lines.specs.declared.line.fault.signature.WhySignature.{WhySignature}
+use Rattle.dnsv_lines.specs.declared.line.fault.signature.WhySignature.TheVariants as why
 use Rattle.dnsv_explain.proofs.lemmas.faults.signatures.KeyLemmas.{keys_same, named_same}
 use Rattle.dnsv_explain.proofs.lemmas.faults.signatures.WordLemmas.{fault_same, faults_same}
 

@@ -8,8 +8,8 @@ use Rattle.dnsv_verifier.specs.Admissible.{DnskeyRecord}
 use Rattle.dnsv_explain.specs.faults.Entries.{HasNoKey, HasSuchKey, HasTag, HasUnknownDigest, IsEntryFault, IsFirstOf, IsIgnoredBeside, IsMatchOf, IsWantedBy, Wanted, wanted_key}
 use Rattle.dnsv_explain.specs.faults.Entries.Wanted.{by_digest, whole_key}
 use Rattle.dnsv_explain.specs.faults.ZoneLines.ZoneSearch.{AreKeysAt, HasAmong, IsKeyWordBy, IsWordBy}
-use Rattle.dnsv_explain.specs.declared.line.fault.zone.WhyEntry.{WhyEntry}
-use Rattle.dnsv_explain.specs.declared.line.fault.zone.WhyEntry.TheVariants as why
+use Rattle.dnsv_lines.specs.declared.line.fault.zone.WhyEntry.{WhyEntry}
+use Rattle.dnsv_lines.specs.declared.line.fault.zone.WhyEntry.TheVariants as why
 
 -- what matches a key asks for it, and what asks for it asks for its tag
 match_wanted : (wanted : Wanted) (key : DnskeyRecord) → IsMatchOf wanted key → IsWantedBy wanted key

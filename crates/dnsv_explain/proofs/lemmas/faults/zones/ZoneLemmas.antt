@@ -13,8 +13,8 @@ use Rattle.dnsv_explain.specs.faults.ZoneLines.AreZoneLines.{anchored, no_anchor
 use Rattle.dnsv_explain.specs.faults.ZoneLines.ZoneSearch.{AreKeysAt, wanted_in}
 use Rattle.dnsv_explain.specs.faults.Zones.{HasOwnAnchor, HasRrset}
 use Rattle.dnsv_explain.specs.declared.faults.zones.entries.Judged.{Judged}
-use Rattle.dnsv_explain.specs.declared.line.Line.{Line}
-use Rattle.dnsv_explain.specs.declared.line.fault.zone.WhyZone.TheVariants as zone_why
+use Rattle.dnsv_lines.specs.declared.line.Line.{Line}
+use Rattle.dnsv_lines.specs.declared.line.fault.zone.WhyZone.TheVariants as zone_why
 use Rattle.dnsv_explain.proofs.lemmas.faults.lists.ListingLemmas.{added_as, nowhere_added, parted_added, those_added, where_added}
 use Rattle.dnsv_explain.proofs.lemmas.faults.question.RepeatLemmas.{all_new, both_new, new_as}
 

@@ -1,6 +1,6 @@
 use Rattle.std.proofs.Common.{◌+◌, ◌∙◌, refl}
 use Rattle.dnsv_explain.specs.Explained.{setting_in}
-use Rattle.dnsv_explain.specs.declared.line.cut.UnusableDs.{UnusableDs}
+use Rattle.dnsv_lines.specs.declared.line.cut.UnusableDs.{UnusableDs}
 use Rattle.dnsv_explain.proofs.lemmas.NumberedLemmas.{in_list}
 use Rattle.dnsv_explain.proofs.lemmas.unsigned_cuts.UnusableLemmas.{all_told, never_usable, none_usable, one_told, set_delegates, set_read, unusable_at}
 use Rattle.dnsv_explain.proofs.unsigned_cuts.unusable.add_why.Goals as goal

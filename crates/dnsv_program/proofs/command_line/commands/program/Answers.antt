@@ -5,7 +5,10 @@ use Rattle.clap.specs.Simple.{app_of_fields}
 use Rattle.dnsv_program.specs.CommandLine.Commands.{bare_app, list_app, question_app, show_app}
 use Rattle.dnsv_program.proofs.command_line.commands.program.Goals as goal
 
--- a command that stays without its subcommand `help`, and one that has to have a subcommand
+-- a command that has a version, one that stays without its subcommand `help`, and one that has to have a subcommand
+abbrev versioned : App → App
+versioned a = record a { top = record a.top { has_version = true } }
+
 abbrev helpless : App → App
 helpless a = record a { top = record a.top { disable_help_subcommand = true } }
 
@@ -15,7 +18,8 @@ demanding a = record a { top = record a.top { subcommand_required = true } }
 pub returns : goal.returns
 returns c =
     let about_is : app_of c.about.result ≡ new_app (codes "dnssec_check") = ap app_of_fields c.about.ensures ∙ c.new.ensures.app in
-    let after_help_is : app_of c.after_help.result ≡ new_app (codes "dnssec_check") = ap app_of_fields c.after_help.ensures ∙ about_is in
+    let version_is : app_of c.version.result ≡ versioned (app_of c.about.result) = ap app_of_fields c.version.ensures in
+    let after_help_is : app_of c.after_help.result ≡ versioned (new_app (codes "dnssec_check")) = ap app_of_fields c.after_help.ensures ∙ (version_is ∙ ap versioned about_is) in
     let helpless_is : app_of c.disable_help_subcommand.result ≡ helpless (app_of c.after_help.result) = ap app_of_fields c.disable_help_subcommand.ensures in
     let demanding_is : app_of c.subcommand_required.result ≡ demanding (app_of c.disable_help_subcommand.result) = ap app_of_fields c.subcommand_required.ensures in
     let bare_is : app_of c.subcommand_required.result ≡ bare_app = demanding_is ∙ ap demanding (helpless_is ∙ ap helpless after_help_is) in

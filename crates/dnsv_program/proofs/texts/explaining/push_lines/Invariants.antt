@@ -1,6 +1,6 @@
 use Rattle.std.specs.Prelude.{string_bytes}
 use Rattle.dnsv_program.specs.Texts.Why.{why_line}
-use Rattle.dnsv_program.proofs.TextLemmas.Showing.{Joined}
+use Rattle.dnsv_lines.proofs.JsonLemmas.{Joined}
 use Rattle.dnsv_program.proofs.texts.explaining.push_lines.Given as goal
 
 abbrev pub invariant-loop-line : goal.invariant-loop-line

@@ -1,7 +1,7 @@
 use Rattle.std.proofs.Common.{string_bytes}
 use Rattle.std.specs.Option.{option_map}
 use Rattle.dnsv_program.specs.Texts.Listing.{data_json}
-use Rattle.dnsv_program.proofs.TextLemmas.Json.{one_written}
+use Rattle.dnsv_lines.proofs.JsonLemmas.{one_written}
 use Rattle.dnsv_program.proofs.texts.listing.push_object.Goals as goal
 
 pub returns-clause-text : goal.returns-clause-text

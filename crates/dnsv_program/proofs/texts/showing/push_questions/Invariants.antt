@@ -1,6 +1,6 @@
 use Rattle.std.specs.Prelude.{string_bytes}
 use Rattle.dnsv_program.specs.Texts.Showing.{question_line}
-use Rattle.dnsv_program.proofs.TextLemmas.Showing.{Joined}
+use Rattle.dnsv_lines.proofs.JsonLemmas.{Joined}
 use Rattle.dnsv_program.proofs.texts.showing.push_questions.Given as goal
 
 abbrev pub invariant-loop-question : goal.invariant-loop-question

@@ -1,5 +1,5 @@
 use Rattle.std.proofs.Common.{◌<◌, length, rules}
-use Rattle.dnsv_program.proofs.TextLemmas.Showing.{Joined-next}
+use Rattle.dnsv_lines.proofs.JsonLemmas.{Joined-next}
 use Rattle.dnsv_program.proofs.texts.todo.push_entries.Goals as goal
 
 pub loop-place-preserved : goal.loop-place-preserved

@@ -1,6 +1,6 @@
 use Rattle.std.specs.Prelude.{string_bytes}
 use Rattle.dnsv_program.specs.Texts.Todo.{todo_line}
-use Rattle.dnsv_program.proofs.TextLemmas.Showing.{Joined}
+use Rattle.dnsv_lines.proofs.JsonLemmas.{Joined}
 use Rattle.dnsv_program.proofs.texts.todo.push_entries.Given as goal
 
 abbrev pub invariant-loop-place : goal.invariant-loop-place

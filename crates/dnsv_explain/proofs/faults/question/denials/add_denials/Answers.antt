@@ -4,7 +4,7 @@ use Rattle.dnsv_canonical.specs.Rrsets.{ReceivedRrset}
 use Rattle.dnsv_explain.specs.Explained.{setting_in}
 use Rattle.dnsv_explain.specs.faults.Listing.{AddsThose, AreOfNumbered}
 use Rattle.dnsv_explain.specs.faults.Order.{AreDenialLines}
-use Rattle.dnsv_explain.specs.declared.line.Line.{Line}
+use Rattle.dnsv_lines.specs.declared.line.Line.{Line}
 use Rattle.dnsv_explain.proofs.lemmas.NumberedLemmas.{numbered_at}
 use Rattle.dnsv_explain.proofs.lemmas.faults.lists.ListingLemmas.{all_added, next_added, none_added}
 use Rattle.dnsv_explain.proofs.lemmas.faults.question.DenialLemmas.{denial_said}

@@ -5,7 +5,7 @@ use Rattle.dnsv_explain.specs.Explained.{setting_in}
 use Rattle.dnsv_explain.specs.faults.Listing.{AddsThose, AreOfNumbered}
 use Rattle.dnsv_explain.specs.faults.Order.{AreGoalLines}
 use Rattle.dnsv_explain.specs.faults.RrsetLines.{AreRrsetLines}
-use Rattle.dnsv_explain.specs.declared.line.Line.{Line}
+use Rattle.dnsv_lines.specs.declared.line.Line.{Line}
 use Rattle.dnsv_explain.proofs.lemmas.NumberedLemmas.{numbered_at}
 use Rattle.dnsv_explain.proofs.lemmas.faults.lists.ListingLemmas.{added_as, all_added, next_added, none_added}
 use Rattle.dnsv_explain.proofs.faults.question.goals.add_goals.Goals as goal

@@ -1,7 +1,7 @@
 use Rattle.std.proofs.Common.{◌≡◌, ◌++◌, List, length, append-nil, ap, subst, sym, ◌∙◌}
 use Rattle.dnsv_canonical.specs.Rrsets.{first_appearances}
 use Rattle.dnsv_explain.specs.faults.Order.{same_text}
-use Rattle.dnsv_explain.specs.declared.line.Line.{Line}
+use Rattle.dnsv_lines.specs.declared.line.Line.{Line}
 use Rattle.dnsv_explain.proofs.lemmas.faults.question.OnceLemmas.{all_read, new_text, none_left, once_more, parts_more, seen_next, seen_none, size_more}
 use Rattle.dnsv_explain.proofs.faults.question.once.add_once.Goals as goal
 

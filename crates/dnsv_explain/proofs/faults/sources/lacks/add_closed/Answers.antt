@@ -4,8 +4,8 @@ use Rattle.dnsv_names.specs.Name.{Labels, rightmost}
 use Rattle.dnsv_zones.specs.zones.TypeNumbers.{dname}
 use Rattle.dnsv_explain.specs.faults.Sources.{dname_record_line, source_line}
 use Rattle.dnsv_explain.specs.faults.Sources.SourceSearch.{told_source}
-use Rattle.dnsv_explain.specs.declared.line.Line.{Line}
-use Rattle.dnsv_explain.specs.declared.line.fault.denial.WhySource.TheVariants.{Delegation}
+use Rattle.dnsv_lines.specs.declared.line.Line.{Line}
+use Rattle.dnsv_lines.specs.declared.line.fault.denial.WhySource.TheVariants.{Delegation}
 use Rattle.dnsv_explain.proofs.lemmas.faults.sources.ClosedLemmas.{closed_as_delegation, closed_as_dname}
 use Rattle.dnsv_explain.proofs.faults.sources.lacks.add_closed.Goals as goal
 

@@ -2,8 +2,8 @@ use Rattle.std.proofs.Common.{◌++◌, ◌∷◌, [], ap, ◌∙◌}
 use Rattle.dnsv_names.specs.Name.{Labels, rightmost}
 use Rattle.dnsv_explain.specs.faults.Sources.SourceSearch.{said_by, told_source}
 use Rattle.dnsv_explain.specs.faults.Sources.{source_line}
-use Rattle.dnsv_explain.specs.declared.line.denial.Role.TheVariants.{NextCloser}
-use Rattle.dnsv_explain.specs.declared.line.fault.denial.WhySource.TheVariants.{CoverMissing}
+use Rattle.dnsv_lines.specs.declared.line.denial.Role.TheVariants.{NextCloser}
+use Rattle.dnsv_lines.specs.declared.line.fault.denial.WhySource.TheVariants.{CoverMissing}
 use Rattle.dnsv_explain.proofs.lemmas.faults.sources.LackLemmas.{closer_covered, closer_missing}
 use Rattle.dnsv_explain.proofs.lemmas.faults.sources.SaidLemmas.{covered_at}
 use Rattle.dnsv_explain.proofs.faults.sources.lacks.add_closer.Goals as goal

@@ -6,8 +6,8 @@ use Rattle.dnsv_explain.specs.faults.Sources.SourceSearch.{AreHeldBy, AreRecords
 use Rattle.dnsv_explain.specs.declared.faults.sources.records.RecordAt.{RecordAt}
 use Rattle.dnsv_explain.proofs.lemmas.faults.signatures.SignatureLemmas.{empty, some_left}
 use Rattle.dnsv_explain.specs.faults.Sources.{source_line}
-use Rattle.dnsv_explain.specs.declared.line.denial.Role.TheVariants.{Wildcard}
-use Rattle.dnsv_explain.specs.declared.line.fault.denial.WhySource.TheVariants.{CoverMissing}
+use Rattle.dnsv_lines.specs.declared.line.denial.Role.TheVariants.{Wildcard}
+use Rattle.dnsv_lines.specs.declared.line.fault.denial.WhySource.TheVariants.{CoverMissing}
 use Rattle.dnsv_explain.proofs.lemmas.faults.sources.LackLemmas.{wildcard_covered, wildcard_held, wildcard_missing}
 use Rattle.dnsv_explain.proofs.lemmas.faults.sources.SaidLemmas.{covered_at, empty_at}
 use Rattle.dnsv_explain.proofs.faults.sources.lacks.add_wildcard.Goals as goal

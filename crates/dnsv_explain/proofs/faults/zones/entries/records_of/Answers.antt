@@ -3,7 +3,7 @@ use Rattle.dnsv_records.specs.Ds.{IsDs}
 use Rattle.dnsv_explain.specs.faults.Entries.Wanted.{by_digest}
 use Rattle.dnsv_explain.specs.faults.ZoneLines.{AreDsWanted}
 use Rattle.dnsv_explain.specs.unsigned_cuts.UnsignedCuts.{record_of}
-use Rattle.dnsv_explain.specs.declared.line.fault.zone.EntryNumber.TheVariants as entry_number
+use Rattle.dnsv_lines.specs.declared.line.fault.zone.EntryNumber.TheVariants as entry_number
 use Rattle.dnsv_explain.proofs.lemmas.derivations.WayLemmas.KeysLemmas.{read_there}
 use Rattle.dnsv_explain.proofs.lemmas.faults.zones.EntryLemmas.{judged_next, judged_none, records_judged}
 use Rattle.dnsv_explain.proofs.faults.zones.entries.records_of.Goals as goal

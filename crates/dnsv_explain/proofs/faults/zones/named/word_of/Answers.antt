@@ -2,7 +2,7 @@ use Rattle.std.proofs.Common.{sym, subst, ◌∙◌, IsTrue}
 use Rattle.std.proofs.lemmas.Bool.{false≢true}
 use Rattle.dnsv_records.specs.Algorithm.{is_supported}
 use Rattle.dnsv_explain.specs.faults.ZoneLines.ZoneSearch.{wanted_of}
-use Rattle.dnsv_explain.specs.declared.line.derivation.KeyName.{KeyName}
+use Rattle.dnsv_lines.specs.declared.line.derivation.KeyName.{KeyName}
 use Rattle.dnsv_explain.proofs.lemmas.faults.zones.WordLemmas.{of_ignored, of_keys}
 use Rattle.dnsv_explain.proofs.faults.zones.named.word_of.Goals as goal
 

@@ -4,7 +4,7 @@ use Rattle.dnsv_explain.specs.faults.searches.KeySearch.{IsNamedIn}
 use Rattle.dnsv_explain.specs.faults.SignatureFaults.{AreFaultsOf}
 use Rattle.dnsv_explain.specs.faults.ZoneLines.{AreWhys}
 use Rattle.dnsv_explain.specs.faults.ZoneLines.AreWhys.{faulty}
-use Rattle.dnsv_explain.specs.declared.line.fault.signature.WhySignature.{WhySignature}
+use Rattle.dnsv_lines.specs.declared.line.fault.signature.WhySignature.{WhySignature}
 use Rattle.dnsv_explain.proofs.lemmas.faults.signatures.SignatureLemmas.{empty, some_left}
 use Rattle.dnsv_explain.proofs.lemmas.faults.zones.WhyLemmas.{word_said, word_unsaid}
 use Rattle.dnsv_explain.proofs.faults.zones.why_not.whys_of.Goals as goal

@@ -1,6 +1,6 @@
 use Rattle.std.proofs.Common.{string_bytes, sym}
 use Rattle.std.proofs.lemmas.List.{get_or_read}
-use Rattle.dnsv_program.proofs.TextLemmas.Json.{Parted-next}
+use Rattle.dnsv_lines.proofs.JsonLemmas.{Parted-next}
 use Rattle.dnsv_program.proofs.texts.json.checking.push_aliases.Goals as goal
 
 pub loop-link-preserved : goal.loop-link-preserved

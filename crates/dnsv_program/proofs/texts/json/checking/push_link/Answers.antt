@@ -1,6 +1,6 @@
 use Rattle.std.proofs.Common.{rules, ◌≡◌, ◌++◌, codes, false, string_bytes}
 use Rattle.dnsv_program.specs.Texts.Checking.{signature_members}
-use Rattle.dnsv_program.specs.Texts.Json.{name_json, parted}
+use Rattle.dnsv_lines.specs.Json.{name_json, parted}
 use Rattle.dnsv_program.proofs.TextLemmas.Objects.{alias_written}
 use Rattle.dnsv_program.proofs.texts.json.checking.push_link.Goals as goal
 

@@ -1,6 +1,6 @@
 use Rattle.std.proofs.Common.{rules, ◌≡◌, ◌++◌, codes, string_bytes}
 use Rattle.std.specs.Fmt.{decimal}
-use Rattle.dnsv_program.specs.Texts.Json.{name_json}
+use Rattle.dnsv_lines.specs.Json.{name_json}
 use Rattle.dnsv_program.proofs.TextLemmas.Objects.{record_written}
 use Rattle.dnsv_program.proofs.texts.json.checking.push_owner.Goals as goal
 

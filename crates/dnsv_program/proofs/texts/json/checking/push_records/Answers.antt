@@ -2,8 +2,8 @@ use Rattle.std.proofs.Common.{codes, get_or, string_bytes, true}
 use Rattle.std.specs.List.{flat_map}
 use Rattle.dnsv_canonical.specs.declared.number.RecordNumber.{RecordNumber}
 use Rattle.dnsv_program.specs.Texts.Checking.{proof_json}
-use Rattle.dnsv_program.specs.Texts.Json.{parted}
-use Rattle.dnsv_program.proofs.TextLemmas.Json.{Parted-all, Parted-next, any_default}
+use Rattle.dnsv_lines.specs.Json.{parted}
+use Rattle.dnsv_lines.proofs.JsonLemmas.{Parted-all, Parted-next, any_default}
 use Rattle.dnsv_program.proofs.TextLemmas.Objects.{array_written}
 use Rattle.dnsv_program.proofs.texts.json.checking.push_records.Goals as goal
 

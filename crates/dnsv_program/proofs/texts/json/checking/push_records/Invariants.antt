@@ -1,6 +1,6 @@
 use Rattle.std.specs.Prelude.{◌++◌, codes, string_bytes, true}
 use Rattle.dnsv_program.specs.Texts.Checking.{proof_json}
-use Rattle.dnsv_program.proofs.TextLemmas.Json.{Parted}
+use Rattle.dnsv_lines.proofs.JsonLemmas.{Parted}
 use Rattle.dnsv_program.proofs.texts.json.checking.push_records.Given as goal
 
 abbrev pub invariant-loop-number : goal.invariant-loop-number

@@ -1,5 +1,5 @@
 use Rattle.std.proofs.Common.{codes, map, string_bytes}
-use Rattle.dnsv_program.specs.Texts.Json.{array}
+use Rattle.dnsv_lines.specs.Json.{array}
 use Rattle.dnsv_program.specs.Texts.Todo.{todo_json}
 use Rattle.dnsv_program.proofs.TextLemmas.Objects.{member_written}
 use Rattle.dnsv_program.proofs.texts.json.checking.push_todo.Goals as goal

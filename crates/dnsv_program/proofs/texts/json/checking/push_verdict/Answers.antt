@@ -3,7 +3,7 @@ use Rattle.std.specs.Fmt.{decimal}
 use Rattle.dnsv_program.specs.CommandLine.Commands.{question_word}
 use Rattle.dnsv_program.specs.Status.{status_code}
 use Rattle.dnsv_program.specs.Texts.Checking.{verdict_status, verdict_word}
-use Rattle.dnsv_program.specs.Texts.Json.{name_json}
+use Rattle.dnsv_lines.specs.Json.{name_json}
 use Rattle.dnsv_program.proofs.TextLemmas.Objects.{verdict_begun}
 use Rattle.dnsv_program.proofs.texts.json.checking.push_verdict.Goals as goal
 

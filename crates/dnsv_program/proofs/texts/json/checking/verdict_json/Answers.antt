@@ -4,10 +4,10 @@ use Rattle.std.specs.Prelude.{is_some}
 use Rattle.dnsv_program.specs.CommandLine.Commands.{question_word}
 use Rattle.dnsv_program.specs.Status.{status_code}
 use Rattle.dnsv_program.specs.Texts.Checking.{alias_json, reason_members, verdict_members, verdict_status, verdict_word}
-use Rattle.dnsv_program.specs.Texts.Json.{AddsMembers, array, member, name_json, parted, quoted}
+use Rattle.dnsv_lines.specs.Json.{AddsMembers, array, member, name_json, parted, quoted}
 use Rattle.dnsv_program.specs.Texts.Why.{why_members}
 use Rattle.dnsv_program.proofs.TextLemmas.Checking.{members_are}
-use Rattle.dnsv_program.proofs.TextLemmas.Members.{more_members}
+use Rattle.dnsv_lines.proofs.MemberLemmas.{more_members}
 use Rattle.dnsv_program.proofs.TextLemmas.Objects.{verdict_written}
 use Rattle.dnsv_program.proofs.texts.json.checking.verdict_json.Goals as goal
 

@@ -1,6 +1,6 @@
 use Rattle.std.proofs.Common.{string_bytes}
 use Rattle.dnsv_program.specs.Texts.Todo.{todo_json}
-use Rattle.dnsv_program.proofs.TextLemmas.Json.{one_written}
+use Rattle.dnsv_lines.proofs.JsonLemmas.{one_written}
 use Rattle.dnsv_program.proofs.texts.json.todo.push_entry.Goals as goal
 
 pub returns-clause-text : goal.returns-clause-text

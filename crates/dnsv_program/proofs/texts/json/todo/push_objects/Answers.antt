@@ -1,5 +1,5 @@
 use Rattle.std.proofs.Common.{◌<◌, length, rules, string_bytes}
-use Rattle.dnsv_program.proofs.TextLemmas.Json.{Parted-next}
+use Rattle.dnsv_lines.proofs.JsonLemmas.{Parted-next}
 use Rattle.dnsv_program.proofs.texts.json.todo.push_objects.Goals as goal
 
 pub loop-place-preserved : goal.loop-place-preserved

@@ -1,6 +1,6 @@
 use Rattle.std.specs.Prelude.{[], ◌∷◌, string_bytes, true}
 use Rattle.dnsv_program.specs.Texts.Todo.{todo_json}
-use Rattle.dnsv_program.proofs.TextLemmas.Json.{Parted}
+use Rattle.dnsv_lines.proofs.JsonLemmas.{Parted}
 use Rattle.dnsv_program.proofs.texts.json.todo.push_objects.Given as goal
 
 abbrev pub invariant-loop-place : goal.invariant-loop-place

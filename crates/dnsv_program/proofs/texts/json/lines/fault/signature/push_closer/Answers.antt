@@ -1,7 +1,0 @@
-use Rattle.dnsv_program.proofs.TextLemmas.Members.{more_members}
-use Rattle.dnsv_program.proofs.texts.json.lines.fault.signature.push_closer.Goals as goal
-
-pub returns : goal.returns
-returns c =
-    more_members c.in_ok-push_word.ensures
-    (more_members c.in_ok-push_shown.ensures c.in_ok-push_named.ensures)

@@ -1,7 +1,0 @@
-use Rattle.std.specs.Prelude.{string_bytes}
-use Rattle.dnsv_program.specs.Texts.Json.{escaped}
-use Rattle.dnsv_program.proofs.TextLemmas.Showing.{Joined}
-use Rattle.dnsv_program.proofs.texts.json.push_ascii.Given as goal
-
-abbrev pub invariant-loop-octet : goal.invariant-loop-octet
-invariant-loop-octet l = Joined escaped l.octets l.octet-index (string_bytes l.fn.text) (string_bytes l.text)
