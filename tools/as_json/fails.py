@@ -62,8 +62,18 @@ def self_signed(fields: Fields) -> Members:
     return {"zone": zone, **numbers((rrset, tag, algorithm), "rrset", "tag", "algorithm")}
 
 
-OTHERS = {"not-self-signed": self_signed, "unsigned": record, "dname": dname, "answer-missing": answer,
-          "denial-unproved": answer}
+def not_vouched(fields: Fields) -> Members:
+    zone, _, rrset = fields
+    return {"zone": zone, "rrset": int(rrset)}
+
+
+def ds_unproved(fields: Fields) -> Members:
+    name, _, zone = fields
+    return {"name": name, "zone": zone}
+
+
+OTHERS = {"not-self-signed": self_signed, "not-vouched": not_vouched, "ds-unproved": ds_unproved,
+          "unsigned": record, "dname": dname, "answer-missing": answer, "denial-unproved": answer}
 OTHERS |= {word: lambda fields: {"zone": fields[0]} for word in ZONED}
 OTHERS |= {word: sourced for word in SOURCED} | {word: record for word in RECORDS}
 

@@ -83,7 +83,9 @@ reason 9 key-missing b. rrset 2 record 1 wants 43646 13 digest 2
 reason 9 key-missing b. anchor 1 wants 43646 13
 reason 10 not-self-signed b. rrset 3 key 42592 13
 reason 12 cover-missing nsec3 b. iterations 5 salt - role next-closer name www.b.
+reason 9 not-vouched b. rrset 3
 reason 12 denial-unproved www.b. 1 zone b.
+reason 12 ds-unproved www.b. zone b.
 follows untrusted www.b. 1 rrset 4 signature 1 key 45316 13 zone b.
 key b. rrset 3 record 2 tag 29000 algorithm 13 flags 257 signature 1 ds 2 1
 """.splitlines()
@@ -97,7 +99,9 @@ key b. rrset 3 record 2 tag 29000 algorithm 13 flags 257 signature 1 ds 2 1
             '{"line":"reason","word":"not-self-signed","ede":10,"zone":"b.","rrset":3,"tag":42592,"algorithm":13}',
             '{"line":"reason","word":"cover-missing","ede":12,"kind":"nsec3","zone":"b.","iterations":5,"salt":"-",'
             '"role":"next-closer","name":"www.b."}',
+            '{"line":"reason","word":"not-vouched","ede":9,"zone":"b.","rrset":3}',
             '{"line":"reason","word":"denial-unproved","ede":12,"name":"www.b.","type":1,"zone":"b."}',
+            '{"line":"reason","word":"ds-unproved","ede":12,"name":"www.b.","zone":"b."}',
             '{"line":"follows","word":"untrusted","owner":"www.b.","type":1,"rrset":4,' + signature % (45316, 13) + '}',
             '{"line":"key","zone":"b.","rrset":3,"record":2,"tag":29000,"algorithm":13,"flags":257,"signature":1,'
             '"ds_rrset":2,"ds_record":1}']

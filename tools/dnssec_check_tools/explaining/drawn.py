@@ -249,6 +249,14 @@ def question(scene: Scene, line: Line) -> None:
     scene.lead(box, MISSING)
 
 
+def cut(scene: Scene, line: Line) -> None:
+    """A delegation of which nothing proves that it is unsigned, as an empty box with its name."""
+    box = scene.chain.add(
+        (line["word"], line["name"]), line["zone"], (ABSENT[line["word"]], line["name"]), MISSING
+    )
+    scene.lead(box, MISSING)
+
+
 def follows(scene: Scene, line: Line) -> None:
     scene.of_signature(line, FOLLOWS)
 
@@ -259,12 +267,15 @@ ABSENT = {
     "ds-missing": "no DS",
     "answer-missing": "no answer",
     "denial-unproved": "no proof",
+    "ds-unproved": "no proof that it is unsigned",
+    "not-vouched": "no DS or anchor that fits",
 }
 REASONS = {
     "no-anchor": at_zone,
     "dnskey-missing": at_zone,
     "ds-missing": at_zone,
     "not-self-signed": not_self_signed,
+    "not-vouched": at_zone,
     "unsigned": unsigned,
     "dname": dname,
     "nsec3-iterations": record,
@@ -276,6 +287,7 @@ REASONS = {
     "cover-missing": at_name,
     "answer-missing": question,
     "denial-unproved": question,
+    "ds-unproved": cut,
 }
 DRAWN = {
     "trusted": trusted,

@@ -42,6 +42,10 @@ def namer(told: Explanation, line: Line) -> str:
     return "the DS"
 
 
+def not_vouched(_told: Explanation, line: Line) -> Words:
+    return owned(line["zone"], DNSKEY), "no trust anchor and no DS of the zone fits one of its keys"
+
+
 def unsigned(_told: Explanation, line: Line) -> Words:
     return owned(line["owner"], line["type"]), "it has no signature beside it"
 
@@ -95,3 +99,7 @@ def answer_missing(_told: Explanation, line: Line) -> Words:
 
 def denial_unproved(_told: Explanation, line: Line) -> Words:
     return owned(line["name"], line["type"]), f"what {line['zone']} says doesn't prove that there is none"
+
+
+def ds_unproved(_told: Explanation, line: Line) -> Words:
+    return owned(line["name"], DS), f"nothing that {line['zone']} says proves that there is none"

@@ -36,6 +36,7 @@ OF_OTHERS: Dict[str, Reason] = {
     "dnskey-missing": missing.dnskey_missing,
     "ds-missing": missing.ds_missing,
     "not-self-signed": missing.not_self_signed,
+    "not-vouched": missing.not_vouched,
     "unsigned": missing.unsigned,
     "dname": missing.dname,
     "nsec3-iterations": missing.nsec3_iterations,
@@ -47,6 +48,7 @@ OF_OTHERS: Dict[str, Reason] = {
     "cover-missing": missing.cover_missing,
     "answer-missing": missing.answer_missing,
     "denial-unproved": missing.denial_unproved,
+    "ds-unproved": missing.ds_unproved,
 }
 
 

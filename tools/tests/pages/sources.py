@@ -13,8 +13,7 @@ WHERE = {"Name": {"name"}, "Question": {"type", "-"}, "KeyLine": {"keys"}, "MacS
          "ZeroLength": {"capture"}, "TornFrame": {"capture"}, "Message": {"capture"}, "Tsig": {"capture"},
          "Evidence": {"capture"}, "AnchorLine": {"anchors"}, "StatementLine": {"statements"}}
 # Where the words of an explanation's lines are written, and the keys of their objects.
-LINES = ("dnsv_explain/src/line.rt", "dnsv_explain/src/line/**/*.rt", "dnsv_program/src/texts/json/lines.rt",
-         "dnsv_program/src/texts/json/lines/**/*.rt")
+LINES = ("dnsv_lines/src/**/*.rt",)
 
 
 def equations():
@@ -68,14 +67,5 @@ def words_of_lines():
 
 
 def errors_of_reasons():
-    """The extended DNS error of each reason, by its word: that of the case, or the case's name as a word. Reasons of
-    one zone's records have one error, and are the case `Source`."""
-    code = code_of_lines()
-    words = dict(re.findall(r'\b(\w+::\w+)(?:\(_\))? => "([\w-]+)"', code))
-    numbered = "".join(re.findall(r"(?s)\bfn extended_error\b.*?\n    }\n", code))
-    found = re.findall(r"\b(\w+::\w+)(?:\(_\))? => (\d+),", numbered)
-    return {(words.get(case) or in_words(case.split("::")[1]), int(number)) for case, number in found}
-
-
-def in_words(name):
-    return re.sub(r"(?<=[a-z])(?=[A-Z])", "-", name).lower()
+    """The extended DNS error of each reason, with its word."""
+    return {(word, int(number)) for word, number in re.findall(r'ReasonWord::of\(\s*"([\w-]+)",\s*(\d+)', code_of_lines())}

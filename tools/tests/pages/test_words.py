@@ -24,9 +24,8 @@ def schema(key, line=None):
 
 
 def errors():
-    """The extended DNS error of each reason, with its word; those of one zone's records have one, as in the code."""
-    reasons_told = [form for form in FORMS if "ede" in form]
-    return {("source" if "kind" in form else form["word"]["const"], form["ede"]["const"]) for form in reasons_told}
+    """The extended DNS error of each reason, with its word."""
+    return {(form["word"]["const"], form["ede"]["const"]) for form in FORMS if "ede" in form}
 
 
 def keys_of_lines():
